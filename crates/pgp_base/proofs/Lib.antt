@@ -1,1 +1,9 @@
 pub mod Errors
+pub mod Strings
+pub mod PartLemmas
+pub mod Walks
+pub mod CountedLemmas
+pub mod MarkedLemmas
+pub mod Steps
+pub mod Binds
+pub mod RestSteps

@@ -1,7 +1,7 @@
 -- How numbers, parts and messages stand on the wire.
 -- PostgreSQL manual, "Message Data Types" and "Message Formats".
-use Rattle.std.specs.Prelude.{ℕ, ℤ, negsuc, ◌+◌, ◌<◌, List, [], ◌∷◌, ◌++◌, length, slice_index, Option, Some, None}
-use Rattle.std.specs.List.{flat_map}
+use Rattle.std.specs.Prelude.{◌≢◌, ℕ, ℤ, negsuc, ◌+◌, ◌<◌, List, [], ◌∷◌, ◌++◌, length, slice_index, Option, Some, None}
+use Rattle.std.specs.List.{flat_map, AllByRecursion}
 use Rattle.std.specs.Int.{w16, w32, w64, to_be_bytes, cast_unsigned}
 
 -- Numbers: big-endian, in two's complement where they have a sign.
@@ -33,6 +33,10 @@ oid n = uint32 n
 -- a text, which has no 0 byte, and a 0 byte behind it
 abbrev pub text : List ℕ → List ℕ
 text z = z ++ 0 ∷ []
+
+-- it has a spelling as a text
+abbrev pub HasNoZero : List ℕ → Type 0
+HasNoZero z = AllByRecursion (λ b. b ≢ 0) z
 
 -- how many items there are, and each as it is spelled
 abbrev pub counted : {A : Type 0} → (A → List ℕ) → List A → List ℕ

@@ -1,0 +1,94 @@
+//! The parts of messages and values, read from the left: each is a value and the bytes after it.
+
+ghost use Rattle.std.specs.Prelude.{◌≡◌};
+ghost use Rattle.pgp_base.specs.WalkReading.{is_marked};
+ghost use Rattle.pgp_base.specs.PartReading.{Gives, Answers, byte_at, uint16_at, oid_at, int16_at, int32_at, string_at, text_at};
+
+use crate::error::Error;
+use memchr::memchr;
+use std::str;
+
+/// Whether a byte 0, which ends a list, stands at the front.
+pub fn is_marked(bytes: &[u8]) -> bool
+    ensures { result ≡ is_marked bytes.now }
+{
+    match bytes {
+        [0, ..] => true,
+        _ => false,
+    }
+}
+
+pub fn byte_at(bytes: &[u8]) -> Result<(u8, &[u8]), Error>
+    ensures { Gives (λ x. (x.0, x.1.now)) result (byte_at bytes.now) }
+{
+    match bytes {
+        [] => Err(Error::UnexpectedEof),
+        [first, rest @ ..] => Ok((*first, rest)),
+    }
+}
+
+pub fn uint16_at(bytes: &[u8]) -> Result<(u16, &[u8]), Error>
+    ensures { Gives (λ x. (x.0, x.1.now)) result (uint16_at bytes.now) }
+{
+    if bytes.len() < 2 {
+        return Err(Error::UnexpectedEof);
+    }
+    let (front, rest) = bytes.split_at(2);
+    Ok((u16::from_be_bytes([front[0], front[1]]), rest))
+}
+
+pub fn oid_at(bytes: &[u8]) -> Result<(u32, &[u8]), Error>
+    ensures { Gives (λ x. (x.0, x.1.now)) result (oid_at bytes.now) }
+{
+    if bytes.len() < 4 {
+        return Err(Error::UnexpectedEof);
+    }
+    let (front, rest) = bytes.split_at(4);
+    let number = u32::from_be_bytes([front[0], front[1], front[2], front[3]]);
+    Ok((number, rest))
+}
+
+pub fn int16_at(bytes: &[u8]) -> Result<(i16, &[u8]), Error>
+    ensures { Gives (λ x. (x.0, x.1.now)) result (int16_at bytes.now) }
+{
+    if bytes.len() < 2 {
+        return Err(Error::UnexpectedEof);
+    }
+    let (front, rest) = bytes.split_at(2);
+    let number = u16::from_be_bytes([front[0], front[1]]);
+    Ok((number.cast_signed(), rest))
+}
+
+pub fn int32_at(bytes: &[u8]) -> Result<(i32, &[u8]), Error>
+    ensures { Gives (λ x. (x.0, x.1.now)) result (int32_at bytes.now) }
+{
+    if bytes.len() < 4 {
+        return Err(Error::UnexpectedEof);
+    }
+    let (front, rest) = bytes.split_at(4);
+    let number = u32::from_be_bytes([front[0], front[1], front[2], front[3]]);
+    Ok((number.cast_signed(), rest))
+}
+
+pub fn string_at(bytes: &[u8]) -> Result<(&[u8], &[u8]), Error>
+    ensures { Gives (λ x. (x.0.now, x.1.now)) result (string_at bytes.now) }
+{
+    match memchr(0, bytes) {
+        Some(end) => {
+            let (_, rest) = bytes.split_at(end + 1);
+            Ok((&bytes[..end], rest))
+        }
+        None => Err(Error::UnexpectedEof),
+    }
+}
+
+#[tactic(auto, unfolding(crate::specs::PartReading::text_at))]
+pub fn text_at(bytes: &[u8]) -> Result<(&str, &[u8]), Error>
+    ensures { Answers (λ x. (x.0.now, x.1.now)) result (text_at bytes.now) }
+{
+    let (string, rest) = string_at(bytes)?;
+    match str::from_utf8(string) {
+        Ok(text) => Ok((text, rest)),
+        Err(_) => Err(Error::NotUtf8),
+    }
+}

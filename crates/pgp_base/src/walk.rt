@@ -1,0 +1,46 @@
+//! Walks that may fail.
+
+ghost use Rattle.std.specs.Prelude.{◌≡◌, ℕ, List, Option, Result, map, IfOk, IfErr, ◌⊎◌};
+ghost use Rattle.pgp_base.specs.declared.error.Error.{Error};
+ghost use Rattle.pgp_base.specs.Walk.{Walk, TakesFront, CollectsFrom, RefusesFrom, hint_of};
+
+use crate::error::Error;
+use std::alloc::Allocator;
+
+/// A walk over a list of items, which ends or is refused.
+pub trait FallibleIterator {
+    type Item;
+
+    /// What an item says, whatever it borrows.
+    ghost Meaning: { Type 0 };
+
+    ghost meaning: { Self.Item → Meaning };
+
+    /// The items that are left, and the end behind them.
+    ghost walk: { Self → Walk Meaning };
+
+    /// The next item, or nothing at the end. At the end the same answer comes for ever.
+    fn next(&mut self) -> Result<Option<Self::Item>, Error>
+        ensures { TakesFront meaning (walk self.old) result (walk self.new) };
+
+    /// How many items were announced and not handed out yet, which is no promise that they come.
+    fn size_hint(&self) -> (usize, Option<usize>)
+        ensures { (result.0, result.1) ≡ hint_of (walk self.now).announced };
+
+    /// All items.
+    final fn collect<A: Allocator>(mut self, alloc: A) -> Result<Vec<Self::Item, A>, Error>
+    where
+        Self: Sized + Drop,
+        Self::Item: Drop,
+        ensures ok { IfOk result (λ items. CollectsFrom meaning (walk self) items.items) }
+        ensures err { IfErr result (λ e. RefusesFrom (walk self) e) }
+    {
+        let mut items = Vec::new(alloc);
+        while let Some(item) = self.next()? {
+            if items.push(item).is_err() {
+                return Err(Error::OutOfMemory);
+            }
+        }
+        Ok(items)
+    }
+}
