@@ -34,6 +34,19 @@ guard_none : {A : Type 0} (b : Bool) (x : A) → cond b None (Some x) ≡ None �
 guard_none true x e = refl
 guard_none false x e = absurd cc
 
+-- a front of n bytes
+pub front_takes : {A : Type 0} (n : ℕ) (value : List ℕ → A) (bytes : List ℕ) (x : A × List ℕ) → front_at n value bytes ≡ Some x
+    → (n ≤ length bytes) × (x.0 ≡ value (take n bytes)) × (bytes ≡ take n bytes ++ x.1)
+front_takes n value bytes x e =
+    let g = guard_some (ltb (length bytes) n) (value (take n bytes), drop n bytes) x e in
+    let rest : x.1 ≡ drop n bytes = sym (ap (λ p. p.1) g.1) in
+    (ltb-false _ _ g.0, sym (ap (λ p. p.0) g.1), sym (take-append-drop n bytes) ∙ ap (λ l. take n bytes ++ l) (sym rest))
+
+pub front_again : {A : Type 0} (n : ℕ) (value : List ℕ → A) (front rest : List ℕ) → length front ≡ n → front_at n value (front ++ rest) ≡ Some (value front, rest)
+front_again n value front rest len =
+    let long : ltb (length (front ++ rest)) n ≡ false = le-ltb _ _ (omega (arith, length-append front rest)) in
+    rw (long, take_at front rest n len, drop_at front rest n len) refl
+
 -- a number of n bytes: its spelling, which numbers have one, and the bytes back
 pub record IsNumber {A : Type 0} (n : ℕ) (Fits : A → Type 0) (spell : A → List ℕ) (value : List ℕ → A) : Type 0 where
   pub len : (x : A) → length (spell x) ≡ n

@@ -1,0 +1,37 @@
+-- A step along a stream: a frame that was cut, and what its body says.
+use Rattle.std.proofs.Common.{◌≡◌, ℕ, List, ◌++◌, Option, Some, Result, Ok, Err, sym, subst}
+use Rattle.std.specs.Prelude.{MatchResult, IsOkAnd}
+use Rattle.pgp_base.specs.declared.error.Error.{Error}
+use Rattle.pgp_base.specs.declared.error.Error.TheVariants as errors
+use Rattle.pgp_message.specs.declared.message as code
+use Rattle.pgp_message.specs.BackendMessage.{Message}
+use Rattle.pgp_message.specs.Stream.{Frame, frame_bytes, IsFrame, TakesFrame, Step, CutsFrame}
+use Rattle.pgp_message.specs.Reading.{body_of}
+use Rattle.pgp_message.specs.Views.{view, seen, parsed}
+use Rattle.pgp_message.proofs.Bodies.{body_is}
+
+pub takes : (old new : List ℕ) (f : Frame) → old ≡ frame_bytes f ++ new → IsFrame f → TakesFrame old (body_of f.tag f.payload) new
+takes old new f whole fits = record { first = f; whole = whole; fits = fits; body = body_is f.tag f.payload fits.payload }
+
+-- a refused body is a refused step
+refused : (old new : List ℕ) (e : Error) → TakesFrame old (Err e) new → Step old (Err e) new
+refused old new errors.InvalidLength t = absurd t.body
+refused old new errors.OutOfMemory t = absurd t.body
+refused old new e t = t
+
+found_here : {A : Type 0} (old new : List ℕ) (m : code.Message.Message A) (o : Option (code.Message.Message A)) → TakesFrame old (Ok (view m)) new → o ≡ Some m → Step old (parsed (Ok o)) new
+found_here {A} old new m o t e = subst (λ (x : Option (code.Message.Message A)). Step old (parsed (Ok x)) new) (sym e) t
+
+-- a body's answer as the answer of a step
+answers : {A : Type 0} (old new : List ℕ) (r : Result (code.Message.Message A) Error) (out : Result (Option (code.Message.Message A)) Error) → TakesFrame old (seen r) new
+    → MatchResult r (λ m. IsOkAnd out (λ o. o ≡ Some m)) (λ e. out ≡ Err e) → Step old (parsed out) new
+answers old new (Ok m) (Ok o) t e = found_here old new m o t e
+answers old new (Ok m) (Err d) t e = absurd e
+answers {A} old new (Err e) out t is = subst (λ (x : Result (Option (code.Message.Message A)) Error). Step old (parsed x) new) (sym is) (refused old new e t)
+
+pub steps : {A : Type 0} (old new : List ℕ) (o : Option Frame) (f : Frame) (r : Result (code.Message.Message A) Error) (out : Result (Option (code.Message.Message A)) Error)
+    → CutsFrame old (Ok o) new → o ≡ Some f → seen r ≡ body_of f.tag f.payload
+    → MatchResult r (λ m. IsOkAnd out (λ o. o ≡ Some m)) (λ e. out ≡ Err e) → Step old (parsed out) new
+steps old new o f r out cut found read is =
+    let c : CutsFrame old (Ok (Some f)) new = subst (λ (x : Option Frame). CutsFrame old (Ok x) new) found cut in
+    answers old new r out (subst (λ (x : Result Message Error). TakesFrame old x new) (sym read) (takes old new f c.0 c.1)) is

@@ -1,0 +1,6 @@
+use Rattle.std.proofs.Common.{rules}
+use Rattle.pgp_message.proofs.TextBodies.{string_is}
+use Rattle.pgp_message.proofs.body.query.CommandCompleteBody.read.Goals as goal
+
+pub returns : goal.returns
+returns g c = string_is c.args.payload c.in_ok-tag.tag.now c.in_ok-tag.rest.now c.truncate.new.self (search rules) (search rules) (search rules)

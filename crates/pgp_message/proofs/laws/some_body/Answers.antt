@@ -1,0 +1,6 @@
+use Rattle.pgp_message.specs.Reading.{body_of}
+use Rattle.pgp_message.proofs.Bodies.{body_is}
+use Rattle.pgp_message.proofs.laws.some_body.Goals as goal
+
+pub returns : goal.returns
+returns c = λ tag payload h. (body_of tag payload, body_is tag payload h)

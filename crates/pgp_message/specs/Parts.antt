@@ -1,0 +1,26 @@
+-- What the bodies of backend messages hold, as plain data.
+use Rattle.std.specs.Prelude.{ℕ, ℤ, List}
+
+pub record Notification : Type 0 where
+  pub process_id : ℤ
+  pub channel : List ℕ
+  pub message : List ℕ
+
+pub record KeyData : Type 0 where
+  pub process_id : ℤ
+  pub secret_key : ℤ
+
+pub record Setting : Type 0 where
+  pub name : List ℕ
+  pub value : List ℕ
+
+-- a count, and the bytes behind it, which only a walk reads
+pub record CountedBytes : Type 0 where
+  pub count : ℕ
+  pub storage : List ℕ
+
+-- the format of a copy as a whole, and of each column
+pub record CopyFormats : Type 0 where
+  pub format : ℕ
+  pub count : ℕ
+  pub storage : List ℕ

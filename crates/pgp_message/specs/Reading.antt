@@ -1,0 +1,112 @@
+-- Reading a body from the left, as the code does it. What it answers is the one result that `Body` allows.
+use Rattle.std.specs.Prelude.{ℕ, List, [], ◌∷◌, Result, Ok, Err, ◌==◌, if◌then◌else◌}
+use Rattle.std.specs.Int.{w32, cast_signed}
+use Rattle.pgp_base.specs.declared.error.Error.{Error}
+use Rattle.pgp_base.specs.declared.error.Error.TheVariants.{UnknownTag, UnknownAuthentication, NotDrained}
+use Rattle.pgp_base.specs.PartReading.{◌>>=◌, front_at, byte_at, uint16_at, oid_at, int32_at, string_at}
+use Rattle.pgp_message.specs.Parts.{Notification, KeyData, Setting, CountedBytes, CopyFormats}
+use Rattle.pgp_message.specs.BackendMessage.{Request, AuthenticationOk, AuthenticationKerberosV5, AuthenticationCleartextPassword, AuthenticationMd5Password, AuthenticationScmCredential, AuthenticationGss, AuthenticationGssContinue, AuthenticationSspi, AuthenticationSasl, AuthenticationSaslContinue, AuthenticationSaslFinal, Message, ParseComplete, BindComplete, CloseComplete, NotificationResponse, CommandComplete, DataRow, ErrorResponse, CopyInResponse, CopyOutResponse, EmptyQueryResponse, BackendKeyData, NoticeResponse, Authentication, ParameterStatus, RowDescription, ReadyForQuery, CopyDone, CopyData, NoData, PortalSuspended, ParameterDescription}
+
+-- the value, where no byte is left
+abbrev pub ended : {A : Type 0} → A → List ℕ → Result A Error
+ended x [] = Ok x
+ended x (b ∷ rest) = Err NotDrained
+
+-- a message made of what was read
+abbrev pub made : {X Y : Type 0} → (X → Y) → Result X Error → Result Y Error
+made f (Ok x) = Ok (f x)
+made f (Err e) = Err e
+
+-- the families of bodies
+
+unfoldable pub byte_of : List ℕ → Result ℕ Error
+byte_of payload = do
+  byte ← byte_at payload
+  ended byte.0 byte.1
+
+unfoldable pub string_of : List ℕ → Result (List ℕ) Error
+string_of payload = do
+  string ← string_at payload
+  ended string.0 string.1
+
+unfoldable pub setting_of : List ℕ → Result Setting Error
+setting_of payload = do
+  name ← string_at payload
+  value ← string_at name.1
+  ended (record { name = name.0; value = value.0 }) value.1
+
+unfoldable pub notification_of : List ℕ → Result Notification Error
+notification_of payload = do
+  id ← int32_at payload
+  channel ← string_at id.1
+  message ← string_at channel.1
+  ended (record { process_id = id.0; channel = channel.0; message = message.0 }) message.1
+
+unfoldable pub key_data_of : List ℕ → Result KeyData Error
+key_data_of payload = do
+  id ← int32_at payload
+  key ← int32_at id.1
+  ended (record { process_id = id.0; secret_key = key.0 }) key.1
+
+unfoldable pub counted_of : List ℕ → Result CountedBytes Error
+counted_of payload = do
+  count ← uint16_at payload
+  Ok (record { count = count.0; storage = count.1 })
+
+unfoldable pub copy_of : List ℕ → Result CopyFormats Error
+copy_of payload = do
+  format ← byte_at payload
+  count ← uint16_at format.1
+  Ok (record { format = format.0; count = count.0; storage = count.1 })
+
+unfoldable pub salt_of : List ℕ → Result (List ℕ) Error
+salt_of payload = do
+  salt ← front_at 4 (λ bytes. bytes) payload
+  ended salt.0 salt.1
+
+-- what follows each code
+unfoldable pub by_code : ℕ → List ℕ → Result Request Error
+by_code code rest =
+    if code == 0 then ended AuthenticationOk rest else
+    if code == 2 then ended AuthenticationKerberosV5 rest else
+    if code == 3 then ended AuthenticationCleartextPassword rest else
+    if code == 5 then made AuthenticationMd5Password (salt_of rest) else
+    if code == 6 then ended AuthenticationScmCredential rest else
+    if code == 7 then ended AuthenticationGss rest else
+    if code == 8 then Ok (AuthenticationGssContinue rest) else
+    if code == 9 then ended AuthenticationSspi rest else
+    if code == 10 then Ok (AuthenticationSasl rest) else
+    if code == 11 then Ok (AuthenticationSaslContinue rest) else
+    if code == 12 then Ok (AuthenticationSaslFinal rest) else
+    Err (UnknownAuthentication (cast_signed w32 code))
+
+unfoldable pub request_of : List ℕ → Result Request Error
+request_of payload = do
+  code ← oid_at payload
+  by_code code.0 code.1
+
+-- what follows each tag
+unfoldable pub body_of : ℕ → List ℕ → Result Message Error
+body_of tag payload =
+    if tag == 0x31 then ended ParseComplete payload else
+    if tag == 0x32 then ended BindComplete payload else
+    if tag == 0x33 then ended CloseComplete payload else
+    if tag == 0x41 then made NotificationResponse (notification_of payload) else
+    if tag == 0x43 then made CommandComplete (string_of payload) else
+    if tag == 0x44 then made DataRow (counted_of payload) else
+    if tag == 0x45 then Ok (ErrorResponse payload) else
+    if tag == 0x47 then made CopyInResponse (copy_of payload) else
+    if tag == 0x48 then made CopyOutResponse (copy_of payload) else
+    if tag == 0x49 then ended EmptyQueryResponse payload else
+    if tag == 0x4b then made BackendKeyData (key_data_of payload) else
+    if tag == 0x4e then Ok (NoticeResponse payload) else
+    if tag == 0x52 then made Authentication (request_of payload) else
+    if tag == 0x53 then made ParameterStatus (setting_of payload) else
+    if tag == 0x54 then made RowDescription (counted_of payload) else
+    if tag == 0x5a then made ReadyForQuery (byte_of payload) else
+    if tag == 0x63 then ended CopyDone payload else
+    if tag == 0x64 then Ok (CopyData payload) else
+    if tag == 0x6e then ended NoData payload else
+    if tag == 0x73 then ended PortalSuspended payload else
+    if tag == 0x74 then made ParameterDescription (counted_of payload) else
+    Err (UnknownTag tag)

@@ -1,0 +1,18 @@
+//! The bodies of backend messages. Each shares the bytes of its frame, and copies none.
+
+mod authentication;
+mod copy;
+mod notice;
+mod query;
+mod session;
+
+pub use authentication::{
+    AuthenticationGssContinueBody, AuthenticationMd5PasswordBody, AuthenticationSaslBody,
+    AuthenticationSaslContinueBody, AuthenticationSaslFinalBody,
+};
+pub use copy::{CopyDataBody, CopyInResponseBody, CopyOutResponseBody};
+pub use notice::{ErrorResponseBody, NoticeResponseBody};
+pub use query::{CommandCompleteBody, DataRowBody, ParameterDescriptionBody, RowDescriptionBody};
+pub use session::{
+    BackendKeyDataBody, NotificationResponseBody, ParameterStatusBody, ReadyForQueryBody,
+};

@@ -1,0 +1,156 @@
+//! Requests for authentication that carry something.
+
+ghost use Rattle.std.specs.Prelude.{◌≡◌};
+ghost use Rattle.pgp_message.specs.Reading.{salt_of};
+
+use bytes::Bytes;
+use pgp_base::Error;
+use std::alloc::{Allocator, Global};
+use std::marker::Model;
+
+/// A request for an MD5 answer.
+#[derive(Drop)]
+pub struct AuthenticationMd5PasswordBody {
+    salt: [u8; 4],
+}
+
+impl Model for AuthenticationMd5PasswordBody {
+    ghost use Rattle.std.specs.Prelude.{ℕ, List};
+
+    ghost Value = { List ℕ };
+
+    ghost view = { λ body. body.salt };
+}
+
+impl AuthenticationMd5PasswordBody {
+    #[tactic(auto, unfolding(crate::specs::Reading::salt_of))]
+    pub(crate) fn read<A: Allocator>(payload: Bytes<A>) -> Result<Self, Error>
+        ensures { result ≡ salt_of payload }
+    {
+        let bytes = payload.as_slice();
+        if bytes.len() < 4 {
+            return Err(Error::UnexpectedEof);
+        }
+        let salt = [bytes[0], bytes[1], bytes[2], bytes[3]];
+        if bytes.len() > 4 {
+            return Err(Error::NotDrained);
+        }
+        Ok(AuthenticationMd5PasswordBody { salt })
+    }
+
+    /// The four bytes that the answer is salted with.
+    pub fn salt(&self) -> [u8; 4]
+        ensures { result ≡ self.now }
+    {
+        self.salt
+    }
+}
+
+/// More of a GSSAPI or SSPI exchange.
+#[derive(Drop)]
+pub struct AuthenticationGssContinueBody<A: Allocator = Global> {
+    storage: Bytes<A>,
+}
+
+impl<A: Allocator> Model for AuthenticationGssContinueBody<A> {
+    ghost use Rattle.std.specs.Prelude.{ℕ, List};
+
+    ghost Value = { List ℕ };
+
+    ghost view = { λ body. body.storage };
+}
+
+impl<A: Allocator> AuthenticationGssContinueBody<A> {
+    pub(crate) fn new(storage: Bytes<A>) -> AuthenticationGssContinueBody<A>
+        ensures { result ≡ storage }
+    {
+        AuthenticationGssContinueBody { storage }
+    }
+
+    /// The bytes behind the code.
+    pub fn data(&self) -> &[u8]
+        ensures { result.now ≡ self.now }
+    {
+        self.storage.as_slice()
+    }
+}
+
+/// The SASL mechanisms that a server offers.
+#[derive(Drop)]
+pub struct AuthenticationSaslBody<A: Allocator = Global> {
+    storage: Bytes<A>,
+}
+
+impl<A: Allocator> Model for AuthenticationSaslBody<A> {
+    ghost use Rattle.std.specs.Prelude.{ℕ, List};
+
+    ghost Value = { List ℕ };
+
+    ghost view = { λ body. body.storage };
+}
+
+impl<A: Allocator> AuthenticationSaslBody<A> {
+    pub(crate) fn new(storage: Bytes<A>) -> AuthenticationSaslBody<A>
+        ensures { result ≡ storage }
+    {
+        AuthenticationSaslBody { storage }
+    }
+}
+
+/// A server's challenge in a SASL exchange.
+#[derive(Drop)]
+pub struct AuthenticationSaslContinueBody<A: Allocator = Global> {
+    storage: Bytes<A>,
+}
+
+impl<A: Allocator> Model for AuthenticationSaslContinueBody<A> {
+    ghost use Rattle.std.specs.Prelude.{ℕ, List};
+
+    ghost Value = { List ℕ };
+
+    ghost view = { λ body. body.storage };
+}
+
+impl<A: Allocator> AuthenticationSaslContinueBody<A> {
+    pub(crate) fn new(storage: Bytes<A>) -> AuthenticationSaslContinueBody<A>
+        ensures { result ≡ storage }
+    {
+        AuthenticationSaslContinueBody { storage }
+    }
+
+    /// The bytes behind the code.
+    pub fn data(&self) -> &[u8]
+        ensures { result.now ≡ self.now }
+    {
+        self.storage.as_slice()
+    }
+}
+
+/// A server's last word in a SASL exchange.
+#[derive(Drop)]
+pub struct AuthenticationSaslFinalBody<A: Allocator = Global> {
+    storage: Bytes<A>,
+}
+
+impl<A: Allocator> Model for AuthenticationSaslFinalBody<A> {
+    ghost use Rattle.std.specs.Prelude.{ℕ, List};
+
+    ghost Value = { List ℕ };
+
+    ghost view = { λ body. body.storage };
+}
+
+impl<A: Allocator> AuthenticationSaslFinalBody<A> {
+    pub(crate) fn new(storage: Bytes<A>) -> AuthenticationSaslFinalBody<A>
+        ensures { result ≡ storage }
+    {
+        AuthenticationSaslFinalBody { storage }
+    }
+
+    /// The bytes behind the code.
+    pub fn data(&self) -> &[u8]
+        ensures { result.now ≡ self.now }
+    {
+        self.storage.as_slice()
+    }
+}

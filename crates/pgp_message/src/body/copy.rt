@@ -1,0 +1,129 @@
+//! What a copy is about to bring, and what it brings.
+
+ghost use Rattle.std.specs.Prelude.{◌≡◌};
+ghost use Rattle.pgp_message.specs.Reading.{copy_of};
+
+use bytes::{Buf, Bytes};
+use pgp_base::Error;
+use pgp_base::reading::{byte_at, uint16_at};
+use std::alloc::{Allocator, Global};
+use std::marker::Model;
+
+/// Bytes of a copy.
+#[derive(Drop)]
+pub struct CopyDataBody<A: Allocator = Global> {
+    storage: Bytes<A>,
+}
+
+impl<A: Allocator> Model for CopyDataBody<A> {
+    ghost use Rattle.std.specs.Prelude.{ℕ, List};
+
+    ghost Value = { List ℕ };
+
+    ghost view = { λ body. body.storage };
+}
+
+impl<A: Allocator> CopyDataBody<A> {
+    pub(crate) fn new(storage: Bytes<A>) -> CopyDataBody<A>
+        ensures { result ≡ storage }
+    {
+        CopyDataBody { storage }
+    }
+
+    /// The bytes.
+    pub fn data(&self) -> &[u8]
+        ensures { result.now ≡ self.now }
+    {
+        self.storage.as_slice()
+    }
+
+    /// The bytes, owned.
+    pub fn into_bytes(self) -> Bytes<A>
+        ensures { result ≡ self }
+    {
+        let CopyDataBody { storage } = self;
+        storage
+    }
+}
+
+/// A server is ready for the data of a copy.
+#[derive(Drop)]
+pub struct CopyInResponseBody<A: Allocator = Global> {
+    format: u8,
+    len: u16,
+    storage: Bytes<A>,
+}
+
+impl<A: Allocator> Model for CopyInResponseBody<A> {
+    ghost use Rattle.pgp_message.specs.Parts.{CopyFormats};
+
+    ghost Value = { CopyFormats };
+
+    ghost view = { λ body. record { format = body.format; count = body.len; storage = body.storage } };
+}
+
+impl<A: Allocator + Copy> CopyInResponseBody<A> {
+    #[tactic(auto, unfolding(crate::specs::Reading::copy_of))]
+    pub(crate) fn read(mut payload: Bytes<A>) -> Result<CopyInResponseBody<A>, Error>
+        ensures { result ≡ copy_of payload }
+    {
+        let (format, rest) = byte_at(payload.as_slice())?;
+        let (len, _) = uint16_at(rest)?;
+        payload.advance(3);
+        Ok(CopyInResponseBody {
+            format,
+            len,
+            storage: payload,
+        })
+    }
+}
+
+impl<A: Allocator> CopyInResponseBody<A> {
+    /// The format of the copy as a whole: 0 text, 1 binary.
+    pub fn format(&self) -> u8
+        ensures { result ≡ self.now.format }
+    {
+        self.format
+    }
+}
+
+/// A server is about to send the data of a copy.
+#[derive(Drop)]
+pub struct CopyOutResponseBody<A: Allocator = Global> {
+    format: u8,
+    len: u16,
+    storage: Bytes<A>,
+}
+
+impl<A: Allocator> Model for CopyOutResponseBody<A> {
+    ghost use Rattle.pgp_message.specs.Parts.{CopyFormats};
+
+    ghost Value = { CopyFormats };
+
+    ghost view = { λ body. record { format = body.format; count = body.len; storage = body.storage } };
+}
+
+impl<A: Allocator + Copy> CopyOutResponseBody<A> {
+    #[tactic(auto, unfolding(crate::specs::Reading::copy_of))]
+    pub(crate) fn read(mut payload: Bytes<A>) -> Result<CopyOutResponseBody<A>, Error>
+        ensures { result ≡ copy_of payload }
+    {
+        let (format, rest) = byte_at(payload.as_slice())?;
+        let (len, _) = uint16_at(rest)?;
+        payload.advance(3);
+        Ok(CopyOutResponseBody {
+            format,
+            len,
+            storage: payload,
+        })
+    }
+}
+
+impl<A: Allocator> CopyOutResponseBody<A> {
+    /// The format of the copy as a whole: 0 text, 1 binary.
+    pub fn format(&self) -> u8
+        ensures { result ≡ self.now.format }
+    {
+        self.format
+    }
+}

@@ -1,0 +1,160 @@
+//! What a query answers.
+
+ghost use Rattle.std.specs.Prelude.{◌≡◌, IfOk, IfErr, MatchResult};
+ghost use Rattle.std.specs.Str.{IsUtf8};
+ghost use Rattle.pgp_message.specs.Reading.{string_of, counted_of};
+
+use bytes::{Buf, Bytes};
+use pgp_base::Error;
+use pgp_base::reading::{string_at, uint16_at};
+use std::alloc::{Allocator, Global};
+use std::marker::Model;
+use std::str;
+
+/// A command is complete.
+#[derive(Drop)]
+pub struct CommandCompleteBody<A: Allocator = Global> {
+    tag: Bytes<A>,
+}
+
+impl<A: Allocator> Model for CommandCompleteBody<A> {
+    ghost use Rattle.std.specs.Prelude.{ℕ, List};
+
+    ghost Value = { List ℕ };
+
+    ghost view = { λ body. body.tag };
+}
+
+impl<A: Allocator + Copy> CommandCompleteBody<A> {
+    #[tactic(auto, unfolding(crate::specs::Reading::string_of))]
+    pub(crate) fn read(mut payload: Bytes<A>) -> Result<CommandCompleteBody<A>, Error>
+        ensures { result ≡ string_of payload }
+    {
+        let (tag, rest) = string_at(payload.as_slice())?;
+        if !rest.is_empty() {
+            return Err(Error::NotDrained);
+        }
+        let len = tag.len();
+        payload.truncate(len);
+        Ok(CommandCompleteBody { tag: payload })
+    }
+
+    /// The command's tag, as `SELECT 1`; `NotUtf8` where it isn't text.
+    pub fn tag(&self) -> Result<&str, Error>
+        ensures { MatchResult result (λ text. text.now ≡ self.now) (λ e. (e ≡ Error.NotUtf8) × ¬ IsUtf8 self.now) }
+    {
+        str::from_utf8(self.tag.as_slice()).map_err(|_| Error::NotUtf8)
+    }
+}
+
+/// A row.
+#[derive(Drop)]
+pub struct DataRowBody<A: Allocator = Global> {
+    len: u16,
+    storage: Bytes<A>,
+}
+
+impl<A: Allocator> Model for DataRowBody<A> {
+    ghost use Rattle.pgp_message.specs.Parts.{CountedBytes};
+
+    ghost Value = { CountedBytes };
+
+    ghost view = { λ body. record { count = body.len; storage = body.storage } };
+}
+
+impl<A: Allocator + Copy> DataRowBody<A> {
+    #[tactic(auto, unfolding(crate::specs::Reading::counted_of))]
+    pub(crate) fn read(mut payload: Bytes<A>) -> Result<DataRowBody<A>, Error>
+        ensures { result ≡ counted_of payload }
+    {
+        let (len, _) = uint16_at(payload.as_slice())?;
+        payload.advance(2);
+        Ok(DataRowBody {
+            len,
+            storage: payload,
+        })
+    }
+
+    /// The same row over the same bytes. The only refusal is want of memory.
+    pub fn clone(&self) -> Result<DataRowBody<A>, Error>
+        ensures ok { IfOk result (λ row. row ≡ self.now) }
+        ensures err { IfErr result (λ e. e ≡ Error.OutOfMemory) }
+    {
+        Ok(DataRowBody {
+            len: self.len,
+            storage: self.storage.clone()?,
+        })
+    }
+
+    /// The bytes behind the count, into which the ranges of the values point.
+    pub fn buffer(&self) -> &[u8]
+        ensures { result.now ≡ self.now.storage }
+    {
+        self.storage.as_slice()
+    }
+
+    /// The same bytes, as they are shared.
+    pub fn buffer_bytes(&self) -> &Bytes<A>
+        ensures { result.now ≡ self.now.storage }
+    {
+        &self.storage
+    }
+}
+
+/// The columns of the rows to come.
+#[derive(Drop)]
+pub struct RowDescriptionBody<A: Allocator = Global> {
+    len: u16,
+    storage: Bytes<A>,
+}
+
+impl<A: Allocator> Model for RowDescriptionBody<A> {
+    ghost use Rattle.pgp_message.specs.Parts.{CountedBytes};
+
+    ghost Value = { CountedBytes };
+
+    ghost view = { λ body. record { count = body.len; storage = body.storage } };
+}
+
+impl<A: Allocator + Copy> RowDescriptionBody<A> {
+    #[tactic(auto, unfolding(crate::specs::Reading::counted_of))]
+    pub(crate) fn read(mut payload: Bytes<A>) -> Result<RowDescriptionBody<A>, Error>
+        ensures { result ≡ counted_of payload }
+    {
+        let (len, _) = uint16_at(payload.as_slice())?;
+        payload.advance(2);
+        Ok(RowDescriptionBody {
+            len,
+            storage: payload,
+        })
+    }
+}
+
+/// The types of the parameters of a statement.
+#[derive(Drop)]
+pub struct ParameterDescriptionBody<A: Allocator = Global> {
+    len: u16,
+    storage: Bytes<A>,
+}
+
+impl<A: Allocator> Model for ParameterDescriptionBody<A> {
+    ghost use Rattle.pgp_message.specs.Parts.{CountedBytes};
+
+    ghost Value = { CountedBytes };
+
+    ghost view = { λ body. record { count = body.len; storage = body.storage } };
+}
+
+impl<A: Allocator + Copy> ParameterDescriptionBody<A> {
+    #[tactic(auto, unfolding(crate::specs::Reading::counted_of))]
+    pub(crate) fn read(mut payload: Bytes<A>) -> Result<ParameterDescriptionBody<A>, Error>
+        ensures { result ≡ counted_of payload }
+    {
+        let (len, _) = uint16_at(payload.as_slice())?;
+        payload.advance(2);
+        Ok(ParameterDescriptionBody {
+            len,
+            storage: payload,
+        })
+    }
+}

@@ -1,0 +1,222 @@
+//! The state of a session, and what happens in it.
+
+ghost use Rattle.std.specs.Prelude.{◌≡◌, MatchResult};
+ghost use Rattle.std.specs.Str.{IsUtf8};
+ghost use Rattle.pgp_message.specs.Reading.{byte_of, key_data_of, notification_of, setting_of};
+
+use bytes::{Buf, Bytes};
+use pgp_base::Error;
+use pgp_base::reading::{byte_at, int32_at, string_at};
+use std::alloc::{Allocator, Global};
+use std::marker::Model;
+use std::str;
+
+/// What a later request to cancel has to show.
+#[derive(Drop)]
+pub struct BackendKeyDataBody {
+    process_id: i32,
+    secret_key: i32,
+}
+
+impl Model for BackendKeyDataBody {
+    ghost use Rattle.pgp_message.specs.Parts.{KeyData};
+
+    ghost Value = { KeyData };
+
+    ghost view = { λ body. record { process_id = body.process_id; secret_key = body.secret_key } };
+}
+
+impl BackendKeyDataBody {
+    #[tactic(auto, unfolding(crate::specs::Reading::key_data_of))]
+    pub(crate) fn read<A: Allocator>(payload: Bytes<A>) -> Result<Self, Error>
+        ensures { result ≡ key_data_of payload }
+    {
+        let (process_id, rest) = int32_at(payload.as_slice())?;
+        let (secret_key, rest) = int32_at(rest)?;
+        if !rest.is_empty() {
+            return Err(Error::NotDrained);
+        }
+        Ok(BackendKeyDataBody {
+            process_id,
+            secret_key,
+        })
+    }
+
+    /// The process that serves the session.
+    pub fn process_id(&self) -> i32
+        ensures { result ≡ self.now.process_id }
+    {
+        self.process_id
+    }
+
+    /// The secret that a request to cancel shows.
+    pub fn secret_key(&self) -> i32
+        ensures { result ≡ self.now.secret_key }
+    {
+        self.secret_key
+    }
+}
+
+/// The server is ready for the next query.
+#[derive(Drop)]
+pub struct ReadyForQueryBody {
+    status: u8,
+}
+
+impl Model for ReadyForQueryBody {
+    ghost use Rattle.std.specs.Prelude.{ℕ};
+
+    ghost Value = { ℕ };
+
+    ghost view = { λ body. body.status };
+}
+
+impl ReadyForQueryBody {
+    #[tactic(auto, unfolding(crate::specs::Reading::byte_of))]
+    pub(crate) fn read<A: Allocator>(payload: Bytes<A>) -> Result<Self, Error>
+        ensures { result ≡ byte_of payload }
+    {
+        let (status, rest) = byte_at(payload.as_slice())?;
+        if !rest.is_empty() {
+            return Err(Error::NotDrained);
+        }
+        Ok(ReadyForQueryBody { status })
+    }
+
+    /// The state of the transaction: `I` idle, `T` in a transaction, `E` in a failed one.
+    pub fn status(&self) -> u8
+        ensures { result ≡ self.now }
+    {
+        self.status
+    }
+}
+
+/// A parameter of the session, as the server reports it. The texts stand in one run of bytes, which
+/// is cut when they are asked for.
+#[derive(Drop)]
+pub struct ParameterStatusBody<A: Allocator = Global> {
+    texts: Bytes<A>,
+    name_len: usize,
+    value_len: usize,
+}
+
+impl<A: Allocator> Model for ParameterStatusBody<A> {
+    ghost use Rattle.std.specs.Prelude.{◌+◌, ◌≤◌, length, take, drop};
+    ghost use Rattle.pgp_message.specs.Parts.{Setting};
+
+    ghost Value = { Setting };
+
+    ghost view = { λ body. record {
+      name = take body.name_len body.texts;
+      value = take body.value_len (drop (body.name_len + 1) body.texts);
+    } };
+
+    ghost invariant = { λ body. body.name_len + 1 + body.value_len ≤ length body.texts };
+}
+
+impl<A: Allocator + Copy> ParameterStatusBody<A> {
+    #[tactic(auto, unfolding(crate::specs::Reading::setting_of))]
+    pub(crate) fn read(payload: Bytes<A>) -> Result<ParameterStatusBody<A>, Error>
+        ensures { result ≡ setting_of payload }
+    {
+        let (name, rest) = string_at(payload.as_slice())?;
+        let (value, rest) = string_at(rest)?;
+        if !rest.is_empty() {
+            return Err(Error::NotDrained);
+        }
+        let name_len = name.len();
+        let value_len = value.len();
+        Ok(ParameterStatusBody {
+            texts: payload,
+            name_len,
+            value_len,
+        })
+    }
+
+    /// The parameter's name; `NotUtf8` where it isn't text.
+    pub fn name(&self) -> Result<&str, Error>
+        ensures { MatchResult result (λ text. text.now ≡ self.now.name) (λ e. (e ≡ Error.NotUtf8) × ¬ IsUtf8 self.now.name) }
+    {
+        str::from_utf8(&self.texts[..self.name_len]).map_err(|_| Error::NotUtf8)
+    }
+
+    /// The parameter's value; `NotUtf8` where it isn't text.
+    pub fn value(&self) -> Result<&str, Error>
+        ensures { MatchResult result (λ text. text.now ≡ self.now.value) (λ e. (e ≡ Error.NotUtf8) × ¬ IsUtf8 self.now.value) }
+    {
+        let texts = self.texts.as_slice();
+        let start = self.name_len + 1;
+        str::from_utf8(&texts[start..start + self.value_len]).map_err(|_| Error::NotUtf8)
+    }
+}
+
+/// A notification from another session. The texts stand in one run of bytes, which is cut when they
+/// are asked for.
+#[derive(Drop)]
+pub struct NotificationResponseBody<A: Allocator = Global> {
+    process_id: i32,
+    texts: Bytes<A>,
+    channel_len: usize,
+    message_len: usize,
+}
+
+impl<A: Allocator> Model for NotificationResponseBody<A> {
+    ghost use Rattle.std.specs.Prelude.{◌+◌, ◌≤◌, length, take, drop};
+    ghost use Rattle.pgp_message.specs.Parts.{Notification};
+
+    ghost Value = { Notification };
+
+    ghost view = { λ body. record {
+      process_id = body.process_id;
+      channel = take body.channel_len body.texts;
+      message = take body.message_len (drop (body.channel_len + 1) body.texts);
+    } };
+
+    ghost invariant = { λ body. body.channel_len + 1 + body.message_len ≤ length body.texts };
+}
+
+impl<A: Allocator + Copy> NotificationResponseBody<A> {
+    #[tactic(auto, unfolding(crate::specs::Reading::notification_of))]
+    pub(crate) fn read(mut payload: Bytes<A>) -> Result<NotificationResponseBody<A>, Error>
+        ensures { result ≡ notification_of payload }
+    {
+        let (process_id, rest) = int32_at(payload.as_slice())?;
+        let (channel, rest) = string_at(rest)?;
+        let (message, rest) = string_at(rest)?;
+        if !rest.is_empty() {
+            return Err(Error::NotDrained);
+        }
+        let channel_len = channel.len();
+        let message_len = message.len();
+        payload.advance(4);
+        Ok(NotificationResponseBody {
+            process_id,
+            texts: payload,
+            channel_len,
+            message_len,
+        })
+    }
+
+    /// The process that sent the notification.
+    pub fn process_id(&self) -> i32
+        ensures { result ≡ self.now.process_id }
+    {
+        self.process_id
+    }
+
+    /// The channel's name; `NotUtf8` where it isn't text.
+    pub fn channel(&self) -> Result<&str, Error>
+        ensures { MatchResult result (λ text. text.now ≡ self.now.channel) (λ e. (e ≡ Error.NotUtf8) × ¬ IsUtf8 self.now.channel) }
+    {
+        str::from_utf8(&self.texts[..self.channel_len]).map_err(|_| Error::NotUtf8)
+    }
+
+    /// What was said; `NotUtf8` where it isn't text.
+    pub fn message(&self) -> Result<&str, Error>
+        ensures { MatchResult result (λ text. text.now ≡ self.now.message) (λ e. (e ≡ Error.NotUtf8) × ¬ IsUtf8 self.now.message) }
+    {
+        let texts = self.texts.as_slice();
+        let start = self.channel_len + 1;
+        str::from_utf8(&texts[start..start + self.message_len]).map_err(|_| Error::NotUtf8)
+    }
+}

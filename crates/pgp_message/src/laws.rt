@@ -1,0 +1,67 @@
+//! Laws of bodies and of streams of backend messages.
+
+ghost use Rattle.std.specs.Prelude.{◌≡◌, ℕ, Bool, true, false, List, [], ◌∷◌, ◌++◌, Result};
+ghost use Rattle.pgp_base.specs.declared.error.Error.{Error};
+ghost use Rattle.pgp_base.specs.Wire.{IsBytes};
+ghost use Rattle.pgp_message.specs.BackendMessage.{Message, Body};
+ghost use Rattle.pgp_message.specs.Stream.{Frames, BackendRun, TakesFrame};
+
+/// A body has at most one result.
+pub fn one_body()
+    ensures { (tag : ℕ) (payload : List ℕ) (r s : Result Message Error) →
+        IsBytes payload → Body tag payload r → Body tag payload s → r ≡ s }
+{}
+
+/// A body has a result.
+pub fn some_body()
+    ensures { (tag : ℕ) (payload : List ℕ) → IsBytes payload → (r : Result Message Error) × Body tag payload r }
+{}
+
+/// Each stream is read in one way.
+pub fn one_run()
+    ensures { (bytes : List ℕ) (first second : List (Result Message Error)) (stops halts : Bool) (rest left : List ℕ) →
+        BackendRun bytes first stops rest → BackendRun bytes second halts left →
+        (first ≡ second) × (stops ≡ halts) × (rest ≡ left) }
+{}
+
+/// Each stream of bytes is read in some way.
+pub fn some_run()
+    ensures { (bytes : List ℕ) → IsBytes bytes →
+        (results : List (Result Message Error)) × (stopped : Bool) × (rest : List ℕ) × BackendRun bytes results stopped rest }
+{}
+
+/// What was read stands, whatever follows.
+pub fn runs_grow()
+    ensures { (bytes more : List ℕ) (first second : List (Result Message Error)) (stops halts : Bool) (rest left : List ℕ) →
+        BackendRun bytes first stops rest → BackendRun (bytes ++ more) second halts left →
+        (others : List (Result Message Error)) × (second ≡ first ++ others) }
+{}
+
+/// A stream that was stopped stays so, and what comes stays in the rest.
+pub fn stops_stay()
+    ensures { (bytes more rest : List ℕ) (results : List (Result Message Error)) →
+        BackendRun bytes results true rest → BackendRun (bytes ++ more) results true (rest ++ more) }
+{}
+
+/// A stream that waits goes on with its rest and what comes.
+pub fn waits_go_on()
+    ensures { (bytes more rest left : List ℕ) (first second : List (Result Message Error)) (stops : Bool) →
+        BackendRun bytes first false rest → BackendRun (rest ++ more) second stops left →
+        BackendRun (bytes ++ more) (first ++ second) stops left }
+{}
+
+/// Where nothing came yet, nothing was read, and the stream waits.
+pub fn no_bytes()
+    ensures { BackendRun [] [] false [] }
+{}
+
+/// Before the first step no frame is read.
+pub fn no_frame()
+    ensures { (bytes : List ℕ) → Frames bytes [] bytes }
+{}
+
+/// A step along the stream reads one frame more.
+pub fn next_frame()
+    ensures { (bytes old new : List ℕ) (results : List (Result Message Error)) (r : Result Message Error) →
+        Frames bytes results old → TakesFrame old r new → Frames bytes (results ++ r ∷ []) new }
+{}
