@@ -5,3 +5,8 @@ pub mod Requests
 pub mod Bodies
 pub mod Steps
 pub mod Runs
+pub mod TextLemmas
+pub mod NumberLemmas
+pub mod RangeLemmas
+pub mod FieldLemmas
+pub mod ErrorFieldLemmas

@@ -7,6 +7,7 @@ mod header;
 pub mod laws;
 mod message;
 mod tag;
+mod walk;
 
 pub use body::{
     AuthenticationGssContinueBody, AuthenticationMd5PasswordBody, AuthenticationSaslBody,
@@ -24,4 +25,8 @@ pub use tag::{
     NOTICE_RESPONSE_TAG, NOTIFICATION_RESPONSE_TAG, PARAMETER_DESCRIPTION_TAG,
     PARAMETER_STATUS_TAG, PARSE_COMPLETE_TAG, PORTAL_SUSPENDED_TAG, READY_FOR_QUERY_TAG,
     ROW_DESCRIPTION_TAG,
+};
+pub use walk::{
+    ColumnFormats, DataRowRanges, ErrorField, ErrorFields, Field, Fields, Parameters,
+    SaslMechanisms,
 };

@@ -1,8 +1,11 @@
 //! Requests for authentication that carry something.
 
-ghost use Rattle.std.specs.Prelude.{◌≡◌};
+ghost use Rattle.std.specs.Prelude.{◌≡◌, ◌≤◌, length, None};
+ghost use Rattle.pgp_base.specs.Items.{MarkedItems};
+ghost use Rattle.pgp_message.specs.Items.{TextSpelled, TextRefused};
 ghost use Rattle.pgp_message.specs.Reading.{salt_of};
 
+use crate::walk::SaslMechanisms;
 use bytes::Bytes;
 use pgp_base::Error;
 use std::alloc::{Allocator, Global};
@@ -94,6 +97,15 @@ impl<A: Allocator> AuthenticationSaslBody<A> {
         ensures { result ≡ storage }
     {
         AuthenticationSaslBody { storage }
+    }
+
+    /// The mechanisms, by name.
+    pub fn mechanisms(&self) -> SaslMechanisms<'_>
+        ensures items { MarkedItems TextSpelled TextRefused self.now result.items result.end }
+        ensures announced { result.announced ≡ None }
+        ensures few { length result.items ≤ length self.now }
+    {
+        SaslMechanisms::over(self.storage.as_slice())
     }
 }
 

@@ -1,8 +1,11 @@
 //! What a copy is about to bring, and what it brings.
 
-ghost use Rattle.std.specs.Prelude.{◌≡◌};
+ghost use Rattle.std.specs.Prelude.{◌≡◌, ◌≤◌, length, Some};
+ghost use Rattle.pgp_base.specs.Items.{CountedItems};
+ghost use Rattle.pgp_message.specs.Items.{FormatSpelled, FormatRefused};
 ghost use Rattle.pgp_message.specs.Reading.{copy_of};
 
+use crate::walk::ColumnFormats;
 use bytes::{Buf, Bytes};
 use pgp_base::Error;
 use pgp_base::reading::{byte_at, uint16_at};
@@ -85,6 +88,15 @@ impl<A: Allocator> CopyInResponseBody<A> {
     {
         self.format
     }
+
+    /// The format of each column.
+    pub fn column_formats(&self) -> ColumnFormats<'_>
+        ensures items { CountedItems FormatSpelled FormatRefused self.now.count self.now.storage result.items result.end }
+        ensures announced { result.announced ≡ Some self.now.count }
+        ensures few { length result.items ≤ length self.now.storage }
+    {
+        ColumnFormats::over(self.storage.as_slice(), self.len)
+    }
 }
 
 /// A server is about to send the data of a copy.
@@ -125,5 +137,14 @@ impl<A: Allocator> CopyOutResponseBody<A> {
         ensures { result ≡ self.now.format }
     {
         self.format
+    }
+
+    /// The format of each column.
+    pub fn column_formats(&self) -> ColumnFormats<'_>
+        ensures items { CountedItems FormatSpelled FormatRefused self.now.count self.now.storage result.items result.end }
+        ensures announced { result.announced ≡ Some self.now.count }
+        ensures few { length result.items ≤ length self.now.storage }
+    {
+        ColumnFormats::over(self.storage.as_slice(), self.len)
     }
 }

@@ -1,7 +1,10 @@
 //! Errors and notices.
 
-ghost use Rattle.std.specs.Prelude.{◌≡◌};
+ghost use Rattle.std.specs.Prelude.{◌≡◌, ◌≤◌, length, None};
+ghost use Rattle.pgp_base.specs.Items.{MarkedItems};
+ghost use Rattle.pgp_message.specs.Items.{ErrorFieldSpelled, ErrorFieldRefused};
 
+use crate::walk::ErrorFields;
 use bytes::Bytes;
 use std::alloc::{Allocator, Global};
 use std::marker::Model;
@@ -26,6 +29,15 @@ impl<A: Allocator> ErrorResponseBody<A> {
     {
         ErrorResponseBody { storage }
     }
+
+    /// The fields, in the order in which they came.
+    pub fn fields(&self) -> ErrorFields<'_>
+        ensures items { MarkedItems ErrorFieldSpelled ErrorFieldRefused self.now result.items result.end }
+        ensures announced { result.announced ≡ None }
+        ensures few { length result.items ≤ length self.now }
+    {
+        ErrorFields::over(self.storage.as_slice())
+    }
 }
 
 /// A notice.
@@ -47,5 +59,14 @@ impl<A: Allocator> NoticeResponseBody<A> {
         ensures { result ≡ storage }
     {
         NoticeResponseBody { storage }
+    }
+
+    /// The fields, in the order in which they came.
+    pub fn fields(&self) -> ErrorFields<'_>
+        ensures items { MarkedItems ErrorFieldSpelled ErrorFieldRefused self.now result.items result.end }
+        ensures announced { result.announced ≡ None }
+        ensures few { length result.items ≤ length self.now }
+    {
+        ErrorFields::over(self.storage.as_slice())
     }
 }

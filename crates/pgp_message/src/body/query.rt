@@ -1,9 +1,12 @@
 //! What a query answers.
 
-ghost use Rattle.std.specs.Prelude.{◌≡◌, IfOk, IfErr, MatchResult};
+ghost use Rattle.std.specs.Prelude.{◌≡◌, ◌≤◌, length, Some, IfOk, IfErr, MatchResult};
 ghost use Rattle.std.specs.Str.{IsUtf8};
+ghost use Rattle.pgp_base.specs.Items.{CountedItems};
+ghost use Rattle.pgp_message.specs.Items.{RangeSpelled, RangeRefused, FieldSpelled, FieldRefused, TypeSpelled, TypeRefused};
 ghost use Rattle.pgp_message.specs.Reading.{string_of, counted_of};
 
+use crate::walk::{DataRowRanges, Fields, Parameters};
 use bytes::{Buf, Bytes};
 use pgp_base::Error;
 use pgp_base::reading::{string_at, uint16_at};
@@ -86,6 +89,15 @@ impl<A: Allocator + Copy> DataRowBody<A> {
         })
     }
 
+    /// Where the values stand in `buffer`; `None` for a null.
+    pub fn ranges(&self) -> DataRowRanges<'_>
+        ensures items { CountedItems RangeSpelled RangeRefused self.now.count self.now.storage result.items result.end }
+        ensures announced { result.announced ≡ Some self.now.count }
+        ensures few { length result.items ≤ length self.now.storage }
+    {
+        DataRowRanges::over(self.storage.as_slice(), self.len)
+    }
+
     /// The bytes behind the count, into which the ranges of the values point.
     pub fn buffer(&self) -> &[u8]
         ensures { result.now ≡ self.now.storage }
@@ -128,6 +140,15 @@ impl<A: Allocator + Copy> RowDescriptionBody<A> {
             storage: payload,
         })
     }
+
+    /// The columns.
+    pub fn fields(&self) -> Fields<'_>
+        ensures items { CountedItems FieldSpelled FieldRefused self.now.count self.now.storage result.items result.end }
+        ensures announced { result.announced ≡ Some self.now.count }
+        ensures few { length result.items ≤ length self.now.storage }
+    {
+        Fields::over(self.storage.as_slice(), self.len)
+    }
 }
 
 /// The types of the parameters of a statement.
@@ -156,5 +177,14 @@ impl<A: Allocator + Copy> ParameterDescriptionBody<A> {
             len,
             storage: payload,
         })
+    }
+
+    /// The types of the parameters.
+    pub fn parameters(&self) -> Parameters<'_>
+        ensures items { CountedItems TypeSpelled TypeRefused self.now.count self.now.storage result.items result.end }
+        ensures announced { result.announced ≡ Some self.now.count }
+        ensures few { length result.items ≤ length self.now.storage }
+    {
+        Parameters::over(self.storage.as_slice(), self.len)
     }
 }

@@ -1,0 +1,15 @@
+//! The lists inside bodies, read as they are walked.
+
+mod column_formats;
+mod data_row_ranges;
+mod error_fields;
+mod fields;
+mod parameters;
+mod sasl_mechanisms;
+
+pub use column_formats::ColumnFormats;
+pub use data_row_ranges::DataRowRanges;
+pub use error_fields::{ErrorField, ErrorFields};
+pub use fields::{Field, Fields};
+pub use parameters::Parameters;
+pub use sasl_mechanisms::SaslMechanisms;

@@ -1,0 +1,162 @@
+//! The columns of a row description.
+
+ghost use Rattle.std.specs.Prelude.{◌≡◌, ◌≤◌, length, Some};
+ghost use Rattle.pgp_base.specs.Items.{CountedItems};
+ghost use Rattle.pgp_base.specs.PartReading.{Answers};
+ghost use Rattle.pgp_message.specs.Items.{FieldPart, FieldSpelled, FieldRefused};
+ghost use Rattle.pgp_message.specs.ItemReading.{field_at};
+
+use pgp_base::reading::{int16_at, int32_at, oid_at, text_at};
+use pgp_base::{Counted, Error, FallibleIterator, Oid};
+use std::marker::Model;
+
+/// A column of a row.
+#[derive(Drop)]
+pub struct Field<'a> {
+    name: &'a str,
+    table_oid: Oid,
+    column_id: i16,
+    type_oid: Oid,
+    type_size: i16,
+    type_modifier: i32,
+    format: i16,
+}
+
+impl<'a> Model for Field<'a> {
+    ghost use Rattle.pgp_message.specs.Items.{FieldPart};
+
+    ghost Value = { FieldPart };
+
+    ghost view = { λ field. record {
+      name = field.name.now;
+      table_oid = field.table_oid;
+      column_id = field.column_id;
+      type_oid = field.type_oid;
+      type_size = field.type_size;
+      type_modifier = field.type_modifier;
+      format = field.format;
+    } };
+}
+
+impl<'a> Field<'a> {
+    /// The column's name.
+    pub fn name(&self) -> &'a str
+        ensures { result.now ≡ self.now.name }
+    {
+        self.name
+    }
+
+    /// The table that the column stands in, or 0.
+    pub fn table_oid(&self) -> Oid
+        ensures { result ≡ self.now.table_oid }
+    {
+        self.table_oid
+    }
+
+    /// The column's number in its table, or 0.
+    pub fn column_id(&self) -> i16
+        ensures { result ≡ self.now.column_id }
+    {
+        self.column_id
+    }
+
+    /// The type of the column's values.
+    pub fn type_oid(&self) -> Oid
+        ensures { result ≡ self.now.type_oid }
+    {
+        self.type_oid
+    }
+
+    /// The size of a value in bytes; negative where it varies.
+    pub fn type_size(&self) -> i16
+        ensures { result ≡ self.now.type_size }
+    {
+        self.type_size
+    }
+
+    /// The type's modifier, or -1.
+    pub fn type_modifier(&self) -> i32
+        ensures { result ≡ self.now.type_modifier }
+    {
+        self.type_modifier
+    }
+
+    /// The format of the column's values: 0 text, 1 binary.
+    pub fn format(&self) -> i16
+        ensures { result ≡ self.now.format }
+    {
+        self.format
+    }
+}
+
+/// The columns of a row.
+#[derive(Drop)]
+pub struct Fields<'a>(Counted<'a>);
+
+impl<'a> Model for Fields<'a> {
+    ghost use Rattle.pgp_base.specs.Walk.{Walk};
+    ghost use Rattle.pgp_base.specs.CountedRest.{walk_of};
+    ghost use Rattle.pgp_message.specs.Items.{FieldPart};
+    ghost use Rattle.pgp_message.specs.ItemReading.{field_at};
+
+    ghost Value = { Walk FieldPart };
+
+    ghost view = { λ walk. walk_of field_at walk.0 };
+}
+
+impl<'a> Fields<'a> {
+    pub(crate) fn over(buf: &'a [u8], count: u16) -> Fields<'a>
+        ensures items { CountedItems FieldSpelled FieldRefused count buf.now result.items result.end }
+        ensures announced { result.announced ≡ Some count }
+        ensures few { length result.items ≤ length buf.now }
+    {
+        Fields(Counted::new(buf, count as usize))
+    }
+}
+
+impl<'a> FallibleIterator for Fields<'a> {
+    type Item = Field<'a>;
+
+    ghost Meaning = { FieldPart };
+
+    ghost meaning = { λ x. x };
+
+    ghost walk = { λ s. s };
+
+    fn next(&mut self) -> Result<Option<Field<'a>>, Error> {
+        match self.0.due()? {
+            Some(buf) => self.0.take(field_at(buf)),
+            None => Ok(None),
+        }
+    }
+
+    fn size_hint(&self) -> (usize, Option<usize>) {
+        self.0.size_hint()
+    }
+}
+
+/// The column that is described at the front.
+#[tactic(auto, unfolding(crate::specs::ItemReading::numbers_at, crate::specs::ItemReading::field_at))]
+fn field_at(bytes: &[u8]) -> Result<(Field<'_>, &[u8]), Error>
+    ensures { Answers (λ x. (x.0, x.1.now)) result (field_at bytes.now) }
+{
+    let (name, rest) = text_at(bytes)?;
+    let (table_oid, rest) = oid_at(rest)?;
+    let (column_id, rest) = int16_at(rest)?;
+    let (type_oid, rest) = oid_at(rest)?;
+    let (type_size, rest) = int16_at(rest)?;
+    let (type_modifier, rest) = int32_at(rest)?;
+    let (format, rest) = int16_at(rest)?;
+    Ok((
+        Field {
+            name,
+            table_oid,
+            column_id,
+            type_oid,
+            type_size,
+            type_modifier,
+            format,
+        },
+        rest,
+    ))
+}
