@@ -2,7 +2,9 @@
 
 mod authentication;
 mod copy;
+mod counted;
 mod notice;
+mod notification;
 mod query;
 mod session;
 
@@ -12,7 +14,6 @@ pub use authentication::{
 };
 pub use copy::{CopyDataBody, CopyInResponseBody, CopyOutResponseBody};
 pub use notice::{ErrorResponseBody, NoticeResponseBody};
+pub use notification::NotificationResponseBody;
 pub use query::{CommandCompleteBody, DataRowBody, ParameterDescriptionBody, RowDescriptionBody};
-pub use session::{
-    BackendKeyDataBody, NotificationResponseBody, ParameterStatusBody, ReadyForQueryBody,
-};
+pub use session::{BackendKeyDataBody, ParameterStatusBody, ReadyForQueryBody};

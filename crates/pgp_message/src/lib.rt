@@ -30,3 +30,6 @@ pub use walk::{
     ColumnFormats, DataRowRanges, ErrorField, ErrorFields, Field, Fields, Parameters,
     SaslMechanisms,
 };
+
+#[cfg(test)]
+mod tests;

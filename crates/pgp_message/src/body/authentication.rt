@@ -52,7 +52,7 @@ impl AuthenticationMd5PasswordBody {
 /// More of a GSSAPI or SSPI exchange.
 #[derive(Drop)]
 pub struct AuthenticationGssContinueBody<A: Allocator = Global> {
-    storage: Bytes<A>,
+    token: Bytes<A>,
 }
 
 impl<A: Allocator> Model for AuthenticationGssContinueBody<A> {
@@ -60,28 +60,28 @@ impl<A: Allocator> Model for AuthenticationGssContinueBody<A> {
 
     ghost Value = { List ℕ };
 
-    ghost view = { λ body. body.storage };
+    ghost view = { λ body. body.token };
 }
 
 impl<A: Allocator> AuthenticationGssContinueBody<A> {
-    pub(crate) fn new(storage: Bytes<A>) -> AuthenticationGssContinueBody<A>
-        ensures { result ≡ storage }
+    pub(crate) fn new(token: Bytes<A>) -> AuthenticationGssContinueBody<A>
+        ensures { result ≡ token }
     {
-        AuthenticationGssContinueBody { storage }
+        AuthenticationGssContinueBody { token }
     }
 
     /// The bytes behind the code.
     pub fn data(&self) -> &[u8]
         ensures { result.now ≡ self.now }
     {
-        self.storage.as_slice()
+        self.token.as_slice()
     }
 }
 
 /// The SASL mechanisms that a server offers.
 #[derive(Drop)]
 pub struct AuthenticationSaslBody<A: Allocator = Global> {
-    storage: Bytes<A>,
+    mechanisms: Bytes<A>,
 }
 
 impl<A: Allocator> Model for AuthenticationSaslBody<A> {
@@ -89,14 +89,14 @@ impl<A: Allocator> Model for AuthenticationSaslBody<A> {
 
     ghost Value = { List ℕ };
 
-    ghost view = { λ body. body.storage };
+    ghost view = { λ body. body.mechanisms };
 }
 
 impl<A: Allocator> AuthenticationSaslBody<A> {
-    pub(crate) fn new(storage: Bytes<A>) -> AuthenticationSaslBody<A>
-        ensures { result ≡ storage }
+    pub(crate) fn new(mechanisms: Bytes<A>) -> AuthenticationSaslBody<A>
+        ensures { result ≡ mechanisms }
     {
-        AuthenticationSaslBody { storage }
+        AuthenticationSaslBody { mechanisms }
     }
 
     /// The mechanisms, by name.
@@ -105,14 +105,14 @@ impl<A: Allocator> AuthenticationSaslBody<A> {
         ensures announced { result.announced ≡ None }
         ensures few { length result.items ≤ length self.now }
     {
-        SaslMechanisms::over(self.storage.as_slice())
+        SaslMechanisms::over(self.mechanisms.as_slice())
     }
 }
 
 /// A server's challenge in a SASL exchange.
 #[derive(Drop)]
 pub struct AuthenticationSaslContinueBody<A: Allocator = Global> {
-    storage: Bytes<A>,
+    challenge: Bytes<A>,
 }
 
 impl<A: Allocator> Model for AuthenticationSaslContinueBody<A> {
@@ -120,28 +120,28 @@ impl<A: Allocator> Model for AuthenticationSaslContinueBody<A> {
 
     ghost Value = { List ℕ };
 
-    ghost view = { λ body. body.storage };
+    ghost view = { λ body. body.challenge };
 }
 
 impl<A: Allocator> AuthenticationSaslContinueBody<A> {
-    pub(crate) fn new(storage: Bytes<A>) -> AuthenticationSaslContinueBody<A>
-        ensures { result ≡ storage }
+    pub(crate) fn new(challenge: Bytes<A>) -> AuthenticationSaslContinueBody<A>
+        ensures { result ≡ challenge }
     {
-        AuthenticationSaslContinueBody { storage }
+        AuthenticationSaslContinueBody { challenge }
     }
 
     /// The bytes behind the code.
     pub fn data(&self) -> &[u8]
         ensures { result.now ≡ self.now }
     {
-        self.storage.as_slice()
+        self.challenge.as_slice()
     }
 }
 
 /// A server's last word in a SASL exchange.
 #[derive(Drop)]
 pub struct AuthenticationSaslFinalBody<A: Allocator = Global> {
-    storage: Bytes<A>,
+    outcome: Bytes<A>,
 }
 
 impl<A: Allocator> Model for AuthenticationSaslFinalBody<A> {
@@ -149,20 +149,20 @@ impl<A: Allocator> Model for AuthenticationSaslFinalBody<A> {
 
     ghost Value = { List ℕ };
 
-    ghost view = { λ body. body.storage };
+    ghost view = { λ body. body.outcome };
 }
 
 impl<A: Allocator> AuthenticationSaslFinalBody<A> {
-    pub(crate) fn new(storage: Bytes<A>) -> AuthenticationSaslFinalBody<A>
-        ensures { result ≡ storage }
+    pub(crate) fn new(outcome: Bytes<A>) -> AuthenticationSaslFinalBody<A>
+        ensures { result ≡ outcome }
     {
-        AuthenticationSaslFinalBody { storage }
+        AuthenticationSaslFinalBody { outcome }
     }
 
     /// The bytes behind the code.
     pub fn data(&self) -> &[u8]
         ensures { result.now ≡ self.now }
     {
-        self.storage.as_slice()
+        self.outcome.as_slice()
     }
 }

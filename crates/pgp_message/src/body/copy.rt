@@ -5,10 +5,10 @@ ghost use Rattle.pgp_base.specs.Items.{CountedItems};
 ghost use Rattle.pgp_message.specs.Items.{FormatSpelled, FormatRefused};
 ghost use Rattle.pgp_message.specs.Reading.{copy_of};
 
+use crate::body::counted::CopyFormats;
 use crate::walk::ColumnFormats;
-use bytes::{Buf, Bytes};
+use bytes::Bytes;
 use pgp_base::Error;
-use pgp_base::reading::{byte_at, uint16_at};
 use std::alloc::{Allocator, Global};
 use std::marker::Model;
 
@@ -52,9 +52,7 @@ impl<A: Allocator> CopyDataBody<A> {
 /// A server is ready for the data of a copy.
 #[derive(Drop)]
 pub struct CopyInResponseBody<A: Allocator = Global> {
-    format: u8,
-    len: u16,
-    storage: Bytes<A>,
+    incoming: CopyFormats<A>,
 }
 
 impl<A: Allocator> Model for CopyInResponseBody<A> {
@@ -62,31 +60,22 @@ impl<A: Allocator> Model for CopyInResponseBody<A> {
 
     ghost Value = { CopyFormats };
 
-    ghost view = { λ body. record { format = body.format; count = body.len; storage = body.storage } };
+    ghost view = { λ body. body.incoming };
 }
 
 impl<A: Allocator + Copy> CopyInResponseBody<A> {
-    #[tactic(auto, unfolding(crate::specs::Reading::copy_of))]
-    pub(crate) fn read(mut payload: Bytes<A>) -> Result<CopyInResponseBody<A>, Error>
+    pub(crate) fn read(payload: Bytes<A>) -> Result<CopyInResponseBody<A>, Error>
         ensures { result ≡ copy_of payload }
     {
-        let (format, rest) = byte_at(payload.as_slice())?;
-        let (len, _) = uint16_at(rest)?;
-        payload.advance(3);
-        Ok(CopyInResponseBody {
-            format,
-            len,
-            storage: payload,
-        })
+        let incoming = CopyFormats::read(payload)?;
+        Ok(CopyInResponseBody { incoming })
     }
-}
 
-impl<A: Allocator> CopyInResponseBody<A> {
     /// The format of the copy as a whole: 0 text, 1 binary.
     pub fn format(&self) -> u8
         ensures { result ≡ self.now.format }
     {
-        self.format
+        self.incoming.format
     }
 
     /// The format of each column.
@@ -95,16 +84,14 @@ impl<A: Allocator> CopyInResponseBody<A> {
         ensures announced { result.announced ≡ Some self.now.count }
         ensures few { length result.items ≤ length self.now.storage }
     {
-        ColumnFormats::over(self.storage.as_slice(), self.len)
+        ColumnFormats::over(self.incoming.storage.as_slice(), self.incoming.len)
     }
 }
 
 /// A server is about to send the data of a copy.
 #[derive(Drop)]
 pub struct CopyOutResponseBody<A: Allocator = Global> {
-    format: u8,
-    len: u16,
-    storage: Bytes<A>,
+    outgoing: CopyFormats<A>,
 }
 
 impl<A: Allocator> Model for CopyOutResponseBody<A> {
@@ -112,31 +99,22 @@ impl<A: Allocator> Model for CopyOutResponseBody<A> {
 
     ghost Value = { CopyFormats };
 
-    ghost view = { λ body. record { format = body.format; count = body.len; storage = body.storage } };
+    ghost view = { λ body. body.outgoing };
 }
 
 impl<A: Allocator + Copy> CopyOutResponseBody<A> {
-    #[tactic(auto, unfolding(crate::specs::Reading::copy_of))]
-    pub(crate) fn read(mut payload: Bytes<A>) -> Result<CopyOutResponseBody<A>, Error>
+    pub(crate) fn read(payload: Bytes<A>) -> Result<CopyOutResponseBody<A>, Error>
         ensures { result ≡ copy_of payload }
     {
-        let (format, rest) = byte_at(payload.as_slice())?;
-        let (len, _) = uint16_at(rest)?;
-        payload.advance(3);
-        Ok(CopyOutResponseBody {
-            format,
-            len,
-            storage: payload,
-        })
+        let outgoing = CopyFormats::read(payload)?;
+        Ok(CopyOutResponseBody { outgoing })
     }
-}
 
-impl<A: Allocator> CopyOutResponseBody<A> {
     /// The format of the copy as a whole: 0 text, 1 binary.
     pub fn format(&self) -> u8
         ensures { result ≡ self.now.format }
     {
-        self.format
+        self.outgoing.format
     }
 
     /// The format of each column.
@@ -145,6 +123,6 @@ impl<A: Allocator> CopyOutResponseBody<A> {
         ensures announced { result.announced ≡ Some self.now.count }
         ensures few { length result.items ≤ length self.now.storage }
     {
-        ColumnFormats::over(self.storage.as_slice(), self.len)
+        ColumnFormats::over(self.outgoing.storage.as_slice(), self.outgoing.len)
     }
 }

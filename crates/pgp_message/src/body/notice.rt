@@ -12,7 +12,7 @@ use std::marker::Model;
 /// An error.
 #[derive(Drop)]
 pub struct ErrorResponseBody<A: Allocator = Global> {
-    storage: Bytes<A>,
+    error: Bytes<A>,
 }
 
 impl<A: Allocator> Model for ErrorResponseBody<A> {
@@ -20,14 +20,14 @@ impl<A: Allocator> Model for ErrorResponseBody<A> {
 
     ghost Value = { List ℕ };
 
-    ghost view = { λ body. body.storage };
+    ghost view = { λ body. body.error };
 }
 
 impl<A: Allocator> ErrorResponseBody<A> {
-    pub(crate) fn new(storage: Bytes<A>) -> ErrorResponseBody<A>
-        ensures { result ≡ storage }
+    pub(crate) fn new(error: Bytes<A>) -> ErrorResponseBody<A>
+        ensures { result ≡ error }
     {
-        ErrorResponseBody { storage }
+        ErrorResponseBody { error }
     }
 
     /// The fields, in the order in which they came.
@@ -36,14 +36,14 @@ impl<A: Allocator> ErrorResponseBody<A> {
         ensures announced { result.announced ≡ None }
         ensures few { length result.items ≤ length self.now }
     {
-        ErrorFields::over(self.storage.as_slice())
+        ErrorFields::over(self.error.as_slice())
     }
 }
 
 /// A notice.
 #[derive(Drop)]
 pub struct NoticeResponseBody<A: Allocator = Global> {
-    storage: Bytes<A>,
+    notice: Bytes<A>,
 }
 
 impl<A: Allocator> Model for NoticeResponseBody<A> {
@@ -51,14 +51,14 @@ impl<A: Allocator> Model for NoticeResponseBody<A> {
 
     ghost Value = { List ℕ };
 
-    ghost view = { λ body. body.storage };
+    ghost view = { λ body. body.notice };
 }
 
 impl<A: Allocator> NoticeResponseBody<A> {
-    pub(crate) fn new(storage: Bytes<A>) -> NoticeResponseBody<A>
-        ensures { result ≡ storage }
+    pub(crate) fn new(notice: Bytes<A>) -> NoticeResponseBody<A>
+        ensures { result ≡ notice }
     {
-        NoticeResponseBody { storage }
+        NoticeResponseBody { notice }
     }
 
     /// The fields, in the order in which they came.
@@ -67,6 +67,6 @@ impl<A: Allocator> NoticeResponseBody<A> {
         ensures announced { result.announced ≡ None }
         ensures few { length result.items ≤ length self.now }
     {
-        ErrorFields::over(self.storage.as_slice())
+        ErrorFields::over(self.notice.as_slice())
     }
 }

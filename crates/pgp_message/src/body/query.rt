@@ -6,10 +6,11 @@ ghost use Rattle.pgp_base.specs.Items.{CountedItems};
 ghost use Rattle.pgp_message.specs.Items.{RangeSpelled, RangeRefused, FieldSpelled, FieldRefused, TypeSpelled, TypeRefused};
 ghost use Rattle.pgp_message.specs.Reading.{string_of, counted_of};
 
+use crate::body::counted::CountedBytes;
 use crate::walk::{DataRowRanges, Fields, Parameters};
-use bytes::{Buf, Bytes};
+use bytes::Bytes;
 use pgp_base::Error;
-use pgp_base::reading::{string_at, uint16_at};
+use pgp_base::reading::string_at;
 use std::alloc::{Allocator, Global};
 use std::marker::Model;
 use std::str;
@@ -53,8 +54,7 @@ impl<A: Allocator + Copy> CommandCompleteBody<A> {
 /// A row.
 #[derive(Drop)]
 pub struct DataRowBody<A: Allocator = Global> {
-    len: u16,
-    storage: Bytes<A>,
+    row: CountedBytes<A>,
 }
 
 impl<A: Allocator> Model for DataRowBody<A> {
@@ -62,20 +62,15 @@ impl<A: Allocator> Model for DataRowBody<A> {
 
     ghost Value = { CountedBytes };
 
-    ghost view = { λ body. record { count = body.len; storage = body.storage } };
+    ghost view = { λ body. body.row };
 }
 
 impl<A: Allocator + Copy> DataRowBody<A> {
-    #[tactic(auto, unfolding(crate::specs::Reading::counted_of))]
-    pub(crate) fn read(mut payload: Bytes<A>) -> Result<DataRowBody<A>, Error>
+    pub(crate) fn read(payload: Bytes<A>) -> Result<DataRowBody<A>, Error>
         ensures { result ≡ counted_of payload }
     {
-        let (len, _) = uint16_at(payload.as_slice())?;
-        payload.advance(2);
-        Ok(DataRowBody {
-            len,
-            storage: payload,
-        })
+        let row = CountedBytes::read(payload)?;
+        Ok(DataRowBody { row })
     }
 
     /// The same row over the same bytes. The only refusal is want of memory.
@@ -83,9 +78,10 @@ impl<A: Allocator + Copy> DataRowBody<A> {
         ensures ok { IfOk result (λ row. row ≡ self.now) }
         ensures err { IfErr result (λ e. e ≡ Error.OutOfMemory) }
     {
+        let storage = self.row.storage.clone()?;
+        let len = self.row.len;
         Ok(DataRowBody {
-            len: self.len,
-            storage: self.storage.clone()?,
+            row: CountedBytes { len, storage },
         })
     }
 
@@ -95,29 +91,28 @@ impl<A: Allocator + Copy> DataRowBody<A> {
         ensures announced { result.announced ≡ Some self.now.count }
         ensures few { length result.items ≤ length self.now.storage }
     {
-        DataRowRanges::over(self.storage.as_slice(), self.len)
+        DataRowRanges::over(self.row.storage.as_slice(), self.row.len)
     }
 
     /// The bytes behind the count, into which the ranges of the values point.
     pub fn buffer(&self) -> &[u8]
         ensures { result.now ≡ self.now.storage }
     {
-        self.storage.as_slice()
+        self.row.storage.as_slice()
     }
 
     /// The same bytes, as they are shared.
     pub fn buffer_bytes(&self) -> &Bytes<A>
         ensures { result.now ≡ self.now.storage }
     {
-        &self.storage
+        &self.row.storage
     }
 }
 
 /// The columns of the rows to come.
 #[derive(Drop)]
 pub struct RowDescriptionBody<A: Allocator = Global> {
-    len: u16,
-    storage: Bytes<A>,
+    columns: CountedBytes<A>,
 }
 
 impl<A: Allocator> Model for RowDescriptionBody<A> {
@@ -125,20 +120,15 @@ impl<A: Allocator> Model for RowDescriptionBody<A> {
 
     ghost Value = { CountedBytes };
 
-    ghost view = { λ body. record { count = body.len; storage = body.storage } };
+    ghost view = { λ body. body.columns };
 }
 
 impl<A: Allocator + Copy> RowDescriptionBody<A> {
-    #[tactic(auto, unfolding(crate::specs::Reading::counted_of))]
-    pub(crate) fn read(mut payload: Bytes<A>) -> Result<RowDescriptionBody<A>, Error>
+    pub(crate) fn read(payload: Bytes<A>) -> Result<RowDescriptionBody<A>, Error>
         ensures { result ≡ counted_of payload }
     {
-        let (len, _) = uint16_at(payload.as_slice())?;
-        payload.advance(2);
-        Ok(RowDescriptionBody {
-            len,
-            storage: payload,
-        })
+        let columns = CountedBytes::read(payload)?;
+        Ok(RowDescriptionBody { columns })
     }
 
     /// The columns.
@@ -147,15 +137,14 @@ impl<A: Allocator + Copy> RowDescriptionBody<A> {
         ensures announced { result.announced ≡ Some self.now.count }
         ensures few { length result.items ≤ length self.now.storage }
     {
-        Fields::over(self.storage.as_slice(), self.len)
+        Fields::over(self.columns.storage.as_slice(), self.columns.len)
     }
 }
 
 /// The types of the parameters of a statement.
 #[derive(Drop)]
 pub struct ParameterDescriptionBody<A: Allocator = Global> {
-    len: u16,
-    storage: Bytes<A>,
+    types: CountedBytes<A>,
 }
 
 impl<A: Allocator> Model for ParameterDescriptionBody<A> {
@@ -163,20 +152,15 @@ impl<A: Allocator> Model for ParameterDescriptionBody<A> {
 
     ghost Value = { CountedBytes };
 
-    ghost view = { λ body. record { count = body.len; storage = body.storage } };
+    ghost view = { λ body. body.types };
 }
 
 impl<A: Allocator + Copy> ParameterDescriptionBody<A> {
-    #[tactic(auto, unfolding(crate::specs::Reading::counted_of))]
-    pub(crate) fn read(mut payload: Bytes<A>) -> Result<ParameterDescriptionBody<A>, Error>
+    pub(crate) fn read(payload: Bytes<A>) -> Result<ParameterDescriptionBody<A>, Error>
         ensures { result ≡ counted_of payload }
     {
-        let (len, _) = uint16_at(payload.as_slice())?;
-        payload.advance(2);
-        Ok(ParameterDescriptionBody {
-            len,
-            storage: payload,
-        })
+        let types = CountedBytes::read(payload)?;
+        Ok(ParameterDescriptionBody { types })
     }
 
     /// The types of the parameters.
@@ -185,6 +169,6 @@ impl<A: Allocator + Copy> ParameterDescriptionBody<A> {
         ensures announced { result.announced ≡ Some self.now.count }
         ensures few { length result.items ≤ length self.now.storage }
     {
-        Parameters::over(self.storage.as_slice(), self.len)
+        Parameters::over(self.types.storage.as_slice(), self.types.len)
     }
 }

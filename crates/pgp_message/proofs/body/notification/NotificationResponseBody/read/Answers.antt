@@ -1,6 +1,6 @@
 use Rattle.std.proofs.Common.{◌≡◌, rules}
 use Rattle.pgp_message.proofs.TextBodies.{notification_is, notification_long, texts_fit}
-use Rattle.pgp_message.proofs.body.session.NotificationResponseBody.read.Goals as goal
+use Rattle.pgp_message.proofs.body.notification.NotificationResponseBody.read.Goals as goal
 
 pub invariant_of-result : goal.invariant_of-result
 invariant_of-result g c =

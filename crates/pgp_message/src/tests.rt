@@ -1,0 +1,448 @@
+use crate::{Header, Message};
+use bytes::BytesMut;
+use pgp_base::{Error, FallibleIterator};
+use std::alloc::Global;
+use std::test::Fail;
+
+fn buffer(alloc: Global, bytes: &[u8]) -> Result<BytesMut, Error> {
+    let mut buf = BytesMut::new(alloc);
+    buf.extend_from_slice(bytes)?;
+    Ok(buf)
+}
+
+/// The one message of the bytes, which are all removed.
+fn message(rt: &HostRuntime, bytes: &[u8]) -> Result<Message, Error> {
+    let mut buf = buffer(rt.alloc(), bytes)?;
+    let answer = Message::parse(&mut buf)?;
+    if !buf.is_empty() {
+        return Err(Error::InvalidSize);
+    }
+    answer.ok_or(Error::InvalidCount)
+}
+
+fn variant(message: &Message) -> &'static str {
+    match message {
+        Message::AuthenticationCleartextPassword => "AuthenticationCleartextPassword",
+        Message::AuthenticationGss => "AuthenticationGss",
+        Message::AuthenticationGssContinue(_) => "AuthenticationGssContinue",
+        Message::AuthenticationKerberosV5 => "AuthenticationKerberosV5",
+        Message::AuthenticationMd5Password(_) => "AuthenticationMd5Password",
+        Message::AuthenticationOk => "AuthenticationOk",
+        Message::AuthenticationSasl(_) => "AuthenticationSasl",
+        Message::AuthenticationSaslContinue(_) => "AuthenticationSaslContinue",
+        Message::AuthenticationSaslFinal(_) => "AuthenticationSaslFinal",
+        Message::AuthenticationScmCredential => "AuthenticationScmCredential",
+        Message::AuthenticationSspi => "AuthenticationSspi",
+        Message::BackendKeyData(_) => "BackendKeyData",
+        Message::BindComplete => "BindComplete",
+        Message::CloseComplete => "CloseComplete",
+        Message::CommandComplete(_) => "CommandComplete",
+        Message::CopyData(_) => "CopyData",
+        Message::CopyDone => "CopyDone",
+        Message::CopyInResponse(_) => "CopyInResponse",
+        Message::CopyOutResponse(_) => "CopyOutResponse",
+        Message::DataRow(_) => "DataRow",
+        Message::EmptyQueryResponse => "EmptyQueryResponse",
+        Message::ErrorResponse(_) => "ErrorResponse",
+        Message::NoData => "NoData",
+        Message::NoticeResponse(_) => "NoticeResponse",
+        Message::NotificationResponse(_) => "NotificationResponse",
+        Message::ParameterDescription(_) => "ParameterDescription",
+        Message::ParameterStatus(_) => "ParameterStatus",
+        Message::ParseComplete => "ParseComplete",
+        Message::PortalSuspended => "PortalSuspended",
+        Message::ReadyForQuery(_) => "ReadyForQuery",
+        Message::RowDescription(_) => "RowDescription",
+    }
+}
+
+const FRAMES: [(&[u8], &str); 31] = [
+    (b"1\x00\x00\x00\x04", "ParseComplete"),
+    (b"2\x00\x00\x00\x04", "BindComplete"),
+    (b"3\x00\x00\x00\x04", "CloseComplete"),
+    (
+        b"A\x00\x00\x00\x0c\x00\x00\x00\x01c\x00m\x00",
+        "NotificationResponse",
+    ),
+    (b"C\x00\x00\x00\x0dSELECT 1\x00", "CommandComplete"),
+    (
+        b"D\x00\x00\x00\x13\x00\x03\x00\x00\x00\x01a\xff\xff\xff\xff\x00\x00\x00\x00",
+        "DataRow",
+    ),
+    (b"E\x00\x00\x00\x0cSERROR\x00\x00", "ErrorResponse"),
+    (b"G\x00\x00\x00\x09\x00\x00\x01\x00\x01", "CopyInResponse"),
+    (b"H\x00\x00\x00\x09\x00\x00\x01\x00\x01", "CopyOutResponse"),
+    (b"I\x00\x00\x00\x04", "EmptyQueryResponse"),
+    (
+        b"K\x00\x00\x00\x0c\x00\x00\x00\x01\x00\x00\x00\x02",
+        "BackendKeyData",
+    ),
+    (b"N\x00\x00\x00\x0cSERROR\x00\x00", "NoticeResponse"),
+    (b"R\x00\x00\x00\x08\x00\x00\x00\x00", "AuthenticationOk"),
+    (
+        b"R\x00\x00\x00\x08\x00\x00\x00\x02",
+        "AuthenticationKerberosV5",
+    ),
+    (
+        b"R\x00\x00\x00\x08\x00\x00\x00\x03",
+        "AuthenticationCleartextPassword",
+    ),
+    (
+        b"R\x00\x00\x00\x0c\x00\x00\x00\x05\x01\x02\x03\x04",
+        "AuthenticationMd5Password",
+    ),
+    (
+        b"R\x00\x00\x00\x08\x00\x00\x00\x06",
+        "AuthenticationScmCredential",
+    ),
+    (b"R\x00\x00\x00\x08\x00\x00\x00\x07", "AuthenticationGss"),
+    (
+        b"R\x00\x00\x00\x0a\x00\x00\x00\x08ab",
+        "AuthenticationGssContinue",
+    ),
+    (b"R\x00\x00\x00\x08\x00\x00\x00\x09", "AuthenticationSspi"),
+    (
+        b"R\x00\x00\x00\x17\x00\x00\x00\x0aSCRAM-SHA-256\x00\x00",
+        "AuthenticationSasl",
+    ),
+    (
+        b"R\x00\x00\x00\x0a\x00\x00\x00\x0bab",
+        "AuthenticationSaslContinue",
+    ),
+    (
+        b"R\x00\x00\x00\x0a\x00\x00\x00\x0cab",
+        "AuthenticationSaslFinal",
+    ),
+    (b"S\x00\x00\x00\x08n\x00v\x00", "ParameterStatus"),
+    (
+        b"T\x00\x00\x00\x1a\x00\x01a\x00\x00\x00\x00\x00\x00\x00\x00\x00\x00\x17\x00\x04\xff\xff\xff\xff\x00\x00",
+        "RowDescription",
+    ),
+    (b"Z\x00\x00\x00\x05I", "ReadyForQuery"),
+    (b"c\x00\x00\x00\x04", "CopyDone"),
+    (b"d\x00\x00\x00\x06ab", "CopyData"),
+    (b"n\x00\x00\x00\x04", "NoData"),
+    (b"s\x00\x00\x00\x04", "PortalSuspended"),
+    (
+        b"t\x00\x00\x00\x0a\x00\x01\x00\x00\x00\x17",
+        "ParameterDescription",
+    ),
+];
+
+#[test]
+fn each_message_is_read(rt: HostRuntime) -> Result<(), Fail> {
+    for (bytes, name) in FRAMES {
+        let message = message(&rt, bytes)?;
+        assert_eq!(rt; variant(&message), name);
+    }
+    Ok(())
+}
+
+#[test]
+fn refused_frame_is_removed_and_reading_goes_on(rt: HostRuntime) -> Result<(), Fail> {
+    let mut buf = buffer(rt.alloc(), b"\x5a\0\0\0\x06\x49\0\x31\0\0\0\x04")?;
+    assert!(rt; matches!(Message::parse(&mut buf), Err(Error::NotDrained)));
+    assert!(rt; matches!(Message::parse(&mut buf), Ok(Some(Message::ParseComplete))));
+    assert!(rt; matches!(Message::parse(&mut buf), Ok(None)));
+    assert!(rt; buf.is_empty());
+    let refused: [(&[u8], Error); 7] = [
+        (b"\x57\0\0\0\x04", Error::UnknownTag(0x57)),
+        (
+            b"\x52\0\0\0\x08\0\0\0\x63",
+            Error::UnknownAuthentication(99),
+        ),
+        (
+            b"\x52\0\0\0\x08\xff\xff\xff\xff",
+            Error::UnknownAuthentication(-1),
+        ),
+        (b"\x44\0\0\0\x05\0", Error::UnexpectedEof),
+        (b"\x43\0\0\0\x06ab", Error::UnexpectedEof),
+        (b"\x31\0\0\0\x05\0", Error::NotDrained),
+        (b"\x53\0\0\0\x09n\0v\0\0", Error::NotDrained),
+    ];
+    for (bytes, error) in refused {
+        let mut buf = buffer(rt.alloc(), bytes)?;
+        let answer = Message::parse(&mut buf);
+        assert!(rt; matches!(&answer, Err(e) if *e == error));
+        assert!(rt; buf.is_empty());
+    }
+    Ok(())
+}
+
+#[test]
+fn bytes_stay_where_no_frame_is_whole(rt: HostRuntime) -> Result<(), Fail> {
+    let waiting: [&[u8]; 4] = [b"", b"\x5a\0\0\0", b"\x5a\0\0\0\x05", b"\x44\x80\0\0\0"];
+    for bytes in waiting {
+        let mut buf = buffer(rt.alloc(), bytes)?;
+        assert!(rt; matches!(Message::parse(&mut buf), Ok(None)));
+        assert_eq!(rt; buf.as_slice(), bytes);
+    }
+    let fault: &[u8] = b"\x5a\0\0\0\x03\x31\0\0\0\x04";
+    let mut buf = buffer(rt.alloc(), fault)?;
+    for _ in 0..2 {
+        assert!(rt; matches!(Message::parse(&mut buf), Err(Error::InvalidLength)));
+        assert_eq!(rt; buf.as_slice(), fault);
+    }
+    Ok(())
+}
+
+#[test]
+fn header_reads_a_signed_length(rt: HostRuntime) -> Result<(), Fail> {
+    assert!(rt; matches!(Header::parse(b"\x44\0\0\0"), Ok(None)));
+    assert!(rt; matches!(Header::parse(b"\x44\x80\0\0\0"), Err(Error::InvalidLength)));
+    assert!(rt; matches!(Header::parse(b"\x44\0\0\0\x03"), Err(Error::InvalidLength)));
+    let header = Header::parse(b"\x44\0\0\0\x13\0")?.ok_or(Error::UnexpectedEof)?;
+    assert_eq!(rt; header.tag(), 0x44);
+    assert_eq!(rt; header.len(), 19);
+    Ok(())
+}
+
+#[test]
+fn a_row_gives_the_places_of_its_values(rt: HostRuntime) -> Result<(), Fail> {
+    let Message::DataRow(first) = message(
+        &rt,
+        b"\x44\0\0\0\x13\0\x03\0\0\0\x01\x61\xff\xff\xff\xff\0\0\0\0",
+    )?
+    else {
+        panic!(rt; "no row");
+    };
+    for row in [first.clone()?, first] {
+        assert_eq!(rt;
+            row.buffer(),
+            b"\0\0\0\x01\x61\xff\xff\xff\xff\0\0\0\0".as_slice()
+        );
+        assert_eq!(rt; row.buffer_bytes().as_slice(), row.buffer());
+        let mut ranges = row.ranges();
+        assert_eq!(rt; ranges.size_hint(), (3, Some(3)));
+        assert_eq!(rt; ranges.next()?, Some(Some(4..5)));
+        assert_eq!(rt; ranges.next()?, Some(None));
+        assert_eq!(rt; ranges.next()?, Some(Some(13..13)));
+        assert_eq!(rt; ranges.next()?, None);
+        assert_eq!(rt; ranges.next()?, None);
+        assert_eq!(rt; row.ranges().collect(rt.alloc())?.len(), 3);
+    }
+    Ok(())
+}
+
+#[test]
+fn a_refused_walk_stays_refused(rt: HostRuntime) -> Result<(), Fail> {
+    let Message::DataRow(row) = message(&rt, b"\x44\0\0\0\x0a\0\x01\0\0\0\x05")? else {
+        panic!(rt; "no row");
+    };
+    let mut ranges = row.ranges();
+    assert_eq!(rt; ranges.size_hint(), (1, Some(1)));
+    for _ in 0..2 {
+        assert_eq!(rt; ranges.next(), Err(Error::UnexpectedEof));
+        assert_eq!(rt; ranges.size_hint(), (0, Some(0)));
+    }
+    assert!(rt; matches!(row.ranges().collect(rt.alloc()), Err(Error::UnexpectedEof)));
+    let Message::ParameterDescription(body) = message(&rt, b"\x74\0\0\0\x06\0\x02")? else {
+        panic!(rt; "no parameters");
+    };
+    let mut parameters = body.parameters();
+    assert_eq!(rt; parameters.size_hint(), (2, Some(2)));
+    assert_eq!(rt; parameters.next(), Err(Error::UnexpectedEof));
+    assert_eq!(rt; parameters.next(), Err(Error::UnexpectedEof));
+    Ok(())
+}
+
+#[test]
+fn formats_and_parameters_are_numbers(rt: HostRuntime) -> Result<(), Fail> {
+    let Message::CopyInResponse(copy) = message(&rt, b"\x47\0\0\0\x09\0\0\x01\0\x01")? else {
+        panic!(rt; "no copy");
+    };
+    assert_eq!(rt; copy.format(), 0);
+    let mut formats = copy.column_formats();
+    assert_eq!(rt; formats.size_hint(), (1, Some(1)));
+    assert_eq!(rt; formats.next()?, Some(1));
+    assert_eq!(rt; formats.next()?, None);
+    assert_eq!(rt; formats.next()?, None);
+    let Message::CopyOutResponse(copy) = message(&rt, b"\x48\0\0\0\x0b\x01\0\x02\xff\xff\0\x01")?
+    else {
+        panic!(rt; "no copy");
+    };
+    assert_eq!(rt; copy.format(), 1);
+    assert_eq!(rt;
+        copy.column_formats().collect(rt.alloc())?.as_slice(),
+        [0xffff, 1].as_slice()
+    );
+    let Message::ParameterDescription(body) = message(&rt, b"\x74\0\0\0\x0a\0\x01\0\0\0\x17")?
+    else {
+        panic!(rt; "no parameters");
+    };
+    let mut parameters = body.parameters();
+    assert_eq!(rt; parameters.next()?, Some(23));
+    assert_eq!(rt; parameters.next()?, None);
+    assert_eq!(rt; parameters.next()?, None);
+    assert_eq!(rt;
+        body.parameters().collect(rt.alloc())?.as_slice(),
+        [23].as_slice()
+    );
+    Ok(())
+}
+
+#[test]
+fn a_row_description_names_its_columns(rt: HostRuntime) -> Result<(), Fail> {
+    let Message::RowDescription(body) = message(
+        &rt,
+        b"\x54\0\0\0\x1a\0\x01\x61\0\0\0\0\0\0\0\0\0\0\x17\0\x04\xff\xff\xff\xff\0\0",
+    )?
+    else {
+        panic!(rt; "no description");
+    };
+    let mut fields = body.fields();
+    assert_eq!(rt; fields.size_hint(), (1, Some(1)));
+    let field = fields.next()?.ok_or(Error::UnexpectedEof)?;
+    assert_eq!(rt; field.name(), "a");
+    assert_eq!(rt; field.table_oid(), 0);
+    assert_eq!(rt; field.column_id(), 0);
+    assert_eq!(rt; field.type_oid(), 23);
+    assert_eq!(rt; field.type_size(), 4);
+    assert_eq!(rt; field.type_modifier(), -1);
+    assert_eq!(rt; field.format(), 0);
+    assert!(rt; fields.next()?.is_none());
+    assert!(rt; fields.next()?.is_none());
+    assert_eq!(rt; body.fields().collect(rt.alloc())?.len(), 1);
+    Ok(())
+}
+
+#[test]
+fn errors_and_notices_list_their_fields(rt: HostRuntime) -> Result<(), Fail> {
+    let Message::ErrorResponse(body) = message(&rt, b"\x45\0\0\0\x0c\x53ERROR\0\0")? else {
+        panic!(rt; "no error");
+    };
+    let mut fields = body.fields();
+    assert_eq!(rt; fields.size_hint(), (0, None));
+    let field = fields.next()?.ok_or(Error::UnexpectedEof)?;
+    assert_eq!(rt; field.type_(), 0x53);
+    assert_eq!(rt; field.value()?, "ERROR");
+    assert!(rt; fields.next()?.is_none());
+    assert!(rt; fields.next()?.is_none());
+    assert_eq!(rt; body.fields().collect(rt.alloc())?.len(), 1);
+    let Message::ErrorResponse(body) = message(&rt, b"\x45\0\0\0\x08\x4d\xff\0\0")? else {
+        panic!(rt; "no error");
+    };
+    let mut fields = body.fields();
+    let field = fields.next()?.ok_or(Error::UnexpectedEof)?;
+    assert_eq!(rt; field.type_(), 0x4d);
+    assert_eq!(rt; field.value_bytes(), b"\xff".as_slice());
+    assert_eq!(rt; field.value(), Err(Error::NotUtf8));
+    assert!(rt; fields.next()?.is_none());
+    let Message::NoticeResponse(body) = message(&rt, b"\x4e\0\0\0\x06\0\x01")? else {
+        panic!(rt; "no notice");
+    };
+    let mut fields = body.fields();
+    assert!(rt; matches!(fields.next(), Err(Error::NotDrained)));
+    assert!(rt; matches!(fields.next(), Err(Error::NotDrained)));
+    Ok(())
+}
+
+#[test]
+fn a_server_offers_mechanisms(rt: HostRuntime) -> Result<(), Fail> {
+    let Message::AuthenticationSasl(body) = message(
+        &rt,
+        b"\x52\0\0\0\x17\0\0\0\x0aSCRAM-SHA-256\0\0",
+    )?
+    else {
+        panic!(rt; "no mechanisms");
+    };
+    let mut mechanisms = body.mechanisms();
+    assert_eq!(rt; mechanisms.size_hint(), (0, None));
+    assert_eq!(rt; mechanisms.next()?, Some("SCRAM-SHA-256"));
+    assert_eq!(rt; mechanisms.next()?, None);
+    assert_eq!(rt; mechanisms.next()?, None);
+    assert_eq!(rt; body.mechanisms().collect(rt.alloc())?.len(), 1);
+    let Message::AuthenticationSasl(body) = message(&rt, b"\x52\0\0\0\x0a\0\0\0\x0a\xff\0")? else {
+        panic!(rt; "no mechanisms");
+    };
+    assert_eq!(rt; body.mechanisms().next(), Err(Error::NotUtf8));
+    Ok(())
+}
+
+#[test]
+fn authentication_bodies_give_their_parts(rt: HostRuntime) -> Result<(), Fail> {
+    let frame = b"\x52\0\0\0\x0c\0\0\0\x05\x01\x02\x03\x04";
+    let Message::AuthenticationMd5Password(body) = message(&rt, frame)? else {
+        panic!(rt; "no salt");
+    };
+    assert_eq!(rt; body.salt(), [1, 2, 3, 4]);
+    let Message::AuthenticationGssContinue(body) = message(&rt, b"\x52\0\0\0\x0a\0\0\0\x08ab")?
+    else {
+        panic!(rt; "no token");
+    };
+    assert_eq!(rt; body.data(), b"ab".as_slice());
+    let Message::AuthenticationSaslContinue(body) = message(&rt, b"\x52\0\0\0\x0a\0\0\0\x0bab")?
+    else {
+        panic!(rt; "no challenge");
+    };
+    assert_eq!(rt; body.data(), b"ab".as_slice());
+    let Message::AuthenticationSaslFinal(body) = message(&rt, b"\x52\0\0\0\x0a\0\0\0\x0cab")? else {
+        panic!(rt; "no last word");
+    };
+    assert_eq!(rt; body.data(), b"ab".as_slice());
+    Ok(())
+}
+
+#[test]
+fn session_bodies_give_their_parts(rt: HostRuntime) -> Result<(), Fail> {
+    let Message::BackendKeyData(body) = message(&rt, b"\x4b\0\0\0\x0c\0\0\0\x01\0\0\0\x02")? else {
+        panic!(rt; "no key");
+    };
+    assert_eq!(rt; body.process_id(), 1);
+    assert_eq!(rt; body.secret_key(), 2);
+    let Message::NotificationResponse(body) = message(&rt, b"\x41\0\0\0\x0c\0\0\0\x01c\0m\0")?
+    else {
+        panic!(rt; "no notification");
+    };
+    assert_eq!(rt; body.process_id(), 1);
+    assert_eq!(rt; body.channel()?, "c");
+    assert_eq!(rt; body.message()?, "m");
+    let Message::ParameterStatus(body) = message(&rt, b"\x53\0\0\0\x08n\0v\0")? else {
+        panic!(rt; "no setting");
+    };
+    assert_eq!(rt; body.name()?, "n");
+    assert_eq!(rt; body.value()?, "v");
+    let Message::ReadyForQuery(body) = message(&rt, b"\x5a\0\0\0\x05I")? else {
+        panic!(rt; "no status");
+    };
+    assert_eq!(rt; body.status(), b'I');
+    Ok(())
+}
+
+#[test]
+fn query_bodies_give_their_parts(rt: HostRuntime) -> Result<(), Fail> {
+    let Message::CommandComplete(body) = message(&rt, b"\x43\0\0\0\x0dSELECT 1\0")? else {
+        panic!(rt; "no tag");
+    };
+    assert_eq!(rt; body.tag()?, "SELECT 1");
+    let Message::CopyData(body) = message(&rt, b"\x64\0\0\0\x06ab")? else {
+        panic!(rt; "no data");
+    };
+    assert_eq!(rt; body.data(), b"ab".as_slice());
+    assert_eq!(rt; body.into_bytes().as_slice(), b"ab".as_slice());
+    Ok(())
+}
+
+#[test]
+fn texts_that_are_not_utf8_are_refused_when_asked_for(rt: HostRuntime) -> Result<(), Fail> {
+    let Message::CommandComplete(body) = message(&rt, b"\x43\0\0\0\x06\xff\0")? else {
+        panic!(rt; "no tag");
+    };
+    assert_eq!(rt; body.tag(), Err(Error::NotUtf8));
+    let Message::ParameterStatus(body) = message(&rt, b"\x53\0\0\0\x08n\0\xff\0")? else {
+        panic!(rt; "no setting");
+    };
+    assert_eq!(rt; body.name()?, "n");
+    assert_eq!(rt; body.value(), Err(Error::NotUtf8));
+    let Message::NotificationResponse(body) = message(
+        &rt,
+        b"\x41\0\0\0\x0c\xff\xff\xff\xff\xff\0m\0",
+    )?
+    else {
+        panic!(rt; "no notification");
+    };
+    assert_eq!(rt; body.process_id(), -1);
+    assert_eq!(rt; body.channel(), Err(Error::NotUtf8));
+    assert_eq!(rt; body.message()?, "m");
+    Ok(())
+}

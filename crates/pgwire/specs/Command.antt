@@ -1,0 +1,66 @@
+-- What the program does for its words.
+use Rattle.std.specs.Prelude.{◌≡◌, ◌⊎◌, ℕ, List, [], ◌∷◌, Option, IfSome, codes}
+use Rattle.std.specs.Io.KnownBytes.{Keeps, IsAtEnd}
+use Rattle.pgwire.specs.declared.fault.Fault.{Fault}
+use Rattle.pgwire.specs.declared.fault.Fault.TheVariants.{Memory, Read, Write}
+use Rattle.pgwire.specs.Output.{line, Writes}
+
+pub data Command : Type 0 where
+  Backend : Command
+
+-- the words ask for it
+abbrev pub Asks : List (List ℕ) → Command → Type 0
+Asks words Backend = words ≡ codes "backend" ∷ []
+
+-- what is said on standard error
+
+abbrev pub usage : List ℕ
+usage = line (codes "usage: pgwire client | backend | verifier PASSWORD SALTHEX | escape literal|identifier TEXT")
+
+abbrev pub complaint_of : Fault → List ℕ
+complaint_of Memory = line (codes "pgwire: out of memory")
+complaint_of Read = line (codes "pgwire: read failed")
+complaint_of Write = line (codes "pgwire: write failed")
+
+-- Before and after: what the reader has left, what the writer holds.
+pub record Streams : Type 0 where
+  pub input : Option (List ℕ)
+  pub output : Option (List ℕ)
+
+-- all input was read, and exactly the listing of it was written
+pub record IsListed (before after : Streams) (status : ℕ) (complaint : List ℕ) : Type 0 where
+  pub read : IsAtEnd after.input
+  pub written : IfSome before.input (λ bytes. Writes bytes before.output after.output status)
+  pub fine : status ≡ 0
+  pub silent : complaint ≡ []
+
+-- a fault was met, and is told
+pub record IsFaulty (status : ℕ) (complaint : List ℕ) : Type 0 where
+  pub fault : Fault
+  pub told : complaint ≡ complaint_of fault
+  pub failed : status ≡ 1
+
+-- What a command does to the streams, with the status and what is to be said on standard error.
+abbrev pub Does : Command → Streams → Streams → ℕ → List ℕ → Type 0
+Does Backend before after status complaint = IsListed before after status complaint ⊎ IsFaulty status complaint
+
+-- the words ask for nothing that there is
+abbrev pub IsOther : List (List ℕ) → Type 0
+IsOther words = (command : Command) → ¬ Asks words command
+
+-- they are answered by the usage line, and the streams stay as they were
+pub record IsRefused (words : List (List ℕ)) (before after : Streams) (status : ℕ) (complaint : List ℕ) : Type 0 where
+  pub other : IsOther words
+  pub told : complaint ≡ usage
+  pub refused : status ≡ 2
+  pub input : Keeps before.input after.input
+  pub output : Keeps before.output after.output
+
+-- What the words ask for is done.
+pub record IsDone (words : List (List ℕ)) (before after : Streams) (status : ℕ) (complaint : List ℕ) : Type 0 where
+  pub command : Command
+  pub asks : Asks words command
+  pub does : Does command before after status complaint
+
+abbrev pub Obeys : List (List ℕ) → Streams → Streams → ℕ → List ℕ → Type 0
+Obeys words before after status complaint = IsDone words before after status complaint ⊎ IsRefused words before after status complaint

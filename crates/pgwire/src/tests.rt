@@ -1,0 +1,250 @@
+use crate::backend::backend;
+use crate::fault::Fault;
+use crate::run::run;
+use std::alloc::Global;
+use std::io::{self, Read, Write};
+use std::test::Fail;
+
+/// A reader that gives a few bytes and then fails.
+#[derive(Drop)]
+struct BrokenReader {
+    left: u8,
+}
+
+impl Read for BrokenReader {
+    fn read(&mut self, buf: &mut [u8]) -> io::Result<usize> {
+        if self.left == 0 || buf.is_empty() {
+            return Err(io::Error::from(io::ErrorKind::BrokenPipe));
+        }
+        self.left -= 1;
+        buf[0] = 0x31;
+        Ok(1)
+    }
+}
+
+/// A writer that takes a few bytes, one at a time, and then fails; its flush fails where it has none
+/// left to take.
+#[derive(Drop)]
+struct BrokenWriter {
+    left: u8,
+}
+
+impl Write for BrokenWriter {
+    fn write(&mut self, _: &[u8]) -> io::Result<usize> {
+        if self.left == 0 {
+            return Err(io::Error::from(io::ErrorKind::BrokenPipe));
+        }
+        self.left -= 1;
+        Ok(1)
+    }
+
+    fn flush(&mut self) -> io::Result<()> {
+        if self.left == 0 {
+            return Err(io::Error::from(io::ErrorKind::BrokenPipe));
+        }
+        Ok(())
+    }
+}
+
+const FRAMES: [(&[u8], &str); 31] = [
+    (b"1\x00\x00\x00\x04", "ParseComplete"),
+    (b"2\x00\x00\x00\x04", "BindComplete"),
+    (b"3\x00\x00\x00\x04", "CloseComplete"),
+    (
+        b"A\x00\x00\x00\x0c\x00\x00\x00\x01c\x00m\x00",
+        "NotificationResponse",
+    ),
+    (b"C\x00\x00\x00\x0dSELECT 1\x00", "CommandComplete"),
+    (
+        b"D\x00\x00\x00\x13\x00\x03\x00\x00\x00\x01a\xff\xff\xff\xff\x00\x00\x00\x00",
+        "DataRow",
+    ),
+    (b"E\x00\x00\x00\x0cSERROR\x00\x00", "ErrorResponse"),
+    (b"G\x00\x00\x00\x09\x00\x00\x01\x00\x01", "CopyInResponse"),
+    (b"H\x00\x00\x00\x09\x00\x00\x01\x00\x01", "CopyOutResponse"),
+    (b"I\x00\x00\x00\x04", "EmptyQueryResponse"),
+    (
+        b"K\x00\x00\x00\x0c\x00\x00\x00\x01\x00\x00\x00\x02",
+        "BackendKeyData",
+    ),
+    (b"N\x00\x00\x00\x0cSERROR\x00\x00", "NoticeResponse"),
+    (b"R\x00\x00\x00\x08\x00\x00\x00\x00", "AuthenticationOk"),
+    (
+        b"R\x00\x00\x00\x08\x00\x00\x00\x02",
+        "AuthenticationKerberosV5",
+    ),
+    (
+        b"R\x00\x00\x00\x08\x00\x00\x00\x03",
+        "AuthenticationCleartextPassword",
+    ),
+    (
+        b"R\x00\x00\x00\x0c\x00\x00\x00\x05\x01\x02\x03\x04",
+        "AuthenticationMd5Password",
+    ),
+    (
+        b"R\x00\x00\x00\x08\x00\x00\x00\x06",
+        "AuthenticationScmCredential",
+    ),
+    (b"R\x00\x00\x00\x08\x00\x00\x00\x07", "AuthenticationGss"),
+    (
+        b"R\x00\x00\x00\x0a\x00\x00\x00\x08ab",
+        "AuthenticationGssContinue",
+    ),
+    (b"R\x00\x00\x00\x08\x00\x00\x00\x09", "AuthenticationSspi"),
+    (
+        b"R\x00\x00\x00\x17\x00\x00\x00\x0aSCRAM-SHA-256\x00\x00",
+        "AuthenticationSasl",
+    ),
+    (
+        b"R\x00\x00\x00\x0a\x00\x00\x00\x0bab",
+        "AuthenticationSaslContinue",
+    ),
+    (
+        b"R\x00\x00\x00\x0a\x00\x00\x00\x0cab",
+        "AuthenticationSaslFinal",
+    ),
+    (b"S\x00\x00\x00\x08n\x00v\x00", "ParameterStatus"),
+    (
+        b"T\x00\x00\x00\x1a\x00\x01a\x00\x00\x00\x00\x00\x00\x00\x00\x00\x00\x17\x00\x04\xff\xff\xff\xff\x00\x00",
+        "RowDescription",
+    ),
+    (b"Z\x00\x00\x00\x05I", "ReadyForQuery"),
+    (b"c\x00\x00\x00\x04", "CopyDone"),
+    (b"d\x00\x00\x00\x06ab", "CopyData"),
+    (b"n\x00\x00\x00\x04", "NoData"),
+    (b"s\x00\x00\x00\x04", "PortalSuspended"),
+    (
+        b"t\x00\x00\x00\x0a\x00\x01\x00\x00\x00\x17",
+        "ParameterDescription",
+    ),
+];
+
+fn listed(alloc: Global, mut input: &[u8]) -> Result<Vec<u8>, Fault> {
+    let mut output = Vec::new(alloc);
+    backend(alloc, &mut input, &mut output)?;
+    Ok(output)
+}
+
+#[test]
+fn engine_reads_all_and_lists_each_frame(rt: HostRuntime) -> Result<(), Fail> {
+    let rows: [(&[u8], &str); 4] = [
+        (
+            b"\x5a\0\0\0\x06\x49\0\x31\0\0\0\x04",
+            "fault 8\nParseComplete\nrest 0\n",
+        ),
+        (b"\x5a\0\0\0\x03\x31\0\0\0\x04", "stopped rest 10\n"),
+        (b"", "rest 0\n"),
+        (
+            b"\x57\0\0\0\x04\x52\0\0\0\x08\0\0\0\x63\x44\0\0\0\x05\0\x5a\0",
+            "fault 5\nfault 6\nfault 7\nrest 2\n",
+        ),
+    ];
+    for (input, output) in rows {
+        assert_eq!(rt; listed(rt.alloc(), input)?.as_slice(), output.as_bytes());
+    }
+    Ok(())
+}
+
+#[test]
+fn engine_writes_all_31_names(rt: HostRuntime) -> Result<(), Fail> {
+    let mut input = Vec::new(rt.alloc());
+    let mut names = String::new(rt.alloc());
+    for (frame, name) in FRAMES {
+        input.extend_from_slice(frame)?;
+        names.push_str(name)?;
+        names.push_str("\n")?;
+    }
+    names.push_str("rest 0\n")?;
+    assert_eq!(rt;
+        listed(rt.alloc(), input.as_slice())?.as_slice(),
+        names.as_bytes()
+    );
+    Ok(())
+}
+
+#[test]
+fn engine_reads_with_a_fault_and_writes_nothing(rt: HostRuntime) {
+    for left in 0..8u8 {
+        let mut output = Vec::new(rt.alloc());
+        let mut input = BrokenReader { left };
+        assert_eq!(rt;
+            backend(rt.alloc(), &mut input, &mut output),
+            Err(Fault::Read)
+        );
+        assert!(rt; output.is_empty());
+    }
+}
+
+#[test]
+fn engine_writes_with_a_fault(rt: HostRuntime) {
+    // `rest 0` and its newline are seven bytes, and then comes the flush
+    for left in 0..=7u8 {
+        let mut input: &[u8] = b"";
+        let mut output = BrokenWriter { left };
+        assert_eq!(rt;
+            backend(rt.alloc(), &mut input, &mut output),
+            Err(Fault::Write)
+        );
+    }
+    let mut input: &[u8] = b"";
+    let mut output = BrokenWriter { left: 8 };
+    assert_eq!(rt; backend(rt.alloc(), &mut input, &mut output), Ok(0));
+}
+
+#[test]
+fn words_decide_what_runs(rt: HostRuntime) {
+    let usage =
+        "usage: pgwire client | backend | verifier PASSWORD SALTHEX | escape literal|identifier TEXT\n";
+    let runs: [(&[&str], u8, &str, &str); 5] = [
+        (&["backend"], 0, "ParseComplete\nrest 0\n", ""),
+        (&[], 2, "", usage),
+        (&["backend", "x"], 2, "", usage),
+        (&["Backend"], 2, "", usage),
+        (&["client"], 2, "", usage),
+    ];
+    for (words, status, written, told) in runs {
+        let mut input: &[u8] = b"\x31\0\0\0\x04";
+        let mut output = Vec::new(rt.alloc());
+        let mut errors = Vec::new(rt.alloc());
+        assert_eq!(rt;
+            run(rt.alloc(), words, &mut input, &mut output, &mut errors),
+            status
+        );
+        assert_eq!(rt; output.as_slice(), written.as_bytes());
+        assert_eq!(rt; errors.as_slice(), told.as_bytes());
+    }
+}
+
+#[test]
+fn faults_are_told(rt: HostRuntime) {
+    let mut output = Vec::new(rt.alloc());
+    let mut errors = Vec::new(rt.alloc());
+    let mut input = BrokenReader { left: 3 };
+    assert_eq!(rt;
+        run(
+            rt.alloc(),
+            &["backend"],
+            &mut input,
+            &mut output,
+            &mut errors
+        ),
+        1
+    );
+    assert!(rt; output.is_empty());
+    assert_eq!(rt; errors.as_slice(), b"pgwire: read failed\n".as_slice());
+    let mut errors = Vec::new(rt.alloc());
+    let mut input: &[u8] = b"";
+    let mut output = BrokenWriter { left: 2 };
+    assert_eq!(rt;
+        run(
+            rt.alloc(),
+            &["backend"],
+            &mut input,
+            &mut output,
+            &mut errors
+        ),
+        1
+    );
+    assert_eq!(rt; errors.as_slice(), b"pgwire: write failed\n".as_slice());
+    assert_eq!(rt; Fault::Memory.complaint(), "pgwire: out of memory\n");
+}
