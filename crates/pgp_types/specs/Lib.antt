@@ -1,0 +1,4 @@
+pub mod Format
+pub mod Scalar
+pub mod Text
+pub mod Time

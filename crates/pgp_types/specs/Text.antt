@@ -1,0 +1,34 @@
+-- Texts, in UTF-8 (RFC 3629), and the texts of the label types.
+-- PostgreSQL manual, "Character Types", and "ltree" among the additional supplied modules.
+use Rattle.std.specs.Prelude.{◌≡◌, ◌≢◌, ℕ, List, ◌∷◌, Result, Ok, Err}
+use Rattle.std.specs.Str.{IsUtf8}
+use Rattle.pgp_base.specs.declared.error.Error.{Error}
+use Rattle.pgp_base.specs.declared.error.Error.TheVariants.{NotUtf8, InvalidVersion}
+use Rattle.pgp_types.specs.Format.{Format}
+
+abbrev pub TextReads : List ℕ → Result (List ℕ) Error → Type 0
+TextReads bytes (Ok t) = IsUtf8 t × (bytes ≡ t)
+TextReads bytes (Err NotUtf8) = ¬ (IsUtf8 bytes)
+TextReads bytes (Err e) = ⊥
+
+abbrev pub text : Format (List ℕ)
+text = record { Has = IsUtf8; written = λ t. t; Reads = TextReads }
+
+-- The version of the format, which is 1, and a text.
+abbrev pub LabelReads : List ℕ → Result (List ℕ) Error → Type 0
+LabelReads bytes (Ok t) = IsUtf8 t × (bytes ≡ 1 ∷ t)
+LabelReads bytes (Err InvalidVersion) = (rest : List ℕ) → bytes ≢ 1 ∷ rest
+LabelReads bytes (Err NotUtf8) = (rest : List ℕ) × (bytes ≡ 1 ∷ rest) × ¬ (IsUtf8 rest)
+LabelReads bytes (Err e) = ⊥
+
+abbrev pub label : Format (List ℕ)
+label = record { Has = IsUtf8; written = λ t. 1 ∷ t; Reads = LabelReads }
+
+abbrev pub ltree : Format (List ℕ)
+ltree = label
+
+abbrev pub lquery : Format (List ℕ)
+lquery = label
+
+abbrev pub ltxtquery : Format (List ℕ)
+ltxtquery = label
