@@ -1,2 +1,3 @@
 pub mod Spelling
 pub mod Numbers
+pub mod InetLemmas

@@ -91,3 +91,7 @@ pub gives_signed : (w : Width) {written : ℤ → List ℕ} {size : ℕ} {read :
 gives_signed w s bytes xs all z is =
     let fact = gives s bytes xs all z is in
     gives s bytes xs all _ (to_z-of_z w z fact.0 ∙ is)
+
+pub is_uint64 : (n : ℕ) (bytes : List ℕ) → bytes ≡ to_be_bytes w64 n → bytes ≡ uint64 n
+unfolding uint64
+is_uint64 n bytes is = is

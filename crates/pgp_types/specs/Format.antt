@@ -72,9 +72,3 @@ AllRead bytes (Err e) = ⊥
 
 abbrev pub all_bytes : Format (List ℕ)
 all_bytes = record { Has = λ _. ⊤; written = λ bytes. bytes; Reads = AllRead }
-
--- A value of a fixed size off the front, and the bytes behind it.
-abbrev pub FrontReads : {V : Type 0} → (V → Type 0) → (V → List ℕ) → ℕ → List ℕ → Result (V × List ℕ) Error → Type 0
-FrontReads Has written size bytes (Ok x) = Has x.0 × (bytes ≡ written x.0 ++ x.1)
-FrontReads Has written size bytes (Err UnexpectedEof) = length bytes < size
-FrontReads Has written size bytes (Err e) = ⊥

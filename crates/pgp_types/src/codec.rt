@@ -1,6 +1,6 @@
 //! What the codecs share.
 
-ghost use Rattle.std.specs.Prelude.{◌<◌, ◌^◌, ◌++◌};
+ghost use Rattle.std.specs.Prelude.{◌≡◌, ◌<◌, ◌^◌, ◌++◌, length};
 ghost use Rattle.pgp_base.specs.Wire.{uint32, uint64};
 ghost use Rattle.pgp_types.specs.Format.{Appends, Reads, array, fixed, whole};
 
@@ -54,5 +54,14 @@ pub fn uint32_at(buf: &[u8]) -> Result<u32, Error>
 pub fn uint64_at(buf: &[u8]) -> Result<u64, Error>
     ensures { Reads (fixed (λ n. n < 2 ^ 64) uint64 8) buf.now result }
 {
-    Ok(u64::from_be_bytes(array(buf)?))
+    let bytes: [u8; 8] = array(buf)?;
+    Ok(uint64_of(&bytes))
+}
+
+// The number that eight bytes spell.
+pub fn uint64_of(bytes: &[u8]) -> u64
+    requires { length bytes.now ≡ 8 }
+    ensures { (result < 2 ^ 64) × (bytes.now ≡ uint64 result) }
+{
+    u64::from_be_bytes(bytes.try_into().unwrap())
 }

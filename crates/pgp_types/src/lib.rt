@@ -5,10 +5,16 @@
 #![tactic(auto)]
 
 mod codec;
+mod geometry;
+mod network;
 mod scalar;
 mod text;
 mod time;
 
+pub use geometry::{Box, Point, box_from_sql, box_to_sql, point_from_sql, point_to_sql};
+pub use network::{
+    Inet, inet_from_sql, inet_to_sql, macaddr_from_sql, macaddr_to_sql, uuid_from_sql, uuid_to_sql,
+};
 pub use scalar::{
     bool_from_sql, bool_to_sql, bytea_from_sql, bytea_to_sql, char_from_sql, char_to_sql,
     float4_from_sql, float4_to_sql, float8_from_sql, float8_to_sql, int2_from_sql, int2_to_sql,

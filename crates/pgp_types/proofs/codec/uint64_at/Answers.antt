@@ -1,6 +1,0 @@
-use Rattle.pgp_types.proofs.Spelling.{gives}
-use Rattle.pgp_types.proofs.Numbers.{uint64_spelling}
-use Rattle.pgp_types.proofs.codec.uint64_at.Goals as goal
-
-pub returns : goal.returns
-returns c = gives uint64_spelling _ _ c.in_ok-array.ensures _ c.from_be_bytes.ensures
