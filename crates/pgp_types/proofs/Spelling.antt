@@ -1,10 +1,21 @@
 -- Values that all take the same number of bytes, with the function that reads them.
-use Rattle.std.proofs.Common.{◌≡◌, ℕ, ◌+◌, ◌<◌, ◌≤◌, List, ◌++◌, length, Result, Ok, Err, refl, sym, ap, ◌∙◌, subst, arith, inl, inr, ◌⊎◌}
+use Rattle.std.proofs.Common.{◌≡◌, ℕ, zero, suc, ◌+◌, ◌<◌, List, [], ◌∷◌, length, take, drop, Result, Ok, Err, refl, sym, ap, ◌∙◌, subst, arith, inl, inr, ◌⊎◌}
 use Rattle.std.proofs.lemmas.Bool.{cases_order}
+use Rattle.std.proofs.lemmas.List.{get_or-drop}
 use Rattle.pgp_base.specs.declared.error.Error.{Error}
 use Rattle.pgp_base.specs.declared.error.Error.TheVariants.{UnexpectedEof, NotDrained}
 use Rattle.pgp_base.specs.Wire.{IsBytes}
-use Rattle.pgp_types.specs.Format.{Format, fixed, FixedReads, FixedRefused, IsSound}
+use Rattle.pgp_types.specs.Format.{fixed, FixedReads, FixedRefused, IsSound}
+
+-- parts of bytes are bytes
+pub bytes_drop : (n : ℕ) (bytes : List ℕ) → IsBytes bytes → IsBytes (drop n bytes)
+bytes_drop n bytes small i = rw (get_or-drop n bytes i 0) (small (n + i))
+
+pub bytes_take : (n : ℕ) (bytes : List ℕ) → IsBytes bytes → IsBytes (take n bytes)
+bytes_take zero bytes small i = omega arith
+bytes_take (suc n) [] small i = omega arith
+bytes_take (suc n) (b ∷ rest) small zero = small 0
+bytes_take (suc n) (b ∷ rest) small (suc i) = bytes_take n rest (λ j. small (suc j)) i
 
 -- each value has a spelling of that size, and all bytes of that size spell the value that read gives
 pub record IsSpelling {V : Type 0} (Has : V → Type 0) (written : V → List ℕ) (size : ℕ) (read : List ℕ → V) : Type 0 where

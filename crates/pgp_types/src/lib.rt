@@ -6,6 +6,7 @@
 
 mod codec;
 mod geometry;
+pub mod laws;
 mod network;
 mod scalar;
 mod text;
