@@ -10,7 +10,7 @@ use Rattle.pgp_base.specs.declared.error.Error.{Error}
 use Rattle.pgp_base.specs.declared.error.Error.TheVariants.{UnexpectedEof, NotDrained, InvalidFamily, InvalidNetmask, InvalidAddressLength}
 use Rattle.pgp_base.specs.Wire.{IsBytes}
 use Rattle.pgp_types.specs.Format.{FixedRefused, IsArray, IsSound}
-use Rattle.pgp_types.specs.Network.{Inet, Family, ipv4, ipv6, number_of, size_of, family_of, octets, Parts, joined, parts_of, HasInet, AddressRefused, PartsRefused, InetReads, inet}
+use Rattle.pgp_types.specs.Network.{Inet, Family, ipv4, ipv6, number_of, size_of, family_of, octets, Parts, joined, parts_of, IsInet, AddressRefused, PartsRefused, InetReads, inet}
 use Rattle.pgp_types.proofs.Spelling.{bytes_take, bytes_drop, one_refusal, not_refused}
 
 -- the parts of bytes that have the four numbers
@@ -249,7 +249,7 @@ octets_long : (addr : IpAddr) → MatchIp addr IsIpv4Addr IsIpv6Addr → length 
 octets_long (V4 ip) has = has.0
 octets_long (V6 ip) has = length-octets_of (ipv6_segments ip) ∙ omega (arith, has.0)
 
-not_parts_refused : (cidr : ℕ) (v : Inet) → HasInet v → (e : Error) → PartsRefused (parts_of cidr v) e → ⊥
+not_parts_refused : (cidr : ℕ) (v : Inet) → IsInet v → (e : Error) → PartsRefused (parts_of cidr v) e → ⊥
 not_parts_refused cidr v has e r = elim (parts_cases (parts_of cidr v) e r) [
   | inl none ↦ none.0 (family_of v.addr) refl
   | inr some ↦

@@ -6,7 +6,7 @@ use Rattle.pgp_base.specs.Wire.{IsBytes}
 
 -- A type of values: which there are, the bytes that are written for each, and what bytes are read as.
 pub record Format (V : Type 0) : Type 1 where
-  pub Has : V → Type 0
+  pub IsValue : V → Type 0
   pub written : V → List ℕ
   pub Reads : List ℕ → Result V Error → Type 0
 
@@ -33,7 +33,7 @@ ReadsBy view f bytes (Err e) = f.Reads bytes (Err e)
 pub record IsSound {V : Type 0} (f : Format V) : Type 0 where
   pub some : (bytes : List ℕ) → IsBytes bytes → (r : Result V Error) × f.Reads bytes r
   pub one : (bytes : List ℕ) (r s : Result V Error) → f.Reads bytes r → f.Reads bytes s → r ≡ s
-  pub back : (v : V) → f.Has v → f.Reads (f.written v) (Ok v)
+  pub back : (v : V) → f.IsValue v → f.Reads (f.written v) (Ok v)
 
 -- Values that all take the same number of bytes: read from what is written for one, and refused where
 -- bytes are missing, or are left over.
@@ -43,11 +43,11 @@ FixedRefused size bytes NotDrained = size < length bytes
 FixedRefused size bytes e = ⊥
 
 abbrev pub FixedReads : {V : Type 0} → (V → Type 0) → (V → List ℕ) → ℕ → List ℕ → Result V Error → Type 0
-FixedReads Has written size bytes (Ok v) = Has v × (bytes ≡ written v)
-FixedReads Has written size bytes (Err e) = FixedRefused size bytes e
+FixedReads IsValue written size bytes (Ok v) = IsValue v × (bytes ≡ written v)
+FixedReads IsValue written size bytes (Err e) = FixedRefused size bytes e
 
 abbrev pub fixed : {V : Type 0} → (V → Type 0) → (V → List ℕ) → ℕ → Format V
-fixed Has written size = record { Has = Has; written = written; Reads = FixedReads Has written size }
+fixed IsValue written size = record { IsValue = IsValue; written = written; Reads = FixedReads IsValue written size }
 
 -- so many bytes, as they stand
 abbrev pub IsArray : ℕ → List ℕ → Type 0
@@ -63,7 +63,7 @@ WholeReads size bytes (Err InvalidSize) = length bytes ≢ size
 WholeReads size bytes (Err e) = ⊥
 
 abbrev pub whole : ℕ → Format (List ℕ)
-whole size = record { Has = IsArray size; written = λ bytes. bytes; Reads = WholeReads size }
+whole size = record { IsValue = IsArray size; written = λ bytes. bytes; Reads = WholeReads size }
 
 -- All bytes, as they stand.
 abbrev pub AllRead : List ℕ → Result (List ℕ) Error → Type 0
@@ -71,4 +71,4 @@ AllRead bytes (Ok v) = bytes ≡ v
 AllRead bytes (Err e) = ⊥
 
 abbrev pub all_bytes : Format (List ℕ)
-all_bytes = record { Has = λ _. ⊤; written = λ bytes. bytes; Reads = AllRead }
+all_bytes = record { IsValue = λ _. ⊤; written = λ bytes. bytes; Reads = AllRead }

@@ -12,20 +12,20 @@ pub record Box : Type 0 where
   pub upper_right : Point
   pub lower_left : Point
 
-abbrev pub HasPoint : Point → Type 0
-HasPoint p = (p.x < 2 ^ 64) × (p.y < 2 ^ 64)
+abbrev pub IsPoint : Point → Type 0
+IsPoint p = (p.x < 2 ^ 64) × (p.y < 2 ^ 64)
 
 abbrev pub point_bytes : Point → List ℕ
 point_bytes p = uint64 p.x ++ uint64 p.y
 
-abbrev pub HasBox : Box → Type 0
-HasBox b = HasPoint b.upper_right × HasPoint b.lower_left
+abbrev pub IsBox : Box → Type 0
+IsBox b = IsPoint b.upper_right × IsPoint b.lower_left
 
 abbrev pub box_bytes : Box → List ℕ
 box_bytes b = point_bytes b.upper_right ++ point_bytes b.lower_left
 
 abbrev pub point : Format Point
-point = fixed HasPoint point_bytes 16
+point = fixed IsPoint point_bytes 16
 
 abbrev pub box : Format Box
-box = fixed HasBox box_bytes 32
+box = fixed IsBox box_bytes 32

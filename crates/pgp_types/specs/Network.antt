@@ -62,8 +62,8 @@ parts_of cidr v = record {
 }
 
 -- the netmask has no more bits than the address
-abbrev pub HasInet : Inet → Type 0
-HasInet v = MatchIp v.addr IsIpv4Addr IsIpv6Addr × (v.netmask ≤ 8 * size_of (family_of v.addr))
+abbrev pub IsInet : Inet → Type 0
+IsInet v = MatchIp v.addr IsIpv4Addr IsIpv6Addr × (v.netmask ≤ 8 * size_of (family_of v.addr))
 
 -- Why what stands behind a family's number is refused, by the size of the family's addresses: first the netmask,
 -- then the size that is announced, then the address.
@@ -79,8 +79,8 @@ PartsRefused p e = (f : Family) × (p.family ≡ number_of f) × AddressRefused 
 
 -- Bytes are read as a value whatever the flag is, and refused where the four numbers aren't there, or as their parts are.
 abbrev pub InetReads : List ℕ → Result Inet Error → Type 0
-InetReads bytes (Ok v) = HasInet v × ((cidr : ℕ) × (bytes ≡ joined (parts_of cidr v)))
+InetReads bytes (Ok v) = IsInet v × ((cidr : ℕ) × (bytes ≡ joined (parts_of cidr v)))
 InetReads bytes (Err e) = ((length bytes < 4) × (e ≡ UnexpectedEof)) ⊎ ((p : Parts) × (bytes ≡ joined p) × PartsRefused p e)
 
 abbrev pub inet : Format Inet
-inet = record { Has = HasInet; written = λ v. joined (parts_of 0 v); Reads = InetReads }
+inet = record { IsValue = IsInet; written = λ v. joined (parts_of 0 v); Reads = InetReads }

@@ -20,7 +20,7 @@ BoolReads bytes (Err InvalidSize) = length bytes ≢ 1
 BoolReads bytes (Err e) = ⊥
 
 abbrev pub bool : Format Bool
-bool = record { Has = λ _. ⊤; written = bool_bytes; Reads = BoolReads }
+bool = record { IsValue = λ _. ⊤; written = bool_bytes; Reads = BoolReads }
 
 abbrev pub bytea : Format (List ℕ)
 bytea = all_bytes

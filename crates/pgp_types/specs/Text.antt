@@ -12,7 +12,7 @@ TextReads bytes (Err NotUtf8) = ¬ (IsUtf8 bytes)
 TextReads bytes (Err e) = ⊥
 
 abbrev pub text : Format (List ℕ)
-text = record { Has = IsUtf8; written = λ t. t; Reads = TextReads }
+text = record { IsValue = IsUtf8; written = λ t. t; Reads = TextReads }
 
 -- The version of the format, which is 1, and a text.
 abbrev pub LabelReads : List ℕ → Result (List ℕ) Error → Type 0
@@ -22,7 +22,7 @@ LabelReads bytes (Err NotUtf8) = (rest : List ℕ) × (bytes ≡ 1 ∷ rest) × 
 LabelReads bytes (Err e) = ⊥
 
 abbrev pub label : Format (List ℕ)
-label = record { Has = IsUtf8; written = λ t. 1 ∷ t; Reads = LabelReads }
+label = record { IsValue = IsUtf8; written = λ t. 1 ∷ t; Reads = LabelReads }
 
 abbrev pub ltree : Format (List ℕ)
 ltree = label

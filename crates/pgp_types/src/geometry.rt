@@ -4,7 +4,7 @@
 
 ghost use Rattle.std.specs.Prelude.{◌≡◌, length};
 ghost use Rattle.pgp_types.specs.Format.{Reads, Writes};
-ghost use Rattle.pgp_types.specs.Geometry.{HasPoint, point_bytes, point, box};
+ghost use Rattle.pgp_types.specs.Geometry.{IsPoint, point_bytes, point, box};
 
 use crate::codec::{append_both, array, uint64_of};
 use pgp_base::{Buffer, Error};
@@ -87,7 +87,7 @@ pub fn point_to_sql<B: Buffer>(x: u64, y: u64, buf: &mut B) -> Result<(), Error>
 // The point that the bytes spell.
 fn point_of(bytes: &[u8]) -> Point
     requires { length bytes.now ≡ 16 }
-    ensures { HasPoint result × (bytes.now ≡ point_bytes result) }
+    ensures { IsPoint result × (bytes.now ≡ point_bytes result) }
 {
     let (x, y) = bytes.split_at(8);
     Point {

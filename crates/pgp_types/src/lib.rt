@@ -29,3 +29,6 @@ pub use text::{
 pub use time::{
     date_from_sql, date_to_sql, time_from_sql, time_to_sql, timestamp_from_sql, timestamp_to_sql,
 };
+
+#[cfg(test)]
+mod tests;
