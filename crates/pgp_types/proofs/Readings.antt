@@ -123,57 +123,57 @@ text_sound = record {
 -- labels
 
 -- the bytes behind a version of 1, if there is one
-version_or_not : (bytes : List ℕ) → ((rest : List ℕ) × (bytes ≡ 1 ∷ rest)) ⊎ ((rest : List ℕ) → bytes ≢ 1 ∷ rest)
-version_or_not [] = inr (λ rest e. absurd (let l = ap length e in omega arith))
-version_or_not (b ∷ rest) = elim (cases_order b 1) [
+version_or_not : (version : ℕ) (bytes : List ℕ) → ((rest : List ℕ) × (bytes ≡ version ∷ rest)) ⊎ ((rest : List ℕ) → bytes ≢ version ∷ rest)
+version_or_not version [] = inr (λ rest e. absurd (let l = ap length e in omega arith))
+version_or_not version (b ∷ rest) = elim (cases_order b version) [
   | inl is ↦ inl (rest, ap (λ (n : ℕ). n ∷ rest) is)
-  | inr other ↦ inr (λ more e. let is : b ≡ 1 = cc in elim other [ inl low ↦ absurd (omega arith) | inr high ↦ absurd (omega arith) ])
+  | inr other ↦ inr (λ more e. let is : b ≡ version = cc in elim other [ inl low ↦ absurd (omega arith) | inr high ↦ absurd (omega arith) ])
 ]
 
-some_label : (bytes : List ℕ) → ((rest : List ℕ) × (bytes ≡ 1 ∷ rest)) ⊎ ((rest : List ℕ) → bytes ≢ 1 ∷ rest)
-    → (r : Result (List ℕ) Error) × LabelReads bytes r
-some_label bytes (inl front) = elim (utf8_or_not front.0) [
+some_label : (version : ℕ) (bytes : List ℕ) → ((rest : List ℕ) × (bytes ≡ version ∷ rest)) ⊎ ((rest : List ℕ) → bytes ≢ version ∷ rest)
+    → (r : Result (List ℕ) Error) × LabelReads version bytes r
+some_label version bytes (inl front) = elim (utf8_or_not front.0) [
   | inl utf8 ↦ (Ok front.0, (utf8, front.1))
   | inr other ↦ (Err NotUtf8, (front.0, front.1, other))
 ]
-some_label bytes (inr other) = (Err InvalidVersion, other)
+some_label version bytes (inr other) = (Err InvalidVersion, other)
 
-label_refused : (bytes : List ℕ) (e : Error) → LabelReads bytes (Err e)
-    → ((e ≡ InvalidVersion) × ((rest : List ℕ) → bytes ≢ 1 ∷ rest)) ⊎ ((e ≡ NotUtf8) × ((rest : List ℕ) × (bytes ≡ 1 ∷ rest) × ¬ (IsUtf8 rest)))
-label_refused bytes InvalidVersion p = inl (refl, p)
-label_refused bytes NotUtf8 p = inr (refl, p)
-label_refused bytes e p = absurd p
+label_refused : (version : ℕ) (bytes : List ℕ) (e : Error) → LabelReads version bytes (Err e)
+    → ((e ≡ InvalidVersion) × ((rest : List ℕ) → bytes ≢ version ∷ rest)) ⊎ ((e ≡ NotUtf8) × ((rest : List ℕ) × (bytes ≡ version ∷ rest) × ¬ (IsUtf8 rest)))
+label_refused version bytes InvalidVersion p = inl (refl, p)
+label_refused version bytes NotUtf8 p = inr (refl, p)
+label_refused version bytes e p = absurd p
 
-same_rest : (bytes xs ys : List ℕ) → bytes ≡ 1 ∷ xs → bytes ≡ 1 ∷ ys → xs ≡ ys
-same_rest bytes xs ys p q = cc
+same_rest : (version : ℕ) (bytes xs ys : List ℕ) → bytes ≡ version ∷ xs → bytes ≡ version ∷ ys → xs ≡ ys
+same_rest version bytes xs ys p q = cc
 
-not_label_refused : (bytes v : List ℕ) (e : Error) → IsUtf8 v → bytes ≡ 1 ∷ v → LabelReads bytes (Err e) → ⊥
-not_label_refused bytes v e utf8 is p = elim (label_refused bytes e p) [
-  | inl version ↦ version.1 v is
-  | inr other ↦ other.1.2 (rw (same_rest bytes other.1.0 v other.1.1 is) utf8)
+not_label_refused : (version : ℕ) (bytes v : List ℕ) (e : Error) → IsUtf8 v → bytes ≡ version ∷ v → LabelReads version bytes (Err e) → ⊥
+not_label_refused version bytes v e utf8 is p = elim (label_refused version bytes e p) [
+  | inl other_version ↦ other_version.1 v is
+  | inr other ↦ other.1.2 (rw (same_rest version bytes other.1.0 v other.1.1 is) utf8)
 ]
 
-one_label_refusal : (bytes : List ℕ) (d e : Error) → LabelReads bytes (Err d) → LabelReads bytes (Err e) → d ≡ e
-one_label_refusal bytes d e p q = elim (label_refused bytes d p) [
-  | inl version ↦ elim (label_refused bytes e q) [
-    | inl same ↦ version.0 ∙ sym same.0
-    | inr other ↦ absurd (version.1 other.1.0 other.1.1)
+one_label_refusal : (version : ℕ) (bytes : List ℕ) (d e : Error) → LabelReads version bytes (Err d) → LabelReads version bytes (Err e) → d ≡ e
+one_label_refusal version bytes d e p q = elim (label_refused version bytes d p) [
+  | inl other_version ↦ elim (label_refused version bytes e q) [
+    | inl same ↦ other_version.0 ∙ sym same.0
+    | inr other ↦ absurd (other_version.1 other.1.0 other.1.1)
   ]
-  | inr text ↦ elim (label_refused bytes e q) [
-    | inl version ↦ absurd (version.1 text.1.0 text.1.1)
+  | inr text ↦ elim (label_refused version bytes e q) [
+    | inl other_version ↦ absurd (other_version.1 text.1.0 text.1.1)
     | inr same ↦ text.0 ∙ sym same.0
   ]
 ]
 
-one_label : (bytes : List ℕ) (r s : Result (List ℕ) Error) → LabelReads bytes r → LabelReads bytes s → r ≡ s
-one_label bytes (Ok v) (Ok w) p q = ap Ok (same_rest bytes v w p.1 q.1)
-one_label bytes (Ok v) (Err e) p q = absurd (not_label_refused bytes v e p.0 p.1 q)
-one_label bytes (Err e) (Ok w) p q = absurd (not_label_refused bytes w e q.0 q.1 p)
-one_label bytes (Err d) (Err e) p q = ap Err (one_label_refusal bytes d e p q)
+one_label : (version : ℕ) (bytes : List ℕ) (r s : Result (List ℕ) Error) → LabelReads version bytes r → LabelReads version bytes s → r ≡ s
+one_label version bytes (Ok v) (Ok w) p q = ap Ok (same_rest version bytes v w p.1 q.1)
+one_label version bytes (Ok v) (Err e) p q = absurd (not_label_refused version bytes v e p.0 p.1 q)
+one_label version bytes (Err e) (Ok w) p q = absurd (not_label_refused version bytes w e q.0 q.1 p)
+one_label version bytes (Err d) (Err e) p q = ap Err (one_label_refusal version bytes d e p q)
 
-pub label_sound : IsSound label
-label_sound = record {
-  some = λ bytes small. some_label bytes (version_or_not bytes);
-  one = one_label;
+pub label_sound : (version : ℕ) → IsSound (label version)
+label_sound version = record {
+  some = λ bytes small. some_label version bytes (version_or_not version bytes);
+  one = one_label version;
   back = λ v utf8. (utf8, refl);
 }

@@ -14,21 +14,21 @@ TextReads bytes (Err e) = ⊥
 abbrev pub text : Format (List ℕ)
 text = record { IsValue = IsUtf8; written = λ t. t; Reads = TextReads }
 
--- The version of the format, which is 1, and a text.
-abbrev pub LabelReads : List ℕ → Result (List ℕ) Error → Type 0
-LabelReads bytes (Ok t) = IsUtf8 t × (bytes ≡ 1 ∷ t)
-LabelReads bytes (Err InvalidVersion) = (rest : List ℕ) → bytes ≢ 1 ∷ rest
-LabelReads bytes (Err NotUtf8) = (rest : List ℕ) × (bytes ≡ 1 ∷ rest) × ¬ (IsUtf8 rest)
-LabelReads bytes (Err e) = ⊥
+-- The version of the type's format in one byte, and a text.
+abbrev pub LabelReads : ℕ → List ℕ → Result (List ℕ) Error → Type 0
+LabelReads version bytes (Ok t) = IsUtf8 t × (bytes ≡ version ∷ t)
+LabelReads version bytes (Err InvalidVersion) = (rest : List ℕ) → bytes ≢ version ∷ rest
+LabelReads version bytes (Err NotUtf8) = (rest : List ℕ) × (bytes ≡ version ∷ rest) × ¬ (IsUtf8 rest)
+LabelReads version bytes (Err e) = ⊥
 
-abbrev pub label : Format (List ℕ)
-label = record { IsValue = IsUtf8; written = λ t. 1 ∷ t; Reads = LabelReads }
+abbrev pub label : ℕ → Format (List ℕ)
+label version = record { IsValue = IsUtf8; written = λ t. version ∷ t; Reads = LabelReads version }
 
 abbrev pub ltree : Format (List ℕ)
-ltree = label
+ltree = label 1
 
 abbrev pub lquery : Format (List ℕ)
-lquery = label
+lquery = label 1
 
 abbrev pub ltxtquery : Format (List ℕ)
-ltxtquery = label
+ltxtquery = label 1

@@ -2,11 +2,12 @@
 //!
 //! PostgreSQL manual, "Geometric Types".
 
-ghost use Rattle.std.specs.Prelude.{◌≡◌, length};
+ghost use Rattle.std.specs.Prelude.{◌≡◌, ◌<◌, ◌^◌, length};
+ghost use Rattle.pgp_base.specs.Wire.{uint64};
 ghost use Rattle.pgp_types.specs.Format.{Reads, Writes};
 ghost use Rattle.pgp_types.specs.Geometry.{IsPoint, point_bytes, point, box};
 
-use crate::codec::{append_both, array, uint64_of};
+use crate::codec::{append_both, array};
 use pgp_base::{Buffer, Error};
 use std::marker::Model;
 
@@ -84,15 +85,23 @@ pub fn point_to_sql<B: Buffer>(x: u64, y: u64, buf: &mut B) -> Result<(), Error>
     append_both(&x.to_be_bytes(), &y.to_be_bytes(), buf)
 }
 
-// The point that the bytes spell.
+// The coordinate that eight bytes spell.
+fn coordinate_of(bytes: &[u8]) -> u64
+    requires { length bytes.now ≡ 8 }
+    ensures { (result < 2 ^ 64) × (bytes.now ≡ uint64 result) }
+{
+    u64::from_be_bytes(bytes.try_into().unwrap())
+}
+
+// The point that sixteen bytes spell.
 fn point_of(bytes: &[u8]) -> Point
     requires { length bytes.now ≡ 16 }
     ensures { IsPoint result × (bytes.now ≡ point_bytes result) }
 {
     let (x, y) = bytes.split_at(8);
     Point {
-        x: uint64_of(x),
-        y: uint64_of(y),
+        x: coordinate_of(x),
+        y: coordinate_of(y),
     }
 }
 

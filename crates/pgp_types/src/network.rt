@@ -17,31 +17,31 @@ const IPV4: u8 = 2;
 const IPV6: u8 = 3;
 
 /// Appends a `macaddr`.
-pub fn macaddr_to_sql<B: Buffer>(v: [u8; 6], buf: &mut B) -> Result<(), Error>
-    ensures { Writes macaddr v (B.bytes buf.old) result (B.bytes buf.new) }
+pub fn macaddr_to_sql<B: Buffer>(address: [u8; 6], buf: &mut B) -> Result<(), Error>
+    ensures { Writes macaddr address (B.bytes buf.old) result (B.bytes buf.new) }
 {
-    append(&v, buf)
+    append(&address, buf)
 }
 
 /// Reads a `macaddr`.
 pub fn macaddr_from_sql(buf: &[u8]) -> Result<[u8; 6], Error>
     ensures { Reads macaddr buf.now result }
 {
-    whole(buf)
+    whole::<6>(buf)
 }
 
 /// Appends a `uuid`.
-pub fn uuid_to_sql<B: Buffer>(v: [u8; 16], buf: &mut B) -> Result<(), Error>
-    ensures { Writes uuid v (B.bytes buf.old) result (B.bytes buf.new) }
+pub fn uuid_to_sql<B: Buffer>(id: [u8; 16], buf: &mut B) -> Result<(), Error>
+    ensures { Writes uuid id (B.bytes buf.old) result (B.bytes buf.new) }
 {
-    append(&v, buf)
+    append(&id, buf)
 }
 
 /// Reads a `uuid`.
 pub fn uuid_from_sql(buf: &[u8]) -> Result<[u8; 16], Error>
     ensures { Reads uuid buf.now result }
 {
-    whole(buf)
+    whole::<16>(buf)
 }
 
 /// An `inet` or a `cidr`: a host's address, and how many of its first bits name the network.

@@ -6,7 +6,7 @@
 ghost use Rattle.pgp_types.specs.Format.{Reads, Writes};
 ghost use Rattle.pgp_types.specs.Scalar.{bool, bytea, char, int2, int4, int8, oid, lsn, float4, float8};
 
-use crate::codec::{append, array, uint32_at, uint64_at};
+use crate::codec::{append, array};
 use pgp_base::{Buffer, Error, Lsn, Oid};
 
 /// Appends a `bool`.
@@ -44,7 +44,7 @@ pub fn bytea_from_sql(buf: &[u8]) -> &[u8]
 pub fn char_to_sql<B: Buffer>(v: i8, buf: &mut B) -> Result<(), Error>
     ensures { Writes char v (B.bytes buf.old) result (B.bytes buf.new) }
 {
-    append(&v.to_be_bytes(), buf)
+    append(&i8::to_be_bytes(v), buf)
 }
 
 /// Reads a `"char"`.
@@ -59,7 +59,7 @@ pub fn char_from_sql(buf: &[u8]) -> Result<i8, Error>
 pub fn int2_to_sql<B: Buffer>(v: i16, buf: &mut B) -> Result<(), Error>
     ensures { Writes int2 v (B.bytes buf.old) result (B.bytes buf.new) }
 {
-    append(&v.to_be_bytes(), buf)
+    append(&i16::to_be_bytes(v), buf)
 }
 
 /// Reads an `int2`.
@@ -74,7 +74,7 @@ pub fn int2_from_sql(buf: &[u8]) -> Result<i16, Error>
 pub fn int4_to_sql<B: Buffer>(v: i32, buf: &mut B) -> Result<(), Error>
     ensures { Writes int4 v (B.bytes buf.old) result (B.bytes buf.new) }
 {
-    append(&v.to_be_bytes(), buf)
+    append(&i32::to_be_bytes(v), buf)
 }
 
 /// Reads an `int4`.
@@ -89,7 +89,7 @@ pub fn int4_from_sql(buf: &[u8]) -> Result<i32, Error>
 pub fn int8_to_sql<B: Buffer>(v: i64, buf: &mut B) -> Result<(), Error>
     ensures { Writes int8 v (B.bytes buf.old) result (B.bytes buf.new) }
 {
-    append(&v.to_be_bytes(), buf)
+    append(&i64::to_be_bytes(v), buf)
 }
 
 /// Reads an `int8`.
@@ -104,14 +104,14 @@ pub fn int8_from_sql(buf: &[u8]) -> Result<i64, Error>
 pub fn oid_to_sql<B: Buffer>(v: Oid, buf: &mut B) -> Result<(), Error>
     ensures { Writes oid v (B.bytes buf.old) result (B.bytes buf.new) }
 {
-    append(&v.to_be_bytes(), buf)
+    append(&Oid::to_be_bytes(v), buf)
 }
 
 /// Reads an `oid`.
 pub fn oid_from_sql(buf: &[u8]) -> Result<Oid, Error>
     ensures { Reads oid buf.now result }
 {
-    uint32_at(buf)
+    Ok(Oid::from_be_bytes(array(buf)?))
 }
 
 /// Appends a `pg_lsn`.
@@ -119,14 +119,14 @@ pub fn oid_from_sql(buf: &[u8]) -> Result<Oid, Error>
 pub fn lsn_to_sql<B: Buffer>(v: Lsn, buf: &mut B) -> Result<(), Error>
     ensures { Writes lsn v (B.bytes buf.old) result (B.bytes buf.new) }
 {
-    append(&v.to_be_bytes(), buf)
+    append(&Lsn::to_be_bytes(v), buf)
 }
 
 /// Reads a `pg_lsn`.
 pub fn lsn_from_sql(buf: &[u8]) -> Result<Lsn, Error>
     ensures { Reads lsn buf.now result }
 {
-    uint64_at(buf)
+    Ok(Lsn::from_be_bytes(array(buf)?))
 }
 
 /// Appends a `float4`, given as its bits.
@@ -134,14 +134,14 @@ pub fn lsn_from_sql(buf: &[u8]) -> Result<Lsn, Error>
 pub fn float4_to_sql<B: Buffer>(bits: u32, buf: &mut B) -> Result<(), Error>
     ensures { Writes float4 bits (B.bytes buf.old) result (B.bytes buf.new) }
 {
-    append(&bits.to_be_bytes(), buf)
+    append(&u32::to_be_bytes(bits), buf)
 }
 
 /// Reads the bits of a `float4`.
 pub fn float4_from_sql(buf: &[u8]) -> Result<u32, Error>
     ensures { Reads float4 buf.now result }
 {
-    uint32_at(buf)
+    Ok(u32::from_be_bytes(array(buf)?))
 }
 
 /// Appends a `float8`, given as its bits.
@@ -149,12 +149,12 @@ pub fn float4_from_sql(buf: &[u8]) -> Result<u32, Error>
 pub fn float8_to_sql<B: Buffer>(bits: u64, buf: &mut B) -> Result<(), Error>
     ensures { Writes float8 bits (B.bytes buf.old) result (B.bytes buf.new) }
 {
-    append(&bits.to_be_bytes(), buf)
+    append(&u64::to_be_bytes(bits), buf)
 }
 
 /// Reads the bits of a `float8`.
 pub fn float8_from_sql(buf: &[u8]) -> Result<u64, Error>
     ensures { Reads float8 buf.now result }
 {
-    uint64_at(buf)
+    Ok(u64::from_be_bytes(array(buf)?))
 }

@@ -9,8 +9,12 @@ use crate::codec::{append, append_both};
 use pgp_base::{Buffer, Error};
 use std::str;
 
-// The version of the label types' format.
-const VERSION: u8 = 1;
+// The versions of the label types' formats.
+const LTREE_VERSION: u8 = 1;
+
+const LQUERY_VERSION: u8 = 1;
+
+const LTXTQUERY_VERSION: u8 = 1;
 
 /// Appends a `text`, `varchar`, `bpchar`, `name` or the like.
 pub fn text_to_sql<B: Buffer>(v: &str, buf: &mut B) -> Result<(), Error>
@@ -26,19 +30,19 @@ pub fn text_from_sql(buf: &[u8]) -> Result<&str, Error>
     str::from_utf8(buf).map_err(|_| Error::NotUtf8)
 }
 
-// Appends the version, and a text.
-fn label_to_sql<B: Buffer>(v: &str, buf: &mut B) -> Result<(), Error>
-    ensures { Writes label v.now (B.bytes buf.old) result (B.bytes buf.new) }
+// Appends a text behind the version of its format.
+fn label_to_sql<B: Buffer>(version: u8, v: &str, buf: &mut B) -> Result<(), Error>
+    ensures { Writes (label version) v.now (B.bytes buf.old) result (B.bytes buf.new) }
 {
-    append_both(&[VERSION], v.as_bytes(), buf)
+    append_both(&[version], v.as_bytes(), buf)
 }
 
-// Reads a text behind the version.
-fn label_from_sql(buf: &[u8]) -> Result<&str, Error>
-    ensures { ReadsBy (λ t. t.now) label buf.now result }
+// Reads a text behind the version of its format.
+fn label_from_sql(version: u8, buf: &[u8]) -> Result<&str, Error>
+    ensures { ReadsBy (λ t. t.now) (label version) buf.now result }
 {
     match buf {
-        [VERSION, text @ ..] => text_from_sql(text),
+        [first, text @ ..] if *first == version => text_from_sql(text),
         _ => Err(Error::InvalidVersion),
     }
 }
@@ -47,40 +51,40 @@ fn label_from_sql(buf: &[u8]) -> Result<&str, Error>
 pub fn ltree_to_sql<B: Buffer>(v: &str, buf: &mut B) -> Result<(), Error>
     ensures { Writes ltree v.now (B.bytes buf.old) result (B.bytes buf.new) }
 {
-    label_to_sql(v, buf)
+    label_to_sql(LTREE_VERSION, v, buf)
 }
 
 /// Reads an `ltree`.
 pub fn ltree_from_sql(buf: &[u8]) -> Result<&str, Error>
     ensures { ReadsBy (λ t. t.now) ltree buf.now result }
 {
-    label_from_sql(buf)
+    label_from_sql(LTREE_VERSION, buf)
 }
 
 /// Appends an `lquery`.
 pub fn lquery_to_sql<B: Buffer>(v: &str, buf: &mut B) -> Result<(), Error>
     ensures { Writes lquery v.now (B.bytes buf.old) result (B.bytes buf.new) }
 {
-    label_to_sql(v, buf)
+    label_to_sql(LQUERY_VERSION, v, buf)
 }
 
 /// Reads an `lquery`.
 pub fn lquery_from_sql(buf: &[u8]) -> Result<&str, Error>
     ensures { ReadsBy (λ t. t.now) lquery buf.now result }
 {
-    label_from_sql(buf)
+    label_from_sql(LQUERY_VERSION, buf)
 }
 
 /// Appends an `ltxtquery`.
 pub fn ltxtquery_to_sql<B: Buffer>(v: &str, buf: &mut B) -> Result<(), Error>
     ensures { Writes ltxtquery v.now (B.bytes buf.old) result (B.bytes buf.new) }
 {
-    label_to_sql(v, buf)
+    label_to_sql(LTXTQUERY_VERSION, v, buf)
 }
 
 /// Reads an `ltxtquery`.
 pub fn ltxtquery_from_sql(buf: &[u8]) -> Result<&str, Error>
     ensures { ReadsBy (λ t. t.now) ltxtquery buf.now result }
 {
-    label_from_sql(buf)
+    label_from_sql(LTXTQUERY_VERSION, buf)
 }

@@ -9,10 +9,10 @@ use crate::scalar::{int4_from_sql, int4_to_sql, int8_from_sql, int8_to_sql};
 use pgp_base::{Buffer, Error};
 
 /// Appends a `timestamp` or a `timestamptz`, in microseconds since 2000-01-01 00:00.
-pub fn timestamp_to_sql<B: Buffer>(v: i64, buf: &mut B) -> Result<(), Error>
-    ensures { Writes timestamp v (B.bytes buf.old) result (B.bytes buf.new) }
+pub fn timestamp_to_sql<B: Buffer>(since_2000: i64, buf: &mut B) -> Result<(), Error>
+    ensures { Writes timestamp since_2000 (B.bytes buf.old) result (B.bytes buf.new) }
 {
-    int8_to_sql(v, buf)
+    int8_to_sql(since_2000, buf)
 }
 
 /// Reads a `timestamp` or a `timestamptz`, in microseconds since 2000-01-01 00:00.
@@ -23,10 +23,10 @@ pub fn timestamp_from_sql(buf: &[u8]) -> Result<i64, Error>
 }
 
 /// Appends a `time`, in microseconds since midnight.
-pub fn time_to_sql<B: Buffer>(v: i64, buf: &mut B) -> Result<(), Error>
-    ensures { Writes time v (B.bytes buf.old) result (B.bytes buf.new) }
+pub fn time_to_sql<B: Buffer>(since_midnight: i64, buf: &mut B) -> Result<(), Error>
+    ensures { Writes time since_midnight (B.bytes buf.old) result (B.bytes buf.new) }
 {
-    int8_to_sql(v, buf)
+    int8_to_sql(since_midnight, buf)
 }
 
 /// Reads a `time`, in microseconds since midnight.
@@ -37,10 +37,10 @@ pub fn time_from_sql(buf: &[u8]) -> Result<i64, Error>
 }
 
 /// Appends a `date`, in days since 2000-01-01.
-pub fn date_to_sql<B: Buffer>(v: i32, buf: &mut B) -> Result<(), Error>
-    ensures { Writes date v (B.bytes buf.old) result (B.bytes buf.new) }
+pub fn date_to_sql<B: Buffer>(days: i32, buf: &mut B) -> Result<(), Error>
+    ensures { Writes date days (B.bytes buf.old) result (B.bytes buf.new) }
 {
-    int4_to_sql(v, buf)
+    int4_to_sql(days, buf)
 }
 
 /// Reads a `date`, in days since 2000-01-01.

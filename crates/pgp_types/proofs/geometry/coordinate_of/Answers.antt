@@ -2,7 +2,7 @@ use Rattle.std.proofs.Common.{◌≡◌, refl}
 use Rattle.pgp_base.specs.Wire.{IsBytes}
 use Rattle.pgp_types.proofs.Spelling.{gives}
 use Rattle.pgp_types.proofs.Numbers.{uint64_spelling}
-use Rattle.pgp_types.proofs.codec.uint64_of.Goals as goal
+use Rattle.pgp_types.proofs.geometry.coordinate_of.Goals as goal
 
 pub returns : goal.returns
 returns c =
