@@ -1,0 +1,107 @@
+//! The writers of values, with each allocation refused in turn.
+
+use bytes::BytesMut;
+use pgp_base::{Buffer, Error};
+use pgp_test_alloc::Refusing;
+use pgp_types::*;
+use std::alloc::Global;
+use std::net::{IpAddr, Ipv4Addr, Ipv6Addr};
+use std::test::Fail;
+
+// A message that stands in the buffer already.
+const SYNC: &[u8] = b"S\0\0\0\x04";
+
+// What the writer of each number appends.
+const WRITTEN: [&[u8]; 23] = [
+    b"\x01",
+    b"\xde\xad",
+    b"text",
+    b"\xff",
+    b"\x01\x02",
+    b"\x01\x02\x03\x04",
+    b"\x01\x02\x03\x04\x05\x06\x07\x08",
+    b"\0\0\0\x17",
+    b"\0\0\0\x16\xb3\x74\xd8\x48",
+    b"\x3f\x80\0\0",
+    b"\x3f\xf0\0\0\0\0\0\0",
+    b"\0\0\0\x14\x1d\xd7\x60\x01",
+    b"\0\0\0\x0a\x8b\xe6\x26\x08",
+    b"\0\0\x26\x5e",
+    b"\x08\0\x2b\x01\x02\x03",
+    b"0123456789abcdef",
+    b"\x01A.B.C",
+    b"\x01A.*",
+    b"\x01a & b*",
+    b"\x02\x20\0\x04\x7f\0\0\x01",
+    b"\x03\x80\0\x10\0\0\0\0\0\0\0\0\0\0\0\0\0\0\0\x01",
+    b"\x3f\xf0\0\0\0\0\0\0\x40\0\0\0\0\0\0\0",
+    b"\x40\x08\0\0\0\0\0\0\x40\x10\0\0\0\0\0\0\x3f\xf0\0\0\0\0\0\0\x40\0\0\0\0\0\0\0",
+];
+
+const ONE: u64 = 0x3ff0_0000_0000_0000;
+
+const TWO: u64 = 0x4000_0000_0000_0000;
+
+const THREE: u64 = 0x4008_0000_0000_0000;
+
+const FOUR: u64 = 0x4010_0000_0000_0000;
+
+fn write<B: Buffer>(number: usize, buf: &mut B) -> Result<(), Error> {
+    match number {
+        0 => bool_to_sql(true, buf),
+        1 => bytea_to_sql(b"\xde\xad", buf),
+        2 => text_to_sql("text", buf),
+        3 => char_to_sql(-1, buf),
+        4 => int2_to_sql(0x0102, buf),
+        5 => int4_to_sql(0x01020304, buf),
+        6 => int8_to_sql(0x0102030405060708, buf),
+        7 => oid_to_sql(23, buf),
+        8 => lsn_to_sql(0x16_b374_d848, buf),
+        9 => float4_to_sql(0x3f80_0000, buf),
+        10 => float8_to_sql(ONE, buf),
+        11 => timestamp_to_sql(86_400_000_001, buf),
+        12 => time_to_sql(45_296_789_000, buf),
+        13 => date_to_sql(9822, buf),
+        14 => macaddr_to_sql(*b"\x08\0\x2b\x01\x02\x03", buf),
+        15 => uuid_to_sql(*b"0123456789abcdef", buf),
+        16 => ltree_to_sql("A.B.C", buf),
+        17 => lquery_to_sql("A.*", buf),
+        18 => ltxtquery_to_sql("a & b*", buf),
+        19 => inet_to_sql(IpAddr::V4(Ipv4Addr::LOCALHOST), 32, buf),
+        20 => inet_to_sql(IpAddr::V6(Ipv6Addr::LOCALHOST), 128, buf),
+        21 => point_to_sql(ONE, TWO, buf),
+        _ => box_to_sql(THREE, FOUR, ONE, TWO, buf),
+    }
+}
+
+// A refused writer leaves the buffer's bytes, and appends its value once memory is there. Buffers of several
+// lengths have each growth of a writer come at its end.
+#[test]
+fn writers_with_each_allocation_refused(rt: HostRuntime) -> Result<(), Fail> {
+    for (number, bytes) in WRITTEN.iter().enumerate() {
+        let mut refusals = 0u32;
+        for syncs in 1..14 {
+            let heap = Refusing::new(rt.alloc(), 0);
+            let mut buf: BytesMut<&Refusing<Global>> = BytesMut::new(&heap);
+            for _ in 0..syncs {
+                buf.extend_from_slice(SYNC)?;
+            }
+            let held = buf.as_slice().to_vec(rt.alloc())?;
+            for request in 1..100u64 {
+                heap.refuse(request);
+                let answer = write(number, &mut buf);
+                if heap.is_pending() {
+                    assert_eq!(rt; answer, Ok(()));
+                    let appended = buf.as_slice().strip_prefix(held.as_slice());
+                    assert!(rt; appended == Some(*bytes), "writer {number}");
+                    break;
+                }
+                assert_eq!(rt; answer, Err(Error::OutOfMemory));
+                assert_eq!(rt; buf.as_slice(), held.as_slice());
+                refusals = refusals.saturating_add(1);
+            }
+        }
+        assert!(rt; refusals > 0, "writer {number} met no refusal");
+    }
+    Ok(())
+}

@@ -1,0 +1,5 @@
+pub mod Spelling
+pub mod Numbers
+pub mod InetLemmas
+pub mod Readings
+pub mod GeometryLemmas

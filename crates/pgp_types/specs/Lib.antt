@@ -1,0 +1,6 @@
+pub mod Format
+pub mod Scalar
+pub mod Text
+pub mod Time
+pub mod Network
+pub mod Geometry

@@ -1,0 +1,44 @@
+//! What the codecs share.
+
+ghost use Rattle.std.specs.Prelude.{◌++◌};
+ghost use Rattle.pgp_types.specs.Format.{Appends, Reads, array, whole};
+
+use pgp_base::{Buffer, Error};
+
+pub fn append<B: Buffer>(bytes: &[u8], buf: &mut B) -> Result<(), Error>
+    ensures { Appends bytes.now (B.bytes buf.old) result (B.bytes buf.new) }
+{
+    buf.append(bytes)?;
+    Ok(())
+}
+
+// Both, or nothing.
+pub fn append_both<B: Buffer>(front: &[u8], rest: &[u8], buf: &mut B) -> Result<(), Error>
+    ensures { Appends (front.now ++ rest.now) (B.bytes buf.old) result (B.bytes buf.new) }
+{
+    let start = buf.len();
+    buf.append(front)?;
+    if buf.append(rest).is_err() {
+        buf.truncate(start);
+        return Err(Error::OutOfMemory);
+    }
+    Ok(())
+}
+
+// The bytes, if there are as many as that.
+pub fn array<const N: usize>(buf: &[u8]) -> Result<[u8; N], Error>
+    ensures { Reads (array N) buf.now result }
+{
+    let (front, rest) = buf.split_first_chunk().ok_or(Error::UnexpectedEof)?;
+    if !rest.is_empty() {
+        return Err(Error::NotDrained);
+    }
+    Ok(*front)
+}
+
+// The same under another refusal.
+pub fn whole<const N: usize>(buf: &[u8]) -> Result<[u8; N], Error>
+    ensures { Reads (whole N) buf.now result }
+{
+    <[u8; N]>::try_from(buf).map_err(|_| Error::InvalidSize)
+}

@@ -1,0 +1,51 @@
+//! Laws on what is written and what is read: every list of bytes has one reading, a value or a refusal, and
+//! what is written for a value is read as that value.
+
+ghost use Rattle.pgp_types.specs.Format.{IsSound};
+ghost use Rattle.pgp_types.specs.Scalar.{bool, bytea, char, int2, int4, int8, oid, lsn, float4, float8};
+ghost use Rattle.pgp_types.specs.Text.{text, ltree, lquery, ltxtquery};
+ghost use Rattle.pgp_types.specs.Time.{timestamp, time, date};
+ghost use Rattle.pgp_types.specs.Network.{macaddr, uuid, inet};
+ghost use Rattle.pgp_types.specs.Geometry.{point, box};
+
+/// Truth values, bytes and numbers.
+pub fn scalars()
+    ensures of_bool { IsSound bool }
+    ensures of_bytea { IsSound bytea }
+    ensures of_char { IsSound char }
+    ensures of_int2 { IsSound int2 }
+    ensures of_int4 { IsSound int4 }
+    ensures of_int8 { IsSound int8 }
+    ensures of_oid { IsSound oid }
+    ensures of_lsn { IsSound lsn }
+    ensures of_float4 { IsSound float4 }
+    ensures of_float8 { IsSound float8 }
+{}
+
+/// Texts, and the label types.
+pub fn texts()
+    ensures of_text { IsSound text }
+    ensures of_ltree { IsSound ltree }
+    ensures of_lquery { IsSound lquery }
+    ensures of_ltxtquery { IsSound ltxtquery }
+{}
+
+/// Times and dates.
+pub fn times()
+    ensures of_timestamp { IsSound timestamp }
+    ensures of_time { IsSound time }
+    ensures of_date { IsSound date }
+{}
+
+/// Addresses and identifiers. An inet is read back where its netmask has no more bits than its address.
+pub fn addresses()
+    ensures of_macaddr { IsSound macaddr }
+    ensures of_uuid { IsSound uuid }
+    ensures of_inet { IsSound inet }
+{}
+
+/// Points and boxes.
+pub fn shapes()
+    ensures of_point { IsSound point }
+    ensures of_box { IsSound box }
+{}

@@ -1,0 +1,34 @@
+//! The binary format of PostgreSQL's values: `X_to_sql` appends a value of the type X, and `X_from_sql`
+//! reads one from all of the bytes that it is given.
+//!
+//! A refused writer leaves the buffer's bytes as they were. A reader takes no memory: it borrows texts and bytes.
+#![tactic(auto)]
+
+mod codec;
+mod geometry;
+pub mod laws;
+mod network;
+mod scalar;
+mod text;
+mod time;
+
+pub use geometry::{Box, Point, box_from_sql, box_to_sql, point_from_sql, point_to_sql};
+pub use network::{
+    Inet, inet_from_sql, inet_to_sql, macaddr_from_sql, macaddr_to_sql, uuid_from_sql, uuid_to_sql,
+};
+pub use scalar::{
+    bool_from_sql, bool_to_sql, bytea_from_sql, bytea_to_sql, char_from_sql, char_to_sql,
+    float4_from_sql, float4_to_sql, float8_from_sql, float8_to_sql, int2_from_sql, int2_to_sql,
+    int4_from_sql, int4_to_sql, int8_from_sql, int8_to_sql, lsn_from_sql, lsn_to_sql, oid_from_sql,
+    oid_to_sql,
+};
+pub use text::{
+    lquery_from_sql, lquery_to_sql, ltree_from_sql, ltree_to_sql, ltxtquery_from_sql,
+    ltxtquery_to_sql, text_from_sql, text_to_sql,
+};
+pub use time::{
+    date_from_sql, date_to_sql, time_from_sql, time_to_sql, timestamp_from_sql, timestamp_to_sql,
+};
+
+#[cfg(test)]
+mod tests;

@@ -1,0 +1,90 @@
+//! Texts, and the label types of the module ltree.
+//!
+//! PostgreSQL manual, "Character Types", and "ltree" among the additional supplied modules.
+
+ghost use Rattle.pgp_types.specs.Format.{Reads, ReadsBy, Writes};
+ghost use Rattle.pgp_types.specs.Text.{text, label, ltree, lquery, ltxtquery};
+
+use crate::codec::{append, append_both};
+use pgp_base::{Buffer, Error};
+use std::str;
+
+// The versions of the label types' formats.
+const LTREE_VERSION: u8 = 1;
+
+const LQUERY_VERSION: u8 = 1;
+
+const LTXTQUERY_VERSION: u8 = 1;
+
+/// Appends a `text`, `varchar`, `bpchar`, `name` or the like.
+pub fn text_to_sql<B: Buffer>(v: &str, buf: &mut B) -> Result<(), Error>
+    ensures { Writes text v.now (B.bytes buf.old) result (B.bytes buf.new) }
+{
+    append(v.as_bytes(), buf)
+}
+
+/// Reads a `text`, `varchar`, `bpchar`, `name` or the like.
+pub fn text_from_sql(buf: &[u8]) -> Result<&str, Error>
+    ensures { ReadsBy (λ t. t.now) text buf.now result }
+{
+    str::from_utf8(buf).map_err(|_| Error::NotUtf8)
+}
+
+// Appends a text behind the version of its format.
+fn label_to_sql<B: Buffer>(version: u8, v: &str, buf: &mut B) -> Result<(), Error>
+    ensures { Writes (label version) v.now (B.bytes buf.old) result (B.bytes buf.new) }
+{
+    append_both(&[version], v.as_bytes(), buf)
+}
+
+// Reads a text behind the version of its format.
+fn label_from_sql(version: u8, buf: &[u8]) -> Result<&str, Error>
+    ensures { ReadsBy (λ t. t.now) (label version) buf.now result }
+{
+    match buf {
+        [first, text @ ..] if *first == version => text_from_sql(text),
+        _ => Err(Error::InvalidVersion),
+    }
+}
+
+/// Appends an `ltree`.
+pub fn ltree_to_sql<B: Buffer>(v: &str, buf: &mut B) -> Result<(), Error>
+    ensures { Writes ltree v.now (B.bytes buf.old) result (B.bytes buf.new) }
+{
+    label_to_sql(LTREE_VERSION, v, buf)
+}
+
+/// Reads an `ltree`.
+pub fn ltree_from_sql(buf: &[u8]) -> Result<&str, Error>
+    ensures { ReadsBy (λ t. t.now) ltree buf.now result }
+{
+    label_from_sql(LTREE_VERSION, buf)
+}
+
+/// Appends an `lquery`.
+pub fn lquery_to_sql<B: Buffer>(v: &str, buf: &mut B) -> Result<(), Error>
+    ensures { Writes lquery v.now (B.bytes buf.old) result (B.bytes buf.new) }
+{
+    label_to_sql(LQUERY_VERSION, v, buf)
+}
+
+/// Reads an `lquery`.
+pub fn lquery_from_sql(buf: &[u8]) -> Result<&str, Error>
+    ensures { ReadsBy (λ t. t.now) lquery buf.now result }
+{
+    label_from_sql(LQUERY_VERSION, buf)
+}
+
+/// Appends an `ltxtquery`.
+pub fn ltxtquery_to_sql<B: Buffer>(v: &str, buf: &mut B) -> Result<(), Error>
+    ensures { Writes ltxtquery v.now (B.bytes buf.old) result (B.bytes buf.new) }
+{
+    label_to_sql(LTXTQUERY_VERSION, v, buf)
+}
+
+/// Reads an `ltxtquery`.
+pub fn ltxtquery_from_sql(buf: &[u8]) -> Result<&str, Error>
+    ensures { ReadsBy (λ t. t.now) ltxtquery buf.now result }
+{
+    label_from_sql(LTXTQUERY_VERSION, buf)
+}
