@@ -1,0 +1,3 @@
+//! Answers to a server's requests for authentication.
+
+pub mod sasl;
