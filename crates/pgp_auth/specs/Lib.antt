@@ -1,2 +1,4 @@
+pub mod Doubling
 pub mod Hmac
 pub mod IteratedKey
+pub mod Lexer

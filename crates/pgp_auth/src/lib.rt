@@ -3,4 +3,5 @@
 #![tactic(auto)]
 
 pub mod authentication;
+pub mod escape;
 mod hmac;
