@@ -1,2 +1,4 @@
+pub mod Asking
 pub mod Blocks
+pub mod Digits
 pub mod Quoting

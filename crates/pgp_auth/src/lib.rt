@@ -5,3 +5,5 @@
 pub mod authentication;
 pub mod escape;
 mod hmac;
+mod md5_text;
+pub mod password;
