@@ -1,4 +1,6 @@
 pub mod Asking
 pub mod Blocks
 pub mod Digits
+pub mod LongKeys
 pub mod Quoting
+pub mod Reading

@@ -5,5 +5,6 @@
 pub mod authentication;
 pub mod escape;
 mod hmac;
+pub mod laws;
 mod md5_text;
 pub mod password;
