@@ -57,7 +57,11 @@ fn quoted<A: Allocator>(
 {
     let is_doubled = |byte: &&u8| **byte == quote || slashes && **byte == b'\\';
     let twice = input.as_bytes().iter().filter(is_doubled).count();
-    let room = input.len().saturating_add(twice).saturating_add(front.len()).saturating_add(2);
+    let room = input
+        .len()
+        .saturating_add(twice)
+        .saturating_add(front.len())
+        .saturating_add(2);
     let mut out = String::with_capacity(alloc, room)?;
     out.push_str(front)?;
     out.push(quote as char)?;

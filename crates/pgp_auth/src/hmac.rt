@@ -6,7 +6,9 @@ ghost use Rattle.pgp_auth.specs.Hmac.{padded, xored_block, mac};
 use sha2::{Digest, Sha256};
 
 const BLOCK_LEN: usize = 64;
+
 const INNER_PAD: u8 = 0x36;
+
 const OUTER_PAD: u8 = 0x5c;
 
 // A key of at most a block, with zeros up to the block's end, and each byte xor `pad`.

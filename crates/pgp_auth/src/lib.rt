@@ -8,3 +8,5 @@ mod hmac;
 pub mod laws;
 mod md5_text;
 pub mod password;
+#[cfg(test)]
+mod tests;

@@ -11,6 +11,7 @@ use std::alloc::Allocator;
 use std::str;
 
 const DIGITS_LEN: usize = 32;
+
 const TEXT_LEN: usize = 35;
 
 // The digest of a message that comes in two parts, in lower-case hex.
@@ -27,7 +28,11 @@ pub(crate) fn digest_hex(first: &[u8], second: &[u8]) -> [u8; DIGITS_LEN]
 
 #[tactic(auto, unfolding(crate::specs::Md5Text::md5_text))]
 // `md5` and these digits; the room is asked for once.
-pub(crate) fn digest_text<A: Allocator>(alloc: A, first: &[u8], second: &[u8]) -> Result<String<A>, Error>
+pub(crate) fn digest_text<A: Allocator>(
+    alloc: A,
+    first: &[u8],
+    second: &[u8],
+) -> Result<String<A>, Error>
     ensures ok { IfOk result (λ t. string_bytes t ≡ md5_text (first.now ++ second.now)) }
     ensures memory { IfErr result (λ e. e ≡ Error.OutOfMemory) }
 {

@@ -19,7 +19,9 @@ use sha2::{Digest, Sha256};
 use std::alloc::Allocator;
 
 const ITERATIONS: u32 = 4096;
+
 const SALT_LEN: usize = 16;
+
 const VERIFIER_LEN: usize = 133;
 
 /// The SCRAM-SHA-256 verifier of a password, of 4096 rounds, with a salt of 16 bytes that the generator
@@ -32,8 +34,7 @@ pub fn scram_sha_256<A: Allocator + Copy, P: SaslPrep, R: Rng>(
     prep: &P,
     rng: &mut R,
 ) -> Result<String<A>, Error>
-    ensures ok {
-        let salt = (fill_bytes 16 (R.stream rng.old)).0 in
+    ensures ok { let salt = (fill_bytes 16 (R.stream rng.old)).0 in
         IfOk result (λ t. string_bytes t ≡ verifier_text (verifier (prepared (P.mapping prep.now) password.now) salt 4096)) }
     ensures drawn { R.stream rng.new ≡ (fill_bytes 16 (R.stream rng.old)).1 }
     ensures memory { IfErr result (λ e. e ≡ Error.OutOfMemory) }
@@ -61,7 +62,11 @@ pub fn scram_sha_256_salt<A: Allocator + Copy, P: SaslPrep>(
 
 #[tactic(auto, unfolding(crate::specs::Verifier::verifier))]
 // The verifier of a prepared password.
-fn prepared_verifier<A: Allocator>(alloc: A, password: &[u8], salt: &[u8]) -> Result<String<A>, Error>
+fn prepared_verifier<A: Allocator>(
+    alloc: A,
+    password: &[u8],
+    salt: &[u8],
+) -> Result<String<A>, Error>
     ensures ok { IfOk result (λ t. string_bytes t ≡ verifier_text (verifier password.now salt.now 4096)) }
     ensures memory { IfErr result (λ e. e ≡ Error.OutOfMemory) }
 {
@@ -96,7 +101,11 @@ fn text_of<A: Allocator>(
 /// The MD5 verifier of a password, salted with the user's name. MD5 isn't secure.
 ///
 /// The text has no character that a string constant would have to escape.
-pub fn md5<A: Allocator + Copy>(alloc: A, password: &[u8], username: &str) -> Result<String<A>, Error>
+pub fn md5<A: Allocator + Copy>(
+    alloc: A,
+    password: &[u8],
+    username: &str,
+) -> Result<String<A>, Error>
     ensures ok { IfOk result (λ t. string_bytes t ≡ md5_verifier password.now username.now) }
     ensures memory { IfErr result (λ e. e ≡ Error.OutOfMemory) }
 {
