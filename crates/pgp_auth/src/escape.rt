@@ -70,10 +70,10 @@ fn quoted<A: Allocator>(
     Ok(out)
 }
 
-#[tactic(auto, using(crate::proofs::Quoting::escape_reads, crate::proofs::Quoting::plain_reads))]
 /// The input as a string constant, between `'`. Where it has a backslash, the constant is of the form
 /// ` E'..'`, with a space in front, so that it may stand right behind a word. Either form is read as the
 /// input whatever `standard_conforming_strings` says.
+#[tactic(auto, using(crate::proofs::Quoting::escape_reads, crate::proofs::Quoting::plain_reads))]
 pub fn escape_literal<A: Allocator + Copy>(alloc: A, input: &str) -> Result<String<A>, Error>
     ensures standard { IfOk result (λ t. Literal true (string_bytes t) input.now) }
     ensures not_standard { IfOk result (λ t. Literal false (string_bytes t) input.now) }
@@ -86,8 +86,8 @@ pub fn escape_literal<A: Allocator + Copy>(alloc: A, input: &str) -> Result<Stri
     }
 }
 
-#[tactic(auto, using(crate::proofs::Quoting::identifier_reads))]
 /// The input as a quoted identifier, between `"`.
+#[tactic(auto, using(crate::proofs::Quoting::identifier_reads))]
 pub fn escape_identifier<A: Allocator + Copy>(alloc: A, input: &str) -> Result<String<A>, Error>
     ensures ok { IfOk result (λ t. Identifier (string_bytes t) input.now) }
     ensures memory { IfErr result (λ e. e ≡ Error.OutOfMemory) }

@@ -26,8 +26,8 @@ pub(crate) fn digest_hex(first: &[u8], second: &[u8]) -> [u8; DIGITS_LEN]
     digits
 }
 
-#[tactic(auto, unfolding(crate::specs::Md5Text::md5_text))]
 // `md5` and these digits; the room is asked for once.
+#[tactic(auto, unfolding(crate::specs::Md5Text::md5_text))]
 pub(crate) fn digest_text<A: Allocator>(
     alloc: A,
     first: &[u8],

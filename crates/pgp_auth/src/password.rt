@@ -60,8 +60,8 @@ pub fn scram_sha_256_salt<A: Allocator + Copy, P: SaslPrep>(
     }
 }
 
-#[tactic(auto, unfolding(crate::specs::Verifier::verifier))]
 // The verifier of a prepared password.
+#[tactic(auto, unfolding(crate::specs::Verifier::verifier))]
 fn prepared_verifier<A: Allocator>(
     alloc: A,
     password: &[u8],
@@ -77,8 +77,8 @@ fn prepared_verifier<A: Allocator>(
     text_of(alloc, salt, &stored_key, &server_key)
 }
 
-#[tactic(auto, unfolding(crate::specs::Verifier::verifier_text))]
 // The text of a verifier; the room is asked for once.
+#[tactic(auto, unfolding(crate::specs::Verifier::verifier_text))]
 fn text_of<A: Allocator>(
     alloc: A,
     salt: &[u8],

@@ -39,6 +39,7 @@ impl SaslPrep for NoPrep {
 }
 
 // What the mapping puts in the place of the password, if it is asked and has anything.
+#[tactic(auto, using(crate::proofs::Asking::ascii, crate::proofs::Asking::not_text, crate::proofs::Asking::asked))]
 pub(crate) fn mapped<A: Allocator + Copy, P: SaslPrep>(
     alloc: A,
     password: &[u8],
