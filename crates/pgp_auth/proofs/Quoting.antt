@@ -1,11 +1,11 @@
 -- The text that is written is read back, and nothing that follows changes how it is read.
-use Rattle.std.proofs.Common.{◌≡◌, ◌≢◌, ℕ, zero, suc, ◌+◌, ◌-◌, ◌<◌, ◌≤◌, ◌==◌, Bool, true, false, List, [], ◌∷◌, ◌++◌, length, take, drop, slice_index, refl, sym, ap, ◌∙◌, arith, inl, inr, add-one, length-drop}
-use Rattle.std.proofs.lemmas.List.{append_assoc, take_all}
+use Rattle.std.proofs.Common.{◌≡◌, ◌≢◌, ℕ, zero, suc, ◌+◌, ◌-◌, ◌<◌, ◌==◌, Bool, true, false, List, [], ◌∷◌, ◌++◌, length, take, drop, slice_index, refl, arith, inl, inr, add-one}
+use Rattle.std.proofs.lemmas.List.{append_assoc}
 use Rattle.std.proofs.lemmas.Str.{IsCharBoundary-after_ascii}
 use Rattle.std.specs.Str.{IsUtf8, IsCharBoundary}
 use Rattle.memchr.specs.Find.{Passes, NoneBefore, Nowhere, is_byte}
 use Rattle.std.proofs.lemmas.Bool.{cases_Bool, cases_eq, ne_eqb, eq-eqb}
-use Rattle.pgp_auth.specs.Lexer.{Piece, two_quotes, two_slashes, itself, Body, empty, then, Quoted, Literal, plain, escape, Identifier}
+use Rattle.pgp_auth.specs.Lexer.{two_quotes, two_slashes, itself, Body, empty, then, Literal, plain, escape, Identifier}
 use Rattle.pgp_auth.specs.Doubling.{is_doubled, doubled}
 
 -- ---- the runs
@@ -60,6 +60,9 @@ cut_behind q s bytes z at same low utf8 found =
     let ascii = doubled_low q s (slice_index z at) low here.1 in
     IsCharBoundary-after_ascii z at text here.0.high ascii
 
+joined : (a b c d : List ℕ) → ((a ++ b) ++ c) ++ d ≡ a ++ (b ++ (c ++ d))
+joined a b c d = simp append_assoc
+
 -- one run is written
 pub run_step : (q : ℕ) (s : Bool) (at : ℕ) (bytes z front whole : List ℕ) → bytes ≡ z → Found q s bytes at → front ++ doubled q s z ≡ whole
     → ((front ++ take ((at + 1) - 0) z) ++ take ((at + 1) - at) (drop at z)) ++ doubled q s (drop (at + 1) z) ≡ whole
@@ -68,7 +71,7 @@ run_step q s at bytes z front whole same found before =
     let all : (at + 1) - 0 ≡ at + 1 = omega arith in
     let one : (at + 1) - at ≡ 1 = omega arith in
     let run = doubled_run q s at z here.0.high (λ k lt. here.0.before k (omega arith) lt) here.1 in
-    rw (all, one, append_assoc, append_assoc, add-one, ← run) before
+    rw (all, one, joined front (take (at + 1) z) (take 1 (drop at z)) (doubled q s (drop (at + 1) z)), add-one, ← run) before
 
 -- the last run is written
 pub run_end : (q : ℕ) (s : Bool) (bytes z front whole : List ℕ) → bytes ≡ z → Nowhere (Passes (is_doubled q s) bytes) 0 (length bytes)

@@ -41,6 +41,10 @@ pub data Literal (on : Bool) : List ℕ → List ℕ → Type 0 where
 abbrev pub IsPlain : List ℕ → Type 0
 IsPlain text = slice_get text 0 ≡ Some single_quote
 
+-- a byte that stands for itself in a string constant of either form
+abbrev pub NeedsNoEscape : ℕ → Type 0
+NeedsNoEscape byte = (byte ≢ single_quote) × (byte ≢ backslash)
+
 -- a quoted identifier that is read as z
 abbrev pub Identifier : List ℕ → List ℕ → Type 0
 Identifier text z = Quoted double_quote false text z

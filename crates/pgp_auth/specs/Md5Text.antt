@@ -1,5 +1,5 @@
--- The texts of MD5 authentication: PostgreSQL manual, section 55.2.1 (AuthenticationMD5Password) and the
--- catalog pg_authid.
+-- The texts of MD5 authentication: PostgreSQL manual, "Message Flow", "Start-up", on
+-- AuthenticationMD5Password, and the catalog pg_authid.
 use Rattle.std.specs.Prelude.{ℕ, List, ◌++◌, codes}
 use Rattle.hex.specs.Hex.{encode_lower}
 use Rattle.md5.specs.Md5.{md5}

@@ -1,11 +1,13 @@
 //! Laws on the definitions of this crate.
 
-ghost use Rattle.std.specs.Prelude.{◌≡◌, ◌≢◌, ℕ, ◌<◌, Bool, List, ◌++◌, Some, length, slice_get};
+ghost use Rattle.std.specs.Prelude.{◌≡◌, ◌≢◌, ℕ, ◌<◌, Bool, List, ◌++◌, Some, All, length, slice_get};
 ghost use Rattle.sha2.specs.Sha256.{sha256};
 ghost use Rattle.pgp_base.specs.Wire.{IsBytes};
 ghost use Rattle.pgp_auth.specs.Base64.{base64, Shows};
 ghost use Rattle.pgp_auth.specs.IteratedKey.{salted};
-ghost use Rattle.pgp_auth.specs.Lexer.{Literal, Identifier, single_quote, double_quote};
+ghost use Rattle.pgp_auth.specs.Lexer.{Literal, Identifier, NeedsNoEscape, single_quote, double_quote};
+ghost use Rattle.pgp_auth.specs.Md5Text.{md5_text};
+ghost use Rattle.pgp_auth.specs.Verifier.{Verifier, verifier_text};
 
 /// What follows a string constant, unless it begins with a quote, changes neither where the constant
 /// ends nor what it is read as. (A quote right behind it would be read as a part of it.)
@@ -35,4 +37,10 @@ pub fn long_password_is_hashed()
 /// No rounds are read as one.
 pub fn no_rounds_are_one()
     ensures { (password salt : List ℕ) → salted password salt 0 ≡ salted password salt 1 }
+{}
+
+/// Verifiers and the answers of MD5 authentication have no quote and no backslash.
+pub fn verifiers_need_no_escape()
+    ensures scram { (v : Verifier) → All NeedsNoEscape (verifier_text v) }
+    ensures md5 { (message : List ℕ) → All NeedsNoEscape (md5_text message) }
 {}
