@@ -5,3 +5,4 @@ pub mod LongKeys
 pub mod Plain
 pub mod Quoting
 pub mod Reading
+pub mod VerifierText

@@ -1,7 +1,10 @@
 -- No byte of a verifier needs an escape.
-use Rattle.std.proofs.Common.{◌≡◌, ◌≢◌, ℕ, zero, suc, ◌+◌, ◌*◌, ◌/◌, ◌%◌, ◌==◌, ◌&&◌, Bool, true, false, not, List, [], ◌∷◌, ◌++◌, length, replicate, slice_index, refl, All, codes}
+use Rattle.std.proofs.Common.{inl, inr, ◌≡◌, ◌≢◌, ℕ, zero, suc, ◌+◌, ◌*◌, ◌/◌, ◌%◌, ◌<◌, ◌==◌, ◌&&◌, Bool, true, false, not, List, [], ◌∷◌, ◌++◌, length, replicate, slice_index, refl, arith, All, codes}
+use Rattle.std.specs.Prelude.{nat_lt}
+use Rattle.std.specs.Fmt.{decimal, digits, digits_onto, digit_glyph}
 use Rattle.std.specs.List.{list_all}
-use Rattle.std.proofs.lemmas.Bool.{and_parts, eq-eqb}
+use Rattle.std.proofs.lemmas.Bool.Decides.{nat_tests}
+use Rattle.std.proofs.lemmas.Bool.{cases_Bool, and_parts, eq-eqb}
 use Rattle.std.proofs.lemmas.List.Elements.{All-nil, All-cons, All-append, All-replicate, All-from_get_or}
 use Rattle.base64.specs.Rfc4648.{encode_symbols, encode_group, padding_len}
 use Rattle.base64.specs.Engines.{standard}
@@ -55,11 +58,11 @@ module _ (t : List ℕ) (symbols : (i : ℕ) → NeedsNoEscape (slice_index t i)
   encoded (a ∷ b ∷ c ∷ rest) =
       All-append NeedsNoEscape (encode_group t a b c) (encode_symbols t rest) (four (a / 4) (a % 4 * 16 + b / 16) (b % 16 * 4 + c / 64) (c % 64)) (encoded rest)
 
-  digits : (m : List ℕ) → All NeedsNoEscape (encode_with t m)
+  hex_digits : (m : List ℕ) → All NeedsNoEscape (encode_with t m)
   unfolding encode_with
-  digits [] = All-nil NeedsNoEscape
-  digits (b ∷ rest) =
-      All-append NeedsNoEscape (slice_index t (b / 16) ∷ slice_index t (b % 16) ∷ []) (encode_with t rest) (two (b / 16) (b % 16)) (digits rest)
+  hex_digits [] = All-nil NeedsNoEscape
+  hex_digits (b ∷ rest) =
+      All-append NeedsNoEscape (slice_index t (b / 16) ∷ slice_index t (b % 16) ∷ []) (encode_with t rest) (two (b / 16) (b % 16)) (hex_digits rest)
 
 plain_base64 : (m : List ℕ) → All NeedsNoEscape (base64 m)
 unfolding is_plain
@@ -67,18 +70,40 @@ plain_base64 m =
     All-append NeedsNoEscape (encode_symbols standard.encode_table m) (replicate (padding_len (length m)) 61) (encoded standard.encode_table (each standard.encode_table refl) m)
     (All-replicate NeedsNoEscape (padding_len (length m)) 61 (plain 61 refl))
 
+plain_digit : (d : ℕ) → d < 10 → NeedsNoEscape (digit_glyph false d)
+plain_digit d low =
+    let small : nat_lt d 10 ≡ true = grind (arith, nat_tests) in
+    rw small (λ e. omega arith, λ e. omega arith)
+
+plain_digits : (k n : ℕ) (more : List ℕ) → All NeedsNoEscape more → All NeedsNoEscape (digits_onto k 10 false n more)
+plain_digits zero n more rest = rest
+plain_digits (suc k) n more rest =
+    let glyph = digit_glyph false (n % 10) in
+    let next = All-cons NeedsNoEscape glyph more (plain_digit (n % 10) (omega arith)) rest in
+    elim (cases_Bool (n / 10 == 0)) [
+      | inl last ↦ rw last next
+      | inr on ↦ rw on (plain_digits k (n / 10) (glyph ∷ more) next)
+    ]
+
+plain_decimal : (n : ℕ) → All NeedsNoEscape (decimal n)
+unfolding digits
+plain_decimal n = plain_digits 64 n [] (All-nil NeedsNoEscape)
+
 joined : (a b : List ℕ) → All NeedsNoEscape a → All NeedsNoEscape b → All NeedsNoEscape (a ++ b)
 joined a b = All-append NeedsNoEscape a b
 
 pub plain_verifier : (v : Verifier) → All NeedsNoEscape (verifier_text v)
 unfolding is_plain verifier_text
 plain_verifier v =
-    let front = codes "SCRAM-SHA-256$4096:" in
+    let name = codes "SCRAM-SHA-256$" in
+    let named = joined name (decimal v.count) (all name refl) (plain_decimal v.count) in
+    let front = name ++ decimal v.count ++ codes ":" in
+    let counted = joined (name ++ decimal v.count) (codes ":") named (all (codes ":") refl) in
     let one = front ++ base64 v.salt in
     let two_parts = one ++ codes "$" in
     let three_parts = two_parts ++ base64 v.stored_key in
     let four_parts = three_parts ++ codes ":" in
-    let first = joined front (base64 v.salt) (all front refl) (plain_base64 v.salt) in
+    let first = joined front (base64 v.salt) counted (plain_base64 v.salt) in
     let second = joined one (codes "$") first (all (codes "$") refl) in
     let third = joined two_parts (base64 v.stored_key) second (plain_base64 v.stored_key) in
     let fourth = joined three_parts (codes ":") third (all (codes ":") refl) in
@@ -87,4 +112,4 @@ plain_verifier v =
 pub plain_md5 : (message : List ℕ) → All NeedsNoEscape (md5_text message)
 unfolding is_plain md5_text
 plain_md5 message =
-    All-append NeedsNoEscape (codes "md5") (encode_lower (md5 message)) (all (codes "md5") refl) (digits lower_digits (each lower_digits refl) (md5 message))
+    All-append NeedsNoEscape (codes "md5") (encode_lower (md5 message)) (all (codes "md5") refl) (hex_digits lower_digits (each lower_digits refl) (md5 message))

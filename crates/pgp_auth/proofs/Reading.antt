@@ -1,9 +1,10 @@
 -- A lexer's text ends at one place and is read in one way, whatever follows.
-use Rattle.std.proofs.Common.{◌≡◌, ◌≢◌, ◌==◌, ◌&&◌, ℕ, ◌<◌, Bool, true, false, not, cond, List, [], ◌∷◌, ◌++◌, length, refl, sym, ap, ◌∙◌, arith}
+use Rattle.std.proofs.Common.{◌≡◌, ◌≢◌, ◌==◌, ◌&&◌, ℕ, ◌<◌, Bool, true, false, not, cond, List, [], ◌∷◌, ◌++◌, length, refl, sym, ap, ◌∙◌, arith, All}
 use Rattle.std.proofs.lemmas.List.{append_assoc, append_cancel_right}
 use Rattle.std.proofs.lemmas.Bool.{ne_eqb, eq-eqb}
+use Rattle.std.proofs.lemmas.List.Elements.{All-head, All-tail}
 use Rattle.std.specs.Prelude.{Option, Some, None, option_map, slice_get}
-use Rattle.pgp_auth.specs.Lexer.{Body, empty, then, two_quotes, two_slashes, itself, Quoted, Literal, plain, escape}
+use Rattle.pgp_auth.specs.Lexer.{Body, empty, then, two_quotes, two_slashes, itself, Quoted, Literal, plain, escape, NeedsNoEscape}
 
 -- what a scan from behind the first quote finds: what was read, and what follows the last quote
 put : ℕ → Option (List ℕ × List ℕ) → Option (List ℕ × List ℕ)
@@ -89,3 +90,14 @@ literal_once on _ u r l y x (escape {text = t} a) (plain b) ro lo same = absurd 
 literal_once on _ _ r l y x (escape {text = t} a) (escape {text = u} b) ro lo same =
     let both = quoted_once 39 true t u r l y x (not_slash 39 (omega arith)) a b ro lo (behind_two 32 69 (t ++ r) (u ++ l) same) in
     (ap (λ z. 32 ∷ 69 ∷ z) both.0, both.1)
+
+-- ---- bytes that need no escape
+
+itself_body : (s : Bool) (z : List ℕ) → All NeedsNoEscape z → Body 39 s z z
+itself_body s [] none = empty
+itself_body s (c ∷ z) all =
+    let first : NeedsNoEscape c = All-head NeedsNoEscape c z all in
+    then (itself first.0 (λ _. first.1)) (itself_body s z (All-tail NeedsNoEscape c z all))
+
+pub own_literal : (on : Bool) (z : List ℕ) → All NeedsNoEscape z → Literal on (39 ∷ (z ++ 39 ∷ [])) z
+own_literal on z all = plain (record { body = z; text_is = refl; reads = itself_body (not on) z all })

@@ -1,6 +1,7 @@
 -- What a server keeps of a password: RFC 5802, section 3 (StoredKey and ServerKey), and its text, which
 -- the PostgreSQL manual gives for the catalog pg_authid.
 use Rattle.std.specs.Prelude.{ℕ, List, ◌++◌, codes}
+use Rattle.std.specs.Fmt.{decimal}
 use Rattle.sha2.specs.Sha256.{sha256}
 use Rattle.pgp_auth.specs.Base64.{base64}
 use Rattle.pgp_auth.specs.Hmac.{mac}
@@ -20,7 +21,6 @@ verifier password salt count = record {
   server_key = mac (salted password salt count) (codes "Server Key");
 }
 
--- the text of a verifier of 4096 rounds
 unfoldable pub verifier_text : Verifier → List ℕ
 verifier_text v =
-    codes "SCRAM-SHA-256$4096:" ++ base64 v.salt ++ codes "$" ++ base64 v.stored_key ++ codes ":" ++ base64 v.server_key
+    codes "SCRAM-SHA-256$" ++ decimal v.count ++ codes ":" ++ base64 v.salt ++ codes "$" ++ base64 v.stored_key ++ codes ":" ++ base64 v.server_key

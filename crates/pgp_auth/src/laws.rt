@@ -1,6 +1,6 @@
 //! Laws on the definitions of this crate.
 
-ghost use Rattle.std.specs.Prelude.{◌≡◌, ◌≢◌, ℕ, ◌<◌, Bool, List, ◌++◌, Some, All, length, slice_get};
+ghost use Rattle.std.specs.Prelude.{◌≡◌, ◌≢◌, ℕ, ◌<◌, Bool, List, [], ◌∷◌, ◌++◌, Some, All, length, slice_get};
 ghost use Rattle.sha2.specs.Sha256.{sha256};
 ghost use Rattle.pgp_base.specs.Wire.{IsBytes};
 ghost use Rattle.pgp_auth.specs.Base64.{base64, Shows};
@@ -37,6 +37,12 @@ pub fn long_password_is_hashed()
 /// No rounds are read as one.
 pub fn no_rounds_are_one()
     ensures { (password salt : List ℕ) → salted password salt 0 ≡ salted password salt 1 }
+{}
+
+/// A text of bytes that need no escape is read as itself between two quotes.
+pub fn plain_text_is_its_own_literal()
+    ensures { (on : Bool) (text : List ℕ) → All NeedsNoEscape text →
+        Literal on (single_quote ∷ (text ++ single_quote ∷ [])) text }
 {}
 
 /// Verifiers and the answers of MD5 authentication have no quote and no backslash.

@@ -78,7 +78,7 @@ fn prepared_verifier<A: Allocator>(
 }
 
 // The text of a verifier; the room is asked for once.
-#[tactic(auto, unfolding(crate::specs::Verifier::verifier_text))]
+#[tactic(auto, using(crate::proofs::VerifierText::text_of_default))]
 fn text_of<A: Allocator>(
     alloc: A,
     salt: &[u8],
