@@ -2,6 +2,7 @@ pub mod Asking
 pub mod Blocks
 pub mod Digits
 pub mod LongKeys
+pub mod OneText
 pub mod Plain
 pub mod Quoting
 pub mod Reading

@@ -1,11 +1,11 @@
 //! Laws on the definitions of this crate.
 
-ghost use Rattle.std.specs.Prelude.{◌≡◌, ◌≢◌, ℕ, ◌<◌, Bool, List, [], ◌∷◌, ◌++◌, Some, All, length, slice_get};
+ghost use Rattle.std.specs.Prelude.{◌≡◌, ◌≢◌, ◌↔◌, ℕ, ◌<◌, Bool, List, [], ◌∷◌, ◌++◌, Some, All, length, slice_get};
 ghost use Rattle.sha2.specs.Sha256.{sha256};
 ghost use Rattle.pgp_base.specs.Wire.{IsBytes};
 ghost use Rattle.pgp_auth.specs.Base64.{base64, Shows};
 ghost use Rattle.pgp_auth.specs.IteratedKey.{salted};
-ghost use Rattle.pgp_auth.specs.Lexer.{Literal, Identifier, NeedsNoEscape, single_quote, double_quote};
+ghost use Rattle.pgp_auth.specs.Lexer.{Literal, Identifier, IsPlain, NeedsNoEscape, single_quote, double_quote};
 ghost use Rattle.pgp_auth.specs.Md5Text.{md5_text};
 ghost use Rattle.pgp_auth.specs.Verifier.{Verifier, verifier_text};
 
@@ -20,6 +20,16 @@ pub fn literal_ends_once()
 pub fn identifier_ends_once()
     ensures { (t u r s y x : List ℕ) → Identifier t y → Identifier u x →
         slice_get r 0 ≢ Some double_quote → slice_get s 0 ≢ Some double_quote → t ++ r ≡ u ++ s → (t ≡ u) × (y ≡ x) }
+{}
+
+/// A text has one string constant of each form: what `escape_literal` answers is determined.
+pub fn one_literal_of_each_form()
+    ensures { (on : Bool) (t u z : List ℕ) → Literal on t z → Literal on u z → (IsPlain t ↔ IsPlain u) → t ≡ u }
+{}
+
+/// A text has one quoted identifier.
+pub fn one_identifier()
+    ensures { (t u z : List ℕ) → Identifier t z → Identifier u z → t ≡ u }
 {}
 
 /// Base64 of bytes shows them, and no other text does.
