@@ -2,7 +2,7 @@
 use Rattle.std.proofs.Common.{◌≡◌, ◌≢◌, ◌==◌, ◌↔◌, ℕ, ◌<◌, Bool, true, false, not, List, [], ◌∷◌, ◌++◌, refl, sym, ap, ◌∙◌, arith, inl, inr}
 use Rattle.std.specs.Prelude.{Some, slice_get}
 use Rattle.std.proofs.lemmas.Bool.{cases_Bool, ne_eqb, eq-eqb}
-use Rattle.pgp_auth.specs.Lexer.{Body, empty, then, two_quotes, two_slashes, itself, Quoted, Literal, plain, escape, IsPlain}
+use Rattle.pgp_auth.specs.Lexer.{Body, empty, join, two_quotes, two_slashes, itself, Quoted, Literal, plain, escape, IsPlain}
 use Rattle.pgp_auth.specs.Doubling.{is_doubled, doubled}
 
 quote_doubled : (q : ℕ) (s : Bool) → is_doubled q s q ≡ true
@@ -24,9 +24,9 @@ kept q false c other no_slash = ne_eqb c q other
 body_is : (q : ℕ) (s : Bool) (b z : List ℕ) → Body q s b z → b ≡ doubled q s z
 unfolding doubled
 body_is q s _ _ empty = refl
-body_is q s _ _ (then {body = b} {z = z} two_quotes h) = rw (quote_doubled q s) (ap (λ l. q ∷ q ∷ l) (body_is q s b z h))
-body_is q s _ _ (then {body = b} {z = z} (two_slashes on) h) = rw (slash_doubled q s on) (ap (λ l. 92 ∷ 92 ∷ l) (body_is q s b z h))
-body_is q s _ _ (then {body = b} {z = z} (itself {c} other no_slash) h) = rw (kept q s c other no_slash) (ap (λ l. c ∷ l) (body_is q s b z h))
+body_is q s _ _ (join {body = b} {z = z} two_quotes h) = rw (quote_doubled q s) (ap (λ l. q ∷ q ∷ l) (body_is q s b z h))
+body_is q s _ _ (join {body = b} {z = z} (two_slashes on) h) = rw (slash_doubled q s on) (ap (λ l. 92 ∷ 92 ∷ l) (body_is q s b z h))
+body_is q s _ _ (join {body = b} {z = z} (itself {c} other no_slash) h) = rw (kept q s c other no_slash) (ap (λ l. c ∷ l) (body_is q s b z h))
 
 quoted_is : (q : ℕ) (s : Bool) (t z : List ℕ) → Quoted q s t z → t ≡ q ∷ (doubled q s z ++ q ∷ [])
 quoted_is q s t z h = h.text_is ∙ ap (λ b. q ∷ (b ++ q ∷ [])) (body_is q s h.body z h.reads)

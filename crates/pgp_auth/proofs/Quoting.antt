@@ -5,7 +5,7 @@ use Rattle.std.proofs.lemmas.Str.{IsCharBoundary-after_ascii}
 use Rattle.std.specs.Str.{IsUtf8, IsCharBoundary}
 use Rattle.memchr.specs.Find.{Passes, NoneBefore, Nowhere, is_byte}
 use Rattle.std.proofs.lemmas.Bool.{cases_Bool, cases_eq, ne_eqb, eq-eqb}
-use Rattle.pgp_auth.specs.Lexer.{two_quotes, two_slashes, itself, Body, empty, then, Literal, plain, escape, Identifier}
+use Rattle.pgp_auth.specs.Lexer.{two_quotes, two_slashes, itself, Body, empty, join, Literal, plain, escape, Identifier}
 use Rattle.pgp_auth.specs.Doubling.{is_doubled, doubled}
 
 -- ---- the runs
@@ -86,15 +86,15 @@ pub doubled_reads : (q : ℕ) (s : Bool) (z : List ℕ) → Body q s (doubled q 
 unfolding doubled
 doubled_reads q s [] = empty
 doubled_reads q true (c ∷ z) = elim (cases_eq c q) [
-  | inl same ↦ rw (eq-eqb c q same, same) (then two_quotes (doubled_reads q true z))
+  | inl same ↦ rw (eq-eqb c q same, same) (join two_quotes (doubled_reads q true z))
   | inr other ↦ elim (cases_eq c 92) [
-    | inl slash ↦ rw (ne_eqb c q other, eq-eqb c 92 slash, slash) (then (two_slashes refl) (doubled_reads q true z))
-    | inr neither ↦ rw (ne_eqb c q other, ne_eqb c 92 neither) (then (itself other (λ _. neither)) (doubled_reads q true z))
+    | inl slash ↦ rw (ne_eqb c q other, eq-eqb c 92 slash, slash) (join (two_slashes refl) (doubled_reads q true z))
+    | inr neither ↦ rw (ne_eqb c q other, ne_eqb c 92 neither) (join (itself other (λ _. neither)) (doubled_reads q true z))
   ]
 ]
 doubled_reads q false (c ∷ z) = elim (cases_eq c q) [
-  | inl same ↦ rw (eq-eqb c q same, same) (then two_quotes (doubled_reads q false z))
-  | inr other ↦ rw (ne_eqb c q other) (then (itself other (λ e. cc)) (doubled_reads q false z))
+  | inl same ↦ rw (eq-eqb c q same, same) (join two_quotes (doubled_reads q false z))
+  | inr other ↦ rw (ne_eqb c q other) (join (itself other (λ e. cc)) (doubled_reads q false z))
 ]
 
 pub identifier_reads : (t z : List ℕ) → t ≡ [] ++ 34 ∷ (doubled 34 false z ++ 34 ∷ []) → Identifier t z

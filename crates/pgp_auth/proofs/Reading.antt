@@ -4,7 +4,7 @@ use Rattle.std.proofs.lemmas.List.{append_assoc, append_cancel_right}
 use Rattle.std.proofs.lemmas.Bool.{ne_eqb, eq-eqb}
 use Rattle.std.proofs.lemmas.List.Elements.{All-head, All-tail}
 use Rattle.std.specs.Prelude.{Option, Some, None, option_map, slice_get}
-use Rattle.pgp_auth.specs.Lexer.{Body, empty, then, two_quotes, two_slashes, itself, Quoted, Literal, plain, escape, NeedsNoEscape}
+use Rattle.pgp_auth.specs.Lexer.{Body, empty, join, two_quotes, two_slashes, itself, Quoted, Literal, plain, escape, NeedsNoEscape}
 
 -- what a scan from behind the first quote finds: what was read, and what follows the last quote
 put : ℕ → Option (List ℕ × List ℕ) → Option (List ℕ × List ℕ)
@@ -38,11 +38,11 @@ not_empty (c ∷ b) r q = omega arith
 scan_body : (q : ℕ) (s : Bool) (b z r : List ℕ) → q ≢ 92 → slice_get r 0 ≢ Some q → Body q s b z → scan q s (b ++ q ∷ r) ≡ Some (z, r)
 unfolding scan put
 scan_body q s _ _ r nq o empty = scan_end q s r o
-scan_body q s _ _ r nq o (then {body = b} {z = z} two_quotes h) = rw (same_byte q, scan_body q s b z r nq o h) refl
-scan_body q s _ _ r nq o (then {body = b} {z = z} (two_slashes on) h) =
+scan_body q s _ _ r nq o (join {body = b} {z = z} two_quotes h) = rw (same_byte q, scan_body q s b z r nq o h) refl
+scan_body q s _ _ r nq o (join {body = b} {z = z} (two_slashes on) h) =
     let n : 92 ≢ q = λ e. nq (sym e) in
     rw (ne_eqb 92 q n, on, scan_body q s b z r nq o h) refl
-scan_body q s _ _ r nq o (then {body = b} {z = z} (itself {c} n ns) h) =
+scan_body q s _ _ r nq o (join {body = b} {z = z} (itself {c} n ns) h) =
     rw (scan_itself q c s (b ++ q ∷ r) n ns (not_empty b r q), scan_body q s b z r nq o h) refl
 
 pub quoted_once : (q : ℕ) (s : Bool) (t u r l y x : List ℕ) → q ≢ 92 → Quoted q s t y → Quoted q s u x → slice_get r 0 ≢ Some q → slice_get l 0 ≢ Some q
@@ -97,7 +97,7 @@ itself_body : (s : Bool) (z : List ℕ) → All NeedsNoEscape z → Body 39 s z 
 itself_body s [] none = empty
 itself_body s (c ∷ z) all =
     let first : NeedsNoEscape c = All-head NeedsNoEscape c z all in
-    then (itself first.0 (λ _. first.1)) (itself_body s z (All-tail NeedsNoEscape c z all))
+    join (itself first.0 (λ _. first.1)) (itself_body s z (All-tail NeedsNoEscape c z all))
 
 pub own_literal : (on : Bool) (z : List ℕ) → All NeedsNoEscape z → Literal on (39 ∷ (z ++ 39 ∷ [])) z
 own_literal on z all = plain (record { body = z; text_is = refl; reads = itself_body (not on) z all })

@@ -23,7 +23,7 @@ pub data Piece (q : ℕ) (slashes : Bool) : List ℕ → ℕ → Type 0 where
 -- what stands between the quotes is a join of pieces, and what it is read as
 pub data Body (q : ℕ) (slashes : Bool) : List ℕ → List ℕ → Type 0 where
   empty : Body q slashes [] []
-  then : {piece body z : List ℕ} {c : ℕ} → Piece q slashes piece c → Body q slashes body z → Body q slashes (piece ++ body) (c ∷ z)
+  join : {piece body z : List ℕ} {c : ℕ} → Piece q slashes piece c → Body q slashes body z → Body q slashes (piece ++ body) (c ∷ z)
 
 -- a body between its quotes
 pub record Quoted (q : ℕ) (slashes : Bool) (text z : List ℕ) : Type 0 where

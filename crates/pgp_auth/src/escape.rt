@@ -86,7 +86,8 @@ pub fn escape_literal<A: Allocator + Copy>(alloc: A, input: &str) -> Result<Stri
     }
 }
 
-/// The input as a quoted identifier, between `"`.
+/// The input as a quoted identifier, between `"`. A server refuses an empty identifier, and cuts one that
+/// is longer than its limit, which is 63 bytes by default.
 #[tactic(auto, using(crate::proofs::Quoting::identifier_reads))]
 pub fn escape_identifier<A: Allocator + Copy>(alloc: A, input: &str) -> Result<String<A>, Error>
     ensures ok { IfOk result (λ t. Identifier (string_bytes t) input.now) }
