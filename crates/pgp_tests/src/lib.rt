@@ -2,4 +2,6 @@
 #![tactic(auto)]
 
 #[cfg(test)]
+mod auth;
+#[cfg(test)]
 mod types;

@@ -1,0 +1,9 @@
+pub mod Asking
+pub mod Blocks
+pub mod Digits
+pub mod LongKeys
+pub mod OneText
+pub mod Plain
+pub mod Quoting
+pub mod Reading
+pub mod VerifierText

@@ -1,0 +1,10 @@
+use Rattle.std.proofs.Common.{◌++◌}
+use Rattle.std.specs.Str.{IsUtf8}
+use Rattle.md5.specs.Md5.{md5}
+use Rattle.pgp_auth.proofs.Digits.{digits_are_text, text_passes}
+use Rattle.pgp_auth.proofs.md5_text.digest_text.Goals as goal
+
+pub unwrap-requires : goal.unwrap-requires
+unwrap-requires g c =
+    let digits : IsUtf8 c.digest_hex-digits.result = rw c.digest_hex-digits.ensures (digits_are_text (md5 (c.args.first.now ++ c.args.second.now))) in
+    text_passes _ _ _ c.from_utf8.result digits c.from_utf8.ensures.cases

@@ -1,0 +1,17 @@
+-- The texts of MD5 authentication: PostgreSQL manual, "Message Flow", "Start-up", on
+-- AuthenticationMD5Password, and the catalog pg_authid.
+use Rattle.std.specs.Prelude.{ℕ, List, ◌++◌, codes}
+use Rattle.hex.specs.Hex.{encode_lower}
+use Rattle.md5.specs.Md5.{md5}
+
+-- `md5` and the digest in lower-case hex
+unfoldable pub md5_text : List ℕ → List ℕ
+md5_text message = codes "md5" ++ encode_lower (md5 message)
+
+-- what a server keeps of a password
+abbrev pub md5_verifier : List ℕ → List ℕ → List ℕ
+md5_verifier password user = md5_text (password ++ user)
+
+-- the answer to a request with a salt
+abbrev pub md5_answer : List ℕ → List ℕ → List ℕ → List ℕ
+md5_answer user password salt = md5_text (encode_lower (md5 (password ++ user)) ++ salt)

@@ -1,0 +1,82 @@
+//! Parts of SASL's SCRAM-SHA-256 (RFC 5802, RFC 7677).
+
+ghost use Rattle.std.specs.Prelude.{◌≡◌, ℕ, List, Option, None, length, option_map, unwrap_or, string_bytes, IfOk, IfErr};
+ghost use Rattle.pgp_base.specs.declared.error.Error.{Error};
+ghost use Rattle.pgp_auth.specs.IteratedKey.{xor_bytes, salted};
+ghost use Rattle.pgp_auth.specs.Prepared.{prepared};
+
+use crate::hmac::hmac_sha256;
+use pgp_base::Error;
+use std::alloc::Allocator;
+use std::str;
+
+/// A mapping of passwords, as SASLprep (RFC 4013). It is asked only for passwords that are UTF-8 and
+/// have a byte above 127.
+pub trait SaslPrep {
+    // What a text is mapped to, if anything.
+    ghost mapping: { Self → List ℕ → Option (List ℕ) };
+
+    /// The text that is used in the place of `text`, or `None` where `text` is used as it is.
+    fn prepare<A: Allocator + Copy>(&self, alloc: A, text: &str) -> Result<Option<String<A>>, Error>
+        ensures ok { IfOk result (λ o. option_map string_bytes o ≡ mapping self.now text.now) }
+        ensures memory { IfErr result (λ e. e ≡ Error.OutOfMemory) };
+}
+
+/// No mapping: each password is used as it is.
+#[derive(Debug, Clone, Copy)]
+pub struct NoPrep;
+
+impl SaslPrep for NoPrep {
+    ghost mapping = { λ _ _. None };
+
+    fn prepare<A: Allocator + Copy>(
+        &self,
+        _alloc: A,
+        _text: &str,
+    ) -> Result<Option<String<A>>, Error> {
+        Ok(None)
+    }
+}
+
+// What the mapping puts in the place of the password, if it is asked and has anything.
+#[tactic(auto, using(crate::proofs::Asking::ascii, crate::proofs::Asking::not_text, crate::proofs::Asking::asked))]
+pub(crate) fn mapped<A: Allocator + Copy, P: SaslPrep>(
+    alloc: A,
+    password: &[u8],
+    prep: &P,
+) -> Result<Option<String<A>>, Error>
+    ensures ok { IfOk result (λ o. unwrap_or (option_map string_bytes o) password.now ≡ prepared (P.mapping prep.now) password.now) }
+    ensures memory { IfErr result (λ e. e ≡ Error.OutOfMemory) }
+{
+    if password.is_ascii() {
+        return Ok(None);
+    }
+    match str::from_utf8(password) {
+        Ok(text) => prep.prepare(alloc, text),
+        Err(_) => Ok(None),
+    }
+}
+
+// `into` xor `other`, byte by byte.
+fn xor_into(into: &mut [u8], other: &[u8])
+    requires { length into.old ≡ length other.now }
+    ensures { into.new ≡ xor_bytes into.old other.now }
+{
+    for (i, byte) in other.iter().enumerate() {
+        into[i] ^= *byte;
+    }
+}
+
+/// The key that `i` rounds of HMAC over SHA-256 make of a password and a salt: PBKDF2 of RFC 8018,
+/// section 5.2, for one block, which RFC 5802 calls `Hi`. A count of 0 is read as 1.
+pub fn hi(password: &[u8], salt: &[u8], i: u32) -> [u8; 32]
+    ensures { result ≡ salted password.now salt.now i }
+{
+    let mut code = hmac_sha256(password, salt, &1u32.to_be_bytes());
+    let mut key = code;
+    'rounds: for _round in 1..i {
+        code = hmac_sha256(password, &code, &[]);
+        xor_into(&mut key, &code);
+    }
+    key
+}

@@ -1,0 +1,97 @@
+//! Quotes literals and identifiers, to be put into the text of an SQL command.
+//!
+//! Where a command can take parameters, they are the better way: a parameter isn't quoted.
+
+ghost use Rattle.std.specs.Prelude.{◌≡◌, ◌<◌, ◌++◌, ◌↔◌, ◌∷◌, [], true, false, string_bytes, IfOk, IfErr, OnOk, Contains};
+ghost use Rattle.memchr.specs.Find.{IsFirstByte};
+ghost use Rattle.pgp_auth.specs.Lexer.{Literal, Identifier, IsPlain, backslash};
+ghost use Rattle.pgp_auth.specs.Doubling.{is_doubled, doubled};
+
+use memchr::{memchr, memchr2};
+use pgp_base::Error;
+use std::alloc::Allocator;
+
+// The place of the first byte that is written twice.
+fn first_doubled(quote: u8, slashes: bool, bytes: &[u8]) -> Option<usize>
+    ensures { IsFirstByte (is_doubled quote slashes) bytes.now result }
+{
+    if slashes {
+        memchr2(quote, b'\\', bytes)
+    } else {
+        memchr(quote, bytes)
+    }
+}
+
+// Appends the input with each quote written twice, and each backslash too where `slashes`.
+fn push_doubled<A: Allocator>(
+    out: &mut String<A>,
+    input: &str,
+    quote: u8,
+    slashes: bool,
+) -> Result<(), Error>
+    requires { quote < 128 }
+    ensures ok { OnOk result (string_bytes out.new ≡ string_bytes out.old ++ doubled quote slashes input.now) }
+    ensures memory { IfErr result (λ e. e ≡ Error.OutOfMemory) }
+{
+    let mut rest = input;
+    'runs: while let Some(at) = first_doubled(quote, slashes, rest.as_bytes()) {
+        out.push_str(&rest[..at + 1])?;
+        out.push_str(&rest[at..at + 1])?;
+        rest = &rest[at + 1..];
+    }
+    out.push_str(rest)?;
+    Ok(())
+}
+
+// The input between quotes, behind a front; the room is asked for once.
+fn quoted<A: Allocator>(
+    alloc: A,
+    front: &str,
+    input: &str,
+    quote: u8,
+    slashes: bool,
+) -> Result<String<A>, Error>
+    requires { quote < 128 }
+    ensures ok { IfOk result (λ t. string_bytes t ≡ front.now ++ quote ∷ (doubled quote slashes input.now ++ quote ∷ [])) }
+    ensures memory { IfErr result (λ e. e ≡ Error.OutOfMemory) }
+{
+    let is_doubled = |byte: &&u8| **byte == quote || slashes && **byte == b'\\';
+    let twice = input.as_bytes().iter().filter(is_doubled).count();
+    let room = input
+        .len()
+        .saturating_add(twice)
+        .saturating_add(front.len())
+        .saturating_add(2);
+    let mut out = String::with_capacity(alloc, room)?;
+    out.push_str(front)?;
+    out.push(quote as char)?;
+    push_doubled(&mut out, input, quote, slashes)?;
+    out.push(quote as char)?;
+    Ok(out)
+}
+
+/// The input as a string constant, between `'`. Where it has a backslash, the constant is of the form
+/// ` E'..'`, with a space in front, so that it may stand right behind a word. Either form is read as the
+/// input whatever `standard_conforming_strings` says.
+#[tactic(auto, using(crate::proofs::Quoting::escape_reads, crate::proofs::Quoting::plain_reads))]
+pub fn escape_literal<A: Allocator + Copy>(alloc: A, input: &str) -> Result<String<A>, Error>
+    ensures standard { IfOk result (λ t. Literal true (string_bytes t) input.now) }
+    ensures not_standard { IfOk result (λ t. Literal false (string_bytes t) input.now) }
+    ensures form { IfOk result (λ t. IsPlain (string_bytes t) ↔ (¬ Contains input.now backslash)) }
+    ensures memory { IfErr result (λ e. e ≡ Error.OutOfMemory) }
+{
+    match memchr(b'\\', input.as_bytes()) {
+        Some(_) => quoted(alloc, " E", input, b'\'', true),
+        None => quoted(alloc, "", input, b'\'', false),
+    }
+}
+
+/// The input as a quoted identifier, between `"`. A server refuses an empty identifier, and cuts one that
+/// is longer than its limit, which is 63 bytes by default.
+#[tactic(auto, using(crate::proofs::Quoting::identifier_reads))]
+pub fn escape_identifier<A: Allocator + Copy>(alloc: A, input: &str) -> Result<String<A>, Error>
+    ensures ok { IfOk result (λ t. Identifier (string_bytes t) input.now) }
+    ensures memory { IfErr result (λ e. e ≡ Error.OutOfMemory) }
+{
+    quoted(alloc, "", input, b'"', false)
+}
