@@ -1,16 +1,25 @@
 -- What the program does for its words.
-use Rattle.std.specs.Prelude.{◌≡◌, ◌⊎◌, ℕ, List, [], ◌∷◌, Option, IfSome, codes}
-use Rattle.std.specs.Io.KnownBytes.{Keeps, IsAtEnd}
+use Rattle.std.specs.Prelude.{◌≡◌, ◌⊎◌, ◌↔◌, ℕ, true, false, List, [], ◌∷◌, Option, IfSome, Ok, Contains, codes}
+use Rattle.std.specs.Io.KnownBytes.{Keeps, Appends, IsAtEnd}
+use Rattle.hex.specs.Hex.{decode_sized}
+use Rattle.pgp_auth.specs.Lexer.{Literal, Identifier, IsPlain, backslash}
+use Rattle.pgp_auth.specs.Verifier.{verifier, verifier_text}
 use Rattle.pgwire.specs.declared.fault.Fault.{Fault}
 use Rattle.pgwire.specs.declared.fault.Fault.TheVariants.{Memory, Read, Write}
 use Rattle.pgwire.specs.Output.{line, Writes}
 
 pub data Command : Type 0 where
   Backend : Command
+  Verifier : (password salt : List ℕ) → Command
+  EscapeLiteral : (text : List ℕ) → Command
+  EscapeIdentifier : (text : List ℕ) → Command
 
 -- the words ask for it
 abbrev pub Asks : List (List ℕ) → Command → Type 0
 Asks words Backend = words ≡ codes "backend" ∷ []
+Asks words (Verifier password salt) = (digits : List ℕ) × (words ≡ codes "verifier" ∷ password ∷ digits ∷ []) × (decode_sized digits 16 ≡ Ok salt)
+Asks words (EscapeLiteral text) = words ≡ codes "escape" ∷ codes "literal" ∷ text ∷ []
+Asks words (EscapeIdentifier text) = words ≡ codes "escape" ∷ codes "identifier" ∷ text ∷ []
 
 -- what is said on standard error
 
@@ -34,15 +43,34 @@ pub record IsListed (before after : Streams) (status : ℕ) (complaint : List �
   pub fine : status ≡ 0
   pub silent : complaint ≡ []
 
+-- this line was written, and nothing was read
+pub record Prints (before after : Streams) (text : List ℕ) (status : ℕ) (complaint : List ℕ) : Type 0 where
+  pub input : Keeps before.input after.input
+  pub written : Appends before.output after.output (line text)
+  pub fine : status ≡ 0
+  pub silent : complaint ≡ []
+
+-- a string constant that is read as z under either setting of standard_conforming_strings, and is plain
+-- exactly where z has no backslash
+abbrev pub IsEscapedLiteral : List ℕ → List ℕ → Type 0
+IsEscapedLiteral z text = Literal true text z × Literal false text z × (IsPlain text ↔ (¬ Contains z backslash))
+
 -- a fault was met, and is told
 pub record IsFaulty (status : ℕ) (complaint : List ℕ) : Type 0 where
   pub fault : Fault
   pub told : complaint ≡ complaint_of fault
   pub failed : status ≡ 1
 
--- What a command does to the streams, with the status and what is to be said on standard error.
-abbrev pub Does : Command → Streams → Streams → ℕ → List ℕ → Type 0
-Does Backend before after status complaint = IsListed before after status complaint ⊎ IsFaulty status complaint
+-- What a command does to the streams, with the status and what is to be said on standard error, unless
+-- it meets a fault.
+abbrev pub Succeeds : Command → Streams → Streams → ℕ → List ℕ → Type 0
+Succeeds Backend before after status complaint = IsListed before after status complaint
+Succeeds (Verifier password salt) before after status complaint =
+    Prints before after (verifier_text (verifier password salt 4096)) status complaint
+Succeeds (EscapeLiteral z) before after status complaint =
+    (text : List ℕ) × IsEscapedLiteral z text × Prints before after text status complaint
+Succeeds (EscapeIdentifier z) before after status complaint =
+    (text : List ℕ) × Identifier text z × Prints before after text status complaint
 
 -- the words ask for nothing that there is
 abbrev pub IsOther : List (List ℕ) → Type 0
@@ -60,7 +88,7 @@ pub record IsRefused (words : List (List ℕ)) (before after : Streams) (status 
 pub record IsDone (words : List (List ℕ)) (before after : Streams) (status : ℕ) (complaint : List ℕ) : Type 0 where
   pub command : Command
   pub asks : Asks words command
-  pub does : Does command before after status complaint
+  pub does : Succeeds command before after status complaint ⊎ IsFaulty status complaint
 
 abbrev pub Obeys : List (List ℕ) → Streams → Streams → ℕ → List ℕ → Type 0
 Obeys words before after status complaint = IsDone words before after status complaint ⊎ IsRefused words before after status complaint

@@ -6,6 +6,8 @@ ghost use Rattle.pgwire.specs.Asked.{asked};
 
 use crate::backend::backend;
 use crate::fault::Fault;
+use crate::text;
+use hex::FromHex;
 use std::alloc::Allocator;
 use std::io::{Read, Write};
 use std::rt::Env;
@@ -22,17 +24,26 @@ pub struct Outcome {
 }
 
 /// What the words ask for.
-#[derive(Debug, Clone, Copy, PartialEq, Eq)]
-enum Command {
+#[derive(Debug, Clone, Copy)]
+enum Command<'a> {
     Backend,
+    Verifier { password: &'a str, salt: [u8; 16] },
+    EscapeLiteral(&'a str),
+    EscapeIdentifier(&'a str),
 }
 
-fn command_of(words: &[&str]) -> Option<Command>
+fn command_of<'a>(words: &[&'a str]) -> Option<Command<'a>>
     ensures known { IfSome result (λ command. Asks (map (λ word. word.now) words.now) (asked command)) }
     ensures other { IfNone result (IsOther (map (λ word. word.now) words.now)) }
 {
     match words {
         ["backend"] => Some(Command::Backend),
+        ["verifier", password, digits] => match <[u8; 16] as FromHex>::from_hex(*digits) {
+            Ok(salt) => Some(Command::Verifier { password, salt }),
+            Err(_) => None,
+        },
+        ["escape", "literal", text] => Some(Command::EscapeLiteral(text)),
+        ["escape", "identifier", text] => Some(Command::EscapeIdentifier(text)),
         _ => None,
     }
 }
@@ -57,6 +68,9 @@ pub fn obey<A: Allocator + Copy, R: Read, W: Write>(
     };
     let answer = match command {
         Command::Backend => backend(alloc, input, output),
+        Command::Verifier { password, salt } => text::verifier(alloc, password, salt, output),
+        Command::EscapeLiteral(z) => text::escape_literal(alloc, z, output),
+        Command::EscapeIdentifier(z) => text::escape_identifier(alloc, z, output),
     };
     match answer {
         Ok(status) => Outcome {

@@ -191,16 +191,45 @@ fn engine_writes_with_a_fault(rt: HostRuntime) {
     assert_eq!(rt; backend(rt.alloc(), &mut input, &mut output), Ok(0));
 }
 
+const USAGE: &str =
+    "usage: pgwire client | backend | verifier PASSWORD SALTHEX | escape literal|identifier TEXT\n";
+
+const VERIFIER: &str =
+    "SCRAM-SHA-256$4096:AQIDBAUGBwgJCgsMDQ4PEA==$8rrDg00OqaiWXJ7p+sCgHEIaBSHY89ZJl3mfIsf32oY=:05L1f+yZbiN8O0AnO40Og85NNRhvzTS57naKRWCcsIA=\n";
+
 #[test]
 fn words_decide_what_runs(rt: HostRuntime) {
-    let usage =
-        "usage: pgwire client | backend | verifier PASSWORD SALTHEX | escape literal|identifier TEXT\n";
-    let runs: [(&[&str], u8, &str, &str); 5] = [
+    let runs: [(&[&str], u8, &str, &str); 15] = [
         (&["backend"], 0, "ParseComplete\nrest 0\n", ""),
-        (&[], 2, "", usage),
-        (&["backend", "x"], 2, "", usage),
-        (&["Backend"], 2, "", usage),
-        (&["client"], 2, "", usage),
+        (
+            &["verifier", "secret", "0102030405060708090a0b0c0d0e0f10"],
+            0,
+            VERIFIER,
+            "",
+        ),
+        (
+            &["verifier", "secret", "0102030405060708090A0B0C0D0E0F10"],
+            0,
+            VERIFIER,
+            "",
+        ),
+        (&["escape", "identifier", "f\"oo"], 0, "\"f\"\"oo\"\n", ""),
+        (&["escape", "literal", "f'oo"], 0, "'f''oo'\n", ""),
+        (&["escape", "literal", "f\\oo"], 0, " E'f\\\\oo'\n", ""),
+        (&[], 2, "", USAGE),
+        (&["backend", "x"], 2, "", USAGE),
+        (&["Backend"], 2, "", USAGE),
+        (&["client"], 2, "", USAGE),
+        (&["verifier", "secret", "01"], 2, "", USAGE),
+        (
+            &["verifier", "secret", "0102030405060708090a0b0c0d0e0f1g"],
+            2,
+            "",
+            USAGE,
+        ),
+        (&["verifier", "secret"], 2, "", USAGE),
+        (&["escape", "both", "x"], 2, "", USAGE),
+        (&["escape", "literal"], 2, "", USAGE),
     ];
     for (words, status, written, told) in runs {
         let mut input: &[u8] = b"\x31\0\0\0\x04";

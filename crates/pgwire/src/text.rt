@@ -1,0 +1,65 @@
+//! The commands that print a text: verifiers and escaped texts.
+
+ghost use Rattle.std.specs.Prelude.{◌≡◌, ℕ, List, IfOk, OnOk};
+ghost use Rattle.std.specs.Io.KnownBytes.{Appends};
+ghost use Rattle.pgp_auth.specs.Lexer.{Identifier};
+ghost use Rattle.pgp_auth.specs.Verifier.{verifier, verifier_text};
+ghost use Rattle.pgwire.specs.Output.{line};
+ghost use Rattle.pgwire.specs.Command.{IsEscapedLiteral};
+
+use crate::fault::Fault;
+use crate::print::print;
+use pgp_auth::authentication::sasl::NoPrep;
+use pgp_auth::{escape, password};
+use std::alloc::Allocator;
+use std::io::Write;
+
+/// Prints the SCRAM-SHA-256 verifier of the password's own bytes.
+#[tactic(auto, using(crate::proofs::Passwords::unmapped))]
+pub fn verifier<A: Allocator + Copy, W: Write>(
+    alloc: A,
+    password: &str,
+    salt: [u8; 16],
+    output: &mut W,
+) -> Result<u8, Fault>
+    ensures written { OnOk result (Appends (W.contents output.old) (W.contents output.new)
+        (line (verifier_text (verifier password.now salt 4096)))) }
+    ensures status { IfOk result (λ status. status ≡ 0) }
+{
+    match password::scram_sha_256_salt(alloc, password.as_bytes(), salt, &NoPrep) {
+        Ok(text) => print(text, output),
+        Err(_) => Err(Fault::Memory),
+    }
+}
+
+/// Prints the text as a string constant.
+pub fn escape_literal<A: Allocator + Copy, W: Write>(
+    alloc: A,
+    text: &str,
+    output: &mut W,
+) -> Result<u8, Fault>
+    ensures written { OnOk result ((literal : List ℕ) × IsEscapedLiteral text.now literal
+        × Appends (W.contents output.old) (W.contents output.new) (line literal)) }
+    ensures status { IfOk result (λ status. status ≡ 0) }
+{
+    match escape::escape_literal(alloc, text) {
+        Ok(literal) => print(literal, output),
+        Err(_) => Err(Fault::Memory),
+    }
+}
+
+/// Prints the text as a quoted identifier.
+pub fn escape_identifier<A: Allocator + Copy, W: Write>(
+    alloc: A,
+    text: &str,
+    output: &mut W,
+) -> Result<u8, Fault>
+    ensures written { OnOk result ((identifier : List ℕ) × Identifier identifier text.now
+        × Appends (W.contents output.old) (W.contents output.new) (line identifier)) }
+    ensures status { IfOk result (λ status. status ≡ 0) }
+{
+    match escape::escape_identifier(alloc, text) {
+        Ok(identifier) => print(identifier, output),
+        Err(_) => Err(Fault::Memory),
+    }
+}
