@@ -103,7 +103,7 @@ pub fn run<A: Allocator + Copy, R: Read, W: Write, E: Write>(
 }
 
 /// Runs on the program's own words and streams.
-pub fn from_words(rt: &HostRuntime) -> u8 {
+pub(crate) fn from_words(rt: &HostRuntime) -> u8 {
     match with_words(rt) {
         Ok(status) => status,
         Err(_) => {

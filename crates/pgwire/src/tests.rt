@@ -1,6 +1,7 @@
 use crate::backend::backend;
 use crate::fault::Fault;
 use crate::run::run;
+use pgp_test_alloc::Refusing;
 use std::alloc::Global;
 use std::io::{self, Read, Write};
 use std::test::Fail;
@@ -276,4 +277,54 @@ fn faults_are_told(rt: HostRuntime) {
     );
     assert_eq!(rt; errors.as_slice(), b"pgwire: write failed\n".as_slice());
     assert_eq!(rt; Fault::Memory.complaint(), "pgwire: out of memory\n");
+}
+
+#[test]
+fn engine_writes_nothing_with_each_allocation_refused(rt: HostRuntime) {
+    let frames = b"\x5a\0\0\0\x06\x49\0\x31\0\0\0\x04\x64\0\0\0\x06ab\x57\0\0\0\x04\x5a\0\0\0\x03";
+    let lines = "fault 8\nParseComplete\nCopyData\nfault 5\nstopped rest 5\n";
+    let mut refusals = 0u64;
+    for number in 1..1000u64 {
+        let heap = Refusing::new(rt.alloc(), number);
+        let mut input: &[u8] = frames;
+        let mut output = Vec::new(rt.alloc());
+        let answer = backend(&heap, &mut input, &mut output);
+        if heap.is_pending() {
+            assert_eq!(rt; answer, Ok(0));
+            assert_eq!(rt; output.as_slice(), lines.as_bytes());
+            break;
+        }
+        assert_eq!(rt; answer, Err(Fault::Memory));
+        assert!(rt; output.is_empty());
+        refusals = number;
+    }
+    assert!(rt; refusals > 2, "{refusals}");
+}
+
+#[test]
+fn texts_are_not_printed_with_each_allocation_refused(rt: HostRuntime) {
+    let commands: [&[&str]; 3] = [
+        &["verifier", "secret", "0102030405060708090a0b0c0d0e0f10"],
+        &["escape", "literal", "f'oo"],
+        &["escape", "identifier", "f\"oo"],
+    ];
+    for words in commands {
+        let mut refusals = 0u64;
+        for number in 1..1000u64 {
+            let heap = Refusing::new(rt.alloc(), number);
+            let mut input: &[u8] = b"";
+            let mut output = Vec::new(rt.alloc());
+            let mut errors = Vec::new(rt.alloc());
+            let status = run(&heap, words, &mut input, &mut output, &mut errors);
+            if heap.is_pending() {
+                assert_eq!(rt; status, 0);
+                break;
+            }
+            assert_eq!(rt; status, 1);
+            assert!(rt; output.is_empty());
+            assert_eq!(rt; errors.as_slice(), b"pgwire: out of memory\n".as_slice());
+            refusals = number;
+        }
+        assert!(rt; refusals >= 1, "{refusals}");
+    }
 }
