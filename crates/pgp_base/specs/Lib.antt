@@ -1,2 +1,4 @@
+pub mod Calls
+pub mod Cause
 pub mod Error
 pub mod Wire
