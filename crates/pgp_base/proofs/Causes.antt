@@ -1,9 +1,10 @@
 -- When a part has a cause.
-use Rattle.std.proofs.Common.{◌≡◌, ℕ, ◌<◌, ◌≤◌, ◌^◌, Bool, true, false, List, [], ◌∷◌, length, Some, None, refl, arith, inl, inr, sym, ◌∙◌}
+use Rattle.std.proofs.Common.{◌≡◌, ℕ, ◌<◌, ◌≤◌, ◌^◌, Bool, true, false, List, [], ◌∷◌, ◌++◌, length, Some, None, refl, arith, inl, inr, sym, ◌∙◌}
 use Rattle.std.specs.Prelude.{zero, suc, nat_le, ◌==◌, if◌then◌else◌, slice_index_or}
 use Rattle.std.specs.List.{list_any, Contains}
 use Rattle.std.proofs.lemmas.Bool.{le-leb, lt-leb, leb-true, eq-eqb, ne_eqb, cases_Bool, or_left, or_right, or_from}
-use Rattle.pgp_base.specs.Cause.{Cause, text_cause, length_cause, count_cause}
+use Rattle.pgp_base.specs.Cause.{Cause, either, first, text_cause, length_cause, count_cause}
+use Rattle.pgp_base.specs.declared.error.Error.{Error}
 use Rattle.pgp_base.specs.declared.error.Error.TheVariants.{EmbeddedNull, TooLarge}
 
 chosen_true : (b : Bool) (x y : Cause) → b ≡ true → (if b then x else y) ≡ x
@@ -50,3 +51,33 @@ text_clean z h = chosen_false (list_any (λ byte. byte == 0) z) (Some EmbeddedNu
 
 pub clean_of : (z : List ℕ) → text_cause z ≡ None → ¬ Contains z 0
 clean_of z e = λ h. let k : Some EmbeddedNull ≡ None = sym (text_holds_zero z h) ∙ e in cc
+
+-- Causes in a row.
+
+pub either_left : (c d : Cause) → either c d ≡ None → c ≡ None
+either_left None d h = refl
+either_left (Some e) d h = h
+
+pub either_right : (c d : Cause) → either c d ≡ None → d ≡ None
+either_right None d h = h
+either_right (Some e) d h = let k : Some e ≡ None = h in cc
+
+pub either_none : (c d : Cause) → c ≡ None → d ≡ None → either c d ≡ None
+either_none c d h k = rw (h, k) refl
+
+pub either_first : (c d : Cause) (e : Error) → c ≡ Some e → either c d ≡ Some e
+either_first c d e h = rw h refl
+
+pub either_then : (c d : Cause) → c ≡ None → either c d ≡ d
+either_then c d h = rw h refl
+
+pub first-append : (cs ds : List Cause) → first (cs ++ ds) ≡ either (first cs) (first ds)
+first-append [] ds = refl
+first-append (Some e ∷ cs) ds = refl
+first-append (None ∷ cs) ds = first-append cs ds
+
+pub first_more : (cs : List Cause) (c : Cause) → first cs ≡ None → c ≡ None → first (cs ++ c ∷ []) ≡ None
+first_more cs c h k = first-append cs (c ∷ []) ∙ either_none (first cs) (first (c ∷ [])) h (either_none c None k refl)
+
+pub first_here : (cs : List Cause) (c : Cause) (ds : List Cause) (e : Error) → first cs ≡ None → c ≡ Some e → first (cs ++ c ∷ ds) ≡ Some e
+first_here cs c ds e h k = first-append cs (c ∷ ds) ∙ (either_then (first cs) (first (c ∷ ds)) h ∙ either_first c (first ds) e k)

@@ -3,6 +3,8 @@ use Rattle.std.proofs.Common.{◌≡◌, ℕ, ◌+◌, List, [], ◌∷◌, ◌+
 use Rattle.std.proofs.lemmas.List.{append-nil, drop_all}
 use Rattle.std.proofs.Math.Seq.{take-append_seam, drop-append_seam}
 use Rattle.std.specs.List.{flat_map}
+use Rattle.std.specs.Prelude.{IfErr}
+use Rattle.std.specs.Result.{IsErrAnd}
 use Rattle.pgp_base.specs.Wire.{uint16, uint32, int32, nullable, counted}
 use Rattle.pgp_base.specs.Cause.{length_cause}
 use Rattle.pgp_base.specs.Calls.{IsFrontOf, value_of, Puts, Runs, ValueRefused, Appends, BodyRefused, NullableRefused}
@@ -164,3 +166,8 @@ module _ {F T R B : Type 0} {held : B → List ℕ} {step : F → T → MutBor B
 module _ {F R B : Type 0} {held : B → List ℕ} {post : F → MutBor B → R → MutBor B → Type 0} where
   pub Appends-at : (b here : List ℕ) {f : F} {r : R} {p : List ℕ} → b ≡ here → Appends held post b f r p → Appends held post here f r p
   Appends-at b here {f} {r} {p} e put = subst (λ (b : List ℕ). Appends held post b f r p) e put
+
+-- what holds of the error holds of the result
+pub if_err_at : {T E : Type 0} (r : Result T E) (x : E) (P : E → Type 0) → IsErrAnd r (λ e. e ≡ x) → P x → IfErr r P
+if_err_at (Ok y) x P h p = tt
+if_err_at (Err e) x P h p = subst P (sym h) p

@@ -1,0 +1,3 @@
+pub mod ClientMessage
+pub mod Payload
+pub mod View
