@@ -9,7 +9,7 @@ mod simple;
 mod startup;
 
 pub use authentication::{password_message, sasl_initial_response, sasl_response};
-pub use copy::{copy_done, copy_fail};
+pub use copy::{CopyData, copy_done, copy_fail};
 pub use extended::{close, describe, execute, flush, sync};
 pub use simple::{query, terminate};
 pub use startup::{cancel_request, ssl_request};
