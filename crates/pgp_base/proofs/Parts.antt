@@ -3,9 +3,10 @@ use Rattle.std.proofs.Common.{◌≡◌, ℕ, ◌+◌, List, [], ◌∷◌, ◌+
 use Rattle.std.proofs.lemmas.List.{append-nil, drop_all}
 use Rattle.std.proofs.Math.Seq.{take-append_seam, drop-append_seam}
 use Rattle.std.specs.List.{flat_map}
-use Rattle.std.specs.Prelude.{IfErr}
+use Rattle.std.specs.Prelude.{ℤ, IfErr}
+use Rattle.std.specs.Int.{w16, w32, cast_unsigned}
 use Rattle.std.specs.Result.{IsErrAnd}
-use Rattle.pgp_base.specs.Wire.{uint16, uint32, int32, nullable, counted}
+use Rattle.pgp_base.specs.Wire.{uint16, uint32, int16, int32, nullable, counted}
 use Rattle.pgp_base.specs.Cause.{length_cause}
 use Rattle.pgp_base.specs.Calls.{IsFrontOf, value_of, Puts, Runs, ValueRefused, Appends, BodyRefused, NullableRefused}
 use Rattle.pgp_base.specs.declared.error.Error.{Error}
@@ -171,3 +172,12 @@ module _ {F R B : Type 0} {held : B → List ℕ} {post : F → MutBor B → R �
 pub if_err_at : {T E : Type 0} (r : Result T E) (x : E) (P : E → Type 0) → IsErrAnd r (λ e. e ≡ x) → P x → IfErr r P
 if_err_at (Ok y) x P h p = tt
 if_err_at (Err e) x P h p = subst P (sym h) p
+
+-- a number with a sign, by its number without
+pub int16_spelled : (z : ℤ) → int16 z ≡ uint16 (cast_unsigned w16 z)
+unfolding int16 uint16
+int16_spelled z = refl
+
+pub int32_spelled : (z : ℤ) → int32 z ≡ uint32 (cast_unsigned w32 z)
+unfolding int32 uint32
+int32_spelled z = refl

@@ -1,3 +1,4 @@
 pub mod ClientMessage
+pub mod Given
 pub mod Payload
 pub mod View

@@ -22,8 +22,8 @@ pub enum Field<'a> {
     Rest(&'a [u8]),
 }
 
-// How much room a message of these fields takes, at most what a frame can hold.
-fn room(fields: &[Field]) -> usize {
+/// How much room a message of these fields takes, at most what a frame can hold.
+pub fn room(fields: &[Field]) -> usize {
     let mut room = 5usize;
     for field in fields {
         let bytes = match field {
@@ -35,8 +35,9 @@ fn room(fields: &[Field]) -> usize {
     room.min(0x7fff_ffff)
 }
 
+/// Appends a number with a sign.
 #[tactic(auto, unfolding(pgp_base::specs::Wire::int32, pgp_base::specs::Wire::uint32))]
-fn put_int32<B: Buffer>(n: i32, buf: &mut B) -> Result<(), Error>
+pub fn put_int32<B: Buffer>(n: i32, buf: &mut B) -> Result<(), Error>
     ensures ok { OnOk result (B.bytes buf.new ≡ B.bytes buf.old ++ int32 n) }
     ensures err { OnErr result (B.bytes buf.new ≡ B.bytes buf.old) }
     ensures cause { IfErr result (λ e. e ≡ Error.OutOfMemory) }
