@@ -1,4 +1,6 @@
+pub mod BindLemmas
 pub mod Fields
 pub mod Frames
 pub mod PairLemmas
 pub mod Texts
+pub mod ValueLemmas

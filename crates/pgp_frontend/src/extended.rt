@@ -1,15 +1,17 @@
 //! The extended query protocol.
 
-ghost use Rattle.std.specs.Prelude.{◌≡◌, OnOk, OnErr, IfErr};
+ghost use Rattle.std.specs.Prelude.{◌≡◌, ℕ, ℤ, ◌⊎◌, List, [], ◌∷◌, ◌++◌, Option, Some, None, OnOk, OnErr, IfErr, All, FitsSigned};
+ghost use Rattle.std.specs.Int.{w16};
 ghost use Rattle.std.specs.Iterator.{IsFiniteIterable};
-ghost use Rattle.pgp_base.specs.Calls.{IsFrontOf};
-ghost use Rattle.pgp_frontend.specs.Given.{Appended, Refused, WritesGiven, ParseWhole, ParseReached};
+ghost use Rattle.pgp_base.specs.Wire.{uint32};
+ghost use Rattle.pgp_base.specs.Calls.{IsFrontOf, Came, OwesValues};
+ghost use Rattle.pgp_frontend.specs.Given.{Begun, Appended, Refused, WritesGiven, ParseWhole, ParseReached, BindWhole, BindReached, BindRefused, WritesBind};
 ghost use Rattle.pgp_frontend.specs.ClientMessage.{Close, Describe, Execute, Flush, Sync};
-ghost use Rattle.pgp_frontend.specs.Payload.{WritesMessage};
+ghost use Rattle.pgp_frontend.specs.Payload.{Text, Int16s, joined, parts_cause, WritesMessage};
 
-use crate::counted::put_oids;
+use crate::counted::{put_int16s, put_oids, put_values};
 use crate::field::{Field, message, put_fields, room};
-use pgp_base::{Buffer, Error, Oid, finish_body, put_u8, put_u32};
+use pgp_base::{BindError, Buffer, Error, IsNull, Oid, finish_body, put_u8, put_u32};
 
 /// Closes a statement (`S`) or a portal (`P`). The variant may be any byte.
 pub fn close<B: Buffer>(variant: u8, name: &str, buf: &mut B) -> Result<(), Error>
@@ -94,6 +96,132 @@ where
 {
     let start = buf.len();
     match fill_parse(name, query, param_types, buf) {
+        Ok(()) => Ok(()),
+        Err(e) => {
+            buf.truncate(start);
+            Err(e)
+        }
+    }
+}
+
+// The message up to the values. A refusal leaves what stood there as a front.
+fn fill_formats<B: Buffer, I: IntoIterator<Item = i16> + Drop>(
+    portal: &str,
+    statement: &str,
+    formats: I,
+    buf: &mut B,
+) -> Result<(), Error>
+where
+    I::IntoIter: Drop,
+    requires { IsFiniteIterable I.into_iter_gives I.IntoIter.can_next I.IntoIter.remaining formats }
+    ensures ok { OnOk result ((fs : List ℤ) × Came I.into_iter_gives I.IntoIter.next_gives formats fs None × All (FitsSigned w16) fs
+        × (parts_cause (Text portal.now ∷ Text statement.now ∷ Int16s fs ∷ []) ≡ None)
+        × (B.bytes buf.new ≡ B.bytes buf.old ++ 66 ∷ [] ++ uint32 0 ++ joined (Text portal.now ∷ Text statement.now ∷ Int16s fs ∷ []))) }
+    ensures err { OnErr result (IsFrontOf (B.bytes buf.old) (B.bytes buf.new)) }
+    ensures cause { IfErr result (λ e. (e ≡ Error.OutOfMemory)
+        ⊎ ((parts_cause (Text portal.now ∷ Text statement.now ∷ []) ≡ Some e)
+        ⊎ ((fs : List ℤ) × Begun I.into_iter_gives I.IntoIter.next_gives formats fs × (parts_cause (Text portal.now ∷ Text statement.now ∷ Int16s fs ∷ []) ≡ Some e)))) }
+{
+    let texts = [
+        Field::Text(portal.as_bytes()),
+        Field::Text(statement.as_bytes()),
+    ];
+    buf.reserve(room(&texts))?;
+    put_u8(buf, b'B')?;
+    put_u32(buf, 0)?;
+    put_fields(&texts, buf)?;
+    put_int16s(formats, buf)?;
+    Ok(())
+}
+
+// The message. A refusal leaves what stood there as a front.
+fn fill_bind<
+    B: Buffer,
+    T: Drop,
+    E: Drop,
+    I: IntoIterator<Item = i16> + Drop,
+    J: IntoIterator<Item = T> + Drop,
+    F: FnMut(T, &mut B) -> Result<IsNull, E> + Drop,
+    K: IntoIterator<Item = i16> + Drop,
+>(
+    portal: &str,
+    statement: &str,
+    formats: I,
+    values: J,
+    serializer: F,
+    result_formats: K,
+    buf: &mut B,
+) -> Result<(), BindError<E>>
+where
+    I::IntoIter: Drop,
+    J::IntoIter: Drop,
+    K::IntoIter: Drop,
+    requires formats_end { IsFiniteIterable I.into_iter_gives I.IntoIter.can_next I.IntoIter.remaining formats }
+    requires values_end { IsFiniteIterable J.into_iter_gives J.IntoIter.can_next J.IntoIter.remaining values }
+    requires result_formats_end { IsFiniteIterable K.into_iter_gives K.IntoIter.can_next K.IntoIter.remaining result_formats }
+    requires callable { F.IsAlwaysCallable serializer }
+    requires owes { OwesValues B.bytes F.pre F.step }
+    ensures ok { OnOk result (Appended
+        (BindWhole B.bytes F.step I.into_iter_gives I.IntoIter.next_gives J.into_iter_gives J.IntoIter.next_gives K.into_iter_gives K.IntoIter.next_gives
+            portal.now statement.now formats values serializer result_formats (B.bytes buf.old))
+        (BindReached B.bytes F.step I.into_iter_gives I.IntoIter.next_gives J.into_iter_gives J.IntoIter.next_gives K.into_iter_gives K.IntoIter.next_gives
+            portal.now statement.now formats values serializer result_formats (B.bytes buf.old))
+        (B.bytes buf.old) (B.bytes buf.new)) }
+    ensures err { OnErr result (IsFrontOf (B.bytes buf.old) (B.bytes buf.new)) }
+    ensures cause { IfErr result (BindRefused B.bytes F.step I.into_iter_gives I.IntoIter.next_gives J.into_iter_gives J.IntoIter.next_gives K.into_iter_gives K.IntoIter.next_gives
+            portal.now statement.now formats values serializer result_formats (B.bytes buf.old)) }
+{
+    let base = buf.len() + 1;
+    fill_formats(portal, statement, formats, buf)?;
+    put_values(values, serializer, buf)?;
+    put_int16s(result_formats, buf)?;
+    finish_body(buf, base)?;
+    Ok(())
+}
+
+/// Binds values to a statement's parameters, and makes a portal of it. The formats are 0 for text
+/// and 1 for binary: none for all text, one for all, or one for each. The serializer appends the
+/// bytes of each value, or answers that it is null and appends nothing; `Conversion` is its refusal.
+/// An item past 65,535 of a list is refused before it is written.
+pub fn bind<
+    B: Buffer,
+    T: Drop,
+    E: Drop,
+    I: IntoIterator<Item = i16> + Drop,
+    J: IntoIterator<Item = T> + Drop,
+    F: FnMut(T, &mut B) -> Result<IsNull, E> + Drop,
+    K: IntoIterator<Item = i16> + Drop,
+>(
+    portal: &str,
+    statement: &str,
+    formats: I,
+    values: J,
+    serializer: F,
+    result_formats: K,
+    buf: &mut B,
+) -> Result<(), BindError<E>>
+where
+    I::IntoIter: Drop,
+    J::IntoIter: Drop,
+    K::IntoIter: Drop,
+    requires formats_end { IsFiniteIterable I.into_iter_gives I.IntoIter.can_next I.IntoIter.remaining formats }
+    requires values_end { IsFiniteIterable J.into_iter_gives J.IntoIter.can_next J.IntoIter.remaining values }
+    requires result_formats_end { IsFiniteIterable K.into_iter_gives K.IntoIter.can_next K.IntoIter.remaining result_formats }
+    requires callable { F.IsAlwaysCallable serializer }
+    requires owes { OwesValues B.bytes F.pre F.step }
+    ensures { WritesBind B.bytes F.step I.into_iter_gives I.IntoIter.next_gives J.into_iter_gives J.IntoIter.next_gives K.into_iter_gives K.IntoIter.next_gives
+            portal.now statement.now formats values serializer result_formats (B.bytes buf.old) (B.bytes buf.new) result }
+{
+    let start = buf.len();
+    match fill_bind(
+        portal,
+        statement,
+        formats,
+        values,
+        serializer,
+        result_formats,
+        buf,
+    ) {
         Ok(()) => Ok(()),
         Err(e) => {
             buf.truncate(start);

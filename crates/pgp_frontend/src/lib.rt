@@ -11,6 +11,6 @@ mod startup;
 
 pub use authentication::{password_message, sasl_initial_response, sasl_response};
 pub use copy::{CopyData, copy_done, copy_fail};
-pub use extended::{close, describe, execute, flush, parse, sync};
+pub use extended::{bind, close, describe, execute, flush, parse, sync};
 pub use simple::{query, terminate};
 pub use startup::{cancel_request, ssl_request, startup_message};
