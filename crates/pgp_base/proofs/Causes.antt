@@ -81,3 +81,7 @@ first_more cs c h k = first-append cs (c ∷ []) ∙ either_none (first cs) (fir
 
 pub first_here : (cs : List Cause) (c : Cause) (ds : List Cause) (e : Error) → first cs ≡ None → c ≡ Some e → first (cs ++ c ∷ ds) ≡ Some e
 first_here cs c ds e h k = first-append cs (c ∷ ds) ∙ (either_then (first cs) (first (c ∷ ds)) h ∙ either_first c (first ds) e k)
+
+-- no byte of such a text is 0
+pub zero_free : (z : List ℕ) → text_cause z ≡ None → list_any (λ byte. byte == 0) z ≡ false
+zero_free z h = elim (cases_Bool (list_any (λ byte. byte == 0) z)) [ inl t ↦ let e : Some EmbeddedNull ≡ None = sym (chosen_true (list_any (λ byte. byte == 0) z) (Some EmbeddedNull) None t) ∙ h in cc | inr f ↦ f ]

@@ -1,3 +1,4 @@
 pub mod Causes
 pub mod Errors
 pub mod Parts
+pub mod Prefixes

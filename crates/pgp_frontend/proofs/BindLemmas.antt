@@ -44,9 +44,10 @@ module _ {F T E B : Type 0} (held : B → List ℕ) (step : F → T → MutBor B
     pub values_refused : (e : BindError E) → ValuesRefused held step j_into j_next values f (before_values old portal statement fs) e → Refusal e
     values_refused (Conversion e) r = (fs, came, none, r)
     values_refused (Serialization e) r =
-        elim r
-          [ inl memory ↦ inl memory
-          | inr v ↦ inr (inl (Text portal ∷ Text statement ∷ Int16s fs ∷ Values v.0 ∷ [], inr (inr (inl (fs, came, (v.0, v.1, refl)))), cause_here (Text portal ∷ Text statement ∷ Int16s fs ∷ []) (Values v.0) [] e none v.2)) ]
+        elim r [
+          | inl memory ↦ inl memory
+          | inr v ↦ inr (inl (Text portal ∷ Text statement ∷ Int16s fs ∷ Values v.0 ∷ [], inr (inr (inl (fs, came, (v.0, v.1, refl)))), cause_here (Text portal ∷ Text statement ∷ Int16s fs ∷ []) (Values v.0) [] e none v.2))
+        ]
 
     module _ (vs : List (Option (List ℕ))) (served : Served held step j_into j_next values f (before_values old portal statement fs) vs) (fit : part_cause (Values vs) ≡ None) where
       four_none : parts_cause (Text portal ∷ Text statement ∷ Int16s fs ∷ Values vs ∷ []) ≡ None
@@ -55,8 +56,11 @@ module _ {F T E B : Type 0} (held : B → List ℕ) (step : F → T → MutBor B
       pub results_refused : (e : Error) → (e ≡ OutOfMemory) ⊎ ((rs : List ℤ) × Begun k_into k_next result_formats rs × (part_cause (Int16s rs) ≡ Some e)) → Refusal (Serialization e)
       results_refused e (inl memory) = inl memory
       results_refused e (inr past) =
-          inr (inl (Text portal ∷ Text statement ∷ Int16s fs ∷ Values vs ∷ Int16s past.0 ∷ [], inr (inr (inr (fs, came, (vs, served, (past.0, past.1, refl))))),
-            cause_here (Text portal ∷ Text statement ∷ Int16s fs ∷ Values vs ∷ []) (Int16s past.0) [] e four_none past.2))
+          inr (inl (
+            Text portal ∷ Text statement ∷ Int16s fs ∷ Values vs ∷ Int16s past.0 ∷ [],
+            inr (inr (inr (fs, came, (vs, served, (past.0, past.1, refl))))),
+            cause_here (Text portal ∷ Text statement ∷ Int16s fs ∷ Values vs ∷ []) (Int16s past.0) [] e four_none past.2,
+          ))
 
       module _ (rs : List ℤ) (results : Came k_into k_next result_formats rs None) (counts : part_cause (Int16s rs) ≡ None) (b4 b5 d : List ℕ) (base : ℕ)
           (front : b4 ≡ old ++ 66 ∷ [] ++ uint32 0 ++ joined (Text portal ∷ Text statement ∷ Int16s fs ∷ [])) (behind : b5 ≡ b4 ++ counted nullable vs) (last : d ≡ b5 ++ counted int16 rs) (at : base ≡ length old + 1) where
@@ -82,7 +86,7 @@ module _ {F T E B : Type 0} (held : B → List ℕ) (step : F → T → MutBor B
 
         pub bind_written : (r : List ℕ) → All (FitsSigned w16) fs → All (FitsSigned w16) rs → length_cause (length d - base) ≡ None → r ≡ take base d ++ uint32 (length d - base) ++ drop (base + 4) d
             → Appended (BindWhole held step i_into i_next j_into j_next k_into k_next portal statement formats values f result_formats old)
-                (BindReached held step i_into i_next j_into j_next k_into k_next portal statement formats values f result_formats old) old r
+            (BindReached held step i_into i_next j_into j_next k_into k_next portal statement formats values f result_formats old) old r
         bind_written r fs_fit rs_fit fits done = record {
           message = Bind portal statement fs vs rs;
           whole = (fs, came, (vs, served, (rs, results, refl)));

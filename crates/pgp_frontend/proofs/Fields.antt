@@ -30,5 +30,5 @@ pub fields_refused : (fields : List Field) (i : ℕ) (d : Field) (e : Error) →
 fields_refused fields i d e h f k =
     let split : fields ≡ take i fields ++ get_or fields i d ∷ drop (i + 1) fields = sym (take-append-drop i fields) ∙ ap (λ rest. take i fields ++ rest) (drop_more fields i d h) in
     ap (λ all. parts_cause (parts_of all)) split
-        ∙ (ap parts_cause (map-append part_of (take i fields) (get_or fields i d ∷ drop (i + 1) fields))
-        ∙ cause_here (parts_of (take i fields)) (part_of (get_or fields i d)) (parts_of (drop (i + 1) fields)) e f k)
+    ∙ (ap parts_cause (map-append part_of (take i fields) (get_or fields i d ∷ drop (i + 1) fields))
+    ∙ cause_here (parts_of (take i fields)) (part_of (get_or fields i d)) (parts_of (drop (i + 1) fields)) e f k)

@@ -32,14 +32,14 @@ values_fit vs n h =
 pub values_past : (vs : List (Option (List ℕ))) (v : Option (List ℕ)) → length vs ≡ 65535 → first (map nullable_cause vs) ≡ None → part_cause (Values (vs ++ v ∷ [])) ≡ Some TooLarge
 values_past vs v n h =
     either_then (first (map nullable_cause (take 65535 (vs ++ v ∷ [])))) (count_cause (length (vs ++ v ∷ []))) (ap (λ ws. first (map nullable_cause ws)) (take_at vs (v ∷ []) 65535 n) ∙ h)
-        ∙ count_past (length (vs ++ v ∷ [])) (omega (arith, length-append vs (v ∷ [])))
+    ∙ count_past (length (vs ++ v ∷ [])) (omega (arith, length-append vs (v ∷ [])))
 
 -- a value that is too long behind those that fit
 pub values_long : (vs : List (Option (List ℕ))) (v : Option (List ℕ)) (e : Error) → length vs < 65535 → first (map nullable_cause vs) ≡ None → nullable_cause v ≡ Some e → part_cause (Values (vs ++ v ∷ [])) ≡ Some e
 values_long vs v e n h k =
     let all = take_all 65535 (vs ++ v ∷ []) (omega (arith, length-append vs (v ∷ []))) in
     either_first (first (map nullable_cause (take 65535 (vs ++ v ∷ [])))) (count_cause (length (vs ++ v ∷ []))) e
-        (ap (λ ws. first (map nullable_cause ws)) all ∙ (ap first (map-append nullable_cause vs (v ∷ [])) ∙ first_here (map nullable_cause vs) (nullable_cause v) [] e h k))
+    (ap (λ ws. first (map nullable_cause ws)) all ∙ (ap first (map-append nullable_cause vs (v ∷ [])) ∙ first_here (map nullable_cause vs) (nullable_cause v) [] e h k))
 
 module _ {F T E B : Type 0} (held : B → List ℕ) (step : F → T → MutBor B → Result IsNull E → MutBor B → F → Type 0) {U S : Type 0} (into_iter_gives : U → S → Type 0) (next_gives : S → Option T → S → Type 0) (source : U) (f : F) (here : List ℕ) where
   -- a value that was refused behind those that were made
@@ -52,11 +52,14 @@ module _ {F T E B : Type 0} (held : B → List ℕ) (step : F → T → MutBor B
   value_stops xs x vs at u b (Serialization e) came runs few h r =
       let n = Runs-length (Gives held step) nullable here f xs vs at runs in
       let few' : length vs < 65535 = omega (arith, n) in
-      elim r
-        [ inl memory ↦ inl memory
-        | inr long ↦ inr (vs ++ Some long.0 ∷ [],
-            record { before = vs; x = x; at = at; served = record { xs = xs; came = came; runs = runs }; value = Some long.0; are = refl; made = inr (few', (u, long.0, Puts-at _ _ (ap (λ b. b ++ uint32 0) h) long.1, refl)) },
-            values_long vs (Some long.0) e few' (Runs-fit held step here f xs vs at runs) long.2) ]
+      elim r [
+        | inl memory ↦ inl memory
+        | inr long ↦ inr (
+          vs ++ Some long.0 ∷ [],
+          record { before = vs; x = x; at = at; served = record { xs = xs; came = came; runs = runs }; value = Some long.0; are = refl; made = inr (few', (u, long.0, Puts-at _ _ (ap (λ b. b ++ uint32 0) h) long.1, refl)) },
+          values_long vs (Some long.0) e few' (Runs-fit held step here f xs vs at runs) long.2,
+        )
+      ]
 
   -- an item past the count's field
   pub count_stops : (xs : List T) (x : T) (vs : List (Option (List ℕ))) (at : F) → Came into_iter_gives next_gives source xs (Some x) → Runs (Gives held step) nullable here f xs vs at → length xs ≡ 65535
@@ -64,6 +67,8 @@ module _ {F T E B : Type 0} (held : B → List ℕ) (step : F → T → MutBor B
   count_stops xs x vs at came runs n =
       let k = Runs-length (Gives held step) nullable here f xs vs at runs in
       let full : length vs ≡ 65535 = sym k ∙ n in
-      inr (vs ++ None ∷ [],
+      inr (
+        vs ++ None ∷ [],
         record { before = vs; x = x; at = at; served = record { xs = xs; came = came; runs = runs }; value = None; are = refl; made = inl full },
-        values_past vs None full (Runs-fit held step here f xs vs at runs))
+        values_past vs None full (Runs-fit held step here f xs vs at runs),
+      )

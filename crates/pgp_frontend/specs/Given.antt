@@ -51,7 +51,7 @@ module _ {U S : Type 0} (into_iter_gives : U → S → Type 0) (next_gives : S �
 
   abbrev pub ParseReached : List Part → Type 0
   ParseReached ps = (ps ≡ Text name ∷ Text query ∷ [])
-    ⊎ ((types : List ℕ) × Begun into_iter_gives next_gives param_types types × (ps ≡ Text name ∷ Text query ∷ Oids types ∷ []))
+      ⊎ ((types : List ℕ) × Begun into_iter_gives next_gives param_types types × (ps ≡ Text name ∷ Text query ∷ Oids types ∷ []))
 
 -- the bytes of a name and a value
 abbrev pub shown : Bor (List ℕ) × Bor (List ℕ) → List ℕ × List ℕ
@@ -115,23 +115,23 @@ module _ {F T E B : Type 0} (held : B → List ℕ) (step : F → T → MutBor B
     (portal statement : List ℕ) (formats : UI) (values : UJ) (f : F) (result_formats : UK) (old : List ℕ) where
   abbrev pub BindWhole : ClientMessage → Type 0
   BindWhole m = (fs : List ℤ) × Came i_into i_next formats fs None
-    × ((vs : List (Option (List ℕ))) × Served held step j_into j_next values f (before_values old portal statement fs) vs
-    × ((rs : List ℤ) × Came k_into k_next result_formats rs None × (m ≡ Bind portal statement fs vs rs)))
+      × ((vs : List (Option (List ℕ))) × Served held step j_into j_next values f (before_values old portal statement fs) vs
+      × ((rs : List ℤ) × Came k_into k_next result_formats rs None × (m ≡ Bind portal statement fs vs rs)))
 
   abbrev pub BindReached : List Part → Type 0
   BindReached ps = (ps ≡ Text portal ∷ Text statement ∷ [])
-    ⊎ (((fs : List ℤ) × Begun i_into i_next formats fs × (ps ≡ Text portal ∷ Text statement ∷ Int16s fs ∷ []))
-    ⊎ (((fs : List ℤ) × Came i_into i_next formats fs None
+      ⊎ (((fs : List ℤ) × Begun i_into i_next formats fs × (ps ≡ Text portal ∷ Text statement ∷ Int16s fs ∷ []))
+      ⊎ (((fs : List ℤ) × Came i_into i_next formats fs None
       × ((vs : List (Option (List ℕ))) × ValuesBegun held step j_into j_next values f (before_values old portal statement fs) vs
       × (ps ≡ Text portal ∷ Text statement ∷ Int16s fs ∷ Values vs ∷ [])))
-    ⊎ ((fs : List ℤ) × Came i_into i_next formats fs None
+      ⊎ ((fs : List ℤ) × Came i_into i_next formats fs None
       × ((vs : List (Option (List ℕ))) × Served held step j_into j_next values f (before_values old portal statement fs) vs
       × ((rs : List ℤ) × Begun k_into k_next result_formats rs × (ps ≡ Text portal ∷ Text statement ∷ Int16s fs ∷ Values vs ∷ Int16s rs ∷ []))))))
 
   -- the parts before the values have no cause, and the serializer refused with e
   abbrev pub BindConverts : E → Type 0
   BindConverts e = (fs : List ℤ) × Came i_into i_next formats fs None × (parts_cause (Text portal ∷ Text statement ∷ Int16s fs ∷ []) ≡ None)
-    × Converts held step j_into j_next values f (before_values old portal statement fs) e
+      × Converts held step j_into j_next values f (before_values old portal statement fs) e
 
   -- why the call was refused: by the serializer, or as any writer
   abbrev pub BindRefused : BindError E → Type 0

@@ -14,10 +14,18 @@ pub fn password_message<B: Buffer>(password: &[u8], buf: &mut B) -> Result<(), E
 }
 
 /// The first message of a SASL exchange.
-pub fn sasl_initial_response<B: Buffer>(mechanism: &str, data: &[u8], buf: &mut B) -> Result<(), Error>
+pub fn sasl_initial_response<B: Buffer>(
+    mechanism: &str,
+    data: &[u8],
+    buf: &mut B,
+) -> Result<(), Error>
     ensures { WritesMessage (SaslInitialResponse mechanism.now «data».now) (B.bytes buf.old) (B.bytes buf.new) result }
 {
-    message(b'p', &[Field::Text(mechanism.as_bytes()), Field::Sized(data)], buf)
+    message(
+        b'p',
+        &[Field::Text(mechanism.as_bytes()), Field::Sized(data)],
+        buf,
+    )
 }
 
 /// A later message of a SASL exchange.

@@ -75,11 +75,7 @@ pub fn put_values<
     E: Drop,
     J: IntoIterator<Item = T> + Drop,
     F: FnMut(T, &mut B) -> Result<IsNull, E> + Drop,
->(
-    values: J,
-    mut serializer: F,
-    buf: &mut B,
-) -> Result<(), BindError<E>>
+>(values: J, mut serializer: F, buf: &mut B) -> Result<(), BindError<E>>
 where
     J::IntoIter: Drop,
     requires ends { IsFiniteIterable J.into_iter_gives J.IntoIter.can_next J.IntoIter.remaining values }

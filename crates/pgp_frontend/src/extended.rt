@@ -17,21 +17,33 @@ use pgp_base::{BindError, Buffer, Error, IsNull, Oid, finish_body, put_u8, put_u
 pub fn close<B: Buffer>(variant: u8, name: &str, buf: &mut B) -> Result<(), Error>
     ensures { WritesMessage (Close variant name.now) (B.bytes buf.old) (B.bytes buf.new) result }
 {
-    message(b'C', &[Field::Byte(variant), Field::Text(name.as_bytes())], buf)
+    message(
+        b'C',
+        &[Field::Byte(variant), Field::Text(name.as_bytes())],
+        buf,
+    )
 }
 
 /// Asks what a statement (`S`) or a portal (`P`) gives. The variant may be any byte.
 pub fn describe<B: Buffer>(variant: u8, name: &str, buf: &mut B) -> Result<(), Error>
     ensures { WritesMessage (Describe variant name.now) (B.bytes buf.old) (B.bytes buf.new) result }
 {
-    message(b'D', &[Field::Byte(variant), Field::Text(name.as_bytes())], buf)
+    message(
+        b'D',
+        &[Field::Byte(variant), Field::Text(name.as_bytes())],
+        buf,
+    )
 }
 
 /// Runs a portal, for at most so many rows; 0 is no limit.
 pub fn execute<B: Buffer>(portal: &str, max_rows: i32, buf: &mut B) -> Result<(), Error>
     ensures { WritesMessage (Execute portal.now max_rows) (B.bytes buf.old) (B.bytes buf.new) result }
 {
-    message(b'E', &[Field::Text(portal.as_bytes()), Field::Int32(max_rows)], buf)
+    message(
+        b'E',
+        &[Field::Text(portal.as_bytes()), Field::Int32(max_rows)],
+        buf,
+    )
 }
 
 /// Asks for what the server holds back.
@@ -163,13 +175,13 @@ where
     requires owes { OwesValues B.bytes F.pre F.step }
     ensures ok { OnOk result (Appended
         (BindWhole B.bytes F.step I.into_iter_gives I.IntoIter.next_gives J.into_iter_gives J.IntoIter.next_gives K.into_iter_gives K.IntoIter.next_gives
-            portal.now statement.now formats values serializer result_formats (B.bytes buf.old))
+        portal.now statement.now formats values serializer result_formats (B.bytes buf.old))
         (BindReached B.bytes F.step I.into_iter_gives I.IntoIter.next_gives J.into_iter_gives J.IntoIter.next_gives K.into_iter_gives K.IntoIter.next_gives
-            portal.now statement.now formats values serializer result_formats (B.bytes buf.old))
+        portal.now statement.now formats values serializer result_formats (B.bytes buf.old))
         (B.bytes buf.old) (B.bytes buf.new)) }
     ensures err { OnErr result (IsFrontOf (B.bytes buf.old) (B.bytes buf.new)) }
     ensures cause { IfErr result (BindRefused B.bytes F.step I.into_iter_gives I.IntoIter.next_gives J.into_iter_gives J.IntoIter.next_gives K.into_iter_gives K.IntoIter.next_gives
-            portal.now statement.now formats values serializer result_formats (B.bytes buf.old)) }
+        portal.now statement.now formats values serializer result_formats (B.bytes buf.old)) }
 {
     let base = buf.len() + 1;
     fill_formats(portal, statement, formats, buf)?;
@@ -210,7 +222,7 @@ where
     requires callable { F.IsAlwaysCallable serializer }
     requires owes { OwesValues B.bytes F.pre F.step }
     ensures { WritesBind B.bytes F.step I.into_iter_gives I.IntoIter.next_gives J.into_iter_gives J.IntoIter.next_gives K.into_iter_gives K.IntoIter.next_gives
-            portal.now statement.now formats values serializer result_formats (B.bytes buf.old) (B.bytes buf.new) result }
+        portal.now statement.now formats values serializer result_formats (B.bytes buf.old) (B.bytes buf.new) result }
 {
     let start = buf.len();
     match fill_bind(

@@ -12,7 +12,9 @@ use crate::field::{Field, packet, put_int32};
 use pgp_base::{Buffer, Error, finish_body, put_u8, put_u32, write_cstr};
 
 const VERSION_3_0: i32 = 196_608;
+
 const CANCEL_REQUEST: i32 = 80_877_102;
+
 const SSL_REQUEST: i32 = 80_877_103;
 
 /// Asks for the end of what another session runs.

@@ -9,17 +9,19 @@ use Rattle.pgp_frontend.proofs.extended.fill_formats.Goals as goal
 pub returns-in_err-put_fields-clause-cause : goal.returns-in_err-put_fields-clause-cause
 returns-in_err-put_fields-clause-cause g c =
     if_err_at _ _ _ c.from_residual-in_err-put_fields.ensures.1
-        (elim c.in_err-put_fields.ensures.cause
-            [ inl memory ↦ inl memory
-            | inr refused ↦ inr (inl (two_texts (λ ps. parts_cause ps ≡ Some c.in_err-put_fields.field-0.0) _ c.args.portal.now _ c.args.statement.now c.as_bytes.ensures.value c.as_bytes-2.ensures.value refused)) ])
+    (elim c.in_err-put_fields.ensures.cause [
+      | inl memory ↦ inl memory
+      | inr refused ↦ inr (inl (two_texts (λ ps. parts_cause ps ≡ Some c.in_err-put_fields.field-0.0) _ c.args.portal.now _ c.args.statement.now c.as_bytes.ensures.value c.as_bytes-2.ensures.value refused))
+    ])
 
 pub returns-in_err-put_int16s-clause-cause : goal.returns-in_err-put_int16s-clause-cause
 returns-in_err-put_int16s-clause-cause g c =
     let none = two_texts (λ ps. parts_cause ps ≡ None) _ c.args.portal.now _ c.args.statement.now c.as_bytes.ensures.value c.as_bytes-2.ensures.value c.in_ok-put_fields.ensures.ok.0 in
     if_err_at _ _ _ c.from_residual-in_err-put_int16s.ensures.1
-        (elim c.in_err-put_int16s.ensures.cause
-            [ inl memory ↦ inl memory
-            | inr past ↦ inr (inr (past.0, past.1, cause_here (Text c.args.portal.now ∷ Text c.args.statement.now ∷ []) (Int16s past.0) [] _ none past.2)) ])
+    (elim c.in_err-put_int16s.ensures.cause [
+      | inl memory ↦ inl memory
+      | inr past ↦ inr (inr (past.0, past.1, cause_here (Text c.args.portal.now ∷ Text c.args.statement.now ∷ []) (Int16s past.0) [] _ none past.2))
+    ])
 
 pub returns-clause-ok : goal.returns-clause-ok
 returns-clause-ok g c =

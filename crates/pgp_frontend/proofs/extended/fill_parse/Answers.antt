@@ -10,17 +10,19 @@ use Rattle.pgp_frontend.proofs.extended.fill_parse.Goals as goal
 pub returns-in_err-put_fields-clause-cause : goal.returns-in_err-put_fields-clause-cause
 returns-in_err-put_fields-clause-cause g c =
     if_err_at _ _ _ c.from_residual-in_err-put_fields.ensures.1
-        (elim c.in_err-put_fields.ensures.cause
-            [ inl memory ↦ inl memory
-            | inr refused ↦ inr (inl (_, inl refl, two_texts (λ ps. parts_cause ps ≡ Some c.in_err-put_fields.field-0.0) _ c.args.name.now _ c.args.query.now c.as_bytes.ensures.value c.as_bytes-2.ensures.value refused)) ])
+    (elim c.in_err-put_fields.ensures.cause [
+      | inl memory ↦ inl memory
+      | inr refused ↦ inr (inl (_, inl refl, two_texts (λ ps. parts_cause ps ≡ Some c.in_err-put_fields.field-0.0) _ c.args.name.now _ c.args.query.now c.as_bytes.ensures.value c.as_bytes-2.ensures.value refused))
+    ])
 
 pub returns-in_err-put_oids-clause-cause : goal.returns-in_err-put_oids-clause-cause
 returns-in_err-put_oids-clause-cause g c =
     let none = two_texts (λ ps. parts_cause ps ≡ None) _ c.args.name.now _ c.args.query.now c.as_bytes.ensures.value c.as_bytes-2.ensures.value c.in_ok-put_fields.ensures.ok.0 in
     if_err_at _ _ _ c.from_residual-in_err-put_oids.ensures.1
-        (elim c.in_err-put_oids.ensures.cause
-            [ inl memory ↦ inl memory
-            | inr past ↦ inr (inl (_, inr (past.0, past.1, refl), cause_here (Text c.args.name.now ∷ Text c.args.query.now ∷ []) (Oids past.0) [] _ none past.2)) ])
+    (elim c.in_err-put_oids.ensures.cause [
+      | inl memory ↦ inl memory
+      | inr past ↦ inr (inl (_, inr (past.0, past.1, refl), cause_here (Text c.args.name.now ∷ Text c.args.query.now ∷ []) (Oids past.0) [] _ none past.2))
+    ])
 
 pub finish_body-requires : goal.finish_body-requires
 finish_body-requires g c =
@@ -37,7 +39,7 @@ returns-in_err-finish_body-clause-cause g c =
     let all = part_more texts (Oids k.0) _ _ _ held k.4 in
     let clean = cause_more texts (Oids k.0) none k.3 in
     if_err_at _ _ _ c.from_residual-in_err-finish_body.ensures.1
-        (inr (inr (Parse c.args.name.now c.args.query.now k.0, (k.0, k.1, refl), frame_passes (texts ++ Oids k.0 ∷ []) (g.B.Buffer.bytes c.put_u8.new.buf) _ _ _ c.in_ok-put_u32.ensures.ok all c.len-base.ensures.value _ clean c.in_err-finish_body.ensures.cause)))
+    (inr (inr (Parse c.args.name.now c.args.query.now k.0, (k.0, k.1, refl), frame_passes (texts ++ Oids k.0 ∷ []) (g.B.Buffer.bytes c.put_u8.new.buf) _ _ _ c.in_ok-put_u32.ensures.ok all c.len-base.ensures.value _ clean c.in_err-finish_body.ensures.cause)))
 
 pub returns-clause-ok : goal.returns-clause-ok
 returns-clause-ok g c =

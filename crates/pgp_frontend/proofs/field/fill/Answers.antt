@@ -11,17 +11,18 @@ finish_body-requires g c =
 pub returns-clause-ok : goal.returns-clause-ok
 returns-clause-ok g c =
     let k = c.in_ok-put_fields.ensures.ok in
-    let w = c.in_ok-finish_body.ensures in
-    (frame_fits (parts_of c.args.fields.now) (g.B.Buffer.bytes c.args.buf.now) _ _ _ c.in_ok-put_u32.ensures.ok k.1 c.len-base.ensures.value k.0 w.fits,
-     frame_done (parts_of c.args.fields.now) (g.B.Buffer.bytes c.args.buf.now) _ _ _ c.in_ok-put_u32.ensures.ok k.1 c.len-base.ensures.value _ w.ok)
+    let w = c.in_ok-finish_body.ensures in (
+      frame_fits (parts_of c.args.fields.now) (g.B.Buffer.bytes c.args.buf.now) _ _ _ c.in_ok-put_u32.ensures.ok k.1 c.len-base.ensures.value k.0 w.fits,
+      frame_done (parts_of c.args.fields.now) (g.B.Buffer.bytes c.args.buf.now) _ _ _ c.in_ok-put_u32.ensures.ok k.1 c.len-base.ensures.value _ w.ok,
+    )
 
 pub returns-in_err-put_fields-clause-cause : goal.returns-in_err-put_fields-clause-cause
 returns-in_err-put_fields-clause-cause g c =
     if_err_at _ _ _ c.from_residual-in_err-put_fields.ensures.1
-        (elim c.in_err-put_fields.ensures.cause [ inl memory ↦ inl memory | inr refused ↦ inr (frame_refused (parts_of c.args.fields.now) _ refused) ])
+    (elim c.in_err-put_fields.ensures.cause [ inl memory ↦ inl memory | inr refused ↦ inr (frame_refused (parts_of c.args.fields.now) _ refused) ])
 
 pub returns-in_err-finish_body-clause-cause : goal.returns-in_err-finish_body-clause-cause
 returns-in_err-finish_body-clause-cause g c =
     let k = c.in_ok-put_fields.ensures.ok in
     if_err_at _ _ _ c.from_residual-in_err-finish_body.ensures.1
-        (inr (frame_passes (parts_of c.args.fields.now) (g.B.Buffer.bytes c.args.buf.now) _ _ _ c.in_ok-put_u32.ensures.ok k.1 c.len-base.ensures.value _ k.0 c.in_err-finish_body.ensures.cause))
+    (inr (frame_passes (parts_of c.args.fields.now) (g.B.Buffer.bytes c.args.buf.now) _ _ _ c.in_ok-put_u32.ensures.ok k.1 c.len-base.ensures.value _ k.0 c.in_err-finish_body.ensures.cause))

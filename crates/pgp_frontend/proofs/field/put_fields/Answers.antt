@@ -6,9 +6,10 @@ use Rattle.pgp_frontend.proofs.field.put_fields.Goals as goal
 pub returns-in_err-put_field-clause-cause : goal.returns-in_err-put_field-clause-cause
 returns-in_err-put_field-clause-cause g c =
     if_err_at c.from_residual.result _ _ c.from_residual.ensures.1
-        (elim c.in_err-put_field.ensures.cause
-            [ inl memory ↦ inl memory
-            | inr refused ↦ inr (fields_refused c.args.fields.now c.loop-field.field-index _ _ (search rules) c.loop-field.invariant.0 refused) ])
+    (elim c.in_err-put_field.ensures.cause [
+      | inl memory ↦ inl memory
+      | inr refused ↦ inr (fields_refused c.args.fields.now c.loop-field.field-index _ _ (search rules) c.loop-field.invariant.0 refused)
+    ])
 
 pub loop-field-preserved : goal.loop-field-preserved
 loop-field-preserved g c =

@@ -15,9 +15,10 @@ use Rattle.pgp_frontend.proofs.startup.fill_startup.Goals as goal
 pub returns-in_err-put_pairs-clause-cause : goal.returns-in_err-put_pairs-clause-cause
 returns-in_err-put_pairs-clause-cause g c =
     if_err_at _ _ _ c.from_residual-in_err-put_pairs.ensures.1
-        (elim c.in_err-put_pairs.ensures.cause
-            [ inl memory ↦ inl memory
-            | inr refused ↦ inr (inl (_, (refused.0, refused.1, refl), cause_here (Int32 (pos 196608) ∷ []) (Pairs (map shown refused.0)) [] _ refl refused.2)) ])
+    (elim c.in_err-put_pairs.ensures.cause [
+      | inl memory ↦ inl memory
+      | inr refused ↦ inr (inl (_, (refused.0, refused.1, refl), cause_here (Int32 (pos 196608) ∷ []) (Pairs (map shown refused.0)) [] _ refl refused.2))
+    ])
 
 pub finish_body-requires : goal.finish_body-requires
 finish_body-requires g c =
@@ -31,7 +32,7 @@ returns-in_err-finish_body-clause-cause g c =
     let all = part_more (Int32 (pos 196608) ∷ []) (Pairs (map shown k.0)) _ _ _ (first_part (Int32 (pos 196608)) _ _ c.in_ok-put_int32.ensures.ok) k.3 in
     let clean = cause_more (Int32 (pos 196608) ∷ []) (Pairs (map shown k.0)) refl k.2 in
     if_err_at _ _ _ c.from_residual-in_err-finish_body.ensures.1
-        (inr (inr (Startup (map shown k.0), (k.0, k.1, refl), frame_passes (Int32 (pos 196608) ∷ Pairs (map shown k.0) ∷ []) (g.B.Buffer.bytes c.args.buf.now) _ _ _ c.in_ok-put_u32.ensures.ok all c.len-base.ensures.value _ clean c.in_err-finish_body.ensures.cause)))
+    (inr (inr (Startup (map shown k.0), (k.0, k.1, refl), frame_passes (Int32 (pos 196608) ∷ Pairs (map shown k.0) ∷ []) (g.B.Buffer.bytes c.args.buf.now) _ _ _ c.in_ok-put_u32.ensures.ok all c.len-base.ensures.value _ clean c.in_err-finish_body.ensures.cause)))
 
 pub returns-clause-ok : goal.returns-clause-ok
 returns-clause-ok g c =

@@ -7,9 +7,10 @@ pub returns-in_err-write_cstr-clause-cause : goal.returns-in_err-write_cstr-clau
 returns-in_err-write_cstr-clause-cause g c =
     let i = c.loop-name.invariant in
     if_err_at _ _ _ c.from_residual.ensures.1
-        (elim c.in_err-write_cstr.ensures.0
-            [ inl memory ↦ inl memory
-            | inr refused ↦ inr (_, record { before = c.loop-name.yielded; last = (c.in-Some.name, c.in-Some.value); came = search rules; are = refl }, name_refused c.loop-name.yielded c.in-Some.name c.in-Some.value _ _ c.as_bytes.ensures.value refl _ i.0 refused) ])
+    (elim c.in_err-write_cstr.ensures.0 [
+      | inl memory ↦ inl memory
+      | inr refused ↦ inr (_, record { before = c.loop-name.yielded; last = (c.in-Some.name, c.in-Some.value); came = search rules; are = refl }, name_refused c.loop-name.yielded c.in-Some.name c.in-Some.value _ _ c.as_bytes.ensures.value refl _ i.0 refused)
+    ])
 
 pub loop-name-preserved : goal.loop-name-preserved
 loop-name-preserved g c =
@@ -22,6 +23,7 @@ pub returns-in_err-write_cstr-2-clause-cause : goal.returns-in_err-write_cstr-2-
 returns-in_err-write_cstr-2-clause-cause g c =
     let i = c.loop-name.invariant in
     if_err_at _ _ _ c.from_residual-in_err-write_cstr-2.ensures.1
-        (elim c.in_err-write_cstr-2.ensures.0
-            [ inl memory ↦ inl memory
-            | inr refused ↦ inr (_, record { before = c.loop-name.yielded; last = (c.in-Some.name, c.in-Some.value); came = search rules; are = refl }, value_refused c.loop-name.yielded c.in-Some.name c.in-Some.value _ _ c.as_bytes.ensures.value c.as_bytes-in-loop-name.ensures.value _ i.0 c.in_ok-write_cstr.ensures.0 refused) ])
+    (elim c.in_err-write_cstr-2.ensures.0 [
+      | inl memory ↦ inl memory
+      | inr refused ↦ inr (_, record { before = c.loop-name.yielded; last = (c.in-Some.name, c.in-Some.value); came = search rules; are = refl }, value_refused c.loop-name.yielded c.in-Some.name c.in-Some.value _ _ c.as_bytes.ensures.value c.as_bytes-in-loop-name.ensures.value _ i.0 c.in_ok-write_cstr.ensures.0 refused)
+    ])
