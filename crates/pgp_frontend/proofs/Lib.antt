@@ -2,5 +2,6 @@ pub mod BindLemmas
 pub mod Fields
 pub mod Frames
 pub mod PairLemmas
+pub mod Shapes
 pub mod Texts
 pub mod ValueLemmas

@@ -1,0 +1,46 @@
+-- What a server that knows only the grammar makes of parts and payloads.
+use Rattle.std.specs.Prelude.{◌≡◌, ◌≢◌, ℕ, List, [], ◌∷◌, Option, None, All}
+use Rattle.pgp_frontend.specs.ClientMessage.{ClientMessage}
+use Rattle.pgp_frontend.specs.Payload.{Part, Byte, Int32, Text, Int16s, Oids, Values, Sized, Rest, Pairs, InRange, part_cause, parts}
+
+-- which part of the grammar it is, without what it holds
+pub data Shape : Type 0 where
+  AByte : Shape
+  AnInt32 : Shape
+  AText : Shape
+  SomeInt16s : Shape
+  SomeOids : Shape
+  SomeValues : Shape
+  ASized : Shape
+  AllBytes : Shape
+  SomePairs : Shape
+
+abbrev pub shape : Part → Shape
+shape (Byte n) = AByte
+shape (Int32 z) = AnInt32
+shape (Text z) = AText
+shape (Int16s zs) = SomeInt16s
+shape (Oids ns) = SomeOids
+shape (Values vs) = SomeValues
+shape (Sized z) = ASized
+shape (Rest z) = AllBytes
+shape (Pairs ps) = SomePairs
+
+-- in the grammar a name isn't empty, since a 0 byte ends the pairs
+abbrev pub IsNamed : Part → Type 0
+IsNamed (Pairs ps) = All (λ p. p.0 ≢ []) ps
+IsNamed _ = Unit {0}
+
+-- the part has a spelling that the grammar reads
+pub record HasSpelling (p : Part) : Type 0 where
+  pub none : part_cause p ≡ None
+  pub in_range : InRange p
+  pub named : IsNamed p
+
+abbrev pub EachHasSpelling : List Part → Type 0
+EachHasSpelling [] = Unit {0}
+EachHasSpelling (p ∷ ps) = HasSpelling p × EachHasSpelling ps
+
+-- the message's parts have spellings
+abbrev pub IsSpelled : ClientMessage → Type 0
+IsSpelled m = EachHasSpelling (parts m)
