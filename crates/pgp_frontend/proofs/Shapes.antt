@@ -10,14 +10,15 @@ use Rattle.pgp_base.specs.Reading.{BeginsNoOther}
 use Rattle.pgp_base.proofs.Causes.{either_left, either_right, counts_of}
 use Rattle.pgp_base.proofs.Prefixes.{int16_begins, int32_begins, uint32_begins, text_begins, nullable_begins, counted_begins}
 use Rattle.pgp_frontend.specs.Payload.{Part, Byte, Int32, Text, Int16s, Oids, Values, Sized, Rest, Pairs, spelling, part_cause, pair, pair_cause, joined}
-use Rattle.pgp_frontend.specs.Reading.{Shape, AByte, AnInt32, AText, SomeInt16s, SomeOids, SomeValues, ASized, AllBytes, SomePairs, shape, HasSpelling, EachHasSpelling}
+use Rattle.pgp_frontend.specs.Reading.{Shape, AByte, AnInt32, AText, SomeInt16s, SomeOids, SomeValues, ASized, AllBytes, SomePairs, shape, HasSpelling}
 
 -- each of what has no first cause has none
 firsts : (vs : List (Option (List ℕ))) → first (map nullable_cause vs) ≡ None → All (λ v. nullable_cause v ≡ None) vs
 firsts [] h = λ k d l. absurd (omega (arith, l))
-firsts (v ∷ vs) h = λ k d l. elim k as (λ k. k < length (v ∷ vs) → nullable_cause (slice_index_or (v ∷ vs) k d) ≡ None)
-    [ zero ↦ λ l. either_left (nullable_cause v) (first (map nullable_cause vs)) h
-    | suc j ↦ λ l. firsts vs (either_right (nullable_cause v) (first (map nullable_cause vs)) h) j d (omega (arith, l)) ] l
+firsts (v ∷ vs) h = λ k d l. elim k as (λ k. k < length (v ∷ vs) → nullable_cause (slice_index_or (v ∷ vs) k d) ≡ None) [
+  | zero ↦ λ l. either_left (nullable_cause v) (first (map nullable_cause vs)) h
+  | suc j ↦ λ l. firsts vs (either_right (nullable_cause v) (first (map nullable_cause vs)) h) j d (omega (arith, l))
+] l
 
 values_none : (vs : List (Option (List ℕ))) → part_cause (Values vs) ≡ None → All (λ v. nullable_cause v ≡ None) vs × (count_cause (length vs) ≡ None)
 values_none vs h =

@@ -2,14 +2,13 @@
 -- PostgreSQL manual, "Message Formats": StartupMessage, CancelRequest, SSLRequest.
 use Rattle.std.specs.Prelude.{◌≡◌, ℕ, List, None}
 use Rattle.pgp_frontend.specs.ClientMessage.{ClientMessage, Startup}
-use Rattle.pgp_frontend.specs.Payload.{tag_of, cause, bytes_of}
+use Rattle.pgp_frontend.specs.Payload.{tag_of, bytes_of}
 use Rattle.pgp_frontend.specs.Reading.{IsSpelled}
 
--- the bytes are this opening packet, and no name in it is empty
+-- the bytes are this opening packet; no name in it is empty
 pub record Opening (m : ClientMessage) (bytes : List ℕ) : Type 0 where
   pub untagged : tag_of m ≡ None
   pub spelled : IsSpelled m
-  pub none : cause m ≡ None
   pub are : bytes ≡ bytes_of m
 
 -- a startup packet as it is written for any names, empty ones too

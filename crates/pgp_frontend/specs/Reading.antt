@@ -1,7 +1,7 @@
 -- What a server that knows only the grammar makes of parts and payloads.
 use Rattle.std.specs.Prelude.{◌≡◌, ◌≢◌, ℕ, List, [], ◌∷◌, Option, None, All}
-use Rattle.pgp_frontend.specs.ClientMessage.{ClientMessage}
-use Rattle.pgp_frontend.specs.Payload.{Part, Byte, Int32, Text, Int16s, Oids, Values, Sized, Rest, Pairs, InRange, part_cause, parts}
+use Rattle.pgp_frontend.specs.ClientMessage.{ClientMessage, Startup}
+use Rattle.pgp_frontend.specs.Payload.{Part, Byte, Int32, Text, Int16s, Oids, Values, Sized, Rest, Pairs, InRange, IsInRange, part_cause, cause}
 
 -- which part of the grammar it is, without what it holds
 pub data Shape : Type 0 where
@@ -27,20 +27,22 @@ shape (Rest z) = AllBytes
 shape (Pairs ps) = SomePairs
 
 -- in the grammar a name isn't empty, since a 0 byte ends the pairs
-abbrev pub IsNamed : Part → Type 0
-IsNamed (Pairs ps) = All (λ p. p.0 ≢ []) ps
-IsNamed _ = Unit {0}
+abbrev pub HasNames : Part → Type 0
+HasNames (Pairs ps) = All (λ p. p.0 ≢ []) ps
+HasNames _ = Unit {0}
 
 -- the part has a spelling that the grammar reads
 pub record HasSpelling (p : Part) : Type 0 where
   pub none : part_cause p ≡ None
   pub in_range : InRange p
-  pub named : IsNamed p
+  pub named : HasNames p
 
-abbrev pub EachHasSpelling : List Part → Type 0
-EachHasSpelling [] = Unit {0}
-EachHasSpelling (p ∷ ps) = HasSpelling p × EachHasSpelling ps
+abbrev pub IsNamed : ClientMessage → Type 0
+IsNamed (Startup parameters) = All (λ p. p.0 ≢ []) parameters
+IsNamed _ = Unit {0}
 
--- the message's parts have spellings
-abbrev pub IsSpelled : ClientMessage → Type 0
-IsSpelled m = EachHasSpelling (parts m)
+-- the message has a spelling that the grammar reads
+pub record IsSpelled (m : ClientMessage) : Type 0 where
+  pub none : cause m ≡ None
+  pub in_range : IsInRange m
+  pub named : IsNamed m

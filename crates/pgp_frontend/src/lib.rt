@@ -6,6 +6,7 @@ mod copy;
 mod counted;
 mod extended;
 mod field;
+pub mod laws;
 mod simple;
 mod startup;
 
