@@ -3,7 +3,7 @@
 //! A refused `write_` function leaves the buffer's bytes. A refused `put_` function, a step of a
 //! writer, leaves them as a front of what stands there then, and the writer cuts back.
 
-ghost use Rattle.std.specs.Prelude.{◌≡◌, ℕ, ◌+◌, ◌-◌, ◌<◌, ◌≤◌, ◌^◌, ◌⊎◌, List, [], ◌∷◌, ◌++◌, length, take, drop, Option, Some, None, Ok, OnOk, OnErr, IfErr};
+ghost use Rattle.std.specs.Prelude.{◌≡◌, ℕ, ◌+◌, ◌-◌, ◌<◌, ◌≤◌, ◌^◌, ◌⊎◌, List, [], ◌∷◌, ◌++◌, length, take, drop, Option, Some, None, Ok, OnOk, OnErr, IfOk, IfErr};
 ghost use Rattle.std.specs.Iterator.{IsFiniteIterable};
 ghost use Rattle.pgp_base.specs.Wire.{uint16, uint32, text, nullable};
 ghost use Rattle.pgp_base.specs.Cause.{text_cause, length_cause, nullable_cause, Writes};
@@ -133,8 +133,19 @@ fn give_by<B: Buffer, T, E, F: FnMut(T, &mut B) -> Result<IsNull, E>>(
     f(x, buf)
 }
 
-/// Fills the length's place, at `base`, of a part that counts itself; `TooLarge` past the field.
+/// The number as a length's field holds it; `TooLarge` past the greatest `i32`.
 #[tactic(auto, using(crate::proofs::Causes::length_fits, crate::proofs::Causes::length_past))]
+pub fn length_field(size: usize) -> Result<u32, Error>
+    ensures value { IfOk result (λ n. (n ≡ size) × (length_cause size ≡ None)) }
+    ensures cause { IfErr result (λ e. length_cause size ≡ Some e) }
+{
+    if size > 0x7fff_ffff {
+        return Err(Error::TooLarge);
+    }
+    Ok(size as u32)
+}
+
+/// Fills the length's place, at `base`, of a part that counts itself; `TooLarge` past the field.
 pub fn finish_body<B: Buffer>(buf: &mut B, base: usize) -> Result<(), Error>
     requires { base + 4 ≤ length (B.bytes buf.old) }
     ensures ok { OnOk result (B.bytes buf.new
@@ -143,16 +154,12 @@ pub fn finish_body<B: Buffer>(buf: &mut B, base: usize) -> Result<(), Error>
     ensures err { OnErr result (B.bytes buf.new ≡ B.bytes buf.old) }
     ensures cause { IfErr result (λ e. length_cause (length (B.bytes buf.old) - base) ≡ Some e) }
 {
-    let size = buf.len() - base;
-    if size >= 0x8000_0000 {
-        return Err(Error::TooLarge);
-    }
-    patch_u32(buf, base, size as u32);
+    let size = length_field(buf.len() - base)?;
+    patch_u32(buf, base, size);
     Ok(())
 }
 
 // Fills the length's place, at `base`, of a value that ends the buffer, or writes a null there.
-#[tactic(auto, using(crate::proofs::Causes::length_fits, crate::proofs::Causes::length_past, crate::proofs::Parts::null_spelled))]
 fn finish_value<B: Buffer>(buf: &mut B, base: usize, null: IsNull) -> Result<(), Error>
     requires room { base + 4 ≤ length (B.bytes buf.old) }
     requires none { null ≡ IsNull.Yes → length (B.bytes buf.old) ≡ base + 4 }
@@ -169,11 +176,8 @@ fn finish_value<B: Buffer>(buf: &mut B, base: usize, null: IsNull) -> Result<(),
             Ok(())
         }
         IsNull::No => {
-            let size = buf.len() - base - 4;
-            if size >= 0x8000_0000 {
-                return Err(Error::TooLarge);
-            }
-            patch_u32(buf, base, size as u32);
+            let size = length_field(buf.len() - base - 4)?;
+            patch_u32(buf, base, size);
             Ok(())
         }
     }

@@ -1,16 +1,14 @@
-//! Counts, and the numbers and values that come from an iterator. A refusal leaves what stood there as
-//! a front.
+//! Counts, and the numbers that come from an iterator. A refusal leaves what stood there as a front.
 
 ghost use Rattle.std.specs.Prelude.{◌≡◌, ℕ, ℤ, ◌^◌, ◌<◌, ◌⊎◌, List, ◌++◌, length, Option, Some, None, OnOk, OnErr, IfErr, All, FitsSigned};
 ghost use Rattle.std.specs.Int.{w16};
 ghost use Rattle.std.specs.Iterator.{IsFiniteIterable};
-ghost use Rattle.pgp_base.specs.Wire.{int16, uint16, oid, counted, nullable};
+ghost use Rattle.pgp_base.specs.Wire.{int16, oid, counted};
 ghost use Rattle.pgp_base.specs.Cause.{count_cause};
-ghost use Rattle.pgp_base.specs.Calls.{IsFrontOf, Came, OwesValues};
-ghost use Rattle.pgp_frontend.specs.Given.{Begun, Served, ValuesRefused};
-ghost use Rattle.pgp_frontend.specs.Payload.{Values, part_cause};
+ghost use Rattle.pgp_base.specs.Calls.{IsFrontOf, Came};
+ghost use Rattle.pgp_frontend.specs.Given.{Begun};
 
-use pgp_base::{BindError, Buffer, Error, IsNull, Oid, patch_u16, put_u16, put_u32, put_value};
+use pgp_base::{Buffer, Error, Oid, patch_u16, put_u16, put_u32};
 
 /// Appends how many identifiers there are, and each.
 pub fn put_oids<B: Buffer, I: IntoIterator<Item = Oid> + Drop>(
@@ -62,41 +60,6 @@ where
             return Err(Error::TooLarge);
         }
         put_u16(buf, item.cast_unsigned())?;
-        count += 1;
-    }
-    patch_u16(buf, base, count);
-    Ok(())
-}
-
-/// Appends how many values there are, and each as the serializer makes it of an item.
-pub fn put_values<
-    B: Buffer,
-    T: Drop,
-    E: Drop,
-    J: IntoIterator<Item = T> + Drop,
-    F: FnMut(T, &mut B) -> Result<IsNull, E> + Drop,
->(values: J, mut serializer: F, buf: &mut B) -> Result<(), BindError<E>>
-where
-    J::IntoIter: Drop,
-    requires ends { IsFiniteIterable J.into_iter_gives J.IntoIter.can_next J.IntoIter.remaining values }
-    requires callable { F.IsAlwaysCallable serializer }
-    requires owes { OwesValues B.bytes F.pre F.step }
-    ensures ok { OnOk result ((vs : List (Option (List ℕ)))
-        × Served B.bytes F.step J.into_iter_gives J.IntoIter.next_gives values serializer (B.bytes buf.old ++ uint16 0) vs
-        × (part_cause (Values vs) ≡ None) × (B.bytes buf.new ≡ B.bytes buf.old ++ counted nullable vs)) }
-    ensures err { OnErr result (IsFrontOf (B.bytes buf.old) (B.bytes buf.new)) }
-    ensures cause { IfErr result (ValuesRefused B.bytes F.step J.into_iter_gives J.IntoIter.next_gives values serializer (B.bytes buf.old ++ uint16 0)) }
-{
-    let base = buf.len();
-    put_u16(buf, 0)?;
-    let mut count = 0u16;
-    for item in values {
-        if count == u16::MAX {
-            return Err(BindError::Serialization(Error::TooLarge));
-        }
-        if let Err(e) = put_value(&mut serializer, item, buf) {
-            return Err(e);
-        }
         count += 1;
     }
     patch_u16(buf, base, count);

@@ -9,8 +9,9 @@ ghost use Rattle.pgp_frontend.specs.Given.{Begun, Appended, Refused, WritesGiven
 ghost use Rattle.pgp_frontend.specs.ClientMessage.{Close, Describe, Execute, Flush, Sync};
 ghost use Rattle.pgp_frontend.specs.Payload.{Text, Int16s, joined, parts_cause, WritesMessage};
 
-use crate::counted::{put_int16s, put_oids, put_values};
+use crate::counted::{put_int16s, put_oids};
 use crate::field::{Field, message, put_fields, room};
+use crate::values::put_values;
 use pgp_base::{BindError, Buffer, Error, IsNull, Oid, finish_body, put_u8, put_u32};
 
 /// Closes a statement (`S`) or a portal (`P`). The variant may be any byte.

@@ -1,6 +1,6 @@
 //! Messages whose parts are known before the call.
 
-ghost use Rattle.std.specs.Prelude.{◌≡◌, ◌++◌, ◌⊎◌, Option, Some, None, OnOk, OnErr, IfErr};
+ghost use Rattle.std.specs.Prelude.{◌≡◌, ◌<◌, ◌^◌, ◌++◌, ◌⊎◌, Option, Some, None, OnOk, OnErr, IfErr};
 ghost use Rattle.std.specs.Prelude.{length};
 ghost use Rattle.pgp_base.specs.Wire.{int32, nullable};
 ghost use Rattle.pgp_base.specs.Cause.{length_cause};
@@ -8,7 +8,7 @@ ghost use Rattle.pgp_base.specs.Calls.{IsFrontOf};
 ghost use Rattle.pgp_frontend.specs.Payload.{spelling, part_cause, parts_cause, joined, frame_cause, framed, WritesFrame};
 ghost use Rattle.pgp_frontend.specs.View.{part_of, parts_of};
 
-use pgp_base::{Buffer, Error, finish_body, put_u8, put_u32, write_cstr};
+use pgp_base::{Buffer, Error, finish_body, length_field, put_u8, put_u32, write_cstr};
 
 /// A part of a message.
 #[derive(Clone, Copy)]
@@ -23,7 +23,9 @@ pub enum Field<'a> {
 }
 
 /// How much room a message of these fields takes, at most what a frame can hold.
-pub fn room(fields: &[Field]) -> usize {
+pub fn room(fields: &[Field]) -> usize
+    ensures { result < 2 ^ 31 }
+{
     let mut room = 5usize;
     for field in fields {
         let bytes = match field {
@@ -50,11 +52,8 @@ fn put_sized<B: Buffer>(bytes: &[u8], buf: &mut B) -> Result<(), Error>
     ensures err { OnErr result (IsFrontOf (B.bytes buf.old) (B.bytes buf.new)) }
     ensures cause { IfErr result (λ e. (e ≡ Error.OutOfMemory) ⊎ (length_cause (length bytes.now) ≡ Some e)) }
 {
-    let size = bytes.len();
-    if size >= 0x8000_0000 {
-        return Err(Error::TooLarge);
-    }
-    put_u32(buf, size as u32)?;
+    let size = length_field(bytes.len())?;
+    put_u32(buf, size)?;
     buf.append(bytes)?;
     Ok(())
 }

@@ -9,6 +9,7 @@ mod field;
 pub mod laws;
 mod simple;
 mod startup;
+mod values;
 
 pub use authentication::{password_message, sasl_initial_response, sasl_response};
 pub use copy::{CopyData, copy_done, copy_fail};

@@ -1,0 +1,5 @@
+//! Tests that cross crates, and those in which each allocation is refused in turn.
+#![tactic(auto)]
+
+#[cfg(test)]
+mod frontend;
