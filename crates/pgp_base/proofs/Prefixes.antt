@@ -1,7 +1,7 @@
 -- No spelling of a part begins another.
-use Rattle.std.proofs.Common.{◌≡◌, ℕ, ℤ, ◌+◌, ◌<◌, ◌≤◌, ◌^◌, Bool, true, false, List, [], ◌∷◌, ◌++◌, length, Option, Some, None, refl, sym, ap, ◌∙◌, subst, append_assoc, suc, zero, arith, inl, inr}
-use Rattle.std.specs.Prelude.{All, FitsSigned, ◌==◌, pos}
-use Rattle.std.specs.Int.{w16, w32, cast_unsigned, cast_signed, to_be_bytes, from_be_bytes}
+use Rattle.std.proofs.Common.{◌≡◌, ℕ, ◌<◌, ◌^◌, true, false, List, [], ◌∷◌, ◌++◌, length, Option, Some, None, refl, sym, ap, ◌∙◌, append_assoc, suc, arith}
+use Rattle.std.specs.Prelude.{All, FitsSigned, ◌==◌}
+use Rattle.std.specs.Int.{w16, w32, cast_unsigned, cast_signed, from_be_bytes}
 use Rattle.std.specs.List.{list_any, flat_map}
 use Rattle.std.proofs.lemmas.Nat.{from_be_bytes-to_be_bytes_2, from_be_bytes-to_be_bytes_4}
 use Rattle.std.proofs.lemmas.Int.{to_z-of_z}

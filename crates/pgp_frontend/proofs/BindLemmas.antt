@@ -1,8 +1,8 @@
 -- What `bind` wrote, or why it refused, from what its steps did.
-use Rattle.std.proofs.Common.{◌≡◌, ℕ, ℤ, ◌+◌, ◌-◌, ◌≤◌, List, [], ◌∷◌, ◌++◌, Result, Ok, Option, Some, None, refl, sym, ap, ◌∙◌, subst, inl, inr, MutBor, length, take, drop, append_assoc, arith, length-append, ◌⊎◌}
+use Rattle.std.proofs.Common.{◌≡◌, ℕ, ℤ, ◌+◌, ◌-◌, ◌≤◌, List, [], ◌∷◌, ◌++◌, Result, Option, Some, None, refl, subst, inl, inr, MutBor, length, take, drop, arith, length-append, ◌⊎◌}
 use Rattle.std.specs.Prelude.{FitsSigned, All}
 use Rattle.std.specs.Int.{w16}
-use Rattle.pgp_base.specs.Wire.{uint16, uint32, int16, nullable, counted}
+use Rattle.pgp_base.specs.Wire.{uint32, int16, nullable, counted}
 use Rattle.pgp_base.specs.Cause.{length_cause}
 use Rattle.pgp_base.specs.Calls.{Came}
 use Rattle.pgp_base.specs.declared.error.Error.{Error}
@@ -12,7 +12,7 @@ use Rattle.pgp_base.specs.declared.error.BindError.TheVariants.{Conversion, Seri
 use Rattle.pgp_base.specs.declared.number.IsNull.{IsNull}
 use Rattle.pgp_frontend.specs.ClientMessage.{Bind}
 use Rattle.pgp_frontend.specs.Given.{Begun, Served, ValuesRefused, before_values, BindWhole, BindReached, BindRefused, Appended}
-use Rattle.pgp_frontend.specs.Payload.{Part, Text, Int16s, Values, joined, part_cause, parts_cause, frame_cause, framed}
+use Rattle.pgp_frontend.specs.Payload.{Part, Text, Int16s, Values, joined, part_cause, parts_cause}
 use Rattle.pgp_frontend.proofs.Fields.{cause_more, cause_here}
 use Rattle.pgp_frontend.proofs.Frames.{frame_room, frame_done, frame_fits, frame_passes, tagged}
 use Rattle.pgp_frontend.proofs.Texts.{part_more}

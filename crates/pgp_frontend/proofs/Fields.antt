@@ -1,8 +1,8 @@
 -- A front of the fields, and the field behind it.
-use Rattle.std.proofs.Common.{◌≡◌, ℕ, ◌+◌, ◌<◌, List, [], ◌∷◌, ◌++◌, length, map, take, drop, Option, Some, None, refl, sym, ap, ◌∙◌, subst, append_assoc, get_or, suc, zero, arith}
+use Rattle.std.proofs.Common.{◌≡◌, ℕ, ◌+◌, ◌<◌, List, [], ◌∷◌, ◌++◌, length, map, take, drop, Some, None, sym, ap, ◌∙◌, get_or}
 use Rattle.std.proofs.lemmas.List.{take_more, map-append, take-append-drop, drop_more}
 use Rattle.pgp_base.proofs.Causes.{first_more, first_here}
-use Rattle.pgp_base.proofs.Parts.{flat_snoc, more_parts}
+use Rattle.pgp_base.proofs.Parts.{more_parts}
 use Rattle.pgp_base.specs.Cause.{first}
 use Rattle.pgp_base.specs.declared.error.Error.{Error}
 use Rattle.pgp_frontend.specs.Payload.{Part, spelling, part_cause, parts_cause, joined}

@@ -1,5 +1,5 @@
 -- A frame whose length is filled in at last.
-use Rattle.std.proofs.Common.{◌≡◌, ℕ, ◌+◌, ◌-◌, ◌<◌, ◌≤◌, List, [], ◌∷◌, ◌++◌, length, take, drop, Option, Some, None, refl, sym, ap, ◌∙◌, subst, append_assoc, arith}
+use Rattle.std.proofs.Common.{◌≡◌, ℕ, ◌+◌, ◌-◌, ◌≤◌, List, [], ◌∷◌, ◌++◌, length, take, drop, Some, None, sym, ap, ◌∙◌, append_assoc, arith}
 use Rattle.pgp_base.specs.Wire.{uint32}
 use Rattle.pgp_base.specs.Cause.{length_cause}
 use Rattle.pgp_base.proofs.Causes.{either_none, either_first, either_then}

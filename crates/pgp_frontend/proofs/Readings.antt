@@ -1,5 +1,5 @@
 -- A payload is read in one way, given the tag and the kind.
-use Rattle.std.proofs.Common.{◌≡◌, ◌≢◌, ℕ, ◌+◌, ◌<◌, ◌^◌, ℤ, List, [], ◌∷◌, ◌++◌, length, Option, Some, None, refl, sym, ap, ◌∙◌, subst, append_assoc, arith, map, length-append}
+use Rattle.std.proofs.Common.{◌≡◌, ◌≢◌, ℕ, ◌+◌, ◌<◌, ◌^◌, ℤ, List, [], ◌∷◌, ◌++◌, length, Option, Some, None, refl, sym, ap, ◌∙◌, append_assoc, arith, map}
 use Rattle.pgp_frontend.specs.Opening.{Opening}
 use Rattle.std.specs.Prelude.{pos, slice_index, slice_index_or, ◌==◌, if◌then◌else◌}
 use Rattle.std.proofs.lemmas.List.{append-nil}
@@ -8,8 +8,8 @@ use Rattle.pgp_base.specs.Cause.{length_cause}
 use Rattle.pgp_base.proofs.Causes.{either_left, either_right, fits_of}
 use Rattle.pgp_base.proofs.Prefixes.{fronts, uint32_begins}
 use Rattle.pgp_frontend.specs.ClientMessage.{ClientMessage, Bind, Close, CopyData, CopyDone, CopyFail, Describe, Execute, Flush, Parse, PasswordMessage, Query, SaslInitialResponse, SaslResponse, Sync, Terminate, Startup, CancelRequest, SslRequest, PasswordKind, Password, Initial, Response}
-use Rattle.pgp_frontend.specs.Payload.{Part, Byte, Int32, Text, Int16s, Oids, Values, Sized, Rest, Pairs, spelling, joined, parts, payload, tag_of, kind_of, framed, bytes_of, cause, part_cause, parts_cause, EachInRange}
-use Rattle.pgp_frontend.specs.Reading.{Shape, AByte, AnInt32, AText, SomeInt16s, SomeOids, SomeValues, ASized, AllBytes, SomePairs, shape, HasNames, HasSpelling, IsNamed, IsSpelled}
+use Rattle.pgp_frontend.specs.Payload.{Part, Byte, Int32, Text, Int16s, Oids, Values, Sized, Rest, Pairs, spelling, joined, parts, payload, tag_of, kind_of, framed, bytes_of, part_cause, parts_cause, EachInRange}
+use Rattle.pgp_frontend.specs.Reading.{Shape, AByte, AnInt32, AText, SomeInt16s, SomeOids, SomeValues, ASized, AllBytes, shape, HasNames, HasSpelling, IsNamed, IsSpelled}
 use Rattle.pgp_frontend.proofs.Shapes.{part_begins}
 
 abbrev pub EachHasSpelling : List Part → Type 0

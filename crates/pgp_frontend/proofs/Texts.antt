@@ -1,10 +1,8 @@
 -- A message that begins with two texts.
-use Rattle.std.proofs.Common.{◌≡◌, ℕ, List, [], ◌∷◌, ◌++◌, Some, None, refl, sym, ap, ◌∙◌, subst, inl, inr}
+use Rattle.std.proofs.Common.{◌≡◌, ℕ, List, [], ◌∷◌, ◌++◌, sym, ap, ◌∙◌, subst}
 use Rattle.std.proofs.lemmas.List.{append-nil}
 use Rattle.pgp_base.proofs.Parts.{more_parts}
-use Rattle.pgp_base.specs.declared.error.Error.{Error}
-use Rattle.pgp_frontend.specs.Payload.{Part, Text, spelling, part_cause, parts_cause, joined}
-use Rattle.pgp_frontend.proofs.Fields.{cause_more, cause_here}
+use Rattle.pgp_frontend.specs.Payload.{Part, Text, spelling, joined}
 
 -- texts by equal texts
 pub two_texts : (P : List Part → Type 0) (n n' q q' : List ℕ) → n ≡ n' → q ≡ q' → P (Text n ∷ Text q ∷ []) → P (Text n' ∷ Text q' ∷ [])

@@ -1,18 +1,18 @@
 -- The values that were made have no cause, and the one behind them may.
-use Rattle.std.proofs.Common.{◌≡◌, ℕ, ◌<◌, ◌≤◌, ◌+◌, List, [], ◌∷◌, ◌++◌, Result, Ok, Option, Some, None, refl, sym, ap, ◌∙◌, map, take, length, length-append, arith, inl, inr, MutBor, append_assoc, subst}
+use Rattle.std.proofs.Common.{◌≡◌, ℕ, ◌<◌, List, [], ◌∷◌, ◌++◌, Result, Option, Some, None, refl, sym, ap, ◌∙◌, map, take, length, length-append, arith, inl, inr, MutBor}
 use Rattle.std.specs.List.{flat_map}
 use Rattle.std.proofs.lemmas.List.{map-append, take_all, take_at}
 use Rattle.pgp_base.specs.Wire.{nullable, uint32}
-use Rattle.pgp_base.specs.Cause.{first, either, nullable_cause, counted_cause, count_cause, length_cause}
-use Rattle.pgp_base.specs.Calls.{Gives, Runs, Came, ValueRefused, Puts}
-use Rattle.pgp_base.proofs.Causes.{either_none, either_first, either_then, first_more, first_here, count_fits, count_past}
+use Rattle.pgp_base.specs.Cause.{first, nullable_cause, count_cause}
+use Rattle.pgp_base.specs.Calls.{Gives, Runs, Came, ValueRefused}
+use Rattle.pgp_base.proofs.Causes.{either_none, either_first, either_then, first_here, count_fits, count_past}
 use Rattle.pgp_base.proofs.Parts.{Puts-at, Runs-length}
 use Rattle.pgp_base.specs.declared.error.Error.{Error}
 use Rattle.pgp_base.specs.declared.error.Error.TheVariants.{TooLarge}
 use Rattle.pgp_base.specs.declared.error.BindError.{BindError}
 use Rattle.pgp_base.specs.declared.error.BindError.TheVariants.{Conversion, Serialization}
 use Rattle.pgp_base.specs.declared.number.IsNull.{IsNull}
-use Rattle.pgp_frontend.specs.Given.{ServedFront, ValuesBegun, Converts, ValuesRefused}
+use Rattle.pgp_frontend.specs.Given.{ValuesRefused}
 use Rattle.pgp_frontend.specs.Payload.{part_cause, Values}
 
 module _ {F T E B : Type 0} (held : B → List ℕ) (step : F → T → MutBor B → Result IsNull E → MutBor B → F → Type 0) where

@@ -6,7 +6,7 @@ use Rattle.pgp_base.specs.declared.error.Error.TheVariants.{OutOfMemory}
 use Rattle.std.specs.Borrow.{Bor}
 use Rattle.pgp_frontend.specs.ClientMessage.{ClientMessage, Bind, Parse, Startup}
 use Rattle.pgp_frontend.specs.Payload.{Part, Int32, Text, Int16s, Oids, Values, Pairs, part_cause, parts_cause, joined, cause, bytes_of, IsInRange}
-use Rattle.std.specs.Prelude.{pos, ◌+◌, ◌<◌, length}
+use Rattle.std.specs.Prelude.{pos, ◌<◌, length}
 use Rattle.std.specs.List.{flat_map}
 use Rattle.pgp_base.specs.Wire.{uint16, uint32, nullable}
 use Rattle.pgp_base.specs.Calls.{Puts, Gives, Runs}

@@ -1,5 +1,5 @@
 -- What a server that knows only the grammar makes of parts and payloads.
-use Rattle.std.specs.Prelude.{◌≡◌, ◌≢◌, ℕ, List, [], ◌∷◌, Option, None, All}
+use Rattle.std.specs.Prelude.{◌≡◌, ◌≢◌, [], None, All}
 use Rattle.pgp_frontend.specs.ClientMessage.{ClientMessage, Startup}
 use Rattle.pgp_frontend.specs.Payload.{Part, Byte, Int32, Text, Int16s, Oids, Values, Sized, Rest, Pairs, InRange, IsInRange, part_cause, cause}
 

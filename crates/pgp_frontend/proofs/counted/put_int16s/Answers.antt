@@ -1,4 +1,4 @@
-use Rattle.std.proofs.Common.{rules, arith, ◌≡◌, List, [], ◌∷◌, ◌++◌, length, refl, sym, ap, ◌∙◌, length-append}
+use Rattle.std.proofs.Common.{rules, arith, ◌≡◌, [], ◌∷◌, ◌++◌, refl, sym, ap, ◌∙◌, length-append}
 use Rattle.std.specs.Prelude.{FitsSigned}
 use Rattle.std.specs.Int.{w16, cast_unsigned}
 use Rattle.std.proofs.lemmas.List.Elements.{All-push}

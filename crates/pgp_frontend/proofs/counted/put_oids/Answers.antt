@@ -1,4 +1,4 @@
-use Rattle.std.proofs.Common.{rules, arith, ◌≡◌, List, ◌++◌, length, refl}
+use Rattle.std.proofs.Common.{rules, arith, refl}
 use Rattle.pgp_base.specs.Wire.{oid}
 use Rattle.pgp_base.proofs.Causes.{count_fits}
 use Rattle.pgp_base.proofs.Parts.{counted_up, sized2}

@@ -1,4 +1,4 @@
-use Rattle.std.proofs.Common.{◌≡◌, ℕ, List, [], ◌∷◌, ◌++◌, Some, None, refl, inl, inr, ap, ◌∙◌}
+use Rattle.std.proofs.Common.{◌≡◌, [], ◌∷◌, ◌++◌, Some, None, inl, inr, ap, ◌∙◌}
 use Rattle.pgp_base.specs.Wire.{uint32}
 use Rattle.pgp_base.proofs.Parts.{if_err_at}
 use Rattle.pgp_frontend.specs.Payload.{Text, Int16s, joined, parts_cause}

@@ -1,4 +1,4 @@
-use Rattle.std.proofs.Common.{rules, ◌≡◌, inl, inr, subst, arith}
+use Rattle.std.proofs.Common.{rules, inl, inr}
 use Rattle.pgp_base.proofs.Parts.{if_err_at}
 use Rattle.pgp_frontend.proofs.Fields.{fields_none, fields_joined, fields_refused}
 use Rattle.pgp_frontend.proofs.field.put_fields.Goals as goal

@@ -1,12 +1,11 @@
-use Rattle.std.proofs.Common.{rules, ◌≡◌, ℕ, List, [], ◌∷◌, ◌++◌, Some, None, refl, inl, inr, ap, ◌∙◌, append_assoc, map, sym}
-use Rattle.std.specs.Prelude.{pos, ℤ}
+use Rattle.std.proofs.Common.{rules, [], ◌∷◌, refl, inl, inr, map}
+use Rattle.std.specs.Prelude.{pos}
 use Rattle.std.specs.Prelude.{FitsSigned}
 use Rattle.std.specs.Int.{w32}
-use Rattle.pgp_base.specs.Wire.{int32}
 use Rattle.pgp_base.proofs.Parts.{if_err_at}
 use Rattle.pgp_frontend.specs.ClientMessage.{Startup}
 use Rattle.pgp_frontend.specs.Given.{shown}
-use Rattle.pgp_frontend.specs.Payload.{Int32, Pairs, joined, parts_cause, spelling}
+use Rattle.pgp_frontend.specs.Payload.{Int32, Pairs}
 use Rattle.pgp_frontend.proofs.Fields.{cause_more, cause_here}
 use Rattle.pgp_frontend.proofs.Frames.{frame_room, frame_done, frame_fits, frame_passes}
 use Rattle.pgp_frontend.proofs.Texts.{part_more, first_part}

@@ -1,4 +1,4 @@
-use Rattle.std.proofs.Common.{rules, ◌≡◌, List, [], ◌∷◌, ◌++◌, refl, inl, inr}
+use Rattle.std.proofs.Common.{rules, refl, inl, inr}
 use Rattle.pgp_base.proofs.Parts.{if_err_at}
 use Rattle.pgp_frontend.proofs.PairLemmas.{pairs_none, name_refused, value_refused, pairs_held}
 use Rattle.pgp_frontend.proofs.startup.put_pairs.Goals as goal

@@ -1,7 +1,7 @@
-use Rattle.std.proofs.Common.{rules, arith, ◌≡◌, ℕ, ◌+◌, ◌≤◌, List, [], ◌∷◌, ◌++◌, length, refl, inl, inr, length-append, sym, ◌∙◌}
+use Rattle.std.proofs.Common.{rules, arith, [], ◌∷◌, ◌++◌, refl, length-append, sym, ◌∙◌}
 use Rattle.std.proofs.lemmas.List.{append-nil}
 use Rattle.pgp_base.specs.Wire.{uint16, nullable}
-use Rattle.pgp_base.proofs.Parts.{counted_up, sized2, more_parts, Runs-snoc, Runs-length, if_err_at}
+use Rattle.pgp_base.proofs.Parts.{counted_up, sized2, more_parts, Runs-snoc, Runs-length}
 use Rattle.pgp_frontend.proofs.ValueLemmas.{Runs-fit, values_fit, value_stops, count_stops}
 use Rattle.pgp_frontend.proofs.values.put_values.Goals as goal
 
