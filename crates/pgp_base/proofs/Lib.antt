@@ -1,3 +1,4 @@
+pub mod Causes
 pub mod Errors
 pub mod Strings
 pub mod PartLemmas
@@ -7,3 +8,5 @@ pub mod MarkedLemmas
 pub mod Steps
 pub mod Binds
 pub mod RestSteps
+pub mod Parts
+pub mod Prefixes

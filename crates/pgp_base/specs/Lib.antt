@@ -1,4 +1,7 @@
+pub mod Calls
+pub mod Cause
 pub mod Error
+pub mod Reading
 pub mod Wire
 pub mod Walk
 pub mod Items

@@ -2,7 +2,7 @@
 
 ghost use Rattle.std.specs.Prelude.{◌≡◌, ℕ, ◌+◌, ◌<◌, ◌≤◌, ◌^◌, List, ◌++◌, length, take, drop, OnOk, OnErr};
 
-use bytes::BytesMut;
+use bytes::{Buf, BufMut, BytesMut};
 use std::alloc::{AllocError, Allocator};
 
 /// A buffer that writers append to: a `BytesMut` over any allocator.
@@ -23,6 +23,12 @@ pub trait Buffer {
     fn append(&mut self, more: &[u8]) -> Result<(), AllocError>
         ensures ok { OnOk result (bytes self.new ≡ bytes self.old ++ more.now) }
         ensures err { OnErr result (bytes self.new ≡ bytes self.old) };
+
+    /// Appends all that is left of `more`, or nothing, and then `more` has it still.
+    fn append_from<T: Buf>(&mut self, more: &mut T) -> Result<(), AllocError>
+        ensures ok { OnOk result (bytes self.new ≡ bytes self.old ++ T.unread more.old) }
+        ensures err { OnErr result (bytes self.new ≡ bytes self.old) }
+        ensures kept { OnErr result (more.new ≡ more.old) };
 
     /// Cuts what stands past `len`.
     fn truncate(&mut self, len: usize)
@@ -47,6 +53,10 @@ impl<A: Allocator + Copy> Buffer for BytesMut<A> {
 
     fn append(&mut self, more: &[u8]) -> Result<(), AllocError> {
         self.extend_from_slice(more)
+    }
+
+    fn append_from<T: Buf>(&mut self, more: &mut T) -> Result<(), AllocError> {
+        self.put_from(more)
     }
 
     fn truncate(&mut self, len: usize) {

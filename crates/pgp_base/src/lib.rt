@@ -9,12 +9,17 @@ pub mod laws;
 mod number;
 pub mod reading;
 mod walk;
+mod writing;
 
 pub use buffer::Buffer;
 pub use counted::Counted;
 pub use error::{BindError, Error};
 pub use number::{IsNull, Lsn, Oid, i16_from_usize, i32_from_usize, u16_from_usize};
 pub use walk::FallibleIterator;
+pub use writing::{
+    finish_body, length_field, patch_u16, patch_u32, put_u8, put_u16, put_u32, put_value,
+    write_body, write_counted, write_cstr, write_nullable,
+};
 
 #[cfg(test)]
 mod tests;

@@ -4,4 +4,6 @@
 #[cfg(test)]
 mod auth;
 #[cfg(test)]
+mod frontend;
+#[cfg(test)]
 mod types;

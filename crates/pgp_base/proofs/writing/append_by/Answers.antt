@@ -1,0 +1,7 @@
+use Rattle.std.proofs.Common.{refl}
+use Rattle.pgp_base.proofs.writing.append_by.Goals as goal
+
+pub returns : goal.returns
+returns g c =
+    let k = c.requires.keeps _ _ _ (c.requires.callable.at (_, tt)) c.f.ensures in
+    (k.0, record { before = _; after = _; called = c.f.ensures; stood = refl; appended = k.1 }, k.1)

@@ -1,0 +1,46 @@
+-- Why a part of a message has no spelling, and what the call of a writer comes to.
+use Rattle.std.specs.Prelude.{◌≡◌, ◌⊎◌, ℕ, List, [], ◌∷◌, ◌++◌, length, map, take, Option, Some, None, Result, Ok, Err, nat_le, ◌==◌, if◌then◌else◌}
+use Rattle.std.specs.List.{list_any}
+use Rattle.pgp_base.specs.declared.error.Error.{Error}
+use Rattle.pgp_base.specs.declared.error.Error.TheVariants.{OutOfMemory, EmbeddedNull, TooLarge}
+
+-- the refusal of what has no spelling; none where it has one
+abbrev pub Cause : Type 0
+Cause = Option Error
+
+-- the first of two causes, from the left
+abbrev pub either : Cause → Cause → Cause
+either (Some e) d = Some e
+either None d = d
+
+-- the first of these causes, from the left
+abbrev pub first : List Cause → Cause
+first [] = None
+first (c ∷ cs) = either c (first cs)
+
+-- a text has no 0 byte
+abbrev pub text_cause : List ℕ → Cause
+text_cause z = if list_any (λ byte. byte == 0) z then Some EmbeddedNull else None
+
+-- a length is a signed 32-bit number
+abbrev pub length_cause : ℕ → Cause
+length_cause n = if nat_le n 2147483647 then None else Some TooLarge
+
+-- a count is an unsigned 16-bit number
+abbrev pub count_cause : ℕ → Cause
+count_cause n = if nat_le n 65535 then None else Some TooLarge
+
+-- the bytes of a value have a length; a null has none
+abbrev pub nullable_cause : Option (List ℕ) → Cause
+nullable_cause None = None
+nullable_cause (Some bytes) = length_cause (length bytes)
+
+-- a count past its field stands behind the last item that it can count
+abbrev pub counted_cause : {A : Type 0} → (A → Cause) → List A → Cause
+counted_cause of xs = either (first (map of (take 65535 xs))) (count_cause (length xs))
+
+-- A writer of what is spelled so and has this cause: it appends the spelling, and there is no cause;
+-- or it leaves the bytes, and is refused for want of memory or for the cause.
+abbrev pub Writes : List ℕ → Cause → List ℕ → List ℕ → Result (Unit {0}) Error → Type 0
+Writes spelling cause old new (Ok done) = (cause ≡ None) × (new ≡ old ++ spelling)
+Writes spelling cause old new (Err e) = ((e ≡ OutOfMemory) ⊎ (cause ≡ Some e)) × (new ≡ old)

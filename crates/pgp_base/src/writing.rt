@@ -1,0 +1,360 @@
+//! What every writer is made of: numbers, texts, and parts that stand behind a length or a count.
+//!
+//! A refused `write_` function leaves the buffer's bytes. A refused `put_` function, a step of a
+//! writer, leaves them as a front of what stands there then, and the writer cuts back.
+
+ghost use Rattle.std.specs.Prelude.{◌≡◌, ℕ, ◌+◌, ◌-◌, ◌<◌, ◌≤◌, ◌^◌, ◌⊎◌, List, [], ◌∷◌, ◌++◌, length, take, drop, Option, Some, None, Ok, OnOk, OnErr, IfOk, IfErr};
+ghost use Rattle.std.specs.Iterator.{IsFiniteIterable};
+ghost use Rattle.pgp_base.specs.Wire.{uint16, uint32, text, nullable};
+ghost use Rattle.pgp_base.specs.Cause.{text_cause, length_cause, nullable_cause, Writes};
+ghost use Rattle.pgp_base.specs.Calls.{IsFrontOf, KeepsFront, KeepsFronts, OwesValue, OwesValues, Appends, Puts, Gives, ValueRefused, value_of, WritesBody, BodyRefused, WritesValue, NullableRefused, WritesCounted, CountedStops};
+
+use crate::buffer::Buffer;
+use crate::error::{BindError, Error};
+use crate::number::IsNull;
+use memchr::memchr;
+
+/// Appends a byte.
+pub fn put_u8<B: Buffer>(buf: &mut B, n: u8) -> Result<(), Error>
+    ensures ok { OnOk result (B.bytes buf.new ≡ B.bytes buf.old ++ n ∷ []) }
+    ensures err { OnErr result (B.bytes buf.new ≡ B.bytes buf.old) }
+    ensures cause { IfErr result (λ e. e ≡ Error.OutOfMemory) }
+{
+    buf.append(&[n])?;
+    Ok(())
+}
+
+/// Appends a number in two bytes.
+#[tactic(auto, unfolding(crate::specs::Wire::uint16))]
+pub fn put_u16<B: Buffer>(buf: &mut B, n: u16) -> Result<(), Error>
+    ensures ok { OnOk result (B.bytes buf.new ≡ B.bytes buf.old ++ uint16 n) }
+    ensures err { OnErr result (B.bytes buf.new ≡ B.bytes buf.old) }
+    ensures cause { IfErr result (λ e. e ≡ Error.OutOfMemory) }
+{
+    buf.append(&n.to_be_bytes())?;
+    Ok(())
+}
+
+/// Appends a number in four bytes.
+#[tactic(auto, unfolding(crate::specs::Wire::uint32))]
+pub fn put_u32<B: Buffer>(buf: &mut B, n: u32) -> Result<(), Error>
+    ensures ok { OnOk result (B.bytes buf.new ≡ B.bytes buf.old ++ uint32 n) }
+    ensures err { OnErr result (B.bytes buf.new ≡ B.bytes buf.old) }
+    ensures cause { IfErr result (λ e. e ≡ Error.OutOfMemory) }
+{
+    buf.append(&n.to_be_bytes())?;
+    Ok(())
+}
+
+/// Writes a number over the two bytes at `place`.
+#[tactic(auto, unfolding(crate::specs::Wire::uint16))]
+pub fn patch_u16<B: Buffer>(buf: &mut B, place: usize, n: u16)
+    requires { place + 2 ≤ length (B.bytes buf.old) }
+    ensures { B.bytes buf.new ≡ take place (B.bytes buf.old) ++ uint16 n ++ drop (place + 2) (B.bytes buf.old) }
+{
+    let bytes = n.to_be_bytes();
+    buf.patch(place, &bytes);
+}
+
+/// Writes a number over the four bytes at `place`.
+#[tactic(auto, unfolding(crate::specs::Wire::uint32))]
+pub fn patch_u32<B: Buffer>(buf: &mut B, place: usize, n: u32)
+    requires { place + 4 ≤ length (B.bytes buf.old) }
+    ensures { B.bytes buf.new ≡ take place (B.bytes buf.old) ++ uint32 n ++ drop (place + 4) (B.bytes buf.old) }
+{
+    let bytes = n.to_be_bytes();
+    buf.patch(place, &bytes);
+}
+
+/// Appends a text and a 0 byte.
+#[tactic(auto, using(crate::proofs::Causes::text_holds_zero))]
+pub fn write_cstr<B: Buffer>(bytes: &[u8], buf: &mut B) -> Result<(), Error>
+    ensures { Writes (text bytes.now) (text_cause bytes.now) (B.bytes buf.old) (B.bytes buf.new) result }
+{
+    if memchr(0, bytes).is_some() {
+        return Err(Error::EmbeddedNull);
+    }
+    let base = buf.len();
+    buf.reserve(bytes.len() + 1)?;
+    buf.append(bytes)?;
+    match buf.append(&[0]) {
+        Ok(()) => Ok(()),
+        Err(e) => {
+            buf.truncate(base);
+            Err(e.into())
+        }
+    }
+}
+
+// Calls `f`, and says what the call put behind the bytes that stood there.
+fn append_by<B: Buffer, R, F: FnOnce(&mut B) -> R>(f: F, buf: &mut B) -> R
+    requires callable { F.IsAlwaysCallable f }
+    requires keeps { KeepsFront B.bytes F.pre F.post f }
+    ensures { (p : List ℕ) × Appends B.bytes F.post (B.bytes buf.old) f result p × (B.bytes buf.new ≡ B.bytes buf.old ++ p) }
+{
+    f(buf)
+}
+
+// The same of a call that may answer a null.
+fn value_by<B: Buffer, E, F: FnOnce(&mut B) -> Result<IsNull, E>>(
+    f: F,
+    buf: &mut B,
+) -> Result<IsNull, E>
+    requires callable { F.IsAlwaysCallable f }
+    requires owes { OwesValue B.bytes F.pre F.post f }
+    ensures { (p : List ℕ) × Appends B.bytes F.post (B.bytes buf.old) f result p × (B.bytes buf.new ≡ B.bytes buf.old ++ p)
+        × (result ≡ Ok IsNull.Yes → p ≡ []) }
+{
+    f(buf)
+}
+
+// `append_by` of an `FnMut` at an item, which may be called again.
+fn put_by<B: Buffer, T, R, F: FnMut(T, &mut B) -> R>(f: &mut F, x: T, buf: &mut B) -> R
+    requires callable { F.IsAlwaysCallable f.old }
+    requires keeps { KeepsFronts B.bytes F.pre F.step }
+    ensures put { (p : List ℕ) × Puts B.bytes F.step (B.bytes buf.old) f.old x result p f.new × (B.bytes buf.new ≡ B.bytes buf.old ++ p) }
+    ensures callable { F.IsAlwaysCallable f.new }
+{
+    f(x, buf)
+}
+
+// `value_by` of an `FnMut` at an item, which may be called again.
+fn give_by<B: Buffer, T, E, F: FnMut(T, &mut B) -> Result<IsNull, E>>(
+    f: &mut F,
+    x: T,
+    buf: &mut B,
+) -> Result<IsNull, E>
+    requires callable { F.IsAlwaysCallable f.old }
+    requires owes { OwesValues B.bytes F.pre F.step }
+    ensures put { (p : List ℕ) × Puts B.bytes F.step (B.bytes buf.old) f.old x result p f.new × (B.bytes buf.new ≡ B.bytes buf.old ++ p)
+        × (result ≡ Ok IsNull.Yes → p ≡ []) }
+    ensures callable { F.IsAlwaysCallable f.new }
+{
+    f(x, buf)
+}
+
+/// The number as a length's field holds it; `TooLarge` past the greatest `i32`.
+#[tactic(auto, using(crate::proofs::Causes::length_fits, crate::proofs::Causes::length_past))]
+pub fn length_field(size: usize) -> Result<u32, Error>
+    ensures value { IfOk result (λ n. (n ≡ size) × (length_cause size ≡ None)) }
+    ensures cause { IfErr result (λ e. length_cause size ≡ Some e) }
+{
+    if size > 0x7fff_ffff {
+        return Err(Error::TooLarge);
+    }
+    Ok(size as u32)
+}
+
+/// Fills the length's place, at `base`, of a part that counts itself; `TooLarge` past the field.
+pub fn finish_body<B: Buffer>(buf: &mut B, base: usize) -> Result<(), Error>
+    requires { base + 4 ≤ length (B.bytes buf.old) }
+    ensures ok { OnOk result (B.bytes buf.new
+        ≡ take base (B.bytes buf.old) ++ uint32 (length (B.bytes buf.old) - base) ++ drop (base + 4) (B.bytes buf.old)) }
+    ensures fits { OnOk result (length_cause (length (B.bytes buf.old) - base) ≡ None) }
+    ensures err { OnErr result (B.bytes buf.new ≡ B.bytes buf.old) }
+    ensures cause { IfErr result (λ e. length_cause (length (B.bytes buf.old) - base) ≡ Some e) }
+{
+    let size = length_field(buf.len() - base)?;
+    patch_u32(buf, base, size);
+    Ok(())
+}
+
+// Fills the length's place, at `base`, of a value that ends the buffer, or writes a null there.
+fn finish_value<B: Buffer>(buf: &mut B, base: usize, null: IsNull) -> Result<(), Error>
+    requires room { base + 4 ≤ length (B.bytes buf.old) }
+    requires none { null ≡ IsNull.Yes → length (B.bytes buf.old) ≡ base + 4 }
+    ensures ok { OnOk result (B.bytes buf.new
+        ≡ take base (B.bytes buf.old) ++ nullable (value_of null (drop (base + 4) (B.bytes buf.old)))) }
+    ensures fits { OnOk result (nullable_cause (value_of null (drop (base + 4) (B.bytes buf.old))) ≡ None) }
+    ensures err { OnErr result (B.bytes buf.new ≡ B.bytes buf.old) }
+    ensures cause { IfErr result (λ e. (null ≡ IsNull.No)
+        × (length_cause (length (drop (base + 4) (B.bytes buf.old))) ≡ Some e)) }
+{
+    match null {
+        IsNull::Yes => {
+            patch_u32(buf, base, 0xffff_ffff);
+            Ok(())
+        }
+        IsNull::No => {
+            let size = length_field(buf.len() - base - 4)?;
+            patch_u32(buf, base, size);
+            Ok(())
+        }
+    }
+}
+
+/// Appends the value that the serializer makes of `x`: its length and its bytes, or a null.
+pub fn put_value<B: Buffer, T: Drop, E: Drop, F: FnMut(T, &mut B) -> Result<IsNull, E>>(
+    f: &mut F,
+    x: T,
+    buf: &mut B,
+) -> Result<(), BindError<E>>
+    requires callable { F.IsAlwaysCallable f.old }
+    requires owes { OwesValues B.bytes F.pre F.step }
+    ensures ok { OnOk result ((v : Option (List ℕ)) × Gives B.bytes F.step (B.bytes buf.old) f.old x v f.new
+        × (B.bytes buf.new ≡ B.bytes buf.old ++ nullable v)) }
+    ensures err { OnErr result (IsFrontOf (B.bytes buf.old) (B.bytes buf.new)) }
+    ensures cause { IfErr result (λ e. ValueRefused B.bytes F.step (B.bytes buf.old) f.old x e f.new) }
+    ensures callable { F.IsAlwaysCallable f.new }
+{
+    let base = buf.len();
+    put_u32(buf, 0)?;
+    match give_by(f, x, buf) {
+        Err(e) => Err(BindError::Conversion(e)),
+        Ok(null) => {
+            if let Err(e) = finish_value(buf, base, null) {
+                return Err(BindError::Serialization(e));
+            }
+            Ok(())
+        }
+    }
+}
+
+fn fill_body<B: Buffer, E: Drop, F: FnOnce(&mut B) -> Result<(), E>>(
+    buf: &mut B,
+    f: F,
+) -> Result<(), BindError<E>>
+    requires callable { F.IsAlwaysCallable f }
+    requires keeps { KeepsFront B.bytes F.pre F.post f }
+    ensures ok { OnOk result (WritesBody B.bytes F.post f (B.bytes buf.old) (B.bytes buf.new)) }
+    ensures err { OnErr result (IsFrontOf (B.bytes buf.old) (B.bytes buf.new)) }
+    ensures cause { IfErr result (BodyRefused B.bytes F.post f (B.bytes buf.old)) }
+{
+    let base = buf.len();
+    put_u32(buf, 0)?;
+    if let Err(e) = append_by(f, buf) {
+        return Err(BindError::Conversion(e));
+    }
+    if let Err(e) = finish_body(buf, base) {
+        return Err(BindError::Serialization(e));
+    }
+    Ok(())
+}
+
+/// Appends the length of itself and of what `f` appends, and that. `Conversion` is the refusal of `f`.
+pub fn write_body<B: Buffer, E: Drop, F: FnOnce(&mut B) -> Result<(), E>>(
+    buf: &mut B,
+    f: F,
+) -> Result<(), BindError<E>>
+    requires callable { F.IsAlwaysCallable f }
+    requires keeps { KeepsFront B.bytes F.pre F.post f }
+    ensures ok { OnOk result (WritesBody B.bytes F.post f (B.bytes buf.old) (B.bytes buf.new)) }
+    ensures err { OnErr result (B.bytes buf.new ≡ B.bytes buf.old) }
+    ensures cause { IfErr result (BodyRefused B.bytes F.post f (B.bytes buf.old)) }
+{
+    let base = buf.len();
+    match fill_body(buf, f) {
+        Ok(()) => Ok(()),
+        Err(e) => {
+            buf.truncate(base);
+            Err(e)
+        }
+    }
+}
+
+fn fill_nullable<B: Buffer, E: Drop, F: FnOnce(&mut B) -> Result<IsNull, E>>(
+    serializer: F,
+    buf: &mut B,
+) -> Result<(), BindError<E>>
+    requires callable { F.IsAlwaysCallable serializer }
+    requires owes { OwesValue B.bytes F.pre F.post serializer }
+    ensures ok { OnOk result (WritesValue B.bytes F.post serializer (B.bytes buf.old) (B.bytes buf.new)) }
+    ensures err { OnErr result (IsFrontOf (B.bytes buf.old) (B.bytes buf.new)) }
+    ensures cause { IfErr result (NullableRefused B.bytes F.post serializer (B.bytes buf.old)) }
+{
+    let base = buf.len();
+    put_u32(buf, 0)?;
+    match value_by(serializer, buf) {
+        Err(e) => Err(BindError::Conversion(e)),
+        Ok(null) => {
+            if let Err(e) = finish_value(buf, base, null) {
+                return Err(BindError::Serialization(e));
+            }
+            Ok(())
+        }
+    }
+}
+
+/// Appends a value that may be null: its length and the bytes that the serializer appends, or -1
+/// where it answers that the value is null. `Conversion` is the serializer's refusal.
+pub fn write_nullable<B: Buffer, E: Drop, F: FnOnce(&mut B) -> Result<IsNull, E>>(
+    serializer: F,
+    buf: &mut B,
+) -> Result<(), BindError<E>>
+    requires callable { F.IsAlwaysCallable serializer }
+    requires owes { OwesValue B.bytes F.pre F.post serializer }
+    ensures ok { OnOk result (WritesValue B.bytes F.post serializer (B.bytes buf.old) (B.bytes buf.new)) }
+    ensures err { OnErr result (B.bytes buf.new ≡ B.bytes buf.old) }
+    ensures cause { IfErr result (NullableRefused B.bytes F.post serializer (B.bytes buf.old)) }
+{
+    let base = buf.len();
+    match fill_nullable(serializer, buf) {
+        Ok(()) => Ok(()),
+        Err(e) => {
+            buf.truncate(base);
+            Err(e)
+        }
+    }
+}
+
+fn fill_counted<
+    B: Buffer,
+    T: Drop,
+    E: Drop,
+    I: IntoIterator<Item = T> + Drop,
+    F: FnMut(T, &mut B) -> Result<(), E> + Drop,
+>(items: I, mut serializer: F, buf: &mut B) -> Result<(), BindError<E>>
+where
+    I::IntoIter: Drop,
+    requires ends { IsFiniteIterable I.into_iter_gives I.IntoIter.can_next I.IntoIter.remaining items }
+    requires callable { F.IsAlwaysCallable serializer }
+    requires keeps { KeepsFronts B.bytes F.pre F.step }
+    ensures ok { OnOk result (WritesCounted B.bytes F.step I.into_iter_gives I.IntoIter.next_gives items serializer (B.bytes buf.old) (B.bytes buf.new)) }
+    ensures err { OnErr result (IsFrontOf (B.bytes buf.old) (B.bytes buf.new)) }
+    ensures cause { IfErr result (λ e. (e ≡ BindError.Serialization Error.OutOfMemory)
+        ⊎ CountedStops B.bytes F.step I.into_iter_gives I.IntoIter.next_gives items serializer (B.bytes buf.old) e) }
+{
+    let base = buf.len();
+    put_u16(buf, 0)?;
+    let mut count = 0u16;
+    for item in items {
+        if count == u16::MAX {
+            return Err(BindError::Serialization(Error::TooLarge));
+        }
+        if let Err(e) = put_by(&mut serializer, item, buf) {
+            return Err(BindError::Conversion(e));
+        }
+        count += 1;
+    }
+    patch_u16(buf, base, count);
+    Ok(())
+}
+
+/// Appends how many items there are, and each as the serializer writes it. `Conversion` is the
+/// serializer's refusal. The item past 65,535 is refused before it is written.
+pub fn write_counted<
+    B: Buffer,
+    T: Drop,
+    E: Drop,
+    I: IntoIterator<Item = T> + Drop,
+    F: FnMut(T, &mut B) -> Result<(), E> + Drop,
+>(items: I, serializer: F, buf: &mut B) -> Result<(), BindError<E>>
+where
+    I::IntoIter: Drop,
+    requires ends { IsFiniteIterable I.into_iter_gives I.IntoIter.can_next I.IntoIter.remaining items }
+    requires callable { F.IsAlwaysCallable serializer }
+    requires keeps { KeepsFronts B.bytes F.pre F.step }
+    ensures ok { OnOk result (WritesCounted B.bytes F.step I.into_iter_gives I.IntoIter.next_gives items serializer (B.bytes buf.old) (B.bytes buf.new)) }
+    ensures err { OnErr result (B.bytes buf.new ≡ B.bytes buf.old) }
+    ensures cause { IfErr result (λ e. (e ≡ BindError.Serialization Error.OutOfMemory)
+        ⊎ CountedStops B.bytes F.step I.into_iter_gives I.IntoIter.next_gives items serializer (B.bytes buf.old) e) }
+{
+    let base = buf.len();
+    match fill_counted(items, serializer, buf) {
+        Ok(()) => Ok(()),
+        Err(e) => {
+            buf.truncate(base);
+            Err(e)
+        }
+    }
+}

@@ -1,0 +1,14 @@
+use Rattle.std.proofs.Common.{rules, arith, refl}
+use Rattle.pgp_base.specs.Wire.{oid}
+use Rattle.pgp_base.proofs.Causes.{count_fits}
+use Rattle.pgp_base.proofs.Parts.{counted_up, sized2}
+use Rattle.pgp_frontend.proofs.counted.put_oids.Goals as goal
+
+pub patch_u16-requires : goal.patch_u16-requires
+patch_u16-requires g c =
+    omega (arith, sized2 (g.B.Buffer.bytes c.args.buf.now) _ _ _ refl c.loop-item.invariant.2)
+
+pub returns-clause-ok : goal.returns-clause-ok
+returns-clause-ok g c =
+    let i = c.loop-item.invariant in
+    (c.loop-item.yielded, search rules, i.1, count_fits _ (omega arith), counted_up oid c.loop-item.yielded _ _ _ _ _ i.2 c.len-base.ensures.value i.0 c.patch_u16.ensures)

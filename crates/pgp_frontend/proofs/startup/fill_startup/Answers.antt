@@ -1,0 +1,49 @@
+use Rattle.std.proofs.Common.{rules, [], ◌∷◌, refl, inl, inr, map}
+use Rattle.std.specs.Prelude.{pos}
+use Rattle.std.specs.Prelude.{FitsSigned}
+use Rattle.std.specs.Int.{w32}
+use Rattle.pgp_base.proofs.Parts.{if_err_at}
+use Rattle.pgp_frontend.specs.ClientMessage.{Startup}
+use Rattle.pgp_frontend.specs.Given.{shown}
+use Rattle.pgp_frontend.specs.Payload.{Int32, Pairs}
+use Rattle.pgp_frontend.proofs.Fields.{cause_more, cause_here}
+use Rattle.pgp_frontend.proofs.Frames.{frame_room, frame_done, frame_fits, frame_passes}
+use Rattle.pgp_frontend.proofs.Texts.{part_more, first_part}
+use Rattle.pgp_frontend.proofs.startup.fill_startup.Goals as goal
+
+pub returns-in_err-put_pairs-clause-cause : goal.returns-in_err-put_pairs-clause-cause
+returns-in_err-put_pairs-clause-cause g c =
+    if_err_at _ _ _ c.from_residual-in_err-put_pairs.ensures.1
+    (elim c.in_err-put_pairs.ensures.cause [
+      | inl memory ↦ inl memory
+      | inr refused ↦ inr (inl (_, (refused.0, refused.1, refl), cause_here (Int32 (pos 196608) ∷ []) (Pairs (map shown refused.0)) [] _ refl refused.2))
+    ])
+
+pub finish_body-requires : goal.finish_body-requires
+finish_body-requires g c =
+    let k = c.in_ok-put_pairs.ensures.ok in
+    let all = part_more (Int32 (pos 196608) ∷ []) (Pairs (map shown k.0)) _ _ _ (first_part (Int32 (pos 196608)) _ _ c.in_ok-put_int32.ensures.ok) k.3 in
+    frame_room (Int32 (pos 196608) ∷ Pairs (map shown k.0) ∷ []) (g.B.Buffer.bytes c.args.buf.now) _ _ _ c.in_ok-put_u32.ensures.ok all c.len-base.ensures.value
+
+pub returns-in_err-finish_body-clause-cause : goal.returns-in_err-finish_body-clause-cause
+returns-in_err-finish_body-clause-cause g c =
+    let k = c.in_ok-put_pairs.ensures.ok in
+    let all = part_more (Int32 (pos 196608) ∷ []) (Pairs (map shown k.0)) _ _ _ (first_part (Int32 (pos 196608)) _ _ c.in_ok-put_int32.ensures.ok) k.3 in
+    let clean = cause_more (Int32 (pos 196608) ∷ []) (Pairs (map shown k.0)) refl k.2 in
+    if_err_at _ _ _ c.from_residual-in_err-finish_body.ensures.1
+    (inr (inr (Startup (map shown k.0), (k.0, k.1, refl), frame_passes (Int32 (pos 196608) ∷ Pairs (map shown k.0) ∷ []) (g.B.Buffer.bytes c.args.buf.now) _ _ _ c.in_ok-put_u32.ensures.ok all c.len-base.ensures.value _ clean c.in_err-finish_body.ensures.cause)))
+
+pub returns-clause-ok : goal.returns-clause-ok
+returns-clause-ok g c =
+    let k = c.in_ok-put_pairs.ensures.ok in
+    let all = part_more (Int32 (pos 196608) ∷ []) (Pairs (map shown k.0)) _ _ _ (first_part (Int32 (pos 196608)) _ _ c.in_ok-put_int32.ensures.ok) k.3 in
+    let clean = cause_more (Int32 (pos 196608) ∷ []) (Pairs (map shown k.0)) refl k.2 in
+    let w = c.in_ok-finish_body.ensures in
+    let version : FitsSigned w32 (pos 196608) = search rules in
+    record {
+      message = Startup (map shown k.0);
+      whole = (k.0, k.1, refl);
+      in_range = (version, (tt, tt));
+      none = frame_fits (Int32 (pos 196608) ∷ Pairs (map shown k.0) ∷ []) (g.B.Buffer.bytes c.args.buf.now) _ _ _ c.in_ok-put_u32.ensures.ok all c.len-base.ensures.value clean w.fits;
+      appended = frame_done (Int32 (pos 196608) ∷ Pairs (map shown k.0) ∷ []) (g.B.Buffer.bytes c.args.buf.now) _ _ _ c.in_ok-put_u32.ensures.ok all c.len-base.ensures.value _ w.ok;
+    }

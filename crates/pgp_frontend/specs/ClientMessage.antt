@@ -1,0 +1,32 @@
+-- The messages of a client.
+-- PostgreSQL manual, "Message Formats".
+use Rattle.std.specs.Prelude.{ℕ, ℤ, List, Option}
+
+-- A text is its bytes without the 0 byte behind it, a value its bytes, or none for a null.
+pub data ClientMessage : Type 0 where
+  -- behind a tag
+  Bind : (portal statement : List ℕ) (formats : List ℤ) (values : List (Option (List ℕ))) (result_formats : List ℤ) → ClientMessage
+  Close : (variant : ℕ) (name : List ℕ) → ClientMessage
+  CopyData : (bytes : List ℕ) → ClientMessage
+  CopyDone : ClientMessage
+  CopyFail : (message : List ℕ) → ClientMessage
+  Describe : (variant : ℕ) (name : List ℕ) → ClientMessage
+  Execute : (portal : List ℕ) (max_rows : ℤ) → ClientMessage
+  Flush : ClientMessage
+  Parse : (name query : List ℕ) (param_types : List ℕ) → ClientMessage
+  PasswordMessage : (password : List ℕ) → ClientMessage
+  Query : (query : List ℕ) → ClientMessage
+  SaslInitialResponse : (mechanism response : List ℕ) → ClientMessage
+  SaslResponse : (response : List ℕ) → ClientMessage
+  Sync : ClientMessage
+  Terminate : ClientMessage
+  -- the opening packets
+  Startup : (parameters : List (List ℕ × List ℕ)) → ClientMessage
+  CancelRequest : (process_id secret_key : ℤ) → ClientMessage
+  SslRequest : ClientMessage
+
+-- The three messages of tag `p` aren't told apart by their bytes: the server knows which it expects.
+pub data PasswordKind : Type 0 where
+  Password : PasswordKind
+  Initial : PasswordKind
+  Response : PasswordKind

@@ -1,0 +1,6 @@
+pub mod ClientMessage
+pub mod Given
+pub mod Opening
+pub mod Payload
+pub mod Reading
+pub mod View

@@ -1,0 +1,153 @@
+-- What each message of a client is made of, and why it has no spelling.
+-- PostgreSQL manual, "Message Formats".
+use Rattle.std.specs.Prelude.{ℕ, ◌+◌, ◌^◌, ◌<◌, ℤ, pos, List, [], ◌∷◌, ◌++◌, length, map, Option, Some, None, Result, FitsSigned, All}
+use Rattle.std.specs.List.{flat_map}
+use Rattle.std.specs.Int.{w16, w32}
+use Rattle.pgp_base.specs.Wire.{int16, int32, uint32, oid, text, counted, nullable, frame}
+use Rattle.pgp_base.specs.Cause.{Cause, either, first, text_cause, length_cause, count_cause, nullable_cause, counted_cause, Writes}
+use Rattle.pgp_base.specs.declared.error.Error.{Error}
+use Rattle.pgp_frontend.specs.ClientMessage.{ClientMessage, Bind, Close, CopyData, CopyDone, CopyFail, Describe, Execute, Flush, Parse, PasswordMessage, Query, SaslInitialResponse, SaslResponse, Sync, Terminate, Startup, CancelRequest, SslRequest, PasswordKind, Password, Initial, Response}
+
+-- The parts of messages.
+pub data Part : Type 0 where
+  Byte : ℕ → Part
+  Int32 : ℤ → Part
+  Text : List ℕ → Part
+  -- a count, and each number, identifier or value
+  Int16s : List ℤ → Part
+  Oids : List ℕ → Part
+  Values : List (Option (List ℕ)) → Part
+  -- a length, and so many bytes
+  Sized : List ℕ → Part
+  -- all bytes that are left
+  Rest : List ℕ → Part
+  -- names and values, and a 0 byte behind them
+  Pairs : List (List ℕ × List ℕ) → Part
+
+abbrev pub pair : List ℕ × List ℕ → List ℕ
+pair p = text p.0 ++ text p.1
+
+abbrev pub spelling : Part → List ℕ
+spelling (Byte n) = n ∷ []
+spelling (Int32 z) = int32 z
+spelling (Text z) = text z
+spelling (Int16s zs) = counted int16 zs
+spelling (Oids ns) = counted oid ns
+spelling (Values vs) = counted nullable vs
+spelling (Sized z) = nullable (Some z)
+spelling (Rest z) = z
+spelling (Pairs ps) = flat_map pair ps ++ 0 ∷ []
+
+abbrev pub pair_cause : List ℕ × List ℕ → Cause
+pair_cause p = either (text_cause p.0) (text_cause p.1)
+
+abbrev pub part_cause : Part → Cause
+part_cause (Byte n) = None
+part_cause (Int32 z) = None
+part_cause (Text z) = text_cause z
+part_cause (Int16s zs) = count_cause (length zs)
+part_cause (Oids ns) = count_cause (length ns)
+part_cause (Values vs) = counted_cause nullable_cause vs
+part_cause (Sized z) = length_cause (length z)
+part_cause (Rest z) = None
+part_cause (Pairs ps) = first (map pair_cause ps)
+
+-- the numbers are in their fields' ranges
+abbrev pub InRange : Part → Type 0
+InRange (Int32 z) = FitsSigned w32 z
+InRange (Int16s zs) = All (FitsSigned w16) zs
+InRange (Oids ns) = All (λ n. n < 2 ^ 32) ns
+InRange _ = Unit {0}
+
+abbrev pub EachInRange : List Part → Type 0
+EachInRange [] = Unit {0}
+EachInRange (p ∷ ps) = InRange p × EachInRange ps
+
+-- Messages: the tag, where there is one, and the parts in order.
+
+abbrev pub tag_of : ClientMessage → Option ℕ
+tag_of (Bind portal statement formats values result_formats) = Some 66
+tag_of (Close variant name) = Some 67
+tag_of (CopyData bytes) = Some 100
+tag_of CopyDone = Some 99
+tag_of (CopyFail message) = Some 102
+tag_of (Describe variant name) = Some 68
+tag_of (Execute portal max_rows) = Some 69
+tag_of Flush = Some 72
+tag_of (Parse name query param_types) = Some 80
+tag_of (PasswordMessage password) = Some 112
+tag_of (Query query) = Some 81
+tag_of (SaslInitialResponse mechanism response) = Some 112
+tag_of (SaslResponse response) = Some 112
+tag_of Sync = Some 83
+tag_of Terminate = Some 88
+tag_of (Startup parameters) = None
+tag_of (CancelRequest process_id secret_key) = None
+tag_of SslRequest = None
+
+-- which of the messages of tag `p` it is
+abbrev pub kind_of : ClientMessage → Option PasswordKind
+kind_of (PasswordMessage password) = Some Password
+kind_of (SaslInitialResponse mechanism response) = Some Initial
+kind_of (SaslResponse response) = Some Response
+kind_of _ = None
+
+abbrev pub parts : ClientMessage → List Part
+parts (Bind portal statement formats values result_formats) = Text portal ∷ Text statement ∷ Int16s formats ∷ Values values ∷ Int16s result_formats ∷ []
+parts (Close variant name) = Byte variant ∷ Text name ∷ []
+parts (CopyData bytes) = Rest bytes ∷ []
+parts CopyDone = []
+parts (CopyFail message) = Text message ∷ []
+parts (Describe variant name) = Byte variant ∷ Text name ∷ []
+parts (Execute portal max_rows) = Text portal ∷ Int32 max_rows ∷ []
+parts Flush = []
+parts (Parse name query param_types) = Text name ∷ Text query ∷ Oids param_types ∷ []
+parts (PasswordMessage password) = Text password ∷ []
+parts (Query query) = Text query ∷ []
+parts (SaslInitialResponse mechanism response) = Text mechanism ∷ Sized response ∷ []
+parts (SaslResponse response) = Rest response ∷ []
+parts Sync = []
+parts Terminate = []
+-- the codes: version 3.0, and what stands in the place of a version
+parts (Startup parameters) = Int32 (pos 196608) ∷ Pairs parameters ∷ []
+parts (CancelRequest process_id secret_key) = Int32 (pos 80877102) ∷ Int32 process_id ∷ Int32 secret_key ∷ []
+parts SslRequest = Int32 (pos 80877103) ∷ []
+
+-- these parts, one after another
+abbrev pub joined : List Part → List ℕ
+joined ps = flat_map spelling ps
+
+abbrev pub payload : ClientMessage → List ℕ
+payload m = joined (parts m)
+
+-- a tagged message is a frame; an opening packet begins with its length
+abbrev pub framed : Option ℕ → List ℕ → List ℕ
+framed (Some tag) body = frame tag body
+framed None body = uint32 (length body + 4) ++ body
+
+abbrev pub bytes_of : ClientMessage → List ℕ
+bytes_of m = framed (tag_of m) (payload m)
+
+-- the first cause of these parts, from the left
+abbrev pub parts_cause : List Part → Cause
+parts_cause ps = first (map part_cause ps)
+
+-- a frame's own length stands behind its parts
+abbrev pub frame_cause : List Part → Cause
+frame_cause ps = either (parts_cause ps) (length_cause (length (joined ps) + 4))
+
+-- why a message has no spelling
+abbrev pub cause : ClientMessage → Cause
+cause m = frame_cause (parts m)
+
+abbrev pub IsInRange : ClientMessage → Type 0
+IsInRange m = EachInRange (parts m)
+
+-- A writer of these parts behind this tag: it appends the frame, and there is no cause; or it leaves
+-- the bytes, and is refused for want of memory or for the first cause.
+abbrev pub WritesFrame : Option ℕ → List Part → List ℕ → List ℕ → Result (Unit {0}) Error → Type 0
+WritesFrame tag ps old new result = Writes (framed tag (joined ps)) (frame_cause ps) old new result
+
+-- The call of a writer of the message.
+abbrev pub WritesMessage : ClientMessage → List ℕ → List ℕ → Result (Unit {0}) Error → Type 0
+WritesMessage m old new result = IsInRange m × Writes (bytes_of m) (cause m) old new result

@@ -1,0 +1,36 @@
+//! The answers to an authentication request. All have the tag `p`.
+
+ghost use Rattle.pgp_frontend.specs.ClientMessage.{PasswordMessage, SaslInitialResponse, SaslResponse};
+ghost use Rattle.pgp_frontend.specs.Payload.{WritesMessage};
+
+use crate::field::{Field, message};
+use pgp_base::{Buffer, Error};
+
+/// A password, or the text of its digest.
+pub fn password_message<B: Buffer>(password: &[u8], buf: &mut B) -> Result<(), Error>
+    ensures { WritesMessage (PasswordMessage password.now) (B.bytes buf.old) (B.bytes buf.new) result }
+{
+    message(b'p', &[Field::Text(password)], buf)
+}
+
+/// The first message of a SASL exchange.
+pub fn sasl_initial_response<B: Buffer>(
+    mechanism: &str,
+    data: &[u8],
+    buf: &mut B,
+) -> Result<(), Error>
+    ensures { WritesMessage (SaslInitialResponse mechanism.now «data».now) (B.bytes buf.old) (B.bytes buf.new) result }
+{
+    message(
+        b'p',
+        &[Field::Text(mechanism.as_bytes()), Field::Sized(data)],
+        buf,
+    )
+}
+
+/// A later message of a SASL exchange.
+pub fn sasl_response<B: Buffer>(data: &[u8], buf: &mut B) -> Result<(), Error>
+    ensures { WritesMessage (SaslResponse «data».now) (B.bytes buf.old) (B.bytes buf.new) result }
+{
+    message(b'p', &[Field::Rest(data)], buf)
+}

@@ -1,0 +1,86 @@
+//! Copying data to the server.
+
+ghost use Rattle.std.specs.Prelude.{◌≡◌, ◌+◌, ◌<◌, ◌^◌, length, Some, None, Ok, OnOk, OnErr, IfOk, IfErr, ◌∷◌, ◌++◌};
+ghost use Rattle.pgp_base.specs.Wire.{uint32};
+ghost use Rattle.pgp_base.specs.Calls.{IsFrontOf};
+ghost use Rattle.pgp_frontend.specs.ClientMessage.{CopyData as DataMessage, CopyDone, CopyFail};
+ghost use Rattle.pgp_frontend.specs.Payload.{cause, WritesMessage};
+
+use crate::field::{Field, message};
+use bytes::Buf;
+use pgp_base::{Buffer, Error, put_u8, put_u32};
+use std::marker::Model;
+
+/// A piece of the data, whose size is known to fit a message.
+#[derive(Drop)]
+pub struct CopyData<T: Buf> {
+    buf: T,
+    size: u32,
+}
+
+// A piece is seen as the buffer that it was made of.
+impl<T: Buf> Model for CopyData<T> {
+    ghost Value = { T };
+
+    ghost view = { λ c. c.buf };
+
+    ghost invariant = { λ c. (c.size ≡ length (T.unread c.buf) + 4) × (c.size < 2 ^ 31) };
+}
+
+impl<T: Buf + Drop> CopyData<T> {
+    /// Takes the bytes that are left to read of `buf`. Nothing is copied.
+    pub fn new(buf: T) -> Result<CopyData<T>, Error>
+        ensures ok { IfOk result (λ piece. (piece ≡ buf) × (cause (DataMessage (T.unread buf)) ≡ None)) }
+        ensures err { IfErr result (λ e. cause (DataMessage (T.unread buf)) ≡ Some e) }
+    {
+        let bytes = buf.remaining();
+        if bytes > 0x7fff_fffb {
+            return Err(Error::TooLarge);
+        }
+        let size = bytes as u32 + 4;
+        Ok(CopyData { buf, size })
+    }
+
+    /// Appends the message. Where memory is refused it hands itself back, nothing read from it.
+    pub fn write<B: Buffer>(self, out: &mut B) -> Result<(), CopyData<T>>
+        ensures ok { OnOk result (WritesMessage (DataMessage (T.unread self)) (B.bytes out.old) (B.bytes out.new) (Ok tt)) }
+        ensures err { IfErr result (λ piece. (piece ≡ self) × (B.bytes out.new ≡ B.bytes out.old)) }
+    {
+        let CopyData { mut buf, size } = self;
+        let start = out.len();
+        match fill(size, &mut buf, out) {
+            Ok(()) => Ok(()),
+            Err(_) => {
+                out.truncate(start);
+                Err(CopyData { buf, size })
+            }
+        }
+    }
+}
+
+// The frame of what is left of `buf`. A refusal reads nothing, and leaves what stood there as a front.
+fn fill<T: Buf, B: Buffer>(size: u32, buf: &mut T, out: &mut B) -> Result<(), Error>
+    ensures ok { OnOk result (B.bytes out.new ≡ B.bytes out.old ++ (100 ∷ uint32 size ++ T.unread buf.old)) }
+    ensures kept { OnErr result (buf.new ≡ buf.old) }
+    ensures err { OnErr result (IsFrontOf (B.bytes out.old) (B.bytes out.new)) }
+{
+    out.reserve(size as usize + 1)?;
+    put_u8(out, b'd')?;
+    put_u32(out, size)?;
+    out.append_from(buf)?;
+    Ok(())
+}
+
+/// The end of the data.
+pub fn copy_done<B: Buffer>(buf: &mut B) -> Result<(), Error>
+    ensures { WritesMessage CopyDone (B.bytes buf.old) (B.bytes buf.new) result }
+{
+    message(b'c', &[], buf)
+}
+
+/// Gives the copy up, with a text for the server's report.
+pub fn copy_fail<B: Buffer>(reason: &str, buf: &mut B) -> Result<(), Error>
+    ensures { WritesMessage (CopyFail reason.now) (B.bytes buf.old) (B.bytes buf.new) result }
+{
+    message(b'f', &[Field::Text(reason.as_bytes())], buf)
+}

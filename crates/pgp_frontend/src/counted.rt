@@ -1,0 +1,67 @@
+//! Counts, and the numbers that come from an iterator. A refusal leaves what stood there as a front.
+
+ghost use Rattle.std.specs.Prelude.{◌≡◌, ℕ, ℤ, ◌^◌, ◌<◌, ◌⊎◌, List, ◌++◌, length, Option, Some, None, OnOk, OnErr, IfErr, All, FitsSigned};
+ghost use Rattle.std.specs.Int.{w16};
+ghost use Rattle.std.specs.Iterator.{IsFiniteIterable};
+ghost use Rattle.pgp_base.specs.Wire.{int16, oid, counted};
+ghost use Rattle.pgp_base.specs.Cause.{count_cause};
+ghost use Rattle.pgp_base.specs.Calls.{IsFrontOf, Came};
+ghost use Rattle.pgp_frontend.specs.Given.{Begun};
+
+use pgp_base::{Buffer, Error, Oid, patch_u16, put_u16, put_u32};
+
+/// Appends how many identifiers there are, and each.
+pub fn put_oids<B: Buffer, I: IntoIterator<Item = Oid> + Drop>(
+    items: I,
+    buf: &mut B,
+) -> Result<(), Error>
+where
+    I::IntoIter: Drop,
+    requires { IsFiniteIterable I.into_iter_gives I.IntoIter.can_next I.IntoIter.remaining items }
+    ensures ok { OnOk result ((xs : List ℕ) × Came I.into_iter_gives I.IntoIter.next_gives items xs None
+        × All (λ n. n < 2 ^ 32) xs × (count_cause (length xs) ≡ None) × (B.bytes buf.new ≡ B.bytes buf.old ++ counted oid xs)) }
+    ensures err { OnErr result (IsFrontOf (B.bytes buf.old) (B.bytes buf.new)) }
+    ensures cause { IfErr result (λ e. (e ≡ Error.OutOfMemory)
+        ⊎ ((xs : List ℕ) × Begun I.into_iter_gives I.IntoIter.next_gives items xs × (count_cause (length xs) ≡ Some e))) }
+{
+    let base = buf.len();
+    put_u16(buf, 0)?;
+    let mut count = 0u16;
+    for item in items {
+        if count == u16::MAX {
+            return Err(Error::TooLarge);
+        }
+        put_u32(buf, item)?;
+        count += 1;
+    }
+    patch_u16(buf, base, count);
+    Ok(())
+}
+
+/// Appends how many numbers there are, and each.
+pub fn put_int16s<B: Buffer, I: IntoIterator<Item = i16> + Drop>(
+    items: I,
+    buf: &mut B,
+) -> Result<(), Error>
+where
+    I::IntoIter: Drop,
+    requires { IsFiniteIterable I.into_iter_gives I.IntoIter.can_next I.IntoIter.remaining items }
+    ensures ok { OnOk result ((xs : List ℤ) × Came I.into_iter_gives I.IntoIter.next_gives items xs None
+        × All (FitsSigned w16) xs × (count_cause (length xs) ≡ None) × (B.bytes buf.new ≡ B.bytes buf.old ++ counted int16 xs)) }
+    ensures err { OnErr result (IsFrontOf (B.bytes buf.old) (B.bytes buf.new)) }
+    ensures cause { IfErr result (λ e. (e ≡ Error.OutOfMemory)
+        ⊎ ((xs : List ℤ) × Begun I.into_iter_gives I.IntoIter.next_gives items xs × (count_cause (length xs) ≡ Some e))) }
+{
+    let base = buf.len();
+    put_u16(buf, 0)?;
+    let mut count = 0u16;
+    for item in items {
+        if count == u16::MAX {
+            return Err(Error::TooLarge);
+        }
+        put_u16(buf, item.cast_unsigned())?;
+        count += 1;
+    }
+    patch_u16(buf, base, count);
+    Ok(())
+}

@@ -1,0 +1,244 @@
+//! The extended query protocol.
+
+ghost use Rattle.std.specs.Prelude.{◌≡◌, ℕ, ℤ, ◌⊎◌, List, [], ◌∷◌, ◌++◌, Option, Some, None, OnOk, OnErr, IfErr, All, FitsSigned};
+ghost use Rattle.std.specs.Int.{w16};
+ghost use Rattle.std.specs.Iterator.{IsFiniteIterable};
+ghost use Rattle.pgp_base.specs.Wire.{uint32};
+ghost use Rattle.pgp_base.specs.Calls.{IsFrontOf, Came, OwesValues};
+ghost use Rattle.pgp_frontend.specs.Given.{Begun, Appended, Refused, WritesGiven, ParseWhole, ParseReached, BindWhole, BindReached, BindRefused, WritesBind};
+ghost use Rattle.pgp_frontend.specs.ClientMessage.{Close, Describe, Execute, Flush, Sync};
+ghost use Rattle.pgp_frontend.specs.Payload.{Text, Int16s, joined, parts_cause, WritesMessage};
+
+use crate::counted::{put_int16s, put_oids};
+use crate::field::{Field, message, put_fields, room};
+use crate::values::put_values;
+use pgp_base::{BindError, Buffer, Error, IsNull, Oid, finish_body, put_u8, put_u32};
+
+/// Closes a statement (`S`) or a portal (`P`). The variant may be any byte.
+pub fn close<B: Buffer>(variant: u8, name: &str, buf: &mut B) -> Result<(), Error>
+    ensures { WritesMessage (Close variant name.now) (B.bytes buf.old) (B.bytes buf.new) result }
+{
+    message(
+        b'C',
+        &[Field::Byte(variant), Field::Text(name.as_bytes())],
+        buf,
+    )
+}
+
+/// Asks what a statement (`S`) or a portal (`P`) gives. The variant may be any byte.
+pub fn describe<B: Buffer>(variant: u8, name: &str, buf: &mut B) -> Result<(), Error>
+    ensures { WritesMessage (Describe variant name.now) (B.bytes buf.old) (B.bytes buf.new) result }
+{
+    message(
+        b'D',
+        &[Field::Byte(variant), Field::Text(name.as_bytes())],
+        buf,
+    )
+}
+
+/// Runs a portal, for at most so many rows; 0 is no limit.
+pub fn execute<B: Buffer>(portal: &str, max_rows: i32, buf: &mut B) -> Result<(), Error>
+    ensures { WritesMessage (Execute portal.now max_rows) (B.bytes buf.old) (B.bytes buf.new) result }
+{
+    message(
+        b'E',
+        &[Field::Text(portal.as_bytes()), Field::Int32(max_rows)],
+        buf,
+    )
+}
+
+/// Asks for what the server holds back.
+pub fn flush<B: Buffer>(buf: &mut B) -> Result<(), Error>
+    ensures { WritesMessage Flush (B.bytes buf.old) (B.bytes buf.new) result }
+{
+    message(b'H', &[], buf)
+}
+
+/// Ends a series of extended queries.
+pub fn sync<B: Buffer>(buf: &mut B) -> Result<(), Error>
+    ensures { WritesMessage Sync (B.bytes buf.old) (B.bytes buf.new) result }
+{
+    message(b'S', &[], buf)
+}
+
+// The message. A refusal leaves what stood there as a front.
+fn fill_parse<B: Buffer, I: IntoIterator<Item = Oid> + Drop>(
+    name: &str,
+    query: &str,
+    param_types: I,
+    buf: &mut B,
+) -> Result<(), Error>
+where
+    I::IntoIter: Drop,
+    requires { IsFiniteIterable I.into_iter_gives I.IntoIter.can_next I.IntoIter.remaining param_types }
+    ensures ok { OnOk result (Appended
+        (ParseWhole I.into_iter_gives I.IntoIter.next_gives name.now query.now param_types)
+        (ParseReached I.into_iter_gives I.IntoIter.next_gives name.now query.now param_types)
+        (B.bytes buf.old) (B.bytes buf.new)) }
+    ensures err { OnErr result (IsFrontOf (B.bytes buf.old) (B.bytes buf.new)) }
+    ensures cause { IfErr result (Refused
+        (ParseWhole I.into_iter_gives I.IntoIter.next_gives name.now query.now param_types)
+        (ParseReached I.into_iter_gives I.IntoIter.next_gives name.now query.now param_types)) }
+{
+    let texts = [Field::Text(name.as_bytes()), Field::Text(query.as_bytes())];
+    buf.reserve(room(&texts))?;
+    put_u8(buf, b'P')?;
+    let base = buf.len();
+    put_u32(buf, 0)?;
+    put_fields(&texts, buf)?;
+    put_oids(param_types, buf)?;
+    finish_body(buf, base)?;
+    Ok(())
+}
+
+/// Prepares a statement of this name. The identifiers are the types of the first parameters; 0 leaves
+/// one to the server. An identifier past 65,535 is refused before it is written.
+pub fn parse<B: Buffer, I: IntoIterator<Item = Oid> + Drop>(
+    name: &str,
+    query: &str,
+    param_types: I,
+    buf: &mut B,
+) -> Result<(), Error>
+where
+    I::IntoIter: Drop,
+    requires { IsFiniteIterable I.into_iter_gives I.IntoIter.can_next I.IntoIter.remaining param_types }
+    ensures { WritesGiven
+        (ParseWhole I.into_iter_gives I.IntoIter.next_gives name.now query.now param_types)
+        (ParseReached I.into_iter_gives I.IntoIter.next_gives name.now query.now param_types)
+        (B.bytes buf.old) (B.bytes buf.new) result }
+{
+    let start = buf.len();
+    match fill_parse(name, query, param_types, buf) {
+        Ok(()) => Ok(()),
+        Err(e) => {
+            buf.truncate(start);
+            Err(e)
+        }
+    }
+}
+
+// The message up to the values. A refusal leaves what stood there as a front.
+fn fill_formats<B: Buffer, I: IntoIterator<Item = i16> + Drop>(
+    portal: &str,
+    statement: &str,
+    formats: I,
+    buf: &mut B,
+) -> Result<(), Error>
+where
+    I::IntoIter: Drop,
+    requires { IsFiniteIterable I.into_iter_gives I.IntoIter.can_next I.IntoIter.remaining formats }
+    ensures ok { OnOk result ((fs : List ℤ) × Came I.into_iter_gives I.IntoIter.next_gives formats fs None × All (FitsSigned w16) fs
+        × (parts_cause (Text portal.now ∷ Text statement.now ∷ Int16s fs ∷ []) ≡ None)
+        × (B.bytes buf.new ≡ B.bytes buf.old ++ 66 ∷ [] ++ uint32 0 ++ joined (Text portal.now ∷ Text statement.now ∷ Int16s fs ∷ []))) }
+    ensures err { OnErr result (IsFrontOf (B.bytes buf.old) (B.bytes buf.new)) }
+    ensures cause { IfErr result (λ e. (e ≡ Error.OutOfMemory)
+        ⊎ ((parts_cause (Text portal.now ∷ Text statement.now ∷ []) ≡ Some e)
+        ⊎ ((fs : List ℤ) × Begun I.into_iter_gives I.IntoIter.next_gives formats fs × (parts_cause (Text portal.now ∷ Text statement.now ∷ Int16s fs ∷ []) ≡ Some e)))) }
+{
+    let texts = [
+        Field::Text(portal.as_bytes()),
+        Field::Text(statement.as_bytes()),
+    ];
+    buf.reserve(room(&texts))?;
+    put_u8(buf, b'B')?;
+    put_u32(buf, 0)?;
+    put_fields(&texts, buf)?;
+    put_int16s(formats, buf)?;
+    Ok(())
+}
+
+// The message. A refusal leaves what stood there as a front.
+fn fill_bind<
+    B: Buffer,
+    T: Drop,
+    E: Drop,
+    I: IntoIterator<Item = i16> + Drop,
+    J: IntoIterator<Item = T> + Drop,
+    F: FnMut(T, &mut B) -> Result<IsNull, E> + Drop,
+    K: IntoIterator<Item = i16> + Drop,
+>(
+    portal: &str,
+    statement: &str,
+    formats: I,
+    values: J,
+    serializer: F,
+    result_formats: K,
+    buf: &mut B,
+) -> Result<(), BindError<E>>
+where
+    I::IntoIter: Drop,
+    J::IntoIter: Drop,
+    K::IntoIter: Drop,
+    requires formats_end { IsFiniteIterable I.into_iter_gives I.IntoIter.can_next I.IntoIter.remaining formats }
+    requires values_end { IsFiniteIterable J.into_iter_gives J.IntoIter.can_next J.IntoIter.remaining values }
+    requires result_formats_end { IsFiniteIterable K.into_iter_gives K.IntoIter.can_next K.IntoIter.remaining result_formats }
+    requires callable { F.IsAlwaysCallable serializer }
+    requires owes { OwesValues B.bytes F.pre F.step }
+    ensures ok { OnOk result (Appended
+        (BindWhole B.bytes F.step I.into_iter_gives I.IntoIter.next_gives J.into_iter_gives J.IntoIter.next_gives K.into_iter_gives K.IntoIter.next_gives
+        portal.now statement.now formats values serializer result_formats (B.bytes buf.old))
+        (BindReached B.bytes F.step I.into_iter_gives I.IntoIter.next_gives J.into_iter_gives J.IntoIter.next_gives K.into_iter_gives K.IntoIter.next_gives
+        portal.now statement.now formats values serializer result_formats (B.bytes buf.old))
+        (B.bytes buf.old) (B.bytes buf.new)) }
+    ensures err { OnErr result (IsFrontOf (B.bytes buf.old) (B.bytes buf.new)) }
+    ensures cause { IfErr result (BindRefused B.bytes F.step I.into_iter_gives I.IntoIter.next_gives J.into_iter_gives J.IntoIter.next_gives K.into_iter_gives K.IntoIter.next_gives
+        portal.now statement.now formats values serializer result_formats (B.bytes buf.old)) }
+{
+    let base = buf.len() + 1;
+    fill_formats(portal, statement, formats, buf)?;
+    put_values(values, serializer, buf)?;
+    put_int16s(result_formats, buf)?;
+    finish_body(buf, base)?;
+    Ok(())
+}
+
+/// Binds values to a statement's parameters, and makes a portal of it. The formats are 0 for text
+/// and 1 for binary: none for all text, one for all, or one for each. The serializer appends the
+/// bytes of each value, or answers that it is null and appends nothing; `Conversion` is its refusal.
+/// An item past 65,535 of a list is refused before it is written.
+pub fn bind<
+    B: Buffer,
+    T: Drop,
+    E: Drop,
+    I: IntoIterator<Item = i16> + Drop,
+    J: IntoIterator<Item = T> + Drop,
+    F: FnMut(T, &mut B) -> Result<IsNull, E> + Drop,
+    K: IntoIterator<Item = i16> + Drop,
+>(
+    portal: &str,
+    statement: &str,
+    formats: I,
+    values: J,
+    serializer: F,
+    result_formats: K,
+    buf: &mut B,
+) -> Result<(), BindError<E>>
+where
+    I::IntoIter: Drop,
+    J::IntoIter: Drop,
+    K::IntoIter: Drop,
+    requires formats_end { IsFiniteIterable I.into_iter_gives I.IntoIter.can_next I.IntoIter.remaining formats }
+    requires values_end { IsFiniteIterable J.into_iter_gives J.IntoIter.can_next J.IntoIter.remaining values }
+    requires result_formats_end { IsFiniteIterable K.into_iter_gives K.IntoIter.can_next K.IntoIter.remaining result_formats }
+    requires callable { F.IsAlwaysCallable serializer }
+    requires owes { OwesValues B.bytes F.pre F.step }
+    ensures { WritesBind B.bytes F.step I.into_iter_gives I.IntoIter.next_gives J.into_iter_gives J.IntoIter.next_gives K.into_iter_gives K.IntoIter.next_gives
+        portal.now statement.now formats values serializer result_formats (B.bytes buf.old) (B.bytes buf.new) result }
+{
+    let start = buf.len();
+    match fill_bind(
+        portal,
+        statement,
+        formats,
+        values,
+        serializer,
+        result_formats,
+        buf,
+    ) {
+        Ok(()) => Ok(()),
+        Err(e) => {
+            buf.truncate(start);
+            Err(e)
+        }
+    }
+}

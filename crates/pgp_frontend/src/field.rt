@@ -1,0 +1,128 @@
+//! Messages whose parts are known before the call.
+
+ghost use Rattle.std.specs.Prelude.{◌≡◌, ◌<◌, ◌^◌, ◌++◌, ◌⊎◌, Option, Some, None, OnOk, OnErr, IfErr};
+ghost use Rattle.std.specs.Prelude.{length};
+ghost use Rattle.pgp_base.specs.Wire.{int32, nullable};
+ghost use Rattle.pgp_base.specs.Cause.{length_cause};
+ghost use Rattle.pgp_base.specs.Calls.{IsFrontOf};
+ghost use Rattle.pgp_frontend.specs.Payload.{spelling, part_cause, parts_cause, joined, frame_cause, framed, WritesFrame};
+ghost use Rattle.pgp_frontend.specs.View.{part_of, parts_of};
+
+use pgp_base::{Buffer, Error, finish_body, length_field, put_u8, put_u32, write_cstr};
+
+/// A part of a message.
+#[derive(Clone, Copy)]
+pub enum Field<'a> {
+    Byte(u8),
+    Int32(i32),
+    Text(&'a [u8]),
+    /// A length, and so many bytes.
+    Sized(&'a [u8]),
+    /// All bytes that are left.
+    Rest(&'a [u8]),
+}
+
+/// How much room a message of these fields takes, at most what a frame can hold.
+pub fn room(fields: &[Field]) -> usize
+    ensures { result < 2 ^ 31 }
+{
+    let mut room = 5usize;
+    for field in fields {
+        let bytes = match field {
+            Field::Byte(_) | Field::Int32(_) => 0,
+            Field::Text(bytes) | Field::Sized(bytes) | Field::Rest(bytes) => bytes.len(),
+        };
+        room = room.saturating_add(bytes).saturating_add(4);
+    }
+    room.min(0x7fff_ffff)
+}
+
+/// Appends a number with a sign.
+#[tactic(auto, unfolding(pgp_base::specs::Wire::int32, pgp_base::specs::Wire::uint32))]
+pub fn put_int32<B: Buffer>(n: i32, buf: &mut B) -> Result<(), Error>
+    ensures ok { OnOk result (B.bytes buf.new ≡ B.bytes buf.old ++ int32 n) }
+    ensures err { OnErr result (B.bytes buf.new ≡ B.bytes buf.old) }
+    ensures cause { IfErr result (λ e. e ≡ Error.OutOfMemory) }
+{
+    put_u32(buf, n.cast_unsigned())
+}
+
+fn put_sized<B: Buffer>(bytes: &[u8], buf: &mut B) -> Result<(), Error>
+    ensures ok { OnOk result ((length_cause (length bytes.now) ≡ None) × (B.bytes buf.new ≡ B.bytes buf.old ++ nullable (Some bytes.now))) }
+    ensures err { OnErr result (IsFrontOf (B.bytes buf.old) (B.bytes buf.new)) }
+    ensures cause { IfErr result (λ e. (e ≡ Error.OutOfMemory) ⊎ (length_cause (length bytes.now) ≡ Some e)) }
+{
+    let size = length_field(bytes.len())?;
+    put_u32(buf, size)?;
+    buf.append(bytes)?;
+    Ok(())
+}
+
+fn put_field<B: Buffer>(field: &Field, buf: &mut B) -> Result<(), Error>
+    ensures ok { OnOk result ((part_cause (part_of field.now) ≡ None) × (B.bytes buf.new ≡ B.bytes buf.old ++ spelling (part_of field.now))) }
+    ensures err { OnErr result (IsFrontOf (B.bytes buf.old) (B.bytes buf.new)) }
+    ensures cause { IfErr result (λ e. (e ≡ Error.OutOfMemory) ⊎ (part_cause (part_of field.now) ≡ Some e)) }
+{
+    match field {
+        Field::Byte(n) => put_u8(buf, *n),
+        Field::Int32(n) => put_int32(*n, buf),
+        Field::Text(bytes) => write_cstr(bytes, buf),
+        Field::Sized(bytes) => put_sized(bytes, buf),
+        Field::Rest(bytes) => Ok(buf.append(bytes)?),
+    }
+}
+
+/// Appends the fields. A refusal leaves what stood there as a front.
+pub fn put_fields<B: Buffer>(fields: &[Field], buf: &mut B) -> Result<(), Error>
+    ensures ok { OnOk result ((parts_cause (parts_of fields.now) ≡ None) × (B.bytes buf.new ≡ B.bytes buf.old ++ joined (parts_of fields.now))) }
+    ensures err { OnErr result (IsFrontOf (B.bytes buf.old) (B.bytes buf.new)) }
+    ensures cause { IfErr result (λ e. (e ≡ Error.OutOfMemory) ⊎ (parts_cause (parts_of fields.now) ≡ Some e)) }
+{
+    for field in fields {
+        put_field(field, buf)?;
+    }
+    Ok(())
+}
+
+fn fill<B: Buffer>(fields: &[Field], buf: &mut B) -> Result<(), Error>
+    ensures ok { OnOk result ((frame_cause (parts_of fields.now) ≡ None) × (B.bytes buf.new ≡ B.bytes buf.old ++ framed None (joined (parts_of fields.now)))) }
+    ensures err { OnErr result (IsFrontOf (B.bytes buf.old) (B.bytes buf.new)) }
+    ensures cause { IfErr result (λ e. (e ≡ Error.OutOfMemory) ⊎ (frame_cause (parts_of fields.now) ≡ Some e)) }
+{
+    let base = buf.len();
+    put_u32(buf, 0)?;
+    put_fields(fields, buf)?;
+    finish_body(buf, base)?;
+    Ok(())
+}
+
+/// Appends an opening packet.
+pub fn packet<B: Buffer>(fields: &[Field], buf: &mut B) -> Result<(), Error>
+    ensures { WritesFrame None (parts_of fields.now) (B.bytes buf.old) (B.bytes buf.new) result }
+{
+    buf.reserve(room(fields))?;
+    let start = buf.len();
+    match fill(fields, buf) {
+        Ok(()) => Ok(()),
+        Err(e) => {
+            buf.truncate(start);
+            Err(e)
+        }
+    }
+}
+
+/// Appends a tagged message.
+pub fn message<B: Buffer>(tag: u8, fields: &[Field], buf: &mut B) -> Result<(), Error>
+    ensures { WritesFrame (Some tag) (parts_of fields.now) (B.bytes buf.old) (B.bytes buf.new) result }
+{
+    buf.reserve(room(fields))?;
+    let start = buf.len();
+    put_u8(buf, tag)?;
+    match fill(fields, buf) {
+        Ok(()) => Ok(()),
+        Err(e) => {
+            buf.truncate(start);
+            Err(e)
+        }
+    }
+}

@@ -1,0 +1,21 @@
+//! The messages of a client, to the byte.
+#![tactic(auto)]
+
+mod authentication;
+mod copy;
+mod counted;
+mod extended;
+mod field;
+pub mod laws;
+mod simple;
+mod startup;
+mod values;
+
+pub use authentication::{password_message, sasl_initial_response, sasl_response};
+pub use copy::{CopyData, copy_done, copy_fail};
+pub use extended::{bind, close, describe, execute, flush, parse, sync};
+pub use simple::{query, terminate};
+pub use startup::{cancel_request, ssl_request, startup_message};
+
+#[cfg(test)]
+mod tests;

@@ -1,0 +1,21 @@
+//! Simple queries, and the end of a session.
+
+ghost use Rattle.pgp_frontend.specs.ClientMessage.{Query, Terminate};
+ghost use Rattle.pgp_frontend.specs.Payload.{WritesMessage};
+
+use crate::field::{Field, message};
+use pgp_base::{Buffer, Error};
+
+/// A query of any number of statements.
+pub fn query<B: Buffer>(query: &str, buf: &mut B) -> Result<(), Error>
+    ensures { WritesMessage (Query query.now) (B.bytes buf.old) (B.bytes buf.new) result }
+{
+    message(b'Q', &[Field::Text(query.as_bytes())], buf)
+}
+
+/// The end of the session.
+pub fn terminate<B: Buffer>(buf: &mut B) -> Result<(), Error>
+    ensures { WritesMessage Terminate (B.bytes buf.old) (B.bytes buf.new) result }
+{
+    message(b'X', &[], buf)
+}

@@ -1,0 +1,109 @@
+//! The packets that open a connection. They have no tag: a code stands behind their length.
+
+ghost use Rattle.std.specs.Prelude.{◌≡◌, ℕ, List, ◌++◌, ◌⊎◌, map, Some, None, OnOk, OnErr, IfErr};
+ghost use Rattle.std.specs.Borrow.{Bor};
+ghost use Rattle.std.specs.Iterator.{IsFiniteIterable};
+ghost use Rattle.pgp_base.specs.Calls.{IsFrontOf, Came};
+ghost use Rattle.pgp_frontend.specs.ClientMessage.{CancelRequest, SslRequest};
+ghost use Rattle.pgp_frontend.specs.Given.{Begun, Appended, Refused, WritesGiven, StartupWhole, StartupReached, shown};
+ghost use Rattle.pgp_frontend.specs.Payload.{Pairs, spelling, part_cause, WritesMessage};
+
+use crate::field::{Field, packet, put_int32};
+use pgp_base::{Buffer, Error, finish_body, put_u8, put_u32, write_cstr};
+
+const VERSION_3_0: i32 = 196_608;
+
+const CANCEL_REQUEST: i32 = 80_877_102;
+
+const SSL_REQUEST: i32 = 80_877_103;
+
+/// Asks for the end of what another session runs.
+pub fn cancel_request<B: Buffer>(process_id: i32, secret_key: i32, buf: &mut B) -> Result<(), Error>
+    ensures { WritesMessage (CancelRequest process_id secret_key) (B.bytes buf.old) (B.bytes buf.new) result }
+{
+    packet(
+        &[
+            Field::Int32(CANCEL_REQUEST),
+            Field::Int32(process_id),
+            Field::Int32(secret_key),
+        ],
+        buf,
+    )
+}
+
+/// Asks for an encrypted session. The server answers with one byte, which is no message.
+pub fn ssl_request<B: Buffer>(buf: &mut B) -> Result<(), Error>
+    ensures { WritesMessage SslRequest (B.bytes buf.old) (B.bytes buf.new) result }
+{
+    packet(&[Field::Int32(SSL_REQUEST)], buf)
+}
+
+// The names and values, and a 0 byte. A refusal leaves what stood there as a front.
+fn put_pairs<'a, B: Buffer, I: IntoIterator<Item = (&'a str, &'a str)> + Drop>(
+    parameters: I,
+    buf: &mut B,
+) -> Result<(), Error>
+where
+    I::IntoIter: Drop,
+    requires { IsFiniteIterable I.into_iter_gives I.IntoIter.can_next I.IntoIter.remaining parameters }
+    ensures ok { OnOk result ((xs : List (Bor (List ℕ) × Bor (List ℕ))) × Came I.into_iter_gives I.IntoIter.next_gives parameters xs None
+        × (part_cause (Pairs (map shown xs)) ≡ None) × (B.bytes buf.new ≡ B.bytes buf.old ++ spelling (Pairs (map shown xs)))) }
+    ensures err { OnErr result (IsFrontOf (B.bytes buf.old) (B.bytes buf.new)) }
+    ensures cause { IfErr result (λ e. (e ≡ Error.OutOfMemory)
+        ⊎ ((xs : List (Bor (List ℕ) × Bor (List ℕ))) × Begun I.into_iter_gives I.IntoIter.next_gives parameters xs × (part_cause (Pairs (map shown xs)) ≡ Some e))) }
+{
+    for (name, value) in parameters {
+        write_cstr(name.as_bytes(), buf)?;
+        write_cstr(value.as_bytes(), buf)?;
+    }
+    put_u8(buf, 0)
+}
+
+// The packet. A refusal leaves what stood there as a front.
+fn fill_startup<'a, B: Buffer, I: IntoIterator<Item = (&'a str, &'a str)> + Drop>(
+    parameters: I,
+    buf: &mut B,
+) -> Result<(), Error>
+where
+    I::IntoIter: Drop,
+    requires { IsFiniteIterable I.into_iter_gives I.IntoIter.can_next I.IntoIter.remaining parameters }
+    ensures ok { OnOk result (Appended
+        (StartupWhole I.into_iter_gives I.IntoIter.next_gives parameters)
+        (StartupReached I.into_iter_gives I.IntoIter.next_gives parameters)
+        (B.bytes buf.old) (B.bytes buf.new)) }
+    ensures err { OnErr result (IsFrontOf (B.bytes buf.old) (B.bytes buf.new)) }
+    ensures cause { IfErr result (Refused
+        (StartupWhole I.into_iter_gives I.IntoIter.next_gives parameters)
+        (StartupReached I.into_iter_gives I.IntoIter.next_gives parameters)) }
+{
+    let base = buf.len();
+    put_u32(buf, 0)?;
+    put_int32(VERSION_3_0, buf)?;
+    put_pairs(parameters, buf)?;
+    finish_body(buf, base)?;
+    Ok(())
+}
+
+/// Opens a session of version 3.0 with these names and values, among them `user`. A server reads no
+/// name that is empty, but one is written as any other.
+pub fn startup_message<'a, B: Buffer, I: IntoIterator<Item = (&'a str, &'a str)> + Drop>(
+    parameters: I,
+    buf: &mut B,
+) -> Result<(), Error>
+where
+    I::IntoIter: Drop,
+    requires { IsFiniteIterable I.into_iter_gives I.IntoIter.can_next I.IntoIter.remaining parameters }
+    ensures { WritesGiven
+        (StartupWhole I.into_iter_gives I.IntoIter.next_gives parameters)
+        (StartupReached I.into_iter_gives I.IntoIter.next_gives parameters)
+        (B.bytes buf.old) (B.bytes buf.new) result }
+{
+    let start = buf.len();
+    match fill_startup(parameters, buf) {
+        Ok(()) => Ok(()),
+        Err(e) => {
+            buf.truncate(start);
+            Err(e)
+        }
+    }
+}

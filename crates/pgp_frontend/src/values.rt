@@ -1,0 +1,46 @@
+//! The values that a serializer makes of what comes from an iterator.
+
+ghost use Rattle.std.specs.Prelude.{◌≡◌, ℕ, List, ◌++◌, Option, None, OnOk, OnErr, IfErr};
+ghost use Rattle.std.specs.Iterator.{IsFiniteIterable};
+ghost use Rattle.pgp_base.specs.Wire.{uint16, counted, nullable};
+ghost use Rattle.pgp_base.specs.Calls.{IsFrontOf, OwesValues};
+ghost use Rattle.pgp_frontend.specs.Given.{Served, ValuesRefused};
+ghost use Rattle.pgp_frontend.specs.Payload.{Values, part_cause};
+
+use pgp_base::{BindError, Buffer, Error, IsNull, patch_u16, put_u16, put_value};
+
+/// Appends how many values there are, and each as the serializer makes it of an item. A refusal leaves
+/// what stood there as a front.
+pub fn put_values<
+    B: Buffer,
+    T: Drop,
+    E: Drop,
+    J: IntoIterator<Item = T> + Drop,
+    F: FnMut(T, &mut B) -> Result<IsNull, E> + Drop,
+>(values: J, mut serializer: F, buf: &mut B) -> Result<(), BindError<E>>
+where
+    J::IntoIter: Drop,
+    requires ends { IsFiniteIterable J.into_iter_gives J.IntoIter.can_next J.IntoIter.remaining values }
+    requires callable { F.IsAlwaysCallable serializer }
+    requires owes { OwesValues B.bytes F.pre F.step }
+    ensures ok { OnOk result ((vs : List (Option (List ℕ)))
+        × Served B.bytes F.step J.into_iter_gives J.IntoIter.next_gives values serializer (B.bytes buf.old ++ uint16 0) vs
+        × (part_cause (Values vs) ≡ None) × (B.bytes buf.new ≡ B.bytes buf.old ++ counted nullable vs)) }
+    ensures err { OnErr result (IsFrontOf (B.bytes buf.old) (B.bytes buf.new)) }
+    ensures cause { IfErr result (ValuesRefused B.bytes F.step J.into_iter_gives J.IntoIter.next_gives values serializer (B.bytes buf.old ++ uint16 0)) }
+{
+    let base = buf.len();
+    put_u16(buf, 0)?;
+    let mut count = 0u16;
+    for item in values {
+        if count == u16::MAX {
+            return Err(BindError::Serialization(Error::TooLarge));
+        }
+        if let Err(e) = put_value(&mut serializer, item, buf) {
+            return Err(e);
+        }
+        count += 1;
+    }
+    patch_u16(buf, base, count);
+    Ok(())
+}
