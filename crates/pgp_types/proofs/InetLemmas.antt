@@ -9,7 +9,7 @@ use Rattle.std.specs.Net.Addr.{ipv4_octets, ipv6_segments, ipv6_octets, segments
 use Rattle.pgp_base.specs.declared.error.Error.{Error}
 use Rattle.pgp_base.specs.declared.error.Error.TheVariants.{UnexpectedEof, NotDrained, InvalidFamily, InvalidNetmask, InvalidAddressLength}
 use Rattle.pgp_base.specs.Wire.{IsBytes}
-use Rattle.pgp_types.specs.Format.{FixedRefused, IsArray, IsSound}
+use Rattle.pgp_types.specs.Format.{FixedRefused, IsBlock, IsSound}
 use Rattle.pgp_types.specs.Network.{Inet, Family, ipv4, ipv6, family_number, address_size, family_of, octets, Parts, joined, parts_of, IsInet, AddressRefused, PartsRefused, InetReads, inet}
 use Rattle.pgp_types.proofs.Spelling.{bytes_take, bytes_drop, one_refusal, not_refused}
 
@@ -90,7 +90,7 @@ family_refused bytes l two three =
 
 -- an address of each family, from its octets
 pub read_v4 : (bytes : List ℕ) → 4 ≤ length bytes → get_or bytes 0 0 ≡ 2 → (octets : List ℕ)
-    → (get_or bytes 1 0 ≤ 32) × (get_or bytes 3 0 ≡ 4) × IsArray 4 octets × ((parts_in bytes).address ≡ octets)
+    → (get_or bytes 1 0 ≤ 32) × (get_or bytes 3 0 ≡ 4) × IsBlock 4 octets × ((parts_in bytes).address ≡ octets)
     → (addr : IpAddr) → IsV4And addr (λ ip. ipv4_octets ip ≡ octets)
     → InetReads bytes (Ok (record { addr = addr; netmask = get_or bytes 1 0 }))
 read_v4 bytes l known xs facts (V4 ip) is =
@@ -102,7 +102,7 @@ read_v4 bytes l known xs facts (V4 ip) is =
 read_v4 bytes l known xs facts (V6 ip) is = absurd is
 
 pub read_v6 : (bytes : List ℕ) → 4 ≤ length bytes → get_or bytes 0 0 ≡ 3 → (octets : List ℕ)
-    → (get_or bytes 1 0 ≤ 128) × (get_or bytes 3 0 ≡ 16) × IsArray 16 octets × ((parts_in bytes).address ≡ octets)
+    → (get_or bytes 1 0 ≤ 128) × (get_or bytes 3 0 ≡ 16) × IsBlock 16 octets × ((parts_in bytes).address ≡ octets)
     → (addr : IpAddr) → IsV6And addr (λ ip. ipv6_segments ip ≡ segments_of octets)
     → InetReads bytes (Ok (record { addr = addr; netmask = get_or bytes 1 0 }))
 read_v6 bytes l known xs facts (V4 ip) is = absurd is
