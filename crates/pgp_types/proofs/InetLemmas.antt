@@ -9,8 +9,8 @@ use Rattle.std.specs.Net.Addr.{ipv4_octets, ipv6_segments, ipv6_octets, segments
 use Rattle.pgp_base.specs.declared.error.Error.{Error}
 use Rattle.pgp_base.specs.declared.error.Error.TheVariants.{UnexpectedEof, NotDrained, InvalidFamily, InvalidNetmask, InvalidAddressLength}
 use Rattle.pgp_base.specs.Wire.{IsBytes}
-use Rattle.pgp_types.specs.Format.{FixedRefused, IsArray, IsSound}
-use Rattle.pgp_types.specs.Network.{Inet, Family, ipv4, ipv6, number_of, size_of, family_of, octets, Parts, joined, parts_of, IsInet, AddressRefused, PartsRefused, InetReads, inet}
+use Rattle.pgp_types.specs.Format.{FixedRefused, IsBlock, IsSound}
+use Rattle.pgp_types.specs.Network.{Inet, Family, ipv4, ipv6, family_number, address_size, family_of, octets, Parts, joined, parts_of, IsInet, AddressRefused, PartsRefused, InetReads, inet}
 use Rattle.pgp_types.proofs.Spelling.{bytes_take, bytes_drop, one_refusal, not_refused}
 
 -- the parts of bytes that have the four numbers
@@ -73,24 +73,24 @@ length-octets_of (s ∷ rest) = omega (arith, length-octets_of rest)
 
 -- the code's readings
 
-pub refused_after : (f : Family) (p : Parts) → p.family ≡ number_of f
-    → (e : Error) → AddressRefused (size_of f) p.netmask p.size p.address e → PartsRefused p e
+pub refused_after : (f : Family) (p : Parts) → p.family ≡ family_number f
+    → (e : Error) → AddressRefused (address_size f) p.netmask p.size p.address e → PartsRefused p e
 refused_after f p known InvalidFamily r = absurd r.2
 refused_after f p known e r = (f, known, r)
 
-pub inet_refused : (bytes : List ℕ) → 4 ≤ length bytes → (f : Family) → get_or bytes 0 0 ≡ number_of f
-    → (e : Error) → AddressRefused (size_of f) (parts_in bytes).netmask (parts_in bytes).size (parts_in bytes).address e
+pub inet_refused : (bytes : List ℕ) → 4 ≤ length bytes → (f : Family) → get_or bytes 0 0 ≡ family_number f
+    → (e : Error) → AddressRefused (address_size f) (parts_in bytes).netmask (parts_in bytes).size (parts_in bytes).address e
     → InetReads bytes (Err e)
 inet_refused bytes l f known e r = inr (parts_in bytes, joined-parts_in bytes l, refused_after f (parts_in bytes) known e r)
 
 pub family_refused : (bytes : List ℕ) → 4 ≤ length bytes → get_or bytes 0 0 ≢ 2 → get_or bytes 0 0 ≢ 3
     → InetReads bytes (Err InvalidFamily)
 family_refused bytes l two three =
-    inr (parts_in bytes, joined-parts_in bytes l, λ f. elim f as (λ g. get_or bytes 0 0 ≢ number_of g) [ ipv4 ↦ two | ipv6 ↦ three ])
+    inr (parts_in bytes, joined-parts_in bytes l, λ f. elim f as (λ g. get_or bytes 0 0 ≢ family_number g) [ ipv4 ↦ two | ipv6 ↦ three ])
 
 -- an address of each family, from its octets
 pub read_v4 : (bytes : List ℕ) → 4 ≤ length bytes → get_or bytes 0 0 ≡ 2 → (octets : List ℕ)
-    → (get_or bytes 1 0 ≤ 32) × (get_or bytes 3 0 ≡ 4) × IsArray 4 octets × ((parts_in bytes).address ≡ octets)
+    → (get_or bytes 1 0 ≤ 32) × (get_or bytes 3 0 ≡ 4) × IsBlock 4 octets × ((parts_in bytes).address ≡ octets)
     → (addr : IpAddr) → IsV4And addr (λ ip. ipv4_octets ip ≡ octets)
     → InetReads bytes (Ok (record { addr = addr; netmask = get_or bytes 1 0 }))
 read_v4 bytes l known xs facts (V4 ip) is =
@@ -102,7 +102,7 @@ read_v4 bytes l known xs facts (V4 ip) is =
 read_v4 bytes l known xs facts (V6 ip) is = absurd is
 
 pub read_v6 : (bytes : List ℕ) → 4 ≤ length bytes → get_or bytes 0 0 ≡ 3 → (octets : List ℕ)
-    → (get_or bytes 1 0 ≤ 128) × (get_or bytes 3 0 ≡ 16) × IsArray 16 octets × ((parts_in bytes).address ≡ octets)
+    → (get_or bytes 1 0 ≤ 128) × (get_or bytes 3 0 ≡ 16) × IsBlock 16 octets × ((parts_in bytes).address ≡ octets)
     → (addr : IpAddr) → IsV6And addr (λ ip. ipv6_segments ip ≡ segments_of octets)
     → InetReads bytes (Ok (record { addr = addr; netmask = get_or bytes 1 0 }))
 read_v6 bytes l known xs facts (V4 ip) is = absurd is
@@ -127,8 +127,8 @@ abbrev HasReading : List ℕ → Type 0
 HasReading bytes = (r : Result Inet Error) × InetReads bytes r
 
 -- an address of the family's size
-read_address : (f : Family) (bytes : List ℕ) → IsBytes bytes → 4 ≤ length bytes → get_or bytes 0 0 ≡ number_of f
-    → get_or bytes 1 0 ≤ 8 * size_of f → get_or bytes 3 0 ≡ size_of f → length (parts_in bytes).address ≡ size_of f → HasReading bytes
+read_address : (f : Family) (bytes : List ℕ) → IsBytes bytes → 4 ≤ length bytes → get_or bytes 0 0 ≡ family_number f
+    → get_or bytes 1 0 ≤ 8 * address_size f → get_or bytes 3 0 ≡ address_size f → length (parts_in bytes).address ≡ address_size f → HasReading bytes
 read_address ipv4 bytes small l known within size fits =
     let address : List ℕ = (parts_in bytes).address in
     let octets : IsBytes address = bytes_take (length bytes - 4) _ (bytes_drop 4 bytes small) in
@@ -139,14 +139,14 @@ read_address ipv6 bytes small l known within size fits =
     (Ok (record { addr = V6 (record { segments = segments_of address }); netmask = get_or bytes 1 0 }), read_v6 bytes l known address (within, size, (octets, fits), refl) (V6 (record { segments = segments_of address })) refl)
 
 -- what stands behind the number of a family
-some_address : (f : Family) (bytes : List ℕ) → IsBytes bytes → 4 ≤ length bytes → get_or bytes 0 0 ≡ number_of f → HasReading bytes
+some_address : (f : Family) (bytes : List ℕ) → IsBytes bytes → 4 ≤ length bytes → get_or bytes 0 0 ≡ family_number f → HasReading bytes
 some_address f bytes small l known =
     let p : Parts = parts_in bytes in
-    elim (le_or_lt p.netmask (8 * size_of f)) [
+    elim (le_or_lt p.netmask (8 * address_size f)) [
       | inr wide ↦ (Err InvalidNetmask, inet_refused bytes l f known InvalidNetmask wide)
-      | inl within ↦ elim (cases_order p.size (size_of f)) [
+      | inl within ↦ elim (cases_order p.size (address_size f)) [
         | inr other ↦ (Err InvalidAddressLength, inet_refused bytes l f known InvalidAddressLength (within, unequal _ _ other))
-        | inl size ↦ elim (cases_order (length p.address) (size_of f)) [
+        | inl size ↦ elim (cases_order (length p.address) (address_size f)) [
           | inl fits ↦ read_address f bytes small l known within size fits
           | inr (inl short) ↦ (Err UnexpectedEof, inet_refused bytes l f known UnexpectedEof (within, size, short))
           | inr (inr long) ↦ (Err NotDrained, inet_refused bytes l f known NotDrained (within, size, long))
@@ -168,7 +168,7 @@ some_inet bytes small = elim (le_or_lt 4 (length bytes)) [
 
 -- and only one
 
-same_family : (f g : Family) → number_of f ≡ number_of g → f ≡ g
+same_family : (f g : Family) → family_number f ≡ family_number g → f ≡ g
 same_family ipv4 ipv4 e = refl
 same_family ipv4 ipv6 e = absurd (omega arith)
 same_family ipv6 ipv4 e = absurd (omega arith)
@@ -214,8 +214,8 @@ one_address size netmask announced address d e p q =
     ]
 
 parts_cases : (p : Parts) (e : Error) → PartsRefused p e
-    → (((f : Family) → p.family ≢ number_of f) × (e ≡ InvalidFamily))
-    ⊎ ((f : Family) × (p.family ≡ number_of f) × AddressRefused (size_of f) p.netmask p.size p.address e)
+    → (((f : Family) → p.family ≢ family_number f) × (e ≡ InvalidFamily))
+    ⊎ ((f : Family) × (p.family ≡ family_number f) × AddressRefused (address_size f) p.netmask p.size p.address e)
 parts_cases p InvalidFamily r = inl (r, refl)
 parts_cases p e r = inr r
 
@@ -228,8 +228,8 @@ one_parts p d e r s = elim (parts_cases p d r) [
   | inr r ↦ elim (parts_cases p e s) [
     | inl s ↦ absurd (s.0 r.0 r.1)
     | inr s ↦
-        let of_same = subst (λ (f : Family). AddressRefused (size_of f) p.netmask p.size p.address e) (same_family s.0 r.0 (sym s.1 ∙ r.1)) s.2 in
-        one_address (size_of r.0) p.netmask p.size p.address d e r.2 of_same
+        let of_same = subst (λ (f : Family). AddressRefused (address_size f) p.netmask p.size p.address e) (same_family s.0 r.0 (sym s.1 ∙ r.1)) s.2 in
+        one_address (address_size r.0) p.netmask p.size p.address d e r.2 of_same
   ]
 ]
 
@@ -245,7 +245,7 @@ one_refused bytes d e (inr r) (inr s) =
 
 -- the parts of a value are not refused
 
-octets_long : (addr : IpAddr) → MatchIp addr IsIpv4Addr IsIpv6Addr → length (octets addr) ≡ size_of (family_of addr)
+octets_long : (addr : IpAddr) → MatchIp addr IsIpv4Addr IsIpv6Addr → length (octets addr) ≡ address_size (family_of addr)
 octets_long (V4 ip) has = has.0
 octets_long (V6 ip) has = length-octets_of (ipv6_segments ip) ∙ omega (arith, has.0)
 
@@ -253,11 +253,11 @@ not_parts_refused : (cidr : ℕ) (v : Inet) → IsInet v → (e : Error) → Par
 not_parts_refused cidr v has e r = elim (parts_cases (parts_of cidr v) e r) [
   | inl none ↦ none.0 (family_of v.addr) refl
   | inr some ↦
-      let of_same = subst (λ (f : Family). AddressRefused (size_of f) v.netmask (size_of (family_of v.addr)) (octets v.addr) e) (same_family some.0 (family_of v.addr) (sym some.1)) some.2 in
-      elim (address_cases (size_of (family_of v.addr)) v.netmask (size_of (family_of v.addr)) (octets v.addr) e of_same) [
+      let of_same = subst (λ (f : Family). AddressRefused (address_size f) v.netmask (address_size (family_of v.addr)) (octets v.addr) e) (same_family some.0 (family_of v.addr) (sym some.1)) some.2 in
+      elim (address_cases (address_size (family_of v.addr)) v.netmask (address_size (family_of v.addr)) (octets v.addr) e of_same) [
         | inl wide ↦ omega (arith, wide.0, has.1)
         | inr (inl other) ↦ other.1 refl
-        | inr (inr address) ↦ not_refused (size_of (family_of v.addr)) (octets v.addr) e (octets_long v.addr has.0) address.2
+        | inr (inr address) ↦ not_refused (address_size (family_of v.addr)) (octets v.addr) e (octets_long v.addr has.0) address.2
       ]
 ]
 
@@ -267,7 +267,7 @@ not_inet_refused bytes v e p (inr q) =
     not_parts_refused p.1.0 v p.0 e
     (subst (λ (parts : Parts). PartsRefused parts e) (same_parts q.0 (parts_of p.1.0 v) (sym q.1 ∙ p.1.1)) q.2)
 
-same_addr : (a b : IpAddr) → number_of (family_of a) ≡ number_of (family_of b) → octets a ≡ octets b → a ≡ b
+same_addr : (a b : IpAddr) → family_number (family_of a) ≡ family_number (family_of b) → octets a ≡ octets b → a ≡ b
 same_addr (V4 a) (V4 b) known same = ap (λ (o : List ℕ). V4 (record { octets = o })) same
 same_addr (V4 a) (V6 b) known same = absurd (omega arith)
 same_addr (V6 a) (V4 b) known same = absurd (omega arith)
@@ -277,7 +277,7 @@ same_addr (V6 a) (V6 b) known same =
 
 same_inet : (v w : Inet) (c d : ℕ) → joined (parts_of c v) ≡ joined (parts_of d w) → v ≡ w
 same_inet v w c d same =
-    let family : number_of (family_of v.addr) ≡ number_of (family_of w.addr) = cc in
+    let family : family_number (family_of v.addr) ≡ family_number (family_of w.addr) = cc in
     let netmask : v.netmask ≡ w.netmask = cc in
     let address : octets v.addr ≡ octets w.addr = cc in
     let addr : v.addr ≡ w.addr = same_addr v.addr w.addr family address in
@@ -295,3 +295,6 @@ inet_sound = record {
   one = one_inet;
   back = λ v has. (has, (0, refl));
 }
+
+pub wide_refused : (v : Inet) → 8 * address_size (family_of v.addr) < v.netmask → InetReads (joined (parts_of 0 v)) (Err InvalidNetmask)
+wide_refused v wide = inr (parts_of 0 v, refl, (family_of v.addr, refl, wide))

@@ -1,4 +1,4 @@
--- What it says that a value is written, and that bytes are read as one.
+-- What it means to write a value of a type, and to read one.
 use Rattle.std.specs.Prelude.{◌≡◌, ◌≢◌, ℕ, ◌<◌, List, ◌++◌, length, Result, Ok, Err, ⊤}
 use Rattle.pgp_base.specs.declared.error.Error.{Error}
 use Rattle.pgp_base.specs.declared.error.Error.TheVariants.{OutOfMemory, UnexpectedEof, NotDrained, InvalidSize}
@@ -50,20 +50,20 @@ abbrev pub fixed : {V : Type 0} → (V → Type 0) → (V → List ℕ) → ℕ 
 fixed IsValue written size = record { IsValue = IsValue; written = written; Reads = FixedReads IsValue written size }
 
 -- so many bytes, as they stand
-abbrev pub IsArray : ℕ → List ℕ → Type 0
-IsArray size bytes = IsBytes bytes × (length bytes ≡ size)
+abbrev pub IsBlock : ℕ → List ℕ → Type 0
+IsBlock size bytes = IsBytes bytes × (length bytes ≡ size)
 
-abbrev pub array : ℕ → Format (List ℕ)
-array size = fixed (IsArray size) (λ bytes. bytes) size
+abbrev pub block : ℕ → Format (List ℕ)
+block size = fixed (IsBlock size) (λ bytes. bytes) size
 
 -- So many bytes, as they stand; any other number of bytes is refused.
 abbrev pub WholeReads : ℕ → List ℕ → Result (List ℕ) Error → Type 0
-WholeReads size bytes (Ok v) = IsArray size v × (bytes ≡ v)
+WholeReads size bytes (Ok v) = IsBlock size v × (bytes ≡ v)
 WholeReads size bytes (Err InvalidSize) = length bytes ≢ size
 WholeReads size bytes (Err e) = ⊥
 
 abbrev pub whole : ℕ → Format (List ℕ)
-whole size = record { IsValue = IsArray size; written = λ bytes. bytes; Reads = WholeReads size }
+whole size = record { IsValue = IsBlock size; written = λ bytes. bytes; Reads = WholeReads size }
 
 -- All bytes, as they stand.
 abbrev pub AllRead : List ℕ → Result (List ℕ) Error → Type 0

@@ -24,13 +24,13 @@ pub data Family : Type 0 where
   ipv4 : Family
   ipv6 : Family
 
-abbrev pub number_of : Family → ℕ
-number_of ipv4 = 2
-number_of ipv6 = 3
+abbrev pub family_number : Family → ℕ
+family_number ipv4 = 2
+family_number ipv6 = 3
 
-abbrev pub size_of : Family → ℕ
-size_of ipv4 = 4
-size_of ipv6 = 16
+abbrev pub address_size : Family → ℕ
+address_size ipv4 = 4
+address_size ipv6 = 16
 
 abbrev pub family_of : IpAddr → Family
 family_of (V4 a) = ipv4
@@ -54,16 +54,16 @@ joined p = p.family ∷ p.netmask ∷ p.cidr ∷ p.size ∷ p.address
 -- the parts of a value, under any value of the flag that marks a cidr
 abbrev pub parts_of : ℕ → Inet → Parts
 parts_of cidr v = record {
-  family = number_of (family_of v.addr);
+  family = family_number (family_of v.addr);
   netmask = v.netmask;
   cidr = cidr;
-  size = size_of (family_of v.addr);
+  size = address_size (family_of v.addr);
   address = octets v.addr;
 }
 
 -- the netmask has no more bits than the address
 abbrev pub IsInet : Inet → Type 0
-IsInet v = MatchIp v.addr IsIpv4Addr IsIpv6Addr × (v.netmask ≤ 8 * size_of (family_of v.addr))
+IsInet v = MatchIp v.addr IsIpv4Addr IsIpv6Addr × (v.netmask ≤ 8 * address_size (family_of v.addr))
 
 -- Why what stands behind a family's number is refused, by the size of the family's addresses: first the netmask,
 -- then the size that is announced, then the address.
@@ -74,8 +74,8 @@ AddressRefused size netmask announced address e = (netmask ≤ 8 * size) × (ann
 
 -- Before all that, the number of no family is refused.
 abbrev pub PartsRefused : Parts → Error → Type 0
-PartsRefused p InvalidFamily = (f : Family) → p.family ≢ number_of f
-PartsRefused p e = (f : Family) × (p.family ≡ number_of f) × AddressRefused (size_of f) p.netmask p.size p.address e
+PartsRefused p InvalidFamily = (f : Family) → p.family ≢ family_number f
+PartsRefused p e = (f : Family) × (p.family ≡ family_number f) × AddressRefused (address_size f) p.netmask p.size p.address e
 
 -- Bytes are read as a value whatever the flag is, and refused where the four numbers aren't there, or as their parts are.
 abbrev pub InetReads : List ℕ → Result Inet Error → Type 0

@@ -1,10 +1,11 @@
 //! What the codecs share.
 
 ghost use Rattle.std.specs.Prelude.{◌++◌};
-ghost use Rattle.pgp_types.specs.Format.{Appends, Reads, array, whole};
+ghost use Rattle.pgp_types.specs.Format.{Appends, Reads, block, whole};
 
 use pgp_base::{Buffer, Error};
 
+// All of the bytes, or nothing.
 pub fn append<B: Buffer>(bytes: &[u8], buf: &mut B) -> Result<(), Error>
     ensures { Appends bytes.now (B.bytes buf.old) result (B.bytes buf.new) }
 {
@@ -12,7 +13,7 @@ pub fn append<B: Buffer>(bytes: &[u8], buf: &mut B) -> Result<(), Error>
     Ok(())
 }
 
-// Both, or nothing.
+// All of both, or nothing.
 pub fn append_both<B: Buffer>(front: &[u8], rest: &[u8], buf: &mut B) -> Result<(), Error>
     ensures { Appends (front.now ++ rest.now) (B.bytes buf.old) result (B.bytes buf.new) }
 {
@@ -26,8 +27,8 @@ pub fn append_both<B: Buffer>(front: &[u8], rest: &[u8], buf: &mut B) -> Result<
 }
 
 // The bytes, if there are as many as that.
-pub fn array<const N: usize>(buf: &[u8]) -> Result<[u8; N], Error>
-    ensures { Reads (array N) buf.now result }
+pub fn block<const N: usize>(buf: &[u8]) -> Result<[u8; N], Error>
+    ensures { Reads (block N) buf.now result }
 {
     let (front, rest) = buf.split_first_chunk().ok_or(Error::UnexpectedEof)?;
     if !rest.is_empty() {

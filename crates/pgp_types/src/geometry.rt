@@ -7,7 +7,7 @@ ghost use Rattle.pgp_base.specs.Wire.{uint64};
 ghost use Rattle.pgp_types.specs.Format.{Reads, Writes};
 ghost use Rattle.pgp_types.specs.Geometry.{IsPoint, point_bytes, point, box};
 
-use crate::codec::{append_both, array};
+use crate::codec::{append_both, block};
 use pgp_base::{Buffer, Error};
 use std::marker::Model;
 
@@ -109,7 +109,7 @@ fn point_of(bytes: &[u8]) -> Point
 pub fn point_from_sql(buf: &[u8]) -> Result<Point, Error>
     ensures { Reads point buf.now result }
 {
-    let bytes: [u8; 16] = array(buf)?;
+    let bytes: [u8; 16] = block(buf)?;
     Ok(point_of(&bytes))
 }
 
@@ -130,7 +130,7 @@ pub fn box_to_sql<B: Buffer>(x1: u64, y1: u64, x2: u64, y2: u64, buf: &mut B) ->
 pub fn box_from_sql(buf: &[u8]) -> Result<Box, Error>
     ensures { Reads box buf.now result }
 {
-    let bytes: [u8; 32] = array(buf)?;
+    let bytes: [u8; 32] = block(buf)?;
     let (upper_right, lower_left) = bytes.split_at(16);
     Ok(Box {
         upper_right: point_of(upper_right),

@@ -1,12 +1,15 @@
 //! Laws on what is written and what is read: every list of bytes has one reading, a value or a refusal, and
 //! what is written for a value is read as that value.
 
-ghost use Rattle.pgp_types.specs.Format.{IsSound};
+ghost use Rattle.std.specs.Prelude.{◌*◌, ◌<◌, Err};
+ghost use Rattle.pgp_types.specs.Format.{IsSound, Reads};
 ghost use Rattle.pgp_types.specs.Scalar.{bool, bytea, char, int2, int4, int8, oid, lsn, float4, float8};
 ghost use Rattle.pgp_types.specs.Text.{text, ltree, lquery, ltxtquery};
 ghost use Rattle.pgp_types.specs.Time.{timestamp, time, date};
-ghost use Rattle.pgp_types.specs.Network.{macaddr, uuid, inet};
+ghost use Rattle.pgp_types.specs.Network.{Inet, family_of, address_size, joined, parts_of, macaddr, uuid, inet};
 ghost use Rattle.pgp_types.specs.Geometry.{point, box};
+
+use pgp_base::Error;
 
 /// Truth values, bytes and numbers.
 pub fn scalars()
@@ -37,11 +40,14 @@ pub fn times()
     ensures of_date { IsSound date }
 {}
 
-/// Addresses and identifiers. An inet is read back where its netmask has no more bits than its address.
+/// Addresses and identifiers. An inet is read back where its netmask has no more bits than its address, and
+/// refused where it has more.
 pub fn addresses()
     ensures of_macaddr { IsSound macaddr }
     ensures of_uuid { IsSound uuid }
     ensures of_inet { IsSound inet }
+    ensures wide { (v : Inet) → 8 * address_size (family_of v.addr) < v.netmask
+        → Reads inet (joined (parts_of 0 v)) (Err Error.InvalidNetmask) }
 {}
 
 /// Points and boxes.

@@ -3,10 +3,10 @@
 //! PostgreSQL manual, "Network Address Types" and "UUID Type".
 
 ghost use Rattle.std.specs.Prelude.{◌≡◌, ◌*◌, ◌≤◌, IfOk, IfErr};
-ghost use Rattle.pgp_types.specs.Format.{Reads, Writes, IsArray};
+ghost use Rattle.pgp_types.specs.Format.{Reads, Writes, IsBlock};
 ghost use Rattle.pgp_types.specs.Network.{AddressRefused, inet, macaddr, uuid};
 
-use crate::codec::{append, append_both, array, whole};
+use crate::codec::{append, append_both, block, whole};
 use pgp_base::{Buffer, Error};
 use std::marker::Model;
 use std::net::IpAddr;
@@ -88,7 +88,7 @@ pub fn inet_to_sql<B: Buffer>(addr: IpAddr, netmask: u8, buf: &mut B) -> Result<
 // The address behind its netmask and its size.
 fn octets<const N: usize>(netmask: u8, size: u8, address: &[u8]) -> Result<[u8; N], Error>
     requires { N ≤ 16 }
-    ensures ok { IfOk result (λ a. (netmask ≤ 8 * N) × (size ≡ N) × IsArray N a × (address.now ≡ a)) }
+    ensures ok { IfOk result (λ a. (netmask ≤ 8 * N) × (size ≡ N) × IsBlock N a × (address.now ≡ a)) }
     ensures refused { IfErr result (AddressRefused N netmask size address.now) }
 {
     if netmask as usize > 8 * N {
@@ -97,7 +97,7 @@ fn octets<const N: usize>(netmask: u8, size: u8, address: &[u8]) -> Result<[u8; 
     if size as usize != N {
         return Err(Error::InvalidAddressLength);
     }
-    array(address)
+    block(address)
 }
 
 /// Reads an `inet` or a `cidr`.

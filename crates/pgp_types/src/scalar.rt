@@ -6,7 +6,7 @@
 ghost use Rattle.pgp_types.specs.Format.{Reads, Writes};
 ghost use Rattle.pgp_types.specs.Scalar.{bool, bytea, char, int2, int4, int8, oid, lsn, float4, float8};
 
-use crate::codec::{append, array};
+use crate::codec::{append, block};
 use pgp_base::{Buffer, Error, Lsn, Oid};
 
 /// Appends a `bool`.
@@ -51,7 +51,7 @@ pub fn char_to_sql<B: Buffer>(v: i8, buf: &mut B) -> Result<(), Error>
 pub fn char_from_sql(buf: &[u8]) -> Result<i8, Error>
     ensures { Reads char buf.now result }
 {
-    Ok(i8::from_be_bytes(array(buf)?))
+    Ok(i8::from_be_bytes(block(buf)?))
 }
 
 /// Appends an `int2`.
@@ -66,7 +66,7 @@ pub fn int2_to_sql<B: Buffer>(v: i16, buf: &mut B) -> Result<(), Error>
 pub fn int2_from_sql(buf: &[u8]) -> Result<i16, Error>
     ensures { Reads int2 buf.now result }
 {
-    Ok(i16::from_be_bytes(array(buf)?))
+    Ok(i16::from_be_bytes(block(buf)?))
 }
 
 /// Appends an `int4`.
@@ -81,7 +81,7 @@ pub fn int4_to_sql<B: Buffer>(v: i32, buf: &mut B) -> Result<(), Error>
 pub fn int4_from_sql(buf: &[u8]) -> Result<i32, Error>
     ensures { Reads int4 buf.now result }
 {
-    Ok(i32::from_be_bytes(array(buf)?))
+    Ok(i32::from_be_bytes(block(buf)?))
 }
 
 /// Appends an `int8`.
@@ -96,7 +96,7 @@ pub fn int8_to_sql<B: Buffer>(v: i64, buf: &mut B) -> Result<(), Error>
 pub fn int8_from_sql(buf: &[u8]) -> Result<i64, Error>
     ensures { Reads int8 buf.now result }
 {
-    Ok(i64::from_be_bytes(array(buf)?))
+    Ok(i64::from_be_bytes(block(buf)?))
 }
 
 /// Appends an `oid`.
@@ -111,7 +111,7 @@ pub fn oid_to_sql<B: Buffer>(v: Oid, buf: &mut B) -> Result<(), Error>
 pub fn oid_from_sql(buf: &[u8]) -> Result<Oid, Error>
     ensures { Reads oid buf.now result }
 {
-    Ok(Oid::from_be_bytes(array(buf)?))
+    Ok(Oid::from_be_bytes(block(buf)?))
 }
 
 /// Appends a `pg_lsn`.
@@ -126,7 +126,7 @@ pub fn lsn_to_sql<B: Buffer>(v: Lsn, buf: &mut B) -> Result<(), Error>
 pub fn lsn_from_sql(buf: &[u8]) -> Result<Lsn, Error>
     ensures { Reads lsn buf.now result }
 {
-    Ok(Lsn::from_be_bytes(array(buf)?))
+    Ok(Lsn::from_be_bytes(block(buf)?))
 }
 
 /// Appends a `float4`, given as its bits.
@@ -141,7 +141,7 @@ pub fn float4_to_sql<B: Buffer>(bits: u32, buf: &mut B) -> Result<(), Error>
 pub fn float4_from_sql(buf: &[u8]) -> Result<u32, Error>
     ensures { Reads float4 buf.now result }
 {
-    Ok(u32::from_be_bytes(array(buf)?))
+    Ok(u32::from_be_bytes(block(buf)?))
 }
 
 /// Appends a `float8`, given as its bits.
@@ -156,5 +156,5 @@ pub fn float8_to_sql<B: Buffer>(bits: u64, buf: &mut B) -> Result<(), Error>
 pub fn float8_from_sql(buf: &[u8]) -> Result<u64, Error>
     ensures { Reads float8 buf.now result }
 {
-    Ok(u64::from_be_bytes(array(buf)?))
+    Ok(u64::from_be_bytes(block(buf)?))
 }

@@ -1,5 +1,5 @@
 use Rattle.pgp_types.proofs.Readings.{whole_sound}
-use Rattle.pgp_types.proofs.InetLemmas.{inet_sound}
+use Rattle.pgp_types.proofs.InetLemmas.{inet_sound, wide_refused}
 use Rattle.pgp_types.proofs.laws.addresses.Goals as goal
 
 pub returns-clause-of_macaddr : goal.returns-clause-of_macaddr
@@ -10,3 +10,6 @@ returns-clause-of_uuid c = whole_sound 16
 
 pub returns-clause-of_inet : goal.returns-clause-of_inet
 returns-clause-of_inet c = inet_sound
+
+pub returns-clause-wide : goal.returns-clause-wide
+returns-clause-wide c = wide_refused
