@@ -31,8 +31,8 @@ struct BrokenWriter {
 }
 
 impl Write for BrokenWriter {
-    fn write(&mut self, _: &[u8]) -> io::Result<usize> {
-        if self.left == 0 {
+    fn write(&mut self, buf: &[u8]) -> io::Result<usize> {
+        if self.left == 0 || buf.is_empty() {
             return Err(io::Error::from(io::ErrorKind::BrokenPipe));
         }
         self.left -= 1;
