@@ -34,7 +34,7 @@ module _ {F T E B : Type 0} (held : B → List ℕ) (step : F → T → MutBor B
   memory_refused e h = inl h
 
   pub formats_refused : (e : Error)
-      → (e ≡ OutOfMemory) ⊎ ((parts_cause (Text portal ∷ Text statement ∷ []) ≡ Some e) ⊎ ((fs : List ℤ) × Begun i_into i_next formats fs × (parts_cause (Text portal ∷ Text statement ∷ Int16s fs ∷ []) ≡ Some e)))
+      → (e ≡ OutOfMemory) ⊎ ((parts_cause (Text portal ∷ Text statement ∷ []) ≡ Some e) ⊎ ((fs : List ℤ) × Begun i_into i_next Int16s formats fs × (parts_cause (Text portal ∷ Text statement ∷ Int16s fs ∷ []) ≡ Some e)))
       → Refusal (Serialization e)
   formats_refused e (inl memory) = inl memory
   formats_refused e (inr (inl texts)) = inr (inl (Text portal ∷ Text statement ∷ [], inl refl, texts))
@@ -53,7 +53,7 @@ module _ {F T E B : Type 0} (held : B → List ℕ) (step : F → T → MutBor B
       four_none : parts_cause (Text portal ∷ Text statement ∷ Int16s fs ∷ Values vs ∷ []) ≡ None
       four_none = cause_more (Text portal ∷ Text statement ∷ Int16s fs ∷ []) (Values vs) none fit
 
-      pub results_refused : (e : Error) → (e ≡ OutOfMemory) ⊎ ((rs : List ℤ) × Begun k_into k_next result_formats rs × (part_cause (Int16s rs) ≡ Some e)) → Refusal (Serialization e)
+      pub results_refused : (e : Error) → (e ≡ OutOfMemory) ⊎ ((rs : List ℤ) × Begun k_into k_next Int16s result_formats rs × (part_cause (Int16s rs) ≡ Some e)) → Refusal (Serialization e)
       results_refused e (inl memory) = inl memory
       results_refused e (inr past) =
           inr (inl (

@@ -37,12 +37,13 @@ module _ (Whole : ClientMessage → Type 0) (Reached : List Part → Type 0) whe
   WritesGiven old new (Ok done) = Appended old new
   WritesGiven old new (Err e) = Refused e × (new ≡ old)
 
-module _ {U S A : Type 0} (into_iter_gives : U → S → Type 0) (next_gives : S → Option A → S → Type 0) where
-  -- the first items of `source`, up to the one at which the call was refused
+module _ {U S A : Type 0} (into_iter_gives : U → S → Type 0) (next_gives : S → Option A → S → Type 0) (part : List A → Part) where
+  -- the first items of `source`, up to the one at which the call was refused: those before it make a part with no cause
   pub record Begun (source : U) (xs : List A) : Type 0 where
     pub before : List A
     pub last : A
     pub came : Came into_iter_gives next_gives source before (Some last)
+    pub none : part_cause (part before) ≡ None
     pub are : xs ≡ before ++ last ∷ []
 
 module _ {U S : Type 0} (into_iter_gives : U → S → Type 0) (next_gives : S → Option ℕ → S → Type 0) (name query : List ℕ) (param_types : U) where
@@ -51,18 +52,22 @@ module _ {U S : Type 0} (into_iter_gives : U → S → Type 0) (next_gives : S �
 
   abbrev pub ParseReached : List Part → Type 0
   ParseReached ps = (ps ≡ Text name ∷ Text query ∷ [])
-      ⊎ ((types : List ℕ) × Begun into_iter_gives next_gives param_types types × (ps ≡ Text name ∷ Text query ∷ Oids types ∷ []))
+      ⊎ ((types : List ℕ) × Begun into_iter_gives next_gives Oids param_types types × (ps ≡ Text name ∷ Text query ∷ Oids types ∷ []))
 
 -- the bytes of a name and a value
 abbrev pub shown : Bor (List ℕ) × Bor (List ℕ) → List ℕ × List ℕ
 shown x = (x.0.now, x.1.now)
+
+-- the part of such names and values
+abbrev pub shown_pairs : List (Bor (List ℕ) × Bor (List ℕ)) → Part
+shown_pairs xs = Pairs (map shown xs)
 
 module _ {U S : Type 0} (into_iter_gives : U → S → Type 0) (next_gives : S → Option (Bor (List ℕ) × Bor (List ℕ)) → S → Type 0) (parameters : U) where
   abbrev pub StartupWhole : ClientMessage → Type 0
   StartupWhole m = (xs : List (Bor (List ℕ) × Bor (List ℕ))) × Came into_iter_gives next_gives parameters xs None × (m ≡ Startup (map shown xs))
 
   abbrev pub StartupReached : List Part → Type 0
-  StartupReached ps = (xs : List (Bor (List ℕ) × Bor (List ℕ))) × Begun into_iter_gives next_gives parameters xs × (ps ≡ Int32 (pos 196608) ∷ Pairs (map shown xs) ∷ [])
+  StartupReached ps = (xs : List (Bor (List ℕ) × Bor (List ℕ))) × Begun into_iter_gives next_gives shown_pairs parameters xs × (ps ≡ Int32 (pos 196608) ∷ shown_pairs xs ∷ [])
 
 -- The values that a serializer makes of the items of `source`. `here` are the bytes that stand in the
 -- buffer before the first of them.
@@ -120,13 +125,13 @@ module _ {F T E B : Type 0} (held : B → List ℕ) (step : F → T → MutBor B
 
   abbrev pub BindReached : List Part → Type 0
   BindReached ps = (ps ≡ Text portal ∷ Text statement ∷ [])
-      ⊎ (((fs : List ℤ) × Begun i_into i_next formats fs × (ps ≡ Text portal ∷ Text statement ∷ Int16s fs ∷ []))
+      ⊎ (((fs : List ℤ) × Begun i_into i_next Int16s formats fs × (ps ≡ Text portal ∷ Text statement ∷ Int16s fs ∷ []))
       ⊎ (((fs : List ℤ) × Came i_into i_next formats fs None
       × ((vs : List (Option (List ℕ))) × ValuesBegun held step j_into j_next values f (before_values old portal statement fs) vs
       × (ps ≡ Text portal ∷ Text statement ∷ Int16s fs ∷ Values vs ∷ [])))
       ⊎ ((fs : List ℤ) × Came i_into i_next formats fs None
       × ((vs : List (Option (List ℕ))) × Served held step j_into j_next values f (before_values old portal statement fs) vs
-      × ((rs : List ℤ) × Begun k_into k_next result_formats rs × (ps ≡ Text portal ∷ Text statement ∷ Int16s fs ∷ Values vs ∷ Int16s rs ∷ []))))))
+      × ((rs : List ℤ) × Begun k_into k_next Int16s result_formats rs × (ps ≡ Text portal ∷ Text statement ∷ Int16s fs ∷ Values vs ∷ Int16s rs ∷ []))))))
 
   -- the parts before the values have no cause, and the serializer refused with e
   abbrev pub BindConverts : E → Type 0

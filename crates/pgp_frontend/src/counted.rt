@@ -4,9 +4,9 @@ ghost use Rattle.std.specs.Prelude.{◌≡◌, ℕ, ℤ, ◌^◌, ◌<◌, ◌�
 ghost use Rattle.std.specs.Int.{w16};
 ghost use Rattle.std.specs.Iterator.{IsFiniteIterable};
 ghost use Rattle.pgp_base.specs.Wire.{int16, oid, counted};
-ghost use Rattle.pgp_base.specs.Cause.{count_cause};
 ghost use Rattle.pgp_base.specs.Calls.{IsFrontOf, Came};
 ghost use Rattle.pgp_frontend.specs.Given.{Begun};
+ghost use Rattle.pgp_frontend.specs.Payload.{Int16s, Oids, part_cause};
 
 use pgp_base::{Buffer, Error, Oid, patch_u16, put_u16, put_u32};
 
@@ -19,10 +19,10 @@ where
     I::IntoIter: Drop,
     requires { IsFiniteIterable I.into_iter_gives I.IntoIter.can_next I.IntoIter.remaining items }
     ensures ok { OnOk result ((xs : List ℕ) × Came I.into_iter_gives I.IntoIter.next_gives items xs None
-        × All (λ n. n < 2 ^ 32) xs × (count_cause (length xs) ≡ None) × (B.bytes buf.new ≡ B.bytes buf.old ++ counted oid xs)) }
+        × All (λ n. n < 2 ^ 32) xs × (part_cause (Oids xs) ≡ None) × (B.bytes buf.new ≡ B.bytes buf.old ++ counted oid xs)) }
     ensures err { OnErr result (IsFrontOf (B.bytes buf.old) (B.bytes buf.new)) }
     ensures cause { IfErr result (λ e. (e ≡ Error.OutOfMemory)
-        ⊎ ((xs : List ℕ) × Begun I.into_iter_gives I.IntoIter.next_gives items xs × (count_cause (length xs) ≡ Some e))) }
+        ⊎ ((xs : List ℕ) × Begun I.into_iter_gives I.IntoIter.next_gives Oids items xs × (part_cause (Oids xs) ≡ Some e))) }
 {
     let base = buf.len();
     put_u16(buf, 0)?;
@@ -47,10 +47,10 @@ where
     I::IntoIter: Drop,
     requires { IsFiniteIterable I.into_iter_gives I.IntoIter.can_next I.IntoIter.remaining items }
     ensures ok { OnOk result ((xs : List ℤ) × Came I.into_iter_gives I.IntoIter.next_gives items xs None
-        × All (FitsSigned w16) xs × (count_cause (length xs) ≡ None) × (B.bytes buf.new ≡ B.bytes buf.old ++ counted int16 xs)) }
+        × All (FitsSigned w16) xs × (part_cause (Int16s xs) ≡ None) × (B.bytes buf.new ≡ B.bytes buf.old ++ counted int16 xs)) }
     ensures err { OnErr result (IsFrontOf (B.bytes buf.old) (B.bytes buf.new)) }
     ensures cause { IfErr result (λ e. (e ≡ Error.OutOfMemory)
-        ⊎ ((xs : List ℤ) × Begun I.into_iter_gives I.IntoIter.next_gives items xs × (count_cause (length xs) ≡ Some e))) }
+        ⊎ ((xs : List ℤ) × Begun I.into_iter_gives I.IntoIter.next_gives Int16s items xs × (part_cause (Int16s xs) ≡ Some e))) }
 {
     let base = buf.len();
     put_u16(buf, 0)?;

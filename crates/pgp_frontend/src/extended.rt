@@ -133,7 +133,7 @@ where
     ensures err { OnErr result (IsFrontOf (B.bytes buf.old) (B.bytes buf.new)) }
     ensures cause { IfErr result (λ e. (e ≡ Error.OutOfMemory)
         ⊎ ((parts_cause (Text portal.now ∷ Text statement.now ∷ []) ≡ Some e)
-        ⊎ ((fs : List ℤ) × Begun I.into_iter_gives I.IntoIter.next_gives formats fs × (parts_cause (Text portal.now ∷ Text statement.now ∷ Int16s fs ∷ []) ≡ Some e)))) }
+        ⊎ ((fs : List ℤ) × Begun I.into_iter_gives I.IntoIter.next_gives Int16s formats fs × (parts_cause (Text portal.now ∷ Text statement.now ∷ Int16s fs ∷ []) ≡ Some e)))) }
 {
     let texts = [
         Field::Text(portal.as_bytes()),

@@ -1,12 +1,12 @@
 //! The packets that open a connection. They have no tag: a code stands behind their length.
 
-ghost use Rattle.std.specs.Prelude.{◌≡◌, ℕ, List, ◌++◌, ◌⊎◌, map, Some, None, OnOk, OnErr, IfErr};
+ghost use Rattle.std.specs.Prelude.{◌≡◌, ℕ, List, ◌++◌, ◌⊎◌, Some, None, OnOk, OnErr, IfErr};
 ghost use Rattle.std.specs.Borrow.{Bor};
 ghost use Rattle.std.specs.Iterator.{IsFiniteIterable};
 ghost use Rattle.pgp_base.specs.Calls.{IsFrontOf, Came};
 ghost use Rattle.pgp_frontend.specs.ClientMessage.{CancelRequest, SslRequest};
-ghost use Rattle.pgp_frontend.specs.Given.{Begun, Appended, Refused, WritesGiven, StartupWhole, StartupReached, shown};
-ghost use Rattle.pgp_frontend.specs.Payload.{Pairs, spelling, part_cause, WritesMessage};
+ghost use Rattle.pgp_frontend.specs.Given.{Begun, Appended, Refused, WritesGiven, StartupWhole, StartupReached, shown_pairs};
+ghost use Rattle.pgp_frontend.specs.Payload.{spelling, part_cause, WritesMessage};
 
 use crate::field::{Field, packet, put_int32};
 use pgp_base::{Buffer, Error, finish_body, put_u8, put_u32, write_cstr};
@@ -47,10 +47,10 @@ where
     I::IntoIter: Drop,
     requires { IsFiniteIterable I.into_iter_gives I.IntoIter.can_next I.IntoIter.remaining parameters }
     ensures ok { OnOk result ((xs : List (Bor (List ℕ) × Bor (List ℕ))) × Came I.into_iter_gives I.IntoIter.next_gives parameters xs None
-        × (part_cause (Pairs (map shown xs)) ≡ None) × (B.bytes buf.new ≡ B.bytes buf.old ++ spelling (Pairs (map shown xs)))) }
+        × (part_cause (shown_pairs xs) ≡ None) × (B.bytes buf.new ≡ B.bytes buf.old ++ spelling (shown_pairs xs))) }
     ensures err { OnErr result (IsFrontOf (B.bytes buf.old) (B.bytes buf.new)) }
     ensures cause { IfErr result (λ e. (e ≡ Error.OutOfMemory)
-        ⊎ ((xs : List (Bor (List ℕ) × Bor (List ℕ))) × Begun I.into_iter_gives I.IntoIter.next_gives parameters xs × (part_cause (Pairs (map shown xs)) ≡ Some e))) }
+        ⊎ ((xs : List (Bor (List ℕ) × Bor (List ℕ))) × Begun I.into_iter_gives I.IntoIter.next_gives shown_pairs parameters xs × (part_cause (shown_pairs xs) ≡ Some e))) }
 {
     for (name, value) in parameters {
         write_cstr(name.as_bytes(), buf)?;

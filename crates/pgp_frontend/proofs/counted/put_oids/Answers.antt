@@ -1,6 +1,6 @@
-use Rattle.std.proofs.Common.{rules, arith, refl}
+use Rattle.std.proofs.Common.{rules, arith, [], ◌∷◌, ◌++◌, length, refl, inr, length-append}
 use Rattle.pgp_base.specs.Wire.{oid}
-use Rattle.pgp_base.proofs.Causes.{count_fits}
+use Rattle.pgp_base.proofs.Causes.{count_fits, count_past}
 use Rattle.pgp_base.proofs.Parts.{counted_up, sized2}
 use Rattle.pgp_frontend.proofs.counted.put_oids.Goals as goal
 
@@ -12,3 +12,11 @@ pub returns-clause-ok : goal.returns-clause-ok
 returns-clause-ok g c =
     let i = c.loop-item.invariant in
     (c.loop-item.yielded, search rules, i.1, count_fits _ (omega arith), counted_up oid c.loop-item.yielded _ _ _ _ _ i.2 c.len-base.ensures.value i.0 c.patch_u16.ensures)
+
+pub returns-then-count-clause-cause : goal.returns-then-count-clause-cause
+returns-then-count-clause-cause g c =
+    inr (
+      c.loop-item.yielded ++ c.in-Some.item ∷ [],
+      record { before = c.loop-item.yielded; last = c.in-Some.item; came = search rules; none = count_fits (length c.loop-item.yielded) (omega arith); are = refl },
+      count_past (length (c.loop-item.yielded ++ c.in-Some.item ∷ [])) (omega (arith, length-append c.loop-item.yielded (c.in-Some.item ∷ []))),
+    )

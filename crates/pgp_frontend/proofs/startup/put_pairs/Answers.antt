@@ -9,7 +9,7 @@ returns-in_err-write_cstr-clause-cause g c =
     if_err_at _ _ _ c.from_residual.ensures.1
     (elim c.in_err-write_cstr.ensures.0 [
       | inl memory ↦ inl memory
-      | inr refused ↦ inr (_, record { before = c.loop-name.yielded; last = (c.in-Some.name, c.in-Some.value); came = search rules; are = refl }, name_refused c.loop-name.yielded c.in-Some.name c.in-Some.value _ _ c.as_bytes.ensures.value refl _ i.0 refused)
+      | inr refused ↦ inr (_, record { before = c.loop-name.yielded; last = (c.in-Some.name, c.in-Some.value); came = search rules; none = i.0; are = refl }, name_refused c.loop-name.yielded c.in-Some.name c.in-Some.value _ _ c.as_bytes.ensures.value refl _ i.0 refused)
     ])
 
 pub loop-name-preserved : goal.loop-name-preserved
@@ -25,5 +25,5 @@ returns-in_err-write_cstr-2-clause-cause g c =
     if_err_at _ _ _ c.from_residual-in_err-write_cstr-2.ensures.1
     (elim c.in_err-write_cstr-2.ensures.0 [
       | inl memory ↦ inl memory
-      | inr refused ↦ inr (_, record { before = c.loop-name.yielded; last = (c.in-Some.name, c.in-Some.value); came = search rules; are = refl }, value_refused c.loop-name.yielded c.in-Some.name c.in-Some.value _ _ c.as_bytes.ensures.value c.as_bytes-in-loop-name.ensures.value _ i.0 c.in_ok-write_cstr.ensures.0 refused)
+      | inr refused ↦ inr (_, record { before = c.loop-name.yielded; last = (c.in-Some.name, c.in-Some.value); came = search rules; none = i.0; are = refl }, value_refused c.loop-name.yielded c.in-Some.name c.in-Some.value _ _ c.as_bytes.ensures.value c.as_bytes-in-loop-name.ensures.value _ i.0 c.in_ok-write_cstr.ensures.0 refused)
     ])
