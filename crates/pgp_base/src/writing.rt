@@ -42,7 +42,8 @@ pub fn put_u32<B: Buffer>(buf: &mut B, n: u32) -> Result<(), Error>
     ensures err { OnErr result (B.bytes buf.new ≡ B.bytes buf.old) }
     ensures cause { IfErr result (λ e. e ≡ Error.OutOfMemory) }
 {
-    buf.append(&n.to_be_bytes())?;
+    let bytes = n.to_be_bytes();
+    buf.append(&bytes)?;
     Ok(())
 }
 
@@ -52,8 +53,7 @@ pub fn patch_u16<B: Buffer>(buf: &mut B, place: usize, n: u16)
     requires { place + 2 ≤ length (B.bytes buf.old) }
     ensures { B.bytes buf.new ≡ take place (B.bytes buf.old) ++ uint16 n ++ drop (place + 2) (B.bytes buf.old) }
 {
-    let bytes = n.to_be_bytes();
-    buf.patch(place, &bytes);
+    buf.patch(place, &n.to_be_bytes());
 }
 
 /// Writes a number over the four bytes at `place`.
