@@ -2,6 +2,7 @@ pub mod Error
 pub mod Wire
 pub mod Walk
 pub mod Items
+pub mod OneList
 pub mod Grammar
 pub mod PartReading
 pub mod WalkReading
