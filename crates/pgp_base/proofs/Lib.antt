@@ -5,6 +5,7 @@ pub mod PartLemmas
 pub mod Walks
 pub mod CountedLemmas
 pub mod MarkedLemmas
+pub mod OneLists
 pub mod Steps
 pub mod Binds
 pub mod RestSteps

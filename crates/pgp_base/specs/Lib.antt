@@ -5,6 +5,7 @@ pub mod Reading
 pub mod Wire
 pub mod Walk
 pub mod Items
+pub mod OneList
 pub mod Grammar
 pub mod PartReading
 pub mod WalkReading

@@ -18,6 +18,7 @@ pub fn is_marked(bytes: &[u8]) -> bool
     }
 }
 
+/// A single byte.
 pub fn byte_at(bytes: &[u8]) -> Result<(u8, &[u8]), Error>
     ensures { Gives (λ x. (x.0, x.1.now)) result (byte_at bytes.now) }
 {
@@ -27,49 +28,47 @@ pub fn byte_at(bytes: &[u8]) -> Result<(u8, &[u8]), Error>
     }
 }
 
+/// An Int16 that is read as unsigned, as a count or the format of a column.
 pub fn uint16_at(bytes: &[u8]) -> Result<(u16, &[u8]), Error>
     ensures { Gives (λ x. (x.0, x.1.now)) result (uint16_at bytes.now) }
 {
-    if bytes.len() < 2 {
-        return Err(Error::UnexpectedEof);
+    match bytes {
+        [a, b, rest @ ..] => Ok((u16::from_be_bytes([*a, *b]), rest)),
+        _ => Err(Error::UnexpectedEof),
     }
-    let (front, rest) = bytes.split_at(2);
-    Ok((u16::from_be_bytes([front[0], front[1]]), rest))
 }
 
+/// An object's identifier: four bytes, unsigned.
 pub fn oid_at(bytes: &[u8]) -> Result<(u32, &[u8]), Error>
     ensures { Gives (λ x. (x.0, x.1.now)) result (oid_at bytes.now) }
 {
-    if bytes.len() < 4 {
-        return Err(Error::UnexpectedEof);
+    match bytes {
+        [a, b, c, d, rest @ ..] => Ok((u32::from_be_bytes([*a, *b, *c, *d]), rest)),
+        _ => Err(Error::UnexpectedEof),
     }
-    let (front, rest) = bytes.split_at(4);
-    let number = u32::from_be_bytes([front[0], front[1], front[2], front[3]]);
-    Ok((number, rest))
 }
 
+/// An Int16.
 pub fn int16_at(bytes: &[u8]) -> Result<(i16, &[u8]), Error>
     ensures { Gives (λ x. (x.0, x.1.now)) result (int16_at bytes.now) }
 {
-    if bytes.len() < 2 {
-        return Err(Error::UnexpectedEof);
+    match bytes {
+        [a, b, rest @ ..] => Ok((i16::from_be_bytes([*a, *b]), rest)),
+        _ => Err(Error::UnexpectedEof),
     }
-    let (front, rest) = bytes.split_at(2);
-    let number = u16::from_be_bytes([front[0], front[1]]);
-    Ok((number.cast_signed(), rest))
 }
 
+/// An Int32.
 pub fn int32_at(bytes: &[u8]) -> Result<(i32, &[u8]), Error>
     ensures { Gives (λ x. (x.0, x.1.now)) result (int32_at bytes.now) }
 {
-    if bytes.len() < 4 {
-        return Err(Error::UnexpectedEof);
+    match bytes {
+        [a, b, c, d, rest @ ..] => Ok((i32::from_be_bytes([*a, *b, *c, *d]), rest)),
+        _ => Err(Error::UnexpectedEof),
     }
-    let (front, rest) = bytes.split_at(4);
-    let number = u32::from_be_bytes([front[0], front[1], front[2], front[3]]);
-    Ok((number.cast_signed(), rest))
 }
 
+/// A String of the protocol, without the byte 0 that ends it; it need not be text.
 pub fn string_at(bytes: &[u8]) -> Result<(&[u8], &[u8]), Error>
     ensures { Gives (λ x. (x.0.now, x.1.now)) result (string_at bytes.now) }
 {
@@ -82,6 +81,7 @@ pub fn string_at(bytes: &[u8]) -> Result<(&[u8], &[u8]), Error>
     }
 }
 
+/// A String that has to be UTF-8: where no 0 ends it it is `UnexpectedEof`, whatever its bytes are.
 #[tactic(auto, unfolding(crate::specs::PartReading::text_at))]
 pub fn text_at(bytes: &[u8]) -> Result<(&str, &[u8]), Error>
     ensures { Answers (λ x. (x.0.now, x.1.now)) result (text_at bytes.now) }

@@ -28,8 +28,8 @@ impl<A: Allocator> Model for Frame<A> {
 }
 
 impl<A: Allocator + Copy> Frame<A> {
-    /// Removes the frame at the front of the bytes. Where it isn't whole, asks for room for what is
-    /// missing, and doesn't tell whether there was any.
+    /// Removes the frame at the front of the bytes, without asking for memory where its payload is empty.
+    /// Where it isn't whole, asks for room for what is missing, and doesn't tell whether there was any.
     pub fn cut(buf: &mut BytesMut<A>) -> Result<Option<Frame<A>>, Error>
         ensures step { CutsFrame buf.old.items result buf.new.items }
         ensures waits { IsPartial buf.old.items → result ≡ Ok None }
@@ -49,6 +49,11 @@ impl<A: Allocator + Copy> Frame<A> {
             let missing = total - buf.len();
             let _ = buf.reserve(missing.min(MAX_ROOM));
             return Ok(None);
+        }
+        if len == 4 {
+            buf.advance(total);
+            let payload = Bytes::new();
+            return Ok(Some(Frame { tag, payload }));
         }
         let Ok(mut payload) = buf.freeze_to(total) else {
             return Err(Error::OutOfMemory);

@@ -1,9 +1,11 @@
-//! Laws of bodies and of streams of backend messages.
+//! Laws of bodies, of the lists inside them, and of streams of backend messages.
 
 ghost use Rattle.std.specs.Prelude.{◌≡◌, ℕ, Bool, true, false, List, [], ◌∷◌, ◌++◌, Result};
 ghost use Rattle.pgp_base.specs.declared.error.Error.{Error};
 ghost use Rattle.pgp_base.specs.Wire.{IsBytes};
+ghost use Rattle.pgp_base.specs.OneList.{HasOneCountedList, HasOneMarkedList};
 ghost use Rattle.pgp_message.specs.BackendMessage.{Message, Body};
+ghost use Rattle.pgp_message.specs.Items.{TextSpelled, TextRefused, FormatSpelled, FormatRefused, TypeSpelled, TypeRefused, RangeSpelled, RangeRefused, FieldSpelled, FieldRefused, ErrorFieldSpelled, ErrorFieldRefused};
 ghost use Rattle.pgp_message.specs.Stream.{Frames, BackendRun, TakesFrame};
 
 /// A body has at most one result.
@@ -15,6 +17,36 @@ pub fn one_body()
 /// A body has a result.
 pub fn some_body()
     ensures { (tag : ℕ) (payload : List ℕ) → IsBytes payload → (r : Result Message Error) × Body tag payload r }
+{}
+
+/// The columns of a copy have one list of formats.
+pub fn one_list_of_formats()
+    ensures { HasOneCountedList FormatSpelled FormatRefused }
+{}
+
+/// A statement has one list of parameters' types.
+pub fn one_list_of_types()
+    ensures { HasOneCountedList TypeSpelled TypeRefused }
+{}
+
+/// A row has one list of its values' places.
+pub fn one_list_of_ranges()
+    ensures { HasOneCountedList RangeSpelled RangeRefused }
+{}
+
+/// A row description has one list of columns.
+pub fn one_list_of_columns()
+    ensures { HasOneCountedList FieldSpelled FieldRefused }
+{}
+
+/// An error or a notice has one list of fields.
+pub fn one_list_of_error_fields()
+    ensures { HasOneMarkedList ErrorFieldSpelled ErrorFieldRefused }
+{}
+
+/// An offer of SASL mechanisms has one list of names.
+pub fn one_list_of_mechanisms()
+    ensures { HasOneMarkedList TextSpelled TextRefused }
 {}
 
 /// Each stream is read in one way.

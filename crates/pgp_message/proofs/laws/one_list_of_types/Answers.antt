@@ -1,0 +1,8 @@
+use Rattle.pgp_base.proofs.OneLists.{one_counted_list}
+use Rattle.pgp_message.specs.Items.{TypeSpelled, TypeRefused}
+use Rattle.pgp_message.specs.ItemReading.{type_at}
+use Rattle.pgp_message.proofs.NumberLemmas.{type_reader}
+use Rattle.pgp_message.proofs.laws.one_list_of_types.Goals as goal
+
+pub returns : goal.returns
+returns c = one_counted_list TypeSpelled TypeRefused (λ place. type_at) type_reader
