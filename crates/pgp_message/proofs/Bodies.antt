@@ -6,7 +6,7 @@ use Rattle.pgp_base.specs.declared.error.Error.TheVariants as errors
 use Rattle.pgp_base.specs.Wire.{int32, text, HasNoZero, IsBytes}
 use Rattle.pgp_message.specs.Parts.{CountedBytes, CopyFormats}
 use Rattle.pgp_message.specs.BackendMessage.{Request, AuthenticationOk, AuthenticationKerberosV5, AuthenticationCleartextPassword, AuthenticationMd5Password, AuthenticationScmCredential, AuthenticationGss, AuthenticationGssContinue, AuthenticationSspi, AuthenticationSasl, AuthenticationSaslContinue, AuthenticationSaslFinal, Message, ParseComplete, BindComplete, CloseComplete, NotificationResponse, CommandComplete, DataRow, ErrorResponse, CopyInResponse, CopyOutResponse, EmptyQueryResponse, BackendKeyData, NoticeResponse, Authentication, ParameterStatus, RowDescription, ReadyForQuery, CopyDone, CopyData, NoData, PortalSuspended, ParameterDescription, tag_of, counted_bytes, copy_formats, payload_of, Fits, Spells, IsUnknownCode, Body}
-use Rattle.pgp_message.specs.Reading.{ended, made, byte_of, string_of, setting_of, notification_of, key_data_of, counted_of, copy_of, request_of, body_of}
+use Rattle.pgp_message.specs.Reading.{ended, made, byte_of, string_of, setting_of, notification_of, key_data_of, counted_of, copy_of, request_of, bare_of, body_of}
 use Rattle.pgp_message.proofs.Families.{Reads, string_again, setting_again, notification_again, key_data_again, counted_again, copy_again, byte_again, string_reads, setting_reads, setting_parts, SettingFits, notification_reads, notification_parts, NotificationFits, key_data_reads, key_parts, KeyFits, counted_reads, CountFits, copy_reads, CopyFits, byte_reads}
 use Rattle.pgp_message.proofs.Requests.{pick, RequestFits, after_request, made_ended, request_again, request_whole, RequestReads, request_reads, unknown_again}
 
@@ -53,7 +53,7 @@ fits_request (AuthenticationSaslFinal bytes) f = tt
 
 -- a message that stands at the front is read
 pub body_again : (m : Message) (more : List ℕ) → Fits m → body_of (tag_of m) (payload_of m ++ more) ≡ after m more
-unfolding body_of
+unfolding body_of bare_of
 body_again ParseComplete more fits = refl
 body_again BindComplete more fits = refl
 body_again CloseComplete more fits = refl
@@ -119,29 +119,30 @@ no_copy : CopyFormats
 no_copy = record { format = 0; count = 0; storage = [] }
 
 pub found_body : (tag : ℕ) (payload : List ℕ) → IsBytes payload → Found tag payload (body_of tag payload)
-unfolding body_of
+unfolding body_of bare_of
 found_body tag payload h =
-    pick (Found tag payload) tag 0x31 _ _ (λ t. found_ended tag payload ParseComplete payload t tt refl) (λ n1.
-    pick (Found tag payload) tag 0x32 _ _ (λ t. found_ended tag payload BindComplete payload t tt refl) (λ n2.
-    pick (Found tag payload) tag 0x33 _ _ (λ t. found_ended tag payload CloseComplete payload t tt refl) (λ n3.
     pick (Found tag payload) tag 0x41 _ _ (λ t. found_made NotificationFits notification_parts tag payload NotificationResponse (record { process_id = pos 0; channel = []; message = [] }) (λ x. t) (λ x f. f) (λ x. refl) (notification_of payload) (notification_reads payload h)) (λ nA.
     pick (Found tag payload) tag 0x43 _ _ (λ t. found_made HasNoZero text tag payload CommandComplete [] (λ x. t) (λ x f. f) (λ x. refl) (string_of payload) (string_reads payload)) (λ nC.
     pick (Found tag payload) tag 0x44 _ _ (λ t. found_made CountFits counted_bytes tag payload DataRow no_row (λ x. t) (λ x f. f) (λ x. refl) (counted_of payload) (counted_reads payload h)) (λ nD.
     pick (Found tag payload) tag 0x45 _ _ (λ t. found_all tag payload (ErrorResponse payload) t tt refl) (λ nE.
     pick (Found tag payload) tag 0x47 _ _ (λ t. found_made CopyFits copy_formats tag payload CopyInResponse no_copy (λ x. t) (λ x f. f) (λ x. refl) (copy_of payload) (copy_reads payload h)) (λ nG.
     pick (Found tag payload) tag 0x48 _ _ (λ t. found_made CopyFits copy_formats tag payload CopyOutResponse no_copy (λ x. t) (λ x f. f) (λ x. refl) (copy_of payload) (copy_reads payload h)) (λ nH.
-    pick (Found tag payload) tag 0x49 _ _ (λ t. found_ended tag payload EmptyQueryResponse payload t tt refl) (λ nI.
-    pick (Found tag payload) tag 0x4b _ _ (λ t. found_made KeyFits key_parts tag payload BackendKeyData (record { process_id = pos 0; secret_key = pos 0 }) (λ x. t) (λ x f. f) (λ x. refl) (key_data_of payload) (key_data_reads payload h)) (λ nK.
     pick (Found tag payload) tag 0x4e _ _ (λ t. found_all tag payload (NoticeResponse payload) t tt refl) (λ nN.
     pick (Found tag payload) tag 0x52 _ _ (λ t. found_request tag payload t (request_of payload) (request_reads payload h)) (λ nR.
     pick (Found tag payload) tag 0x53 _ _ (λ t. found_made SettingFits setting_parts tag payload ParameterStatus (record { name = []; value = [] }) (λ x. t) (λ x f. f) (λ x. refl) (setting_of payload) (setting_reads payload)) (λ nS.
     pick (Found tag payload) tag 0x54 _ _ (λ t. found_made CountFits counted_bytes tag payload RowDescription no_row (λ x. t) (λ x f. f) (λ x. refl) (counted_of payload) (counted_reads payload h)) (λ nT.
+    pick (Found tag payload) tag 0x64 _ _ (λ t. found_all tag payload (CopyData payload) t tt refl) (λ nd.
+    pick (Found tag payload) tag 0x74 _ _ (λ t. found_made CountFits counted_bytes tag payload ParameterDescription no_row (λ x. t) (λ x f. f) (λ x. refl) (counted_of payload) (counted_reads payload h)) (λ nt.
+    pick (Found tag payload) tag 0x31 _ _ (λ t. found_ended tag payload ParseComplete payload t tt refl) (λ n1.
+    pick (Found tag payload) tag 0x32 _ _ (λ t. found_ended tag payload BindComplete payload t tt refl) (λ n2.
+    pick (Found tag payload) tag 0x33 _ _ (λ t. found_ended tag payload CloseComplete payload t tt refl) (λ n3.
+    pick (Found tag payload) tag 0x49 _ _ (λ t. found_ended tag payload EmptyQueryResponse payload t tt refl) (λ nI.
+    pick (Found tag payload) tag 0x4b _ _ (λ t. found_made KeyFits key_parts tag payload BackendKeyData (record { process_id = pos 0; secret_key = pos 0 }) (λ x. t) (λ x f. f) (λ x. refl) (key_data_of payload) (key_data_reads payload h)) (λ nK.
+    pick (Found tag payload) tag 0x52 _ _ (λ t. absurd (nR t)) (λ nR2.
     pick (Found tag payload) tag 0x5a _ _ (λ t. found_made (λ b. Unit {0}) (λ b. b ∷ []) tag payload ReadyForQuery 0 (λ x. t) (λ x f. f) (λ x. refl) (byte_of payload) (byte_reads payload)) (λ nZ.
     pick (Found tag payload) tag 0x63 _ _ (λ t. found_ended tag payload CopyDone payload t tt refl) (λ nc.
-    pick (Found tag payload) tag 0x64 _ _ (λ t. found_all tag payload (CopyData payload) t tt refl) (λ nd.
     pick (Found tag payload) tag 0x6e _ _ (λ t. found_ended tag payload NoData payload t tt refl) (λ nn.
-    pick (Found tag payload) tag 0x73 _ _ (λ t. found_ended tag payload PortalSuspended payload t tt refl) (λ ns.
-    pick (Found tag payload) tag 0x74 _ _ (λ t. found_made CountFits counted_bytes tag payload ParameterDescription no_row (λ x. t) (λ x f. f) (λ x. refl) (counted_of payload) (counted_reads payload h)) (λ nt. (
+    pick (Found tag payload) tag 0x73 _ _ (λ t. found_ended tag payload PortalSuspended payload t tt refl) (λ ns. (
       refl,
       λ m. elim m as (λ v. tag_of v ≢ tag) [
         | ParseComplete ↦ n1
@@ -166,7 +167,7 @@ found_body tag payload h =
         | PortalSuspended ↦ ns
         | ParameterDescription row ↦ nt
       ],
-    ))))))))))))))))))))))
+    )))))))))))))))))))))))
 
 -- The two together.
 

@@ -5,15 +5,11 @@ use Rattle.std.proofs.lemmas.List.{take-append-drop, length-take}
 use Rattle.std.proofs.lemmas.Nat.{be_bytes_4}
 use Rattle.pgp_base.specs.Wire.{uint32, IsBytes}
 use Rattle.pgp_base.proofs.PartLemmas.{IsBytes-take, IsBytes-drop}
-use Rattle.pgp_message.specs.Stream.{Frame, frame_bytes, IsFrame, announced}
+use Rattle.pgp_message.specs.Stream.{frame_bytes, Front, IsFront, announced}
 
--- the frame that a front of n + 1 bytes is
-abbrev pub front_frame : List ℕ → ℕ → Frame
-front_frame old n = record { tag = get_or old 0 0; payload = drop 5 (take (n + 1) old) }
-
-pub record Cuts (old : List ℕ) (n : ℕ) : Type 0 where
-  pub whole : old ≡ frame_bytes (front_frame old n) ++ drop (n + 1) old
-  pub fits : IsFrame (front_frame old n)
+-- the front of n + 1 bytes
+abbrev pub front_of : List ℕ → ℕ → Front
+front_of old n = record { tag = get_or old 0 0; total = n + 1 }
 
 cells : (b c d e n : ℕ) → IsBytes (b ∷ c ∷ d ∷ e ∷ []) → n ≡ from_be_bytes w32 (b ∷ c ∷ d ∷ e ∷ []) → uint32 n ≡ b ∷ c ∷ d ∷ e ∷ []
 unfolding uint32
@@ -28,7 +24,7 @@ whole_cells a b c d e rest k le is =
     let tail : rest ≡ take k rest ++ drop k rest = sym (take-append-drop k rest) in
     rw front (ap (λ (r : List ℕ). a ∷ b ∷ c ∷ d ∷ e ∷ r) tail)
 
-pub cut : (old : List ℕ) (n : ℕ) → IsBytes old → n < 2 ^ 32 → n ≡ announced old → 4 ≤ n → n + 1 ≤ length old → Cuts old n
+pub cut : (old : List ℕ) (n : ℕ) → IsBytes old → n < 2 ^ 32 → n ≡ announced old → 4 ≤ n → n + 1 ≤ length old → IsFront (front_of old n) old
 cut (a ∷ b ∷ c ∷ d ∷ e ∷ rest) (suc (suc (suc (suc k)))) bytes small is le fits =
     let room : k ≤ length rest = omega arith in
     let four : k + 4 ≡ suc (suc (suc (suc k))) = omega arith in
@@ -41,6 +37,8 @@ cut (a ∷ b ∷ c ∷ d ∷ e ∷ rest) (suc (suc (suc (suc k)))) bytes small i
         payload = IsBytes-take k rest (IsBytes-drop 5 (a ∷ b ∷ c ∷ d ∷ e ∷ rest) bytes);
         fits = omega (arith, length-take k rest);
       });
+      least = omega arith;
+      most = omega arith;
     }
   where
     head_bytes : (i : ℕ) → get_or (b ∷ c ∷ d ∷ e ∷ []) i 0 < 256
@@ -51,7 +49,6 @@ cut (a ∷ b ∷ c ∷ d ∷ e ∷ rest) (suc (suc (suc (suc k)))) bytes small i
     head_bytes (suc (suc (suc (suc i)))) = omega arith
 cut old n bytes small is le fits = absurd (omega arith)
 
--- the frame that was cut, whatever its parts are called
-pub cuts_frame : (old new payload : List ℕ) (n tag : ℕ) → Cuts old n → tag ≡ get_or old 0 0 → payload ≡ drop 5 (take (n + 1) old) → new ≡ drop (n + 1) old
-    → (old ≡ frame_bytes (record { tag = tag; payload = payload }) ++ new) × IsFrame (record { tag = tag; payload = payload })
-cuts_frame old new payload n tag cuts t p r = rw (t, p, r) (cuts.whole, cuts.fits)
+-- the front that was found, whatever its parts are called
+pub found : (old : List ℕ) (n tag total : ℕ) → IsFront (front_of old n) old → tag ≡ get_or old 0 0 → total ≡ n + 1 → IsFront (record { tag = tag; total = total }) old
+found old n tag total front t e = rw (t, e) front

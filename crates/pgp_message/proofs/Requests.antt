@@ -11,7 +11,7 @@ use Rattle.pgp_base.specs.declared.error.Error.TheVariants as errors
 use Rattle.pgp_base.specs.Wire.{int32, uint32, IsBytes}
 use Rattle.pgp_base.specs.PartReading.{◌>>=◌, oid_at}
 use Rattle.pgp_message.specs.BackendMessage.{Request, AuthenticationOk, AuthenticationKerberosV5, AuthenticationCleartextPassword, AuthenticationMd5Password, AuthenticationScmCredential, AuthenticationGss, AuthenticationGssContinue, AuthenticationSspi, AuthenticationSasl, AuthenticationSaslContinue, AuthenticationSaslFinal, code_of, details_of}
-use Rattle.pgp_message.specs.Reading.{ended, made, salt_of, by_code, request_of}
+use Rattle.pgp_message.specs.Reading.{ended, made, salt_of, bare_request, by_code, request_of}
 use Rattle.pgp_message.proofs.Families.{code_again, code_takes, salt_again, salt_reads, Holds, Reads}
 
 -- a test of a number decides
@@ -111,7 +111,7 @@ made_ended f x [] = refl
 made_ended f x (b ∷ more) = refl
 
 by_code_again : (q : Request) (more : List ℕ) → RequestFits q → by_code (code_of q) (details_of q ++ more) ≡ after_request q more
-unfolding by_code
+unfolding by_code bare_request
 by_code_again AuthenticationOk more fits = refl
 by_code_again AuthenticationKerberosV5 more fits = refl
 by_code_again AuthenticationCleartextPassword more fits = refl
@@ -184,19 +184,19 @@ module _ (payload rest : List ℕ) (n : ℕ) (spelled : payload ≡ uint32 n ++ 
   salted (Err d) e h = absurd h
 
   code_reads : n < 2 ^ 32 → RequestReads payload (by_code n rest)
-  unfolding by_code
+  unfolding by_code bare_request
   code_reads lt =
+      pick (RequestReads payload) n 8 _ _ (λ e. whole (AuthenticationGssContinue rest) e refl tt) (λ n8.
+      pick (RequestReads payload) n 10 _ _ (λ e. whole (AuthenticationSasl rest) e refl tt) (λ n10.
+      pick (RequestReads payload) n 11 _ _ (λ e. whole (AuthenticationSaslContinue rest) e refl tt) (λ n11.
+      pick (RequestReads payload) n 12 _ _ (λ e. whole (AuthenticationSaslFinal rest) e refl tt) (λ n12.
       pick (RequestReads payload) n 0 _ _ (λ e. plain AuthenticationOk rest refl e refl tt) (λ n0.
       pick (RequestReads payload) n 2 _ _ (λ e. plain AuthenticationKerberosV5 rest refl e refl tt) (λ n2.
       pick (RequestReads payload) n 3 _ _ (λ e. plain AuthenticationCleartextPassword rest refl e refl tt) (λ n3.
       pick (RequestReads payload) n 5 _ _ (λ e. salted (salt_of rest) e (salt_reads rest)) (λ n5.
       pick (RequestReads payload) n 6 _ _ (λ e. plain AuthenticationScmCredential rest refl e refl tt) (λ n6.
       pick (RequestReads payload) n 7 _ _ (λ e. plain AuthenticationGss rest refl e refl tt) (λ n7.
-      pick (RequestReads payload) n 8 _ _ (λ e. whole (AuthenticationGssContinue rest) e refl tt) (λ n8.
       pick (RequestReads payload) n 9 _ _ (λ e. plain AuthenticationSspi rest refl e refl tt) (λ n9.
-      pick (RequestReads payload) n 10 _ _ (λ e. whole (AuthenticationSasl rest) e refl tt) (λ n10.
-      pick (RequestReads payload) n 11 _ _ (λ e. whole (AuthenticationSaslContinue rest) e refl tt) (λ n11.
-      pick (RequestReads payload) n 12 _ _ (λ e. whole (AuthenticationSaslFinal rest) e refl tt) (λ n12.
       let none : (q : Request) → code_of q ≢ n = λ q. elim q as (λ v. code_of v ≢ n) [
         | AuthenticationOk ↦ n0
         | AuthenticationKerberosV5 ↦ n2
@@ -229,20 +229,20 @@ request_reads payload h = by_front (oid_at payload) refl
 
 -- an unknown code is answered
 by_unknown : (n : ℕ) (rest : List ℕ) → ((q : Request) → code_of q ≢ n) → by_code n rest ≡ Err (errors.UnknownAuthentication (cast_signed w32 n))
-unfolding by_code
+unfolding by_code bare_request
 by_unknown n rest none =
     let P : Result Request Error → Type 0 = λ r. r ≡ Err (errors.UnknownAuthentication (cast_signed w32 n)) in
+    pick P n 8 _ _ (λ e. absurd (none (AuthenticationGssContinue []) e)) (λ n8.
+    pick P n 10 _ _ (λ e. absurd (none (AuthenticationSasl []) e)) (λ n10.
+    pick P n 11 _ _ (λ e. absurd (none (AuthenticationSaslContinue []) e)) (λ n11.
+    pick P n 12 _ _ (λ e. absurd (none (AuthenticationSaslFinal []) e)) (λ n12.
     pick P n 0 _ _ (λ e. absurd (none AuthenticationOk e)) (λ n0.
     pick P n 2 _ _ (λ e. absurd (none AuthenticationKerberosV5 e)) (λ n2.
     pick P n 3 _ _ (λ e. absurd (none AuthenticationCleartextPassword e)) (λ n3.
     pick P n 5 _ _ (λ e. absurd (none (AuthenticationMd5Password []) e)) (λ n5.
     pick P n 6 _ _ (λ e. absurd (none AuthenticationScmCredential e)) (λ n6.
     pick P n 7 _ _ (λ e. absurd (none AuthenticationGss e)) (λ n7.
-    pick P n 8 _ _ (λ e. absurd (none (AuthenticationGssContinue []) e)) (λ n8.
-    pick P n 9 _ _ (λ e. absurd (none AuthenticationSspi e)) (λ n9.
-    pick P n 10 _ _ (λ e. absurd (none (AuthenticationSasl []) e)) (λ n10.
-    pick P n 11 _ _ (λ e. absurd (none (AuthenticationSaslContinue []) e)) (λ n11.
-    pick P n 12 _ _ (λ e. absurd (none (AuthenticationSaslFinal []) e)) (λ n12. refl)))))))))))
+    pick P n 9 _ _ (λ e. absurd (none AuthenticationSspi e)) (λ n9. refl)))))))))))
 
 pub unknown_again : (code : ℤ) (more : List ℕ) → FitsSigned w32 code → ((q : Request) → pos (code_of q) ≢ code) → request_of (int32 code ++ more) ≡ Err (errors.UnknownAuthentication code)
 unknown_again code more fits none =

@@ -9,9 +9,9 @@ use Rattle.std.proofs.lemmas.Nat.{from_be_bytes-to_be_bytes_4}
 use Rattle.pgp_base.specs.Wire.{uint32, IsBytes}
 use Rattle.pgp_base.specs.declared.error.Error.{Error}
 use Rattle.pgp_message.specs.BackendMessage.{Message, Body}
-use Rattle.pgp_message.specs.Stream.{Frame, frame_bytes, IsFrame, announced, IsEnding, IsLengthFault, Bodies, Frames, BackendRun, TakesFrame}
+use Rattle.pgp_message.specs.Stream.{IsFront, front_frame, Frame, frame_bytes, IsFrame, announced, IsEnding, IsLengthFault, Bodies, Frames, BackendRun, TakesFrame}
 use Rattle.pgp_message.specs.Reading.{body_of}
-use Rattle.pgp_message.proofs.Cuts.{Cuts, cut, front_frame}
+use Rattle.pgp_message.proofs.Cuts.{cut, front_of}
 use Rattle.pgp_message.proofs.Steps.{takes}
 use Rattle.pgp_message.proofs.Bodies.{one_body}
 
@@ -184,9 +184,9 @@ run_within (suc fuel) bytes le h =
           | inr whole ↦
               let n = announced bytes in
               let new = drop (n + 1) bytes in
-              let cuts : Cuts bytes n = cut bytes n h (announced_small bytes h) refl fine whole in
+              let front : IsFront (front_of bytes n) bytes = cut bytes n h (announced_small bytes h) refl fine whole in
               let less : length new ≤ fuel = omega (arith, length-drop (n + 1) bytes) in
-              goes_on bytes new _ (takes bytes new (front_frame bytes n) cuts.whole cuts.fits) (run_within fuel new less (λ i. rw get_or-drop (h (n + 1 + i))))
+              goes_on bytes new _ (takes bytes new (front_frame (front_of bytes n) bytes) front.whole front.fits) (run_within fuel new less (λ i. rw get_or-drop (h (n + 1 + i))))
         ]
       ]
     ]

@@ -1,11 +1,12 @@
 -- A step along a stream: a frame that was cut, and what its body says.
-use Rattle.std.proofs.Common.{◌≡◌, ℕ, List, ◌++◌, Option, Some, Result, Ok, Err, sym, subst}
+use Rattle.std.proofs.Common.{◌≡◌, ℕ, ◌-◌, ◌≤◌, List, ◌++◌, take, drop, Option, Some, Result, Ok, Err, sym, ap, ◌∙◌, subst}
 use Rattle.std.specs.Prelude.{MatchResult, IsOkAnd}
+use Rattle.bytes.proofs.Ranges.{drop-take_less}
 use Rattle.pgp_base.specs.declared.error.Error.{Error}
 use Rattle.pgp_base.specs.declared.error.Error.TheVariants as errors
 use Rattle.pgp_message.specs.declared.message as code
 use Rattle.pgp_message.specs.BackendMessage.{Message}
-use Rattle.pgp_message.specs.Stream.{Frame, frame_bytes, IsFrame, TakesFrame, Step, CutsFrame}
+use Rattle.pgp_message.specs.Stream.{Frame, frame_bytes, IsFrame, Front, IsFront, front_frame, BeginsWithFrame, TakesFrame, Step}
 use Rattle.pgp_message.specs.Reading.{body_of}
 use Rattle.pgp_message.specs.Views.{view, seen, parsed}
 use Rattle.pgp_message.proofs.Bodies.{body_is}
@@ -29,9 +30,18 @@ answers old new (Ok m) (Ok o) t e = found_here old new m o t e
 answers old new (Ok m) (Err d) t e = absurd e
 answers {A} old new (Err e) out t is = subst (λ (x : Result (Option (code.Message.Message A)) Error). Step old (parsed x) new) (sym is) (refused old new e t)
 
-pub steps : {A : Type 0} (old new : List ℕ) (o : Option Frame) (f : Frame) (r : Result (code.Message.Message A) Error) (out : Result (Option (code.Message.Message A)) Error)
-    → CutsFrame old (Ok o) new → o ≡ Some f → seen r ≡ body_of f.tag f.payload
+-- the front that was found is removed
+pub steps : {A : Type 0} (old new : List ℕ) (f : Front) (r : Result (code.Message.Message A) Error) (out : Result (Option (code.Message.Message A)) Error)
+    → IsFront f old → new ≡ drop f.total old → seen r ≡ body_of f.tag (drop 5 (take f.total old))
     → MatchResult r (λ m. IsOkAnd out (λ o. o ≡ Some m)) (λ e. out ≡ Err e) → Step old (parsed out) new
-steps old new o f r out cut found read is =
-    let c : CutsFrame old (Ok (Some f)) new = subst (λ (x : Option Frame). CutsFrame old (Ok x) new) found cut in
-    answers old new r out (subst (λ (x : Result Message Error). TakesFrame old x new) (sym read) (takes old new f c.0 c.1)) is
+steps {A} old new f r out front rest read is =
+    let taken : TakesFrame old (seen r) (drop f.total old) = subst (λ (x : Result Message Error). TakesFrame old x (drop f.total old)) (sym read) (takes old (drop f.total old) (front_frame f old) front.whole front.fits) in
+    rw rest (answers old (drop f.total old) r out taken is)
+
+-- a whole frame stands there
+pub begins : (old : List ℕ) (f : Front) → IsFront f old → BeginsWithFrame old
+begins old f front = record { first = front_frame f old; rest = drop f.total old; whole = front.whole; fits = front.fits }
+
+-- what stands behind the header, as it is sliced
+pub payload_of_front : (bytes old : List ℕ) (t : ℕ) → 5 ≤ t → bytes ≡ old → take (t - 5) (drop 5 bytes) ≡ drop 5 (take t old)
+payload_of_front bytes old t least same = ap (λ l. take (t - 5) (drop 5 l)) same ∙ sym (drop-take_less old 5 t least)

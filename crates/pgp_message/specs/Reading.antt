@@ -64,49 +64,67 @@ salt_of payload = do
   salt ← front_at 4 (λ bytes. bytes) payload
   ended salt.0 salt.1
 
--- what follows each code
-unfoldable pub by_code : ℕ → List ℕ → Result Request Error
-by_code code rest =
+-- A message is bare where it keeps none of the bytes of its frame.
+
+-- what follows the code of a bare request
+unfoldable pub bare_request : ℕ → List ℕ → Result Request Error
+bare_request code rest =
     if code == 0 then ended AuthenticationOk rest else
     if code == 2 then ended AuthenticationKerberosV5 rest else
     if code == 3 then ended AuthenticationCleartextPassword rest else
     if code == 5 then made AuthenticationMd5Password (salt_of rest) else
     if code == 6 then ended AuthenticationScmCredential rest else
     if code == 7 then ended AuthenticationGss rest else
-    if code == 8 then Ok (AuthenticationGssContinue rest) else
     if code == 9 then ended AuthenticationSspi rest else
+    Err (UnknownAuthentication (cast_signed w32 code))
+
+-- what follows each code
+unfoldable pub by_code : ℕ → List ℕ → Result Request Error
+by_code code rest =
+    if code == 8 then Ok (AuthenticationGssContinue rest) else
     if code == 10 then Ok (AuthenticationSasl rest) else
     if code == 11 then Ok (AuthenticationSaslContinue rest) else
     if code == 12 then Ok (AuthenticationSaslFinal rest) else
-    Err (UnknownAuthentication (cast_signed w32 code))
+    bare_request code rest
+
+unfoldable pub bare_request_of : List ℕ → Result Request Error
+bare_request_of payload = do
+  code ← oid_at payload
+  bare_request code.0 code.1
 
 unfoldable pub request_of : List ℕ → Result Request Error
 request_of payload = do
   code ← oid_at payload
   by_code code.0 code.1
 
--- what follows each tag
-unfoldable pub body_of : ℕ → List ℕ → Result Message Error
-body_of tag payload =
+-- what follows the tag of a bare message
+unfoldable pub bare_of : ℕ → List ℕ → Result Message Error
+bare_of tag payload =
     if tag == 0x31 then ended ParseComplete payload else
     if tag == 0x32 then ended BindComplete payload else
     if tag == 0x33 then ended CloseComplete payload else
+    if tag == 0x49 then ended EmptyQueryResponse payload else
+    if tag == 0x4b then made BackendKeyData (key_data_of payload) else
+    if tag == 0x52 then made Authentication (bare_request_of payload) else
+    if tag == 0x5a then made ReadyForQuery (byte_of payload) else
+    if tag == 0x63 then ended CopyDone payload else
+    if tag == 0x6e then ended NoData payload else
+    if tag == 0x73 then ended PortalSuspended payload else
+    Err (UnknownTag tag)
+
+-- what follows each tag
+unfoldable pub body_of : ℕ → List ℕ → Result Message Error
+body_of tag payload =
     if tag == 0x41 then made NotificationResponse (notification_of payload) else
     if tag == 0x43 then made CommandComplete (string_of payload) else
     if tag == 0x44 then made DataRow (counted_of payload) else
     if tag == 0x45 then Ok (ErrorResponse payload) else
     if tag == 0x47 then made CopyInResponse (copy_of payload) else
     if tag == 0x48 then made CopyOutResponse (copy_of payload) else
-    if tag == 0x49 then ended EmptyQueryResponse payload else
-    if tag == 0x4b then made BackendKeyData (key_data_of payload) else
     if tag == 0x4e then Ok (NoticeResponse payload) else
     if tag == 0x52 then made Authentication (request_of payload) else
     if tag == 0x53 then made ParameterStatus (setting_of payload) else
     if tag == 0x54 then made RowDescription (counted_of payload) else
-    if tag == 0x5a then made ReadyForQuery (byte_of payload) else
-    if tag == 0x63 then ended CopyDone payload else
     if tag == 0x64 then Ok (CopyData payload) else
-    if tag == 0x6e then ended NoData payload else
-    if tag == 0x73 then ended PortalSuspended payload else
     if tag == 0x74 then made ParameterDescription (counted_of payload) else
-    Err (UnknownTag tag)
+    bare_of tag payload

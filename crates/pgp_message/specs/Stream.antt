@@ -79,10 +79,24 @@ Step old (Err errors.InvalidLength) new = IsLengthFault old × (new ≡ old)
 Step old (Err errors.OutOfMemory) new = BeginsWithFrame old × (new ≡ old)
 Step old (Err e) new = TakesFrame old (Err e) new
 
--- One frame off the front, before its body is read.
-abbrev pub CutsFrame : List ℕ → Result (Option Frame) Error → List ℕ → Type 0
-CutsFrame old (Ok None) new = IsPartial old × (new ≡ old)
-CutsFrame old (Ok (Some f)) new = (old ≡ frame_bytes f ++ new) × IsFrame f
-CutsFrame old (Err errors.InvalidLength) new = IsLengthFault old × (new ≡ old)
-CutsFrame old (Err errors.OutOfMemory) new = BeginsWithFrame old × (new ≡ old)
-CutsFrame old (Err e) new = ⊥
+-- A whole frame at the front: its tag, and how many bytes it takes.
+pub record Front : Type 0 where
+  pub tag : ℕ
+  pub total : ℕ
+
+-- the frame itself
+abbrev pub front_frame : Front → List ℕ → Frame
+front_frame f bytes = record { tag = f.tag; payload = drop 5 (take f.total bytes) }
+
+pub record IsFront (f : Front) (bytes : List ℕ) : Type 0 where
+  pub whole : bytes ≡ frame_bytes (front_frame f bytes) ++ drop f.total bytes
+  pub fits : IsFrame (front_frame f bytes)
+  pub least : 5 ≤ f.total
+  pub most : f.total ≤ length bytes
+
+-- What stands at the front of the bytes.
+abbrev pub Finds : List ℕ → Result (Option Front) Error → Type 0
+Finds bytes (Ok None) = IsPartial bytes
+Finds bytes (Ok (Some f)) = IsFront f bytes
+Finds bytes (Err errors.InvalidLength) = IsLengthFault bytes
+Finds bytes (Err e) = ⊥

@@ -1,10 +1,10 @@
-//! Cutting one frame off the front of a buffer.
+//! The frame at the front of a buffer.
 
-ghost use Rattle.std.specs.Prelude.{◌≡◌, ◌≤◌, ◌+◌, Ok, Err, None, length, slice_index};
+ghost use Rattle.std.specs.Prelude.{◌≡◌, ◌≤◌, Ok, Err, None, length, slice_index};
 ghost use Rattle.pgp_base.specs.Wire.{IsBytes};
-ghost use Rattle.pgp_message.specs.Stream.{CutsFrame, IsPartial, IsLengthFault, announced};
+ghost use Rattle.pgp_message.specs.Stream.{Finds, IsPartial, IsLengthFault, announced};
 
-use bytes::{Buf, Bytes, BytesMut};
+use bytes::BytesMut;
 use pgp_base::Error;
 use std::alloc::Allocator;
 use std::marker::Model;
@@ -12,28 +12,31 @@ use std::marker::Model;
 /// The most room that is asked for at a time.
 const MAX_ROOM: usize = 65536;
 
-/// A frame without its length.
-#[derive(Drop)]
-pub struct Frame<A: Allocator> {
+/// A whole frame at the front of a buffer: its tag, and how many bytes it takes.
+#[derive(Clone, Copy)]
+pub struct Front {
     pub tag: u8,
-    pub payload: Bytes<A>,
+    pub total: usize,
 }
 
-impl<A: Allocator> Model for Frame<A> {
-    ghost use Rattle.pgp_message.specs.Stream.{Frame};
+impl Model for Front {
+    ghost use Rattle.pgp_message.specs.Stream.{Front};
 
-    ghost Value = { Frame };
+    ghost Value = { Front };
 
-    ghost view = { λ frame. record { tag = frame.tag; payload = frame.payload } };
+    ghost view = { λ front. record { tag = front.tag; total = front.total } };
+
+    ghost inverse = { λ front. record { tag = front.tag; total = front.total } };
 }
 
-impl<A: Allocator + Copy> Frame<A> {
-    /// Removes the frame at the front of the bytes, without asking for memory where its payload is empty.
-    /// Where it isn't whole, asks for room for what is missing, and doesn't tell whether there was any.
-    pub fn cut(buf: &mut BytesMut<A>) -> Result<Option<Frame<A>>, Error>
-        ensures step { CutsFrame buf.old.items result buf.new.items }
+impl Front {
+    /// The frame at the front of the bytes, which stay. Where it isn't whole, asks for room for what
+    /// is missing, and doesn't tell whether there was any.
+    pub fn find<A: Allocator + Copy>(buf: &mut BytesMut<A>) -> Result<Option<Front>, Error>
+        ensures finds { Finds buf.old.items result }
         ensures waits { IsPartial buf.old.items → result ≡ Ok None }
         ensures fault { IsLengthFault buf.old.items → result ≡ Err Error.InvalidLength }
+        ensures same { buf.new.items ≡ buf.old.items }
     {
         if buf.len() < 5 {
             let missing = 5 - buf.len();
@@ -50,16 +53,7 @@ impl<A: Allocator + Copy> Frame<A> {
             let _ = buf.reserve(missing.min(MAX_ROOM));
             return Ok(None);
         }
-        if len == 4 {
-            buf.advance(total);
-            let payload = Bytes::new();
-            return Ok(Some(Frame { tag, payload }));
-        }
-        let Ok(mut payload) = buf.freeze_to(total) else {
-            return Err(Error::OutOfMemory);
-        };
-        payload.advance(5);
-        Ok(Some(Frame { tag, payload }))
+        Ok(Some(Front { tag, total }))
     }
 }
 

@@ -1,8 +1,8 @@
 //! The messages that a server sends.
 
-ghost use Rattle.std.specs.Prelude.{◌≡◌, Ok, Err, None};
+ghost use Rattle.std.specs.Prelude.{◌≡◌, false, Ok, Err, None};
 ghost use Rattle.pgp_message.specs.BackendMessage.{Authentication};
-ghost use Rattle.pgp_message.specs.Reading.{ended, made, request_of, body_of};
+ghost use Rattle.pgp_message.specs.Reading.{ended, made, bare_request, bare_request_of, request_of, bare_of, body_of};
 ghost use Rattle.pgp_message.specs.Stream.{Step, IsPartial, IsLengthFault};
 ghost use Rattle.pgp_message.specs.Views.{view, seen, parsed};
 
@@ -13,7 +13,7 @@ use crate::body::{
     ErrorResponseBody, NoticeResponseBody, NotificationResponseBody, ParameterDescriptionBody,
     ParameterStatusBody, ReadyForQueryBody, RowDescriptionBody,
 };
-use crate::frame::Frame;
+use crate::frame::Front;
 use crate::tag::{
     AUTHENTICATION_TAG, BACKEND_KEY_DATA_TAG, BIND_COMPLETE_TAG, CLOSE_COMPLETE_TAG,
     COMMAND_COMPLETE_TAG, COPY_DATA_TAG, COPY_DONE_TAG, COPY_IN_RESPONSE_TAG,
@@ -22,7 +22,7 @@ use crate::tag::{
     PARAMETER_STATUS_TAG, PARSE_COMPLETE_TAG, PORTAL_SUSPENDED_TAG, READY_FOR_QUERY_TAG,
     ROW_DESCRIPTION_TAG,
 };
-use bytes::{Bytes, BytesMut};
+use bytes::{Buf, Bytes, BytesMut};
 use pgp_base::Error;
 use pgp_base::reading::oid_at;
 use std::alloc::{Allocator, Global};
@@ -66,16 +66,106 @@ pub enum Message<A: Allocator = Global> {
 impl<A: Allocator + Copy> Message<A> {
     /// Takes the message at the front of the bytes, and removes its frame; `None` where it isn't
     /// whole. A frame whose body is refused is removed too; a length fault and want of memory leave
-    /// the bytes.
+    /// the bytes. Memory is asked for only where the message keeps bytes of its frame, and for room
+    /// for a frame that isn't whole.
     pub fn parse(buf: &mut BytesMut<A>) -> Result<Option<Message<A>>, Error>
         ensures step { Step buf.old.items (parsed result) buf.new.items }
         ensures waits { IsPartial buf.old.items → result ≡ Ok None }
         ensures fault { IsLengthFault buf.old.items → result ≡ Err Error.InvalidLength }
     {
-        match Frame::cut(buf)? {
-            None => Ok(None),
-            Some(Frame { tag, payload }) => body(tag, payload).map(Some),
+        let Some(front) = Front::find(buf)? else {
+            return Ok(None);
+        };
+        let payload = &buf.as_slice()[5..front.total];
+        if !keeps_bytes(front.tag, payload) {
+            let answer = bare(front.tag, payload);
+            buf.advance(front.total);
+            return answer.map(Some);
         }
+        let Ok(mut payload) = buf.freeze_to(front.total) else {
+            return Err(Error::OutOfMemory);
+        };
+        payload.advance(5);
+        body(front.tag, payload).map(Some)
+    }
+}
+
+/// Whether a message of this tag keeps bytes of its frame.
+#[tactic(auto, unfolding(crate::specs::Reading::body_of, crate::specs::Reading::bare_of))]
+fn keeps_bytes(tag: u8, payload: &[u8]) -> bool
+    ensures { result ≡ false → body_of tag payload.now ≡ bare_of tag payload.now }
+{
+    match tag {
+        NOTIFICATION_RESPONSE_TAG
+        | COMMAND_COMPLETE_TAG
+        | DATA_ROW_TAG
+        | ERROR_RESPONSE_TAG
+        | COPY_IN_RESPONSE_TAG
+        | COPY_OUT_RESPONSE_TAG
+        | NOTICE_RESPONSE_TAG
+        | PARAMETER_STATUS_TAG
+        | ROW_DESCRIPTION_TAG
+        | COPY_DATA_TAG
+        | PARAMETER_DESCRIPTION_TAG => true,
+        AUTHENTICATION_TAG => request_keeps_bytes(payload),
+        _ => false,
+    }
+}
+
+/// Whether an authentication request keeps bytes of its frame.
+#[tactic(auto, unfolding(crate::specs::Reading::request_of, crate::specs::Reading::bare_request_of, crate::specs::Reading::by_code))]
+fn request_keeps_bytes(payload: &[u8]) -> bool
+    ensures { result ≡ false → request_of payload.now ≡ bare_request_of payload.now }
+{
+    match oid_at(payload) {
+        Ok((8 | 10 | 11 | 12, _)) => true,
+        _ => false,
+    }
+}
+
+/// The message of a frame of which nothing is kept.
+#[tactic(auto, unfolding(crate::specs::Reading::bare_of))]
+fn bare<A: Allocator + Copy>(tag: u8, payload: &[u8]) -> Result<Message<A>, Error>
+    ensures { seen result ≡ bare_of tag payload.now }
+{
+    match tag {
+        PARSE_COMPLETE_TAG => ended(payload, Message::ParseComplete),
+        BIND_COMPLETE_TAG => ended(payload, Message::BindComplete),
+        CLOSE_COMPLETE_TAG => ended(payload, Message::CloseComplete),
+        EMPTY_QUERY_RESPONSE_TAG => ended(payload, Message::EmptyQueryResponse),
+        BACKEND_KEY_DATA_TAG => Ok(Message::BackendKeyData(BackendKeyDataBody::read(payload)?)),
+        AUTHENTICATION_TAG => bare_authentication(payload),
+        READY_FOR_QUERY_TAG => Ok(Message::ReadyForQuery(ReadyForQueryBody::read(payload)?)),
+        COPY_DONE_TAG => ended(payload, Message::CopyDone),
+        NO_DATA_TAG => ended(payload, Message::NoData),
+        PORTAL_SUSPENDED_TAG => ended(payload, Message::PortalSuspended),
+        tag => Err(Error::UnknownTag(tag)),
+    }
+}
+
+/// The authentication request of a frame of which nothing is kept.
+#[tactic(auto, unfolding(crate::specs::Reading::bare_request_of))]
+fn bare_authentication<A: Allocator + Copy>(payload: &[u8]) -> Result<Message<A>, Error>
+    ensures { seen result ≡ made Authentication (bare_request_of payload.now) }
+{
+    let (code, rest) = oid_at(payload)?;
+    bare_request(code, rest)
+}
+
+/// The authentication request of a code, where nothing of the rest is kept.
+#[tactic(auto, unfolding(crate::specs::Reading::bare_request))]
+fn bare_request<A: Allocator + Copy>(code: u32, rest: &[u8]) -> Result<Message<A>, Error>
+    ensures { seen result ≡ made Authentication (bare_request code rest.now) }
+{
+    match code {
+        0 => ended(rest, Message::AuthenticationOk),
+        2 => ended(rest, Message::AuthenticationKerberosV5),
+        3 => ended(rest, Message::AuthenticationCleartextPassword),
+        5 => Ok(Message::AuthenticationMd5Password(AuthenticationMd5PasswordBody::read(rest)?)),
+        6 => ended(rest, Message::AuthenticationScmCredential),
+        7 => ended(rest, Message::AuthenticationGss),
+        9 => ended(rest, Message::AuthenticationSspi),
+        code => Err(Error::UnknownAuthentication(code.cast_signed())),
     }
 }
 
@@ -85,9 +175,6 @@ fn body<A: Allocator + Copy>(tag: u8, payload: Bytes<A>) -> Result<Message<A>, E
     ensures { seen result ≡ body_of tag payload }
 {
     match tag {
-        PARSE_COMPLETE_TAG => ended(payload, Message::ParseComplete),
-        BIND_COMPLETE_TAG => ended(payload, Message::BindComplete),
-        CLOSE_COMPLETE_TAG => ended(payload, Message::CloseComplete),
         NOTIFICATION_RESPONSE_TAG => Ok(Message::NotificationResponse(
             NotificationResponseBody::read(payload)?,
         )),
@@ -96,21 +183,15 @@ fn body<A: Allocator + Copy>(tag: u8, payload: Bytes<A>) -> Result<Message<A>, E
         ERROR_RESPONSE_TAG => Ok(Message::ErrorResponse(ErrorResponseBody::new(payload))),
         COPY_IN_RESPONSE_TAG => Ok(Message::CopyInResponse(CopyInResponseBody::read(payload)?)),
         COPY_OUT_RESPONSE_TAG => Ok(Message::CopyOutResponse(CopyOutResponseBody::read(payload)?)),
-        EMPTY_QUERY_RESPONSE_TAG => ended(payload, Message::EmptyQueryResponse),
-        BACKEND_KEY_DATA_TAG => Ok(Message::BackendKeyData(BackendKeyDataBody::read(payload)?)),
         NOTICE_RESPONSE_TAG => Ok(Message::NoticeResponse(NoticeResponseBody::new(payload))),
         AUTHENTICATION_TAG => authentication(payload),
         PARAMETER_STATUS_TAG => Ok(Message::ParameterStatus(ParameterStatusBody::read(payload)?)),
         ROW_DESCRIPTION_TAG => Ok(Message::RowDescription(RowDescriptionBody::read(payload)?)),
-        READY_FOR_QUERY_TAG => Ok(Message::ReadyForQuery(ReadyForQueryBody::read(payload)?)),
-        COPY_DONE_TAG => ended(payload, Message::CopyDone),
         COPY_DATA_TAG => Ok(Message::CopyData(CopyDataBody::new(payload))),
-        NO_DATA_TAG => ended(payload, Message::NoData),
-        PORTAL_SUSPENDED_TAG => ended(payload, Message::PortalSuspended),
         PARAMETER_DESCRIPTION_TAG => Ok(Message::ParameterDescription(
             ParameterDescriptionBody::read(payload)?,
         )),
-        tag => Err(Error::UnknownTag(tag)),
+        tag => bare(tag, payload.as_slice()),
     }
 }
 
@@ -122,24 +203,17 @@ fn authentication<A: Allocator + Copy>(mut payload: Bytes<A>) -> Result<Message<
     let (code, _) = oid_at(payload.as_slice())?;
     payload.advance(4);
     match code {
-        0 => ended(payload, Message::AuthenticationOk),
-        2 => ended(payload, Message::AuthenticationKerberosV5),
-        3 => ended(payload, Message::AuthenticationCleartextPassword),
-        5 => Ok(Message::AuthenticationMd5Password(AuthenticationMd5PasswordBody::read(payload)?)),
-        6 => ended(payload, Message::AuthenticationScmCredential),
-        7 => ended(payload, Message::AuthenticationGss),
         8 => Ok(Message::AuthenticationGssContinue(AuthenticationGssContinueBody::new(payload))),
-        9 => ended(payload, Message::AuthenticationSspi),
         10 => Ok(Message::AuthenticationSasl(AuthenticationSaslBody::new(payload))),
         11 => Ok(Message::AuthenticationSaslContinue(AuthenticationSaslContinueBody::new(payload))),
         12 => Ok(Message::AuthenticationSaslFinal(AuthenticationSaslFinalBody::new(payload))),
-        code => Err(Error::UnknownAuthentication(code.cast_signed())),
+        code => bare_request(code, payload.as_slice()),
     }
 }
 
 /// A message without parts, unless bytes are left.
-fn ended<A: Allocator>(payload: Bytes<A>, message: Message<A>) -> Result<Message<A>, Error>
-    ensures { seen result ≡ ended (view message) payload }
+fn ended<A: Allocator>(payload: &[u8], message: Message<A>) -> Result<Message<A>, Error>
+    ensures { seen result ≡ ended (view message) payload.now }
 {
     if !payload.is_empty() {
         return Err(Error::NotDrained);

@@ -27,10 +27,9 @@ impl Model for AuthenticationMd5PasswordBody {
 
 impl AuthenticationMd5PasswordBody {
     #[tactic(auto, unfolding(crate::specs::Reading::salt_of))]
-    pub(crate) fn read<A: Allocator>(payload: Bytes<A>) -> Result<Self, Error>
-        ensures { result ≡ salt_of payload }
+    pub(crate) fn read(bytes: &[u8]) -> Result<Self, Error>
+        ensures { result ≡ salt_of bytes.now }
     {
-        let bytes = payload.as_slice();
         if bytes.len() < 4 {
             return Err(Error::UnexpectedEof);
         }

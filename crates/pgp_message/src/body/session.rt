@@ -28,10 +28,10 @@ impl Model for BackendKeyDataBody {
 
 impl BackendKeyDataBody {
     #[tactic(auto, unfolding(crate::specs::Reading::key_data_of))]
-    pub(crate) fn read<A: Allocator>(payload: Bytes<A>) -> Result<Self, Error>
-        ensures { result ≡ key_data_of payload }
+    pub(crate) fn read(payload: &[u8]) -> Result<Self, Error>
+        ensures { result ≡ key_data_of payload.now }
     {
-        let (process_id, rest) = int32_at(payload.as_slice())?;
+        let (process_id, rest) = int32_at(payload)?;
         let (secret_key, rest) = int32_at(rest)?;
         if !rest.is_empty() {
             return Err(Error::NotDrained);
@@ -73,10 +73,10 @@ impl Model for ReadyForQueryBody {
 
 impl ReadyForQueryBody {
     #[tactic(auto, unfolding(crate::specs::Reading::byte_of))]
-    pub(crate) fn read<A: Allocator>(payload: Bytes<A>) -> Result<Self, Error>
-        ensures { result ≡ byte_of payload }
+    pub(crate) fn read(payload: &[u8]) -> Result<Self, Error>
+        ensures { result ≡ byte_of payload.now }
     {
-        let (status, rest) = byte_at(payload.as_slice())?;
+        let (status, rest) = byte_at(payload)?;
         if !rest.is_empty() {
             return Err(Error::NotDrained);
         }

@@ -1,7 +1,19 @@
-use Rattle.std.proofs.Common.{rules}
-use Rattle.pgp_message.proofs.Steps.{steps}
+use Rattle.std.proofs.Common.{rules, sym, ap, ◌∙◌}
+use Rattle.pgp_message.specs.Stream.{Front, IsFront}
+use Rattle.pgp_message.specs.Reading.{body_of}
+use Rattle.pgp_message.proofs.Steps.{steps, payload_of_front}
 use Rattle.pgp_message.proofs.message.Message.parse.Goals as goal
 
-pub returns-in-Some-clause-step : goal.returns-in-Some-clause-step
-returns-in-Some-clause-step g c =
-    steps c.args.buf.now.items c.cut.new.buf.items c.in_ok-tag.field-0 (record { tag = c.in-Some.field-0.tag; payload = c.in-Some.field-0.payload }) c.body.result c.map.result c.in_ok-tag.ensures.step (search rules) c.body.ensures c.map.ensures.cases
+pub returns-then-not-keeps_bytes-clause-step : goal.returns-then-not-keeps_bytes-clause-step
+returns-then-not-keeps_bytes-clause-step g c =
+    let f : Front = record { tag = c.front.inside.tag; total = c.front.inside.total } in
+    let front : IsFront f c.args.buf.now.items = search rules in
+    let payload = payload_of_front c.as_slice.result.now c.args.buf.now.items c.front.inside.total front.least (search rules) in
+    let read = c.bare-answer.ensures ∙ sym (c.keeps_bytes.ensures c.if-not-keeps_bytes.true) ∙ ap (body_of c.front.inside.tag) payload in
+    steps c.args.buf.now.items c.advance.new.self.items f c.bare-answer.result c.map.result front (search rules) read c.map.ensures.cases
+
+pub returns-clause-step : goal.returns-clause-step
+returns-clause-step g c =
+    let f : Front = record { tag = c.front.inside.tag; total = c.front.inside.total } in
+    let front : IsFront f c.args.buf.now.items = search rules in
+    steps c.args.buf.now.items c.freeze_to.new.self.items f c.body.result c.map-2.result front (search rules) (search rules) c.map-2.ensures.cases
