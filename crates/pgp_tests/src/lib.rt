@@ -4,4 +4,6 @@
 #[cfg(test)]
 mod auth;
 #[cfg(test)]
+mod message;
+#[cfg(test)]
 mod types;
