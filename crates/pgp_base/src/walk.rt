@@ -36,7 +36,7 @@ pub trait FallibleIterator {
         ensures err { IfErr result (λ e. RefusesFrom (walk self) e) }
     {
         let mut items = Vec::new(alloc);
-        while let Some(item) = self.next()? {
+        'items: while let Some(item) = self.next()? {
             if items.push(item).is_err() {
                 return Err(Error::OutOfMemory);
             }

@@ -6,4 +6,6 @@ mod auth;
 #[cfg(test)]
 mod frontend;
 #[cfg(test)]
+mod message;
+#[cfg(test)]
 mod types;
