@@ -78,7 +78,6 @@ impl Box {
 }
 
 /// Appends a `point`.
-#[tactic(auto, unfolding(pgp_base::specs::Wire::uint64))]
 pub fn point_to_sql<B: Buffer>(x: u64, y: u64, buf: &mut B) -> Result<(), Error>
     ensures { Writes point (record { x = x; y = y }) (B.bytes buf.old) result (B.bytes buf.new) }
 {
