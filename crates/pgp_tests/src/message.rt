@@ -73,6 +73,45 @@ fn unfinished_frame_with_each_allocation_refused(rt: HostRuntime) -> Result<(), 
     Ok(())
 }
 
+// Whether a message stands at the front, which is removed.
+fn is_message<A: Allocator + Copy>(buf: &mut BytesMut<A>) -> Result<bool, Error> {
+    match Message::parse(buf)? {
+        Some(message) => {
+            drop(message);
+            Ok(true)
+        }
+        None => Ok(false),
+    }
+}
+
+// A message that keeps no bytes of its frame asks for no memory, and neither does a frame of no message.
+#[test]
+fn bare_frames_ask_for_no_memory(rt: HostRuntime) -> Result<(), Fail> {
+    let frames: [(&[u8], Result<bool, Error>); 9] = [
+        (b"\x31\0\0\0\x04", Ok(true)),
+        (b"\x5a\0\0\0\x05I", Ok(true)),
+        (b"\x4b\0\0\0\x0c\0\0\0\x01\0\0\0\x02", Ok(true)),
+        (b"\x52\0\0\0\x08\0\0\0\0", Ok(true)),
+        (b"\x52\0\0\0\x0c\0\0\0\x05\x01\x02\x03\x04", Ok(true)),
+        (b"\x5a\0\0\0\x06I\0", Err(Error::NotDrained)),
+        (b"\x57\0\0\0\x06ab", Err(Error::UnknownTag(0x57))),
+        (
+            b"\x52\0\0\0\x08\0\0\0\x63",
+            Err(Error::UnknownAuthentication(99)),
+        ),
+        (b"\x52\0\0\0\x06\0\0", Err(Error::UnexpectedEof)),
+    ];
+    for (bytes, answer) in frames {
+        let heap = Refusing::new(rt.alloc(), 0);
+        let mut buf = buffer(&heap, bytes)?;
+        heap.refuse(1);
+        assert_eq!(rt; is_message(&mut buf), answer);
+        assert!(rt; buf.is_empty());
+        assert!(rt; heap.is_pending());
+    }
+    Ok(())
+}
+
 fn row<A: Allocator + Copy>(alloc: A, bytes: &[u8]) -> Result<DataRowBody<A>, Error> {
     let mut buf = buffer(alloc, bytes)?;
     match Message::parse(&mut buf)? {
