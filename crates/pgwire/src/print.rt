@@ -1,6 +1,6 @@
 //! Printing one line.
 
-ghost use Rattle.std.specs.Prelude.{◌≡◌, IfOk, OnOk, string_bytes};
+ghost use Rattle.std.specs.Prelude.{◌≡◌, ◌⊎◌, IfOk, IfErr, OnOk, string_bytes};
 ghost use Rattle.std.specs.Io.KnownBytes.{Appends};
 ghost use Rattle.pgwire.specs.Output.{line};
 
@@ -12,6 +12,7 @@ use std::io::Write;
 pub fn print<A: Allocator, W: Write>(mut text: String<A>, output: &mut W) -> Result<u8, Fault>
     ensures written { OnOk result (Appends (W.contents output.old) (W.contents output.new) (line (string_bytes text))) }
     ensures status { IfOk result (λ status. status ≡ 0) }
+    ensures fault { IfErr result (λ fault. (fault ≡ Fault.Memory) ⊎ (fault ≡ Fault.Write)) }
 {
     text.push('\n')?;
     if output.write_all(text.as_bytes()).is_err() {

@@ -1,6 +1,6 @@
 //! The commands that print a text: verifiers and escaped texts.
 
-ghost use Rattle.std.specs.Prelude.{◌≡◌, ℕ, List, IfOk, OnOk};
+ghost use Rattle.std.specs.Prelude.{◌≡◌, ◌⊎◌, ℕ, List, IfOk, IfErr, OnOk};
 ghost use Rattle.std.specs.Io.KnownBytes.{Appends};
 ghost use Rattle.pgp_auth.specs.Lexer.{Identifier};
 ghost use Rattle.pgp_auth.specs.Verifier.{verifier, verifier_text};
@@ -25,6 +25,7 @@ pub fn verifier<A: Allocator + Copy, W: Write>(
     ensures written { OnOk result (Appends (W.contents output.old) (W.contents output.new)
         (line (verifier_text (verifier password.now salt 4096)))) }
     ensures status { IfOk result (λ status. status ≡ 0) }
+    ensures fault { IfErr result (λ fault. (fault ≡ Fault.Memory) ⊎ (fault ≡ Fault.Write)) }
 {
     match password::scram_sha_256_salt(alloc, password.as_bytes(), salt, &NoPrep) {
         Ok(text) => print(text, output),
@@ -41,6 +42,7 @@ pub fn escape_literal<A: Allocator + Copy, W: Write>(
     ensures written { OnOk result ((literal : List ℕ) × IsEscapedLiteral text.now literal
         × Appends (W.contents output.old) (W.contents output.new) (line literal)) }
     ensures status { IfOk result (λ status. status ≡ 0) }
+    ensures fault { IfErr result (λ fault. (fault ≡ Fault.Memory) ⊎ (fault ≡ Fault.Write)) }
 {
     match escape::escape_literal(alloc, text) {
         Ok(literal) => print(literal, output),
@@ -57,6 +59,7 @@ pub fn escape_identifier<A: Allocator + Copy, W: Write>(
     ensures written { OnOk result ((identifier : List ℕ) × Identifier identifier text.now
         × Appends (W.contents output.old) (W.contents output.new) (line identifier)) }
     ensures status { IfOk result (λ status. status ≡ 0) }
+    ensures fault { IfErr result (λ fault. (fault ≡ Fault.Memory) ⊎ (fault ≡ Fault.Write)) }
 {
     match escape::escape_identifier(alloc, text) {
         Ok(identifier) => print(identifier, output),
