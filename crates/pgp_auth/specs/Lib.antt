@@ -4,5 +4,17 @@ pub mod Hmac
 pub mod IteratedKey
 pub mod Lexer
 pub mod Md5Text
+pub mod Nonce
+pub mod Pattern
 pub mod Prepared
+pub mod ScramAnswer
+pub mod ScramClient
+pub mod ScramErrorView
+pub mod ScramPartView
+pub mod ScramReading
+pub mod ScramRefusal
+pub mod ScramServer
+pub mod ScramStateView
+pub mod ScramText
+pub mod ScramView
 pub mod Verifier

@@ -1,13 +1,21 @@
 //! Laws on the definitions of this crate.
 
-ghost use Rattle.std.specs.Prelude.{◌≡◌, ◌≢◌, ◌↔◌, ℕ, ◌<◌, Bool, List, [], ◌∷◌, ◌++◌, Some, All, length, slice_get};
+ghost use Rattle.std.specs.Prelude.{◌≡◌, ◌≢◌, ◌↔◌, ◌⊎◌, codes, ℕ, ◌<◌, Bool, List, [], ◌∷◌, ◌++◌, Some, All, length, slice_get, IfErr};
 ghost use Rattle.sha2.specs.Sha256.{sha256};
 ghost use Rattle.pgp_base.specs.Wire.{IsBytes};
 ghost use Rattle.pgp_auth.specs.Base64.{base64, Shows};
 ghost use Rattle.pgp_auth.specs.IteratedKey.{salted};
 ghost use Rattle.pgp_auth.specs.Lexer.{Literal, Identifier, IsPlain, NeedsNoEscape, single_quote, double_quote};
 ghost use Rattle.pgp_auth.specs.Md5Text.{md5_text};
-ghost use Rattle.pgp_auth.specs.Verifier.{Verifier, verifier_text};
+ghost use Rattle.pgp_auth.specs.Verifier.{Verifier, verifier, verifier_text};
+ghost use Rattle.pgp_auth.specs.ScramText.{Binding};
+ghost use Rattle.pgp_auth.specs.ScramServer.{Accepts, Signs};
+ghost use Rattle.pgp_auth.specs.ScramRefusal.{Refusal, OutOfMemory, Meets, RefusesFirst, RefusesFinal, Verifies, ShowsOther};
+ghost use Rattle.pgp_auth.specs.ScramClient.{Client, Answers, first_text, signature_of, NotVerified, Serves, Over};
+ghost use Rattle.pgp_auth.specs.ScramErrorView.{refusal};
+
+use crate::authentication::sasl::{ScramError, ScramSha256};
+use std::alloc::Allocator;
 
 /// What follows a string constant, unless it begins with a quote, changes neither where the constant
 /// ends nor what it is read as. (A quote right behind it would be read as a part of it.)
@@ -60,3 +68,60 @@ pub fn verifiers_need_no_escape()
     ensures scram { (v : Verifier) → All NeedsNoEscape (verifier_text v) }
     ensures md5 { (message : List ℕ) → All NeedsNoEscape (md5_text message) }
 {}
+
+/// A server's first text either meets the client's conditions, with one nonce, one salt and one count,
+/// or has one cause of refusal.
+pub fn first_text_is_answered_in_one_way()
+    ensures some { (client_nonce text : List ℕ) →
+        ((nonce salt : List ℕ) × (count : ℕ) × Meets client_nonce text nonce salt count) ⊎ ((e : Refusal) × RefusesFirst client_nonce text e) }
+    ensures meets { (c text n s m t : List ℕ) (i j : ℕ) → Meets c text n s i → Meets c text m t j → (n ≡ m) × (s ≡ t) × (i ≡ j) }
+    ensures refused { (c text : List ℕ) (d e : Refusal) → RefusesFirst c text d → RefusesFirst c text e → d ≡ e }
+    ensures one { (c text n s : List ℕ) (i : ℕ) (e : Refusal) → Meets c text n s i → ¬ RefusesFirst c text e }
+{}
+
+/// A server's final text shows the signature, shows other bytes, or has one cause of refusal.
+pub fn final_text_is_answered_in_one_way()
+    ensures refused { (text : List ℕ) (d e : Refusal) → RefusesFinal text d → RefusesFinal text e → d ≡ e }
+    ensures verifies { (text signature : List ℕ) (e : Refusal) → Verifies signature text → ¬ RefusesFinal text e }
+    ensures differs { (text signature : List ℕ) (e : Refusal) → ShowsOther signature text → ¬ RefusesFinal text e }
+    ensures one { (text signature : List ℕ) → Verifies signature text → ¬ ShowsOther signature text }
+{}
+
+/// A text that shows the signature is refused for want of memory alone, and only where its base64 has
+/// more than 64 characters.
+pub fn signature_is_refused_for_memory_alone()
+    ensures { (text signature : List ℕ) (e : Refusal) (before after : ℕ) (v : Verifies signature text) →
+        NotVerified signature text e before after → (e ≡ OutOfMemory) × (64 < length v.shown) }
+{}
+
+/// A server makes one signature of the texts of an exchange.
+pub fn one_signature()
+    ensures { (v : Verifier) (binding : Binding) (first server_first x y : List ℕ) →
+        Signs v binding first server_first x → Signs v binding first server_first y → x ≡ y }
+{}
+
+/// Both ways: the server that holds the verifier of the client's password accepts the text that `update`
+/// makes, and `finish` accepts the text that this server answers, and can't refuse it.
+pub fn both_ways()
+    ensures { (old new : Client) (text signature : List ℕ) (a : Answers old text new) →
+        Signs (verifier a.begun.password a.salt a.count) a.begun.binding (first_text a.begun) text signature →
+        Accepts (verifier a.begun.password a.salt a.count) a.begun.binding (first_text a.begun) text a.answered.final
+        × Verifies (signature_of a.answered) (codes "v=" ++ base64 signature)
+        × ((e : Refusal) (before after : ℕ) → ¬ NotVerified (signature_of a.answered) (codes "v=" ++ base64 signature) e before after) }
+{}
+
+/// Both ways, as calls: with the texts of a server that holds the verifier of the client's password the
+/// exchange comes to its end, unless memory is refused to `update`.
+pub fn exchange<A: Allocator + Copy>(
+    alloc: A,
+    client: &mut ScramSha256<A>,
+    server_first: &[u8],
+    server_final: &[u8],
+) -> Result<(), ScramError<A>>
+    requires { Serves client.old.state server_first.now server_final.now }
+    ensures over { client.new.state ≡ Over }
+    ensures memory { IfErr result (λ e. refusal e ≡ OutOfMemory) }
+{
+    client.update(alloc, server_first)?;
+    client.finish(alloc, server_final)
+}

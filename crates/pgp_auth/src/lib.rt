@@ -8,5 +8,6 @@ mod hmac;
 pub mod laws;
 mod md5_text;
 pub mod password;
+mod scram;
 #[cfg(test)]
 mod tests;

@@ -11,3 +11,4 @@ pub mod Binds
 pub mod RestSteps
 pub mod Parts
 pub mod Prefixes
+pub mod Windows

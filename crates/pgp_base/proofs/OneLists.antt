@@ -1,5 +1,5 @@
 -- What a reader reads is the one list and end of a buffer.
-use Rattle.std.proofs.Common.{◌≡◌, ℕ, List, length, Option, Result, sym, ap, ◌∙◌}
+use Rattle.std.proofs.Common.{ℕ, List, length, Result, sym, ap, ◌∙◌}
 use Rattle.pgp_base.specs.declared.error.Error.{Error}
 use Rattle.pgp_base.specs.Grammar.{IsReader}
 use Rattle.pgp_base.specs.OneList.{HasOneCountedList, HasOneMarkedList}

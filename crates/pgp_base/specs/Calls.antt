@@ -3,7 +3,8 @@ use Rattle.std.specs.Prelude.{◌≡◌, ◌⊎◌, ℕ, ◌+◌, ◌<◌, List,
 use Rattle.std.specs.List.{flat_map}
 use Rattle.std.specs.Iterator.{YieldsThen}
 use Rattle.pgp_base.specs.Wire.{uint16, uint32, nullable, counted}
-use Rattle.pgp_base.specs.Cause.{length_cause, count_cause, nullable_cause}
+use Rattle.pgp_base.specs.Cause.{length_cause, count_cause, nullable_cause, WantsMemory}
+use Rattle.pgp_base.specs.Held.{Held, ◌⊕◌}
 use Rattle.pgp_base.specs.declared.number.IsNull.{IsNull}
 use Rattle.pgp_base.specs.declared.number.IsNull.TheVariants.{Yes, No}
 use Rattle.pgp_base.specs.declared.error.Error.TheVariants.{OutOfMemory, TooLarge}
@@ -11,85 +12,104 @@ use Rattle.pgp_base.specs.declared.error.BindError.{BindError}
 use Rattle.pgp_base.specs.declared.error.BindError.TheVariants.{Conversion, Serialization}
 use denote.Ref.{MutBor}
 
--- the bytes of b begin with those of a
-pub record IsFrontOf (a b : List ℕ) : Type 0 where
+-- b holds the bytes of a, and more behind them
+pub record IsFrontOf {Kept : Type 0} (a b : Held Kept) : Type 0 where
   pub more : List ℕ
-  pub is : b ≡ a ++ more
+  pub bytes : b.bytes ≡ a.bytes ++ more
+  pub kept : b.kept ≡ a.kept
 
--- The law that a closure owes. `held` says which bytes a buffer holds.
+-- what a closure may do to a buffer: append, and where it is refused use more of what stands behind the bytes
+abbrev pub Keeps : {X E K : Type 0} → Result X E → Held K → Held K → Type 0
+Keeps (Ok x) old new = (p : List ℕ) × (new ≡ old ⊕ p)
+Keeps (Err e) old new = IsFrontOf old new
 
-module _ {F R B : Type 0} (held : B → List ℕ) (pre : F → MutBor B → Type 0) (post : F → MutBor B → R → MutBor B → Type 0) where
-  -- a call of f keeps the bytes that stood there as a front of the buffer
+-- the same, and where it answers a null it appends nothing
+abbrev pub KeepsValue : {E K : Type 0} → Result IsNull E → Held K → Held K → Type 0
+KeepsValue (Ok Yes) old new = new ≡ old
+KeepsValue (Ok No) old new = (p : List ℕ) × (new ≡ old ⊕ p)
+KeepsValue (Err e) old new = IsFrontOf old new
+
+-- The law that a closure owes at each call. `held` says what a buffer holds.
+
+module _ {F X E B K : Type 0} (held : B → Held K) (pre : F → MutBor B → Type 0) (post : F → MutBor B → Result X E → MutBor B → Type 0) where
   abbrev pub KeepsFront : F → Type 0
-  KeepsFront f = (b b' : MutBor B) (r : R) → pre f b → post f b r b' → (p : List ℕ) × (held b'.now ≡ held b.now ++ p)
+  KeepsFront f = (b b' : MutBor B) (r : Result X E) → pre f b → post f b r b' → Keeps r (held b.now) (held b'.now)
 
-module _ {F E B : Type 0} (held : B → List ℕ) (pre : F → MutBor B → Type 0) (post : F → MutBor B → Result IsNull E → MutBor B → Type 0) where
-  -- the same, and where it answers a null it appends nothing
+module _ {F E B K : Type 0} (held : B → Held K) (pre : F → MutBor B → Type 0) (post : F → MutBor B → Result IsNull E → MutBor B → Type 0) where
   abbrev pub OwesValue : F → Type 0
-  OwesValue f = (b b' : MutBor B) (r : Result IsNull E) → pre f b → post f b r b' → (p : List ℕ) × (held b'.now ≡ held b.now ++ p) × (r ≡ Ok Yes → p ≡ [])
+  OwesValue f = (b b' : MutBor B) (r : Result IsNull E) → pre f b → post f b r b' → KeepsValue r (held b.now) (held b'.now)
 
-module _ {F T R B : Type 0} (held : B → List ℕ) (pre : F → T → MutBor B → Type 0) (step : F → T → MutBor B → R → MutBor B → F → Type 0) where
-  -- each call keeps the bytes that stood there as a front of the buffer
+module _ {F T X E B K : Type 0} (held : B → Held K) (pre : F → T → MutBor B → Type 0) (step : F → T → MutBor B → Result X E → MutBor B → F → Type 0) where
   abbrev pub KeepsFronts : Type 0
-  KeepsFronts = (f f' : F) (x : T) (b b' : MutBor B) (r : R) → pre f x b → step f x b r b' f' → (p : List ℕ) × (held b'.now ≡ held b.now ++ p)
+  KeepsFronts = (f f' : F) (x : T) (b b' : MutBor B) (r : Result X E) → pre f x b → step f x b r b' f' → Keeps r (held b.now) (held b'.now)
 
-module _ {F T E B : Type 0} (held : B → List ℕ) (pre : F → T → MutBor B → Type 0) (step : F → T → MutBor B → Result IsNull E → MutBor B → F → Type 0) where
-  -- the same, and where it answers a null it appends nothing
+module _ {F T E B K : Type 0} (held : B → Held K) (pre : F → T → MutBor B → Type 0) (step : F → T → MutBor B → Result IsNull E → MutBor B → F → Type 0) where
   abbrev pub OwesValues : Type 0
-  OwesValues = (f f' : F) (x : T) (b b' : MutBor B) (r : Result IsNull E) → pre f x b → step f x b r b' f' → (p : List ℕ) × (held b'.now ≡ held b.now ++ p) × (r ≡ Ok Yes → p ≡ [])
+  OwesValues = (f f' : F) (x : T) (b b' : MutBor B) (r : Result IsNull E) → pre f x b → step f x b r b' f' → KeepsValue r (held b.now) (held b'.now)
 
--- What a call of a closure did. `here` are the bytes that stood in the buffer at the call.
+-- what a call did to a buffer: it appended p; or it was refused, with p behind the bytes that stood there
+abbrev pub Adds : {X E K : Type 0} → Result X E → List ℕ → Held K → Held K → Type 0
+Adds (Ok x) p old new = new ≡ old ⊕ p
+Adds (Err e) p old new = (new.bytes ≡ old.bytes ++ p) × (new.kept ≡ old.kept)
 
-module _ {F R B : Type 0} (held : B → List ℕ) (post : F → MutBor B → R → MutBor B → Type 0) where
-  -- a call of f answered r and put p behind the bytes that stood there
-  pub record Appends (here : List ℕ) (f : F) (r : R) (p : List ℕ) : Type 0 where
+-- What a call of a closure did. `here` is what the buffer held at the call.
+
+module _ {F X E B K : Type 0} (held : B → Held K) (post : F → MutBor B → Result X E → MutBor B → Type 0) where
+  -- a call of f answered r and put p behind that
+  pub record Appends (here : Held K) (f : F) (r : Result X E) (p : List ℕ) : Type 0 where
     pub before : MutBor B
     pub after : MutBor B
     pub called : post f before r after
     pub stood : held before.now ≡ here
-    pub appended : held after.now ≡ here ++ p
+    pub appended : Adds r p here (held after.now)
 
-module _ {F T R B : Type 0} (held : B → List ℕ) (step : F → T → MutBor B → R → MutBor B → F → Type 0) where
-  -- a call of f at x answered r, put p behind the bytes that stood there, and left f'
-  pub record Puts (here : List ℕ) (f : F) (x : T) (r : R) (p : List ℕ) (f' : F) : Type 0 where
+module _ {F T X E B K : Type 0} (held : B → Held K) (step : F → T → MutBor B → Result X E → MutBor B → F → Type 0) where
+  -- a call of f at x answered r, put p behind that, and left f'
+  pub record Puts (here : Held K) (f : F) (x : T) (r : Result X E) (p : List ℕ) (f' : F) : Type 0 where
     pub before : MutBor B
     pub after : MutBor B
     pub called : step f x before r after f'
     pub stood : held before.now ≡ here
-    pub appended : held after.now ≡ here ++ p
+    pub appended : Adds r p here (held after.now)
 
 -- what a serializer's answer makes of the bytes that it appended
 abbrev pub value_of : IsNull → List ℕ → Option (List ℕ)
 value_of Yes bytes = None
 value_of No bytes = Some bytes
 
-module _ {F T E B : Type 0} (held : B → List ℕ) (step : F → T → MutBor B → Result IsNull E → MutBor B → F → Type 0) where
+-- what stands in the place of such a value's length
+abbrev pub length_of : IsNull → List ℕ → List ℕ
+length_of Yes bytes = uint32 4294967295
+length_of No bytes = uint32 (length bytes)
+
+module _ {F T E B K : Type 0} (held : B → Held K) (step : F → T → MutBor B → Result IsNull E → MutBor B → F → Type 0) where
   -- a call of f at x, behind the place of the value's length, gave the value v, and left f'
-  pub record Gives (here : List ℕ) (f : F) (x : T) (v : Option (List ℕ)) (f' : F) : Type 0 where
+  pub record Gives (here : Held K) (f : F) (x : T) (v : Option (List ℕ)) (f' : F) : Type 0 where
     pub null : IsNull
     pub bytes : List ℕ
-    pub put : Puts held step (here ++ uint32 0) f x (Ok null) bytes f'
+    pub put : Puts held step (here ⊕ uint32 0) f x (Ok null) bytes f'
     pub value : v ≡ value_of null bytes
     pub fits : nullable_cause v ≡ None
 
-  -- why the value of x was refused: the serializer refused, or its bytes pass the length's field, or there is no memory
-  abbrev pub ValueRefused : List ℕ → F → T → BindError E → F → Type 0
-  ValueRefused here f x (Conversion e) f' = (p : List ℕ) × Puts held step (here ++ uint32 0) f x (Err e) p f'
-  ValueRefused here f x (Serialization e) f' = (e ≡ OutOfMemory) ⊎ ((p : List ℕ) × Puts held step (here ++ uint32 0) f x (Ok No) p f' × (length_cause (length p) ≡ Some e))
+  -- Why the value of x was refused: the serializer refused, or its bytes pass the length's field. Or there
+  -- is no memory, and it wasn't called.
+  abbrev pub ValueRefused : Type 0 → Held K → F → T → BindError E → F → Type 0
+  ValueRefused lacks here f x (Conversion e) f' = (p : List ℕ) × Puts held step (here ⊕ uint32 0) f x (Err e) p f'
+  ValueRefused lacks here f x (Serialization e) f' = (WantsMemory lacks e × (f' ≡ f)) ⊎ ((p : List ℕ) × Puts held step (here ⊕ uint32 0) f x (Ok No) p f' × (length_cause (length p) ≡ Some e))
 
-module _ {F T E B : Type 0} (held : B → List ℕ) (step : F → T → MutBor B → Result (Unit {0}) E → MutBor B → F → Type 0) where
-  -- a call of f at x succeeded with p behind the bytes that stood there
-  abbrev pub Wrote : List ℕ → F → T → List ℕ → F → Type 0
+module _ {F T E B K : Type 0} (held : B → Held K) (step : F → T → MutBor B → Result (Unit {0}) E → MutBor B → F → Type 0) where
+  -- a call of f at x succeeded with p behind that
+  abbrev pub Wrote : Held K → F → T → List ℕ → F → Type 0
   Wrote here f x p f' = Puts held step here f x (Ok tt) p f'
 
 -- From f, and with `here` in the buffer, calls made each of vs of each of xs, in order, each behind
 -- the spellings of those before it, and left t.
-module _ {F T V : Type 0} (makes : List ℕ → F → T → V → F → Type 0) (spelling : V → List ℕ) where
-  abbrev pub Runs : List ℕ → F → List T → List V → F → Type 0
+module _ {F T V K : Type 0} (makes : Held K → F → T → V → F → Type 0) (spelling : V → List ℕ) where
+  abbrev pub Runs : Held K → F → List T → List V → F → Type 0
   Runs here f [] [] t = f ≡ t
   Runs here f [] (v ∷ vs) t = ⊥
   Runs here f (x ∷ xs) [] t = ⊥
-  Runs here f (x ∷ xs) (v ∷ vs) t = (u : F) × makes here f x v u × Runs (here ++ spelling v) u xs vs t
+  Runs here f (x ∷ xs) (v ∷ vs) t = (u : F) × makes here f x v u × Runs (here ⊕ spelling v) u xs vs t
 
 -- an iterator of a value, whose calls gave xs and then `next`
 pub record Came {U S A : Type 0} (into_iter_gives : U → S → Type 0) (next_gives : S → Option A → S → Type 0) (source : U) (xs : List A) (next : Option A) : Type 0 where
@@ -98,52 +118,56 @@ pub record Came {U S A : Type 0} (into_iter_gives : U → S → Type 0) (next_gi
   pub left : S
   pub came : YieldsThen next_gives iterator xs next left
 
--- What the writers over closures come to. `old` are the bytes before the call.
+-- What the writers over closures come to. `old` is what the buffer held before the call.
 
-module _ {F E B : Type 0} (held : B → List ℕ) (post : F → MutBor B → Result (Unit {0}) E → MutBor B → Type 0) where
+module _ {F E B K : Type 0} (held : B → Held K) (post : F → MutBor B → Result (Unit {0}) E → MutBor B → Type 0) where
   -- the body that f wrote behind the place of its length
-  pub record WritesBody (f : F) (old new : List ℕ) : Type 0 where
+  pub record WritesBody (f : F) (old new : Held K) : Type 0 where
     pub body : List ℕ
-    pub put : Appends held post (old ++ uint32 0) f (Ok tt) body
+    pub put : Appends held post (old ⊕ uint32 0) f (Ok tt) body
     pub fits : length_cause (length body + 4) ≡ None
-    pub appended : new ≡ old ++ uint32 (length body + 4) ++ body
+    pub appended : new ≡ old ⊕ uint32 (length body + 4) ⊕ body
 
   -- why a body was refused: f refused, or its bytes pass the length's field, or there is no memory
-  abbrev pub BodyRefused : F → List ℕ → BindError E → Type 0
-  BodyRefused f old (Conversion e) = (p : List ℕ) × Appends held post (old ++ uint32 0) f (Err e) p
-  BodyRefused f old (Serialization e) = (e ≡ OutOfMemory) ⊎ ((p : List ℕ) × Appends held post (old ++ uint32 0) f (Ok tt) p × (length_cause (length p + 4) ≡ Some e))
+  abbrev pub BodyRefused : Type 0 → F → Held K → BindError E → Type 0
+  BodyRefused lacks f old (Conversion e) = (p : List ℕ) × Appends held post (old ⊕ uint32 0) f (Err e) p
+  BodyRefused lacks f old (Serialization e) = WantsMemory lacks e ⊎ ((p : List ℕ) × Appends held post (old ⊕ uint32 0) f (Ok tt) p × (length_cause (length p + 4) ≡ Some e))
 
-module _ {F E B : Type 0} (held : B → List ℕ) (post : F → MutBor B → Result IsNull E → MutBor B → Type 0) where
+module _ {F E B K : Type 0} (held : B → Held K) (post : F → MutBor B → Result IsNull E → MutBor B → Type 0) where
   -- the value that f made behind the place of its length
-  pub record WritesValue (f : F) (old new : List ℕ) : Type 0 where
+  pub record WritesValue (f : F) (old new : Held K) : Type 0 where
     pub null : IsNull
     pub bytes : List ℕ
-    pub put : Appends held post (old ++ uint32 0) f (Ok null) bytes
+    pub put : Appends held post (old ⊕ uint32 0) f (Ok null) bytes
     pub fits : nullable_cause (value_of null bytes) ≡ None
-    pub appended : new ≡ old ++ nullable (value_of null bytes)
+    pub appended : new ≡ old ⊕ nullable (value_of null bytes)
 
   -- why it was refused
-  abbrev pub NullableRefused : F → List ℕ → BindError E → Type 0
-  NullableRefused f old (Conversion e) = (p : List ℕ) × Appends held post (old ++ uint32 0) f (Err e) p
-  NullableRefused f old (Serialization e) = (e ≡ OutOfMemory) ⊎ ((p : List ℕ) × Appends held post (old ++ uint32 0) f (Ok No) p × (length_cause (length p) ≡ Some e))
+  abbrev pub NullableRefused : Type 0 → F → Held K → BindError E → Type 0
+  NullableRefused lacks f old (Conversion e) = (p : List ℕ) × Appends held post (old ⊕ uint32 0) f (Err e) p
+  NullableRefused lacks f old (Serialization e) = WantsMemory lacks e ⊎ ((p : List ℕ) × Appends held post (old ⊕ uint32 0) f (Ok No) p × (length_cause (length p) ≡ Some e))
 
-module _ {F T E B : Type 0} (held : B → List ℕ) (step : F → T → MutBor B → Result (Unit {0}) E → MutBor B → F → Type 0) {U S : Type 0} (into_iter_gives : U → S → Type 0) (next_gives : S → Option T → S → Type 0) where
-  -- the items that came, each written behind the place of the count and the items before it
-  pub record WritesCounted (source : U) (f : F) (old new : List ℕ) : Type 0 where
+module _ {F T E B K : Type 0} (held : B → Held K) (step : F → T → MutBor B → Result (Unit {0}) E → MutBor B → F → Type 0) {U S : Type 0} (into_iter_gives : U → S → Type 0) (next_gives : S → Option T → S → Type 0) where
+  -- the items that came, each written behind the place of the count and the items before it, which left `last`
+  pub record WritesCounted (source : U) (f last : F) (old new : Held K) : Type 0 where
     pub xs : List T
     pub came : Came into_iter_gives next_gives source xs None
     pub parts : List (List ℕ)
-    pub last : F
-    pub runs : Runs (Wrote held step) (λ p. p) (old ++ uint16 0) f xs parts last
+    pub runs : Runs (Wrote held step) (λ p. p) (old ⊕ uint16 0) f xs parts last
     pub fits : count_cause (length xs) ≡ None
-    pub appended : new ≡ old ++ counted (λ p. p) parts
+    pub appended : new ≡ old ⊕ counted (λ p. p) parts
 
-  -- behind items that were written, one came past the count's field, or one that was refused
-  pub record CountedStops (source : U) (f : F) (old : List ℕ) (e : BindError E) : Type 0 where
+  -- Behind items that were written, one came past the count's field, and the serializer wasn't called at
+  -- it; or the serializer refused one.
+  pub record CountedStops (source : U) (f last : F) (old : Held K) (e : BindError E) : Type 0 where
     pub xs : List T
     pub x : T
     pub came : Came into_iter_gives next_gives source xs (Some x)
     pub parts : List (List ℕ)
     pub at : F
-    pub runs : Runs (Wrote held step) (λ p. p) (old ++ uint16 0) f xs parts at
-    pub cause : ((length xs ≡ 65535) × (e ≡ Serialization TooLarge)) ⊎ ((length xs < 65535) × ((u : F) × (p : List ℕ) × (why : E) × (e ≡ Conversion why) × Puts held step ((old ++ uint16 0) ++ flat_map (λ p. p) parts) at x (Err why) p u))
+    pub runs : Runs (Wrote held step) (λ p. p) (old ⊕ uint16 0) f xs parts at
+    pub cause : ((length xs ≡ 65535) × (e ≡ Serialization TooLarge) × (last ≡ at)) ⊎ ((length xs < 65535) × ((p : List ℕ) × (why : E) × (e ≡ Conversion why) × Puts held step (old ⊕ uint16 0 ⊕ flat_map (λ p. p) parts) at x (Err why) p last))
+
+  -- why the items were refused: there; or for want of memory, and the serializer wasn't called
+  abbrev pub CountedRefused : Type 0 → U → F → F → Held K → BindError E → Type 0
+  CountedRefused lacks source f last old e = ((e ≡ Serialization OutOfMemory) × lacks × (last ≡ f)) ⊎ CountedStops source f last old e

@@ -1,6 +1,7 @@
 -- Why a part of a message has no spelling, and what the call of a writer comes to.
-use Rattle.std.specs.Prelude.{◌≡◌, ◌⊎◌, ℕ, List, [], ◌∷◌, ◌++◌, length, map, take, Option, Some, None, Result, Ok, Err, nat_le, ◌==◌, if◌then◌else◌}
+use Rattle.std.specs.Prelude.{◌≡◌, ◌⊎◌, ℕ, List, [], ◌∷◌, length, map, take, Option, Some, None, Result, Ok, Err, nat_le, ◌==◌, if◌then◌else◌}
 use Rattle.std.specs.List.{list_any}
+use Rattle.pgp_base.specs.Held.{Held, ◌⊕◌, Leaves}
 use Rattle.pgp_base.specs.declared.error.Error.{Error}
 use Rattle.pgp_base.specs.declared.error.Error.TheVariants.{OutOfMemory, EmbeddedNull, TooLarge}
 
@@ -39,8 +40,12 @@ nullable_cause (Some bytes) = length_cause (length bytes)
 abbrev pub counted_cause : {A : Type 0} → (A → Cause) → List A → Cause
 counted_cause of xs = either (first (map of (take 65535 xs))) (count_cause (length xs))
 
+-- the refusal for want of memory, which a buffer gives only where one of its growths was refused
+abbrev pub WantsMemory : Type 0 → Error → Type 0
+WantsMemory lacks e = (e ≡ OutOfMemory) × lacks
+
 -- A writer of what is spelled so and has this cause: it appends the spelling, and there is no cause;
 -- or it leaves the bytes, and is refused for want of memory or for the cause.
-abbrev pub Writes : List ℕ → Cause → List ℕ → List ℕ → Result (Unit {0}) Error → Type 0
-Writes spelling cause old new (Ok done) = (cause ≡ None) × (new ≡ old ++ spelling)
-Writes spelling cause old new (Err e) = ((e ≡ OutOfMemory) ⊎ (cause ≡ Some e)) × (new ≡ old)
+abbrev pub Writes : {Kept : Type 0} → List ℕ → Cause → Type 0 → Held Kept → Held Kept → Result (Unit {0}) Error → Type 0
+Writes spelling cause lacks old new (Ok done) = (cause ≡ None) × (new ≡ old ⊕ spelling)
+Writes spelling cause lacks old new (Err e) = (WantsMemory lacks e ⊎ (cause ≡ Some e)) × Leaves old new

@@ -1,60 +1,87 @@
 //! What writers append to.
 
-ghost use Rattle.std.specs.Prelude.{◌≡◌, ℕ, ◌+◌, ◌<◌, ◌≤◌, ◌^◌, List, ◌++◌, length, take, drop, OnOk, OnErr};
+ghost use Rattle.std.specs.Prelude.{◌≡◌, ℕ, ◌+◌, ◌<◌, ◌≤◌, ◌^◌, [], length, take, OnOk, OnErr};
+ghost use Rattle.pgp_base.specs.Held.{Held, ◌⊕◌, overwritten, items_held};
 
 use bytes::{Buf, BufMut, BytesMut};
 use std::alloc::{AllocError, Allocator};
 
-/// A buffer that writers append to: a `BytesMut` over any allocator.
+/// A buffer that writers append to, as a `BytesMut` over any allocator.
 pub trait Buffer {
-    /// The bytes that it holds.
-    ghost bytes: { Self → List ℕ };
+    /// What no call changes, as whose memory the bytes stand in.
+    ghost Kept: { Type 0 };
+
+    /// The bytes that it holds, what stands behind them, and what no call changes.
+    ghost held: { Self → Held Kept };
+
+    /// A growth of such a buffer was refused.
+    ghost Lacks: { Type 0 };
 
     /// How many bytes it holds.
     fn len(&self) -> usize
-        ensures value { result ≡ length (bytes self.now) }
+        ensures value { result ≡ length (held self.now).bytes }
         ensures bound { result < 2 ^ 63 };
+
+    /// The bytes that it holds.
+    fn as_slice(&self) -> &[u8]
+        ensures { result.now ≡ (held self.now).bytes };
 
     /// Makes room for so many bytes more.
     fn reserve(&mut self, additional: usize) -> Result<(), AllocError>
-        ensures { bytes self.new ≡ bytes self.old };
+        ensures same { held self.new ≡ held self.old }
+        ensures lacks { OnErr result Lacks };
 
     /// Appends all of `more`, or nothing.
     fn append(&mut self, more: &[u8]) -> Result<(), AllocError>
-        ensures ok { OnOk result (bytes self.new ≡ bytes self.old ++ more.now) }
-        ensures err { OnErr result (bytes self.new ≡ bytes self.old) };
+        ensures ok { OnOk result (held self.new ≡ held self.old ⊕ more.now) }
+        ensures err { OnErr result (held self.new ≡ held self.old) }
+        ensures lacks { OnErr result Lacks };
 
     /// Appends all that is left of `more`, or nothing, and then `more` has it still.
     fn append_from<T: Buf>(&mut self, more: &mut T) -> Result<(), AllocError>
-        ensures ok { OnOk result (bytes self.new ≡ bytes self.old ++ T.unread more.old) }
-        ensures err { OnErr result (bytes self.new ≡ bytes self.old) }
-        ensures kept { OnErr result (more.new ≡ more.old) };
+        ensures ok { OnOk result (held self.new ≡ held self.old ⊕ T.unread more.old) }
+        ensures drained { OnOk result (T.unread more.new ≡ []) }
+        ensures err { OnErr result (held self.new ≡ held self.old) }
+        ensures kept { OnErr result (more.new ≡ more.old) }
+        ensures lacks { OnErr result Lacks };
 
     /// Cuts what stands past `len`.
     fn truncate(&mut self, len: usize)
-        ensures { bytes self.new ≡ take len (bytes self.old) };
+        ensures bytes { (held self.new).bytes ≡ take len (held self.old).bytes }
+        ensures kept { (held self.new).kept ≡ (held self.old).kept };
 
     /// Writes over the bytes at `place`.
     fn patch(&mut self, place: usize, over: &[u8])
-        requires { place + length over.now ≤ length (bytes self.old) }
-        ensures { bytes self.new ≡ take place (bytes self.old) ++ over.now ++ drop (place + length over.now) (bytes self.old) };
+        requires { place + length over.now ≤ length (held self.old).bytes }
+        ensures { held self.new ≡ overwritten (held self.old) place over.now };
 }
 
+/// Nothing but its bytes is said of it.
 impl<A: Allocator + Copy> Buffer for BytesMut<A> {
-    ghost bytes = { λ b. b.items };
+    ghost Kept = { Unit {0} };
+
+    ghost held = { λ b. items_held b.items };
+
+    ghost Lacks = { Unit {0} };
 
     fn len(&self) -> usize {
         BytesMut::<A>::len(self)
+    }
+
+    fn as_slice(&self) -> &[u8] {
+        BytesMut::<A>::as_slice(self)
     }
 
     fn reserve(&mut self, additional: usize) -> Result<(), AllocError> {
         BytesMut::<A>::reserve(self, additional)
     }
 
+    #[tactic(auto, unfolding(crate::specs::Held::lengthened))]
     fn append(&mut self, more: &[u8]) -> Result<(), AllocError> {
         self.extend_from_slice(more)
     }
 
+    #[tactic(auto, unfolding(crate::specs::Held::lengthened))]
     fn append_from<T: Buf>(&mut self, more: &mut T) -> Result<(), AllocError> {
         self.put_from(more)
     }
@@ -63,6 +90,7 @@ impl<A: Allocator + Copy> Buffer for BytesMut<A> {
         BytesMut::<A>::truncate(self, len)
     }
 
+    #[tactic(auto, unfolding(crate::specs::Held::overwritten))]
     fn patch(&mut self, place: usize, over: &[u8]) {
         let all = self.as_mut_slice();
         all[place..place + over.len()].copy_from_slice(over);

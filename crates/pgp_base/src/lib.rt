@@ -9,6 +9,7 @@ pub mod laws;
 mod number;
 pub mod reading;
 mod walk;
+mod window;
 mod writing;
 
 pub use buffer::Buffer;
@@ -16,6 +17,7 @@ pub use counted::Counted;
 pub use error::{BindError, Error};
 pub use number::{IsNull, Lsn, Oid, i16_from_usize, i32_from_usize, u16_from_usize};
 pub use walk::FallibleIterator;
+pub use window::Window;
 pub use writing::{
     finish_body, length_field, patch_u16, patch_u32, put_u8, put_u16, put_u32, put_value,
     write_body, write_counted, write_cstr, write_nullable,

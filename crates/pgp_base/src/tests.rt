@@ -22,6 +22,7 @@ fn lengths_past_their_fields_are_refused(rt: HostRuntime) {
 }
 
 #[test]
+#[tactic(auto, using(crate::proofs::Parts::held_steps))]
 fn parts_stand_behind_a_length_or_a_count(rt: HostRuntime) {
     let mut buf = BytesMut::new(rt.alloc());
     assert_eq!(rt; write_cstr(b"a", &mut buf), Ok(()));
@@ -48,6 +49,7 @@ fn parts_stand_behind_a_length_or_a_count(rt: HostRuntime) {
 }
 
 #[test]
+#[tactic(auto, using(crate::proofs::Parts::held_steps))]
 fn a_refusal_restores_the_buffer(rt: HostRuntime) {
     let mut buf = BytesMut::new(rt.alloc());
     assert_eq!(rt; write_cstr(b"x", &mut buf), Ok(()));

@@ -3,11 +3,12 @@
 //! A refused `write_` function leaves the buffer's bytes. A refused `put_` function, a step of a
 //! writer, leaves them as a front of what stands there then, and the writer cuts back.
 
-ghost use Rattle.std.specs.Prelude.{◌≡◌, ℕ, ◌+◌, ◌-◌, ◌<◌, ◌≤◌, ◌^◌, ◌⊎◌, List, [], ◌∷◌, ◌++◌, length, take, drop, Option, Some, None, Ok, OnOk, OnErr, IfOk, IfErr};
+ghost use Rattle.std.specs.Prelude.{◌≡◌, ℕ, ◌+◌, ◌-◌, ◌<◌, ◌≤◌, ◌^◌, List, [], ◌∷◌, length, drop, Option, Some, None, Ok, OnOk, OnErr, IfOk, IfErr};
 ghost use Rattle.std.specs.Iterator.{IsFiniteIterable};
 ghost use Rattle.pgp_base.specs.Wire.{uint16, uint32, text, nullable};
-ghost use Rattle.pgp_base.specs.Cause.{text_cause, length_cause, nullable_cause, Writes};
-ghost use Rattle.pgp_base.specs.Calls.{IsFrontOf, KeepsFront, KeepsFronts, OwesValue, OwesValues, Appends, Puts, Gives, ValueRefused, value_of, WritesBody, BodyRefused, WritesValue, NullableRefused, WritesCounted, CountedStops};
+ghost use Rattle.pgp_base.specs.Cause.{text_cause, length_cause, nullable_cause, WantsMemory, Writes};
+ghost use Rattle.pgp_base.specs.Held.{◌⊕◌, overwritten, Leaves};
+ghost use Rattle.pgp_base.specs.Calls.{IsFrontOf, Adds, KeepsFront, KeepsFronts, OwesValue, OwesValues, Appends, Puts, Gives, ValueRefused, value_of, length_of, WritesBody, BodyRefused, WritesValue, NullableRefused, WritesCounted, CountedRefused};
 
 use crate::buffer::Buffer;
 use crate::error::{BindError, Error};
@@ -16,9 +17,9 @@ use memchr::memchr;
 
 /// Appends a byte.
 pub fn put_u8<B: Buffer>(buf: &mut B, n: u8) -> Result<(), Error>
-    ensures ok { OnOk result (B.bytes buf.new ≡ B.bytes buf.old ++ n ∷ []) }
-    ensures err { OnErr result (B.bytes buf.new ≡ B.bytes buf.old) }
-    ensures cause { IfErr result (λ e. e ≡ Error.OutOfMemory) }
+    ensures ok { OnOk result (B.held buf.new ≡ B.held buf.old ⊕ n ∷ []) }
+    ensures err { OnErr result (B.held buf.new ≡ B.held buf.old) }
+    ensures cause { IfErr result (WantsMemory B.Lacks) }
 {
     buf.append(&[n])?;
     Ok(())
@@ -27,9 +28,9 @@ pub fn put_u8<B: Buffer>(buf: &mut B, n: u8) -> Result<(), Error>
 /// Appends a number in two bytes.
 #[tactic(auto, unfolding(crate::specs::Wire::uint16))]
 pub fn put_u16<B: Buffer>(buf: &mut B, n: u16) -> Result<(), Error>
-    ensures ok { OnOk result (B.bytes buf.new ≡ B.bytes buf.old ++ uint16 n) }
-    ensures err { OnErr result (B.bytes buf.new ≡ B.bytes buf.old) }
-    ensures cause { IfErr result (λ e. e ≡ Error.OutOfMemory) }
+    ensures ok { OnOk result (B.held buf.new ≡ B.held buf.old ⊕ uint16 n) }
+    ensures err { OnErr result (B.held buf.new ≡ B.held buf.old) }
+    ensures cause { IfErr result (WantsMemory B.Lacks) }
 {
     buf.append(&n.to_be_bytes())?;
     Ok(())
@@ -38,9 +39,9 @@ pub fn put_u16<B: Buffer>(buf: &mut B, n: u16) -> Result<(), Error>
 /// Appends a number in four bytes.
 #[tactic(auto, unfolding(crate::specs::Wire::uint32))]
 pub fn put_u32<B: Buffer>(buf: &mut B, n: u32) -> Result<(), Error>
-    ensures ok { OnOk result (B.bytes buf.new ≡ B.bytes buf.old ++ uint32 n) }
-    ensures err { OnErr result (B.bytes buf.new ≡ B.bytes buf.old) }
-    ensures cause { IfErr result (λ e. e ≡ Error.OutOfMemory) }
+    ensures ok { OnOk result (B.held buf.new ≡ B.held buf.old ⊕ uint32 n) }
+    ensures err { OnErr result (B.held buf.new ≡ B.held buf.old) }
+    ensures cause { IfErr result (WantsMemory B.Lacks) }
 {
     let bytes = n.to_be_bytes();
     buf.append(&bytes)?;
@@ -50,8 +51,8 @@ pub fn put_u32<B: Buffer>(buf: &mut B, n: u32) -> Result<(), Error>
 /// Writes a number over the two bytes at `place`.
 #[tactic(auto, unfolding(crate::specs::Wire::uint16))]
 pub fn patch_u16<B: Buffer>(buf: &mut B, place: usize, n: u16)
-    requires { place + 2 ≤ length (B.bytes buf.old) }
-    ensures { B.bytes buf.new ≡ take place (B.bytes buf.old) ++ uint16 n ++ drop (place + 2) (B.bytes buf.old) }
+    requires { place + 2 ≤ length (B.held buf.old).bytes }
+    ensures { B.held buf.new ≡ overwritten (B.held buf.old) place (uint16 n) }
 {
     buf.patch(place, &n.to_be_bytes());
 }
@@ -59,8 +60,8 @@ pub fn patch_u16<B: Buffer>(buf: &mut B, place: usize, n: u16)
 /// Writes a number over the four bytes at `place`.
 #[tactic(auto, unfolding(crate::specs::Wire::uint32))]
 pub fn patch_u32<B: Buffer>(buf: &mut B, place: usize, n: u32)
-    requires { place + 4 ≤ length (B.bytes buf.old) }
-    ensures { B.bytes buf.new ≡ take place (B.bytes buf.old) ++ uint32 n ++ drop (place + 4) (B.bytes buf.old) }
+    requires { place + 4 ≤ length (B.held buf.old).bytes }
+    ensures { B.held buf.new ≡ overwritten (B.held buf.old) place (uint32 n) }
 {
     let bytes = n.to_be_bytes();
     buf.patch(place, &bytes);
@@ -69,7 +70,7 @@ pub fn patch_u32<B: Buffer>(buf: &mut B, place: usize, n: u32)
 /// Appends a text and a 0 byte.
 #[tactic(auto, using(crate::proofs::Causes::text_holds_zero))]
 pub fn write_cstr<B: Buffer>(bytes: &[u8], buf: &mut B) -> Result<(), Error>
-    ensures { Writes (text bytes.now) (text_cause bytes.now) (B.bytes buf.old) (B.bytes buf.new) result }
+    ensures { Writes (text bytes.now) (text_cause bytes.now) B.Lacks (B.held buf.old) (B.held buf.new) result }
 {
     if memchr(0, bytes).is_some() {
         return Err(Error::EmbeddedNull);
@@ -87,10 +88,10 @@ pub fn write_cstr<B: Buffer>(bytes: &[u8], buf: &mut B) -> Result<(), Error>
 }
 
 // Calls `f`, and says what the call put behind the bytes that stood there.
-fn append_by<B: Buffer, R, F: FnOnce(&mut B) -> R>(f: F, buf: &mut B) -> R
+fn append_by<B: Buffer, X, E, F: FnOnce(&mut B) -> Result<X, E>>(f: F, buf: &mut B) -> Result<X, E>
     requires callable { F.IsAlwaysCallable f }
-    requires keeps { KeepsFront B.bytes F.pre F.post f }
-    ensures { (p : List ℕ) × Appends B.bytes F.post (B.bytes buf.old) f result p × (B.bytes buf.new ≡ B.bytes buf.old ++ p) }
+    requires keeps { KeepsFront B.held F.pre F.post f }
+    ensures { (p : List ℕ) × Appends B.held F.post (B.held buf.old) f result p × Adds result p (B.held buf.old) (B.held buf.new) }
 {
     f(buf)
 }
@@ -101,18 +102,22 @@ fn value_by<B: Buffer, E, F: FnOnce(&mut B) -> Result<IsNull, E>>(
     buf: &mut B,
 ) -> Result<IsNull, E>
     requires callable { F.IsAlwaysCallable f }
-    requires owes { OwesValue B.bytes F.pre F.post f }
-    ensures { (p : List ℕ) × Appends B.bytes F.post (B.bytes buf.old) f result p × (B.bytes buf.new ≡ B.bytes buf.old ++ p)
+    requires owes { OwesValue B.held F.pre F.post f }
+    ensures { (p : List ℕ) × Appends B.held F.post (B.held buf.old) f result p × Adds result p (B.held buf.old) (B.held buf.new)
         × (result ≡ Ok IsNull.Yes → p ≡ []) }
 {
     f(buf)
 }
 
 // `append_by` of an `FnMut` at an item, which may be called again.
-fn put_by<B: Buffer, T, R, F: FnMut(T, &mut B) -> R>(f: &mut F, x: T, buf: &mut B) -> R
+fn put_by<B: Buffer, T, X, E, F: FnMut(T, &mut B) -> Result<X, E>>(
+    f: &mut F,
+    x: T,
+    buf: &mut B,
+) -> Result<X, E>
     requires callable { F.IsAlwaysCallable f.old }
-    requires keeps { KeepsFronts B.bytes F.pre F.step }
-    ensures put { (p : List ℕ) × Puts B.bytes F.step (B.bytes buf.old) f.old x result p f.new × (B.bytes buf.new ≡ B.bytes buf.old ++ p) }
+    requires keeps { KeepsFronts B.held F.pre F.step }
+    ensures put { (p : List ℕ) × Puts B.held F.step (B.held buf.old) f.old x result p f.new × Adds result p (B.held buf.old) (B.held buf.new) }
     ensures callable { F.IsAlwaysCallable f.new }
 {
     f(x, buf)
@@ -125,8 +130,8 @@ fn give_by<B: Buffer, T, E, F: FnMut(T, &mut B) -> Result<IsNull, E>>(
     buf: &mut B,
 ) -> Result<IsNull, E>
     requires callable { F.IsAlwaysCallable f.old }
-    requires owes { OwesValues B.bytes F.pre F.step }
-    ensures put { (p : List ℕ) × Puts B.bytes F.step (B.bytes buf.old) f.old x result p f.new × (B.bytes buf.new ≡ B.bytes buf.old ++ p)
+    requires owes { OwesValues B.held F.pre F.step }
+    ensures put { (p : List ℕ) × Puts B.held F.step (B.held buf.old) f.old x result p f.new × Adds result p (B.held buf.old) (B.held buf.new)
         × (result ≡ Ok IsNull.Yes → p ≡ []) }
     ensures callable { F.IsAlwaysCallable f.new }
 {
@@ -147,12 +152,12 @@ pub fn length_field(size: usize) -> Result<u32, Error>
 
 /// Fills the length's place, at `base`, of a part that counts itself; `TooLarge` past the field.
 pub fn finish_body<B: Buffer>(buf: &mut B, base: usize) -> Result<(), Error>
-    requires { base + 4 ≤ length (B.bytes buf.old) }
-    ensures ok { OnOk result (B.bytes buf.new
-        ≡ take base (B.bytes buf.old) ++ uint32 (length (B.bytes buf.old) - base) ++ drop (base + 4) (B.bytes buf.old)) }
-    ensures fits { OnOk result (length_cause (length (B.bytes buf.old) - base) ≡ None) }
-    ensures err { OnErr result (B.bytes buf.new ≡ B.bytes buf.old) }
-    ensures cause { IfErr result (λ e. length_cause (length (B.bytes buf.old) - base) ≡ Some e) }
+    requires { base + 4 ≤ length (B.held buf.old).bytes }
+    ensures ok { OnOk result (B.held buf.new
+        ≡ overwritten (B.held buf.old) base (uint32 (length (B.held buf.old).bytes - base))) }
+    ensures fits { OnOk result (length_cause (length (B.held buf.old).bytes - base) ≡ None) }
+    ensures err { OnErr result (B.held buf.new ≡ B.held buf.old) }
+    ensures cause { IfErr result (λ e. length_cause (length (B.held buf.old).bytes - base) ≡ Some e) }
 {
     let size = length_field(buf.len() - base)?;
     patch_u32(buf, base, size);
@@ -161,14 +166,14 @@ pub fn finish_body<B: Buffer>(buf: &mut B, base: usize) -> Result<(), Error>
 
 // Fills the length's place, at `base`, of a value that ends the buffer, or writes a null there.
 fn finish_value<B: Buffer>(buf: &mut B, base: usize, null: IsNull) -> Result<(), Error>
-    requires room { base + 4 ≤ length (B.bytes buf.old) }
-    requires none { null ≡ IsNull.Yes → length (B.bytes buf.old) ≡ base + 4 }
-    ensures ok { OnOk result (B.bytes buf.new
-        ≡ take base (B.bytes buf.old) ++ nullable (value_of null (drop (base + 4) (B.bytes buf.old)))) }
-    ensures fits { OnOk result (nullable_cause (value_of null (drop (base + 4) (B.bytes buf.old))) ≡ None) }
-    ensures err { OnErr result (B.bytes buf.new ≡ B.bytes buf.old) }
+    requires room { base + 4 ≤ length (B.held buf.old).bytes }
+    requires none { null ≡ IsNull.Yes → length (B.held buf.old).bytes ≡ base + 4 }
+    ensures ok { OnOk result (B.held buf.new
+        ≡ overwritten (B.held buf.old) base (length_of null (drop (base + 4) (B.held buf.old).bytes))) }
+    ensures fits { OnOk result (nullable_cause (value_of null (drop (base + 4) (B.held buf.old).bytes)) ≡ None) }
+    ensures err { OnErr result (B.held buf.new ≡ B.held buf.old) }
     ensures cause { IfErr result (λ e. (null ≡ IsNull.No)
-        × (length_cause (length (drop (base + 4) (B.bytes buf.old))) ≡ Some e)) }
+        × (length_cause (length (drop (base + 4) (B.held buf.old).bytes)) ≡ Some e)) }
 {
     match null {
         IsNull::Yes => {
@@ -184,17 +189,18 @@ fn finish_value<B: Buffer>(buf: &mut B, base: usize, null: IsNull) -> Result<(),
 }
 
 /// Appends the value that the serializer makes of `x`: its length and its bytes, or a null.
+#[tactic(auto, using(crate::proofs::Parts::held_steps))]
 pub fn put_value<B: Buffer, T: Drop, E: Drop, F: FnMut(T, &mut B) -> Result<IsNull, E>>(
     f: &mut F,
     x: T,
     buf: &mut B,
 ) -> Result<(), BindError<E>>
     requires callable { F.IsAlwaysCallable f.old }
-    requires owes { OwesValues B.bytes F.pre F.step }
-    ensures ok { OnOk result ((v : Option (List ℕ)) × Gives B.bytes F.step (B.bytes buf.old) f.old x v f.new
-        × (B.bytes buf.new ≡ B.bytes buf.old ++ nullable v)) }
-    ensures err { OnErr result (IsFrontOf (B.bytes buf.old) (B.bytes buf.new)) }
-    ensures cause { IfErr result (λ e. ValueRefused B.bytes F.step (B.bytes buf.old) f.old x e f.new) }
+    requires owes { OwesValues B.held F.pre F.step }
+    ensures ok { OnOk result ((v : Option (List ℕ)) × Gives B.held F.step (B.held buf.old) f.old x v f.new
+        × (B.held buf.new ≡ B.held buf.old ⊕ nullable v)) }
+    ensures err { OnErr result (IsFrontOf (B.held buf.old) (B.held buf.new)) }
+    ensures cause { IfErr result (λ e. ValueRefused B.held F.step B.Lacks (B.held buf.old) f.old x e f.new) }
     ensures callable { F.IsAlwaysCallable f.new }
 {
     let base = buf.len();
@@ -210,15 +216,16 @@ pub fn put_value<B: Buffer, T: Drop, E: Drop, F: FnMut(T, &mut B) -> Result<IsNu
     }
 }
 
+#[tactic(auto, using(crate::proofs::Parts::held_steps))]
 fn fill_body<B: Buffer, E: Drop, F: FnOnce(&mut B) -> Result<(), E>>(
     buf: &mut B,
     f: F,
 ) -> Result<(), BindError<E>>
     requires callable { F.IsAlwaysCallable f }
-    requires keeps { KeepsFront B.bytes F.pre F.post f }
-    ensures ok { OnOk result (WritesBody B.bytes F.post f (B.bytes buf.old) (B.bytes buf.new)) }
-    ensures err { OnErr result (IsFrontOf (B.bytes buf.old) (B.bytes buf.new)) }
-    ensures cause { IfErr result (BodyRefused B.bytes F.post f (B.bytes buf.old)) }
+    requires keeps { KeepsFront B.held F.pre F.post f }
+    ensures ok { OnOk result (WritesBody B.held F.post f (B.held buf.old) (B.held buf.new)) }
+    ensures err { OnErr result (IsFrontOf (B.held buf.old) (B.held buf.new)) }
+    ensures cause { IfErr result (BodyRefused B.held F.post B.Lacks f (B.held buf.old)) }
 {
     let base = buf.len();
     put_u32(buf, 0)?;
@@ -232,15 +239,16 @@ fn fill_body<B: Buffer, E: Drop, F: FnOnce(&mut B) -> Result<(), E>>(
 }
 
 /// Appends the length of itself and of what `f` appends, and that. `Conversion` is the refusal of `f`.
+#[tactic(auto, using(crate::proofs::Parts::held_steps))]
 pub fn write_body<B: Buffer, E: Drop, F: FnOnce(&mut B) -> Result<(), E>>(
     buf: &mut B,
     f: F,
 ) -> Result<(), BindError<E>>
     requires callable { F.IsAlwaysCallable f }
-    requires keeps { KeepsFront B.bytes F.pre F.post f }
-    ensures ok { OnOk result (WritesBody B.bytes F.post f (B.bytes buf.old) (B.bytes buf.new)) }
-    ensures err { OnErr result (B.bytes buf.new ≡ B.bytes buf.old) }
-    ensures cause { IfErr result (BodyRefused B.bytes F.post f (B.bytes buf.old)) }
+    requires keeps { KeepsFront B.held F.pre F.post f }
+    ensures ok { OnOk result (WritesBody B.held F.post f (B.held buf.old) (B.held buf.new)) }
+    ensures err { OnErr result (Leaves (B.held buf.old) (B.held buf.new)) }
+    ensures cause { IfErr result (BodyRefused B.held F.post B.Lacks f (B.held buf.old)) }
 {
     let base = buf.len();
     match fill_body(buf, f) {
@@ -252,15 +260,16 @@ pub fn write_body<B: Buffer, E: Drop, F: FnOnce(&mut B) -> Result<(), E>>(
     }
 }
 
+#[tactic(auto, using(crate::proofs::Parts::held_steps))]
 fn fill_nullable<B: Buffer, E: Drop, F: FnOnce(&mut B) -> Result<IsNull, E>>(
     serializer: F,
     buf: &mut B,
 ) -> Result<(), BindError<E>>
     requires callable { F.IsAlwaysCallable serializer }
-    requires owes { OwesValue B.bytes F.pre F.post serializer }
-    ensures ok { OnOk result (WritesValue B.bytes F.post serializer (B.bytes buf.old) (B.bytes buf.new)) }
-    ensures err { OnErr result (IsFrontOf (B.bytes buf.old) (B.bytes buf.new)) }
-    ensures cause { IfErr result (NullableRefused B.bytes F.post serializer (B.bytes buf.old)) }
+    requires owes { OwesValue B.held F.pre F.post serializer }
+    ensures ok { OnOk result (WritesValue B.held F.post serializer (B.held buf.old) (B.held buf.new)) }
+    ensures err { OnErr result (IsFrontOf (B.held buf.old) (B.held buf.new)) }
+    ensures cause { IfErr result (NullableRefused B.held F.post B.Lacks serializer (B.held buf.old)) }
 {
     let base = buf.len();
     put_u32(buf, 0)?;
@@ -277,15 +286,16 @@ fn fill_nullable<B: Buffer, E: Drop, F: FnOnce(&mut B) -> Result<IsNull, E>>(
 
 /// Appends a value that may be null: its length and the bytes that the serializer appends, or -1
 /// where it answers that the value is null. `Conversion` is the serializer's refusal.
+#[tactic(auto, using(crate::proofs::Parts::held_steps))]
 pub fn write_nullable<B: Buffer, E: Drop, F: FnOnce(&mut B) -> Result<IsNull, E>>(
     serializer: F,
     buf: &mut B,
 ) -> Result<(), BindError<E>>
     requires callable { F.IsAlwaysCallable serializer }
-    requires owes { OwesValue B.bytes F.pre F.post serializer }
-    ensures ok { OnOk result (WritesValue B.bytes F.post serializer (B.bytes buf.old) (B.bytes buf.new)) }
-    ensures err { OnErr result (B.bytes buf.new ≡ B.bytes buf.old) }
-    ensures cause { IfErr result (NullableRefused B.bytes F.post serializer (B.bytes buf.old)) }
+    requires owes { OwesValue B.held F.pre F.post serializer }
+    ensures ok { OnOk result (WritesValue B.held F.post serializer (B.held buf.old) (B.held buf.new)) }
+    ensures err { OnErr result (Leaves (B.held buf.old) (B.held buf.new)) }
+    ensures cause { IfErr result (NullableRefused B.held F.post B.Lacks serializer (B.held buf.old)) }
 {
     let base = buf.len();
     match fill_nullable(serializer, buf) {
@@ -297,22 +307,22 @@ pub fn write_nullable<B: Buffer, E: Drop, F: FnOnce(&mut B) -> Result<IsNull, E>
     }
 }
 
+#[tactic(auto, using(crate::proofs::Parts::held_steps))]
 fn fill_counted<
     B: Buffer,
     T: Drop,
     E: Drop,
     I: IntoIterator<Item = T> + Drop,
-    F: FnMut(T, &mut B) -> Result<(), E> + Drop,
->(items: I, mut serializer: F, buf: &mut B) -> Result<(), BindError<E>>
+    F: FnMut(T, &mut B) -> Result<(), E>,
+>(items: I, serializer: &mut F, buf: &mut B) -> Result<(), BindError<E>>
 where
     I::IntoIter: Drop,
     requires ends { IsFiniteIterable I.into_iter_gives I.IntoIter.can_next I.IntoIter.remaining items }
-    requires callable { F.IsAlwaysCallable serializer }
-    requires keeps { KeepsFronts B.bytes F.pre F.step }
-    ensures ok { OnOk result (WritesCounted B.bytes F.step I.into_iter_gives I.IntoIter.next_gives items serializer (B.bytes buf.old) (B.bytes buf.new)) }
-    ensures err { OnErr result (IsFrontOf (B.bytes buf.old) (B.bytes buf.new)) }
-    ensures cause { IfErr result (λ e. (e ≡ BindError.Serialization Error.OutOfMemory)
-        ⊎ CountedStops B.bytes F.step I.into_iter_gives I.IntoIter.next_gives items serializer (B.bytes buf.old) e) }
+    requires callable { F.IsAlwaysCallable serializer.old }
+    requires keeps { KeepsFronts B.held F.pre F.step }
+    ensures ok { OnOk result (WritesCounted B.held F.step I.into_iter_gives I.IntoIter.next_gives items serializer.old serializer.new (B.held buf.old) (B.held buf.new)) }
+    ensures err { OnErr result (IsFrontOf (B.held buf.old) (B.held buf.new)) }
+    ensures cause { IfErr result (CountedRefused B.held F.step I.into_iter_gives I.IntoIter.next_gives B.Lacks items serializer.old serializer.new (B.held buf.old)) }
 {
     let base = buf.len();
     put_u16(buf, 0)?;
@@ -321,7 +331,7 @@ where
         if count == u16::MAX {
             return Err(BindError::Serialization(Error::TooLarge));
         }
-        if let Err(e) = put_by(&mut serializer, item, buf) {
+        if let Err(e) = put_by(serializer, item, buf) {
             return Err(BindError::Conversion(e));
         }
         count += 1;
@@ -332,25 +342,25 @@ where
 
 /// Appends how many items there are, and each as the serializer writes it. `Conversion` is the
 /// serializer's refusal. The item past 65,535 is refused before it is written.
+#[tactic(auto, using(crate::proofs::Parts::held_steps))]
 pub fn write_counted<
     B: Buffer,
     T: Drop,
     E: Drop,
     I: IntoIterator<Item = T> + Drop,
     F: FnMut(T, &mut B) -> Result<(), E> + Drop,
->(items: I, serializer: F, buf: &mut B) -> Result<(), BindError<E>>
+>(items: I, mut serializer: F, buf: &mut B) -> Result<(), BindError<E>>
 where
     I::IntoIter: Drop,
     requires ends { IsFiniteIterable I.into_iter_gives I.IntoIter.can_next I.IntoIter.remaining items }
     requires callable { F.IsAlwaysCallable serializer }
-    requires keeps { KeepsFronts B.bytes F.pre F.step }
-    ensures ok { OnOk result (WritesCounted B.bytes F.step I.into_iter_gives I.IntoIter.next_gives items serializer (B.bytes buf.old) (B.bytes buf.new)) }
-    ensures err { OnErr result (B.bytes buf.new ≡ B.bytes buf.old) }
-    ensures cause { IfErr result (λ e. (e ≡ BindError.Serialization Error.OutOfMemory)
-        ⊎ CountedStops B.bytes F.step I.into_iter_gives I.IntoIter.next_gives items serializer (B.bytes buf.old) e) }
+    requires keeps { KeepsFronts B.held F.pre F.step }
+    ensures ok { OnOk result ((last : F) × WritesCounted B.held F.step I.into_iter_gives I.IntoIter.next_gives items serializer last (B.held buf.old) (B.held buf.new)) }
+    ensures err { OnErr result (Leaves (B.held buf.old) (B.held buf.new)) }
+    ensures cause { IfErr result (λ e. (last : F) × CountedRefused B.held F.step I.into_iter_gives I.IntoIter.next_gives B.Lacks items serializer last (B.held buf.old) e) }
 {
     let base = buf.len();
-    match fill_counted(items, serializer, buf) {
+    match fill_counted(items, &mut serializer, buf) {
         Ok(()) => Ok(()),
         Err(e) => {
             buf.truncate(base);

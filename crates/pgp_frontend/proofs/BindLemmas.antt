@@ -1,60 +1,58 @@
 -- What `bind` wrote, or why it refused, from what its steps did.
-use Rattle.std.proofs.Common.{◌≡◌, ℕ, ℤ, ◌+◌, ◌-◌, ◌≤◌, List, [], ◌∷◌, ◌++◌, Result, Option, Some, None, refl, subst, inl, inr, MutBor, length, take, drop, arith, length-append, ◌⊎◌}
+use Rattle.std.proofs.Common.{◌≡◌, ℕ, ℤ, ◌+◌, ◌-◌, ◌≤◌, List, [], ◌∷◌, Result, Option, Some, None, refl, ap, subst, inl, inr, MutBor, length, arith, length-append, ◌⊎◌}
 use Rattle.std.specs.Prelude.{FitsSigned, All}
 use Rattle.std.specs.Int.{w16}
 use Rattle.pgp_base.specs.Wire.{uint32, int16, nullable, counted}
-use Rattle.pgp_base.specs.Cause.{length_cause}
+use Rattle.pgp_base.specs.Cause.{length_cause, WantsMemory}
+use Rattle.pgp_base.specs.Held.{Held, ◌⊕◌, overwritten}
+use Rattle.pgp_base.proofs.Parts.{more_bytes}
 use Rattle.pgp_base.specs.Calls.{Came}
 use Rattle.pgp_base.specs.declared.error.Error.{Error}
-use Rattle.pgp_base.specs.declared.error.Error.TheVariants.{OutOfMemory}
 use Rattle.pgp_base.specs.declared.error.BindError.{BindError}
 use Rattle.pgp_base.specs.declared.error.BindError.TheVariants.{Conversion, Serialization}
 use Rattle.pgp_base.specs.declared.number.IsNull.{IsNull}
 use Rattle.pgp_frontend.specs.ClientMessage.{Bind}
-use Rattle.pgp_frontend.specs.Given.{Begun, Served, ValuesRefused, before_values, BindWhole, BindReached, BindRefused, Appended}
+use Rattle.pgp_frontend.specs.Given.{Begun, Served, ValuesRefused, before_values, BindWhole, BindRefused, Appended}
 use Rattle.pgp_frontend.specs.Payload.{Part, Text, Int16s, Values, joined, part_cause, parts_cause}
 use Rattle.pgp_frontend.proofs.Fields.{cause_more, cause_here}
 use Rattle.pgp_frontend.proofs.Frames.{frame_room, frame_done, frame_fits, frame_passes, tagged}
 use Rattle.pgp_frontend.proofs.Texts.{part_more}
 
-module _ {F T E B : Type 0} (held : B → List ℕ) (step : F → T → MutBor B → Result IsNull E → MutBor B → F → Type 0) {U S : Type 0} (into_iter_gives : U → S → Type 0) (next_gives : S → Option T → S → Type 0) (source : U) (f : F) where
-  -- the same, before which equal bytes stood
-  pub refused_at : (here there : List ℕ) (e : BindError E) → here ≡ there → ValuesRefused held step into_iter_gives next_gives source f here e → ValuesRefused held step into_iter_gives next_gives source f there e
-  refused_at here there e h r = subst (λ (here : List ℕ). ValuesRefused held step into_iter_gives next_gives source f here e) h r
+module _ {F T E B K : Type 0} (held : B → Held K) (step : F → T → MutBor B → Result IsNull E → MutBor B → F → Type 0) {U S : Type 0} (into_iter_gives : U → S → Type 0) (next_gives : S → Option T → S → Type 0) (source : U) (f last : F) where
+  -- the same, before which a buffer held the same
+  pub refused_at : (here there : Held K) (lacks : Type 0) (e : BindError E) → here ≡ there → ValuesRefused held step into_iter_gives next_gives source f last here lacks e → ValuesRefused held step into_iter_gives next_gives source f last there lacks e
+  refused_at here there lacks e h r = subst (λ (here : Held K). ValuesRefused held step into_iter_gives next_gives source f last here lacks e) h r
 
-  pub served_at : (here there : List ℕ) (vs : List (Option (List ℕ))) → here ≡ there → Served held step into_iter_gives next_gives source f here vs → Served held step into_iter_gives next_gives source f there vs
-  served_at here there vs h r = subst (λ (here : List ℕ). Served held step into_iter_gives next_gives source f here vs) h r
+  pub served_at : (here there : Held K) (vs : List (Option (List ℕ))) → here ≡ there → Served held step into_iter_gives next_gives source f last here vs → Served held step into_iter_gives next_gives source f last there vs
+  served_at here there vs h r = subst (λ (here : Held K). Served held step into_iter_gives next_gives source f last here vs) h r
 
-module _ {F T E B : Type 0} (held : B → List ℕ) (step : F → T → MutBor B → Result IsNull E → MutBor B → F → Type 0) {UI SI UJ SJ UK SK : Type 0} (i_into : UI → SI → Type 0) (i_next : SI → Option ℤ → SI → Type 0) (j_into : UJ → SJ → Type 0) (j_next : SJ → Option T → SJ → Type 0) (k_into : UK → SK → Type 0) (k_next : SK → Option ℤ → SK → Type 0)
-    (portal statement : List ℕ) (formats : UI) (values : UJ) (f : F) (result_formats : UK) (old : List ℕ) where
+module _ {F T E B K : Type 0} (held : B → Held K) (step : F → T → MutBor B → Result IsNull E → MutBor B → F → Type 0) {UI SI UJ SJ UK SK : Type 0} (i_into : UI → SI → Type 0) (i_next : SI → Option ℤ → SI → Type 0) (j_into : UJ → SJ → Type 0) (j_next : SJ → Option T → SJ → Type 0) (k_into : UK → SK → Type 0) (k_next : SK → Option ℤ → SK → Type 0)
+    (portal statement : List ℕ) (formats : UI) (values : UJ) (f last : F) (result_formats : UK) (old : Held K) (lacks : Type 0) where
   abbrev pub Refusal : BindError E → Type 0
-  Refusal e = BindRefused held step i_into i_next j_into j_next k_into k_next portal statement formats values f result_formats old e
+  Refusal e = BindRefused held step i_into i_next j_into j_next k_into k_next portal statement formats values f last result_formats old lacks e
 
-  pub memory_refused : (e : Error) → e ≡ OutOfMemory → Refusal (Serialization e)
-  memory_refused e h = inl h
-
-  pub formats_refused : (e : Error)
-      → (e ≡ OutOfMemory) ⊎ ((parts_cause (Text portal ∷ Text statement ∷ []) ≡ Some e) ⊎ ((fs : List ℤ) × Begun i_into i_next Int16s formats fs × (parts_cause (Text portal ∷ Text statement ∷ Int16s fs ∷ []) ≡ Some e)))
+  pub formats_refused : (e : Error) → last ≡ f
+      → WantsMemory lacks e ⊎ ((parts_cause (Text portal ∷ Text statement ∷ []) ≡ Some e) ⊎ ((fs : List ℤ) × Begun i_into i_next Int16s formats fs × (parts_cause (Text portal ∷ Text statement ∷ Int16s fs ∷ []) ≡ Some e)))
       → Refusal (Serialization e)
-  formats_refused e (inl memory) = inl memory
-  formats_refused e (inr (inl texts)) = inr (inl (Text portal ∷ Text statement ∷ [], inl refl, texts))
-  formats_refused e (inr (inr past)) = inr (inl (Text portal ∷ Text statement ∷ Int16s past.0 ∷ [], inr (inl (past.0, past.1, refl)), past.2))
+  formats_refused e same (inl memory) = inl (memory.0, (memory.1, inl same))
+  formats_refused e same (inr (inl texts)) = inr (inl (Text portal ∷ Text statement ∷ [], inl (same, refl), texts))
+  formats_refused e same (inr (inr past)) = inr (inl (Text portal ∷ Text statement ∷ Int16s past.0 ∷ [], inr (inl (same, (past.0, past.1, refl))), past.2))
 
   module _ (fs : List ℤ) (came : Came i_into i_next formats fs None) (none : parts_cause (Text portal ∷ Text statement ∷ Int16s fs ∷ []) ≡ None) where
-    pub values_refused : (e : BindError E) → ValuesRefused held step j_into j_next values f (before_values old portal statement fs) e → Refusal e
+    pub values_refused : (e : BindError E) → ValuesRefused held step j_into j_next values f last (before_values old portal statement fs) lacks e → Refusal e
     values_refused (Conversion e) r = (fs, came, none, r)
     values_refused (Serialization e) r =
         elim r [
-          | inl memory ↦ inl memory
+          | inl memory ↦ inl (memory.0, (memory.1.0, inr (fs, came, memory.1.1)))
           | inr v ↦ inr (inl (Text portal ∷ Text statement ∷ Int16s fs ∷ Values v.0 ∷ [], inr (inr (inl (fs, came, (v.0, v.1, refl)))), cause_here (Text portal ∷ Text statement ∷ Int16s fs ∷ []) (Values v.0) [] e none v.2))
         ]
 
-    module _ (vs : List (Option (List ℕ))) (served : Served held step j_into j_next values f (before_values old portal statement fs) vs) (fit : part_cause (Values vs) ≡ None) where
+    module _ (vs : List (Option (List ℕ))) (served : Served held step j_into j_next values f last (before_values old portal statement fs) vs) (fit : part_cause (Values vs) ≡ None) where
       four_none : parts_cause (Text portal ∷ Text statement ∷ Int16s fs ∷ Values vs ∷ []) ≡ None
       four_none = cause_more (Text portal ∷ Text statement ∷ Int16s fs ∷ []) (Values vs) none fit
 
-      pub results_refused : (e : Error) → (e ≡ OutOfMemory) ⊎ ((rs : List ℤ) × Begun k_into k_next Int16s result_formats rs × (part_cause (Int16s rs) ≡ Some e)) → Refusal (Serialization e)
-      results_refused e (inl memory) = inl memory
+      pub results_refused : (e : Error) → WantsMemory lacks e ⊎ ((rs : List ℤ) × Begun k_into k_next Int16s result_formats rs × (part_cause (Int16s rs) ≡ Some e)) → Refusal (Serialization e)
+      results_refused e (inl memory) = inl (memory.0, (memory.1, inr (fs, came, inr (inr (vs, served)))))
       results_refused e (inr past) =
           inr (inl (
             Text portal ∷ Text statement ∷ Int16s fs ∷ Values vs ∷ Int16s past.0 ∷ [],
@@ -62,35 +60,34 @@ module _ {F T E B : Type 0} (held : B → List ℕ) (step : F → T → MutBor B
             cause_here (Text portal ∷ Text statement ∷ Int16s fs ∷ Values vs ∷ []) (Int16s past.0) [] e four_none past.2,
           ))
 
-      module _ (rs : List ℤ) (results : Came k_into k_next result_formats rs None) (counts : part_cause (Int16s rs) ≡ None) (b4 b5 d : List ℕ) (base : ℕ)
-          (front : b4 ≡ old ++ 66 ∷ [] ++ uint32 0 ++ joined (Text portal ∷ Text statement ∷ Int16s fs ∷ [])) (behind : b5 ≡ b4 ++ counted nullable vs) (last : d ≡ b5 ++ counted int16 rs) (at : base ≡ length old + 1) where
+      module _ (rs : List ℤ) (results : Came k_into k_next result_formats rs None) (counts : part_cause (Int16s rs) ≡ None) (b4 b5 d : Held K) (base : ℕ)
+          (front : b4 ≡ old ⊕ 66 ∷ [] ⊕ uint32 0 ⊕ joined (Text portal ∷ Text statement ∷ Int16s fs ∷ [])) (behind : b5 ≡ b4 ⊕ counted nullable vs) (ends : d ≡ b5 ⊕ counted int16 rs) (at : base ≡ length old.bytes + 1) where
         abbrev all : List Part
         all = Text portal ∷ Text statement ∷ Int16s fs ∷ Values vs ∷ Int16s rs ∷ []
 
         all_none : parts_cause all ≡ None
         all_none = cause_more (Text portal ∷ Text statement ∷ Int16s fs ∷ Values vs ∷ []) (Int16s rs) four_none counts
 
-        stands : d ≡ old ++ 66 ∷ [] ++ uint32 0 ++ joined all
-        stands = part_more (Text portal ∷ Text statement ∷ Int16s fs ∷ Values vs ∷ []) (Int16s rs) (old ++ 66 ∷ [] ++ uint32 0) b5 d
-            (part_more (Text portal ∷ Text statement ∷ Int16s fs ∷ []) (Values vs) (old ++ 66 ∷ [] ++ uint32 0) b4 b5 front behind) last
+        stands : d ≡ old ⊕ 66 ∷ [] ⊕ uint32 0 ⊕ joined all
+        stands = part_more (Text portal ∷ Text statement ∷ Int16s fs ∷ Values vs ∷ []) (Int16s rs) (old ⊕ 66 ∷ [] ⊕ uint32 0) b5 d
+            (part_more (Text portal ∷ Text statement ∷ Int16s fs ∷ []) (Values vs) (old ⊕ 66 ∷ [] ⊕ uint32 0) b4 b5 front behind) ends
 
-        size : base ≡ length (old ++ 66 ∷ [])
-        size = omega (arith, length-append old (66 ∷ []))
+        size : base ≡ length (old ⊕ 66 ∷ []).bytes
+        size = omega (arith, ap length (more_bytes old (66 ∷ [])), length-append old.bytes (66 ∷ []))
 
-        pub bind_room : base + 4 ≤ length d
-        bind_room = frame_room all (old ++ 66 ∷ []) (old ++ 66 ∷ [] ++ uint32 0) d base refl stands size
+        pub bind_room : base + 4 ≤ length d.bytes
+        bind_room = frame_room all (old ⊕ 66 ∷ []) (old ⊕ 66 ∷ [] ⊕ uint32 0) d base refl stands size
 
-        pub length_refused : (e : Error) → length_cause (length d - base) ≡ Some e → Refusal (Serialization e)
+        pub length_refused : (e : Error) → length_cause (length d.bytes - base) ≡ Some e → Refusal (Serialization e)
         length_refused e h =
-            inr (inr (Bind portal statement fs vs rs, (fs, came, (vs, served, (rs, results, refl))), frame_passes all (old ++ 66 ∷ []) (old ++ 66 ∷ [] ++ uint32 0) d base refl stands size e all_none h))
+            inr (inr (Bind portal statement fs vs rs, (fs, came, (vs, served, (rs, results, refl))), frame_passes all (old ⊕ 66 ∷ []) (old ⊕ 66 ∷ [] ⊕ uint32 0) d base refl stands size e all_none h))
 
-        pub bind_written : (r : List ℕ) → All (FitsSigned w16) fs → All (FitsSigned w16) rs → length_cause (length d - base) ≡ None → r ≡ take base d ++ uint32 (length d - base) ++ drop (base + 4) d
-            → Appended (BindWhole held step i_into i_next j_into j_next k_into k_next portal statement formats values f result_formats old)
-            (BindReached held step i_into i_next j_into j_next k_into k_next portal statement formats values f result_formats old) old r
+        pub bind_written : (r : Held K) → All (FitsSigned w16) fs → All (FitsSigned w16) rs → length_cause (length d.bytes - base) ≡ None → r ≡ overwritten d base (uint32 (length d.bytes - base))
+            → Appended (BindWhole held step i_into i_next j_into j_next k_into k_next portal statement formats values f last result_formats old) old r
         bind_written r fs_fit rs_fit fits done = record {
           message = Bind portal statement fs vs rs;
           whole = (fs, came, (vs, served, (rs, results, refl)));
           in_range = (tt, (tt, (fs_fit, (tt, (rs_fit, tt)))));
-          none = frame_fits all (old ++ 66 ∷ []) (old ++ 66 ∷ [] ++ uint32 0) d base refl stands size all_none fits;
-          appended = tagged 66 (joined all) old (old ++ 66 ∷ []) r refl (frame_done all (old ++ 66 ∷ []) (old ++ 66 ∷ [] ++ uint32 0) d base refl stands size r done);
+          none = frame_fits all (old ⊕ 66 ∷ []) (old ⊕ 66 ∷ [] ⊕ uint32 0) d base refl stands size all_none fits;
+          appended = tagged 66 (joined all) old (old ⊕ 66 ∷ []) r refl (frame_done all (old ⊕ 66 ∷ []) (old ⊕ 66 ∷ [] ⊕ uint32 0) d base refl stands size r done);
         }

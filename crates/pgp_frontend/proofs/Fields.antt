@@ -3,6 +3,7 @@ use Rattle.std.proofs.Common.{◌≡◌, ℕ, ◌+◌, ◌<◌, List, [], ◌∷
 use Rattle.std.proofs.lemmas.List.{take_more, map-append, take-append-drop, drop_more}
 use Rattle.pgp_base.proofs.Causes.{first_more, first_here}
 use Rattle.pgp_base.proofs.Parts.{more_parts}
+use Rattle.pgp_base.specs.Held.{Held, ◌⊕◌}
 use Rattle.pgp_base.specs.Cause.{first}
 use Rattle.pgp_base.specs.declared.error.Error.{Error}
 use Rattle.pgp_frontend.specs.Payload.{Part, spelling, part_cause, parts_cause, joined}
@@ -22,9 +23,9 @@ fields_more fields i d h = ap parts_of (take_more fields i d h) ∙ map-append p
 pub fields_none : (fields : List Field) (i : ℕ) (d : Field) → i < length fields → parts_cause (parts_of (take i fields)) ≡ None → part_cause (part_of (get_or fields i d)) ≡ None → parts_cause (parts_of (take (i + 1) fields)) ≡ None
 fields_none fields i d h e f = ap parts_cause (fields_more fields i d h) ∙ cause_more (parts_of (take i fields)) (part_of (get_or fields i d)) e f
 
-pub fields_joined : (fields : List Field) (i : ℕ) (d : Field) (old b c : List ℕ) → i < length fields → b ≡ old ++ joined (parts_of (take i fields)) → c ≡ b ++ spelling (part_of (get_or fields i d)) → c ≡ old ++ joined (parts_of (take (i + 1) fields))
+pub fields_joined : {K : Type 0} (fields : List Field) (i : ℕ) (d : Field) (old b c : Held K) → i < length fields → b ≡ old ⊕ joined (parts_of (take i fields)) → c ≡ b ⊕ spelling (part_of (get_or fields i d)) → c ≡ old ⊕ joined (parts_of (take (i + 1) fields))
 fields_joined fields i d old b c h e f =
-    more_parts spelling old b c (parts_of (take i fields)) (part_of (get_or fields i d)) e f ∙ ap (λ ps. old ++ joined ps) (sym (fields_more fields i d h))
+    more_parts spelling old b c (parts_of (take i fields)) (part_of (get_or fields i d)) e f ∙ ap (λ ps. old ⊕ joined ps) (sym (fields_more fields i d h))
 
 pub fields_refused : (fields : List Field) (i : ℕ) (d : Field) (e : Error) → i < length fields → parts_cause (parts_of (take i fields)) ≡ None → part_cause (part_of (get_or fields i d)) ≡ Some e → parts_cause (parts_of fields) ≡ Some e
 fields_refused fields i d e h f k =

@@ -1,11 +1,12 @@
 -- Names and values, one pair more.
-use Rattle.std.proofs.Common.{◌≡◌, ℕ, List, [], ◌∷◌, ◌++◌, Some, None, sym, ap, ◌∙◌, append_assoc, map, Bor}
+use Rattle.std.proofs.Common.{◌≡◌, ℕ, List, [], ◌∷◌, ◌++◌, Some, None, sym, ap, ◌∙◌, map, Bor}
 use Rattle.std.specs.List.{flat_map}
 use Rattle.std.proofs.lemmas.List.{map-append}
 use Rattle.pgp_base.specs.Wire.{text}
 use Rattle.pgp_base.specs.Cause.{first, either, text_cause}
 use Rattle.pgp_base.proofs.Causes.{either_none, either_first, either_then, first_more, first_here}
-use Rattle.pgp_base.proofs.Parts.{more_parts}
+use Rattle.pgp_base.proofs.Parts.{more_parts, more_twice}
+use Rattle.pgp_base.specs.Held.{Held, ◌⊕◌}
 use Rattle.pgp_base.specs.declared.error.Error.{Error}
 use Rattle.pgp_frontend.specs.Given.{shown}
 use Rattle.pgp_frontend.specs.Payload.{pair, pair_cause, part_cause, Pairs}
@@ -29,7 +30,7 @@ module _ (xs : List (Bor (List ℕ) × Bor (List ℕ))) (name value : Bor (List 
       let c : either (text_cause name.now) (text_cause value.now) ≡ Some e = either_then (text_cause name.now) (text_cause value.now) (ap text_cause (sym is_name) ∙ j) ∙ (ap text_cause (sym is_value) ∙ k) in
       ap first (causes_more xs (name, value)) ∙ first_here (map pair_cause (map shown xs)) (pair_cause (shown (name, value))) [] e h c
 
-  pub pairs_held : (a b d r : List ℕ) → b ≡ a ++ flat_map pair (map shown xs) → d ≡ b ++ text n → r ≡ d ++ text v → r ≡ a ++ flat_map pair (map shown (xs ++ (name, value) ∷ []))
+  pub pairs_held : {K : Type 0} (a b d r : Held K) → b ≡ a ⊕ flat_map pair (map shown xs) → d ≡ b ⊕ text n → r ≡ d ⊕ text v → r ≡ a ⊕ flat_map pair (map shown (xs ++ (name, value) ∷ []))
   pairs_held a b d r e f h =
-      let step : r ≡ b ++ pair (shown (name, value)) = h ∙ (ap (λ d. d ++ text v) f ∙ (append_assoc b (text n) (text v) ∙ (ap (λ n. b ++ (text n ++ text v)) is_name ∙ ap (λ v. b ++ (text name.now ++ text v)) is_value))) in
-      more_parts pair a b r (map shown xs) (shown (name, value)) e step ∙ ap (λ ps. a ++ flat_map pair ps) (sym (map-append shown xs ((name, value) ∷ [])))
+      let step : r ≡ b ⊕ pair (shown (name, value)) = h ∙ (ap (λ d. d ⊕ text v) f ∙ (more_twice b (text n) (text v) ∙ (ap (λ n. b ⊕ (text n ++ text v)) is_name ∙ ap (λ v. b ⊕ (text name.now ++ text v)) is_value))) in
+      more_parts pair a b r (map shown xs) (shown (name, value)) e step ∙ ap (λ ps. a ⊕ flat_map pair ps) (sym (map-append shown xs ((name, value) ∷ [])))

@@ -1,5 +1,5 @@
 -- The values that were made have no cause, and the one behind them may.
-use Rattle.std.proofs.Common.{◌≡◌, ℕ, ◌<◌, List, [], ◌∷◌, ◌++◌, Result, Option, Some, None, refl, sym, ap, ◌∙◌, map, take, length, length-append, arith, inl, inr, MutBor}
+use Rattle.std.proofs.Common.{◌≡◌, ℕ, ◌<◌, List, [], ◌∷◌, ◌++◌, Result, Option, Some, None, refl, sym, ap, ◌∙◌, map, take, length, length-append, arith, inl, inr, MutBor, subst}
 use Rattle.std.specs.List.{flat_map}
 use Rattle.std.proofs.lemmas.List.{map-append, take_all, take_at}
 use Rattle.pgp_base.specs.Wire.{nullable, uint32}
@@ -7,6 +7,7 @@ use Rattle.pgp_base.specs.Cause.{first, nullable_cause, count_cause}
 use Rattle.pgp_base.specs.Calls.{Gives, Runs, Came, ValueRefused}
 use Rattle.pgp_base.proofs.Causes.{either_none, either_first, either_then, first_here, count_fits, count_past}
 use Rattle.pgp_base.proofs.Parts.{Puts-at, Runs-length}
+use Rattle.pgp_base.specs.Held.{Held, ◌⊕◌}
 use Rattle.pgp_base.specs.declared.error.Error.{Error}
 use Rattle.pgp_base.specs.declared.error.Error.TheVariants.{TooLarge}
 use Rattle.pgp_base.specs.declared.error.BindError.{BindError}
@@ -15,13 +16,13 @@ use Rattle.pgp_base.specs.declared.number.IsNull.{IsNull}
 use Rattle.pgp_frontend.specs.Given.{ValuesRefused}
 use Rattle.pgp_frontend.specs.Payload.{part_cause, Values}
 
-module _ {F T E B : Type 0} (held : B → List ℕ) (step : F → T → MutBor B → Result IsNull E → MutBor B → F → Type 0) where
+module _ {F T E B K : Type 0} (held : B → Held K) (step : F → T → MutBor B → Result IsNull E → MutBor B → F → Type 0) where
   -- each value that was made fits its field
-  pub Runs-fit : (here : List ℕ) (f : F) (xs : List T) (vs : List (Option (List ℕ))) (t : F) → Runs (Gives held step) nullable here f xs vs t → first (map nullable_cause vs) ≡ None
+  pub Runs-fit : (here : Held K) (f : F) (xs : List T) (vs : List (Option (List ℕ))) (t : F) → Runs (Gives held step) nullable here f xs vs t → first (map nullable_cause vs) ≡ None
   Runs-fit here f [] [] t r = refl
   Runs-fit here f [] (v ∷ vs) t r = absurd r
   Runs-fit here f (x ∷ xs) [] t r = absurd r
-  Runs-fit here f (x ∷ xs) (v ∷ vs) t r = either_none (nullable_cause v) (first (map nullable_cause vs)) r.1.fits (Runs-fit (here ++ nullable v) r.0 xs vs t r.2)
+  Runs-fit here f (x ∷ xs) (v ∷ vs) t r = either_none (nullable_cause v) (first (map nullable_cause vs)) r.1.fits (Runs-fit (here ⊕ nullable v) r.0 xs vs t r.2)
 
 -- as many as the count's field can hold
 pub values_fit : (vs : List (Option (List ℕ))) → length vs < 65536 → first (map nullable_cause vs) ≡ None → part_cause (Values vs) ≡ None
@@ -41,34 +42,36 @@ values_long vs v e n h k =
     either_first (first (map nullable_cause (take 65535 (vs ++ v ∷ [])))) (count_cause (length (vs ++ v ∷ []))) e
     (ap (λ ws. first (map nullable_cause ws)) all ∙ (ap first (map-append nullable_cause vs (v ∷ [])) ∙ first_here (map nullable_cause vs) (nullable_cause v) [] e h k))
 
-module _ {F T E B : Type 0} (held : B → List ℕ) (step : F → T → MutBor B → Result IsNull E → MutBor B → F → Type 0) {U S : Type 0} (into_iter_gives : U → S → Type 0) (next_gives : S → Option T → S → Type 0) (source : U) (f : F) (here : List ℕ) where
+module _ {F T E B K : Type 0} (held : B → Held K) (step : F → T → MutBor B → Result IsNull E → MutBor B → F → Type 0) {U S : Type 0} (into_iter_gives : U → S → Type 0) (next_gives : S → Option T → S → Type 0) (source : U) (f : F) (here : Held K) (lacks : Type 0) where
   -- a value that was refused behind those that were made
-  pub value_stops : (xs : List T) (x : T) (vs : List (Option (List ℕ))) (at u : F) (b : List ℕ) (e : BindError E)
-      → Came into_iter_gives next_gives source xs (Some x) → Runs (Gives held step) nullable here f xs vs at → length xs < 65535 → b ≡ here ++ flat_map nullable vs
-      → ValueRefused held step b at x e u → ValuesRefused held step into_iter_gives next_gives source f here e
+  pub value_stops : (xs : List T) (x : T) (vs : List (Option (List ℕ))) (at u : F) (b : Held K) (e : BindError E)
+      → Came into_iter_gives next_gives source xs (Some x) → Runs (Gives held step) nullable here f xs vs at → length xs < 65535 → b ≡ here ⊕ flat_map nullable vs
+      → ValueRefused held step lacks b at x e u → ValuesRefused held step into_iter_gives next_gives source f u here lacks e
   value_stops xs x vs at u b (Conversion e) came runs few h r =
       let n = Runs-length (Gives held step) nullable here f xs vs at runs in
-      record { before = vs; x = x; at = at; served = record { xs = xs; came = came; runs = runs }; few = omega (arith, n); u = u; bytes = r.0; put = Puts-at _ _ (ap (λ b. b ++ uint32 0) h) r.1 }
+      record { before = vs; x = x; at = at; served = record { xs = xs; came = came; runs = runs }; few = omega (arith, n); bytes = r.0; put = Puts-at _ _ (ap (λ b. b ⊕ uint32 0) h) r.1 }
   value_stops xs x vs at u b (Serialization e) came runs few h r =
       let n = Runs-length (Gives held step) nullable here f xs vs at runs in
       let few' : length vs < 65535 = omega (arith, n) in
       elim r [
-        | inl memory ↦ inl memory
+        | inl memory ↦
+            let runs' : Runs (Gives held step) nullable here f xs vs u = subst (λ (t : F). Runs (Gives held step) nullable here f xs vs t) (sym memory.1) runs in
+            inl (memory.0.0, (memory.0.1, inr (inl (vs, x, record { xs = xs; came = came; runs = runs' }))))
         | inr long ↦ inr (
           vs ++ Some long.0 ∷ [],
-          record { before = vs; x = x; at = at; served = record { xs = xs; came = came; runs = runs }; value = Some long.0; are = refl; made = inr (few', (u, long.0, Puts-at _ _ (ap (λ b. b ++ uint32 0) h) long.1, refl)) },
+          record { before = vs; x = x; at = at; served = record { xs = xs; came = came; runs = runs }; value = Some long.0; are = refl; made = inr (few', (long.0, Puts-at _ _ (ap (λ b. b ⊕ uint32 0) h) long.1, refl)) },
           values_long vs (Some long.0) e few' (Runs-fit held step here f xs vs at runs) long.2,
         )
       ]
 
   -- an item past the count's field
   pub count_stops : (xs : List T) (x : T) (vs : List (Option (List ℕ))) (at : F) → Came into_iter_gives next_gives source xs (Some x) → Runs (Gives held step) nullable here f xs vs at → length xs ≡ 65535
-      → (let e : BindError E = Serialization TooLarge in ValuesRefused held step into_iter_gives next_gives source f here e)
+      → (let e : BindError E = Serialization TooLarge in ValuesRefused held step into_iter_gives next_gives source f at here lacks e)
   count_stops xs x vs at came runs n =
       let k = Runs-length (Gives held step) nullable here f xs vs at runs in
       let full : length vs ≡ 65535 = sym k ∙ n in
       inr (
         vs ++ None ∷ [],
-        record { before = vs; x = x; at = at; served = record { xs = xs; came = came; runs = runs }; value = None; are = refl; made = inl full },
+        record { before = vs; x = x; at = at; served = record { xs = xs; came = came; runs = runs }; value = None; are = refl; made = inl (full, refl) },
         values_past vs None full (Runs-fit held step here f xs vs at runs),
       )

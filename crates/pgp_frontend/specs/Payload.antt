@@ -5,6 +5,7 @@ use Rattle.std.specs.List.{flat_map}
 use Rattle.std.specs.Int.{w16, w32}
 use Rattle.pgp_base.specs.Wire.{int16, int32, uint32, oid, text, counted, nullable, frame}
 use Rattle.pgp_base.specs.Cause.{Cause, either, first, text_cause, length_cause, count_cause, nullable_cause, counted_cause, Writes}
+use Rattle.pgp_base.specs.Held.{Held}
 use Rattle.pgp_base.specs.declared.error.Error.{Error}
 use Rattle.pgp_frontend.specs.ClientMessage.{ClientMessage, Bind, Close, CopyData, CopyDone, CopyFail, Describe, Execute, Flush, Parse, PasswordMessage, Query, SaslInitialResponse, SaslResponse, Sync, Terminate, Startup, CancelRequest, SslRequest, PasswordKind, Password, Initial, Response}
 
@@ -145,9 +146,9 @@ IsInRange m = EachInRange (parts m)
 
 -- A writer of these parts behind this tag: it appends the frame, and there is no cause; or it leaves
 -- the bytes, and is refused for want of memory or for the first cause.
-abbrev pub WritesFrame : Option ℕ → List Part → List ℕ → List ℕ → Result (Unit {0}) Error → Type 0
-WritesFrame tag ps old new result = Writes (framed tag (joined ps)) (frame_cause ps) old new result
+abbrev pub WritesFrame : {K : Type 0} → Option ℕ → List Part → Type 0 → Held K → Held K → Result (Unit {0}) Error → Type 0
+WritesFrame tag ps lacks old new result = Writes (framed tag (joined ps)) (frame_cause ps) lacks old new result
 
 -- The call of a writer of the message.
-abbrev pub WritesMessage : ClientMessage → List ℕ → List ℕ → Result (Unit {0}) Error → Type 0
-WritesMessage m old new result = IsInRange m × Writes (bytes_of m) (cause m) old new result
+abbrev pub WritesMessage : {K : Type 0} → ClientMessage → Type 0 → Held K → Held K → Result (Unit {0}) Error → Type 0
+WritesMessage m lacks old new result = IsInRange m × Writes (bytes_of m) (cause m) lacks old new result

@@ -8,7 +8,7 @@ use pgp_base::{Buffer, Error};
 
 /// A password, or the text of its digest.
 pub fn password_message<B: Buffer>(password: &[u8], buf: &mut B) -> Result<(), Error>
-    ensures { WritesMessage (PasswordMessage password.now) (B.bytes buf.old) (B.bytes buf.new) result }
+    ensures { WritesMessage (PasswordMessage password.now) B.Lacks (B.held buf.old) (B.held buf.new) result }
 {
     message(b'p', &[Field::Text(password)], buf)
 }
@@ -19,7 +19,7 @@ pub fn sasl_initial_response<B: Buffer>(
     data: &[u8],
     buf: &mut B,
 ) -> Result<(), Error>
-    ensures { WritesMessage (SaslInitialResponse mechanism.now «data».now) (B.bytes buf.old) (B.bytes buf.new) result }
+    ensures { WritesMessage (SaslInitialResponse mechanism.now «data».now) B.Lacks (B.held buf.old) (B.held buf.new) result }
 {
     message(
         b'p',
@@ -30,7 +30,7 @@ pub fn sasl_initial_response<B: Buffer>(
 
 /// A later message of a SASL exchange.
 pub fn sasl_response<B: Buffer>(data: &[u8], buf: &mut B) -> Result<(), Error>
-    ensures { WritesMessage (SaslResponse «data».now) (B.bytes buf.old) (B.bytes buf.new) result }
+    ensures { WritesMessage (SaslResponse «data».now) B.Lacks (B.held buf.old) (B.held buf.new) result }
 {
     message(b'p', &[Field::Rest(data)], buf)
 }

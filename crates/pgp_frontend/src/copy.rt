@@ -2,6 +2,7 @@
 
 ghost use Rattle.std.specs.Prelude.{◌≡◌, ◌+◌, ◌<◌, ◌^◌, length, Some, None, Ok, OnOk, OnErr, IfOk, IfErr, ◌∷◌, ◌++◌};
 ghost use Rattle.pgp_base.specs.Wire.{uint32};
+ghost use Rattle.pgp_base.specs.Held.{◌⊕◌, Leaves};
 ghost use Rattle.pgp_base.specs.Calls.{IsFrontOf};
 ghost use Rattle.pgp_frontend.specs.ClientMessage.{CopyData as DataMessage, CopyDone, CopyFail};
 ghost use Rattle.pgp_frontend.specs.Payload.{cause, WritesMessage};
@@ -43,8 +44,8 @@ impl<T: Buf + Drop> CopyData<T> {
 
     /// Appends the message. Where memory is refused it hands itself back, nothing read from it.
     pub fn write<B: Buffer>(self, out: &mut B) -> Result<(), CopyData<T>>
-        ensures ok { OnOk result (WritesMessage (DataMessage (T.unread self)) (B.bytes out.old) (B.bytes out.new) (Ok tt)) }
-        ensures err { IfErr result (λ piece. (piece ≡ self) × (B.bytes out.new ≡ B.bytes out.old)) }
+        ensures ok { OnOk result (WritesMessage (DataMessage (T.unread self)) B.Lacks (B.held out.old) (B.held out.new) (Ok tt)) }
+        ensures err { IfErr result (λ piece. (piece ≡ self) × B.Lacks × Leaves (B.held out.old) (B.held out.new)) }
     {
         let CopyData { mut buf, size } = self;
         let start = out.len();
@@ -60,9 +61,10 @@ impl<T: Buf + Drop> CopyData<T> {
 
 // The frame of what is left of `buf`. A refusal reads nothing, and leaves what stood there as a front.
 fn fill<T: Buf, B: Buffer>(size: u32, buf: &mut T, out: &mut B) -> Result<(), Error>
-    ensures ok { OnOk result (B.bytes out.new ≡ B.bytes out.old ++ (100 ∷ uint32 size ++ T.unread buf.old)) }
+    ensures ok { OnOk result (B.held out.new ≡ B.held out.old ⊕ (100 ∷ uint32 size ++ T.unread buf.old)) }
     ensures kept { OnErr result (buf.new ≡ buf.old) }
-    ensures err { OnErr result (IsFrontOf (B.bytes out.old) (B.bytes out.new)) }
+    ensures lacks { OnErr result B.Lacks }
+    ensures err { OnErr result (IsFrontOf (B.held out.old) (B.held out.new)) }
 {
     out.reserve(size as usize + 1)?;
     put_u8(out, b'd')?;
@@ -73,14 +75,14 @@ fn fill<T: Buf, B: Buffer>(size: u32, buf: &mut T, out: &mut B) -> Result<(), Er
 
 /// The end of the data.
 pub fn copy_done<B: Buffer>(buf: &mut B) -> Result<(), Error>
-    ensures { WritesMessage CopyDone (B.bytes buf.old) (B.bytes buf.new) result }
+    ensures { WritesMessage CopyDone B.Lacks (B.held buf.old) (B.held buf.new) result }
 {
     message(b'c', &[], buf)
 }
 
 /// Gives the copy up, with a text for the server's report.
 pub fn copy_fail<B: Buffer>(reason: &str, buf: &mut B) -> Result<(), Error>
-    ensures { WritesMessage (CopyFail reason.now) (B.bytes buf.old) (B.bytes buf.new) result }
+    ensures { WritesMessage (CopyFail reason.now) B.Lacks (B.held buf.old) (B.held buf.new) result }
 {
     message(b'f', &[Field::Text(reason.as_bytes())], buf)
 }

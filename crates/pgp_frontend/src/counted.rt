@@ -4,6 +4,8 @@ ghost use Rattle.std.specs.Prelude.{◌≡◌, ℕ, ℤ, ◌^◌, ◌<◌, ◌�
 ghost use Rattle.std.specs.Int.{w16};
 ghost use Rattle.std.specs.Iterator.{IsFiniteIterable};
 ghost use Rattle.pgp_base.specs.Wire.{int16, oid, counted};
+ghost use Rattle.pgp_base.specs.Held.{◌⊕◌};
+ghost use Rattle.pgp_base.specs.Cause.{WantsMemory};
 ghost use Rattle.pgp_base.specs.Calls.{IsFrontOf, Came};
 ghost use Rattle.pgp_frontend.specs.Given.{Begun};
 ghost use Rattle.pgp_frontend.specs.Payload.{Int16s, Oids, part_cause};
@@ -19,9 +21,9 @@ where
     I::IntoIter: Drop,
     requires { IsFiniteIterable I.into_iter_gives I.IntoIter.can_next I.IntoIter.remaining items }
     ensures ok { OnOk result ((xs : List ℕ) × Came I.into_iter_gives I.IntoIter.next_gives items xs None
-        × All (λ n. n < 2 ^ 32) xs × (part_cause (Oids xs) ≡ None) × (B.bytes buf.new ≡ B.bytes buf.old ++ counted oid xs)) }
-    ensures err { OnErr result (IsFrontOf (B.bytes buf.old) (B.bytes buf.new)) }
-    ensures cause { IfErr result (λ e. (e ≡ Error.OutOfMemory)
+        × All (λ n. n < 2 ^ 32) xs × (part_cause (Oids xs) ≡ None) × (B.held buf.new ≡ B.held buf.old ⊕ counted oid xs)) }
+    ensures err { OnErr result (IsFrontOf (B.held buf.old) (B.held buf.new)) }
+    ensures cause { IfErr result (λ e. WantsMemory B.Lacks e
         ⊎ ((xs : List ℕ) × Begun I.into_iter_gives I.IntoIter.next_gives Oids items xs × (part_cause (Oids xs) ≡ Some e))) }
 {
     let base = buf.len();
@@ -47,9 +49,9 @@ where
     I::IntoIter: Drop,
     requires { IsFiniteIterable I.into_iter_gives I.IntoIter.can_next I.IntoIter.remaining items }
     ensures ok { OnOk result ((xs : List ℤ) × Came I.into_iter_gives I.IntoIter.next_gives items xs None
-        × All (FitsSigned w16) xs × (part_cause (Int16s xs) ≡ None) × (B.bytes buf.new ≡ B.bytes buf.old ++ counted int16 xs)) }
-    ensures err { OnErr result (IsFrontOf (B.bytes buf.old) (B.bytes buf.new)) }
-    ensures cause { IfErr result (λ e. (e ≡ Error.OutOfMemory)
+        × All (FitsSigned w16) xs × (part_cause (Int16s xs) ≡ None) × (B.held buf.new ≡ B.held buf.old ⊕ counted int16 xs)) }
+    ensures err { OnErr result (IsFrontOf (B.held buf.old) (B.held buf.new)) }
+    ensures cause { IfErr result (λ e. WantsMemory B.Lacks e
         ⊎ ((xs : List ℤ) × Begun I.into_iter_gives I.IntoIter.next_gives Int16s items xs × (part_cause (Int16s xs) ≡ Some e))) }
 {
     let base = buf.len();

@@ -4,6 +4,8 @@ ghost use Rattle.std.specs.Prelude.{◌≡◌, ℕ, ℤ, ◌⊎◌, List, [], �
 ghost use Rattle.std.specs.Int.{w16};
 ghost use Rattle.std.specs.Iterator.{IsFiniteIterable};
 ghost use Rattle.pgp_base.specs.Wire.{uint32};
+ghost use Rattle.pgp_base.specs.Cause.{WantsMemory};
+ghost use Rattle.pgp_base.specs.Held.{◌⊕◌};
 ghost use Rattle.pgp_base.specs.Calls.{IsFrontOf, Came, OwesValues};
 ghost use Rattle.pgp_frontend.specs.Given.{Begun, Appended, Refused, WritesGiven, ParseWhole, ParseReached, BindWhole, BindReached, BindRefused, WritesBind};
 ghost use Rattle.pgp_frontend.specs.ClientMessage.{Close, Describe, Execute, Flush, Sync};
@@ -16,7 +18,7 @@ use pgp_base::{BindError, Buffer, Error, IsNull, Oid, finish_body, put_u8, put_u
 
 /// Closes a statement (`S`) or a portal (`P`). The variant may be any byte.
 pub fn close<B: Buffer>(variant: u8, name: &str, buf: &mut B) -> Result<(), Error>
-    ensures { WritesMessage (Close variant name.now) (B.bytes buf.old) (B.bytes buf.new) result }
+    ensures { WritesMessage (Close variant name.now) B.Lacks (B.held buf.old) (B.held buf.new) result }
 {
     message(
         b'C',
@@ -27,7 +29,7 @@ pub fn close<B: Buffer>(variant: u8, name: &str, buf: &mut B) -> Result<(), Erro
 
 /// Asks what a statement (`S`) or a portal (`P`) gives. The variant may be any byte.
 pub fn describe<B: Buffer>(variant: u8, name: &str, buf: &mut B) -> Result<(), Error>
-    ensures { WritesMessage (Describe variant name.now) (B.bytes buf.old) (B.bytes buf.new) result }
+    ensures { WritesMessage (Describe variant name.now) B.Lacks (B.held buf.old) (B.held buf.new) result }
 {
     message(
         b'D',
@@ -38,7 +40,7 @@ pub fn describe<B: Buffer>(variant: u8, name: &str, buf: &mut B) -> Result<(), E
 
 /// Runs a portal, for at most so many rows; 0 is no limit.
 pub fn execute<B: Buffer>(portal: &str, max_rows: i32, buf: &mut B) -> Result<(), Error>
-    ensures { WritesMessage (Execute portal.now max_rows) (B.bytes buf.old) (B.bytes buf.new) result }
+    ensures { WritesMessage (Execute portal.now max_rows) B.Lacks (B.held buf.old) (B.held buf.new) result }
 {
     message(
         b'E',
@@ -49,19 +51,19 @@ pub fn execute<B: Buffer>(portal: &str, max_rows: i32, buf: &mut B) -> Result<()
 
 /// Asks for what the server holds back.
 pub fn flush<B: Buffer>(buf: &mut B) -> Result<(), Error>
-    ensures { WritesMessage Flush (B.bytes buf.old) (B.bytes buf.new) result }
+    ensures { WritesMessage Flush B.Lacks (B.held buf.old) (B.held buf.new) result }
 {
     message(b'H', &[], buf)
 }
 
 /// Ends a series of extended queries.
 pub fn sync<B: Buffer>(buf: &mut B) -> Result<(), Error>
-    ensures { WritesMessage Sync (B.bytes buf.old) (B.bytes buf.new) result }
+    ensures { WritesMessage Sync B.Lacks (B.held buf.old) (B.held buf.new) result }
 {
     message(b'S', &[], buf)
 }
 
-// The message. A refusal leaves what stood there as a front.
+// The message. A refusal leaves what the buffer held as a front.
 fn fill_parse<B: Buffer, I: IntoIterator<Item = Oid> + Drop>(
     name: &str,
     query: &str,
@@ -73,15 +75,14 @@ where
     requires { IsFiniteIterable I.into_iter_gives I.IntoIter.can_next I.IntoIter.remaining param_types }
     ensures ok { OnOk result (Appended
         (ParseWhole I.into_iter_gives I.IntoIter.next_gives name.now query.now param_types)
-        (ParseReached I.into_iter_gives I.IntoIter.next_gives name.now query.now param_types)
-        (B.bytes buf.old) (B.bytes buf.new)) }
-    ensures err { OnErr result (IsFrontOf (B.bytes buf.old) (B.bytes buf.new)) }
+        (B.held buf.old) (B.held buf.new)) }
+    ensures err { OnErr result (IsFrontOf (B.held buf.old) (B.held buf.new)) }
     ensures cause { IfErr result (Refused
         (ParseWhole I.into_iter_gives I.IntoIter.next_gives name.now query.now param_types)
-        (ParseReached I.into_iter_gives I.IntoIter.next_gives name.now query.now param_types)) }
+        (ParseReached I.into_iter_gives I.IntoIter.next_gives name.now query.now param_types) B.Lacks) }
 {
     let texts = [Field::Text(name.as_bytes()), Field::Text(query.as_bytes())];
-    buf.reserve(room(&texts))?;
+    buf.reserve(room(&texts) + 1)?;
     put_u8(buf, b'P')?;
     let base = buf.len();
     put_u32(buf, 0)?;
@@ -105,7 +106,7 @@ where
     ensures { WritesGiven
         (ParseWhole I.into_iter_gives I.IntoIter.next_gives name.now query.now param_types)
         (ParseReached I.into_iter_gives I.IntoIter.next_gives name.now query.now param_types)
-        (B.bytes buf.old) (B.bytes buf.new) result }
+        B.Lacks (B.held buf.old) (B.held buf.new) result }
 {
     let start = buf.len();
     match fill_parse(name, query, param_types, buf) {
@@ -117,7 +118,7 @@ where
     }
 }
 
-// The message up to the values. A refusal leaves what stood there as a front.
+// The message up to the values. A refusal leaves what the buffer held as a front.
 fn fill_formats<B: Buffer, I: IntoIterator<Item = i16> + Drop>(
     portal: &str,
     statement: &str,
@@ -129,9 +130,9 @@ where
     requires { IsFiniteIterable I.into_iter_gives I.IntoIter.can_next I.IntoIter.remaining formats }
     ensures ok { OnOk result ((fs : List ℤ) × Came I.into_iter_gives I.IntoIter.next_gives formats fs None × All (FitsSigned w16) fs
         × (parts_cause (Text portal.now ∷ Text statement.now ∷ Int16s fs ∷ []) ≡ None)
-        × (B.bytes buf.new ≡ B.bytes buf.old ++ 66 ∷ [] ++ uint32 0 ++ joined (Text portal.now ∷ Text statement.now ∷ Int16s fs ∷ []))) }
-    ensures err { OnErr result (IsFrontOf (B.bytes buf.old) (B.bytes buf.new)) }
-    ensures cause { IfErr result (λ e. (e ≡ Error.OutOfMemory)
+        × (B.held buf.new ≡ B.held buf.old ⊕ 66 ∷ [] ⊕ uint32 0 ⊕ joined (Text portal.now ∷ Text statement.now ∷ Int16s fs ∷ []))) }
+    ensures err { OnErr result (IsFrontOf (B.held buf.old) (B.held buf.new)) }
+    ensures cause { IfErr result (λ e. WantsMemory B.Lacks e
         ⊎ ((parts_cause (Text portal.now ∷ Text statement.now ∷ []) ≡ Some e)
         ⊎ ((fs : List ℤ) × Begun I.into_iter_gives I.IntoIter.next_gives Int16s formats fs × (parts_cause (Text portal.now ∷ Text statement.now ∷ Int16s fs ∷ []) ≡ Some e)))) }
 {
@@ -139,7 +140,7 @@ where
         Field::Text(portal.as_bytes()),
         Field::Text(statement.as_bytes()),
     ];
-    buf.reserve(room(&texts))?;
+    buf.reserve(room(&texts) + 1)?;
     put_u8(buf, b'B')?;
     put_u32(buf, 0)?;
     put_fields(&texts, buf)?;
@@ -147,21 +148,21 @@ where
     Ok(())
 }
 
-// The message. A refusal leaves what stood there as a front.
+// The message. A refusal leaves what the buffer held as a front.
 fn fill_bind<
     B: Buffer,
     T: Drop,
     E: Drop,
     I: IntoIterator<Item = i16> + Drop,
     J: IntoIterator<Item = T> + Drop,
-    F: FnMut(T, &mut B) -> Result<IsNull, E> + Drop,
+    F: FnMut(T, &mut B) -> Result<IsNull, E>,
     K: IntoIterator<Item = i16> + Drop,
 >(
     portal: &str,
     statement: &str,
     formats: I,
     values: J,
-    serializer: F,
+    serializer: &mut F,
     result_formats: K,
     buf: &mut B,
 ) -> Result<(), BindError<E>>
@@ -172,17 +173,15 @@ where
     requires formats_end { IsFiniteIterable I.into_iter_gives I.IntoIter.can_next I.IntoIter.remaining formats }
     requires values_end { IsFiniteIterable J.into_iter_gives J.IntoIter.can_next J.IntoIter.remaining values }
     requires result_formats_end { IsFiniteIterable K.into_iter_gives K.IntoIter.can_next K.IntoIter.remaining result_formats }
-    requires callable { F.IsAlwaysCallable serializer }
-    requires owes { OwesValues B.bytes F.pre F.step }
+    requires callable { F.IsAlwaysCallable serializer.old }
+    requires owes { OwesValues B.held F.pre F.step }
     ensures ok { OnOk result (Appended
-        (BindWhole B.bytes F.step I.into_iter_gives I.IntoIter.next_gives J.into_iter_gives J.IntoIter.next_gives K.into_iter_gives K.IntoIter.next_gives
-        portal.now statement.now formats values serializer result_formats (B.bytes buf.old))
-        (BindReached B.bytes F.step I.into_iter_gives I.IntoIter.next_gives J.into_iter_gives J.IntoIter.next_gives K.into_iter_gives K.IntoIter.next_gives
-        portal.now statement.now formats values serializer result_formats (B.bytes buf.old))
-        (B.bytes buf.old) (B.bytes buf.new)) }
-    ensures err { OnErr result (IsFrontOf (B.bytes buf.old) (B.bytes buf.new)) }
-    ensures cause { IfErr result (BindRefused B.bytes F.step I.into_iter_gives I.IntoIter.next_gives J.into_iter_gives J.IntoIter.next_gives K.into_iter_gives K.IntoIter.next_gives
-        portal.now statement.now formats values serializer result_formats (B.bytes buf.old)) }
+        (BindWhole B.held F.step I.into_iter_gives I.IntoIter.next_gives J.into_iter_gives J.IntoIter.next_gives K.into_iter_gives K.IntoIter.next_gives
+        portal.now statement.now formats values serializer.old serializer.new result_formats (B.held buf.old))
+        (B.held buf.old) (B.held buf.new)) }
+    ensures err { OnErr result (IsFrontOf (B.held buf.old) (B.held buf.new)) }
+    ensures cause { IfErr result (BindRefused B.held F.step I.into_iter_gives I.IntoIter.next_gives J.into_iter_gives J.IntoIter.next_gives K.into_iter_gives K.IntoIter.next_gives
+        portal.now statement.now formats values serializer.old serializer.new result_formats (B.held buf.old) B.Lacks) }
 {
     let base = buf.len() + 1;
     fill_formats(portal, statement, formats, buf)?;
@@ -209,7 +208,7 @@ pub fn bind<
     statement: &str,
     formats: I,
     values: J,
-    serializer: F,
+    mut serializer: F,
     result_formats: K,
     buf: &mut B,
 ) -> Result<(), BindError<E>>
@@ -221,9 +220,9 @@ where
     requires values_end { IsFiniteIterable J.into_iter_gives J.IntoIter.can_next J.IntoIter.remaining values }
     requires result_formats_end { IsFiniteIterable K.into_iter_gives K.IntoIter.can_next K.IntoIter.remaining result_formats }
     requires callable { F.IsAlwaysCallable serializer }
-    requires owes { OwesValues B.bytes F.pre F.step }
-    ensures { WritesBind B.bytes F.step I.into_iter_gives I.IntoIter.next_gives J.into_iter_gives J.IntoIter.next_gives K.into_iter_gives K.IntoIter.next_gives
-        portal.now statement.now formats values serializer result_formats (B.bytes buf.old) (B.bytes buf.new) result }
+    requires owes { OwesValues B.held F.pre F.step }
+    ensures { (last : F) × WritesBind B.held F.step I.into_iter_gives I.IntoIter.next_gives J.into_iter_gives J.IntoIter.next_gives K.into_iter_gives K.IntoIter.next_gives
+        portal.now statement.now formats values serializer last result_formats (B.held buf.old) B.Lacks (B.held buf.new) result }
 {
     let start = buf.len();
     match fill_bind(
@@ -231,7 +230,7 @@ where
         statement,
         formats,
         values,
-        serializer,
+        &mut serializer,
         result_formats,
         buf,
     ) {

@@ -3,7 +3,8 @@
 ghost use Rattle.std.specs.Prelude.{◌≡◌, ◌<◌, ◌^◌, ◌++◌, ◌⊎◌, Option, Some, None, OnOk, OnErr, IfErr};
 ghost use Rattle.std.specs.Prelude.{length};
 ghost use Rattle.pgp_base.specs.Wire.{int32, nullable};
-ghost use Rattle.pgp_base.specs.Cause.{length_cause};
+ghost use Rattle.pgp_base.specs.Cause.{length_cause, WantsMemory};
+ghost use Rattle.pgp_base.specs.Held.{◌⊕◌};
 ghost use Rattle.pgp_base.specs.Calls.{IsFrontOf};
 ghost use Rattle.pgp_frontend.specs.Payload.{spelling, part_cause, parts_cause, joined, frame_cause, framed, WritesFrame};
 ghost use Rattle.pgp_frontend.specs.View.{part_of, parts_of};
@@ -22,17 +23,20 @@ pub enum Field<'a> {
     Rest(&'a [u8]),
 }
 
-/// How much room a message of these fields takes, at most what a frame can hold.
+/// How much room these fields take behind their length, and it, at most what a frame can hold.
 pub fn room(fields: &[Field]) -> usize
     ensures { result < 2 ^ 31 }
 {
-    let mut room = 5usize;
+    let mut room = 4usize;
     for field in fields {
         let bytes = match field {
-            Field::Byte(_) | Field::Int32(_) => 0,
-            Field::Text(bytes) | Field::Sized(bytes) | Field::Rest(bytes) => bytes.len(),
+            Field::Byte(_) => 1,
+            Field::Int32(_) => 4,
+            Field::Text(bytes) => bytes.len().saturating_add(1),
+            Field::Sized(bytes) => bytes.len().saturating_add(4),
+            Field::Rest(bytes) => bytes.len(),
         };
-        room = room.saturating_add(bytes).saturating_add(4);
+        room = room.saturating_add(bytes);
     }
     room.min(0x7fff_ffff)
 }
@@ -40,17 +44,17 @@ pub fn room(fields: &[Field]) -> usize
 /// Appends a number with a sign.
 #[tactic(auto, unfolding(pgp_base::specs::Wire::int32, pgp_base::specs::Wire::uint32))]
 pub fn put_int32<B: Buffer>(n: i32, buf: &mut B) -> Result<(), Error>
-    ensures ok { OnOk result (B.bytes buf.new ≡ B.bytes buf.old ++ int32 n) }
-    ensures err { OnErr result (B.bytes buf.new ≡ B.bytes buf.old) }
-    ensures cause { IfErr result (λ e. e ≡ Error.OutOfMemory) }
+    ensures ok { OnOk result (B.held buf.new ≡ B.held buf.old ⊕ int32 n) }
+    ensures err { OnErr result (B.held buf.new ≡ B.held buf.old) }
+    ensures cause { IfErr result (WantsMemory B.Lacks) }
 {
     put_u32(buf, n.cast_unsigned())
 }
 
 fn put_sized<B: Buffer>(bytes: &[u8], buf: &mut B) -> Result<(), Error>
-    ensures ok { OnOk result ((length_cause (length bytes.now) ≡ None) × (B.bytes buf.new ≡ B.bytes buf.old ++ nullable (Some bytes.now))) }
-    ensures err { OnErr result (IsFrontOf (B.bytes buf.old) (B.bytes buf.new)) }
-    ensures cause { IfErr result (λ e. (e ≡ Error.OutOfMemory) ⊎ (length_cause (length bytes.now) ≡ Some e)) }
+    ensures ok { OnOk result ((length_cause (length bytes.now) ≡ None) × (B.held buf.new ≡ B.held buf.old ⊕ nullable (Some bytes.now))) }
+    ensures err { OnErr result (IsFrontOf (B.held buf.old) (B.held buf.new)) }
+    ensures cause { IfErr result (λ e. WantsMemory B.Lacks e ⊎ (length_cause (length bytes.now) ≡ Some e)) }
 {
     let size = length_field(bytes.len())?;
     put_u32(buf, size)?;
@@ -59,9 +63,9 @@ fn put_sized<B: Buffer>(bytes: &[u8], buf: &mut B) -> Result<(), Error>
 }
 
 fn put_field<B: Buffer>(field: &Field, buf: &mut B) -> Result<(), Error>
-    ensures ok { OnOk result ((part_cause (part_of field.now) ≡ None) × (B.bytes buf.new ≡ B.bytes buf.old ++ spelling (part_of field.now))) }
-    ensures err { OnErr result (IsFrontOf (B.bytes buf.old) (B.bytes buf.new)) }
-    ensures cause { IfErr result (λ e. (e ≡ Error.OutOfMemory) ⊎ (part_cause (part_of field.now) ≡ Some e)) }
+    ensures ok { OnOk result ((part_cause (part_of field.now) ≡ None) × (B.held buf.new ≡ B.held buf.old ⊕ spelling (part_of field.now))) }
+    ensures err { OnErr result (IsFrontOf (B.held buf.old) (B.held buf.new)) }
+    ensures cause { IfErr result (λ e. WantsMemory B.Lacks e ⊎ (part_cause (part_of field.now) ≡ Some e)) }
 {
     match field {
         Field::Byte(n) => put_u8(buf, *n),
@@ -74,9 +78,9 @@ fn put_field<B: Buffer>(field: &Field, buf: &mut B) -> Result<(), Error>
 
 /// Appends the fields. A refusal leaves what stood there as a front.
 pub fn put_fields<B: Buffer>(fields: &[Field], buf: &mut B) -> Result<(), Error>
-    ensures ok { OnOk result ((parts_cause (parts_of fields.now) ≡ None) × (B.bytes buf.new ≡ B.bytes buf.old ++ joined (parts_of fields.now))) }
-    ensures err { OnErr result (IsFrontOf (B.bytes buf.old) (B.bytes buf.new)) }
-    ensures cause { IfErr result (λ e. (e ≡ Error.OutOfMemory) ⊎ (parts_cause (parts_of fields.now) ≡ Some e)) }
+    ensures ok { OnOk result ((parts_cause (parts_of fields.now) ≡ None) × (B.held buf.new ≡ B.held buf.old ⊕ joined (parts_of fields.now))) }
+    ensures err { OnErr result (IsFrontOf (B.held buf.old) (B.held buf.new)) }
+    ensures cause { IfErr result (λ e. WantsMemory B.Lacks e ⊎ (parts_cause (parts_of fields.now) ≡ Some e)) }
 {
     for field in fields {
         put_field(field, buf)?;
@@ -85,9 +89,9 @@ pub fn put_fields<B: Buffer>(fields: &[Field], buf: &mut B) -> Result<(), Error>
 }
 
 fn fill<B: Buffer>(fields: &[Field], buf: &mut B) -> Result<(), Error>
-    ensures ok { OnOk result ((frame_cause (parts_of fields.now) ≡ None) × (B.bytes buf.new ≡ B.bytes buf.old ++ framed None (joined (parts_of fields.now)))) }
-    ensures err { OnErr result (IsFrontOf (B.bytes buf.old) (B.bytes buf.new)) }
-    ensures cause { IfErr result (λ e. (e ≡ Error.OutOfMemory) ⊎ (frame_cause (parts_of fields.now) ≡ Some e)) }
+    ensures ok { OnOk result ((frame_cause (parts_of fields.now) ≡ None) × (B.held buf.new ≡ B.held buf.old ⊕ framed None (joined (parts_of fields.now)))) }
+    ensures err { OnErr result (IsFrontOf (B.held buf.old) (B.held buf.new)) }
+    ensures cause { IfErr result (λ e. WantsMemory B.Lacks e ⊎ (frame_cause (parts_of fields.now) ≡ Some e)) }
 {
     let base = buf.len();
     put_u32(buf, 0)?;
@@ -98,7 +102,7 @@ fn fill<B: Buffer>(fields: &[Field], buf: &mut B) -> Result<(), Error>
 
 /// Appends an opening packet.
 pub fn packet<B: Buffer>(fields: &[Field], buf: &mut B) -> Result<(), Error>
-    ensures { WritesFrame None (parts_of fields.now) (B.bytes buf.old) (B.bytes buf.new) result }
+    ensures { WritesFrame None (parts_of fields.now) B.Lacks (B.held buf.old) (B.held buf.new) result }
 {
     buf.reserve(room(fields))?;
     let start = buf.len();
@@ -113,9 +117,9 @@ pub fn packet<B: Buffer>(fields: &[Field], buf: &mut B) -> Result<(), Error>
 
 /// Appends a tagged message.
 pub fn message<B: Buffer>(tag: u8, fields: &[Field], buf: &mut B) -> Result<(), Error>
-    ensures { WritesFrame (Some tag) (parts_of fields.now) (B.bytes buf.old) (B.bytes buf.new) result }
+    ensures { WritesFrame (Some tag) (parts_of fields.now) B.Lacks (B.held buf.old) (B.held buf.new) result }
 {
-    buf.reserve(room(fields))?;
+    buf.reserve(room(fields) + 1)?;
     let start = buf.len();
     put_u8(buf, tag)?;
     match fill(fields, buf) {

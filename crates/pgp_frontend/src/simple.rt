@@ -8,14 +8,14 @@ use pgp_base::{Buffer, Error};
 
 /// A query of any number of statements.
 pub fn query<B: Buffer>(query: &str, buf: &mut B) -> Result<(), Error>
-    ensures { WritesMessage (Query query.now) (B.bytes buf.old) (B.bytes buf.new) result }
+    ensures { WritesMessage (Query query.now) B.Lacks (B.held buf.old) (B.held buf.new) result }
 {
     message(b'Q', &[Field::Text(query.as_bytes())], buf)
 }
 
 /// The end of the session.
 pub fn terminate<B: Buffer>(buf: &mut B) -> Result<(), Error>
-    ensures { WritesMessage Terminate (B.bytes buf.old) (B.bytes buf.new) result }
+    ensures { WritesMessage Terminate B.Lacks (B.held buf.old) (B.held buf.new) result }
 {
     message(b'X', &[], buf)
 }

@@ -3,6 +3,8 @@
 ghost use Rattle.std.specs.Prelude.{◌≡◌, ℕ, List, ◌++◌, ◌⊎◌, Some, None, OnOk, OnErr, IfErr};
 ghost use Rattle.std.specs.Borrow.{Bor};
 ghost use Rattle.std.specs.Iterator.{IsFiniteIterable};
+ghost use Rattle.pgp_base.specs.Held.{◌⊕◌};
+ghost use Rattle.pgp_base.specs.Cause.{WantsMemory};
 ghost use Rattle.pgp_base.specs.Calls.{IsFrontOf, Came};
 ghost use Rattle.pgp_frontend.specs.ClientMessage.{CancelRequest, SslRequest};
 ghost use Rattle.pgp_frontend.specs.Given.{Begun, Appended, Refused, WritesGiven, StartupWhole, StartupReached, shown_pairs};
@@ -19,7 +21,7 @@ const SSL_REQUEST: i32 = 80_877_103;
 
 /// Asks for the end of what another session runs.
 pub fn cancel_request<B: Buffer>(process_id: i32, secret_key: i32, buf: &mut B) -> Result<(), Error>
-    ensures { WritesMessage (CancelRequest process_id secret_key) (B.bytes buf.old) (B.bytes buf.new) result }
+    ensures { WritesMessage (CancelRequest process_id secret_key) B.Lacks (B.held buf.old) (B.held buf.new) result }
 {
     packet(
         &[
@@ -33,7 +35,7 @@ pub fn cancel_request<B: Buffer>(process_id: i32, secret_key: i32, buf: &mut B) 
 
 /// Asks for an encrypted session. The server answers with one byte, which is no message.
 pub fn ssl_request<B: Buffer>(buf: &mut B) -> Result<(), Error>
-    ensures { WritesMessage SslRequest (B.bytes buf.old) (B.bytes buf.new) result }
+    ensures { WritesMessage SslRequest B.Lacks (B.held buf.old) (B.held buf.new) result }
 {
     packet(&[Field::Int32(SSL_REQUEST)], buf)
 }
@@ -47,9 +49,9 @@ where
     I::IntoIter: Drop,
     requires { IsFiniteIterable I.into_iter_gives I.IntoIter.can_next I.IntoIter.remaining parameters }
     ensures ok { OnOk result ((xs : List (Bor (List ℕ) × Bor (List ℕ))) × Came I.into_iter_gives I.IntoIter.next_gives parameters xs None
-        × (part_cause (shown_pairs xs) ≡ None) × (B.bytes buf.new ≡ B.bytes buf.old ++ spelling (shown_pairs xs))) }
-    ensures err { OnErr result (IsFrontOf (B.bytes buf.old) (B.bytes buf.new)) }
-    ensures cause { IfErr result (λ e. (e ≡ Error.OutOfMemory)
+        × (part_cause (shown_pairs xs) ≡ None) × (B.held buf.new ≡ B.held buf.old ⊕ spelling (shown_pairs xs))) }
+    ensures err { OnErr result (IsFrontOf (B.held buf.old) (B.held buf.new)) }
+    ensures cause { IfErr result (λ e. WantsMemory B.Lacks e
         ⊎ ((xs : List (Bor (List ℕ) × Bor (List ℕ))) × Begun I.into_iter_gives I.IntoIter.next_gives shown_pairs parameters xs × (part_cause (shown_pairs xs) ≡ Some e))) }
 {
     for (name, value) in parameters {
@@ -69,12 +71,11 @@ where
     requires { IsFiniteIterable I.into_iter_gives I.IntoIter.can_next I.IntoIter.remaining parameters }
     ensures ok { OnOk result (Appended
         (StartupWhole I.into_iter_gives I.IntoIter.next_gives parameters)
-        (StartupReached I.into_iter_gives I.IntoIter.next_gives parameters)
-        (B.bytes buf.old) (B.bytes buf.new)) }
-    ensures err { OnErr result (IsFrontOf (B.bytes buf.old) (B.bytes buf.new)) }
+        (B.held buf.old) (B.held buf.new)) }
+    ensures err { OnErr result (IsFrontOf (B.held buf.old) (B.held buf.new)) }
     ensures cause { IfErr result (Refused
         (StartupWhole I.into_iter_gives I.IntoIter.next_gives parameters)
-        (StartupReached I.into_iter_gives I.IntoIter.next_gives parameters)) }
+        (StartupReached I.into_iter_gives I.IntoIter.next_gives parameters) B.Lacks) }
 {
     let base = buf.len();
     put_u32(buf, 0)?;
@@ -96,7 +97,7 @@ where
     ensures { WritesGiven
         (StartupWhole I.into_iter_gives I.IntoIter.next_gives parameters)
         (StartupReached I.into_iter_gives I.IntoIter.next_gives parameters)
-        (B.bytes buf.old) (B.bytes buf.new) result }
+        B.Lacks (B.held buf.old) (B.held buf.new) result }
 {
     let start = buf.len();
     match fill_startup(parameters, buf) {

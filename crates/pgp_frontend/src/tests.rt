@@ -1,6 +1,10 @@
 //! Expected bytes are from the message formats of the PostgreSQL manual.
 
-ghost use Rattle.std.specs.Prelude.{◌≡◌, ℕ, List, [], ◌++◌, Ok};
+ghost use Rattle.std.specs.Prelude.{◌≡◌, ◌++◌, length, drop, IfOk};
+ghost use Rattle.pgp_base.specs.Calls.{KeepsValue};
+ghost use Rattle.pgp_base.specs.Held.{items_held};
+ghost use Rattle.pgp_frontend.specs.ClientMessage.{Query};
+ghost use Rattle.pgp_frontend.specs.Payload.{bytes_of};
 
 use crate::{
     CopyData, bind, cancel_request, close, copy_done, copy_fail, describe, execute, flush, parse,
@@ -8,7 +12,7 @@ use crate::{
     sync, terminate,
 };
 use bytes::BytesMut;
-use pgp_base::{BindError, Buffer, Error, IsNull, put_u32};
+use pgp_base::{BindError, Buffer, Error, IsNull, Window, put_u32};
 use std::process::Abort;
 
 // The call answered Ok and wrote these bytes into the empty buffer.
@@ -197,7 +201,7 @@ fn bind_refuses_the_value_past_its_count_unserialized(rt: HostRuntime) {
         None::<i16>,
         0..65_536u32,
         |_: u32, buf: &mut BytesMut| -> Result<IsNull, Error>
-            ensures { (p : List ℕ) × (buf.exit.now.items ≡ buf.entry.now.items ++ p) × (result ≡ Ok IsNull.Yes → p ≡ []) }
+            ensures { KeepsValue result (items_held buf.entry.now.items) (items_held buf.exit.now.items) }
         {
             calls = calls.saturating_add(1);
             if calls % 2 == 0 {
@@ -249,4 +253,28 @@ fn bind_refuses_the_first_cause(rt: HostRuntime) {
     assert!(rt; matches!(&bind_formats("", "", 65_535, &mut buf), Ok(())));
     assert_eq!(rt; buf.len(), 5 + 131_083);
     assert_eq!(rt; &buf.as_slice()[5..10], b"B\0\x02\0\x0a".as_slice());
+}
+
+// A query in memory of the caller's: behind it that memory is as it was.
+fn into_room(text: &str, room: &mut [u8]) -> Result<usize, Error>
+    ensures written { IfOk result (λ n. room.new ≡ bytes_of (Query text.now) ++ drop n room.old) }
+    ensures size { IfOk result (λ n. n ≡ length (bytes_of (Query text.now))) }
+{
+    let mut window = Window::new(room);
+    query(text, &mut window)?;
+    Ok(window.len())
+}
+
+#[test]
+fn a_query_stands_in_the_room(rt: HostRuntime) {
+    let mut room = [0xffu8; 16];
+    assert_eq!(rt; into_room("SELECT 1", &mut room), Ok(14));
+    assert_eq!(rt;
+        room.as_slice(),
+        b"Q\0\0\0\x0dSELECT 1\0\xff\xff".as_slice()
+    );
+    assert_eq!(rt;
+        into_room("SELECT 12345", &mut room),
+        Err(Error::OutOfMemory)
+    );
 }

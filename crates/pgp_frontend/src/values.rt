@@ -3,6 +3,7 @@
 ghost use Rattle.std.specs.Prelude.{◌≡◌, ℕ, List, ◌++◌, Option, None, OnOk, OnErr, IfErr};
 ghost use Rattle.std.specs.Iterator.{IsFiniteIterable};
 ghost use Rattle.pgp_base.specs.Wire.{uint16, counted, nullable};
+ghost use Rattle.pgp_base.specs.Held.{◌⊕◌};
 ghost use Rattle.pgp_base.specs.Calls.{IsFrontOf, OwesValues};
 ghost use Rattle.pgp_frontend.specs.Given.{Served, ValuesRefused};
 ghost use Rattle.pgp_frontend.specs.Payload.{Values, part_cause};
@@ -16,18 +17,18 @@ pub fn put_values<
     T: Drop,
     E: Drop,
     J: IntoIterator<Item = T> + Drop,
-    F: FnMut(T, &mut B) -> Result<IsNull, E> + Drop,
->(values: J, mut serializer: F, buf: &mut B) -> Result<(), BindError<E>>
+    F: FnMut(T, &mut B) -> Result<IsNull, E>,
+>(values: J, serializer: &mut F, buf: &mut B) -> Result<(), BindError<E>>
 where
     J::IntoIter: Drop,
     requires ends { IsFiniteIterable J.into_iter_gives J.IntoIter.can_next J.IntoIter.remaining values }
-    requires callable { F.IsAlwaysCallable serializer }
-    requires owes { OwesValues B.bytes F.pre F.step }
+    requires callable { F.IsAlwaysCallable serializer.old }
+    requires owes { OwesValues B.held F.pre F.step }
     ensures ok { OnOk result ((vs : List (Option (List ℕ)))
-        × Served B.bytes F.step J.into_iter_gives J.IntoIter.next_gives values serializer (B.bytes buf.old ++ uint16 0) vs
-        × (part_cause (Values vs) ≡ None) × (B.bytes buf.new ≡ B.bytes buf.old ++ counted nullable vs)) }
-    ensures err { OnErr result (IsFrontOf (B.bytes buf.old) (B.bytes buf.new)) }
-    ensures cause { IfErr result (ValuesRefused B.bytes F.step J.into_iter_gives J.IntoIter.next_gives values serializer (B.bytes buf.old ++ uint16 0)) }
+        × Served B.held F.step J.into_iter_gives J.IntoIter.next_gives values serializer.old serializer.new (B.held buf.old ⊕ uint16 0) vs
+        × (part_cause (Values vs) ≡ None) × (B.held buf.new ≡ B.held buf.old ⊕ counted nullable vs)) }
+    ensures err { OnErr result (IsFrontOf (B.held buf.old) (B.held buf.new)) }
+    ensures cause { IfErr result (ValuesRefused B.held F.step J.into_iter_gives J.IntoIter.next_gives values serializer.old serializer.new (B.held buf.old ⊕ uint16 0) B.Lacks) }
 {
     let base = buf.len();
     put_u16(buf, 0)?;
@@ -36,7 +37,7 @@ where
         if count == u16::MAX {
             return Err(BindError::Serialization(Error::TooLarge));
         }
-        if let Err(e) = put_value(&mut serializer, item, buf) {
+        if let Err(e) = put_value(serializer, item, buf) {
             return Err(e);
         }
         count += 1;

@@ -10,3 +10,4 @@ pub mod NumberLemmas
 pub mod RangeLemmas
 pub mod FieldLemmas
 pub mod ErrorFieldLemmas
+pub mod Headers

@@ -238,3 +238,22 @@ runs_stop bytes more rest results p = record {
 
 pub runs_none : BackendRun [] [] false []
 runs_none = record { run = frames_none []; ending = inl (omega arith) }
+
+pub frames_join : (bytes more rest left : List ℕ) (first second : List (Result Message Error))
+    → Frames bytes first rest → Frames (rest ++ more) second left → Frames (bytes ++ more) (first ++ second) left
+frames_join bytes more rest left first second p q =
+    let fs = flat_map frame_bytes p.frames in
+    let gs = flat_map frame_bytes q.frames in
+    record {
+      frames = p.frames ++ q.frames;
+      whole = ap (λ l. l ++ more) p.whole ∙ append_assoc fs rest more ∙ ap (λ l. fs ++ l) q.whole ∙ sym (append_assoc fs gs left) ∙ ap (λ l. l ++ left) (sym (flat_map-append frame_bytes p.frames q.frames));
+      each = each_join p.frames q.frames p.each q.each;
+      bodies = bodies_join p.frames q.frames first second p.bodies q.bodies;
+    }
+
+-- frames that were read are read first
+pub frames_front : (bytes more : List ℕ) (first second : List (Result Message Error)) (halts : Bool) (rest left : List ℕ)
+    → Frames bytes first rest → BackendRun (bytes ++ more) second halts left → (others : List (Result Message Error)) × (second ≡ first ++ others)
+frames_front bytes more first second halts rest left p q =
+    let joined : flat_map frame_bytes p.frames ++ (rest ++ more) ≡ flat_map frame_bytes q.run.frames ++ left = sym (append_assoc (flat_map frame_bytes p.frames) rest more) ∙ ap (λ l. l ++ more) (sym p.whole) ∙ q.run.whole in
+    front_way p.frames q.run.frames first second (rest ++ more) left halts p.each q.run.each p.bodies q.run.bodies q.ending joined

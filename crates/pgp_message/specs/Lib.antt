@@ -2,6 +2,7 @@ pub mod Parts
 pub mod BackendMessage
 pub mod Stream
 pub mod Header
+pub mod Remembered
 pub mod Items
 pub mod Views
 pub mod Reading

@@ -2,11 +2,10 @@
 
 ghost use Rattle.std.specs.Prelude.{◌≡◌, ◌≤◌, Ok, Err, None, length, slice_index};
 ghost use Rattle.pgp_base.specs.Wire.{IsBytes};
+ghost use Rattle.pgp_message.specs.Remembered.{header_of};
 ghost use Rattle.pgp_message.specs.Stream.{Finds, IsPartial, IsLengthFault, announced};
 
-use bytes::BytesMut;
 use pgp_base::Error;
-use std::alloc::Allocator;
 use std::marker::Model;
 
 /// The most room that is asked for at a time.
@@ -30,30 +29,33 @@ impl Model for Front {
 }
 
 impl Front {
-    /// The frame at the front of the bytes, which stay. Where it isn't whole, asks for room for what
-    /// is missing, and doesn't tell whether there was any.
-    pub fn find<A: Allocator + Copy>(buf: &mut BytesMut<A>) -> Result<Option<Front>, Error>
-        ensures finds { Finds buf.old.items result }
-        ensures waits { IsPartial buf.old.items → result ≡ Ok None }
-        ensures fault { IsLengthFault buf.old.items → result ≡ Err Error.InvalidLength }
-        ensures same { buf.new.items ≡ buf.old.items }
+    /// The frame of this header at the front of the bytes; `None` where it isn't whole.
+    pub fn find(header: Option<(u8, u32)>, bytes: &[u8]) -> Result<Option<Front>, Error>
+        requires { header ≡ header_of bytes.now }
+        ensures finds { Finds bytes.now result }
+        ensures waits { IsPartial bytes.now → result ≡ Ok None }
+        ensures fault { IsLengthFault bytes.now → result ≡ Err Error.InvalidLength }
     {
-        if buf.len() < 5 {
-            let missing = 5 - buf.len();
-            let _ = buf.reserve(missing);
+        let Some((tag, len)) = header else {
             return Ok(None);
-        }
-        let (tag, len) = head(buf.as_slice());
+        };
         if len < 4 {
             return Err(Error::InvalidLength);
         }
         let total = len as usize + 1;
-        if buf.len() < total {
-            let missing = total - buf.len();
-            let _ = buf.reserve(missing.min(MAX_ROOM));
+        if bytes.len() < total {
             return Ok(None);
         }
         Ok(Some(Front { tag, total }))
+    }
+}
+
+/// How much room to ask for where so many bytes of a frame stand there: for what is missing to its
+/// header, or to all of it.
+pub fn room(header: Option<(u8, u32)>, held: usize) -> usize {
+    match header {
+        None => 5usize.saturating_sub(held),
+        Some((_, len)) => (len as usize + 1).saturating_sub(held).min(MAX_ROOM),
     }
 }
 
@@ -67,4 +69,14 @@ pub fn head(bytes: &[u8]) -> (u8, u32)
     let tag = bytes[0];
     let len = u32::from_be_bytes([bytes[1], bytes[2], bytes[3], bytes[4]]);
     (tag, len)
+}
+
+/// The header at the front of the bytes, where five stand there.
+pub fn header_of(bytes: &[u8]) -> Option<(u8, u32)>
+    ensures { result ≡ header_of bytes.now }
+{
+    if bytes.len() < 5 {
+        return None;
+    }
+    Some(head(bytes))
 }

@@ -6,6 +6,7 @@ ghost use Rattle.pgp_base.specs.Wire.{IsBytes};
 ghost use Rattle.pgp_base.specs.OneList.{HasOneCountedList, HasOneMarkedList};
 ghost use Rattle.pgp_message.specs.BackendMessage.{Message, Body};
 ghost use Rattle.pgp_message.specs.Items.{TextSpelled, TextRefused, FormatSpelled, FormatRefused, TypeSpelled, TypeRefused, RangeSpelled, RangeRefused, FieldSpelled, FieldRefused, ErrorFieldSpelled, ErrorFieldRefused};
+ghost use Rattle.pgp_message.specs.Remembered.{Memory, Fits};
 ghost use Rattle.pgp_message.specs.Stream.{Frames, BackendRun, TakesFrame};
 
 /// A body has at most one result.
@@ -96,4 +97,22 @@ pub fn no_frame()
 pub fn next_frame()
     ensures { (bytes old new : List ℕ) (results : List (Result Message Error)) (r : Result Message Error) →
         Frames bytes results old → TakesFrame old r new → Frames bytes (results ++ r ∷ []) new }
+{}
+
+/// Frames that were read are the first of any stream that begins with their bytes.
+pub fn frames_stand()
+    ensures { (bytes more : List ℕ) (first second : List (Result Message Error)) (halts : Bool) (rest left : List ℕ) →
+        Frames bytes first rest → BackendRun (bytes ++ more) second halts left →
+        (others : List (Result Message Error)) × (second ≡ first ++ others) }
+{}
+
+/// Frames go on with their rest and what comes.
+pub fn frames_go_on()
+    ensures { (bytes more rest left : List ℕ) (first second : List (Result Message Error)) →
+        Frames bytes first rest → Frames (rest ++ more) second left → Frames (bytes ++ more) (first ++ second) left }
+{}
+
+/// What is remembered fits still when bytes are added behind.
+pub fn bytes_may_come()
+    ensures { (memory : Memory) (bytes more : List ℕ) → Fits memory bytes → Fits memory (bytes ++ more) }
 {}

@@ -6,6 +6,8 @@ mod frame;
 mod header;
 pub mod laws;
 mod message;
+mod parser;
+mod storage;
 mod tag;
 mod walk;
 
@@ -17,7 +19,9 @@ pub use body::{
     ParameterStatusBody, ReadyForQueryBody, RowDescriptionBody,
 };
 pub use header::Header;
-pub use message::Message;
+pub use message::{Message, Messages};
+pub use parser::FrameParser;
+pub use storage::Storage;
 pub use tag::{
     AUTHENTICATION_TAG, BACKEND_KEY_DATA_TAG, BIND_COMPLETE_TAG, CLOSE_COMPLETE_TAG,
     COMMAND_COMPLETE_TAG, COPY_DATA_TAG, COPY_DONE_TAG, COPY_IN_RESPONSE_TAG,

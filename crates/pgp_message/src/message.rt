@@ -13,7 +13,9 @@ use crate::body::{
     ErrorResponseBody, NoticeResponseBody, NotificationResponseBody, ParameterDescriptionBody,
     ParameterStatusBody, ReadyForQueryBody, RowDescriptionBody,
 };
-use crate::frame::Front;
+use crate::frame::{Front, header_of};
+use crate::parser::FrameParser;
+use crate::storage::Storage;
 use crate::tag::{
     AUTHENTICATION_TAG, BACKEND_KEY_DATA_TAG, BIND_COMPLETE_TAG, CLOSE_COMPLETE_TAG,
     COMMAND_COMPLETE_TAG, COPY_DATA_TAG, COPY_DONE_TAG, COPY_IN_RESPONSE_TAG,
@@ -25,74 +27,107 @@ use crate::tag::{
 use bytes::{Buf, Bytes, BytesMut};
 use pgp_base::Error;
 use pgp_base::reading::oid_at;
-use std::alloc::{Allocator, Global};
+use std::alloc::Allocator;
+use std::marker::Model;
 
 /// A message that a server sends.
 #[derive(Drop)]
-pub enum Message<A: Allocator = Global> {
+pub enum Message<S: Storage = Bytes> {
     AuthenticationCleartextPassword,
     AuthenticationGss,
-    AuthenticationGssContinue(AuthenticationGssContinueBody<A>),
+    AuthenticationGssContinue(AuthenticationGssContinueBody<S>),
     AuthenticationKerberosV5,
     AuthenticationMd5Password(AuthenticationMd5PasswordBody),
     AuthenticationOk,
-    AuthenticationSasl(AuthenticationSaslBody<A>),
-    AuthenticationSaslContinue(AuthenticationSaslContinueBody<A>),
-    AuthenticationSaslFinal(AuthenticationSaslFinalBody<A>),
+    AuthenticationSasl(AuthenticationSaslBody<S>),
+    AuthenticationSaslContinue(AuthenticationSaslContinueBody<S>),
+    AuthenticationSaslFinal(AuthenticationSaslFinalBody<S>),
     AuthenticationScmCredential,
     AuthenticationSspi,
     BackendKeyData(BackendKeyDataBody),
     BindComplete,
     CloseComplete,
-    CommandComplete(CommandCompleteBody<A>),
-    CopyData(CopyDataBody<A>),
+    CommandComplete(CommandCompleteBody<S>),
+    CopyData(CopyDataBody<S>),
     CopyDone,
-    CopyInResponse(CopyInResponseBody<A>),
-    CopyOutResponse(CopyOutResponseBody<A>),
-    DataRow(DataRowBody<A>),
+    CopyInResponse(CopyInResponseBody<S>),
+    CopyOutResponse(CopyOutResponseBody<S>),
+    DataRow(DataRowBody<S>),
     EmptyQueryResponse,
-    ErrorResponse(ErrorResponseBody<A>),
+    ErrorResponse(ErrorResponseBody<S>),
     NoData,
-    NoticeResponse(NoticeResponseBody<A>),
-    NotificationResponse(NotificationResponseBody<A>),
-    ParameterDescription(ParameterDescriptionBody<A>),
-    ParameterStatus(ParameterStatusBody<A>),
+    NoticeResponse(NoticeResponseBody<S>),
+    NotificationResponse(NotificationResponseBody<S>),
+    ParameterDescription(ParameterDescriptionBody<S>),
+    ParameterStatus(ParameterStatusBody<S>),
     ParseComplete,
     PortalSuspended,
     ReadyForQuery(ReadyForQueryBody),
-    RowDescription(RowDescriptionBody<A>),
+    RowDescription(RowDescriptionBody<S>),
 }
 
-impl<A: Allocator + Copy> Message<A> {
+impl<A: Allocator + Copy> Message<Bytes<A>> {
     /// Takes the message at the front of the bytes, and removes its frame; `None` where it isn't
     /// whole. A frame whose body is refused is removed too; a length fault and want of memory leave
     /// the bytes. Memory is asked for only where the message keeps bytes of its frame, and for room
     /// for a frame that isn't whole.
-    pub fn parse(buf: &mut BytesMut<A>) -> Result<Option<Message<A>>, Error>
+    pub fn parse(buf: &mut BytesMut<A>) -> Result<Option<Message<Bytes<A>>>, Error>
         ensures step { Step buf.old.items (parsed result) buf.new.items }
         ensures waits { IsPartial buf.old.items → result ≡ Ok None }
         ensures fault { IsLengthFault buf.old.items → result ≡ Err Error.InvalidLength }
     {
-        let Some(front) = Front::find(buf)? else {
+        FrameParser::new().parse(buf)
+    }
+}
+
+/// Reads the messages of a slice in place: nothing is copied, and no memory is asked for.
+#[derive(Drop)]
+pub struct Messages<'a> {
+    rest: &'a [u8],
+}
+
+impl<'a> Model for Messages<'a> {
+    ghost use Rattle.std.specs.Prelude.{ℕ, List};
+
+    ghost Value = { List ℕ };
+
+    ghost view = { λ m. m.rest.now };
+}
+
+impl<'a> Messages<'a> {
+    pub fn new(bytes: &'a [u8]) -> Messages<'a>
+        ensures { result ≡ bytes.now }
+    {
+        Messages { rest: bytes }
+    }
+
+    /// The bytes that weren't read yet.
+    pub fn rest(&self) -> &'a [u8]
+        ensures { result.now ≡ self.now }
+    {
+        self.rest
+    }
+
+    /// Takes the message at the front, as `Message::parse` does.
+    pub fn next(&mut self) -> Result<Option<Message<&'a [u8]>>, Error>
+        ensures step { Step self.old (parsed result) self.new }
+        ensures waits { IsPartial self.old → result ≡ Ok None }
+        ensures fault { IsLengthFault self.old → result ≡ Err Error.InvalidLength }
+    {
+        let header = header_of(self.rest);
+        let Some(front) = Front::find(header, self.rest)? else {
             return Ok(None);
         };
-        let payload = &buf.as_slice()[5..front.total];
-        if !keeps_bytes(front.tag, payload) {
-            let answer = bare(front.tag, payload);
-            buf.advance(front.total);
-            return answer.map(Some);
-        }
-        let Ok(mut payload) = buf.freeze_to(front.total) else {
-            return Err(Error::OutOfMemory);
-        };
-        payload.advance(5);
+        let payload = &self.rest[5..front.total];
+        let (_, rest) = self.rest.split_at(front.total);
+        self.rest = rest;
         body(front.tag, payload).map(Some)
     }
 }
 
 /// Whether a message of this tag keeps bytes of its frame.
 #[tactic(auto, unfolding(crate::specs::Reading::body_of, crate::specs::Reading::bare_of))]
-fn keeps_bytes(tag: u8, payload: &[u8]) -> bool
+pub(crate) fn keeps_bytes(tag: u8, payload: &[u8]) -> bool
     ensures { result ≡ false → body_of tag payload.now ≡ bare_of tag payload.now }
 {
     match tag {
@@ -125,7 +160,7 @@ fn request_keeps_bytes(payload: &[u8]) -> bool
 
 /// The message of a frame of which nothing is kept.
 #[tactic(auto, unfolding(crate::specs::Reading::bare_of))]
-fn bare<A: Allocator + Copy>(tag: u8, payload: &[u8]) -> Result<Message<A>, Error>
+pub(crate) fn bare<S: Storage>(tag: u8, payload: &[u8]) -> Result<Message<S>, Error>
     ensures { seen result ≡ bare_of tag payload.now }
 {
     match tag {
@@ -145,7 +180,7 @@ fn bare<A: Allocator + Copy>(tag: u8, payload: &[u8]) -> Result<Message<A>, Erro
 
 /// The authentication request of a frame of which nothing is kept.
 #[tactic(auto, unfolding(crate::specs::Reading::bare_request_of))]
-fn bare_authentication<A: Allocator + Copy>(payload: &[u8]) -> Result<Message<A>, Error>
+fn bare_authentication<S: Storage>(payload: &[u8]) -> Result<Message<S>, Error>
     ensures { seen result ≡ made Authentication (bare_request_of payload.now) }
 {
     let (code, rest) = oid_at(payload)?;
@@ -154,7 +189,7 @@ fn bare_authentication<A: Allocator + Copy>(payload: &[u8]) -> Result<Message<A>
 
 /// The authentication request of a code, where nothing of the rest is kept.
 #[tactic(auto, unfolding(crate::specs::Reading::bare_request))]
-fn bare_request<A: Allocator + Copy>(code: u32, rest: &[u8]) -> Result<Message<A>, Error>
+fn bare_request<S: Storage>(code: u32, rest: &[u8]) -> Result<Message<S>, Error>
     ensures { seen result ≡ made Authentication (bare_request code rest.now) }
 {
     match code {
@@ -171,8 +206,8 @@ fn bare_request<A: Allocator + Copy>(code: u32, rest: &[u8]) -> Result<Message<A
 
 /// The message of a frame.
 #[tactic(auto, unfolding(crate::specs::Reading::body_of))]
-fn body<A: Allocator + Copy>(tag: u8, payload: Bytes<A>) -> Result<Message<A>, Error>
-    ensures { seen result ≡ body_of tag payload }
+pub(crate) fn body<S: Storage>(tag: u8, payload: S) -> Result<Message<S>, Error>
+    ensures { seen result ≡ body_of tag (S.bytes payload) }
 {
     match tag {
         NOTIFICATION_RESPONSE_TAG => Ok(Message::NotificationResponse(
@@ -197,11 +232,11 @@ fn body<A: Allocator + Copy>(tag: u8, payload: Bytes<A>) -> Result<Message<A>, E
 
 /// The message of an authentication request, which its code tells.
 #[tactic(auto, unfolding(crate::specs::Reading::request_of, crate::specs::Reading::by_code))]
-fn authentication<A: Allocator + Copy>(mut payload: Bytes<A>) -> Result<Message<A>, Error>
-    ensures { seen result ≡ made Authentication (request_of payload) }
+fn authentication<S: Storage>(mut payload: S) -> Result<Message<S>, Error>
+    ensures { seen result ≡ made Authentication (request_of (S.bytes payload)) }
 {
     let (code, _) = oid_at(payload.as_slice())?;
-    payload.advance(4);
+    payload.skip(4);
     match code {
         8 => Ok(Message::AuthenticationGssContinue(AuthenticationGssContinueBody::new(payload))),
         10 => Ok(Message::AuthenticationSasl(AuthenticationSaslBody::new(payload))),
@@ -212,7 +247,7 @@ fn authentication<A: Allocator + Copy>(mut payload: Bytes<A>) -> Result<Message<
 }
 
 /// A message without parts, unless bytes are left.
-fn ended<A: Allocator>(payload: &[u8], message: Message<A>) -> Result<Message<A>, Error>
+fn ended<S: Storage>(payload: &[u8], message: Message<S>) -> Result<Message<S>, Error>
     ensures { seen result ≡ ended (view message) payload.now }
 {
     if !payload.is_empty() {

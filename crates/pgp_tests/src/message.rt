@@ -1,6 +1,6 @@
 //! Messages of a server and the walks over their bodies, with each allocation refused in turn.
 
-use bytes::BytesMut;
+use bytes::{Bytes, BytesMut};
 use pgp_base::{Error, FallibleIterator};
 use pgp_message::{DataRowBody, Message};
 use pgp_test_alloc::Refusing;
@@ -112,7 +112,7 @@ fn bare_frames_ask_for_no_memory(rt: HostRuntime) -> Result<(), Fail> {
     Ok(())
 }
 
-fn row<A: Allocator + Copy>(alloc: A, bytes: &[u8]) -> Result<DataRowBody<A>, Error> {
+fn row<A: Allocator + Copy>(alloc: A, bytes: &[u8]) -> Result<DataRowBody<Bytes<A>>, Error> {
     let mut buf = buffer(alloc, bytes)?;
     match Message::parse(&mut buf)? {
         Some(Message::DataRow(row)) => Ok(row),
@@ -125,7 +125,7 @@ fn row<A: Allocator + Copy>(alloc: A, bytes: &[u8]) -> Result<DataRowBody<A>, Er
 }
 
 // Whether a row's copy holds these bytes.
-fn cloned<A: Allocator + Copy>(row: &DataRowBody<A>, buffer: &[u8]) -> Result<bool, Error> {
+fn cloned<A: Allocator + Copy>(row: &DataRowBody<Bytes<A>>, buffer: &[u8]) -> Result<bool, Error> {
     let copy = row.clone()?;
     Ok(copy.buffer() == buffer)
 }

@@ -3,3 +3,4 @@ pub mod Numbers
 pub mod InetLemmas
 pub mod Readings
 pub mod GeometryLemmas
+mod Appending

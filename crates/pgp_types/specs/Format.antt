@@ -2,6 +2,7 @@
 use Rattle.std.specs.Prelude.{◌≡◌, ◌≢◌, ℕ, ◌<◌, List, ◌++◌, length, Result, Ok, Err, ⊤}
 use Rattle.pgp_base.specs.declared.error.Error.{Error}
 use Rattle.pgp_base.specs.declared.error.Error.TheVariants.{OutOfMemory, UnexpectedEof, NotDrained, InvalidSize}
+use Rattle.pgp_base.specs.Held.{Held, ◌⊕◌, Leaves}
 use Rattle.pgp_base.specs.Wire.{IsBytes}
 
 -- A type of values: which there are, the bytes that are written for each, and what bytes are read as.
@@ -11,14 +12,14 @@ pub record Format (V : Type 0) : Type 1 where
   pub Reads : List ℕ → Result V Error → Type 0
 
 -- What an appending call leaves: the new bytes behind the old ones, or, where memory was refused, the old ones.
-abbrev pub Appends : {U : Type 0} → List ℕ → List ℕ → Result U Error → List ℕ → Type 0
-Appends more old (Ok done) new = new ≡ old ++ more
-Appends more old (Err OutOfMemory) new = new ≡ old
-Appends more old (Err e) new = ⊥
+abbrev pub Appends : {U K : Type 0} → List ℕ → Type 0 → Held K → Result U Error → Held K → Type 0
+Appends more lacks old (Ok done) new = new ≡ old ⊕ more
+Appends more lacks old (Err OutOfMemory) new = lacks × Leaves old new
+Appends more lacks old (Err e) new = ⊥
 
 -- What a writer leaves.
-abbrev pub Writes : {V U : Type 0} → Format V → V → List ℕ → Result U Error → List ℕ → Type 0
-Writes f v old result new = Appends (f.written v) old result new
+abbrev pub Writes : {V U K : Type 0} → Format V → V → Type 0 → Held K → Result U Error → Held K → Type 0
+Writes f v lacks old result new = Appends (f.written v) lacks old result new
 
 -- What a reader answers for the bytes.
 abbrev pub Reads : {V : Type 0} → Format V → List ℕ → Result V Error → Type 0

@@ -7,7 +7,7 @@ use pgp_base::{Buffer, Error};
 
 // All of the bytes, or nothing.
 pub fn append<B: Buffer>(bytes: &[u8], buf: &mut B) -> Result<(), Error>
-    ensures { Appends bytes.now (B.bytes buf.old) result (B.bytes buf.new) }
+    ensures { Appends bytes.now B.Lacks (B.held buf.old) result (B.held buf.new) }
 {
     buf.append(bytes)?;
     Ok(())
@@ -15,7 +15,7 @@ pub fn append<B: Buffer>(bytes: &[u8], buf: &mut B) -> Result<(), Error>
 
 // All of both, or nothing.
 pub fn append_both<B: Buffer>(front: &[u8], rest: &[u8], buf: &mut B) -> Result<(), Error>
-    ensures { Appends (front.now ++ rest.now) (B.bytes buf.old) result (B.bytes buf.new) }
+    ensures { Appends (front.now ++ rest.now) B.Lacks (B.held buf.old) result (B.held buf.new) }
 {
     let start = buf.len();
     buf.append(front)?;

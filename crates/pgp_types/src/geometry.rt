@@ -79,7 +79,7 @@ impl Box {
 
 /// Appends a `point`.
 pub fn point_to_sql<B: Buffer>(x: u64, y: u64, buf: &mut B) -> Result<(), Error>
-    ensures { Writes point (record { x = x; y = y }) (B.bytes buf.old) result (B.bytes buf.new) }
+    ensures { Writes point (record { x = x; y = y }) B.Lacks (B.held buf.old) result (B.held buf.new) }
 {
     append_both(&x.to_be_bytes(), &y.to_be_bytes(), buf)
 }
@@ -114,7 +114,7 @@ pub fn point_from_sql(buf: &[u8]) -> Result<Point, Error>
 
 /// Appends a `box`, the upper right corner first.
 pub fn box_to_sql<B: Buffer>(x1: u64, y1: u64, x2: u64, y2: u64, buf: &mut B) -> Result<(), Error>
-    ensures { Writes box (record { upper_right = record { x = x1; y = y1 }; lower_left = record { x = x2; y = y2 } }) (B.bytes buf.old) result (B.bytes buf.new) }
+    ensures { Writes box (record { upper_right = record { x = x1; y = y1 }; lower_left = record { x = x2; y = y2 } }) B.Lacks (B.held buf.old) result (B.held buf.new) }
 {
     let start = buf.len();
     point_to_sql(x1, y1, buf)?;

@@ -18,7 +18,7 @@ const IPV6: u8 = 3;
 
 /// Appends a `macaddr`.
 pub fn macaddr_to_sql<B: Buffer>(address: [u8; 6], buf: &mut B) -> Result<(), Error>
-    ensures { Writes macaddr address (B.bytes buf.old) result (B.bytes buf.new) }
+    ensures { Writes macaddr address B.Lacks (B.held buf.old) result (B.held buf.new) }
 {
     append(&address, buf)
 }
@@ -32,7 +32,7 @@ pub fn macaddr_from_sql(buf: &[u8]) -> Result<[u8; 6], Error>
 
 /// Appends a `uuid`.
 pub fn uuid_to_sql<B: Buffer>(id: [u8; 16], buf: &mut B) -> Result<(), Error>
-    ensures { Writes uuid id (B.bytes buf.old) result (B.bytes buf.new) }
+    ensures { Writes uuid id B.Lacks (B.held buf.old) result (B.held buf.new) }
 {
     append(&id, buf)
 }
@@ -77,7 +77,7 @@ impl Inet {
 
 /// Appends an `inet`. The netmask is not checked.
 pub fn inet_to_sql<B: Buffer>(addr: IpAddr, netmask: u8, buf: &mut B) -> Result<(), Error>
-    ensures { Writes inet (record { addr = addr; netmask = netmask }) (B.bytes buf.old) result (B.bytes buf.new) }
+    ensures { Writes inet (record { addr = addr; netmask = netmask }) B.Lacks (B.held buf.old) result (B.held buf.new) }
 {
     match addr {
         IpAddr::V4(v4) => append_both(&[IPV4, netmask, 0, 4], &v4.octets(), buf),

@@ -11,7 +11,7 @@ use pgp_base::{Buffer, Error, Lsn, Oid};
 
 /// Appends a `bool`.
 pub fn bool_to_sql<B: Buffer>(v: bool, buf: &mut B) -> Result<(), Error>
-    ensures { Writes bool v (B.bytes buf.old) result (B.bytes buf.new) }
+    ensures { Writes bool v B.Lacks (B.held buf.old) result (B.held buf.new) }
 {
     append(&[v as u8], buf)
 }
@@ -28,7 +28,7 @@ pub fn bool_from_sql(buf: &[u8]) -> Result<bool, Error>
 
 /// Appends a `bytea`.
 pub fn bytea_to_sql<B: Buffer>(v: &[u8], buf: &mut B) -> Result<(), Error>
-    ensures { Writes bytea v.now (B.bytes buf.old) result (B.bytes buf.new) }
+    ensures { Writes bytea v.now B.Lacks (B.held buf.old) result (B.held buf.new) }
 {
     append(v, buf)
 }
@@ -42,7 +42,7 @@ pub fn bytea_from_sql(buf: &[u8]) -> &[u8]
 
 /// Appends a `"char"`.
 pub fn char_to_sql<B: Buffer>(v: i8, buf: &mut B) -> Result<(), Error>
-    ensures { Writes char v (B.bytes buf.old) result (B.bytes buf.new) }
+    ensures { Writes char v B.Lacks (B.held buf.old) result (B.held buf.new) }
 {
     append(&i8::to_be_bytes(v), buf)
 }
@@ -57,7 +57,7 @@ pub fn char_from_sql(buf: &[u8]) -> Result<i8, Error>
 /// Appends an `int2`.
 #[tactic(auto, unfolding(pgp_base::specs::Wire::int16))]
 pub fn int2_to_sql<B: Buffer>(v: i16, buf: &mut B) -> Result<(), Error>
-    ensures { Writes int2 v (B.bytes buf.old) result (B.bytes buf.new) }
+    ensures { Writes int2 v B.Lacks (B.held buf.old) result (B.held buf.new) }
 {
     append(&i16::to_be_bytes(v), buf)
 }
@@ -72,7 +72,7 @@ pub fn int2_from_sql(buf: &[u8]) -> Result<i16, Error>
 /// Appends an `int4`.
 #[tactic(auto, unfolding(pgp_base::specs::Wire::int32))]
 pub fn int4_to_sql<B: Buffer>(v: i32, buf: &mut B) -> Result<(), Error>
-    ensures { Writes int4 v (B.bytes buf.old) result (B.bytes buf.new) }
+    ensures { Writes int4 v B.Lacks (B.held buf.old) result (B.held buf.new) }
 {
     append(&i32::to_be_bytes(v), buf)
 }
@@ -87,7 +87,7 @@ pub fn int4_from_sql(buf: &[u8]) -> Result<i32, Error>
 /// Appends an `int8`.
 #[tactic(auto, unfolding(pgp_base::specs::Wire::int64))]
 pub fn int8_to_sql<B: Buffer>(v: i64, buf: &mut B) -> Result<(), Error>
-    ensures { Writes int8 v (B.bytes buf.old) result (B.bytes buf.new) }
+    ensures { Writes int8 v B.Lacks (B.held buf.old) result (B.held buf.new) }
 {
     append(&i64::to_be_bytes(v), buf)
 }
@@ -102,7 +102,7 @@ pub fn int8_from_sql(buf: &[u8]) -> Result<i64, Error>
 /// Appends an `oid`.
 #[tactic(auto, unfolding(pgp_base::specs::Wire::uint32))]
 pub fn oid_to_sql<B: Buffer>(v: Oid, buf: &mut B) -> Result<(), Error>
-    ensures { Writes oid v (B.bytes buf.old) result (B.bytes buf.new) }
+    ensures { Writes oid v B.Lacks (B.held buf.old) result (B.held buf.new) }
 {
     append(&Oid::to_be_bytes(v), buf)
 }
@@ -117,7 +117,7 @@ pub fn oid_from_sql(buf: &[u8]) -> Result<Oid, Error>
 /// Appends a `pg_lsn`.
 #[tactic(auto, unfolding(pgp_base::specs::Wire::uint64))]
 pub fn lsn_to_sql<B: Buffer>(v: Lsn, buf: &mut B) -> Result<(), Error>
-    ensures { Writes lsn v (B.bytes buf.old) result (B.bytes buf.new) }
+    ensures { Writes lsn v B.Lacks (B.held buf.old) result (B.held buf.new) }
 {
     append(&Lsn::to_be_bytes(v), buf)
 }
@@ -132,7 +132,7 @@ pub fn lsn_from_sql(buf: &[u8]) -> Result<Lsn, Error>
 /// Appends a `float4`, given as its bits.
 #[tactic(auto, unfolding(pgp_base::specs::Wire::uint32))]
 pub fn float4_to_sql<B: Buffer>(bits: u32, buf: &mut B) -> Result<(), Error>
-    ensures { Writes float4 bits (B.bytes buf.old) result (B.bytes buf.new) }
+    ensures { Writes float4 bits B.Lacks (B.held buf.old) result (B.held buf.new) }
 {
     append(&u32::to_be_bytes(bits), buf)
 }
@@ -147,7 +147,7 @@ pub fn float4_from_sql(buf: &[u8]) -> Result<u32, Error>
 /// Appends a `float8`, given as its bits.
 #[tactic(auto, unfolding(pgp_base::specs::Wire::uint64))]
 pub fn float8_to_sql<B: Buffer>(bits: u64, buf: &mut B) -> Result<(), Error>
-    ensures { Writes float8 bits (B.bytes buf.old) result (B.bytes buf.new) }
+    ensures { Writes float8 bits B.Lacks (B.held buf.old) result (B.held buf.new) }
 {
     append(&u64::to_be_bytes(bits), buf)
 }

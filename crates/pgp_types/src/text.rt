@@ -18,7 +18,7 @@ const LTXTQUERY_VERSION: u8 = 1;
 
 /// Appends a `text`, `varchar`, `bpchar`, `name` or the like.
 pub fn text_to_sql<B: Buffer>(v: &str, buf: &mut B) -> Result<(), Error>
-    ensures { Writes text v.now (B.bytes buf.old) result (B.bytes buf.new) }
+    ensures { Writes text v.now B.Lacks (B.held buf.old) result (B.held buf.new) }
 {
     append(v.as_bytes(), buf)
 }
@@ -32,7 +32,7 @@ pub fn text_from_sql(buf: &[u8]) -> Result<&str, Error>
 
 // Appends a text behind the version of its format.
 fn label_to_sql<B: Buffer>(version: u8, v: &str, buf: &mut B) -> Result<(), Error>
-    ensures { Writes (label version) v.now (B.bytes buf.old) result (B.bytes buf.new) }
+    ensures { Writes (label version) v.now B.Lacks (B.held buf.old) result (B.held buf.new) }
 {
     append_both(&[version], v.as_bytes(), buf)
 }
@@ -49,7 +49,7 @@ fn label_from_sql(version: u8, buf: &[u8]) -> Result<&str, Error>
 
 /// Appends an `ltree`.
 pub fn ltree_to_sql<B: Buffer>(v: &str, buf: &mut B) -> Result<(), Error>
-    ensures { Writes ltree v.now (B.bytes buf.old) result (B.bytes buf.new) }
+    ensures { Writes ltree v.now B.Lacks (B.held buf.old) result (B.held buf.new) }
 {
     label_to_sql(LTREE_VERSION, v, buf)
 }
@@ -63,7 +63,7 @@ pub fn ltree_from_sql(buf: &[u8]) -> Result<&str, Error>
 
 /// Appends an `lquery`.
 pub fn lquery_to_sql<B: Buffer>(v: &str, buf: &mut B) -> Result<(), Error>
-    ensures { Writes lquery v.now (B.bytes buf.old) result (B.bytes buf.new) }
+    ensures { Writes lquery v.now B.Lacks (B.held buf.old) result (B.held buf.new) }
 {
     label_to_sql(LQUERY_VERSION, v, buf)
 }
@@ -77,7 +77,7 @@ pub fn lquery_from_sql(buf: &[u8]) -> Result<&str, Error>
 
 /// Appends an `ltxtquery`.
 pub fn ltxtquery_to_sql<B: Buffer>(v: &str, buf: &mut B) -> Result<(), Error>
-    ensures { Writes ltxtquery v.now (B.bytes buf.old) result (B.bytes buf.new) }
+    ensures { Writes ltxtquery v.now B.Lacks (B.held buf.old) result (B.held buf.new) }
 {
     label_to_sql(LTXTQUERY_VERSION, v, buf)
 }

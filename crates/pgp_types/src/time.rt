@@ -10,7 +10,7 @@ use pgp_base::{Buffer, Error};
 
 /// Appends a `timestamp` or a `timestamptz`, in microseconds since 2000-01-01 00:00.
 pub fn timestamp_to_sql<B: Buffer>(since_2000: i64, buf: &mut B) -> Result<(), Error>
-    ensures { Writes timestamp since_2000 (B.bytes buf.old) result (B.bytes buf.new) }
+    ensures { Writes timestamp since_2000 B.Lacks (B.held buf.old) result (B.held buf.new) }
 {
     int8_to_sql(since_2000, buf)
 }
@@ -24,7 +24,7 @@ pub fn timestamp_from_sql(buf: &[u8]) -> Result<i64, Error>
 
 /// Appends a `time`, in microseconds since midnight.
 pub fn time_to_sql<B: Buffer>(since_midnight: i64, buf: &mut B) -> Result<(), Error>
-    ensures { Writes time since_midnight (B.bytes buf.old) result (B.bytes buf.new) }
+    ensures { Writes time since_midnight B.Lacks (B.held buf.old) result (B.held buf.new) }
 {
     int8_to_sql(since_midnight, buf)
 }
@@ -38,7 +38,7 @@ pub fn time_from_sql(buf: &[u8]) -> Result<i64, Error>
 
 /// Appends a `date`, in days since 2000-01-01.
 pub fn date_to_sql<B: Buffer>(days: i32, buf: &mut B) -> Result<(), Error>
-    ensures { Writes date days (B.bytes buf.old) result (B.bytes buf.new) }
+    ensures { Writes date days B.Lacks (B.held buf.old) result (B.held buf.new) }
 {
     int4_to_sql(days, buf)
 }

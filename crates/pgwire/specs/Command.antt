@@ -1,5 +1,5 @@
 -- What the program does for its words.
-use Rattle.std.specs.Prelude.{◌≡◌, ◌⊎◌, ◌↔◌, ℕ, true, false, List, [], ◌∷◌, Option, IfSome, Ok, Contains, codes}
+use Rattle.std.specs.Prelude.{◌≡◌, ◌≢◌, ⊤, ◌⊎◌, ◌↔◌, ℕ, true, false, List, [], ◌∷◌, Option, IfSome, Ok, Contains, codes}
 use Rattle.std.specs.Io.KnownBytes.{Keeps, Appends, IsAtEnd}
 use Rattle.hex.specs.Hex.{decode_sized}
 use Rattle.pgp_auth.specs.Lexer.{Literal, Identifier, IsPlain, backslash}
@@ -55,9 +55,26 @@ pub record Prints (before after : Streams) (text : List ℕ) (status : ℕ) (com
 abbrev pub IsEscapedLiteral : List ℕ → List ℕ → Type 0
 IsEscapedLiteral z text = Literal true text z × Literal false text z × (IsPlain text ↔ (¬ Contains z backslash))
 
+-- Which faults a command can meet: what prints reads nothing.
+abbrev pub Meets : Command → Fault → Type 0
+Meets Backend fault = ⊤
+Meets command fault = fault ≢ Read
+
+-- What a command reads where it meets a fault.
+abbrev pub MayRead : Command → Streams → Streams → Type 0
+MayRead Backend before after = ⊤
+MayRead command before after = Keeps before.input after.input
+
+-- A command stopped at a fault: nothing was written, unless writing failed.
+pub record Stops (command : Command) (before after : Streams) (fault : Fault) : Type 0 where
+  pub met : Meets command fault
+  pub input : MayRead command before after
+  pub output : fault ≢ Write → Keeps before.output after.output
+
 -- a fault was met, and is told
-pub record IsFaulty (status : ℕ) (complaint : List ℕ) : Type 0 where
+pub record IsFaulty (command : Command) (before after : Streams) (status : ℕ) (complaint : List ℕ) : Type 0 where
   pub fault : Fault
+  pub stops : Stops command before after fault
   pub told : complaint ≡ complaint_of fault
   pub failed : status ≡ 1
 
@@ -88,7 +105,7 @@ pub record IsRefused (words : List (List ℕ)) (before after : Streams) (status 
 pub record IsDone (words : List (List ℕ)) (before after : Streams) (status : ℕ) (complaint : List ℕ) : Type 0 where
   pub command : Command
   pub asks : Asks words command
-  pub does : Succeeds command before after status complaint ⊎ IsFaulty status complaint
+  pub does : Succeeds command before after status complaint ⊎ IsFaulty command before after status complaint
 
 abbrev pub Obeys : List (List ℕ) → Streams → Streams → ℕ → List ℕ → Type 0
 Obeys words before after status complaint = IsDone words before after status complaint ⊎ IsRefused words before after status complaint

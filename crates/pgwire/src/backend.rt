@@ -1,14 +1,14 @@
 //! The listing of a server's messages.
 
-ghost use Rattle.std.specs.Prelude.{◌≡◌, IfOk, IfErr, OnOk, IfSome, string_bytes};
-ghost use Rattle.std.specs.Io.KnownBytes.{IsAtEnd};
+ghost use Rattle.std.specs.Prelude.{◌≡◌, ◌≢◌, IfOk, IfErr, OnOk, IfSome, string_bytes};
+ghost use Rattle.std.specs.Io.KnownBytes.{IsAtEnd, Keeps};
 ghost use Rattle.pgp_message.specs.Views.{view};
 ghost use Rattle.pgwire.specs.Output.{name_of, BackendOutput, Writes};
 
 use crate::fault::Fault;
 use bytes::BytesMut;
 use pgp_base::Error;
-use pgp_message::{Message, laws};
+use pgp_message::{Message, Storage, laws};
 use std::alloc::Allocator;
 use std::fmt::Write as _;
 use std::io::{ErrorKind, Read, Write};
@@ -24,6 +24,7 @@ pub fn backend<A: Allocator + Copy, R: Read, W: Write>(
     ensures written { IfOk result (λ status. IfSome (R.remaining input.old)
         (λ bytes. Writes bytes (W.contents output.old) (W.contents output.new) status)) }
     ensures status { IfOk result (λ status. status ≡ 0) }
+    ensures quiet { IfErr result (λ fault. fault ≢ Fault.Write → Keeps (W.contents output.old) (W.contents output.new)) }
 {
     let mut bytes = Vec::new(alloc);
     if let Err(e) = input.read_to_end(&mut bytes) {
@@ -78,7 +79,7 @@ fn listing<A: Allocator + Copy>(alloc: A, bytes: Vec<u8, A>) -> Result<String<A>
 }
 
 /// The name of the message's variant.
-fn name_of<A: Allocator>(message: &Message<A>) -> &'static str
+fn name_of<S: Storage>(message: &Message<S>) -> &'static str
     ensures { result.now ≡ name_of (view message.now) }
 {
     match message {

@@ -1,7 +1,7 @@
 //! Printing one line.
 
-ghost use Rattle.std.specs.Prelude.{◌≡◌, ◌⊎◌, IfOk, IfErr, OnOk, string_bytes};
-ghost use Rattle.std.specs.Io.KnownBytes.{Appends};
+ghost use Rattle.std.specs.Prelude.{◌≡◌, ◌≢◌, ◌⊎◌, IfOk, IfErr, OnOk, string_bytes};
+ghost use Rattle.std.specs.Io.KnownBytes.{Appends, Keeps};
 ghost use Rattle.pgwire.specs.Output.{line};
 
 use crate::fault::Fault;
@@ -12,6 +12,7 @@ use std::io::Write;
 pub fn print<A: Allocator, W: Write>(mut text: String<A>, output: &mut W) -> Result<u8, Fault>
     ensures written { OnOk result (Appends (W.contents output.old) (W.contents output.new) (line (string_bytes text))) }
     ensures status { IfOk result (λ status. status ≡ 0) }
+    ensures quiet { IfErr result (λ fault. fault ≢ Fault.Write → Keeps (W.contents output.old) (W.contents output.new)) }
     ensures fault { IfErr result (λ fault. (fault ≡ Fault.Memory) ⊎ (fault ≡ Fault.Write)) }
 {
     text.push('\n')?;

@@ -1,7 +1,7 @@
 //! The program's words.
 
-ghost use Rattle.std.specs.Prelude.{◌≡◌, ℕ, List, map, IfSome, IfNone};
-ghost use Rattle.pgwire.specs.Command.{Asks, IsOther, Obeys};
+ghost use Rattle.std.specs.Prelude.{◌≡◌, ℕ, List, [], map, IfSome, IfNone, IfOk, IfErr};
+ghost use Rattle.pgwire.specs.Command.{Asks, IsOther, Obeys, Succeeds, Stops};
 ghost use Rattle.pgwire.specs.Asked.{asked};
 
 use crate::backend::backend;
@@ -48,6 +48,30 @@ fn command_of<'a>(words: &[&'a str]) -> Option<Command<'a>>
     }
 }
 
+/// Does what the command asks for.
+fn perform<A: Allocator + Copy, R: Read, W: Write>(
+    alloc: A,
+    command: Command<'_>,
+    input: &mut R,
+    output: &mut W,
+) -> Result<u8, Fault>
+    ensures done { IfOk result (λ status. Succeeds (asked command.entry)
+        (record { input = R.remaining input.old; output = W.contents output.old })
+        (record { input = R.remaining input.new; output = W.contents output.new })
+        status []) }
+    ensures fault { IfErr result (λ fault. Stops (asked command.entry)
+        (record { input = R.remaining input.old; output = W.contents output.old })
+        (record { input = R.remaining input.new; output = W.contents output.new })
+        fault) }
+{
+    match command {
+        Command::Backend => backend(alloc, input, output),
+        Command::Verifier { password, salt } => text::verifier(alloc, password, salt, output),
+        Command::EscapeLiteral(z) => text::escape_literal(alloc, z, output),
+        Command::EscapeIdentifier(z) => text::escape_identifier(alloc, z, output),
+    }
+}
+
 /// Does what the words ask for.
 pub fn obey<A: Allocator + Copy, R: Read, W: Write>(
     alloc: A,
@@ -66,13 +90,7 @@ pub fn obey<A: Allocator + Copy, R: Read, W: Write>(
             complaint: USAGE,
         };
     };
-    let answer = match command {
-        Command::Backend => backend(alloc, input, output),
-        Command::Verifier { password, salt } => text::verifier(alloc, password, salt, output),
-        Command::EscapeLiteral(z) => text::escape_literal(alloc, z, output),
-        Command::EscapeIdentifier(z) => text::escape_identifier(alloc, z, output),
-    };
-    match answer {
+    match perform(alloc, command, input, output) {
         Ok(status) => Outcome {
             status,
             complaint: "",

@@ -1,7 +1,7 @@
 //! The commands that print a text: verifiers and escaped texts.
 
-ghost use Rattle.std.specs.Prelude.{◌≡◌, ◌⊎◌, ℕ, List, IfOk, IfErr, OnOk};
-ghost use Rattle.std.specs.Io.KnownBytes.{Appends};
+ghost use Rattle.std.specs.Prelude.{◌≡◌, ◌≢◌, ◌⊎◌, ℕ, List, IfOk, IfErr, OnOk};
+ghost use Rattle.std.specs.Io.KnownBytes.{Appends, Keeps};
 ghost use Rattle.pgp_auth.specs.Lexer.{Identifier};
 ghost use Rattle.pgp_auth.specs.Verifier.{verifier, verifier_text};
 ghost use Rattle.pgwire.specs.Output.{line};
@@ -25,6 +25,7 @@ pub fn verifier<A: Allocator + Copy, W: Write>(
     ensures written { OnOk result (Appends (W.contents output.old) (W.contents output.new)
         (line (verifier_text (verifier password.now salt 4096)))) }
     ensures status { IfOk result (λ status. status ≡ 0) }
+    ensures quiet { IfErr result (λ fault. fault ≢ Fault.Write → Keeps (W.contents output.old) (W.contents output.new)) }
     ensures fault { IfErr result (λ fault. (fault ≡ Fault.Memory) ⊎ (fault ≡ Fault.Write)) }
 {
     match password::scram_sha_256_salt(alloc, password.as_bytes(), salt, &NoPrep) {
@@ -42,6 +43,7 @@ pub fn escape_literal<A: Allocator + Copy, W: Write>(
     ensures written { OnOk result ((literal : List ℕ) × IsEscapedLiteral text.now literal
         × Appends (W.contents output.old) (W.contents output.new) (line literal)) }
     ensures status { IfOk result (λ status. status ≡ 0) }
+    ensures quiet { IfErr result (λ fault. fault ≢ Fault.Write → Keeps (W.contents output.old) (W.contents output.new)) }
     ensures fault { IfErr result (λ fault. (fault ≡ Fault.Memory) ⊎ (fault ≡ Fault.Write)) }
 {
     match escape::escape_literal(alloc, text) {
@@ -59,6 +61,7 @@ pub fn escape_identifier<A: Allocator + Copy, W: Write>(
     ensures written { OnOk result ((identifier : List ℕ) × Identifier identifier text.now
         × Appends (W.contents output.old) (W.contents output.new) (line identifier)) }
     ensures status { IfOk result (λ status. status ≡ 0) }
+    ensures quiet { IfErr result (λ fault. fault ≢ Fault.Write → Keeps (W.contents output.old) (W.contents output.new)) }
     ensures fault { IfErr result (λ fault. (fault ≡ Fault.Memory) ⊎ (fault ≡ Fault.Write)) }
 {
     match escape::escape_identifier(alloc, text) {

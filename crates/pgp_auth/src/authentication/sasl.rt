@@ -1,14 +1,22 @@
-//! Parts of SASL's SCRAM-SHA-256 (RFC 5802, RFC 7677).
+//! SASL's SCRAM-SHA-256 (RFC 5802, RFC 7677): the client, and the parts that it is made of.
 
-ghost use Rattle.std.specs.Prelude.{◌≡◌, ℕ, List, Option, None, length, option_map, unwrap_or, string_bytes, IfOk, IfErr};
+ghost use Rattle.std.specs.Prelude.{◌≡◌, ℕ, ◌+◌, ◌<◌, ◌^◌, ◌++◌, List, Option, None, length, max, option_map, unwrap_or, string_bytes, IfOk, IfErr};
 ghost use Rattle.pgp_base.specs.declared.error.Error.{Error};
+ghost use Rattle.pgp_auth.specs.Hmac.{mac};
 ghost use Rattle.pgp_auth.specs.IteratedKey.{xor_bytes, salted};
 ghost use Rattle.pgp_auth.specs.Prepared.{prepared};
 
 use crate::hmac::hmac_sha256;
+pub use crate::scram::{ChannelBinding, ScramError, ScramSha256, is_nonce};
 use pgp_base::Error;
 use std::alloc::Allocator;
 use std::str;
+
+/// The name of the mechanism without channel binding.
+pub const SCRAM_SHA_256: &str = "SCRAM-SHA-256";
+
+/// The name of the mechanism with channel binding.
+pub const SCRAM_SHA_256_PLUS: &str = "SCRAM-SHA-256-PLUS";
 
 /// A mapping of passwords, as SASLprep (RFC 4013). It is asked only for passwords that are UTF-8 and
 /// have a byte above 127.
@@ -58,7 +66,7 @@ pub(crate) fn mapped<A: Allocator + Copy, P: SaslPrep>(
 }
 
 // `into` xor `other`, byte by byte.
-fn xor_into(into: &mut [u8], other: &[u8])
+pub(crate) fn xor_into(into: &mut [u8], other: &[u8])
     requires { length into.old ≡ length other.now }
     ensures { into.new ≡ xor_bytes into.old other.now }
 {
@@ -67,16 +75,36 @@ fn xor_into(into: &mut [u8], other: &[u8])
     }
 }
 
+// The code of a message in two parts, counted in `made`.
+pub(crate) fn counted_code(key: &[u8], first: &[u8], second: &[u8], made: &mut u64) -> [u8; 32]
+    requires { made.old < 2 ^ 63 }
+    ensures value { result ≡ mac key.now (first.now ++ second.now) }
+    ensures count { made.new ≡ made.old + 1 }
+{
+    *made += 1;
+    hmac_sha256(key, first, second)
+}
+
+// `hi`, its codes counted in `made`.
+pub(crate) fn counted_hi(password: &[u8], salt: &[u8], i: u32, made: &mut u64) -> [u8; 32]
+    requires { made.old < 2 ^ 62 }
+    ensures value { result ≡ salted password.now salt.now i }
+    ensures count { made.new ≡ made.old + max i 1 }
+{
+    let mut code = counted_code(password, salt, &1u32.to_be_bytes(), made);
+    let mut key = code;
+    'rounds: for _round in 1..i {
+        code = counted_code(password, &code, &[], made);
+        xor_into(&mut key, &code);
+    }
+    key
+}
+
 /// The key that `i` rounds of HMAC over SHA-256 make of a password and a salt: PBKDF2 of RFC 8018,
 /// section 5.2, for one block, which RFC 5802 calls `Hi`. A count of 0 is read as 1.
 pub fn hi(password: &[u8], salt: &[u8], i: u32) -> [u8; 32]
     ensures { result ≡ salted password.now salt.now i }
 {
-    let mut code = hmac_sha256(password, salt, &1u32.to_be_bytes());
-    let mut key = code;
-    'rounds: for _round in 1..i {
-        code = hmac_sha256(password, &code, &[]);
-        xor_into(&mut key, &code);
-    }
-    key
+    let mut made = 0;
+    counted_hi(password, salt, i, &mut made)
 }

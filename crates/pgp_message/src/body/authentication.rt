@@ -5,10 +5,10 @@ ghost use Rattle.pgp_base.specs.Items.{MarkedItems};
 ghost use Rattle.pgp_message.specs.Items.{TextSpelled, TextRefused};
 ghost use Rattle.pgp_message.specs.Reading.{salt_of};
 
+use crate::storage::Storage;
 use crate::walk::SaslMechanisms;
 use bytes::Bytes;
 use pgp_base::Error;
-use std::alloc::{Allocator, Global};
 use std::marker::Model;
 
 /// A request for an MD5 answer.
@@ -50,21 +50,21 @@ impl AuthenticationMd5PasswordBody {
 
 /// More of a GSSAPI or SSPI exchange.
 #[derive(Drop)]
-pub struct AuthenticationGssContinueBody<A: Allocator = Global> {
-    token: Bytes<A>,
+pub struct AuthenticationGssContinueBody<S: Storage = Bytes> {
+    token: S,
 }
 
-impl<A: Allocator> Model for AuthenticationGssContinueBody<A> {
+impl<S: Storage> Model for AuthenticationGssContinueBody<S> {
     ghost use Rattle.std.specs.Prelude.{ℕ, List};
 
     ghost Value = { List ℕ };
 
-    ghost view = { λ body. body.token };
+    ghost view = { λ body. S.bytes body.token };
 }
 
-impl<A: Allocator> AuthenticationGssContinueBody<A> {
-    pub(crate) fn new(token: Bytes<A>) -> AuthenticationGssContinueBody<A>
-        ensures { result ≡ token }
+impl<S: Storage> AuthenticationGssContinueBody<S> {
+    pub(crate) fn new(token: S) -> AuthenticationGssContinueBody<S>
+        ensures { result ≡ S.bytes token }
     {
         AuthenticationGssContinueBody { token }
     }
@@ -79,21 +79,21 @@ impl<A: Allocator> AuthenticationGssContinueBody<A> {
 
 /// The SASL mechanisms that a server offers.
 #[derive(Drop)]
-pub struct AuthenticationSaslBody<A: Allocator = Global> {
-    mechanisms: Bytes<A>,
+pub struct AuthenticationSaslBody<S: Storage = Bytes> {
+    mechanisms: S,
 }
 
-impl<A: Allocator> Model for AuthenticationSaslBody<A> {
+impl<S: Storage> Model for AuthenticationSaslBody<S> {
     ghost use Rattle.std.specs.Prelude.{ℕ, List};
 
     ghost Value = { List ℕ };
 
-    ghost view = { λ body. body.mechanisms };
+    ghost view = { λ body. S.bytes body.mechanisms };
 }
 
-impl<A: Allocator> AuthenticationSaslBody<A> {
-    pub(crate) fn new(mechanisms: Bytes<A>) -> AuthenticationSaslBody<A>
-        ensures { result ≡ mechanisms }
+impl<S: Storage> AuthenticationSaslBody<S> {
+    pub(crate) fn new(mechanisms: S) -> AuthenticationSaslBody<S>
+        ensures { result ≡ S.bytes mechanisms }
     {
         AuthenticationSaslBody { mechanisms }
     }
@@ -110,21 +110,21 @@ impl<A: Allocator> AuthenticationSaslBody<A> {
 
 /// A server's challenge in a SASL exchange.
 #[derive(Drop)]
-pub struct AuthenticationSaslContinueBody<A: Allocator = Global> {
-    challenge: Bytes<A>,
+pub struct AuthenticationSaslContinueBody<S: Storage = Bytes> {
+    challenge: S,
 }
 
-impl<A: Allocator> Model for AuthenticationSaslContinueBody<A> {
+impl<S: Storage> Model for AuthenticationSaslContinueBody<S> {
     ghost use Rattle.std.specs.Prelude.{ℕ, List};
 
     ghost Value = { List ℕ };
 
-    ghost view = { λ body. body.challenge };
+    ghost view = { λ body. S.bytes body.challenge };
 }
 
-impl<A: Allocator> AuthenticationSaslContinueBody<A> {
-    pub(crate) fn new(challenge: Bytes<A>) -> AuthenticationSaslContinueBody<A>
-        ensures { result ≡ challenge }
+impl<S: Storage> AuthenticationSaslContinueBody<S> {
+    pub(crate) fn new(challenge: S) -> AuthenticationSaslContinueBody<S>
+        ensures { result ≡ S.bytes challenge }
     {
         AuthenticationSaslContinueBody { challenge }
     }
@@ -139,21 +139,21 @@ impl<A: Allocator> AuthenticationSaslContinueBody<A> {
 
 /// A server's last word in a SASL exchange.
 #[derive(Drop)]
-pub struct AuthenticationSaslFinalBody<A: Allocator = Global> {
-    outcome: Bytes<A>,
+pub struct AuthenticationSaslFinalBody<S: Storage = Bytes> {
+    outcome: S,
 }
 
-impl<A: Allocator> Model for AuthenticationSaslFinalBody<A> {
+impl<S: Storage> Model for AuthenticationSaslFinalBody<S> {
     ghost use Rattle.std.specs.Prelude.{ℕ, List};
 
     ghost Value = { List ℕ };
 
-    ghost view = { λ body. body.outcome };
+    ghost view = { λ body. S.bytes body.outcome };
 }
 
-impl<A: Allocator> AuthenticationSaslFinalBody<A> {
-    pub(crate) fn new(outcome: Bytes<A>) -> AuthenticationSaslFinalBody<A>
-        ensures { result ≡ outcome }
+impl<S: Storage> AuthenticationSaslFinalBody<S> {
+    pub(crate) fn new(outcome: S) -> AuthenticationSaslFinalBody<S>
+        ensures { result ≡ S.bytes outcome }
     {
         AuthenticationSaslFinalBody { outcome }
     }

@@ -6,29 +6,30 @@ ghost use Rattle.pgp_message.specs.Items.{FormatSpelled, FormatRefused};
 ghost use Rattle.pgp_message.specs.Reading.{copy_of};
 
 use crate::body::counted::CopyFormats;
+use crate::storage::Storage;
 use crate::walk::ColumnFormats;
 use bytes::Bytes;
 use pgp_base::Error;
-use std::alloc::{Allocator, Global};
+use std::alloc::Allocator;
 use std::marker::Model;
 
 /// Bytes of a copy.
 #[derive(Drop)]
-pub struct CopyDataBody<A: Allocator = Global> {
-    storage: Bytes<A>,
+pub struct CopyDataBody<S: Storage = Bytes> {
+    storage: S,
 }
 
-impl<A: Allocator> Model for CopyDataBody<A> {
+impl<S: Storage> Model for CopyDataBody<S> {
     ghost use Rattle.std.specs.Prelude.{ℕ, List};
 
     ghost Value = { List ℕ };
 
-    ghost view = { λ body. body.storage };
+    ghost view = { λ body. S.bytes body.storage };
 }
 
-impl<A: Allocator> CopyDataBody<A> {
-    pub(crate) fn new(storage: Bytes<A>) -> CopyDataBody<A>
-        ensures { result ≡ storage }
+impl<S: Storage> CopyDataBody<S> {
+    pub(crate) fn new(storage: S) -> CopyDataBody<S>
+        ensures { result ≡ S.bytes storage }
     {
         CopyDataBody { storage }
     }
@@ -39,7 +40,9 @@ impl<A: Allocator> CopyDataBody<A> {
     {
         self.storage.as_slice()
     }
+}
 
+impl<A: Allocator> CopyDataBody<Bytes<A>> {
     /// The bytes, owned.
     pub fn into_bytes(self) -> Bytes<A>
         ensures { result ≡ self }
@@ -51,11 +54,11 @@ impl<A: Allocator> CopyDataBody<A> {
 
 /// A server is ready for the data of a copy.
 #[derive(Drop)]
-pub struct CopyInResponseBody<A: Allocator = Global> {
-    incoming: CopyFormats<A>,
+pub struct CopyInResponseBody<S: Storage = Bytes> {
+    incoming: CopyFormats<S>,
 }
 
-impl<A: Allocator> Model for CopyInResponseBody<A> {
+impl<S: Storage> Model for CopyInResponseBody<S> {
     ghost use Rattle.pgp_message.specs.Parts.{CopyFormats};
 
     ghost Value = { CopyFormats };
@@ -63,9 +66,9 @@ impl<A: Allocator> Model for CopyInResponseBody<A> {
     ghost view = { λ body. body.incoming };
 }
 
-impl<A: Allocator + Copy> CopyInResponseBody<A> {
-    pub(crate) fn read(payload: Bytes<A>) -> Result<CopyInResponseBody<A>, Error>
-        ensures { result ≡ copy_of payload }
+impl<S: Storage> CopyInResponseBody<S> {
+    pub(crate) fn read(payload: S) -> Result<CopyInResponseBody<S>, Error>
+        ensures { result ≡ copy_of (S.bytes payload) }
     {
         let incoming = CopyFormats::read(payload)?;
         Ok(CopyInResponseBody { incoming })
@@ -90,11 +93,11 @@ impl<A: Allocator + Copy> CopyInResponseBody<A> {
 
 /// A server is about to send the data of a copy.
 #[derive(Drop)]
-pub struct CopyOutResponseBody<A: Allocator = Global> {
-    outgoing: CopyFormats<A>,
+pub struct CopyOutResponseBody<S: Storage = Bytes> {
+    outgoing: CopyFormats<S>,
 }
 
-impl<A: Allocator> Model for CopyOutResponseBody<A> {
+impl<S: Storage> Model for CopyOutResponseBody<S> {
     ghost use Rattle.pgp_message.specs.Parts.{CopyFormats};
 
     ghost Value = { CopyFormats };
@@ -102,9 +105,9 @@ impl<A: Allocator> Model for CopyOutResponseBody<A> {
     ghost view = { λ body. body.outgoing };
 }
 
-impl<A: Allocator + Copy> CopyOutResponseBody<A> {
-    pub(crate) fn read(payload: Bytes<A>) -> Result<CopyOutResponseBody<A>, Error>
-        ensures { result ≡ copy_of payload }
+impl<S: Storage> CopyOutResponseBody<S> {
+    pub(crate) fn read(payload: S) -> Result<CopyOutResponseBody<S>, Error>
+        ensures { result ≡ copy_of (S.bytes payload) }
     {
         let outgoing = CopyFormats::read(payload)?;
         Ok(CopyOutResponseBody { outgoing })

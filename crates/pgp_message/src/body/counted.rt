@@ -3,34 +3,34 @@
 ghost use Rattle.std.specs.Prelude.{◌≡◌};
 ghost use Rattle.pgp_message.specs.Reading.{counted_of, copy_of};
 
-use bytes::{Buf, Bytes};
+use crate::storage::Storage;
+use bytes::Bytes;
 use pgp_base::Error;
 use pgp_base::reading::{byte_at, uint16_at};
-use std::alloc::Allocator;
 use std::marker::Model;
 
 /// A count, and the bytes behind it.
 #[derive(Drop)]
-pub(crate) struct CountedBytes<A: Allocator> {
+pub(crate) struct CountedBytes<S: Storage> {
     pub(crate) len: u16,
-    pub(crate) storage: Bytes<A>,
+    pub(crate) storage: S,
 }
 
-impl<A: Allocator> Model for CountedBytes<A> {
+impl<S: Storage> Model for CountedBytes<S> {
     ghost use Rattle.pgp_message.specs.Parts.{CountedBytes};
 
     ghost Value = { CountedBytes };
 
-    ghost view = { λ body. record { count = body.len; storage = body.storage } };
+    ghost view = { λ body. record { count = body.len; storage = S.bytes body.storage } };
 }
 
-impl<A: Allocator + Copy> CountedBytes<A> {
+impl<S: Storage> CountedBytes<S> {
     #[tactic(auto, unfolding(crate::specs::Reading::counted_of))]
-    pub(crate) fn read(mut payload: Bytes<A>) -> Result<CountedBytes<A>, Error>
-        ensures { result ≡ counted_of payload }
+    pub(crate) fn read(mut payload: S) -> Result<CountedBytes<S>, Error>
+        ensures { result ≡ counted_of (S.bytes payload) }
     {
         let (len, _) = uint16_at(payload.as_slice())?;
-        payload.advance(2);
+        payload.skip(2);
         Ok(CountedBytes {
             len,
             storage: payload,
@@ -40,28 +40,28 @@ impl<A: Allocator + Copy> CountedBytes<A> {
 
 /// The format of a copy as a whole, a count, and the bytes behind it.
 #[derive(Drop)]
-pub(crate) struct CopyFormats<A: Allocator> {
+pub(crate) struct CopyFormats<S: Storage> {
     pub(crate) format: u8,
     pub(crate) len: u16,
-    pub(crate) storage: Bytes<A>,
+    pub(crate) storage: S,
 }
 
-impl<A: Allocator> Model for CopyFormats<A> {
+impl<S: Storage> Model for CopyFormats<S> {
     ghost use Rattle.pgp_message.specs.Parts.{CopyFormats};
 
     ghost Value = { CopyFormats };
 
-    ghost view = { λ body. record { format = body.format; count = body.len; storage = body.storage } };
+    ghost view = { λ body. record { format = body.format; count = body.len; storage = S.bytes body.storage } };
 }
 
-impl<A: Allocator + Copy> CopyFormats<A> {
+impl<S: Storage> CopyFormats<S> {
     #[tactic(auto, unfolding(crate::specs::Reading::copy_of))]
-    pub(crate) fn read(mut payload: Bytes<A>) -> Result<CopyFormats<A>, Error>
-        ensures { result ≡ copy_of payload }
+    pub(crate) fn read(mut payload: S) -> Result<CopyFormats<S>, Error>
+        ensures { result ≡ copy_of (S.bytes payload) }
     {
         let (format, rest) = byte_at(payload.as_slice())?;
         let (len, _) = uint16_at(rest)?;
-        payload.advance(3);
+        payload.skip(3);
         Ok(CopyFormats {
             format,
             len,

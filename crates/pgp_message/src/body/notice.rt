@@ -4,28 +4,28 @@ ghost use Rattle.std.specs.Prelude.{◌≡◌, ◌≤◌, length, None};
 ghost use Rattle.pgp_base.specs.Items.{MarkedItems};
 ghost use Rattle.pgp_message.specs.Items.{ErrorFieldSpelled, ErrorFieldRefused};
 
+use crate::storage::Storage;
 use crate::walk::ErrorFields;
 use bytes::Bytes;
-use std::alloc::{Allocator, Global};
 use std::marker::Model;
 
 /// An error.
 #[derive(Drop)]
-pub struct ErrorResponseBody<A: Allocator = Global> {
-    error: Bytes<A>,
+pub struct ErrorResponseBody<S: Storage = Bytes> {
+    error: S,
 }
 
-impl<A: Allocator> Model for ErrorResponseBody<A> {
+impl<S: Storage> Model for ErrorResponseBody<S> {
     ghost use Rattle.std.specs.Prelude.{ℕ, List};
 
     ghost Value = { List ℕ };
 
-    ghost view = { λ body. body.error };
+    ghost view = { λ body. S.bytes body.error };
 }
 
-impl<A: Allocator> ErrorResponseBody<A> {
-    pub(crate) fn new(error: Bytes<A>) -> ErrorResponseBody<A>
-        ensures { result ≡ error }
+impl<S: Storage> ErrorResponseBody<S> {
+    pub(crate) fn new(error: S) -> ErrorResponseBody<S>
+        ensures { result ≡ S.bytes error }
     {
         ErrorResponseBody { error }
     }
@@ -42,21 +42,21 @@ impl<A: Allocator> ErrorResponseBody<A> {
 
 /// A notice.
 #[derive(Drop)]
-pub struct NoticeResponseBody<A: Allocator = Global> {
-    notice: Bytes<A>,
+pub struct NoticeResponseBody<S: Storage = Bytes> {
+    notice: S,
 }
 
-impl<A: Allocator> Model for NoticeResponseBody<A> {
+impl<S: Storage> Model for NoticeResponseBody<S> {
     ghost use Rattle.std.specs.Prelude.{ℕ, List};
 
     ghost Value = { List ℕ };
 
-    ghost view = { λ body. body.notice };
+    ghost view = { λ body. S.bytes body.notice };
 }
 
-impl<A: Allocator> NoticeResponseBody<A> {
-    pub(crate) fn new(notice: Bytes<A>) -> NoticeResponseBody<A>
-        ensures { result ≡ notice }
+impl<S: Storage> NoticeResponseBody<S> {
+    pub(crate) fn new(notice: S) -> NoticeResponseBody<S>
+        ensures { result ≡ S.bytes notice }
     {
         NoticeResponseBody { notice }
     }

@@ -4,24 +4,24 @@ ghost use Rattle.std.specs.Prelude.{◌≡◌, MatchResult};
 ghost use Rattle.std.specs.Str.{IsUtf8};
 ghost use Rattle.pgp_message.specs.Reading.{notification_of};
 
-use bytes::{Buf, Bytes};
+use crate::storage::Storage;
+use bytes::Bytes;
 use pgp_base::Error;
 use pgp_base::reading::{int32_at, string_at};
-use std::alloc::{Allocator, Global};
 use std::marker::Model;
 use std::str;
 
 /// A notification from another session. The texts stand in one run of bytes, which is cut when they
 /// are asked for.
 #[derive(Drop)]
-pub struct NotificationResponseBody<A: Allocator = Global> {
+pub struct NotificationResponseBody<S: Storage = Bytes> {
     process_id: i32,
-    texts: Bytes<A>,
+    texts: S,
     channel_len: usize,
     message_len: usize,
 }
 
-impl<A: Allocator> Model for NotificationResponseBody<A> {
+impl<S: Storage> Model for NotificationResponseBody<S> {
     ghost use Rattle.std.specs.Prelude.{◌+◌, ◌≤◌, length, take, drop};
     ghost use Rattle.pgp_message.specs.Parts.{Notification};
 
@@ -29,17 +29,17 @@ impl<A: Allocator> Model for NotificationResponseBody<A> {
 
     ghost view = { λ body. record {
       process_id = body.process_id;
-      channel = take body.channel_len body.texts;
-      message = take body.message_len (drop (body.channel_len + 1) body.texts);
+      channel = take body.channel_len (S.bytes body.texts);
+      message = take body.message_len (drop (body.channel_len + 1) (S.bytes body.texts));
     } };
 
-    ghost invariant = { λ body. body.channel_len + 1 + body.message_len ≤ length body.texts };
+    ghost invariant = { λ body. body.channel_len + 1 + body.message_len ≤ length (S.bytes body.texts) };
 }
 
-impl<A: Allocator + Copy> NotificationResponseBody<A> {
+impl<S: Storage> NotificationResponseBody<S> {
     #[tactic(auto, unfolding(crate::specs::Reading::notification_of))]
-    pub(crate) fn read(mut payload: Bytes<A>) -> Result<NotificationResponseBody<A>, Error>
-        ensures { result ≡ notification_of payload }
+    pub(crate) fn read(mut payload: S) -> Result<NotificationResponseBody<S>, Error>
+        ensures { result ≡ notification_of (S.bytes payload) }
     {
         let (process_id, rest) = int32_at(payload.as_slice())?;
         let (channel, rest) = string_at(rest)?;
@@ -49,7 +49,7 @@ impl<A: Allocator + Copy> NotificationResponseBody<A> {
         }
         let channel_len = channel.len();
         let message_len = message.len();
-        payload.advance(4);
+        payload.skip(4);
         Ok(NotificationResponseBody {
             process_id,
             texts: payload,
@@ -69,7 +69,7 @@ impl<A: Allocator + Copy> NotificationResponseBody<A> {
     pub fn channel(&self) -> Result<&str, Error>
         ensures { MatchResult result (λ text. text.now ≡ self.now.channel) (λ e. (e ≡ Error.NotUtf8) × ¬ IsUtf8 self.now.channel) }
     {
-        str::from_utf8(&self.texts[..self.channel_len]).map_err(|_| Error::NotUtf8)
+        str::from_utf8(&self.texts.as_slice()[..self.channel_len]).map_err(|_| Error::NotUtf8)
     }
 
     /// What was said; `NotUtf8` where it isn't text.

@@ -7,39 +7,40 @@ ghost use Rattle.pgp_message.specs.Items.{RangeSpelled, RangeRefused, FieldSpell
 ghost use Rattle.pgp_message.specs.Reading.{string_of, counted_of};
 
 use crate::body::counted::CountedBytes;
+use crate::storage::Storage;
 use crate::walk::{DataRowRanges, Fields, Parameters};
 use bytes::Bytes;
 use pgp_base::Error;
 use pgp_base::reading::string_at;
-use std::alloc::{Allocator, Global};
+use std::alloc::Allocator;
 use std::marker::Model;
 use std::str;
 
 /// A command is complete.
 #[derive(Drop)]
-pub struct CommandCompleteBody<A: Allocator = Global> {
-    tag: Bytes<A>,
+pub struct CommandCompleteBody<S: Storage = Bytes> {
+    tag: S,
 }
 
-impl<A: Allocator> Model for CommandCompleteBody<A> {
+impl<S: Storage> Model for CommandCompleteBody<S> {
     ghost use Rattle.std.specs.Prelude.{ℕ, List};
 
     ghost Value = { List ℕ };
 
-    ghost view = { λ body. body.tag };
+    ghost view = { λ body. S.bytes body.tag };
 }
 
-impl<A: Allocator + Copy> CommandCompleteBody<A> {
+impl<S: Storage> CommandCompleteBody<S> {
     #[tactic(auto, unfolding(crate::specs::Reading::string_of))]
-    pub(crate) fn read(mut payload: Bytes<A>) -> Result<CommandCompleteBody<A>, Error>
-        ensures { result ≡ string_of payload }
+    pub(crate) fn read(mut payload: S) -> Result<CommandCompleteBody<S>, Error>
+        ensures { result ≡ string_of (S.bytes payload) }
     {
         let (tag, rest) = string_at(payload.as_slice())?;
         if !rest.is_empty() {
             return Err(Error::NotDrained);
         }
         let len = tag.len();
-        payload.truncate(len);
+        payload.cut(len);
         Ok(CommandCompleteBody { tag: payload })
     }
 
@@ -53,11 +54,11 @@ impl<A: Allocator + Copy> CommandCompleteBody<A> {
 
 /// A row.
 #[derive(Drop)]
-pub struct DataRowBody<A: Allocator = Global> {
-    row: CountedBytes<A>,
+pub struct DataRowBody<S: Storage = Bytes> {
+    row: CountedBytes<S>,
 }
 
-impl<A: Allocator> Model for DataRowBody<A> {
+impl<S: Storage> Model for DataRowBody<S> {
     ghost use Rattle.pgp_message.specs.Parts.{CountedBytes};
 
     ghost Value = { CountedBytes };
@@ -65,24 +66,12 @@ impl<A: Allocator> Model for DataRowBody<A> {
     ghost view = { λ body. body.row };
 }
 
-impl<A: Allocator + Copy> DataRowBody<A> {
-    pub(crate) fn read(payload: Bytes<A>) -> Result<DataRowBody<A>, Error>
-        ensures { result ≡ counted_of payload }
+impl<S: Storage> DataRowBody<S> {
+    pub(crate) fn read(payload: S) -> Result<DataRowBody<S>, Error>
+        ensures { result ≡ counted_of (S.bytes payload) }
     {
         let row = CountedBytes::read(payload)?;
         Ok(DataRowBody { row })
-    }
-
-    /// The same row over the same bytes. The only refusal is want of memory.
-    pub fn clone(&self) -> Result<DataRowBody<A>, Error>
-        ensures ok { IfOk result (λ row. row ≡ self.now) }
-        ensures err { IfErr result (λ e. e ≡ Error.OutOfMemory) }
-    {
-        let storage = self.row.storage.clone()?;
-        let len = self.row.len;
-        Ok(DataRowBody {
-            row: CountedBytes { len, storage },
-        })
     }
 
     /// Where the values stand in `buffer`; `None` for a null.
@@ -100,6 +89,20 @@ impl<A: Allocator + Copy> DataRowBody<A> {
     {
         self.row.storage.as_slice()
     }
+}
+
+impl<A: Allocator> DataRowBody<Bytes<A>> {
+    /// The same row over the same bytes. The only refusal is want of memory.
+    pub fn clone(&self) -> Result<DataRowBody<Bytes<A>>, Error>
+        ensures ok { IfOk result (λ row. row ≡ self.now) }
+        ensures err { IfErr result (λ e. e ≡ Error.OutOfMemory) }
+    {
+        let storage = self.row.storage.clone()?;
+        let len = self.row.len;
+        Ok(DataRowBody {
+            row: CountedBytes { len, storage },
+        })
+    }
 
     /// The same bytes, as they are shared.
     pub fn buffer_bytes(&self) -> &Bytes<A>
@@ -111,11 +114,11 @@ impl<A: Allocator + Copy> DataRowBody<A> {
 
 /// The columns of the rows to come.
 #[derive(Drop)]
-pub struct RowDescriptionBody<A: Allocator = Global> {
-    columns: CountedBytes<A>,
+pub struct RowDescriptionBody<S: Storage = Bytes> {
+    columns: CountedBytes<S>,
 }
 
-impl<A: Allocator> Model for RowDescriptionBody<A> {
+impl<S: Storage> Model for RowDescriptionBody<S> {
     ghost use Rattle.pgp_message.specs.Parts.{CountedBytes};
 
     ghost Value = { CountedBytes };
@@ -123,9 +126,9 @@ impl<A: Allocator> Model for RowDescriptionBody<A> {
     ghost view = { λ body. body.columns };
 }
 
-impl<A: Allocator + Copy> RowDescriptionBody<A> {
-    pub(crate) fn read(payload: Bytes<A>) -> Result<RowDescriptionBody<A>, Error>
-        ensures { result ≡ counted_of payload }
+impl<S: Storage> RowDescriptionBody<S> {
+    pub(crate) fn read(payload: S) -> Result<RowDescriptionBody<S>, Error>
+        ensures { result ≡ counted_of (S.bytes payload) }
     {
         let columns = CountedBytes::read(payload)?;
         Ok(RowDescriptionBody { columns })
@@ -143,11 +146,11 @@ impl<A: Allocator + Copy> RowDescriptionBody<A> {
 
 /// The types of the parameters of a statement.
 #[derive(Drop)]
-pub struct ParameterDescriptionBody<A: Allocator = Global> {
-    types: CountedBytes<A>,
+pub struct ParameterDescriptionBody<S: Storage = Bytes> {
+    types: CountedBytes<S>,
 }
 
-impl<A: Allocator> Model for ParameterDescriptionBody<A> {
+impl<S: Storage> Model for ParameterDescriptionBody<S> {
     ghost use Rattle.pgp_message.specs.Parts.{CountedBytes};
 
     ghost Value = { CountedBytes };
@@ -155,9 +158,9 @@ impl<A: Allocator> Model for ParameterDescriptionBody<A> {
     ghost view = { λ body. body.types };
 }
 
-impl<A: Allocator + Copy> ParameterDescriptionBody<A> {
-    pub(crate) fn read(payload: Bytes<A>) -> Result<ParameterDescriptionBody<A>, Error>
-        ensures { result ≡ counted_of payload }
+impl<S: Storage> ParameterDescriptionBody<S> {
+    pub(crate) fn read(payload: S) -> Result<ParameterDescriptionBody<S>, Error>
+        ensures { result ≡ counted_of (S.bytes payload) }
     {
         let types = CountedBytes::read(payload)?;
         Ok(ParameterDescriptionBody { types })

@@ -4,10 +4,10 @@ ghost use Rattle.std.specs.Prelude.{◌≡◌, MatchResult};
 ghost use Rattle.std.specs.Str.{IsUtf8};
 ghost use Rattle.pgp_message.specs.Reading.{byte_of, key_data_of, setting_of};
 
+use crate::storage::Storage;
 use bytes::Bytes;
 use pgp_base::Error;
 use pgp_base::reading::{byte_at, int32_at, string_at};
-use std::alloc::{Allocator, Global};
 use std::marker::Model;
 use std::str;
 
@@ -94,30 +94,30 @@ impl ReadyForQueryBody {
 /// A parameter of the session, as the server reports it. The texts stand in one run of bytes, which
 /// is cut when they are asked for.
 #[derive(Drop)]
-pub struct ParameterStatusBody<A: Allocator = Global> {
-    texts: Bytes<A>,
+pub struct ParameterStatusBody<S: Storage = Bytes> {
+    texts: S,
     name_len: usize,
     value_len: usize,
 }
 
-impl<A: Allocator> Model for ParameterStatusBody<A> {
+impl<S: Storage> Model for ParameterStatusBody<S> {
     ghost use Rattle.std.specs.Prelude.{◌+◌, ◌≤◌, length, take, drop};
     ghost use Rattle.pgp_message.specs.Parts.{Setting};
 
     ghost Value = { Setting };
 
     ghost view = { λ body. record {
-      name = take body.name_len body.texts;
-      value = take body.value_len (drop (body.name_len + 1) body.texts);
+      name = take body.name_len (S.bytes body.texts);
+      value = take body.value_len (drop (body.name_len + 1) (S.bytes body.texts));
     } };
 
-    ghost invariant = { λ body. body.name_len + 1 + body.value_len ≤ length body.texts };
+    ghost invariant = { λ body. body.name_len + 1 + body.value_len ≤ length (S.bytes body.texts) };
 }
 
-impl<A: Allocator + Copy> ParameterStatusBody<A> {
+impl<S: Storage> ParameterStatusBody<S> {
     #[tactic(auto, unfolding(crate::specs::Reading::setting_of))]
-    pub(crate) fn read(payload: Bytes<A>) -> Result<ParameterStatusBody<A>, Error>
-        ensures { result ≡ setting_of payload }
+    pub(crate) fn read(payload: S) -> Result<ParameterStatusBody<S>, Error>
+        ensures { result ≡ setting_of (S.bytes payload) }
     {
         let (name, rest) = string_at(payload.as_slice())?;
         let (value, rest) = string_at(rest)?;
@@ -137,7 +137,7 @@ impl<A: Allocator + Copy> ParameterStatusBody<A> {
     pub fn name(&self) -> Result<&str, Error>
         ensures { MatchResult result (λ text. text.now ≡ self.now.name) (λ e. (e ≡ Error.NotUtf8) × ¬ IsUtf8 self.now.name) }
     {
-        str::from_utf8(&self.texts[..self.name_len]).map_err(|_| Error::NotUtf8)
+        str::from_utf8(&self.texts.as_slice()[..self.name_len]).map_err(|_| Error::NotUtf8)
     }
 
     /// The parameter's value; `NotUtf8` where it isn't text.

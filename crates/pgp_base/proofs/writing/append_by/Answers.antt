@@ -1,7 +1,8 @@
 use Rattle.std.proofs.Common.{refl}
+use Rattle.pgp_base.proofs.Parts.{adds_of}
 use Rattle.pgp_base.proofs.writing.append_by.Goals as goal
 
 pub returns : goal.returns
 returns g c =
-    let k = c.requires.keeps _ _ _ (c.requires.callable.at (_, tt)) c.f.ensures in
+    let k = adds_of _ _ _ (c.requires.keeps _ _ _ (c.requires.callable.at (_, tt)) c.f.ensures) in
     (k.0, record { before = _; after = _; called = c.f.ensures; stood = refl; appended = k.1 }, k.1)

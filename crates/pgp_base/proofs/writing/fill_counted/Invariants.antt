@@ -1,5 +1,6 @@
-use Rattle.std.proofs.Common.{◌≡◌, ℕ, List, ◌++◌, length}
+use Rattle.std.proofs.Common.{◌≡◌, ℕ, List, length}
 use Rattle.std.specs.List.{flat_map}
+use Rattle.pgp_base.specs.Held.{◌⊕◌}
 use Rattle.pgp_base.specs.Wire.{uint16}
 use Rattle.pgp_base.specs.Calls.{Wrote, Runs}
 use Rattle.pgp_base.proofs.writing.fill_counted.Given as goal
@@ -8,4 +9,4 @@ abbrev pub invariant-loop-item : goal.invariant-loop-item
 invariant-loop-item g l =
     goal.F-IsAlwaysCallable g l.serializer
     × (l.count ≡ length l.yielded)
-    × ((ps : List (List ℕ)) × Runs (Wrote g.B.Buffer.bytes (goal.F-step g)) (λ p. p) (g.B.Buffer.bytes l.fn.buf ++ uint16 0) l.fn.serializer l.yielded ps l.serializer × (g.B.Buffer.bytes l.buf ≡ g.B.Buffer.bytes l.fn.buf ++ uint16 0 ++ flat_map (λ p. p) ps))
+    × ((ps : List (List ℕ)) × Runs (Wrote g.B.Buffer.held (goal.F-step g)) (λ p. p) (g.B.Buffer.held l.fn.buf ⊕ uint16 0) l.fn.serializer l.yielded ps l.serializer × (g.B.Buffer.held l.buf ≡ g.B.Buffer.held l.fn.buf ⊕ uint16 0 ⊕ flat_map (λ p. p) ps))

@@ -1,7 +1,8 @@
 use Rattle.std.proofs.Common.{[], ◌∷◌, refl}
+use Rattle.pgp_base.proofs.Parts.{value_adds_of}
 use Rattle.pgp_base.proofs.writing.give_by.Goals as goal
 
 pub returns-clause-put : goal.returns-clause-put
 returns-clause-put g c =
-    let k = c.requires.owes _ _ _ _ _ _ ((c.requires.callable.at (_ ∷ [])).0) c.f.ensures in
+    let k = value_adds_of _ _ _ (c.requires.owes _ _ _ _ _ _ ((c.requires.callable.at (_ ∷ [])).0) c.f.ensures) in
     (k.0, record { before = _; after = _; called = c.f.ensures; stood = refl; appended = k.1 }, k.1, k.2)

@@ -2,6 +2,7 @@ use Rattle.std.proofs.Common.{rules, arith, ◌≡◌, [], ◌∷◌, ◌++◌, 
 use Rattle.std.specs.Prelude.{FitsSigned}
 use Rattle.std.specs.Int.{w16, cast_unsigned}
 use Rattle.std.proofs.lemmas.List.Elements.{All-push}
+use Rattle.pgp_base.specs.Held.{◌⊕◌}
 use Rattle.pgp_base.specs.Wire.{int16, uint16}
 use Rattle.pgp_base.proofs.Causes.{count_fits, count_past}
 use Rattle.pgp_base.proofs.Parts.{counted_up, sized2, more_parts, int16_spelled}
@@ -11,13 +12,13 @@ pub loop-item-preserved : goal.loop-item-preserved
 loop-item-preserved g c =
     let i = c.loop-item.invariant in
     let fits : FitsSigned w16 c.in-Some.item = search rules in
-    let spelled : g.B.Buffer.bytes c.put_u16-in-loop-item.new.buf ≡ g.B.Buffer.bytes c.loop-item.buf ++ uint16 (cast_unsigned w16 c.in-Some.item) = search rules in
-    let put = spelled ∙ ap (λ p. g.B.Buffer.bytes c.loop-item.buf ++ p) (sym (int16_spelled c.in-Some.item)) in
-    (omega (arith, length-append c.loop-item.yielded (c.in-Some.item ∷ [])), All-push (FitsSigned w16) c.loop-item.yielded c.in-Some.item i.1 fits, more_parts int16 (g.B.Buffer.bytes c.args.buf.now ++ uint16 0) _ _ c.loop-item.yielded c.in-Some.item i.2 put)
+    let spelled : g.B.Buffer.held c.put_u16-in-loop-item.new.buf ≡ g.B.Buffer.held c.loop-item.buf ⊕ uint16 (cast_unsigned w16 c.in-Some.item) = search rules in
+    let put = spelled ∙ ap (λ p. g.B.Buffer.held c.loop-item.buf ⊕ p) (sym (int16_spelled c.in-Some.item)) in
+    (omega (arith, length-append c.loop-item.yielded (c.in-Some.item ∷ [])), All-push (FitsSigned w16) c.loop-item.yielded c.in-Some.item i.1 fits, more_parts int16 (g.B.Buffer.held c.args.buf.now ⊕ uint16 0) _ _ c.loop-item.yielded c.in-Some.item i.2 put)
 
 pub patch_u16-requires : goal.patch_u16-requires
 patch_u16-requires g c =
-    omega (arith, sized2 (g.B.Buffer.bytes c.args.buf.now) _ _ _ refl c.loop-item.invariant.2)
+    omega (arith, sized2 (g.B.Buffer.held c.args.buf.now) _ _ _ refl c.loop-item.invariant.2)
 
 pub returns-clause-ok : goal.returns-clause-ok
 returns-clause-ok g c =

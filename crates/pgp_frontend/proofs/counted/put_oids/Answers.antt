@@ -1,12 +1,14 @@
-use Rattle.std.proofs.Common.{rules, arith, [], ◌∷◌, ◌++◌, length, refl, inr, length-append}
-use Rattle.pgp_base.specs.Wire.{oid}
+use Rattle.std.proofs.Common.{rules, arith, ◌^◌, ◌<◌, ◌≡◌, [], ◌∷◌, ◌++◌, length, refl, inr, length-append}
+use Rattle.pgp_base.specs.Held.{◌⊕◌}
+use Rattle.std.proofs.lemmas.List.Elements.{All-push}
+use Rattle.pgp_base.specs.Wire.{uint16, oid}
 use Rattle.pgp_base.proofs.Causes.{count_fits, count_past}
-use Rattle.pgp_base.proofs.Parts.{counted_up, sized2}
+use Rattle.pgp_base.proofs.Parts.{counted_up, sized2, more_parts}
 use Rattle.pgp_frontend.proofs.counted.put_oids.Goals as goal
 
 pub patch_u16-requires : goal.patch_u16-requires
 patch_u16-requires g c =
-    omega (arith, sized2 (g.B.Buffer.bytes c.args.buf.now) _ _ _ refl c.loop-item.invariant.2)
+    omega (arith, sized2 (g.B.Buffer.held c.args.buf.now) _ _ _ refl c.loop-item.invariant.2)
 
 pub returns-clause-ok : goal.returns-clause-ok
 returns-clause-ok g c =
@@ -20,3 +22,10 @@ returns-then-count-clause-cause g c =
       record { before = c.loop-item.yielded; last = c.in-Some.item; came = search rules; none = count_fits (length c.loop-item.yielded) (omega arith); are = refl },
       count_past (length (c.loop-item.yielded ++ c.in-Some.item ∷ [])) (omega (arith, length-append c.loop-item.yielded (c.in-Some.item ∷ []))),
     )
+
+pub loop-item-preserved : goal.loop-item-preserved
+loop-item-preserved g c =
+    let i = c.loop-item.invariant in
+    let put : g.B.Buffer.held c.put_u32.new.buf ≡ g.B.Buffer.held c.loop-item.buf ⊕ oid c.in-Some.item = search rules in
+    let fits : c.in-Some.item < 2 ^ 32 = search rules in
+    (omega (arith, length-append c.loop-item.yielded (c.in-Some.item ∷ [])), All-push (λ n. n < 2 ^ 32) c.loop-item.yielded c.in-Some.item i.1 fits, more_parts oid (g.B.Buffer.held c.args.buf.now ⊕ uint16 0) _ _ c.loop-item.yielded c.in-Some.item i.2 put)

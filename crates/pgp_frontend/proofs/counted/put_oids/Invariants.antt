@@ -1,6 +1,7 @@
-use Rattle.std.proofs.Common.{◌≡◌, ◌<◌, ◌^◌, ◌++◌, length}
+use Rattle.std.proofs.Common.{◌≡◌, ◌<◌, ◌^◌, length}
 use Rattle.std.specs.Prelude.{All}
 use Rattle.std.specs.List.{flat_map}
+use Rattle.pgp_base.specs.Held.{◌⊕◌}
 use Rattle.pgp_base.specs.Wire.{uint16, oid}
 use Rattle.pgp_frontend.proofs.counted.put_oids.Given as goal
 
@@ -8,4 +9,4 @@ abbrev pub invariant-loop-item : goal.invariant-loop-item
 invariant-loop-item g l =
     (l.count ≡ length l.yielded)
     × All (λ n. n < 2 ^ 32) l.yielded
-    × (g.B.Buffer.bytes l.buf ≡ g.B.Buffer.bytes l.fn.buf ++ uint16 0 ++ flat_map oid l.yielded)
+    × (g.B.Buffer.held l.buf ≡ g.B.Buffer.held l.fn.buf ⊕ uint16 0 ⊕ flat_map oid l.yielded)

@@ -1,4 +1,5 @@
 use Rattle.std.proofs.Common.{◌≡◌, [], ◌∷◌, ◌++◌, Some, None, refl, inl, inr, ap, ◌∙◌}
+use Rattle.pgp_base.specs.Held.{◌⊕◌}
 use Rattle.pgp_base.proofs.Parts.{if_err_at}
 use Rattle.pgp_frontend.specs.ClientMessage.{Parse}
 use Rattle.pgp_frontend.specs.Payload.{Text, Oids, joined, parts_cause}
@@ -28,25 +29,25 @@ pub finish_body-requires : goal.finish_body-requires
 finish_body-requires g c =
     let k = c.in_ok-put_oids.ensures.ok in
     let held = part_more (Text c.as_bytes.result.now ∷ Text c.as_bytes-2.result.now ∷ []) (Oids k.0) _ _ _ c.in_ok-put_fields.ensures.ok.1 k.4 in
-    frame_room (Text c.as_bytes.result.now ∷ Text c.as_bytes-2.result.now ∷ Oids k.0 ∷ []) (g.B.Buffer.bytes c.put_u8.new.buf) _ _ _ c.in_ok-put_u32.ensures.ok held c.len-base.ensures.value
+    frame_room (Text c.as_bytes.result.now ∷ Text c.as_bytes-2.result.now ∷ Oids k.0 ∷ []) (g.B.Buffer.held c.put_u8.new.buf) _ _ _ c.in_ok-put_u32.ensures.ok held c.len-base.ensures.value
 
 pub returns-in_err-finish_body-clause-cause : goal.returns-in_err-finish_body-clause-cause
 returns-in_err-finish_body-clause-cause g c =
     let k = c.in_ok-put_oids.ensures.ok in
     let texts = Text c.args.name.now ∷ Text c.args.query.now ∷ [] in
     let none = two_texts (λ ps. parts_cause ps ≡ None) _ c.args.name.now _ c.args.query.now c.as_bytes.ensures.value c.as_bytes-2.ensures.value c.in_ok-put_fields.ensures.ok.0 in
-    let held = two_texts (λ ps. g.B.Buffer.bytes c.put_fields.new.buf ≡ g.B.Buffer.bytes c.put_u32.new.buf ++ joined ps) _ c.args.name.now _ c.args.query.now c.as_bytes.ensures.value c.as_bytes-2.ensures.value c.in_ok-put_fields.ensures.ok.1 in
+    let held = two_texts (λ ps. g.B.Buffer.held c.put_fields.new.buf ≡ g.B.Buffer.held c.put_u32.new.buf ⊕ joined ps) _ c.args.name.now _ c.args.query.now c.as_bytes.ensures.value c.as_bytes-2.ensures.value c.in_ok-put_fields.ensures.ok.1 in
     let all = part_more texts (Oids k.0) _ _ _ held k.4 in
     let clean = cause_more texts (Oids k.0) none k.3 in
     if_err_at _ _ _ c.from_residual-in_err-finish_body.ensures.1
-    (inr (inr (Parse c.args.name.now c.args.query.now k.0, (k.0, k.1, refl), frame_passes (texts ++ Oids k.0 ∷ []) (g.B.Buffer.bytes c.put_u8.new.buf) _ _ _ c.in_ok-put_u32.ensures.ok all c.len-base.ensures.value _ clean c.in_err-finish_body.ensures.cause)))
+    (inr (inr (Parse c.args.name.now c.args.query.now k.0, (k.0, k.1, refl), frame_passes (texts ++ Oids k.0 ∷ []) (g.B.Buffer.held c.put_u8.new.buf) _ _ _ c.in_ok-put_u32.ensures.ok all c.len-base.ensures.value _ clean c.in_err-finish_body.ensures.cause)))
 
 pub returns-clause-ok : goal.returns-clause-ok
 returns-clause-ok g c =
     let k = c.in_ok-put_oids.ensures.ok in
     let texts = Text c.args.name.now ∷ Text c.args.query.now ∷ [] in
     let none = two_texts (λ ps. parts_cause ps ≡ None) _ c.args.name.now _ c.args.query.now c.as_bytes.ensures.value c.as_bytes-2.ensures.value c.in_ok-put_fields.ensures.ok.0 in
-    let held = two_texts (λ ps. g.B.Buffer.bytes c.put_fields.new.buf ≡ g.B.Buffer.bytes c.put_u32.new.buf ++ joined ps) _ c.args.name.now _ c.args.query.now c.as_bytes.ensures.value c.as_bytes-2.ensures.value c.in_ok-put_fields.ensures.ok.1 in
+    let held = two_texts (λ ps. g.B.Buffer.held c.put_fields.new.buf ≡ g.B.Buffer.held c.put_u32.new.buf ⊕ joined ps) _ c.args.name.now _ c.args.query.now c.as_bytes.ensures.value c.as_bytes-2.ensures.value c.in_ok-put_fields.ensures.ok.1 in
     let all = part_more texts (Oids k.0) _ _ _ held k.4 in
     let clean = cause_more texts (Oids k.0) none k.3 in
     let w = c.in_ok-finish_body.ensures in
@@ -54,6 +55,6 @@ returns-clause-ok g c =
       message = Parse c.args.name.now c.args.query.now k.0;
       whole = (k.0, k.1, refl);
       in_range = (tt, (tt, (k.2, tt)));
-      none = frame_fits (texts ++ Oids k.0 ∷ []) (g.B.Buffer.bytes c.put_u8.new.buf) _ _ _ c.in_ok-put_u32.ensures.ok all c.len-base.ensures.value clean w.fits;
-      appended = tagged 80 _ (g.B.Buffer.bytes c.args.buf.now) _ _ (c.in_ok-put_u8.ensures.ok ∙ ap (λ held. held ++ 80 ∷ []) c.in_ok-reserve.ensures) (frame_done (texts ++ Oids k.0 ∷ []) (g.B.Buffer.bytes c.put_u8.new.buf) _ _ _ c.in_ok-put_u32.ensures.ok all c.len-base.ensures.value _ w.ok);
+      none = frame_fits (texts ++ Oids k.0 ∷ []) (g.B.Buffer.held c.put_u8.new.buf) _ _ _ c.in_ok-put_u32.ensures.ok all c.len-base.ensures.value clean w.fits;
+      appended = tagged 80 _ (g.B.Buffer.held c.args.buf.now) _ _ (c.in_ok-put_u8.ensures.ok ∙ ap (λ held. held ⊕ 80 ∷ []) c.in_ok-reserve.ensures.same) (frame_done (texts ++ Oids k.0 ∷ []) (g.B.Buffer.held c.put_u8.new.buf) _ _ _ c.in_ok-put_u32.ensures.ok all c.len-base.ensures.value _ w.ok);
     }

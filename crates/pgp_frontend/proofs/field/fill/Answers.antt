@@ -6,14 +6,14 @@ use Rattle.pgp_frontend.proofs.field.fill.Goals as goal
 
 pub finish_body-requires : goal.finish_body-requires
 finish_body-requires g c =
-    frame_room (parts_of c.args.fields.now) (g.B.Buffer.bytes c.args.buf.now) _ _ _ c.in_ok-put_u32.ensures.ok c.in_ok-put_fields.ensures.ok.1 c.len-base.ensures.value
+    frame_room (parts_of c.args.fields.now) (g.B.Buffer.held c.args.buf.now) _ _ _ c.in_ok-put_u32.ensures.ok c.in_ok-put_fields.ensures.ok.1 c.len-base.ensures.value
 
 pub returns-clause-ok : goal.returns-clause-ok
 returns-clause-ok g c =
     let k = c.in_ok-put_fields.ensures.ok in
     let w = c.in_ok-finish_body.ensures in (
-      frame_fits (parts_of c.args.fields.now) (g.B.Buffer.bytes c.args.buf.now) _ _ _ c.in_ok-put_u32.ensures.ok k.1 c.len-base.ensures.value k.0 w.fits,
-      frame_done (parts_of c.args.fields.now) (g.B.Buffer.bytes c.args.buf.now) _ _ _ c.in_ok-put_u32.ensures.ok k.1 c.len-base.ensures.value _ w.ok,
+      frame_fits (parts_of c.args.fields.now) (g.B.Buffer.held c.args.buf.now) _ _ _ c.in_ok-put_u32.ensures.ok k.1 c.len-base.ensures.value k.0 w.fits,
+      frame_done (parts_of c.args.fields.now) (g.B.Buffer.held c.args.buf.now) _ _ _ c.in_ok-put_u32.ensures.ok k.1 c.len-base.ensures.value _ w.ok,
     )
 
 pub returns-in_err-put_fields-clause-cause : goal.returns-in_err-put_fields-clause-cause
@@ -25,4 +25,4 @@ pub returns-in_err-finish_body-clause-cause : goal.returns-in_err-finish_body-cl
 returns-in_err-finish_body-clause-cause g c =
     let k = c.in_ok-put_fields.ensures.ok in
     if_err_at _ _ _ c.from_residual-in_err-finish_body.ensures.1
-    (inr (frame_passes (parts_of c.args.fields.now) (g.B.Buffer.bytes c.args.buf.now) _ _ _ c.in_ok-put_u32.ensures.ok k.1 c.len-base.ensures.value _ k.0 c.in_err-finish_body.ensures.cause))
+    (inr (frame_passes (parts_of c.args.fields.now) (g.B.Buffer.held c.args.buf.now) _ _ _ c.in_ok-put_u32.ensures.ok k.1 c.len-base.ensures.value _ k.0 c.in_err-finish_body.ensures.cause))

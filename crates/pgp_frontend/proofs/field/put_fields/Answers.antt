@@ -15,4 +15,4 @@ pub loop-field-preserved : goal.loop-field-preserved
 loop-field-preserved g c =
     let i = c.loop-field.invariant in
     let k = c.in_ok-put_field.ensures.ok in
-    (fields_none c.args.fields.now c.loop-field.field-index _ (search rules) i.0 k.0, fields_joined c.args.fields.now c.loop-field.field-index _ (g.B.Buffer.bytes c.args.buf.now) _ _ (search rules) i.1 k.1)
+    (fields_none c.args.fields.now c.loop-field.field-index _ (search rules) i.0 k.0, fields_joined c.args.fields.now c.loop-field.field-index _ (g.B.Buffer.held c.args.buf.now) _ _ (search rules) i.1 k.1)

@@ -23,7 +23,7 @@ pub finish_body-requires : goal.finish_body-requires
 finish_body-requires g c =
     let k = c.in_ok-put_pairs.ensures.ok in
     let all = part_more (Int32 (pos 196608) ∷ []) (Pairs (map shown k.0)) _ _ _ (first_part (Int32 (pos 196608)) _ _ c.in_ok-put_int32.ensures.ok) k.3 in
-    frame_room (Int32 (pos 196608) ∷ Pairs (map shown k.0) ∷ []) (g.B.Buffer.bytes c.args.buf.now) _ _ _ c.in_ok-put_u32.ensures.ok all c.len-base.ensures.value
+    frame_room (Int32 (pos 196608) ∷ Pairs (map shown k.0) ∷ []) (g.B.Buffer.held c.args.buf.now) _ _ _ c.in_ok-put_u32.ensures.ok all c.len-base.ensures.value
 
 pub returns-in_err-finish_body-clause-cause : goal.returns-in_err-finish_body-clause-cause
 returns-in_err-finish_body-clause-cause g c =
@@ -31,7 +31,7 @@ returns-in_err-finish_body-clause-cause g c =
     let all = part_more (Int32 (pos 196608) ∷ []) (Pairs (map shown k.0)) _ _ _ (first_part (Int32 (pos 196608)) _ _ c.in_ok-put_int32.ensures.ok) k.3 in
     let clean = cause_more (Int32 (pos 196608) ∷ []) (Pairs (map shown k.0)) refl k.2 in
     if_err_at _ _ _ c.from_residual-in_err-finish_body.ensures.1
-    (inr (inr (Startup (map shown k.0), (k.0, k.1, refl), frame_passes (Int32 (pos 196608) ∷ Pairs (map shown k.0) ∷ []) (g.B.Buffer.bytes c.args.buf.now) _ _ _ c.in_ok-put_u32.ensures.ok all c.len-base.ensures.value _ clean c.in_err-finish_body.ensures.cause)))
+    (inr (inr (Startup (map shown k.0), (k.0, k.1, refl), frame_passes (Int32 (pos 196608) ∷ Pairs (map shown k.0) ∷ []) (g.B.Buffer.held c.args.buf.now) _ _ _ c.in_ok-put_u32.ensures.ok all c.len-base.ensures.value _ clean c.in_err-finish_body.ensures.cause)))
 
 pub returns-clause-ok : goal.returns-clause-ok
 returns-clause-ok g c =
@@ -44,6 +44,6 @@ returns-clause-ok g c =
       message = Startup (map shown k.0);
       whole = (k.0, k.1, refl);
       in_range = (version, (tt, tt));
-      none = frame_fits (Int32 (pos 196608) ∷ Pairs (map shown k.0) ∷ []) (g.B.Buffer.bytes c.args.buf.now) _ _ _ c.in_ok-put_u32.ensures.ok all c.len-base.ensures.value clean w.fits;
-      appended = frame_done (Int32 (pos 196608) ∷ Pairs (map shown k.0) ∷ []) (g.B.Buffer.bytes c.args.buf.now) _ _ _ c.in_ok-put_u32.ensures.ok all c.len-base.ensures.value _ w.ok;
+      none = frame_fits (Int32 (pos 196608) ∷ Pairs (map shown k.0) ∷ []) (g.B.Buffer.held c.args.buf.now) _ _ _ c.in_ok-put_u32.ensures.ok all c.len-base.ensures.value clean w.fits;
+      appended = frame_done (Int32 (pos 196608) ∷ Pairs (map shown k.0) ∷ []) (g.B.Buffer.held c.args.buf.now) _ _ _ c.in_ok-put_u32.ensures.ok all c.len-base.ensures.value _ w.ok;
     }

@@ -1,0 +1,127 @@
+-- What each call of the client comes to.
+use Rattle.std.proofs.Common.{◌≡◌, ℕ, ◌+◌, List, [], ◌++◌, codes, refl, ap, inl, inr, ◌==◌, not}
+use Rattle.std.specs.Prelude.{◌⊎◌}
+use Rattle.pgp_auth.specs.Verifier.{verifier}
+use Rattle.pgp_auth.specs.ScramText.{Binding, Unsupported, Unrequested, TlsServerEndPoint, gs2_header, first_bare}
+use Rattle.pgp_auth.specs.ScramServer.{comma, CutAfterSecondComma, Expects, Accepts, Signs}
+use Rattle.pgp_auth.specs.ScramRefusal.{Refusal, OutOfMemory, Meets, RefusesFirst, Verifies}
+use Rattle.pgp_auth.specs.ScramClient.{Begun, Answered, State, AwaitsFirst, AwaitsFinal, Over, Client, first_text, signature_of, Answers, MadeSome, UpdateRefused, Finished, NotVerified, FinishRefused}
+use Rattle.std.specs.Result.{OnOk, IfErr}
+use Rattle.std.specs.declared.result.Result.{Result}
+use Rattle.std.specs.declared.result.Result.TheVariants.{Ok, Err}
+use Rattle.pgp_auth.specs.declared.scram.error.ScramError.{ScramError}
+use Rattle.pgp_auth.specs.ScramErrorView.{refusal}
+use Rattle.pgp_auth.specs.declared.scram.state.State.{State as CodeState}
+use Rattle.pgp_auth.specs.declared.scram.state.State.TheVariants as code
+use Rattle.pgp_auth.specs.ScramStateView.{state_of}
+use Rattle.pgp_auth.specs.ScramReading.{Granted}
+use Rattle.pgp_auth.specs.ScramAnswer.{client_proof, final_front, AnswersGranted, AnswersText, RefusesText}
+use Rattle.std.proofs.lemmas.List.Sums.{AllPass-from_list_all}
+use Rattle.pgp_auth.proofs.Grants.{granted_meets, not_granted}
+use Rattle.pgp_auth.proofs.ServerSide.{recovers, length-client_proof, proof_bytes}
+
+cuts : (b : Binding) (bare : List ℕ) → CutAfterSecondComma (gs2_header b ++ bare) (gs2_header b) bare
+cuts Unrequested bare = record { one = codes "y"; two = []; one_plain = AllPass-from_list_all (λ x. not (x == comma)) (codes "y") refl; two_plain = AllPass-from_list_all (λ x. not (x == comma)) [] refl; header_is = refl; text_is = refl }
+cuts Unsupported bare = record { one = codes "n"; two = []; one_plain = AllPass-from_list_all (λ x. not (x == comma)) (codes "n") refl; two_plain = AllPass-from_list_all (λ x. not (x == comma)) [] refl; header_is = refl; text_is = refl }
+cuts (TlsServerEndPoint s) bare = record { one = codes "p=tls-server-end-point"; two = []; one_plain = AllPass-from_list_all (λ x. not (x == comma)) (codes "p=tls-server-end-point") refl; two_plain = AllPass-from_list_all (λ x. not (x == comma)) [] refl; header_is = refl; text_is = refl }
+
+-- what the server expects is what the client makes
+expected : (begun : Begun) (text : List ℕ) (g : Granted) (answered : Answered) (before after : ℕ) → Meets begun.nonce text g.nonce g.salt g.count
+    → AnswersGranted begun text g answered before after
+    → Expects begun.binding (first_text begun) text (final_front begun g.nonce) answered.auth
+expected begun text g answered before after m a = record {
+  header = gs2_header begun.binding;
+  bare = first_bare begun.nonce;
+  client_nonce = begun.nonce;
+  nonce = g.nonce;
+  more = m.more;
+  salt_text = m.salt_text;
+  count = g.count;
+  cut = cuts begun.binding (first_bare begun.nonce);
+  header_is = refl;
+  bare_is = refl;
+  server_first_is = m.text_is;
+  nonce_is = m.nonce_is;
+  final_is = refl;
+  auth_is = a.auth_is;
+}
+
+accepted : (begun : Begun) (text : List ℕ) (g : Granted) (answered : Answered) (before after : ℕ) → Meets begun.nonce text g.nonce g.salt g.count
+    → AnswersGranted begun text g answered before after
+    → Accepts (verifier begun.password g.salt g.count) begun.binding (first_text begun) text answered.final
+unfolding verifier
+accepted begun text g answered before after m a = record {
+  front = final_front begun g.nonce;
+  auth = answered.auth;
+  proof = client_proof answered.key answered.auth;
+  expects = expected begun text g answered before after m a;
+  final_is = a.final_is;
+  bytes = proof_bytes answered.key answered.auth;
+  len = length-client_proof answered.key answered.auth;
+  key = rw (← a.key_is) (recovers answered.key answered.auth);
+}
+
+signed : (begun : Begun) (text : List ℕ) (g : Granted) (answered : Answered) (before after : ℕ) → Meets begun.nonce text g.nonce g.salt g.count
+    → AnswersGranted begun text g answered before after
+    → Signs (verifier begun.password g.salt g.count) begun.binding (first_text begun) text (signature_of answered)
+unfolding verifier
+signed begun text g answered before after m a = record {
+  front = final_front begun g.nonce;
+  auth = answered.auth;
+  expects = expected begun text g answered before after m a;
+  signature_is = rw (← a.key_is) refl;
+}
+
+pub update_answers : (old new : Client) (text : List ℕ) (begun : Begun) (answered : Answered) (before after : ℕ) → old.state ≡ AwaitsFirst begun → before ≡ old.hmacs
+    → AnswersText begun text answered before after → new ≡ record { state = AwaitsFinal answered; hmacs = after } → Answers old text new
+update_answers old new text begun answered before after due same a new_is =
+    let meets = granted_meets begun.nonce text a.g a.granted in
+    record {
+      begun = begun;
+      nonce = a.g.nonce;
+      salt = a.g.salt;
+      count = a.g.count;
+      answered = answered;
+      due = due;
+      meets = meets;
+      accepts = accepted begun text a.g answered before after meets a.answers;
+      signs = signed begun text a.g answered before after meets a.answers;
+      key_is = a.answers.key_is;
+      new_is = rw (← same, ← a.answers.hmacs) new_is;
+    }
+
+text_refused : (c text : List ℕ) (e : Refusal) (before after : ℕ) → RefusesText c text e before after
+    → (RefusesFirst c text e × (after ≡ before)) ⊎ ((e ≡ OutOfMemory) × ((after ≡ before) ⊎ MadeSome c text before after))
+text_refused c text e before after (inl (memory, inl none)) = inr (memory, inl none)
+text_refused c text e before after (inl (memory, inr m)) =
+    inr (memory, inr (record { nonce = m.g.nonce; salt = m.g.salt; count = m.g.count; meets = granted_meets c text m.g m.granted; grows = m.grows; at_most = m.at_most }))
+text_refused c text e before after (inr cause) = inl (not_granted c text e cause.0, cause.1)
+
+pub update_refused : (old new : Client) (text : List ℕ) (e : Refusal) (begun : Begun) (before : ℕ) → old.state ≡ AwaitsFirst begun → before ≡ old.hmacs
+    → new.state ≡ Over → RefusesText begun.nonce text e before new.hmacs → UpdateRefused old text e new
+update_refused old new text e begun before due same over r = record {
+  why = rw (due, ← same) (text_refused begun.nonce text e before new.hmacs r);
+  over = over;
+}
+
+pub finished : {E : Type 0} (r : Result (Unit {0}) E) (old new : Client) (text : List ℕ) (answered : Answered) (before : ℕ) → old.state ≡ AwaitsFinal answered → before ≡ old.hmacs
+    → new.state ≡ Over → OnOk r (Verifies (signature_of answered) text) → OnOk r (new.hmacs ≡ before + 2) → OnOk r (Finished old text new)
+finished (Ok u) old new text answered before due same over v count =
+    record { answered = answered; due = due; verifies = v; over = over; hmacs = rw (← same) count }
+finished (Err e) old new text answered before due same over v count = tt
+
+pub finish_refused : {A : Type 0} (r : Result (Unit {0}) (ScramError A)) (old new : Client) (text : List ℕ) (answered : Answered) (before : ℕ) → old.state ≡ AwaitsFinal answered → before ≡ old.hmacs
+    → new.state ≡ Over → IfErr r (λ e. NotVerified (signature_of answered) text (refusal e) before new.hmacs)
+    → IfErr r (λ e. FinishRefused old text (refusal e) new)
+finish_refused (Ok u) old new text answered before due same over v = tt
+finish_refused (Err e) old new text answered before due same over v = record { why = rw (due, ← same) v; over = over }
+
+-- what the fields tell of the value
+pub due_of : (old inside : Client) (x : State) → inside ≡ old → inside.state ≡ x → old.state ≡ x
+due_of old inside x same is = rw (← same) is
+
+pub hmacs_of : (old inside : Client) → inside ≡ old → inside.hmacs ≡ old.hmacs
+hmacs_of old inside same = ap (λ (c : Client). c.hmacs) same
+
+pub over_of : {A : Type 0} (state : CodeState A) → state ≡ code.Over → state_of state ≡ Over
+over_of state is = rw is refl

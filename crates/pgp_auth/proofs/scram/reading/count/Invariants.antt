@@ -1,0 +1,9 @@
+use Rattle.std.proofs.Common.{◌≡◌, ◌<◌, ◌^◌, drop}
+use Rattle.pgp_auth.specs.ScramText.{number, number_from}
+use Rattle.pgp_auth.proofs.scram.reading.count.Given as goal
+
+abbrev pub invariant-loop-d : goal.invariant-loop-d
+invariant-loop-d l = record {
+  value : number_from l.n (drop l.d-index l.digits) ≡ number l.digits;
+  fits : l.n < 2 ^ 32;
+}

@@ -1,0 +1,170 @@
+//! The client's side of an exchange.
+
+ghost use Rattle.std.specs.Prelude.{◌≡◌, ◌+◌, ◌≤◌, List, string_bytes, IfOk, IfErr, OnOk};
+ghost use Rattle.std.specs.Option.{option_copied};
+ghost use Rattle.pgp_auth.specs.Nonce.{drawn_chars};
+ghost use Rattle.pgp_auth.specs.Prepared.{prepared};
+ghost use Rattle.pgp_auth.specs.ScramText.{IsNonce};
+ghost use Rattle.pgp_auth.specs.ScramClient.{fresh, message_of, Answers, UpdateRefused, Finished, FinishRefused};
+ghost use Rattle.pgp_auth.specs.ScramErrorView.{refusal};
+ghost use Rattle.pgp_auth.specs.declared.scram.error.ScramError.TheVariants.{OutOfMemory};
+
+use crate::authentication::sasl::{SaslPrep, mapped};
+use crate::scram::answer::{client_first_text, respond};
+use crate::scram::binding::ChannelBinding;
+use crate::scram::error::ScramError;
+use crate::scram::nonce::draw_nonce;
+use crate::scram::state::{Start, State};
+use crate::scram::verify::verify;
+use rand_core::Rng;
+use std::alloc::{Allocator, Global};
+use std::marker::Model;
+use std::mem;
+
+/// The client's side of an exchange of SCRAM-SHA-256.
+///
+/// `message` is sent, the server's first text is handed to `update`, `message` is sent again, and the
+/// server's final text is handed to `finish`. Where that is Ok, the server has shown that it holds the
+/// password's verifier.
+#[derive(Drop)]
+pub struct ScramSha256<A: Allocator = Global> {
+    state: State<A>,
+    made: u64,
+}
+
+impl<A: Allocator> Model for ScramSha256<A> {
+    ghost use Rattle.std.specs.Prelude.{◌+◌, ◌≤◌};
+    ghost use Rattle.pgp_auth.specs.ScramClient.{Client};
+    ghost use Rattle.pgp_auth.specs.ScramStateView.{state_of, reserve};
+
+    ghost Value = { Client };
+
+    ghost view = { λ client. record { state = state_of client.state; hmacs = client.made } };
+
+    ghost invariant = { λ client. client.made + reserve client.state ≤ 100004 };
+}
+
+impl<A: Allocator + Copy> ScramSha256<A> {
+    /// Begins an exchange with a nonce of 24 characters that the generator draws.
+    pub fn new<P: SaslPrep, R: Rng>(
+        alloc: A,
+        password: &[u8],
+        channel_binding: ChannelBinding<A>,
+        prep: &P,
+        rng: &mut R,
+    ) -> Result<ScramSha256<A>, ScramError<A>>
+        ensures ok { let nonce = (drawn_chars 24 (R.stream rng.old)).0 in
+            IfOk result (λ client. client ≡ fresh (prepared (P.mapping prep.now) password.now) channel_binding nonce) }
+        ensures nonce { IfOk result (λ _. IsNonce (drawn_chars 24 (R.stream rng.old)).0) }
+        ensures drawn { IfOk result (λ _. R.stream rng.new ≡ (drawn_chars 24 (R.stream rng.old)).1) }
+        ensures memory { IfErr result (λ e. e ≡ OutOfMemory) }
+    {
+        let nonce = draw_nonce(alloc, rng)?;
+        begin(alloc, password, channel_binding, nonce, prep)
+    }
+
+    /// Begins an exchange with a given nonce, which has to be a new one each time.
+    pub fn with_nonce<P: SaslPrep>(
+        alloc: A,
+        password: &[u8],
+        channel_binding: ChannelBinding<A>,
+        nonce: String<A>,
+        prep: &P,
+    ) -> Result<ScramSha256<A>, ScramError<A>>
+        requires { IsNonce (string_bytes nonce) }
+        ensures ok { IfOk result (λ client. client ≡ fresh (prepared (P.mapping prep.now) password.now) channel_binding (string_bytes nonce)) }
+        ensures memory { IfErr result (λ e. e ≡ OutOfMemory) }
+    {
+        begin(alloc, password, channel_binding, nonce.into_bytes(), prep)
+    }
+
+    /// The text to send, or `None` once the exchange is over.
+    pub fn message(&self) -> Option<&[u8]>
+        ensures { option_copied result ≡ message_of self.now.state }
+    {
+        match &self.state {
+            State::AwaitsFirst(start) => Some(&start.first_text),
+            State::AwaitsFinal(signed) => Some(&signed.final_text),
+            State::Over => None,
+        }
+    }
+
+    /// The HMACs that `update` and `finish` have made.
+    pub fn hmacs(&self) -> u64
+        ensures value { result ≡ self.now.hmacs }
+        ensures few { result ≤ 100004 }
+    {
+        self.made
+    }
+
+    /// Takes the server's first text. A refusal ends the exchange.
+    pub fn update(&mut self, alloc: A, message: &[u8]) -> Result<(), ScramError<A>>
+        ensures ok { OnOk result (Answers self.old message.now self.new) }
+        ensures err { IfErr result (λ e. UpdateRefused self.old message.now (refusal e) self.new) }
+    {
+        let start = match mem::replace(&mut self.state, State::Over) {
+            State::AwaitsFirst(start) => start,
+            State::AwaitsFinal(_) | State::Over => return Err(ScramError::WrongState),
+        };
+        let mut made = self.made;
+        let answer = respond(alloc, &start, message, &mut made);
+        self.made = made;
+        self.state = State::AwaitsFinal(answer?);
+        Ok(())
+    }
+
+    /// Takes the server's final text, and ends the exchange.
+    pub fn finish(&mut self, alloc: A, message: &[u8]) -> Result<(), ScramError<A>>
+        ensures ok { OnOk result (Finished self.old message.now self.new) }
+        ensures err { IfErr result (λ e. FinishRefused self.old message.now (refusal e) self.new) }
+    {
+        let signed = match mem::replace(&mut self.state, State::Over) {
+            State::AwaitsFinal(signed) => signed,
+            State::AwaitsFirst(_) | State::Over => return Err(ScramError::WrongState),
+        };
+        let mut made = self.made;
+        let outcome = verify(alloc, &signed, message, &mut made);
+        self.made = made;
+        outcome
+    }
+}
+
+// The prepared password, owned.
+fn owned_password<A: Allocator + Copy, P: SaslPrep>(
+    alloc: A,
+    password: &[u8],
+    prep: &P,
+) -> Result<Vec<u8, A>, ScramError<A>>
+    ensures ok { IfOk result (λ v. v.items ≡ prepared (P.mapping prep.now) password.now) }
+    ensures memory { IfErr result (λ e. e ≡ OutOfMemory) }
+{
+    match mapped(alloc, password, prep) {
+        Ok(Some(text)) => Ok(text.into_bytes()),
+        Ok(None) => Ok(Vec::from_slice(alloc, password)?),
+        Err(_) => Err(ScramError::OutOfMemory),
+    }
+}
+
+// An exchange that has begun.
+fn begin<A: Allocator + Copy, P: SaslPrep>(
+    alloc: A,
+    password: &[u8],
+    binding: ChannelBinding<A>,
+    nonce: Vec<u8, A>,
+    prep: &P,
+) -> Result<ScramSha256<A>, ScramError<A>>
+    ensures ok { IfOk result (λ client. client ≡ fresh (prepared (P.mapping prep.now) password.now) binding nonce.items) }
+    ensures memory { IfErr result (λ e. e ≡ OutOfMemory) }
+{
+    let password = owned_password(alloc, password, prep)?;
+    let first_text = client_first_text(alloc, &binding, &nonce)?;
+    Ok(ScramSha256 {
+        state: State::AwaitsFirst(Start {
+            password,
+            binding,
+            nonce,
+            first_text,
+        }),
+        made: 0,
+    })
+}

@@ -1,0 +1,30 @@
+-- What a buffer holds.
+use Rattle.std.specs.Prelude.{◌≡◌, ℕ, ◌+◌, List, [], ◌++◌, length, take, drop}
+
+-- its bytes; what stands behind them, where that is memory of the caller's; and what no call changes, as
+-- whose memory it is
+pub record Held (Kept : Type 0) : Type 0 where
+  pub bytes : List ℕ
+  pub behind : List ℕ
+  pub kept : Kept
+
+-- what a buffer with memory of its own holds
+abbrev pub items_held : List ℕ → Held (Unit {0})
+items_held items = record { bytes = items; behind = []; kept = tt }
+
+-- with these bytes appended, over what stood behind
+unfoldable pub lengthened : {Kept : Type 0} → Held Kept → List ℕ → Held Kept
+lengthened h z = record { bytes = h.bytes ++ z; behind = drop (length z) h.behind; kept = h.kept }
+
+infixl 65 ◌⊕◌
+abbrev pub ◌⊕◌ : {Kept : Type 0} → Held Kept → List ℕ → Held Kept
+h ⊕ z = lengthened h z
+
+-- with z over the bytes at `place`
+unfoldable pub overwritten : {Kept : Type 0} → Held Kept → ℕ → List ℕ → Held Kept
+overwritten h place z = record { bytes = take place h.bytes ++ z ++ drop (place + length z) h.bytes; behind = h.behind; kept = h.kept }
+
+-- the bytes are the same; what stands behind them may not be
+pub record Leaves {Kept : Type 0} (old new : Held Kept) : Type 0 where
+  pub bytes : new.bytes ≡ old.bytes
+  pub kept : new.kept ≡ old.kept
