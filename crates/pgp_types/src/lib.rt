@@ -4,6 +4,7 @@
 //! A refused writer leaves the buffer's bytes as they were. A reader takes no memory: it borrows texts and bytes.
 #![tactic(auto, using(pgp_base::proofs::Parts::held_steps))]
 
+pub mod array;
 mod codec;
 mod geometry;
 pub mod laws;
