@@ -48,10 +48,10 @@ module _ {F T E B K : Type 0} (held : B → Held K) (step : F → T → MutBor B
   -- the array of the dimensions that came and the elements that the serializer made stands behind the old bytes
   pub record ArrayWritten (new : Held K) : Type 0 where
     pub array : Array
-    pub dimensions : Came d_into d_next dimensions array.dimensions None
+    pub dimensions_came : Came d_into d_next dimensions array.dimensions None
     pub in_range : All IsDimension array.dimensions
     pub type : array.element_type ≡ element_type
-    pub elements : Made held step into_iter_gives next_gives elements f last (before_elements old array.dimensions element_type) array.elements
+    pub made : Made held step into_iter_gives next_gives elements f last (before_elements old array.dimensions element_type) array.elements
     pub none : array_cause array ≡ None
     pub appended : new ≡ old ⊕ array_bytes array
 
