@@ -8,8 +8,7 @@ use Rattle.pgp_types.proofs.array.put_dimensions.Goals as goal
 pub loop-dimension-preserved : goal.loop-dimension-preserved
 loop-dimension-preserved g c =
     let i = c.loop-dimension.invariant in
-    let fits : IsDimension c.in-Some.dimension = search rules in
-    (
+    let fits : IsDimension c.in-Some.dimension = search rules in (
       omega (arith, length-append c.loop-dimension.yielded (c.in-Some.dimension ∷ [])),
       omega arith,
       All-push IsDimension c.loop-dimension.yielded c.in-Some.dimension i.2 fits,
