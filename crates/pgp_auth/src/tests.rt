@@ -245,7 +245,7 @@ impl SaslPrep for ToX {
 
 // A generator whose words, low byte first, go up by 4 in each byte.
 #[derive(Drop)]
-struct Counting(u32);
+pub(crate) struct Counting(pub u32);
 
 impl Model for Counting {
     ghost Value = { ℕ };

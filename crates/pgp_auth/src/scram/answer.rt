@@ -24,7 +24,7 @@ const PROOF_LEN: usize = 44;
 const FIXED_LEN: usize = 56;
 
 // The proof of a salted key for the text that is signed, by two HMACs.
-fn proof_of(key: &[u8; 32], auth: &[u8], made: &mut u64) -> [u8; 32]
+pub(crate) fn proof_of(key: &[u8; 32], auth: &[u8], made: &mut u64) -> [u8; 32]
     requires { made.old < 2 ^ 62 }
     ensures value { result ≡ client_proof key.now auth.now }
     ensures count { made.new ≡ made.old + 2 }
