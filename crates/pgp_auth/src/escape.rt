@@ -72,7 +72,11 @@ fn quoted<A: Allocator>(
 
 /// The input as a string constant, between `'`. Where it has a backslash, the constant is of the form
 /// ` E'..'`, with a space in front, so that it may stand right behind a word. Either form is read as the
-/// input whatever `standard_conforming_strings` says.
+/// input whatever `standard_conforming_strings` says (manual, 4.1.2.1 and 4.1.2.2).
+///
+/// # Errors
+///
+/// `OutOfMemory` where memory for the text is refused.
 #[tactic(auto, using(crate::proofs::Quoting::escape_reads, crate::proofs::Quoting::plain_reads))]
 pub fn escape_literal<A: Allocator + Copy>(alloc: A, input: &str) -> Result<String<A>, Error>
     ensures standard { IfOk result (λ t. Literal true (string_bytes t) input.now) }
@@ -87,7 +91,11 @@ pub fn escape_literal<A: Allocator + Copy>(alloc: A, input: &str) -> Result<Stri
 }
 
 /// The input as a quoted identifier, between `"`. A server refuses an empty identifier, and cuts one that
-/// is longer than its limit, which is 63 bytes by default.
+/// is longer than its limit, which is 63 bytes by default (manual, 4.1.1).
+///
+/// # Errors
+///
+/// `OutOfMemory` where memory for the text is refused.
 #[tactic(auto, using(crate::proofs::Quoting::identifier_reads))]
 pub fn escape_identifier<A: Allocator + Copy>(alloc: A, input: &str) -> Result<String<A>, Error>
     ensures ok { IfOk result (λ t. Identifier (string_bytes t) input.now) }

@@ -25,6 +25,11 @@ pub trait SaslPrep {
     ghost mapping: { Self → List ℕ → Option (List ℕ) };
 
     /// The text that is used in the place of `text`, or `None` where `text` is used as it is.
+    ///
+    /// # Errors
+    ///
+    /// `OutOfMemory` where memory for the text is refused, and nothing else: a text that can't be mapped is
+    /// `None`.
     fn prepare<A: Allocator + Copy>(&self, alloc: A, text: &str) -> Result<Option<String<A>>, Error>
         ensures ok { IfOk result (λ o. option_map string_bytes o ≡ mapping self.now text.now) }
         ensures memory { IfErr result (λ e. e ≡ Error.OutOfMemory) };
