@@ -1,7 +1,7 @@
 //! The program's words.
 
 ghost use Rattle.std.specs.Prelude.{◌≡◌, [], map, IfSome, IfNone, IfOk, IfErr, OnOk};
-ghost use Rattle.pgwire.specs.Command.{Asks, IsOther, Obeys, Succeeds, Stops, Runs, ObeysOwn, RunsOwn};
+ghost use Rattle.pgwire.specs.Command.{Asks, IsOther, usage, complaint_of, Obeys, Succeeds, Stops, Runs, ObeysOwn, RunsOwn};
 ghost use Rattle.pgwire.specs.Asked.{asked};
 ghost use Rattle.pgwire.specs.Taken.{AppendsFront};
 
@@ -9,7 +9,7 @@ use crate::backend::backend;
 use crate::fault::Fault;
 use crate::print::put;
 use crate::text;
-use crate::words::texts;
+use crate::words::{lent, texts};
 use hex::FromHex;
 use std::alloc::Allocator;
 use std::io::{Read, Write};
@@ -23,6 +23,30 @@ const USAGE: &str =
 pub struct Outcome {
     pub status: u8,
     pub complaint: &'static str,
+}
+
+impl Outcome {
+    /// The words ask for nothing that there is.
+    fn refused() -> Outcome
+        ensures status { result.status ≡ 2 }
+        ensures complaint { result.complaint.now ≡ usage }
+    {
+        Outcome {
+            status: 2,
+            complaint: USAGE,
+        }
+    }
+
+    /// What was asked for met a fault.
+    fn stopped(fault: Fault) -> Outcome
+        ensures status { result.status ≡ 1 }
+        ensures complaint { result.complaint.now ≡ complaint_of fault }
+    {
+        Outcome {
+            status: 1,
+            complaint: fault.complaint(),
+        }
+    }
 }
 
 /// What the words ask for.
@@ -87,20 +111,14 @@ pub fn obey<A: Allocator + Copy, R: Read, W: Write>(
         result.status result.complaint.now }
 {
     let Some(command) = command_of(words) else {
-        return Outcome {
-            status: 2,
-            complaint: USAGE,
-        };
+        return Outcome::refused();
     };
     match perform(alloc, command, input, output) {
         Ok(status) => Outcome {
             status,
             complaint: "",
         },
-        Err(fault) => Outcome {
-            status: 1,
-            complaint: fault.complaint(),
-        },
+        Err(fault) => Outcome::stopped(fault),
     }
 }
 
@@ -147,15 +165,9 @@ fn obey_own<A: Allocator + Copy, V: Env, R: Read, W: Write>(
     ensures output { IfErr result (λ _. output.new ≡ output.old) }
 {
     let Some(texts) = texts(alloc, env)? else {
-        return Ok(Outcome {
-            status: 2,
-            complaint: USAGE,
-        });
+        return Ok(Outcome::refused());
     };
-    let mut words = Vec::new(alloc);
-    for text in &texts {
-        words.push(text.as_str())?;
-    }
+    let words = lent(alloc, texts.as_slice())?;
     Ok(obey(alloc, words.as_slice(), input, output))
 }
 
@@ -174,10 +186,7 @@ pub fn run_own<A: Allocator + Copy, V: Env, R: Read, W: Write, E: Write>(
 {
     let outcome = match obey_own(alloc, env, input, output) {
         Ok(outcome) => outcome,
-        Err(fault) => Outcome {
-            status: 1,
-            complaint: fault.complaint(),
-        },
+        Err(fault) => Outcome::stopped(fault),
     };
     tell(outcome, errors)
 }

@@ -25,6 +25,18 @@ pub fn texts<A: Allocator + Copy, V: Env>(
     Ok(Some(texts))
 }
 
+/// The texts, lent out.
+pub fn lent<A: Allocator + Copy>(
+    alloc: A,
+    texts: &[String<A>],
+) -> Result<Vec<&str, A>, AllocError> {
+    let mut words = Vec::new(alloc);
+    for text in texts {
+        words.push(text.as_str())?;
+    }
+    Ok(words)
+}
+
 /// The bytes of the word at the place, or nothing behind the last word.
 fn word<A: Allocator + Copy, V: Env>(
     alloc: A,

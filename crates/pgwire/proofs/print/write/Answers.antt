@@ -14,8 +14,8 @@ tries-preserved g c =
     let (done, split, appended) = c.tries.invariant in
     let rest = c.tries.rest.now in
     elim c.match-write.branch [
-      in-Ok w ↦
-        let n = w.in-Ok.n in
-        (done ++ take n rest, moves_front _ done rest n split ∙ ap (λ r. (done ++ take n rest) ++ r.now) (sym w.rest-is), Appends-trans _ _ _ _ _ appended w.in-Ok.ensures.bytes)
-    | in-Err+else-ne w ↦ (done, split ∙ ap (λ r. done ++ r.now) (sym w.rest-is), Appends-kept _ _ _ _ appended w.in-Err.ensures.bytes)
+      | in-Ok w ↦
+          let n = w.in-Ok.n in
+          (done ++ take n rest, moves_front _ done rest n split ∙ ap (λ r. (done ++ take n rest) ++ r.now) (sym w.rest-is), Appends-trans _ _ _ _ _ appended w.in-Ok.ensures.bytes)
+      | in-Err+else-ne w ↦ (done, split ∙ ap (λ r. done ++ r.now) (sym w.rest-is), Appends-kept _ _ _ _ appended w.in-Err.ensures.bytes)
     ]
