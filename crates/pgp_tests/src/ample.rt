@@ -97,7 +97,13 @@ fn long_passwords_have_verifiers(rt: HostRuntime) -> Result<(), Fail> {
         "md553bd144500396c93c81d33cd009a3acd"
     );
     assert_eq!(rt;
-        md5_hash(rt.alloc(), name.as_bytes(), password.as_bytes(), [1, 2, 3, 4])?.as_str(),
+        md5_hash(
+            rt.alloc(),
+            name.as_bytes(),
+            password.as_bytes(),
+            [1, 2, 3, 4]
+        )?
+        .as_str(),
         "md56c6ea7c94ba1b5d4ec344a8c55f0595e"
     );
     Ok(())

@@ -1,6 +1,7 @@
 //! The program's words.
 
-ghost use Rattle.std.specs.Prelude.{◌≡◌, [], map, IfSome, IfNone, IfOk, IfErr, OnOk};
+ghost use Rattle.std.specs.Prelude.{◌≡◌, [], map, IfSome, IfNone, IfOk, IfErr};
+ghost use Rattle.std.specs.Io.KnownBytes.{Keeps};
 ghost use Rattle.pgwire.specs.Command.{Asks, IsOther, usage, complaint_of, Obeys, Succeeds, Stops, Runs, ObeysOwn, RunsOwn};
 ghost use Rattle.pgwire.specs.Asked.{asked};
 ghost use Rattle.pgwire.specs.Taken.{AppendsFront};
@@ -149,8 +150,9 @@ pub fn run<A: Allocator + Copy, R: Read, W: Write, E: Write>(
     tell(obey(alloc, words, input, output), errors)
 }
 
-/// Does what the program's own words ask for. A word that isn't UTF-8 asks for nothing that there is.
-fn obey_own<A: Allocator + Copy, V: Env, R: Read, W: Write>(
+/// Does what the program's own words ask for, where there is memory for them. A word that isn't UTF-8
+/// asks for nothing that there is.
+fn try_own<A: Allocator + Copy, V: Env, R: Read, W: Write>(
     alloc: A,
     env: &V,
     input: &mut R,
@@ -161,14 +163,32 @@ fn obey_own<A: Allocator + Copy, V: Env, R: Read, W: Write>(
         (record { input = R.remaining input.new; output = W.contents output.new })
         outcome.status outcome.complaint.now) }
     ensures fault { IfErr result (λ fault. fault ≡ Fault.Memory) }
-    ensures input { IfErr result (λ _. input.new ≡ input.old) }
-    ensures output { IfErr result (λ _. output.new ≡ output.old) }
+    ensures input { IfErr result (λ _. Keeps (R.remaining input.old) (R.remaining input.new)) }
+    ensures output { IfErr result (λ _. Keeps (W.contents output.old) (W.contents output.new)) }
 {
     let Some(texts) = texts(alloc, env)? else {
         return Ok(Outcome::refused());
     };
     let words = lent(alloc, texts.as_slice())?;
     Ok(obey(alloc, words.as_slice(), input, output))
+}
+
+/// Does what the program's own words ask for.
+fn obey_own<A: Allocator + Copy, V: Env, R: Read, W: Write>(
+    alloc: A,
+    env: &V,
+    input: &mut R,
+    output: &mut W,
+) -> Outcome
+    ensures { ObeysOwn
+        (record { input = R.remaining input.old; output = W.contents output.old })
+        (record { input = R.remaining input.new; output = W.contents output.new })
+        result.status result.complaint.now }
+{
+    match try_own(alloc, env, input, output) {
+        Ok(outcome) => outcome,
+        Err(fault) => Outcome::stopped(fault),
+    }
 }
 
 /// Runs on the words of the process, behind its name.
@@ -184,9 +204,5 @@ pub fn run_own<A: Allocator + Copy, V: Env, R: Read, W: Write, E: Write>(
         (record { input = R.remaining input.new; output = W.contents output.new })
         (E.contents errors.old) (E.contents errors.new) result }
 {
-    let outcome = match obey_own(alloc, env, input, output) {
-        Ok(outcome) => outcome,
-        Err(fault) => Outcome::stopped(fault),
-    };
-    tell(outcome, errors)
+    tell(obey_own(alloc, env, input, output), errors)
 }
