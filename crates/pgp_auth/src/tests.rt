@@ -1,6 +1,8 @@
 ghost use Rattle.std.specs.Prelude.{ℕ, ◌+◌, ◌%◌, ◌^◌, Some, [], ◌∷◌};
 ghost use Rattle.rand_core.specs.Steps.{stream_of, steps_u32};
 
+mod plain;
+
 use crate::authentication::md5_hash;
 use crate::authentication::sasl::{NoPrep, SaslPrep, hi};
 use crate::escape::{escape_identifier, escape_literal};
