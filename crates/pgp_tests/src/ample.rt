@@ -85,11 +85,12 @@ fn long_texts_are_escaped(rt: HostRuntime) -> Result<(), Fail> {
 // The texts were made by python3's `hashlib` and `hmac`.
 #[test]
 fn long_passwords_have_verifiers(rt: HostRuntime) -> Result<(), Fail> {
+    let short = joined(rt.alloc(), "", "p", 1000, "")?;
     let password = joined(rt.alloc(), "", "p", 100_000, "")?;
     let name = joined(rt.alloc(), "", "u", 100_000, "")?;
     let salt = [1, 2, 3, 4, 5, 6, 7, 8, 9, 10, 11, 12, 13, 14, 15, 16];
     assert_eq!(rt;
-        scram_sha_256_salt(rt.alloc(), &password.as_bytes()[..1000], salt, &NoPrep)?.as_str(),
+        scram_sha_256_salt(rt.alloc(), short.as_bytes(), salt, &NoPrep)?.as_str(),
         "SCRAM-SHA-256$4096:AQIDBAUGBwgJCgsMDQ4PEA==$MqHTeIBAypAlamHflntsk3zPy83+iYEDYEVin3aoA0I=:7QXhJ4hzUp9xadcB9Htgr/vq1ByQLTHpg7TSvQUfst8="
     );
     assert_eq!(rt;
