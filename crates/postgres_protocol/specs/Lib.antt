@@ -1,0 +1,3 @@
+pub mod ServerStream
+pub mod ClientRun
+pub mod ClientStream
