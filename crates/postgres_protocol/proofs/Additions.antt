@@ -88,3 +88,24 @@ module _ {B K : Type 0} (held : B → Held K) (a b : B) (o : Bool) (inv : Reads 
 
 pub same_phase : {B : Type 0} {x y : Sent B} {o : Bool} → x ≡ y → y.opened ≡ o → x.opened ≡ o
 same_phase e h = ap (λ (s : Sent _). s.opened) e ∙ h
+
+module _ {B K : Type 0} (held : B → Held K) (a b : B) (o : Bool) (inv : Reads (held a).bytes o) (m : ClientMessage) (plain : is_startup m ≡ false) (e : o ≡ true) (t : is_some (tag_of m) ≡ true) (in_range : IsInRange m) (none : cause m ≡ None) (grown : held b ≡ held a ⊕ bytes_of m) where
+  same : o ≡ (if is_startup m then true else o)
+  same = ap (λ (x : Bool). if x then true else o) (sym plain)
+
+  pub later_added : IsAdded held m (record { buf = a; opened = o }) (record { buf = b; opened = o })
+  later_added = added held a b o inv m o same (later m o e t) in_range none grown
+
+  pub later_stays : Reads (held b).bytes o
+  later_stays = stays held a b o inv m o same (later m o e t) in_range none grown
+
+-- a startup packet was written
+module _ {B K : Type 0} (held : B → Held K) (a b : B) (o : Bool) (inv : Reads (held a).bytes o) (m : ClientMessage) (opens : is_startup m ≡ true) (e : o ≡ false) (s : IsStartup m) (n : IsNamed m) (in_range : IsInRange m) (none : cause m ≡ None) (grown : held b ≡ held a ⊕ bytes_of m) where
+  opened : true ≡ (if is_startup m then true else o)
+  opened = ap (λ (x : Bool). if x then true else o) (sym opens)
+
+  pub first_added : IsAdded held m (record { buf = a; opened = o }) (record { buf = b; opened = true })
+  first_added = added held a b o inv m true opened (earlier m o e (inl s, n)) in_range none grown
+
+  pub first_stays : Reads (held b).bytes true
+  first_stays = stays held a b o inv m true opened (earlier m o e (inl s, n)) in_range none grown
