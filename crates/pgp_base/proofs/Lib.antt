@@ -12,3 +12,5 @@ pub mod RestSteps
 pub mod Parts
 pub mod Prefixes
 pub mod Windows
+pub mod Spellings
+pub mod CountedWalks

@@ -1,17 +1,17 @@
 -- A part that is read is the part that was written, and what was written is read again.
 use Rattle.std.proofs.Common.{◌≡◌, ℕ, zero, suc, ◌+◌, ◌^◌, ◌<◌, ◌≤◌, Bool, true, false, cond, ltb, List, [], ◌∷◌, ◌++◌, length, take, drop, Option, Some, None, Result, Ok, Err, refl, sym, ap, subst, ◌∙◌, arith, inl, inr, FitsSigned}
-use Rattle.std.specs.Int.{w16, w32, from_be_bytes, to_be_bytes, cast_signed, cast_unsigned}
+use Rattle.std.specs.Int.{w16, w32, w64, from_be_bytes, to_be_bytes, cast_signed, cast_unsigned}
 use Rattle.std.specs.Str.{IsUtf8, is_utf8}
 use Rattle.std.proofs.lemmas.Str.{IsUtf8-from_is_utf8, is_utf8-from_IsUtf8}
 use Rattle.std.proofs.lemmas.Bool.{cases_lt, ltb-false, ltb-true, le-ltb, lt-ltb}
 use Rattle.std.proofs.lemmas.Int.{of_z-to_z, to_z-of_z}
 use Rattle.std.proofs.lemmas.List.{take_at, drop_at, take-append-drop, length-append, length-take, length-drop, get_or-drop, get_or-take, get_or_past}
-use Rattle.std.proofs.lemmas.Nat.{be_bytes_2, be_bytes_4, from_be_bytes-to_be_bytes_2, from_be_bytes-to_be_bytes_4}
+use Rattle.std.proofs.lemmas.Nat.{be_bytes_2, be_bytes_4, be_bytes_8, from_be_bytes-to_be_bytes_2, from_be_bytes-to_be_bytes_4, from_be_bytes-to_be_bytes_8}
 use borrow.Author.Gap.{read_sfits}
 use mir.Facts.{Fits-of_z}
 use Rattle.pgp_base.specs.declared.error.Error.{Error}
 use Rattle.pgp_base.specs.declared.error.Error.TheVariants.{UnexpectedEof, NotUtf8}
-use Rattle.pgp_base.specs.Wire.{int16, int32, uint16, uint32, oid, HasNoZero}
+use Rattle.pgp_base.specs.Wire.{int16, int32, int64, uint16, uint32, uint64, oid, HasNoZero}
 use Rattle.pgp_base.specs.Wire.{IsBytes}
 use Rattle.pgp_base.specs.PartReading.{front_at, string_at, text_at, with_first}
 use Rattle.pgp_base.proofs.Strings.{IsString, string_takes, some, some_is}
@@ -123,6 +123,27 @@ uint16_number = record {
   fits = λ front h. below_2 front h;
 }
 
+below_8 : (bytes : List ℕ) → IsBytes bytes → from_be_bytes w64 bytes < 2 ^ 64
+below_8 bytes h = omega (arith, h 0, h 1, h 2, h 3, h 4, h 5, h 6, h 7)
+
+pub int64_number : IsNumber 8 (FitsSigned w64) int64 (λ l. cast_signed w64 (from_be_bytes w64 l))
+unfolding int64
+int64_number = record {
+  len = λ n. refl;
+  back = λ n fits. ap (cast_signed w64) (from_be_bytes-to_be_bytes_8 (cast_unsigned w64 n) (omega (arith, Fits-of_z fits))) ∙ to_z-of_z w64 n fits;
+  spelled = λ front h len. ap (to_be_bytes w64) (of_z-to_z w64 (from_be_bytes w64 front) (below_8 front h)) ∙ be_bytes_8 front _ len h refl;
+  fits = λ front h. read_sfits w64 (from_be_bytes w64 front);
+}
+
+pub uint64_number : IsNumber 8 (λ n. n < 2 ^ 64) uint64 (λ l. from_be_bytes w64 l)
+unfolding uint64
+uint64_number = record {
+  len = λ n. refl;
+  back = λ n fits. from_be_bytes-to_be_bytes_8 n fits;
+  spelled = λ front h len. be_bytes_8 front _ len h refl;
+  fits = λ front h. below_8 front h;
+}
+
 -- texts
 pub text_read : (bytes string rest : List ℕ) → string_at bytes ≡ Some (string, rest) → IsUtf8 string → text_at bytes ≡ Ok (string, rest)
 unfolding text_at
@@ -158,7 +179,7 @@ TextFound bytes (Err UnexpectedEof) = HasNoZero bytes
 TextFound bytes (Err NotUtf8) = IsNoText bytes
 TextFound bytes (Err e) = ⊥
 
-some_none : {A : Type 0} (x : A) → some x ≡ None → ⊥
+pub some_none : {A : Type 0} (x : A) → some x ≡ None → ⊥
 some_none x e = absurd cc
 
 first_none : (b : ℕ) (o : Option (List ℕ × List ℕ)) → with_first b o ≡ None → o ≡ None

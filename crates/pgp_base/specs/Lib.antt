@@ -12,3 +12,4 @@ pub mod Grammar
 pub mod PartReading
 pub mod WalkReading
 pub mod CountedRest
+pub mod CountedWalk

@@ -1,8 +1,14 @@
+//! Expected bytes are from the message formats of the PostgreSQL manual.
+
+ghost use Rattle.pgp_base.specs.Calls.{Keeps};
+ghost use Rattle.pgp_base.specs.Held.{items_held};
+
 use crate::{
-    BindError, Buffer, Error, IsNull, i16_from_usize, i32_from_usize, put_u8, u16_from_usize,
-    write_body, write_counted, write_cstr, write_nullable,
+    BindError, Buffer, Error, IsNull, Window, i16_from_usize, i32_from_usize, put_u8,
+    u16_from_usize, write_body, write_counted, write_cstr, write_nullable,
 };
 use bytes::BytesMut;
+use std::test::Fail;
 
 // `?` makes a writer's own refusal from an `Error`.
 #[test]
@@ -66,4 +72,97 @@ fn a_refusal_restores_the_buffer(rt: HostRuntime) {
     let items = write_counted(0..65_536u32, item, &mut buf);
     assert!(rt; matches!(&items, Err(BindError::Serialization(Error::TooLarge))));
     assert_eq!(rt; buf.as_slice(), b"x\0".as_slice());
+}
+
+// The text of a refusal is the name of its variant.
+#[test]
+fn refusals_are_told_by_name(rt: HostRuntime) -> Result<(), Fail> {
+    for (refusal, name) in [
+        (Error::OutOfMemory, "OutOfMemory"),
+        (Error::EmbeddedNull, "EmbeddedNull"),
+        (Error::TooLarge, "TooLarge"),
+        (Error::InvalidLength, "InvalidLength"),
+        (Error::UnknownTag(33), "UnknownTag"),
+        (Error::UnknownAuthentication(-1), "UnknownAuthentication"),
+        (Error::UnexpectedEof, "UnexpectedEof"),
+        (Error::NotDrained, "NotDrained"),
+        (Error::NotUtf8, "NotUtf8"),
+        (Error::InvalidSize, "InvalidSize"),
+        (Error::InvalidCount, "InvalidCount"),
+        (Error::InvalidKeyLength, "InvalidKeyLength"),
+        (Error::InvalidValueLength, "InvalidValueLength"),
+        (Error::InvalidDimension, "InvalidDimension"),
+        (Error::TooManyElements, "TooManyElements"),
+        (Error::InvalidBitLength, "InvalidBitLength"),
+        (Error::InvalidNetmask, "InvalidNetmask"),
+        (Error::InvalidAddressLength, "InvalidAddressLength"),
+        (Error::InvalidFamily, "InvalidFamily"),
+        (Error::InvalidVersion, "InvalidVersion"),
+    ] {
+        let text = refusal.to_string(rt.alloc())?;
+        assert_eq!(rt; text.as_str(), name);
+    }
+    Ok(())
+}
+
+#[test]
+#[tactic(auto, using(crate::proofs::Parts::held_steps))]
+fn the_item_past_the_count_is_not_serialized(rt: HostRuntime) {
+    for (items, written, bytes) in [(65_535u32, true, 65_537usize), (65_536, false, 0)] {
+        let mut buf = BytesMut::new(rt.alloc());
+        let mut calls = 0u32;
+        let item = |_: u32, buf: &mut BytesMut| -> Result<(), Error>
+            ensures { Keeps result (items_held buf.entry.now.items) (items_held buf.exit.now.items) }
+        {
+            calls = calls.saturating_add(1);
+            put_u8(buf, b'a')
+        };
+        let answer = write_counted(0..items, item, &mut buf);
+        assert_eq!(rt; answer.is_ok(), written);
+        assert_eq!(rt; calls, 65_535);
+        assert_eq!(rt; buf.len(), bytes);
+    }
+}
+
+#[test]
+fn a_long_text_finds_memory(rt: HostRuntime) {
+    let mut buf = BytesMut::new(rt.alloc());
+    assert_eq!(rt; write_cstr(&[b'a'; 100_000], &mut buf), Ok(()));
+    assert_eq!(rt; buf.len(), 100_001);
+    assert_eq!(rt; buf.as_slice().last(), Some(&0));
+}
+
+// A text in memory of the caller's, which has room for `abc` and its 0, or a byte less.
+#[test]
+fn a_text_takes_the_room_of_its_bytes(rt: HostRuntime) {
+    let mut room = [0xffu8; 6];
+    let mut window = Window::new(&mut room[..4]);
+    assert_eq!(rt; write_cstr(b"abc", &mut window), Ok(()));
+    assert_eq!(rt; window.as_slice(), b"abc\0".as_slice());
+    assert_eq!(rt; room.as_slice(), b"abc\0\xff\xff".as_slice());
+
+    let mut room = [0xffu8; 6];
+    let mut window = Window::new(&mut room[..3]);
+    assert_eq!(rt; write_cstr(b"abc", &mut window), Err(Error::OutOfMemory));
+    assert_eq!(rt; window.len(), 0);
+    assert_eq!(rt; room.as_slice(), [0xff; 6].as_slice());
+}
+
+#[test]
+fn an_appended_piece_is_drained(rt: HostRuntime) {
+    let mut buf = BytesMut::new(rt.alloc());
+    let mut more = b"abc".as_slice();
+    assert!(rt; buf.append_from(&mut more).is_ok());
+    assert_eq!(rt; more, b"".as_slice());
+    assert_eq!(rt; buf.as_slice(), b"abc".as_slice());
+
+    let mut room = [0xffu8; 3];
+    let mut window = Window::new(&mut room);
+    let mut more = b"abcd".as_slice();
+    assert!(rt; window.append_from(&mut more).is_err());
+    assert_eq!(rt; more, b"abcd".as_slice());
+    let mut more = b"ab".as_slice();
+    assert!(rt; window.append_from(&mut more).is_ok());
+    assert_eq!(rt; more, b"".as_slice());
+    assert_eq!(rt; room.as_slice(), b"ab\xff".as_slice());
 }

@@ -12,7 +12,7 @@ use Rattle.pgp_base.specs.declared.error.BindError.{BindError}
 use Rattle.pgp_base.specs.declared.error.BindError.TheVariants.{Conversion, Serialization}
 use Rattle.pgp_base.specs.declared.number.IsNull.{IsNull}
 use Rattle.pgp_frontend.specs.ClientMessage.{Bind}
-use Rattle.pgp_frontend.specs.Given.{Begun, Served, ValuesRefused, before_values, BindWhole, BindRefused, Appended}
+use Rattle.pgp_frontend.specs.Given.{Begun, Serves, Served, ValuesRefused, before_values, BindWhole, BindRefused, Appended}
 use Rattle.pgp_frontend.specs.Payload.{Part, Text, Int16s, Values, joined, part_cause, parts_cause}
 use Rattle.pgp_frontend.proofs.Fields.{cause_more, cause_here}
 use Rattle.pgp_frontend.proofs.Frames.{frame_room, frame_done, frame_fits, frame_passes, tagged}
@@ -20,39 +20,39 @@ use Rattle.pgp_frontend.proofs.Texts.{part_more}
 
 module _ {F T E B K : Type 0} (held : B → Held K) (step : F → T → MutBor B → Result IsNull E → MutBor B → F → Type 0) {U S : Type 0} (into_iter_gives : U → S → Type 0) (next_gives : S → Option T → S → Type 0) (source : U) (f last : F) where
   -- the same, before which a buffer held the same
-  pub refused_at : (here there : Held K) (lacks : Type 0) (e : BindError E) → here ≡ there → ValuesRefused held step into_iter_gives next_gives source f last here lacks e → ValuesRefused held step into_iter_gives next_gives source f last there lacks e
-  refused_at here there lacks e h r = subst (λ (here : Held K). ValuesRefused held step into_iter_gives next_gives source f last here lacks e) h r
+  pub refused_at : (here there : Held K) (lacks : Type 0) (e : BindError E) → here ≡ there → ValuesRefused (Came into_iter_gives next_gives source) (Serves held step f last) here lacks e → ValuesRefused (Came into_iter_gives next_gives source) (Serves held step f last) there lacks e
+  refused_at here there lacks e h r = subst (λ (here : Held K). ValuesRefused (Came into_iter_gives next_gives source) (Serves held step f last) here lacks e) h r
 
-  pub served_at : (here there : Held K) (vs : List (Option (List ℕ))) → here ≡ there → Served held step into_iter_gives next_gives source f last here vs → Served held step into_iter_gives next_gives source f last there vs
-  served_at here there vs h r = subst (λ (here : Held K). Served held step into_iter_gives next_gives source f last here vs) h r
+  pub served_at : (here there : Held K) (vs : List (Option (List ℕ))) → here ≡ there → Served (Came into_iter_gives next_gives source) (Serves held step f last) here vs → Served (Came into_iter_gives next_gives source) (Serves held step f last) there vs
+  served_at here there vs h r = subst (λ (here : Held K). Served (Came into_iter_gives next_gives source) (Serves held step f last) here vs) h r
 
 module _ {F T E B K : Type 0} (held : B → Held K) (step : F → T → MutBor B → Result IsNull E → MutBor B → F → Type 0) {UI SI UJ SJ UK SK : Type 0} (i_into : UI → SI → Type 0) (i_next : SI → Option ℤ → SI → Type 0) (j_into : UJ → SJ → Type 0) (j_next : SJ → Option T → SJ → Type 0) (k_into : UK → SK → Type 0) (k_next : SK → Option ℤ → SK → Type 0)
     (portal statement : List ℕ) (formats : UI) (values : UJ) (f last : F) (result_formats : UK) (old : Held K) (lacks : Type 0) where
   abbrev pub Refusal : BindError E → Type 0
-  Refusal e = BindRefused held step i_into i_next j_into j_next k_into k_next portal statement formats values f last result_formats old lacks e
+  Refusal e = BindRefused portal statement (Came i_into i_next formats) (Came j_into j_next values) (Serves held step f last) (Came k_into k_next result_formats) old lacks e
 
-  pub formats_refused : (e : Error) → last ≡ f
-      → WantsMemory lacks e ⊎ ((parts_cause (Text portal ∷ Text statement ∷ []) ≡ Some e) ⊎ ((fs : List ℤ) × Begun i_into i_next Int16s formats fs × (parts_cause (Text portal ∷ Text statement ∷ Int16s fs ∷ []) ≡ Some e)))
+  pub formats_refused : (e : Error) → f ≡ last
+      → WantsMemory lacks e ⊎ ((parts_cause (Text portal ∷ Text statement ∷ []) ≡ Some e) ⊎ ((fs : List ℤ) × Begun (Came i_into i_next formats) Int16s fs × (parts_cause (Text portal ∷ Text statement ∷ Int16s fs ∷ []) ≡ Some e)))
       → Refusal (Serialization e)
   formats_refused e same (inl memory) = inl (memory.0, (memory.1, inl same))
   formats_refused e same (inr (inl texts)) = inr (inl (Text portal ∷ Text statement ∷ [], inl (same, refl), texts))
   formats_refused e same (inr (inr past)) = inr (inl (Text portal ∷ Text statement ∷ Int16s past.0 ∷ [], inr (inl (same, (past.0, past.1, refl))), past.2))
 
   module _ (fs : List ℤ) (came : Came i_into i_next formats fs None) (none : parts_cause (Text portal ∷ Text statement ∷ Int16s fs ∷ []) ≡ None) where
-    pub values_refused : (e : BindError E) → ValuesRefused held step j_into j_next values f last (before_values old portal statement fs) lacks e → Refusal e
-    values_refused (Conversion e) r = (fs, came, none, r)
+    pub values_refused : (e : BindError E) → ValuesRefused (Came j_into j_next values) (Serves held step f last) (before_values old portal statement fs) lacks e → Refusal e
+    values_refused (Conversion e) r = (fs, (came, none), r)
     values_refused (Serialization e) r =
         elim r [
-          | inl memory ↦ inl (memory.0, (memory.1.0, inr (fs, came, memory.1.1)))
+          | inl memory ↦ inl (memory.0, (memory.1.0, elim memory.1.1 [ inl none_asked ↦ inl none_asked | inr first ↦ inr (fs, (came, none), first) ]))
           | inr v ↦ inr (inl (Text portal ∷ Text statement ∷ Int16s fs ∷ Values v.0 ∷ [], inr (inr (inl (fs, came, (v.0, v.1, refl)))), cause_here (Text portal ∷ Text statement ∷ Int16s fs ∷ []) (Values v.0) [] e none v.2))
         ]
 
-    module _ (vs : List (Option (List ℕ))) (served : Served held step j_into j_next values f last (before_values old portal statement fs) vs) (fit : part_cause (Values vs) ≡ None) where
+    module _ (vs : List (Option (List ℕ))) (served : Served (Came j_into j_next values) (Serves held step f last) (before_values old portal statement fs) vs) (fit : part_cause (Values vs) ≡ None) where
       four_none : parts_cause (Text portal ∷ Text statement ∷ Int16s fs ∷ Values vs ∷ []) ≡ None
       four_none = cause_more (Text portal ∷ Text statement ∷ Int16s fs ∷ []) (Values vs) none fit
 
-      pub results_refused : (e : Error) → WantsMemory lacks e ⊎ ((rs : List ℤ) × Begun k_into k_next Int16s result_formats rs × (part_cause (Int16s rs) ≡ Some e)) → Refusal (Serialization e)
-      results_refused e (inl memory) = inl (memory.0, (memory.1, inr (fs, came, inr (inr (vs, served)))))
+      pub results_refused : (e : Error) → WantsMemory lacks e ⊎ ((rs : List ℤ) × Begun (Came k_into k_next result_formats) Int16s rs × (part_cause (Int16s rs) ≡ Some e)) → Refusal (Serialization e)
+      results_refused e (inl memory) = inl (memory.0, (memory.1, inr (fs, (came, none), record { xs = served.xs; next = None; came = served.came; vs = vs; made = served.made; none = fit })))
       results_refused e (inr past) =
           inr (inl (
             Text portal ∷ Text statement ∷ Int16s fs ∷ Values vs ∷ Int16s past.0 ∷ [],
@@ -83,7 +83,7 @@ module _ {F T E B K : Type 0} (held : B → Held K) (step : F → T → MutBor B
             inr (inr (Bind portal statement fs vs rs, (fs, came, (vs, served, (rs, results, refl))), frame_passes all (old ⊕ 66 ∷ []) (old ⊕ 66 ∷ [] ⊕ uint32 0) d base refl stands size e all_none h))
 
         pub bind_written : (r : Held K) → All (FitsSigned w16) fs → All (FitsSigned w16) rs → length_cause (length d.bytes - base) ≡ None → r ≡ overwritten d base (uint32 (length d.bytes - base))
-            → Appended (BindWhole held step i_into i_next j_into j_next k_into k_next portal statement formats values f last result_formats old) old r
+            → Appended (BindWhole portal statement (Came i_into i_next formats) (Came j_into j_next values) (Serves held step f last) (Came k_into k_next result_formats) old) old r
         bind_written r fs_fit rs_fit fits done = record {
           message = Bind portal statement fs vs rs;
           whole = (fs, came, (vs, served, (rs, results, refl)));

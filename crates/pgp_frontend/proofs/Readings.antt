@@ -3,7 +3,7 @@ use Rattle.std.proofs.Common.{◌≡◌, ◌≢◌, ℕ, ◌+◌, ◌<◌, ◌^�
 use Rattle.pgp_frontend.specs.Opening.{Opening}
 use Rattle.std.specs.Prelude.{pos, slice_index, slice_index_or, ◌==◌, if◌then◌else◌}
 use Rattle.std.proofs.lemmas.List.{append-nil}
-use Rattle.pgp_base.specs.Wire.{int32, uint32}
+use Rattle.pgp_base.specs.Wire.{int32, uint32, frame}
 use Rattle.pgp_base.specs.Cause.{length_cause}
 use Rattle.pgp_base.proofs.Causes.{either_left, either_right, fits_of}
 use Rattle.pgp_base.proofs.Prefixes.{fronts, uint32_begins}
@@ -203,6 +203,10 @@ tagged_bodies a b p q x y h k e =
     let r : framed None p ++ x ≡ framed None q ++ y = cc in
     let s = bodies p q x y h k r in
     (t, s.0, s.1)
+
+-- no frame begins another
+pub any_frame_read : (t u : ℕ) (p q x y : List ℕ) → length_cause (length p + 4) ≡ None → length_cause (length q + 4) ≡ None → frame t p ++ x ≡ frame u q ++ y → (t ≡ u) × (p ≡ q) × (x ≡ y)
+any_frame_read t u p q x y h k e = tagged_bodies t u p q x y (omega (arith, fits_of (length p + 4) h)) (omega (arith, fits_of (length q + 4) k)) e
 
 -- a tag that is there
 tag_in : (t : Option ℕ) → t ≢ None → (a : ℕ) × (t ≡ Some a)

@@ -13,7 +13,7 @@ use Rattle.pgp_base.specs.declared.error.Error.TheVariants.{TooLarge}
 use Rattle.pgp_base.specs.declared.error.BindError.{BindError}
 use Rattle.pgp_base.specs.declared.error.BindError.TheVariants.{Conversion, Serialization}
 use Rattle.pgp_base.specs.declared.number.IsNull.{IsNull}
-use Rattle.pgp_frontend.specs.Given.{ValuesRefused}
+use Rattle.pgp_frontend.specs.Given.{Serves, ValuesRefused}
 use Rattle.pgp_frontend.specs.Payload.{part_cause, Values}
 
 module _ {F T E B K : Type 0} (held : B → Held K) (step : F → T → MutBor B → Result IsNull E → MutBor B → F → Type 0) where
@@ -46,32 +46,31 @@ module _ {F T E B K : Type 0} (held : B → Held K) (step : F → T → MutBor B
   -- a value that was refused behind those that were made
   pub value_stops : (xs : List T) (x : T) (vs : List (Option (List ℕ))) (at u : F) (b : Held K) (e : BindError E)
       → Came into_iter_gives next_gives source xs (Some x) → Runs (Gives held step) nullable here f xs vs at → length xs < 65535 → b ≡ here ⊕ flat_map nullable vs
-      → ValueRefused held step lacks b at x e u → ValuesRefused held step into_iter_gives next_gives source f u here lacks e
+      → ValueRefused held step lacks b at x e u → ValuesRefused (Came into_iter_gives next_gives source) (Serves held step f u) here lacks e
   value_stops xs x vs at u b (Conversion e) came runs few h r =
-      let n = Runs-length (Gives held step) nullable here f xs vs at runs in
-      record { before = vs; x = x; at = at; served = record { xs = xs; came = came; runs = runs }; few = omega (arith, n); bytes = r.0; put = Puts-at _ _ (ap (λ b. b ⊕ uint32 0) h) r.1 }
+      record { xs = xs; x = x; came = came; few = few; before = vs; bytes = r.0; made = (at, runs, Puts-at _ _ (ap (λ b. b ⊕ uint32 0) h) r.1) }
   value_stops xs x vs at u b (Serialization e) came runs few h r =
       let n = Runs-length (Gives held step) nullable here f xs vs at runs in
       let few' : length vs < 65535 = omega (arith, n) in
       elim r [
         | inl memory ↦
             let runs' : Runs (Gives held step) nullable here f xs vs u = subst (λ (t : F). Runs (Gives held step) nullable here f xs vs t) (sym memory.1) runs in
-            inl (memory.0.0, (memory.0.1, inr (inl (vs, x, record { xs = xs; came = came; runs = runs' }))))
+            inl (memory.0.0, (memory.0.1, inr (record { xs = xs; next = Some x; came = came; vs = vs; made = runs'; none = values_fit vs (omega arith) (Runs-fit held step here f xs vs at runs) })))
         | inr long ↦ inr (
           vs ++ Some long.0 ∷ [],
-          record { before = vs; x = x; at = at; served = record { xs = xs; came = came; runs = runs }; value = Some long.0; are = refl; made = inr (few', (long.0, Puts-at _ _ (ap (λ b. b ⊕ uint32 0) h) long.1, refl)) },
+          record { xs = xs; x = x; came = came; before = vs; value = Some long.0; are = refl; made = inr (few, (long.0, (at, runs, Puts-at _ _ (ap (λ b. b ⊕ uint32 0) h) long.1), refl)) },
           values_long vs (Some long.0) e few' (Runs-fit held step here f xs vs at runs) long.2,
         )
       ]
 
   -- an item past the count's field
   pub count_stops : (xs : List T) (x : T) (vs : List (Option (List ℕ))) (at : F) → Came into_iter_gives next_gives source xs (Some x) → Runs (Gives held step) nullable here f xs vs at → length xs ≡ 65535
-      → (let e : BindError E = Serialization TooLarge in ValuesRefused held step into_iter_gives next_gives source f at here lacks e)
+      → (let e : BindError E = Serialization TooLarge in ValuesRefused (Came into_iter_gives next_gives source) (Serves held step f at) here lacks e)
   count_stops xs x vs at came runs n =
       let k = Runs-length (Gives held step) nullable here f xs vs at runs in
       let full : length vs ≡ 65535 = sym k ∙ n in
       inr (
         vs ++ None ∷ [],
-        record { before = vs; x = x; at = at; served = record { xs = xs; came = came; runs = runs }; value = None; are = refl; made = inl (full, refl) },
+        record { xs = xs; x = x; came = came; before = vs; value = None; are = refl; made = inl (n, runs) },
         values_past vs None full (Runs-fit held step here f xs vs at runs),
       )

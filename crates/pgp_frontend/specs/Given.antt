@@ -1,4 +1,5 @@
--- What the writers over iterators come to.
+-- What the writers over iterators come to. What an iterator gave is one relation: `given xs None` says that it
+-- gave xs and ended, `given xs (Some x)` that it gave xs and then x.
 use Rattle.std.specs.Prelude.{◌≡◌, ◌⊎◌, ℕ, ℤ, List, [], ◌∷◌, ◌++◌, map, Option, Some, None, Result, Ok, Err}
 use Rattle.pgp_base.specs.declared.error.Error.{Error}
 use Rattle.std.specs.Borrow.{Bor}
@@ -7,7 +8,7 @@ use Rattle.pgp_frontend.specs.Payload.{Part, Int32, Text, Int16s, Oids, Values, 
 use Rattle.std.specs.Prelude.{pos, ◌<◌, length}
 use Rattle.std.specs.List.{flat_map}
 use Rattle.pgp_base.specs.Wire.{uint16, uint32, nullable}
-use Rattle.pgp_base.specs.Calls.{Came, Puts, Gives, Runs}
+use Rattle.pgp_base.specs.Calls.{Puts, Gives, Runs}
 use Rattle.pgp_base.specs.Cause.{WantsMemory}
 use Rattle.pgp_base.specs.Held.{Held, ◌⊕◌, Leaves}
 use Rattle.pgp_base.specs.declared.number.IsNull.{IsNull}
@@ -37,22 +38,25 @@ module _ (Whole : ClientMessage → Type 0) (Reached : List Part → Type 0) (la
   WritesGiven old new (Ok done) = Appended Whole old new
   WritesGiven old new (Err e) = Refused e × Leaves old new
 
-module _ {U S A : Type 0} (into_iter_gives : U → S → Type 0) (next_gives : S → Option A → S → Type 0) (part : List A → Part) where
-  -- the first items of `source`, up to the one at which the call was refused: those before it make a part with no cause
-  pub record Begun (source : U) (xs : List A) : Type 0 where
-    pub before : List A
-    pub last : A
-    pub came : Came into_iter_gives next_gives source before (Some last)
-    pub none : part_cause (part before) ≡ None
-    pub are : xs ≡ before ++ last ∷ []
+-- The first items that came, up to the one at which the call was refused: those before it make a part with no cause.
+pub record Begun {A : Type 0} (given : List A → Option A → Type 0) (part : List A → Part) (xs : List A) : Type 0 where
+  pub before : List A
+  pub last : A
+  pub came : given before (Some last)
+  pub none : part_cause (part before) ≡ None
+  pub are : xs ≡ before ++ last ∷ []
 
-module _ {U S : Type 0} (into_iter_gives : U → S → Type 0) (next_gives : S → Option ℕ → S → Type 0) (name query : List ℕ) (param_types : U) where
+-- `parse` of these texts and of the types that were given
+module _ (name query : List ℕ) (types : List ℕ → Option ℕ → Type 0) where
   abbrev pub ParseWhole : ClientMessage → Type 0
-  ParseWhole m = (types : List ℕ) × Came into_iter_gives next_gives param_types types None × (m ≡ Parse name query types)
+  ParseWhole m = (ts : List ℕ) × types ts None × (m ≡ Parse name query ts)
 
   abbrev pub ParseReached : List Part → Type 0
   ParseReached ps = (ps ≡ Text name ∷ Text query ∷ [])
-      ⊎ ((types : List ℕ) × Begun into_iter_gives next_gives Oids param_types types × (ps ≡ Text name ∷ Text query ∷ Oids types ∷ []))
+      ⊎ ((ts : List ℕ) × Begun types Oids ts × (ps ≡ Text name ∷ Text query ∷ Oids ts ∷ []))
+
+  abbrev pub WritesParse : {K : Type 0} → Type 0 → Held K → Held K → Result (Unit {0}) Error → Type 0
+  WritesParse lacks old new result = WritesGiven ParseWhole ParseReached lacks old new result
 
 -- the bytes of a name and a value
 abbrev pub shown : Bor (List ℕ) × Bor (List ℕ) → List ℕ × List ℕ
@@ -62,52 +66,75 @@ shown x = (x.0.now, x.1.now)
 abbrev pub shown_pairs : List (Bor (List ℕ) × Bor (List ℕ)) → Part
 shown_pairs xs = Pairs (map shown xs)
 
-module _ {U S : Type 0} (into_iter_gives : U → S → Type 0) (next_gives : S → Option (Bor (List ℕ) × Bor (List ℕ)) → S → Type 0) (parameters : U) where
+-- `startup_message` of the names and values that were given
+module _ (parameters : List (Bor (List ℕ) × Bor (List ℕ)) → Option (Bor (List ℕ) × Bor (List ℕ)) → Type 0) where
   abbrev pub StartupWhole : ClientMessage → Type 0
-  StartupWhole m = (xs : List (Bor (List ℕ) × Bor (List ℕ))) × Came into_iter_gives next_gives parameters xs None × (m ≡ Startup (map shown xs))
+  StartupWhole m = (xs : List (Bor (List ℕ) × Bor (List ℕ))) × parameters xs None × (m ≡ Startup (map shown xs))
 
   abbrev pub StartupReached : List Part → Type 0
-  StartupReached ps = (xs : List (Bor (List ℕ) × Bor (List ℕ))) × Begun into_iter_gives next_gives shown_pairs parameters xs × (ps ≡ Int32 (pos 196608) ∷ shown_pairs xs ∷ [])
+  StartupReached ps = (xs : List (Bor (List ℕ) × Bor (List ℕ))) × Begun parameters shown_pairs xs × (ps ≡ Int32 (pos 196608) ∷ shown_pairs xs ∷ [])
 
--- The values that a serializer makes of the items of `source`. `here` is what the buffer holds before the
--- first of them, `last` the state in which the serializer was left.
-module _ {F T E B K : Type 0} (held : B → Held K) (step : F → T → MutBor B → Result IsNull E → MutBor B → F → Type 0) {U S : Type 0} (into_iter_gives : U → S → Type 0) (next_gives : S → Option T → S → Type 0) (source : U) (f last : F) (here : Held K) where
-  -- the serializer was called once at each item, in order, each time behind the values before it, and made vs
+  abbrev pub WritesStartup : {K : Type 0} → Type 0 → Held K → Held K → Result (Unit {0}) Error → Type 0
+  WritesStartup lacks old new result = WritesGiven StartupWhole StartupReached lacks old new result
+
+-- a call of a serializer: the item, its answer, and the bytes that it put behind the place of the value's length
+pub record Call (T E : Type 0) : Type 0 where
+  pub item : T
+  pub answer : Result IsNull E
+  pub bytes : List ℕ
+
+-- What a serializer did, which began as `f` and was left as `last`. With `here` in the buffer it was called once
+-- at each of xs, in order, each time behind the values before it, and made vs; and then at one item more, if a
+-- call is told that made no value.
+module _ {F T E B K : Type 0} (held : B → Held K) (step : F → T → MutBor B → Result IsNull E → MutBor B → F → Type 0) (f last : F) where
+  abbrev pub Serves : Held K → List T → List (Option (List ℕ)) → Option (Call T E) → Type 0
+  Serves here xs vs None = Runs (Gives held step) nullable here f xs vs last
+  Serves here xs vs (Some call) = (at : F) × Runs (Gives held step) nullable here f xs vs at
+      × Puts held step (here ⊕ flat_map nullable vs ⊕ uint32 0) at call.item call.answer call.bytes last
+
+-- The values of the items that were given, as `serves` tells what the serializer did. `here` is what the buffer
+-- holds before the first of them.
+module _ {T E K : Type 0} (given : List T → Option T → Type 0) (serves : Held K → List T → List (Option (List ℕ)) → Option (Call T E) → Type 0) (here : Held K) where
+  -- the serializer made vs of all items
   pub record Served (vs : List (Option (List ℕ))) : Type 0 where
     pub xs : List T
-    pub came : Came into_iter_gives next_gives source xs None
-    pub runs : Runs (Gives held step) nullable here f xs vs last
-
-  -- of the first items it made `before`, and an item came behind them
-  pub record ServedFront (before : List (Option (List ℕ))) (x : T) (at : F) : Type 0 where
-    pub xs : List T
-    pub came : Came into_iter_gives next_gives source xs (Some x)
-    pub runs : Runs (Gives held step) nullable here f xs before at
+    pub came : given xs None
+    pub made : serves here xs vs None
 
   -- Values up to the one at which the call was refused: the item came past the count's field, and the
   -- serializer wasn't called at it (any value stands for it), or its bytes pass the length's field.
   pub record ValuesBegun (vs : List (Option (List ℕ))) : Type 0 where
-    pub before : List (Option (List ℕ))
+    pub xs : List T
     pub x : T
-    pub at : F
-    pub served : ServedFront before x at
+    pub came : given xs (Some x)
+    pub before : List (Option (List ℕ))
     pub value : Option (List ℕ)
     pub are : vs ≡ before ++ value ∷ []
-    pub made : ((length before ≡ 65535) × (last ≡ at)) ⊎ ((length before < 65535) × ((bytes : List ℕ) × Puts held step (here ⊕ flat_map nullable before ⊕ uint32 0) at x (Ok No) bytes last × (value ≡ Some bytes)))
+    pub made : ((length xs ≡ 65535) × serves here xs before None)
+        ⊎ ((length xs < 65535) × ((bytes : List ℕ) × serves here xs before (Some (record { item = x; answer = Ok No; bytes = bytes })) × (value ≡ Some bytes)))
 
   -- the serializer refused with e
   pub record Converts (e : E) : Type 0 where
-    pub before : List (Option (List ℕ))
+    pub xs : List T
     pub x : T
-    pub at : F
-    pub served : ServedFront before x at
-    pub few : length before < 65535
+    pub came : given xs (Some x)
+    pub few : length xs < 65535
+    pub before : List (Option (List ℕ))
     pub bytes : List ℕ
-    pub put : Puts held step (here ⊕ flat_map nullable before ⊕ uint32 0) at x (Err e) bytes last
+    pub made : serves here xs before (Some (record { item = x; answer = Err e; bytes = bytes }))
 
-  -- it made values of the first items, or of all, or wasn't called
+  -- the serializer made values of the first items, or of all, and these values have no cause
+  pub record MakesFirst : Type 0 where
+    pub xs : List T
+    pub next : Option T
+    pub came : given xs next
+    pub vs : List (Option (List ℕ))
+    pub made : serves here xs vs None
+    pub none : part_cause (Values vs) ≡ None
+
+  -- it wasn't called, or at the first items
   abbrev pub IsCalledInOrder : Type 0
-  IsCalledInOrder = (last ≡ f) ⊎ (((before : List (Option (List ℕ))) × (x : T) × ServedFront before x last) ⊎ ((vs : List (Option (List ℕ))) × Served vs))
+  IsCalledInOrder = serves here [] [] None ⊎ MakesFirst
 
   -- why the values were refused
   abbrev pub ValuesRefused : Type 0 → BindError E → Type 0
@@ -118,32 +145,40 @@ module _ {F T E B K : Type 0} (held : B → Held K) (step : F → T → MutBor B
 abbrev pub before_values : {K : Type 0} → Held K → List ℕ → List ℕ → List ℤ → Held K
 before_values old portal statement formats = old ⊕ 66 ∷ [] ⊕ uint32 0 ⊕ joined (Text portal ∷ Text statement ∷ Int16s formats ∷ []) ⊕ uint16 0
 
-module _ {F T E B K : Type 0} (held : B → Held K) (step : F → T → MutBor B → Result IsNull E → MutBor B → F → Type 0) {UI SI UJ SJ UK SK : Type 0} (i_into : UI → SI → Type 0) (i_next : SI → Option ℤ → SI → Type 0) (j_into : UJ → SJ → Type 0) (j_next : SJ → Option T → SJ → Type 0) (k_into : UK → SK → Type 0) (k_next : SK → Option ℤ → SK → Type 0)
-    (portal statement : List ℕ) (formats : UI) (values : UJ) (f last : F) (result_formats : UK) (old : Held K) where
+-- `bind` of these texts, and of the formats and items that were given
+module _ {T E K : Type 0} (portal statement : List ℕ) (formats : List ℤ → Option ℤ → Type 0) (values : List T → Option T → Type 0)
+    (serves : Held K → List T → List (Option (List ℕ)) → Option (Call T E) → Type 0) (result_formats : List ℤ → Option ℤ → Type 0) (old : Held K) where
   abbrev pub BindWhole : ClientMessage → Type 0
-  BindWhole m = (fs : List ℤ) × Came i_into i_next formats fs None
-      × ((vs : List (Option (List ℕ))) × Served held step j_into j_next values f last (before_values old portal statement fs) vs
-      × ((rs : List ℤ) × Came k_into k_next result_formats rs None × (m ≡ Bind portal statement fs vs rs)))
+  BindWhole m = (fs : List ℤ) × formats fs None
+      × ((vs : List (Option (List ℕ))) × Served values serves (before_values old portal statement fs) vs
+      × ((rs : List ℤ) × result_formats rs None × (m ≡ Bind portal statement fs vs rs)))
+
+  -- the serializer wasn't called
+  abbrev pub IsNotCalled : Type 0
+  IsNotCalled = serves old [] [] None
 
   -- behind a part before the values the serializer wasn't called
   abbrev pub BindReached : List Part → Type 0
-  BindReached ps = ((last ≡ f) × (ps ≡ Text portal ∷ Text statement ∷ []))
-      ⊎ (((last ≡ f) × ((fs : List ℤ) × Begun i_into i_next Int16s formats fs × (ps ≡ Text portal ∷ Text statement ∷ Int16s fs ∷ [])))
-      ⊎ (((fs : List ℤ) × Came i_into i_next formats fs None
-      × ((vs : List (Option (List ℕ))) × ValuesBegun held step j_into j_next values f last (before_values old portal statement fs) vs
+  BindReached ps = (IsNotCalled × (ps ≡ Text portal ∷ Text statement ∷ []))
+      ⊎ ((IsNotCalled × ((fs : List ℤ) × Begun formats Int16s fs × (ps ≡ Text portal ∷ Text statement ∷ Int16s fs ∷ [])))
+      ⊎ (((fs : List ℤ) × formats fs None
+      × ((vs : List (Option (List ℕ))) × ValuesBegun values serves (before_values old portal statement fs) vs
       × (ps ≡ Text portal ∷ Text statement ∷ Int16s fs ∷ Values vs ∷ [])))
-      ⊎ ((fs : List ℤ) × Came i_into i_next formats fs None
-      × ((vs : List (Option (List ℕ))) × Served held step j_into j_next values f last (before_values old portal statement fs) vs
-      × ((rs : List ℤ) × Begun k_into k_next Int16s result_formats rs × (ps ≡ Text portal ∷ Text statement ∷ Int16s fs ∷ Values vs ∷ Int16s rs ∷ []))))))
+      ⊎ ((fs : List ℤ) × formats fs None
+      × ((vs : List (Option (List ℕ))) × Served values serves (before_values old portal statement fs) vs
+      × ((rs : List ℤ) × Begun result_formats Int16s rs × (ps ≡ Text portal ∷ Text statement ∷ Int16s fs ∷ Values vs ∷ Int16s rs ∷ []))))))
 
-  -- the parts before the values have no cause, and the serializer refused with e
+  -- the parts before the values have no cause
+  abbrev pub ComesToValues : List ℤ → Type 0
+  ComesToValues fs = formats fs None × (parts_cause (Text portal ∷ Text statement ∷ Int16s fs ∷ []) ≡ None)
+
+  -- the serializer refused with e
   abbrev pub BindConverts : E → Type 0
-  BindConverts e = (fs : List ℤ) × Came i_into i_next formats fs None × (parts_cause (Text portal ∷ Text statement ∷ Int16s fs ∷ []) ≡ None)
-      × Converts held step j_into j_next values f last (before_values old portal statement fs) e
+  BindConverts e = (fs : List ℤ) × ComesToValues fs × Converts values serves (before_values old portal statement fs) e
 
-  -- the serializer wasn't called; or all formats came, and it was called at the values
+  -- what the serializer did before memory was wanted: nothing where a part before the values has a cause
   abbrev pub BindCalls : Type 0
-  BindCalls = (last ≡ f) ⊎ ((fs : List ℤ) × Came i_into i_next formats fs None × IsCalledInOrder held step j_into j_next values f last (before_values old portal statement fs))
+  BindCalls = IsNotCalled ⊎ ((fs : List ℤ) × ComesToValues fs × MakesFirst values serves (before_values old portal statement fs))
 
   -- why the call was refused: by the serializer, or as any writer
   abbrev pub BindRefused : Type 0 → BindError E → Type 0

@@ -1,7 +1,7 @@
 -- The packets that open a connection, which have no tag.
 -- PostgreSQL manual, "Message Formats": StartupMessage, CancelRequest, SSLRequest.
 use Rattle.std.specs.Prelude.{◌≡◌, ℕ, List, None}
-use Rattle.pgp_frontend.specs.ClientMessage.{ClientMessage, Startup}
+use Rattle.pgp_frontend.specs.ClientMessage.{ClientMessage}
 use Rattle.pgp_frontend.specs.Payload.{tag_of, bytes_of}
 use Rattle.pgp_frontend.specs.Reading.{IsSpelled}
 
@@ -10,7 +10,3 @@ pub record Opening (m : ClientMessage) (bytes : List ℕ) : Type 0 where
   pub untagged : tag_of m ≡ None
   pub spelled : IsSpelled m
   pub are : bytes ≡ bytes_of m
-
--- a startup packet as it is written for any names, empty ones too
-abbrev pub startup_layout : List (List ℕ × List ℕ) → List ℕ
-startup_layout parameters = bytes_of (Startup parameters)

@@ -24,7 +24,7 @@ where
         × All (λ n. n < 2 ^ 32) xs × (part_cause (Oids xs) ≡ None) × (B.held buf.new ≡ B.held buf.old ⊕ counted oid xs)) }
     ensures err { OnErr result (IsFrontOf (B.held buf.old) (B.held buf.new)) }
     ensures cause { IfErr result (λ e. WantsMemory B.Lacks e
-        ⊎ ((xs : List ℕ) × Begun I.into_iter_gives I.IntoIter.next_gives Oids items xs × (part_cause (Oids xs) ≡ Some e))) }
+        ⊎ ((xs : List ℕ) × Begun (Came I.into_iter_gives I.IntoIter.next_gives items) Oids xs × (part_cause (Oids xs) ≡ Some e))) }
 {
     let base = buf.len();
     put_u16(buf, 0)?;
@@ -52,7 +52,7 @@ where
         × All (FitsSigned w16) xs × (part_cause (Int16s xs) ≡ None) × (B.held buf.new ≡ B.held buf.old ⊕ counted int16 xs)) }
     ensures err { OnErr result (IsFrontOf (B.held buf.old) (B.held buf.new)) }
     ensures cause { IfErr result (λ e. WantsMemory B.Lacks e
-        ⊎ ((xs : List ℤ) × Begun I.into_iter_gives I.IntoIter.next_gives Int16s items xs × (part_cause (Int16s xs) ≡ Some e))) }
+        ⊎ ((xs : List ℤ) × Begun (Came I.into_iter_gives I.IntoIter.next_gives items) Int16s xs × (part_cause (Int16s xs) ≡ Some e))) }
 {
     let base = buf.len();
     put_u16(buf, 0)?;

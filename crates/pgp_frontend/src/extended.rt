@@ -7,7 +7,7 @@ ghost use Rattle.pgp_base.specs.Wire.{uint32};
 ghost use Rattle.pgp_base.specs.Cause.{WantsMemory};
 ghost use Rattle.pgp_base.specs.Held.{◌⊕◌};
 ghost use Rattle.pgp_base.specs.Calls.{IsFrontOf, Came, OwesValues};
-ghost use Rattle.pgp_frontend.specs.Given.{Begun, Appended, Refused, WritesGiven, ParseWhole, ParseReached, BindWhole, BindReached, BindRefused, WritesBind};
+ghost use Rattle.pgp_frontend.specs.Given.{Begun, Appended, Refused, ParseWhole, ParseReached, WritesParse, Serves, BindWhole, BindRefused, WritesBind};
 ghost use Rattle.pgp_frontend.specs.ClientMessage.{Close, Describe, Execute, Flush, Sync};
 ghost use Rattle.pgp_frontend.specs.Payload.{Text, Int16s, joined, parts_cause, WritesMessage};
 
@@ -74,12 +74,12 @@ where
     I::IntoIter: Drop,
     requires { IsFiniteIterable I.into_iter_gives I.IntoIter.can_next I.IntoIter.remaining param_types }
     ensures ok { OnOk result (Appended
-        (ParseWhole I.into_iter_gives I.IntoIter.next_gives name.now query.now param_types)
+        (ParseWhole name.now query.now (Came I.into_iter_gives I.IntoIter.next_gives param_types))
         (B.held buf.old) (B.held buf.new)) }
     ensures err { OnErr result (IsFrontOf (B.held buf.old) (B.held buf.new)) }
     ensures cause { IfErr result (Refused
-        (ParseWhole I.into_iter_gives I.IntoIter.next_gives name.now query.now param_types)
-        (ParseReached I.into_iter_gives I.IntoIter.next_gives name.now query.now param_types) B.Lacks) }
+        (ParseWhole name.now query.now (Came I.into_iter_gives I.IntoIter.next_gives param_types))
+        (ParseReached name.now query.now (Came I.into_iter_gives I.IntoIter.next_gives param_types)) B.Lacks) }
 {
     let texts = [Field::Text(name.as_bytes()), Field::Text(query.as_bytes())];
     buf.reserve(room(&texts) + 1)?;
@@ -103,9 +103,8 @@ pub fn parse<B: Buffer, I: IntoIterator<Item = Oid> + Drop>(
 where
     I::IntoIter: Drop,
     requires { IsFiniteIterable I.into_iter_gives I.IntoIter.can_next I.IntoIter.remaining param_types }
-    ensures { WritesGiven
-        (ParseWhole I.into_iter_gives I.IntoIter.next_gives name.now query.now param_types)
-        (ParseReached I.into_iter_gives I.IntoIter.next_gives name.now query.now param_types)
+    ensures { WritesParse name.now query.now
+        (Came I.into_iter_gives I.IntoIter.next_gives param_types)
         B.Lacks (B.held buf.old) (B.held buf.new) result }
 {
     let start = buf.len();
@@ -134,7 +133,7 @@ where
     ensures err { OnErr result (IsFrontOf (B.held buf.old) (B.held buf.new)) }
     ensures cause { IfErr result (λ e. WantsMemory B.Lacks e
         ⊎ ((parts_cause (Text portal.now ∷ Text statement.now ∷ []) ≡ Some e)
-        ⊎ ((fs : List ℤ) × Begun I.into_iter_gives I.IntoIter.next_gives Int16s formats fs × (parts_cause (Text portal.now ∷ Text statement.now ∷ Int16s fs ∷ []) ≡ Some e)))) }
+        ⊎ ((fs : List ℤ) × Begun (Came I.into_iter_gives I.IntoIter.next_gives formats) Int16s fs × (parts_cause (Text portal.now ∷ Text statement.now ∷ Int16s fs ∷ []) ≡ Some e)))) }
 {
     let texts = [
         Field::Text(portal.as_bytes()),
@@ -175,13 +174,19 @@ where
     requires result_formats_end { IsFiniteIterable K.into_iter_gives K.IntoIter.can_next K.IntoIter.remaining result_formats }
     requires callable { F.IsAlwaysCallable serializer.old }
     requires owes { OwesValues B.held F.pre F.step }
-    ensures ok { OnOk result (Appended
-        (BindWhole B.held F.step I.into_iter_gives I.IntoIter.next_gives J.into_iter_gives J.IntoIter.next_gives K.into_iter_gives K.IntoIter.next_gives
-        portal.now statement.now formats values serializer.old serializer.new result_formats (B.held buf.old))
-        (B.held buf.old) (B.held buf.new)) }
+    ensures ok { OnOk result (Appended (BindWhole portal.now statement.now
+        (Came I.into_iter_gives I.IntoIter.next_gives formats)
+        (Came J.into_iter_gives J.IntoIter.next_gives values)
+        (Serves B.held F.step serializer.old serializer.new)
+        (Came K.into_iter_gives K.IntoIter.next_gives result_formats)
+        (B.held buf.old)) (B.held buf.old) (B.held buf.new)) }
     ensures err { OnErr result (IsFrontOf (B.held buf.old) (B.held buf.new)) }
-    ensures cause { IfErr result (BindRefused B.held F.step I.into_iter_gives I.IntoIter.next_gives J.into_iter_gives J.IntoIter.next_gives K.into_iter_gives K.IntoIter.next_gives
-        portal.now statement.now formats values serializer.old serializer.new result_formats (B.held buf.old) B.Lacks) }
+    ensures cause { IfErr result (BindRefused portal.now statement.now
+        (Came I.into_iter_gives I.IntoIter.next_gives formats)
+        (Came J.into_iter_gives J.IntoIter.next_gives values)
+        (Serves B.held F.step serializer.old serializer.new)
+        (Came K.into_iter_gives K.IntoIter.next_gives result_formats)
+        (B.held buf.old) B.Lacks) }
 {
     let base = buf.len() + 1;
     fill_formats(portal, statement, formats, buf)?;
@@ -221,8 +226,12 @@ where
     requires result_formats_end { IsFiniteIterable K.into_iter_gives K.IntoIter.can_next K.IntoIter.remaining result_formats }
     requires callable { F.IsAlwaysCallable serializer }
     requires owes { OwesValues B.held F.pre F.step }
-    ensures { (last : F) × WritesBind B.held F.step I.into_iter_gives I.IntoIter.next_gives J.into_iter_gives J.IntoIter.next_gives K.into_iter_gives K.IntoIter.next_gives
-        portal.now statement.now formats values serializer last result_formats (B.held buf.old) B.Lacks (B.held buf.new) result }
+    ensures { (last : F) × WritesBind portal.now statement.now
+        (Came I.into_iter_gives I.IntoIter.next_gives formats)
+        (Came J.into_iter_gives J.IntoIter.next_gives values)
+        (Serves B.held F.step serializer last)
+        (Came K.into_iter_gives K.IntoIter.next_gives result_formats)
+        (B.held buf.old) B.Lacks (B.held buf.new) result }
 {
     let start = buf.len();
     match fill_bind(

@@ -1,6 +1,8 @@
 //! Laws on what a server reads from the messages of a client, knowing only the grammar.
 
-ghost use Rattle.std.specs.Prelude.{◌≡◌, ◌≢◌, ℕ, List, ◌++◌, None};
+ghost use Rattle.std.specs.Prelude.{◌≡◌, ◌≢◌, ℕ, ◌+◌, List, ◌++◌, length, None};
+ghost use Rattle.pgp_base.specs.Wire.{frame};
+ghost use Rattle.pgp_base.specs.Cause.{length_cause};
 ghost use Rattle.pgp_frontend.specs.ClientMessage.{ClientMessage};
 ghost use Rattle.pgp_frontend.specs.Opening.{Opening};
 ghost use Rattle.pgp_frontend.specs.Payload.{Part, spelling, payload, tag_of, kind_of, bytes_of};
@@ -18,9 +20,12 @@ pub fn payload_determines_message()
         → payload m ≡ payload n → m ≡ n }
 {}
 
-/// No tagged message begins another of its kind, or of another tag.
+/// No frame begins another, whatever the messages are: its length says where it ends. So, under its kind, no
+/// tagged message begins another.
 pub fn frames_begin_no_other()
-    ensures { (m n : ClientMessage) (more rest : List ℕ) → tag_of m ≢ None → tag_of n ≢ None → kind_of m ≡ kind_of n → IsSpelled m → IsSpelled n
+    ensures frames { (t u : ℕ) (p q more rest : List ℕ) → length_cause (length p + 4) ≡ None → length_cause (length q + 4) ≡ None
+        → frame t p ++ more ≡ frame u q ++ rest → (t ≡ u) × (p ≡ q) × (more ≡ rest) }
+    ensures messages { (m n : ClientMessage) (more rest : List ℕ) → tag_of m ≢ None → tag_of n ≢ None → kind_of m ≡ kind_of n → IsSpelled m → IsSpelled n
         → bytes_of m ++ more ≡ bytes_of n ++ rest → (m ≡ n) × (more ≡ rest) }
 {}
 

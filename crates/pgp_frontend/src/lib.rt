@@ -18,4 +18,6 @@ pub use simple::{query, terminate};
 pub use startup::{cancel_request, ssl_request, startup_message};
 
 #[cfg(test)]
+mod room_tests;
+#[cfg(test)]
 mod tests;

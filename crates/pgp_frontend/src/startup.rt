@@ -7,7 +7,7 @@ ghost use Rattle.pgp_base.specs.Held.{◌⊕◌};
 ghost use Rattle.pgp_base.specs.Cause.{WantsMemory};
 ghost use Rattle.pgp_base.specs.Calls.{IsFrontOf, Came};
 ghost use Rattle.pgp_frontend.specs.ClientMessage.{CancelRequest, SslRequest};
-ghost use Rattle.pgp_frontend.specs.Given.{Begun, Appended, Refused, WritesGiven, StartupWhole, StartupReached, shown_pairs};
+ghost use Rattle.pgp_frontend.specs.Given.{Begun, Appended, Refused, WritesStartup, StartupWhole, StartupReached, shown_pairs};
 ghost use Rattle.pgp_frontend.specs.Payload.{spelling, part_cause, WritesMessage};
 
 use crate::field::{Field, packet, put_int32};
@@ -52,7 +52,7 @@ where
         × (part_cause (shown_pairs xs) ≡ None) × (B.held buf.new ≡ B.held buf.old ⊕ spelling (shown_pairs xs))) }
     ensures err { OnErr result (IsFrontOf (B.held buf.old) (B.held buf.new)) }
     ensures cause { IfErr result (λ e. WantsMemory B.Lacks e
-        ⊎ ((xs : List (Bor (List ℕ) × Bor (List ℕ))) × Begun I.into_iter_gives I.IntoIter.next_gives shown_pairs parameters xs × (part_cause (shown_pairs xs) ≡ Some e))) }
+        ⊎ ((xs : List (Bor (List ℕ) × Bor (List ℕ))) × Begun (Came I.into_iter_gives I.IntoIter.next_gives parameters) shown_pairs xs × (part_cause (shown_pairs xs) ≡ Some e))) }
 {
     for (name, value) in parameters {
         write_cstr(name.as_bytes(), buf)?;
@@ -70,12 +70,12 @@ where
     I::IntoIter: Drop,
     requires { IsFiniteIterable I.into_iter_gives I.IntoIter.can_next I.IntoIter.remaining parameters }
     ensures ok { OnOk result (Appended
-        (StartupWhole I.into_iter_gives I.IntoIter.next_gives parameters)
+        (StartupWhole (Came I.into_iter_gives I.IntoIter.next_gives parameters))
         (B.held buf.old) (B.held buf.new)) }
     ensures err { OnErr result (IsFrontOf (B.held buf.old) (B.held buf.new)) }
     ensures cause { IfErr result (Refused
-        (StartupWhole I.into_iter_gives I.IntoIter.next_gives parameters)
-        (StartupReached I.into_iter_gives I.IntoIter.next_gives parameters) B.Lacks) }
+        (StartupWhole (Came I.into_iter_gives I.IntoIter.next_gives parameters))
+        (StartupReached (Came I.into_iter_gives I.IntoIter.next_gives parameters)) B.Lacks) }
 {
     let base = buf.len();
     put_u32(buf, 0)?;
@@ -94,9 +94,8 @@ pub fn startup_message<'a, B: Buffer, I: IntoIterator<Item = (&'a str, &'a str)>
 where
     I::IntoIter: Drop,
     requires { IsFiniteIterable I.into_iter_gives I.IntoIter.can_next I.IntoIter.remaining parameters }
-    ensures { WritesGiven
-        (StartupWhole I.into_iter_gives I.IntoIter.next_gives parameters)
-        (StartupReached I.into_iter_gives I.IntoIter.next_gives parameters)
+    ensures { WritesStartup
+        (Came I.into_iter_gives I.IntoIter.next_gives parameters)
         B.Lacks (B.held buf.old) (B.held buf.new) result }
 {
     let start = buf.len();

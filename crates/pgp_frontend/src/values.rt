@@ -4,8 +4,8 @@ ghost use Rattle.std.specs.Prelude.{◌≡◌, ℕ, List, ◌++◌, Option, None
 ghost use Rattle.std.specs.Iterator.{IsFiniteIterable};
 ghost use Rattle.pgp_base.specs.Wire.{uint16, counted, nullable};
 ghost use Rattle.pgp_base.specs.Held.{◌⊕◌};
-ghost use Rattle.pgp_base.specs.Calls.{IsFrontOf, OwesValues};
-ghost use Rattle.pgp_frontend.specs.Given.{Served, ValuesRefused};
+ghost use Rattle.pgp_base.specs.Calls.{IsFrontOf, Came, OwesValues};
+ghost use Rattle.pgp_frontend.specs.Given.{Serves, Served, ValuesRefused};
 ghost use Rattle.pgp_frontend.specs.Payload.{Values, part_cause};
 
 use pgp_base::{BindError, Buffer, Error, IsNull, patch_u16, put_u16, put_value};
@@ -25,10 +25,10 @@ where
     requires callable { F.IsAlwaysCallable serializer.old }
     requires owes { OwesValues B.held F.pre F.step }
     ensures ok { OnOk result ((vs : List (Option (List ℕ)))
-        × Served B.held F.step J.into_iter_gives J.IntoIter.next_gives values serializer.old serializer.new (B.held buf.old ⊕ uint16 0) vs
+        × Served (Came J.into_iter_gives J.IntoIter.next_gives values) (Serves B.held F.step serializer.old serializer.new) (B.held buf.old ⊕ uint16 0) vs
         × (part_cause (Values vs) ≡ None) × (B.held buf.new ≡ B.held buf.old ⊕ counted nullable vs)) }
     ensures err { OnErr result (IsFrontOf (B.held buf.old) (B.held buf.new)) }
-    ensures cause { IfErr result (ValuesRefused B.held F.step J.into_iter_gives J.IntoIter.next_gives values serializer.old serializer.new (B.held buf.old ⊕ uint16 0) B.Lacks) }
+    ensures cause { IfErr result (ValuesRefused (Came J.into_iter_gives J.IntoIter.next_gives values) (Serves B.held F.step serializer.old serializer.new) (B.held buf.old ⊕ uint16 0) B.Lacks) }
 {
     let base = buf.len();
     put_u16(buf, 0)?;
