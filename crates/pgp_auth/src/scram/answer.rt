@@ -135,7 +135,7 @@ fn answer_granted<A: Allocator + Copy>(
 }
 
 // The answer to a server's first text.
-#[tactic(auto, using(crate::proofs::Grants::granted_few))]
+#[tactic(auto, using(crate::proofs::Grants::granted_few, crate::proofs::Grants::granted_admitted))]
 pub(crate) fn respond<A: Allocator + Copy>(
     alloc: A,
     start: &Start<A>,

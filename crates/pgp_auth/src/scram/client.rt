@@ -55,11 +55,12 @@ impl<A: Allocator + Copy> ScramSha256<A> {
     ) -> Result<ScramSha256<A>, ScramError<A>>
         ensures ok { let nonce = (drawn_chars 24 (R.stream rng.old)).0 in
             IfOk result (λ client. client ≡ fresh (prepared (P.mapping prep.now) password.now) channel_binding nonce) }
-        ensures nonce { IfOk result (λ _. IsNonce (drawn_chars 24 (R.stream rng.old)).0) }
-        ensures drawn { IfOk result (λ _. R.stream rng.new ≡ (drawn_chars 24 (R.stream rng.old)).1) }
+        ensures nonce { IsNonce (drawn_chars 24 (R.stream rng.old)).0 }
+        ensures drawn { R.stream rng.new ≡ (drawn_chars 24 (R.stream rng.old)).1 }
         ensures memory { IfErr result (λ e. e ≡ OutOfMemory) }
     {
-        let nonce = draw_nonce(alloc, rng)?;
+        let drawn = draw_nonce(rng);
+        let nonce = Vec::from_slice(alloc, &drawn)?;
         begin(alloc, password, channel_binding, nonce, prep)
     }
 
@@ -98,7 +99,7 @@ impl<A: Allocator + Copy> ScramSha256<A> {
     }
 
     /// Takes the server's first text. A refusal ends the exchange.
-    pub fn update(&mut self, alloc: A, message: &[u8]) -> Result<(), ScramError<A>>
+    pub fn update(&mut self, message: &[u8]) -> Result<(), ScramError<A>>
         ensures ok { OnOk result (Answers self.old message.now self.new) }
         ensures err { IfErr result (λ e. UpdateRefused self.old message.now (refusal e) self.new) }
     {
@@ -107,14 +108,14 @@ impl<A: Allocator + Copy> ScramSha256<A> {
             State::AwaitsFinal(_) | State::Over => return Err(ScramError::WrongState),
         };
         let mut made = self.made;
-        let answer = respond(alloc, &start, message, &mut made);
+        let answer = respond(*start.nonce.allocator(), &start, message, &mut made);
         self.made = made;
         self.state = State::AwaitsFinal(answer?);
         Ok(())
     }
 
     /// Takes the server's final text, and ends the exchange.
-    pub fn finish(&mut self, alloc: A, message: &[u8]) -> Result<(), ScramError<A>>
+    pub fn finish(&mut self, message: &[u8]) -> Result<(), ScramError<A>>
         ensures ok { OnOk result (Finished self.old message.now self.new) }
         ensures err { IfErr result (λ e. FinishRefused self.old message.now (refusal e) self.new) }
     {
@@ -123,7 +124,7 @@ impl<A: Allocator + Copy> ScramSha256<A> {
             State::AwaitsFirst(_) | State::Over => return Err(ScramError::WrongState),
         };
         let mut made = self.made;
-        let outcome = verify(alloc, &signed, message, &mut made);
+        let outcome = verify(*signed.auth.allocator(), &signed, message, &mut made);
         self.made = made;
         outcome
     }

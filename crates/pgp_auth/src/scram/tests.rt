@@ -55,13 +55,13 @@ fn an_exchange_is_whole(rt: HostRuntime) -> Result<(), Fail> {
         Ok(scram) => {
             let mut scram = scram;
             assert!(rt; scram.message() == Some(b"n,,n=,r=9IZ2O01zb9IgiIZ1WJ/zgpJB".as_slice()));
-            assert_eq!(rt; told(scram.update(alloc, FIRST.as_bytes())), (0, 0));
+            assert_eq!(rt; told(scram.update(FIRST.as_bytes())), (0, 0));
             assert_eq!(rt; scram.hmacs(), 4098);
             assert!(rt; scram.message() == Some(ANSWER.as_bytes()));
-            assert_eq!(rt; told(scram.finish(alloc, FINAL.as_bytes())), (0, 0));
+            assert_eq!(rt; told(scram.finish(FINAL.as_bytes())), (0, 0));
             assert_eq!(rt; scram.hmacs(), 4100);
             assert!(rt; scram.message().is_none());
-            assert_eq!(rt; told(scram.update(alloc, FIRST.as_bytes())), (2, 0));
+            assert_eq!(rt; told(scram.update(FIRST.as_bytes())), (2, 0));
         }
         Err(_) => assert!(rt; false),
     }
@@ -90,7 +90,7 @@ fn first_texts_are_refused_by_the_first_cause(rt: HostRuntime) -> Result<(), Fai
         match begun(alloc, b"foobar", ChannelBinding::unsupported(), NONCE) {
             Ok(scram) => {
                 let mut scram = scram;
-                assert_eq!(rt; told(scram.update(alloc, text)), (number, at));
+                assert_eq!(rt; told(scram.update(text)), (number, at));
                 assert_eq!(rt; scram.hmacs(), hmacs);
                 assert_eq!(rt; scram.message().is_none(), number != 0);
             }
@@ -120,13 +120,13 @@ fn final_texts_are_refused_by_the_first_cause(rt: HostRuntime) -> Result<(), Fai
             Ok(scram) => {
                 let mut scram = scram;
                 assert_eq!(rt;
-                    told(scram.update(alloc, b"r=9IZ2O01zb9IgiIZ1WJ/zgpJB,s=,i=1")),
+                    told(scram.update(b"r=9IZ2O01zb9IgiIZ1WJ/zgpJB,s=,i=1")),
                     (0, 0)
                 );
-                assert_eq!(rt; told(scram.finish(alloc, text)), (number, at));
+                assert_eq!(rt; told(scram.finish(text)), (number, at));
                 assert_eq!(rt; scram.hmacs(), hmacs);
                 assert!(rt; scram.message().is_none());
-                assert_eq!(rt; told(scram.finish(alloc, text)), (2, 0));
+                assert_eq!(rt; told(scram.finish(text)), (2, 0));
             }
             Err(_) => assert!(rt; false),
         }

@@ -5,8 +5,10 @@ ghost use Rattle.std.specs.Str.{IsUtf8};
 ghost use Rattle.pgp_base.specs.Items.{CountedItems};
 ghost use Rattle.pgp_message.specs.Items.{RangeSpelled, RangeRefused, FieldSpelled, FieldRefused, TypeSpelled, TypeRefused};
 ghost use Rattle.pgp_message.specs.Reading.{string_of, counted_of};
+ghost use Rattle.pgp_message.specs.Table.{Tabulates};
 
 use crate::body::counted::CountedBytes;
+use crate::row_index::RowIndex;
 use crate::storage::Storage;
 use crate::walk::{DataRowRanges, Fields, Parameters};
 use bytes::Bytes;
@@ -88,6 +90,18 @@ impl<S: Storage> DataRowBody<S> {
         ensures { result.now ≡ self.now.storage }
     {
         self.row.storage.as_slice()
+    }
+
+    /// A table of the values' places, by which any column is at hand. It is made by one walk over the row.
+    ///
+    /// # Errors
+    ///
+    /// The refusal of that walk: `UnexpectedEof` where a value is cut short, `NotDrained` where bytes stand behind
+    /// the last value. `OutOfMemory` where the table's memory was refused.
+    pub fn index<A: Allocator>(&self, alloc: A) -> Result<RowIndex<'_, A>, Error>
+        ensures { Tabulates self.now result }
+    {
+        RowIndex::over(alloc, self.row.storage.as_slice(), self.row.len)
     }
 }
 
