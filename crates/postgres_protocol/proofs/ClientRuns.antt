@@ -8,7 +8,7 @@ use Rattle.std.proofs.lemmas.Grind.{flat_map-append}
 use Rattle.std.proofs.lemmas.List.Elements.{recursion_from_All}
 use Rattle.pgp_base.specs.Wire.{uint32, int32}
 use Rattle.pgp_frontend.specs.ClientMessage.{ClientMessage, PasswordMessage, SaslInitialResponse, SaslResponse, Startup, CancelRequest, SslRequest, PasswordKind}
-use Rattle.pgp_frontend.specs.Opening.{Opening, startup_layout}
+use Rattle.pgp_frontend.specs.Opening.{Opening}
 use Rattle.pgp_frontend.specs.Payload.{tag_of, kind_of, framed, payload, bytes_of, cause, IsInRange}
 use Rattle.pgp_frontend.specs.Reading.{IsSpelled, IsNamed}
 use Rattle.pgp_frontend.proofs.Readings.{frame_read, opening_read}
@@ -215,7 +215,7 @@ one_phase kinds others l m b p q = same_phase l m p.order q.order p.spelled q.sp
 
 -- the name is empty, and so is its value but for one byte
 abbrev pub nameless : List ℕ
-nameless = startup_layout (([], 120 ∷ []) ∷ [])
+nameless = bytes_of (Startup (([], 120 ∷ []) ∷ []))
 
 zero_cause : (c : ℕ) (cs v : List ℕ) (ps : List (List ℕ × List ℕ)) → c ≡ 0 → cause (Startup ((c ∷ cs, v) ∷ ps)) ≡ None → ⊥
 zero_cause c cs v ps e h = let k : cause (Startup ((0 ∷ cs, v) ∷ ps)) ≡ None = subst (λ x. cause (Startup ((x ∷ cs, v) ∷ ps)) ≡ None) e h in cc

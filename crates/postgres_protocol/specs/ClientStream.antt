@@ -4,7 +4,8 @@ use Rattle.pgp_base.specs.Cause.{WantsMemory}
 use Rattle.pgp_base.specs.Held.{Held, ◌⊕◌, Leaves}
 use Rattle.pgp_base.specs.declared.error.Error.{Error}
 use Rattle.pgp_frontend.specs.ClientMessage.{ClientMessage, PasswordKind}
-use Rattle.pgp_frontend.specs.Payload.{bytes_of, cause, IsInRange}
+use Rattle.pgp_frontend.specs.Given.{Refused}
+use Rattle.pgp_frontend.specs.Payload.{Part, bytes_of, cause, IsInRange}
 use Rattle.postgres_protocol.specs.ClientRun.{ClientRun, kinds_of, is_startup, is_opened}
 
 -- What a stream shows: its buffer, and whether a startup packet was written.
@@ -42,6 +43,11 @@ RefusesMessage m lacks e = WantsMemory lacks e ⊎ (cause m ≡ Some e)
 -- the call adds this message
 abbrev pub AddsMessage : {B Kept : Type 0} → (B → Held Kept) → ClientMessage → Type 0 → Sent B → Sent B → Result (Unit {0}) Error → Type 0
 AddsMessage held m lacks = Adds held (λ n. n ≡ m) (RefusesMessage m lacks)
+
+-- The call adds the message of all that iterators gave, which `Whole` tells; `Reached` are the parts of what
+-- they gave up to a refusal.
+abbrev pub AddsGiven : {B Kept : Type 0} → (B → Held Kept) → (ClientMessage → Type 0) → (List Part → Type 0) → Type 0 → Sent B → Sent B → Result (Unit {0}) Error → Type 0
+AddsGiven held Whole Reached lacks = Adds held Whole (Refused Whole Reached lacks)
 
 -- a server reads these bytes so, and a startup packet is among what it reads where the stream was opened
 pub record IsRead (kinds : List PasswordKind) (messages : List ClientMessage) (bytes : List ℕ) (opened : Bool) : Type 0 where

@@ -1,8 +1,7 @@
 //! Laws of whole streams: what a server that knows only the grammar reads of a client's bytes.
 
 ghost use Rattle.std.specs.Prelude.{◌≡◌, ℕ, List, [], ◌∷◌, ◌++◌, None};
-ghost use Rattle.pgp_frontend.specs.ClientMessage.{ClientMessage, PasswordKind};
-ghost use Rattle.pgp_frontend.specs.Opening.{startup_layout};
+ghost use Rattle.pgp_frontend.specs.ClientMessage.{ClientMessage, PasswordKind, Startup};
 ghost use Rattle.pgp_frontend.specs.Payload.{bytes_of, cause, IsInRange};
 ghost use Rattle.postgres_protocol.specs.ClientRun.{ClientRun, MayCome, is_opened, kinds_of};
 
@@ -34,7 +33,7 @@ pub fn one_phase()
 /// No server reads a startup packet with an empty name, as it is written with the value `x`.
 pub fn no_empty_name()
     ensures { (kinds : List PasswordKind) (messages : List ClientMessage) →
-        ClientRun kinds messages (startup_layout (([], 120 ∷ []) ∷ [])) → ⊥ }
+        ClientRun kinds messages (bytes_of (Startup (([], 120 ∷ []) ∷ []))) → ⊥ }
 {}
 
 /// Later bytes change nothing that was read.

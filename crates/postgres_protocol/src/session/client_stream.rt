@@ -4,12 +4,12 @@ ghost use Rattle.std.specs.Prelude.{◌≡◌, List, true, false, [], map};
 ghost use Rattle.pgp_base.specs.Held.{items_held};
 ghost use Rattle.pgp_base.specs.Cause.{WantsMemory};
 ghost use Rattle.std.specs.Iterator.{IsFiniteIterable};
-ghost use Rattle.pgp_base.specs.Calls.{OwesValues};
+ghost use Rattle.pgp_base.specs.Calls.{Came, OwesValues};
 ghost use Rattle.pgp_frontend.specs.ClientMessage.{ClientMessage, PasswordKind, CancelRequest, Close, CopyData as DataMessage, CopyDone, CopyFail, Describe, Execute, Flush, PasswordMessage, Query, SaslInitialResponse, SaslResponse, SslRequest, Startup, Sync, Terminate};
-ghost use Rattle.pgp_frontend.specs.Given.{BindWhole, BindReached, BindRefused, ParseWhole, ParseReached, Refused, shown};
+ghost use Rattle.pgp_frontend.specs.Given.{BindWhole, BindRefused, ParseWhole, ParseReached, Serves, shown};
 ghost use Rattle.pgp_frontend.specs.Reading.{IsNamed};
 ghost use Rattle.postgres_protocol.specs.ClientRun.{ClientRun, is_opened};
-ghost use Rattle.postgres_protocol.specs.ClientStream.{Adds, AddsMessage, Reads};
+ghost use Rattle.postgres_protocol.specs.ClientStream.{Adds, AddsGiven, AddsMessage, Reads};
 
 use bytes::{Buf, BytesMut};
 use pgp_base::{BindError, Buffer, Error, IsNull, Oid};
@@ -223,12 +223,10 @@ impl<B: Buffer> ClientStream<B> {
         I::IntoIter: Drop,
         requires opened { self.old.opened ≡ true }
         requires types_end { IsFiniteIterable I.into_iter_gives I.IntoIter.can_next I.IntoIter.remaining param_types }
-        ensures { Adds B.held
-            (ParseWhole I.into_iter_gives I.IntoIter.next_gives name.now query.now param_types)
-            (Refused
-            (ParseWhole I.into_iter_gives I.IntoIter.next_gives name.now query.now param_types)
-            (ParseReached I.into_iter_gives I.IntoIter.next_gives name.now query.now param_types) B.Lacks)
-            self.old self.new result }
+        ensures { AddsGiven B.held
+            (ParseWhole name.now query.now (Came I.into_iter_gives I.IntoIter.next_gives param_types))
+            (ParseReached name.now query.now (Came I.into_iter_gives I.IntoIter.next_gives param_types))
+            B.Lacks self.old self.new result }
     {
         match frontend::parse(name, query, param_types, &mut self.buf) {
             Ok(()) => Ok(()),
@@ -264,10 +262,18 @@ impl<B: Buffer> ClientStream<B> {
         requires callable { F.IsAlwaysCallable serializer }
         requires owes { OwesValues B.held F.pre F.step }
         ensures { (last : F) × Adds B.held
-            (BindWhole B.held F.step I.into_iter_gives I.IntoIter.next_gives J.into_iter_gives J.IntoIter.next_gives K.into_iter_gives K.IntoIter.next_gives
-            portal.now statement.now formats values serializer last result_formats (B.held self.old.buf))
-            (BindRefused B.held F.step I.into_iter_gives I.IntoIter.next_gives J.into_iter_gives J.IntoIter.next_gives K.into_iter_gives K.IntoIter.next_gives
-            portal.now statement.now formats values serializer last result_formats (B.held self.old.buf) B.Lacks)
+            (BindWhole portal.now statement.now
+                (Came I.into_iter_gives I.IntoIter.next_gives formats)
+                (Came J.into_iter_gives J.IntoIter.next_gives values)
+                (Serves B.held F.step serializer last)
+                (Came K.into_iter_gives K.IntoIter.next_gives result_formats)
+                (B.held self.old.buf))
+            (BindRefused portal.now statement.now
+                (Came I.into_iter_gives I.IntoIter.next_gives formats)
+                (Came J.into_iter_gives J.IntoIter.next_gives values)
+                (Serves B.held F.step serializer last)
+                (Came K.into_iter_gives K.IntoIter.next_gives result_formats)
+                (B.held self.old.buf) B.Lacks)
             self.old self.new result }
     {
         match frontend::bind(

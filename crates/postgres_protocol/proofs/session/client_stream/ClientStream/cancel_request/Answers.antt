@@ -4,7 +4,7 @@ use Rattle.postgres_protocol.proofs.Additions.{same_phase, earlier_adds, earlier
 use Rattle.postgres_protocol.proofs.session.client_stream.ClientStream.cancel_request.Goals as goal
 
 pub returns : goal.returns
-returns g c = rw (← c.self.view_is) (earlier_adds g.B.Buffer.held c.self.inside.buf c.cancel_request.new.buf c.self.inside.opened c.self.invariant (CancelRequest c.args.process_id c.args.secret_key) refl g.B.Buffer.Lacks c.cancel_request.result c.cancel_request.ensures (same_phase c.self.view_is c.requires) tt tt)
+returns g c = rw (← c.self.view_is) (earlier_adds g.B.Buffer.held c.self.inside.buf c.cancel_request.new.buf c.self.inside.opened c.self.invariant (CancelRequest _ _) refl g.B.Buffer.Lacks c.cancel_request.result c.cancel_request.ensures (same_phase c.self.view_is c.requires) tt tt)
 
 pub invariant_of-self : goal.invariant_of-self
-invariant_of-self g c = earlier_reads g.B.Buffer.held c.self.inside.buf c.cancel_request.new.buf c.self.inside.opened c.self.invariant (CancelRequest c.args.process_id c.args.secret_key) refl g.B.Buffer.Lacks c.cancel_request.result c.cancel_request.ensures (same_phase c.self.view_is c.requires) tt tt
+invariant_of-self g c = earlier_reads g.B.Buffer.held c.self.inside.buf c.cancel_request.new.buf c.self.inside.opened c.self.invariant (CancelRequest _ _) refl g.B.Buffer.Lacks c.cancel_request.result c.cancel_request.ensures (same_phase c.self.view_is c.requires) tt tt

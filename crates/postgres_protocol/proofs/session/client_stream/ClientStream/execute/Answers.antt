@@ -4,7 +4,7 @@ use Rattle.postgres_protocol.proofs.Additions.{same_phase, later_adds, later_rea
 use Rattle.postgres_protocol.proofs.session.client_stream.ClientStream.execute.Goals as goal
 
 pub returns : goal.returns
-returns g c = rw (← c.self.view_is) (later_adds g.B.Buffer.held c.self.inside.buf c.execute.new.buf c.self.inside.opened c.self.invariant (Execute c.args.portal.now c.args.max_rows) refl g.B.Buffer.Lacks c.execute.result c.execute.ensures (same_phase c.self.view_is c.requires) refl)
+returns g c = rw (← c.self.view_is) (later_adds g.B.Buffer.held c.self.inside.buf c.execute.new.buf c.self.inside.opened c.self.invariant (Execute c.args.portal.now _) refl g.B.Buffer.Lacks c.execute.result c.execute.ensures (same_phase c.self.view_is c.requires) refl)
 
 pub invariant_of-self : goal.invariant_of-self
-invariant_of-self g c = later_reads g.B.Buffer.held c.self.inside.buf c.execute.new.buf c.self.inside.opened c.self.invariant (Execute c.args.portal.now c.args.max_rows) refl g.B.Buffer.Lacks c.execute.result c.execute.ensures (same_phase c.self.view_is c.requires) refl
+invariant_of-self g c = later_reads g.B.Buffer.held c.self.inside.buf c.execute.new.buf c.self.inside.opened c.self.invariant (Execute c.args.portal.now _) refl g.B.Buffer.Lacks c.execute.result c.execute.ensures (same_phase c.self.view_is c.requires) refl
