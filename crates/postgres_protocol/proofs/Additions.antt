@@ -1,10 +1,10 @@
 -- What a writer did, as what the stream's call did.
-use Rattle.std.proofs.Common.{◌≡◌, ◌≢◌, ℕ, Bool, true, false, List, [], ◌∷◌, ◌++◌, Some, None, Result, Ok, Err, refl, sym, ap, subst, ◌∙◌, inl, inr}
+use Rattle.std.proofs.Common.{◌≡◌, ◌≢◌, ℕ, Bool, true, false, List, [], ◌∷◌, ◌++◌, ℤ, Some, None, Result, Ok, Err, refl, sym, ap, subst, ◌∙◌, inl, inr}
 use Rattle.std.specs.Prelude.{◌⊎◌, is_some, if◌then◌else◌}
 use Rattle.pgp_base.specs.Cause.{Writes, WantsMemory}
 use Rattle.pgp_base.specs.Held.{Held, ◌⊕◌, lengthened, Leaves}
 use Rattle.pgp_base.specs.declared.error.Error.{Error}
-use Rattle.pgp_frontend.specs.ClientMessage.{ClientMessage, PasswordKind}
+use Rattle.pgp_frontend.specs.ClientMessage.{ClientMessage, CancelRequest, PasswordKind}
 use Rattle.pgp_frontend.specs.Payload.{tag_of, bytes_of, cause, IsInRange, WritesMessage}
 use Rattle.pgp_frontend.specs.Reading.{IsNamed}
 use Rattle.postgres_protocol.specs.ClientRun.{ClientRun, IsStartup, IsRequest, MayCome, kinds_of, is_startup, is_opened}
@@ -109,3 +109,9 @@ module _ {B K : Type 0} (held : B → Held K) (a b : B) (o : Bool) (inv : Reads 
 
   pub first_stays : Reads (held b).bytes true
   first_stays = stays held a b o inv m true opened (earlier m o e (inl s, n)) in_range none grown
+
+-- the numbers as they were given
+pub same_numbers : {B K : Type 0} (held : B → Held K) (lacks : Type 0) (old new : Sent B) (r : Result (Unit {0}) Error) {x y p q : ℤ} → x ≡ y → p ≡ q
+    → AddsMessage held (CancelRequest x p) lacks old new r → AddsMessage held (CancelRequest y q) lacks old new r
+same_numbers held lacks old new r {y = y} {p = p} e f h =
+    subst (λ z. AddsMessage held (CancelRequest y z) lacks old new r) f (subst (λ z. AddsMessage held (CancelRequest z p) lacks old new r) e h)

@@ -5,6 +5,10 @@ ghost use Rattle.pgp_frontend.specs.ClientMessage.{ClientMessage, PasswordKind, 
 ghost use Rattle.pgp_frontend.specs.Payload.{bytes_of, cause, IsInRange};
 ghost use Rattle.postgres_protocol.specs.ClientRun.{ClientRun, MayCome, is_opened, kinds_of};
 
+mod sasl;
+
+pub use sasl::{SaslRefusal, sasl_exchange};
+
 /// A server that is told the kinds reads the bytes in one way.
 pub fn one_reading()
     ensures { (kinds : List PasswordKind) (messages others : List ClientMessage) (bytes : List ℕ) →

@@ -6,7 +6,9 @@ pub mod laws;
 pub mod message;
 pub mod session;
 
+pub use pgp_auth::{authentication, escape, password};
 pub use pgp_base::{BindError, Error, FallibleIterator, IsNull, Lsn, Oid};
+pub use pgp_types as types;
 
 #[cfg(test)]
 mod tests;
