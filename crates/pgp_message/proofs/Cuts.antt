@@ -5,13 +5,14 @@ use Rattle.std.proofs.lemmas.List.{take-append-drop, length-take}
 use Rattle.std.proofs.lemmas.Nat.{be_bytes_4}
 use Rattle.pgp_base.specs.Wire.{uint32, IsBytes}
 use Rattle.pgp_base.proofs.PartLemmas.{IsBytes-take, IsBytes-drop}
-use Rattle.pgp_message.specs.Stream.{frame_bytes, Front, IsFront, announced}
+use Rattle.pgp_message.specs.FrontReading.{Front, IsFront, announced}
+use Rattle.pgp_message.specs.Stream.{frame_bytes}
 
 -- the front of n + 1 bytes
 abbrev pub front_of : List ℕ → ℕ → Front
 front_of old n = record { tag = get_or old 0 0; total = n + 1 }
 
-cells : (b c d e n : ℕ) → IsBytes (b ∷ c ∷ d ∷ e ∷ []) → n ≡ from_be_bytes w32 (b ∷ c ∷ d ∷ e ∷ []) → uint32 n ≡ b ∷ c ∷ d ∷ e ∷ []
+pub cells : (b c d e n : ℕ) → IsBytes (b ∷ c ∷ d ∷ e ∷ []) → n ≡ from_be_bytes w32 (b ∷ c ∷ d ∷ e ∷ []) → uint32 n ≡ b ∷ c ∷ d ∷ e ∷ []
 unfolding uint32
 cells b c d e n bytes is = be_bytes_4 (b ∷ c ∷ d ∷ e ∷ []) n refl bytes is
 

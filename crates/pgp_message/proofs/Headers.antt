@@ -1,16 +1,18 @@
 -- The header at the front of the bytes, and what is remembered of it.
-use Rattle.std.proofs.Common.{◌≡◌, ℕ, ◌<◌, ◌≤◌, List, [], ◌∷◌, ◌++◌, length, get_or, Option, Some, None, Result, Ok, Err, refl, sym, ap, subst, arith}
+use Rattle.std.proofs.Common.{◌≡◌, ℕ, ◌<◌, ◌≤◌, List, [], ◌∷◌, ◌++◌, length, get_or, Option, Some, None, Result, Ok, Err, refl, sym, ap, subst, ◌∙◌, arith}
 use Rattle.std.specs.Prelude.{IfSome, MatchResult, IsOkAnd}
 use Rattle.std.specs.Int.{w32, from_be_bytes}
 use Rattle.pgp_base.specs.declared.error.Error.{Error}
 use Rattle.pgp_base.specs.declared.error.Error.TheVariants as errors
 use Rattle.pgp_message.specs.declared.message as code
 use Rattle.pgp_message.specs.BackendMessage.{Message, Body}
-use Rattle.pgp_message.specs.Stream.{announced, Front, IsFront, front_frame, Step}
+use Rattle.pgp_message.specs.FrontReading.{announced, Front, IsFront, front_frame}
+use Rattle.pgp_message.specs.Stream.{BeginsWithHeader, Step}
 use Rattle.pgp_message.specs.Reading.{body_of}
 use Rattle.pgp_message.specs.Remembered.{header_of, Memory, Fits, headers_after, header_after, memory_after}
 use Rattle.pgp_message.specs.Views.{seen, parsed}
 use Rattle.pgp_message.proofs.Bodies.{body_is}
+use Rattle.pgp_message.proofs.Fronts.{header_announced, header_length}
 
 -- the two parts of a header
 pub record Parts (bytes : List ℕ) (t n : ℕ) : Type 0 where
@@ -54,6 +56,18 @@ header_of_long (t ∷ a ∷ b ∷ []) h = absurd (omega (arith, h))
 header_of_long (t ∷ a ∷ []) h = absurd (omega (arith, h))
 header_of_long (t ∷ []) h = absurd (omega (arith, h))
 header_of_long [] h = absurd (omega (arith, h))
+
+abbrev header_with : ℕ → ℕ → Option (ℕ × ℕ)
+header_with tag len = Some (tag, len)
+
+same_parts : (a b c d : ℕ) → a ≡ c → b ≡ d → header_with a b ≡ header_with c d
+same_parts a b c d e f = rw (e, f) refl
+
+-- the header that is spelled is the one that is read
+pub header_spelled : (bytes : List ℕ) (h : BeginsWithHeader bytes) → header_of bytes ≡ Some (h.tag, h.len)
+header_spelled bytes h =
+    let tag : get_or bytes 0 0 ≡ h.tag = ap (λ l. get_or l 0 0) h.parts in
+    header_of_long bytes (omega (arith, header_length bytes h)) ∙ same_parts (get_or bytes 0 0) (announced bytes) h.tag h.len tag (header_announced bytes h)
 
 itself : (o : Option (ℕ × ℕ)) → IfSome o (λ header. o ≡ Some header)
 itself None = tt

@@ -1,5 +1,6 @@
 pub mod TextBodies
 pub mod Cuts
+pub mod Fronts
 pub mod Families
 pub mod Requests
 pub mod Bodies

@@ -1,5 +1,5 @@
 -- Streams: how they grow by a frame, and that they are read in one way.
-use Rattle.std.proofs.Common.{◌≡◌, ℕ, zero, suc, ◌+◌, ◌<◌, ◌≤◌, ◌^◌, Bool, true, false, List, [], ◌∷◌, ◌++◌, length, get_or, drop, Result, refl, sym, ap, subst, ◌∙◌, arith, append_assoc, inl, inr}
+use Rattle.std.proofs.Common.{◌≡◌, ℕ, zero, suc, ◌+◌, ◌≤◌, Bool, true, false, List, [], ◌∷◌, ◌++◌, length, get_or, drop, Result, refl, sym, ap, subst, ◌∙◌, arith, append_assoc, inl, inr}
 use Rattle.std.specs.List.{flat_map, AllByRecursion}
 use Rattle.std.proofs.lemmas.List.{append-nil, length-append, length-drop, get_or-drop}
 use Rattle.std.proofs.lemmas.Bool.{cases_lt}
@@ -9,9 +9,11 @@ use Rattle.std.proofs.lemmas.Nat.{from_be_bytes-to_be_bytes_4}
 use Rattle.pgp_base.specs.Wire.{uint32, IsBytes}
 use Rattle.pgp_base.specs.declared.error.Error.{Error}
 use Rattle.pgp_message.specs.BackendMessage.{Message, Body}
-use Rattle.pgp_message.specs.Stream.{IsFront, front_frame, Frame, frame_bytes, IsFrame, announced, IsEnding, IsLengthFault, Bodies, Frames, BackendRun, TakesFrame}
+use Rattle.pgp_message.specs.FrontReading.{IsFront, front_frame, announced}
+use Rattle.pgp_message.specs.Stream.{Frame, frame_bytes, IsFrame, IsPartial, IsEnding, IsLengthFault, Bodies, Frames, BackendRun, TakesFrame}
 use Rattle.pgp_message.specs.Reading.{body_of}
 use Rattle.pgp_message.proofs.Cuts.{cut, front_of}
+use Rattle.pgp_message.proofs.Fronts.{announced_small, partial_is, fault_is, partial_there, fault_there, fault_stays}
 use Rattle.pgp_message.proofs.Steps.{takes}
 use Rattle.pgp_message.proofs.Bodies.{one_body}
 
@@ -79,17 +81,27 @@ front_is_one f g x y ff gg e =
 
 -- a frame is no ending
 no_ending : (f : Frame) (x : List ℕ) (stopped : Bool) → IsFrame f → IsEnding stopped (frame_bytes f ++ x) → ⊥
-no_ending f x false fits (inl short) = omega (arith, length-frame f x)
-no_ending f x false fits (inr part) = let is = announced_frame f x fits in omega (arith, length-frame f x, is, part.0, part.1)
-no_ending f x true fits fault = let is = announced_frame f x fits in omega (arith, is, fault.0, fault.1)
+no_ending f x false fits part =
+    let is = announced_frame f x fits in
+    elim (partial_is (frame_bytes f ++ x) part) [
+      | inl short ↦ omega (arith, length-frame f x, short)
+      | inr w ↦ omega (arith, length-frame f x, is, w.0, w.1)
+    ]
+no_ending f x true fits fault =
+    let is = announced_frame f x fits in
+    let w = fault_is (frame_bytes f ++ x) fault in
+    omega (arith, is, w.0, w.1)
+
+not_both : (rest : List ℕ) → IsPartial rest → IsLengthFault rest → ⊥
+not_both rest part fault =
+    let w = fault_is rest fault in
+    elim (partial_is rest part) [ inl short ↦ omega (arith, short, w.0) | inr v ↦ omega (arith, v.0, w.1) ]
 
 same_ending : (s h : Bool) (rest : List ℕ) → IsEnding s rest → IsEnding h rest → s ≡ h
 same_ending false false rest p q = refl
 same_ending true true rest p q = refl
-same_ending false true rest (inl short) q = absurd (omega (arith, q.0))
-same_ending false true rest (inr part) q = absurd (omega (arith, part.0, q.1))
-same_ending true false rest q (inl short) = absurd (omega (arith, q.0))
-same_ending true false rest q (inr part) = absurd (omega (arith, part.0, q.1))
+same_ending false true rest p q = absurd (not_both rest p q)
+same_ending true false rest p q = absurd (not_both rest q p)
 
 regroup : (f : Frame) (frames : List Frame) (x : List ℕ) → flat_map frame_bytes (f ∷ frames) ++ x ≡ frame_bytes f ++ (flat_map frame_bytes frames ++ x)
 regroup f frames x = ap (λ l. l ++ x) (flat_map-cons frame_bytes f frames) ∙ append_assoc (frame_bytes f) (flat_map frame_bytes frames) x
@@ -141,14 +153,6 @@ runs_front bytes more first second stops halts rest left p q =
     let joined : flat_map frame_bytes p.run.frames ++ (rest ++ more) ≡ flat_map frame_bytes q.run.frames ++ left = sym (append_assoc (flat_map frame_bytes p.run.frames) rest more) ∙ ap (λ l. l ++ more) (sym p.run.whole) ∙ q.run.whole in
     front_way p.run.frames q.run.frames first second (rest ++ more) left halts p.run.each q.run.each p.run.bodies q.run.bodies q.ending joined
 
-announced_small : (bytes : List ℕ) → IsBytes bytes → announced bytes < 2 ^ 32
-announced_small [] h = omega arith
-announced_small (a ∷ []) h = omega arith
-announced_small (a ∷ b ∷ []) h = omega (arith, h 1)
-announced_small (a ∷ b ∷ c ∷ []) h = omega (arith, h 1, h 2)
-announced_small (a ∷ b ∷ c ∷ d ∷ []) h = omega (arith, h 1, h 2, h 3)
-announced_small (a ∷ b ∷ c ∷ d ∷ e ∷ rest) h = omega (arith, h 1, h 2, h 3, h 4)
-
 -- some reading of the bytes
 abbrev Run : List ℕ → Type 0
 Run bytes = (results : List (Result Message Error)) × (stopped : Bool) × (rest : List ℕ) × BackendRun bytes results stopped rest
@@ -178,9 +182,9 @@ run_within (suc fuel) bytes le h =
     elim (cases_lt (length bytes) 5) [
       | inl short ↦ ends bytes false (inl short)
       | inr long ↦ elim (cases_lt (announced bytes) 4) [
-        | inl fault ↦ ends bytes true (long, fault)
+        | inl fault ↦ ends bytes true (fault_there bytes h long fault)
         | inr fine ↦ elim (cases_lt (length bytes) (announced bytes + 1)) [
-          | inl part ↦ ends bytes false (inr (fine, part))
+          | inl part ↦ ends bytes false (partial_there bytes h fine part)
           | inr whole ↦
               let n = announced bytes in
               let new = drop (n + 1) bytes in
@@ -220,10 +224,6 @@ runs_join bytes more rest left first second stops p q =
       };
       ending = q.ending;
     }
-
-fault_stays : (rest more : List ℕ) → IsLengthFault rest → IsLengthFault (rest ++ more)
-fault_stays (a ∷ b ∷ c ∷ d ∷ e ∷ rest) more fault = (omega (arith, length-append rest more, fault.0), fault.1)
-fault_stays rest more fault = absurd (omega (arith, fault.0))
 
 pub runs_stop : (bytes more rest : List ℕ) (results : List (Result Message Error)) → BackendRun bytes results true rest → BackendRun (bytes ++ more) results true (rest ++ more)
 runs_stop bytes more rest results p = record {

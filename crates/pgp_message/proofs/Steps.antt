@@ -6,7 +6,8 @@ use Rattle.pgp_base.specs.declared.error.Error.{Error}
 use Rattle.pgp_base.specs.declared.error.Error.TheVariants as errors
 use Rattle.pgp_message.specs.declared.message as code
 use Rattle.pgp_message.specs.BackendMessage.{Message, Body}
-use Rattle.pgp_message.specs.Stream.{Frame, frame_bytes, IsFrame, Front, IsFront, front_frame, BeginsWithFrame, TakesFrame, Step}
+use Rattle.pgp_message.specs.FrontReading.{Front, IsFront, front_frame}
+use Rattle.pgp_message.specs.Stream.{Frame, frame_bytes, IsFrame, BeginsWithFrame, TakesFrame, Step}
 use Rattle.pgp_message.specs.Reading.{body_of}
 use Rattle.pgp_message.specs.Views.{view, seen, parsed}
 use Rattle.pgp_message.proofs.Bodies.{body_is}

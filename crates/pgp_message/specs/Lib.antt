@@ -8,3 +8,4 @@ pub mod Table
 pub mod Views
 pub mod Reading
 pub mod ItemReading
+pub mod FrontReading

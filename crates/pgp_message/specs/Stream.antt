@@ -1,9 +1,8 @@
 -- The stream of a server: a relation between its bytes, the results of its frames, and what is left.
 -- PostgreSQL manual, "Message Flow" and "Messaging Overview".
-use Rattle.std.specs.Prelude.{◌≡◌, ℕ, ◌+◌, ◌<◌, ◌≤◌, ◌^◌, Bool, true, false, List, [], ◌∷◌, ◌++◌, length, take, drop, Option, Some, None, Result, Ok, Err, ◌⊎◌}
-use Rattle.std.specs.Int.{w32, from_be_bytes}
+use Rattle.std.specs.Prelude.{◌≡◌, ℕ, ◌+◌, ◌<◌, ◌≤◌, ◌^◌, Bool, true, false, List, [], ◌∷◌, ◌++◌, length, Option, Some, None, Result, Ok, Err, ◌⊎◌}
 use Rattle.std.specs.List.{flat_map, AllByRecursion}
-use Rattle.pgp_base.specs.Wire.{frame, IsBytes}
+use Rattle.pgp_base.specs.Wire.{frame, uint32, IsBytes}
 use Rattle.pgp_base.specs.declared.error.Error.{Error}
 use Rattle.pgp_base.specs.declared.error.Error.TheVariants as errors
 use Rattle.pgp_message.specs.BackendMessage.{Message, Body}
@@ -21,17 +20,28 @@ pub record IsFrame (f : Frame) : Type 0 where
   pub payload : IsBytes f.payload
   pub fits : length f.payload + 4 < 2 ^ 32
 
--- the length that the bytes announce behind their tag
-abbrev pub announced : List ℕ → ℕ
-announced bytes = from_be_bytes w32 (take 4 (drop 1 bytes))
+-- the bytes begin with a header: a tag, and the length of what follows the tag, its own four bytes counted
+pub record BeginsWithHeader (bytes : List ℕ) : Type 0 where
+  pub tag : ℕ
+  pub len : ℕ
+  pub rest : List ℕ
+  pub fits : len < 2 ^ 32
+  pub parts : bytes ≡ tag ∷ uint32 len ++ rest
 
--- too short to announce a length, or a frame that isn't whole
+-- the front of a frame of which bytes are missing
+pub record IsUnfinished (bytes : List ℕ) : Type 0 where
+  pub header : BeginsWithHeader bytes
+  pub least : 4 ≤ header.len
+  pub missing : length header.rest + 4 < header.len
+
+-- too short for a header, or a frame that isn't whole
 abbrev pub IsPartial : List ℕ → Type 0
-IsPartial bytes = (length bytes < 5) ⊎ ((4 ≤ announced bytes) × (length bytes < announced bytes + 1))
+IsPartial bytes = (length bytes < 5) ⊎ IsUnfinished bytes
 
 -- a length that is too small to count itself
-abbrev pub IsLengthFault : List ℕ → Type 0
-IsLengthFault bytes = (5 ≤ length bytes) × (announced bytes < 4)
+pub record IsLengthFault (bytes : List ℕ) : Type 0 where
+  pub header : BeginsWithHeader bytes
+  pub small : header.len < 4
 
 -- what stands where reading ends: a length fault stopped it, or it waits for more
 abbrev pub IsEnding : Bool → List ℕ → Type 0
@@ -78,25 +88,3 @@ Step old (Ok (Some m)) new = TakesFrame old (Ok m) new
 Step old (Err errors.InvalidLength) new = IsLengthFault old × (new ≡ old)
 Step old (Err errors.OutOfMemory) new = BeginsWithFrame old × (new ≡ old)
 Step old (Err e) new = TakesFrame old (Err e) new
-
--- A whole frame at the front: its tag, and how many bytes it takes.
-pub record Front : Type 0 where
-  pub tag : ℕ
-  pub total : ℕ
-
--- the frame itself
-abbrev pub front_frame : Front → List ℕ → Frame
-front_frame f bytes = record { tag = f.tag; payload = drop 5 (take f.total bytes) }
-
-pub record IsFront (f : Front) (bytes : List ℕ) : Type 0 where
-  pub whole : bytes ≡ frame_bytes (front_frame f bytes) ++ drop f.total bytes
-  pub fits : IsFrame (front_frame f bytes)
-  pub least : 5 ≤ f.total
-  pub most : f.total ≤ length bytes
-
--- What stands at the front of the bytes.
-abbrev pub Finds : List ℕ → Result (Option Front) Error → Type 0
-Finds bytes (Ok None) = IsPartial bytes
-Finds bytes (Ok (Some f)) = IsFront f bytes
-Finds bytes (Err errors.InvalidLength) = IsLengthFault bytes
-Finds bytes (Err e) = ⊥

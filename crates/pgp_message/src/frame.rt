@@ -3,7 +3,8 @@
 ghost use Rattle.std.specs.Prelude.{◌≡◌, ◌≤◌, Ok, Err, None, length, slice_index};
 ghost use Rattle.pgp_base.specs.Wire.{IsBytes};
 ghost use Rattle.pgp_message.specs.Remembered.{header_of};
-ghost use Rattle.pgp_message.specs.Stream.{Finds, IsPartial, IsLengthFault, announced};
+ghost use Rattle.pgp_message.specs.FrontReading.{Finds, announced};
+ghost use Rattle.pgp_message.specs.Stream.{IsPartial, IsLengthFault};
 
 use pgp_base::Error;
 use std::marker::Model;
@@ -19,7 +20,7 @@ pub struct Front {
 }
 
 impl Model for Front {
-    ghost use Rattle.pgp_message.specs.Stream.{Front};
+    ghost use Rattle.pgp_message.specs.FrontReading.{Front};
 
     ghost Value = { Front };
 

@@ -1,7 +1,7 @@
 //! The tag and the length of a frame, read by themselves.
 
-ghost use Rattle.std.specs.Prelude.{◌≡◌, ◌<◌, ◌≤◌, ◌<ℤ◌, ◌≤ℤ◌, pos, Ok, Err, Some, None, length, slice_index};
-ghost use Rattle.pgp_message.specs.Header.{announced_int32};
+ghost use Rattle.std.specs.Prelude.{◌≡◌};
+ghost use Rattle.pgp_message.specs.Header.{ReadsHeader};
 
 use crate::frame::head;
 use pgp_base::Error;
@@ -25,13 +25,14 @@ impl Model for Header {
 }
 
 impl Header {
-    /// Reads the header at the front of the bytes; `None` where it isn't whole. The length is an
-    /// Int32 here, and counts its own four bytes: below 4 it is `InvalidLength`.
+    /// Reads the header at the front of the bytes; `None` where fewer than five stand there. The length is an
+    /// Int32 here, and counts its own four bytes.
+    ///
+    /// # Errors
+    ///
+    /// `InvalidLength` where the length is below 4.
     pub fn parse(buf: &[u8]) -> Result<Option<Header>, Error>
-        ensures short { length buf.now < 5 → result ≡ Ok None }
-        ensures fault { 5 ≤ length buf.now → announced_int32 buf.now <ℤ pos 4 → result ≡ Err Error.InvalidLength }
-        ensures header { 5 ≤ length buf.now → pos 4 ≤ℤ announced_int32 buf.now →
-            result ≡ Ok (Some (record { tag = slice_index buf.now 0; len = announced_int32 buf.now })) }
+        ensures { ReadsHeader buf.now result }
     {
         if buf.len() < 5 {
             return Ok(None);

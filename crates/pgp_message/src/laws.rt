@@ -1,13 +1,13 @@
 //! Laws of bodies, of the lists inside them, and of streams of backend messages.
 
-ghost use Rattle.std.specs.Prelude.{◌≡◌, ℕ, Bool, true, false, List, [], ◌∷◌, ◌++◌, Result};
+ghost use Rattle.std.specs.Prelude.{◌≡◌, ◌<◌, ◌≤◌, ℕ, Bool, true, false, List, [], ◌∷◌, ◌++◌, length, Some, None, Result};
 ghost use Rattle.pgp_base.specs.declared.error.Error.{Error};
 ghost use Rattle.pgp_base.specs.Wire.{IsBytes};
 ghost use Rattle.pgp_base.specs.OneList.{HasOneCountedList, HasOneMarkedList};
 ghost use Rattle.pgp_message.specs.BackendMessage.{Message, Body};
 ghost use Rattle.pgp_message.specs.Items.{TextSpelled, TextRefused, FormatSpelled, FormatRefused, TypeSpelled, TypeRefused, RangeSpelled, RangeRefused, FieldSpelled, FieldRefused, ErrorFieldSpelled, ErrorFieldRefused};
-ghost use Rattle.pgp_message.specs.Remembered.{Memory, Fits};
-ghost use Rattle.pgp_message.specs.Stream.{Frames, BackendRun, TakesFrame};
+ghost use Rattle.pgp_message.specs.Remembered.{Memory, Fits, header_of};
+ghost use Rattle.pgp_message.specs.Stream.{BeginsWithHeader, Frames, BackendRun, TakesFrame};
 
 /// A body has at most one result.
 pub fn one_body()
@@ -115,4 +115,11 @@ pub fn frames_go_on()
 /// What is remembered fits still when bytes are added behind.
 pub fn bytes_may_come()
     ensures { (memory : Memory) (bytes more : List ℕ) → Fits memory bytes → Fits memory (bytes ++ more) }
+{}
+
+/// What is read as the header is what the bytes begin with; there is none below five bytes, and else there is one.
+pub fn one_header()
+    ensures spelled { (bytes : List ℕ) (header : BeginsWithHeader bytes) → header_of bytes ≡ Some (header.tag, header.len) }
+    ensures short { (bytes : List ℕ) → length bytes < 5 → header_of bytes ≡ None }
+    ensures long { (bytes : List ℕ) → IsBytes bytes → 5 ≤ length bytes → BeginsWithHeader bytes }
 {}

@@ -57,10 +57,12 @@ impl FrameParser {
         self.headers
     }
 
-    /// Takes the message at the front of the bytes, and removes its frame; `None` where it isn't
-    /// whole. A frame whose body is refused is removed too; a length fault and want of memory leave
-    /// the bytes. Memory is asked for only where the message keeps bytes of its frame, and for room
-    /// for a frame that isn't whole. Between two calls bytes may be added behind those that were left.
+    /// Takes the message at the front of the bytes, as `Message::parse` does. Where the bytes were left, their
+    /// header is remembered for the next call; between two calls bytes may be added behind those that were left.
+    ///
+    /// # Errors
+    ///
+    /// Those of `Message::parse`, with the same effect on the bytes.
     pub fn parse<A: Allocator + Copy>(
         &mut self,
         buf: &mut BytesMut<A>,

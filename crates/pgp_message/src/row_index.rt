@@ -13,7 +13,7 @@ use std::alloc::{Allocator, Global};
 use std::marker::Model;
 use std::ops::Range;
 
-/// For how many columns the first one asks for room, where so many were announced.
+/// For how many columns more the first one asks for room, where so many were announced.
 const SHORT_ROW: usize = 16;
 
 /// Where each value of a row stands: a table that one walk over the row made, so that any column is at
@@ -68,10 +68,10 @@ impl<'a, A: Allocator> RowIndex<'a, A> {
     pub fn value(&self, i: usize) -> Option<Option<&'a [u8]>>
         ensures { option_map (option_map (λ value. value.now)) result ≡ column self.now i }
     {
-        match self.places.get(i)? {
-            Some(place) => Some(Some(&self.buffer[place.start..place.end])),
-            None => Some(None),
-        }
+        let Some(place) = self.places.get(i)? else {
+            return Some(None);
+        };
+        Some(Some(&self.buffer[place.start..place.end]))
     }
 }
 

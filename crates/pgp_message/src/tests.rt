@@ -1,4 +1,4 @@
-use crate::{Header, Message};
+use crate::{FrameParser, Header, Message, Messages, Storage};
 use bytes::BytesMut;
 use pgp_base::{Error, FallibleIterator};
 use std::alloc::Global;
@@ -50,7 +50,7 @@ fn parsed(buf: &mut BytesMut) -> Result<Option<&'static str>, Error> {
     Ok(Some(name))
 }
 
-fn variant(message: &Message) -> &'static str {
+fn variant<S: Storage>(message: &Message<S>) -> &'static str {
     match message {
         Message::AuthenticationCleartextPassword => "AuthenticationCleartextPassword",
         Message::AuthenticationGss => "AuthenticationGss",
@@ -482,5 +482,346 @@ fn a_channel_that_is_not_utf8_is_refused_when_asked_for(rt: HostRuntime) -> Resu
     assert_eq!(rt; body.process_id(), -1);
     assert_eq!(rt; body.channel(), Err(Error::NotUtf8));
     assert_eq!(rt; body.message(), Ok("m"));
+    Ok(())
+}
+
+/// The variant of the message at the front, which is removed, by a parser that goes on.
+fn taken(parser: &mut FrameParser, buf: &mut BytesMut) -> Result<Option<&'static str>, Error> {
+    if !parser.fits(buf) {
+        return Err(Error::InvalidCount);
+    }
+    let Some(message) = parser.parse(buf)? else {
+        return Ok(None);
+    };
+    let name = variant(&message);
+    drop(message);
+    Ok(Some(name))
+}
+
+/// Takes what can be taken, and tells how many of these results came then in their order.
+fn drain(
+    parser: &mut FrameParser,
+    buf: &mut BytesMut,
+    expected: &[Result<Option<&'static str>, Error>],
+    came: usize,
+) -> usize {
+    let mut came = came;
+    for _ in expected {
+        let result = taken(parser, buf);
+        if result == Ok(None) || result == Err(Error::InvalidLength) {
+            return came;
+        }
+        if came < expected.len() && result == expected[came] {
+            came += 1;
+        }
+    }
+    came
+}
+
+/// The bytes, cut behind those whose bit is set: how many of these results came, what is left, and how many
+/// headers were read.
+fn read_in_pieces(
+    alloc: Global,
+    bytes: &[u8],
+    cuts: u32,
+    expected: &[Result<Option<&'static str>, Error>],
+) -> Result<(usize, usize, u64), Error> {
+    let mut parser = FrameParser::new();
+    let mut buf = BytesMut::new(alloc);
+    let mut came = 0usize;
+    let mut bits = cuts;
+    for byte in bytes {
+        buf.extend_from_slice(&[*byte])?;
+        if bits & 1 == 1 {
+            came = drain(&mut parser, &mut buf, expected, came);
+        }
+        bits >>= 1;
+    }
+    came = drain(&mut parser, &mut buf, expected, came);
+    Ok((came, buf.len(), parser.headers()))
+}
+
+const REFUSED_THEN_READ: &[u8] = b"\x5a\0\0\0\x06\x49\0\x31\0\0\0\x04";
+
+const ROW: &[u8] = b"\x44\0\0\0\x13\0\x03\0\0\0\x01\x61\xff\xff\xff\xff\0\0\0\0";
+
+#[test]
+fn a_parser_reads_the_same_however_the_bytes_are_cut(rt: HostRuntime) -> Result<(), Fail> {
+    let results = [Err(Error::NotDrained), Ok(Some("ParseComplete"))];
+    for cuts in 0..2048u32 {
+        let read = read_in_pieces(rt.alloc(), REFUSED_THEN_READ, cuts, &results);
+        assert_eq!(rt; read, Ok((2, 0, 2)));
+    }
+    let fault: &[u8] = b"\x5a\0\0\0\x03\x31\0\0\0\x04";
+    for cuts in 0..512u32 {
+        assert_eq!(rt;
+            read_in_pieces(rt.alloc(), fault, cuts, &results),
+            Ok((0, 10, 1))
+        );
+    }
+    Ok(())
+}
+
+#[test]
+fn the_header_of_a_long_frame_is_read_once(rt: HostRuntime) -> Result<(), Fail> {
+    let row = [Ok(Some("DataRow"))];
+    for first in 0..20u32 {
+        for second in 0..20u32 {
+            let cuts = (1 << first) | (1 << second);
+            assert_eq!(rt; read_in_pieces(rt.alloc(), ROW, cuts, &row), Ok((1, 0, 1)));
+        }
+    }
+    assert_eq!(rt;
+        read_in_pieces(rt.alloc(), ROW, u32::MAX, &row),
+        Ok((1, 0, 1))
+    );
+    Ok(())
+}
+
+/// Whether these results come by repeated `Message::parse`, where the bytes come in two pieces.
+fn parse_in_two(
+    alloc: Global,
+    bytes: &[u8],
+    place: usize,
+    expected: &[Result<Option<&'static str>, Error>],
+) -> Result<(usize, usize), Error> {
+    let mut buf = BytesMut::new(alloc);
+    let mut came = 0usize;
+    for (at, byte) in bytes.iter().enumerate() {
+        if at == place {
+            came = drain(&mut FrameParser::new(), &mut buf, expected, came);
+        }
+        buf.extend_from_slice(&[*byte])?;
+    }
+    for _ in expected {
+        let result = parsed(&mut buf);
+        if came < expected.len() && result == expected[came] {
+            came += 1;
+        }
+    }
+    Ok((came, buf.len()))
+}
+
+#[test]
+fn repeated_parse_reads_the_same_at_every_place(rt: HostRuntime) -> Result<(), Fail> {
+    let results = [Err(Error::NotDrained), Ok(Some("ParseComplete"))];
+    for place in 0..12usize {
+        let read = parse_in_two(rt.alloc(), REFUSED_THEN_READ, place, &results);
+        assert_eq!(rt; read, Ok((2, 0)));
+    }
+    let fault: &[u8] = b"\x5a\0\0\0\x03\x31\0\0\0\x04";
+    let results = [Err(Error::InvalidLength)];
+    assert_eq!(rt; parse_in_two(rt.alloc(), fault, 5, &results), Ok((1, 10)));
+    Ok(())
+}
+
+/// The variant of the next message of a slice.
+fn next_name(messages: &mut Messages<'_>) -> Result<Option<&'static str>, Error> {
+    let Some(message) = messages.next()? else {
+        return Ok(None);
+    };
+    let name = variant(&message);
+    drop(message);
+    Ok(Some(name))
+}
+
+#[test]
+fn each_message_is_read_in_place(rt: HostRuntime) -> Result<(), Fail> {
+    for (bytes, name) in FRAMES {
+        let mut messages = Messages::new(bytes);
+        assert_eq!(rt; next_name(&mut messages), Ok(Some(name)));
+        assert!(rt; messages.rest().is_empty());
+        assert_eq!(rt; next_name(&mut messages), Ok(None));
+    }
+    Ok(())
+}
+
+#[test]
+fn what_is_no_message_is_told_in_place(rt: HostRuntime) -> Result<(), Fail> {
+    let mut messages = Messages::new(REFUSED_THEN_READ);
+    assert_eq!(rt; next_name(&mut messages), Err(Error::NotDrained));
+    assert_eq!(rt; messages.rest().len(), 5);
+    assert_eq!(rt; next_name(&mut messages), Ok(Some("ParseComplete")));
+    assert_eq!(rt; next_name(&mut messages), Ok(None));
+    let left: [(&[u8], Result<Option<&'static str>, Error>); 4] = [
+        (b"\x5a\0\0\0", Ok(None)),
+        (b"\x5a\0\0\0\x05", Ok(None)),
+        (b"\x44\x80\0\0\0", Ok(None)),
+        (b"\x5a\0\0\0\x03\x31", Err(Error::InvalidLength)),
+    ];
+    for (bytes, answer) in left {
+        let mut messages = Messages::new(bytes);
+        assert_eq!(rt; next_name(&mut messages), answer);
+        assert_eq!(rt; messages.rest(), bytes);
+    }
+    Ok(())
+}
+
+/// The body of the first message of a slice, which has to be of this variant.
+macro_rules! body_in_place {
+    ($rt:ident, $variant:ident, $bytes:expr) => {
+        match Messages::new($bytes).next() {
+            Ok(Some(Message::$variant(body))) => body,
+            other => {
+                drop(other);
+                panic!($rt; "another message")
+            }
+        }
+    };
+}
+
+#[test]
+fn a_message_is_kept_while_the_reader_goes_on(rt: HostRuntime) -> Result<(), Fail> {
+    let mut messages = Messages::new(b"d\0\0\0\x06ab1\0\0\0\x04");
+    let data = match messages.next() {
+        Ok(Some(Message::CopyData(body))) => body.data(),
+        other => {
+            drop(other);
+            panic!(rt; "another message")
+        }
+    };
+    assert_eq!(rt; next_name(&mut messages), Ok(Some("ParseComplete")));
+    assert_eq!(rt; data, b"ab".as_slice());
+    Ok(())
+}
+
+#[test]
+fn a_row_is_walked_in_place(rt: HostRuntime) -> Result<(), Fail> {
+    let row = body_in_place!(rt, DataRow, ROW);
+    assert_eq!(rt; row.buffer(), &ROW[7..]);
+    let mut ranges = row.ranges();
+    assert_eq!(rt; ranges.next(), Ok(Some(Some(4..5))));
+    assert_eq!(rt; ranges.next(), Ok(Some(None)));
+    assert_eq!(rt; ranges.next(), Ok(Some(Some(13..13))));
+    assert_eq!(rt; ranges.next(), Ok(None));
+    let index = row.index(rt.alloc())?;
+    assert_eq!(rt; index.value(0), Some(Some(b"a".as_slice())));
+    Ok(())
+}
+
+#[test]
+fn texts_are_read_in_place(rt: HostRuntime) -> Result<(), Fail> {
+    let tag = body_in_place!(rt, CommandComplete, b"\x43\0\0\0\x0dSELECT 1\0").tag();
+    assert_eq!(rt; tag, Ok("SELECT 1"));
+    let setting = body_in_place!(rt, ParameterStatus, b"\x53\0\0\0\x08n\0v\0");
+    assert_eq!(rt; setting.name(), Ok("n"));
+    assert_eq!(rt; setting.value(), Ok("v"));
+    let heard = body_in_place!(rt, NotificationResponse, b"\x41\0\0\0\x0c\0\0\0\x01c\0m\0");
+    assert_eq!(rt; heard.channel(), Ok("c"));
+    assert_eq!(rt; heard.message(), Ok("m"));
+    Ok(())
+}
+
+#[test]
+fn an_exchange_is_read_in_place(rt: HostRuntime) -> Result<(), Fail> {
+    let token = body_in_place!(rt, AuthenticationGssContinue, b"\x52\0\0\0\x0a\0\0\0\x08ab");
+    assert_eq!(rt; token.data(), b"ab".as_slice());
+    let challenge = body_in_place!(
+        rt,
+        AuthenticationSaslContinue,
+        b"\x52\0\0\0\x0a\0\0\0\x0bab"
+    );
+    assert_eq!(rt; challenge.data(), b"ab".as_slice());
+    let outcome = body_in_place!(rt, AuthenticationSaslFinal, b"\x52\0\0\0\x0a\0\0\0\x0cab");
+    assert_eq!(rt; outcome.data(), b"ab".as_slice());
+    let frame = b"\x52\0\0\0\x17\0\0\0\x0aSCRAM-SHA-256\0\0";
+    let mut mechanisms = body_in_place!(rt, AuthenticationSasl, frame).mechanisms();
+    assert_eq!(rt; mechanisms.next(), Ok(Some("SCRAM-SHA-256")));
+    assert_eq!(rt; mechanisms.next(), Ok(None));
+    Ok(())
+}
+
+#[test]
+fn lists_are_walked_in_place(rt: HostRuntime) -> Result<(), Fail> {
+    let copy = body_in_place!(rt, CopyInResponse, b"\x47\0\0\0\x09\0\0\x01\0\x01");
+    assert_eq!(rt; copy.column_formats().next(), Ok(Some(1)));
+    let copy = body_in_place!(rt, CopyOutResponse, b"\x48\0\0\0\x09\x01\0\x01\0\x01");
+    assert_eq!(rt; copy.format(), 1);
+    assert_eq!(rt; copy.column_formats().next(), Ok(Some(1)));
+    let types = body_in_place!(rt, ParameterDescription, b"\x74\0\0\0\x0a\0\x01\0\0\0\x17");
+    assert_eq!(rt; types.parameters().next(), Ok(Some(23)));
+    let frame = b"\x54\0\0\0\x1a\0\x01\x61\0\0\0\0\0\0\0\0\0\0\x17\0\x04\xff\xff\xff\xff\0\0";
+    let mut columns = body_in_place!(rt, RowDescription, frame).fields();
+    let Ok(Some(column)) = columns.next() else {
+        panic!(rt; "no column");
+    };
+    assert_eq!(rt; column.name(), "a");
+    Ok(())
+}
+
+#[test]
+fn errors_and_notices_are_walked_in_place(rt: HostRuntime) -> Result<(), Fail> {
+    let mut error = body_in_place!(rt, ErrorResponse, b"\x45\0\0\0\x0c\x53ERROR\0\0").fields();
+    let value = match error.next() {
+        Ok(Some(field)) => field.value(),
+        _ => Ok(""),
+    };
+    assert_eq!(rt; value, Ok("ERROR"));
+    assert!(rt; matches!(error.next(), Ok(None)));
+    let mut notice = body_in_place!(rt, NoticeResponse, b"\x4e\0\0\0\x06\0\x01").fields();
+    assert!(rt; matches!(notice.next(), Err(Error::NotDrained)));
+    Ok(())
+}
+
+#[test]
+fn any_column_of_a_row_is_at_hand(rt: HostRuntime) -> Result<(), Fail> {
+    let row = body!(rt, DataRow, ROW);
+    let index = row.index(rt.alloc())?;
+    assert_eq!(rt; index.len(), 3);
+    let values = [Some(b"a".as_slice()), None, Some(b"".as_slice())];
+    let places = [Some(4..5usize), None, Some(13..13usize)];
+    for order in [
+        [0usize, 1, 2],
+        [0, 2, 1],
+        [1, 0, 2],
+        [1, 2, 0],
+        [2, 0, 1],
+        [2, 1, 0],
+    ] {
+        for column in order {
+            if column < 3 {
+                assert_eq!(rt; index.value(column), Some(values[column]));
+                assert_eq!(rt; index.range(column).as_ref(), Some(&places[column]));
+            }
+        }
+    }
+    for past in [3usize, 4, usize::MAX] {
+        assert_eq!(rt; index.value(past), None);
+        assert_eq!(rt; index.range(past), None);
+    }
+    Ok(())
+}
+
+#[test]
+fn the_columns_at_hand_are_those_of_the_walk(rt: HostRuntime) -> Result<(), Fail> {
+    let row = body!(rt, DataRow, ROW);
+    let index = row.index(rt.alloc())?;
+    let mut ranges = row.ranges();
+    for column in 0..3usize {
+        assert_eq!(rt; ranges.next(), Ok(index.range(column)));
+    }
+    Ok(())
+}
+
+/// How many columns a row's table has.
+fn columns(rt: &HostRuntime, bytes: &[u8]) -> Result<usize, Error> {
+    match Messages::new(bytes).next() {
+        Ok(Some(Message::DataRow(row))) => Ok(row.index(rt.alloc())?.len()),
+        other => {
+            drop(other);
+            Err(Error::InvalidCount)
+        }
+    }
+}
+
+#[test]
+fn a_row_whose_list_is_not_finished_has_no_table(rt: HostRuntime) -> Result<(), Fail> {
+    let cut = columns(&rt, b"\x44\0\0\0\x0a\0\x01\0\0\0\x05");
+    assert_eq!(rt; cut, Err(Error::UnexpectedEof));
+    assert_eq!(rt;
+        columns(&rt, b"\x44\0\0\0\x07\0\0\xff"),
+        Err(Error::NotDrained)
+    );
+    assert_eq!(rt; columns(&rt, b"\x44\0\0\0\x06\0\0"), Ok(0));
     Ok(())
 }

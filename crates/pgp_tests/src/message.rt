@@ -2,7 +2,7 @@
 
 use bytes::{Bytes, BytesMut};
 use pgp_base::{Error, FallibleIterator};
-use pgp_message::{DataRowBody, Message};
+use pgp_message::{DataRowBody, FrameParser, Message, Messages};
 use pgp_test_alloc::Refusing;
 use std::alloc::{Allocator, Global};
 use std::process::Abort;
@@ -200,5 +200,161 @@ fn collect_with_each_allocation_refused(rt: HostRuntime) -> Result<(), Fail> {
         drop(message);
         assert!(rt; refusals > 0);
     }
+    Ok(())
+}
+
+// Whether the message at the front brings these bytes of a copy, by a parser that goes on.
+fn is_next_copy_of<A: Allocator + Copy>(
+    parser: &mut FrameParser,
+    buf: &mut BytesMut<A>,
+    data: &[u8],
+) -> Result<Option<bool>, Error> {
+    if !parser.fits(buf) {
+        return Err(Error::InvalidCount);
+    }
+    match parser.parse(buf)? {
+        Some(Message::CopyData(body)) => Ok(Some(body.data() == data)),
+        Some(other) => {
+            drop(other);
+            Ok(Some(false))
+        }
+        None => Ok(None),
+    }
+}
+
+// A refused frame stays, its header is remembered, and it is taken once memory is there.
+#[test]
+fn parser_with_each_allocation_refused(rt: HostRuntime) -> Result<(), Fail> {
+    let frame: &[u8] = b"\x64\0\0\0\x06ab";
+    let mut refusals = 0u64;
+    for number in 1..100u64 {
+        let heap = Refusing::new(rt.alloc(), 0);
+        let mut buf = buffer(&heap, frame)?;
+        let mut parser = FrameParser::new();
+        heap.refuse(number);
+        let answer = is_next_copy_of(&mut parser, &mut buf, b"ab");
+        if heap.is_pending() {
+            assert_eq!(rt; answer, Ok(Some(true)));
+            assert!(rt; buf.is_empty());
+            break;
+        }
+        assert_eq!(rt; answer, Err(Error::OutOfMemory));
+        assert_eq!(rt; buf.as_slice(), frame);
+        assert_eq!(rt;
+            is_next_copy_of(&mut parser, &mut buf, b"ab"),
+            Ok(Some(true))
+        );
+        assert_eq!(rt; parser.headers(), 1);
+        refusals = number;
+    }
+    assert!(rt; refusals > 0);
+    Ok(())
+}
+
+// How many columns the table of the first message has, which has to be a row.
+fn columns<A: Allocator>(alloc: A, bytes: &[u8]) -> Result<usize, Error> {
+    match Messages::new(bytes).next() {
+        Ok(Some(Message::DataRow(row))) => Ok(row.index(alloc)?.len()),
+        other => {
+            drop(other);
+            Err(Error::InvalidCount)
+        }
+    }
+}
+
+// How often the table of a row was refused memory before it was made.
+fn refusals_of_table(rt: &impl Abort, alloc: Global, row: &[u8], len: usize) -> u64 {
+    let mut refusals = 0u64;
+    for number in 1..100u64 {
+        let heap = Refusing::new(alloc, number);
+        let answer = columns(&heap, row);
+        if heap.is_pending() {
+            assert_eq!(rt; answer, Ok(len));
+            break;
+        }
+        assert_eq!(rt; answer, Err(Error::OutOfMemory));
+        refusals = number;
+    }
+    refusals
+}
+
+// The table of a short row is one allocation, that of a row without columns none.
+#[test]
+fn index_with_each_allocation_refused(rt: HostRuntime) -> Result<(), Fail> {
+    let five =
+        b"\x44\0\0\0\x1a\0\x05\xff\xff\xff\xff\xff\xff\xff\xff\xff\xff\xff\xff\xff\xff\xff\xff\xff\xff\xff\xff";
+    assert_eq!(rt; refusals_of_table(&rt, rt.alloc(), five, 5), 1);
+    assert_eq!(rt;
+        refusals_of_table(&rt, rt.alloc(), b"\x44\0\0\0\x06\0\0", 0),
+        0
+    );
+    let cut = b"\x44\0\0\0\x0a\xff\xff\0\0\0\x05";
+    let heap = Refusing::new(rt.alloc(), 1);
+    assert_eq!(rt; columns(&heap, cut), Err(Error::UnexpectedEof));
+    assert!(rt; heap.is_pending());
+    Ok(())
+}
+
+// Front, and so many bytes of this value behind it.
+fn long(alloc: Global, front: &[u8], len: usize, byte: u8) -> Result<BytesMut, Error> {
+    let mut buf = buffer(alloc, front)?;
+    let block = [byte; 1000];
+    for _ in 0..len / 1000 {
+        buf.extend_from_slice(&block)?;
+    }
+    buf.extend_from_slice(&block[..len % 1000])?;
+    Ok(buf)
+}
+
+// With ample memory a frame of 2 MB is read.
+#[test]
+fn a_long_frame_is_read(rt: HostRuntime) -> Result<(), Fail> {
+    let mut buf = long(rt.alloc(), b"\x64\0\x20\0\x04", 2_097_152, 7)?;
+    match Message::parse(&mut buf) {
+        Ok(Some(Message::CopyData(body))) => {
+            assert_eq!(rt; body.data().len(), 2_097_152);
+        }
+        other => {
+            drop(other);
+            panic!(rt; "no copy")
+        }
+    }
+    assert!(rt; buf.is_empty());
+    Ok(())
+}
+
+// How long the buffers of a row and of its copy are.
+fn row_and_copy(buf: &mut BytesMut) -> Result<(usize, usize), Error> {
+    match Message::parse(buf)? {
+        Some(Message::DataRow(row)) => Ok((row.buffer().len(), row.clone()?.buffer().len())),
+        other => {
+            drop(other);
+            Err(Error::InvalidCount)
+        }
+    }
+}
+
+// With ample memory rows of 300 bytes and of 1 MB are read, and copied.
+#[test]
+fn a_long_row_is_copied(rt: HostRuntime) -> Result<(), Fail> {
+    let mut short = long(rt.alloc(), b"\x44\0\0\x01\x32\0\x01\0\0\x01\x28", 296, 7)?;
+    assert_eq!(rt; row_and_copy(&mut short), Ok((300, 300)));
+    let front = b"\x44\0\x10\0\x06\0\x01\0\x0f\xff\xfc";
+    let mut row = long(rt.alloc(), front, 1_048_572, 7)?;
+    assert_eq!(rt; row_and_copy(&mut row), Ok((1_048_576, 1_048_576)));
+    Ok(())
+}
+
+// With ample memory a row of 60,000 nulls is walked, collected and tabulated.
+#[test]
+fn a_long_list_is_collected(rt: HostRuntime) -> Result<(), Fail> {
+    let mut buf = long(rt.alloc(), b"\x44\0\x03\xa9\x86\xea\x60", 240_000, 0xff)?;
+    assert_eq!(rt; columns(rt.alloc(), buf.as_slice()), Ok(60_000));
+    let Some(message) = Message::parse(&mut buf)? else {
+        panic!(rt; "no message");
+    };
+    let items = collected(rt.alloc(), &message);
+    drop(message);
+    assert_eq!(rt; items, Ok(60_000));
     Ok(())
 }

@@ -68,14 +68,22 @@ impl<S: Storage> NotificationResponseBody<S> {
 }
 
 impl<A: Allocator> NotificationResponseBody<Bytes<A>> {
-    /// The channel's name; `NotUtf8` where it isn't text.
+    /// The channel's name.
+    ///
+    /// # Errors
+    ///
+    /// `NotUtf8` where it isn't text.
     pub fn channel(&self) -> Result<&str, Error>
         ensures { MatchResult result (λ text. text.now ≡ self.now.channel) (λ e. (e ≡ Error.NotUtf8) × ¬ IsUtf8 self.now.channel) }
     {
         str::from_utf8(&self.texts.as_slice()[..self.channel_len]).map_err(|_| Error::NotUtf8)
     }
 
-    /// What was said; `NotUtf8` where it isn't text.
+    /// What was said.
+    ///
+    /// # Errors
+    ///
+    /// `NotUtf8` where it isn't text.
     pub fn message(&self) -> Result<&str, Error>
         ensures { MatchResult result (λ text. text.now ≡ self.now.message) (λ e. (e ≡ Error.NotUtf8) × ¬ IsUtf8 self.now.message) }
     {
@@ -86,14 +94,22 @@ impl<A: Allocator> NotificationResponseBody<Bytes<A>> {
 }
 
 impl<'a> NotificationResponseBody<&'a [u8]> {
-    /// The channel's name; `NotUtf8` where it isn't text.
+    /// The channel's name.
+    ///
+    /// # Errors
+    ///
+    /// `NotUtf8` where it isn't text.
     pub fn channel(&self) -> Result<&'a str, Error>
         ensures { MatchResult result (λ text. text.now ≡ self.now.channel) (λ e. (e ≡ Error.NotUtf8) × ¬ IsUtf8 self.now.channel) }
     {
         str::from_utf8(&self.texts[..self.channel_len]).map_err(|_| Error::NotUtf8)
     }
 
-    /// What was said; `NotUtf8` where it isn't text.
+    /// What was said.
+    ///
+    /// # Errors
+    ///
+    /// `NotUtf8` where it isn't text.
     pub fn message(&self) -> Result<&'a str, Error>
         ensures { MatchResult result (λ text. text.now ≡ self.now.message) (λ e. (e ≡ Error.NotUtf8) × ¬ IsUtf8 self.now.message) }
     {

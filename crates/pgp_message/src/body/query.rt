@@ -48,7 +48,11 @@ impl<S: Storage> CommandCompleteBody<S> {
 }
 
 impl<A: Allocator> CommandCompleteBody<Bytes<A>> {
-    /// The command's tag, as `SELECT 1`; `NotUtf8` where it isn't text.
+    /// The command's tag, as `SELECT 1`.
+    ///
+    /// # Errors
+    ///
+    /// `NotUtf8` where it isn't text.
     pub fn tag(&self) -> Result<&str, Error>
         ensures { MatchResult result (λ text. text.now ≡ self.now) (λ e. (e ≡ Error.NotUtf8) × ¬ IsUtf8 self.now) }
     {
@@ -57,7 +61,11 @@ impl<A: Allocator> CommandCompleteBody<Bytes<A>> {
 }
 
 impl<'a> CommandCompleteBody<&'a [u8]> {
-    /// The command's tag, as `SELECT 1`; `NotUtf8` where it isn't text.
+    /// The command's tag, as `SELECT 1`.
+    ///
+    /// # Errors
+    ///
+    /// `NotUtf8` where it isn't text.
     pub fn tag(&self) -> Result<&'a str, Error>
         ensures { MatchResult result (λ text. text.now ≡ self.now) (λ e. (e ≡ Error.NotUtf8) × ¬ IsUtf8 self.now) }
     {
@@ -117,7 +125,11 @@ impl<A: Allocator> DataRowBody<Bytes<A>> {
         RowIndex::over(alloc, self.row.storage.as_slice(), self.row.len)
     }
 
-    /// The same row over the same bytes. The only refusal is want of memory.
+    /// The same row over the same bytes.
+    ///
+    /// # Errors
+    ///
+    /// `OutOfMemory`.
     pub fn clone(&self) -> Result<DataRowBody<Bytes<A>>, Error>
         ensures ok { IfOk result (λ row. row ≡ self.now) }
         ensures err { IfErr result (λ e. e ≡ Error.OutOfMemory) }

@@ -136,14 +136,22 @@ impl<S: Storage> ParameterStatusBody<S> {
 }
 
 impl<A: Allocator> ParameterStatusBody<Bytes<A>> {
-    /// The parameter's name; `NotUtf8` where it isn't text.
+    /// The parameter's name.
+    ///
+    /// # Errors
+    ///
+    /// `NotUtf8` where it isn't text.
     pub fn name(&self) -> Result<&str, Error>
         ensures { MatchResult result (λ text. text.now ≡ self.now.name) (λ e. (e ≡ Error.NotUtf8) × ¬ IsUtf8 self.now.name) }
     {
         str::from_utf8(&self.texts.as_slice()[..self.name_len]).map_err(|_| Error::NotUtf8)
     }
 
-    /// The parameter's value; `NotUtf8` where it isn't text.
+    /// The parameter's value.
+    ///
+    /// # Errors
+    ///
+    /// `NotUtf8` where it isn't text.
     pub fn value(&self) -> Result<&str, Error>
         ensures { MatchResult result (λ text. text.now ≡ self.now.value) (λ e. (e ≡ Error.NotUtf8) × ¬ IsUtf8 self.now.value) }
     {
@@ -154,14 +162,22 @@ impl<A: Allocator> ParameterStatusBody<Bytes<A>> {
 }
 
 impl<'a> ParameterStatusBody<&'a [u8]> {
-    /// The parameter's name; `NotUtf8` where it isn't text.
+    /// The parameter's name.
+    ///
+    /// # Errors
+    ///
+    /// `NotUtf8` where it isn't text.
     pub fn name(&self) -> Result<&'a str, Error>
         ensures { MatchResult result (λ text. text.now ≡ self.now.name) (λ e. (e ≡ Error.NotUtf8) × ¬ IsUtf8 self.now.name) }
     {
         str::from_utf8(&self.texts[..self.name_len]).map_err(|_| Error::NotUtf8)
     }
 
-    /// The parameter's value; `NotUtf8` where it isn't text.
+    /// The parameter's value.
+    ///
+    /// # Errors
+    ///
+    /// `NotUtf8` where it isn't text.
     pub fn value(&self) -> Result<&'a str, Error>
         ensures { MatchResult result (λ text. text.now ≡ self.now.value) (λ e. (e ≡ Error.NotUtf8) × ¬ IsUtf8 self.now.value) }
     {

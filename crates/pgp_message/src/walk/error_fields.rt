@@ -42,7 +42,11 @@ impl<'a> ErrorField<'a> {
         self.value
     }
 
-    /// The value; `NotUtf8` where it isn't text.
+    /// The value as text.
+    ///
+    /// # Errors
+    ///
+    /// `NotUtf8` where it isn't text.
     pub fn value(&self) -> Result<&'a str, Error>
         ensures { MatchResult result (λ text. text.now ≡ self.now.value) (λ e. (e ≡ Error.NotUtf8) × ¬ IsUtf8 self.now.value) }
     {

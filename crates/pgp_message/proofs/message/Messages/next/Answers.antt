@@ -1,5 +1,5 @@
 use Rattle.std.proofs.Common.{rules, ap, ◌∙◌}
-use Rattle.pgp_message.specs.Stream.{Front, IsFront}
+use Rattle.pgp_message.specs.FrontReading.{Front, IsFront}
 use Rattle.pgp_message.specs.Reading.{body_of}
 use Rattle.pgp_message.proofs.Steps.{steps, payload_of_front, wants_no_memory}
 use Rattle.pgp_message.proofs.message.Messages.next.Goals as goal

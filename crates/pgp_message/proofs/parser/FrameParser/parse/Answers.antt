@@ -1,5 +1,5 @@
 use Rattle.std.proofs.Common.{◌≡◌, rules, sym, ap, ◌∙◌}
-use Rattle.pgp_message.specs.Stream.{Front, IsFront}
+use Rattle.pgp_message.specs.FrontReading.{Front, IsFront}
 use Rattle.pgp_message.specs.Reading.{body_of}
 use Rattle.pgp_message.specs.Remembered.{header_of, headers_after}
 use Rattle.pgp_message.specs.Views.{parsed}
