@@ -113,6 +113,10 @@ pub fn both_ways()
 
 /// Both ways, as calls: with the texts of a server that holds the verifier of the client's password the
 /// exchange comes to its end, unless memory is refused to `update`.
+///
+/// # Errors
+///
+/// `OutOfMemory` where `update` is refused memory.
 pub fn exchange<A: Allocator + Copy>(
     client: &mut ScramSha256<A>,
     server_first: &[u8],

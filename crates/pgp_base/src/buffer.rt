@@ -17,6 +17,9 @@ pub trait Buffer {
     /// A growth of such a buffer was refused.
     ghost Lacks: { Type 0 };
 
+    /// So many bytes more are sure to fit.
+    ghost Fits: { Self → ℕ → Type 0 };
+
     /// How many bytes it holds.
     fn len(&self) -> usize
         ensures value { result ≡ length (held self.now).bytes }
@@ -27,22 +30,38 @@ pub trait Buffer {
         ensures { result.now ≡ (held self.now).bytes };
 
     /// Makes room for so many bytes more.
+    ///
+    /// # Errors
+    ///
+    /// `AllocError` where there is no memory for them.
     fn reserve(&mut self, additional: usize) -> Result<(), AllocError>
         ensures same { held self.new ≡ held self.old }
+        ensures full { OnErr result (Fits self.old additional → ⊥) }
         ensures lacks { OnErr result Lacks };
 
     /// Appends all of `more`, or nothing.
+    ///
+    /// # Errors
+    ///
+    /// `AllocError` where there is no memory for it.
     fn append(&mut self, more: &[u8]) -> Result<(), AllocError>
         ensures ok { OnOk result (held self.new ≡ held self.old ⊕ more.now) }
         ensures err { OnErr result (held self.new ≡ held self.old) }
+        ensures full { OnErr result (Fits self.old (length more.now) → ⊥) }
         ensures lacks { OnErr result Lacks };
 
-    /// Appends all that is left of `more`, or nothing, and then `more` has it still.
+    /// Appends all that is left of `more` and leaves none of it there; or appends nothing, and leaves
+    /// `more` as it is.
+    ///
+    /// # Errors
+    ///
+    /// `AllocError` where there is no memory for it.
     fn append_from<T: Buf>(&mut self, more: &mut T) -> Result<(), AllocError>
         ensures ok { OnOk result (held self.new ≡ held self.old ⊕ T.unread more.old) }
         ensures drained { OnOk result (T.unread more.new ≡ []) }
         ensures err { OnErr result (held self.new ≡ held self.old) }
         ensures kept { OnErr result (more.new ≡ more.old) }
+        ensures full { OnErr result (Fits self.old (length (T.unread more.old)) → ⊥) }
         ensures lacks { OnErr result Lacks };
 
     /// Cuts what stands past `len`.
@@ -56,13 +75,15 @@ pub trait Buffer {
         ensures { held self.new ≡ overwritten (held self.old) place over.now };
 }
 
-/// Nothing but its bytes is said of it.
+/// Of its memory nothing is said: a growth may always be refused.
 impl<A: Allocator + Copy> Buffer for BytesMut<A> {
     ghost Kept = { Unit {0} };
 
     ghost held = { λ b. items_held b.items };
 
     ghost Lacks = { Unit {0} };
+
+    ghost Fits = { λ _ _. ⊥ };
 
     fn len(&self) -> usize {
         BytesMut::<A>::len(self)

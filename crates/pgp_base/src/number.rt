@@ -13,11 +13,17 @@ pub type Lsn = u64;
 /// Whether a value that a serializer was asked for is null.
 #[derive(Debug, Clone, Copy, PartialEq, Eq)]
 pub enum IsNull {
+    /// It is null, and its serializer appended nothing.
     Yes,
+    /// It is what its serializer appended.
     No,
 }
 
-/// The number as an `i16`; `TooLarge` past the greatest.
+/// The number as an `i16`.
+///
+/// # Errors
+///
+/// `TooLarge` past the greatest.
 pub fn i16_from_usize(n: usize) -> Result<i16, Error>
     ensures fits { n < 2 ^ 15 → result ≡ Ok (pos n) }
     ensures passes { 2 ^ 15 ≤ n → result ≡ Err Error.TooLarge }
@@ -25,7 +31,11 @@ pub fn i16_from_usize(n: usize) -> Result<i16, Error>
     i16::try_from(n).map_err(|_| Error::TooLarge)
 }
 
-/// The number as a `u16`; `TooLarge` past the greatest.
+/// The number as a `u16`.
+///
+/// # Errors
+///
+/// `TooLarge` past the greatest.
 pub fn u16_from_usize(n: usize) -> Result<u16, Error>
     ensures fits { n < 2 ^ 16 → result ≡ Ok n }
     ensures passes { 2 ^ 16 ≤ n → result ≡ Err Error.TooLarge }
@@ -33,7 +43,11 @@ pub fn u16_from_usize(n: usize) -> Result<u16, Error>
     u16::try_from(n).map_err(|_| Error::TooLarge)
 }
 
-/// The number as an `i32`; `TooLarge` past the greatest.
+/// The number as an `i32`.
+///
+/// # Errors
+///
+/// `TooLarge` past the greatest.
 pub fn i32_from_usize(n: usize) -> Result<i32, Error>
     ensures fits { n < 2 ^ 31 → result ≡ Ok (pos n) }
     ensures passes { 2 ^ 31 ≤ n → result ≡ Err Error.TooLarge }

@@ -19,6 +19,10 @@ pub fn is_marked(bytes: &[u8]) -> bool
 }
 
 /// A single byte.
+///
+/// # Errors
+///
+/// `UnexpectedEof` where no byte is left.
 pub fn byte_at(bytes: &[u8]) -> Result<(u8, &[u8]), Error>
     ensures { Gives (λ x. (x.0, x.1.now)) result (byte_at bytes.now) }
 {
@@ -29,6 +33,10 @@ pub fn byte_at(bytes: &[u8]) -> Result<(u8, &[u8]), Error>
 }
 
 /// An Int16 that is read as unsigned, as a count or the format of a column.
+///
+/// # Errors
+///
+/// `UnexpectedEof` where fewer than two bytes are left.
 pub fn uint16_at(bytes: &[u8]) -> Result<(u16, &[u8]), Error>
     ensures { Gives (λ x. (x.0, x.1.now)) result (uint16_at bytes.now) }
 {
@@ -39,6 +47,10 @@ pub fn uint16_at(bytes: &[u8]) -> Result<(u16, &[u8]), Error>
 }
 
 /// An object's identifier: four bytes, unsigned.
+///
+/// # Errors
+///
+/// `UnexpectedEof` where fewer than four bytes are left.
 pub fn oid_at(bytes: &[u8]) -> Result<(u32, &[u8]), Error>
     ensures { Gives (λ x. (x.0, x.1.now)) result (oid_at bytes.now) }
 {
@@ -49,6 +61,10 @@ pub fn oid_at(bytes: &[u8]) -> Result<(u32, &[u8]), Error>
 }
 
 /// An Int16.
+///
+/// # Errors
+///
+/// `UnexpectedEof` where fewer than two bytes are left.
 pub fn int16_at(bytes: &[u8]) -> Result<(i16, &[u8]), Error>
     ensures { Gives (λ x. (x.0, x.1.now)) result (int16_at bytes.now) }
 {
@@ -59,6 +75,10 @@ pub fn int16_at(bytes: &[u8]) -> Result<(i16, &[u8]), Error>
 }
 
 /// An Int32.
+///
+/// # Errors
+///
+/// `UnexpectedEof` where fewer than four bytes are left.
 pub fn int32_at(bytes: &[u8]) -> Result<(i32, &[u8]), Error>
     ensures { Gives (λ x. (x.0, x.1.now)) result (int32_at bytes.now) }
 {
@@ -69,6 +89,10 @@ pub fn int32_at(bytes: &[u8]) -> Result<(i32, &[u8]), Error>
 }
 
 /// A String of the protocol, without the byte 0 that ends it; it need not be text.
+///
+/// # Errors
+///
+/// `UnexpectedEof` where no byte 0 is left.
 pub fn string_at(bytes: &[u8]) -> Result<(&[u8], &[u8]), Error>
     ensures { Gives (λ x. (x.0.now, x.1.now)) result (string_at bytes.now) }
 {
@@ -81,7 +105,12 @@ pub fn string_at(bytes: &[u8]) -> Result<(&[u8], &[u8]), Error>
     }
 }
 
-/// A String that has to be UTF-8: where no 0 ends it it is `UnexpectedEof`, whatever its bytes are.
+/// A String that has to be UTF-8.
+///
+/// # Errors
+///
+/// `UnexpectedEof` where no byte 0 is left, whatever the bytes are; else `NotUtf8` where those before the
+/// first 0 are not UTF-8.
 #[tactic(auto, unfolding(crate::specs::PartReading::text_at))]
 pub fn text_at(bytes: &[u8]) -> Result<(&str, &[u8]), Error>
     ensures { Answers (λ x. (x.0.now, x.1.now)) result (text_at bytes.now) }

@@ -20,6 +20,11 @@ pub trait FallibleIterator {
     ghost walk: { Self → Walk Meaning };
 
     /// The next item, or nothing at the end. At the end the same answer comes for ever.
+    ///
+    /// # Errors
+    ///
+    /// Why the walk was refused, where its list ends so: an item is cut short or has another fault, or bytes
+    /// are left behind the last.
     fn next(&mut self) -> Result<Option<Self::Item>, Error>
         ensures { TakesFront meaning (walk self.old) result (walk self.new) };
 
@@ -27,7 +32,12 @@ pub trait FallibleIterator {
     fn size_hint(&self) -> (usize, Option<usize>)
         ensures { (result.0, result.1) ≡ hint_of (walk self.now).announced };
 
-    /// All items.
+    /// All items. The `Vec` grows as they come, never by the announced count.
+    ///
+    /// # Errors
+    ///
+    /// The walk's own refusal where its list ends with one, or `OutOfMemory` where the `Vec` was refused
+    /// memory.
     final fn collect<A: Allocator>(mut self, alloc: A) -> Result<Vec<Self::Item, A>, Error>
     where
         Self: Sized + Drop,

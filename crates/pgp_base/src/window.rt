@@ -6,8 +6,9 @@ use crate::buffer::Buffer;
 use bytes::Buf;
 use std::alloc::AllocError;
 
-/// A buffer over memory of the caller's. It doesn't grow: what doesn't fit is refused as for want of
-/// memory.
+/// A buffer over memory of the caller's, which asks no allocator for any. It doesn't grow: what doesn't
+/// fit is refused as for want of memory, and what fits is not. The bytes stand at the front of the
+/// caller's memory; behind them it is as it was, but where a refused writer had begun.
 #[derive(Drop)]
 pub struct Window<'a> {
     room: &'a mut [u8],
@@ -18,7 +19,7 @@ pub struct Window<'a> {
 impl<'a> Window<'a> {
     ghost use Rattle.pgp_base.specs.Window.{window_held, place};
 
-    /// Nothing is written yet.
+    /// A window on this memory, into which nothing is written yet.
     pub fn new(room: &'a mut [u8]) -> Window<'a>
         ensures { window_held result ≡ record { bytes = []; behind = room.old; kept = place room.entry } }
     {
@@ -29,13 +30,15 @@ impl<'a> Window<'a> {
 impl Buffer for Window<'_> {
     ghost use Rattle.std.specs.Prelude.{ℕ};
     ghost use Rattle.std.specs.Borrow.{GName};
-    ghost use Rattle.pgp_base.specs.Window.{window_held};
+    ghost use Rattle.pgp_base.specs.Window.{window_held, window_fits};
 
     ghost Kept = { GName × ℕ };
 
     ghost held = { window_held };
 
     ghost Lacks = { Unit {0} };
+
+    ghost Fits = { window_fits };
 
     fn len(&self) -> usize {
         self.len

@@ -16,6 +16,10 @@ use crate::number::IsNull;
 use memchr::memchr;
 
 /// Appends a byte.
+///
+/// # Errors
+///
+/// `OutOfMemory` where a growth was refused.
 pub fn put_u8<B: Buffer>(buf: &mut B, n: u8) -> Result<(), Error>
     ensures ok { OnOk result (B.held buf.new ≡ B.held buf.old ⊕ n ∷ []) }
     ensures err { OnErr result (B.held buf.new ≡ B.held buf.old) }
@@ -26,6 +30,10 @@ pub fn put_u8<B: Buffer>(buf: &mut B, n: u8) -> Result<(), Error>
 }
 
 /// Appends a number in two bytes.
+///
+/// # Errors
+///
+/// `OutOfMemory` where a growth was refused.
 #[tactic(auto, unfolding(crate::specs::Wire::uint16))]
 pub fn put_u16<B: Buffer>(buf: &mut B, n: u16) -> Result<(), Error>
     ensures ok { OnOk result (B.held buf.new ≡ B.held buf.old ⊕ uint16 n) }
@@ -37,6 +45,10 @@ pub fn put_u16<B: Buffer>(buf: &mut B, n: u16) -> Result<(), Error>
 }
 
 /// Appends a number in four bytes.
+///
+/// # Errors
+///
+/// `OutOfMemory` where a growth was refused.
 #[tactic(auto, unfolding(crate::specs::Wire::uint32))]
 pub fn put_u32<B: Buffer>(buf: &mut B, n: u32) -> Result<(), Error>
     ensures ok { OnOk result (B.held buf.new ≡ B.held buf.old ⊕ uint32 n) }
@@ -68,6 +80,11 @@ pub fn patch_u32<B: Buffer>(buf: &mut B, place: usize, n: u32)
 }
 
 /// Appends a text and a 0 byte.
+///
+/// # Errors
+///
+/// `EmbeddedNull` where the text has a 0 byte itself, and `OutOfMemory` where a growth was refused. The
+/// buffer keeps its bytes.
 #[tactic(auto, using(crate::proofs::Causes::text_holds_zero))]
 pub fn write_cstr<B: Buffer>(bytes: &[u8], buf: &mut B) -> Result<(), Error>
     ensures { Writes (text bytes.now) (text_cause bytes.now) B.Lacks (B.held buf.old) (B.held buf.new) result }
@@ -138,7 +155,11 @@ fn give_by<B: Buffer, T, E, F: FnMut(T, &mut B) -> Result<IsNull, E>>(
     f(x, buf)
 }
 
-/// The number as a length's field holds it; `TooLarge` past the greatest `i32`.
+/// The number as a length's field holds it.
+///
+/// # Errors
+///
+/// `TooLarge` past the greatest `i32`.
 #[tactic(auto, using(crate::proofs::Causes::length_fits, crate::proofs::Causes::length_past))]
 pub fn length_field(size: usize) -> Result<u32, Error>
     ensures value { IfOk result (λ n. (n ≡ size) × (length_cause size ≡ None)) }
@@ -150,7 +171,11 @@ pub fn length_field(size: usize) -> Result<u32, Error>
     Ok(size as u32)
 }
 
-/// Fills the length's place, at `base`, of a part that counts itself; `TooLarge` past the field.
+/// Fills the length's place, at `base`, of a part that counts itself.
+///
+/// # Errors
+///
+/// `TooLarge` where the length passes the greatest `i32`. The buffer is as it was.
 pub fn finish_body<B: Buffer>(buf: &mut B, base: usize) -> Result<(), Error>
     requires { base + 4 ≤ length (B.held buf.old).bytes }
     ensures ok { OnOk result (B.held buf.new
@@ -190,6 +215,12 @@ fn finish_value<B: Buffer>(buf: &mut B, base: usize, null: IsNull) -> Result<(),
 
 /// Appends the value that the serializer makes of `x`: its length and its bytes, or a null. It tells
 /// which.
+///
+/// # Errors
+///
+/// `Conversion` where the serializer refused. `Serialization` of `TooLarge` where its bytes pass the length's
+/// field, and of `OutOfMemory` where a growth was refused, and then it was not called. What the buffer
+/// held stays as a front.
 #[tactic(auto, using(crate::proofs::Parts::held_steps))]
 pub fn put_value<B: Buffer, T: Drop, E: Drop, F: FnMut(T, &mut B) -> Result<IsNull, E>>(
     f: &mut F,
@@ -239,7 +270,12 @@ fn fill_body<B: Buffer, E: Drop, F: FnOnce(&mut B) -> Result<(), E>>(
     Ok(())
 }
 
-/// Appends the length of itself and of what `f` appends, and that. `Conversion` is the refusal of `f`.
+/// Appends the length of itself and of what `f` appends, and that.
+///
+/// # Errors
+///
+/// `Conversion` where `f` refused. `Serialization` of `TooLarge` where the length passes the greatest `i32`, and
+/// of `OutOfMemory` where a growth was refused. The buffer keeps its bytes.
 #[tactic(auto, using(crate::proofs::Parts::held_steps))]
 pub fn write_body<B: Buffer, E: Drop, F: FnOnce(&mut B) -> Result<(), E>>(
     buf: &mut B,
@@ -286,7 +322,12 @@ fn fill_nullable<B: Buffer, E: Drop, F: FnOnce(&mut B) -> Result<IsNull, E>>(
 }
 
 /// Appends a value that may be null: its length and the bytes that the serializer appends, or -1
-/// where it answers that the value is null. `Conversion` is the serializer's refusal.
+/// where it answers that the value is null.
+///
+/// # Errors
+///
+/// `Conversion` where the serializer refused. `Serialization` of `TooLarge` where its bytes pass the greatest
+/// `i32`, and of `OutOfMemory` where a growth was refused. The buffer keeps its bytes.
 #[tactic(auto, using(crate::proofs::Parts::held_steps))]
 pub fn write_nullable<B: Buffer, E: Drop, F: FnOnce(&mut B) -> Result<IsNull, E>>(
     serializer: F,
@@ -341,8 +382,13 @@ where
     Ok(())
 }
 
-/// Appends how many items there are, and each as the serializer writes it. `Conversion` is the
-/// serializer's refusal. The item past 65,535 is refused before it is written.
+/// Appends how many items there are, and each as the serializer writes it.
+///
+/// # Errors
+///
+/// `Conversion` where the serializer refused an item. `Serialization` of `TooLarge` at the item past 65,535, for
+/// which the serializer is not called, and of `OutOfMemory` where a growth was refused, before it was
+/// called at all. The buffer keeps its bytes.
 #[tactic(auto, using(crate::proofs::Parts::held_steps))]
 pub fn write_counted<
     B: Buffer,

@@ -7,13 +7,23 @@ use crate::field::{Field, message};
 use pgp_base::{Buffer, Error};
 
 /// A password, or the text of its digest.
+///
+/// # Errors
+///
+/// `EmbeddedNull` where the password has a 0 byte, `TooLarge` where the message passes the greatest `i32`, and
+/// `OutOfMemory` where a growth was refused. The buffer keeps its bytes.
 pub fn password_message<B: Buffer>(password: &[u8], buf: &mut B) -> Result<(), Error>
     ensures { WritesMessage (PasswordMessage password.now) B.Lacks (B.held buf.old) (B.held buf.new) result }
 {
     message(b'p', &[Field::Text(password)], buf)
 }
 
-/// The first message of a SASL exchange.
+/// The first message of a SASL exchange: the mechanism's name, and the client's first data.
+///
+/// # Errors
+///
+/// `EmbeddedNull` where the mechanism has a 0 byte, `TooLarge` where the message passes the greatest `i32`, and
+/// `OutOfMemory` where a growth was refused. The buffer keeps its bytes.
 pub fn sasl_initial_response<B: Buffer>(
     mechanism: &str,
     data: &[u8],
@@ -29,6 +39,11 @@ pub fn sasl_initial_response<B: Buffer>(
 }
 
 /// A later message of a SASL exchange.
+///
+/// # Errors
+///
+/// `TooLarge` where the message passes the greatest `i32`, and `OutOfMemory` where a growth was refused. The
+/// buffer keeps its bytes.
 pub fn sasl_response<B: Buffer>(data: &[u8], buf: &mut B) -> Result<(), Error>
     ensures { WritesMessage (SaslResponse «data».now) B.Lacks (B.held buf.old) (B.held buf.new) result }
 {

@@ -30,6 +30,10 @@ impl<T: Buf> Model for CopyData<T> {
 
 impl<T: Buf + Drop> CopyData<T> {
     /// Takes the bytes that are left to read of `buf`. Nothing is copied.
+    ///
+    /// # Errors
+    ///
+    /// `TooLarge` where these bytes and four pass the greatest `i32`.
     pub fn new(buf: T) -> Result<CopyData<T>, Error>
         ensures ok { IfOk result (λ piece. (piece ≡ buf) × (cause (DataMessage (T.unread buf)) ≡ None)) }
         ensures err { IfErr result (λ e. cause (DataMessage (T.unread buf)) ≡ Some e) }
@@ -42,7 +46,11 @@ impl<T: Buf + Drop> CopyData<T> {
         Ok(CopyData { buf, size })
     }
 
-    /// Appends the message. Where memory is refused it hands itself back, nothing read from it.
+    /// Appends the message, and then nothing of the piece is left unread.
+    ///
+    /// # Errors
+    ///
+    /// Itself, nothing read from it, where a growth was refused. The buffer keeps its bytes.
     pub fn write<B: Buffer>(self, out: &mut B) -> Result<(), CopyData<T>>
         ensures ok { OnOk result (WritesMessage (DataMessage (T.unread self)) B.Lacks (B.held out.old) (B.held out.new) (Ok tt)) }
         ensures err { IfErr result (λ piece. (piece ≡ self) × B.Lacks × Leaves (B.held out.old) (B.held out.new)) }
@@ -74,6 +82,10 @@ fn fill<T: Buf, B: Buffer>(size: u32, buf: &mut T, out: &mut B) -> Result<(), Er
 }
 
 /// The end of the data.
+///
+/// # Errors
+///
+/// `OutOfMemory` where a growth was refused. The buffer keeps its bytes.
 pub fn copy_done<B: Buffer>(buf: &mut B) -> Result<(), Error>
     ensures { WritesMessage CopyDone B.Lacks (B.held buf.old) (B.held buf.new) result }
 {
@@ -81,6 +93,11 @@ pub fn copy_done<B: Buffer>(buf: &mut B) -> Result<(), Error>
 }
 
 /// Gives the copy up, with a text for the server's report.
+///
+/// # Errors
+///
+/// `EmbeddedNull` where the text has a 0 byte, `TooLarge` where the message passes the greatest `i32`, and
+/// `OutOfMemory` where a growth was refused. The buffer keeps its bytes.
 pub fn copy_fail<B: Buffer>(reason: &str, buf: &mut B) -> Result<(), Error>
     ensures { WritesMessage (CopyFail reason.now) B.Lacks (B.held buf.old) (B.held buf.new) result }
 {

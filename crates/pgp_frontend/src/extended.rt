@@ -17,6 +17,11 @@ use crate::values::put_values;
 use pgp_base::{BindError, Buffer, Error, IsNull, Oid, finish_body, put_u8, put_u32};
 
 /// Closes a statement (`S`) or a portal (`P`). The variant may be any byte.
+///
+/// # Errors
+///
+/// `EmbeddedNull` where the name has a 0 byte, `TooLarge` where the message passes the greatest `i32`, and
+/// `OutOfMemory` where a growth was refused. The buffer keeps its bytes.
 pub fn close<B: Buffer>(variant: u8, name: &str, buf: &mut B) -> Result<(), Error>
     ensures { WritesMessage (Close variant name.now) B.Lacks (B.held buf.old) (B.held buf.new) result }
 {
@@ -28,6 +33,11 @@ pub fn close<B: Buffer>(variant: u8, name: &str, buf: &mut B) -> Result<(), Erro
 }
 
 /// Asks what a statement (`S`) or a portal (`P`) gives. The variant may be any byte.
+///
+/// # Errors
+///
+/// `EmbeddedNull` where the name has a 0 byte, `TooLarge` where the message passes the greatest `i32`, and
+/// `OutOfMemory` where a growth was refused. The buffer keeps its bytes.
 pub fn describe<B: Buffer>(variant: u8, name: &str, buf: &mut B) -> Result<(), Error>
     ensures { WritesMessage (Describe variant name.now) B.Lacks (B.held buf.old) (B.held buf.new) result }
 {
@@ -39,6 +49,11 @@ pub fn describe<B: Buffer>(variant: u8, name: &str, buf: &mut B) -> Result<(), E
 }
 
 /// Runs a portal, for at most so many rows; 0 is no limit.
+///
+/// # Errors
+///
+/// `EmbeddedNull` where the portal's name has a 0 byte, `TooLarge` where the message passes the greatest `i32`, and
+/// `OutOfMemory` where a growth was refused. The buffer keeps its bytes.
 pub fn execute<B: Buffer>(portal: &str, max_rows: i32, buf: &mut B) -> Result<(), Error>
     ensures { WritesMessage (Execute portal.now max_rows) B.Lacks (B.held buf.old) (B.held buf.new) result }
 {
@@ -50,6 +65,10 @@ pub fn execute<B: Buffer>(portal: &str, max_rows: i32, buf: &mut B) -> Result<()
 }
 
 /// Asks for what the server holds back.
+///
+/// # Errors
+///
+/// `OutOfMemory` where a growth was refused. The buffer keeps its bytes.
 pub fn flush<B: Buffer>(buf: &mut B) -> Result<(), Error>
     ensures { WritesMessage Flush B.Lacks (B.held buf.old) (B.held buf.new) result }
 {
@@ -57,6 +76,10 @@ pub fn flush<B: Buffer>(buf: &mut B) -> Result<(), Error>
 }
 
 /// Ends a series of extended queries.
+///
+/// # Errors
+///
+/// `OutOfMemory` where a growth was refused. The buffer keeps its bytes.
 pub fn sync<B: Buffer>(buf: &mut B) -> Result<(), Error>
     ensures { WritesMessage Sync B.Lacks (B.held buf.old) (B.held buf.new) result }
 {
@@ -93,7 +116,13 @@ where
 }
 
 /// Prepares a statement of this name. The identifiers are the types of the first parameters; 0 leaves
-/// one to the server. An identifier past 65,535 is refused before it is written.
+/// one to the server.
+///
+/// # Errors
+///
+/// The first from the left of: `EmbeddedNull` where a text has a 0 byte, `TooLarge` at the identifier past 65,535,
+/// which is not written, `TooLarge` where the message passes the greatest `i32`. Else `OutOfMemory` where a
+/// growth was refused, which may come before any of them. The buffer keeps its bytes.
 pub fn parse<B: Buffer, I: IntoIterator<Item = Oid> + Drop>(
     name: &str,
     query: &str,
@@ -198,8 +227,15 @@ where
 
 /// Binds values to a statement's parameters, and makes a portal of it. The formats are 0 for text
 /// and 1 for binary: none for all text, one for all, or one for each. The serializer appends the
-/// bytes of each value, or answers that it is null and appends nothing; `Conversion` is its refusal.
-/// An item past 65,535 of a list is refused before it is written.
+/// bytes of each value, or answers that it is null and appends nothing. It is called once an item, in order,
+/// and not at all where the names or the formats are refused.
+///
+/// # Errors
+///
+/// The first from the left of: `Serialization` of `EmbeddedNull` where a name has a 0 byte, and of `TooLarge` at the
+/// item past 65,535 of a list, which is not written, where the bytes of a value pass the greatest `i32`,
+/// or where the message does; `Conversion` where the serializer refused a value. Else `Serialization` of
+/// `OutOfMemory` where a growth was refused, which may come before any of them. The buffer keeps its bytes.
 pub fn bind<
     B: Buffer,
     T: Drop,

@@ -7,6 +7,11 @@ use crate::field::{Field, message};
 use pgp_base::{Buffer, Error};
 
 /// A query of any number of statements.
+///
+/// # Errors
+///
+/// `EmbeddedNull` where the query has a 0 byte, `TooLarge` where the message passes the greatest `i32`, and
+/// `OutOfMemory` where a growth was refused. The buffer keeps its bytes.
 pub fn query<B: Buffer>(query: &str, buf: &mut B) -> Result<(), Error>
     ensures { WritesMessage (Query query.now) B.Lacks (B.held buf.old) (B.held buf.new) result }
 {
@@ -14,6 +19,10 @@ pub fn query<B: Buffer>(query: &str, buf: &mut B) -> Result<(), Error>
 }
 
 /// The end of the session.
+///
+/// # Errors
+///
+/// `OutOfMemory` where a growth was refused. The buffer keeps its bytes.
 pub fn terminate<B: Buffer>(buf: &mut B) -> Result<(), Error>
     ensures { WritesMessage Terminate B.Lacks (B.held buf.old) (B.held buf.new) result }
 {

@@ -19,7 +19,11 @@ const CANCEL_REQUEST: i32 = 80_877_102;
 
 const SSL_REQUEST: i32 = 80_877_103;
 
-/// Asks for the end of what another session runs.
+/// Asks for the end of what another session runs, by the numbers of its BackendKeyData.
+///
+/// # Errors
+///
+/// `OutOfMemory` where a growth was refused. The buffer keeps its bytes.
 pub fn cancel_request<B: Buffer>(process_id: i32, secret_key: i32, buf: &mut B) -> Result<(), Error>
     ensures { WritesMessage (CancelRequest process_id secret_key) B.Lacks (B.held buf.old) (B.held buf.new) result }
 {
@@ -34,6 +38,10 @@ pub fn cancel_request<B: Buffer>(process_id: i32, secret_key: i32, buf: &mut B) 
 }
 
 /// Asks for an encrypted session. The server answers with one byte, which is no message.
+///
+/// # Errors
+///
+/// `OutOfMemory` where a growth was refused. The buffer keeps its bytes.
 pub fn ssl_request<B: Buffer>(buf: &mut B) -> Result<(), Error>
     ensures { WritesMessage SslRequest B.Lacks (B.held buf.old) (B.held buf.new) result }
 {
@@ -87,6 +95,11 @@ where
 
 /// Opens a session of version 3.0 with these names and values, among them `user`. A server reads no
 /// name that is empty, but one is written as any other.
+///
+/// # Errors
+///
+/// `EmbeddedNull` where a name or a value has a 0 byte, `TooLarge` where the message passes the greatest `i32`, and
+/// `OutOfMemory` where a growth was refused. The buffer keeps its bytes.
 pub fn startup_message<'a, B: Buffer, I: IntoIterator<Item = (&'a str, &'a str)> + Drop>(
     parameters: I,
     buf: &mut B,

@@ -45,7 +45,14 @@ impl<A: Allocator> Model for ScramSha256<A> {
 }
 
 impl<A: Allocator + Copy> ScramSha256<A> {
-    /// Begins an exchange with a nonce of 24 characters that the generator draws.
+    /// Begins an exchange with a nonce of 24 characters that the generator draws. `message` is then the
+    /// client-first text of RFC 5802, section 7, without a user's name: PostgreSQL takes the one of the
+    /// start-up message.
+    ///
+    /// # Errors
+    ///
+    /// `OutOfMemory` where memory for the exchange, or the mapping's own, is refused. The generator has
+    /// moved on by the nonce then too.
     pub fn new<P: SaslPrep, R: Rng>(
         alloc: A,
         password: &[u8],
@@ -65,6 +72,10 @@ impl<A: Allocator + Copy> ScramSha256<A> {
     }
 
     /// Begins an exchange with a given nonce, which has to be a new one each time.
+    ///
+    /// # Errors
+    ///
+    /// `OutOfMemory` where memory for the exchange, or the mapping's own, is refused.
     pub fn with_nonce<P: SaslPrep>(
         alloc: A,
         password: &[u8],
@@ -90,7 +101,8 @@ impl<A: Allocator + Copy> ScramSha256<A> {
         }
     }
 
-    /// The HMACs that `update` and `finish` have made.
+    /// The HMACs that `update` and `finish` have made: the rounds (at least one) and 2 for an `update` that is
+    /// Ok, 2 for a `finish` that compares.
     pub fn hmacs(&self) -> u64
         ensures value { result ≡ self.now.hmacs }
         ensures few { result ≤ 100004 }
@@ -98,7 +110,23 @@ impl<A: Allocator + Copy> ScramSha256<A> {
         self.made
     }
 
-    /// Takes the server's first text. A refusal ends the exchange.
+    /// Takes the server's first text, `r=` nonce `,s=` salt `,i=` count, and makes the client-final text, which
+    /// `message` then is. A refusal ends the exchange.
+    ///
+    /// # Errors
+    ///
+    /// The first of these. Places are byte places in the server's text.
+    ///
+    /// - `WrongState`: the server's first text was taken before, or the exchange is over.
+    /// - `NotUtf8`.
+    /// - `UnexpectedEnd`, `UnexpectedCharacter`: the text ends, or has another character, where one has to
+    ///   stand.
+    /// - `InvalidNumber`: the count has no digits, or is no number of 32 bits.
+    /// - `Trailing`: something follows the count, as an extension.
+    /// - `InvalidNonce`: the server's nonce doesn't begin with the client's.
+    /// - `TooManyIterations`: the count is over 100,000.
+    /// - `InvalidBase64`: the salt isn't base64 with padding.
+    /// - `OutOfMemory`: memory is refused for the salt, or for the texts behind it.
     pub fn update(&mut self, message: &[u8]) -> Result<(), ScramError<A>>
         ensures ok { OnOk result (Answers self.old message.now self.new) }
         ensures err { IfErr result (λ e. UpdateRefused self.old message.now (refusal e) self.new) }
@@ -114,7 +142,23 @@ impl<A: Allocator + Copy> ScramSha256<A> {
         Ok(())
     }
 
-    /// Takes the server's final text, and ends the exchange.
+    /// Takes the server's final text, `v=` and the signature or `e=` and an error, and ends the exchange.
+    ///
+    /// The signature is compared in a time that doesn't depend on the bytes that differ.
+    ///
+    /// # Errors
+    ///
+    /// The first of these. Places are byte places in the server's text.
+    ///
+    /// - `WrongState`: no `update` was Ok before, or the exchange is over.
+    /// - `NotUtf8`.
+    /// - `UnexpectedEnd`, `UnexpectedCharacter`: the text ends, or has another character, where one has to
+    ///   stand.
+    /// - `Trailing`: something follows the error or the base64 text.
+    /// - `Server`: the server's own error, as it stands behind `e=`.
+    /// - `InvalidBase64`: the text behind `v=` isn't base64 with padding.
+    /// - `Verification`: it shows other bytes than the signature.
+    /// - `OutOfMemory`: memory is refused for the server's error, or for base64 of more than 64 characters.
     pub fn finish(&mut self, message: &[u8]) -> Result<(), ScramError<A>>
         ensures ok { OnOk result (Finished self.old message.now self.new) }
         ensures err { IfErr result (λ e. FinishRefused self.old message.now (refusal e) self.new) }

@@ -15,7 +15,8 @@ pub(crate) fn is_nonce_byte(byte: u8) -> bool
     matches!(byte, 0x21..=0x2b | 0x2d..=0x7e)
 }
 
-/// The text can be a client's nonce: it has a character, and each is printable ASCII, but no comma.
+/// The text can be a client's nonce: it has a character, and each is printable ASCII, but no space and no
+/// comma (`printable` of RFC 5802, section 7).
 pub fn is_nonce(text: &str) -> bool
     ensures { IsTrue result ↔ IsNonce text.now }
 {
