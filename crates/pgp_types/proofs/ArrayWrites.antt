@@ -8,7 +8,7 @@ use Rattle.pgp_base.specs.declared.error.BindError.{BindError}
 use Rattle.pgp_base.specs.Wire.{int32, uint32, oid, nullable}
 use Rattle.pgp_base.specs.Cause.{first, length_cause, nullable_cause}
 use Rattle.pgp_base.specs.Held.{Held, ◌⊕◌, overwritten}
-use Rattle.pgp_base.specs.Calls.{null_of, Came, Gives, Runs, ValueRefused}
+use Rattle.pgp_base.specs.Calls.{null_of, Gives, Runs, ValueRefused}
 use Rattle.pgp_base.proofs.Causes.{either_none}
 use Rattle.pgp_base.proofs.Parts.{more_twice, more_bytes, int32_spelled, length-uint32, sized4, filled4}
 use Rattle.pgp_types.specs.declared.array.ArrayDimension.{ArrayDimension}
@@ -33,20 +33,20 @@ value_then (None ∷ vs) v e = refl
 value_then (Some w ∷ vs) v e = value_then vs v e
 
 -- an element that was refused behind those that were made
-pub value_stops : {F T E B K : Type 0} (held : B → Held K) (step : F → T → MutBor B → Result IsNull E → MutBor B → F → Type 0) {U S : Type 0} (into_iter_gives : U → S → Type 0) (next_gives : S → Option T → S → Type 0) (source : U) (f : F) (here : Held K) (lacks : Type 0)
+pub value_stops : {F T E B K : Type 0} (held : B → Held K) (step : F → T → MutBor B → Result IsNull E → MutBor B → F → Type 0) (given : List T → Option T → Type 0) (f : F) (here : Held K) (lacks : Type 0)
     (xs : List T) (x : T) (vs : List (Option (List ℕ))) (at u : F) (b : Held K) (e : BindError E)
-    → Came into_iter_gives next_gives source xs (Some x) → Runs (Gives held step) nullable here f xs vs at → b ≡ here ⊕ flat_map nullable vs
-    → ValueRefused held step lacks b at x e u → MadeUpTo held step into_iter_gives next_gives source f u here lacks e
-value_stops {K = K} held step into_iter_gives next_gives source f here lacks xs x vs at u b e came runs h r =
+    → given xs (Some x) → Runs (Gives held step) nullable here f xs vs at → b ≡ here ⊕ flat_map nullable vs
+    → ValueRefused held step lacks b at x e u → MadeUpTo held step given f u here lacks e
+value_stops {K = K} held step given f here lacks xs x vs at u b e came runs h r =
     record { xs = xs; x = x; came = came; made = vs; at = at; runs = runs; refused = subst (λ (b : Held K). ValueRefused held step lacks b at x e u) h r }
 
-module _ {F T E B K : Type 0} (held : B → Held K) (step : F → T → MutBor B → Result IsNull E → MutBor B → F → Type 0) {U S : Type 0} (into_iter_gives : U → S → Type 0) (next_gives : S → Option T → S → Type 0) (source : U) (f last : F) where
+module _ {F T E B K : Type 0} (held : B → Held K) (step : F → T → MutBor B → Result IsNull E → MutBor B → F → Type 0) (given : List T → Option T → Type 0) (f last : F) where
   -- the same, before which a buffer held the same
-  pub stops_at : (here there : Held K) (lacks : Type 0) (e : BindError E) → here ≡ there → MadeUpTo held step into_iter_gives next_gives source f last here lacks e → MadeUpTo held step into_iter_gives next_gives source f last there lacks e
-  stops_at here there lacks e h r = subst (λ (here : Held K). MadeUpTo held step into_iter_gives next_gives source f last here lacks e) h r
+  pub stops_at : (here there : Held K) (lacks : Type 0) (e : BindError E) → here ≡ there → MadeUpTo held step given f last here lacks e → MadeUpTo held step given f last there lacks e
+  stops_at here there lacks e h r = subst (λ (here : Held K). MadeUpTo held step given f last here lacks e) h r
 
-  pub made_at : (here there : Held K) (vs : List (Option (List ℕ))) → here ≡ there → Made held step into_iter_gives next_gives source f last here vs → Made held step into_iter_gives next_gives source f last there vs
-  made_at here there vs h r = subst (λ (here : Held K). Made held step into_iter_gives next_gives source f last here vs) h r
+  pub made_at : (here there : Held K) (vs : List (Option (List ℕ))) → here ≡ there → Made held step given f last here vs → Made held step given f last there vs
+  made_at here there vs h r = subst (λ (here : Held K). Made held step given f last here vs) h r
 
 -- each element that was made fits its field
 pub Runs-fit : {F T E B K : Type 0} (held : B → Held K) (step : F → T → MutBor B → Result IsNull E → MutBor B → F → Type 0) (here : Held K) (f : F) (xs : List T) (vs : List (Option (List ℕ))) (t : F) → Runs (Gives held step) nullable here f xs vs t → first (map nullable_cause vs) ≡ None

@@ -4,5 +4,8 @@ pub mod Text
 pub mod Time
 pub mod Network
 pub mod Geometry
+pub mod Part
+pub mod PartReading
 pub mod Array
+pub mod ArrayReading
 pub mod ArrayWriting

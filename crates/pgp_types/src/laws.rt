@@ -1,13 +1,14 @@
 //! Laws on what is written and what is read: every list of bytes has one reading, a value or a refusal, and
 //! what is written for a value is read as that value.
 
-ghost use Rattle.std.specs.Prelude.{◌*◌, ◌<◌, Err};
+ghost use Rattle.std.specs.Prelude.{ℕ, ◌*◌, ◌<◌, ◌≤◌, List, length, Ok, Err};
 ghost use Rattle.pgp_types.specs.Format.{IsSound, Reads};
 ghost use Rattle.pgp_types.specs.Scalar.{bool, bytea, char, int2, int4, int8, oid, lsn, float4, float8};
 ghost use Rattle.pgp_types.specs.Text.{text, ltree, lquery, ltxtquery};
 ghost use Rattle.pgp_types.specs.Time.{timestamp, time, date};
 ghost use Rattle.pgp_types.specs.Network.{Inet, family_of, address_size, joined, parts_of, macaddr, uuid, inet};
 ghost use Rattle.pgp_types.specs.Geometry.{point, box};
+ghost use Rattle.pgp_types.specs.Array.{ArrayRead, array};
 
 use pgp_base::Error;
 
@@ -54,4 +55,11 @@ pub fn addresses()
 pub fn shapes()
     ensures of_point { IsSound point }
     ensures of_box { IsSound box }
+{}
+
+/// Arrays. One is read back where its dimensions have a product and that is the number of its elements.
+/// No more elements are read than there are bytes.
+pub fn arrays()
+    ensures of_array { IsSound array }
+    ensures few { (bytes : List ℕ) (v : ArrayRead) → Reads array bytes (Ok v) → length v.values.items ≤ length bytes }
 {}

@@ -9,11 +9,14 @@ mod codec;
 mod geometry;
 pub mod laws;
 mod network;
+mod part;
 mod scalar;
 mod text;
 mod time;
 
-pub use array::{ArrayDimension, array_to_sql};
+pub use array::{
+    Array, ArrayDimension, ArrayDimensions, ArrayValues, array_from_sql, array_to_sql,
+};
 pub use geometry::{Box, Point, box_from_sql, box_to_sql, point_from_sql, point_to_sql};
 pub use network::{
     Inet, inet_from_sql, inet_to_sql, macaddr_from_sql, macaddr_to_sql, uuid_from_sql, uuid_to_sql,
@@ -32,5 +35,7 @@ pub use time::{
     date_from_sql, date_to_sql, time_from_sql, time_to_sql, timestamp_from_sql, timestamp_to_sql,
 };
 
+#[cfg(test)]
+mod array_tests;
 #[cfg(test)]
 mod tests;

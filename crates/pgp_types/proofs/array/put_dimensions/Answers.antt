@@ -22,4 +22,4 @@ returns-clause-ok g c =
 
 pub returns-then-count-eq2147483647-clause-cause : goal.returns-then-count-eq2147483647-clause-cause
 returns-then-count-eq2147483647-clause-cause g c =
-    inr (record { dimensions = c.loop-dimension.yielded; last = c.in-Some.dimension; came = search rules; full = omega arith }, refl)
+    inr (record { before = c.loop-dimension.yielded; last = c.in-Some.dimension; came = search rules; full = omega arith }, refl)

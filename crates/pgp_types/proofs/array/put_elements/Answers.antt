@@ -23,4 +23,4 @@ loop-element-preserved g c =
 pub returns-in-Err-clause-cause : goal.returns-in-Err-clause-cause
 returns-in-Err-clause-cause g c =
     let i = c.loop-element.invariant.1 in
-    value_stops g.B.Buffer.held (goal.F-step g) _ _ c.args.elements c.args.serializer.now (g.B.Buffer.held c.args.buf.now) g.B.Buffer.Lacks c.loop-element.yielded c.in-Some.element i.0 c.loop-element.serializer c.put_value.new.f _ c.in-Err.e (search rules) i.1 i.3 c.in-Err.ensures.cause
+    value_stops g.B.Buffer.held (goal.F-step g) _ c.args.serializer.now (g.B.Buffer.held c.args.buf.now) g.B.Buffer.Lacks c.loop-element.yielded c.in-Some.element i.0 c.loop-element.serializer c.put_value.new.f _ c.in-Err.e (search rules) i.1 i.3 c.in-Err.ensures.cause
