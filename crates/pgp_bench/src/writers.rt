@@ -110,8 +110,8 @@ impl Writer for Parse {
 struct Startup;
 
 impl Writer for Startup {
-    fn write(texts: &Texts<'_>, _n: u32, buf: &mut BytesMut) -> Result<(), Error> {
-        let parameters = [("user", texts.name), ("database", texts.short)];
+    fn write(_texts: &Texts<'_>, _n: u32, buf: &mut BytesMut) -> Result<(), Error> {
+        let parameters = [("user", "s1"), ("database", "0123456789abcdef")];
         startup_message(parameters.as_slice().iter().copied(), buf)
     }
 }

@@ -46,11 +46,11 @@ impl Read for CutReader<'_> {
 
 /// The words of a process, the first of which is its name.
 #[derive(Drop)]
-struct Words<'a> {
-    words: &'a [&'a [u8]],
+struct Words {
+    words: &'static [&'static [u8]],
 }
 
-impl Env for Words<'_> {
+impl Env for Words {
     fn arg(&self, i: usize, buf: &mut [u8]) -> Result<usize, FillError> {
         let Some(word) = self.words.get(i) else {
             return Err(FillError::NotPresent);
@@ -335,14 +335,24 @@ fn words_decide_what_runs(rt: HostRuntime) {
     }
 }
 
+/// A word of the process and what is printed of it: longer than what is first made room for.
+const LONG: &[u8] = b"\
+    012345678901234567890123456789012345678901234567890123456789\
+    012345678901234567890123456789012345678901234567890123456789\
+    012345678901234567890123456789012345678901234567890123456789\
+    012345678901234567890123456789012345678901234567890123456789\
+    012345678901234567890123456789012345678901234567890123456789";
+
+const LONG_LINE: &[u8] = b"'\
+    012345678901234567890123456789012345678901234567890123456789\
+    012345678901234567890123456789012345678901234567890123456789\
+    012345678901234567890123456789012345678901234567890123456789\
+    012345678901234567890123456789012345678901234567890123456789\
+    012345678901234567890123456789012345678901234567890123456789'\n";
+
 #[test]
-fn words_of_the_process_decide_what_runs(rt: HostRuntime) -> Result<(), Fail> {
-    let long = vec![in rt.alloc(); b'a'; 1000]?;
-    let mut line = long.clone()?;
-    line.insert(0, b'"')?;
-    line.extend_from_slice(b"\"\n")?;
-    let long = long.as_slice();
-    let runs: [(&[&[u8]], u8, &[u8], &str); 9] = [
+fn words_of_the_process_decide_what_runs(rt: HostRuntime) {
+    let runs: [(&'static [&'static [u8]], u8, &'static [u8], &'static str); 9] = [
         (
             &[b"pgwire", b"escape", b"literal", b"f'oo"],
             0,
@@ -356,12 +366,7 @@ fn words_of_the_process_decide_what_runs(rt: HostRuntime) -> Result<(), Fail> {
             b"'\xc3\xa9'\n",
             "",
         ),
-        (
-            &[b"pgwire", b"escape", b"identifier", long],
-            0,
-            line.as_slice(),
-            "",
-        ),
+        (&[b"pgwire", b"escape", b"literal", LONG], 0, LONG_LINE, ""),
         (&[b"pgwire", b"escape", b"literal", b"\xff"], 2, b"", USAGE),
         (&[b"pgwire", b"escape", b"literal", b"\xc3"], 2, b"", USAGE),
         (&[b"pgwire", b"\xff"], 2, b"", USAGE),
@@ -380,13 +385,13 @@ fn words_of_the_process_decide_what_runs(rt: HostRuntime) -> Result<(), Fail> {
         assert_eq!(rt; output.as_slice(), written);
         assert_eq!(rt; errors.as_slice(), told.as_bytes());
     }
-    Ok(())
 }
+
+const FEW: &[&[u8]] = &[b"pgwire", b"escape", b"literal", b"f'oo"];
 
 #[test]
 fn words_are_not_read_with_each_allocation_refused(rt: HostRuntime) {
-    let words: [&[u8]; 4] = [b"pgwire", b"escape", b"literal", b"f'oo"];
-    let env = Words { words: &words };
+    let env = Words { words: FEW };
     let mut refusals = 0u64;
     for number in 1..1000u64 {
         let heap = Refusing::new(rt.alloc(), number);
