@@ -11,6 +11,9 @@ use crate::{
 };
 use bytes::BytesMut;
 use pgp_base::{BindError, Buffer, Error, IsNull, Window, put_u32};
+use std::alloc::AllocError;
+use std::str;
+use std::test::Fail;
 
 fn bind_values<B: Buffer>(buf: &mut B) -> Result<(), Error> {
     let answer = bind(
@@ -153,16 +156,42 @@ fn bind_asks_for_no_value_behind_a_bad_name(rt: HostRuntime) {
     }
 }
 
+fn letters(count: usize, rt: &HostRuntime) -> Result<Vec<u8>, AllocError> {
+    let mut letters = Vec::new(rt.alloc());
+    letters.resize(count, b'a')?;
+    Ok(letters)
+}
+
 #[test]
-fn long_messages_find_memory(rt: HostRuntime) {
+fn long_messages_find_memory(rt: HostRuntime) -> Result<(), Fail> {
     let mut buf = BytesMut::new(rt.alloc());
-    let bytes = [b'a'; 1_000_000];
-    assert_eq!(rt; copy_data(&bytes, &mut buf), Ok(()));
+    let bytes = letters(1_000_000, &rt)?;
+    assert_eq!(rt; copy_data(bytes.as_slice(), &mut buf), Ok(()));
     assert_eq!(rt; buf.len(), 1_000_005);
-    assert_eq!(rt; &buf.as_slice()[..6], b"d\0\x0f\x42\x44a".as_slice());
+    assert_eq!(rt;
+        buf.as_slice().get(..6),
+        Some(b"d\0\x0f\x42\x44a".as_slice())
+    );
 
     buf.truncate(0);
-    assert_eq!(rt; password_message(&bytes[..100_000], &mut buf), Ok(()));
+    let text = letters(100_000, &rt)?;
+    assert_eq!(rt; password_message(text.as_slice(), &mut buf), Ok(()));
     assert_eq!(rt; buf.len(), 100_006);
-    assert_eq!(rt; &buf.as_slice()[..6], b"p\0\x01\x86\xa5a".as_slice());
+    assert_eq!(rt;
+        buf.as_slice().get(..6),
+        Some(b"p\0\x01\x86\xa5a".as_slice())
+    );
+
+    buf.truncate(0);
+    let answer = match str::from_utf8(text.as_slice()) {
+        Ok(text) => query(text, &mut buf),
+        Err(_) => Err(Error::NotUtf8),
+    };
+    assert_eq!(rt; answer, Ok(()));
+    assert_eq!(rt; buf.len(), 100_006);
+    assert_eq!(rt;
+        buf.as_slice().get(..6),
+        Some(b"Q\0\x01\x86\xa5a".as_slice())
+    );
+    Ok(())
 }
