@@ -1,7 +1,8 @@
 -- Steps of the loops over a key's block and over two lists that are joined by xor.
 use Rattle.std.proofs.Common.{◌≡◌, ℕ, zero, suc, ◌+◌, ◌-◌, ◌<◌, ◌≤◌, List, [], ◌∷◌, ◌++◌, length, get_or, set, take, map, replicate, refl, sym, ap, ◌∙◌, arith, bit_xor}
 use Rattle.std.proofs.lemmas.List.{set_at, take_more, map-append, length-map, length-take-le, append_assoc, ext_get_or, take_all}
-use Rattle.std.proofs.lemmas.Simd.{length-zip2, get_or-zip2}
+use Rattle.std.proofs.lemmas.Simd.{length-zip2, get_or-zip2, length-chunk, get_or-chunk, get_or-put_chunk_at}
+use Rattle.std.specs.Simd.Lanes.{put_chunk, chunk}
 use Rattle.pgp_auth.specs.Hmac.{padded}
 use Rattle.pgp_auth.specs.IteratedKey.{xor_bytes}
 
@@ -32,3 +33,22 @@ xor_from_places a b r same len each =
     (λ k lt. let la : k < length a = omega arith in
     let lb : k < length b = omega arith in
     each k la ∙ sym (get_or-zip2 bit_xor a b k 0 0 0 la lb))
+
+-- ---- the xor of 32 bytes
+
+-- a place of the block that was joined
+pub block_at : (xs ys : List ℕ) (at k : ℕ) → length xs ≡ length ys → at + 32 ≤ length xs → at ≤ k → k < at + 32
+    → get_or (put_chunk at xs (xor_bytes (chunk at 32 xs) (chunk at 32 ys))) k 0 ≡ bit_xor (get_or xs k 0) (get_or ys k 0)
+block_at xs ys at k same room low high =
+    let j : ℕ = k - at in
+    let k_is : k ≡ at + j = omega arith in
+    let cx : length (chunk at 32 xs) ≡ 32 = length-chunk at 32 xs room in
+    let cy : length (chunk at 32 ys) ≡ 32 = length-chunk at 32 ys (omega arith) in
+    let whole : length (xor_bytes (chunk at 32 xs) (chunk at 32 ys)) ≡ 32 = length-zip2 bit_xor (chunk at 32 xs) (chunk at 32 ys) (cx ∙ sym cy) ∙ cx in
+    let lt : j < 32 = omega arith in
+    let put = get_or-put_chunk_at at xs (xor_bytes (chunk at 32 xs) (chunk at 32 ys)) j 0 (omega arith) (omega arith) in
+    let joined = get_or-zip2 bit_xor (chunk at 32 xs) (chunk at 32 ys) j 0 0 0 (omega arith) (omega arith) in
+    let x = get_or-chunk at 32 xs j 0 lt in
+    let y = get_or-chunk at 32 ys j 0 lt in
+    let all : get_or (put_chunk at xs (xor_bytes (chunk at 32 xs) (chunk at 32 ys))) (at + j) 0 ≡ bit_xor (get_or xs (at + j) 0) (get_or ys (at + j) 0) = put ∙ joined ∙ rw (x, y) refl in
+    rw (← k_is) at all

@@ -8,16 +8,20 @@ use Rattle.std.proofs.lemmas.Bool.Decides.{nat_tests, Decides-eqb}
 use Rattle.std.proofs.lemmas.List.{get_or_past}
 use Rattle.std.proofs.lemmas.Slice.Eq.{starts_is}
 use Rattle.std.proofs.lemmas.Str.{IsAscii-append, IsUtf8-from_ascii, is_utf8-from_IsUtf8, IsUtf8-from_is_utf8}
+use Rattle.std.specs.Result.{IfErr}
 use Rattle.std.specs.declared.result.Result.{Result}
 use Rattle.std.specs.declared.result.Result.TheVariants.{Ok, Err}
 use Rattle.base64.specs.Engines.{standard}
 use Rattle.base64.specs.GeneralPurpose.{decode_of}
 use Rattle.base64.specs.declared.decode.DecodeError.{DecodeError}
+use Rattle.pgp_auth.specs.declared.scram.error.ScramError.{ScramError}
+use Rattle.pgp_auth.specs.declared.scram.error.ScramError.TheVariants as code
 use Rattle.pgp_auth.specs.declared.scram.reading.Fault.{Fault}
+use Rattle.pgp_auth.specs.ScramErrorView.{refusal}
 use Rattle.pgp_auth.specs.Base64.{Shows}
 use Rattle.pgp_auth.specs.ScramText.{is_digit, is_nonce_char, is_base64_char, ServerFirst}
-use Rattle.pgp_auth.specs.ScramRefusal.{Refusal, NotUtf8, InvalidNonce, TooManyIterations, InvalidBase64, Meets, RefusesFirst, not_utf8, other, no_number, trailing, other_nonce, too_many, no_salt}
-use Rattle.pgp_auth.specs.ScramReading.{FirstParts, read_first, Granted, grant, grant_read, grant_parts, grant_salt, refusal_of}
+use Rattle.pgp_auth.specs.ScramRefusal.{Refusal, NotUtf8, InvalidNonce, TooManyIterations, InvalidBase64, Admitted, Meets, RefusesFirst, not_utf8, other, no_number, trailing, other_nonce, too_many, no_salt}
+use Rattle.pgp_auth.specs.ScramReading.{FirstParts, AdmitsParts, read_first, Granted, grant, grant_read, grant_parts, grant_salt, refusal_of}
 use Rattle.pgp_auth.proofs.FirstTexts.{cond_ok, read_first-sound, read_first-complete, read_first-fault, FirstFault, left, uncounted, further, one_fault, no_fault}
 use Rattle.pgp_auth.proofs.Patterns.{scanned_begins, scanned_leaves, begun_scan, left_scan}
 
@@ -93,6 +97,31 @@ pub granted_meets : (c m : List ℕ) (g : Granted) → grant c m ≡ Ok g → Me
 granted_meets c m g h =
     let j = grant-ok c m g h in
     parts_meet c m g.nonce g.salt g.count j.parts j.granted.salt.nonce j.granted.salt.count (read_first-sound m j.parts j.read) j.granted.begins j.granted.few j.granted.salt.shown
+
+pub parts_admitted : (c m : List ℕ) (p : FirstParts) → read_first m ≡ Ok p → AdmitsParts c p → Admitted c m
+parts_admitted c m p read a = record {
+  nonce = p.nonce;
+  salt_text = p.salt_text;
+  count = p.count;
+  more = drop (length c) p.nonce;
+  text_is = read_first-sound m p read;
+  nonce_is = begins_with c p.nonce a.0;
+  few = a.1;
+}
+
+pub granted_admitted : (c m : List ℕ) (g : Granted) → grant c m ≡ Ok g → Admitted c m
+granted_admitted c m g h =
+    let j = grant-ok c m g h in
+    parts_admitted c m j.parts j.read (j.granted.begins, j.granted.few)
+
+-- why the parts aren't granted is why the text isn't
+pub refused_parts : {A X : Type 0} (r : Result X (ScramError A)) (c m : List ℕ) (p : FirstParts) → is_utf8 m ≡ true → read_first m ≡ Ok p
+    → IfErr r (λ e. ((e ≡ code.OutOfMemory) × AdmitsParts c p) ⊎ (grant_parts c p ≡ Err (refusal e)))
+    → IfErr r (λ e. ((e ≡ code.OutOfMemory) × Admitted c m) ⊎ (grant c m ≡ Err (refusal e)))
+unfolding grant
+refused_parts (Ok x) c m p u read h = tt
+refused_parts (Err e) c m p u read (inl memory) = inl (memory.0, parts_admitted c m p read memory.1)
+refused_parts (Err e) c m p u read (inr cause) = inr (rw (u, read) cause)
 
 -- ---- a server's first text is ASCII
 
@@ -297,6 +326,21 @@ meets_not_refused c m n s i e meets refused =
     let yes_ = meets_granted c m n s i meets in
     let no_ = refused_back c m e refused in
     cc
+
+salt_cause : (p : FirstParts) (r : Result (List ℕ) DecodeError) (e : Refusal) → grant_salt p r ≡ Err e → e ≡ InvalidBase64
+salt_cause p (Ok s) e h = cc
+salt_cause p (Err d) e h = sym (err_is InvalidBase64 e h)
+
+-- an admitted text has no cause but its salt
+pub admitted_cause : (c m : List ℕ) (e : Refusal) → Admitted c m → RefusesFirst c m e → e ≡ InvalidBase64
+unfolding grant grant_parts
+admitted_cause c m e a r =
+    let u = first_is_text m a.nonce a.salt_text a.count a.text_is in
+    let read = read_first-complete m a.nonce a.salt_text a.count a.text_is in
+    let begins = begins_back c a.nonce a.more a.nonce_is in
+    let few : nat_le a.count 100000 ≡ true = grind (arith, nat_tests, a.few) in
+    let back = refused_back c m e r in
+    salt_cause (record { nonce = a.nonce; salt_text = a.salt_text; count = a.count }) (decode_of standard a.salt_text) e (rw (u, read, begins, few) at back)
 
 -- each text is answered
 answer_of : (c m : List ℕ) (r : Result Granted Refusal) → grant c m ≡ r

@@ -3,6 +3,8 @@ pub mod Blocks
 pub mod Differences
 pub mod Digits
 pub mod BothWays
+pub mod Codes
+pub mod Counts
 pub mod Draws
 pub mod FinalTexts
 pub mod FirstTexts

@@ -4,7 +4,7 @@ use Rattle.std.specs.Prelude.{◌⊎◌}
 use Rattle.pgp_auth.specs.Verifier.{verifier}
 use Rattle.pgp_auth.specs.ScramText.{Binding, Unsupported, Unrequested, TlsServerEndPoint, gs2_header, first_bare}
 use Rattle.pgp_auth.specs.ScramServer.{comma, CutAfterSecondComma, Expects, Accepts, Signs}
-use Rattle.pgp_auth.specs.ScramRefusal.{Refusal, OutOfMemory, Meets, RefusesFirst, Verifies}
+use Rattle.pgp_auth.specs.ScramRefusal.{Refusal, OutOfMemory, Admitted, Meets, RefusesFirst, Verifies}
 use Rattle.pgp_auth.specs.ScramClient.{Begun, Answered, State, AwaitsFirst, AwaitsFinal, Over, Client, first_text, signature_of, Answers, MadeSome, UpdateRefused, Finished, NotVerified, FinishRefused}
 use Rattle.std.specs.Result.{OnOk, IfErr}
 use Rattle.std.specs.declared.result.Result.{Result}
@@ -91,10 +91,10 @@ update_answers old new text begun answered before after due same a new_is =
     }
 
 text_refused : (c text : List ℕ) (e : Refusal) (before after : ℕ) → RefusesText c text e before after
-    → (RefusesFirst c text e × (after ≡ before)) ⊎ ((e ≡ OutOfMemory) × ((after ≡ before) ⊎ MadeSome c text before after))
-text_refused c text e before after (inl (memory, inl none)) = inr (memory, inl none)
-text_refused c text e before after (inl (memory, inr m)) =
-    inr (memory, inr (record { nonce = m.g.nonce; salt = m.g.salt; count = m.g.count; meets = granted_meets c text m.g m.granted; grows = m.grows; at_most = m.at_most }))
+    → (RefusesFirst c text e × (after ≡ before)) ⊎ ((e ≡ OutOfMemory) × Admitted c text × ((after ≡ before) ⊎ MadeSome c text before after))
+text_refused c text e before after (inl (memory, admitted, inl none)) = inr (memory, admitted, inl none)
+text_refused c text e before after (inl (memory, admitted, inr m)) =
+    inr (memory, admitted, inr (record { nonce = m.g.nonce; salt = m.g.salt; count = m.g.count; meets = granted_meets c text m.g m.granted; grows = m.grows; at_most = m.at_most }))
 text_refused c text e before after (inr cause) = inl (not_granted c text e cause.0, cause.1)
 
 pub update_refused : (old new : Client) (text : List ℕ) (e : Refusal) (begun : Begun) (before : ℕ) → old.state ≡ AwaitsFirst begun → before ≡ old.hmacs

@@ -3,6 +3,7 @@ pub mod Doubling
 pub mod Hmac
 pub mod IteratedKey
 pub mod Lexer
+pub mod MacBlocks
 pub mod Md5Text
 pub mod Nonce
 pub mod Pattern

@@ -6,7 +6,7 @@ use Rattle.pgp_auth.specs.Hmac.{mac}
 use Rattle.pgp_auth.specs.IteratedKey.{xor_bytes, salted}
 use Rattle.pgp_auth.specs.ScramText.{gs2_header, binding_data, first_bare, without_proof, with_proof, auth_message}
 use Rattle.pgp_auth.specs.ScramClient.{Begun, Answered}
-use Rattle.pgp_auth.specs.ScramRefusal.{Refusal, OutOfMemory}
+use Rattle.pgp_auth.specs.ScramRefusal.{Refusal, OutOfMemory, Admitted}
 use Rattle.pgp_auth.specs.ScramReading.{Granted, grant}
 
 abbrev pub client_key : List ℕ → List ℕ
@@ -40,4 +40,4 @@ pub record MadeGranted (client_nonce text : List ℕ) (before after : ℕ) : Typ
 -- memory was refused, before or after HMACs; or the text is refused, before them
 abbrev pub RefusesText : List ℕ → List ℕ → Refusal → ℕ → ℕ → Type 0
 RefusesText client_nonce text e before after =
-    ((e ≡ OutOfMemory) × ((after ≡ before) ⊎ MadeGranted client_nonce text before after)) ⊎ ((grant client_nonce text ≡ Err e) × (after ≡ before))
+    ((e ≡ OutOfMemory) × Admitted client_nonce text × ((after ≡ before) ⊎ MadeGranted client_nonce text before after)) ⊎ ((grant client_nonce text ≡ Err e) × (after ≡ before))

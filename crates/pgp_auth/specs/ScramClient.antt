@@ -6,7 +6,7 @@ use Rattle.pgp_auth.specs.IteratedKey.{salted}
 use Rattle.pgp_auth.specs.Verifier.{verifier}
 use Rattle.pgp_auth.specs.ScramText.{Binding, client_first, ServerFinal}
 use Rattle.pgp_auth.specs.ScramServer.{Accepts, Signs}
-use Rattle.pgp_auth.specs.ScramRefusal.{Refusal, OutOfMemory, WrongState, Verification, Meets, RefusesFirst, RefusesFinal, IsServerError, Verifies, ShowsOther}
+use Rattle.pgp_auth.specs.ScramRefusal.{Refusal, OutOfMemory, WrongState, Verification, Admitted, Meets, RefusesFirst, RefusesFinal, IsServerError, Verifies, ShowsOther}
 
 -- until the server's first text: the prepared password, the channel binding and the client's nonce
 pub record Begun : Type 0 where
@@ -72,10 +72,11 @@ pub record MadeSome (client_nonce text : List ℕ) (before after : ℕ) : Type 0
   pub grows : before ≤ after
   pub at_most : after ≤ before + (max count 1 + 2)
 
--- why `update` refuses in a state, and the HMACs before and after it
+-- why `update` refuses in a state, and the HMACs before and after it. It takes memory for the salt and what
+-- comes behind it, so no cause gives way to want of memory but a salt that isn't base64.
 abbrev pub UpdateRefuses : State → List ℕ → Refusal → ℕ → ℕ → Type 0
 UpdateRefuses (AwaitsFirst begun) text e before after =
-    (RefusesFirst begun.nonce text e × (after ≡ before)) ⊎ ((e ≡ OutOfMemory) × ((after ≡ before) ⊎ MadeSome begun.nonce text before after))
+    (RefusesFirst begun.nonce text e × (after ≡ before)) ⊎ ((e ≡ OutOfMemory) × Admitted begun.nonce text × ((after ≡ before) ⊎ MadeSome begun.nonce text before after))
 UpdateRefuses (AwaitsFinal answered) text e before after = (e ≡ WrongState) × (after ≡ before)
 UpdateRefuses Over text e before after = (e ≡ WrongState) × (after ≡ before)
 

@@ -1,5 +1,5 @@
 -- Private: a server's texts as they are read from the left. Laws join this to ScramRefusal.
-use Rattle.std.specs.Prelude.{ℕ, ◌-◌, ◌^◌, ◌==◌, nat_lt, nat_le, nat_eq, Bool, false, List, [], ◌∷◌, length, take, drop, codes, if◌then◌else◌}
+use Rattle.std.specs.Prelude.{◌≡◌, ℕ, ◌-◌, ◌^◌, ◌≤◌, ◌==◌, nat_lt, nat_le, nat_eq, Bool, true, false, List, [], ◌∷◌, length, take, drop, codes, if◌then◌else◌}
 use Rattle.std.specs.List.{prefix_len, starts_with}
 use Rattle.std.specs.Str.{is_utf8}
 use Rattle.std.specs.declared.result.Result.{Result}
@@ -68,6 +68,10 @@ pub record Granted : Type 0 where
 abbrev pub grant_salt : FirstParts → Result (List ℕ) DecodeError → Result Granted Refusal
 grant_salt p (Ok s) = Ok (record { nonce = p.nonce; salt = s; count = p.count })
 grant_salt p (Err e) = Err InvalidBase64
+
+-- the parts are admitted, whatever the salt
+abbrev pub AdmitsParts : List ℕ → FirstParts → Type 0
+AdmitsParts client_nonce p = (starts_with nat_eq p.nonce client_nonce ≡ true) × (p.count ≤ 100000)
 
 unfoldable pub grant_parts : List ℕ → FirstParts → Result Granted Refusal
 grant_parts client_nonce p = if starts_with nat_eq p.nonce client_nonce

@@ -33,6 +33,17 @@ unexpected at (c ∷ rest) = UnexpectedCharacter at
 abbrev pub server_first_parts : List Part
 server_first_parts = word (codes "r=") ++ (Run is_nonce_char ∷ (word (codes ",s=") ++ (Run is_base64_char ∷ (word (codes ",i=") ++ Run is_digit ∷ []))))
 
+-- a server's first text with the client's own nonce at the front of the server's, and not too many rounds,
+-- whatever its salt
+pub record Admitted (client_nonce text : List ℕ) : Type 0 where
+  pub nonce : List ℕ
+  pub salt_text : List ℕ
+  pub count : ℕ
+  pub more : List ℕ
+  pub text_is : ServerFirst text nonce salt_text count
+  pub nonce_is : nonce ≡ client_nonce ++ more
+  pub few : count ≤ 100000
+
 -- what a client asks of the server's first text: its own nonce at the front of the server's, a salt, and
 -- not too many rounds
 pub record Meets (client_nonce text nonce salt : List ℕ) (count : ℕ) : Type 0 where

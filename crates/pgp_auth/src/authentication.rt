@@ -9,7 +9,12 @@ use std::alloc::Allocator;
 
 pub mod sasl;
 
-/// The answer to an `AuthenticationMd5Password` request, to be sent in a password message.
+/// The answer to an `AuthenticationMd5Password` request, to be sent in a password message: `md5` and 32
+/// hexadecimal digits (manual, "Message Flow", start-up).
+///
+/// # Errors
+///
+/// `OutOfMemory` where memory for the text is refused.
 pub fn md5_hash<A: Allocator + Copy>(
     alloc: A,
     username: &[u8],

@@ -2,7 +2,8 @@
 //!
 //! Where a command can take parameters, they are the better way: a parameter isn't quoted.
 
-ghost use Rattle.std.specs.Prelude.{◌≡◌, ◌<◌, ◌++◌, ◌↔◌, ◌∷◌, [], true, false, string_bytes, IfOk, IfErr, OnOk, Contains};
+ghost use Rattle.std.specs.Prelude.{◌≡◌, ◌<◌, ◌≤◌, ◌++◌, length, ◌↔◌, ◌∷◌, [], true, false, string_bytes, IfOk, IfErr, OnOk, Contains};
+ghost use Rattle.std.specs.List.{count_by};
 ghost use Rattle.memchr.specs.Find.{IsFirstByte};
 ghost use Rattle.pgp_auth.specs.Lexer.{Literal, Identifier, IsPlain, backslash};
 ghost use Rattle.pgp_auth.specs.Doubling.{is_doubled, doubled};
@@ -10,6 +11,9 @@ ghost use Rattle.pgp_auth.specs.Doubling.{is_doubled, doubled};
 use memchr::{memchr, memchr2};
 use pgp_base::Error;
 use std::alloc::Allocator;
+
+// The bytes that are counted at a time.
+const BLOCK_LEN: usize = 192;
 
 // The place of the first byte that is written twice.
 fn first_doubled(quote: u8, slashes: bool, bytes: &[u8]) -> Option<usize>
@@ -20,6 +24,45 @@ fn first_doubled(quote: u8, slashes: bool, bytes: &[u8]) -> Option<usize>
     } else {
         memchr(quote, bytes)
     }
+}
+
+// The byte is written twice.
+#[inline(always)]
+fn is_twice(quote: u8, slashes: bool, byte: u8) -> bool
+    ensures { result ≡ is_doubled quote slashes byte }
+{
+    if slashes {
+        byte == quote || byte == b'\\'
+    } else {
+        byte == quote
+    }
+}
+
+// How many bytes of a block are written twice. The count is a byte, so that many bytes are compared at a
+// time.
+fn count_in_block(quote: u8, slashes: bool, block: &[u8]) -> u8
+    requires { length block.now ≤ 255 }
+    ensures { result ≡ count_by (is_doubled quote slashes) block.now }
+{
+    let mut count = 0u8;
+    'bytes: for (i, byte) in block.iter().enumerate() {
+        count += u8::from(is_twice(quote, slashes, *byte));
+    }
+    count
+}
+
+// How many bytes are written twice, counted in blocks.
+fn count_twice(quote: u8, slashes: bool, bytes: &[u8]) -> usize
+    ensures { result ≡ count_by (is_doubled quote slashes) bytes.now }
+{
+    let mut count = 0;
+    let mut rest = bytes;
+    'pieces: while BLOCK_LEN < rest.len() {
+        let (block, after) = rest.split_at(BLOCK_LEN);
+        count += count_in_block(quote, slashes, block) as usize;
+        rest = after;
+    }
+    count + count_in_block(quote, slashes, rest) as usize
 }
 
 // Appends the input with each quote written twice, and each backslash too where `slashes`.
@@ -55,8 +98,10 @@ fn quoted<A: Allocator>(
     ensures ok { IfOk result (λ t. string_bytes t ≡ front.now ++ quote ∷ (doubled quote slashes input.now ++ quote ∷ [])) }
     ensures memory { IfErr result (λ e. e ≡ Error.OutOfMemory) }
 {
-    let is_doubled = |byte: &&u8| **byte == quote || slashes && **byte == b'\\';
-    let twice = input.as_bytes().iter().filter(is_doubled).count();
+    let twice = match first_doubled(quote, slashes, input.as_bytes()) {
+        Some(_) => count_twice(quote, slashes, input.as_bytes()),
+        None => 0,
+    };
     let room = input
         .len()
         .saturating_add(twice)
@@ -72,7 +117,11 @@ fn quoted<A: Allocator>(
 
 /// The input as a string constant, between `'`. Where it has a backslash, the constant is of the form
 /// ` E'..'`, with a space in front, so that it may stand right behind a word. Either form is read as the
-/// input whatever `standard_conforming_strings` says.
+/// input whatever `standard_conforming_strings` says (manual, 4.1.2.1 and 4.1.2.2).
+///
+/// # Errors
+///
+/// `OutOfMemory` where memory for the text is refused.
 #[tactic(auto, using(crate::proofs::Quoting::escape_reads, crate::proofs::Quoting::plain_reads))]
 pub fn escape_literal<A: Allocator + Copy>(alloc: A, input: &str) -> Result<String<A>, Error>
     ensures standard { IfOk result (λ t. Literal true (string_bytes t) input.now) }
@@ -87,7 +136,11 @@ pub fn escape_literal<A: Allocator + Copy>(alloc: A, input: &str) -> Result<Stri
 }
 
 /// The input as a quoted identifier, between `"`. A server refuses an empty identifier, and cuts one that
-/// is longer than its limit, which is 63 bytes by default.
+/// is longer than its limit, which is 63 bytes by default (manual, 4.1.1).
+///
+/// # Errors
+///
+/// `OutOfMemory` where memory for the text is refused.
 #[tactic(auto, using(crate::proofs::Quoting::identifier_reads))]
 pub fn escape_identifier<A: Allocator + Copy>(alloc: A, input: &str) -> Result<String<A>, Error>
     ensures ok { IfOk result (λ t. Identifier (string_bytes t) input.now) }

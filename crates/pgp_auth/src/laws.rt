@@ -10,7 +10,7 @@ ghost use Rattle.pgp_auth.specs.Md5Text.{md5_text};
 ghost use Rattle.pgp_auth.specs.Verifier.{Verifier, verifier, verifier_text};
 ghost use Rattle.pgp_auth.specs.ScramText.{Binding};
 ghost use Rattle.pgp_auth.specs.ScramServer.{Accepts, Signs};
-ghost use Rattle.pgp_auth.specs.ScramRefusal.{Refusal, OutOfMemory, Meets, RefusesFirst, RefusesFinal, Verifies, ShowsOther};
+ghost use Rattle.pgp_auth.specs.ScramRefusal.{Refusal, OutOfMemory, InvalidBase64, Admitted, Meets, RefusesFirst, RefusesFinal, Verifies, ShowsOther};
 ghost use Rattle.pgp_auth.specs.ScramClient.{Client, Answers, first_text, signature_of, NotVerified, Serves, Over};
 ghost use Rattle.pgp_auth.specs.ScramErrorView.{refusal};
 
@@ -77,6 +77,7 @@ pub fn first_text_is_answered_in_one_way()
     ensures meets { (c text n s m t : List ℕ) (i j : ℕ) → Meets c text n s i → Meets c text m t j → (n ≡ m) × (s ≡ t) × (i ≡ j) }
     ensures refused { (c text : List ℕ) (d e : Refusal) → RefusesFirst c text d → RefusesFirst c text e → d ≡ e }
     ensures one { (c text n s : List ℕ) (i : ℕ) (e : Refusal) → Meets c text n s i → ¬ RefusesFirst c text e }
+    ensures admitted { (c text : List ℕ) (e : Refusal) → Admitted c text → RefusesFirst c text e → e ≡ InvalidBase64 }
 {}
 
 /// A server's final text shows the signature, shows other bytes, or has one cause of refusal.
@@ -112,8 +113,11 @@ pub fn both_ways()
 
 /// Both ways, as calls: with the texts of a server that holds the verifier of the client's password the
 /// exchange comes to its end, unless memory is refused to `update`.
+///
+/// # Errors
+///
+/// `OutOfMemory` where `update` is refused memory.
 pub fn exchange<A: Allocator + Copy>(
-    alloc: A,
     client: &mut ScramSha256<A>,
     server_first: &[u8],
     server_final: &[u8],
@@ -122,6 +126,6 @@ pub fn exchange<A: Allocator + Copy>(
     ensures over { client.new.state ≡ Over }
     ensures memory { IfErr result (λ e. refusal e ≡ OutOfMemory) }
 {
-    client.update(alloc, server_first)?;
-    client.finish(alloc, server_final)
+    client.update(server_first)?;
+    client.finish(server_final)
 }

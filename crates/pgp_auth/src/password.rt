@@ -28,6 +28,11 @@ const VERIFIER_LEN: usize = 133;
 /// gives.
 ///
 /// The text has no character that a string constant would have to escape.
+///
+/// # Errors
+///
+/// `OutOfMemory` where memory for the text, or the mapping's own, is refused. The generator has given its
+/// 16 bytes then too.
 pub fn scram_sha_256<A: Allocator + Copy, P: SaslPrep, R: Rng>(
     alloc: A,
     password: &[u8],
@@ -44,7 +49,12 @@ pub fn scram_sha_256<A: Allocator + Copy, P: SaslPrep, R: Rng>(
     scram_sha_256_salt(alloc, password, salt, prep)
 }
 
-/// The SCRAM-SHA-256 verifier of a password, of 4096 rounds, with a given salt.
+/// The SCRAM-SHA-256 verifier of a password, of 4096 rounds, with a given salt: `SCRAM-SHA-256$4096:`, the
+/// salt, `$`, StoredKey, `:`, ServerKey, the three in base64 (manual, catalog `pg_authid`).
+///
+/// # Errors
+///
+/// `OutOfMemory` where memory for the text, or the mapping's own, is refused.
 pub fn scram_sha_256_salt<A: Allocator + Copy, P: SaslPrep>(
     alloc: A,
     password: &[u8],
@@ -98,9 +108,14 @@ fn text_of<A: Allocator>(
     Ok(text)
 }
 
-/// The MD5 verifier of a password, salted with the user's name. MD5 isn't secure.
+/// The MD5 verifier of a password, salted with the user's name: `md5` and 32 hexadecimal digits. MD5 isn't
+/// secure.
 ///
 /// The text has no character that a string constant would have to escape.
+///
+/// # Errors
+///
+/// `OutOfMemory` where memory for the text is refused.
 pub fn md5<A: Allocator + Copy>(
     alloc: A,
     password: &[u8],

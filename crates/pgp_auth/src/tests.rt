@@ -1,6 +1,8 @@
 ghost use Rattle.std.specs.Prelude.{ℕ, ◌+◌, ◌%◌, ◌^◌, Some, [], ◌∷◌};
 ghost use Rattle.rand_core.specs.Steps.{stream_of, steps_u32};
 
+mod plain;
+
 use crate::authentication::md5_hash;
 use crate::authentication::sasl::{NoPrep, SaslPrep, hi};
 use crate::escape::{escape_identifier, escape_literal};
@@ -245,7 +247,7 @@ impl SaslPrep for ToX {
 
 // A generator whose words, low byte first, go up by 4 in each byte.
 #[derive(Drop)]
-struct Counting(u32);
+pub(crate) struct Counting(pub u32);
 
 impl Model for Counting {
     ghost Value = { ℕ };

@@ -9,7 +9,7 @@ use Rattle.std.specs.Result.{IsErrAnd}
 use Rattle.pgp_base.specs.Wire.{uint16, uint32, int16, int32, nullable, counted}
 use Rattle.pgp_base.specs.Cause.{Cause, length_cause, Writes}
 use Rattle.pgp_base.specs.Held.{Held, ◌⊕◌, lengthened, overwritten, Leaves}
-use Rattle.pgp_base.specs.Calls.{IsFrontOf, value_of, length_of, Keeps, KeepsValue, Adds, Puts, Runs, ValueRefused, Appends, BodyRefused, NullableRefused}
+use Rattle.pgp_base.specs.Calls.{IsFrontOf, value_of, length_of, null_of, Keeps, KeepsValue, Adds, Puts, Runs, ValueRefused, Appends, BodyRefused, NullableRefused}
 use Rattle.pgp_base.specs.declared.error.Error.{Error}
 use Rattle.pgp_base.specs.declared.error.BindError.TheVariants.{Serialization}
 use Rattle.pgp_base.specs.declared.number.IsNull.{IsNull}
@@ -208,6 +208,11 @@ valued No a p b d r base e f h none i =
 
 pub none_ok : {E : Type 0} (p : List ℕ) (null : IsNull) → (let k : Result IsNull E = Ok null in k ≡ Ok Yes → p ≡ []) → null ≡ Yes → p ≡ []
 none_ok {E} p null h e = h (ap (λ (n : IsNull). let k : Result IsNull E = Ok n in k) e)
+
+-- the answer is what the value shows
+pub null_again : (null : IsNull) (bytes : List ℕ) → null ≡ null_of (value_of null bytes)
+null_again Yes bytes = refl
+null_again No bytes = refl
 
 -- a value whose bytes pass the length's field is refused
 pub value_refused : {F T E B K : Type 0} (held : B → Held K) (step : F → T → MutBor B → Result IsNull E → MutBor B → F → Type 0) (lacks : Type 0) (here b : Held K) (f : F) (x : T) (u : F) (e : Error) (null : IsNull) (p q : List ℕ)

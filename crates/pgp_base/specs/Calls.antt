@@ -77,6 +77,11 @@ abbrev pub value_of : IsNull → List ℕ → Option (List ℕ)
 value_of Yes bytes = None
 value_of No bytes = Some bytes
 
+-- whether a value is null
+abbrev pub null_of : Option (List ℕ) → IsNull
+null_of None = Yes
+null_of (Some bytes) = No
+
 -- what stands in the place of such a value's length
 abbrev pub length_of : IsNull → List ℕ → List ℕ
 length_of Yes bytes = uint32 4294967295

@@ -8,7 +8,7 @@ ghost use Rattle.std.specs.Iterator.{IsFiniteIterable};
 ghost use Rattle.pgp_base.specs.Wire.{uint16, uint32, text, nullable};
 ghost use Rattle.pgp_base.specs.Cause.{text_cause, length_cause, nullable_cause, WantsMemory, Writes};
 ghost use Rattle.pgp_base.specs.Held.{◌⊕◌, overwritten, Leaves};
-ghost use Rattle.pgp_base.specs.Calls.{IsFrontOf, Adds, KeepsFront, KeepsFronts, OwesValue, OwesValues, Appends, Puts, Gives, ValueRefused, value_of, length_of, WritesBody, BodyRefused, WritesValue, NullableRefused, WritesCounted, CountedRefused};
+ghost use Rattle.pgp_base.specs.Calls.{IsFrontOf, Adds, KeepsFront, KeepsFronts, OwesValue, OwesValues, Appends, Puts, Gives, ValueRefused, value_of, length_of, null_of, WritesBody, BodyRefused, WritesValue, NullableRefused, WritesCounted, CountedRefused};
 
 use crate::buffer::Buffer;
 use crate::error::{BindError, Error};
@@ -213,7 +213,8 @@ fn finish_value<B: Buffer>(buf: &mut B, base: usize, null: IsNull) -> Result<(),
     }
 }
 
-/// Appends the value that the serializer makes of `x`: its length and its bytes, or a null.
+/// Appends the value that the serializer makes of `x`: its length and its bytes, or a null. It tells
+/// which.
 ///
 /// # Errors
 ///
@@ -225,11 +226,11 @@ pub fn put_value<B: Buffer, T: Drop, E: Drop, F: FnMut(T, &mut B) -> Result<IsNu
     f: &mut F,
     x: T,
     buf: &mut B,
-) -> Result<(), BindError<E>>
+) -> Result<IsNull, BindError<E>>
     requires callable { F.IsAlwaysCallable f.old }
     requires owes { OwesValues B.held F.pre F.step }
-    ensures ok { OnOk result ((v : Option (List ℕ)) × Gives B.held F.step (B.held buf.old) f.old x v f.new
-        × (B.held buf.new ≡ B.held buf.old ⊕ nullable v)) }
+    ensures ok { IfOk result (λ null. (v : Option (List ℕ)) × Gives B.held F.step (B.held buf.old) f.old x v f.new
+        × (B.held buf.new ≡ B.held buf.old ⊕ nullable v) × (null ≡ null_of v)) }
     ensures err { OnErr result (IsFrontOf (B.held buf.old) (B.held buf.new)) }
     ensures cause { IfErr result (λ e. ValueRefused B.held F.step B.Lacks (B.held buf.old) f.old x e f.new) }
     ensures callable { F.IsAlwaysCallable f.new }
@@ -242,7 +243,7 @@ pub fn put_value<B: Buffer, T: Drop, E: Drop, F: FnMut(T, &mut B) -> Result<IsNu
             if let Err(e) = finish_value(buf, base, null) {
                 return Err(BindError::Serialization(e));
             }
-            Ok(())
+            Ok(null)
         }
     }
 }

@@ -8,6 +8,7 @@ pub mod Runs
 pub mod TextLemmas
 pub mod NumberLemmas
 pub mod RangeLemmas
+pub mod TableLemmas
 pub mod FieldLemmas
 pub mod ErrorFieldLemmas
 pub mod Headers

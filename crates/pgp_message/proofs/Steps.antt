@@ -1,11 +1,11 @@
 -- A step along a stream: a frame that was cut, and what its body says.
 use Rattle.std.proofs.Common.{◌≡◌, ℕ, ◌-◌, ◌≤◌, List, ◌++◌, take, drop, Option, Some, Result, Ok, Err, sym, ap, ◌∙◌, subst}
-use Rattle.std.specs.Prelude.{MatchResult, IsOkAnd}
+use Rattle.std.specs.Prelude.{◌≢◌, MatchResult, IsOkAnd, IfErr}
 use Rattle.bytes.proofs.Ranges.{drop-take_less}
 use Rattle.pgp_base.specs.declared.error.Error.{Error}
 use Rattle.pgp_base.specs.declared.error.Error.TheVariants as errors
 use Rattle.pgp_message.specs.declared.message as code
-use Rattle.pgp_message.specs.BackendMessage.{Message}
+use Rattle.pgp_message.specs.BackendMessage.{Message, Body}
 use Rattle.pgp_message.specs.Stream.{Frame, frame_bytes, IsFrame, Front, IsFront, front_frame, BeginsWithFrame, TakesFrame, Step}
 use Rattle.pgp_message.specs.Reading.{body_of}
 use Rattle.pgp_message.specs.Views.{view, seen, parsed}
@@ -45,3 +45,20 @@ begins old f front = record { first = front_frame f old; rest = drop f.total old
 -- what stands behind the header, as it is sliced
 pub payload_of_front : (bytes old : List ℕ) (t : ℕ) → 5 ≤ t → bytes ≡ old → take (t - 5) (drop 5 bytes) ≡ drop 5 (take t old)
 payload_of_front bytes old t least same = ap (λ l. take (t - 5) (drop 5 l)) same ∙ sym (drop-take_less old 5 t least)
+
+-- no body is want of memory
+body_wants_none : {A : Type 0} (tag : ℕ) (payload : List ℕ) (r : Result (code.Message.Message A) Error) (out : Result (Option (code.Message.Message A)) Error)
+    → Body tag payload (seen r) → MatchResult r (λ m. IsOkAnd out (λ o. o ≡ Some m)) (λ e. out ≡ Err e) → IfErr out (λ e. e ≢ errors.OutOfMemory)
+body_wants_none tag payload (Ok m) (Ok o) body is = tt
+body_wants_none tag payload (Ok m) (Err d) body is = absurd is
+body_wants_none {A} tag payload (Err e) out body is =
+    subst (λ (x : Result (Option (code.Message.Message A)) Error). IfErr x (λ d. d ≢ errors.OutOfMemory)) (sym is)
+    (λ same. subst (λ (d : Error). Body tag payload (Err d)) same body)
+
+-- what stands at the front is read without memory
+pub wants_no_memory : {A : Type 0} (old : List ℕ) (f : Front) (r : Result (code.Message.Message A) Error) (out : Result (Option (code.Message.Message A)) Error)
+    → IsFront f old → seen r ≡ body_of f.tag (drop 5 (take f.total old))
+    → MatchResult r (λ m. IsOkAnd out (λ o. o ≡ Some m)) (λ e. out ≡ Err e) → IfErr out (λ e. e ≢ errors.OutOfMemory)
+wants_no_memory old f r out front read is =
+    let frame = front_frame f old in
+    body_wants_none frame.tag frame.payload r out (subst (Body frame.tag frame.payload) (sym read) (body_is frame.tag frame.payload front.fits.payload)) is

@@ -4,6 +4,7 @@ pub mod Stream
 pub mod Header
 pub mod Remembered
 pub mod Items
+pub mod Table
 pub mod Views
 pub mod Reading
 pub mod ItemReading

@@ -7,6 +7,7 @@ mod header;
 pub mod laws;
 mod message;
 mod parser;
+mod row_index;
 mod storage;
 mod tag;
 mod walk;
@@ -21,6 +22,7 @@ pub use body::{
 pub use header::Header;
 pub use message::{Message, Messages};
 pub use parser::FrameParser;
+pub use row_index::RowIndex;
 pub use storage::Storage;
 pub use tag::{
     AUTHENTICATION_TAG, BACKEND_KEY_DATA_TAG, BIND_COMPLETE_TAG, CLOSE_COMPLETE_TAG,

@@ -1,6 +1,6 @@
 //! The messages that a server sends.
 
-ghost use Rattle.std.specs.Prelude.{◌≡◌, false, Ok, Err, None};
+ghost use Rattle.std.specs.Prelude.{◌≡◌, ◌≢◌, false, Ok, Err, None, IfErr};
 ghost use Rattle.pgp_message.specs.BackendMessage.{Authentication};
 ghost use Rattle.pgp_message.specs.Reading.{ended, made, bare_request, bare_request_of, request_of, bare_of, body_of};
 ghost use Rattle.pgp_message.specs.Stream.{Step, IsPartial, IsLengthFault};
@@ -108,11 +108,19 @@ impl<'a> Messages<'a> {
         self.rest
     }
 
-    /// Takes the message at the front, as `Message::parse` does.
+    /// Takes the message at the front, as `Message::parse` does; `None` where the rest begins with none that is whole.
+    /// A frame whose body is refused is passed too.
+    ///
+    /// # Errors
+    ///
+    /// `InvalidLength` where a length below 4 is announced, with nothing passed. For the body of a frame
+    /// `UnknownTag`, `UnknownAuthentication`, `UnexpectedEof` where a part is cut short, and `NotDrained` where bytes are
+    /// left behind the last part. Never `OutOfMemory`.
     pub fn next(&mut self) -> Result<Option<Message<&'a [u8]>>, Error>
         ensures step { Step self.old (parsed result) self.new }
         ensures waits { IsPartial self.old → result ≡ Ok None }
         ensures fault { IsLengthFault self.old → result ≡ Err Error.InvalidLength }
+        ensures memory { IfErr result (λ e. e ≢ Error.OutOfMemory) }
     {
         let header = header_of(self.rest);
         let Some(front) = Front::find(header, self.rest)? else {

@@ -1,9 +1,11 @@
-//! The text calls of `pgp_auth`, with each allocation refused in turn.
+//! The calls of `pgp_auth`, with each allocation refused in turn, and with ample memory on long texts.
 
 ghost use Rattle.std.specs.Prelude.{Some, [], ◌∷◌};
 
 use pgp_auth::authentication::md5_hash;
-use pgp_auth::authentication::sasl::{NoPrep, SaslPrep};
+use pgp_auth::authentication::sasl::{
+    ChannelBinding, NoPrep, SaslPrep, ScramError, ScramSha256, is_nonce,
+};
 use pgp_auth::escape::{escape_identifier, escape_literal};
 use pgp_auth::password::{md5, scram_sha_256, scram_sha_256_salt};
 use pgp_base::Error;
@@ -114,5 +116,165 @@ fn a_mapping_without_memory_is_told(rt: HostRuntime) -> Result<(), Fail> {
     let not_asked = scram_sha_256_salt(rt.alloc(), b"secret", SALT, &NoMemory)?;
     let raw = scram_sha_256_salt(rt.alloc(), b"secret", SALT, &NoPrep)?;
     assert_eq!(rt; not_asked.as_str(), raw.as_str());
+    Ok(())
+}
+
+const PASSWORD: &[u8] = b"p\xc3\xa4ssword";
+
+const FIRST: &[u8] = b"r=9IZ2O01zb9IgiIZ1WJ/zgpJBjx,s=fs3IXBy7U7+IvVjZ,i=1";
+
+// 94 bytes that aren't the signature, in base64.
+const LONG_FINAL: &[u8] = b"v=AAAAAAAAAAAAAAAAAAAAAAAAAAAAAAAAAAAAAAAAAAAAAAAAAAAAAAAAAAAAAAAAAAAAAAAAAAAAAAAAAAAAAAAAAAAAAAAAAAAAAAAAAAAAAAAAAAAAAAAAAAAAAA==";
+
+// How an exchange begins, and how far it goes.
+#[derive(Debug, Clone, Copy)]
+struct Course<'a> {
+    is_drawn: bool,
+    server_final: &'a [u8],
+}
+
+fn begun<A: Allocator + Copy>(
+    alloc: A,
+    is_drawn: bool,
+) -> Result<ScramSha256<A>, ScramError<A>> {
+    let signature = Vec::from_slice(alloc, b"a hash")?;
+    let binding = ChannelBinding::tls_server_end_point(signature);
+    if is_drawn {
+        return ScramSha256::new(alloc, PASSWORD, binding, &ToX, &mut Pcg32::seed_from_u64(1));
+    }
+    let nonce = String::from_str(alloc, "9IZ2O01zb9IgiIZ1WJ/zgpJB")?;
+    if !is_nonce(&nonce) {
+        return Err(ScramError::WrongState);
+    }
+    ScramSha256::with_nonce(alloc, PASSWORD, binding, nonce, &ToX)
+}
+
+// The server's first text for a client's first text: its nonce goes on, and it has a salt and a count.
+fn server_first<A: Allocator + Copy>(
+    alloc: A,
+    client: &ScramSha256<A>,
+) -> Result<Vec<u8, A>, ScramError<A>> {
+    let message = client.message().unwrap_or(b"");
+    let nonce = &message[message.len().saturating_sub(24)..];
+    let mut text = Vec::from_slice(alloc, b"r=")?;
+    text.extend_from_slice(nonce)?;
+    text.extend_from_slice(b"jx/oIRLs02gGSH,s=fs3IXBy7U7+IvVjZ,i=1")?;
+    Ok(text)
+}
+
+fn number<T, A: Allocator>(outcome: &Result<T, ScramError<A>>) -> u8 {
+    match outcome {
+        Ok(_) => 0,
+        Err(e) => e.number(),
+    }
+}
+
+// The numbers of `update`'s refusal and of `finish`'s, and the HMACs that were made.
+fn end_of<A: Allocator + Copy>(
+    alloc: A,
+    course: Course,
+) -> Result<(u8, u8, u64), ScramError<A>> {
+    let mut client = begun(alloc, course.is_drawn)?;
+    let first = server_first(alloc, &client)?;
+    let updated = number(&client.update(&first));
+    let finished = number(&client.finish(course.server_final));
+    Ok((updated, finished, client.hmacs()))
+}
+
+// Beside the refusals of memory an exchange comes to the same end. A refused `update` ends it, so that
+// `finish` isn't due.
+#[test]
+fn exchanges_with_each_allocation_refused(rt: HostRuntime) -> Result<(), Fail> {
+    let courses = [
+        (true, LONG_FINAL, (0, 12, 5)),
+        (false, LONG_FINAL, (0, 12, 5)),
+        (false, b"e=other-error".as_slice(), (0, 11, 3)),
+        (false, b"v=AAAA".as_slice(), (0, 12, 5)),
+    ];
+    for (is_drawn, server_final, ample) in courses {
+        let course = Course {
+            is_drawn,
+            server_final,
+        };
+        let mut refusals = 0u64;
+        for number in 1..100u64 {
+            let heap = Refusing::new(rt.alloc(), number);
+            match end_of(&heap, course) {
+                Ok((0, finished, hmacs)) => {
+                    let is_refused = !heap.is_pending();
+                    let end = if is_refused { (0, 1, 3) } else { ample };
+                    assert_eq!(rt; (0, finished, hmacs), end, "{number}");
+                }
+                Ok((updated, finished, hmacs)) => {
+                    assert_eq!(rt; (updated, finished), (1, 2), "{number}");
+                    assert!(rt; hmacs == 0 || hmacs == 3, "{number}");
+                }
+                Err(e) => assert_eq!(rt; e.number(), 1, "{number}"),
+            }
+            if heap.is_pending() {
+                break;
+            }
+            refusals = number;
+        }
+        assert!(rt; 10 <= refusals, "{refusals}");
+    }
+    Ok(())
+}
+
+// A short signature is compared without memory, whatever was refused before.
+#[test]
+fn a_short_signature_takes_no_memory(rt: HostRuntime) -> Result<(), Fail> {
+    let texts = [
+        b"v=AAAA".as_slice(),
+        b"v=AAAAAAAAAAAAAAAAAAAAAAAAAAAAAAAAAAAAAAAAAAA=".as_slice(),
+        b"v=AAAAAAAAAAAAAAAAAAAAAAAAAAAAAAAAAAAAAAAAAAAAAAAAAAAAAAAAAAAAAAAA".as_slice(),
+    ];
+    for text in texts {
+        let heap = Refusing::new(rt.alloc(), 0);
+        let begun = begun(&heap, false);
+        assert_eq!(rt; number(&begun), 0);
+        if let Ok(mut client) = begun {
+            assert_eq!(rt; number(&client.update(FIRST)), 0);
+            heap.refuse(1);
+            assert_eq!(rt; number(&client.finish(text)), 12);
+            assert!(rt; heap.is_pending());
+        }
+    }
+    Ok(())
+}
+
+// With ample memory no length is told as want of memory.
+#[test]
+fn long_texts_are_escaped(rt: HostRuntime) -> Result<(), Fail> {
+    let alloc = rt.alloc();
+    let units = [("abcde", 5, 5), ("ab'de", 6, 5), ("a\\cd'", 7, 5), ("a\"c\"e", 5, 7)];
+    for (unit, literal_len, identifier_len) in units {
+        let mut text = String::new(alloc);
+        for _ in 0..20_000 {
+            text.push_str(unit)?;
+        }
+        let literal = escape_literal(alloc, &text)?;
+        let front = if unit.contains('\\') { 4 } else { 2 };
+        assert_eq!(rt; literal.len(), literal_len * 20_000 + front, "{unit}");
+        let identifier = escape_identifier(alloc, &text)?;
+        assert_eq!(rt; identifier.len(), identifier_len * 20_000 + 2, "{unit}");
+    }
+    let name = "abcdefghij0123456789abcdefghij0123456789abcdefghij0123456789abcdefghij0123456789abcdefghij0123456789";
+    assert_eq!(rt; name.len(), 100);
+    let identifier = escape_identifier(alloc, name)?;
+    assert!(rt; identifier.strip_prefix('"').and_then(|rest| rest.strip_suffix('"')) == Some(name));
+    Ok(())
+}
+
+// A generator's stream makes a client's nonce, of 24 characters, and another one the next time.
+#[test]
+fn nonces_are_drawn_anew(rt: HostRuntime) -> Result<(), Fail> {
+    let alloc = rt.alloc();
+    let mut rng = Pcg32::seed_from_u64(1);
+    let one = ScramSha256::new(alloc, PASSWORD, ChannelBinding::unsupported(), &NoPrep, &mut rng)?;
+    let other = ScramSha256::new(alloc, PASSWORD, ChannelBinding::unsupported(), &NoPrep, &mut rng)?;
+    assert_eq!(rt; one.message().unwrap_or(b"").len(), 32);
+    assert_eq!(rt; other.message().unwrap_or(b"").len(), 32);
+    assert!(rt; one.message() != other.message());
     Ok(())
 }

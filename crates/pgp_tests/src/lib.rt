@@ -2,6 +2,8 @@
 #![tactic(auto, using(pgp_base::proofs::Parts::held_steps))]
 
 #[cfg(test)]
+mod ample;
+#[cfg(test)]
 mod auth;
 #[cfg(test)]
 mod frontend;

@@ -293,7 +293,7 @@ pub inet_sound : IsSound inet
 inet_sound = record {
   some = some_inet;
   one = one_inet;
-  back = λ v has. (has, (0, refl));
+  back = λ v has spelled. (has, (0, refl));
 }
 
 pub wide_refused : (v : Inet) → 8 * address_size (family_of v.addr) < v.netmask → InetReads (joined (parts_of 0 v)) (Err InvalidNetmask)

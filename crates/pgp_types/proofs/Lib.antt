@@ -4,3 +4,4 @@ pub mod InetLemmas
 pub mod Readings
 pub mod GeometryLemmas
 mod Appending
+mod ArrayWrites

@@ -6,7 +6,7 @@ use Rattle.std.proofs.lemmas.Int.{of_z-to_z, to_z-of_z}
 use Rattle.std.specs.Int.{Width, to_be_bytes, from_be_bytes, cast_signed, cast_unsigned}
 use Rattle.std.specs.Prelude.{slice_index}
 use Rattle.pgp_base.specs.Wire.{IsBytes, int16, int32, int64, uint32, uint64}
-use Rattle.pgp_types.specs.Scalar.{int8_bytes}
+use Rattle.pgp_types.specs.Scalar.{char_byte}
 use Rattle.pgp_types.proofs.Spelling.{IsSpelling, gives}
 use mir.Val.{bits}
 
@@ -61,7 +61,7 @@ signed w {written} {size} {read} u = record {
   again = λ z fits. ap (cast_signed w) (u.again _ (Fits-of_z fits).fits) ∙ to_z-of_z w z fits;
 }
 
-pub int8_spelling : IsSpelling (FitsSigned w8) int8_bytes 1 (λ bytes. cast_signed w8 (slice_index bytes 0))
+pub int8_spelling : IsSpelling (FitsSigned w8) char_byte 1 (λ bytes. cast_signed w8 (slice_index bytes 0))
 int8_spelling = signed w8 unsigned8
 
 pub int16_spelling : IsSpelling (FitsSigned w16) int16 2 (λ bytes. cast_signed w16 (from_be_bytes w16 bytes))

@@ -47,7 +47,7 @@ pub bool_sound : IsSound bool
 bool_sound = record {
   some = λ bytes small. some_bool bytes;
   one = one_bool;
-  back = λ v has. bool_back v;
+  back = λ v has spelled. bool_back v;
 }
 
 -- all bytes
@@ -61,7 +61,7 @@ pub all_sound : IsSound all_bytes
 all_sound = record {
   some = λ bytes small. (Ok bytes, refl);
   one = one_all;
-  back = λ v has. refl;
+  back = λ v has spelled. refl;
 }
 
 -- so many bytes
@@ -87,7 +87,7 @@ pub whole_sound : (size : ℕ) → IsSound (whole size)
 whole_sound size = record {
   some = λ bytes small. some_whole size bytes small (cases_order (length bytes) size);
   one = one_whole size;
-  back = λ v has. (has, refl);
+  back = λ v has spelled. (has, refl);
 }
 
 -- texts
@@ -117,7 +117,7 @@ pub text_sound : IsSound text
 text_sound = record {
   some = λ bytes small. some_text bytes (utf8_or_not bytes);
   one = one_text;
-  back = λ v utf8. (utf8, refl);
+  back = λ v utf8 spelled. (utf8, refl);
 }
 
 -- labels
@@ -175,5 +175,5 @@ pub label_sound : (version : ℕ) → IsSound (label version)
 label_sound version = record {
   some = λ bytes small. some_label version bytes (version_or_not version bytes);
   one = one_label version;
-  back = λ v utf8. (utf8, refl);
+  back = λ v utf8 spelled. (utf8, refl);
 }

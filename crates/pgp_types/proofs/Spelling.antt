@@ -72,5 +72,5 @@ pub fixed_sound : {V : Type 0} {IsValue : V → Type 0} {written : V → List �
 fixed_sound {V} {IsValue} {written} {size} {read} s = record {
   some = λ bytes small. some_fixed s bytes small (cases_order (length bytes) size);
   one = one_fixed s;
-  back = λ v has. (has, refl);
+  back = λ v has spelled. (has, refl);
 }

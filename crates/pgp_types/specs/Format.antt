@@ -1,40 +1,50 @@
 -- What it means to write a value of a type, and to read one.
-use Rattle.std.specs.Prelude.{◌≡◌, ◌≢◌, ℕ, ◌<◌, List, ◌++◌, length, Result, Ok, Err, ⊤}
+use Rattle.std.specs.Prelude.{◌≡◌, ◌≢◌, ℕ, ◌<◌, List, length, None, Result, Ok, Err, ⊤}
 use Rattle.pgp_base.specs.declared.error.Error.{Error}
-use Rattle.pgp_base.specs.declared.error.Error.TheVariants.{OutOfMemory, UnexpectedEof, NotDrained, InvalidSize}
-use Rattle.pgp_base.specs.Held.{Held, ◌⊕◌, Leaves}
+use Rattle.pgp_base.specs.declared.error.Error.TheVariants.{UnexpectedEof, NotDrained, InvalidSize}
+use Rattle.pgp_base.specs.Cause.{Cause, Writes as WritesSpelling}
+use Rattle.pgp_base.specs.Held.{Held}
 use Rattle.pgp_base.specs.Wire.{IsBytes}
 
--- A type of values: which there are, the bytes that are written for each, and what bytes are read as.
-pub record Format (V : Type 0) : Type 1 where
+-- A type of values. What is read is an R, which for a value whose lists are read as they are asked for has walks
+-- in the place of the lists.
+pub record Format (V R : Type 0) : Type 1 where
+  -- the values that are read back as they were written
   pub IsValue : V → Type 0
+  -- the bytes that are written for a value, and why it has none
   pub written : V → List ℕ
-  pub Reads : List ℕ → Result V Error → Type 0
+  pub cause : V → Cause
+  -- what a value is when it is read back
+  pub seen : V → R
+  -- what bytes are read as
+  pub Reads : List ℕ → Result R Error → Type 0
 
--- What an appending call leaves: the new bytes behind the old ones, or, where memory was refused, the old ones.
-abbrev pub Appends : {U K : Type 0} → List ℕ → Type 0 → Held K → Result U Error → Held K → Type 0
-Appends more lacks old (Ok done) new = new ≡ old ⊕ more
-Appends more lacks old (Err OutOfMemory) new = lacks × Leaves old new
-Appends more lacks old (Err e) new = ⊥
+-- Where every value has a spelling, and is read back as itself.
+abbrev pub Plain : Type 0 → Type 1
+Plain V = Format V V
 
--- What a writer leaves.
-abbrev pub Writes : {V U K : Type 0} → Format V → V → Type 0 → Held K → Result U Error → Held K → Type 0
-Writes f v lacks old result new = Appends (f.written v) lacks old result new
+abbrev pub plain : {V : Type 0} → (V → Type 0) → (V → List ℕ) → (List ℕ → Result V Error → Type 0) → Plain V
+plain IsValue written Reads = record { IsValue = IsValue; written = written; cause = λ _. None; seen = λ v. v; Reads = Reads }
+
+-- What a writer leaves: the bytes of the value behind the old ones; or the old ones, where memory or the value was
+-- refused.
+abbrev pub Writes : {V R K : Type 0} → Format V R → V → Type 0 → Held K → Result (Unit {0}) Error → Held K → Type 0
+Writes f v lacks old result new = WritesSpelling (f.written v) (f.cause v) lacks old new result
 
 -- What a reader answers for the bytes.
-abbrev pub Reads : {V : Type 0} → Format V → List ℕ → Result V Error → Type 0
+abbrev pub Reads : {V R : Type 0} → Format V R → List ℕ → Result R Error → Type 0
 Reads f bytes result = f.Reads bytes result
 
 -- The same where the value is seen through a view.
-abbrev pub ReadsBy : {X V : Type 0} → (X → V) → Format V → List ℕ → Result X Error → Type 0
+abbrev pub ReadsBy : {X V R : Type 0} → (X → R) → Format V R → List ℕ → Result X Error → Type 0
 ReadsBy view f bytes (Ok x) = f.Reads bytes (Ok (view x))
 ReadsBy view f bytes (Err e) = f.Reads bytes (Err e)
 
 -- Each list of bytes has one reading, and what is written for a value is read as that value.
-pub record IsSound {V : Type 0} (f : Format V) : Type 0 where
-  pub some : (bytes : List ℕ) → IsBytes bytes → (r : Result V Error) × f.Reads bytes r
-  pub one : (bytes : List ℕ) (r s : Result V Error) → f.Reads bytes r → f.Reads bytes s → r ≡ s
-  pub back : (v : V) → f.IsValue v → f.Reads (f.written v) (Ok v)
+pub record IsSound {V R : Type 0} (f : Format V R) : Type 0 where
+  pub some : (bytes : List ℕ) → IsBytes bytes → (r : Result R Error) × f.Reads bytes r
+  pub one : (bytes : List ℕ) (r s : Result R Error) → f.Reads bytes r → f.Reads bytes s → r ≡ s
+  pub back : (v : V) → f.IsValue v → f.cause v ≡ None → f.Reads (f.written v) (Ok (f.seen v))
 
 -- Values that all take the same number of bytes: read from what is written for one, and refused where
 -- bytes are missing, or are left over.
@@ -47,14 +57,14 @@ abbrev pub FixedReads : {V : Type 0} → (V → Type 0) → (V → List ℕ) →
 FixedReads IsValue written size bytes (Ok v) = IsValue v × (bytes ≡ written v)
 FixedReads IsValue written size bytes (Err e) = FixedRefused size bytes e
 
-abbrev pub fixed : {V : Type 0} → (V → Type 0) → (V → List ℕ) → ℕ → Format V
-fixed IsValue written size = record { IsValue = IsValue; written = written; Reads = FixedReads IsValue written size }
+abbrev pub fixed : {V : Type 0} → (V → Type 0) → (V → List ℕ) → ℕ → Plain V
+fixed IsValue written size = plain IsValue written (FixedReads IsValue written size)
 
 -- so many bytes, as they stand
 abbrev pub IsBlock : ℕ → List ℕ → Type 0
 IsBlock size bytes = IsBytes bytes × (length bytes ≡ size)
 
-abbrev pub block : ℕ → Format (List ℕ)
+abbrev pub block : ℕ → Plain (List ℕ)
 block size = fixed (IsBlock size) (λ bytes. bytes) size
 
 -- So many bytes, as they stand; any other number of bytes is refused.
@@ -63,13 +73,13 @@ WholeReads size bytes (Ok v) = IsBlock size v × (bytes ≡ v)
 WholeReads size bytes (Err InvalidSize) = length bytes ≢ size
 WholeReads size bytes (Err e) = ⊥
 
-abbrev pub whole : ℕ → Format (List ℕ)
-whole size = record { IsValue = IsBlock size; written = λ bytes. bytes; Reads = WholeReads size }
+abbrev pub whole : ℕ → Plain (List ℕ)
+whole size = plain (IsBlock size) (λ bytes. bytes) (WholeReads size)
 
 -- All bytes, as they stand.
 abbrev pub AllRead : List ℕ → Result (List ℕ) Error → Type 0
 AllRead bytes (Ok v) = bytes ≡ v
 AllRead bytes (Err e) = ⊥
 
-abbrev pub all_bytes : Format (List ℕ)
-all_bytes = record { IsValue = λ _. ⊤; written = λ bytes. bytes; Reads = AllRead }
+abbrev pub all_bytes : Plain (List ℕ)
+all_bytes = plain (λ _. ⊤) (λ bytes. bytes) AllRead

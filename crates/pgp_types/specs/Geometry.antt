@@ -2,7 +2,7 @@
 -- PostgreSQL manual, "Geometric Types".
 use Rattle.std.specs.Prelude.{ℕ, ◌<◌, ◌^◌, List, ◌++◌}
 use Rattle.pgp_base.specs.Wire.{uint64}
-use Rattle.pgp_types.specs.Format.{Format, fixed}
+use Rattle.pgp_types.specs.Format.{Plain, fixed}
 
 pub record Point : Type 0 where
   pub x : ℕ
@@ -24,8 +24,8 @@ IsBox b = IsPoint b.upper_right × IsPoint b.lower_left
 abbrev pub box_bytes : Box → List ℕ
 box_bytes b = point_bytes b.upper_right ++ point_bytes b.lower_left
 
-abbrev pub point : Format Point
+abbrev pub point : Plain Point
 point = fixed IsPoint point_bytes 16
 
-abbrev pub box : Format Box
+abbrev pub box : Plain Box
 box = fixed IsBox box_bytes 32

@@ -4,3 +4,5 @@ pub mod Text
 pub mod Time
 pub mod Network
 pub mod Geometry
+pub mod Array
+pub mod ArrayWriting

@@ -6,12 +6,12 @@ use Rattle.std.specs.declared.net.ip_addr.IpAddr.TheVariants.{V4, V6}
 use Rattle.std.specs.Net.Addr.{ipv4_octets, ipv6_octets, MatchIp, IsIpv4Addr, IsIpv6Addr}
 use Rattle.pgp_base.specs.declared.error.Error.{Error}
 use Rattle.pgp_base.specs.declared.error.Error.TheVariants.{UnexpectedEof, InvalidFamily, InvalidNetmask, InvalidAddressLength}
-use Rattle.pgp_types.specs.Format.{Format, FixedRefused, whole}
+use Rattle.pgp_types.specs.Format.{Plain, FixedRefused, plain, whole}
 
-abbrev pub macaddr : Format (List ℕ)
+abbrev pub macaddr : Plain (List ℕ)
 macaddr = whole 6
 
-abbrev pub uuid : Format (List ℕ)
+abbrev pub uuid : Plain (List ℕ)
 uuid = whole 16
 
 -- A host's address, and how many of its first bits name the network.
@@ -82,5 +82,5 @@ abbrev pub InetReads : List ℕ → Result Inet Error → Type 0
 InetReads bytes (Ok v) = IsInet v × ((cidr : ℕ) × (bytes ≡ joined (parts_of cidr v)))
 InetReads bytes (Err e) = ((length bytes < 4) × (e ≡ UnexpectedEof)) ⊎ ((p : Parts) × (bytes ≡ joined p) × PartsRefused p e)
 
-abbrev pub inet : Format Inet
-inet = record { IsValue = IsInet; written = λ v. joined (parts_of 0 v); Reads = InetReads }
+abbrev pub inet : Plain Inet
+inet = plain IsInet (λ v. joined (parts_of 0 v)) InetReads

@@ -4,15 +4,15 @@ use Rattle.std.specs.Prelude.{◌≡◌, ◌≢◌, ℕ, List, ◌∷◌, Result
 use Rattle.std.specs.Str.{IsUtf8}
 use Rattle.pgp_base.specs.declared.error.Error.{Error}
 use Rattle.pgp_base.specs.declared.error.Error.TheVariants.{NotUtf8, InvalidVersion}
-use Rattle.pgp_types.specs.Format.{Format}
+use Rattle.pgp_types.specs.Format.{Plain, plain}
 
 abbrev pub TextReads : List ℕ → Result (List ℕ) Error → Type 0
 TextReads bytes (Ok t) = IsUtf8 t × (bytes ≡ t)
 TextReads bytes (Err NotUtf8) = ¬ (IsUtf8 bytes)
 TextReads bytes (Err e) = ⊥
 
-abbrev pub text : Format (List ℕ)
-text = record { IsValue = IsUtf8; written = λ t. t; Reads = TextReads }
+abbrev pub text : Plain (List ℕ)
+text = plain IsUtf8 (λ t. t) TextReads
 
 -- The version of the type's format in one byte, and a text.
 abbrev pub LabelReads : ℕ → List ℕ → Result (List ℕ) Error → Type 0
@@ -21,14 +21,14 @@ LabelReads version bytes (Err InvalidVersion) = (rest : List ℕ) → bytes ≢ 
 LabelReads version bytes (Err NotUtf8) = (rest : List ℕ) × (bytes ≡ version ∷ rest) × ¬ (IsUtf8 rest)
 LabelReads version bytes (Err e) = ⊥
 
-abbrev pub label : ℕ → Format (List ℕ)
-label version = record { IsValue = IsUtf8; written = λ t. version ∷ t; Reads = LabelReads version }
+abbrev pub label : ℕ → Plain (List ℕ)
+label version = plain IsUtf8 (λ t. version ∷ t) (LabelReads version)
 
-abbrev pub ltree : Format (List ℕ)
+abbrev pub ltree : Plain (List ℕ)
 ltree = label 1
 
-abbrev pub lquery : Format (List ℕ)
+abbrev pub lquery : Plain (List ℕ)
 lquery = label 1
 
-abbrev pub ltxtquery : Format (List ℕ)
+abbrev pub ltxtquery : Plain (List ℕ)
 ltxtquery = label 1

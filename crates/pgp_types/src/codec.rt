@@ -1,13 +1,14 @@
 //! What the codecs share.
 
-ghost use Rattle.std.specs.Prelude.{◌++◌};
-ghost use Rattle.pgp_types.specs.Format.{Appends, Reads, block, whole};
+ghost use Rattle.std.specs.Prelude.{◌++◌, None};
+ghost use Rattle.pgp_base.specs.Cause.{Writes};
+ghost use Rattle.pgp_types.specs.Format.{Reads, block, whole};
 
 use pgp_base::{Buffer, Error};
 
 // All of the bytes, or nothing.
 pub fn append<B: Buffer>(bytes: &[u8], buf: &mut B) -> Result<(), Error>
-    ensures { Appends bytes.now B.Lacks (B.held buf.old) result (B.held buf.new) }
+    ensures { Writes bytes.now None B.Lacks (B.held buf.old) (B.held buf.new) result }
 {
     buf.append(bytes)?;
     Ok(())
@@ -15,7 +16,7 @@ pub fn append<B: Buffer>(bytes: &[u8], buf: &mut B) -> Result<(), Error>
 
 // All of both, or nothing.
 pub fn append_both<B: Buffer>(front: &[u8], rest: &[u8], buf: &mut B) -> Result<(), Error>
-    ensures { Appends (front.now ++ rest.now) B.Lacks (B.held buf.old) result (B.held buf.new) }
+    ensures { Writes (front.now ++ rest.now) None B.Lacks (B.held buf.old) (B.held buf.new) result }
 {
     let start = buf.len();
     buf.append(front)?;

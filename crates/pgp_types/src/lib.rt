@@ -4,6 +4,7 @@
 //! A refused writer leaves the buffer's bytes as they were. A reader takes no memory: it borrows texts and bytes.
 #![tactic(auto, using(pgp_base::proofs::Parts::held_steps))]
 
+mod array;
 mod codec;
 mod geometry;
 pub mod laws;
@@ -12,6 +13,7 @@ mod scalar;
 mod text;
 mod time;
 
+pub use array::{ArrayDimension, array_to_sql};
 pub use geometry::{Box, Point, box_from_sql, box_to_sql, point_from_sql, point_to_sql};
 pub use network::{
     Inet, inet_from_sql, inet_to_sql, macaddr_from_sql, macaddr_to_sql, uuid_from_sql, uuid_to_sql,

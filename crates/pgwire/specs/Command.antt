@@ -6,7 +6,8 @@ use Rattle.pgp_auth.specs.Lexer.{Literal, Identifier, IsPlain, backslash}
 use Rattle.pgp_auth.specs.Verifier.{verifier, verifier_text}
 use Rattle.pgwire.specs.declared.fault.Fault.{Fault}
 use Rattle.pgwire.specs.declared.fault.Fault.TheVariants.{Memory, Read, Write}
-use Rattle.pgwire.specs.Output.{line, Writes}
+use Rattle.pgwire.specs.Output.{line, Writes, BackendOutput}
+use Rattle.pgwire.specs.Taken.{AppendsFront}
 
 pub data Command : Type 0 where
   Backend : Command
@@ -65,11 +66,25 @@ abbrev pub MayRead : Command → Streams → Streams → Type 0
 MayRead Backend before after = ⊤
 MayRead command before after = Keeps before.input after.input
 
+-- What a command is to write.
+abbrev pub Makes : Command → Streams → List ℕ → Type 0
+Makes Backend before bytes = IfSome before.input (λ input. BackendOutput input bytes 0)
+Makes (Verifier password salt) before bytes = bytes ≡ line (verifier_text (verifier password salt 4096))
+Makes (EscapeLiteral z) before bytes = (text : List ℕ) × IsEscapedLiteral z text × (bytes ≡ line text)
+Makes (EscapeIdentifier z) before bytes = (text : List ℕ) × Identifier text z × (bytes ≡ line text)
+
+-- Writing failed: a front of what was to be written was taken, and nothing else.
+pub record IsCut (command : Command) (before after : Streams) : Type 0 where
+  pub bytes : List ℕ
+  pub meant : Makes command before bytes
+  pub taken : AppendsFront before.output after.output bytes
+
 -- A command stopped at a fault: nothing was written, unless writing failed.
 pub record Stops (command : Command) (before after : Streams) (fault : Fault) : Type 0 where
   pub met : Meets command fault
   pub input : MayRead command before after
   pub output : fault ≢ Write → Keeps before.output after.output
+  pub cut : fault ≡ Write → IsCut command before after
 
 -- a fault was met, and is told
 pub record IsFaulty (command : Command) (before after : Streams) (status : ℕ) (complaint : List ℕ) : Type 0 where
@@ -109,3 +124,26 @@ pub record IsDone (words : List (List ℕ)) (before after : Streams) (status : �
 
 abbrev pub Obeys : List (List ℕ) → Streams → Streams → ℕ → List ℕ → Type 0
 Obeys words before after status complaint = IsDone words before after status complaint ⊎ IsRefused words before after status complaint
+
+-- A run: the words are obeyed, and of what is then to be said on standard error a front is said, and
+-- nothing else.
+pub record Runs (words : List (List ℕ)) (before after : Streams) (old new : Option (List ℕ)) (status : ℕ) : Type 0 where
+  pub complaint : List ℕ
+  pub obeyed : Obeys words before after status complaint
+  pub said : AppendsFront old new complaint
+
+-- The words of the process aren't texts, or there is no memory for them: nothing is read or written.
+pub record IsUnread (before after : Streams) (status : ℕ) (complaint : List ℕ) : Type 0 where
+  pub told : ((complaint ≡ usage) × (status ≡ 2)) ⊎ ((complaint ≡ complaint_of Memory) × (status ≡ 1))
+  pub input : Keeps before.input after.input
+  pub output : Keeps before.output after.output
+
+-- Its words are obeyed, or aren't read.
+abbrev pub ObeysOwn : Streams → Streams → ℕ → List ℕ → Type 0
+ObeysOwn before after status complaint = ((words : List (List ℕ)) × Obeys words before after status complaint) ⊎ IsUnread before after status complaint
+
+-- A run on the words of the process.
+pub record RunsOwn (before after : Streams) (old new : Option (List ℕ)) (status : ℕ) : Type 0 where
+  pub complaint : List ℕ
+  pub obeyed : ObeysOwn before after status complaint
+  pub said : AppendsFront old new complaint

@@ -1,3 +1,4 @@
+pub mod Taken
 pub mod Output
 pub mod Command
 pub mod Asked

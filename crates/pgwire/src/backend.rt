@@ -4,8 +4,10 @@ ghost use Rattle.std.specs.Prelude.{◌≡◌, ◌≢◌, IfOk, IfErr, OnOk, IfS
 ghost use Rattle.std.specs.Io.KnownBytes.{IsAtEnd, Keeps};
 ghost use Rattle.pgp_message.specs.Views.{view};
 ghost use Rattle.pgwire.specs.Output.{name_of, BackendOutput, Writes};
+ghost use Rattle.pgwire.specs.Command.{Backend, IsCut};
 
 use crate::fault::Fault;
+use crate::print::put;
 use bytes::BytesMut;
 use pgp_base::Error;
 use pgp_message::{Message, Storage, laws};
@@ -25,6 +27,9 @@ pub fn backend<A: Allocator + Copy, R: Read, W: Write>(
         (λ bytes. Writes bytes (W.contents output.old) (W.contents output.new) status)) }
     ensures status { IfOk result (λ status. status ≡ 0) }
     ensures quiet { IfErr result (λ fault. fault ≢ Fault.Write → Keeps (W.contents output.old) (W.contents output.new)) }
+    ensures cut { IfErr result (λ fault. fault ≡ Fault.Write → IsCut Backend
+        (record { input = R.remaining input.old; output = W.contents output.old })
+        (record { input = R.remaining input.new; output = W.contents output.new })) }
 {
     let mut bytes = Vec::new(alloc);
     if let Err(e) = input.read_to_end(&mut bytes) {
@@ -34,12 +39,7 @@ pub fn backend<A: Allocator + Copy, R: Read, W: Write>(
         });
     }
     let text = listing(alloc, bytes)?;
-    if output.write_all(text.as_bytes()).is_err() {
-        return Err(Fault::Write);
-    }
-    if output.flush().is_err() {
-        return Err(Fault::Write);
-    }
+    put(text.as_bytes(), output)?;
     Ok(0)
 }
 

@@ -1,17 +1,20 @@
 //! The program's words.
 
-ghost use Rattle.std.specs.Prelude.{◌≡◌, ℕ, List, [], map, IfSome, IfNone, IfOk, IfErr};
-ghost use Rattle.pgwire.specs.Command.{Asks, IsOther, Obeys, Succeeds, Stops};
+ghost use Rattle.std.specs.Prelude.{◌≡◌, [], map, IfSome, IfNone, IfOk, IfErr};
+ghost use Rattle.std.specs.Io.KnownBytes.{Keeps};
+ghost use Rattle.pgwire.specs.Command.{Asks, IsOther, usage, complaint_of, Obeys, Succeeds, Stops, Runs, ObeysOwn, RunsOwn};
 ghost use Rattle.pgwire.specs.Asked.{asked};
+ghost use Rattle.pgwire.specs.Taken.{AppendsFront};
 
 use crate::backend::backend;
 use crate::fault::Fault;
+use crate::print::put;
 use crate::text;
+use crate::words::{lent, texts};
 use hex::FromHex;
 use std::alloc::Allocator;
 use std::io::{Read, Write};
 use std::rt::Env;
-use std::{env, io};
 
 const USAGE: &str =
     "usage: pgwire client | backend | verifier PASSWORD SALTHEX | escape literal|identifier TEXT\n";
@@ -21,6 +24,30 @@ const USAGE: &str =
 pub struct Outcome {
     pub status: u8,
     pub complaint: &'static str,
+}
+
+impl Outcome {
+    /// The words ask for nothing that there is.
+    fn refused() -> Outcome
+        ensures status { result.status ≡ 2 }
+        ensures complaint { result.complaint.now ≡ usage }
+    {
+        Outcome {
+            status: 2,
+            complaint: USAGE,
+        }
+    }
+
+    /// What was asked for met a fault.
+    fn stopped(fault: Fault) -> Outcome
+        ensures status { result.status ≡ 1 }
+        ensures complaint { result.complaint.now ≡ complaint_of fault }
+    {
+        Outcome {
+            status: 1,
+            complaint: fault.complaint(),
+        }
+    }
 }
 
 /// What the words ask for.
@@ -85,24 +112,29 @@ pub fn obey<A: Allocator + Copy, R: Read, W: Write>(
         result.status result.complaint.now }
 {
     let Some(command) = command_of(words) else {
-        return Outcome {
-            status: 2,
-            complaint: USAGE,
-        };
+        return Outcome::refused();
     };
     match perform(alloc, command, input, output) {
         Ok(status) => Outcome {
             status,
             complaint: "",
         },
-        Err(fault) => Outcome {
-            status: 1,
-            complaint: fault.complaint(),
-        },
+        Err(fault) => Outcome::stopped(fault),
     }
 }
 
+/// Says on `errors` what is to be said there, as far as it can be said, and answers the status.
+fn tell<E: Write>(outcome: Outcome, errors: &mut E) -> u8
+    ensures status { result ≡ outcome.status }
+    ensures told { AppendsFront (E.contents errors.old) (E.contents errors.new) outcome.complaint.now }
+{
+    let _ = put(outcome.complaint.as_bytes(), errors);
+    outcome.status
+}
+
 /// Does what the words ask for, says on `errors` what is to be said there, and answers the status.
+///
+/// Where `errors` fails, a front of that was said.
 pub fn run<A: Allocator + Copy, R: Read, W: Write, E: Write>(
     alloc: A,
     words: &[&str],
@@ -110,42 +142,67 @@ pub fn run<A: Allocator + Copy, R: Read, W: Write, E: Write>(
     output: &mut W,
     errors: &mut E,
 ) -> u8
-    ensures { (complaint : List ℕ) × Obeys (map (λ word. word.now) words.now)
+    ensures { Runs (map (λ word. word.now) words.now)
         (record { input = R.remaining input.old; output = W.contents output.old })
         (record { input = R.remaining input.new; output = W.contents output.new })
-        result complaint }
+        (E.contents errors.old) (E.contents errors.new) result }
 {
-    let outcome = obey(alloc, words, input, output);
-    let _ = errors.write_all(outcome.complaint.as_bytes());
-    outcome.status
+    tell(obey(alloc, words, input, output), errors)
 }
 
-/// Runs on the program's own words and streams.
-pub(crate) fn from_words(rt: &HostRuntime) -> u8 {
-    match with_words(rt) {
-        Ok(status) => status,
-        Err(_) => {
-            let _ = rt.stderr().write_all(Fault::Memory.complaint().as_bytes());
-            1
-        }
+/// Does what the program's own words ask for, where there is memory for them. A word that isn't UTF-8
+/// asks for nothing that there is.
+fn try_own<A: Allocator + Copy, V: Env, R: Read, W: Write>(
+    alloc: A,
+    env: &V,
+    input: &mut R,
+    output: &mut W,
+) -> Result<Outcome, Fault>
+    ensures obeyed { IfOk result (λ outcome. ObeysOwn
+        (record { input = R.remaining input.old; output = W.contents output.old })
+        (record { input = R.remaining input.new; output = W.contents output.new })
+        outcome.status outcome.complaint.now) }
+    ensures fault { IfErr result (λ fault. fault ≡ Fault.Memory) }
+    ensures input { IfErr result (λ _. Keeps (R.remaining input.old) (R.remaining input.new)) }
+    ensures output { IfErr result (λ _. Keeps (W.contents output.old) (W.contents output.new)) }
+{
+    let Some(texts) = texts(alloc, env)? else {
+        return Ok(Outcome::refused());
+    };
+    let words = lent(alloc, texts.as_slice())?;
+    Ok(obey(alloc, words.as_slice(), input, output))
+}
+
+/// Does what the program's own words ask for.
+fn obey_own<A: Allocator + Copy, V: Env, R: Read, W: Write>(
+    alloc: A,
+    env: &V,
+    input: &mut R,
+    output: &mut W,
+) -> Outcome
+    ensures { ObeysOwn
+        (record { input = R.remaining input.old; output = W.contents output.old })
+        (record { input = R.remaining input.new; output = W.contents output.new })
+        result.status result.complaint.now }
+{
+    match try_own(alloc, env, input, output) {
+        Ok(outcome) => outcome,
+        Err(fault) => Outcome::stopped(fault),
     }
 }
 
-fn with_words(rt: &HostRuntime) -> io::Result<u8> {
-    let alloc = rt.alloc();
-    let mut kept = Vec::new(alloc);
-    for word in env::args(rt)?.skip(1) {
-        kept.push(word)?;
-    }
-    let mut words = Vec::new(alloc);
-    for word in &kept {
-        words.push(word.as_str())?;
-    }
-    Ok(run(
-        alloc,
-        words.as_slice(),
-        &mut rt.reader(),
-        &mut io::writer(rt),
-        &mut rt.stderr(),
-    ))
+/// Runs on the words of the process, behind its name.
+pub fn run_own<A: Allocator + Copy, V: Env, R: Read, W: Write, E: Write>(
+    alloc: A,
+    env: &V,
+    input: &mut R,
+    output: &mut W,
+    errors: &mut E,
+) -> u8
+    ensures { RunsOwn
+        (record { input = R.remaining input.old; output = W.contents output.old })
+        (record { input = R.remaining input.new; output = W.contents output.new })
+        (E.contents errors.old) (E.contents errors.new) result }
+{
+    tell(obey_own(alloc, env, input, output), errors)
 }

@@ -1,9 +1,11 @@
 use crate::backend::backend;
 use crate::fault::Fault;
-use crate::run::run;
+use crate::run::{run, run_own};
 use pgp_test_alloc::Refusing;
 use std::alloc::Global;
+use std::env::FillError;
 use std::io::{self, Read, Write};
+use std::rt::Env;
 use std::test::Fail;
 
 /// A reader that gives a few bytes and then fails.
@@ -20,6 +22,53 @@ impl Read for BrokenReader {
         self.left -= 1;
         buf[0] = 0x31;
         Ok(1)
+    }
+}
+
+/// A reader that gives these bytes, seven at a time, and then fails.
+#[derive(Drop)]
+struct CutReader<'a> {
+    rest: &'a [u8],
+}
+
+impl Read for CutReader<'_> {
+    fn read(&mut self, buf: &mut [u8]) -> io::Result<usize> {
+        let n = self.rest.len().min(7).min(buf.len());
+        if n == 0 {
+            return Err(io::Error::from(io::ErrorKind::ConnectionReset));
+        }
+        let (piece, rest) = self.rest.split_at(n);
+        buf[..n].copy_from_slice(piece);
+        self.rest = rest;
+        Ok(n)
+    }
+}
+
+/// The words of a process, the first of which is its name.
+#[derive(Drop)]
+struct Words<'a> {
+    words: &'a [&'a [u8]],
+}
+
+impl Env for Words<'_> {
+    fn arg(&self, i: usize, buf: &mut [u8]) -> Result<usize, FillError> {
+        let Some(word) = self.words.get(i) else {
+            return Err(FillError::NotPresent);
+        };
+        let n = word.len();
+        if buf.len() < n {
+            return Err(FillError::TooLong);
+        }
+        buf[..n].copy_from_slice(word);
+        Ok(n)
+    }
+
+    fn var(&self, _name: &str, _buf: &mut [u8]) -> Result<usize, FillError> {
+        Err(FillError::NotPresent)
+    }
+
+    fn var_at(&self, _i: usize, _buf: &mut [u8]) -> Result<usize, FillError> {
+        Err(FillError::NotPresent)
     }
 }
 
@@ -176,6 +225,47 @@ fn engine_reads_with_a_fault_and_writes_nothing(rt: HostRuntime) {
     }
 }
 
+// The frames that came whole before the read failed are not listed.
+#[test]
+fn lines_are_not_written_where_a_read_fails_behind_whole_frames(rt: HostRuntime) {
+    let frames: &[u8] = b"\x31\0\0\0\x04\x5a\0\0\0\x05I\x64\0\0\0\x06ab\x31\0\0\0\x04";
+    for end in [5, 11, 18, 23] {
+        let mut output = Vec::new(rt.alloc());
+        let mut errors = Vec::new(rt.alloc());
+        let mut input = CutReader {
+            rest: &frames[..end],
+        };
+        assert_eq!(rt;
+            run(
+                rt.alloc(),
+                &["backend"],
+                &mut input,
+                &mut output,
+                &mut errors
+            ),
+            1
+        );
+        assert!(rt; output.is_empty());
+        assert_eq!(rt; errors.as_slice(), b"pgwire: read failed\n".as_slice());
+    }
+}
+
+// 80,000 frames, 400,000 bytes, have a listing of 1,120,007 bytes.
+#[test]
+fn engine_lists_a_long_stream(rt: HostRuntime) -> Result<(), Fail> {
+    let mut input = Vec::new(rt.alloc());
+    let mut lines = Vec::new(rt.alloc());
+    for _ in 0..80_000u32 {
+        input.extend_from_slice(b"\x31\0\0\0\x04")?;
+        lines.extend_from_slice(b"ParseComplete\n")?;
+    }
+    lines.extend_from_slice(b"rest 0\n")?;
+    let output = listed(rt.alloc(), input.as_slice())?;
+    assert_eq!(rt; output.len(), 1_120_007);
+    assert!(rt; output.as_slice() == lines.as_slice());
+    Ok(())
+}
+
 #[test]
 fn engine_writes_with_a_fault(rt: HostRuntime) {
     // `rest 0` and its newline are seven bytes, and then comes the flush
@@ -243,6 +333,78 @@ fn words_decide_what_runs(rt: HostRuntime) {
         assert_eq!(rt; output.as_slice(), written.as_bytes());
         assert_eq!(rt; errors.as_slice(), told.as_bytes());
     }
+}
+
+#[test]
+fn words_of_the_process_decide_what_runs(rt: HostRuntime) -> Result<(), Fail> {
+    let long = vec![in rt.alloc(); b'a'; 1000]?;
+    let mut line = long.clone()?;
+    line.insert(0, b'"')?;
+    line.extend_from_slice(b"\"\n")?;
+    let long = long.as_slice();
+    let runs: [(&[&[u8]], u8, &[u8], &str); 9] = [
+        (
+            &[b"pgwire", b"escape", b"literal", b"f'oo"],
+            0,
+            b"'f''oo'\n",
+            "",
+        ),
+        (&[b"\xff", b"escape", b"literal", b"f"], 0, b"'f'\n", ""),
+        (
+            &[b"pgwire", b"escape", b"literal", b"\xc3\xa9"],
+            0,
+            b"'\xc3\xa9'\n",
+            "",
+        ),
+        (
+            &[b"pgwire", b"escape", b"identifier", long],
+            0,
+            line.as_slice(),
+            "",
+        ),
+        (&[b"pgwire", b"escape", b"literal", b"\xff"], 2, b"", USAGE),
+        (&[b"pgwire", b"escape", b"literal", b"\xc3"], 2, b"", USAGE),
+        (&[b"pgwire", b"\xff"], 2, b"", USAGE),
+        (&[b"pgwire"], 2, b"", USAGE),
+        (&[], 2, b"", USAGE),
+    ];
+    for (words, status, written, told) in runs {
+        let env = Words { words };
+        let mut input: &[u8] = b"";
+        let mut output = Vec::new(rt.alloc());
+        let mut errors = Vec::new(rt.alloc());
+        assert_eq!(rt;
+            run_own(rt.alloc(), &env, &mut input, &mut output, &mut errors),
+            status
+        );
+        assert_eq!(rt; output.as_slice(), written);
+        assert_eq!(rt; errors.as_slice(), told.as_bytes());
+    }
+    Ok(())
+}
+
+#[test]
+fn words_are_not_read_with_each_allocation_refused(rt: HostRuntime) {
+    let words: [&[u8]; 4] = [b"pgwire", b"escape", b"literal", b"f'oo"];
+    let env = Words { words: &words };
+    let mut refusals = 0u64;
+    for number in 1..1000u64 {
+        let heap = Refusing::new(rt.alloc(), number);
+        let mut input: &[u8] = b"";
+        let mut output = Vec::new(rt.alloc());
+        let mut errors = Vec::new(rt.alloc());
+        let status = run_own(&heap, &env, &mut input, &mut output, &mut errors);
+        if heap.is_pending() {
+            assert_eq!(rt; status, 0);
+            assert_eq!(rt; output.as_slice(), b"'f''oo'\n".as_slice());
+            break;
+        }
+        assert_eq!(rt; status, 1);
+        assert!(rt; output.is_empty());
+        assert_eq!(rt; errors.as_slice(), b"pgwire: out of memory\n".as_slice());
+        refusals = number;
+    }
+    assert!(rt; refusals > 4, "{refusals}");
 }
 
 #[test]

@@ -6,6 +6,7 @@ ghost use Rattle.pgp_auth.specs.Lexer.{Identifier};
 ghost use Rattle.pgp_auth.specs.Verifier.{verifier, verifier_text};
 ghost use Rattle.pgwire.specs.Output.{line};
 ghost use Rattle.pgwire.specs.Command.{IsEscapedLiteral};
+ghost use Rattle.pgwire.specs.Taken.{AppendsFront};
 
 use crate::fault::Fault;
 use crate::print::print;
@@ -26,6 +27,8 @@ pub fn verifier<A: Allocator + Copy, W: Write>(
         (line (verifier_text (verifier password.now salt 4096)))) }
     ensures status { IfOk result (λ status. status ≡ 0) }
     ensures quiet { IfErr result (λ fault. fault ≢ Fault.Write → Keeps (W.contents output.old) (W.contents output.new)) }
+    ensures cut { IfErr result (λ fault. fault ≡ Fault.Write → AppendsFront (W.contents output.old) (W.contents output.new)
+        (line (verifier_text (verifier password.now salt 4096)))) }
     ensures fault { IfErr result (λ fault. (fault ≡ Fault.Memory) ⊎ (fault ≡ Fault.Write)) }
 {
     match password::scram_sha_256_salt(alloc, password.as_bytes(), salt, &NoPrep) {
@@ -44,6 +47,8 @@ pub fn escape_literal<A: Allocator + Copy, W: Write>(
         × Appends (W.contents output.old) (W.contents output.new) (line literal)) }
     ensures status { IfOk result (λ status. status ≡ 0) }
     ensures quiet { IfErr result (λ fault. fault ≢ Fault.Write → Keeps (W.contents output.old) (W.contents output.new)) }
+    ensures cut { IfErr result (λ fault. fault ≡ Fault.Write → ((literal : List ℕ) × IsEscapedLiteral text.now literal
+        × AppendsFront (W.contents output.old) (W.contents output.new) (line literal))) }
     ensures fault { IfErr result (λ fault. (fault ≡ Fault.Memory) ⊎ (fault ≡ Fault.Write)) }
 {
     match escape::escape_literal(alloc, text) {
@@ -62,6 +67,8 @@ pub fn escape_identifier<A: Allocator + Copy, W: Write>(
         × Appends (W.contents output.old) (W.contents output.new) (line identifier)) }
     ensures status { IfOk result (λ status. status ≡ 0) }
     ensures quiet { IfErr result (λ fault. fault ≢ Fault.Write → Keeps (W.contents output.old) (W.contents output.new)) }
+    ensures cut { IfErr result (λ fault. fault ≡ Fault.Write → ((identifier : List ℕ) × Identifier identifier text.now
+        × AppendsFront (W.contents output.old) (W.contents output.new) (line identifier))) }
     ensures fault { IfErr result (λ fault. (fault ≡ Fault.Memory) ⊎ (fault ≡ Fault.Write)) }
 {
     match escape::escape_identifier(alloc, text) {

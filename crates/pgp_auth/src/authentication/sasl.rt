@@ -1,12 +1,13 @@
 //! SASL's SCRAM-SHA-256 (RFC 5802, RFC 7677): the client, and the parts that it is made of.
 
-ghost use Rattle.std.specs.Prelude.{◌≡◌, ℕ, ◌+◌, ◌<◌, ◌^◌, ◌++◌, List, Option, None, length, max, option_map, unwrap_or, string_bytes, IfOk, IfErr};
+ghost use Rattle.std.specs.Prelude.{◌≡◌, ℕ, ◌+◌, ◌<◌, ◌^◌, ◌++◌, List, Option, None, max, option_map, unwrap_or, string_bytes, IfOk, IfErr};
 ghost use Rattle.pgp_base.specs.declared.error.Error.{Error};
-ghost use Rattle.pgp_auth.specs.Hmac.{mac};
-ghost use Rattle.pgp_auth.specs.IteratedKey.{xor_bytes, salted};
+ghost use Rattle.pgp_auth.specs.IteratedKey.{salted};
+ghost use Rattle.pgp_auth.specs.MacBlocks.{code_of};
 ghost use Rattle.pgp_auth.specs.Prepared.{prepared};
 
-use crate::hmac::hmac_sha256;
+use crate::hmac::MacKey;
+use crate::lanes::xor_into;
 pub use crate::scram::{ChannelBinding, ScramError, ScramSha256, is_nonce};
 use pgp_base::Error;
 use std::alloc::Allocator;
@@ -25,6 +26,11 @@ pub trait SaslPrep {
     ghost mapping: { Self → List ℕ → Option (List ℕ) };
 
     /// The text that is used in the place of `text`, or `None` where `text` is used as it is.
+    ///
+    /// # Errors
+    ///
+    /// `OutOfMemory` where memory for the text is refused, and nothing else: a text that can't be mapped is
+    /// `None`.
     fn prepare<A: Allocator + Copy>(&self, alloc: A, text: &str) -> Result<Option<String<A>>, Error>
         ensures ok { IfOk result (λ o. option_map string_bytes o ≡ mapping self.now text.now) }
         ensures memory { IfErr result (λ e. e ≡ Error.OutOfMemory) };
@@ -65,24 +71,14 @@ pub(crate) fn mapped<A: Allocator + Copy, P: SaslPrep>(
     }
 }
 
-// `into` xor `other`, byte by byte.
-pub(crate) fn xor_into(into: &mut [u8], other: &[u8])
-    requires { length into.old ≡ length other.now }
-    ensures { into.new ≡ xor_bytes into.old other.now }
-{
-    for (i, byte) in other.iter().enumerate() {
-        into[i] ^= *byte;
-    }
-}
-
 // The code of a message in two parts, counted in `made`.
-pub(crate) fn counted_code(key: &[u8], first: &[u8], second: &[u8], made: &mut u64) -> [u8; 32]
+pub(crate) fn counted_code(key: &MacKey, first: &[u8], second: &[u8], made: &mut u64) -> [u8; 32]
     requires { made.old < 2 ^ 63 }
-    ensures value { result ≡ mac key.now (first.now ++ second.now) }
+    ensures value { result ≡ code_of key.now (first.now ++ second.now) }
     ensures count { made.new ≡ made.old + 1 }
 {
     *made += 1;
-    hmac_sha256(key, first, second)
+    key.code(first, second)
 }
 
 // `hi`, its codes counted in `made`.
@@ -91,10 +87,11 @@ pub(crate) fn counted_hi(password: &[u8], salt: &[u8], i: u32, made: &mut u64) -
     ensures value { result ≡ salted password.now salt.now i }
     ensures count { made.new ≡ made.old + max i 1 }
 {
-    let mut code = counted_code(password, salt, &1u32.to_be_bytes(), made);
+    let maker = MacKey::new(password);
+    let mut code = counted_code(&maker, salt, &1u32.to_be_bytes(), made);
     let mut key = code;
     'rounds: for _round in 1..i {
-        code = counted_code(password, &code, &[], made);
+        code = counted_code(&maker, &code, &[], made);
         xor_into(&mut key, &code);
     }
     key

@@ -5,9 +5,10 @@ ghost use Rattle.std.specs.Result.{IsErr};
 ghost use Rattle.base64.specs.Engines.{standard};
 ghost use Rattle.base64.specs.GeneralPurpose.{decode_of};
 ghost use Rattle.pgp_auth.specs.declared.scram.error.ScramError.TheVariants.{OutOfMemory, InvalidBase64};
-ghost use Rattle.pgp_auth.specs.ScramReading.{grant_parts, grant, refusal_of};
+ghost use Rattle.pgp_auth.specs.ScramReading.{AdmitsParts, grant_parts, grant, refusal_of};
 ghost use Rattle.pgp_auth.specs.ScramPartView.{parts_of, granted_of};
 ghost use Rattle.pgp_auth.specs.ScramErrorView.{refusal};
+ghost use Rattle.pgp_auth.specs.ScramRefusal.{Admitted};
 
 use crate::scram::error::ScramError;
 use crate::scram::reading::{Fault, ServerFirst, is_text, server_first};
@@ -58,7 +59,7 @@ fn grant<'a, A: Allocator + Copy>(
     parts: ServerFirst<'a>,
 ) -> Result<Granted<'a, A>, ScramError<A>>
     ensures ok { IfOk result (λ g. grant_parts client_nonce.now (parts_of parts.entry) ≡ Ok (granted_of g)) }
-    ensures err { IfErr result (λ e. (e ≡ OutOfMemory) ⊎ (grant_parts client_nonce.now (parts_of parts.entry) ≡ Err (refusal e))) }
+    ensures err { IfErr result (λ e. ((e ≡ OutOfMemory) × AdmitsParts client_nonce.now (parts_of parts.entry)) ⊎ (grant_parts client_nonce.now (parts_of parts.entry) ≡ Err (refusal e))) }
 {
     let ServerFirst { nonce, salt, count } = parts;
     if !nonce.starts_with(client_nonce) {
@@ -72,14 +73,14 @@ fn grant<'a, A: Allocator + Copy>(
 }
 
 // What a server's first text grants a client with this nonce.
-#[tactic(auto, unfolding(crate::specs::ScramReading::grant))]
+#[tactic(auto, using(crate::proofs::Grants::parts_admitted), unfolding(crate::specs::ScramReading::grant))]
 pub(crate) fn admit<'a, A: Allocator + Copy>(
     alloc: A,
     client_nonce: &[u8],
     message: &'a [u8],
 ) -> Result<Granted<'a, A>, ScramError<A>>
     ensures ok { IfOk result (λ g. grant client_nonce.now message.now ≡ Ok (granted_of g)) }
-    ensures err { IfErr result (λ e. (e ≡ OutOfMemory) ⊎ (grant client_nonce.now message.now ≡ Err (refusal e))) }
+    ensures err { IfErr result (λ e. ((e ≡ OutOfMemory) × Admitted client_nonce.now message.now) ⊎ (grant client_nonce.now message.now ≡ Err (refusal e))) }
 {
     if !is_text(message) {
         return Err(ScramError::NotUtf8);

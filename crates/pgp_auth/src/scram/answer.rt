@@ -8,7 +8,9 @@ ghost use Rattle.pgp_auth.specs.ScramStateView.{begun_of, answered_of};
 ghost use Rattle.pgp_auth.specs.ScramErrorView.{refusal};
 ghost use Rattle.pgp_auth.specs.ScramPartView.{granted_of};
 
-use crate::authentication::sasl::{counted_code, counted_hi, xor_into};
+use crate::authentication::sasl::{counted_code, counted_hi};
+use crate::hmac::MacKey;
+use crate::lanes::xor_into;
 use crate::scram::admit::{Granted, admit};
 use crate::scram::binding::ChannelBinding;
 use crate::scram::error::ScramError;
@@ -24,14 +26,14 @@ const PROOF_LEN: usize = 44;
 const FIXED_LEN: usize = 56;
 
 // The proof of a salted key for the text that is signed, by two HMACs.
-fn proof_of(key: &[u8; 32], auth: &[u8], made: &mut u64) -> [u8; 32]
+pub(crate) fn proof_of(key: &[u8; 32], auth: &[u8], made: &mut u64) -> [u8; 32]
     requires { made.old < 2 ^ 62 }
     ensures value { result ≡ client_proof key.now auth.now }
     ensures count { made.new ≡ made.old + 2 }
 {
-    let mut proof = counted_code(key, b"Client Key", &[], made);
+    let mut proof = counted_code(&MacKey::new(key), b"Client Key", &[], made);
     let stored_key = Sha256::digest(proof);
-    let signature = counted_code(&stored_key, auth, &[], made);
+    let signature = counted_code(&MacKey::new(&stored_key), auth, &[], made);
     xor_into(&mut proof, &signature);
     proof
 }
@@ -135,7 +137,7 @@ fn answer_granted<A: Allocator + Copy>(
 }
 
 // The answer to a server's first text.
-#[tactic(auto, using(crate::proofs::Grants::granted_few))]
+#[tactic(auto, using(crate::proofs::Grants::granted_few, crate::proofs::Grants::granted_admitted))]
 pub(crate) fn respond<A: Allocator + Copy>(
     alloc: A,
     start: &Start<A>,

@@ -45,7 +45,14 @@ impl<A: Allocator> Model for ScramSha256<A> {
 }
 
 impl<A: Allocator + Copy> ScramSha256<A> {
-    /// Begins an exchange with a nonce of 24 characters that the generator draws.
+    /// Begins an exchange with a nonce of 24 characters that the generator draws. `message` is then the
+    /// client-first text of RFC 5802, section 7, without a user's name: PostgreSQL takes the one of the
+    /// start-up message.
+    ///
+    /// # Errors
+    ///
+    /// `OutOfMemory` where memory for the exchange, or the mapping's own, is refused. The generator has
+    /// moved on by the nonce then too.
     pub fn new<P: SaslPrep, R: Rng>(
         alloc: A,
         password: &[u8],
@@ -55,15 +62,20 @@ impl<A: Allocator + Copy> ScramSha256<A> {
     ) -> Result<ScramSha256<A>, ScramError<A>>
         ensures ok { let nonce = (drawn_chars 24 (R.stream rng.old)).0 in
             IfOk result (λ client. client ≡ fresh (prepared (P.mapping prep.now) password.now) channel_binding nonce) }
-        ensures nonce { IfOk result (λ _. IsNonce (drawn_chars 24 (R.stream rng.old)).0) }
-        ensures drawn { IfOk result (λ _. R.stream rng.new ≡ (drawn_chars 24 (R.stream rng.old)).1) }
+        ensures nonce { IsNonce (drawn_chars 24 (R.stream rng.old)).0 }
+        ensures drawn { R.stream rng.new ≡ (drawn_chars 24 (R.stream rng.old)).1 }
         ensures memory { IfErr result (λ e. e ≡ OutOfMemory) }
     {
-        let nonce = draw_nonce(alloc, rng)?;
+        let drawn = draw_nonce(rng);
+        let nonce = Vec::from_slice(alloc, &drawn)?;
         begin(alloc, password, channel_binding, nonce, prep)
     }
 
     /// Begins an exchange with a given nonce, which has to be a new one each time.
+    ///
+    /// # Errors
+    ///
+    /// `OutOfMemory` where memory for the exchange, or the mapping's own, is refused.
     pub fn with_nonce<P: SaslPrep>(
         alloc: A,
         password: &[u8],
@@ -89,7 +101,8 @@ impl<A: Allocator + Copy> ScramSha256<A> {
         }
     }
 
-    /// The HMACs that `update` and `finish` have made.
+    /// The HMACs that `update` and `finish` have made: the rounds (at least one) and 2 for an `update` that is
+    /// Ok, 2 for a `finish` that compares.
     pub fn hmacs(&self) -> u64
         ensures value { result ≡ self.now.hmacs }
         ensures few { result ≤ 100004 }
@@ -97,8 +110,24 @@ impl<A: Allocator + Copy> ScramSha256<A> {
         self.made
     }
 
-    /// Takes the server's first text. A refusal ends the exchange.
-    pub fn update(&mut self, alloc: A, message: &[u8]) -> Result<(), ScramError<A>>
+    /// Takes the server's first text, `r=` nonce `,s=` salt `,i=` count, and makes the client-final text, which
+    /// `message` then is. A refusal ends the exchange.
+    ///
+    /// # Errors
+    ///
+    /// The first of these. Places are byte places in the server's text.
+    ///
+    /// - `WrongState`: the server's first text was taken before, or the exchange is over.
+    /// - `NotUtf8`.
+    /// - `UnexpectedEnd`, `UnexpectedCharacter`: the text ends, or has another character, where one has to
+    ///   stand.
+    /// - `InvalidNumber`: the count has no digits, or is no number of 32 bits.
+    /// - `Trailing`: something follows the count, as an extension.
+    /// - `InvalidNonce`: the server's nonce doesn't begin with the client's.
+    /// - `TooManyIterations`: the count is over 100,000.
+    /// - `InvalidBase64`: the salt isn't base64 with padding.
+    /// - `OutOfMemory`: memory is refused for the salt, or for the texts behind it.
+    pub fn update(&mut self, message: &[u8]) -> Result<(), ScramError<A>>
         ensures ok { OnOk result (Answers self.old message.now self.new) }
         ensures err { IfErr result (λ e. UpdateRefused self.old message.now (refusal e) self.new) }
     {
@@ -107,14 +136,30 @@ impl<A: Allocator + Copy> ScramSha256<A> {
             State::AwaitsFinal(_) | State::Over => return Err(ScramError::WrongState),
         };
         let mut made = self.made;
-        let answer = respond(alloc, &start, message, &mut made);
+        let answer = respond(*start.nonce.allocator(), &start, message, &mut made);
         self.made = made;
         self.state = State::AwaitsFinal(answer?);
         Ok(())
     }
 
-    /// Takes the server's final text, and ends the exchange.
-    pub fn finish(&mut self, alloc: A, message: &[u8]) -> Result<(), ScramError<A>>
+    /// Takes the server's final text, `v=` and the signature or `e=` and an error, and ends the exchange.
+    ///
+    /// The signature is compared in a time that doesn't depend on the bytes that differ.
+    ///
+    /// # Errors
+    ///
+    /// The first of these. Places are byte places in the server's text.
+    ///
+    /// - `WrongState`: no `update` was Ok before, or the exchange is over.
+    /// - `NotUtf8`.
+    /// - `UnexpectedEnd`, `UnexpectedCharacter`: the text ends, or has another character, where one has to
+    ///   stand.
+    /// - `Trailing`: something follows the error or the base64 text.
+    /// - `Server`: the server's own error, as it stands behind `e=`.
+    /// - `InvalidBase64`: the text behind `v=` isn't base64 with padding.
+    /// - `Verification`: it shows other bytes than the signature.
+    /// - `OutOfMemory`: memory is refused for the server's error, or for base64 of more than 64 characters.
+    pub fn finish(&mut self, message: &[u8]) -> Result<(), ScramError<A>>
         ensures ok { OnOk result (Finished self.old message.now self.new) }
         ensures err { IfErr result (λ e. FinishRefused self.old message.now (refusal e) self.new) }
     {
@@ -123,7 +168,7 @@ impl<A: Allocator + Copy> ScramSha256<A> {
             State::AwaitsFirst(_) | State::Over => return Err(ScramError::WrongState),
         };
         let mut made = self.made;
-        let outcome = verify(alloc, &signed, message, &mut made);
+        let outcome = verify(*signed.auth.allocator(), &signed, message, &mut made);
         self.made = made;
         outcome
     }

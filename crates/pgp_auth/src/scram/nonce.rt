@@ -1,12 +1,11 @@
 //! Nonces.
 
-ghost use Rattle.std.specs.Prelude.{◌≡◌, ◌↔◌, true, IsTrue, IfOk, OnErr};
+ghost use Rattle.std.specs.Prelude.{◌≡◌, ◌↔◌, true, IsTrue};
 ghost use Rattle.pgp_auth.specs.ScramText.{IsNonce, is_nonce_char};
 ghost use Rattle.pgp_auth.specs.Nonce.{drawn_char, drawn_chars};
 
 use rand::RngExt;
 use rand_core::Rng;
-use std::alloc::{AllocError, Allocator};
 
 const NONCE_LEN: usize = 24;
 
@@ -16,7 +15,8 @@ pub(crate) fn is_nonce_byte(byte: u8) -> bool
     matches!(byte, 0x21..=0x2b | 0x2d..=0x7e)
 }
 
-/// The text can be a client's nonce: it has a character, and each is printable ASCII, but no comma.
+/// The text can be a client's nonce: it has a character, and each is printable ASCII, but no space and no
+/// comma (`printable` of RFC 5802, section 7).
 pub fn is_nonce(text: &str) -> bool
     ensures { IsTrue result ↔ IsNonce text.now }
 {
@@ -33,16 +33,13 @@ fn draw_char<R: Rng>(rng: &mut R) -> u8
 }
 
 // A nonce of 24 characters.
-pub(crate) fn draw_nonce<A: Allocator + Copy, R: Rng>(
-    alloc: A,
-    rng: &mut R,
-) -> Result<Vec<u8, A>, AllocError>
-    ensures drawn { IfOk result (λ v. (v.items, R.stream rng.new) ≡ drawn_chars 24 (R.stream rng.old)) }
-    ensures nonce { IfOk result (λ v. IsNonce v.items) }
+pub(crate) fn draw_nonce<R: Rng>(rng: &mut R) -> [u8; NONCE_LEN]
+    ensures drawn { (result, R.stream rng.new) ≡ drawn_chars 24 (R.stream rng.old) }
+    ensures nonce { IsNonce result }
 {
-    let mut nonce = Vec::with_capacity(alloc, NONCE_LEN)?;
-    for _i in 0..NONCE_LEN {
-        nonce.push(draw_char(rng))?;
+    let mut nonce = [0; NONCE_LEN];
+    for i in 0..NONCE_LEN {
+        nonce[i] = draw_char(rng);
     }
-    Ok(nonce)
+    nonce
 }

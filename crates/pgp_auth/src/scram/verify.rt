@@ -14,6 +14,7 @@ ghost use Rattle.pgp_auth.specs.ScramRefusal.{OutOfMemory, IsServerError, Refuse
 ghost use Rattle.pgp_auth.specs.ScramStateView.{answered_of};
 
 use crate::authentication::sasl::counted_code;
+use crate::hmac::MacKey;
 use crate::scram::admit::shown;
 use crate::scram::error::ScramError;
 use crate::scram::reading::{Alphabet, is_error, is_text, run_behind};
@@ -63,8 +64,8 @@ fn server_signature<A: Allocator>(signed: &Signed<A>, made: &mut u64) -> [u8; 32
     ensures value { result ≡ signature_of (answered_of signed.now) }
     ensures count { made.new ≡ made.old + 2 }
 {
-    let server_key = counted_code(&signed.key, b"Server Key", &[], made);
-    counted_code(&server_key, &signed.auth, &[], made)
+    let server_key = counted_code(&MacKey::new(&signed.key), b"Server Key", &[], made);
+    counted_code(&MacKey::new(&server_key), &signed.auth, &[], made)
 }
 
 // How far two lists of 32 bytes are apart, 0 where they are the same. Each byte is looked at.

@@ -9,6 +9,7 @@ use crate::storage::Storage;
 use crate::walk::SaslMechanisms;
 use bytes::Bytes;
 use pgp_base::Error;
+use std::alloc::Allocator;
 use std::marker::Model;
 
 /// A request for an MD5 answer.
@@ -68,12 +69,23 @@ impl<S: Storage> AuthenticationGssContinueBody<S> {
     {
         AuthenticationGssContinueBody { token }
     }
+}
 
+impl<A: Allocator> AuthenticationGssContinueBody<Bytes<A>> {
     /// The bytes behind the code.
     pub fn data(&self) -> &[u8]
         ensures { result.now ≡ self.now }
     {
         self.token.as_slice()
+    }
+}
+
+impl<'a> AuthenticationGssContinueBody<&'a [u8]> {
+    /// The bytes behind the code.
+    pub fn data(&self) -> &'a [u8]
+        ensures { result.now ≡ self.now }
+    {
+        self.token
     }
 }
 
@@ -97,7 +109,9 @@ impl<S: Storage> AuthenticationSaslBody<S> {
     {
         AuthenticationSaslBody { mechanisms }
     }
+}
 
+impl<A: Allocator> AuthenticationSaslBody<Bytes<A>> {
     /// The mechanisms, by name.
     pub fn mechanisms(&self) -> SaslMechanisms<'_>
         ensures items { MarkedItems TextSpelled TextRefused self.now result.items result.end }
@@ -105,6 +119,17 @@ impl<S: Storage> AuthenticationSaslBody<S> {
         ensures few { length result.items ≤ length self.now }
     {
         SaslMechanisms::over(self.mechanisms.as_slice())
+    }
+}
+
+impl<'a> AuthenticationSaslBody<&'a [u8]> {
+    /// The mechanisms, by name.
+    pub fn mechanisms(&self) -> SaslMechanisms<'a>
+        ensures items { MarkedItems TextSpelled TextRefused self.now result.items result.end }
+        ensures announced { result.announced ≡ None }
+        ensures few { length result.items ≤ length self.now }
+    {
+        SaslMechanisms::over(self.mechanisms)
     }
 }
 
@@ -128,12 +153,23 @@ impl<S: Storage> AuthenticationSaslContinueBody<S> {
     {
         AuthenticationSaslContinueBody { challenge }
     }
+}
 
+impl<A: Allocator> AuthenticationSaslContinueBody<Bytes<A>> {
     /// The bytes behind the code.
     pub fn data(&self) -> &[u8]
         ensures { result.now ≡ self.now }
     {
         self.challenge.as_slice()
+    }
+}
+
+impl<'a> AuthenticationSaslContinueBody<&'a [u8]> {
+    /// The bytes behind the code.
+    pub fn data(&self) -> &'a [u8]
+        ensures { result.now ≡ self.now }
+    {
+        self.challenge
     }
 }
 
@@ -157,11 +193,22 @@ impl<S: Storage> AuthenticationSaslFinalBody<S> {
     {
         AuthenticationSaslFinalBody { outcome }
     }
+}
 
+impl<A: Allocator> AuthenticationSaslFinalBody<Bytes<A>> {
     /// The bytes behind the code.
     pub fn data(&self) -> &[u8]
         ensures { result.now ≡ self.now }
     {
         self.outcome.as_slice()
+    }
+}
+
+impl<'a> AuthenticationSaslFinalBody<&'a [u8]> {
+    /// The bytes behind the code.
+    pub fn data(&self) -> &'a [u8]
+        ensures { result.now ≡ self.now }
+    {
+        self.outcome
     }
 }

@@ -33,22 +33,31 @@ impl<S: Storage> CopyDataBody<S> {
     {
         CopyDataBody { storage }
     }
+}
 
+impl<A: Allocator> CopyDataBody<Bytes<A>> {
     /// The bytes.
     pub fn data(&self) -> &[u8]
         ensures { result.now ≡ self.now }
     {
         self.storage.as_slice()
     }
-}
 
-impl<A: Allocator> CopyDataBody<Bytes<A>> {
     /// The bytes, owned.
     pub fn into_bytes(self) -> Bytes<A>
         ensures { result ≡ self }
     {
         let CopyDataBody { storage } = self;
         storage
+    }
+}
+
+impl<'a> CopyDataBody<&'a [u8]> {
+    /// The bytes, where they stand.
+    pub fn data(&self) -> &'a [u8]
+        ensures { result.now ≡ self.now }
+    {
+        self.storage
     }
 }
 
@@ -80,7 +89,9 @@ impl<S: Storage> CopyInResponseBody<S> {
     {
         self.incoming.format
     }
+}
 
+impl<A: Allocator> CopyInResponseBody<Bytes<A>> {
     /// The format of each column.
     pub fn column_formats(&self) -> ColumnFormats<'_>
         ensures items { CountedItems FormatSpelled FormatRefused self.now.count self.now.storage result.items result.end }
@@ -88,6 +99,17 @@ impl<S: Storage> CopyInResponseBody<S> {
         ensures few { length result.items ≤ length self.now.storage }
     {
         ColumnFormats::over(self.incoming.storage.as_slice(), self.incoming.len)
+    }
+}
+
+impl<'a> CopyInResponseBody<&'a [u8]> {
+    /// The format of each column.
+    pub fn column_formats(&self) -> ColumnFormats<'a>
+        ensures items { CountedItems FormatSpelled FormatRefused self.now.count self.now.storage result.items result.end }
+        ensures announced { result.announced ≡ Some self.now.count }
+        ensures few { length result.items ≤ length self.now.storage }
+    {
+        ColumnFormats::over(self.incoming.storage, self.incoming.len)
     }
 }
 
@@ -119,7 +141,9 @@ impl<S: Storage> CopyOutResponseBody<S> {
     {
         self.outgoing.format
     }
+}
 
+impl<A: Allocator> CopyOutResponseBody<Bytes<A>> {
     /// The format of each column.
     pub fn column_formats(&self) -> ColumnFormats<'_>
         ensures items { CountedItems FormatSpelled FormatRefused self.now.count self.now.storage result.items result.end }
@@ -127,5 +151,16 @@ impl<S: Storage> CopyOutResponseBody<S> {
         ensures few { length result.items ≤ length self.now.storage }
     {
         ColumnFormats::over(self.outgoing.storage.as_slice(), self.outgoing.len)
+    }
+}
+
+impl<'a> CopyOutResponseBody<&'a [u8]> {
+    /// The format of each column.
+    pub fn column_formats(&self) -> ColumnFormats<'a>
+        ensures items { CountedItems FormatSpelled FormatRefused self.now.count self.now.storage result.items result.end }
+        ensures announced { result.announced ≡ Some self.now.count }
+        ensures few { length result.items ≤ length self.now.storage }
+    {
+        ColumnFormats::over(self.outgoing.storage, self.outgoing.len)
     }
 }

@@ -7,6 +7,7 @@ ghost use Rattle.pgp_message.specs.Items.{ErrorFieldSpelled, ErrorFieldRefused};
 use crate::storage::Storage;
 use crate::walk::ErrorFields;
 use bytes::Bytes;
+use std::alloc::Allocator;
 use std::marker::Model;
 
 /// An error.
@@ -29,7 +30,9 @@ impl<S: Storage> ErrorResponseBody<S> {
     {
         ErrorResponseBody { error }
     }
+}
 
+impl<A: Allocator> ErrorResponseBody<Bytes<A>> {
     /// The fields, in the order in which they came.
     pub fn fields(&self) -> ErrorFields<'_>
         ensures items { MarkedItems ErrorFieldSpelled ErrorFieldRefused self.now result.items result.end }
@@ -37,6 +40,17 @@ impl<S: Storage> ErrorResponseBody<S> {
         ensures few { length result.items ≤ length self.now }
     {
         ErrorFields::over(self.error.as_slice())
+    }
+}
+
+impl<'a> ErrorResponseBody<&'a [u8]> {
+    /// The fields, in the order in which they came.
+    pub fn fields(&self) -> ErrorFields<'a>
+        ensures items { MarkedItems ErrorFieldSpelled ErrorFieldRefused self.now result.items result.end }
+        ensures announced { result.announced ≡ None }
+        ensures few { length result.items ≤ length self.now }
+    {
+        ErrorFields::over(self.error)
     }
 }
 
@@ -60,7 +74,9 @@ impl<S: Storage> NoticeResponseBody<S> {
     {
         NoticeResponseBody { notice }
     }
+}
 
+impl<A: Allocator> NoticeResponseBody<Bytes<A>> {
     /// The fields, in the order in which they came.
     pub fn fields(&self) -> ErrorFields<'_>
         ensures items { MarkedItems ErrorFieldSpelled ErrorFieldRefused self.now result.items result.end }
@@ -68,5 +84,16 @@ impl<S: Storage> NoticeResponseBody<S> {
         ensures few { length result.items ≤ length self.now }
     {
         ErrorFields::over(self.notice.as_slice())
+    }
+}
+
+impl<'a> NoticeResponseBody<&'a [u8]> {
+    /// The fields, in the order in which they came.
+    pub fn fields(&self) -> ErrorFields<'a>
+        ensures items { MarkedItems ErrorFieldSpelled ErrorFieldRefused self.now result.items result.end }
+        ensures announced { result.announced ≡ None }
+        ensures few { length result.items ≤ length self.now }
+    {
+        ErrorFields::over(self.notice)
     }
 }

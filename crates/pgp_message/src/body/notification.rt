@@ -8,6 +8,7 @@ use crate::storage::Storage;
 use bytes::Bytes;
 use pgp_base::Error;
 use pgp_base::reading::{int32_at, string_at};
+use std::alloc::Allocator;
 use std::marker::Model;
 use std::str;
 
@@ -64,7 +65,9 @@ impl<S: Storage> NotificationResponseBody<S> {
     {
         self.process_id
     }
+}
 
+impl<A: Allocator> NotificationResponseBody<Bytes<A>> {
     /// The channel's name; `NotUtf8` where it isn't text.
     pub fn channel(&self) -> Result<&str, Error>
         ensures { MatchResult result (λ text. text.now ≡ self.now.channel) (λ e. (e ≡ Error.NotUtf8) × ¬ IsUtf8 self.now.channel) }
@@ -79,5 +82,22 @@ impl<S: Storage> NotificationResponseBody<S> {
         let texts = self.texts.as_slice();
         let start = self.channel_len + 1;
         str::from_utf8(&texts[start..start + self.message_len]).map_err(|_| Error::NotUtf8)
+    }
+}
+
+impl<'a> NotificationResponseBody<&'a [u8]> {
+    /// The channel's name; `NotUtf8` where it isn't text.
+    pub fn channel(&self) -> Result<&'a str, Error>
+        ensures { MatchResult result (λ text. text.now ≡ self.now.channel) (λ e. (e ≡ Error.NotUtf8) × ¬ IsUtf8 self.now.channel) }
+    {
+        str::from_utf8(&self.texts[..self.channel_len]).map_err(|_| Error::NotUtf8)
+    }
+
+    /// What was said; `NotUtf8` where it isn't text.
+    pub fn message(&self) -> Result<&'a str, Error>
+        ensures { MatchResult result (λ text. text.now ≡ self.now.message) (λ e. (e ≡ Error.NotUtf8) × ¬ IsUtf8 self.now.message) }
+    {
+        let from = self.channel_len + 1;
+        str::from_utf8(&self.texts[from..from + self.message_len]).map_err(|_| Error::NotUtf8)
     }
 }

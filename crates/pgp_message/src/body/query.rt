@@ -5,8 +5,10 @@ ghost use Rattle.std.specs.Str.{IsUtf8};
 ghost use Rattle.pgp_base.specs.Items.{CountedItems};
 ghost use Rattle.pgp_message.specs.Items.{RangeSpelled, RangeRefused, FieldSpelled, FieldRefused, TypeSpelled, TypeRefused};
 ghost use Rattle.pgp_message.specs.Reading.{string_of, counted_of};
+ghost use Rattle.pgp_message.specs.Table.{Tabulates};
 
 use crate::body::counted::CountedBytes;
+use crate::row_index::RowIndex;
 use crate::storage::Storage;
 use crate::walk::{DataRowRanges, Fields, Parameters};
 use bytes::Bytes;
@@ -43,12 +45,23 @@ impl<S: Storage> CommandCompleteBody<S> {
         payload.cut(len);
         Ok(CommandCompleteBody { tag: payload })
     }
+}
 
+impl<A: Allocator> CommandCompleteBody<Bytes<A>> {
     /// The command's tag, as `SELECT 1`; `NotUtf8` where it isn't text.
     pub fn tag(&self) -> Result<&str, Error>
         ensures { MatchResult result (λ text. text.now ≡ self.now) (λ e. (e ≡ Error.NotUtf8) × ¬ IsUtf8 self.now) }
     {
         str::from_utf8(self.tag.as_slice()).map_err(|_| Error::NotUtf8)
+    }
+}
+
+impl<'a> CommandCompleteBody<&'a [u8]> {
+    /// The command's tag, as `SELECT 1`; `NotUtf8` where it isn't text.
+    pub fn tag(&self) -> Result<&'a str, Error>
+        ensures { MatchResult result (λ text. text.now ≡ self.now) (λ e. (e ≡ Error.NotUtf8) × ¬ IsUtf8 self.now) }
+    {
+        str::from_utf8(self.tag).map_err(|_| Error::NotUtf8)
     }
 }
 
@@ -73,7 +86,9 @@ impl<S: Storage> DataRowBody<S> {
         let row = CountedBytes::read(payload)?;
         Ok(DataRowBody { row })
     }
+}
 
+impl<A: Allocator> DataRowBody<Bytes<A>> {
     /// Where the values stand in `buffer`; `None` for a null.
     pub fn ranges(&self) -> DataRowRanges<'_>
         ensures items { CountedItems RangeSpelled RangeRefused self.now.count self.now.storage result.items result.end }
@@ -89,9 +104,19 @@ impl<S: Storage> DataRowBody<S> {
     {
         self.row.storage.as_slice()
     }
-}
 
-impl<A: Allocator> DataRowBody<Bytes<A>> {
+    /// A table of the values' places, by which any column is at hand. It is made by one walk over the row.
+    ///
+    /// # Errors
+    ///
+    /// The refusal of that walk: `UnexpectedEof` where a value is cut short, `NotDrained` where bytes stand behind
+    /// the last value. `OutOfMemory` where the table's memory was refused.
+    pub fn index<T: Allocator>(&self, alloc: T) -> Result<RowIndex<'_, T>, Error>
+        ensures { Tabulates self.now result }
+    {
+        RowIndex::over(alloc, self.row.storage.as_slice(), self.row.len)
+    }
+
     /// The same row over the same bytes. The only refusal is want of memory.
     pub fn clone(&self) -> Result<DataRowBody<Bytes<A>>, Error>
         ensures ok { IfOk result (λ row. row ≡ self.now) }
@@ -109,6 +134,36 @@ impl<A: Allocator> DataRowBody<Bytes<A>> {
         ensures { result.now ≡ self.now.storage }
     {
         &self.row.storage
+    }
+}
+
+impl<'a> DataRowBody<&'a [u8]> {
+    /// Where the values stand in `buffer`; `None` for a null.
+    pub fn ranges(&self) -> DataRowRanges<'a>
+        ensures items { CountedItems RangeSpelled RangeRefused self.now.count self.now.storage result.items result.end }
+        ensures announced { result.announced ≡ Some self.now.count }
+        ensures few { length result.items ≤ length self.now.storage }
+    {
+        DataRowRanges::over(self.row.storage, self.row.len)
+    }
+
+    /// The bytes behind the count, into which the ranges of the values point.
+    pub fn buffer(&self) -> &'a [u8]
+        ensures { result.now ≡ self.now.storage }
+    {
+        self.row.storage
+    }
+
+    /// A table of the values' places, by which any column is at hand. It is made by one walk over the row.
+    ///
+    /// # Errors
+    ///
+    /// The refusal of that walk: `UnexpectedEof` where a value is cut short, `NotDrained` where bytes stand behind
+    /// the last value. `OutOfMemory` where the table's memory was refused.
+    pub fn index<A: Allocator>(&self, alloc: A) -> Result<RowIndex<'a, A>, Error>
+        ensures { Tabulates self.now result }
+    {
+        RowIndex::over(alloc, self.row.storage, self.row.len)
     }
 }
 
@@ -133,7 +188,9 @@ impl<S: Storage> RowDescriptionBody<S> {
         let columns = CountedBytes::read(payload)?;
         Ok(RowDescriptionBody { columns })
     }
+}
 
+impl<A: Allocator> RowDescriptionBody<Bytes<A>> {
     /// The columns.
     pub fn fields(&self) -> Fields<'_>
         ensures items { CountedItems FieldSpelled FieldRefused self.now.count self.now.storage result.items result.end }
@@ -141,6 +198,17 @@ impl<S: Storage> RowDescriptionBody<S> {
         ensures few { length result.items ≤ length self.now.storage }
     {
         Fields::over(self.columns.storage.as_slice(), self.columns.len)
+    }
+}
+
+impl<'a> RowDescriptionBody<&'a [u8]> {
+    /// The columns.
+    pub fn fields(&self) -> Fields<'a>
+        ensures items { CountedItems FieldSpelled FieldRefused self.now.count self.now.storage result.items result.end }
+        ensures announced { result.announced ≡ Some self.now.count }
+        ensures few { length result.items ≤ length self.now.storage }
+    {
+        Fields::over(self.columns.storage, self.columns.len)
     }
 }
 
@@ -165,7 +233,9 @@ impl<S: Storage> ParameterDescriptionBody<S> {
         let types = CountedBytes::read(payload)?;
         Ok(ParameterDescriptionBody { types })
     }
+}
 
+impl<A: Allocator> ParameterDescriptionBody<Bytes<A>> {
     /// The types of the parameters.
     pub fn parameters(&self) -> Parameters<'_>
         ensures items { CountedItems TypeSpelled TypeRefused self.now.count self.now.storage result.items result.end }
@@ -173,5 +243,16 @@ impl<S: Storage> ParameterDescriptionBody<S> {
         ensures few { length result.items ≤ length self.now.storage }
     {
         Parameters::over(self.types.storage.as_slice(), self.types.len)
+    }
+}
+
+impl<'a> ParameterDescriptionBody<&'a [u8]> {
+    /// The types of the parameters.
+    pub fn parameters(&self) -> Parameters<'a>
+        ensures items { CountedItems TypeSpelled TypeRefused self.now.count self.now.storage result.items result.end }
+        ensures announced { result.announced ≡ Some self.now.count }
+        ensures few { length result.items ≤ length self.now.storage }
+    {
+        Parameters::over(self.types.storage, self.types.len)
     }
 }

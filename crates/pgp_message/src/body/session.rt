@@ -8,6 +8,7 @@ use crate::storage::Storage;
 use bytes::Bytes;
 use pgp_base::Error;
 use pgp_base::reading::{byte_at, int32_at, string_at};
+use std::alloc::Allocator;
 use std::marker::Model;
 use std::str;
 
@@ -132,7 +133,9 @@ impl<S: Storage> ParameterStatusBody<S> {
             value_len,
         })
     }
+}
 
+impl<A: Allocator> ParameterStatusBody<Bytes<A>> {
     /// The parameter's name; `NotUtf8` where it isn't text.
     pub fn name(&self) -> Result<&str, Error>
         ensures { MatchResult result (λ text. text.now ≡ self.now.name) (λ e. (e ≡ Error.NotUtf8) × ¬ IsUtf8 self.now.name) }
@@ -147,5 +150,22 @@ impl<S: Storage> ParameterStatusBody<S> {
         let texts = self.texts.as_slice();
         let start = self.name_len + 1;
         str::from_utf8(&texts[start..start + self.value_len]).map_err(|_| Error::NotUtf8)
+    }
+}
+
+impl<'a> ParameterStatusBody<&'a [u8]> {
+    /// The parameter's name; `NotUtf8` where it isn't text.
+    pub fn name(&self) -> Result<&'a str, Error>
+        ensures { MatchResult result (λ text. text.now ≡ self.now.name) (λ e. (e ≡ Error.NotUtf8) × ¬ IsUtf8 self.now.name) }
+    {
+        str::from_utf8(&self.texts[..self.name_len]).map_err(|_| Error::NotUtf8)
+    }
+
+    /// The parameter's value; `NotUtf8` where it isn't text.
+    pub fn value(&self) -> Result<&'a str, Error>
+        ensures { MatchResult result (λ text. text.now ≡ self.now.value) (λ e. (e ≡ Error.NotUtf8) × ¬ IsUtf8 self.now.value) }
+    {
+        let from = self.name_len + 1;
+        str::from_utf8(&self.texts[from..from + self.value_len]).map_err(|_| Error::NotUtf8)
     }
 }

@@ -36,14 +36,14 @@ impl<'a> ErrorField<'a> {
     }
 
     /// The value, whether it is text or not.
-    pub fn value_bytes(&self) -> &[u8]
+    pub fn value_bytes(&self) -> &'a [u8]
         ensures { result.now ≡ self.now.value }
     {
         self.value
     }
 
     /// The value; `NotUtf8` where it isn't text.
-    pub fn value(&self) -> Result<&str, Error>
+    pub fn value(&self) -> Result<&'a str, Error>
         ensures { MatchResult result (λ text. text.now ≡ self.now.value) (λ e. (e ≡ Error.NotUtf8) × ¬ IsUtf8 self.now.value) }
     {
         str::from_utf8(self.value).map_err(|_| Error::NotUtf8)

@@ -1,7 +1,7 @@
 use Rattle.std.proofs.Common.{arith, ◌≡◌, None, refl, subst, ◌∙◌}
 use Rattle.pgp_base.specs.Cause.{nullable_cause}
 use Rattle.pgp_base.specs.Calls.{value_of}
-use Rattle.pgp_base.proofs.Parts.{sized4, rest4, none_sized, none_ok, valued, value_refused, Puts-at, front_twice, front_refused}
+use Rattle.pgp_base.proofs.Parts.{sized4, rest4, none_sized, none_ok, null_again, valued, value_refused, Puts-at, front_twice, front_refused}
 use Rattle.pgp_base.proofs.writing.put_value.Goals as goal
 
 pub finish_value-requires-clause-room : goal.finish_value-requires-clause-room
@@ -25,7 +25,7 @@ returns-in_default-clause-ok g c =
     let k = c.in-Ok.ensures.put in
     let r = rest4 _ k.0 _ _ _ c.in_ok-put_u32.ensures.ok k.2 c.len-base.ensures.value in
     let put = Puts-at _ _ c.in_ok-put_u32.ensures.ok k.1 in
-    (value_of c.in-Ok.null k.0, record { null = c.in-Ok.null; bytes = k.0; put = put; value = refl; fits = subst (λ p. nullable_cause (value_of c.in-Ok.null p) ≡ None) r c.in_default.ensures.fits }, valued c.in-Ok.null _ _ _ _ _ _ c.in_ok-put_u32.ensures.ok k.2 c.len-base.ensures.value (none_ok k.0 c.in-Ok.null k.3) c.in_default.ensures.ok)
+    (value_of c.in-Ok.null k.0, record { null = c.in-Ok.null; bytes = k.0; put = put; value = refl; fits = subst (λ p. nullable_cause (value_of c.in-Ok.null p) ≡ None) r c.in_default.ensures.fits }, valued c.in-Ok.null _ _ _ _ _ _ c.in_ok-put_u32.ensures.ok k.2 c.len-base.ensures.value (none_ok k.0 c.in-Ok.null k.3) c.in_default.ensures.ok, null_again c.in-Ok.null k.0)
 
 pub returns-in-Err-clause-cause : goal.returns-in-Err-clause-cause
 returns-in-Err-clause-cause g c =

@@ -1,0 +1,8 @@
+use Rattle.std.proofs.Common.{rules, ◌∙◌, sym}
+use Rattle.pgp_auth.specs.ScramPartView.{parts_of}
+use Rattle.pgp_auth.proofs.Grants.{refused_parts}
+use Rattle.pgp_auth.proofs.scram.admit.admit.Goals as goal
+
+pub returns-clause-err : goal.returns-clause-err
+returns-clause-err g c =
+    refused_parts c.grant.result c.args.client_nonce.now c.args.message.now (parts_of c.in_ok-parts.parts) (search rules) c.in_ok-parts.ensures c.grant.ensures.err

@@ -1,0 +1,38 @@
+-- The table of a row: its bytes, and where each of its values stands in them.
+use Rattle.std.specs.Prelude.{◌≡◌, ◌⊎◌, ℕ, ◌≤◌, List, Option, Some, None, Result, Ok, Err}
+use Rattle.std.specs.List.{slice_get, slice_range}
+use Rattle.std.specs.Option.{option_map}
+use Rattle.std.specs.declared.ops.Range.{Range}
+use Rattle.pgp_base.specs.declared.error.Error.{Error}
+use Rattle.pgp_base.specs.declared.error.Error.TheVariants.{OutOfMemory}
+use Rattle.pgp_base.specs.Items.{CountedItems}
+use Rattle.pgp_message.specs.Parts.{CountedBytes}
+use Rattle.pgp_message.specs.Items.{RangeSpelled, RangeRefused}
+
+-- the bytes of a row, and a place for each column; none for a null
+pub record Table : Type 0 where
+  pub buffer : List ℕ
+  pub places : List (Option (Range ℕ))
+
+-- the row has this list of places, with this end
+abbrev pub HasPlaces : CountedBytes → List (Option (Range ℕ)) → Option Error → Type 0
+HasPlaces row places end = CountedItems RangeSpelled RangeRefused row.count row.storage places end
+
+-- The table of a row: its list, which is finished; or why it isn't finished; or want of memory.
+abbrev pub Tabulates : CountedBytes → Result Table Error → Type 0
+Tabulates row (Ok table) = (table.buffer ≡ row.storage) × HasPlaces row table.places None
+Tabulates row (Err e) = (e ≡ OutOfMemory) ⊎ ((places : List (Option (Range ℕ))) × HasPlaces row places (Some e))
+
+-- the bytes at a place; none for a null
+abbrev pub value_at : List ℕ → Option (Range ℕ) → Option (List ℕ)
+value_at buffer None = None
+value_at buffer (Some place) = Some (slice_range buffer place.start place.end)
+
+-- the value of a column; none where there is no such column
+abbrev pub column : Table → ℕ → Option (Option (List ℕ))
+column table i = option_map (value_at table.buffer) (slice_get table.places i)
+
+-- a place lies in so many bytes
+abbrev pub IsPlaceIn : ℕ → Option (Range ℕ) → Type 0
+IsPlaceIn len None = Unit {0}
+IsPlaceIn len (Some place) = (place.start ≤ place.end) × (place.end ≤ len)

@@ -1,0 +1,25 @@
+use Rattle.std.proofs.Common.{rules, arith, ◌≡◌, [], ◌∷◌, ◌++◌, length, refl, inr, length-append}
+use Rattle.std.proofs.lemmas.List.Elements.{All-push}
+use Rattle.pgp_base.proofs.Causes.{length_fits}
+use Rattle.pgp_base.proofs.Parts.{more_parts}
+use Rattle.pgp_types.specs.Array.{IsDimension, dimension_bytes}
+use Rattle.pgp_types.proofs.array.put_dimensions.Goals as goal
+
+pub loop-dimension-preserved : goal.loop-dimension-preserved
+loop-dimension-preserved g c =
+    let i = c.loop-dimension.invariant in
+    let fits : IsDimension c.in-Some.dimension = search rules in (
+      omega (arith, length-append c.loop-dimension.yielded (c.in-Some.dimension ∷ [])),
+      omega arith,
+      All-push IsDimension c.loop-dimension.yielded c.in-Some.dimension i.2 fits,
+      more_parts dimension_bytes (g.B.Buffer.held c.args.buf.now) _ _ c.loop-dimension.yielded c.in-Some.dimension i.3 c.in_ok-put_dimension.ensures.ok,
+    )
+
+pub returns-clause-ok : goal.returns-clause-ok
+returns-clause-ok g c =
+    let i = c.loop-dimension.invariant in
+    (c.loop-dimension.yielded, search rules, i.2, i.0, length_fits _ (omega arith), i.3)
+
+pub returns-then-count-eq2147483647-clause-cause : goal.returns-then-count-eq2147483647-clause-cause
+returns-then-count-eq2147483647-clause-cause g c =
+    inr (record { dimensions = c.loop-dimension.yielded; last = c.in-Some.dimension; came = search rules; full = omega arith }, refl)

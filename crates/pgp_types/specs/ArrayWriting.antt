@@ -1,0 +1,76 @@
+-- What `array_to_sql` comes to.
+use Rattle.std.specs.Prelude.{◌≡◌, ◌⊎◌, ℕ, List, length, Option, Some, None, Result, Ok, Err, All}
+use Rattle.std.specs.List.{flat_map}
+use Rattle.pgp_base.specs.declared.error.Error.{Error}
+use Rattle.pgp_base.specs.declared.error.Error.TheVariants.{TooLarge}
+use Rattle.pgp_base.specs.declared.error.BindError.{BindError}
+use Rattle.pgp_base.specs.declared.error.BindError.TheVariants.{Conversion, Serialization}
+use Rattle.pgp_base.specs.declared.number.IsNull.{IsNull}
+use Rattle.pgp_base.specs.Wire.{uint32, oid, nullable}
+use Rattle.pgp_base.specs.Cause.{length_cause, WantsMemory}
+use Rattle.pgp_base.specs.Held.{Held, ◌⊕◌, Leaves}
+use Rattle.pgp_base.specs.Calls.{Came, Gives, Runs, ValueRefused}
+use Rattle.pgp_types.specs.declared.array.ArrayDimension.{ArrayDimension}
+use Rattle.pgp_types.specs.Array.{Array, IsDimension, dimension_bytes, array_bytes, array_cause}
+use denote.Ref.{MutBor}
+
+-- what the buffer holds before the first element: 0 stands where the flag is to come
+abbrev pub before_elements : {K : Type 0} → Held K → List ArrayDimension → ℕ → Held K
+before_elements old ds element_type = old ⊕ uint32 (length ds) ⊕ uint32 0 ⊕ oid element_type ⊕ flat_map dimension_bytes ds
+
+module _ {U S : Type 0} (into_iter_gives : U → S → Type 0) (next_gives : S → Option ArrayDimension → S → Type 0) (source : U) where
+  -- a dimension came behind as many as can be counted
+  pub record DimensionsPast : Type 0 where
+    pub dimensions : List ArrayDimension
+    pub last : ArrayDimension
+    pub came : Came into_iter_gives next_gives source dimensions (Some last)
+    pub full : length dimensions ≡ 2147483647
+
+module _ {F T E B K : Type 0} (held : B → Held K) (step : F → T → MutBor B → Result IsNull E → MutBor B → F → Type 0) {U S : Type 0} (into_iter_gives : U → S → Type 0) (next_gives : S → Option T → S → Type 0) (source : U) (f last : F) (here : Held K) where
+  -- the serializer was called once at each item, in order, each time behind the elements before it, and made vs
+  pub record Made (vs : List (Option (List ℕ))) : Type 0 where
+    pub xs : List T
+    pub came : Came into_iter_gives next_gives source xs None
+    pub runs : Runs (Gives held step) nullable here f xs vs last
+
+  -- it made the elements of the first items, and the one behind them was refused
+  pub record MadeUpTo (lacks : Type 0) (e : BindError E) : Type 0 where
+    pub xs : List T
+    pub x : T
+    pub came : Came into_iter_gives next_gives source xs (Some x)
+    pub made : List (Option (List ℕ))
+    pub at : F
+    pub runs : Runs (Gives held step) nullable here f xs made at
+    pub refused : ValueRefused held step lacks (here ⊕ flat_map nullable made) at x e last
+
+module _ {F T E B K : Type 0} (held : B → Held K) (step : F → T → MutBor B → Result IsNull E → MutBor B → F → Type 0) {UD SD : Type 0} (d_into : UD → SD → Type 0) (d_next : SD → Option ArrayDimension → SD → Type 0) {U S : Type 0} (into_iter_gives : U → S → Type 0) (next_gives : S → Option T → S → Type 0)
+    (dimensions : UD) (element_type : ℕ) (elements : U) (f last : F) (old : Held K) where
+  -- the array of the dimensions that came and the elements that the serializer made stands behind the old bytes
+  pub record ArrayWritten (new : Held K) : Type 0 where
+    pub array : Array
+    pub dimensions_came : Came d_into d_next dimensions array.dimensions None
+    pub in_range : All IsDimension array.dimensions
+    pub type : array.element_type ≡ element_type
+    pub made : Made held step into_iter_gives next_gives elements f last (before_elements old array.dimensions element_type) array.elements
+    pub none : array_cause array ≡ None
+    pub appended : new ≡ old ⊕ array_bytes array
+
+  -- before the elements: for want of memory, or for too many dimensions
+  abbrev pub HeadRefused : Type 0 → BindError E → Type 0
+  HeadRefused lacks (Conversion e) = ⊥
+  HeadRefused lacks (Serialization e) = WantsMemory lacks e ⊎ (DimensionsPast d_into d_next dimensions × (e ≡ TooLarge))
+
+  -- at an element
+  pub record ElementRefused (lacks : Type 0) (e : BindError E) : Type 0 where
+    pub all : List ArrayDimension
+    pub came : Came d_into d_next dimensions all None
+    pub fits : length_cause (length all) ≡ None
+    pub stops : MadeUpTo held step into_iter_gives next_gives elements f last (before_elements old all element_type) lacks e
+
+  -- Why the call was refused: before the elements, and the serializer wasn't called; or at an element.
+  abbrev pub ArrayRefused : Type 0 → BindError E → Type 0
+  ArrayRefused lacks e = (HeadRefused lacks e × (last ≡ f)) ⊎ ElementRefused lacks e
+
+  abbrev pub WritesArray : Type 0 → Held K → Result (Unit {0}) (BindError E) → Type 0
+  WritesArray lacks new (Ok done) = ArrayWritten new
+  WritesArray lacks new (Err e) = ArrayRefused lacks e × Leaves old new

@@ -1,0 +1,60 @@
+//! The words that the process was started with.
+
+use std::alloc::{AllocError, Allocator};
+use std::env::FillError;
+use std::rt::Env;
+
+/// The size of the first buffer for a word; it is doubled until the word fits.
+const FIRST_SIZE: usize = 256;
+
+/// The words behind the program's name as texts, or nothing where one of them isn't UTF-8.
+pub fn texts<A: Allocator + Copy, V: Env>(
+    alloc: A,
+    env: &V,
+) -> Result<Option<Vec<String<A>, A>>, AllocError> {
+    let mut texts = Vec::new(alloc);
+    for place in 1..usize::MAX {
+        let Some(bytes) = word(alloc, env, place)? else {
+            break;
+        };
+        match String::from_utf8(bytes) {
+            Ok(text) => texts.push(text)?,
+            Err(_) => return Ok(None),
+        }
+    }
+    Ok(Some(texts))
+}
+
+/// The texts, lent out.
+pub fn lent<A: Allocator + Copy>(
+    alloc: A,
+    texts: &[String<A>],
+) -> Result<Vec<&str, A>, AllocError> {
+    let mut words = Vec::new(alloc);
+    for text in texts {
+        words.push(text.as_str())?;
+    }
+    Ok(words)
+}
+
+/// The bytes of the word at the place, or nothing behind the last word.
+fn word<A: Allocator + Copy, V: Env>(
+    alloc: A,
+    env: &V,
+    place: usize,
+) -> Result<Option<Vec<u8, A>>, AllocError> {
+    let mut bytes = Vec::new(alloc);
+    let mut size = FIRST_SIZE;
+    for _ in 0..usize::BITS {
+        bytes.resize(size, 0)?;
+        match env.arg(place, bytes.as_mut_slice()) {
+            Ok(len) => {
+                bytes.truncate(len);
+                return Ok(Some(bytes));
+            }
+            Err(FillError::NotPresent) => return Ok(None),
+            Err(FillError::TooLong) => size = size.saturating_add(size),
+        }
+    }
+    Err(AllocError)
+}

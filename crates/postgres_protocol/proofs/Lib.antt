@@ -1,0 +1,4 @@
+pub mod Pieces
+pub mod ClientRuns
+pub mod Additions
+pub mod StartupPairs

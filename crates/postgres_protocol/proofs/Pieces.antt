@@ -1,0 +1,157 @@
+-- A stream that goes on by a frame, or by a piece.
+use Rattle.std.proofs.Common.{◌≡◌, ◌≢◌, ℕ, ◌+◌, ◌<◌, ◌≤◌, ◌-◌, ◌^◌, Bool, true, false, List, [], ◌∷◌, ◌++◌, length, take, get_or, Option, Some, None, Result, Ok, Err, refl, sym, ap, subst, ◌∙◌, append_assoc, arith}
+use Rattle.std.specs.Prelude.{min, IfSome, map}
+use Rattle.std.specs.List.{flat_map}
+use Rattle.std.proofs.lemmas.List.{take_more, append-nil, length-append}
+use Rattle.pgp_base.specs.declared.error.Error.{Error}
+use Rattle.pgp_message.specs.BackendMessage.{Message}
+use Rattle.std.proofs.lemmas.List.Concat.{flat_map-cons}
+use Rattle.std.proofs.lemmas.Grind.{flat_map-append}
+use Rattle.pgp_base.specs.Wire.{uint32}
+use Rattle.pgp_base.specs.declared.error.Error.TheVariants as errors
+use Rattle.pgp_message.specs.Remembered.{Memory, Fits, header_of, header_after, headers_after, memory_after}
+use Rattle.pgp_message.specs.Stream.{Frames, IsEnding, Step, TakesFrame, BackendRun}
+use Rattle.postgres_protocol.specs.ServerStream.{count_of, headers_read, Reading, HasRead, AreFirst, GoesOn, Fails, Takes, TakesAll, TakesSome}
+
+-- ---- the count of headers
+
+-- a frame was removed, whose header is read
+counted_frame : (known here : Option (ℕ × ℕ)) (j n : ℕ) (h : ℕ × ℕ) → here ≡ Some h → n ≡ headers_read j known → headers_after known here n ≡ headers_read (j + 1) None
+counted_frame None None j n h e c = cc
+counted_frame None (Some x) j n h e c = omega (arith, c)
+counted_frame (Some y) here j n h e c = omega (arith, c)
+
+-- the bytes were left
+counted_left : (known here : Option (ℕ × ℕ)) (j n : ℕ) → IfSome known (λ h. here ≡ Some h) → n ≡ headers_read j known → headers_after known here n ≡ headers_read j here
+counted_left None None j n fits c = c
+counted_left None (Some x) j n fits c = omega (arith, c)
+counted_left (Some y) None j n fits c = cc
+counted_left (Some y) (Some x) j n fits c = c
+
+-- ---- a frame more
+
+-- a frame's result as the answer of a step
+abbrev pub answer_of : Result Message Error → Result (Option Message) Error
+answer_of (Ok m) = Ok (Some m)
+answer_of (Err e) = Err e
+
+forgets : (old new : List ℕ) (r : Result Message Error) (here : Option (ℕ × ℕ)) → TakesFrame old r new → header_after (answer_of r) here ≡ None
+forgets old new (Ok m) here t = refl
+forgets old new (Err errors.InvalidLength) here t = absurd t.body
+forgets old new (Err errors.OutOfMemory) here t = absurd t.body
+forgets old new (Err e) here t = refl
+
+-- a frame has a header
+header_of_frame : (old new : List ℕ) (r : Result Message Error) → TakesFrame old r new → (h : ℕ × ℕ) × (header_of old ≡ Some h)
+unfolding uint32
+header_of_frame old new r t = (_, ap header_of t.whole)
+
+pub takes_more : (a old new : List ℕ) (before mid after : List (Result Message Error)) (m n next : Memory) (r : Result Message Error) (so_far : Takes a old before mid m n)
+    → TakesFrame old r new → Frames a (so_far.more ++ r ∷ []) new → after ≡ mid ++ r ∷ [] → next ≡ memory_after n old (answer_of r) → Fits next new → Takes a new before after m next
+takes_more a old new before mid after m n next r so_far takes frames grown memory fits =
+    let here = header_of old in
+    let h = header_of_frame old new r takes in
+    let none : next.header ≡ None = ap (λ (x : Memory). x.header) memory ∙ forgets old new r here takes in
+    let count : next.headers ≡ headers_after n.header here n.headers = ap (λ (x : Memory). x.headers) memory in
+    let len : length (so_far.more ++ r ∷ []) ≡ length so_far.more + 1 = length-append so_far.more (r ∷ []) in
+    record {
+      more = so_far.more ++ r ∷ [];
+      grown = grown ∙ ap (λ l. l ++ r ∷ []) so_far.grown ∙ append_assoc before so_far.more (r ∷ []);
+      frames = frames;
+      fits = fits;
+      counted = λ k c.
+          let one = counted_frame n.header here (k + length so_far.more) n.headers h.0 h.1 (so_far.counted k c) in
+          let sum : (k + length so_far.more) + 1 ≡ k + length (so_far.more ++ r ∷ []) = omega (arith, len) in
+          count ∙ one ∙ ap (λ j. headers_read j None) sum ∙ ap (headers_read (k + length (so_far.more ++ r ∷ []))) (sym none);
+    }
+
+-- a refusal that isn't of the whole stream is that of a frame
+pub taken_by : (old new : List ℕ) (e : Error) → e ≢ errors.OutOfMemory → e ≢ errors.InvalidLength → Step old (Err e) new → TakesFrame old (Err e) new
+taken_by old new errors.OutOfMemory p q step = absurd (p refl)
+taken_by old new errors.InvalidLength p q step = absurd (q refl)
+taken_by old new e p q step = step
+
+-- bytes that come behind a header leave it
+pub header_of_more : (bytes more : List ℕ) → 5 ≤ length bytes → header_of (bytes ++ more) ≡ header_of bytes
+header_of_more (t ∷ a ∷ b ∷ c ∷ d ∷ rest) more h = refl
+header_of_more (t ∷ a ∷ b ∷ c ∷ []) more h = absurd (omega (arith, h))
+header_of_more (t ∷ a ∷ b ∷ []) more h = absurd (omega (arith, h))
+header_of_more (t ∷ a ∷ []) more h = absurd (omega (arith, h))
+header_of_more (t ∷ []) more h = absurd (omega (arith, h))
+header_of_more [] more h = absurd (omega (arith, h))
+
+-- ---- what is shown of a piece
+
+-- a piece came behind frames that wait
+pub goes_on : (piece left : List ℕ) (old : Reading) (after : List (Result Message Error)) (m n : Memory) (stops : Bool)
+    → old.failed ≡ false → old.stopped ≡ false → old.headers ≡ m.headers → m.header ≡ header_of old.rest
+    → TakesAll (old.rest ++ piece) left old.results after m n stops
+    → ((bytes more rest left : List ℕ) (first second : List (Result Message Error)) (stops : Bool) → BackendRun bytes first false rest → BackendRun (rest ++ more) second stops left → BackendRun (bytes ++ more) (first ++ second) stops left)
+    → GoesOn piece old (record { results = after; stopped = stops; rest = left; headers = n.headers; failed = old.failed })
+goes_on piece left old after m n stops sound waits count header all join =
+    let more = all.takes.more in
+    record {
+      sound = sound;
+      more = more;
+      grown = all.takes.grown;
+      reads = λ bytes taken h.
+          let first = taken ++ old.results in
+          let both : first ++ more ≡ taken ++ after = append_assoc taken old.results more ∙ ap (λ l. taken ++ l) (sym all.takes.grown) in
+          let run : BackendRun (bytes ++ piece) (first ++ more) stops left = join bytes piece old.rest left first more stops (subst (λ b. BackendRun bytes first b old.rest) waits h.run) (record { run = all.takes.frames; ending = all.ending }) in
+          let len : length (first ++ more) ≡ length first + length more = length-append first more in
+          let counts = all.takes.counted (length first) (sym count ∙ h.headers ∙ ap (headers_read (length first)) (sym header)) in
+          record {
+            run = subst (λ l. BackendRun (bytes ++ piece) l stops left) both run;
+            headers = counts ∙ ap (λ k. headers_read k n.header) (sym len ∙ ap length both) ∙ ap (headers_read (length (taken ++ after))) all.header;
+          };
+    }
+
+-- a piece came behind a length fault
+pub stays_stopped : (piece rest : List ℕ) (old : Reading) → old.failed ≡ false → old.stopped ≡ true → 5 ≤ length old.rest → rest ≡ old.rest ++ piece
+    → ((bytes more rest : List ℕ) (results : List (Result Message Error)) → BackendRun bytes results true rest → BackendRun (bytes ++ more) results true (rest ++ more))
+    → GoesOn piece old (record { results = old.results; stopped = old.stopped; rest = rest; headers = old.headers; failed = old.failed })
+stays_stopped piece rest old sound stopped long is stays = record {
+  sound = sound;
+  more = [];
+  grown = sym (append-nil old.results);
+  reads = λ bytes taken h.
+      let all = taken ++ old.results in
+      let run : BackendRun (bytes ++ piece) all true (old.rest ++ piece) = stays bytes piece old.rest all (subst (λ b. BackendRun bytes all b old.rest) stopped h.run) in
+      record {
+        run = subst (λ b. BackendRun (bytes ++ piece) all b rest) (sym stopped) (subst (λ l. BackendRun (bytes ++ piece) all true l) (sym is) run);
+        headers = h.headers ∙ ap (headers_read (length all)) (sym (ap header_of is ∙ header_of_more old.rest piece long));
+      };
+}
+
+-- the piece couldn't be kept
+pub fails_at_once : (piece : List ℕ) (old new : Reading) → new.failed ≡ true → new.results ≡ old.results
+    → ((bytes more : List ℕ) (first second : List (Result Message Error)) (stops halts : Bool) (rest left : List ℕ) → BackendRun bytes first stops rest → BackendRun (bytes ++ more) second halts left → (others : List (Result Message Error)) × (second ≡ first ++ others))
+    → Fails piece old new
+fails_at_once piece old new failed same grow = record {
+  failed = failed;
+  more = [];
+  grown = same ∙ sym (append-nil old.results);
+  reads = λ bytes taken h all stopped rest run. subst (λ l. (others : List (Result Message Error)) × (all ≡ l ++ others)) (ap (λ l. taken ++ l) (sym same)) (grow bytes piece (taken ++ old.results) all old.stopped stopped old.rest rest h.run run);
+}
+
+-- memory was refused behind some frames
+pub fails_behind : (piece : List ℕ) (old new : Reading) → new.failed ≡ true → TakesSome (old.rest ++ piece) old.results new.results
+    → ((bytes more rest left : List ℕ) (first second : List (Result Message Error)) → Frames bytes first rest → Frames (rest ++ more) second left → Frames (bytes ++ more) (first ++ second) left)
+    → ((bytes more : List ℕ) (first second : List (Result Message Error)) (halts : Bool) (rest left : List ℕ) → Frames bytes first rest → BackendRun (bytes ++ more) second halts left → (others : List (Result Message Error)) × (second ≡ first ++ others))
+    → Fails piece old new
+fails_behind piece old new failed some join stand = record {
+  failed = failed;
+  more = some.more;
+  grown = some.grown;
+  reads = λ bytes taken h all stopped rest run.
+      let first = taken ++ old.results in
+      let both : first ++ some.more ≡ taken ++ new.results = append_assoc taken old.results some.more ∙ ap (λ l. taken ++ l) (sym some.grown) in
+      let frames : Frames (bytes ++ piece) (first ++ some.more) some.left = join bytes piece old.rest some.left first some.more h.run.run some.frames in
+      let whole : BackendRun ((bytes ++ piece) ++ []) all stopped rest = subst (λ l. BackendRun l all stopped rest) (sym (append-nil (bytes ++ piece))) run in
+      subst (λ l. (others : List (Result Message Error)) × (all ≡ l ++ others)) both (stand (bytes ++ piece) [] (first ++ some.more) all stopped some.left rest frames whole);
+}
+
+-- one more piece
+pub piece_more : {X : Type 0} (f : X → List ℕ) (xs : List X) (i : ℕ) (d : X) → i < length xs → flat_map f (take (i + 1) xs) ≡ flat_map f (take i xs) ++ f (get_or xs i d)
+piece_more f xs i d lt = ap (flat_map f) (take_more xs i d lt) ∙ flat_map-append f (take i xs) (get_or xs i d ∷ [])
+    ∙ ap (λ l. flat_map f (take i xs) ++ l) (flat_map-cons f (get_or xs i d) [] ∙ append-nil (f (get_or xs i d)))

@@ -1,0 +1,52 @@
+-- The pairs of a startup packet, as an iterator gave them.
+use Rattle.std.proofs.Common.{◌≡◌, ℕ, zero, suc, ◌+◌, ◌<◌, List, [], ◌∷◌, ◌++◌, length, take, get_or, map, Option, Some, None, refl, sym, ap, ◌∙◌, Bor}
+use Rattle.std.specs.Prelude.{pos}
+use Rattle.std.specs.Iterator.{Yields, YieldsThen}
+use Rattle.std.proofs.lemmas.List.{take_more}
+use Rattle.std.proofs.lemmas.Iterator.{YieldsList}
+use Rattle.std.proofs.lemmas.Iterator.Consumers.{YieldsList-so_far, YieldsList-turn, YieldsList-end}
+use Rattle.pgp_base.specs.Cause.{Cause, either, first}
+use Rattle.pgp_base.specs.declared.error.Error.{Error}
+use Rattle.pgp_frontend.specs.ClientMessage.{Startup}
+use Rattle.pgp_frontend.specs.Given.{shown, shown_pairs}
+use Rattle.pgp_frontend.specs.Payload.{Int32, pair_cause, parts_cause, cause}
+
+-- ---- the items of a list, one after another
+
+map_itself : {X : Type 0} (xs : List X) → map (λ (x : X). x) xs ≡ xs
+map_itself [] = refl
+map_itself (x ∷ xs) = ap (λ l. x ∷ l) (map_itself xs)
+
+module _ {S X : Type 0} (steps : S → Option X → S → Type 0) (s : S) (all : List X) (road : YieldsList steps (λ x. x) s all) where
+  -- all of them came
+  pub came_all : (xs : List X) (left : S) → YieldsThen steps s xs None left → xs ≡ all
+  came_all xs left came = sym (map_itself xs) ∙ (YieldsList-end road xs came.0 came.1 None left refl came.2).0
+
+  -- some came, and one more
+  pub came_front : (xs : List X) (x : X) (left : S) → YieldsThen steps s xs (Some x) left → xs ++ x ∷ [] ≡ take (length xs + 1) all
+  came_front xs x left came =
+      let turn = YieldsList-turn road xs came.0 came.1 (Some x) left x refl came.2 in
+      let so_far = sym (map_itself xs) ∙ YieldsList-so_far road xs came.0 came.1 in
+      ap (λ l. l ++ x ∷ []) so_far ∙ ap (λ y. take (length xs) all ++ y ∷ []) turn.1 ∙ sym (take_more all (length xs) x turn.0)
+
+-- ---- the first cause of the first pairs is that of the packet
+
+either_more : (c a b : Cause) (e : Error) → (a ≡ Some e → b ≡ Some e) → either c a ≡ Some e → either c b ≡ Some e
+either_more (Some d) a b e more h = h
+either_more None a b e more h = more h
+
+either_left : (c : Cause) (e : Error) → either c None ≡ Some e → c ≡ Some e
+either_left (Some d) e h = h
+either_left None e h = cc
+
+first_front : (xs : List (Bor (List ℕ) × Bor (List ℕ))) (k : ℕ) (e : Error) → first (map pair_cause (map shown (take k xs))) ≡ Some e → first (map pair_cause (map shown xs)) ≡ Some e
+first_front [] zero e h = cc
+first_front [] (suc k) e h = cc
+first_front (x ∷ xs) zero e h = cc
+first_front (x ∷ xs) (suc k) e h = either_more (pair_cause (shown x)) (first (map pair_cause (map shown (take k xs)))) (first (map pair_cause (map shown xs))) e (first_front xs k e) h
+
+refused_pairs : (c d : Cause) (e : Error) → c ≡ Some e → either (either None (either c None)) d ≡ Some e
+refused_pairs c d e h = rw h refl
+
+pub front_refused : (all : List (Bor (List ℕ) × Bor (List ℕ))) (k : ℕ) (e : Error) → parts_cause (Int32 (pos 196608) ∷ shown_pairs (take k all) ∷ []) ≡ Some e → cause (Startup (map shown all)) ≡ Some e
+front_refused all k e h = refused_pairs (first (map pair_cause (map shown all))) _ e (first_front all k e (either_left (first (map pair_cause (map shown (take k all)))) e h))

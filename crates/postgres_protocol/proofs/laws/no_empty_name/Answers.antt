@@ -1,0 +1,5 @@
+use Rattle.postgres_protocol.proofs.ClientRuns.{no_run}
+use Rattle.postgres_protocol.proofs.laws.no_empty_name.Goals as goal
+
+pub returns : goal.returns
+returns c = no_run

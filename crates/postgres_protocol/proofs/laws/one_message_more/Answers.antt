@@ -1,0 +1,5 @@
+use Rattle.postgres_protocol.proofs.ClientRuns.{run_more}
+use Rattle.postgres_protocol.proofs.laws.one_message_more.Goals as goal
+
+pub returns : goal.returns
+returns c = run_more

@@ -1,0 +1,5 @@
+use Rattle.postgres_protocol.proofs.ClientRuns.{runs_bytes}
+use Rattle.postgres_protocol.proofs.laws.one_spelling.Goals as goal
+
+pub returns : goal.returns
+returns c = runs_bytes

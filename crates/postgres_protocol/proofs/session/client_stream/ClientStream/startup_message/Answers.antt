@@ -1,0 +1,58 @@
+use Rattle.std.proofs.Common.{◌≡◌, ◌∷◌, [], ◌+◌, length, map, take, Some, refl, sym, ap, subst, ◌∙◌, inl, inr}
+use Rattle.std.specs.Prelude.{pos}
+use Rattle.std.proofs.iter.Yields.{copies, fronts}
+use Rattle.std.proofs.lemmas.Iterator.{YieldsList, YieldsList-from_slice}
+use Rattle.std.proofs.lemmas.Iterator.Consumers.{YieldsList-from_copied}
+use Rattle.pgp_frontend.specs.ClientMessage.{ClientMessage, Startup}
+use Rattle.pgp_frontend.specs.Given.{shown, shown_pairs}
+use Rattle.pgp_frontend.specs.Payload.{Int32, parts_cause, cause}
+use Rattle.pgp_frontend.specs.Reading.{IsNamed}
+use Rattle.postgres_protocol.specs.ClientRun.{IsStartup, is_startup}
+use Rattle.postgres_protocol.proofs.Additions.{same_phase, first_added, first_stays, left, still}
+use Rattle.postgres_protocol.proofs.StartupPairs.{came_all, came_front, front_refused}
+use Rattle.postgres_protocol.proofs.session.client_stream.ClientStream.startup_message.Goals as goal
+
+pub returns-in-Ok : goal.returns-in-Ok
+returns-in-Ok g c =
+    let all = c.args.parameters.now in
+    let road : YieldsList (copies fronts) (λ x. x) c.copied.result all = YieldsList-from_copied (YieldsList-from_slice all cc) in
+    let e = c.in-Ok.ensures in
+    let came = e.whole.1 in
+    let xs = came_all (copies fronts) came.iterator all (subst (λ s. YieldsList (copies fronts) (λ x. x) s all) (sym came.from) road) e.whole.0 came.left came.came in
+    let is : e.message ≡ Startup (map shown all) = e.whole.2 ∙ ap (λ l. Startup (map shown l)) xs in
+    rw (← c.self.view_is) (e.message, is, first_added g.B.Buffer.held c.self.inside.buf c.startup_message.new.buf c.self.inside.opened c.self.invariant e.message (ap is_startup e.whole.2) (same_phase c.self.view_is c.requires.opening) (subst IsStartup (sym is) tt) (subst IsNamed (sym is) c.requires.named) e.in_range e.none e.appended)
+
+pub invariant_of-self : goal.invariant_of-self
+invariant_of-self g c =
+    let all = c.args.parameters.now in
+    let road : YieldsList (copies fronts) (λ x. x) c.copied.result all = YieldsList-from_copied (YieldsList-from_slice all cc) in
+    let e = c.in-Ok.ensures in
+    let came = e.whole.1 in
+    let xs = came_all (copies fronts) came.iterator all (subst (λ s. YieldsList (copies fronts) (λ x. x) s all) (sym came.from) road) e.whole.0 came.left came.came in
+    let is : e.message ≡ Startup (map shown all) = e.whole.2 ∙ ap (λ l. Startup (map shown l)) xs in
+    first_stays g.B.Buffer.held c.self.inside.buf c.startup_message.new.buf c.self.inside.opened c.self.invariant e.message (ap is_startup e.whole.2) (same_phase c.self.view_is c.requires.opening) (subst IsStartup (sym is) tt) (subst IsNamed (sym is) c.requires.named) e.in_range e.none e.appended
+
+pub returns-in-Err : goal.returns-in-Err
+returns-in-Err g c =
+    let all = c.args.parameters.now in
+    let e = c.in-Err.e in
+    let road : YieldsList (copies fronts) (λ x. x) c.copied.result all = YieldsList-from_copied (YieldsList-from_slice all cc) in
+    rw (← c.self.view_is) (
+      elim c.in-Err.ensures.0 [
+        | inl memory ↦ inl memory
+        | inr (inl r) ↦
+            (let begun = r.1.1 in
+            let came = begun.came in
+            let front = came_front (copies fronts) came.iterator all (subst (λ s. YieldsList (copies fronts) (λ x. x) s all) (sym came.from) road) begun.before begun.last came.left came.came in
+            let h : parts_cause (Int32 (pos 196608) ∷ shown_pairs (take (length begun.before + 1) all) ∷ []) ≡ Some e = ap (λ l. parts_cause (Int32 (pos 196608) ∷ shown_pairs l ∷ [])) (sym front ∙ sym begun.are) ∙ ap parts_cause (sym r.1.2) ∙ r.2 in
+            inr (front_refused all (length begun.before + 1) e h))
+        | inr (inr r) ↦
+            (let came = r.1.1 in
+            let xs = came_all (copies fronts) came.iterator all (subst (λ s. YieldsList (copies fronts) (λ x. x) s all) (sym came.from) road) r.1.0 came.left came.came in
+            inr (ap (λ l. cause (Startup (map shown l))) (sym xs) ∙ ap cause (sym r.1.2) ∙ r.2))
+      ],
+      left g.B.Buffer.held c.self.inside.buf c.startup_message.new.buf c.self.inside.opened c.self.invariant c.in-Err.ensures.1,
+    )
+
+pub invariant_of-self-in-Err : goal.invariant_of-self-in-Err
+invariant_of-self-in-Err g c = still g.B.Buffer.held c.self.inside.buf c.startup_message.new.buf c.self.inside.opened c.self.invariant c.in-Err.ensures.1

@@ -1,0 +1,47 @@
+use Rattle.std.proofs.Common.{◌≡◌, ◌++◌, true, false, map, refl, rules, sym, ap, subst, ◌∙◌}
+use Rattle.pgp_message.specs.Remembered.{header_of}
+use Rattle.pgp_message.specs.Views.{seen}
+use Rattle.postgres_protocol.specs.ServerStream.{Reading, GoesOn, Fails, TakesAll, TakesSome}
+use Rattle.postgres_protocol.proofs.Pieces.{goes_on, stays_stopped, fails_at_once, fails_behind}
+use Rattle.postgres_protocol.proofs.session.stream_parser.StreamParser.feed.Goals as goal
+
+pub returns-then-is_err : goal.returns-then-is_err
+returns-then-is_err g c =
+    let inside = c.self.inside in
+    let old : Reading = record { results = map seen inside.results.items; stopped = inside.stopped; rest = inside.rest.items; headers = inside.frames.headers; failed = inside.failed } in
+    let new : Reading = record { results = map seen inside.results.items; stopped = inside.stopped; rest = c.extend_from_slice.new.self.items; headers = inside.frames.headers; failed = true } in
+    let fails : Fails c.args.piece.now old new = fails_at_once c.args.piece.now old new refl refl c.runs_grow.ensures in
+    (refl, subst (λ (r : Reading). Fails c.args.piece.now r new) c.self.view_is fails)
+
+pub returns-then-self : goal.returns-then-self
+returns-then-self g c =
+    let inside = c.self.inside in
+    let old : Reading = record { results = map seen inside.results.items; stopped = inside.stopped; rest = inside.rest.items; headers = inside.frames.headers; failed = inside.failed } in
+    let new : Reading = record { results = map seen inside.results.items; stopped = inside.stopped; rest = c.extend_from_slice.new.self.items; headers = inside.frames.headers; failed = inside.failed } in
+    let sound : inside.failed ≡ false = ap (λ (r : Reading). r.failed) c.self.view_is ∙ c.requires in
+    let rest : c.extend_from_slice.new.self.items ≡ inside.rest.items ++ c.args.piece.now = search rules in
+    let stays : GoesOn c.args.piece.now old new = stays_stopped c.args.piece.now c.extend_from_slice.new.self.items old sound c.if-self.true (c.self.invariant.fault sound c.if-self.true) rest c.stops_stay.ensures in
+    subst (λ (r : Reading). GoesOn c.args.piece.now r new) c.self.view_is stays
+
+pub returns-in-Ok : goal.returns-in-Ok
+returns-in-Ok g c =
+    let inside = c.self.inside in
+    let after = c.take_frames.new in
+    let old : Reading = record { results = map seen inside.results.items; stopped = inside.stopped; rest = inside.rest.items; headers = inside.frames.headers; failed = inside.failed } in
+    let new : Reading = record { results = map seen after.results.items; stopped = c.in-Ok.stopped; rest = after.rest.items; headers = after.frames.headers; failed = inside.failed } in
+    let sound : inside.failed ≡ false = ap (λ (r : Reading). r.failed) c.self.view_is ∙ c.requires in
+    let rest : c.extend_from_slice.new.self.items ≡ inside.rest.items ++ c.args.piece.now = search rules in
+    let all : TakesAll (inside.rest.items ++ c.args.piece.now) after.rest.items (map seen inside.results.items) (map seen after.results.items) inside.frames after.frames c.in-Ok.stopped = subst (λ l. TakesAll l after.rest.items (map seen inside.results.items) (map seen after.results.items) inside.frames after.frames c.in-Ok.stopped) rest c.in-Ok.ensures.ok in
+    let on : GoesOn c.args.piece.now old new = goes_on c.args.piece.now after.rest.items old (map seen after.results.items) inside.frames after.frames c.in-Ok.stopped sound c.if-self.false refl (c.self.invariant.header sound) all c.waits_go_on.ensures in
+    subst (λ (r : Reading). GoesOn c.args.piece.now r new) c.self.view_is on
+
+pub returns-in-Err : goal.returns-in-Err
+returns-in-Err g c =
+    let inside = c.self.inside in
+    let after = c.take_frames.new in
+    let old : Reading = record { results = map seen inside.results.items; stopped = inside.stopped; rest = inside.rest.items; headers = inside.frames.headers; failed = inside.failed } in
+    let new : Reading = record { results = map seen after.results.items; stopped = inside.stopped; rest = after.rest.items; headers = after.frames.headers; failed = true } in
+    let rest : c.extend_from_slice.new.self.items ≡ inside.rest.items ++ c.args.piece.now = search rules in
+    let some : TakesSome (inside.rest.items ++ c.args.piece.now) (map seen inside.results.items) (map seen after.results.items) = subst (λ l. TakesSome l (map seen inside.results.items) (map seen after.results.items)) rest c.in-Err.ensures.some in
+    let fails : Fails c.args.piece.now old new = fails_behind c.args.piece.now old new refl some c.frames_go_on.ensures c.frames_stand.ensures in
+    (search rules, subst (λ (r : Reading). Fails c.args.piece.now r new) c.self.view_is fails)

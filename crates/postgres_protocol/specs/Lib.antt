@@ -1,0 +1,4 @@
+pub mod ServerStream
+pub mod ClientRun
+pub mod ClientStream
+pub mod SaslExchange

@@ -1,0 +1,95 @@
+-- What was read of a server's stream that comes in pieces.
+use Rattle.std.specs.Prelude.{◌≡◌, ℕ, ◌+◌, ◌-◌, ◌^◌, ◌≤◌, min, Bool, true, false, List, [], ◌++◌, length, Option, Some, None, Result, Ok, Err}
+use Rattle.pgp_base.specs.declared.error.Error.{Error}
+use Rattle.pgp_base.specs.declared.error.Error.TheVariants as errors
+use Rattle.pgp_message.specs.BackendMessage.{Message}
+use Rattle.pgp_message.specs.Remembered.{Memory, Fits, header_of}
+use Rattle.pgp_message.specs.Stream.{Frames, IsEnding, BackendRun}
+
+-- What a parser of pieces shows: the results that weren't handed out yet, whether a length fault stopped
+-- it, what is left to read, how many headers it has read, and whether it failed for want of memory.
+pub record Reading : Type 0 where
+  pub results : List (Result Message Error)
+  pub stopped : Bool
+  pub rest : List ℕ
+  pub headers : ℕ
+  pub failed : Bool
+
+-- What is told of a whole stream.
+pub record Told : Type 0 where
+  pub results : List (Result Message Error)
+  pub stopped : Bool
+  pub rest : List ℕ
+
+-- how many headers stand there: one or none
+abbrev pub count_of : Option (ℕ × ℕ) → ℕ
+count_of None = 0
+count_of (Some header) = 1
+
+-- how many headers were read where there are n results and this header stands behind them; at most the greatest u64
+abbrev pub headers_read : ℕ → Option (ℕ × ℕ) → ℕ
+headers_read n header = min (n + count_of header) (2 ^ 64 - 1)
+
+-- These bytes came. Their results are those that were taken and those that weren't, and one header was read
+-- for each, and one more where the rest has one.
+pub record HasRead (bytes : List ℕ) (taken : List (Result Message Error)) (now : Reading) : Type 0 where
+  pub run : BackendRun bytes (taken ++ now.results) now.stopped now.rest
+  pub headers : now.headers ≡ headers_read (length (taken ++ now.results)) (header_of now.rest)
+
+-- of any stream that begins with the bytes, these results are the first
+abbrev pub AreFirst : List ℕ → List (Result Message Error) → Type 0
+AreFirst bytes results = (all : List (Result Message Error)) (stopped : Bool) (rest : List ℕ) → BackendRun bytes all stopped rest
+    → (others : List (Result Message Error)) × (all ≡ results ++ others)
+
+-- A piece came, and was read.
+pub record GoesOn (piece : List ℕ) (old new : Reading) : Type 0 where
+  pub sound : new.failed ≡ false
+  pub more : List (Result Message Error)
+  pub grown : new.results ≡ old.results ++ more
+  pub reads : (bytes : List ℕ) (taken : List (Result Message Error)) → HasRead bytes taken old → HasRead (bytes ++ piece) taken new
+
+-- A piece came, and memory was refused: the results are the first of the stream's, as far as it was read.
+pub record Fails (piece : List ℕ) (old new : Reading) : Type 0 where
+  pub failed : new.failed ≡ true
+  pub more : List (Result Message Error)
+  pub grown : new.results ≡ old.results ++ more
+  pub reads : (bytes : List ℕ) (taken : List (Result Message Error)) → HasRead bytes taken old → AreFirst (bytes ++ piece) (taken ++ new.results)
+
+-- What feeding a piece comes to.
+abbrev pub Feeds : List ℕ → Reading → Reading → Result (Unit {0}) Error → Type 0
+Feeds piece old new (Ok done) = GoesOn piece old new
+Feeds piece old new (Err e) = (e ≡ errors.OutOfMemory) × Fails piece old new
+
+-- The results so far are handed out, and none is kept.
+pub record HandsOut (results : List (Result Message Error)) (old new : Reading) : Type 0 where
+  pub all : results ≡ old.results
+  pub kept : new ≡ record old { results = [] }
+  pub reads : (bytes : List ℕ) (taken : List (Result Message Error)) → HasRead bytes taken old → HasRead bytes (taken ++ results) new
+
+-- While it hasn't failed it remembers the header of its rest; where it was stopped there is one.
+pub record IsSound (memory : Memory) (failed stopped : Bool) (rest : List ℕ) : Type 0 where
+  pub header : failed ≡ false → memory.header ≡ header_of rest
+  pub fault : failed ≡ false → stopped ≡ true → 5 ≤ length rest
+
+-- One call takes all frames off the buffer.
+
+-- frames were read between two buffers, with the results that were added, and each header once
+pub record Takes (old new : List ℕ) (before after : List (Result Message Error)) (m n : Memory) : Type 0 where
+  pub more : List (Result Message Error)
+  pub grown : after ≡ before ++ more
+  pub frames : Frames old more new
+  pub fits : Fits n new
+  pub counted : (k : ℕ) → m.headers ≡ headers_read k m.header → n.headers ≡ headers_read (k + length more) n.header
+
+-- no frame is left
+pub record TakesAll (old new : List ℕ) (before after : List (Result Message Error)) (m n : Memory) (stopped : Bool) : Type 0 where
+  pub takes : Takes old new before after m n
+  pub ending : IsEnding stopped new
+  pub header : n.header ≡ header_of new
+
+-- some frames were read
+pub record TakesSome (old : List ℕ) (before after : List (Result Message Error)) : Type 0 where
+  pub more : List (Result Message Error)
+  pub grown : after ≡ before ++ more
+  pub left : List ℕ
+  pub frames : Frames old more left

@@ -1,0 +1,94 @@
+//! A whole exchange of SCRAM-SHA-256, by the calls of three crates.
+
+ghost use Rattle.std.specs.Prelude.{◌≡◌, Ok, IfOk, OnOk};
+ghost use Rattle.pgp_auth.specs.ScramClient.{Begun, AwaitsFirst};
+ghost use Rattle.pgp_message.specs.BackendMessage.{Authentication, AuthenticationSaslContinue, AuthenticationSaslFinal};
+ghost use Rattle.pgp_message.specs.Stream.{TakesFrame};
+ghost use Rattle.postgres_protocol.specs.SaslExchange.{Exchanged};
+
+use bytes::{Bytes, BytesMut};
+use pgp_auth::authentication::sasl::{ScramError, ScramSha256};
+use pgp_base::{Buffer, Error};
+use pgp_frontend as frontend;
+use pgp_message::{AuthenticationSaslContinueBody, AuthenticationSaslFinalBody, Message};
+use std::alloc::{Allocator, Global};
+
+/// Why an exchange went no further.
+#[derive(Debug, Drop)]
+pub enum SaslRefusal<A: Allocator = Global> {
+    /// A message couldn't be written or read.
+    Message(Error),
+    /// No whole message came, or another one.
+    Unexpected,
+    /// The exchange refused a text.
+    Scram(ScramError<A>),
+}
+
+/// Passes the texts between the messages and the exchange: the client's first text to `out`, the server's
+/// first text from the front of `server_first`, the client's final text to `out`, and the server's final
+/// text from the front of `server_final`.
+///
+/// # Errors
+///
+/// `Message` where a writer or `Message::parse` refuses, `Unexpected` where the front of a buffer isn't the
+/// message that is due, and `Scram` where `update` or `finish` refuses.
+pub fn sasl_exchange<A: Allocator + Copy, B: Buffer>(
+    client: &mut ScramSha256<A>,
+    mechanism: &str,
+    server_first: &mut BytesMut<A>,
+    server_final: &mut BytesMut<A>,
+    out: &mut B,
+) -> Result<(), SaslRefusal<A>>
+    requires { (begun : Begun) × (client.old.state ≡ AwaitsFirst begun) }
+    ensures { OnOk result (Exchanged mechanism.now client.old client.new
+        server_first.old.items server_first.new.items server_final.old.items server_final.new.items
+        (B.held out.old) (B.held out.new)) }
+{
+    let Some(first) = client.message() else {
+        return Err(SaslRefusal::Unexpected);
+    };
+    if let Err(e) = frontend::sasl_initial_response(mechanism, first, out) {
+        return Err(SaslRefusal::Message(e));
+    }
+    let challenge = challenge_of(server_first)?;
+    if let Err(e) = client.update(challenge.data()) {
+        return Err(SaslRefusal::Scram(e));
+    }
+    let Some(answer) = client.message() else {
+        return Err(SaslRefusal::Unexpected);
+    };
+    if let Err(e) = frontend::sasl_response(answer, out) {
+        return Err(SaslRefusal::Message(e));
+    }
+    let outcome = outcome_of(server_final)?;
+    if let Err(e) = client.finish(outcome.data()) {
+        return Err(SaslRefusal::Scram(e));
+    }
+    Ok(())
+}
+
+/// The server's first text, whose message is taken off the buffer.
+fn challenge_of<A: Allocator + Copy>(
+    buf: &mut BytesMut<A>,
+) -> Result<AuthenticationSaslContinueBody<Bytes<A>>, SaslRefusal<A>>
+    ensures { IfOk result (λ text. TakesFrame buf.old.items (Ok (Authentication (AuthenticationSaslContinue text))) buf.new.items) }
+{
+    match Message::parse(buf) {
+        Ok(Some(Message::AuthenticationSaslContinue(body))) => Ok(body),
+        Ok(_) => Err(SaslRefusal::Unexpected),
+        Err(e) => Err(SaslRefusal::Message(e)),
+    }
+}
+
+/// The server's final text, whose message is taken off the buffer.
+fn outcome_of<A: Allocator + Copy>(
+    buf: &mut BytesMut<A>,
+) -> Result<AuthenticationSaslFinalBody<Bytes<A>>, SaslRefusal<A>>
+    ensures { IfOk result (λ text. TakesFrame buf.old.items (Ok (Authentication (AuthenticationSaslFinal text))) buf.new.items) }
+{
+    match Message::parse(buf) {
+        Ok(Some(Message::AuthenticationSaslFinal(body))) => Ok(body),
+        Ok(_) => Err(SaslRefusal::Unexpected),
+        Err(e) => Err(SaslRefusal::Message(e)),
+    }
+}

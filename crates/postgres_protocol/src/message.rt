@@ -1,0 +1,5 @@
+//! The messages of both sides.
+
+pub mod frontend;
+
+pub use pgp_message as backend;

@@ -1,0 +1,9 @@
+//! Streams of messages, in whatever pieces they come and go.
+
+mod client_stream;
+mod parsed;
+mod stream_parser;
+
+pub use client_stream::ClientStream;
+pub use parsed::{Parsed, parse_stream};
+pub use stream_parser::StreamParser;

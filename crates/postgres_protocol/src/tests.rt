@@ -1,0 +1,93 @@
+use crate::session::{ClientStream, StreamParser, parse_stream};
+use bytes::BytesMut;
+use pgp_base::Error;
+use pgp_message::Message;
+use std::alloc::Global;
+use std::test::Fail;
+
+/// A frame that is refused, and a message.
+const TWO: [u8; 12] = *b"Z\x00\x00\x00\x06I\x001\x00\x00\x00\x04";
+
+/// A length fault, and a message.
+const FAULT: [u8; 10] = *b"Z\x00\x00\x00\x031\x00\x00\x00\x04";
+
+/// A row of 20 bytes.
+const ROW: [u8; 20] =
+    *b"D\x00\x00\x00\x13\x00\x03\x00\x00\x00\x01a\xff\xff\xff\xff\x00\x00\x00\x00";
+
+/// The refusal of each frame, 0 for a message.
+fn numbers(results: &[Result<Message, Error>], out: &mut Vec<u8>) -> Result<(), Fail> {
+    for result in results {
+        match result {
+            Ok(_) => out.push(0)?,
+            Err(e) => out.push(e.number())?,
+        }
+    }
+    Ok(())
+}
+
+/// Feeds the bytes one at a time.
+fn feed_each(parser: &mut StreamParser, bytes: &[u8]) -> Result<(), Error> {
+    for byte in bytes {
+        if !parser.failed() {
+            parser.feed(&[*byte])?;
+        }
+    }
+    Ok(())
+}
+
+#[test]
+fn any_cutting(rt: HostRuntime) -> Result<(), Fail> {
+    for cut in 0..13usize {
+        let (front, back) = TWO.split_at(cut);
+        let parsed = parse_stream(rt.alloc(), &[front, back])?;
+        let mut found = Vec::new(rt.alloc());
+        numbers(parsed.results(), &mut found)?;
+        assert_eq!(rt; found.as_slice(), [8u8, 0].as_slice());
+        assert!(rt; !parsed.stopped());
+        assert!(rt; parsed.rest().is_empty());
+    }
+    Ok(())
+}
+
+#[test]
+fn what_comes_behind_a_fault_is_kept(rt: HostRuntime) -> Result<(), Fail> {
+    let mut parser = StreamParser::new(rt.alloc());
+    feed_each(&mut parser, &FAULT)?;
+    assert!(rt; parser.results().is_empty());
+    assert!(rt; parser.stopped());
+    assert_eq!(rt; parser.rest(), FAULT.as_slice());
+    assert_eq!(rt; parser.headers(), 1);
+    Ok(())
+}
+
+#[test]
+fn a_header_is_read_once(rt: HostRuntime) -> Result<(), Fail> {
+    let mut parser = StreamParser::new(rt.alloc());
+    feed_each(&mut parser, &ROW)?;
+    assert_eq!(rt; parser.headers(), 1);
+    assert_eq!(rt; parser.take().len(), 1);
+    assert!(rt; parser.results().is_empty());
+    feed_each(&mut parser, &ROW)?;
+    assert_eq!(rt; parser.headers(), 2);
+    assert_eq!(rt; parser.take().len(), 1);
+    assert!(rt; !parser.failed());
+    Ok(())
+}
+
+#[test]
+fn a_session(rt: HostRuntime) -> Result<(), Fail> {
+    let mut stream = ClientStream::<BytesMut>::new(rt.alloc());
+    stream.ssl_request()?;
+    stream.startup_message(&[("user", "alice")])?;
+    assert!(rt; stream.is_open());
+    assert_eq!(rt; stream.query("a\0b"), Err(Error::EmbeddedNull));
+    stream.query("SELECT 1")?;
+    stream.sync()?;
+    stream.terminate()?;
+    assert_eq!(rt;
+        stream.bytes(),
+        b"\x00\x00\x00\x08\x04\xd2\x16\x2f\x00\x00\x00\x14\x00\x03\x00\x00user\x00alice\x00\x00Q\x00\x00\x00\x0dSELECT 1\x00S\x00\x00\x00\x04X\x00\x00\x00\x04".as_slice()
+    );
+    Ok(())
+}
