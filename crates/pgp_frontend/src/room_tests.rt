@@ -1,5 +1,5 @@
-//! Messages in memory of the caller's, and long ones. Expected bytes are from the message formats of the
-//! PostgreSQL manual.
+//! Messages in memory of the caller's, and a serializer that isn't called. Expected bytes are from the message
+//! formats of the PostgreSQL manual.
 
 ghost use Rattle.pgp_base.specs.Calls.{KeepsValue};
 ghost use Rattle.pgp_base.specs.Held.{items_held};
@@ -11,9 +11,6 @@ use crate::{
 };
 use bytes::BytesMut;
 use pgp_base::{BindError, Buffer, Error, IsNull, Window, put_u32};
-use std::alloc::AllocError;
-use std::str;
-use std::test::Fail;
 
 fn bind_values<B: Buffer>(buf: &mut B) -> Result<(), Error> {
     let answer = bind(
@@ -154,44 +151,4 @@ fn bind_asks_for_no_value_behind_a_bad_name(rt: HostRuntime) {
         assert_eq!(rt; calls, 0);
         assert_eq!(rt; buf.len(), 0);
     }
-}
-
-fn letters(count: usize, rt: &HostRuntime) -> Result<Vec<u8>, AllocError> {
-    let mut letters = Vec::new(rt.alloc());
-    letters.resize(count, b'a')?;
-    Ok(letters)
-}
-
-#[test]
-fn long_messages_find_memory(rt: HostRuntime) -> Result<(), Fail> {
-    let mut buf = BytesMut::new(rt.alloc());
-    let bytes = letters(1_000_000, &rt)?;
-    assert_eq!(rt; copy_data(bytes.as_slice(), &mut buf), Ok(()));
-    assert_eq!(rt; buf.len(), 1_000_005);
-    assert_eq!(rt;
-        buf.as_slice().get(..6),
-        Some(b"d\0\x0f\x42\x44a".as_slice())
-    );
-
-    buf.truncate(0);
-    let text = letters(100_000, &rt)?;
-    assert_eq!(rt; password_message(text.as_slice(), &mut buf), Ok(()));
-    assert_eq!(rt; buf.len(), 100_006);
-    assert_eq!(rt;
-        buf.as_slice().get(..6),
-        Some(b"p\0\x01\x86\xa5a".as_slice())
-    );
-
-    buf.truncate(0);
-    let answer = match str::from_utf8(text.as_slice()) {
-        Ok(text) => query(text, &mut buf),
-        Err(_) => Err(Error::NotUtf8),
-    };
-    assert_eq!(rt; answer, Ok(()));
-    assert_eq!(rt; buf.len(), 100_006);
-    assert_eq!(rt;
-        buf.as_slice().get(..6),
-        Some(b"Q\0\x01\x86\xa5a".as_slice())
-    );
-    Ok(())
 }
