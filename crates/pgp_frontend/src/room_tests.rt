@@ -1,5 +1,5 @@
-//! Messages in memory of the caller's, and long ones. Expected bytes are from the message formats of the
-//! PostgreSQL manual.
+//! Messages in memory of the caller's, and a serializer that isn't called. Expected bytes are from the message
+//! formats of the PostgreSQL manual.
 
 ghost use Rattle.pgp_base.specs.Calls.{KeepsValue};
 ghost use Rattle.pgp_base.specs.Held.{items_held};
@@ -151,18 +151,4 @@ fn bind_asks_for_no_value_behind_a_bad_name(rt: HostRuntime) {
         assert_eq!(rt; calls, 0);
         assert_eq!(rt; buf.len(), 0);
     }
-}
-
-#[test]
-fn long_messages_find_memory(rt: HostRuntime) {
-    let mut buf = BytesMut::new(rt.alloc());
-    let bytes = [b'a'; 1_000_000];
-    assert_eq!(rt; copy_data(&bytes, &mut buf), Ok(()));
-    assert_eq!(rt; buf.len(), 1_000_005);
-    assert_eq!(rt; &buf.as_slice()[..6], b"d\0\x0f\x42\x44a".as_slice());
-
-    buf.truncate(0);
-    assert_eq!(rt; password_message(&bytes[..100_000], &mut buf), Ok(()));
-    assert_eq!(rt; buf.len(), 100_006);
-    assert_eq!(rt; &buf.as_slice()[..6], b"p\0\x01\x86\xa5a".as_slice());
 }
