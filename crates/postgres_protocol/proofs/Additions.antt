@@ -37,10 +37,14 @@ module _ {B K : Type 0} (held : B → Held K) (a b : B) (o : Bool) (inv : Reads 
     added = record { in_range = in_range; none = none; appended = grown; opened = phase_is; reads = one_more }
 
     pub stays : Reads (held b).bytes p
-    stays = (inv.0 ++ kinds_of m, inv.1 ++ m ∷ [], record {
-      run = one_more inv.0 inv.1 inv.2.run;
-      opens = phase_is ∙ ap (λ (x : Bool). if is_startup m then true else x) inv.2.opens ∙ sym (opened_more inv.1 m);
-    })
+    stays = (
+      inv.0 ++ kinds_of m,
+      inv.1 ++ m ∷ [],
+      record {
+        run = one_more inv.0 inv.1 inv.2.run;
+        opens = phase_is ∙ ap (λ (x : Bool). if is_startup m then true else x) inv.2.opens ∙ sym (opened_more inv.1 m);
+      },
+    )
 
   -- nothing was
   module _ (same : Leaves (held a) (held b)) where

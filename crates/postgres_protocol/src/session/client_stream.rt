@@ -263,17 +263,17 @@ impl<B: Buffer> ClientStream<B> {
         requires owes { OwesValues B.held F.pre F.step }
         ensures { (last : F) × Adds B.held
             (BindWhole portal.now statement.now
-                (Came I.into_iter_gives I.IntoIter.next_gives formats)
-                (Came J.into_iter_gives J.IntoIter.next_gives values)
-                (Serves B.held F.step serializer last)
-                (Came K.into_iter_gives K.IntoIter.next_gives result_formats)
-                (B.held self.old.buf))
+            (Came I.into_iter_gives I.IntoIter.next_gives formats)
+            (Came J.into_iter_gives J.IntoIter.next_gives values)
+            (Serves B.held F.step serializer last)
+            (Came K.into_iter_gives K.IntoIter.next_gives result_formats)
+            (B.held self.old.buf))
             (BindRefused portal.now statement.now
-                (Came I.into_iter_gives I.IntoIter.next_gives formats)
-                (Came J.into_iter_gives J.IntoIter.next_gives values)
-                (Serves B.held F.step serializer last)
-                (Came K.into_iter_gives K.IntoIter.next_gives result_formats)
-                (B.held self.old.buf) B.Lacks)
+            (Came I.into_iter_gives I.IntoIter.next_gives formats)
+            (Came J.into_iter_gives J.IntoIter.next_gives values)
+            (Serves B.held F.step serializer last)
+            (Came K.into_iter_gives K.IntoIter.next_gives result_formats)
+            (B.held self.old.buf) B.Lacks)
             self.old self.new result }
     {
         match frontend::bind(
