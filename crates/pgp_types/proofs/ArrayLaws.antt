@@ -34,11 +34,11 @@ some_dimensions : (behind : List ℕ) (left : ℕ) (ds : List ArrayDimension) (p
 some_dimensions behind zero ds p rest h x = inl (ds, p, rest, x, omega arith)
 some_dimensions behind (suc left) ds p rest h x =
     let by_result : (r : Result ((ℕ × ℤ) × List ℕ) Error) → dimension_at p rest ≡ r
-        → ((es : List ArrayDimension) × (q : ℕ) × (after : List ℕ) × Extent behind es q after × (length es ≡ length ds + suc left))
-        ⊎ ((es : List ArrayDimension) × (q : ℕ) × (after : List ℕ) × (e : Error) × Extent behind es q after × (length es < length ds + suc left) × (dimension q).Refused after e) =
+    → ((es : List ArrayDimension) × (q : ℕ) × (after : List ℕ) × Extent behind es q after × (length es ≡ length ds + suc left))
+    ⊎ ((es : List ArrayDimension) × (q : ℕ) × (after : List ℕ) × (e : Error) × Extent behind es q after × (length es < length ds + suc left) × (dimension q).Refused after e) =
     λ r. elim r as (λ v. dimension_at p rest ≡ v
-        → ((es : List ArrayDimension) × (q : ℕ) × (after : List ℕ) × Extent behind es q after × (length es ≡ length ds + suc left))
-        ⊎ ((es : List ArrayDimension) × (q : ℕ) × (after : List ℕ) × (e : Error) × Extent behind es q after × (length es < length ds + suc left) × (dimension q).Refused after e)) [
+    → ((es : List ArrayDimension) × (q : ℕ) × (after : List ℕ) × Extent behind es q after × (length es ≡ length ds + suc left))
+    ⊎ ((es : List ArrayDimension) × (q : ℕ) × (after : List ℕ) × (e : Error) × Extent behind es q after × (length es < length ds + suc left) × (dimension q).Refused after e)) [
       | Ok w ↦ λ is.
           let n = is_next p rest w.0 w.1 ((dimension_is p).found rest w.0 w.1 h is) in
           let one : length (ds ++ of w.0 ∷ []) ≡ length ds + 1 = length-append ds (of w.0 ∷ []) in
@@ -138,7 +138,7 @@ only_array bytes (Ok v) x =
     let dims : dimensions_at f.count 1 f.behind ≡ Ok ((f.dimensions, f.product), f.rest) = rw (f.extent.whole, sym x.1) (dimensions_again f.dimensions 1 f.product f.rest f.extent.in_range f.extent.are) in
     let run = counted_one (λ place. (nullable InvalidValueLength).Spelled) (nullable InvalidValueLength).Refused (λ place. element_at) element_reader n f.rest v.values.items v.values.end x.5.items in
     let same = read_by (is_set f.flag) v.has_nulls f.element_type v.element_type (finished f.dimensions) v.dimensions _ v.values.items _ v.values.end (Some n) v.values.announced
-        (sym (set_only v.has_nulls f.flag f.begins.spelled.other.one.0 x.2)) (sym x.3) (sym x.4) (ap (λ w. w.0) run) (ap (λ w. w.1) run) (sym x.5.announced) in
+    (sym (set_only v.has_nulls f.flag f.begins.spelled.other.one.0 x.2)) (sym x.3) (sym x.4) (ap (λ w. w.0) run) (ap (λ w. w.1) run) (sym x.5.announced) in
     rw (begins_read head_is bytes (f.count, (f.flag, f.element_type)) f.behind f.begins, dims) (ap (λ w. ok w) same)
 only_array bytes (Err e) (inl r) = rw (head_is.refuses bytes e r) refl
 only_array bytes (Err e) (inr x) =
@@ -195,7 +195,14 @@ back_array a is none =
       };
     } in
     let front : Front (array_bytes a) = record {
-      count = length a.dimensions; flag = pos flag; element_type = a.element_type; behind = ds ++ es; begins = begins; dimensions = a.dimensions; product = is.product; rest = es;
+      count = length a.dimensions;
+      flag = pos flag;
+      element_type = a.element_type;
+      behind = ds ++ es;
+      begins = begins;
+      dimensions = a.dimensions;
+      product = is.product;
+      rest = es;
       extent = record { in_range = is.in_range; are = is.are; whole = refl };
     } in
     (front, refl, flag_is (has_null a.elements), refl, refl, written_walk a.elements (elements_of a.dimensions is.product) elements_fit is.elements)

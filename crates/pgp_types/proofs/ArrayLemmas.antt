@@ -206,6 +206,11 @@ pub array_read : (bytes : List ℕ) (count : ℕ) (flag : ℤ) (type : ℕ) (beh
     (ds : List ArrayDimension) (p : ℕ) (rest : List ℕ) (x : Extent behind ds p rest) → length ds ≡ count → (front : List ℕ) → front ≡ flat_map dimension_bytes ds → (n : ℕ) → n ≡ elements_of ds p
     → ArrayReads bytes (Ok (record { has_nulls = is_set flag; element_type = type; dimensions = counted each_at count front None; values = counted element_at n rest None }))
 array_read bytes count flag type behind h is ds p rest x all front cut n counts =
-    let small = behind_bytes bytes (count, (flag, type)) behind h is in
-    (front_of bytes count flag type behind h is ds p rest x, all, set_is flag ((head_is.found bytes (count, (flag, type)) behind h is).spelled.other.one.0), refl, each_walk ds count front x.in_range all cut,
-      subst (λ (m : ℕ). IsWalk (nullable InvalidValueLength) m rest (counted element_at n rest None)) counts (element_walk n rest (extent_bytes behind ds p rest x small)))
+    let small = behind_bytes bytes (count, (flag, type)) behind h is in (
+      front_of bytes count flag type behind h is ds p rest x,
+      all,
+      set_is flag ((head_is.found bytes (count, (flag, type)) behind h is).spelled.other.one.0),
+      refl,
+      each_walk ds count front x.in_range all cut,
+      subst (λ (m : ℕ). IsWalk (nullable InvalidValueLength) m rest (counted element_at n rest None)) counts (element_walk n rest (extent_bytes behind ds p rest x small)),
+    )

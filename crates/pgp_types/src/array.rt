@@ -19,7 +19,9 @@ ghost use Rattle.pgp_types.specs.ArrayWriting.{before_elements, DimensionsPast, 
 
 use crate::part::{natural_at, nullable_at};
 use pgp_base::reading::{int32_at, oid_at};
-use pgp_base::{BindError, Buffer, Counted, Error, FallibleIterator, IsNull, Oid, patch_u32, put_u32, put_value};
+use pgp_base::{
+    BindError, Buffer, Counted, Error, FallibleIterator, IsNull, Oid, patch_u32, put_u32, put_value,
+};
 use std::marker::Model;
 
 /// A dimension of an array: how many elements it has, and the index of the first.
@@ -201,6 +203,7 @@ where
 }
 
 /// An array that was read: its dimensions and its elements are read as they are asked for.
+#[derive(Drop)]
 pub struct Array<'a> {
     has_nulls: bool,
     element_type: Oid,

@@ -1,6 +1,4 @@
-use crate::{
-    Array, ArrayDimension, array_from_sql, array_to_sql, int4_from_sql, int4_to_sql, text_from_sql,
-};
+use crate::{Array, ArrayDimension, array_from_sql, array_to_sql, int4_from_sql, int4_to_sql};
 use bytes::BytesMut;
 use pgp_base::{BindError, Buffer, Error, FallibleIterator, IsNull};
 use std::process::Abort;
@@ -24,9 +22,10 @@ fn write_numbers(
     buf: &mut BytesMut,
 ) -> Result<(), BindError<Error>> {
     array_to_sql(
-        dimensions
-            .iter()
-            .map(|d| ArrayDimension { len: d.0, lower_bound: d.1 }),
+        dimensions.iter().map(|d| ArrayDimension {
+            len: d.0,
+            lower_bound: d.1,
+        }),
         23,
         elements,
         |n: &Option<i32>, buf: &mut BytesMut| put_int4(*n, buf),
@@ -35,15 +34,13 @@ fn write_numbers(
 }
 
 // The dimensions and the numbers of an array, each in order and all of them.
-fn holds(
-    rt: &impl Abort,
-    array: &Array<'_>,
-    dimensions: &[(i32, i32)],
-    elements: &[Option<i32>],
-) {
+fn holds(rt: &impl Abort, array: &Array<'_>, dimensions: &[(i32, i32)], elements: &[Option<i32>]) {
     let mut walk = array.dimensions();
     for d in dimensions {
-        let want = ArrayDimension { len: d.0, lower_bound: d.1 };
+        let want = ArrayDimension {
+            len: d.0,
+            lower_bound: d.1,
+        };
         assert_eq!(rt; walk.next(), Ok(Some(want)));
     }
     assert_eq!(rt; walk.next(), Ok(None));
@@ -120,16 +117,15 @@ fn empty_array_as_a_server_sends_it(rt: HostRuntime) -> Result<(), Fail> {
 // array['hello',null,'']
 #[test]
 fn texts_in_an_array_as_a_server_sends_them(rt: HostRuntime) -> Result<(), Fail> {
-    let bytes = b"\0\0\0\x01\0\0\0\x01\0\0\0\x19\0\0\0\x03\0\0\0\x01\0\0\0\x05hello\xff\xff\xff\xff\0\0\0\0";
+    let bytes =
+        b"\0\0\0\x01\0\0\0\x01\0\0\0\x19\0\0\0\x03\0\0\0\x01\0\0\0\x05hello\xff\xff\xff\xff\0\0\0\0";
     let array = array_from_sql(bytes)?;
     assert_eq!(rt; array.element_type(), 25);
     let mut values = array.values();
-    let first = values.next()?.flatten();
-    assert_eq!(rt; first.map(text_from_sql), Some(Ok("hello")));
-    assert!(rt; matches!(values.next(), Ok(Some(None))));
-    let last = values.next()?.flatten();
-    assert_eq!(rt; last.map(text_from_sql), Some(Ok("")));
-    assert!(rt; matches!(values.next(), Ok(None)));
+    assert_eq!(rt; values.next(), Ok(Some(Some(b"hello".as_slice()))));
+    assert_eq!(rt; values.next(), Ok(Some(None)));
+    assert_eq!(rt; values.next(), Ok(Some(Some(b"".as_slice()))));
+    assert_eq!(rt; values.next(), Ok(None));
     Ok(())
 }
 
@@ -139,10 +135,10 @@ fn array_with_fewer_elements_than_announced(rt: HostRuntime) -> Result<(), Fail>
     let elements: [Option<&[u8]>; 2] = [None, Some(b"hello")];
     let mut buf = BytesMut::new(rt.alloc());
     let answer = array_to_sql(
-        [(1, 10), (2, 0)]
-            .as_slice()
-            .iter()
-            .map(|d| ArrayDimension { len: d.0, lower_bound: d.1 }),
+        [(1, 10), (2, 0)].as_slice().iter().map(|d| ArrayDimension {
+            len: d.0,
+            lower_bound: d.1,
+        }),
         10,
         elements.as_slice(),
         |value: &Option<&[u8]>, buf: &mut BytesMut| -> Result<IsNull, Error> {
@@ -157,7 +153,8 @@ fn array_with_fewer_elements_than_announced(rt: HostRuntime) -> Result<(), Fail>
         &mut buf,
     );
     assert!(rt; answer.is_ok());
-    let bytes = b"\0\0\0\x02\0\0\0\x01\0\0\0\x0a\0\0\0\x01\0\0\0\x0a\0\0\0\x02\0\0\0\0\xff\xff\xff\xff\0\0\0\x05hello";
+    let bytes =
+        b"\0\0\0\x02\0\0\0\x01\0\0\0\x0a\0\0\0\x01\0\0\0\x0a\0\0\0\x02\0\0\0\0\xff\xff\xff\xff\0\0\0\x05hello";
     assert_eq!(rt; buf.as_slice(), bytes.as_slice());
     let array = array_from_sql(bytes)?;
     assert!(rt; array.has_nulls());
@@ -178,7 +175,12 @@ fn elements_that_do_not_come(rt: HostRuntime) -> Result<(), Fail> {
     assert_eq!(rt; values.next(), Err(Error::UnexpectedEof));
     assert_eq!(rt; values.next(), Err(Error::UnexpectedEof));
     assert_eq!(rt; values.size_hint(), (0, Some(0)));
-    assert!(rt; matches!(array.values().collect(rt.alloc()), Err(Error::UnexpectedEof)));
+    assert!(rt;
+        matches!(
+            array.values().collect(rt.alloc()),
+            Err(Error::UnexpectedEof)
+        )
+    );
     Ok(())
 }
 
@@ -187,15 +189,24 @@ fn elements_that_do_not_come(rt: HostRuntime) -> Result<(), Fail> {
 fn arrays_that_are_refused(rt: HostRuntime) {
     for (bytes, refusal) in [
         (b"\0\0\0".as_slice(), Error::UnexpectedEof),
-        (b"\xff\xff\xff\xff", Error::InvalidCount),
-        (b"\x80\0\0\0\0", Error::InvalidCount),
-        (b"\0\0\0\x01\0\0\0", Error::UnexpectedEof),
-        (b"\0\0\0\x01\0\0\0\0\0\0\0", Error::UnexpectedEof),
-        (b"\0\0\0\x01\0\0\0\0\0\0\0\x17\0\0\0", Error::UnexpectedEof),
-        (b"\0\0\0\x01\0\0\0\0\0\0\0\x17\xff\xff\xff\xff", Error::InvalidDimension),
-        (b"\0\0\0\x01\0\0\0\0\0\0\0\x17\0\0\0\x01\0\0\0", Error::UnexpectedEof),
+        (b"\xff\xff\xff\xff".as_slice(), Error::InvalidCount),
+        (b"\x80\0\0\0\0".as_slice(), Error::InvalidCount),
+        (b"\0\0\0\x01\0\0\0".as_slice(), Error::UnexpectedEof),
+        (b"\0\0\0\x01\0\0\0\0\0\0\0".as_slice(), Error::UnexpectedEof),
         (
-            b"\0\0\0\x03\0\0\0\0\0\0\0\x17\0\x01\0\0\0\0\0\0\0\x01\0\0\0\0\0\0\0\0\0\0\0\0\0\0",
+            b"\0\0\0\x01\0\0\0\0\0\0\0\x17\0\0\0".as_slice(),
+            Error::UnexpectedEof,
+        ),
+        (
+            b"\0\0\0\x01\0\0\0\0\0\0\0\x17\xff\xff\xff\xff".as_slice(),
+            Error::InvalidDimension,
+        ),
+        (
+            b"\0\0\0\x01\0\0\0\0\0\0\0\x17\0\0\0\x01\0\0\0".as_slice(),
+            Error::UnexpectedEof,
+        ),
+        (
+            b"\0\0\0\x03\0\0\0\0\0\0\0\x17\0\x01\0\0\0\0\0\0\0\x01\0\0\0\0\0\0\0\0\0\0\0\0\0\0\0\0".as_slice(),
             Error::TooManyElements,
         ),
     ]
@@ -218,12 +229,16 @@ fn array_of_no_elements_in_three_dimensions(rt: HostRuntime) -> Result<(), Fail>
 // Any flag but 0 is set; what follows the elements, and a length past the end, are refused by the walk.
 #[test]
 fn elements_that_are_refused(rt: HostRuntime) -> Result<(), Fail> {
-    let array = array_from_sql(b"\0\0\0\x01\0\0\0\x02\0\0\0\x17\0\0\0\x01\0\0\0\x01\0\0\0\x05abcd")?;
+    let array = array_from_sql(
+        b"\0\0\0\x01\0\0\0\x02\0\0\0\x17\0\0\0\x01\0\0\0\x01\0\0\0\x05abcd",
+    )?;
     assert!(rt; array.has_nulls());
     let mut values = array.values();
     assert_eq!(rt; values.next(), Err(Error::InvalidValueLength));
     assert_eq!(rt; values.next(), Err(Error::InvalidValueLength));
-    let array = array_from_sql(b"\0\0\0\x01\0\0\0\0\0\0\0\x17\0\0\0\x01\0\0\0\x01\xff\xff\xff\xfe\0")?;
+    let array = array_from_sql(
+        b"\0\0\0\x01\0\0\0\0\0\0\0\x17\0\0\0\x01\0\0\0\x01\xff\xff\xff\xfe\0",
+    )?;
     assert!(rt; !array.has_nulls());
     let mut values = array.values();
     assert_eq!(rt; values.next(), Ok(Some(None)));
@@ -239,7 +254,10 @@ fn array_whose_serializer_refuses(rt: HostRuntime) -> Result<(), Fail> {
         let mut buf = BytesMut::new(rt.alloc());
         buf.append(b"S\0\0\0\x04")?;
         let answer = array_to_sql(
-            Some(ArrayDimension { len: 5, lower_bound: 1 }),
+            Some(ArrayDimension {
+                len: 5,
+                lower_bound: 1,
+            }),
             23,
             [1u32, 2, 3, 4, 5].as_slice(),
             |n: &u32, buf: &mut BytesMut| -> Result<IsNull, u32> {

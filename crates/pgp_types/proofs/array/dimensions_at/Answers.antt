@@ -28,8 +28,7 @@ pub dimensions-preserved : goal.dimensions-preserved
 dimensions-preserved c =
     let i = c.dimensions.invariant in
     let n = product_found c.dimensions.product c.dimensions.rest.now c.in_ok-product.field-0-0 c.in_ok-product.field-0-1.now i.0 c.in_ok-product.ensures in
-    let more = extent_more c.args.bytes.now i.1.0 c.dimensions.product c.dimensions.rest.now n.0 c.in_ok-product.field-0-1.now i.1.1 n.1 in
-    (
+    let more = extent_more c.args.bytes.now i.1.0 c.dimensions.product c.dimensions.rest.now n.0 c.in_ok-product.field-0-1.now i.1.1 n.1 in (
       next_bytes c.dimensions.product c.dimensions.rest.now n.0 c.in_ok-product.field-0-1.now n.1 i.0,
       (i.1.0 ++ of n.0 ∷ [], subst (λ (q : ℕ). Extent c.args.bytes.now (i.1.0 ++ of n.0 ∷ []) q c.in_ok-product.field-0-1.now) n.2 more, omega (arith, i.1.2, length-append i.1.0 (of n.0 ∷ []))),
     )
