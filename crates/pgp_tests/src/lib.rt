@@ -4,8 +4,6 @@
 #[cfg(test)]
 mod ample;
 #[cfg(test)]
-mod array;
-#[cfg(test)]
 mod auth;
 #[cfg(test)]
 mod frontend;

@@ -36,6 +36,4 @@ pub use time::{
 };
 
 #[cfg(test)]
-mod array_tests;
-#[cfg(test)]
 mod tests;
