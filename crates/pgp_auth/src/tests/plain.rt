@@ -51,10 +51,10 @@ fn plain_hi(password: &[u8], salt: &[u8], i: u32) -> [u8; 32] {
 
 #[test]
 fn the_key_is_the_former_one(rt: HostRuntime) -> Result<(), Fail> {
-    for len in [0, 1, 63, 64, 65, 200] {
+    for len in [0u8, 1, 63, 64, 65, 200] {
         let mut password = Vec::new(rt.alloc());
         for i in 0..len {
-            password.push((i * 7 + 3) as u8)?;
+            password.push(i.wrapping_mul(7).wrapping_add(3))?;
         }
         for count in [0, 1, 2, 100] {
             let key = hi(&password, b"salt", count);
@@ -66,12 +66,13 @@ fn the_key_is_the_former_one(rt: HostRuntime) -> Result<(), Fail> {
 
 #[test]
 fn lanes_are_joined_as_bytes_are(rt: HostRuntime) -> Result<(), Fail> {
-    for len in 0..101u32 {
+    for len in 0..101u8 {
         let mut into = Vec::new(rt.alloc());
         let mut other = Vec::new(rt.alloc());
         let mut joined = Vec::new(rt.alloc());
         for i in 0..len {
-            let (left, right) = ((i * 37 + 11) as u8, (i * 101 + len) as u8);
+            let left = i.wrapping_mul(37).wrapping_add(11);
+            let right = i.wrapping_mul(101).wrapping_add(len);
             into.push(left)?;
             other.push(right)?;
             joined.push(left ^ right)?;
