@@ -1,6 +1,15 @@
 pub mod Format
+pub mod Part
+pub mod PartReading
 pub mod Scalar
 pub mod Text
 pub mod Time
 pub mod Network
 pub mod Geometry
+pub mod Given
+pub mod Varbit
+pub mod Path
+pub mod Hstore
+pub mod Range
+pub mod RangeReading
+pub mod RangeWriting
