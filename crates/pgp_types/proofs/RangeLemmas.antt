@@ -196,13 +196,19 @@ not_empty (Exclusive v) (Exclusive w) e = omega (arith, e)
 
 range_back : (v : Range) → range_cause v ≡ None → RangeReads (range_bytes v) (Ok v)
 range_back empty fits = refl
-range_back (between l u) fits = (tag_of l u, side_bytes l ++ side_bytes u, refl, not_empty l u, record {
-  first = side_bytes l;
-  second = side_bytes u;
-  whole = refl;
-  one = lower_spelled l u (either_left (side_cause l) (side_cause u) fits);
-  other = upper_spelled l u (either_right (side_cause l) (side_cause u) fits);
-})
+range_back (between l u) fits = (
+  tag_of l u,
+  side_bytes l ++ side_bytes u,
+  refl,
+  not_empty l u,
+  record {
+    first = side_bytes l;
+    second = side_bytes u;
+    whole = refl;
+    one = lower_spelled l u (either_left (side_cause l) (side_cause u) fits);
+    other = upper_spelled l u (either_right (side_cause l) (side_cause u) fits);
+  },
+)
 
 pub range_sound : IsSound range
 range_sound = record {

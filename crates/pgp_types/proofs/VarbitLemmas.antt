@@ -42,8 +42,8 @@ one_varbit bytes (Ok v) (Ok w) p q =
 one_varbit bytes (Ok v) (Err e) p q = absurd (not_refused bytes v e p q)
 one_varbit bytes (Err e) (Ok w) p q = absurd (not_refused bytes w e q p)
 one_varbit bytes (Err d) (Err e) p q = ap Err (elim p [
-  | inl a ↦ elim q [ | inl b ↦ one_refusal bytes d e a b | inr b ↦ absurd (not_both bytes b.0 b.1 d b.2 a) ]
-  | inr a ↦ elim q [ | inl b ↦ absurd (not_both bytes a.0 a.1 e a.2 b) | inr b ↦ a.4 ∙ sym b.4 ]
+  | inl a ↦ elim q [ inl b ↦ one_refusal bytes d e a b | inr b ↦ absurd (not_both bytes b.0 b.1 d b.2 a) ]
+  | inr a ↦ elim q [ inl b ↦ absurd (not_both bytes a.0 a.1 e a.2 b) | inr b ↦ a.4 ∙ sym b.4 ]
 ])
 
 sized_or_not : (n : ℕ) (rest bytes : List ℕ) → Begins bit_count bytes n rest → (length rest ≡ div_ceil n 8) ⊎ ((length rest < div_ceil n 8) ⊎ (div_ceil n 8 < length rest)) → (r : Result Varbit Error) × VarbitReads bytes r

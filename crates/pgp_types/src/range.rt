@@ -96,11 +96,7 @@ fn finish_value<B: Buffer>(buf: &mut B, base: usize, null: IsNull) -> Result<(),
 }
 
 // Fills the length's place of a side that ends the buffer, or cuts it off where there is no bound.
-fn finish_side<B: Buffer>(
-    buf: &mut B,
-    base: usize,
-    answer: RangeBound<IsNull>,
-) -> Result<(), Error>
+fn finish_side<B: Buffer>(buf: &mut B, base: usize, answer: RangeBound<IsNull>) -> Result<(), Error>
     requires room { base + 4 ≤ length (B.held buf.old).bytes }
     requires none { IsNullBound answer → length (B.held buf.old).bytes ≡ base + 4 }
     ensures ok { OnOk result (SideFilled answer (B.held buf.old) base (B.held buf.new)) }
@@ -162,11 +158,7 @@ fn fill_range<
     E: Drop,
     F: FnOnce(&mut B) -> Result<RangeBound<IsNull>, E>,
     G: FnOnce(&mut B) -> Result<RangeBound<IsNull>, E> + Drop,
->(
-    lower: F,
-    upper: G,
-    buf: &mut B,
-) -> Result<(), BindError<E>>
+>(lower: F, upper: G, buf: &mut B) -> Result<(), BindError<E>>
     requires lower_callable { F.IsAlwaysCallable lower }
     requires upper_callable { G.IsAlwaysCallable upper }
     requires lower_owes { OwesBound B.held F.pre F.post lower }
@@ -196,11 +188,7 @@ pub fn range_to_sql<
     E: Drop,
     F: FnOnce(&mut B) -> Result<RangeBound<IsNull>, E>,
     G: FnOnce(&mut B) -> Result<RangeBound<IsNull>, E> + Drop,
->(
-    lower: F,
-    upper: G,
-    buf: &mut B,
-) -> Result<(), BindError<E>>
+>(lower: F, upper: G, buf: &mut B) -> Result<(), BindError<E>>
     requires lower_callable { F.IsAlwaysCallable lower }
     requires upper_callable { G.IsAlwaysCallable upper }
     requires lower_owes { OwesBound B.held F.pre F.post lower }

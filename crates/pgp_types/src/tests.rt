@@ -1,6 +1,6 @@
 use crate::*;
 use bytes::BytesMut;
-use pgp_base::{Error, FallibleIterator};
+use pgp_base::{Error, FallibleIterator, IsNull, put_u32};
 use std::net::{IpAddr, Ipv4Addr, Ipv6Addr};
 use std::test::Fail;
 
@@ -245,7 +245,7 @@ fn twelve_bits_in_two_bytes(rt: HostRuntime) -> Result<(), Fail> {
     varbit_to_sql(12, [0x2bu8, 0x0f].into_iter(), &mut buf)?;
     assert_eq!(rt; buf.as_slice(), b"\0\0\0\x0c\x2b\x0f".as_slice());
     let read = varbit_from_sql(b"\0\0\0\x0c\x2b\x0f")?;
-    assert!(rt; read.len() == 12 && read.bytes() == b"\x2b\x0f");
+    assert!(rt; read.len() == 12 && read.bytes() == b"\x2b\x0f".as_slice());
     Ok(())
 }
 
@@ -260,10 +260,16 @@ fn bit_strings_are_refused(rt: HostRuntime) -> Result<(), Fail> {
         (b"\0\0\0\x08\xb2\x80", Error::InvalidSize),
     ];
     for (bytes, want) in rows {
-        assert!(rt; matches!(varbit_from_sql(bytes), Err(e) if e == want), "{bytes:?}");
+        assert!(rt;
+            matches!(varbit_from_sql(bytes), Err(e) if e == want),
+            "{bytes:?}"
+        );
     }
     let mut buf = BytesMut::new(rt.alloc());
-    assert_eq!(rt; varbit_to_sql(0x8000_0000, [0u8].into_iter(), &mut buf), Err(Error::TooLarge));
+    assert_eq!(rt;
+        varbit_to_sql(0x8000_0000, [0u8].into_iter(), &mut buf),
+        Err(Error::TooLarge)
+    );
     assert!(rt; buf.is_empty());
     Ok(())
 }
@@ -307,7 +313,10 @@ fn paths_as_a_server_sends_them(rt: HostRuntime) -> Result<(), Fail> {
     }
     let mut buf = BytesMut::new(rt.alloc());
     path_to_sql(true, [(0, 0)], &mut buf)?;
-    assert_eq!(rt; buf.as_slice(), b"\x01\0\0\0\x01\0\0\0\0\0\0\0\0\0\0\0\0\0\0\0\0".as_slice());
+    assert_eq!(rt;
+        buf.as_slice(),
+        b"\x01\0\0\0\x01\0\0\0\0\0\0\0\0\0\0\0\0\0\0\0\0".as_slice()
+    );
     Ok(())
 }
 
@@ -320,7 +329,10 @@ fn paths_are_refused(rt: HostRuntime) -> Result<(), Fail> {
         (b"\x02\x80\0\0\0", Error::InvalidCount),
     ];
     for (bytes, want) in rows {
-        assert!(rt; matches!(path_from_sql(bytes), Err(e) if e == want), "{bytes:?}");
+        assert!(rt;
+            matches!(path_from_sql(bytes), Err(e) if e == want),
+            "{bytes:?}"
+        );
     }
     // a point that is cut short, and a byte behind none
     let mut walk = path_from_sql(b"\x02\0\0\0\x01\0\0\0\0\0\0\0\0\0\0\0\0\0\0\0")?.points();
@@ -334,8 +346,7 @@ fn paths_are_refused(rt: HostRuntime) -> Result<(), Fail> {
     Ok(())
 }
 
-const HELLO_HOLA: &[u8] =
-    b"\0\0\0\x02\0\0\0\x04hola\xff\xff\xff\xff\0\0\0\x05hello\0\0\0\x05world";
+const HELLO_HOLA: &[u8] = b"\0\0\0\x02\0\0\0\x04hola\xff\xff\xff\xff\0\0\0\x05hello\0\0\0\x05world";
 
 #[test]
 fn key_value_lists_as_a_server_sends_them(rt: HostRuntime) -> Result<(), Fail> {
@@ -356,8 +367,13 @@ fn key_value_lists_as_a_server_sends_them(rt: HostRuntime) -> Result<(), Fail> {
         let mut buf = BytesMut::new(rt.alloc());
         hstore_to_sql(pairs.iter().copied(), &mut buf)?;
         assert_eq!(rt; buf.as_slice(), bytes);
-        let read = hstore_from_sql(bytes)?.collect(rt.alloc())?;
-        assert!(rt; read.as_slice() == pairs);
+        let mut walk = hstore_from_sql(bytes)?;
+        assert_eq!(rt; walk.size_hint(), (pairs.len(), Some(pairs.len())));
+        for (key, value) in pairs {
+            let entry = walk.next()?;
+            assert!(rt; matches!(entry, Some((k, v)) if k == *key && v == *value));
+        }
+        assert!(rt; matches!(walk.next(), Ok(None)));
     }
     Ok(())
 }
@@ -370,7 +386,10 @@ fn key_value_lists_are_refused(rt: HostRuntime) -> Result<(), Fail> {
         (b"\xff\xff\xff\xff", Error::InvalidCount),
     ];
     for (bytes, want) in rows {
-        assert!(rt; matches!(hstore_from_sql(bytes), Err(e) if e == want), "{bytes:?}");
+        assert!(rt;
+            matches!(hstore_from_sql(bytes), Err(e) if e == want),
+            "{bytes:?}"
+        );
     }
     let walks: [(&[u8], Error); 9] = [
         (b"\0\0\0\x01", Error::UnexpectedEof),
@@ -378,14 +397,149 @@ fn key_value_lists_are_refused(rt: HostRuntime) -> Result<(), Fail> {
         (b"\0\0\0\x01\xff\xff\xff\xffab", Error::InvalidKeyLength),
         (b"\0\0\0\x01\0\0\0\x01\xff\0", Error::NotUtf8),
         (b"\0\0\0\x01\0\0\0\x01a\0\0\0", Error::UnexpectedEof),
-        (b"\0\0\0\x01\0\0\0\x01a\0\0\0\x02b", Error::InvalidValueLength),
+        (
+            b"\0\0\0\x01\0\0\0\x01a\0\0\0\x02b",
+            Error::InvalidValueLength,
+        ),
         (b"\0\0\0\x01\0\0\0\x01a\0\0\0\x01\xff", Error::NotUtf8),
-        (b"\0\0\0\x01\0\0\0\x01a\xff\xff\xff\xff\0", Error::NotDrained),
+        (
+            b"\0\0\0\x01\0\0\0\x01a\xff\xff\xff\xff\0",
+            Error::NotDrained,
+        ),
         (b"\0\0\0\0\0", Error::NotDrained),
     ];
     for (bytes, want) in walks {
         let read = hstore_from_sql(bytes)?.collect(rt.alloc());
         assert!(rt; matches!(read, Err(e) if e == want), "{bytes:?}");
     }
+    Ok(())
+}
+
+// int4range(1,5), int4range(NULL,5), int4range(1,NULL), int4range(NULL,NULL) and 'empty'; tsrange between 1 s and 2 s
+// after the beginning of 2000, as [], () and (]
+#[test]
+fn ranges_as_a_server_sends_them(rt: HostRuntime) -> Result<(), Fail> {
+    let one = b"\0\0\0\x01".as_slice();
+    let five = b"\0\0\0\x05".as_slice();
+    let second = b"\0\0\0\0\0\x0f\x42\x40".as_slice();
+    let seconds = b"\0\0\0\0\0\x1e\x84\x80".as_slice();
+    assert!(rt; matches!(range_from_sql(b"\x01"), Ok(Range::Empty)));
+    assert!(rt;
+        matches!(
+        range_from_sql(b"\x02\0\0\0\x04\0\0\0\x01\0\0\0\x04\0\0\0\x05"),
+        Ok(Range::Nonempty(RangeBound::Inclusive(Some(l)), RangeBound::Exclusive(Some(u)))) if l == one && u == five
+    )
+    );
+    assert!(rt;
+        matches!(
+        range_from_sql(b"\x08\0\0\0\x04\0\0\0\x05"),
+        Ok(Range::Nonempty(RangeBound::Unbounded, RangeBound::Exclusive(Some(u)))) if u == five
+    )
+    );
+    assert!(rt;
+        matches!(
+        range_from_sql(b"\x12\0\0\0\x04\0\0\0\x01"),
+        Ok(Range::Nonempty(RangeBound::Inclusive(Some(l)), RangeBound::Unbounded)) if l == one
+    )
+    );
+    assert!(rt;
+        matches!(
+            range_from_sql(b"\x18"),
+            Ok(Range::Nonempty(RangeBound::Unbounded, RangeBound::Unbounded))
+        )
+    );
+    assert!(rt;
+        matches!(
+        range_from_sql(b"\x06\0\0\0\x08\0\0\0\0\0\x0f\x42\x40\0\0\0\x08\0\0\0\0\0\x1e\x84\x80"),
+        Ok(Range::Nonempty(RangeBound::Inclusive(Some(l)), RangeBound::Inclusive(Some(u)))) if l == second && u == seconds
+    )
+    );
+    assert!(rt;
+        matches!(
+        range_from_sql(b"\0\0\0\0\x08\0\0\0\0\0\x0f\x42\x40\0\0\0\x08\0\0\0\0\0\x1e\x84\x80"),
+        Ok(Range::Nonempty(RangeBound::Exclusive(Some(l)), RangeBound::Exclusive(Some(u)))) if l == second && u == seconds
+    )
+    );
+    assert!(rt;
+        matches!(
+        range_from_sql(b"\x04\0\0\0\x08\0\0\0\0\0\x0f\x42\x40\0\0\0\x08\0\0\0\0\0\x1e\x84\x80"),
+        Ok(Range::Nonempty(RangeBound::Exclusive(Some(l)), RangeBound::Inclusive(Some(u)))) if l == second && u == seconds
+    )
+    );
+    Ok(())
+}
+
+#[test]
+fn ranges_are_refused(rt: HostRuntime) {
+    let rows: [(&[u8], Error); 8] = [
+        (b"", Error::UnexpectedEof),
+        (b"\x01\0", Error::NotDrained),
+        (b"\x18\0", Error::NotDrained),
+        (b"\x02", Error::UnexpectedEof),
+        (b"\x08\0\0\0", Error::UnexpectedEof),
+        (b"\x12\0\0\0\x05\0\0\0\x01", Error::InvalidValueLength),
+        (b"\x02\0\0\0\x01a\0\0\0\x02b", Error::InvalidValueLength),
+        (b"\x02\0\0\0\x01a\0\0\0\x01bc", Error::NotDrained),
+    ];
+    for (bytes, want) in rows {
+        assert!(rt;
+            matches!(range_from_sql(bytes), Err(e) if e == want),
+            "{bytes:?}"
+        );
+    }
+    // a tag with the empty bit and others isn't empty; a negative length is a null
+    assert!(rt;
+        matches!(
+            range_from_sql(b"\x19"),
+            Ok(Range::Nonempty(RangeBound::Unbounded, RangeBound::Unbounded))
+        )
+    );
+    assert!(rt;
+        matches!(
+            range_from_sql(b"\x0a\xff\xff\xff\xfe"),
+            Ok(Range::Nonempty(RangeBound::Unbounded, RangeBound::Exclusive(None)))
+        )
+    );
+}
+
+#[test]
+fn ranges_are_written(rt: HostRuntime) -> Result<(), Fail> {
+    let mut buf = BytesMut::new(rt.alloc());
+    empty_range_to_sql(&mut buf)?;
+    assert_eq!(rt; buf.as_slice(), b"\x01".as_slice());
+
+    let mut buf = BytesMut::new(rt.alloc());
+    let answer = range_to_sql(
+        |buf: &mut BytesMut| -> Result<RangeBound<IsNull>, Error> {
+            put_u32(buf, 1)?;
+            Ok(RangeBound::Inclusive(IsNull::No))
+        },
+        |buf: &mut BytesMut| -> Result<RangeBound<IsNull>, Error> {
+            put_u32(buf, 5)?;
+            Ok(RangeBound::Exclusive(IsNull::No))
+        },
+        &mut buf,
+    );
+    assert!(rt; answer.is_ok());
+    assert_eq!(rt;
+        buf.as_slice(),
+        b"\x02\0\0\0\x04\0\0\0\x01\0\0\0\x04\0\0\0\x05".as_slice()
+    );
+
+    // what was appended for no bound is not there
+    let mut buf = BytesMut::new(rt.alloc());
+    let answer = range_to_sql(
+        |buf: &mut BytesMut| -> Result<RangeBound<IsNull>, Error> {
+            put_u32(buf, 1)?;
+            Ok(RangeBound::Unbounded)
+        },
+        |buf: &mut BytesMut| -> Result<RangeBound<IsNull>, Error> {
+            put_u32(buf, 5)?;
+            Ok(RangeBound::Inclusive(IsNull::No))
+        },
+        &mut buf,
+    );
+    assert!(rt; answer.is_ok());
+    assert_eq!(rt; buf.as_slice(), b"\x0c\0\0\0\x04\0\0\0\x05".as_slice());
     Ok(())
 }

@@ -65,8 +65,7 @@ pub loop-key-preserved : goal.loop-key-preserved
 loop-key-preserved g c =
     let i = c.loop-key.invariant in
     let k = c.in_ok-put_nullable.ensures.ok in
-    let v = c.in_ok-put_nullable-2.ensures.ok in
-    (
+    let v = c.in_ok-put_nullable-2.ensures.ok in (
       omega (arith, length-append c.loop-key.yielded ((c.in-Some.key, c.in-Some.value) ∷ [])),
       omega arith,
       entries_more c.loop-key.yielded (c.in-Some.key, c.in-Some.value) i.2 k.0 v.0,
