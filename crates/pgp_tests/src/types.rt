@@ -12,7 +12,7 @@ use std::test::Fail;
 const SYNC: &[u8] = b"S\0\0\0\x04";
 
 // What the writer of each number appends.
-const WRITTEN: [&[u8]; 23] = [
+const WRITTEN: [&[u8]; 27] = [
     b"\x01",
     b"\xde\xad",
     b"text",
@@ -36,6 +36,10 @@ const WRITTEN: [&[u8]; 23] = [
     b"\x03\x80\0\x10\0\0\0\0\0\0\0\0\0\0\0\0\0\0\0\x01",
     b"\x3f\xf0\0\0\0\0\0\0\x40\0\0\0\0\0\0\0",
     b"\x40\x08\0\0\0\0\0\0\x40\x10\0\0\0\0\0\0\x3f\xf0\0\0\0\0\0\0\x40\0\0\0\0\0\0\0",
+    b"\0\0\0\x09\xb2\x80",
+    b"\x01\0\0\0\x02\x3f\xf0\0\0\0\0\0\0\x40\0\0\0\0\0\0\0\x40\x08\0\0\0\0\0\0\x40\x10\0\0\0\0\0\0",
+    b"\0\0\0\x02\0\0\0\x01a\0\0\0\x01b\0\0\0\x01c\xff\xff\xff\xff",
+    b"\x01",
 ];
 
 const ONE: u64 = 0x3ff0_0000_0000_0000;
@@ -70,7 +74,11 @@ fn write<B: Buffer>(number: usize, buf: &mut B) -> Result<(), Error> {
         19 => inet_to_sql(IpAddr::V4(Ipv4Addr::LOCALHOST), 32, buf),
         20 => inet_to_sql(IpAddr::V6(Ipv6Addr::LOCALHOST), 128, buf),
         21 => point_to_sql(ONE, TWO, buf),
-        _ => box_to_sql(THREE, FOUR, ONE, TWO, buf),
+        22 => box_to_sql(THREE, FOUR, ONE, TWO, buf),
+        23 => varbit_to_sql(9, [0xb2u8, 0x80].into_iter(), buf),
+        24 => path_to_sql(true, [(ONE, TWO), (THREE, FOUR)], buf),
+        25 => hstore_to_sql([("a", Some("b")), ("c", None)], buf),
+        _ => empty_range_to_sql(buf),
     }
 }
 

@@ -8,3 +8,9 @@ pub mod PartLemmas
 mod ArrayWrites
 pub mod ArrayLemmas
 mod ArrayLaws
+pub mod WalkLemmas
+pub mod VarbitLemmas
+pub mod PathLemmas
+pub mod HstoreLemmas
+pub mod RangeLemmas
+pub mod RangeWriteLemmas

@@ -6,6 +6,9 @@ ghost use Rattle.pgp_types.specs.Format.{Reads, block, whole};
 
 use pgp_base::{Buffer, Error};
 
+// What a count can count: the greatest `i32`.
+pub const MOST_ITEMS: u32 = 0x7fff_ffff;
+
 // All of the bytes, or nothing.
 pub fn append<B: Buffer>(bytes: &[u8], buf: &mut B) -> Result<(), Error>
     ensures { Writes bytes.now None B.Lacks (B.held buf.old) (B.held buf.new) result }
@@ -15,6 +18,7 @@ pub fn append<B: Buffer>(bytes: &[u8], buf: &mut B) -> Result<(), Error>
 }
 
 // All of both, or nothing.
+#[inline]
 pub fn append_both<B: Buffer>(front: &[u8], rest: &[u8], buf: &mut B) -> Result<(), Error>
     ensures { Writes (front.now ++ rest.now) None B.Lacks (B.held buf.old) (B.held buf.new) result }
 {

@@ -29,6 +29,13 @@ impl Model for Point {
 }
 
 impl Point {
+    // The point with these coordinates.
+    pub(crate) fn new(x: u64, y: u64) -> Point
+        ensures { result ≡ record { x = x; y = y } }
+    {
+        Point { x, y }
+    }
+
     /// The bits of the x coordinate.
     pub fn x(&self) -> u64
         ensures { result ≡ self.now.x }
@@ -93,7 +100,7 @@ fn coordinate_of(bytes: &[u8]) -> u64
 }
 
 // The point that sixteen bytes spell.
-fn point_of(bytes: &[u8]) -> Point
+pub(crate) fn point_of(bytes: &[u8]) -> Point
     requires { length bytes.now ≡ 16 }
     ensures { IsPoint result × (bytes.now ≡ point_bytes result) }
 {

@@ -9,6 +9,10 @@ ghost use Rattle.pgp_types.specs.Time.{timestamp, time, date};
 ghost use Rattle.pgp_types.specs.Network.{Inet, family_of, address_size, joined, parts_of, macaddr, uuid, inet};
 ghost use Rattle.pgp_types.specs.Geometry.{point, box};
 ghost use Rattle.pgp_types.specs.Array.{ArrayRead, array};
+ghost use Rattle.pgp_types.specs.Varbit.{varbit};
+ghost use Rattle.pgp_types.specs.Path.{path};
+ghost use Rattle.pgp_types.specs.Hstore.{hstore};
+ghost use Rattle.pgp_types.specs.Range.{range};
 
 use pgp_base::Error;
 
@@ -62,4 +66,24 @@ pub fn shapes()
 pub fn arrays()
     ensures of_array { IsSound array }
     ensures few { (bytes : List ℕ) (v : ArrayRead) → Reads array bytes (Ok v) → length v.values.items ≤ length bytes }
+{}
+
+/// Bit strings: one is read back where there are as many bytes as its bits take.
+pub fn bit_strings()
+    ensures { IsSound varbit }
+{}
+
+/// Paths: one is read back as a walk that hands out its points and ends.
+pub fn paths()
+    ensures { IsSound path }
+{}
+
+/// Lists of keys and values: one is read back as a walk that hands out its entries and ends.
+pub fn key_value_lists()
+    ensures { IsSound hstore }
+{}
+
+/// Ranges, whatever their bounds are.
+pub fn ranges()
+    ensures { IsSound range }
 {}

@@ -7,20 +7,27 @@
 mod array;
 mod codec;
 mod geometry;
+mod hstore;
 pub mod laws;
 mod network;
 mod part;
+mod path;
+mod range;
 mod scalar;
 mod text;
 mod time;
+mod varbit;
 
 pub use array::{
     Array, ArrayDimension, ArrayDimensions, ArrayValues, array_from_sql, array_to_sql,
 };
 pub use geometry::{Box, Point, box_from_sql, box_to_sql, point_from_sql, point_to_sql};
+pub use hstore::{HstoreEntries, hstore_from_sql, hstore_to_sql};
 pub use network::{
     Inet, inet_from_sql, inet_to_sql, macaddr_from_sql, macaddr_to_sql, uuid_from_sql, uuid_to_sql,
 };
+pub use path::{Path, PathPoints, path_from_sql, path_to_sql};
+pub use range::{Range, RangeBound, empty_range_to_sql, range_from_sql, range_to_sql};
 pub use scalar::{
     bool_from_sql, bool_to_sql, bytea_from_sql, bytea_to_sql, char_from_sql, char_to_sql,
     float4_from_sql, float4_to_sql, float8_from_sql, float8_to_sql, int2_from_sql, int2_to_sql,
@@ -34,6 +41,7 @@ pub use text::{
 pub use time::{
     date_from_sql, date_to_sql, time_from_sql, time_to_sql, timestamp_from_sql, timestamp_to_sql,
 };
+pub use varbit::{Varbit, varbit_from_sql, varbit_to_sql};
 
 #[cfg(test)]
 mod tests;

@@ -1,6 +1,6 @@
 use crate::*;
 use bytes::BytesMut;
-use pgp_base::Error;
+use pgp_base::{Error, FallibleIterator, IsNull, put_u32};
 use std::net::{IpAddr, Ipv4Addr, Ipv6Addr};
 use std::test::Fail;
 
@@ -61,8 +61,8 @@ fn texts_as_a_server_sends_them(rt: HostRuntime) -> Result<(), Fail> {
     both_ways! { rt;
         text_to_sql("h\u{e9}llo"), text_from_sql: b"h\xc3\xa9llo";
         ltree_to_sql("Top.Science.Astronomy"), ltree_from_sql: b"\x01Top.Science.Astronomy";
-        lquery_to_sql("Top.*{0,2}.sport@"), lquery_from_sql: b"\x01Top.*{0,2}.sport@";
-        ltxtquery_to_sql("Europe & Russia*@"), ltxtquery_from_sql: b"\x01Europe & Russia*@";
+        lquery_to_sql("Top.*{,2}.sport@"), lquery_from_sql: b"\x01Top.*{,2}.sport@";
+        ltxtquery_to_sql("Europe & Russia@*"), ltxtquery_from_sql: b"\x01Europe & Russia@*";
     }
     let mut buf = BytesMut::new(rt.alloc());
     bytea_to_sql(b"\xde\xad\xbe\xef", &mut buf)?;
@@ -130,7 +130,8 @@ fn a_cidr_reads_as_an_inet(rt: HostRuntime) -> Result<(), Fail> {
 // Each fault is behind the ones before it.
 #[test]
 fn an_inet_is_refused_by_its_first_fault(rt: HostRuntime) {
-    let rows: [(&[u8], Error); 9] = [
+    let rows: [(&[u8], Error); 10] = [
+        (b"\x02\x21\x00\x04\x7f\x00\x00\x01", Error::InvalidNetmask),
         (b"", Error::UnexpectedEof),
         (b"\x04\xff\x00", Error::UnexpectedEof),
         (b"\x04\xff\x00\x00", Error::InvalidFamily),
@@ -216,4 +217,329 @@ fn labels_are_refused(rt: HostRuntime) {
         assert_eq!(rt; lquery_from_sql(bytes), Err(want));
         assert_eq!(rt; ltxtquery_from_sql(bytes), Err(want));
     }
+}
+
+// no bits, 1, 8 and 9 of them
+#[test]
+fn bit_strings_as_a_server_sends_them(rt: HostRuntime) -> Result<(), Fail> {
+    let rows: [(usize, &[u8], &[u8]); 4] = [
+        (0, b"", b"\0\0\0\0"),
+        (1, b"\x80", b"\0\0\0\x01\x80"),
+        (8, b"\xb2", b"\0\0\0\x08\xb2"),
+        (9, b"\xb2\x80", b"\0\0\0\x09\xb2\x80"),
+    ];
+    for (len, bits, bytes) in rows {
+        let mut buf = BytesMut::new(rt.alloc());
+        varbit_to_sql(len, bits.iter().copied(), &mut buf)?;
+        assert_eq!(rt; buf.as_slice(), bytes);
+        let read = varbit_from_sql(bytes)?;
+        assert!(rt; read.len() == len && read.is_empty() == (len == 0) && read.bytes() == bits);
+    }
+    Ok(())
+}
+
+// The padding of the last byte may be any, as in the tests of the Rust crate.
+#[test]
+fn twelve_bits_in_two_bytes(rt: HostRuntime) -> Result<(), Fail> {
+    let mut buf = BytesMut::new(rt.alloc());
+    varbit_to_sql(12, [0x2bu8, 0x0f].into_iter(), &mut buf)?;
+    assert_eq!(rt; buf.as_slice(), b"\0\0\0\x0c\x2b\x0f".as_slice());
+    let read = varbit_from_sql(b"\0\0\0\x0c\x2b\x0f")?;
+    assert!(rt; read.len() == 12 && read.bytes() == b"\x2b\x0f".as_slice());
+    Ok(())
+}
+
+#[test]
+fn bit_strings_are_refused(rt: HostRuntime) -> Result<(), Fail> {
+    let rows: [(&[u8], Error); 6] = [
+        (b"", Error::UnexpectedEof),
+        (b"\0\0\0", Error::UnexpectedEof),
+        (b"\xff\xff\xff\xff", Error::InvalidBitLength),
+        (b"\x80\0\0\0", Error::InvalidBitLength),
+        (b"\0\0\0\x09\xb2", Error::InvalidSize),
+        (b"\0\0\0\x08\xb2\x80", Error::InvalidSize),
+    ];
+    for (bytes, want) in rows {
+        assert!(rt;
+            matches!(varbit_from_sql(bytes), Err(e) if e == want),
+            "{bytes:?}"
+        );
+    }
+    let mut buf = BytesMut::new(rt.alloc());
+    assert_eq!(rt;
+        varbit_to_sql(0x8000_0000, [0u8].into_iter(), &mut buf),
+        Err(Error::TooLarge)
+    );
+    assert!(rt; buf.is_empty());
+    Ok(())
+}
+
+const ONE: u64 = 0x3ff0_0000_0000_0000;
+
+const TWO: u64 = 0x4000_0000_0000_0000;
+
+const THREE: u64 = 0x4008_0000_0000_0000;
+
+const FOUR: u64 = 0x4010_0000_0000_0000;
+
+// [(1,2),(3,4)] and ((1,2),(3,4),(-1.5,0))
+#[test]
+fn paths_as_a_server_sends_them(rt: HostRuntime) -> Result<(), Fail> {
+    let rows: [(bool, &[(u64, u64)], &[u8]); 2] = [
+        (
+            false,
+            &[(ONE, TWO), (THREE, FOUR)],
+            b"\0\0\0\0\x02\x3f\xf0\0\0\0\0\0\0\x40\0\0\0\0\0\0\0\x40\x08\0\0\0\0\0\0\x40\x10\0\0\0\0\0\0",
+        ),
+        (
+            true,
+            &[(ONE, TWO), (THREE, FOUR), (0xbff8_0000_0000_0000, 0)],
+            b"\x01\0\0\0\x03\x3f\xf0\0\0\0\0\0\0\x40\0\0\0\0\0\0\0\x40\x08\0\0\0\0\0\0\x40\x10\0\0\0\0\0\0\xbf\xf8\0\0\0\0\0\0\0\0\0\0\0\0\0\0",
+        ),
+    ];
+    for (closed, points, bytes) in rows {
+        let mut buf = BytesMut::new(rt.alloc());
+        path_to_sql(closed, points.iter().copied(), &mut buf)?;
+        assert_eq!(rt; buf.as_slice(), bytes);
+        let read = path_from_sql(bytes)?;
+        assert_eq!(rt; read.closed(), closed);
+        let mut walk = read.points();
+        assert_eq!(rt; walk.size_hint(), (points.len(), Some(points.len())));
+        for (x, y) in points {
+            let point = walk.next()?;
+            assert!(rt; matches!(point, Some(p) if p.x() == *x && p.y() == *y));
+        }
+        assert!(rt; matches!(walk.next(), Ok(None)) && matches!(walk.next(), Ok(None)));
+    }
+    let mut buf = BytesMut::new(rt.alloc());
+    path_to_sql(true, [(0, 0)], &mut buf)?;
+    assert_eq!(rt;
+        buf.as_slice(),
+        b"\x01\0\0\0\x01\0\0\0\0\0\0\0\0\0\0\0\0\0\0\0\0".as_slice()
+    );
+    Ok(())
+}
+
+#[test]
+fn paths_are_refused(rt: HostRuntime) -> Result<(), Fail> {
+    let rows: [(&[u8], Error); 4] = [
+        (b"", Error::UnexpectedEof),
+        (b"\x01\0\0\0", Error::UnexpectedEof),
+        (b"\x01\xff\xff\xff\xff", Error::InvalidCount),
+        (b"\x02\x80\0\0\0", Error::InvalidCount),
+    ];
+    for (bytes, want) in rows {
+        assert!(rt;
+            matches!(path_from_sql(bytes), Err(e) if e == want),
+            "{bytes:?}"
+        );
+    }
+    // a point that is cut short, and a byte behind none
+    let mut walk = path_from_sql(b"\x02\0\0\0\x01\0\0\0\0\0\0\0\0\0\0\0\0\0\0\0")?.points();
+    assert_eq!(rt; walk.size_hint(), (1, Some(1)));
+    assert!(rt; matches!(walk.next(), Err(Error::UnexpectedEof)));
+    assert_eq!(rt; walk.size_hint(), (0, Some(0)));
+    assert!(rt; matches!(walk.next(), Err(Error::UnexpectedEof)));
+    let mut walk = path_from_sql(b"\0\0\0\0\0\xff")?.points();
+    assert!(rt; matches!(walk.next(), Err(Error::NotDrained)));
+    assert!(rt; matches!(walk.next(), Err(Error::NotDrained)));
+    Ok(())
+}
+
+const HELLO_HOLA: &[u8] = b"\0\0\0\x02\0\0\0\x04hola\xff\xff\xff\xff\0\0\0\x05hello\0\0\0\x05world";
+
+#[test]
+fn key_value_lists_as_a_server_sends_them(rt: HostRuntime) -> Result<(), Fail> {
+    let rows: [(&[(&str, Option<&str>)], &[u8]); 5] = [
+        (&[], b"\0\0\0\0"),
+        (
+            &[("a", Some("b")), ("c", None)],
+            b"\0\0\0\x02\0\0\0\x01a\0\0\0\x01b\0\0\0\x01c\xff\xff\xff\xff",
+        ),
+        (&[("hola", None), ("hello", Some("world"))], HELLO_HOLA),
+        (&[("", Some(""))], b"\0\0\0\x01\0\0\0\0\0\0\0\0"),
+        (
+            &[("k", Some("\u{e4}"))],
+            b"\0\0\0\x01\0\0\0\x01k\0\0\0\x02\xc3\xa4",
+        ),
+    ];
+    for (pairs, bytes) in rows {
+        let mut buf = BytesMut::new(rt.alloc());
+        hstore_to_sql(pairs.iter().copied(), &mut buf)?;
+        assert_eq!(rt; buf.as_slice(), bytes);
+        let mut walk = hstore_from_sql(bytes)?;
+        assert_eq!(rt; walk.size_hint(), (pairs.len(), Some(pairs.len())));
+        for (key, value) in pairs {
+            let entry = walk.next()?;
+            assert!(rt; matches!(entry, Some((k, v)) if k == *key && v == *value));
+        }
+        assert!(rt; matches!(walk.next(), Ok(None)));
+    }
+    Ok(())
+}
+
+#[test]
+fn key_value_lists_are_refused(rt: HostRuntime) -> Result<(), Fail> {
+    let rows: [(&[u8], Error); 3] = [
+        (b"", Error::UnexpectedEof),
+        (b"\0\0\0", Error::UnexpectedEof),
+        (b"\xff\xff\xff\xff", Error::InvalidCount),
+    ];
+    for (bytes, want) in rows {
+        assert!(rt;
+            matches!(hstore_from_sql(bytes), Err(e) if e == want),
+            "{bytes:?}"
+        );
+    }
+    let walks: [(&[u8], Error); 9] = [
+        (b"\0\0\0\x01", Error::UnexpectedEof),
+        (b"\0\0\0\x01\0\0\x03\xe8ab", Error::InvalidKeyLength),
+        (b"\0\0\0\x01\xff\xff\xff\xffab", Error::InvalidKeyLength),
+        (b"\0\0\0\x01\0\0\0\x01\xff\0", Error::NotUtf8),
+        (b"\0\0\0\x01\0\0\0\x01a\0\0\0", Error::UnexpectedEof),
+        (
+            b"\0\0\0\x01\0\0\0\x01a\0\0\0\x02b",
+            Error::InvalidValueLength,
+        ),
+        (b"\0\0\0\x01\0\0\0\x01a\0\0\0\x01\xff", Error::NotUtf8),
+        (
+            b"\0\0\0\x01\0\0\0\x01a\xff\xff\xff\xff\0",
+            Error::NotDrained,
+        ),
+        (b"\0\0\0\0\0", Error::NotDrained),
+    ];
+    for (bytes, want) in walks {
+        let read = hstore_from_sql(bytes)?.collect(rt.alloc());
+        assert!(rt; matches!(read, Err(e) if e == want), "{bytes:?}");
+    }
+    Ok(())
+}
+
+// int4range(1,5), int4range(NULL,5), int4range(1,NULL), int4range(NULL,NULL) and 'empty'; tsrange between 1 s and 2 s
+// after the beginning of 2000, as [], () and (]
+#[test]
+fn ranges_as_a_server_sends_them(rt: HostRuntime) -> Result<(), Fail> {
+    let one = b"\0\0\0\x01".as_slice();
+    let five = b"\0\0\0\x05".as_slice();
+    let second = b"\0\0\0\0\0\x0f\x42\x40".as_slice();
+    let seconds = b"\0\0\0\0\0\x1e\x84\x80".as_slice();
+    assert!(rt; matches!(range_from_sql(b"\x01"), Ok(Range::Empty)));
+    assert!(rt;
+        matches!(
+        range_from_sql(b"\x02\0\0\0\x04\0\0\0\x01\0\0\0\x04\0\0\0\x05"),
+        Ok(Range::Nonempty(RangeBound::Inclusive(Some(l)), RangeBound::Exclusive(Some(u)))) if l == one && u == five
+    )
+    );
+    assert!(rt;
+        matches!(
+        range_from_sql(b"\x08\0\0\0\x04\0\0\0\x05"),
+        Ok(Range::Nonempty(RangeBound::Unbounded, RangeBound::Exclusive(Some(u)))) if u == five
+    )
+    );
+    assert!(rt;
+        matches!(
+        range_from_sql(b"\x12\0\0\0\x04\0\0\0\x01"),
+        Ok(Range::Nonempty(RangeBound::Inclusive(Some(l)), RangeBound::Unbounded)) if l == one
+    )
+    );
+    assert!(rt;
+        matches!(
+            range_from_sql(b"\x18"),
+            Ok(Range::Nonempty(RangeBound::Unbounded, RangeBound::Unbounded))
+        )
+    );
+    assert!(rt;
+        matches!(
+        range_from_sql(b"\x06\0\0\0\x08\0\0\0\0\0\x0f\x42\x40\0\0\0\x08\0\0\0\0\0\x1e\x84\x80"),
+        Ok(Range::Nonempty(RangeBound::Inclusive(Some(l)), RangeBound::Inclusive(Some(u)))) if l == second && u == seconds
+    )
+    );
+    assert!(rt;
+        matches!(
+        range_from_sql(b"\0\0\0\0\x08\0\0\0\0\0\x0f\x42\x40\0\0\0\x08\0\0\0\0\0\x1e\x84\x80"),
+        Ok(Range::Nonempty(RangeBound::Exclusive(Some(l)), RangeBound::Exclusive(Some(u)))) if l == second && u == seconds
+    )
+    );
+    assert!(rt;
+        matches!(
+        range_from_sql(b"\x04\0\0\0\x08\0\0\0\0\0\x0f\x42\x40\0\0\0\x08\0\0\0\0\0\x1e\x84\x80"),
+        Ok(Range::Nonempty(RangeBound::Exclusive(Some(l)), RangeBound::Inclusive(Some(u)))) if l == second && u == seconds
+    )
+    );
+    Ok(())
+}
+
+#[test]
+fn ranges_are_refused(rt: HostRuntime) {
+    let rows: [(&[u8], Error); 8] = [
+        (b"", Error::UnexpectedEof),
+        (b"\x01\0", Error::NotDrained),
+        (b"\x18\0", Error::NotDrained),
+        (b"\x02", Error::UnexpectedEof),
+        (b"\x08\0\0\0", Error::UnexpectedEof),
+        (b"\x12\0\0\0\x05\0\0\0\x01", Error::InvalidValueLength),
+        (b"\x02\0\0\0\x01a\0\0\0\x02b", Error::InvalidValueLength),
+        (b"\x02\0\0\0\x01a\0\0\0\x01bc", Error::NotDrained),
+    ];
+    for (bytes, want) in rows {
+        assert!(rt;
+            matches!(range_from_sql(bytes), Err(e) if e == want),
+            "{bytes:?}"
+        );
+    }
+    // a tag with the empty bit and others isn't empty; a negative length is a null
+    assert!(rt;
+        matches!(
+            range_from_sql(b"\x19"),
+            Ok(Range::Nonempty(RangeBound::Unbounded, RangeBound::Unbounded))
+        )
+    );
+    assert!(rt;
+        matches!(
+            range_from_sql(b"\x0a\xff\xff\xff\xfe"),
+            Ok(Range::Nonempty(RangeBound::Unbounded, RangeBound::Exclusive(None)))
+        )
+    );
+}
+
+#[test]
+fn ranges_are_written(rt: HostRuntime) -> Result<(), Fail> {
+    let mut buf = BytesMut::new(rt.alloc());
+    empty_range_to_sql(&mut buf)?;
+    assert_eq!(rt; buf.as_slice(), b"\x01".as_slice());
+
+    let mut buf = BytesMut::new(rt.alloc());
+    let answer = range_to_sql(
+        |buf: &mut BytesMut| -> Result<RangeBound<IsNull>, Error> {
+            put_u32(buf, 1)?;
+            Ok(RangeBound::Inclusive(IsNull::No))
+        },
+        |buf: &mut BytesMut| -> Result<RangeBound<IsNull>, Error> {
+            put_u32(buf, 5)?;
+            Ok(RangeBound::Exclusive(IsNull::No))
+        },
+        &mut buf,
+    );
+    assert!(rt; answer.is_ok());
+    assert_eq!(rt;
+        buf.as_slice(),
+        b"\x02\0\0\0\x04\0\0\0\x01\0\0\0\x04\0\0\0\x05".as_slice()
+    );
+
+    // what was appended for no bound is not there
+    let mut buf = BytesMut::new(rt.alloc());
+    let answer = range_to_sql(
+        |buf: &mut BytesMut| -> Result<RangeBound<IsNull>, Error> {
+            put_u32(buf, 1)?;
+            Ok(RangeBound::Unbounded)
+        },
+        |buf: &mut BytesMut| -> Result<RangeBound<IsNull>, Error> {
+            put_u32(buf, 5)?;
+            Ok(RangeBound::Inclusive(IsNull::No))
+        },
+        &mut buf,
+    );
+    assert!(rt; answer.is_ok());
+    assert_eq!(rt; buf.as_slice(), b"\x0c\0\0\0\x04\0\0\0\x05".as_slice());
+    Ok(())
 }

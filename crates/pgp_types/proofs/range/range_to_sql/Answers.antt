@@ -1,0 +1,6 @@
+use Rattle.pgp_base.proofs.Parts.{cut_back}
+use Rattle.pgp_types.proofs.range.range_to_sql.Goals as goal
+
+pub returns-in-Err : goal.returns-in-Err
+returns-in-Err g c =
+    (c.in-Err.ensures.cause, cut_back _ _ _ c.len-start.result c.in-Err.ensures.err c.len-start.ensures.value c.truncate.ensures.bytes c.truncate.ensures.kept)

@@ -1,0 +1,90 @@
+-- What the writer of a range comes to, which calls a closure for each side.
+use Rattle.std.specs.Prelude.{◌≡◌, ◌⊎◌, ℕ, ◌+◌, List, [], ◌∷◌, ◌++◌, take, drop, Some, None, Result, Ok, Err, ⊤}
+use Rattle.pgp_base.specs.declared.number.IsNull.{IsNull}
+use Rattle.pgp_base.specs.declared.number.IsNull.TheVariants.{Yes, No}
+use Rattle.pgp_base.specs.declared.error.Error.{Error}
+use Rattle.pgp_base.specs.declared.error.BindError.{BindError}
+use Rattle.pgp_base.specs.declared.error.BindError.TheVariants.{Conversion, Serialization}
+use Rattle.pgp_base.specs.Calls.{IsFrontOf, Appends, value_of, length_of}
+use Rattle.pgp_base.specs.Cause.{WantsMemory}
+use Rattle.pgp_base.specs.Held.{Held, ◌⊕◌, overwritten, Leaves}
+use Rattle.pgp_base.specs.Wire.{uint32}
+use Rattle.pgp_types.specs.declared.range.RangeBound.{RangeBound}
+use Rattle.pgp_types.specs.declared.range.RangeBound.TheVariants.{Inclusive, Exclusive, Unbounded}
+use Rattle.pgp_types.specs.Range.{Side, Range, between, side_bytes, side_cause, range_bytes, range_cause}
+use denote.Ref.{MutBor}
+
+-- what a side's closure may do to a buffer: append, and nothing where it answers a null; where it is refused use more of
+-- what stands behind the bytes
+abbrev pub KeepsBound : {E K : Type 0} → Result (RangeBound IsNull) E → Held K → Held K → Type 0
+KeepsBound (Ok (Inclusive Yes)) old new = new ≡ old
+KeepsBound (Ok (Exclusive Yes)) old new = new ≡ old
+KeepsBound (Ok x) old new = (p : List ℕ) × (new ≡ old ⊕ p)
+KeepsBound (Err e) old new = IsFrontOf old new
+
+-- the side that a closure's answer makes of the bytes that it appended; of no bound there are none
+abbrev pub side_of : RangeBound IsNull → List ℕ → Side
+side_of (Inclusive null) bytes = Inclusive (value_of null bytes)
+side_of (Exclusive null) bytes = Exclusive (value_of null bytes)
+side_of Unbounded bytes = Unbounded
+
+-- it answers a null
+abbrev pub IsNullBound : RangeBound IsNull → Type 0
+IsNullBound (Inclusive Yes) = ⊤
+IsNullBound (Exclusive Yes) = ⊤
+IsNullBound answer = ⊥
+
+-- what a side leaves whose length's place is filled, or which is cut off
+abbrev pub SideFilled : {K : Type 0} → RangeBound IsNull → Held K → ℕ → Held K → Type 0
+SideFilled Unbounded old base new = (new.bytes ≡ take base old.bytes) × (new.kept ≡ old.kept)
+SideFilled (Inclusive null) old base new = new ≡ overwritten old base (length_of null (drop (base + 4) old.bytes))
+SideFilled (Exclusive null) old base new = new ≡ overwritten old base (length_of null (drop (base + 4) old.bytes))
+
+-- these bytes stand behind the old ones; what stands behind them may be other than it was
+abbrev pub Extends : {K : Type 0} → Held K → List ℕ → Held K → Type 0
+Extends old p new = (new.bytes ≡ old.bytes ++ p) × (new.kept ≡ old.kept)
+
+module _ {F E B K : Type 0} (held : B → Held K) (pre : F → MutBor B → Type 0) (post : F → MutBor B → Result (RangeBound IsNull) E → MutBor B → Type 0) where
+  -- the law that a side's closure owes
+  abbrev pub OwesBound : F → Type 0
+  OwesBound f = (b b' : MutBor B) (r : Result (RangeBound IsNull) E) → pre f b → post f b r b' → KeepsBound r (held b.now) (held b'.now)
+
+module _ {F E B K : Type 0} (held : B → Held K) (post : F → MutBor B → Result (RangeBound IsNull) E → MutBor B → Type 0) where
+  -- a call of f, behind the place of a length, made the side
+  pub record Makes (here : Held K) (f : F) (s : Side) : Type 0 where
+    pub answer : RangeBound IsNull
+    pub bytes : List ℕ
+    pub put : Appends held post (here ⊕ uint32 0) f (Ok answer) bytes
+    pub side : s ≡ side_of answer bytes
+    pub fits : side_cause s ≡ None
+
+  -- Why a side was refused: f refused, or its bytes pass the length's field, or there is no memory.
+  abbrev pub SideStops : Type 0 → Held K → F → BindError E → Type 0
+  SideStops lacks here f (Conversion e) = (p : List ℕ) × Appends held post (here ⊕ uint32 0) f (Err e) p
+  SideStops lacks here f (Serialization e) = WantsMemory lacks e ⊎ ((answer : RangeBound IsNull) × (p : List ℕ) × Appends held post (here ⊕ uint32 0) f (Ok answer) p × (side_cause (side_of answer p) ≡ Some e))
+
+-- The closures f and g, of the lower side and the upper, and what the buffer held before the call.
+module _ {F G E B K : Type 0} (held : B → Held K) (post_f : F → MutBor B → Result (RangeBound IsNull) E → MutBor B → Type 0) (post_g : G → MutBor B → Result (RangeBound IsNull) E → MutBor B → Type 0) (f : F) (g : G) (old : Held K) where
+  -- f was called behind the tag, and made the lower side, whose bytes stand there then
+  pub record LowerMade (lower : Side) (mid : Held K) : Type 0 where
+    pub made : Makes held post_f (old ⊕ 0 ∷ []) f lower
+    pub stands : Extends (old ⊕ 0 ∷ []) (side_bytes lower) mid
+
+  -- g was called behind that, and made the upper side
+  pub record WritesRange (new : Held K) : Type 0 where
+    pub lower : Side
+    pub upper : Side
+    pub mid : Held K
+    pub first : LowerMade lower mid
+    pub second : Makes held post_g mid g upper
+    pub fits : range_cause (between lower upper) ≡ None
+    pub appended : Extends old (range_bytes (between lower upper)) new
+
+  -- there was no memory for the tag, or the lower side was refused, or behind it the upper
+  abbrev pub RangeStops : Type 0 → BindError E → Type 0
+  RangeStops lacks e = ((why : Error) × (e ≡ Serialization why) × WantsMemory lacks why) ⊎ (SideStops held post_f lacks (old ⊕ 0 ∷ []) f e
+      ⊎ ((lower : Side) × (mid : Held K) × LowerMade lower mid × SideStops held post_g lacks mid g e))
+
+  abbrev pub RangeWritten : Type 0 → Held K → Result (Unit {0}) (BindError E) → Type 0
+  RangeWritten lacks new (Ok done) = WritesRange new
+  RangeWritten lacks new (Err e) = RangeStops lacks e × Leaves old new
