@@ -71,6 +71,10 @@ point_item = record {
 pub point_read : (p : Point) (bytes front rest : List ℕ) → IsPoint p × (front ≡ point_bytes p) → bytes ≡ front ++ rest → point_at bytes ≡ Ok (p, rest)
 point_read p bytes front rest s e = ap point_at e ∙ point_item.part.again p front rest s
 
+-- the same by its coordinates
+pub coordinates_read : (x y : ℕ) (p : Point) (bytes front rest : List ℕ) → x ≡ p.x → y ≡ p.y → IsPoint p × (front ≡ point_bytes p) → bytes ≡ front ++ rest → point_at bytes ≡ Ok (point_at_xy (x, y), rest)
+coordinates_read x y p bytes front rest a b s e = rw (a, b) (point_read p bytes front rest s e)
+
 -- the reading
 
 abbrev pub seen : (closed : Bool) (n : ℕ) (rest : List ℕ) → WalkedPath

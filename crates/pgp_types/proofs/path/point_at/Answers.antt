@@ -1,7 +1,7 @@
 use Rattle.std.proofs.Common.{◌≡◌, ◌<◌, ◌++◌, length, sym, ap, ◌∙◌, arith, refl}
 use Rattle.std.proofs.lemmas.List.{take-append-drop}
 use Rattle.pgp_types.specs.PartReading.{point_at}
-use Rattle.pgp_types.proofs.PathLemmas.{point_item, point_read}
+use Rattle.pgp_types.proofs.PathLemmas.{point_item, coordinates_read}
 use Rattle.pgp_types.proofs.path.point_at.Goals as goal
 
 pub returns-then-bytes-lt16 : goal.returns-then-bytes-lt16
@@ -10,4 +10,4 @@ returns-then-bytes-lt16 c = point_item.part.refuses c.args.bytes.now _ (c.if-byt
 pub returns : goal.returns
 returns c =
     let whole : c.args.bytes.now ≡ c.split_at.result.0.now ++ c.split_at.result.1.now = rw (c.split_at.ensures.front, c.split_at.ensures.back) (sym (take-append-drop 16 c.args.bytes.now)) in
-    point_read c.point_of-point.result c.args.bytes.now c.split_at.result.0.now c.split_at.result.1.now c.point_of-point.ensures whole
+    coordinates_read c.x.result c.y.result c.point_of-point.result c.args.bytes.now c.split_at.result.0.now c.split_at.result.1.now c.x.ensures c.y.ensures c.point_of-point.ensures whole

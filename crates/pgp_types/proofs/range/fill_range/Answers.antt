@@ -21,7 +21,7 @@ returns-in_err-high-clause-cause g c =
     let l = c.in_ok-low.ensures.ok in
     let start = c.in_ok-put_u8.ensures.ok in
     if_err_at _ _ _ c.from_residual-in_err-high.ensures.1
-    (inr (inr (l.0, _, record { made = makes_at _ _ _ _ _ _ start l.1; stands = extends_at _ _ _ _ start l.3 }, c.in_err-high.ensures.cause)))
+    (inr (inr (l.0, _, record { made = makes_at _ _ _ _ _ _ start l.1; stands = extends_at _ _ (g.B.Buffer.held c.put_side.new.buf) _ start l.3 }, c.in_err-high.ensures.cause)))
 
 pub returns-in_err-high-clause-err : goal.returns-in_err-high-clause-err
 returns-in_err-high-clause-err g c =
@@ -32,20 +32,24 @@ pub patch-requires : goal.patch-requires
 patch-requires g c =
     let l = c.in_ok-low.ensures.ok in
     let u = c.in_ok-high.ensures.ok in
-    tag_room (g.B.Buffer.held c.args.buf.now) _ _ l.0 u.0 (extends_at _ _ _ _ c.in_ok-put_u8.ensures.ok l.3) u.3 c.len-base.result c.len-base.ensures.value
+    let mid = g.B.Buffer.held c.put_side.new.buf in
+    let last = g.B.Buffer.held c.put_side-2.new.buf in
+    tag_room (g.B.Buffer.held c.args.buf.now) mid last l.0 u.0 (extends_at _ _ mid _ c.in_ok-put_u8.ensures.ok l.3) u.3 c.len-base.result c.len-base.ensures.value
 
 pub returns-clause-ok : goal.returns-clause-ok
 returns-clause-ok g c =
     let l = c.in_ok-low.ensures.ok in
     let u = c.in_ok-high.ensures.ok in
     let start = c.in_ok-put_u8.ensures.ok in
+    let mid = g.B.Buffer.held c.put_side.new.buf in
+    let last = g.B.Buffer.held c.put_side-2.new.buf in
     let tag : bit_or c.in_ok-low.low c.in_ok-high.high ≡ side_bit lower_bits l.0 + side_bit upper_bits u.0 = rw (l.2, u.2) (tag_or l.0 u.0) in
     record {
       lower = l.0;
       upper = u.0;
-      mid = _;
-      first = record { made = makes_at _ _ _ _ _ _ start l.1; stands = extends_at _ _ _ _ start l.3 };
+      mid = mid;
+      first = record { made = makes_at _ _ _ _ _ _ start l.1; stands = extends_at _ _ mid _ start l.3 };
       second = u.1;
       fits = either_none (side_cause l.0) (side_cause u.0) l.1.fits u.1.fits;
-      appended = tag_written (g.B.Buffer.held c.args.buf.now) _ _ l.0 u.0 (extends_at _ _ _ _ start l.3) u.3 _ c.len-base.result _ c.len-base.ensures.value tag c.patch.ensures;
+      appended = tag_written (g.B.Buffer.held c.args.buf.now) mid last l.0 u.0 (extends_at _ _ mid _ start l.3) u.3 (g.B.Buffer.held c.patch.new.self) c.len-base.result _ c.len-base.ensures.value tag c.patch.ensures;
     }

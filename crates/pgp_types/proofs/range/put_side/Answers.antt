@@ -23,7 +23,7 @@ pub returns-in-Err-finish_side-clause-cause : goal.returns-in-Err-finish_side-cl
 returns-in-Err-finish_side-clause-cause g c =
     let k = c.in-Ok.ensures in
     let r = rest4 _ k.0 _ _ _ c.in_ok-put_u32.ensures.ok k.2 c.len-base.ensures.value in
-    inr (c.in-Ok.answer, k.0, Appends-at _ _ c.in_ok-put_u32.ensures.ok k.1, subst (λ p. side_cause (side_of c.in-Ok.answer p) ≡ Some _) r c.in-Err-finish_side.ensures.cause)
+    inr (c.in-Ok.answer, k.0, Appends-at _ _ c.in_ok-put_u32.ensures.ok k.1, subst (λ p. side_cause (side_of c.in-Ok.answer p) ≡ Some c.in-Err-finish_side.e) r c.in-Err-finish_side.ensures.cause)
 
 pub returns-in_default-clause-ok : goal.returns-in_default-clause-ok
 returns-in_default-clause-ok g c =
