@@ -124,7 +124,8 @@ const PASSWORD: &[u8] = b"p\xc3\xa4ssword";
 const FIRST: &[u8] = b"r=9IZ2O01zb9IgiIZ1WJ/zgpJBjx,s=fs3IXBy7U7+IvVjZ,i=1";
 
 // 94 bytes that aren't the signature, in base64.
-const LONG_FINAL: &[u8] = b"v=AAAAAAAAAAAAAAAAAAAAAAAAAAAAAAAAAAAAAAAAAAAAAAAAAAAAAAAAAAAAAAAAAAAAAAAAAAAAAAAAAAAAAAAAAAAAAAAAAAAAAAAAAAAAAAAAAAAAAAAAAAAAAA==";
+const LONG_FINAL: &[u8] =
+    b"v=AAAAAAAAAAAAAAAAAAAAAAAAAAAAAAAAAAAAAAAAAAAAAAAAAAAAAAAAAAAAAAAAAAAAAAAAAAAAAAAAAAAAAAAAAAAAAAAAAAAAAAAAAAAAAAAAAAAAAAAAAAAAAA==";
 
 // How an exchange begins, and how far it goes.
 #[derive(Debug, Clone, Copy)]
@@ -133,10 +134,7 @@ struct Course<'a> {
     server_final: &'a [u8],
 }
 
-fn begun<A: Allocator + Copy>(
-    alloc: A,
-    is_drawn: bool,
-) -> Result<ScramSha256<A>, ScramError<A>> {
+fn begun<A: Allocator + Copy>(alloc: A, is_drawn: bool) -> Result<ScramSha256<A>, ScramError<A>> {
     let signature = Vec::from_slice(alloc, b"a hash")?;
     let binding = ChannelBinding::tls_server_end_point(signature);
     if is_drawn {
@@ -170,10 +168,7 @@ fn number<T, A: Allocator>(outcome: &Result<T, ScramError<A>>) -> u8 {
 }
 
 // The numbers of `update`'s refusal and of `finish`'s, and the HMACs that were made.
-fn end_of<A: Allocator + Copy>(
-    alloc: A,
-    course: Course,
-) -> Result<(u8, u8, u64), ScramError<A>> {
+fn end_of<A: Allocator + Copy>(alloc: A, course: Course) -> Result<(u8, u8, u64), ScramError<A>> {
     let mut client = begun(alloc, course.is_drawn)?;
     let first = server_first(alloc, &client)?;
     let updated = number(&client.update(&first));
@@ -247,7 +242,12 @@ fn a_short_signature_takes_no_memory(rt: HostRuntime) -> Result<(), Fail> {
 #[test]
 fn long_texts_are_escaped(rt: HostRuntime) -> Result<(), Fail> {
     let alloc = rt.alloc();
-    let units = [("abcde", 5, 5), ("ab'de", 6, 5), ("a\\cd'", 7, 5), ("a\"c\"e", 5, 7)];
+    let units = [
+        ("abcde", 5, 5),
+        ("ab'de", 6, 5),
+        ("a\\cd'", 7, 5),
+        ("a\"c\"e", 5, 7),
+    ];
     for (unit, literal_len, identifier_len) in units {
         let mut text = String::new(alloc);
         for _ in 0..20_000 {
@@ -259,10 +259,16 @@ fn long_texts_are_escaped(rt: HostRuntime) -> Result<(), Fail> {
         let identifier = escape_identifier(alloc, &text)?;
         assert_eq!(rt; identifier.len(), identifier_len * 20_000 + 2, "{unit}");
     }
-    let name = "abcdefghij0123456789abcdefghij0123456789abcdefghij0123456789abcdefghij0123456789abcdefghij0123456789";
+    let name =
+        "abcdefghij0123456789abcdefghij0123456789abcdefghij0123456789abcdefghij0123456789abcdefghij0123456789";
     assert_eq!(rt; name.len(), 100);
     let identifier = escape_identifier(alloc, name)?;
-    assert!(rt; identifier.strip_prefix('"').and_then(|rest| rest.strip_suffix('"')) == Some(name));
+    assert!(rt;
+        identifier
+            .strip_prefix('"')
+            .and_then(|rest| rest.strip_suffix('"'))
+            == Some(name)
+    );
     Ok(())
 }
 
@@ -271,8 +277,20 @@ fn long_texts_are_escaped(rt: HostRuntime) -> Result<(), Fail> {
 fn nonces_are_drawn_anew(rt: HostRuntime) -> Result<(), Fail> {
     let alloc = rt.alloc();
     let mut rng = Pcg32::seed_from_u64(1);
-    let one = ScramSha256::new(alloc, PASSWORD, ChannelBinding::unsupported(), &NoPrep, &mut rng)?;
-    let other = ScramSha256::new(alloc, PASSWORD, ChannelBinding::unsupported(), &NoPrep, &mut rng)?;
+    let one = ScramSha256::new(
+        alloc,
+        PASSWORD,
+        ChannelBinding::unsupported(),
+        &NoPrep,
+        &mut rng,
+    )?;
+    let other = ScramSha256::new(
+        alloc,
+        PASSWORD,
+        ChannelBinding::unsupported(),
+        &NoPrep,
+        &mut rng,
+    )?;
     assert_eq!(rt; one.message().unwrap_or(b"").len(), 32);
     assert_eq!(rt; other.message().unwrap_or(b"").len(), 32);
     assert!(rt; one.message() != other.message());
