@@ -216,28 +216,6 @@ fn exchanges_with_each_allocation_refused(rt: HostRuntime) -> Result<(), Fail> {
     Ok(())
 }
 
-// A short signature is compared without memory, whatever was refused before.
-#[test]
-fn a_short_signature_takes_no_memory(rt: HostRuntime) -> Result<(), Fail> {
-    let texts = [
-        b"v=AAAA".as_slice(),
-        b"v=AAAAAAAAAAAAAAAAAAAAAAAAAAAAAAAAAAAAAAAAAAA=".as_slice(),
-        b"v=AAAAAAAAAAAAAAAAAAAAAAAAAAAAAAAAAAAAAAAAAAAAAAAAAAAAAAAAAAAAAAAA".as_slice(),
-    ];
-    for text in texts {
-        let heap = Refusing::new(rt.alloc(), 0);
-        let begun = begun(&heap, false);
-        assert_eq!(rt; number(&begun), 0);
-        if let Ok(mut client) = begun {
-            assert_eq!(rt; number(&client.update(FIRST)), 0);
-            heap.refuse(1);
-            assert_eq!(rt; number(&client.finish(text)), 12);
-            assert!(rt; heap.is_pending());
-        }
-    }
-    Ok(())
-}
-
 // With ample memory no length is told as want of memory.
 #[test]
 fn long_texts_are_escaped(rt: HostRuntime) -> Result<(), Fail> {

@@ -71,6 +71,18 @@ taken_by old new errors.OutOfMemory p q step = absurd (p refl)
 taken_by old new errors.InvalidLength p q step = absurd (q refl)
 taken_by old new e p q step = step
 
+-- a frame takes bytes
+pub taken_shorter : (old new : List ℕ) (r : Result Message Error) → TakesFrame old r new → length new < length old
+taken_shorter old new r t =
+    let body : List ℕ = uint32 (length t.first.payload + 4) ++ t.first.payload in
+    omega (arith, ap length t.whole, length-append body new)
+
+-- where a length fault stopped it a header stands there
+pub stopped_long : (stopped : Bool) (rest : List ℕ) → IsEnding stopped rest → stopped ≡ true → 5 ≤ length rest
+unfolding uint32
+stopped_long true rest fault s = omega (arith, ap length fault.header.parts, length-append (uint32 fault.header.len) fault.header.rest)
+stopped_long false rest fault s = cc
+
 -- bytes that come behind a header leave it
 pub header_of_more : (bytes more : List ℕ) → 5 ≤ length bytes → header_of (bytes ++ more) ≡ header_of bytes
 header_of_more (t ∷ a ∷ b ∷ c ∷ d ∷ rest) more h = refl

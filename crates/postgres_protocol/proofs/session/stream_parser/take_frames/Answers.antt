@@ -3,7 +3,7 @@ use Rattle.std.proofs.lemmas.List.{map_push}
 use Rattle.pgp_message.specs.Remembered.{memory_after}
 use Rattle.pgp_message.specs.Stream.{TakesFrame}
 use Rattle.pgp_message.specs.Views.{seen}
-use Rattle.postgres_protocol.proofs.Pieces.{answer_of, takes_more, taken_by}
+use Rattle.postgres_protocol.proofs.Pieces.{answer_of, takes_more, taken_by, taken_shorter}
 use Rattle.postgres_protocol.proofs.session.stream_parser.take_frames.Goals as goal
 use Rattle.postgres_protocol.proofs.session.stream_parser.take_frames.Goals.{in-Ok-Some, in-Err}
 
@@ -19,3 +19,11 @@ frames-preserved g c =
     let grown : map seen c.push.new.self.items ≡ map seen c.frames.results.items ++ r ∷ [] = ap (map seen) (search rules) ∙ map_push seen c.frames.results.items c.match-parse.read in
     takes_more a old new (map seen c.args.results.now.items) (map seen c.frames.results.items) (map seen c.push.new.self.items) c.args.frames.now c.frames.frames c.parse.new.self r run
     takes (c.next_frame.ensures a old new run.more r run.frames takes) grown memory c.parse.ensures.fits
+
+pub frames-smaller : goal.frames-smaller
+frames-smaller g c =
+    let old = c.frames.rest.items in
+    let new = c.parse.new.buf.items in
+    let r = seen c.match-parse.read in
+    let takes : TakesFrame old r new = elim c.match-parse.branch [ in-Ok-Some w ↦ rw w.read-is (search rules) | in-Err w ↦ rw w.read-is (taken_by old new w.in-Err.e (λ h. search rules) (λ h. search rules) w.in-Err.ensures.step) ] in
+    taken_shorter old new r takes

@@ -2,7 +2,7 @@ use Rattle.std.proofs.Common.{◌≡◌, ◌++◌, true, false, map, refl, rules
 use Rattle.pgp_message.specs.Remembered.{header_of}
 use Rattle.pgp_message.specs.Views.{seen}
 use Rattle.postgres_protocol.specs.ServerStream.{Reading, GoesOn, Fails, TakesAll, TakesSome}
-use Rattle.postgres_protocol.proofs.Pieces.{goes_on, stays_stopped, fails_at_once, fails_behind}
+use Rattle.postgres_protocol.proofs.Pieces.{goes_on, stays_stopped, fails_at_once, fails_behind, stopped_long}
 use Rattle.postgres_protocol.proofs.session.stream_parser.StreamParser.feed.Goals as goal
 
 pub returns-then-is_err : goal.returns-then-is_err
@@ -45,3 +45,11 @@ returns-in-Err g c =
     let some : TakesSome (inside.rest.items ++ c.args.piece.now) (map seen inside.results.items) (map seen after.results.items) = subst (λ l. TakesSome l (map seen inside.results.items) (map seen after.results.items)) rest c.in-Err.ensures.some in
     let fails : Fails c.args.piece.now old new = fails_behind c.args.piece.now old new refl some c.frames_go_on.ensures c.frames_stand.ensures in
     (search rules, subst (λ (r : Reading). Fails c.args.piece.now r new) c.self.view_is fails)
+
+pub invariant_of-self-in-Ok : goal.invariant_of-self-in-Ok
+invariant_of-self-in-Ok g c =
+    let all = c.in-Ok.ensures.ok in
+    record {
+      header = λ sound. all.header;
+      fault = λ sound stops. stopped_long c.in-Ok.stopped c.take_frames.new.rest.items all.ending stops;
+    }
