@@ -4,6 +4,8 @@
 #[cfg(test)]
 mod ample;
 #[cfg(test)]
+mod array;
+#[cfg(test)]
 mod auth;
 #[cfg(test)]
 mod frontend;
