@@ -1,3 +1,5 @@
+ghost use Rattle.pgp_base.specs.Calls.{KeepsValue};
+
 use crate::{Array, ArrayDimension, array_from_sql, array_to_sql, int4_from_sql, int4_to_sql};
 use bytes::BytesMut;
 use pgp_base::{BindError, Buffer, Error, FallibleIterator, IsNull};
@@ -5,7 +7,9 @@ use std::process::Abort;
 use std::test::Fail;
 
 // A value of four bytes, or a null.
-fn put_int4<B: Buffer>(n: Option<i32>, buf: &mut B) -> Result<IsNull, Error> {
+fn put_int4<B: Buffer>(n: Option<i32>, buf: &mut B) -> Result<IsNull, Error>
+    ensures { KeepsValue result (B.held buf.old) (B.held buf.new) }
+{
     match n {
         None => Ok(IsNull::Yes),
         Some(n) => {
@@ -60,7 +64,7 @@ fn holds(rt: &impl Abort, array: &Array<'_>, dimensions: &[(i32, i32)], elements
 
 // The bytes of these arrays are those that a server of PostgreSQL 15 sends for them in binary format.
 macro_rules! as_sent {
-    ($rt:ident; $($dimensions:expr, $elements:expr, $nulls:expr: $bytes:expr;)*) => {{
+    ($rt:ident; $($dimensions:expr, $elements:expr, $nulls:expr, $bytes:expr;)*) => {{
         $(
             let mut buf = BytesMut::new($rt.alloc());
             assert!($rt; write_numbers(&$dimensions, &$elements, &mut buf).is_ok());
@@ -77,11 +81,11 @@ macro_rules! as_sent {
 #[test]
 fn arrays_as_a_server_sends_them(rt: HostRuntime) -> Result<(), Fail> {
     as_sent! { rt;
-        [(3, 1)], [Some(1), None, Some(-3)], true:
+        [(3, 1)], [Some(1), None, Some(-3)], true,
             b"\0\0\0\x01\0\0\0\x01\0\0\0\x17\0\0\0\x03\0\0\0\x01\0\0\0\x04\0\0\0\x01\xff\xff\xff\xff\0\0\0\x04\xff\xff\xff\xfd";
-        [(2, 1), (3, 1)], [Some(1), Some(2), Some(3), Some(4), Some(5), Some(6)], false:
+        [(2, 1), (3, 1)], [Some(1), Some(2), Some(3), Some(4), Some(5), Some(6)], false,
             b"\0\0\0\x02\0\0\0\0\0\0\0\x17\0\0\0\x02\0\0\0\x01\0\0\0\x03\0\0\0\x01\0\0\0\x04\0\0\0\x01\0\0\0\x04\0\0\0\x02\0\0\0\x04\0\0\0\x03\0\0\0\x04\0\0\0\x04\0\0\0\x04\0\0\0\x05\0\0\0\x04\0\0\0\x06";
-        [(2, 1), (2, 1)], [Some(1), None, None, Some(4)], true:
+        [(2, 1), (2, 1)], [Some(1), None, None, Some(4)], true,
             b"\0\0\0\x02\0\0\0\x01\0\0\0\x17\0\0\0\x02\0\0\0\x01\0\0\0\x02\0\0\0\x01\0\0\0\x04\0\0\0\x01\xff\xff\xff\xff\xff\xff\xff\xff\0\0\0\x04\0\0\0\x04";
     }
     Ok(())
@@ -91,11 +95,11 @@ fn arrays_as_a_server_sends_them(rt: HostRuntime) -> Result<(), Fail> {
 #[test]
 fn arrays_with_other_bounds_as_a_server_sends_them(rt: HostRuntime) -> Result<(), Fail> {
     as_sent! { rt;
-        [(2, 2)], [Some(7), Some(8)], false:
+        [(2, 2)], [Some(7), Some(8)], false,
             b"\0\0\0\x01\0\0\0\0\0\0\0\x17\0\0\0\x02\0\0\0\x02\0\0\0\x04\0\0\0\x07\0\0\0\x04\0\0\0\x08";
-        [(2, -1), (2, 5)], [Some(1), Some(2), Some(3), None], true:
+        [(2, -1), (2, 5)], [Some(1), Some(2), Some(3), None], true,
             b"\0\0\0\x02\0\0\0\x01\0\0\0\x17\0\0\0\x02\xff\xff\xff\xff\0\0\0\x02\0\0\0\x05\0\0\0\x04\0\0\0\x01\0\0\0\x04\0\0\0\x02\0\0\0\x04\0\0\0\x03\xff\xff\xff\xff";
-        [(1, 1)], [None], true:
+        [(1, 1)], [None], true,
             b"\0\0\0\x01\0\0\0\x01\0\0\0\x17\0\0\0\x01\0\0\0\x01\xff\xff\xff\xff";
     }
     Ok(())
