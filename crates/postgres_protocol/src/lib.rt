@@ -11,4 +11,6 @@ pub use pgp_base::{BindError, Error, FallibleIterator, IsNull, Lsn, Oid};
 pub use pgp_types as types;
 
 #[cfg(test)]
+mod session_tests;
+#[cfg(test)]
 mod tests;
