@@ -1,4 +1,5 @@
 //! The answers to an authentication request. All have the tag `p`.
+#![tactic(auto, using(pgp_base::proofs::Parts::held_steps))]
 
 ghost use Rattle.pgp_frontend.specs.ClientMessage.{PasswordMessage, SaslInitialResponse, SaslResponse};
 ghost use Rattle.pgp_frontend.specs.Payload.{WritesMessage};

@@ -1,4 +1,5 @@
 //! Copying data to the server.
+#![tactic(auto, using(pgp_base::proofs::Parts::held_steps))]
 
 ghost use Rattle.std.specs.Prelude.{◌≡◌, ◌+◌, ◌<◌, ◌^◌, length, Some, None, Ok, OnOk, OnErr, IfOk, IfErr, ◌∷◌, ◌++◌};
 ghost use Rattle.pgp_base.specs.Wire.{uint32};

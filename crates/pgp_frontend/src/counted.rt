@@ -1,4 +1,5 @@
 //! Counts, and the numbers that come from an iterator. A refusal leaves what stood there as a front.
+#![tactic(auto, using(pgp_base::proofs::Parts::held_steps))]
 
 ghost use Rattle.std.specs.Prelude.{◌≡◌, ℕ, ℤ, ◌^◌, ◌<◌, ◌⊎◌, List, ◌++◌, length, Option, Some, None, OnOk, OnErr, IfErr, All, FitsSigned};
 ghost use Rattle.std.specs.Int.{w16};

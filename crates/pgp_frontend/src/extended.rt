@@ -1,4 +1,5 @@
 //! The extended query protocol.
+#![tactic(auto, using(pgp_base::proofs::Parts::held_steps))]
 
 ghost use Rattle.std.specs.Prelude.{◌≡◌, ℕ, ℤ, ◌⊎◌, List, [], ◌∷◌, ◌++◌, Option, Some, None, OnOk, OnErr, IfErr, All, FitsSigned};
 ghost use Rattle.std.specs.Int.{w16};

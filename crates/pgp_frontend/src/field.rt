@@ -1,4 +1,5 @@
 //! Messages whose parts are known before the call.
+#![tactic(auto, using(pgp_base::proofs::Parts::held_steps))]
 
 ghost use Rattle.std.specs.Prelude.{◌≡◌, ◌<◌, ◌^◌, ◌++◌, ◌⊎◌, Option, Some, None, OnOk, OnErr, IfErr};
 ghost use Rattle.std.specs.Prelude.{length};

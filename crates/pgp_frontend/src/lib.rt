@@ -1,5 +1,5 @@
 //! The messages of a client, to the byte.
-#![tactic(auto, using(pgp_base::proofs::Parts::held_steps))]
+#![tactic(auto)]
 
 mod authentication;
 mod copy;

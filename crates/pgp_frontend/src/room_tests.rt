@@ -1,5 +1,6 @@
 //! Messages in memory of the caller's, and a serializer that isn't called. Expected bytes are from the message
 //! formats of the PostgreSQL manual.
+#![tactic(auto, using(pgp_base::proofs::Parts::held_steps))]
 
 ghost use Rattle.pgp_base.specs.Calls.{KeepsValue};
 ghost use Rattle.pgp_base.specs.Held.{items_held};

@@ -1,4 +1,5 @@
 //! Simple queries, and the end of a session.
+#![tactic(auto, using(pgp_base::proofs::Parts::held_steps))]
 
 ghost use Rattle.pgp_frontend.specs.ClientMessage.{Query, Terminate};
 ghost use Rattle.pgp_frontend.specs.Payload.{WritesMessage};

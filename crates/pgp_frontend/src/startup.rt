@@ -1,4 +1,5 @@
 //! The packets that open a connection. They have no tag: a code stands behind their length.
+#![tactic(auto, using(pgp_base::proofs::Parts::held_steps))]
 
 ghost use Rattle.std.specs.Prelude.{◌≡◌, ℕ, List, ◌++◌, ◌⊎◌, Some, None, OnOk, OnErr, IfErr};
 ghost use Rattle.std.specs.Borrow.{Bor};

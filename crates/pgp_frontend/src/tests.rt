@@ -1,4 +1,5 @@
 //! Expected bytes are from the message formats of the PostgreSQL manual.
+#![tactic(auto, using(pgp_base::proofs::Parts::held_steps))]
 
 ghost use Rattle.std.specs.Prelude.{◌≡◌, ◌++◌, length, drop, IfOk};
 ghost use Rattle.pgp_base.specs.Calls.{KeepsValue};

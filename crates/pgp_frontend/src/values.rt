@@ -1,4 +1,5 @@
 //! The values that a serializer makes of what comes from an iterator.
+#![tactic(auto, using(pgp_base::proofs::Parts::held_steps))]
 
 ghost use Rattle.std.specs.Prelude.{◌≡◌, ℕ, List, ◌++◌, Option, None, OnOk, OnErr, IfErr};
 ghost use Rattle.std.specs.Iterator.{IsFiniteIterable};

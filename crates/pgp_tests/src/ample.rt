@@ -1,4 +1,5 @@
 //! Large values with ample memory: none is refused for its size.
+#![tactic(auto, using(pgp_base::proofs::Parts::held_steps))]
 
 use bytes::BytesMut;
 use pgp_auth::authentication::md5_hash;

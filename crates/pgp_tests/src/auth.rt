@@ -1,4 +1,5 @@
 //! The calls of `pgp_auth`, with each allocation refused in turn, and with ample memory on long texts.
+#![tactic(auto, using(pgp_base::proofs::Parts::held_steps))]
 
 ghost use Rattle.std.specs.Prelude.{Some, [], ◌∷◌};
 

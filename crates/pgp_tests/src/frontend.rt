@@ -1,5 +1,6 @@
 //! The writers of client messages, with each allocation refused in turn. Each starts on a buffer that
 //! holds a message and has no room left.
+#![tactic(auto, using(pgp_base::proofs::Parts::held_steps))]
 
 use bytes::BytesMut;
 use pgp_base::{

@@ -1,5 +1,5 @@
 //! Tests that cross crates, and those in which each allocation is refused in turn.
-#![tactic(auto, using(pgp_base::proofs::Parts::held_steps))]
+#![tactic(auto)]
 
 #[cfg(test)]
 mod ample;

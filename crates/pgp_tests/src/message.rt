@@ -1,4 +1,5 @@
 //! Messages of a server and the walks over their bodies, with each allocation refused in turn.
+#![tactic(auto, using(pgp_base::proofs::Parts::held_steps))]
 
 use bytes::{Bytes, BytesMut};
 use pgp_base::{Error, FallibleIterator};

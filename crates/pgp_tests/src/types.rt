@@ -1,4 +1,5 @@
 //! The writers of values, with each allocation refused in turn.
+#![tactic(auto, using(pgp_base::proofs::Parts::held_steps))]
 
 use bytes::BytesMut;
 use pgp_base::{Buffer, Error};

@@ -1,6 +1,7 @@
 //! Arrays of any type of elements.
 //!
 //! PostgreSQL manual, "Arrays".
+#![tactic(auto, using(pgp_base::proofs::Parts::held_steps))]
 
 ghost use Rattle.std.specs.Prelude.{◌≡◌, ◌≢◌, ℕ, ◌<◌, ◌^◌, ◌++◌, ◌⊎◌, List, length, Option, None, OnErr, OnOk, IfOk, IfErr, All};
 ghost use Rattle.std.specs.List.{flat_map};

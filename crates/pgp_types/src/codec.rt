@@ -1,4 +1,5 @@
 //! What the codecs share.
+#![tactic(auto, using(pgp_base::proofs::Parts::held_steps))]
 
 ghost use Rattle.std.specs.Prelude.{◌++◌, None};
 ghost use Rattle.pgp_base.specs.Cause.{Writes};

@@ -1,6 +1,7 @@
 //! Points and boxes. A coordinate is the bits of a floating-point number.
 //!
 //! PostgreSQL manual, "Geometric Types".
+#![tactic(auto, using(pgp_base::proofs::Parts::held_steps))]
 
 ghost use Rattle.std.specs.Prelude.{◌≡◌, ◌<◌, ◌^◌, length};
 ghost use Rattle.pgp_base.specs.Wire.{uint64};

@@ -1,6 +1,7 @@
 //! Lists of keys and values, of the module hstore.
 //!
 //! PostgreSQL manual, "hstore" among the additional supplied modules.
+#![tactic(auto, using(pgp_base::proofs::Parts::held_steps))]
 
 ghost use Rattle.std.specs.Prelude.{◌≡◌, ◌≤◌, ◌⊎◌, ℕ, length, OnOk, OnErr, IfOk, IfErr};
 ghost use Rattle.std.specs.Iterator.{IsFiniteIterable};

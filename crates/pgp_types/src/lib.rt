@@ -2,7 +2,7 @@
 //! reads one from all of the bytes that it is given.
 //!
 //! A refused writer leaves the buffer's bytes as they were. A reader takes no memory: it borrows texts and bytes.
-#![tactic(auto, using(pgp_base::proofs::Parts::held_steps))]
+#![tactic(auto)]
 
 mod array;
 mod codec;

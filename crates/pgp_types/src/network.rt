@@ -1,6 +1,7 @@
 //! Addresses of networks, and universal identifiers.
 //!
 //! PostgreSQL manual, "Network Address Types" and "UUID Type".
+#![tactic(auto, using(pgp_base::proofs::Parts::held_steps))]
 
 ghost use Rattle.std.specs.Prelude.{◌≡◌, ◌*◌, ◌≤◌, IfOk, IfErr};
 ghost use Rattle.pgp_types.specs.Format.{Reads, Writes, IsBlock};

@@ -1,4 +1,5 @@
 //! The parts that values are made of, read from the left: each is a value and the bytes after it.
+#![tactic(auto, using(pgp_base::proofs::Parts::held_steps))]
 
 ghost use Rattle.pgp_base.specs.PartReading.{Answers};
 ghost use Rattle.pgp_types.specs.PartReading.{natural_at, sized_at, nullable_at, shown};

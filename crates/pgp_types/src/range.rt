@@ -1,6 +1,7 @@
 //! Ranges.
 //!
 //! PostgreSQL manual, "Range Types".
+#![tactic(auto, using(pgp_base::proofs::Parts::held_steps))]
 
 ghost use Rattle.std.specs.Prelude.{◌≡◌, ℕ, ◌+◌, ◌≤◌, List, [], length, drop, Some, None, OnOk, OnErr, IfOk, IfErr};
 ghost use Rattle.pgp_base.specs.Calls.{IsFrontOf, Adds, Appends, value_of, length_of};

@@ -2,6 +2,7 @@
 //!
 //! PostgreSQL manual, "Boolean Type", "Binary Data Types", "Character Types", "Numeric Types",
 //! "Object Identifier Types" and "pg_lsn Type".
+#![tactic(auto, using(pgp_base::proofs::Parts::held_steps))]
 
 ghost use Rattle.pgp_types.specs.Format.{Reads, Writes};
 ghost use Rattle.pgp_types.specs.Scalar.{bool, bytea, char, int2, int4, int8, oid, lsn, float4, float8};

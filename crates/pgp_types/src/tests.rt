@@ -1,3 +1,5 @@
+#![tactic(auto, using(pgp_base::proofs::Parts::held_steps))]
+
 use crate::*;
 use bytes::BytesMut;
 use pgp_base::{Error, FallibleIterator, IsNull, put_u32};

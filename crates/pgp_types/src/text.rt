@@ -1,6 +1,7 @@
 //! Texts, and the label types of the module ltree.
 //!
 //! PostgreSQL manual, "Character Types", and "ltree" among the additional supplied modules.
+#![tactic(auto, using(pgp_base::proofs::Parts::held_steps))]
 
 ghost use Rattle.pgp_types.specs.Format.{Reads, ReadsBy, Writes};
 ghost use Rattle.pgp_types.specs.Text.{text, label, ltree, lquery, ltxtquery};

@@ -1,6 +1,7 @@
 //! Times and dates.
 //!
 //! PostgreSQL manual, "Date/Time Types".
+#![tactic(auto, using(pgp_base::proofs::Parts::held_steps))]
 
 ghost use Rattle.pgp_types.specs.Format.{Reads, Writes};
 ghost use Rattle.pgp_types.specs.Time.{timestamp, time, date};

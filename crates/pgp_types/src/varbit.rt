@@ -1,6 +1,7 @@
 //! Bit strings.
 //!
 //! PostgreSQL manual, "Bit String Types".
+#![tactic(auto, using(pgp_base::proofs::Parts::held_steps))]
 
 ghost use Rattle.std.specs.Prelude.{◌≡◌, ◌⊎◌, ◌↔◌, ◌++◌, ℕ, List, Some, None, true, OnOk, OnErr, IfErr};
 ghost use Rattle.std.specs.Iterator.{IsFinite, YieldsThen};
