@@ -9,6 +9,7 @@ pub mod Draws
 pub mod FinalTexts
 pub mod FirstTexts
 pub mod Grants
+pub mod HeaderText
 pub mod LongKeys
 pub mod Once
 pub mod OneText

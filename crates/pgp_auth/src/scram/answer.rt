@@ -56,6 +56,7 @@ pub(crate) fn client_first_text<A: Allocator + Copy>(
 }
 
 // The final text without its proof.
+#[tactic(auto, using(crate::proofs::HeaderText::encoded_apart))]
 fn final_front<A: Allocator + Copy>(
     alloc: A,
     binding: &ChannelBinding<A>,
@@ -65,13 +66,13 @@ fn final_front<A: Allocator + Copy>(
 {
     let header = binding.gs2_header().as_bytes();
     let data = binding.data();
-    let mut input = Vec::with_capacity(alloc, header.len().saturating_add(data.len()))?;
-    input.extend_from_slice(header)?;
-    input.extend_from_slice(data)?;
-    let room = input.len().saturating_mul(2).saturating_add(nonce.len());
-    let mut text = String::with_capacity(alloc, room.saturating_add(FIXED_LEN))?;
+    let room = header.len().saturating_add(data.len()).saturating_mul(2);
+    let room = room.saturating_add(nonce.len()).saturating_add(FIXED_LEN);
+    let mut text = String::with_capacity(alloc, room)?;
     text.push_str("c=")?;
-    STANDARD.encode_string(&input, &mut text)?;
+    // A header is a whole number of groups of three bytes, so that the two texts stand side by side.
+    STANDARD.encode_string(header, &mut text)?;
+    STANDARD.encode_string(data, &mut text)?;
     let mut text = text.into_bytes();
     text.extend_from_slice(b",r=")?;
     text.extend_from_slice(nonce)?;
