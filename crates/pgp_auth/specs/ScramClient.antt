@@ -93,6 +93,12 @@ pub record Finished (old : Client) (text : List ℕ) (new : Client) : Type 0 whe
   pub over : new.state ≡ Over
   pub hmacs : new.hmacs ≡ old.hmacs + 2
 
+-- an `update` and a `finish` that were Ok, one behind the other
+pub record Completes (old : Client) (server_first server_final : List ℕ) (new : Client) : Type 0 where
+  pub between : Client
+  pub answers : Answers old server_first between
+  pub finished : Finished between server_final new
+
 -- `finish` takes memory for the server's error and for base64 of more than 64 characters
 pub data TakesMemory (text : List ℕ) : Type 0 where
   error : {reason : List ℕ} → IsServerError text reason → TakesMemory text

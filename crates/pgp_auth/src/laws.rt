@@ -1,6 +1,6 @@
 //! Laws on the definitions of this crate.
 
-ghost use Rattle.std.specs.Prelude.{◌≡◌, ◌≢◌, ◌↔◌, ◌⊎◌, codes, ℕ, ◌<◌, Bool, List, [], ◌∷◌, ◌++◌, Some, All, length, slice_get, IfErr};
+ghost use Rattle.std.specs.Prelude.{◌≡◌, ◌≢◌, ◌↔◌, ◌⊎◌, codes, ℕ, ◌<◌, Bool, List, [], ◌∷◌, ◌++◌, Some, All, length, slice_get, OnOk, IfErr};
 ghost use Rattle.sha2.specs.Sha256.{sha256};
 ghost use Rattle.pgp_base.specs.Wire.{IsBytes};
 ghost use Rattle.pgp_auth.specs.Base64.{base64, Shows};
@@ -11,7 +11,7 @@ ghost use Rattle.pgp_auth.specs.Verifier.{Verifier, verifier, verifier_text};
 ghost use Rattle.pgp_auth.specs.ScramText.{Binding};
 ghost use Rattle.pgp_auth.specs.ScramServer.{Accepts, Signs};
 ghost use Rattle.pgp_auth.specs.ScramRefusal.{Refusal, OutOfMemory, InvalidBase64, Admitted, Meets, RefusesFirst, RefusesFinal, Verifies, ShowsOther};
-ghost use Rattle.pgp_auth.specs.ScramClient.{Client, Answers, first_text, signature_of, NotVerified, Serves, Over};
+ghost use Rattle.pgp_auth.specs.ScramClient.{Client, Answers, first_text, signature_of, NotVerified, Serves, Completes, Over};
 ghost use Rattle.pgp_auth.specs.ScramErrorView.{refusal};
 
 use crate::authentication::sasl::{ScramError, ScramSha256};
@@ -123,6 +123,7 @@ pub fn exchange<A: Allocator + Copy>(
     server_final: &[u8],
 ) -> Result<(), ScramError<A>>
     requires { Serves client.old.state server_first.now server_final.now }
+    ensures ok { OnOk result (Completes client.old server_first.now server_final.now client.new) }
     ensures over { client.new.state ≡ Over }
     ensures memory { IfErr result (λ e. refusal e ≡ OutOfMemory) }
 {

@@ -53,7 +53,9 @@ impl Front {
 
 /// How much room to ask for where so many bytes of a frame stand there: for what is missing to its
 /// header, or to all of it.
-pub fn room(header: Option<(u8, u32)>, held: usize) -> usize {
+pub fn room(header: Option<(u8, u32)>, held: usize) -> usize
+    ensures few { result ≤ 65536 }
+{
     match header {
         None => 5usize.saturating_sub(held),
         Some((_, len)) => (len as usize + 1).saturating_sub(held).min(MAX_ROOM),
