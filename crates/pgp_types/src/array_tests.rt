@@ -359,11 +359,15 @@ fn a_serializer_refuses(rt: HostRuntime) -> Result<(), Fail> {
     for k in 1..6u32 {
         let mut buf = BytesMut::new(rt.alloc());
         buf.append(b"S\0\0\0\x04")?;
+        let mut calls = 0u32;
         let answer = array_to_sql(
             Some(dimension((5, 1))),
             23,
             1..6u32,
-            |n: u32, buf: &mut BytesMut| -> Result<IsNull, u32> {
+            |n: u32, buf: &mut BytesMut| -> Result<IsNull, u32>
+                ensures { KeepsValue result (items_held buf.entry.now.items) (items_held buf.exit.now.items) }
+            {
+                calls = calls.saturating_add(1);
                 if buf.append(b"abc").is_err() || n == k {
                     return Err(n);
                 }
@@ -372,6 +376,7 @@ fn a_serializer_refuses(rt: HostRuntime) -> Result<(), Fail> {
             &mut buf,
         );
         assert!(rt; matches!(&answer, Err(BindError::Conversion(e)) if *e == k));
+        assert_eq!(rt; calls, k);
         assert_eq!(rt; buf.as_slice(), b"S\0\0\0\x04".as_slice());
     }
     Ok(())

@@ -226,7 +226,6 @@ fn is_refused_by(rt: &impl Abort, lower: bool, upper: bool, want: u8, buf: &mut 
     assert_eq!(rt; buf.as_slice(), SYNC);
 }
 
-// The upper side isn't asked for where the lower was refused.
 #[test]
 fn a_side_refuses(rt: HostRuntime) -> Result<(), Fail> {
     let mut buf = BytesMut::new(rt.alloc());
@@ -235,6 +234,25 @@ fn a_side_refuses(rt: HostRuntime) -> Result<(), Fail> {
     is_refused_by(&rt, false, true, 2, &mut buf);
     is_refused_by(&rt, true, true, 1, &mut buf);
     Ok(())
+}
+
+#[test]
+fn the_upper_side_is_not_asked_behind_a_refusal(rt: HostRuntime) {
+    let mut buf = BytesMut::new(rt.alloc());
+    let mut calls = 0u32;
+    let answer = range_to_sql(
+        |_: &mut BytesMut| -> Result<RangeBound<IsNull>, u8> { Err(1) },
+        |buf: &mut BytesMut| -> Result<RangeBound<IsNull>, u8>
+            ensures { KeepsBound result (items_held buf.entry.now.items) (items_held buf.exit.now.items) }
+        {
+            calls = calls.saturating_add(1);
+            Ok(RangeBound::Unbounded)
+        },
+        &mut buf,
+    );
+    assert!(rt; matches!(answer, Err(BindError::Conversion(1))));
+    assert_eq!(rt; calls, 0);
+    assert!(rt; buf.is_empty());
 }
 
 #[test]
