@@ -1,22 +1,18 @@
 -- What the writer of a range leaves.
-use Rattle.std.proofs.Common.{◌≡◌, ◌⊎◌, inl, inr, ℕ, ◌+◌, List, [], ◌∷◌, ◌++◌, length, take, drop, Result, Ok, Err, Some, None, MutBor, IfOk, ◌≤◌, refl, sym, ap, subst, ◌∙◌, append_assoc, length-append, arith}
+use Rattle.std.proofs.Common.{◌≡◌, ℕ, ◌+◌, List, [], ◌∷◌, ◌++◌, length, take, drop, Result, Ok, Err, MutBor, IfOk, ◌≤◌, refl, sym, ap, subst, ◌∙◌, append_assoc, length-append, arith}
 use Rattle.std.specs.Prelude.{bit_or}
 use Rattle.std.proofs.lemmas.List.{append-nil}
 use Rattle.std.proofs.Math.Seq.{take-append_seam, drop-append_seam}
-use Rattle.pgp_base.specs.declared.error.Error.{Error}
 use Rattle.pgp_base.specs.declared.error.BindError.{BindError}
-use Rattle.pgp_base.specs.declared.error.BindError.TheVariants.{Conversion, Serialization}
 use Rattle.pgp_base.specs.declared.number.IsNull.{IsNull}
 use Rattle.pgp_base.specs.declared.number.IsNull.TheVariants.{Yes, No}
-use Rattle.pgp_base.specs.Calls.{IsFrontOf, Adds, Appends}
-use Rattle.pgp_base.specs.Cause.{WantsMemory}
+use Rattle.pgp_base.specs.Calls.{IsFrontOf, Adds}
 use Rattle.pgp_base.specs.Held.{Held, ◌⊕◌, lengthened, overwritten}
 use Rattle.pgp_base.specs.Wire.{uint32, nullable}
-use Rattle.pgp_base.proofs.Causes.{either_none}
-use Rattle.pgp_base.proofs.Parts.{nothing_more, more_twice, more_bytes, more_kept, front_twice, front_then, cut_back, valued}
+use Rattle.pgp_base.proofs.Parts.{nothing_more, more_twice, more_bytes, more_kept, front_twice, cut_back, valued}
 use Rattle.pgp_types.specs.declared.range.RangeBound.{RangeBound}
 use Rattle.pgp_types.specs.declared.range.RangeBound.TheVariants.{Inclusive, Exclusive, Unbounded}
-use Rattle.pgp_types.specs.Range.{Side, between, lower_bits, upper_bits, side_bit, side_bytes, side_cause, range_bytes}
+use Rattle.pgp_types.specs.Range.{Side, between, lower_bits, upper_bits, side_bit, side_bytes, range_bytes}
 use Rattle.pgp_types.specs.RangeWriting.{KeepsBound, IsNullBound, SideFilled, side_of, Extends, has_bound, have_bounds, Stands, Makes, SideStops}
 
 pub bound_adds_of : {E K : Type 0} (r : Result (RangeBound IsNull) E) (old new : Held K) → KeepsBound r old new → (p : List ℕ) × Adds r p old new × IfOk r (λ answer. IsNullBound answer → p ≡ [])

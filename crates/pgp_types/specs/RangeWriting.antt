@@ -1,7 +1,7 @@
 -- What the writer of a range comes to, which calls a closure for each side.
 use Rattle.std.specs.Prelude.{◌≡◌, ◌⊎◌, ℕ, ◌+◌, Bool, true, false, List, [], ◌∷◌, ◌++◌, take, drop, Some, None, Result, Ok, Err, ⊤}
 use Rattle.pgp_base.specs.declared.number.IsNull.{IsNull}
-use Rattle.pgp_base.specs.declared.number.IsNull.TheVariants.{Yes, No}
+use Rattle.pgp_base.specs.declared.number.IsNull.TheVariants.{Yes}
 use Rattle.pgp_base.specs.declared.error.Error.{Error}
 use Rattle.pgp_base.specs.declared.error.BindError.{BindError}
 use Rattle.pgp_base.specs.declared.error.BindError.TheVariants.{Conversion, Serialization}
@@ -11,7 +11,7 @@ use Rattle.pgp_base.specs.Held.{Held, ◌⊕◌, overwritten, Leaves}
 use Rattle.pgp_base.specs.Wire.{uint32}
 use Rattle.pgp_types.specs.declared.range.RangeBound.{RangeBound}
 use Rattle.pgp_types.specs.declared.range.RangeBound.TheVariants.{Inclusive, Exclusive, Unbounded}
-use Rattle.pgp_types.specs.Range.{Side, Range, between, side_bytes, side_cause, range_bytes, range_cause}
+use Rattle.pgp_types.specs.Range.{Side, between, side_bytes, side_cause, range_bytes, range_cause}
 use denote.Ref.{MutBor}
 
 -- what a side's closure may do to a buffer: append, and nothing where it answers a null; where it is refused use more of

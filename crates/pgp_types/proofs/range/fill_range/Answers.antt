@@ -1,4 +1,4 @@
-use Rattle.std.proofs.Common.{arith, ◌≡◌, ◌+◌, refl, inl, inr, ◌∙◌, ap}
+use Rattle.std.proofs.Common.{◌≡◌, ◌+◌, refl, inl, inr}
 use Rattle.std.specs.Prelude.{bit_or}
 use Rattle.pgp_base.proofs.Causes.{either_none}
 use Rattle.pgp_base.proofs.Parts.{if_err_at, on_err, front_then, front_trans}
