@@ -178,7 +178,8 @@ fn fill_range<
 
 /// Appends a range between two sides, of which each closure appends the bytes of its value, or answers that it is a null
 /// or that there is no bound. The lower is called first, and the upper not at all where the lower was refused. What a
-/// closure appended for `Unbounded` is dropped.
+/// closure appended for `Unbounded` is dropped, and so is the place of its length: in memory of the caller's, what stood
+/// there isn't put back.
 ///
 /// # Errors
 ///

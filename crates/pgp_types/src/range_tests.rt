@@ -7,7 +7,7 @@ use crate::{
     Range, RangeBound, empty_range_to_sql, int4_from_sql, int4_to_sql, range_from_sql, range_to_sql,
 };
 use bytes::BytesMut;
-use pgp_base::{BindError, Buffer, Error, IsNull};
+use pgp_base::{BindError, Buffer, Error, IsNull, Window};
 use std::process::Abort;
 use std::test::Fail;
 
@@ -253,6 +253,37 @@ fn the_upper_side_is_not_asked_behind_a_refusal(rt: HostRuntime) {
     assert!(rt; matches!(answer, Err(BindError::Conversion(1))));
     assert_eq!(rt; calls, 0);
     assert!(rt; buf.is_empty());
+}
+
+// The range from 1 to below 5 into this memory.
+fn write_into(room: &mut [u8]) -> Result<(), BindError<Error>> {
+    let mut window = Window::new(room);
+    range_to_sql(
+        |buf: &mut Window| -> Result<RangeBound<IsNull>, Error> {
+            int4_to_sql(1, buf)?;
+            Ok(RangeBound::Inclusive(IsNull::No))
+        },
+        |buf: &mut Window| -> Result<RangeBound<IsNull>, Error> {
+            int4_to_sql(5, buf)?;
+            Ok(RangeBound::Exclusive(IsNull::No))
+        },
+        &mut window,
+    )
+}
+
+// In memory of the caller's a range takes the room of its bytes, and behind them the memory is as it was.
+#[test]
+fn a_range_takes_the_room_of_its_bytes(rt: HostRuntime) {
+    let mut room = [0xffu8; 20];
+    let answer = match room.get_mut(..17) {
+        Some(room) => write_into(room),
+        None => Err(BindError::Serialization(Error::TooLarge)),
+    };
+    assert!(rt; matches!(answer, Ok(())));
+    assert_eq!(rt;
+        room.as_slice(),
+        b"\x02\0\0\0\x04\0\0\0\x01\0\0\0\x04\0\0\0\x05\xff\xff\xff".as_slice()
+    );
 }
 
 #[test]
