@@ -11,3 +11,5 @@ mod frontend;
 mod message;
 #[cfg(test)]
 mod types;
+#[cfg(test)]
+mod values;

@@ -2,10 +2,10 @@
 #![tactic(auto, using(pgp_base::proofs::Parts::held_steps))]
 
 use bytes::BytesMut;
-use pgp_base::{Buffer, Error};
+use pgp_base::{BindError, Buffer, Error, FallibleIterator, IsNull};
 use pgp_test_alloc::Refusing;
 use pgp_types::*;
-use std::alloc::Global;
+use std::alloc::{Allocator, Global};
 use std::net::{IpAddr, Ipv4Addr, Ipv6Addr};
 use std::test::Fail;
 
@@ -13,7 +13,7 @@ use std::test::Fail;
 const SYNC: &[u8] = b"S\0\0\0\x04";
 
 // What the writer of each number appends.
-const WRITTEN: [&[u8]; 27] = [
+const WRITTEN: [&[u8]; 29] = [
     b"\x01",
     b"\xde\xad",
     b"text",
@@ -41,6 +41,8 @@ const WRITTEN: [&[u8]; 27] = [
     b"\x01\0\0\0\x02\x3f\xf0\0\0\0\0\0\0\x40\0\0\0\0\0\0\0\x40\x08\0\0\0\0\0\0\x40\x10\0\0\0\0\0\0",
     b"\0\0\0\x02\0\0\0\x01a\0\0\0\x01b\0\0\0\x01c\xff\xff\xff\xff",
     b"\x01",
+    b"\0\0\0\x01\0\0\0\x01\0\0\0\x17\0\0\0\x02\0\0\0\x01\0\0\0\x04\0\0\0\x05\xff\xff\xff\xff",
+    b"\x02\0\0\0\x04\0\0\0\x01\0\0\0\x04\0\0\0\x05",
 ];
 
 const ONE: u64 = 0x3ff0_0000_0000_0000;
@@ -50,6 +52,51 @@ const TWO: u64 = 0x4000_0000_0000_0000;
 const THREE: u64 = 0x4008_0000_0000_0000;
 
 const FOUR: u64 = 0x4010_0000_0000_0000;
+
+// The refusal of a writer over closures; the closures here only run out of memory.
+fn plain(answer: Result<(), BindError<Error>>) -> Result<(), Error> {
+    match answer {
+        Ok(()) => Ok(()),
+        Err(BindError::Conversion(e)) | Err(BindError::Serialization(e)) => Err(e),
+    }
+}
+
+// The array of 5 and a null.
+fn put_array<B: Buffer>(buf: &mut B) -> Result<(), BindError<Error>> {
+    array_to_sql(
+        Some(ArrayDimension {
+            len: 2,
+            lower_bound: 1,
+        }),
+        23,
+        [Some(5), None].as_slice(),
+        |n: &Option<i32>, buf: &mut B| -> Result<IsNull, Error> {
+            match *n {
+                None => Ok(IsNull::Yes),
+                Some(n) => {
+                    int4_to_sql(n, buf)?;
+                    Ok(IsNull::No)
+                }
+            }
+        },
+        buf,
+    )
+}
+
+// The range from 1 to below 5.
+fn put_range<B: Buffer>(buf: &mut B) -> Result<(), BindError<Error>> {
+    range_to_sql(
+        |buf: &mut B| -> Result<RangeBound<IsNull>, Error> {
+            int4_to_sql(1, buf)?;
+            Ok(RangeBound::Inclusive(IsNull::No))
+        },
+        |buf: &mut B| -> Result<RangeBound<IsNull>, Error> {
+            int4_to_sql(5, buf)?;
+            Ok(RangeBound::Exclusive(IsNull::No))
+        },
+        buf,
+    )
+}
 
 fn write<B: Buffer>(number: usize, buf: &mut B) -> Result<(), Error> {
     match number {
@@ -79,7 +126,9 @@ fn write<B: Buffer>(number: usize, buf: &mut B) -> Result<(), Error> {
         23 => varbit_to_sql(9, [0xb2u8, 0x80].into_iter(), buf),
         24 => path_to_sql(true, [(ONE, TWO), (THREE, FOUR)], buf),
         25 => hstore_to_sql([("a", Some("b")), ("c", None)], buf),
-        _ => empty_range_to_sql(buf),
+        26 => empty_range_to_sql(buf),
+        27 => plain(put_array(buf)),
+        _ => plain(put_range(buf)),
     }
 }
 
@@ -113,4 +162,56 @@ fn writers_with_each_allocation_refused(rt: HostRuntime) -> Result<(), Fail> {
         assert!(rt; refusals > 0, "writer {number} met no refusal");
     }
     Ok(())
+}
+
+// The array announces 2,147,483,647 elements, and none stands there: no memory is asked for.
+#[test]
+fn collect_reserves_nothing_by_the_count(rt: HostRuntime) -> Result<(), Fail> {
+    let array = array_from_sql(b"\0\0\0\x01\0\0\0\0\0\0\0\x17\x7f\xff\xff\xff\0\0\0\x01")?;
+    for number in 1..10u64 {
+        let heap = Refusing::new(rt.alloc(), number);
+        let answer = array.values().collect(&heap);
+        assert!(rt; matches!(answer, Err(Error::UnexpectedEof)));
+        drop(answer);
+        assert!(rt; heap.is_pending());
+    }
+    Ok(())
+}
+
+// How many items the walk over the value of this number collects.
+fn collected<A: Allocator>(alloc: A, number: u32) -> Result<usize, Error> {
+    match number {
+        0 => Ok(hstore_from_sql(PAIRS)?.collect(alloc)?.len()),
+        1 => Ok(path_from_sql(POINTS)?.points().collect(alloc)?.len()),
+        2 => Ok(array_from_sql(LIST)?.dimensions().collect(alloc)?.len()),
+        _ => Ok(array_from_sql(LIST)?.values().collect(alloc)?.len()),
+    }
+}
+
+const PAIRS: &[u8] =
+    b"\0\0\0\x05\0\0\0\0\xff\xff\xff\xff\0\0\0\0\xff\xff\xff\xff\0\0\0\0\xff\xff\xff\xff\0\0\0\0\xff\xff\xff\xff\0\0\0\0\xff\xff\xff\xff";
+
+const POINTS: &[u8] =
+    b"\x01\0\0\0\x050123456789abcdef0123456789abcdef0123456789abcdef0123456789abcdef0123456789abcdef";
+
+const LIST: &[u8] =
+    b"\0\0\0\x05\0\0\0\x01\0\0\0\x17\0\0\0\x01\0\0\0\x01\0\0\0\x05\0\0\0\x01\0\0\0\x01\0\0\0\x01\0\0\0\x01\0\0\0\x01\0\0\0\x01\0\0\0\x01\xff\xff\xff\xff\xff\xff\xff\xff\xff\xff\xff\xff\xff\xff\xff\xff\xff\xff\xff\xff";
+
+// Each walk of five items hands them out, or is refused memory.
+#[test]
+fn collect_with_each_allocation_refused(rt: HostRuntime) {
+    for walk in 0..4u32 {
+        let mut refusals = 0u64;
+        for number in 1..100u64 {
+            let heap = Refusing::new(rt.alloc(), number);
+            let answer = collected(&heap, walk);
+            if heap.is_pending() {
+                assert_eq!(rt; answer, Ok(5));
+                break;
+            }
+            assert_eq!(rt; answer, Err(Error::OutOfMemory));
+            refusals = number;
+        }
+        assert!(rt; refusals > 0, "walk {walk} met no refusal");
+    }
 }

@@ -5,7 +5,7 @@ use Rattle.std.specs.List.{flat_map}
 use Rattle.pgp_base.specs.declared.number.IsNull.{IsNull}
 use Rattle.pgp_base.specs.declared.number.IsNull.TheVariants.{Yes, No}
 use Rattle.pgp_base.specs.declared.error.BindError.{BindError}
-use Rattle.pgp_base.specs.Wire.{int32, uint32, oid, nullable}
+use Rattle.pgp_base.specs.Wire.{uint32, oid, nullable}
 use Rattle.pgp_base.specs.Cause.{first, length_cause, nullable_cause}
 use Rattle.pgp_base.specs.Held.{Held, ◌⊕◌, overwritten}
 use Rattle.pgp_base.specs.Calls.{null_of, Gives, Runs, ValueRefused}

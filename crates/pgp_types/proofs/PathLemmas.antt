@@ -1,21 +1,20 @@
 -- Paths: what is read is the one reading.
-use Rattle.std.proofs.Common.{◌≡◌, ◌≢◌, ◌⊎◌, inl, inr, ℕ, zero, suc, ◌+◌, ◌<◌, ◌≤◌, Bool, true, false, List, [], ◌∷◌, ◌++◌, map, length, Option, Some, None, Result, Ok, Err, refl, sym, ap, subst, ◌∙◌, arith, length-append, append_assoc}
+use Rattle.std.proofs.Common.{◌≡◌, ◌≢◌, ℕ, zero, suc, ◌≤◌, Bool, true, false, List, [], ◌∷◌, ◌++◌, map, length, Some, None, Result, Ok, Err, refl, sym, ap, subst, ◌∙◌, arith, length-append, append_assoc}
 use Rattle.std.specs.List.{flat_map, AllByRecursion}
 use Rattle.std.proofs.lemmas.Bool.{ne_eqb}
-use Rattle.std.proofs.lemmas.List.{length-map, map-append}
+use Rattle.std.proofs.lemmas.List.{length-map}
 use Rattle.pgp_base.specs.declared.error.Error.{Error}
 use Rattle.pgp_base.specs.declared.error.Error.TheVariants.{UnexpectedEof, NotDrained, InvalidCount, TooLarge}
 use Rattle.pgp_base.specs.Cause.{length_cause}
-use Rattle.pgp_base.specs.Walk.{Walk}
 use Rattle.pgp_base.specs.WalkReading.{counted}
 use Rattle.pgp_base.specs.Wire.{IsBytes, uint32}
 use Rattle.pgp_base.proofs.Causes.{length_fits, length_past}
 use Rattle.pgp_base.proofs.CountedLemmas.{ok, ok_is, differ}
-use Rattle.pgp_base.proofs.Binds.{err, err_is}
+use Rattle.pgp_base.proofs.Binds.{err_is}
 use Rattle.pgp_types.specs.Format.{IsSound}
 use Rattle.pgp_types.specs.Geometry.{Point, IsPoint, point_bytes}
-use Rattle.pgp_types.specs.Part.{Begins, IsBoth, IsWalk, natural, finished}
-use Rattle.pgp_types.specs.PartReading.{is_set, flag_at, natural_at, point_value, point_at, then_at, fixed_at}
+use Rattle.pgp_types.specs.Part.{Begins, IsWalk}
+use Rattle.pgp_types.specs.PartReading.{is_set, flag_at, natural_at, point_at, then_at}
 use Rattle.pgp_types.specs.Path.{Path, WalkedPath, flag, header, point_part, path_bytes, PathReads, path, point_at_xy, path_of}
 use Rattle.pgp_types.specs.Scalar.{bool_bytes, BoolReads}
 use Rattle.pgp_types.proofs.GeometryLemmas.{point_spelling}

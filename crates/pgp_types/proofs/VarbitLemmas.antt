@@ -1,14 +1,12 @@
 -- Bit strings: what is read is the one reading.
-use Rattle.std.proofs.Common.{◌≡◌, ◌≢◌, ◌⊎◌, inl, inr, ℕ, ◌<◌, List, ◌++◌, length, None, Result, Ok, Err, refl, sym, ap, subst, ◌∙◌, arith}
+use Rattle.std.proofs.Common.{◌≡◌, ◌⊎◌, inl, inr, ℕ, ◌<◌, List, length, Result, Ok, Err, refl, sym, ap, ◌∙◌, arith}
 use Rattle.std.proofs.lemmas.Bool.{cases_order}
 use Rattle.std.specs.Int.{div_ceil}
 use Rattle.pgp_base.specs.declared.error.Error.{Error}
 use Rattle.pgp_base.specs.declared.error.Error.TheVariants.{InvalidBitLength, InvalidSize}
-use Rattle.pgp_base.specs.Cause.{length_cause}
-use Rattle.pgp_base.specs.PartReading.{Answers}
 use Rattle.pgp_base.specs.Wire.{IsBytes, uint32}
 use Rattle.pgp_base.proofs.CountedLemmas.{ok, ok_is, differ}
-use Rattle.pgp_base.proofs.Binds.{err, err_is}
+use Rattle.pgp_base.proofs.Binds.{err_is}
 use Rattle.pgp_types.specs.Format.{IsSound}
 use Rattle.pgp_types.specs.Part.{Begins}
 use Rattle.pgp_types.specs.PartReading.{natural_at}

@@ -1,5 +1,5 @@
 -- Walks over counted parts: what is read is the one walk that the grammar allows.
-use Rattle.std.proofs.Common.{◌≡◌, ℕ, suc, ◌+◌, ◌<◌, ◌≤◌, List, [], ◌∷◌, ◌++◌, map, length, Option, Some, None, Result, Ok, Err, refl, sym, ap, ◌∙◌, append_assoc, arith}
+use Rattle.std.proofs.Common.{◌≡◌, ℕ, ◌+◌, ◌<◌, ◌≤◌, List, [], ◌∷◌, ◌++◌, map, length, Option, Some, None, refl, sym, ap, ◌∙◌}
 use Rattle.std.proofs.lemmas.List.{append-nil}
 use Rattle.std.specs.List.{concat, flat_map, AllByRecursion}
 use Rattle.pgp_base.specs.declared.error.Error.{Error}
@@ -10,7 +10,7 @@ use Rattle.pgp_base.specs.Walk.{Walk}
 use Rattle.pgp_base.specs.WalkReading.{counted, counted_run}
 use Rattle.pgp_base.specs.Wire.{IsBytes}
 use Rattle.pgp_base.proofs.CountedLemmas.{counted_whole, counted_few, counted_one}
-use Rattle.pgp_types.specs.Part.{Part, Begins, IsWalk, finished}
+use Rattle.pgp_types.specs.Part.{Part, IsWalk, finished}
 use Rattle.pgp_types.specs.PartReading.{Reader}
 use Rattle.pgp_types.proofs.PartLemmas.{IsPart}
 

@@ -1,5 +1,5 @@
 -- Reading the parts of an array from the left, as the code does it.
-use Rattle.std.specs.Prelude.{ℕ, ℤ, zero, suc, ◌*◌, Bool, List, [], ◌∷◌, Option, Result, Ok, Err, nat_le}
+use Rattle.std.specs.Prelude.{ℕ, ℤ, ◌*◌, List, Option, Result, Ok, nat_le}
 use Rattle.std.specs.Int.{w32, from_be_bytes, cast_signed}
 use Rattle.pgp_base.specs.declared.error.Error.{Error}
 use Rattle.pgp_base.specs.declared.error.Error.TheVariants.{InvalidCount, InvalidValueLength, InvalidDimension, TooManyElements}

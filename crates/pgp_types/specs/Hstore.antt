@@ -1,6 +1,6 @@
 -- Lists of keys and values, of which a value may be a null.
 -- PostgreSQL manual, "hstore" among the additional supplied modules; the layout as a server sends it.
-use Rattle.std.specs.Prelude.{◌≡◌, ℕ, List, ◌++◌, map, length, Option, Some, None, Result, Ok, Err, ⊤}
+use Rattle.std.specs.Prelude.{ℕ, List, ◌++◌, map, length, Option, Some, None, Result, Ok, Err, ⊤}
 use Rattle.std.specs.Borrow.{Bor}
 use Rattle.std.specs.List.{flat_map, AllByRecursion}
 use Rattle.std.specs.Str.{IsUtf8}

@@ -1,12 +1,12 @@
 -- The parts that values are made of, as grammars: the bytes that spell a part, and why bytes begin with none, in the
 -- order in which what it is made of is read.
-use Rattle.std.specs.Prelude.{◌≡◌, ◌⊎◌, ℕ, ℤ, negsuc, ◌<◌, List, ◌++◌, length, Option, Some, None}
+use Rattle.std.specs.Prelude.{◌≡◌, ◌⊎◌, ℕ, negsuc, ◌<◌, List, ◌++◌, length, Option, Some, None}
 use Rattle.std.specs.Prelude.{FitsSigned}
 use Rattle.std.specs.Int.{w32}
 use Rattle.pgp_base.specs.declared.error.Error.{Error}
 use Rattle.pgp_base.specs.declared.error.Error.TheVariants.{UnexpectedEof}
-use Rattle.pgp_base.specs.Cause.{length_cause, nullable_cause}
-use Rattle.pgp_base.specs.Wire.{int32, uint32, nullable as nullable_bytes}
+use Rattle.pgp_base.specs.Cause.{length_cause}
+use Rattle.pgp_base.specs.Wire.{int32, uint32}
 use Rattle.pgp_base.specs.Items.{CountedItems}
 use Rattle.pgp_base.specs.Walk.{Walk}
 

@@ -1,6 +1,6 @@
 -- Ranges: empty, or between a lower and an upper bound.
 -- PostgreSQL manual, "Range Types"; the layout as a server sends it.
-use Rattle.std.specs.Prelude.{◌≡◌, ◌≢◌, ◌⊎◌, ℕ, ◌+◌, List, [], ◌∷◌, ◌++◌, Option, Some, None, Result, Ok, Err, bit_and, ⊤}
+use Rattle.std.specs.Prelude.{◌≡◌, ◌≢◌, ◌⊎◌, ℕ, ◌+◌, List, [], ◌∷◌, ◌++◌, Option, None, Result, Ok, Err, bit_and, ⊤}
 use Rattle.pgp_base.specs.declared.error.Error.{Error}
 use Rattle.pgp_base.specs.declared.error.Error.TheVariants.{UnexpectedEof, NotDrained, InvalidValueLength}
 use Rattle.pgp_base.specs.Cause.{Cause, either, nullable_cause}

@@ -1,7 +1,7 @@
 -- What the writer of a range comes to, which calls a closure for each side.
-use Rattle.std.specs.Prelude.{◌≡◌, ◌⊎◌, ℕ, ◌+◌, List, [], ◌∷◌, ◌++◌, take, drop, Some, None, Result, Ok, Err, ⊤}
+use Rattle.std.specs.Prelude.{◌≡◌, ◌⊎◌, ℕ, ◌+◌, Bool, true, false, List, [], ◌∷◌, ◌++◌, take, drop, Some, None, Result, Ok, Err, ⊤}
 use Rattle.pgp_base.specs.declared.number.IsNull.{IsNull}
-use Rattle.pgp_base.specs.declared.number.IsNull.TheVariants.{Yes, No}
+use Rattle.pgp_base.specs.declared.number.IsNull.TheVariants.{Yes}
 use Rattle.pgp_base.specs.declared.error.Error.{Error}
 use Rattle.pgp_base.specs.declared.error.BindError.{BindError}
 use Rattle.pgp_base.specs.declared.error.BindError.TheVariants.{Conversion, Serialization}
@@ -11,7 +11,7 @@ use Rattle.pgp_base.specs.Held.{Held, ◌⊕◌, overwritten, Leaves}
 use Rattle.pgp_base.specs.Wire.{uint32}
 use Rattle.pgp_types.specs.declared.range.RangeBound.{RangeBound}
 use Rattle.pgp_types.specs.declared.range.RangeBound.TheVariants.{Inclusive, Exclusive, Unbounded}
-use Rattle.pgp_types.specs.Range.{Side, Range, between, side_bytes, side_cause, range_bytes, range_cause}
+use Rattle.pgp_types.specs.Range.{Side, between, side_bytes, side_cause, range_bytes, range_cause}
 use denote.Ref.{MutBor}
 
 -- what a side's closure may do to a buffer: append, and nothing where it answers a null; where it is refused use more of
@@ -44,6 +44,22 @@ SideFilled (Exclusive null) old base new = new ≡ overwritten old base (length_
 abbrev pub Extends : {K : Type 0} → Held K → List ℕ → Held K → Type 0
 Extends old p new = (new.bytes ≡ old.bytes ++ p) × (new.kept ≡ old.kept)
 
+-- whether sides have bounds
+abbrev pub has_bound : Side → Bool
+has_bound Unbounded = false
+has_bound (Inclusive v) = true
+has_bound (Exclusive v) = true
+
+abbrev pub have_bounds : Side → Side → Bool
+have_bounds Unbounded u = false
+have_bounds (Inclusive v) u = has_bound u
+have_bounds (Exclusive v) u = has_bound u
+
+-- These bytes are appended. Where a closure's bytes were cut off again, what stands behind may be other than it was.
+abbrev pub Stands : {K : Type 0} → Bool → Held K → List ℕ → Held K → Type 0
+Stands true old p new = new ≡ old ⊕ p
+Stands false old p new = Extends old p new
+
 module _ {F E B K : Type 0} (held : B → Held K) (pre : F → MutBor B → Type 0) (post : F → MutBor B → Result (RangeBound IsNull) E → MutBor B → Type 0) where
   -- the law that a side's closure owes
   abbrev pub OwesBound : F → Type 0
@@ -68,7 +84,7 @@ module _ {F G E B K : Type 0} (held : B → Held K) (post_f : F → MutBor B →
   -- f was called behind the tag, and made the lower side, whose bytes stand there then
   pub record LowerMade (lower : Side) (mid : Held K) : Type 0 where
     pub made : Makes held post_f (old ⊕ 0 ∷ []) f lower
-    pub stands : Extends (old ⊕ 0 ∷ []) (side_bytes lower) mid
+    pub stands : Stands (has_bound lower) (old ⊕ 0 ∷ []) (side_bytes lower) mid
 
   -- g was called behind that, and made the upper side
   pub record WritesRange (new : Held K) : Type 0 where
@@ -78,7 +94,7 @@ module _ {F G E B K : Type 0} (held : B → Held K) (post_f : F → MutBor B →
     pub first : LowerMade lower mid
     pub second : Makes held post_g mid g upper
     pub fits : range_cause (between lower upper) ≡ None
-    pub appended : Extends old (range_bytes (between lower upper)) new
+    pub appended : Stands (have_bounds lower upper) old (range_bytes (between lower upper)) new
 
   -- there was no memory for the tag, or the lower side was refused, or behind it the upper
   abbrev pub RangeStops : Type 0 → BindError E → Type 0

@@ -44,4 +44,8 @@ pub use time::{
 pub use varbit::{Varbit, varbit_from_sql, varbit_to_sql};
 
 #[cfg(test)]
+mod array_tests;
+#[cfg(test)]
+mod range_tests;
+#[cfg(test)]
 mod tests;

@@ -11,7 +11,7 @@ ghost use Rattle.pgp_base.specs.PartReading.{Answers};
 ghost use Rattle.pgp_types.specs.Format.{ReadsBy, Writes};
 ghost use Rattle.pgp_types.specs.Range.{Side, range, empty, side_bit, side_bytes, side_cause};
 ghost use Rattle.pgp_types.specs.RangeReading.{shown_side, shown_range, side_at, range_at};
-ghost use Rattle.pgp_types.specs.RangeWriting.{OwesBound, IsNullBound, SideFilled, side_of, Extends, Makes, SideStops, WritesRange, RangeStops, RangeWritten};
+ghost use Rattle.pgp_types.specs.RangeWriting.{OwesBound, IsNullBound, SideFilled, side_of, has_bound, Stands, Makes, SideStops, WritesRange, RangeStops, RangeWritten};
 
 use crate::codec::append;
 use crate::part::nullable_at;
@@ -136,7 +136,7 @@ fn put_side<B: Buffer, E: Drop, F: FnOnce(&mut B) -> Result<RangeBound<IsNull>, 
     requires callable { F.IsAlwaysCallable f }
     requires owes { OwesBound B.held F.pre F.post f }
     ensures ok { IfOk result (λ bit. (s : Side) × Makes B.held F.post (B.held buf.old) f s × (bit ≡ side_bit (record { unbounded = unbounded; inclusive = inclusive }) s)
-        × Extends (B.held buf.old) (side_bytes s) (B.held buf.new)) }
+        × Stands (has_bound s) (B.held buf.old) (side_bytes s) (B.held buf.new)) }
     ensures err { OnErr result (IsFrontOf (B.held buf.old) (B.held buf.new)) }
     ensures cause { IfErr result (SideStops B.held F.post B.Lacks (B.held buf.old) f) }
 {
@@ -178,7 +178,8 @@ fn fill_range<
 
 /// Appends a range between two sides, of which each closure appends the bytes of its value, or answers that it is a null
 /// or that there is no bound. The lower is called first, and the upper not at all where the lower was refused. What a
-/// closure appended for `Unbounded` is dropped.
+/// closure appended for `Unbounded` is dropped, and so is the place of its length: in memory of the caller's, what stood
+/// there isn't put back.
 ///
 /// # Errors
 ///

@@ -1,4 +1,4 @@
-use Rattle.std.proofs.Common.{rules, arith, ◌≡◌, [], ◌∷◌, ◌++◌, length, refl, inr, length-append}
+use Rattle.std.proofs.Common.{rules, arith, [], ◌∷◌, refl, inr, length-append}
 use Rattle.std.proofs.lemmas.List.Elements.{All-push}
 use Rattle.pgp_base.proofs.Causes.{length_fits}
 use Rattle.pgp_base.proofs.Parts.{more_parts}

@@ -1,4 +1,3 @@
-use Rattle.std.proofs.Common.{rules}
 use Rattle.pgp_types.proofs.ArrayWrites.{count_room, head_put}
 use Rattle.pgp_types.proofs.array.put_head.Goals as goal
 

@@ -1,4 +1,4 @@
-use Rattle.std.proofs.Common.{◌≡◌, arith}
+use Rattle.std.proofs.Common.{arith}
 use Rattle.pgp_base.specs.Wire.{IsBytes}
 use Rattle.pgp_types.specs.Hstore.{HstoreReads}
 use Rattle.pgp_types.proofs.Appending.{refused_as}

@@ -1,4 +1,3 @@
-use Rattle.std.proofs.Common.{rules}
 use Rattle.pgp_types.proofs.HstoreLemmas.{key_read, key_bad}
 use Rattle.pgp_types.proofs.hstore.key_at.Goals as goal
 

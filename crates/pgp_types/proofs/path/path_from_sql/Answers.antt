@@ -1,7 +1,6 @@
-use Rattle.std.proofs.Common.{◌≡◌, refl, arith}
+use Rattle.std.proofs.Common.{refl, arith}
 use Rattle.pgp_base.specs.Wire.{IsBytes}
 use Rattle.pgp_types.specs.Path.{PathReads}
-use Rattle.pgp_types.specs.PartReading.{is_set, flag_at}
 use Rattle.pgp_types.proofs.Appending.{refused_as}
 use Rattle.pgp_types.proofs.PathLemmas.{header_refused, path_read, path_few}
 use Rattle.pgp_types.proofs.path.path_from_sql.Goals as goal

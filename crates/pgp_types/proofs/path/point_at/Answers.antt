@@ -1,6 +1,5 @@
-use Rattle.std.proofs.Common.{◌≡◌, ◌<◌, ◌++◌, length, sym, ap, ◌∙◌, arith, refl}
+use Rattle.std.proofs.Common.{◌≡◌, ◌++◌, sym, refl}
 use Rattle.std.proofs.lemmas.List.{take-append-drop}
-use Rattle.pgp_types.specs.PartReading.{point_at}
 use Rattle.pgp_types.proofs.PathLemmas.{point_item, coordinates_read}
 use Rattle.pgp_types.proofs.path.point_at.Goals as goal
 

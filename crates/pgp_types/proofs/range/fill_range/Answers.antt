@@ -1,9 +1,9 @@
-use Rattle.std.proofs.Common.{arith, ◌≡◌, ◌+◌, refl, inl, inr, ◌∙◌, ap}
+use Rattle.std.proofs.Common.{◌≡◌, ◌+◌, refl, inl, inr}
 use Rattle.std.specs.Prelude.{bit_or}
 use Rattle.pgp_base.proofs.Causes.{either_none}
 use Rattle.pgp_base.proofs.Parts.{if_err_at, on_err, front_then, front_trans}
 use Rattle.pgp_types.specs.Range.{side_cause, lower_bits, upper_bits, side_bit}
-use Rattle.pgp_types.proofs.RangeWriteLemmas.{makes_at, extends_at, stops_at, front_extends, tag_or, tag_room, tag_written}
+use Rattle.pgp_types.proofs.RangeWriteLemmas.{makes_at, stands_at, stops_at, front_stands, tag_or, tag_room, tag_written}
 use Rattle.pgp_types.proofs.range.fill_range.Goals as goal
 
 pub returns-in_err-put_u8-clause-cause : goal.returns-in_err-put_u8-clause-cause
@@ -21,12 +21,12 @@ returns-in_err-high-clause-cause g c =
     let l = c.in_ok-low.ensures.ok in
     let start = c.in_ok-put_u8.ensures.ok in
     if_err_at _ _ _ c.from_residual-in_err-high.ensures.1
-    (inr (inr (l.0, _, record { made = makes_at _ _ _ _ _ _ start l.1; stands = extends_at _ _ (g.B.Buffer.held c.put_side.new.buf) _ start l.3 }, c.in_err-high.ensures.cause)))
+    (inr (inr (l.0, _, record { made = makes_at _ _ _ _ _ _ start l.1; stands = stands_at l.0 _ _ (g.B.Buffer.held c.put_side.new.buf) start l.3 }, c.in_err-high.ensures.cause)))
 
 pub returns-in_err-high-clause-err : goal.returns-in_err-high-clause-err
 returns-in_err-high-clause-err g c =
     let l = c.in_ok-low.ensures.ok in
-    on_err _ _ (front_then _ _ _ _ c.in_ok-put_u8.ensures.ok (front_trans _ _ _ (front_extends _ _ _ l.3) c.in_err-high.ensures.err))
+    on_err _ _ (front_then _ _ _ _ c.in_ok-put_u8.ensures.ok (front_trans _ _ _ (front_stands l.0 _ _ l.3) c.in_err-high.ensures.err))
 
 pub patch-requires : goal.patch-requires
 patch-requires g c =
@@ -34,7 +34,7 @@ patch-requires g c =
     let u = c.in_ok-high.ensures.ok in
     let mid = g.B.Buffer.held c.put_side.new.buf in
     let last = g.B.Buffer.held c.put_side-2.new.buf in
-    tag_room (g.B.Buffer.held c.args.buf.now) mid last l.0 u.0 (extends_at _ _ mid _ c.in_ok-put_u8.ensures.ok l.3) u.3 c.len-base.result c.len-base.ensures.value
+    tag_room (g.B.Buffer.held c.args.buf.now) mid last c.len-base.result c.len-base.ensures.value l.0 u.0 (stands_at l.0 _ _ mid c.in_ok-put_u8.ensures.ok l.3) u.3
 
 pub returns-clause-ok : goal.returns-clause-ok
 returns-clause-ok g c =
@@ -48,8 +48,8 @@ returns-clause-ok g c =
       lower = l.0;
       upper = u.0;
       mid = mid;
-      first = record { made = makes_at _ _ _ _ _ _ start l.1; stands = extends_at _ _ mid _ start l.3 };
+      first = record { made = makes_at _ _ _ _ _ _ start l.1; stands = stands_at l.0 _ _ mid start l.3 };
       second = u.1;
       fits = either_none (side_cause l.0) (side_cause u.0) l.1.fits u.1.fits;
-      appended = tag_written (g.B.Buffer.held c.args.buf.now) mid last l.0 u.0 (extends_at _ _ mid _ start l.3) u.3 (g.B.Buffer.held c.patch.new.self) c.len-base.result _ c.len-base.ensures.value tag c.patch.ensures;
+      appended = tag_written (g.B.Buffer.held c.args.buf.now) mid last (g.B.Buffer.held c.patch.new.self) c.len-base.result _ c.len-base.ensures.value l.0 u.0 (stands_at l.0 _ _ mid start l.3) u.3 tag c.patch.ensures;
     }

@@ -2,7 +2,7 @@ use Rattle.std.proofs.Common.{arith, ◌≡◌, Some, None, refl, subst, inr, �
 use Rattle.pgp_base.proofs.Parts.{sized4, rest4, none_sized, Appends-at, front_twice, front_refused}
 use Rattle.pgp_types.specs.Range.{side_cause}
 use Rattle.pgp_types.specs.RangeWriting.{side_of}
-use Rattle.pgp_types.proofs.RangeWriteLemmas.{side_extends}
+use Rattle.pgp_types.proofs.RangeWriteLemmas.{side_stands}
 use Rattle.pgp_types.proofs.range.put_side.Goals as goal
 
 pub finish_side-requires-clause-room : goal.finish_side-requires-clause-room
@@ -38,7 +38,7 @@ returns-in_default-clause-ok g c =
         fits = subst (λ p. side_cause (side_of c.in-Ok.answer p) ≡ None) r c.in_default.ensures.fits;
       },
       c.bit_of.ensures k.0,
-      side_extends c.in-Ok.answer _ k.0 _ _ _ _ c.in_ok-put_u32.ensures.ok k.2 c.len-base.ensures.value k.3 c.in_default.ensures.ok,
+      side_stands c.in-Ok.answer _ k.0 _ _ _ _ c.in_ok-put_u32.ensures.ok k.2 c.len-base.ensures.value k.3 c.in_default.ensures.ok,
     )
 
 pub returns-in-Err-clause-err : goal.returns-in-Err-clause-err

@@ -1,4 +1,4 @@
-use Rattle.std.proofs.Common.{◌≡◌, length, refl, sym, ◌∙◌, inl, inr, arith}
+use Rattle.std.proofs.Common.{refl, sym, ◌∙◌, inl, inr, arith}
 use Rattle.pgp_base.specs.Wire.{IsBytes}
 use Rattle.pgp_base.specs.declared.error.Error.TheVariants.{InvalidBitLength}
 use Rattle.pgp_types.specs.Varbit.{VarbitReads}

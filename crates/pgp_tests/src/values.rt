@@ -1,0 +1,118 @@
+//! Values inside a message.
+#![tactic(auto, using(pgp_base::proofs::Parts::held_steps))]
+
+ghost use Rattle.pgp_base.specs.Calls.{KeepsValue};
+ghost use Rattle.pgp_base.specs.Held.{items_held};
+
+use bytes::BytesMut;
+use pgp_base::{BindError, Buffer, Error, IsNull};
+use pgp_frontend::bind;
+use pgp_types::{ArrayDimension, array_to_sql, int4_to_sql};
+use std::test::Fail;
+
+// A value of four bytes, or a null.
+fn put_int4(n: Option<i32>, buf: &mut BytesMut) -> Result<IsNull, Error>
+    ensures { KeepsValue result (items_held buf.entry.now.items) (items_held buf.exit.now.items) }
+{
+    match n {
+        None => Ok(IsNull::Yes),
+        Some(n) => match int4_to_sql(n, buf) {
+            Ok(()) => Ok(IsNull::No),
+            Err(e) => Err(e),
+        },
+    }
+}
+
+// The bytes are the manual's format of a Bind, worked by hand.
+#[test]
+fn a_number_and_a_null_are_bound(rt: HostRuntime) {
+    let mut buf = BytesMut::new(rt.alloc());
+    let answer = bind(
+        "",
+        "s",
+        Some(1i16),
+        [Some(5), None].as_slice(),
+        |n: &Option<i32>, buf: &mut BytesMut| put_int4(*n, buf),
+        Some(1i16),
+        &mut buf,
+    );
+    assert!(rt; matches!(answer, Ok(())));
+    assert_eq!(rt;
+        buf.as_slice(),
+        b"B\0\0\0\x1d\0s\0\0\x01\0\x01\0\x02\0\0\0\x04\0\0\0\x05\xff\xff\xff\xff\0\x01\0\x01".as_slice()
+    );
+}
+
+// An element is a number, a null, or refused.
+#[derive(Clone, Copy)]
+enum Element {
+    Number(i32),
+    Null,
+    Refuse,
+}
+
+// The array of these elements, as a value that is never a null.
+fn put_array(elements: &[Element], buf: &mut BytesMut) -> Result<IsNull, BindError<u8>>
+    ensures { KeepsValue result (items_held buf.entry.now.items) (items_held buf.exit.now.items) }
+{
+    let answer = array_to_sql(
+        Some(ArrayDimension {
+            len: 2,
+            lower_bound: 1,
+        }),
+        23,
+        elements,
+        |element: &Element, buf: &mut BytesMut| -> Result<IsNull, u8> {
+            match *element {
+                Element::Null => Ok(IsNull::Yes),
+                Element::Refuse => Err(2),
+                Element::Number(n) => match int4_to_sql(n, buf) {
+                    Ok(()) => Ok(IsNull::No),
+                    Err(_) => Err(1),
+                },
+            }
+        },
+        buf,
+    );
+    match answer {
+        Ok(()) => Ok(IsNull::No),
+        Err(e) => Err(e),
+    }
+}
+
+// Binds the array of these two elements.
+fn bind_array(elements: [Element; 2], buf: &mut BytesMut) -> Result<(), BindError<BindError<u8>>> {
+    bind(
+        "",
+        "",
+        Some(1i16),
+        Some(elements),
+        |elements: [Element; 2], buf: &mut BytesMut| -> Result<IsNull, BindError<u8>>
+            ensures { KeepsValue result (items_held buf.entry.now.items) (items_held buf.exit.now.items) }
+        { put_array(elements.as_slice(), buf) },
+        None::<i16>,
+        buf,
+    )
+}
+
+#[test]
+fn an_array_is_bound(rt: HostRuntime) {
+    let mut buf = BytesMut::new(rt.alloc());
+    let answer = bind_array([Element::Number(5), Element::Null], &mut buf);
+    assert!(rt; matches!(answer, Ok(())));
+    assert_eq!(rt;
+        buf.as_slice(),
+        b"B\0\0\0\x32\0\0\0\x01\0\x01\0\x01\0\0\0\x20\0\0\0\x01\0\0\0\x01\0\0\0\x17\0\0\0\x02\0\0\0\x01\0\0\0\x04\0\0\0\x05\xff\xff\xff\xff\0\0".as_slice()
+    );
+}
+
+// The refusal of an element is the serializer's own, inside the array and inside the message.
+#[test]
+fn an_array_that_is_refused_is_not_bound(rt: HostRuntime) -> Result<(), Fail> {
+    let mut buf = BytesMut::new(rt.alloc());
+    buf.append(b"S\0\0\0\x04")?;
+    let answer = bind_array([Element::Number(5), Element::Refuse], &mut buf);
+    assert!(rt; matches!(answer, Err(BindError::Conversion(BindError::Conversion(2)))));
+    assert_eq!(rt; buf.as_slice(), b"S\0\0\0\x04".as_slice());
+    Ok(())
+}
