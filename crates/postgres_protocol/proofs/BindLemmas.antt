@@ -1,24 +1,24 @@
 -- The message that binds one value, and the one that binds an array of steps.
-use Rattle.std.proofs.Common.{◌≡◌, ◌≢◌, ◌⊎◌, ℕ, ℤ, pos, ◌+◌, ◌<◌, List, [], ◌∷◌, ◌++◌, map, length, Option, Some, None, Result, Ok, Err, MutBor, refl, sym, ap, subst, ◌∙◌, inl, inr, arith}
+use Rattle.std.proofs.Common.{◌≡◌, ℕ, ℤ, pos, List, [], ◌∷◌, ◌++◌, length, Option, Some, None, Result, Ok, Err, MutBor, refl, sym, ap, subst, ◌∙◌, inl, inr, arith}
 use Rattle.std.specs.List.{flat_map}
 use Rattle.pgp_base.specs.declared.error.Error.{Error}
 use Rattle.pgp_base.specs.declared.error.BindError.{BindError}
 use Rattle.pgp_base.specs.declared.error.BindError.TheVariants.{Conversion, Serialization}
 use Rattle.pgp_base.specs.declared.number.IsNull.{IsNull}
-use Rattle.pgp_base.specs.declared.number.IsNull.TheVariants.{Yes, No}
+use Rattle.pgp_base.specs.declared.number.IsNull.TheVariants.{No}
 use Rattle.pgp_base.specs.Wire.{uint32, nullable}
-use Rattle.pgp_base.specs.Cause.{Cause, either, WantsMemory}
-use Rattle.pgp_base.specs.Held.{Held, ◌⊕◌, Leaves}
+use Rattle.pgp_base.specs.Cause.{Cause, either}
+use Rattle.pgp_base.specs.Held.{Held, ◌⊕◌}
 use Rattle.pgp_base.specs.Calls.{value_of, Puts, Gives, Runs}
 use Rattle.pgp_base.proofs.Parts.{nothing_more}
 use Rattle.pgp_frontend.specs.ClientMessage.{ClientMessage, Bind}
 use Rattle.pgp_frontend.specs.Payload.{Part, Text, Int16s, Values, part_cause, parts_cause, bytes_of, cause}
 use Rattle.pgp_frontend.specs.Given.{Serves, before_values, BindWhole, BindReached, WritesBind}
 use Rattle.pgp_types.specs.declared.array.ArrayDimension.{ArrayDimension}
-use Rattle.pgp_types.specs.Array.{Array, array_bytes, array_cause}
+use Rattle.pgp_types.specs.Array.{array_bytes, array_cause}
 use Rattle.postgres_protocol.specs.declared.laws.array.Step.{Step}
-use Rattle.postgres_protocol.specs.ArraySteps.{Give, array_of, ArrayRefused, WritesSteps, binding, BindAppended, IsTooLong, BindsArray}
-use Rattle.postgres_protocol.specs.OneValue.{one_bound, PutsOne, OneWritten, OneTooLong, OneRefused, OneBinds, BindsOne}
+use Rattle.postgres_protocol.specs.ArraySteps.{Give, array_of, WritesSteps, binding, BindsArray}
+use Rattle.postgres_protocol.specs.OneValue.{one_bound, PutsOne, OneTooLong, OneBinds, BindsOne}
 use Rattle.postgres_protocol.proofs.StepLemmas.{same_more}
 
 -- ---- one value

@@ -1,28 +1,25 @@
 -- What an array of steps comes to, alone and as the value of a message.
-use Rattle.std.proofs.Common.{◌≡◌, ◌≢◌, ◌⊎◌, ℕ, ℤ, pos, ◌+◌, ◌<◌, ◌≤◌, List, [], ◌∷◌, ◌++◌, map, length, Option, Some, None, Result, Ok, Err, Bor, MutBor, refl, sym, ap, subst, ◌∙◌, inl, inr, arith, length-append}
+use Rattle.std.proofs.Common.{◌≡◌, ℕ, ◌+◌, List, [], ◌∷◌, ◌++◌, map, length, Option, Some, None, Result, Ok, Err, Bor, MutBor, refl, sym, ap, subst, ◌∙◌, inl, inr, arith, length-append}
 use Rattle.std.proofs.lemmas.List.{append_cancel_left, map-append}
 use Rattle.std.proofs.lemmas.Iterator.{YieldsList, items_from_drains}
-use Rattle.std.specs.Iterator.{Yields, YieldsThen, AlwaysYields}
-use Rattle.std.specs.List.{flat_map}
-use Rattle.std.specs.Result.{IsErrAnd}
+use Rattle.std.specs.Iterator.{Yields, AlwaysYields}
 use Rattle.pgp_base.specs.declared.error.Error.{Error}
-use Rattle.pgp_base.specs.declared.error.Error.TheVariants.{TooLarge}
 use Rattle.pgp_base.specs.declared.error.BindError.{BindError}
 use Rattle.pgp_base.specs.declared.error.BindError.TheVariants.{Conversion, Serialization}
 use Rattle.pgp_base.specs.declared.number.IsNull.{IsNull}
 use Rattle.pgp_base.specs.declared.number.IsNull.TheVariants.{Yes, No}
 use Rattle.pgp_base.specs.Wire.{uint32, nullable}
-use Rattle.pgp_base.specs.Cause.{Cause, either, first, length_cause, nullable_cause, WantsMemory}
-use Rattle.pgp_base.specs.Held.{Held, ◌⊕◌, Leaves}
-use Rattle.pgp_base.specs.Calls.{value_of, Came, Puts, Gives, Runs, KeepsValue, ValueRefused}
+use Rattle.pgp_base.specs.Cause.{either, first, length_cause, nullable_cause}
+use Rattle.pgp_base.specs.Held.{Held, ◌⊕◌}
+use Rattle.pgp_base.specs.Calls.{value_of, Came, Puts, Gives, Runs, KeepsValue}
 use Rattle.pgp_base.proofs.Causes.{either_none, either_then, first_here, length_past}
 use Rattle.pgp_base.proofs.Parts.{more_bytes, front_same, front_left}
 use Rattle.pgp_types.specs.declared.array.ArrayDimension.{ArrayDimension}
 use Rattle.pgp_types.specs.Array.{Array, array_bytes, array_cause}
-use Rattle.pgp_types.specs.ArrayWriting.{before_elements, DimensionsPast, Made, MadeUpTo, ArrayWritten, ArrayRefused as RefusedArray, WritesArray}
+use Rattle.pgp_types.specs.ArrayWriting.{before_elements, MadeUpTo, ArrayWritten, ArrayRefused as RefusedArray}
 use Rattle.postgres_protocol.specs.declared.laws.array.Step.{Step}
 use Rattle.postgres_protocol.specs.declared.laws.array.Step.TheVariants.{Append, Null, Refuse}
-use Rattle.postgres_protocol.specs.ArraySteps.{Does, gives, Give, RefusesAt, array_of, StepRefuses, HasCause, ArrayRefused, ArrayAppended, WritesSteps}
+use Rattle.postgres_protocol.specs.ArraySteps.{Does, gives, Give, RefusesAt, array_of, ArrayRefused, ArrayAppended, WritesSteps}
 
 -- The laws of the closures.
 

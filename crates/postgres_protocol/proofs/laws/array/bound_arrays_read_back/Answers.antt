@@ -1,11 +1,10 @@
-use Rattle.std.proofs.Common.{rules, arith, ◌≡◌, ◌≢◌, ◌<◌, ℕ, zero, suc, ℤ, pos, get_or, List, ◌++◌, ◌∷◌, [], Bool, false, Option, Some, None, refl, sym, ap, ◌∙◌}
+use Rattle.std.proofs.Common.{rules, arith, ◌≡◌, ◌≢◌, ◌<◌, ℕ, zero, suc, ℤ, pos, get_or, ◌∷◌, [], false, Option, Some, None, refl, ap, ◌∙◌}
 use Rattle.std.specs.Prelude.{is_some, FitsSigned}
 use Rattle.std.specs.Int.{w16}
-use Rattle.pgp_frontend.specs.ClientMessage.{ClientMessage}
-use Rattle.pgp_frontend.specs.Payload.{tag_of, kind_of, payload, bytes_of}
+use Rattle.pgp_frontend.specs.Payload.{tag_of, kind_of, payload}
 use Rattle.pgp_frontend.specs.Reading.{IsSpelled}
-use Rattle.pgp_types.specs.Array.{array_bytes, array_seen}
-use Rattle.postgres_protocol.specs.ArraySteps.{IsReadBack, array_of, binding}
+use Rattle.pgp_types.specs.Array.{array_bytes}
+use Rattle.postgres_protocol.specs.ArraySteps.{array_of, binding}
 use Rattle.postgres_protocol.proofs.ClientRuns.{same_tag, is_told, kind_there}
 use Rattle.postgres_protocol.proofs.laws.array.bound_arrays_read_back.Goals as goal
 
