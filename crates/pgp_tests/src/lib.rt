@@ -10,4 +10,8 @@ mod frontend;
 #[cfg(test)]
 mod message;
 #[cfg(test)]
+mod session;
+#[cfg(test)]
 mod types;
+#[cfg(test)]
+mod values;

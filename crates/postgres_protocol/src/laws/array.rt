@@ -74,8 +74,10 @@ fn bind_one<B: Buffer, E: Drop, F: FnMut(u8, &mut B) -> Result<IsNull, E> + Drop
 ///
 /// # Errors
 ///
-/// `Conversion` is the refusal of the array: in it `Conversion` is that of a step, and `Serialization` that of
-/// `array_to_sql` itself. `Serialization` is the refusal of `bind` itself. The buffer has the bytes that it had.
+/// `Conversion` is the refusal of the array: in it `Conversion` is that of the first step that refuses, or
+/// `OutOfMemory` where the buffer refused the bytes of a step, and `Serialization` is `TooLarge` at the dimension past
+/// 2,147,483,647 or at an element of more bytes than that, or `OutOfMemory`. `Serialization` is the refusal of `bind`:
+/// `TooLarge` where the array or the message passes the greatest `i32`, or `OutOfMemory`. The buffer keeps its bytes.
 pub fn bind_array<B: Buffer>(
     dimensions: &[ArrayDimension],
     element_type: Oid,
