@@ -6,9 +6,13 @@ mod ample;
 #[cfg(test)]
 mod auth;
 #[cfg(test)]
+mod bound_values;
+#[cfg(test)]
 mod frontend;
 #[cfg(test)]
 mod message;
+#[cfg(test)]
+mod session;
 #[cfg(test)]
 mod types;
 #[cfg(test)]

@@ -1,7 +1,7 @@
 -- A client's bytes are read in one way, and by message more.
-use Rattle.std.proofs.Common.{◌≡◌, ◌≢◌, ℕ, ◌+◌, Bool, true, false, List, [], ◌∷◌, ◌++◌, length, get_or, Option, Some, None, refl, sym, ap, subst, ◌∙◌, append_assoc, arith, inl, inr, ◌⊎◌}
+use Rattle.std.proofs.Common.{◌≡◌, ◌≢◌, ℕ, Bool, true, false, List, [], ◌∷◌, ◌++◌, length, Option, Some, None, refl, sym, ap, subst, ◌∙◌, append_assoc, arith, inl, inr, ◌⊎◌}
 use Rattle.std.specs.Prelude.{is_some, ◌==◌, ◌||◌, if◌then◌else◌, option_to_list, All, slice_index}
-use Rattle.std.specs.List.{flat_map, AllByRecursion, list_any}
+use Rattle.std.specs.List.{flat_map, AllByRecursion}
 use Rattle.std.proofs.lemmas.List.{append-nil, length-append}
 use Rattle.std.proofs.lemmas.List.Concat.{flat_map-cons}
 use Rattle.std.proofs.lemmas.Grind.{flat_map-append}
@@ -25,17 +25,17 @@ framed_some (Some t) body more e = cc
 has_bytes : (m : ClientMessage) (more : List ℕ) → bytes_of m ++ more ≡ [] → ⊥
 has_bytes m more e = framed_some (tag_of m) (payload m) more e
 
-same_tag : (a b : Option ℕ) (p q x y : List ℕ) → a ≢ None → b ≢ None → framed a p ++ x ≡ framed b q ++ y → a ≡ b
+pub same_tag : (a b : Option ℕ) (p q x y : List ℕ) → a ≢ None → b ≢ None → framed a p ++ x ≡ framed b q ++ y → a ≡ b
 same_tag None b p q x y t u e = absurd (t refl)
 same_tag (Some a) None p q x y t u e = absurd (u refl)
 same_tag (Some a) (Some b) p q x y t u e = cc
 
 -- whether a server has to be told the kind
-abbrev is_told : Option ℕ → Bool
+abbrev pub is_told : Option ℕ → Bool
 is_told None = false
 is_told (Some t) = t == 112
 
-kind_there : (m : ClientMessage) → is_some (kind_of m) ≡ is_told (tag_of m)
+pub kind_there : (m : ClientMessage) → is_some (kind_of m) ≡ is_told (tag_of m)
 kind_there (PasswordMessage password) = refl
 kind_there (SaslInitialResponse mechanism response) = refl
 kind_there (SaslResponse response) = refl

@@ -2,3 +2,6 @@ pub mod Pieces
 pub mod ClientRuns
 pub mod Additions
 pub mod StartupPairs
+pub mod RowLemmas
+pub mod StepLemmas
+pub mod BindLemmas

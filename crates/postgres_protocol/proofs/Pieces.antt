@@ -1,6 +1,6 @@
 -- A stream that goes on by a frame, or by a piece.
-use Rattle.std.proofs.Common.{◌≡◌, ◌≢◌, ℕ, ◌+◌, ◌<◌, ◌≤◌, ◌-◌, ◌^◌, Bool, true, false, List, [], ◌∷◌, ◌++◌, length, take, get_or, Option, Some, None, Result, Ok, Err, refl, sym, ap, subst, ◌∙◌, append_assoc, arith}
-use Rattle.std.specs.Prelude.{min, IfSome, map}
+use Rattle.std.proofs.Common.{◌≡◌, ◌≢◌, ℕ, ◌+◌, ◌<◌, ◌≤◌, Bool, true, false, List, [], ◌∷◌, ◌++◌, length, take, get_or, Option, Some, None, Result, Ok, Err, refl, sym, ap, subst, ◌∙◌, append_assoc, arith}
+use Rattle.std.specs.Prelude.{IfSome}
 use Rattle.std.specs.List.{flat_map}
 use Rattle.std.proofs.lemmas.List.{take_more, append-nil, length-append}
 use Rattle.pgp_base.specs.declared.error.Error.{Error}
@@ -11,7 +11,7 @@ use Rattle.pgp_base.specs.Wire.{uint32}
 use Rattle.pgp_base.specs.declared.error.Error.TheVariants as errors
 use Rattle.pgp_message.specs.Remembered.{Memory, Fits, header_of, header_after, headers_after, memory_after}
 use Rattle.pgp_message.specs.Stream.{Frames, IsEnding, Step, TakesFrame, BackendRun}
-use Rattle.postgres_protocol.specs.ServerStream.{count_of, headers_read, Reading, HasRead, AreFirst, GoesOn, Fails, Takes, TakesAll, TakesSome}
+use Rattle.postgres_protocol.specs.ServerStream.{headers_read, Reading, GoesOn, Fails, Takes, TakesAll, TakesSome}
 
 -- ---- the count of headers
 

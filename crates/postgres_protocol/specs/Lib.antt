@@ -2,3 +2,6 @@ pub mod ServerStream
 pub mod ClientRun
 pub mod ClientStream
 pub mod SaslExchange
+pub mod RowValues
+pub mod ArraySteps
+pub mod OneValue

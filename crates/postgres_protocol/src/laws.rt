@@ -5,8 +5,12 @@ ghost use Rattle.pgp_frontend.specs.ClientMessage.{ClientMessage, PasswordKind, 
 ghost use Rattle.pgp_frontend.specs.Payload.{bytes_of, cause, IsInRange};
 ghost use Rattle.postgres_protocol.specs.ClientRun.{ClientRun, MayCome, is_opened, kinds_of};
 
+mod array;
+mod row;
 mod sasl;
 
+pub use array::{Step, bind_array, bound_arrays_read_back};
+pub use row::row_int4;
 pub use sasl::{SaslRefusal, sasl_exchange};
 
 /// A server that is told the kinds reads the bytes in one way.

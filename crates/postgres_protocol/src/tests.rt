@@ -1,8 +1,14 @@
+//! Server streams in pieces. Expected values are from the message formats of the PostgreSQL manual.
+
+mod calls;
+mod exchange;
+mod streams;
+mod values;
+
 use crate::session::{ClientStream, StreamParser, parse_stream};
 use bytes::BytesMut;
 use pgp_base::Error;
 use pgp_message::Message;
-use std::alloc::Global;
 use std::test::Fail;
 
 /// A frame that is refused, and a message.

@@ -30,8 +30,9 @@ pub enum SaslRefusal<A: Allocator = Global> {
 ///
 /// # Errors
 ///
-/// `Message` where a writer or `Message::parse` refuses, `Unexpected` where the front of a buffer isn't the
-/// message that is due, and `Scram` where `update` or `finish` refuses.
+/// `Message` where a writer refuses a text or `Message::parse` the front of a buffer, `Unexpected` where no whole
+/// message stands there or another one than is due, and `Scram` where `update` or `finish` refuses a text. What was
+/// written and taken off before stays so.
 pub fn sasl_exchange<A: Allocator + Copy, B: Buffer>(
     client: &mut ScramSha256<A>,
     mechanism: &str,

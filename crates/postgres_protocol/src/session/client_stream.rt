@@ -74,6 +74,10 @@ impl<B: Buffer> ClientStream<B> {
     }
 
     /// Asks for an encrypted session. The server answers with one byte, which is no message.
+    ///
+    /// # Errors
+    ///
+    /// `OutOfMemory` where a growth was refused. The stream stays as it is.
     pub fn ssl_request(&mut self) -> Result<(), Error>
         requires { self.old.opened ≡ false }
         ensures { AddsMessage B.held SslRequest B.Lacks self.old self.new result }
@@ -82,6 +86,10 @@ impl<B: Buffer> ClientStream<B> {
     }
 
     /// Asks for the end of what another session runs.
+    ///
+    /// # Errors
+    ///
+    /// `OutOfMemory` where a growth was refused. The stream stays as it is.
     pub fn cancel_request(&mut self, process_id: i32, secret_key: i32) -> Result<(), Error>
         requires { self.old.opened ≡ false }
         ensures { AddsMessage B.held (CancelRequest process_id secret_key) B.Lacks self.old self.new result }
@@ -90,6 +98,11 @@ impl<B: Buffer> ClientStream<B> {
     }
 
     /// Opens a session of version 3.0 with these names and values, among them `user`. No name is empty.
+    ///
+    /// # Errors
+    ///
+    /// `EmbeddedNull` where a name or a value has a 0 byte, `TooLarge` where the message passes the greatest `i32`, and
+    /// `OutOfMemory` where a growth was refused. The stream stays as it is.
     pub fn startup_message(&mut self, parameters: &[(&str, &str)]) -> Result<(), Error>
         requires opening { self.old.opened ≡ false }
         requires named { IsNamed (Startup (map shown parameters.now)) }
@@ -105,6 +118,11 @@ impl<B: Buffer> ClientStream<B> {
     }
 
     /// A query of any number of statements.
+    ///
+    /// # Errors
+    ///
+    /// `EmbeddedNull` where the query has a 0 byte, `TooLarge` where the message passes the greatest `i32`, and
+    /// `OutOfMemory` where a growth was refused. The stream stays as it is.
     pub fn query(&mut self, query: &str) -> Result<(), Error>
         requires { self.old.opened ≡ true }
         ensures { AddsMessage B.held (Query query.now) B.Lacks self.old self.new result }
@@ -113,6 +131,10 @@ impl<B: Buffer> ClientStream<B> {
     }
 
     /// Ends a series of extended queries.
+    ///
+    /// # Errors
+    ///
+    /// `OutOfMemory` where a growth was refused. The stream stays as it is.
     pub fn sync(&mut self) -> Result<(), Error>
         requires { self.old.opened ≡ true }
         ensures { AddsMessage B.held Sync B.Lacks self.old self.new result }
@@ -121,6 +143,11 @@ impl<B: Buffer> ClientStream<B> {
     }
 
     /// A password, or the answer to an MD5 request.
+    ///
+    /// # Errors
+    ///
+    /// `EmbeddedNull` where the password has a 0 byte, `TooLarge` where the message passes the greatest `i32`, and
+    /// `OutOfMemory` where a growth was refused. The stream stays as it is.
     pub fn password_message(&mut self, password: &[u8]) -> Result<(), Error>
         requires { self.old.opened ≡ true }
         ensures { AddsMessage B.held (PasswordMessage password.now) B.Lacks self.old self.new result }
@@ -129,6 +156,10 @@ impl<B: Buffer> ClientStream<B> {
     }
 
     /// The end of the session.
+    ///
+    /// # Errors
+    ///
+    /// `OutOfMemory` where a growth was refused. The stream stays as it is.
     pub fn terminate(&mut self) -> Result<(), Error>
         requires { self.old.opened ≡ true }
         ensures { AddsMessage B.held Terminate B.Lacks self.old self.new result }
@@ -137,6 +168,10 @@ impl<B: Buffer> ClientStream<B> {
     }
 
     /// Asks for what the server holds back.
+    ///
+    /// # Errors
+    ///
+    /// `OutOfMemory` where a growth was refused. The stream stays as it is.
     pub fn flush(&mut self) -> Result<(), Error>
         requires { self.old.opened ≡ true }
         ensures { AddsMessage B.held Flush B.Lacks self.old self.new result }
@@ -145,6 +180,11 @@ impl<B: Buffer> ClientStream<B> {
     }
 
     /// Closes a statement (`S`) or a portal (`P`). The variant may be any byte.
+    ///
+    /// # Errors
+    ///
+    /// `EmbeddedNull` where the name has a 0 byte, `TooLarge` where the message passes the greatest `i32`, and
+    /// `OutOfMemory` where a growth was refused. The stream stays as it is.
     pub fn close(&mut self, variant: u8, name: &str) -> Result<(), Error>
         requires { self.old.opened ≡ true }
         ensures { AddsMessage B.held (Close variant name.now) B.Lacks self.old self.new result }
@@ -153,6 +193,11 @@ impl<B: Buffer> ClientStream<B> {
     }
 
     /// Asks what a statement (`S`) or a portal (`P`) gives. The variant may be any byte.
+    ///
+    /// # Errors
+    ///
+    /// `EmbeddedNull` where the name has a 0 byte, `TooLarge` where the message passes the greatest `i32`, and
+    /// `OutOfMemory` where a growth was refused. The stream stays as it is.
     pub fn describe(&mut self, variant: u8, name: &str) -> Result<(), Error>
         requires { self.old.opened ≡ true }
         ensures { AddsMessage B.held (Describe variant name.now) B.Lacks self.old self.new result }
@@ -161,6 +206,11 @@ impl<B: Buffer> ClientStream<B> {
     }
 
     /// Runs a portal, for at most so many rows; 0 is no limit.
+    ///
+    /// # Errors
+    ///
+    /// `EmbeddedNull` where the portal's name has a 0 byte, `TooLarge` where the message passes the greatest `i32`,
+    /// and `OutOfMemory` where a growth was refused. The stream stays as it is.
     pub fn execute(&mut self, portal: &str, max_rows: i32) -> Result<(), Error>
         requires { self.old.opened ≡ true }
         ensures { AddsMessage B.held (Execute portal.now max_rows) B.Lacks self.old self.new result }
@@ -168,7 +218,11 @@ impl<B: Buffer> ClientStream<B> {
         frontend::execute(portal, max_rows, &mut self.buf)
     }
 
-    /// A piece of the data of a copy. Where memory is refused it is handed back, nothing read from it.
+    /// A piece of the data of a copy.
+    ///
+    /// # Errors
+    ///
+    /// The piece itself, nothing read from it, where a growth was refused. The stream stays as it is.
     pub fn copy_data<T: Buf + Drop>(&mut self, piece: CopyData<T>) -> Result<(), CopyData<T>>
         requires { self.old.opened ≡ true }
         ensures { Adds B.held (λ m. m ≡ DataMessage (T.unread piece)) (λ back. (back ≡ piece) × B.Lacks) self.old self.new result }
@@ -180,6 +234,10 @@ impl<B: Buffer> ClientStream<B> {
     }
 
     /// The end of the data.
+    ///
+    /// # Errors
+    ///
+    /// `OutOfMemory` where a growth was refused. The stream stays as it is.
     pub fn copy_done(&mut self) -> Result<(), Error>
         requires { self.old.opened ≡ true }
         ensures { AddsMessage B.held CopyDone B.Lacks self.old self.new result }
@@ -188,6 +246,11 @@ impl<B: Buffer> ClientStream<B> {
     }
 
     /// Gives the copy up, with a text for the server's report.
+    ///
+    /// # Errors
+    ///
+    /// `EmbeddedNull` where the text has a 0 byte, `TooLarge` where the message passes the greatest `i32`, and
+    /// `OutOfMemory` where a growth was refused. The stream stays as it is.
     pub fn copy_fail(&mut self, reason: &str) -> Result<(), Error>
         requires { self.old.opened ≡ true }
         ensures { AddsMessage B.held (CopyFail reason.now) B.Lacks self.old self.new result }
@@ -196,6 +259,11 @@ impl<B: Buffer> ClientStream<B> {
     }
 
     /// The first message of a SASL exchange.
+    ///
+    /// # Errors
+    ///
+    /// `EmbeddedNull` where the mechanism has a 0 byte, `TooLarge` where the message passes the greatest `i32`, and
+    /// `OutOfMemory` where a growth was refused. The stream stays as it is.
     pub fn sasl_initial_response(&mut self, mechanism: &str, data: &[u8]) -> Result<(), Error>
         requires { self.old.opened ≡ true }
         ensures { AddsMessage B.held (SaslInitialResponse mechanism.now «data».now) B.Lacks self.old self.new result }
@@ -204,6 +272,11 @@ impl<B: Buffer> ClientStream<B> {
     }
 
     /// A later message of a SASL exchange.
+    ///
+    /// # Errors
+    ///
+    /// `TooLarge` where the message passes the greatest `i32`, and `OutOfMemory` where a growth was refused. The
+    /// stream stays as it is.
     pub fn sasl_response(&mut self, data: &[u8]) -> Result<(), Error>
         requires { self.old.opened ≡ true }
         ensures { AddsMessage B.held (SaslResponse «data».now) B.Lacks self.old self.new result }
@@ -212,7 +285,13 @@ impl<B: Buffer> ClientStream<B> {
     }
 
     /// Prepares a statement of this name. The identifiers are the types of the first parameters; 0 leaves
-    /// one to the server. An identifier past 65,535 is refused before it is written.
+    /// one to the server.
+    ///
+    /// # Errors
+    ///
+    /// The first from the left of: `EmbeddedNull` where a text has a 0 byte, `TooLarge` at the identifier past 65,535,
+    /// which is not written, `TooLarge` where the message passes the greatest `i32`. Else `OutOfMemory` where a
+    /// growth was refused, which may come before any of them. The stream stays as it is.
     pub fn parse<I: IntoIterator<Item = Oid> + Drop>(
         &mut self,
         name: &str,
@@ -235,6 +314,13 @@ impl<B: Buffer> ClientStream<B> {
     }
 
     /// Binds values to a statement's parameters, and makes a portal of it.
+    ///
+    /// # Errors
+    ///
+    /// The first from the left of: `Serialization` of `EmbeddedNull` where a name has a 0 byte, and of `TooLarge` at
+    /// the item past 65,535 of a list, which is not written, where the bytes of a value pass the greatest `i32`, or
+    /// where the message does; `Conversion` where the serializer refused a value. Else `Serialization` of
+    /// `OutOfMemory` where a growth was refused, which may come before any of them. The stream stays as it is.
     pub fn bind<
         T: Drop,
         E: Drop,

@@ -68,6 +68,11 @@ impl<A: Allocator + Copy> Parsed<A> {
 }
 
 /// The messages and refusals of a stream, however it is cut into pieces.
+///
+/// # Errors
+///
+/// `OutOfMemory` where memory was refused. A refused frame is no error of the call: its refusal stands among the
+/// results.
 pub fn parse_stream<A: Allocator + Copy>(alloc: A, pieces: &[&[u8]]) -> Result<Parsed<A>, Error>
     ensures run { IfOk result (λ s. BackendRun (flat_map (λ piece. piece.now) pieces.now) s.results s.stopped s.rest) }
     ensures err { IfErr result (λ e. e ≡ Error.OutOfMemory) }

@@ -59,8 +59,13 @@ impl<A: Allocator + Copy> StreamParser<A> {
         }
     }
 
-    /// Reads all frames that are whole now. After a length fault what comes is kept unread. Where memory
-    /// is refused the parser has failed: its results stand, but nothing more can be read.
+    /// Reads all frames that are whole now. After a length fault what comes is kept unread.
+    ///
+    /// # Errors
+    ///
+    /// `OutOfMemory` where memory was refused for the piece, for a message or for the list of results. Then the parser
+    /// has failed: its results stand, but nothing more can be read. A refused frame is no error of the call: its
+    /// refusal stands among the results.
     pub fn feed(&mut self, piece: &[u8]) -> Result<(), Error>
         requires { self.old.failed ≡ false }
         ensures { Feeds piece.now self.old self.new result }

@@ -1,4 +1,4 @@
-use Rattle.std.proofs.Common.{◌≡◌, ℕ, List, [], sym, subst, take, get_or, Bor}
+use Rattle.std.proofs.Common.{ℕ, List, [], sym, subst, take, get_or, Bor}
 use Rattle.std.specs.List.{flat_map}
 use Rattle.postgres_protocol.specs.ServerStream.{HasRead, GoesOn}
 use Rattle.postgres_protocol.proofs.Pieces.{piece_more}

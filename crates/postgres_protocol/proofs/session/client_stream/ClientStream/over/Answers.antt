@@ -1,4 +1,4 @@
-use Rattle.postgres_protocol.proofs.Additions.{reads_nothing, runs_nothing}
+use Rattle.postgres_protocol.proofs.Additions.{reads_nothing}
 use Rattle.postgres_protocol.proofs.session.client_stream.ClientStream.over.Goals as goal
 
 pub invariant_of-result : goal.invariant_of-result

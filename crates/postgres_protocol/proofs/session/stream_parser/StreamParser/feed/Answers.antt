@@ -1,5 +1,4 @@
-use Rattle.std.proofs.Common.{◌≡◌, ◌++◌, true, false, map, refl, rules, sym, ap, subst, ◌∙◌}
-use Rattle.pgp_message.specs.Remembered.{header_of}
+use Rattle.std.proofs.Common.{◌≡◌, ◌++◌, true, false, map, refl, rules, ap, subst, ◌∙◌}
 use Rattle.pgp_message.specs.Views.{seen}
 use Rattle.postgres_protocol.specs.ServerStream.{Reading, GoesOn, Fails, TakesAll, TakesSome}
 use Rattle.postgres_protocol.proofs.Pieces.{goes_on, stays_stopped, fails_at_once, fails_behind, stopped_long}

@@ -1,0 +1,233 @@
+//! Streams of both sides, with each allocation refused in turn.
+#![tactic(auto, using(pgp_base::proofs::Parts::held_steps))]
+
+use bytes::BytesMut;
+use pgp_base::{BindError, Buffer, Error, IsNull, put_u32};
+use pgp_frontend::CopyData;
+use pgp_message::{Message, Storage};
+use pgp_test_alloc::Refusing;
+use postgres_protocol::session::{ClientStream, StreamParser, parse_stream};
+use std::alloc::Global;
+use std::test::Fail;
+
+/// A startup packet with no parameters.
+const STARTUP: &[u8; 9] = b"\0\0\0\x09\0\x03\0\0\0";
+
+/// Calls that come before a session.
+const REQUESTS: usize = 4;
+
+/// Calls that come in a session.
+const CALLS: usize = 15;
+
+/// The refusal of a call, whoever refused. The serializer here is only refused memory.
+fn plain(answer: Result<(), BindError<Error>>) -> Result<(), Error> {
+    match answer {
+        Ok(()) => Ok(()),
+        Err(BindError::Conversion(e)) | Err(BindError::Serialization(e)) => Err(e),
+    }
+}
+
+fn bind_values<B: Buffer>(stream: &mut ClientStream<B>) -> Result<(), BindError<Error>> {
+    if !stream.is_open() {
+        return Err(BindError::Serialization(Error::InvalidLength));
+    }
+    stream.bind(
+        "",
+        "s",
+        Some(1i16),
+        [Some(5u32), None].as_slice(),
+        |value: &Option<u32>, buf: &mut B| -> Result<IsNull, Error> {
+            match *value {
+                Some(n) => {
+                    put_u32(buf, n)?;
+                    Ok(IsNull::No)
+                }
+                None => Ok(IsNull::Yes),
+            }
+        },
+        Some(1i16),
+    )
+}
+
+fn copy_data<B: Buffer>(stream: &mut ClientStream<B>) -> Result<(), Error> {
+    if !stream.is_open() {
+        return Err(Error::InvalidLength);
+    }
+    let piece = CopyData::new(b"ab".as_slice())?;
+    match stream.copy_data(piece) {
+        Ok(()) => Ok(()),
+        Err(_) => Err(Error::OutOfMemory),
+    }
+}
+
+/// The call of this number, of those that come before a session.
+fn begin<B: Buffer>(number: usize, stream: &mut ClientStream<B>) -> Result<(), Error> {
+    if stream.is_open() {
+        return Err(Error::InvalidLength);
+    }
+    match number {
+        0 => stream.ssl_request(),
+        1 => stream.cancel_request(1, 2),
+        2 => stream.startup_message(&[("user", "alice")]),
+        _ => stream.startup_message(&[]),
+    }
+}
+
+/// The call of this number, of those that come in a session.
+fn call<B: Buffer>(number: usize, stream: &mut ClientStream<B>) -> Result<(), Error> {
+    if !stream.is_open() {
+        return Err(Error::InvalidLength);
+    }
+    match number {
+        0 => plain(bind_values(stream)),
+        1 => stream.close(b'S', "s"),
+        2 => stream.describe(b'P', ""),
+        3 => stream.execute("", 0),
+        4 => stream.flush(),
+        5 => stream.parse("", "SELECT 1", Some(23u32)),
+        6 => stream.query("SELECT 1"),
+        7 => stream.sync(),
+        8 => stream.terminate(),
+        9 => stream.copy_done(),
+        10 => copy_data(stream),
+        11 => stream.copy_fail("x"),
+        12 => stream.password_message(b""),
+        13 => stream.sasl_initial_response("SCRAM-SHA-256", b"n,,n=,r=abc"),
+        _ => stream.sasl_response(b"ab"),
+    }
+}
+
+/// A refused call changes neither the bytes nor the phase, and can be made again.
+#[test]
+fn requests_with_each_allocation_refused(rt: HostRuntime) -> Result<(), Fail> {
+    for request in 0..REQUESTS {
+        let mut refusals = 0u64;
+        for number in 1..100u64 {
+            let heap = Refusing::new(rt.alloc(), 0);
+            let mut stream: ClientStream<BytesMut<&Refusing<Global>>> = ClientStream::new(&heap);
+            heap.refuse(number);
+            let answer = begin(request, &mut stream);
+            if heap.is_pending() {
+                assert_eq!(rt; answer, Ok(()), "request {request}");
+                break;
+            }
+            assert_eq!(rt; answer, Err(Error::OutOfMemory), "request {request}");
+            assert!(rt; stream.bytes().is_empty());
+            assert!(rt; !stream.is_open());
+            assert_eq!(rt; begin(request, &mut stream), Ok(()), "request {request}");
+            assert_eq!(rt; stream.is_open(), request >= 2);
+            refusals = number;
+        }
+        assert!(rt; refusals > 0, "request {request}");
+    }
+    Ok(())
+}
+
+/// The same in a session, whose stream has no room left.
+#[test]
+fn calls_with_each_allocation_refused(rt: HostRuntime) -> Result<(), Fail> {
+    for what in 0..CALLS {
+        let mut refusals = 0u64;
+        for number in 1..100u64 {
+            let heap = Refusing::new(rt.alloc(), 0);
+            let buf: BytesMut<&Refusing<Global>> = BytesMut::with_capacity(&heap, STARTUP.len())?;
+            let mut stream = ClientStream::over(buf);
+            assert_eq!(rt; begin(3, &mut stream), Ok(()));
+            heap.refuse(number);
+            let answer = call(what, &mut stream);
+            if heap.is_pending() {
+                assert_eq!(rt; answer, Ok(()), "call {what}");
+                break;
+            }
+            assert_eq!(rt; answer, Err(Error::OutOfMemory), "call {what}");
+            assert_eq!(rt; stream.bytes(), STARTUP.as_slice(), "call {what}");
+            assert!(rt; stream.is_open());
+            assert_eq!(rt; call(what, &mut stream), Ok(()), "call {what}");
+            refusals = number;
+        }
+        assert!(rt; refusals > 0, "call {what}");
+    }
+    Ok(())
+}
+
+/// AuthenticationSASL, RowDescription, DataRow, ErrorResponse, a ReadyForQuery with a byte too many,
+/// ParseComplete, and a length fault.
+const HOSTILE: [u8; 101] =
+    *b"R\0\0\0\x17\0\0\0\x0aSCRAM-SHA-256\0\0T\0\0\0\x1a\0\x01a\0\0\0\0\0\0\0\0\0\0\x17\0\x04\xff\xff\xff\xff\0\0D\0\0\0\x13\0\x03\0\0\0\x01a\xff\xff\xff\xff\0\0\0\0E\0\0\0\x0cSERROR\0\0Z\0\0\0\x06I\0\x31\0\0\0\x04Z\0\0\0\x03";
+
+/// What its results are: the first letter or the tag of a message, or the number of a refusal.
+const MARKS: &[u8] = b"STDE\x081";
+
+fn mark<S: Storage>(read: &Result<Message<S>, Error>) -> u8 {
+    match read {
+        Ok(Message::AuthenticationSasl(_)) => b'S',
+        Ok(Message::RowDescription(_)) => b'T',
+        Ok(Message::DataRow(_)) => b'D',
+        Ok(Message::ErrorResponse(_)) => b'E',
+        Ok(Message::ParseComplete) => b'1',
+        Ok(_) => b'?',
+        Err(e) => e.number(),
+    }
+}
+
+/// Whether these are the first results of that stream.
+fn are_first<S: Storage>(results: &[Result<Message<S>, Error>]) -> bool {
+    results.len() <= MARKS.len() && results.iter().zip(MARKS).all(|(r, m)| mark(r) == *m)
+}
+
+/// A parser that is refused memory has failed, and its results are the stream's first.
+#[test]
+fn pieces_with_each_allocation_refused(rt: HostRuntime) -> Result<(), Fail> {
+    let (front, back) = HOSTILE.split_at(60);
+    let mut refusals = 0u64;
+    for number in 1..1000u64 {
+        let heap = Refusing::new(rt.alloc(), 0);
+        let mut parser: StreamParser<&Refusing<Global>> = StreamParser::new(&heap);
+        heap.refuse(number);
+        let mut answer = parser.feed(front);
+        if answer.is_ok() && !parser.failed() {
+            answer = parser.feed(back);
+        }
+        assert!(rt; are_first(parser.results()));
+        if answer.is_err() {
+            assert_eq!(rt; answer, Err(Error::OutOfMemory));
+            assert!(rt; parser.failed());
+            refusals = refusals.saturating_add(1);
+        } else {
+            assert!(rt; !parser.failed());
+            assert_eq!(rt; parser.results().len(), MARKS.len());
+            assert_eq!(rt; parser.rest(), b"Z\0\0\0\x03".as_slice());
+        }
+        if heap.is_pending() {
+            break;
+        }
+    }
+    assert!(rt; refusals > 0);
+    Ok(())
+}
+
+#[test]
+fn parse_stream_with_each_allocation_refused(rt: HostRuntime) -> Result<(), Fail> {
+    let (front, back) = HOSTILE.split_at(60);
+    let mut refusals = 0u64;
+    for number in 1..1000u64 {
+        let heap = Refusing::new(rt.alloc(), number);
+        match parse_stream(&heap, &[front, back]) {
+            Ok(parsed) => {
+                assert_eq!(rt; parsed.results().len(), MARKS.len());
+                assert!(rt; are_first(parsed.results()));
+                assert!(rt; parsed.stopped());
+                assert_eq!(rt; parsed.rest(), b"Z\0\0\0\x03".as_slice());
+            }
+            Err(e) => {
+                assert_eq!(rt; e, Error::OutOfMemory);
+                refusals = refusals.saturating_add(1);
+            }
+        }
+        if heap.is_pending() {
+            break;
+        }
+    }
+    assert!(rt; refusals > 0);
+    Ok(())
+}

@@ -1,0 +1,206 @@
+-- What an array of steps comes to, alone and as the value of a message.
+use Rattle.std.proofs.Common.{◌≡◌, ℕ, ◌+◌, List, [], ◌∷◌, ◌++◌, map, length, Option, Some, None, Result, Ok, Err, Bor, MutBor, refl, sym, ap, subst, ◌∙◌, inl, inr, arith, length-append}
+use Rattle.std.proofs.lemmas.List.{append_cancel_left, map-append}
+use Rattle.std.proofs.lemmas.Iterator.{YieldsList, items_from_drains}
+use Rattle.std.specs.Iterator.{Yields, AlwaysYields}
+use Rattle.pgp_base.specs.declared.error.Error.{Error}
+use Rattle.pgp_base.specs.declared.error.BindError.{BindError}
+use Rattle.pgp_base.specs.declared.error.BindError.TheVariants.{Conversion, Serialization}
+use Rattle.pgp_base.specs.declared.number.IsNull.{IsNull}
+use Rattle.pgp_base.specs.declared.number.IsNull.TheVariants.{Yes, No}
+use Rattle.pgp_base.specs.Wire.{uint32, nullable}
+use Rattle.pgp_base.specs.Cause.{either, first, length_cause, nullable_cause}
+use Rattle.pgp_base.specs.Held.{Held, ◌⊕◌}
+use Rattle.pgp_base.specs.Calls.{value_of, Came, Puts, Gives, Runs, KeepsValue}
+use Rattle.pgp_base.proofs.Causes.{either_none, either_then, first_here, length_past}
+use Rattle.pgp_base.proofs.Parts.{more_bytes, front_same, front_left}
+use Rattle.pgp_types.specs.declared.array.ArrayDimension.{ArrayDimension}
+use Rattle.pgp_types.specs.Array.{Array, array_bytes, array_cause}
+use Rattle.pgp_types.specs.ArrayWriting.{before_elements, MadeUpTo, ArrayWritten, ArrayRefused as RefusedArray}
+use Rattle.postgres_protocol.specs.declared.laws.array.Step.{Step}
+use Rattle.postgres_protocol.specs.declared.laws.array.Step.TheVariants.{Append, Null, Refuse}
+use Rattle.postgres_protocol.specs.ArraySteps.{Does, gives, Give, RefusesAt, array_of, ArrayRefused, ArrayAppended, WritesSteps}
+
+-- The laws of the closures.
+
+pub keeps_does : {K : Type 0} (s : Step) (lacks : Type 0) (old new : Held K) (r : Result IsNull Error) → Does s lacks old new r → KeepsValue r old new
+keeps_does (Append bytes) lacks old new (Ok Yes) d = let e : Yes ≡ No = d.0 in absurd cc
+keeps_does (Append bytes) lacks old new (Ok No) d = (bytes.items, d.1)
+keeps_does (Append bytes) lacks old new (Err e) d = front_same old new d.1
+keeps_does Null lacks old new (Ok Yes) d = d.1
+keeps_does Null lacks old new (Ok No) d = let e : No ≡ Yes = d.0 in absurd cc
+keeps_does Null lacks old new (Err e) d = absurd d
+keeps_does (Refuse w) lacks old new (Ok null) d = absurd d
+keeps_does (Refuse w) lacks old new (Err e) d = front_same old new d.1
+
+pub keeps_steps : {K : Type 0} (ds : List ArrayDimension) (type : ℕ) (steps : List Step) (lacks : Type 0) (old new : Held K) (r : Result IsNull (BindError Error)) → WritesSteps ds type steps lacks old new r → KeepsValue r old new
+keeps_steps ds type steps lacks old new (Ok Yes) d = let e : Yes ≡ No = d.0 in absurd cc
+keeps_steps ds type steps lacks old new (Ok No) d = (array_bytes (array_of ds type d.1.vs), d.1.appended)
+keeps_steps ds type steps lacks old new (Err e) d = front_left old new d.1
+
+-- what stands behind the same bytes is the same
+pub same_more : {K : Type 0} (a b : Held K) (p q : List ℕ) → b ≡ a ⊕ p → b ≡ a ⊕ q → p ≡ q
+same_more a b p q e f = append_cancel_left a.bytes p q (sym (more_bytes a p) ∙ (ap (λ h. h.bytes) (sym e ∙ f) ∙ more_bytes a q))
+
+-- What an iterator gave of a list.
+
+pub yields_front : {S A B : Type 0} (steps : S → Option A → S → Type 0) (v : A → B) (s : S) (ys : List B) (xs : List A) (t : S) (x : A) (u : S)
+    → AlwaysYields steps v s ys → Yields steps s xs t → steps t (Some x) u → (more : List B) × (ys ≡ map v xs ++ v x ∷ more)
+yields_front steps v s [] [] t x u all y last = absurd (all x u (subst (λ (t : _). steps t (Some x) u) (sym y) last))
+yields_front steps v s (b ∷ ys) [] t x u all y last =
+    let k = all.1 x u (subst (λ (t : _). steps t (Some x) u) (sym y) last) in
+    (ys, ap (λ (b : _). b ∷ ys) (sym k.0))
+yields_front steps v s [] (a ∷ xs) t x u all y last = absurd (all a y.0 y.1)
+yields_front steps v s (b ∷ ys) (a ∷ xs) t x u all y last =
+    let k = all.1 a y.0 y.1 in
+    let m = yields_front steps v y.0 ys xs t x u k.1 y.2 last in
+    (m.0, rw (k.0, m.1) refl)
+
+append_one : {A : Type 0} (xs : List A) (x : A) (ys : List A) → (xs ++ x ∷ []) ++ ys ≡ xs ++ x ∷ ys
+append_one [] x ys = refl
+append_one (y ∷ xs) x ys = ap (λ l. y ∷ l) (append_one xs x ys)
+
+give_more : (before : List Step) (vs : List (Option (List ℕ))) (s : Step) (v : Option (List ℕ)) → Give before vs → gives s ≡ Some v → Give (before ++ s ∷ []) (vs ++ v ∷ [])
+give_more before vs s v g h = map-append gives before (s ∷ []) ∙ (rw (g, h) (sym (map-append (λ v. Some v) vs (v ∷ []))))
+
+same_array : (xs ds : List ArrayDimension) (m n : ℕ) (vs : List (Option (List ℕ))) → xs ≡ ds → m ≡ n
+    → (let a : Array = record { dimensions = xs; element_type = m; elements = vs } in let b : Array = record { dimensions = ds; element_type = n; elements = vs } in a ≡ b)
+same_array xs ds m n vs e f = rw (e, f) refl
+
+-- The inner closure does the steps.
+
+-- what a step that answered gave
+step_known : {K : Type 0} (s : Step) (lacks : Type 0) (null : IsNull) (bytes : List ℕ) (before after : Held K) (v : Option (List ℕ)) → v ≡ value_of null bytes → Does s lacks before after (Ok null) → after ≡ before ⊕ bytes → gives s ≡ Some v
+step_known (Append w) lacks null bytes before after v e d b =
+    let i : w.items ≡ bytes = same_more before after w.items bytes d.1 b in
+    rw (e, d.0, i) refl
+step_known Null lacks null bytes before after v e d b = rw (e, d.0) refl
+step_known (Refuse r) lacks null bytes before after v e d b = absurd d
+
+step_refuses : {K : Type 0} (s : Step) (lacks : Type 0) (before after : Held K) (e : Error) → Does s lacks before after (Err e) → RefusesAt lacks s e
+step_refuses (Append w) lacks before after e d = d.0
+step_refuses Null lacks before after e d = absurd d
+step_refuses (Refuse r) lacks before after e d = d.0
+
+module _ {F B K : Type 0} (held : B → Held K) (step : F → Bor Step → MutBor B → Result IsNull Error → MutBor B → F → Type 0) (lacks : Type 0)
+    (does : (f f' : F) (x : Bor Step) (b b' : MutBor B) (r : Result IsNull Error) → step f x b r b' f' → Does x.now lacks (held b.now) (held b'.now) r) where
+  put_gives : (here : Held K) (f : F) (x : Bor Step) (null : IsNull) (bytes : List ℕ) (u : F) (v : Option (List ℕ)) → v ≡ value_of null bytes → Puts held step here f x (Ok null) bytes u → gives x.now ≡ Some v
+  put_gives here f x null bytes u v is m =
+      step_known x.now lacks null bytes here (held m.after.now) v is
+      (subst (λ (h : Held K). Does x.now lacks h (held m.after.now) (Ok null)) m.stood (does f u x m.before m.after (Ok null) m.called)) m.appended
+
+  runs_give : (here : Held K) (f : F) (xs : List (Bor Step)) (vs : List (Option (List ℕ))) (t : F) → Runs (Gives held step) nullable here f xs vs t → Give (map (λ x. x.now) xs) vs
+  runs_give here f [] [] t r = refl
+  runs_give here f [] (v ∷ vs) t r = absurd r
+  runs_give here f (x ∷ xs) [] t r = absurd r
+  runs_give here f (x ∷ xs) (v ∷ vs) t r =
+      let m = r.1 in
+      rw (put_gives (here ⊕ uint32 0) f x m.null m.bytes r.0 v m.value m.put, runs_give (here ⊕ nullable v) r.0 xs vs t r.2) refl
+
+  runs_fit : (here : Held K) (f : F) (xs : List (Bor Step)) (vs : List (Option (List ℕ))) (t : F) → Runs (Gives held step) nullable here f xs vs t → first (map nullable_cause vs) ≡ None
+  runs_fit here f [] [] t r = refl
+  runs_fit here f [] (v ∷ vs) t r = absurd r
+  runs_fit here f (x ∷ xs) [] t r = absurd r
+  runs_fit here f (x ∷ xs) (v ∷ vs) t r = either_none (nullable_cause v) (first (map nullable_cause vs)) r.1.fits (runs_fit (here ⊕ nullable v) r.0 xs vs t r.2)
+
+  module _ (ds : List ArrayDimension) (type : ℕ) (steps : List Step) (dimensions : List ArrayDimension → Option ArrayDimension → Type 0) (elements : List (Bor Step) → Option (Bor Step) → Type 0)
+      (all_dimensions : (xs : List ArrayDimension) → dimensions xs None → xs ≡ ds) (some_dimensions : (xs : List ArrayDimension) (x : ArrayDimension) → dimensions xs (Some x) → (more : List ArrayDimension) × (ds ≡ xs ++ x ∷ more))
+      (all_steps : (xs : List (Bor Step)) → elements xs None → map (λ x. x.now) xs ≡ steps) (some_steps : (xs : List (Bor Step)) (x : Bor Step) → elements xs (Some x) → (more : List Step) × (steps ≡ map (λ x. x.now) xs ++ x.now ∷ more))
+      (f last : F) (old : Held K) where
+    pub steps_ok : (new : Held K) → ArrayWritten held step dimensions type elements f last old new → ArrayAppended ds type steps old new
+    steps_ok new w =
+        let d = all_dimensions w.array.dimensions w.came in
+        let same : w.array ≡ array_of ds type w.array.elements = same_array w.array.dimensions ds w.array.element_type type w.array.elements d w.type in
+        record {
+          vs = w.array.elements;
+          give = ap (λ xs. map gives xs) (sym (all_steps w.made.xs w.made.came)) ∙ runs_give _ f w.made.xs w.array.elements last w.made.runs;
+          none = subst (λ (a : Array). array_cause a ≡ None) same w.none;
+          appended = w.appended ∙ ap (λ (a : Array). old ⊕ array_bytes a) same;
+        }
+
+    stopped : (e : BindError Error) (all : List ArrayDimension) → dimensions all None → length_cause (length all) ≡ None → MadeUpTo held step elements f last (before_elements old all type) lacks e → ArrayRefused ds type steps lacks e
+    stopped (Conversion e) all came fits s =
+        let k = some_steps s.xs s.x s.came in
+        let d = all_dimensions all came in
+        record {
+          before = map (λ x. x.now) s.xs;
+          step = s.x.now;
+          more = k.0;
+          are = k.1;
+          vs = s.made;
+          give = runs_give _ f s.xs s.made s.at s.runs;
+          none = either_none (length_cause (length ds)) (first (map nullable_cause s.made)) (subst (λ (xs : List ArrayDimension). length_cause (length xs) ≡ None) d fits) (runs_fit _ f s.xs s.made s.at s.runs);
+          refuses = step_refuses s.x.now lacks _ _ e (does s.at last s.x s.refused.1.before s.refused.1.after (Err e) s.refused.1.called);
+        }
+    stopped (Serialization e) all came fits s =
+        let k = some_steps s.xs s.x s.came in
+        let d = all_dimensions all came in
+        elim s.refused [
+          | inl memory ↦ inl memory.0
+          | inr long ↦
+              let v : Option (List ℕ) = Some long.0 in
+              let one = put_gives _ s.at s.x No long.0 last v refl long.1 in
+              inr (record {
+                before = map (λ x. x.now) s.xs ++ s.x.now ∷ [];
+                more = k.0;
+                are = k.1 ∙ sym (append_one (map (λ x. x.now) s.xs) s.x.now k.0);
+                vs = s.made ++ v ∷ [];
+                give = give_more (map (λ x. x.now) s.xs) s.made s.x.now v (runs_give _ f s.xs s.made s.at s.runs) one;
+                some = either_then (length_cause (length ds)) (first (map nullable_cause (s.made ++ v ∷ []))) (subst (λ (xs : List ArrayDimension). length_cause (length xs) ≡ None) d fits)
+                    ∙ (ap first (map-append nullable_cause s.made (v ∷ [])) ∙ first_here (map nullable_cause s.made) (nullable_cause v) [] e (runs_fit _ f s.xs s.made s.at s.runs) long.2);
+              })
+        ]
+
+    pub steps_refused : (e : BindError Error) → RefusedArray held step dimensions type elements f last old lacks e → ArrayRefused ds type steps lacks e
+    steps_refused (Conversion e) (inl head) = absurd head.0
+    steps_refused (Serialization e) (inl head) =
+        elim head.0 [
+          | inl memory ↦ inl memory
+          | inr past ↦
+              let p = past.0 in
+              let k = some_dimensions p.before p.last p.came in
+              let long : length ds ≡ length p.before + length (p.last ∷ k.0) = ap (λ l. length l) k.1 ∙ length-append p.before (p.last ∷ k.0) in
+              inr (record {
+                before = [];
+                more = steps;
+                are = refl;
+                vs = [];
+                give = refl;
+                some = ap (λ c. either c None) (length_past (length ds) (omega (arith, long, p.full))) ∙ ap (λ (e : Error). Some e) (sym past.1);
+              })
+        ]
+    steps_refused e (inr at) = stopped e at.all at.came at.fits at.stops
+
+-- What came from an iterator over a list.
+
+pub all_given : {U S A B : Type 0} (into_iter_gives : U → S → Type 0) (next_gives : S → Option A → S → Type 0) (source : U) (v : A → B) (ys : List B) → ((it : S) → into_iter_gives source it → YieldsList next_gives v it ys)
+    → (xs : List A) → Came into_iter_gives next_gives source xs None → map v xs ≡ ys
+all_given into_iter_gives next_gives source v ys y xs k = items_from_drains xs (k.came.0, k.came.1, λ _. (k.left, k.came.2)) (y k.iterator k.from)
+
+pub some_given : {U S A B : Type 0} (into_iter_gives : U → S → Type 0) (next_gives : S → Option A → S → Type 0) (source : U) (v : A → B) (ys : List B) → ((it : S) → into_iter_gives source it → YieldsList next_gives v it ys)
+    → (xs : List A) (x : A) → Came into_iter_gives next_gives source xs (Some x) → (more : List B) × (ys ≡ map v xs ++ v x ∷ more)
+some_given into_iter_gives next_gives source v ys y xs x k = yields_front next_gives v k.iterator ys xs k.came.0 x k.left (y k.iterator k.from).runs k.came.1 k.came.2
+
+pub map_same : {A : Type 0} (xs : List A) → map (λ (x : A). x) xs ≡ xs
+map_same [] = refl
+map_same (x ∷ xs) = ap (λ l. x ∷ l) (map_same xs)
+
+-- the same where the items are seen as they are
+pub all_same : {U S A : Type 0} (into_iter_gives : U → S → Type 0) (next_gives : S → Option A → S → Type 0) (source : U) (ys : List A) → ((it : S) → into_iter_gives source it → YieldsList next_gives (λ (x : A). x) it ys)
+    → (xs : List A) → Came into_iter_gives next_gives source xs None → xs ≡ ys
+all_same into_iter_gives next_gives source ys y xs k = sym (map_same xs) ∙ all_given into_iter_gives next_gives source (λ x. x) ys y xs k
+
+pub some_same : {U S A : Type 0} (into_iter_gives : U → S → Type 0) (next_gives : S → Option A → S → Type 0) (source : U) (ys : List A) → ((it : S) → into_iter_gives source it → YieldsList next_gives (λ (x : A). x) it ys)
+    → (xs : List A) (x : A) → Came into_iter_gives next_gives source xs (Some x) → (more : List A) × (ys ≡ xs ++ x ∷ more)
+some_same into_iter_gives next_gives source ys y xs x k =
+    let m = some_given into_iter_gives next_gives source (λ x. x) ys y xs x k in
+    (m.0, m.1 ∙ ap (λ l. l ++ x ∷ m.0) (map_same xs))
+
+-- of a list of one item, or of none
+pub first_of_one : {A : Type 0} (a : A) (xs : List A) (x : A) → (more : List A) × (a ∷ [] ≡ xs ++ x ∷ more) → (xs ≡ []) × (xs ++ x ∷ [] ≡ a ∷ [])
+first_of_one a [] x m = (refl, let e = m.1 in let h : a ≡ x = cc in ap (λ x. x ∷ []) (sym h))
+first_of_one a (y ∷ xs) x m = absurd (let n = ap (λ l. length l) m.1 in omega (arith, n, length-append xs (x ∷ m.0)))
+
+pub none_of_none : {A : Type 0} (xs : List A) (x : A) → (more : List A) × ([] ≡ xs ++ x ∷ more) → ⊥
+none_of_none [] x m = let e = m.1 in absurd cc
+none_of_none (y ∷ xs) x m = let e = m.1 in absurd cc

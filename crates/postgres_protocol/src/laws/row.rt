@@ -1,0 +1,47 @@
+//! The values of a row, by the calls of two crates.
+
+ghost use Rattle.std.specs.Prelude.{◌≡◌, IfOk, IfErr};
+ghost use Rattle.postgres_protocol.specs.RowValues.{AreInt4, RowRead};
+
+use bytes::Bytes;
+use pgp_base::Error;
+use pgp_message::{DataRowBody, RowIndex};
+use pgp_types::int4_from_sql;
+use std::alloc::Allocator;
+
+/// Reads each value of the row as an int4: `None` for a null. A value that isn't an int4 is no error of the
+/// row: its own refusal stands in the list.
+///
+/// # Errors
+///
+/// The refusal of the walk over the row's values: `UnexpectedEof` where one is cut short, `NotDrained` where
+/// bytes stand behind the last. `OutOfMemory` where the memory of the table or of the list was refused.
+pub fn row_int4<A: Allocator + Copy, R: Allocator + Copy>(
+    alloc: A,
+    row: &DataRowBody<Bytes<R>>,
+) -> Result<Vec<Option<Result<i32, Error>>, A>, Error>
+    ensures { RowRead (λ values. values.items) row.now result }
+{
+    let index = row.index(alloc)?;
+    columns(alloc, &index)
+}
+
+/// Each column of the table as an int4.
+fn columns<A: Allocator + Copy>(
+    alloc: A,
+    index: &RowIndex<'_, A>,
+) -> Result<Vec<Option<Result<i32, Error>>, A>, Error>
+    ensures ok { IfOk result (λ values. AreInt4 index.now.buffer index.now.places values.items) }
+    ensures err { IfErr result (λ e. e ≡ Error.OutOfMemory) }
+{
+    let mut values = Vec::new(alloc);
+    'columns: while let Some(column) = index.value(values.len()) {
+        if values
+            .push(column.map(|bytes| int4_from_sql(bytes)))
+            .is_err()
+        {
+            return Err(Error::OutOfMemory);
+        }
+    }
+    Ok(values)
+}

@@ -1,0 +1,53 @@
+//! An exchange of SCRAM-SHA-256 whose texts pass through messages. The texts are those of the Rust crate's
+//! own test, the frames from the message formats of the PostgreSQL manual.
+
+use crate::authentication::sasl::{ChannelBinding, NoPrep, ScramSha256, is_nonce};
+use crate::laws::sasl_exchange;
+use bytes::BytesMut;
+use std::alloc::{Allocator, Global};
+use std::test::Fail;
+
+const NONCE: &str = "9IZ2O01zb9IgiIZ1WJ/zgpJB";
+
+const SERVER_FIRST: &[u8] =
+    b"R\0\0\0\x54\0\0\0\x0br=9IZ2O01zb9IgiIZ1WJ/zgpJBjx/oIRLs02gGSHcw1KEty3eY,s=fs3IXBy7U7+IvVjZ,i=4096";
+
+const SERVER_FINAL: &[u8] = b"R\0\0\0\x36\0\0\0\x0cv=U+ppxD5XUKtradnv8e2MkeupiA8FU87Sg8CXzXHDAzw=";
+
+const CLIENT: &[u8] =
+    b"p\0\0\0\x36SCRAM-SHA-256\0\0\0\0\x20n,,n=,r=9IZ2O01zb9IgiIZ1WJ/zgpJBp\0\0\0\x6cc=biws,r=9IZ2O01zb9IgiIZ1WJ/zgpJBjx/oIRLs02gGSHcw1KEty3eY,p=AmNKosjJzS31NTlQYNs5BTeQjdHdk7lOflDo5re2an8=";
+
+/// Whether the exchange comes to its end and leaves nothing of the two buffers. The frames are in `out`.
+fn exchanged<A: Allocator + Copy>(
+    alloc: A,
+    server_first: &[u8],
+    server_final: &[u8],
+    out: &mut BytesMut<A>,
+) -> Result<bool, Fail> {
+    let nonce = String::from_str(alloc, NONCE)?;
+    if !is_nonce(&nonce) {
+        return Ok(false);
+    }
+    let binding = ChannelBinding::unsupported();
+    let Ok(client) = ScramSha256::with_nonce(alloc, b"foobar", binding, nonce, &NoPrep) else {
+        return Ok(false);
+    };
+    let mut client = client;
+    let mut first = BytesMut::new(alloc);
+    first.extend_from_slice(server_first)?;
+    let mut last = BytesMut::new(alloc);
+    last.extend_from_slice(server_final)?;
+    let answer = sasl_exchange(&mut client, "SCRAM-SHA-256", &mut first, &mut last, out);
+    let over = client.message().is_none() && client.hmacs() == 4100;
+    Ok(answer.is_ok() && over && first.is_empty() && last.is_empty())
+}
+
+#[test]
+fn texts_of_an_exchange_pass_through_messages(rt: HostRuntime) -> Result<(), Fail> {
+    let mut out = BytesMut::new(rt.alloc());
+    assert!(rt; exchanged(rt.alloc(), SERVER_FIRST, SERVER_FINAL, &mut out)?);
+    assert_eq!(rt; out.as_slice(), CLIENT);
+    let mut out = BytesMut::new(rt.alloc());
+    assert!(rt; !exchanged(rt.alloc(), SERVER_FINAL, SERVER_FIRST, &mut out)?);
+    Ok(())
+}

@@ -1,0 +1,121 @@
+//! Values in messages. Expected bytes are from the message formats of the PostgreSQL manual, and for the layout
+//! of arrays as a server sends them.
+#![tactic(auto, using(pgp_base::proofs::Parts::held_steps))]
+
+use super::ROW;
+use crate::laws::{Step, bind_array, row_int4};
+use crate::types::ArrayDimension;
+use crate::{BindError, Error};
+use bytes::BytesMut;
+use pgp_message::Message;
+use std::alloc::{AllocError, Global};
+use std::test::Fail;
+
+/// A Sync message.
+const SYNC: &[u8] = b"S\0\0\0\x04";
+
+/// Two elements, of which the first is 1.
+const PAIR: ArrayDimension = ArrayDimension {
+    len: 2,
+    lower_bound: 1,
+};
+
+/// A step that appends 5, and another one.
+fn five_and(alloc: Global, step: Step) -> Result<Vec<Step>, AllocError> {
+    let mut steps = Vec::new(alloc);
+    let mut five = Vec::new(alloc);
+    five.extend_from_slice(&[0, 0, 0, 5])?;
+    steps.push(Step::Append(five))?;
+    steps.push(step)?;
+    Ok(steps)
+}
+
+#[test]
+fn an_array_is_bound(rt: HostRuntime) -> Result<(), Fail> {
+    let steps = five_and(rt.alloc(), Step::Null)?;
+    let mut buf = BytesMut::new(rt.alloc());
+    buf.extend_from_slice(SYNC)?;
+    assert_eq!(rt; bind_array(&[PAIR], 23, &steps, &mut buf), Ok(()));
+    assert_eq!(rt;
+        buf.as_slice(),
+        b"S\0\0\0\x04B\0\0\0\x32\0\0\0\x01\0\x01\0\x01\0\0\0\x20\0\0\0\x01\0\0\0\x01\0\0\0\x17\0\0\0\x02\0\0\0\x01\0\0\0\x04\0\0\0\x05\xff\xff\xff\xff\0\0".as_slice()
+    );
+    Ok(())
+}
+
+#[test]
+fn arrays_without_nulls(rt: HostRuntime) -> Result<(), Fail> {
+    let mut buf = BytesMut::new(rt.alloc());
+    assert_eq!(rt; bind_array(&[], 23, &[], &mut buf), Ok(()));
+    assert_eq!(rt;
+        buf.as_slice(),
+        b"B\0\0\0\x1e\0\0\0\x01\0\x01\0\x01\0\0\0\x0c\0\0\0\0\0\0\0\0\0\0\0\x17\0\0".as_slice()
+    );
+    let steps = five_and(rt.alloc(), Step::Append(Vec::new(rt.alloc())))?;
+    let mut buf = BytesMut::new(rt.alloc());
+    assert_eq!(rt; bind_array(&[PAIR], 17, &steps, &mut buf), Ok(()));
+    assert_eq!(rt;
+        buf.as_slice(),
+        b"B\0\0\0\x32\0\0\0\x01\0\x01\0\x01\0\0\0\x20\0\0\0\x01\0\0\0\0\0\0\0\x11\0\0\0\x02\0\0\0\x01\0\0\0\x04\0\0\0\x05\0\0\0\0\0\0".as_slice()
+    );
+    Ok(())
+}
+
+#[test]
+fn a_step_refuses(rt: HostRuntime) -> Result<(), Fail> {
+    let steps = five_and(rt.alloc(), Step::Refuse(Error::InvalidSize))?;
+    let mut buf = BytesMut::new(rt.alloc());
+    buf.extend_from_slice(SYNC)?;
+    assert_eq!(rt;
+        bind_array(&[PAIR], 23, &steps, &mut buf),
+        Err(BindError::Conversion(BindError::Conversion(Error::InvalidSize)))
+    );
+    assert_eq!(rt; buf.as_slice(), SYNC);
+    Ok(())
+}
+
+/// The values of the row that the frame is.
+fn read_row(alloc: Global, frame: &[u8]) -> Result<Vec<Option<Result<i32, Error>>>, Error> {
+    let mut buf = BytesMut::new(alloc);
+    buf.extend_from_slice(frame)?;
+    match Message::parse(&mut buf)? {
+        Some(Message::DataRow(body)) => row_int4(alloc, &body),
+        _ => Err(Error::InvalidLength),
+    }
+}
+
+#[test]
+fn rows_of_numbers(rt: HostRuntime) -> Result<(), Fail> {
+    assert_eq!(rt;
+        read_row(rt.alloc(), &ROW)?.as_slice(),
+        [
+            Some(Err(Error::UnexpectedEof)),
+            None,
+            Some(Err(Error::UnexpectedEof))
+        ]
+        .as_slice()
+    );
+    let row =
+        b"D\0\0\0\x23\0\x04\0\0\0\x04\0\0\0\x05\xff\xff\xff\xff\0\0\0\x04\xff\xff\xff\xfe\0\0\0\x05\0\0\0\0\0";
+    assert_eq!(rt;
+        read_row(rt.alloc(), row)?.as_slice(),
+        [
+            Some(Ok(5)),
+            None,
+            Some(Ok(-2)),
+            Some(Err(Error::NotDrained))
+        ]
+        .as_slice()
+    );
+    assert!(rt; read_row(rt.alloc(), b"D\0\0\0\x06\0\0")?.is_empty());
+    Ok(())
+}
+
+#[test]
+fn rows_that_do_not_end_well(rt: HostRuntime) -> Result<(), Fail> {
+    let cut = b"D\0\0\0\x0c\0\x01\0\0\0\x04\0\0";
+    assert_eq!(rt; read_row(rt.alloc(), cut), Err(Error::UnexpectedEof));
+    let long = b"D\0\0\0\x07\0\0\0";
+    assert_eq!(rt; read_row(rt.alloc(), long), Err(Error::NotDrained));
+    Ok(())
+}
