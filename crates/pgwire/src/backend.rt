@@ -9,8 +9,8 @@ ghost use Rattle.pgwire.specs.Command.{Backend, IsCut};
 
 use crate::fault::Fault;
 use crate::print::put;
-use pgp_base::Error;
-use pgp_message::{Message, Storage};
+use postgres_protocol::Error;
+use postgres_protocol::message::backend::{Message, Storage};
 use postgres_protocol::session::StreamParser;
 use std::alloc::Allocator;
 use std::fmt::Write as _;
