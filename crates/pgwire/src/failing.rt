@@ -37,20 +37,12 @@ impl Read for PieceReader<'_> {
         if self.interrupted {
             return Err(io::Error::from(io::ErrorKind::Interrupted));
         }
-        let mut n = 0;
-        for byte in self.rest {
-            if n == buf.len() {
-                break;
-            }
-            buf[n] = *byte;
-            n += 1;
-            let ends = self.cuts % 2 == 1;
-            self.cuts /= 2;
-            if ends {
-                break;
-            }
-        }
-        self.rest = &self.rest[n..];
+        let ends = self.cuts.trailing_zeros() as usize;
+        let n = (ends + 1).min(self.rest.len()).min(buf.len());
+        let (piece, rest) = self.rest.split_at(n);
+        buf[..n].copy_from_slice(piece);
+        self.rest = rest;
+        self.cuts = if n < 16 { self.cuts >> n } else { 0 };
         Ok(n)
     }
 }
