@@ -1,9 +1,10 @@
 -- The code's commands as what they ask for.
 use Rattle.pgwire.specs.declared.run as code
 use Rattle.pgwire.specs.declared.run.Command.TheVariants as variants
-use Rattle.pgwire.specs.Command.{Command, Backend, Verifier, EscapeLiteral, EscapeIdentifier}
+use Rattle.pgwire.specs.Command.{Command, Client, Backend, Verifier, EscapeLiteral, EscapeIdentifier}
 
 abbrev pub asked : code.Command.Command → Command
+asked variants.Client = Client
 asked variants.Backend = Backend
 asked (variants.Verifier password salt) = Verifier password.now salt
 asked (variants.EscapeLiteral text) = EscapeLiteral text.now

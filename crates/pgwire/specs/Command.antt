@@ -7,9 +7,11 @@ use Rattle.pgp_auth.specs.Verifier.{verifier, verifier_text}
 use Rattle.pgwire.specs.declared.fault.Fault.{Fault}
 use Rattle.pgwire.specs.declared.fault.Fault.TheVariants.{Memory, Read, Write}
 use Rattle.pgwire.specs.Output.{line, Writes, BackendOutput}
+use Rattle.pgwire.specs.ClientOutput.{ClientOutput, WritesAnswer}
 use Rattle.pgwire.specs.Taken.{AppendsFront}
 
 pub data Command : Type 0 where
+  Client : Command
   Backend : Command
   Verifier : (password salt : List ℕ) → Command
   EscapeLiteral : (text : List ℕ) → Command
@@ -17,6 +19,7 @@ pub data Command : Type 0 where
 
 -- the words ask for it
 abbrev pub Asks : List (List ℕ) → Command → Type 0
+Asks words Client = words ≡ codes "client" ∷ []
 Asks words Backend = words ≡ codes "backend" ∷ []
 Asks words (Verifier password salt) = (digits : List ℕ) × (words ≡ codes "verifier" ∷ password ∷ digits ∷ []) × (decode_sized digits 16 ≡ Ok salt)
 Asks words (EscapeLiteral text) = words ≡ codes "escape" ∷ codes "literal" ∷ text ∷ []
@@ -44,6 +47,12 @@ pub record IsListed (before after : Streams) (status : ℕ) (complaint : List �
   pub fine : status ≡ 0
   pub silent : complaint ≡ []
 
+-- all of a script was read, and exactly what it comes to was written
+pub record IsAnswered (before after : Streams) (status : ℕ) (complaint : List ℕ) : Type 0 where
+  pub read : IsAtEnd after.input
+  pub written : IfSome before.input (λ script. WritesAnswer script before.output after.output status)
+  pub silent : complaint ≡ []
+
 -- this line was written, and nothing was read
 pub record Prints (before after : Streams) (text : List ℕ) (status : ℕ) (complaint : List ℕ) : Type 0 where
   pub input : Keeps before.input after.input
@@ -58,16 +67,19 @@ IsEscapedLiteral z text = Literal true text z × Literal false text z × (IsPlai
 
 -- Which faults a command can meet: what prints reads nothing.
 abbrev pub Meets : Command → Fault → Type 0
+Meets Client fault = ⊤
 Meets Backend fault = ⊤
 Meets command fault = fault ≢ Read
 
 -- What a command reads where it meets a fault.
 abbrev pub MayRead : Command → Streams → Streams → Type 0
+MayRead Client before after = ⊤
 MayRead Backend before after = ⊤
 MayRead command before after = Keeps before.input after.input
 
 -- What a command is to write.
 abbrev pub Makes : Command → Streams → List ℕ → Type 0
+Makes Client before bytes = IfSome before.input (λ script. (status : ℕ) × ClientOutput script bytes status)
 Makes Backend before bytes = IfSome before.input (λ input. BackendOutput input bytes 0)
 Makes (Verifier password salt) before bytes = bytes ≡ line (verifier_text (verifier password salt 4096))
 Makes (EscapeLiteral z) before bytes = (text : List ℕ) × IsEscapedLiteral z text × (bytes ≡ line text)
@@ -96,6 +108,7 @@ pub record IsFaulty (command : Command) (before after : Streams) (status : ℕ) 
 -- What a command does to the streams, with the status and what is to be said on standard error, unless
 -- it meets a fault.
 abbrev pub Succeeds : Command → Streams → Streams → ℕ → List ℕ → Type 0
+Succeeds Client before after status complaint = IsAnswered before after status complaint
 Succeeds Backend before after status complaint = IsListed before after status complaint
 Succeeds (Verifier password salt) before after status complaint =
     Prints before after (verifier_text (verifier password salt 4096)) status complaint

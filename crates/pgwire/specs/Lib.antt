@@ -1,4 +1,8 @@
 pub mod Taken
 pub mod Output
+pub mod Script
+pub mod Request
+pub mod ClientOutput
+pub mod Sending
 pub mod Command
 pub mod Asked

@@ -5,7 +5,8 @@ use Rattle.std.specs.Io.KnownBytes.{Appends}
 use Rattle.pgp_base.specs.Error.{number_of}
 use Rattle.pgp_base.specs.declared.error.Error.{Error}
 use Rattle.pgp_message.specs.BackendMessage.{AuthenticationOk, AuthenticationKerberosV5, AuthenticationCleartextPassword, AuthenticationMd5Password, AuthenticationScmCredential, AuthenticationGss, AuthenticationGssContinue, AuthenticationSspi, AuthenticationSasl, AuthenticationSaslContinue, AuthenticationSaslFinal, Message, ParseComplete, BindComplete, CloseComplete, NotificationResponse, CommandComplete, DataRow, ErrorResponse, CopyInResponse, CopyOutResponse, EmptyQueryResponse, BackendKeyData, NoticeResponse, Authentication, ParameterStatus, RowDescription, ReadyForQuery, CopyDone, CopyData, NoData, PortalSuspended, ParameterDescription}
-use Rattle.pgp_message.specs.Stream.{Frames, BackendRun}
+use Rattle.pgp_message.specs.Stream.{BackendRun}
+use Rattle.postgres_protocol.specs.ServerStream.{Reading, GoesOn, HandsOut}
 
 -- the name of a message
 abbrev pub name_of : Message → List ℕ
@@ -50,10 +51,10 @@ abbrev pub line_of : Result Message Error → List ℕ
 line_of (Ok m) = line (name_of m)
 line_of (Err e) = line (codes "fault " ++ decimal (number_of e))
 
--- the last line
-abbrev pub rest_line : Bool → List ℕ → List ℕ
-rest_line false rest = line (codes "rest " ++ decimal (length rest))
-rest_line true rest = line (codes "stopped rest " ++ decimal (length rest))
+-- the last line, where n bytes are left
+abbrev pub last_line : Bool → ℕ → List ℕ
+last_line false n = line (codes "rest " ++ decimal n)
+last_line true n = line (codes "stopped rest " ++ decimal n)
 
 -- What is written for an input, and the status.
 pub record BackendOutput (input output : List ℕ) (status : ℕ) : Type 0 where
@@ -61,7 +62,7 @@ pub record BackendOutput (input output : List ℕ) (status : ℕ) : Type 0 where
   pub stopped : Bool
   pub rest : List ℕ
   pub run : BackendRun input results stopped rest
-  pub text : output ≡ flat_map line_of results ++ rest_line stopped rest
+  pub text : output ≡ flat_map line_of results ++ last_line stopped (length rest)
   pub fine : status ≡ 0
 
 -- the output for an input is what a writer grew by
@@ -70,8 +71,10 @@ pub record Writes (input : List ℕ) (old new : Option (List ℕ)) (status : ℕ
   pub meant : BackendOutput input output status
   pub written : Appends old new output
 
--- the lines are those of the frames that were read
-pub record Listed (input rest lines : List ℕ) : Type 0 where
+-- A piece was fed to the parser, its results were taken, and their lines added.
+pub record ListsPiece (piece : List ℕ) (old new : Reading) (lines more : List ℕ) : Type 0 where
+  pub between : Reading
+  pub fed : GoesOn piece old between
   pub results : List (Result Message Error)
-  pub frames : Frames input results rest
-  pub text : lines ≡ flat_map line_of results
+  pub taken : HandsOut results between new
+  pub text : more ≡ lines ++ flat_map line_of results

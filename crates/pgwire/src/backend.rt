@@ -1,22 +1,26 @@
 //! The listing of a server's messages.
 
-ghost use Rattle.std.specs.Prelude.{◌≡◌, ◌≢◌, IfOk, IfErr, OnOk, IfSome, string_bytes};
+ghost use Rattle.std.specs.Prelude.{◌≡◌, ◌≢◌, ◌<◌, ◌++◌, length, false, IfOk, IfErr, OnOk, IfSome, map, string_bytes};
 ghost use Rattle.std.specs.Io.KnownBytes.{IsAtEnd, Keeps};
-ghost use Rattle.pgp_message.specs.Views.{view};
-ghost use Rattle.pgwire.specs.Output.{name_of, BackendOutput, Writes};
+ghost use Rattle.std.specs.List.{flat_map};
+ghost use Rattle.pgp_message.specs.Views.{seen, view};
+ghost use Rattle.pgwire.specs.Output.{name_of, line_of, last_line, BackendOutput, ListsPiece, Writes};
 ghost use Rattle.pgwire.specs.Command.{Backend, IsCut};
 
 use crate::fault::Fault;
 use crate::print::put;
-use bytes::BytesMut;
-use pgp_base::Error;
-use pgp_message::{Message, Storage, laws};
+use postgres_protocol::Error;
+use postgres_protocol::message::backend::{Message, Storage};
+use postgres_protocol::session::StreamParser;
 use std::alloc::Allocator;
 use std::fmt::Write as _;
 use std::io::{ErrorKind, Read, Write};
 
+/// How many bytes are read at a time.
+const PIECE: usize = 65536;
+
 /// Reads all bytes that a server sent, and then writes a line for each message and each refusal, and
-/// one for what is left.
+/// one for what is left. Of the bytes it keeps no more than a piece and a frame that isn't whole.
 pub fn backend<A: Allocator + Copy, R: Read, W: Write>(
     alloc: A,
     input: &mut R,
@@ -31,43 +35,81 @@ pub fn backend<A: Allocator + Copy, R: Read, W: Write>(
         (record { input = R.remaining input.old; output = W.contents output.old })
         (record { input = R.remaining input.new; output = W.contents output.new })) }
 {
-    let mut bytes = Vec::new(alloc);
-    if let Err(e) = input.read_to_end(&mut bytes) {
-        return Err(match e.kind() {
-            ErrorKind::OutOfMemory => Fault::Memory,
-            _ => Fault::Read,
-        });
-    }
-    let text = listing(alloc, bytes)?;
+    let text = listing(alloc, input)?;
     put(text.as_bytes(), output)?;
     Ok(0)
 }
 
-/// The lines for the bytes.
-fn listing<A: Allocator + Copy>(alloc: A, bytes: Vec<u8, A>) -> Result<String<A>, Fault>
-    ensures lines { IfOk result (λ text. BackendOutput bytes.items (string_bytes text) 0) }
+/// Reads all bytes, and answers the lines for them.
+fn listing<A: Allocator + Copy, R: Read>(alloc: A, input: &mut R) -> Result<String<A>, Fault>
+    ensures read { OnOk result (IsAtEnd (R.remaining input.new)) }
+    ensures lines { IfOk result (λ text. IfSome (R.remaining input.old) (λ bytes. BackendOutput bytes (string_bytes text) 0)) }
+    ensures fault { IfErr result (λ fault. fault ≢ Fault.Write) }
+{
+    let mut piece = vec![in alloc; 0u8; PIECE]?;
+    lines_of(alloc, input, piece.as_mut_slice())
+}
+
+/// Reads all bytes, a piece at a time, and answers the lines for them.
+fn lines_of<A: Allocator + Copy, R: Read>(
+    alloc: A,
+    input: &mut R,
+    piece: &mut [u8],
+) -> Result<String<A>, Fault>
+    requires { 0 < length piece.old }
+    ensures read { OnOk result (IsAtEnd (R.remaining input.new)) }
+    ensures lines { IfOk result (λ text. IfSome (R.remaining input.old) (λ bytes. BackendOutput bytes (string_bytes text) 0)) }
+    ensures fault { IfErr result (λ fault. fault ≢ Fault.Write) }
+{
+    let mut parser = StreamParser::new(alloc);
+    let mut text = String::new(alloc);
+    for _ in 0..u64::MAX {
+        match input.read(piece) {
+            Ok(0) => {
+                list_rest(parser.stopped(), parser.rest().len(), &mut text)?;
+                return Ok(text);
+            }
+            Ok(n) => list_piece(&piece[..n], &mut parser, &mut text)?,
+            Err(e) => match e.kind() {
+                ErrorKind::Interrupted => {}
+                ErrorKind::OutOfMemory => return Err(Fault::Memory),
+                _ => return Err(Fault::Read),
+            },
+        }
+    }
+    Err(Fault::Read)
+}
+
+/// Feeds a piece to the parser, and takes its results and adds their lines.
+fn list_piece<A: Allocator + Copy>(
+    piece: &[u8],
+    parser: &mut StreamParser<A>,
+    text: &mut String<A>,
+) -> Result<(), Fault>
+    requires { parser.old.failed ≡ false }
+    ensures lines { OnOk result (ListsPiece piece.now parser.old parser.new (string_bytes text.old) (string_bytes text.new)) }
     ensures fault { IfErr result (λ e. e ≡ Fault.Memory) }
 {
-    laws::no_frame();
-    laws::next_frame();
-    let mut buf = BytesMut::from_vec(bytes);
-    let mut text = String::new(alloc);
-    'frames: loop {
-        match Message::parse(&mut buf) {
-            Ok(None) => {
-                let n = buf.len();
-                writeln!(text, "rest {n}")?;
-                return Ok(text);
-            }
-            Err(Error::InvalidLength) => {
-                let n = buf.len();
-                writeln!(text, "stopped rest {n}")?;
-                return Ok(text);
-            }
-            Err(Error::OutOfMemory) => return Err(Fault::Memory),
-            Ok(Some(message)) => {
-                let name = name_of(&message);
-                drop(message);
+    if parser.feed(piece).is_err() {
+        return Err(Fault::Memory);
+    }
+    list(parser.results(), text)?;
+    drop(parser.take());
+    Ok(())
+}
+
+/// Adds a line for each result.
+fn list<S: Storage, A: Allocator + Copy>(
+    results: &[Result<Message<S>, Error>],
+    text: &mut String<A>,
+) -> Result<(), Fault>
+    ensures lines { OnOk result (string_bytes text.new ≡ string_bytes text.old ++ flat_map line_of (map seen results.now)) }
+    ensures fault { IfErr result (λ e. e ≡ Fault.Memory) }
+{
+    for read in results {
+        match read {
+            Ok(message) => {
+                let name = name_of(message);
                 writeln!(text, "{name}")?;
             }
             Err(e) => {
@@ -76,6 +118,24 @@ fn listing<A: Allocator + Copy>(alloc: A, bytes: Vec<u8, A>) -> Result<String<A>
             }
         }
     }
+    Ok(())
+}
+
+/// Adds the last line, of so many bytes that are left.
+fn list_rest<A: Allocator + Copy>(
+    stopped: bool,
+    n: usize,
+    text: &mut String<A>,
+) -> Result<(), Fault>
+    ensures line { OnOk result (string_bytes text.new ≡ string_bytes text.old ++ last_line stopped n) }
+    ensures fault { IfErr result (λ e. e ≡ Fault.Memory) }
+{
+    if stopped {
+        writeln!(text, "stopped rest {n}")?;
+    } else {
+        writeln!(text, "rest {n}")?;
+    }
+    Ok(())
 }
 
 /// The name of the message's variant.

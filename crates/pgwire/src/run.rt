@@ -7,6 +7,7 @@ ghost use Rattle.pgwire.specs.Asked.{asked};
 ghost use Rattle.pgwire.specs.Taken.{AppendsFront};
 
 use crate::backend::backend;
+use crate::client::client;
 use crate::fault::Fault;
 use crate::print::put;
 use crate::text;
@@ -53,6 +54,7 @@ impl Outcome {
 /// What the words ask for.
 #[derive(Debug, Clone, Copy)]
 enum Command<'a> {
+    Client,
     Backend,
     Verifier { password: &'a str, salt: [u8; 16] },
     EscapeLiteral(&'a str),
@@ -64,6 +66,7 @@ fn command_of<'a>(words: &[&'a str]) -> Option<Command<'a>>
     ensures other { IfNone result (IsOther (map (λ word. word.now) words.now)) }
 {
     match words {
+        ["client"] => Some(Command::Client),
         ["backend"] => Some(Command::Backend),
         ["verifier", password, digits] => match <[u8; 16] as FromHex>::from_hex(*digits) {
             Ok(salt) => Some(Command::Verifier { password, salt }),
@@ -92,6 +95,7 @@ fn perform<A: Allocator + Copy, R: Read, W: Write>(
         fault) }
 {
     match command {
+        Command::Client => client(alloc, input, output),
         Command::Backend => backend(alloc, input, output),
         Command::Verifier { password, salt } => text::verifier(alloc, password, salt, output),
         Command::EscapeLiteral(z) => text::escape_literal(alloc, z, output),

@@ -1,48 +1,12 @@
 use crate::backend::backend;
+use crate::failing::{FailingReader, FailingWriter, PieceReader};
 use crate::fault::Fault;
 use crate::run::{run, run_own};
 use pgp_test_alloc::Refusing;
 use std::alloc::Global;
 use std::env::FillError;
-use std::io::{self, Read, Write};
 use std::rt::Env;
 use std::test::Fail;
-
-/// A reader that gives a few bytes and then fails.
-#[derive(Drop)]
-struct BrokenReader {
-    left: u8,
-}
-
-impl Read for BrokenReader {
-    fn read(&mut self, buf: &mut [u8]) -> io::Result<usize> {
-        if self.left == 0 || buf.is_empty() {
-            return Err(io::Error::from(io::ErrorKind::BrokenPipe));
-        }
-        self.left -= 1;
-        buf[0] = 0x31;
-        Ok(1)
-    }
-}
-
-/// A reader that gives these bytes, seven at a time, and then fails.
-#[derive(Drop)]
-struct CutReader<'a> {
-    rest: &'a [u8],
-}
-
-impl Read for CutReader<'_> {
-    fn read(&mut self, buf: &mut [u8]) -> io::Result<usize> {
-        let n = self.rest.len().min(7).min(buf.len());
-        if n == 0 {
-            return Err(io::Error::from(io::ErrorKind::ConnectionReset));
-        }
-        let (piece, rest) = self.rest.split_at(n);
-        buf[..n].copy_from_slice(piece);
-        self.rest = rest;
-        Ok(n)
-    }
-}
 
 /// The words of a process, the first of which is its name.
 #[derive(Drop)]
@@ -69,30 +33,6 @@ impl Env for Words {
 
     fn var_at(&self, _i: usize, _buf: &mut [u8]) -> Result<usize, FillError> {
         Err(FillError::NotPresent)
-    }
-}
-
-/// A writer that takes a few bytes, one at a time, and then fails; its flush fails where it has none
-/// left to take.
-#[derive(Drop)]
-struct BrokenWriter {
-    left: u8,
-}
-
-impl Write for BrokenWriter {
-    fn write(&mut self, buf: &[u8]) -> io::Result<usize> {
-        if self.left == 0 || buf.is_empty() {
-            return Err(io::Error::from(io::ErrorKind::BrokenPipe));
-        }
-        self.left -= 1;
-        Ok(1)
-    }
-
-    fn flush(&mut self) -> io::Result<()> {
-        if self.left == 0 {
-            return Err(io::Error::from(io::ErrorKind::BrokenPipe));
-        }
-        Ok(())
     }
 }
 
@@ -212,41 +152,51 @@ fn engine_writes_all_31_names(rt: HostRuntime) -> Result<(), Fail> {
     Ok(())
 }
 
-#[test]
-fn engine_reads_with_a_fault_and_writes_nothing(rt: HostRuntime) {
-    for left in 0..8u8 {
-        let mut output = Vec::new(rt.alloc());
-        let mut input = BrokenReader { left };
-        assert_eq!(rt;
-            backend(rt.alloc(), &mut input, &mut output),
-            Err(Fault::Read)
-        );
-        assert!(rt; output.is_empty());
-    }
-}
+/// Four frames: two of them a message without a body.
+const FOUR: &[u8] = b"\x31\0\0\0\x04\x5a\0\0\0\x05I\x64\0\0\0\x06ab\x31\0\0\0\x04";
 
 // The frames that came whole before the read failed are not listed.
 #[test]
-fn lines_are_not_written_where_a_read_fails_behind_whole_frames(rt: HostRuntime) {
-    let frames: &[u8] = b"\x31\0\0\0\x04\x5a\0\0\0\x05I\x64\0\0\0\x06ab\x31\0\0\0\x04";
-    for end in [5, 11, 18, 23] {
-        let mut output = Vec::new(rt.alloc());
-        let mut errors = Vec::new(rt.alloc());
-        let mut input = CutReader {
-            rest: &frames[..end],
+fn lines_are_not_written_where_a_read_fails(rt: HostRuntime) {
+    for end in 0..=23usize {
+        for step in [1usize, 7] {
+            let mut output = Vec::new(rt.alloc());
+            let mut errors = Vec::new(rt.alloc());
+            let mut input = FailingReader {
+                rest: &FOUR[..end],
+                step,
+            };
+            assert_eq!(rt;
+                run(
+                    rt.alloc(),
+                    &["backend"],
+                    &mut input,
+                    &mut output,
+                    &mut errors
+                ),
+                1
+            );
+            assert!(rt; output.is_empty());
+            assert_eq!(rt; errors.as_slice(), b"pgwire: read failed\n".as_slice());
+        }
+    }
+}
+
+// A frame and a length fault: 10 bytes, cut in each of 512 ways.
+#[test]
+fn engine_lists_a_stream_however_it_is_cut(rt: HostRuntime) {
+    for cuts in 0..512u16 {
+        let mut input = PieceReader {
+            rest: b"\x31\0\0\0\x04\x5a\0\0\0\x03",
+            cuts,
+            interrupted: false,
         };
+        let mut output = Vec::new(rt.alloc());
+        assert_eq!(rt; backend(rt.alloc(), &mut input, &mut output), Ok(0));
         assert_eq!(rt;
-            run(
-                rt.alloc(),
-                &["backend"],
-                &mut input,
-                &mut output,
-                &mut errors
-            ),
-            1
+            output.as_slice(),
+            b"ParseComplete\nstopped rest 5\n".as_slice()
         );
-        assert!(rt; output.is_empty());
-        assert_eq!(rt; errors.as_slice(), b"pgwire: read failed\n".as_slice());
     }
 }
 
@@ -268,18 +218,27 @@ fn engine_lists_a_long_stream(rt: HostRuntime) -> Result<(), Fail> {
 
 #[test]
 fn engine_writes_with_a_fault(rt: HostRuntime) {
-    // `rest 0` and its newline are seven bytes, and then comes the flush
-    for left in 0..=7u8 {
-        let mut input: &[u8] = b"";
-        let mut output = BrokenWriter { left };
+    // the listing has 21 bytes, and then comes the flush
+    let listing = b"ParseComplete\nrest 0\n";
+    for left in 0..=21usize {
+        let mut input: &[u8] = b"\x31\0\0\0\x04";
+        let mut output = FailingWriter {
+            left,
+            taken: Vec::new(rt.alloc()),
+        };
         assert_eq!(rt;
             backend(rt.alloc(), &mut input, &mut output),
             Err(Fault::Write)
         );
+        assert_eq!(rt; output.taken.as_slice(), &listing[..left]);
     }
-    let mut input: &[u8] = b"";
-    let mut output = BrokenWriter { left: 8 };
+    let mut input: &[u8] = b"\x31\0\0\0\x04";
+    let mut output = FailingWriter {
+        left: 22,
+        taken: Vec::new(rt.alloc()),
+    };
     assert_eq!(rt; backend(rt.alloc(), &mut input, &mut output), Ok(0));
+    assert_eq!(rt; output.taken.as_slice(), listing.as_slice());
 }
 
 const USAGE: &str =
@@ -290,8 +249,9 @@ const VERIFIER: &str =
 
 #[test]
 fn words_decide_what_runs(rt: HostRuntime) {
-    let runs: [(&[&str], u8, &str, &str); 15] = [
+    let runs: [(&[&str], u8, &str, &str); 16] = [
         (&["backend"], 0, "ParseComplete\nrest 0\n", ""),
+        (&["client"], 1, "line 1: wrong words\n", ""),
         (
             &["verifier", "secret", "0102030405060708090a0b0c0d0e0f10"],
             0,
@@ -310,7 +270,7 @@ fn words_decide_what_runs(rt: HostRuntime) {
         (&[], 2, "", USAGE),
         (&["backend", "x"], 2, "", USAGE),
         (&["Backend"], 2, "", USAGE),
-        (&["client"], 2, "", USAGE),
+        (&["client", "x"], 2, "", USAGE),
         (&["verifier", "secret", "01"], 2, "", USAGE),
         (
             &["verifier", "secret", "0102030405060708090a0b0c0d0e0f1g"],
@@ -416,7 +376,10 @@ fn words_are_not_read_with_each_allocation_refused(rt: HostRuntime) {
 fn faults_are_told(rt: HostRuntime) {
     let mut output = Vec::new(rt.alloc());
     let mut errors = Vec::new(rt.alloc());
-    let mut input = BrokenReader { left: 3 };
+    let mut input = FailingReader {
+        rest: b"111",
+        step: 1,
+    };
     assert_eq!(rt;
         run(
             rt.alloc(),
@@ -431,7 +394,10 @@ fn faults_are_told(rt: HostRuntime) {
     assert_eq!(rt; errors.as_slice(), b"pgwire: read failed\n".as_slice());
     let mut errors = Vec::new(rt.alloc());
     let mut input: &[u8] = b"";
-    let mut output = BrokenWriter { left: 2 };
+    let mut output = FailingWriter {
+        left: 2,
+        taken: Vec::new(rt.alloc()),
+    };
     assert_eq!(rt;
         run(
             rt.alloc(),

@@ -10,8 +10,8 @@ ghost use Rattle.pgwire.specs.Taken.{AppendsFront};
 
 use crate::fault::Fault;
 use crate::print::print;
-use pgp_auth::authentication::sasl::NoPrep;
-use pgp_auth::{escape, password};
+use postgres_protocol::authentication::sasl::NoPrep;
+use postgres_protocol::{escape, password};
 use std::alloc::Allocator;
 use std::io::Write;
 

@@ -1,5 +1,7 @@
 //! The words that the process was started with.
 
+ghost use Rattle.std.specs.Prelude.{◌≡◌, map, IfOk, string_bytes};
+
 use std::alloc::{AllocError, Allocator};
 use std::env::FillError;
 use std::rt::Env;
@@ -26,10 +28,9 @@ pub fn texts<A: Allocator + Copy, V: Env>(
 }
 
 /// The texts, lent out.
-pub fn lent<A: Allocator + Copy>(
-    alloc: A,
-    texts: &[String<A>],
-) -> Result<Vec<&str, A>, AllocError> {
+pub fn lent<A: Allocator + Copy>(alloc: A, texts: &[String<A>]) -> Result<Vec<&str, A>, AllocError>
+    ensures { IfOk result (λ words. map (λ word. word.now) words.items ≡ map string_bytes texts.now) }
+{
     let mut words = Vec::new(alloc);
     for text in texts {
         words.push(text.as_str())?;

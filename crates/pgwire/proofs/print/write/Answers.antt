@@ -1,7 +1,6 @@
 -- What the writer took is gone from the rest; an interrupted write took nothing.
 use Rattle.std.proofs.Common.{◌≡◌, ℕ, ◌-◌, List, ◌++◌, length, take, drop, sym, ap, ◌∙◌, append_assoc, take-append-drop}
 use Rattle.std.proofs.lemmas.List.{take_rest}
-use Rattle.std.specs.Io.KnownBytes.{Appends}
 use Rattle.std.proofs.KnownBytes.{Appends-trans, Appends-kept}
 use Rattle.pgwire.proofs.print.write.Goals.{in-Ok, in-Err+else-ne}
 use Rattle.pgwire.proofs.print.write.Goals as goal

@@ -1,0 +1,198 @@
+//! The bytes of a script's messages.
+
+ghost use Rattle.std.specs.Prelude.{◌≡◌, ◌≢◌, not, [], ◌∷◌, ◌++◌, ◌+◌, length, IfOk, IfErr, OnOk, IfSome, string_bytes, codes, decimal};
+ghost use Rattle.std.specs.Io.KnownBytes.{IsAtEnd, Keeps};
+ghost use Rattle.std.specs.List.{slice_split};
+ghost use Rattle.pgp_frontend.specs.Reading.{IsNamed};
+ghost use Rattle.postgres_protocol.specs.ClientStream.{AddsMessage};
+ghost use Rattle.pgwire.specs.ClientOutput.{ClientOutput, WritesAnswer, told};
+ghost use Rattle.pgwire.specs.Command.{Client, IsCut};
+ghost use Rattle.pgwire.specs.Output.{line};
+ghost use Rattle.pgwire.specs.Request.{asked};
+ghost use Rattle.pgwire.specs.Script.{is_newline};
+ghost use Rattle.pgwire.specs.Sending.{HasSent, SendsLine, SendsLines, is_opening, lines_left, size_left};
+
+use crate::fault::Fault;
+use crate::print::put;
+use crate::script::{Request, request_of};
+use bytes::BytesMut;
+use memchr::memchr;
+use pgp_base::Buffer;
+use postgres_protocol::Error;
+use postgres_protocol::session::ClientStream;
+use std::alloc::Allocator;
+use std::fmt::Write as _;
+use std::io::{ErrorKind, Read, Write};
+
+/// Why a line was refused.
+#[derive(Debug, Clone, Copy, PartialEq, Eq)]
+pub enum LineFault {
+    NotUtf8,
+    WrongWords,
+    WrongPhase,
+    Refused(Error),
+}
+
+/// What a script comes to: a line of text, and the status.
+#[derive(Drop)]
+struct Answer<A: Allocator> {
+    text: String<A>,
+    status: u8,
+}
+
+/// Reads a whole script, and then writes the bytes of its messages as a line of hex digits, or tells of
+/// the first line that is refused.
+pub fn client<A: Allocator + Copy, R: Read, W: Write>(
+    alloc: A,
+    input: &mut R,
+    output: &mut W,
+) -> Result<u8, Fault>
+    ensures read { OnOk result (IsAtEnd (R.remaining input.new)) }
+    ensures written { IfOk result (λ status. IfSome (R.remaining input.old)
+        (λ bytes. WritesAnswer bytes (W.contents output.old) (W.contents output.new) status)) }
+    ensures quiet { IfErr result (λ fault. fault ≢ Fault.Write → Keeps (W.contents output.old) (W.contents output.new)) }
+    ensures cut { IfErr result (λ fault. fault ≡ Fault.Write → IsCut Client
+        (record { input = R.remaining input.old; output = W.contents output.old })
+        (record { input = R.remaining input.new; output = W.contents output.new })) }
+{
+    let mut script = Vec::new(alloc);
+    if let Err(e) = input.read_to_end(&mut script) {
+        return Err(match e.kind() {
+            ErrorKind::OutOfMemory => Fault::Memory,
+            _ => Fault::Read,
+        });
+    }
+    let answer = answer_to(alloc, script.as_slice())?;
+    put(answer.text.as_bytes(), output)?;
+    Ok(answer.status)
+}
+
+/// What is written for a script, and the status.
+fn answer_to<A: Allocator + Copy>(alloc: A, script: &[u8]) -> Result<Answer<A>, Fault>
+    ensures lines { IfOk result (λ answer. ClientOutput script.now (string_bytes answer.text) answer.status) }
+    ensures fault { IfErr result (λ e. e ≡ Fault.Memory) }
+{
+    let mut stream = ClientStream::<BytesMut<A>>::new(alloc);
+    match send_lines(alloc, script, &mut stream)? {
+        None => {
+            let mut text = hex::encode(alloc, stream.bytes())?;
+            text.push('\n')?;
+            Ok(Answer { text, status: 0 })
+        }
+        Some((number, fault)) => {
+            let text = refusal(alloc, number, fault)?;
+            Ok(Answer { text, status: 1 })
+        }
+    }
+}
+
+/// The line that tells of a refused line.
+fn refusal<A: Allocator + Copy>(
+    alloc: A,
+    number: usize,
+    fault: LineFault,
+) -> Result<String<A>, Fault>
+    ensures line { IfOk result (λ text. string_bytes text ≡ line (codes "line " ++ decimal number ++ codes ": " ++ told fault)) }
+    ensures fault { IfErr result (λ e. e ≡ Fault.Memory) }
+{
+    let mut text = String::new(alloc);
+    write!(text, "line {number}: ")?;
+    match fault {
+        LineFault::NotUtf8 => writeln!(text, "not UTF-8")?,
+        LineFault::WrongWords => writeln!(text, "wrong words")?,
+        LineFault::WrongPhase => writeln!(text, "wrong phase")?,
+        LineFault::Refused(e) => {
+            let n = e.number();
+            writeln!(text, "fault {n}")?;
+        }
+    }
+    Ok(text)
+}
+
+/// Sends what each line asks for, up to the first line that is refused, which it answers with its number.
+fn send_lines<A: Allocator + Copy, B: Buffer>(
+    alloc: A,
+    script: &[u8],
+    stream: &mut ClientStream<B>,
+) -> Result<Option<(usize, LineFault)>, Fault>
+    requires { HasSent [] (B.held stream.old.buf).bytes stream.old.opened }
+    ensures lines { IfOk result (SendsLines (slice_split is_newline script.now) (B.held stream.new.buf).bytes stream.new.opened) }
+    ensures fault { IfErr result (λ e. e ≡ Fault.Memory) }
+{
+    let mut rest = Some(script);
+    let mut number = 0usize;
+    'lines: while let Some(bytes) = rest {
+        let (line, more) = cut_line(bytes);
+        number += 1;
+        match send_line(alloc, line, stream)? {
+            None => rest = more,
+            Some(fault) => return Ok(Some((number, fault))),
+        }
+    }
+    Ok(None)
+}
+
+/// The first line, and what stands behind its newline, if it has one.
+fn cut_line(bytes: &[u8]) -> (&[u8], Option<&[u8]>)
+    ensures cut { slice_split is_newline bytes.now ≡ result.0.now ∷ lines_left result.1 }
+    ensures shorter { length result.0.now + size_left result.1 ≡ length bytes.now }
+{
+    match memchr(b'\n', bytes) {
+        Some(end) => (&bytes[..end], Some(&bytes[end + 1..])),
+        None => (bytes, None),
+    }
+}
+
+/// Sends what a line asks for, or answers why it is refused.
+fn send_line<A: Allocator + Copy, B: Buffer>(
+    alloc: A,
+    line: &[u8],
+    stream: &mut ClientStream<B>,
+) -> Result<Option<LineFault>, Fault>
+    ensures line { IfOk result (SendsLine B.held line.now stream.old stream.new) }
+    ensures fault { IfErr result (λ e. e ≡ Fault.Memory) }
+{
+    if line.is_empty() {
+        return Ok(None);
+    }
+    let Ok(text) = str::from_utf8(line) else {
+        return Ok(Some(LineFault::NotUtf8));
+    };
+    let Some(request) = request_of(alloc, text)? else {
+        return Ok(Some(LineFault::WrongWords));
+    };
+    if opens(&request) == stream.is_open() {
+        return Ok(Some(LineFault::WrongPhase));
+    }
+    match send(&request, stream) {
+        Ok(()) => Ok(None),
+        Err(Error::OutOfMemory) => Err(Fault::Memory),
+        Err(e) => Ok(Some(LineFault::Refused(e))),
+    }
+}
+
+/// Whether the request has to come before the session is open.
+fn opens<A: Allocator>(request: &Request<'_, A>) -> bool
+    ensures { result ≡ is_opening (asked request.now) }
+{
+    matches!(request, Request::Ssl | Request::Startup(_))
+}
+
+/// Sends the message that is asked for.
+fn send<A: Allocator, B: Buffer>(
+    request: &Request<'_, A>,
+    stream: &mut ClientStream<B>,
+) -> Result<(), Error>
+    requires phase { stream.old.opened ≡ not (is_opening (asked request.now)) }
+    requires named { IsNamed (asked request.now) }
+    ensures { AddsMessage B.held (asked request.now) B.Lacks stream.old stream.new result }
+{
+    match request {
+        Request::Ssl => stream.ssl_request(),
+        Request::Startup(list) => stream.startup_message(list.as_slice()),
+        Request::Query(text) => stream.query(text),
+        Request::Password(text) => stream.password_message(text.as_bytes()),
+        Request::Sync => stream.sync(),
+        Request::Terminate => stream.terminate(),
+    }
+}
