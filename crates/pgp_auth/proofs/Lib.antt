@@ -5,6 +5,7 @@ pub mod Digits
 pub mod BothWays
 pub mod Codes
 pub mod Counts
+pub mod Doubles
 pub mod Draws
 pub mod FinalTexts
 pub mod FirstTexts

@@ -10,7 +10,7 @@ use Rattle.pgp_auth.specs.Doubling.{is_doubled, doubled}
 
 -- ---- the runs
 
-true_not_false : false ≡ true → ⊥
+pub true_not_false : false ≡ true → ⊥
 true_not_false e = cc
 
 -- a byte that is written twice is ASCII

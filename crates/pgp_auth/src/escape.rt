@@ -15,6 +15,9 @@ use std::alloc::Allocator;
 // The bytes that are counted at a time.
 const BLOCK_LEN: usize = 192;
 
+// Where more than one byte in so many is written twice, the text is taken byte by byte.
+const DENSE: usize = 12;
+
 // The place of the first byte that is written twice.
 fn first_doubled(quote: u8, slashes: bool, bytes: &[u8]) -> Option<usize>
     ensures { IsFirstByte (is_doubled quote slashes) bytes.now result }
@@ -65,6 +68,69 @@ fn count_twice(quote: u8, slashes: bool, bytes: &[u8]) -> usize
     count + count_in_block(quote, slashes, rest) as usize
 }
 
+// Appends a block with each byte that is written twice standing twice. Every byte is put down twice, and the
+// second goes over the first where it is written once: so no branch depends on the text.
+fn push_block<A: Allocator>(
+    out: &mut Vec<u8, A>,
+    block: &[u8],
+    quote: u8,
+    slashes: bool,
+) -> Result<(), Error>
+    requires { length block.now ≤ BLOCK_LEN }
+    ensures ok { OnOk result (out.new.items ≡ out.old.items ++ doubled quote slashes block.now) }
+    ensures memory { IfErr result (λ e. e ≡ Error.OutOfMemory) }
+{
+    let mut room = [0u8; 2 * BLOCK_LEN];
+    let mut len = 0;
+    'bytes: for (i, byte) in block.iter().enumerate() {
+        room[len] = *byte;
+        len += usize::from(is_twice(quote, slashes, *byte));
+        room[len] = *byte;
+        len += 1;
+    }
+    out.extend_from_slice(&room[..len])?;
+    Ok(())
+}
+
+// Appends the input like `push_doubled`, byte by byte in blocks: the faster way where many bytes are
+// written twice.
+fn push_blocks<A: Allocator>(
+    out: &mut Vec<u8, A>,
+    input: &[u8],
+    quote: u8,
+    slashes: bool,
+) -> Result<(), Error>
+    ensures ok { OnOk result (out.new.items ≡ out.old.items ++ doubled quote slashes input.now) }
+    ensures memory { IfErr result (λ e. e ≡ Error.OutOfMemory) }
+{
+    let mut rest = input;
+    'pieces: while BLOCK_LEN < rest.len() {
+        let (block, after) = rest.split_at(BLOCK_LEN);
+        push_block(out, block, quote, slashes)?;
+        rest = after;
+    }
+    push_block(out, rest, quote, slashes)
+}
+
+// The text with the input behind it as `push_doubled` appends it, by blocks.
+fn with_blocks<A: Allocator>(
+    out: String<A>,
+    input: &str,
+    quote: u8,
+    slashes: bool,
+) -> Result<String<A>, Error>
+    requires { quote < 128 }
+    ensures ok { IfOk result (λ t. string_bytes t ≡ string_bytes out ++ doubled quote slashes input.now) }
+    ensures memory { IfErr result (λ e. e ≡ Error.OutOfMemory) }
+{
+    let mut bytes = out.into_bytes();
+    push_blocks(&mut bytes, input.as_bytes(), quote, slashes)?;
+    match String::from_utf8(bytes) {
+        Ok(text) => Ok(text),
+        Err(_) => unreachable!(),
+    }
+}
+
 // Appends the input with each quote written twice, and each backslash too where `slashes`.
 fn push_doubled<A: Allocator>(
     out: &mut String<A>,
@@ -110,7 +176,11 @@ fn quoted<A: Allocator>(
     let mut out = String::with_capacity(alloc, room)?;
     out.push_str(front)?;
     out.push(quote as char)?;
-    push_doubled(&mut out, input, quote, slashes)?;
+    if twice > input.len() / DENSE {
+        out = with_blocks(out, input, quote, slashes)?;
+    } else {
+        push_doubled(&mut out, input, quote, slashes)?;
+    }
     out.push(quote as char)?;
     Ok(out)
 }

@@ -85,6 +85,8 @@ pub fn patch_u32<B: Buffer>(buf: &mut B, place: usize, n: u32)
 ///
 /// `EmbeddedNull` where the text has a 0 byte itself, and `OutOfMemory` where a growth was refused. The
 /// buffer keeps its bytes.
+// The hint carries the speed of messages with short texts.
+#[inline(always)]
 #[tactic(auto, using(crate::proofs::Causes::text_holds_zero))]
 pub fn write_cstr<B: Buffer>(bytes: &[u8], buf: &mut B) -> Result<(), Error>
     ensures { Writes (text bytes.now) (text_cause bytes.now) B.Lacks (B.held buf.old) (B.held buf.new) result }

@@ -1,10 +1,11 @@
 -- A front of the fields, and the field behind it.
-use Rattle.std.proofs.Common.{◌≡◌, ℕ, ◌+◌, ◌<◌, List, [], ◌∷◌, ◌++◌, length, map, take, drop, Some, None, sym, ap, ◌∙◌, get_or}
-use Rattle.std.proofs.lemmas.List.{take_more, map-append, take-append-drop, drop_more}
+use Rattle.std.proofs.Common.{◌≡◌, ℕ, ◌+◌, ◌-◌, ◌<◌, List, [], ◌∷◌, ◌++◌, length, map, take, drop, Some, None, sym, ap, ◌∙◌, get_or, refl, arith}
+use Rattle.std.proofs.lemmas.List.{take_more, map-append, take-append-drop, drop_more, take_all}
 use Rattle.pgp_base.proofs.Causes.{first_more, first_here}
-use Rattle.pgp_base.proofs.Parts.{more_parts}
+use Rattle.pgp_base.proofs.Parts.{more_parts, nothing_more, more_twice}
 use Rattle.pgp_base.specs.Held.{Held, ◌⊕◌}
-use Rattle.pgp_base.specs.Cause.{first}
+use Rattle.pgp_base.specs.Cause.{first, either}
+use Rattle.std.specs.Prelude.{OnOk, Result, Ok, Err}
 use Rattle.pgp_base.specs.declared.error.Error.{Error}
 use Rattle.pgp_frontend.specs.Payload.{Part, spelling, part_cause, parts_cause, joined}
 use Rattle.pgp_frontend.specs.View.{part_of, parts_of}
@@ -33,3 +34,22 @@ fields_refused fields i d e h f k =
     ap (λ all. parts_cause (parts_of all)) split
     ∙ (ap parts_cause (map-append part_of (take i fields) (get_or fields i d ∷ drop (i + 1) fields))
     ∙ cause_here (parts_of (take i fields)) (part_of (get_or fields i d)) (parts_of (drop (i + 1) fields)) e f k)
+
+-- no fields
+pub fields_empty : {K : Type 0} (fields : List Field) (h : Held K) → length fields < 1 → (parts_cause (parts_of fields) ≡ None) × (h ≡ h ⊕ joined (parts_of fields))
+fields_empty [] h lt = (refl, sym (nothing_more h))
+fields_empty (f ∷ fs) h lt = absurd (omega arith)
+
+-- the first field, and those behind it, as a pattern has them
+pub fields_behind : {K : Type 0} (result : Result (Unit {0}) Error) (fields : List Field) (d : Field) (old b c : Held K) → 0 < length fields
+    → (part_cause (part_of (get_or fields 0 d)) ≡ None) × (b ≡ old ⊕ spelling (part_of (get_or fields 0 d)))
+    → OnOk result ((parts_cause (parts_of (take (length fields - 1) (drop 1 fields))) ≡ None) × (c ≡ b ⊕ joined (parts_of (take (length fields - 1) (drop 1 fields)))))
+    → OnOk result ((parts_cause (parts_of fields) ≡ None) × (c ≡ old ⊕ joined (parts_of fields)))
+fields_behind result [] d old b c lt is behind = absurd (omega arith)
+fields_behind (Err e) (f ∷ fs) d old b c lt is behind = behind
+fields_behind (Ok u) (f ∷ fs) d old b c lt is behind =
+    let all : take (length (f ∷ fs) - 1) fs ≡ fs = take_all (length (f ∷ fs) - 1) fs (omega arith) in
+    let rest = rw all at behind in (
+      ap (λ cause. either cause (parts_cause (parts_of fs))) is.0 ∙ rest.0,
+      rest.1 ∙ (ap (λ held. held ⊕ joined (parts_of fs)) is.1 ∙ more_twice old (spelling (part_of f)) (joined (parts_of fs))),
+    )

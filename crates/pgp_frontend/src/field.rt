@@ -25,6 +25,8 @@ pub enum Field<'a> {
 }
 
 /// How much room these fields take behind their length, and it, at most what a frame can hold.
+// The hint carries the speed of short messages.
+#[inline(always)]
 pub fn room(fields: &[Field]) -> usize
     ensures { result < 2 ^ 31 }
 {
@@ -43,6 +45,8 @@ pub fn room(fields: &[Field]) -> usize
 }
 
 /// Appends a number with a sign.
+// The hint carries the speed of short messages.
+#[inline(always)]
 #[tactic(auto, unfolding(pgp_base::specs::Wire::int32, pgp_base::specs::Wire::uint32))]
 pub fn put_int32<B: Buffer>(n: i32, buf: &mut B) -> Result<(), Error>
     ensures ok { OnOk result (B.held buf.new ≡ B.held buf.old ⊕ int32 n) }
@@ -52,6 +56,8 @@ pub fn put_int32<B: Buffer>(n: i32, buf: &mut B) -> Result<(), Error>
     put_u32(buf, n.cast_unsigned())
 }
 
+// The hint carries the speed of short messages.
+#[inline(always)]
 fn put_sized<B: Buffer>(bytes: &[u8], buf: &mut B) -> Result<(), Error>
     ensures ok { OnOk result ((length_cause (length bytes.now) ≡ None) × (B.held buf.new ≡ B.held buf.old ⊕ nullable (Some bytes.now))) }
     ensures err { OnErr result (IsFrontOf (B.held buf.old) (B.held buf.new)) }
@@ -63,6 +69,8 @@ fn put_sized<B: Buffer>(bytes: &[u8], buf: &mut B) -> Result<(), Error>
     Ok(())
 }
 
+// The hint carries the speed of short messages.
+#[inline(always)]
 fn put_field<B: Buffer>(field: &Field, buf: &mut B) -> Result<(), Error>
     ensures ok { OnOk result ((part_cause (part_of field.now) ≡ None) × (B.held buf.new ≡ B.held buf.old ⊕ spelling (part_of field.now))) }
     ensures err { OnErr result (IsFrontOf (B.held buf.old) (B.held buf.new)) }
@@ -77,8 +85,10 @@ fn put_field<B: Buffer>(field: &Field, buf: &mut B) -> Result<(), Error>
     }
 }
 
-/// Appends the fields. A refusal leaves what stood there as a front.
-pub fn put_fields<B: Buffer>(fields: &[Field], buf: &mut B) -> Result<(), Error>
+// The same in a loop.
+// The hint carries the speed of short messages.
+#[inline(always)]
+fn put_each<B: Buffer>(fields: &[Field], buf: &mut B) -> Result<(), Error>
     ensures ok { OnOk result ((parts_cause (parts_of fields.now) ≡ None) × (B.held buf.new ≡ B.held buf.old ⊕ joined (parts_of fields.now))) }
     ensures err { OnErr result (IsFrontOf (B.held buf.old) (B.held buf.new)) }
     ensures cause { IfErr result (λ e. WantsMemory B.Lacks e ⊎ (parts_cause (parts_of fields.now) ≡ Some e)) }
@@ -89,6 +99,39 @@ pub fn put_fields<B: Buffer>(fields: &[Field], buf: &mut B) -> Result<(), Error>
     Ok(())
 }
 
+// The same of what stands behind the first field.
+// The hint carries the speed of short messages.
+#[inline(always)]
+fn put_later<B: Buffer>(fields: &[Field], buf: &mut B) -> Result<(), Error>
+    ensures ok { OnOk result ((parts_cause (parts_of fields.now) ≡ None) × (B.held buf.new ≡ B.held buf.old ⊕ joined (parts_of fields.now))) }
+    ensures err { OnErr result (IsFrontOf (B.held buf.old) (B.held buf.new)) }
+    ensures cause { IfErr result (λ e. WantsMemory B.Lacks e ⊎ (parts_cause (parts_of fields.now) ≡ Some e)) }
+{
+    let [first, rest @ ..] = fields else {
+        return Ok(());
+    };
+    put_field(first, buf)?;
+    put_each(rest, buf)
+}
+
+/// Appends the fields. A refusal leaves what stood there as a front. The first two stand ahead of the loop, so that a
+/// message of at most three fields that are known when it is compiled keeps no loop, and none of them in memory.
+// The hint carries the speed of short messages.
+#[inline(always)]
+pub fn put_fields<B: Buffer>(fields: &[Field], buf: &mut B) -> Result<(), Error>
+    ensures ok { OnOk result ((parts_cause (parts_of fields.now) ≡ None) × (B.held buf.new ≡ B.held buf.old ⊕ joined (parts_of fields.now))) }
+    ensures err { OnErr result (IsFrontOf (B.held buf.old) (B.held buf.new)) }
+    ensures cause { IfErr result (λ e. WantsMemory B.Lacks e ⊎ (parts_cause (parts_of fields.now) ≡ Some e)) }
+{
+    let [first, rest @ ..] = fields else {
+        return Ok(());
+    };
+    put_field(first, buf)?;
+    put_later(rest, buf)
+}
+
+// The hint carries the speed of short messages.
+#[inline(always)]
 fn fill<B: Buffer>(fields: &[Field], buf: &mut B) -> Result<(), Error>
     ensures ok { OnOk result ((frame_cause (parts_of fields.now) ≡ None) × (B.held buf.new ≡ B.held buf.old ⊕ framed None (joined (parts_of fields.now)))) }
     ensures err { OnErr result (IsFrontOf (B.held buf.old) (B.held buf.new)) }
@@ -102,6 +145,8 @@ fn fill<B: Buffer>(fields: &[Field], buf: &mut B) -> Result<(), Error>
 }
 
 /// Appends an opening packet.
+// The hint carries the speed of short messages.
+#[inline(always)]
 pub fn packet<B: Buffer>(fields: &[Field], buf: &mut B) -> Result<(), Error>
     ensures { WritesFrame None (parts_of fields.now) B.Lacks (B.held buf.old) (B.held buf.new) result }
 {
@@ -117,6 +162,8 @@ pub fn packet<B: Buffer>(fields: &[Field], buf: &mut B) -> Result<(), Error>
 }
 
 /// Appends a tagged message.
+// The hint carries the speed of short messages.
+#[inline(always)]
 pub fn message<B: Buffer>(tag: u8, fields: &[Field], buf: &mut B) -> Result<(), Error>
     ensures { WritesFrame (Some tag) (parts_of fields.now) B.Lacks (B.held buf.old) (B.held buf.new) result }
 {

@@ -204,6 +204,8 @@ fn request_keeps_bytes(payload: &[u8]) -> bool
 }
 
 /// The message of a frame of which nothing is kept.
+// The hint carries the speed of messages without parts: else the answer goes through memory.
+#[inline(always)]
 #[tactic(auto, unfolding(crate::specs::Reading::bare_of))]
 pub(crate) fn bare<S: Storage>(tag: u8, payload: &[u8]) -> Result<Message<S>, Error>
     ensures { seen result ≡ bare_of tag payload.now }
@@ -292,6 +294,8 @@ fn authentication<S: Storage>(mut payload: S) -> Result<Message<S>, Error>
 }
 
 /// A message without parts, unless bytes are left.
+// The hint carries the speed of messages without parts: else the answer goes through memory.
+#[inline(always)]
 fn ended<S: Storage>(payload: &[u8], message: Message<S>) -> Result<Message<S>, Error>
     ensures { seen result ≡ ended (view message) payload.now }
 {

@@ -19,7 +19,8 @@ pub fn append<B: Buffer>(bytes: &[u8], buf: &mut B) -> Result<(), Error>
 }
 
 // All of both, or nothing.
-#[inline]
+// The hint carries the speed of `inet_to_sql`.
+#[inline(always)]
 pub fn append_both<B: Buffer>(front: &[u8], rest: &[u8], buf: &mut B) -> Result<(), Error>
     ensures { Writes (front.now ++ rest.now) None B.Lacks (B.held buf.old) (B.held buf.new) result }
 {

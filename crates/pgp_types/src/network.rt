@@ -77,6 +77,8 @@ impl Inet {
 }
 
 /// Appends an `inet`. The netmask is not checked.
+// The hint carries the speed.
+#[inline(always)]
 pub fn inet_to_sql<B: Buffer>(addr: IpAddr, netmask: u8, buf: &mut B) -> Result<(), Error>
     ensures { Writes inet (record { addr = addr; netmask = netmask }) B.Lacks (B.held buf.old) result (B.held buf.new) }
 {

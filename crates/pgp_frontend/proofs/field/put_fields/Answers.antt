@@ -1,18 +1,9 @@
-use Rattle.std.proofs.Common.{rules, inl, inr}
-use Rattle.pgp_base.proofs.Parts.{if_err_at}
-use Rattle.pgp_frontend.proofs.Fields.{fields_none, fields_joined, fields_refused}
+use Rattle.pgp_frontend.proofs.Fields.{fields_empty, fields_behind}
 use Rattle.pgp_frontend.proofs.field.put_fields.Goals as goal
 
-pub returns-in_err-put_field-clause-cause : goal.returns-in_err-put_field-clause-cause
-returns-in_err-put_field-clause-cause g c =
-    if_err_at c.from_residual.result _ _ c.from_residual.ensures.1
-    (elim c.in_err-put_field.ensures.cause [
-      | inl memory ↦ inl memory
-      | inr refused ↦ inr (fields_refused c.args.fields.now c.loop-field.field-index _ _ (search rules) c.loop-field.invariant.0 refused)
-    ])
+pub returns-in_default-clause-ok : goal.returns-in_default-clause-ok
+returns-in_default-clause-ok g c = fields_empty c.args.fields.now (g.B.Buffer.held c.args.buf.now) c.in_default.len_below
 
-pub loop-field-preserved : goal.loop-field-preserved
-loop-field-preserved g c =
-    let i = c.loop-field.invariant in
-    let k = c.in_ok-put_field.ensures.ok in
-    (fields_none c.args.fields.now c.loop-field.field-index _ (search rules) i.0 k.0, fields_joined c.args.fields.now c.loop-field.field-index _ (g.B.Buffer.held c.args.buf.now) _ _ (search rules) i.1 k.1)
+pub returns-clause-ok : goal.returns-clause-ok
+returns-clause-ok g c =
+    fields_behind c.put_later.result c.args.fields.now _ (g.B.Buffer.held c.args.buf.now) _ (g.B.Buffer.held c.put_later.new.buf) c.in-len1-up.len_at_least c.in_ok-put_field.ensures.ok c.put_later.ensures.ok

@@ -1,0 +1,9 @@
+use Rattle.std.proofs.Common.{◌≡◌, ◌≤◌, ◌*◌, take, length}
+use Rattle.pgp_auth.specs.Doubling.{doubled}
+use Rattle.pgp_auth.proofs.escape.push_block.Given as goal
+
+abbrev pub invariant-bytes : goal.invariant-bytes
+invariant-bytes g l =
+    (length l.room ≡ 384)
+    × (l.len ≤ 2 * l.i)
+    × (take l.len l.room ≡ doubled l.quote l.slashes (take l.i l.block))

@@ -1,0 +1,9 @@
+use Rattle.std.proofs.Common.{◌≡◌, ◌++◌, length}
+use Rattle.pgp_auth.specs.Doubling.{doubled}
+use Rattle.pgp_auth.proofs.escape.push_blocks.Given as goal
+
+abbrev pub invariant-pieces : goal.invariant-pieces
+invariant-pieces g l = l.out.items ++ doubled l.quote l.slashes l.rest ≡ l.fn.out.items ++ doubled l.quote l.slashes l.input
+
+abbrev pub decreases-pieces : goal.decreases-pieces
+decreases-pieces g l = length l.rest
