@@ -1,6 +1,7 @@
 # The two commands of a newcomer: `make run` lists a sample stream, `make test` is the gate.
+# `make bench` times the works of crates/pgp_bench, `make bench WORKS=write` those whose names begin so.
 
-.PHONY: run test
+.PHONY: run test bench
 
 run:
 	@printf 'examples/stream.bin, as pgwire lists it:\n'
@@ -9,3 +10,9 @@ run:
 test:
 	@command -v rt >/dev/null 2>&1 || { echo "make: the Rattle toolchain is missing: no command 'rt' on the PATH" >&2; exit 1; }
 	rt ci
+
+bench:
+	@command -v rt >/dev/null 2>&1 || { echo "make: the Rattle toolchain is missing: no command 'rt' on the PATH" >&2; exit 1; }
+	cd crates/pgp_bench && rt run -- check
+	@printf 'nanoseconds for each unit:\n'
+	@./crates/pgp_bench/out/pgp_bench $(WORKS)

@@ -1,0 +1,81 @@
+//! Times the works that count: parsing and walking, writing, values, escaping, the iterated key.
+//!
+//! `pgp_bench` times every work, `pgp_bench NAME..` those whose names begin so, and `pgp_bench check` does
+//! a few units of each, untimed, and prints the sum that its answers come to.
+#![tactic(auto)]
+
+mod escapes;
+mod input;
+mod keys;
+mod streams;
+mod values;
+mod work;
+mod writers;
+
+use crate::input::Input;
+use crate::work::{Work, sum_of};
+use pgp_base::Error;
+use std::time::Instant;
+use std::{env, io};
+
+/// How many units of each work `check` does.
+const FEW: u32 = 8;
+
+/// How often a work is timed; the least time counts.
+const TURNS: u32 = 5;
+
+fn main(rt: HostRuntime) -> io::Result<()> {
+    let mut words = Vec::new(rt.alloc());
+    for word in env::args(&rt)?.skip(1) {
+        words.push(word)?;
+    }
+    for work in Work::ALL {
+        if words.is_empty() {
+            time(&rt, work)?;
+        }
+        for word in &words {
+            if word.as_str() == "check" {
+                check(&rt, work)?;
+            } else if work.name().starts_with(word.as_str()) {
+                time(&rt, work)?;
+            }
+        }
+    }
+    Ok(())
+}
+
+/// Prints the sum of a few units.
+fn check(rt: &HostRuntime, work: Work) -> io::Result<()> {
+    let name = work.name();
+    let mut input = Input::new(rt.alloc(), work, FEW)?;
+    match sum_of(rt.alloc(), work, &mut input, FEW) {
+        Ok(sum) => println!(rt; "{name} {sum}"),
+        Err(e) => refused(rt, name, e),
+    }
+}
+
+fn refused(rt: &HostRuntime, name: &str, e: Error) -> io::Result<()> {
+    let number = e.number();
+    println!(rt; "{name} fault {number}")
+}
+
+/// Prints the least time of a unit, in nanoseconds.
+fn time(rt: &HostRuntime, work: Work) -> io::Result<()> {
+    let name = work.name();
+    let units = work.units();
+    let mut least = u128::MAX;
+    for _ in 0..TURNS {
+        let mut input = Input::new(rt.alloc(), work, units)?;
+        let start = Instant::now(rt)?;
+        let answer = sum_of(rt.alloc(), work, &mut input, units);
+        let nanos = start.elapsed(rt)?.as_nanos();
+        if let Err(e) = answer {
+            return refused(rt, name, e);
+        }
+        least = least.min(nanos);
+    }
+    let hundredths = least.saturating_mul(100) / units.max(1) as u128;
+    let whole = hundredths / 100;
+    let rest = hundredths % 100;
+    println!(rt; "{name} {whole}.{rest:02}")
+}

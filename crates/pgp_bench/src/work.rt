@@ -1,0 +1,157 @@
+//! The works, by name.
+
+use crate::escapes::{identifiers, literals};
+use crate::input::Input;
+use crate::keys::keys;
+use crate::streams::{read, read_in_place};
+use crate::values::{inet4s, inet6s, int4s, texts};
+use crate::writers::write;
+use pgp_base::Error;
+use std::alloc::Global;
+
+/// What is timed.
+#[derive(Debug, Clone, Copy, PartialEq, Eq)]
+pub enum Work {
+    /// `ParseComplete`, parsed.
+    Bare,
+    /// `ParseComplete`, `BindComplete` and `CommandComplete`, parsed.
+    Tiny,
+    /// `CommandComplete`, parsed, and its tag asked for.
+    Kept,
+    /// A row of eight columns of eight bytes, parsed, and its ranges walked.
+    Row,
+    /// An error of three fields, parsed, and its fields walked.
+    Fields,
+    /// The three of `Tiny`, read in place.
+    TinyInPlace,
+    /// The row, read in place, and its ranges walked.
+    RowInPlace,
+    /// `bind` of five int4 values.
+    Bind,
+    /// `query` of 41 bytes.
+    Query,
+    /// `parse` with three types.
+    Parse,
+    /// `startup_message` with two parameters.
+    Startup,
+    /// `execute`.
+    Execute,
+    /// `describe`.
+    Describe,
+    /// `close`.
+    Close,
+    /// `cancel_request`.
+    Cancel,
+    /// `sync`.
+    Sync,
+    /// `CopyData` of 1,024 bytes.
+    CopyData,
+    /// An int4, written.
+    Int4,
+    /// An IPv4 address, written.
+    Inet4,
+    /// An IPv6 address, written.
+    Inet6,
+    /// A text of 16 bytes, written.
+    Text,
+    /// A string constant of 32 bytes, one of them a quote.
+    LiteralShort,
+    /// A string constant of 1,024 bytes without a quote.
+    LiteralPlain,
+    /// A string constant of 1,024 bytes, every second one a quote.
+    LiteralQuotes,
+    /// A quoted identifier of 1,024 bytes without a quote.
+    Identifier,
+    /// The iterated key of 4,096 rounds.
+    Key,
+}
+
+impl Work {
+    pub const ALL: [Work; 26] = [
+        Work::Bare,
+        Work::Tiny,
+        Work::Kept,
+        Work::Row,
+        Work::Fields,
+        Work::TinyInPlace,
+        Work::RowInPlace,
+        Work::Bind,
+        Work::Query,
+        Work::Parse,
+        Work::Startup,
+        Work::Execute,
+        Work::Describe,
+        Work::Close,
+        Work::Cancel,
+        Work::Sync,
+        Work::CopyData,
+        Work::Int4,
+        Work::Inet4,
+        Work::Inet6,
+        Work::Text,
+        Work::LiteralShort,
+        Work::LiteralPlain,
+        Work::LiteralQuotes,
+        Work::Identifier,
+        Work::Key,
+    ];
+
+    pub fn name(self) -> &'static str {
+        match self {
+            Work::Bare => "read_bare",
+            Work::Tiny => "read_tiny",
+            Work::Kept => "read_kept",
+            Work::Row => "read_row",
+            Work::Fields => "read_fields",
+            Work::TinyInPlace => "place_tiny",
+            Work::RowInPlace => "place_row",
+            Work::Bind => "write_bind",
+            Work::Query => "write_query",
+            Work::Parse => "write_parse",
+            Work::Startup => "write_startup",
+            Work::Execute => "write_execute",
+            Work::Describe => "write_describe",
+            Work::Close => "write_close",
+            Work::Cancel => "write_cancel",
+            Work::Sync => "write_sync",
+            Work::CopyData => "write_copy_data",
+            Work::Int4 => "value_int4",
+            Work::Inet4 => "value_inet4",
+            Work::Inet6 => "value_inet6",
+            Work::Text => "value_text",
+            Work::LiteralShort => "escape_literal_short",
+            Work::LiteralPlain => "escape_literal_plain",
+            Work::LiteralQuotes => "escape_literal_quotes",
+            Work::Identifier => "escape_identifier",
+            Work::Key => "key",
+        }
+    }
+
+    /// How many units are timed together: some hundredths of a second.
+    pub fn units(self) -> u32 {
+        match self {
+            Work::Key => 8,
+            Work::LiteralPlain | Work::LiteralQuotes | Work::Identifier | Work::CopyData => 50_000,
+            _ => 500_000,
+        }
+    }
+}
+
+/// Does the work as often as the count says, and answers a sum made of the answers, so that no work
+/// can be left out.
+pub fn sum_of(alloc: Global, work: Work, input: &mut Input, count: u32) -> Result<u64, Error> {
+    match work {
+        Work::Bare | Work::Tiny | Work::Kept | Work::Row | Work::Fields => read(&mut input.stream),
+        Work::TinyInPlace | Work::RowInPlace => read_in_place(input.stream.as_slice()),
+        Work::Int4 => int4s(&mut input.buf, count),
+        Work::Inet4 => inet4s(&mut input.buf, count),
+        Work::Inet6 => inet6s(&mut input.buf, count),
+        Work::Text => texts(input, count),
+        Work::LiteralShort => literals(alloc, input.quote.as_str(), count),
+        Work::LiteralPlain => literals(alloc, input.plain.as_str(), count),
+        Work::LiteralQuotes => literals(alloc, input.quotes.as_str(), count),
+        Work::Identifier => identifiers(alloc, input.plain.as_str(), count),
+        Work::Key => Ok(keys(count)),
+        _ => write(work, input, count),
+    }
+}
