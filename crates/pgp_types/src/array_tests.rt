@@ -1,3 +1,4 @@
+//! Arrays. What a server sends stands above its bytes.
 #![tactic(auto, using(pgp_base::proofs::Parts::held_steps))]
 
 ghost use Rattle.pgp_base.specs.Calls.{KeepsValue};
