@@ -61,7 +61,7 @@ fn bind_array_with_each_allocation_refused(rt: HostRuntime) -> Result<(), Fail> 
 }
 
 /// A row of 5, a null, and a value that isn't an int4.
-const ROW: &[u8] = b"D\0\0\0\x14\0\x03\0\0\0\x04\0\0\0\x05\xff\xff\xff\xff\0\0\0\0";
+const ROW: &[u8] = b"D\0\0\0\x16\0\x03\0\0\0\x04\0\0\0\x05\xff\xff\xff\xff\0\0\0\0";
 
 /// How many of the values of that row are there, and are what they are to be.
 fn good_values<A: Allocator + Copy>(alloc: A, memory: Global) -> Result<usize, Error> {
