@@ -66,10 +66,6 @@ blocks_step q s n rest out new whole block after front back is before =
     rw (is, front, back) (append_assoc out (doubled q s (take n rest)) (doubled q s (drop n rest))
     ∙ (ap (λ more. out ++ more) (sym (doubled_parts q s n rest)) ∙ before))
 
--- the last block is written
-pub blocks_end : (q : ℕ) (s : Bool) (rest out new whole : List ℕ) → new ≡ out ++ doubled q s rest → out ++ doubled q s rest ≡ whole → new ≡ whole
-blocks_end q s rest out new whole is before = is ∙ before
-
 -- ---- it stays a text
 
 none_later : (p : ℕ → Bool) (c : ℕ) (z : List ℕ) (n : ℕ) → p c ≡ false → ((k : ℕ) → k < n → p (slice_index z k) ≢ true) → (k : ℕ) → k < suc n → p (slice_index (c ∷ z) k) ≢ true

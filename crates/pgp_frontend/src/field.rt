@@ -85,7 +85,7 @@ fn put_field<B: Buffer>(field: &Field, buf: &mut B) -> Result<(), Error>
     }
 }
 
-// The same in a loop.
+// `put_fields` in a loop.
 // The hint carries the speed of short messages.
 #[inline(always)]
 fn put_each<B: Buffer>(fields: &[Field], buf: &mut B) -> Result<(), Error>
@@ -99,7 +99,7 @@ fn put_each<B: Buffer>(fields: &[Field], buf: &mut B) -> Result<(), Error>
     Ok(())
 }
 
-// The same of what stands behind the first field.
+// `put_fields` of what stands behind the first field.
 // The hint carries the speed of short messages.
 #[inline(always)]
 fn put_later<B: Buffer>(fields: &[Field], buf: &mut B) -> Result<(), Error>

@@ -1,4 +1,4 @@
-use Rattle.std.proofs.Common.{◌≡◌, refl, arith, rules, length, set, get_or, cond, ◌+◌, ◌∙◌}
+use Rattle.std.proofs.Common.{◌≡◌, refl, arith, rules, set, get_or, cond, ◌+◌, ◌∙◌}
 use Rattle.std.proofs.lemmas.List.{length-set}
 use Rattle.pgp_auth.specs.Doubling.{is_doubled}
 use Rattle.pgp_auth.proofs.Doubles.{doubled_nil, at_most_one, block_more}
