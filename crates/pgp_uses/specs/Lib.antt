@@ -1,0 +1,5 @@
+pub mod Filter
+pub mod Login
+pub mod Recorder
+pub mod Rows
+pub mod Streams

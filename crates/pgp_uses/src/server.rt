@@ -1,0 +1,41 @@
+//! A server for tests: it answers with frames that it makes.
+#![tactic(auto, using(pgp_base::proofs::Parts::held_steps))]
+
+ghost use Rattle.std.specs.Prelude.{◌≡◌, OnOk, OnErr};
+ghost use Rattle.pgp_base.specs.Held.{◌⊕◌, Leaves};
+ghost use Rattle.pgp_base.specs.Wire.{frame};
+
+use pgp_base::{Buffer, put_u8, write_body};
+use postgres_protocol::{BindError, Error};
+
+/// Appends a message: its tag, the length, and the payload.
+///
+/// # Errors
+///
+/// `TooLarge` where the payload is too long for a message, and `OutOfMemory`. The buffer keeps its bytes.
+pub fn answer<B: Buffer>(tag: u8, payload: &[u8], buf: &mut B) -> Result<(), Error>
+    ensures ok { OnOk result (B.held buf.new ≡ B.held buf.old ⊕ frame tag payload.now) }
+    ensures err { OnErr result (Leaves (B.held buf.old) (B.held buf.new)) }
+{
+    let start = buf.len();
+    put_u8(buf, tag)?;
+    let body = write_body(buf, |buf: &mut B| -> Result<(), Error>
+        ensures ok { OnOk result (B.held buf.exit.now ≡ B.held buf.entry.now ⊕ payload.entry.now) }
+        ensures err { OnErr result (B.held buf.exit.now ≡ B.held buf.entry.now) }
+    {
+        buf.append(payload)?;
+        Ok(())
+    });
+    if let Err(e) = body {
+        buf.truncate(start);
+        return Err(refusal(e));
+    }
+    Ok(())
+}
+
+/// The refusal, whoever refused.
+fn refusal(e: BindError<Error>) -> Error {
+    match e {
+        BindError::Conversion(e) | BindError::Serialization(e) => e,
+    }
+}
