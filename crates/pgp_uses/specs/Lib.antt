@@ -3,3 +3,4 @@ pub mod Login
 pub mod Recorder
 pub mod Rows
 pub mod Streams
+pub mod Values

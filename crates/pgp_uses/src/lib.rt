@@ -8,5 +8,6 @@ pub mod rows;
 pub mod server;
 pub mod session;
 pub mod streams;
+pub mod values;
 pub mod writing;
 
