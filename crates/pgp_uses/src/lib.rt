@@ -8,6 +8,7 @@ pub mod rows;
 pub mod server;
 pub mod session;
 pub mod streams;
+#[cfg(test)]
+mod tests;
 pub mod values;
 pub mod writing;
-

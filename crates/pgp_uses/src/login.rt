@@ -10,13 +10,12 @@ ghost use Rattle.pgp_frontend.specs.ClientMessage.{SaslInitialResponse, SaslResp
 ghost use Rattle.pgp_uses.specs.Login.{Sends, IsSetPassword, IsComparison, unmapped};
 
 use pgp_base::Buffer;
-use postgres_protocol::Error;
 use postgres_protocol::authentication::sasl::{
     ChannelBinding, NoPrep, SCRAM_SHA_256, ScramError, ScramSha256,
 };
 use postgres_protocol::escape::{escape_identifier, escape_literal};
 use postgres_protocol::message::frontend;
-use postgres_protocol::password;
+use postgres_protocol::{Error, password};
 use rand_core::Rng;
 use std::alloc::{Allocator, Global};
 

@@ -19,13 +19,16 @@ pub fn answer<B: Buffer>(tag: u8, payload: &[u8], buf: &mut B) -> Result<(), Err
 {
     let start = buf.len();
     put_u8(buf, tag)?;
-    let body = write_body(buf, |buf: &mut B| -> Result<(), Error>
-        ensures ok { OnOk result (B.held buf.exit.now ≡ B.held buf.entry.now ⊕ payload.entry.now) }
-        ensures err { OnErr result (B.held buf.exit.now ≡ B.held buf.entry.now) }
-    {
-        buf.append(payload)?;
-        Ok(())
-    });
+    let body = write_body(
+        buf,
+        |buf: &mut B| -> Result<(), Error>
+            ensures ok { OnOk result (B.held buf.exit.now ≡ B.held buf.entry.now ⊕ payload.entry.now) }
+            ensures err { OnErr result (B.held buf.exit.now ≡ B.held buf.entry.now) }
+        {
+            buf.append(payload)?;
+            Ok(())
+        },
+    );
     if let Err(e) = body {
         buf.truncate(start);
         return Err(refusal(e));
