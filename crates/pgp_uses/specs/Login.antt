@@ -3,9 +3,14 @@ use Rattle.std.specs.Prelude.{◌≡◌, ℕ, true, false, List, ◌++◌, Some,
 use Rattle.pgp_base.specs.Held.{Held, ◌⊕◌}
 use Rattle.pgp_auth.specs.Lexer.{Identifier, Literal}
 use Rattle.pgp_auth.specs.Prepared.{prepared}
-use Rattle.pgp_auth.specs.ScramClient.{Client, message_of}
-use Rattle.pgp_frontend.specs.ClientMessage.{ClientMessage}
+use Rattle.pgp_auth.specs.ScramClient.{Client, Answers, UpdateRefused, message_of}
+use Rattle.pgp_auth.specs.ScramErrorView.{refusal}
+use Rattle.pgp_auth.specs.ScramRefusal.{OutOfMemory}
+use Rattle.pgp_frontend.specs.ClientMessage.{ClientMessage, SaslInitialResponse, SaslResponse}
 use Rattle.pgp_frontend.specs.Payload.{bytes_of}
+use Rattle.postgres_protocol.specs.ClientStream.{RefusesMessage}
+use Rattle.pgp_uses.specs.declared.login.LoginError.{LoginError}
+use Rattle.pgp_uses.specs.declared.login.LoginError.TheVariants.{Message, Scram, Over}
 
 -- a password that no mapping changes
 abbrev pub unmapped : List ℕ → List ℕ
@@ -16,6 +21,22 @@ pub record Sends {Kept : Type 0} (message : List ℕ → ClientMessage) (client 
   pub text : List ℕ
   pub said : message_of client.state ≡ Some text
   pub sent : new ≡ old ⊕ bytes_of (message text)
+
+-- the first message of the exchange
+abbrev pub initial : List ℕ → ClientMessage
+initial text = SaslInitialResponse (codes "SCRAM-SHA-256") text
+
+-- why a log-in didn't begin: for want of memory, or the first message was refused
+abbrev pub BeginRefused : {A : Type 0} → ClientMessage → Type 0 → LoginError A → Type 0
+BeginRefused message lacks (Message e) = RefusesMessage message lacks e
+BeginRefused message lacks (Scram e) = refusal e ≡ OutOfMemory
+BeginRefused message lacks Over = ⊥
+
+-- why the server's first text wasn't answered: the exchange refused it, or the final text wasn't sent
+abbrev pub RespondRefused : {A : Type 0} → Client → List ℕ → Client → Type 0 → LoginError A → Type 0
+RespondRefused old challenge new lacks (Message e) = Answers old challenge new × ((text : List ℕ) × (message_of new.state ≡ Some text) × RefusesMessage (SaslResponse text) lacks e)
+RespondRefused old challenge new lacks (Scram e) = UpdateRefused old challenge (refusal e) new
+RespondRefused old challenge new lacks Over = ⊥
 
 -- the command names this user and this verifier, and a server reads both as they are, whatever
 -- standard_conforming_strings says

@@ -1,13 +1,14 @@
 //! A log-in with SCRAM-SHA-256, a verifier, and texts in an SQL command.
 
-ghost use Rattle.std.specs.Prelude.{◌≡◌, codes, string_bytes, IfOk, IfErr, OnOk};
+ghost use Rattle.std.specs.Prelude.{◌≡◌, string_bytes, IfOk, IfErr, OnOk, OnErr};
 ghost use Rattle.rand_core.specs.Stream.{fill_bytes};
+ghost use Rattle.pgp_base.specs.Held.{Leaves};
 ghost use Rattle.pgp_auth.specs.Nonce.{drawn_chars};
 ghost use Rattle.pgp_auth.specs.ScramClient.{Answers, fresh};
-ghost use Rattle.pgp_auth.specs.ScramText.{Unsupported};
+ghost use Rattle.pgp_auth.specs.ScramText.{Unsupported, client_first};
 ghost use Rattle.pgp_auth.specs.Verifier.{verifier, verifier_text};
-ghost use Rattle.pgp_frontend.specs.ClientMessage.{SaslInitialResponse, SaslResponse};
-ghost use Rattle.pgp_uses.specs.Login.{Sends, IsSetPassword, IsComparison, unmapped};
+ghost use Rattle.pgp_frontend.specs.ClientMessage.{SaslResponse};
+ghost use Rattle.pgp_uses.specs.Login.{Sends, BeginRefused, RespondRefused, IsSetPassword, IsComparison, initial, unmapped};
 
 use pgp_base::Buffer;
 use postgres_protocol::authentication::sasl::{
@@ -44,7 +45,11 @@ pub fn begin<A: Allocator + Copy, R: Rng, B: Buffer>(
 ) -> Result<ScramSha256<A>, LoginError<A>>
     ensures client { let nonce = (drawn_chars 24 (R.stream rng.old)).0 in
         IfOk result (λ client. client ≡ fresh (unmapped password.now) Unsupported nonce) }
-    ensures sent { IfOk result (λ client. Sends (λ text. SaslInitialResponse (codes "SCRAM-SHA-256") text) client (B.held out.old) (B.held out.new)) }
+    ensures sent { IfOk result (λ client. Sends initial client (B.held out.old) (B.held out.new)) }
+    ensures kept { OnErr result (Leaves (B.held out.old) (B.held out.new)) }
+    ensures refused { let nonce = (drawn_chars 24 (R.stream rng.old)).0 in
+        IfErr result (BeginRefused (initial (client_first Unsupported nonce)) B.Lacks) }
+    ensures drawn { R.stream rng.new ≡ (drawn_chars 24 (R.stream rng.old)).1 }
 {
     let client = match ScramSha256::new(
         alloc,
@@ -79,6 +84,8 @@ pub fn respond<A: Allocator + Copy, B: Buffer>(
 ) -> Result<(), LoginError<A>>
     ensures answers { OnOk result (Answers client.old challenge.now client.new) }
     ensures sent { OnOk result (Sends SaslResponse client.new (B.held out.old) (B.held out.new)) }
+    ensures kept { OnErr result (Leaves (B.held out.old) (B.held out.new)) }
+    ensures refused { IfErr result (RespondRefused client.old challenge.now client.new B.Lacks) }
 {
     if let Err(e) = client.update(challenge) {
         return Err(LoginError::Scram(e));
@@ -105,6 +112,7 @@ pub fn set_password<A: Allocator + Copy, R: Rng>(
 ) -> Result<String<A>, Error>
     ensures command { let salt = (fill_bytes 16 (R.stream rng.old)).0 in
         IfOk result (λ t. IsSetPassword user.now (verifier_text (verifier (unmapped password.now) salt 4096)) (string_bytes t)) }
+    ensures drawn { R.stream rng.new ≡ (fill_bytes 16 (R.stream rng.old)).1 }
     ensures err { IfErr result (λ e. e ≡ Error.OutOfMemory) }
 {
     let verifier = password::scram_sha_256(alloc, password, &NoPrep, rng)?;

@@ -1,7 +1,8 @@
 //! What a client sends, as one stream.
 
-ghost use Rattle.std.specs.Prelude.{[], ◌∷◌, codes, IfOk};
+ghost use Rattle.std.specs.Prelude.{◌≡◌, ◌⊎◌, [], ◌∷◌, codes, Some, IfOk, IfErr};
 ghost use Rattle.pgp_frontend.specs.ClientMessage.{Query, Startup, Terminate};
+ghost use Rattle.pgp_frontend.specs.Payload.{cause};
 ghost use Rattle.postgres_protocol.specs.ClientRun.{ClientRun};
 
 use bytes::BytesMut;
@@ -20,7 +21,9 @@ pub fn one_query<A: Allocator + Copy>(
     user: &str,
     query: &str,
 ) -> Result<ClientStream<BytesMut<A>>, Error>
-    ensures { IfOk result (λ stream. ClientRun [] (Startup ((codes "user", user.now) ∷ []) ∷ Query query.now ∷ Terminate ∷ []) stream.buf.items) }
+    ensures run { IfOk result (λ stream. ClientRun [] (Startup ((codes "user", user.now) ∷ []) ∷ Query query.now ∷ Terminate ∷ []) stream.buf.items) }
+    ensures refused { IfErr result (λ e. (e ≡ Error.OutOfMemory)
+        ⊎ ((cause (Startup ((codes "user", user.now) ∷ [])) ≡ Some e) ⊎ (cause (Query query.now) ≡ Some e))) }
 {
     let mut stream = ClientStream::<BytesMut<A>>::new(alloc);
     stream.startup_message(&[("user", user)])?;

@@ -1,11 +1,9 @@
 //! What a server sends: a stream that comes in pieces, and bytes that are read where they stand.
 
-ghost use Rattle.std.specs.Prelude.{◌≡◌, false, true, map, Ok, IfOk, IfErr, OnOk, OnErr, IfSome};
+ghost use Rattle.std.specs.Prelude.{◌≡◌, false, true, map, option_map, IfOk, IfErr, OnOk, OnErr};
 ghost use Rattle.std.specs.List.{flat_map};
-ghost use Rattle.pgp_message.specs.BackendMessage.{DataRow};
-ghost use Rattle.pgp_message.specs.Stream.{TakesFrame};
 ghost use Rattle.pgp_message.specs.Views.{seen};
-ghost use Rattle.pgp_uses.specs.Streams.{Completes, HasFrames};
+ghost use Rattle.pgp_uses.specs.Streams.{Completes, FrontRow, HasFrames};
 
 use bytes::Bytes;
 use postgres_protocol::Error;
@@ -49,7 +47,7 @@ pub fn frame_count<A: Allocator + Copy>(alloc: A, pieces: &[&[u8]]) -> Result<us
 /// The row at the front of the bytes, read where it stands, and the bytes behind it; `None` where no whole row stands
 /// there.
 pub fn front_row(bytes: &[u8]) -> Option<(DataRowBody<&[u8]>, &[u8])>
-    ensures { IfSome result (λ front. TakesFrame bytes.now (Ok (DataRow front.0)) front.1.now) }
+    ensures { FrontRow bytes.now (option_map (λ front. (front.0, front.1.now)) result) }
 {
     let mut messages = Messages::new(bytes);
     match messages.next() {

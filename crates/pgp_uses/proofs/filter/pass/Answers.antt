@@ -1,9 +1,5 @@
-use Rattle.std.proofs.Common.{rules, sym, ap, ◌+◌, ◌∙◌, arith}
-use Rattle.std.proofs.Math.IntN.{nat_abs}
-use Rattle.std.specs.Int.{w32}
-use Rattle.std.proofs.lemmas.Int.{to_z-of_z}
+use Rattle.std.proofs.Common.{rules, arith}
 use Rattle.pgp_base.specs.Wire.{IsBytes}
-use Rattle.pgp_message.proofs.Fronts.{is_not_below}
 use Rattle.pgp_uses.proofs.Passed.{passes_frame}
 use Rattle.pgp_uses.proofs.filter.pass.Goals as goal
 

@@ -3,8 +3,8 @@ use Rattle.pgp_frontend.specs.ClientMessage.{Startup, Query}
 use Rattle.postgres_protocol.specs.ClientRun.{ClientRun, kinds_of}
 use Rattle.pgp_uses.proofs.session.one_query.Goals as goal
 
-pub returns : goal.returns
-returns g c =
+pub returns-clause-run : goal.returns-clause-run
+returns-clause-run g c =
     let user = Startup ((codes "user", c.args.user.now) ∷ []) in
     let query = Query c.args.query.now in
     let first = c.in_ok-startup_message.ensures in
