@@ -1,0 +1,53 @@
+-- A frame at the front, by its header.
+use Rattle.std.proofs.Common.{◌≡◌, ℕ, ℤ, pos, negsuc, ◌+◌, ◌≤◌, ◌≤ℤ◌, List, ◌∷◌, ◌++◌, length, take, drop, sym, ap, subst, ◌∙◌, arith, inl, inr}
+use Rattle.std.proofs.Math.Dec.{T}
+use Rattle.std.proofs.lemmas.Bool.Decides.{leb_tells}
+use Rattle.std.proofs.lemmas.List.{length-take, length-drop}
+use Rattle.std.proofs.Math.Seq.{take-append_seam}
+use Rattle.std.proofs.Math.IntN.{nat_abs}
+use Rattle.pgp_base.specs.Held.{Held, ◌⊕◌}
+use Rattle.pgp_base.specs.Wire.{uint32, IsBytes}
+use Rattle.pgp_types.proofs.PartLemmas.{int32_pos}
+use Rattle.pgp_message.specs.FrontReading.{front_frame, announced}
+use Rattle.pgp_message.specs.Header.{HeaderPart, IsHeader}
+use Rattle.pgp_message.specs.Stream.{Frame, frame_bytes, BeginsWithHeader}
+use Rattle.pgp_message.proofs.Cuts.{cut, front_of}
+use Rattle.pgp_message.proofs.Fronts.{header_announced}
+use Rattle.pgp_uses.specs.Filter.{PassesFrame}
+
+abbrev header_part : ℕ → ℤ → HeaderPart
+header_part tag len = record { tag = tag; len = len }
+
+frame_size : (f : Frame) → length (frame_bytes f) ≡ 5 + length f.payload
+unfolding uint32
+frame_size f = omega arith
+
+at_least : (m n : ℕ) → pos m ≤ℤ pos n → m ≤ n
+at_least m n le = elim (leb_tells m n) [ inl w ↦ w.1 | inr w ↦ absurd (subst T w.0 le.le) ]
+
+passes : {K : Type 0} (limit : ℤ) (came : List ℕ) (tag : ℕ) (len : ℤ) (size : ℕ) (old new : Held K)
+    → IsBytes came → IsHeader came (header_part tag len) → pos 4 ≤ℤ len → len ≤ℤ limit → size ≡ nat_abs len + 1 → size ≤ length came → new ≡ old ⊕ take size came → PassesFrame limit came size old new
+passes limit came tag (pos n) size old new bytes is least within total there passed =
+    let header : BeginsWithHeader came = record { tag = tag; len = n; rest = is.rest; fits = omega (arith, is.fits); parts = is.parts ∙ ap (λ l. tag ∷ l ++ is.rest) (int32_pos n) } in
+    let four : 4 ≤ n = at_least 4 n least in
+    let announces : announced came ≡ n = header_announced came header in
+    let whole_there : n + 1 ≤ length came = omega (arith, total, there) in
+    let front = cut came n bytes header.fits (sym announces) four whole_there in
+    let frame = front_frame (front_of came n) came in
+    let payload_size : length frame.payload + 4 ≡ n = omega (arith, length-drop 5 (take (n + 1) came), length-take (n + 1) came, whole_there, four) in
+    let size_is : size ≡ length (frame_bytes frame) = omega (arith, frame_size frame, payload_size, total) in
+    let same : take size came ≡ frame_bytes frame = ap (λ k. take k came) size_is ∙ (ap (take (length (frame_bytes frame))) front.whole ∙ take-append_seam (frame_bytes frame) (drop (n + 1) came)) in
+    record {
+      frame = frame;
+      rest = drop (n + 1) came;
+      whole = front.whole;
+      fits = front.fits;
+      within = rw payload_size within;
+      size_is = size_is;
+      passed = passed ∙ ap (λ p. old ⊕ p) same;
+    }
+passes limit came tag (negsuc n) size old new bytes is least within total there passed = absurd least.le
+
+pub passes_frame : {K : Type 0} (limit : ℤ) (came : List ℕ) (header : HeaderPart) (size : ℕ) (old new : Held K)
+    → IsBytes came → IsHeader came header → pos 4 ≤ℤ header.len → header.len ≤ℤ limit → size ≡ nat_abs header.len + 1 → size ≤ length came → new ≡ old ⊕ take size came → PassesFrame limit came size old new
+passes_frame limit came header size old new = passes limit came header.tag header.len size old new

@@ -1,0 +1,90 @@
+-- Places grow by a frame.
+use Rattle.std.proofs.Common.{◌≡◌, ℕ, ◌+◌, ◌-◌, ◌<◌, List, [], ◌∷◌, ◌++◌, length, drop, Result, Bool, refl, sym, ap, subst, ◌∙◌, arith, append_assoc}
+use Rattle.std.specs.List.{flat_map, AllByRecursion}
+use Rattle.std.specs.declared.ops.Range.{Range}
+use Rattle.std.proofs.lemmas.List.{append-nil, length-append}
+use Rattle.std.proofs.Math.Seq.{drop-append_seam}
+use Rattle.std.proofs.lemmas.List.Concat.{flat_map-cons}
+use Rattle.std.proofs.lemmas.Grind.{flat_map-append}
+use Rattle.pgp_base.specs.Wire.{uint32}
+use Rattle.pgp_base.specs.declared.error.Error.{Error}
+use Rattle.pgp_message.specs.BackendMessage.{Message, Body}
+use Rattle.pgp_message.specs.Stream.{Frame, frame_bytes, IsFrame, IsEnding, Bodies, Frames, TakesFrame}
+use Rattle.pgp_uses.specs.Recorder.{places_of, IsRecording}
+
+abbrev pub place : ℕ → ℕ → Range ℕ
+place start end = record { start = start; end = end }
+
+nothing : (n : ℕ) → 0 + n ≡ n
+nothing n = omega arith
+
+-- the places of the frames that were read, of which `left` is left from `rest` on
+pub record IsCut (bytes : List ℕ) (places : List (Range ℕ)) (rest : ℕ) (left : List ℕ) : Type 0 where
+  pub results : List (Result Message Error)
+  pub run : Frames bytes results left
+  pub cut : places ≡ places_of 0 run.frames
+  pub at : rest ≡ length (flat_map frame_bytes run.frames)
+
+bodies_push : (frames : List Frame) (results : List (Result Message Error)) (f : Frame) (r : Result Message Error) → Bodies frames results → Body f.tag f.payload r → Bodies (frames ++ f ∷ []) (results ++ r ∷ [])
+bodies_push [] [] f r all one = (one, tt)
+bodies_push [] (s ∷ results) f r all one = absurd all
+bodies_push (g ∷ frames) [] f r all one = absurd all
+bodies_push (g ∷ frames) (s ∷ results) f r all one = (all.0, bodies_push frames results f r all.1 one)
+
+each_push : (frames : List Frame) (f : Frame) → AllByRecursion IsFrame frames → IsFrame f → AllByRecursion IsFrame (frames ++ f ∷ [])
+each_push [] f all one = (one, tt)
+each_push (g ∷ frames) f all one = (all.0, each_push frames f all.1 one)
+
+pushed : (frames : List Frame) (f : Frame) → flat_map frame_bytes (frames ++ f ∷ []) ≡ flat_map frame_bytes frames ++ frame_bytes f
+pushed frames f = flat_map-append frame_bytes frames (f ∷ []) ∙ ap (λ l. flat_map frame_bytes frames ++ l) (flat_map-cons frame_bytes f [] ∙ append-nil (frame_bytes f))
+
+at_front : (g : Frame) (frames : List Frame) (at : ℕ) → (at + length (frame_bytes g)) + length (flat_map frame_bytes frames) ≡ at + length (flat_map frame_bytes (g ∷ frames))
+at_front g frames at = omega (arith, ap length (flat_map-cons frame_bytes g frames), length-append (frame_bytes g) (flat_map frame_bytes frames))
+
+places_push : (at : ℕ) (frames : List Frame) (f : Frame) → places_of at (frames ++ f ∷ []) ≡ places_of at frames ++ place (at + length (flat_map frame_bytes frames)) (at + length (flat_map frame_bytes frames) + length (frame_bytes f)) ∷ []
+places_push at [] f =
+    let same : at ≡ at + length (flat_map frame_bytes []) = omega arith in
+    ap (λ n. place n (n + length (frame_bytes f)) ∷ []) same
+places_push at (g ∷ frames) f =
+    let start = at + length (frame_bytes g) in
+    ap (λ l. place at start ∷ l) (places_push start frames f ∙ ap (λ n. places_of start frames ++ place n (n + length (frame_bytes f)) ∷ []) (at_front g frames at))
+
+pub cut_none : (bytes : List ℕ) → IsCut bytes [] 0 bytes
+cut_none bytes = record { results = []; run = record { frames = []; whole = refl; each = tt; bodies = tt }; cut = refl; at = refl }
+
+pub cut_next : (bytes old new : List ℕ) (places after : List (Range ℕ)) (rest end : ℕ) (r : Result Message Error) → IsCut bytes places rest old → TakesFrame old r new → end ≡ length bytes - length new → after ≡ places ++ place rest end ∷ [] → IsCut bytes after end new
+cut_next bytes old new places after rest end r all one ends grown =
+    let frames = all.run.frames in
+    let front = flat_map frame_bytes frames in
+    let f = one.first in
+    let whole : bytes ≡ (front ++ frame_bytes f) ++ new = all.run.whole ∙ ap (λ l. front ++ l) one.whole ∙ sym (append_assoc front (frame_bytes f) new) in
+    let size : length front + length (frame_bytes f) ≡ end = omega (arith, ap length whole, length-append (front ++ frame_bytes f) new, length-append front (frame_bytes f), ends) in
+    let pushes : places_of 0 (frames ++ f ∷ []) ≡ places_of 0 frames ++ place (length front) (length front + length (frame_bytes f)) ∷ [] = places_push 0 frames f ∙ ap (λ n. places_of 0 frames ++ place n (n + length (frame_bytes f)) ∷ []) (nothing (length front)) in
+    record {
+      results = all.results ++ r ∷ [];
+      run = record {
+        frames = frames ++ f ∷ [];
+        whole = whole ∙ ap (λ l. l ++ new) (sym (pushed frames f));
+        each = each_push frames f all.run.each one.fits;
+        bodies = bodies_push frames all.results f r all.run.bodies one.body;
+      };
+      cut = grown ∙ (ap (λ l. l ++ place rest end ∷ []) all.cut ∙ (ap (λ n. places_of 0 frames ++ place rest n ∷ []) (sym size) ∙ (ap (λ n. places_of 0 frames ++ place n (length front + length (frame_bytes f)) ∷ []) all.at ∙ sym pushes)));
+      at = sym size ∙ (sym (length-append front (frame_bytes f)) ∙ ap length (sym (pushed frames f)));
+    }
+
+pub cut_end : (bytes left : List ℕ) (places : List (Range ℕ)) (rest : ℕ) (stopped : Bool) → IsCut bytes places rest left → IsEnding stopped left → IsRecording bytes places stopped rest
+cut_end bytes left places rest stopped all ending =
+    let front = flat_map frame_bytes all.run.frames in
+    let left_is : drop rest bytes ≡ left = ap (λ n. drop n bytes) all.at ∙ (ap (drop (length front)) all.run.whole ∙ drop-append_seam front left) in
+    record {
+      results = all.results;
+      run = record {
+        run = record { frames = all.run.frames; whole = all.run.whole ∙ ap (λ l. front ++ l) (sym left_is); each = all.run.each; bodies = all.run.bodies };
+        ending = subst (IsEnding stopped) (sym left_is) ending;
+      };
+      cut = all.cut;
+    }
+
+pub shorter : (old new : List ℕ) (r : Result Message Error) → TakesFrame old r new → length new < length old
+unfolding uint32
+shorter old new r one = omega (arith, ap length one.whole, length-append one.first.payload new)

@@ -1,0 +1,10 @@
+use Rattle.std.proofs.Common.{rules, arith}
+use Rattle.pgp_base.specs.Wire.{IsBytes}
+use Rattle.pgp_uses.proofs.Passed.{passes_frame}
+use Rattle.pgp_uses.proofs.filter.pass.Goals as goal
+
+pub returns-in-Ok : goal.returns-in-Ok
+returns-in-Ok g c =
+    let came = c.args.came.now in
+    let each : IsBytes came = λ i. omega (arith, c.type_inv.came i) in
+    passes_frame c.args.limit came c.in-Ok-Some.header _ _ _ each (search rules) (search rules) (search rules) (search rules) (search rules) (search rules)

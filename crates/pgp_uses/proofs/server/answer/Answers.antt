@@ -1,0 +1,14 @@
+use Rattle.std.proofs.Common.{rules}
+use Rattle.pgp_base.proofs.Parts.{cut_back, front_then, front_left}
+use Rattle.pgp_uses.proofs.Written.{framed, refused}
+use Rattle.pgp_uses.proofs.server.answer.Goals as goal
+
+pub returns-clause-ok : goal.returns-clause-ok
+returns-clause-ok g c = framed g.B.Buffer.held _ _ _ (λ b d h. search rules) _ _ _ _ c.in_ok-put_u8.ensures.ok c.in_default.ensures.ok
+
+pub returns-in-Err-clause-err : goal.returns-in-Err-clause-err
+returns-in-Err-clause-err g c =
+    cut_back _ _ _ c.len-start.result (front_then _ _ _ _ c.in_ok-put_u8.ensures.ok (front_left _ _ c.in-Err.ensures.err)) c.len-start.ensures.value c.truncate.ensures.bytes c.truncate.ensures.kept
+
+pub returns-in-Err-clause-cause : goal.returns-in-Err-clause-cause
+returns-in-Err-clause-cause g c = rw c.refusal.ensures (refused g.B.Buffer.held _ _ _ _ _ c.in-Err.e (λ b d h. search rules) (λ b d x h. search rules) c.in-Err.ensures.cause)

@@ -1,0 +1,7 @@
+pub mod Filter
+pub mod Login
+pub mod Recorder
+pub mod Rows
+pub mod Server
+pub mod Streams
+pub mod Values

@@ -1,0 +1,58 @@
+-- What the steps of a log-in send, and the texts of commands that they make.
+use Rattle.std.specs.Prelude.{◌≡◌, ℕ, true, false, List, ◌++◌, Some, None, codes}
+use Rattle.pgp_base.specs.Held.{Held, ◌⊕◌}
+use Rattle.pgp_auth.specs.Lexer.{Identifier, Literal}
+use Rattle.pgp_auth.specs.Prepared.{prepared}
+use Rattle.pgp_auth.specs.ScramClient.{Client, Answers, UpdateRefused, message_of}
+use Rattle.pgp_auth.specs.ScramErrorView.{refusal}
+use Rattle.pgp_auth.specs.ScramRefusal.{OutOfMemory}
+use Rattle.pgp_frontend.specs.ClientMessage.{ClientMessage, SaslInitialResponse, SaslResponse}
+use Rattle.pgp_frontend.specs.Payload.{bytes_of}
+use Rattle.postgres_protocol.specs.ClientStream.{RefusesMessage}
+use Rattle.pgp_uses.specs.declared.login.LoginError.{LoginError}
+use Rattle.pgp_uses.specs.declared.login.LoginError.TheVariants.{Message, Scram, Over}
+
+-- a password that no mapping changes
+abbrev pub unmapped : List ℕ → List ℕ
+unmapped password = prepared (λ _. None) password
+
+-- what the exchange has to say was sent, in this message
+pub record Sends {Kept : Type 0} (message : List ℕ → ClientMessage) (client : Client) (old new : Held Kept) : Type 0 where
+  pub text : List ℕ
+  pub said : message_of client.state ≡ Some text
+  pub sent : new ≡ old ⊕ bytes_of (message text)
+
+-- the first message of the exchange
+abbrev pub initial : List ℕ → ClientMessage
+initial text = SaslInitialResponse (codes "SCRAM-SHA-256") text
+
+-- why a log-in didn't begin: for want of memory, or the first message was refused
+abbrev pub BeginRefused : {A : Type 0} → ClientMessage → Type 0 → LoginError A → Type 0
+BeginRefused message lacks (Message e) = RefusesMessage message lacks e
+BeginRefused message lacks (Scram e) = refusal e ≡ OutOfMemory
+BeginRefused message lacks Over = ⊥
+
+-- why the server's first text wasn't answered: the exchange refused it, or the final text wasn't sent
+abbrev pub RespondRefused : {A : Type 0} → Client → List ℕ → Client → Type 0 → LoginError A → Type 0
+RespondRefused old challenge new lacks (Message e) = Answers old challenge new × ((text : List ℕ) × (message_of new.state ≡ Some text) × RefusesMessage (SaslResponse text) lacks e)
+RespondRefused old challenge new lacks (Scram e) = UpdateRefused old challenge (refusal e) new
+RespondRefused old challenge new lacks Over = ⊥
+
+-- the command names this user and this verifier, and a server reads both as they are, whatever
+-- standard_conforming_strings says
+pub record IsSetPassword (user verifier text : List ℕ) : Type 0 where
+  pub name : List ℕ
+  pub shown : List ℕ
+  pub parts : text ≡ codes "ALTER USER " ++ name ++ codes " PASSWORD " ++ shown
+  pub named : Identifier name user
+  pub standard : Literal true shown verifier
+  pub not_standard : Literal false shown verifier
+
+-- the column's name, ` = ` and the text, each as a server reads it
+pub record IsComparison (column value text : List ℕ) : Type 0 where
+  pub name : List ℕ
+  pub shown : List ℕ
+  pub parts : text ≡ name ++ codes " = " ++ shown
+  pub named : Identifier name column
+  pub standard : Literal true shown value
+  pub not_standard : Literal false shown value

@@ -1,0 +1,14 @@
+//! Short callers of the protocol's crates, each with its contract: what `docs/CALLING.md` shows.
+#![tactic(auto)]
+
+pub mod filter;
+pub mod login;
+pub mod recorder;
+pub mod rows;
+pub mod server;
+pub mod session;
+pub mod streams;
+#[cfg(test)]
+mod tests;
+pub mod values;
+pub mod writing;

@@ -1,0 +1,50 @@
+//! A server for tests: it answers with frames that it makes.
+#![tactic(auto, using(pgp_base::proofs::Parts::held_steps))]
+
+ghost use Rattle.std.specs.Prelude.{◌≡◌, ◌⊎◌, ◌+◌, length, Some, IfErr, OnOk, OnErr};
+ghost use Rattle.pgp_base.specs.Cause.{WantsMemory, length_cause};
+ghost use Rattle.pgp_base.specs.Held.{◌⊕◌, Leaves};
+ghost use Rattle.pgp_base.specs.Wire.{frame};
+ghost use Rattle.pgp_uses.specs.Server.{refusal_of};
+
+use pgp_base::{Buffer, put_u8, write_body};
+use postgres_protocol::{BindError, Error};
+
+/// Appends a message: its tag, the length, and the payload.
+///
+/// # Errors
+///
+/// `TooLarge` where the payload is too long for a message, and `OutOfMemory`. The buffer keeps its bytes.
+pub fn answer<B: Buffer>(tag: u8, payload: &[u8], buf: &mut B) -> Result<(), Error>
+    ensures ok { OnOk result (B.held buf.new ≡ B.held buf.old ⊕ frame tag payload.now) }
+    ensures err { OnErr result (Leaves (B.held buf.old) (B.held buf.new)) }
+    ensures cause { IfErr result (λ e. WantsMemory B.Lacks e ⊎ (length_cause (length payload.now + 4) ≡ Some e)) }
+{
+    let start = buf.len();
+    put_u8(buf, tag)?;
+    let body = write_body(
+        buf,
+        |buf: &mut B| -> Result<(), Error>
+            ensures ok { OnOk result (B.held buf.exit.now ≡ B.held buf.entry.now ⊕ payload.entry.now) }
+            ensures err { OnErr result (B.held buf.exit.now ≡ B.held buf.entry.now) }
+            ensures cause { IfErr result (WantsMemory B.Lacks) }
+        {
+            buf.append(payload)?;
+            Ok(())
+        },
+    );
+    if let Err(e) = body {
+        buf.truncate(start);
+        return Err(refusal(e));
+    }
+    Ok(())
+}
+
+/// The refusal, whoever refused.
+fn refusal(e: BindError<Error>) -> Error
+    ensures { result ≡ refusal_of e }
+{
+    match e {
+        BindError::Conversion(e) | BindError::Serialization(e) => e,
+    }
+}

@@ -1,0 +1,270 @@
+//! Each caller once, on bytes of the message formats of the PostgreSQL manual.
+#![tactic(auto, using(pgp_base::proofs::Parts::held_steps))]
+
+ghost use Rattle.std.specs.Prelude.{ℕ, ◌+◌, ◌%◌, ◌^◌, Some};
+ghost use Rattle.rand_core.specs.Steps.{stream_of, steps_u32};
+
+use crate::filter::{FilterError, pass};
+use crate::login::{begin, equals, respond, set_password};
+use crate::recorder::record;
+use crate::rows::{ColumnError, int4_column, text_column};
+use crate::server::answer;
+use crate::session::one_query;
+use crate::streams::{completed, frame_count, front_row};
+use crate::values::{parameter, value_of};
+use crate::writing::{ask, ask_in_place};
+use bytes::BytesMut;
+use postgres_protocol::authentication::sasl::{ChannelBinding, NoPrep, ScramSha256, is_nonce};
+use postgres_protocol::message::frontend;
+use postgres_protocol::session::StreamParser;
+use postgres_protocol::{Error, IsNull};
+use rand_core::Rng;
+use rand_core::utils::{self, NextWord};
+use std::marker::Model;
+use std::test::Fail;
+
+const QUERY: &[u8; 14] = b"Q\x00\x00\x00\x0dSELECT 1\x00";
+
+/// A row of the int4 7, the text `ab` and a null, and a message that says that the server is ready.
+const ROW: &[u8; 31] =
+    b"D\x00\x00\x00\x18\x00\x03\x00\x00\x00\x04\x00\x00\x00\x07\x00\x00\x00\x02ab\xff\xff\xff\xffZ\x00\x00\x00\x05I";
+
+#[test]
+fn a_query_is_appended(rt: HostRuntime) -> Result<(), Fail> {
+    let mut buf = BytesMut::new(rt.alloc());
+    assert_eq!(rt; ask("SELECT 1", &mut buf), Ok(()));
+    assert_eq!(rt; ask("a\0b", &mut buf), Err(Error::EmbeddedNull));
+    assert_eq!(rt; buf.as_slice(), QUERY.as_slice());
+    Ok(())
+}
+
+#[test]
+fn a_query_is_written_in_place(rt: HostRuntime) -> Result<(), Fail> {
+    let mut room = [0xffu8; 16];
+    assert_eq!(rt; ask_in_place("SELECT 1", &mut room), Ok(14));
+    assert_eq!(rt;
+        room.as_slice(),
+        b"Q\x00\x00\x00\x0dSELECT 1\x00\xff\xff".as_slice()
+    );
+    let mut short = [0xffu8; 13];
+    assert_eq!(rt;
+        ask_in_place("SELECT 1", &mut short),
+        Err(Error::OutOfMemory)
+    );
+    assert_eq!(rt; ask_in_place("a\0b", &mut room), Err(Error::EmbeddedNull));
+    Ok(())
+}
+
+#[test]
+fn a_session_of_one_query(rt: HostRuntime) -> Result<(), Fail> {
+    let stream = one_query(rt.alloc(), "alice", "SELECT 1")?;
+    assert_eq!(rt;
+        stream.bytes(),
+        b"\x00\x00\x00\x14\x00\x03\x00\x00user\x00alice\x00\x00Q\x00\x00\x00\x0dSELECT 1\x00X\x00\x00\x00\x04".as_slice()
+    );
+    Ok(())
+}
+
+#[test]
+fn pieces_complete_frames(rt: HostRuntime) -> Result<(), Fail> {
+    let mut parser = StreamParser::new(rt.alloc());
+    let (front, back) = ROW.split_at(27);
+    assert_eq!(rt; completed(front, &mut parser).map(|got| got.len()), Ok(1));
+    if parser.failed() {
+        return Err(Error::OutOfMemory.into());
+    }
+    assert_eq!(rt; completed(back, &mut parser).map(|got| got.len()), Ok(1));
+    assert_eq!(rt; frame_count(rt.alloc(), &[front, back]), Ok(2));
+    assert_eq!(rt; frame_count(rt.alloc(), &[front]), Ok(1));
+    Ok(())
+}
+
+#[test]
+fn columns_of_a_row(rt: HostRuntime) -> Result<(), Fail> {
+    let Some((row, rest)) = front_row(ROW) else {
+        return Err(Error::UnexpectedEof.into());
+    };
+    assert_eq!(rt; rest, b"Z\x00\x00\x00\x05I".as_slice());
+    let index = row.index(rt.alloc())?;
+    assert_eq!(rt; int4_column(&index, 0), Ok(Some(7)));
+    assert_eq!(rt; text_column(&index, 1), Ok(Some("ab")));
+    assert_eq!(rt;
+        int4_column(&index, 1),
+        Err(ColumnError::Value(Error::UnexpectedEof))
+    );
+    assert_eq!(rt; int4_column(&index, 2), Ok(None));
+    assert_eq!(rt; text_column(&index, 2), Ok(None));
+    assert_eq!(rt; text_column(&index, 3), Err(ColumnError::NoColumn));
+    assert_eq!(rt; value_of::<i32, _>(&index, 0), Ok(Some(7)));
+    assert_eq!(rt; value_of::<&str, _>(&index, 1), Ok(Some("ab")));
+    assert_eq!(rt; value_of::<&str, _>(&index, 2), Ok(None));
+    assert_eq!(rt; value_of::<i32, _>(&index, 3), Err(ColumnError::NoColumn));
+    assert!(rt; front_row(rest).is_none());
+    Ok(())
+}
+
+#[test]
+fn parameters_of_a_statement(rt: HostRuntime) -> Result<(), Fail> {
+    let mut buf = BytesMut::new(rt.alloc());
+    let bound = frontend::bind(
+        "",
+        "s",
+        Some(1i16),
+        [Some(5i32), None].as_slice(),
+        |value: &Option<i32>, buf: &mut BytesMut| parameter(value, buf),
+        Some(1i16),
+        &mut buf,
+    );
+    assert!(rt; bound.is_ok());
+    assert_eq!(rt;
+        buf.as_slice(),
+        b"B\x00\x00\x00\x1d\x00s\x00\x00\x01\x00\x01\x00\x02\x00\x00\x00\x04\x00\x00\x00\x05\xff\xff\xff\xff\x00\x01\x00\x01".as_slice()
+    );
+    Ok(())
+}
+
+#[test]
+fn frames_are_recorded(rt: HostRuntime) -> Result<(), Fail> {
+    let all = record(rt.alloc(), ROW)?;
+    assert_eq!(rt; all.places.as_slice(), [0..25usize, 25..31].as_slice());
+    assert_eq!(rt; (all.rest, all.stopped), (31, false));
+    let cut = record(rt.alloc(), &ROW[..30])?;
+    assert_eq!(rt; cut.places.as_slice(), [0..25usize].as_slice());
+    assert_eq!(rt; (cut.rest, cut.stopped), (25, false));
+    let fault = record(rt.alloc(), b"?\x00\x00\x00\x041\x00\x00\x00\x03")?;
+    assert_eq!(rt; fault.places.as_slice(), [0..5usize].as_slice());
+    assert_eq!(rt; (fault.rest, fault.stopped), (5, true));
+    Ok(())
+}
+
+#[test]
+fn frames_are_passed_up_to_a_limit(rt: HostRuntime) -> Result<(), Fail> {
+    let mut out = BytesMut::new(rt.alloc());
+    assert_eq!(rt; pass(13, QUERY, &mut out), Ok(Some(14)));
+    assert_eq!(rt; pass(13, &QUERY[..13], &mut out), Ok(None));
+    assert_eq!(rt; pass(12, &QUERY[..4], &mut out), Ok(None));
+    assert_eq!(rt;
+        pass(12, &QUERY[..5], &mut out),
+        Err(FilterError::PastLimit)
+    );
+    assert_eq!(rt;
+        pass(12, b"Q\x00\x00\x00\x03", &mut out),
+        Err(FilterError::InvalidLength)
+    );
+    assert_eq!(rt; out.as_slice(), QUERY.as_slice());
+    Ok(())
+}
+
+#[test]
+fn answers_are_frames(rt: HostRuntime) -> Result<(), Fail> {
+    let mut buf = BytesMut::new(rt.alloc());
+    assert_eq!(rt; answer(b'1', b"", &mut buf), Ok(()));
+    assert_eq!(rt; answer(b'Z', b"I", &mut buf), Ok(()));
+    assert_eq!(rt;
+        buf.as_slice(),
+        b"1\x00\x00\x00\x04Z\x00\x00\x00\x05I".as_slice()
+    );
+    Ok(())
+}
+
+const NONCE: &str = "9IZ2O01zb9IgiIZ1WJ/zgpJB";
+
+/// The texts of the Rust crate's own test, for the password `foobar`.
+#[test]
+fn a_challenge_is_answered(rt: HostRuntime) -> Result<(), Fail> {
+    let nonce = String::from_str(rt.alloc(), NONCE)?;
+    if !is_nonce(&nonce) {
+        return Err(Error::NotUtf8.into());
+    }
+    let mut client = ScramSha256::with_nonce(
+        rt.alloc(),
+        b"foobar",
+        ChannelBinding::unsupported(),
+        nonce,
+        &NoPrep,
+    )?;
+    let mut out = BytesMut::new(rt.alloc());
+    let answered = respond(
+        b"r=9IZ2O01zb9IgiIZ1WJ/zgpJBjx/oIRLs02gGSHcw1KEty3eY,s=fs3IXBy7U7+IvVjZ,i=4096",
+        &mut client,
+        &mut out,
+    );
+    assert!(rt; answered.is_ok());
+    assert_eq!(rt;
+        out.as_slice(),
+        b"p\x00\x00\x00\x6cc=biws,r=9IZ2O01zb9IgiIZ1WJ/zgpJBjx/oIRLs02gGSHcw1KEty3eY,p=AmNKosjJzS31NTlQYNs5BTeQjdHdk7lOflDo5re2an8=".as_slice()
+    );
+    assert!(rt;
+        client
+            .finish(b"v=U+ppxD5XUKtradnv8e2MkeupiA8FU87Sg8CXzXHDAzw=")
+            .is_ok()
+    );
+    Ok(())
+}
+
+/// The front is fixed by the manual and RFC 5802; the 24 characters of the nonce stand behind it.
+#[test]
+fn a_login_begins(rt: HostRuntime) -> Result<(), Fail> {
+    let mut out = BytesMut::new(rt.alloc());
+    let client = begin(rt.alloc(), b"foobar", &mut Counting(0), &mut out)?;
+    assert_eq!(rt;
+        out.as_slice().get(..31),
+        Some(b"p\x00\x00\x00\x36SCRAM-SHA-256\x00\x00\x00\x00\x20n,,n=,r=".as_slice())
+    );
+    assert_eq!(rt; out.len(), 55);
+    assert_eq!(rt; client.message(), out.as_slice().get(23..));
+    Ok(())
+}
+
+/// The verifier is of the Rust crate's own test: the password `secret` and the salt of the bytes 1 to 16.
+#[test]
+fn commands_hold_what_they_are_told(rt: HostRuntime) -> Result<(), Fail> {
+    let command = set_password(
+        rt.alloc(),
+        "o\"reilly",
+        b"secret",
+        &mut Counting(0xfffe_fdfd),
+    )?;
+    assert_eq!(rt;
+        command.as_str(),
+        "ALTER USER \"o\"\"reilly\" PASSWORD 'SCRAM-SHA-256$4096:AQIDBAUGBwgJCgsMDQ4PEA==$8rrDg00OqaiWXJ7p+sCgHEIaBSHY89ZJl3mfIsf32oY=:05L1f+yZbiN8O0AnO40Og85NNRhvzTS57naKRWCcsIA='"
+    );
+    let part = equals(rt.alloc(), "name", "O'Reilly")?;
+    assert_eq!(rt; part.as_str(), "\"name\" = 'O''Reilly'");
+    Ok(())
+}
+
+/// Each word is greater than the one before by 0x04040404.
+#[derive(Debug, Drop)]
+struct Counting(u32);
+
+impl Model for Counting {
+    ghost Value = { ℕ };
+
+    ghost view = { λ a. a.0 };
+}
+
+impl NextWord<u32> for Counting {
+    ghost step = { λ s. ((s + 0x0404_0404) % 2 ^ 32, (s + 0x0404_0404) % 2 ^ 32) };
+
+    fn next_word(&mut self) -> u32 {
+        self.0 = self.0.wrapping_add(0x0404_0404);
+        self.0
+    }
+}
+
+impl Rng for Counting {
+    ghost stream = { stream_of (steps_u32 (λ s. ((s + 0x0404_0404) % 2 ^ 32, (s + 0x0404_0404) % 2 ^ 32))) };
+
+    fn next_u32(&mut self) -> u32 {
+        self.next_word()
+    }
+
+    fn next_u64(&mut self) -> u64 {
+        utils::next_u64_via_u32(self)
+    }
+
+    fn fill_bytes(&mut self, dst: &mut [u8]) {
+        utils::fill_bytes_via_u32(self, dst)
+    }
+}

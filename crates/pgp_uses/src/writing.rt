@@ -1,0 +1,42 @@
+//! Messages at the end of a buffer, and in memory of one's own.
+
+ghost use Rattle.std.specs.Prelude.{◌≡◌, ◌⊎◌, ◌++◌, length, drop, Some, IfOk, IfErr, OnOk, OnErr};
+ghost use Rattle.pgp_frontend.specs.ClientMessage.{Query};
+ghost use Rattle.pgp_frontend.specs.Payload.{bytes_of, cause};
+
+use bytes::BytesMut;
+use pgp_base::{Buffer, Window};
+use postgres_protocol::Error;
+use postgres_protocol::message::frontend;
+use std::alloc::{Allocator, Global};
+
+/// Appends a query to what is to be sent.
+///
+/// # Errors
+///
+/// `EmbeddedNull` where the text has a 0 byte, `TooLarge` where it is too long for a message, and `OutOfMemory`. The
+/// buffer keeps its bytes.
+#[tactic(auto, unfolding(pgp_base::specs::Held::lengthened))]
+pub fn ask<A: Allocator + Copy>(text: &str, buf: &mut BytesMut<A>) -> Result<(), Error>
+    ensures sent { OnOk result (buf.new.items ≡ buf.old.items ++ bytes_of (Query text.now)) }
+    ensures kept { OnErr result (buf.new.items ≡ buf.old.items) }
+    ensures cause { IfErr result (λ e. (e ≡ Error.OutOfMemory) ⊎ (cause (Query text.now) ≡ Some e)) }
+{
+    frontend::query(text, buf)
+}
+
+/// Writes a query at the front of the caller's memory, and answers how many bytes it takes. No allocator is asked.
+///
+/// # Errors
+///
+/// `EmbeddedNull` where the text has a 0 byte, `TooLarge` where it is too long for a message, and `OutOfMemory` where
+/// it doesn't fit.
+pub fn ask_in_place(text: &str, room: &mut [u8]) -> Result<usize, Error>
+    ensures size { IfOk result (λ n. n ≡ length (bytes_of (Query text.now))) }
+    ensures sent { IfOk result (λ n. room.new ≡ bytes_of (Query text.now) ++ drop n room.old) }
+    ensures cause { IfErr result (λ e. (e ≡ Error.OutOfMemory) ⊎ (cause (Query text.now) ≡ Some e)) }
+{
+    let mut window = Window::new(room);
+    frontend::query(text, &mut window)?;
+    Ok(window.len())
+}
