@@ -1,4 +1,5 @@
-//! Laws of whole streams: what a server that knows only the grammar reads of a client's bytes.
+//! Laws of whole streams: what a server that knows only the grammar reads of a client's bytes. Laws of values in
+//! messages: arrays that are bound, and rows that are read.
 
 ghost use Rattle.std.specs.Prelude.{◌≡◌, ℕ, List, [], ◌∷◌, ◌++◌, None};
 ghost use Rattle.pgp_frontend.specs.ClientMessage.{ClientMessage, PasswordKind, Startup};

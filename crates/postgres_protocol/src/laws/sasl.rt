@@ -1,6 +1,7 @@
 //! A whole exchange of SCRAM-SHA-256, by the calls of three crates.
 
-ghost use Rattle.std.specs.Prelude.{◌≡◌, Ok, IfOk, OnOk};
+ghost use Rattle.std.specs.Prelude.{◌≡◌, Ok, IfOk, OnOk, OnErr};
+ghost use Rattle.pgp_base.specs.Calls.{IsFrontOf};
 ghost use Rattle.pgp_auth.specs.ScramClient.{Begun, AwaitsFirst};
 ghost use Rattle.pgp_message.specs.BackendMessage.{Authentication, AuthenticationSaslContinue, AuthenticationSaslFinal};
 ghost use Rattle.pgp_message.specs.Stream.{TakesFrame};
@@ -32,7 +33,8 @@ pub enum SaslRefusal<A: Allocator = Global> {
 ///
 /// `Message` where a writer refuses a text or `Message::parse` the front of a buffer, `Unexpected` where no whole
 /// message stands there or another one than is due, and `Scram` where `update` or `finish` refuses a text. What was
-/// written and taken off before stays so.
+/// written and taken off before stays so, and `out` keeps what it held in front of it.
+#[tactic(auto, using(pgp_base::proofs::Parts::held_steps))]
 pub fn sasl_exchange<A: Allocator + Copy, B: Buffer>(
     client: &mut ScramSha256<A>,
     mechanism: &str,
@@ -41,9 +43,10 @@ pub fn sasl_exchange<A: Allocator + Copy, B: Buffer>(
     out: &mut B,
 ) -> Result<(), SaslRefusal<A>>
     requires { (begun : Begun) × (client.old.state ≡ AwaitsFirst begun) }
-    ensures { OnOk result (Exchanged mechanism.now client.old client.new
+    ensures done { OnOk result (Exchanged mechanism.now client.old client.new
         server_first.old.items server_first.new.items server_final.old.items server_final.new.items
         (B.held out.old) (B.held out.new)) }
+    ensures refused { OnErr result (IsFrontOf (B.held out.old) (B.held out.new)) }
 {
     let Some(first) = client.message() else {
         return Err(SaslRefusal::Unexpected);
