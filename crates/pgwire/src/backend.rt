@@ -21,6 +21,11 @@ const PIECE: usize = 65536;
 
 /// Reads all bytes that a server sent, and then writes a line for each message and each refusal, and
 /// one for what is left. Of the bytes it keeps no more than a piece and a frame that isn't whole.
+///
+/// # Errors
+///
+/// `Memory` where memory is refused and `Read` where reading fails, both before anything is written; `Write`
+/// where writing or the flush fails, behind a front of the listing.
 pub fn backend<A: Allocator + Copy, R: Read, W: Write>(
     alloc: A,
     input: &mut R,

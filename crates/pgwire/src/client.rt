@@ -41,7 +41,12 @@ struct Answer<A: Allocator> {
 }
 
 /// Reads a whole script, and then writes the bytes of its messages as a line of hex digits, or tells of
-/// the first line that is refused.
+/// the first line that is refused. A newline ends a line, and an empty one asks for nothing.
+///
+/// # Errors
+///
+/// `Memory` where memory is refused and `Read` where reading fails, both before anything is written; `Write`
+/// where writing or the flush fails, behind a front of what was to be written.
 pub fn client<A: Allocator + Copy, R: Read, W: Write>(
     alloc: A,
     input: &mut R,
