@@ -83,6 +83,7 @@ cut_end bytes left places rest stopped all ending =
         ending = subst (IsEnding stopped) (sym left_is) ending;
       };
       cut = all.cut;
+      within = omega (arith, all.at, ap length all.run.whole, length-append front left);
     }
 
 pub shorter : (old new : List ℕ) (r : Result Message Error) → TakesFrame old r new → length new < length old

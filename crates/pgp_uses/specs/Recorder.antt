@@ -1,5 +1,5 @@
 -- Where the frames of a stream stand.
-use Rattle.std.specs.Prelude.{◌≡◌, ℕ, ◌+◌, Bool, List, [], ◌∷◌, length, drop, Result}
+use Rattle.std.specs.Prelude.{◌≡◌, ℕ, ◌+◌, ◌≤◌, Bool, List, [], ◌∷◌, length, drop, Result}
 use Rattle.std.specs.declared.ops.Range.{Range}
 use Rattle.pgp_base.specs.declared.error.Error.{Error}
 use Rattle.pgp_message.specs.BackendMessage.{Message}
@@ -15,3 +15,4 @@ pub record IsRecording (bytes : List ℕ) (places : List (Range ℕ)) (stopped :
   pub results : List (Result Message Error)
   pub run : BackendRun bytes results stopped (drop rest bytes)
   pub cut : places ≡ places_of 0 run.run.frames
+  pub within : rest ≤ length bytes
