@@ -1,6 +1,5 @@
 -- What the functions of `reading` give is what the writers spell.
-use Rattle.std.proofs.Common.{◌≡◌, ◌≢◌, ◌⊎◌, ℕ, zero, suc, ◌<◌, ◌^◌, List, [], ◌∷◌, ◌++◌, length, Option, Some, None, Result, Ok, Err, refl, sym, ap, subst, ◌∙◌, arith, inl, inr, true, false, append_assoc}
-use Rattle.std.specs.Prelude.{slice_index}
+use Rattle.std.proofs.Common.{◌≡◌, ◌≢◌, ◌⊎◌, ℕ, zero, suc, ◌<◌, ◌^◌, List, [], ◌∷◌, ◌++◌, Option, Some, None, Err, refl, sym, ap, subst, ◌∙◌, arith, inl, inr}
 use Rattle.std.specs.List.{Contains}
 use Rattle.std.specs.Str.{IsUtf8}
 use Rattle.pgp_base.specs.declared.error.Error.{Error}
@@ -10,7 +9,7 @@ use Rattle.pgp_base.specs.PartReading.{front_at, byte_at, string_at, text_at}
 use Rattle.pgp_base.specs.Reading.{BeginsNoOther, ReadsSpelling, ReadsTexts, TextStands}
 use Rattle.pgp_base.specs.Wire.{text, HasNoZero, IsBytes}
 use Rattle.pgp_base.proofs.Causes.{text_clean, clean_of}
-use Rattle.pgp_base.proofs.PartLemmas.{IsNumber, number_takes, number_again, text_read, text_refused, text_cut, TextFound, text_found, some_none}
+use Rattle.pgp_base.proofs.PartLemmas.{IsNumber, number_takes, number_again, text_read, TextFound, text_found, some_none}
 use Rattle.pgp_base.proofs.Prefixes.{fronts}
 use Rattle.pgp_base.proofs.Strings.{IsString, some_is, string_takes, string_front, string_whole}
 

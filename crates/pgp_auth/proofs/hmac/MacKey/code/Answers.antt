@@ -1,4 +1,4 @@
-use Rattle.std.proofs.Common.{◌≡◌, ◌++◌, sym, rules, append_assoc}
+use Rattle.std.proofs.Common.{◌≡◌, ◌++◌, rules, append_assoc}
 use Rattle.pgp_auth.specs.MacBlocks.{code_of}
 use Rattle.pgp_auth.proofs.hmac.MacKey.code.Goals as goal
 
