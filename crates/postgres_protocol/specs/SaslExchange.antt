@@ -1,6 +1,6 @@
 -- What an exchange of SCRAM-SHA-256 leaves, whose texts pass through messages.
 -- PostgreSQL manual, "SASL Authentication"; RFC 5802; RFC 7677.
-use Rattle.std.specs.Prelude.{◌≡◌, ℕ, ◌+◌, max, List, Ok}
+use Rattle.std.specs.Prelude.{◌≡◌, ◌⊎◌, ℕ, ◌+◌, max, List, Ok, Err}
 use Rattle.pgp_base.specs.Held.{Held, ◌⊕◌}
 use Rattle.pgp_auth.specs.Verifier.{verifier}
 use Rattle.pgp_auth.specs.ScramServer.{Accepts, Signs}
@@ -9,8 +9,10 @@ use Rattle.pgp_auth.specs.ScramClient.{Client, Begun, Answered, AwaitsFirst, Ove
 use Rattle.pgp_frontend.specs.ClientMessage.{SaslInitialResponse, SaslResponse}
 use Rattle.pgp_frontend.specs.Payload.{bytes_of}
 use Rattle.pgp_frontend.specs.Reading.{IsSpelled}
-use Rattle.pgp_message.specs.BackendMessage.{Authentication, AuthenticationSaslContinue, AuthenticationSaslFinal}
-use Rattle.pgp_message.specs.Stream.{TakesFrame}
+use Rattle.pgp_message.specs.BackendMessage.{Message, Authentication, AuthenticationSaslContinue, AuthenticationSaslFinal}
+use Rattle.pgp_message.specs.Stream.{IsPartial, TakesFrame, Step}
+use Rattle.postgres_protocol.specs.declared.laws.sasl.SaslRefusal.{SaslRefusal}
+use Rattle.postgres_protocol.specs.declared.laws.sasl.SaslRefusal.TheVariants as refusals
 
 -- The exchange came to its end. Each side of a buffer is what it held before and after.
 pub record Exchanged {Kept : Type 0} (mechanism : List ℕ) (old new : Client) (first_old first_new final_old final_new : List ℕ) (out_old out_new : Held Kept) : Type 0 where
@@ -36,3 +38,25 @@ pub record Exchanged {Kept : Type 0} (mechanism : List ℕ) (old new : Client) (
   pub verifies : Verifies (signature_of answered) final
   pub over : new.state ≡ Over
   pub hmacs : new.hmacs ≡ (old.hmacs + (max count 1 + 2)) + 2
+
+-- another message than the one with the server's first text
+abbrev pub IsNoContinue : Message → Type 0
+IsNoContinue (Authentication (AuthenticationSaslContinue text)) = ⊥
+IsNoContinue _ = Unit {0}
+
+-- another message than the one with the server's final text
+abbrev pub IsNoFinal : Message → Type 0
+IsNoFinal (Authentication (AuthenticationSaslFinal text)) = ⊥
+IsNoFinal _ = Unit {0}
+
+-- the front of old is the frame of another message, and new is what follows it
+pub record TakesOther (IsOther : Message → Type 0) (old new : List ℕ) : Type 0 where
+  pub message : Message
+  pub taken : TakesFrame old (Ok message) new
+  pub other : IsOther message
+
+-- Why a buffer gave no text: no whole frame stands in front, or that of another message, or reading refused it.
+abbrev pub GivesNone : {A : Type 0} → (Message → Type 0) → List ℕ → List ℕ → SaslRefusal A → Type 0
+GivesNone IsOther old new refusals.Unexpected = (IsPartial old × (new ≡ old)) ⊎ TakesOther IsOther old new
+GivesNone IsOther old new (refusals.Message e) = Step old (Err e) new
+GivesNone IsOther old new (refusals.Scram e) = ⊥
