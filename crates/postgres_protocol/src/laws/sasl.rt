@@ -6,7 +6,7 @@ ghost use Rattle.pgp_auth.specs.ScramClient.{Begun, AwaitsFirst};
 ghost use Rattle.pgp_message.specs.BackendMessage.{Authentication, AuthenticationSaslContinue, AuthenticationSaslFinal};
 ghost use Rattle.pgp_message.specs.Stream.{TakesFrame};
 ghost use Rattle.pgp_message.specs.Views.{view};
-ghost use Rattle.postgres_protocol.specs.SaslExchange.{Exchanged, GivesNone, IsNoContinue, IsNoFinal};
+ghost use Rattle.postgres_protocol.specs.SaslExchange.{Exchanged, GivesNone, IsNoContinue, IsNoFinal, Stopped};
 
 use bytes::{Bytes, BytesMut};
 use pgp_auth::authentication::sasl::{ScramError, ScramSha256};
@@ -47,7 +47,10 @@ pub fn sasl_exchange<A: Allocator + Copy, B: Buffer>(
     ensures done { OnOk result (Exchanged mechanism.now client.old client.new
         server_first.old.items server_first.new.items server_final.old.items server_final.new.items
         (B.held out.old) (B.held out.new)) }
-    ensures refused { OnErr result (IsFrontOf (B.held out.old) (B.held out.new)) }
+    ensures front { OnErr result (IsFrontOf (B.held out.old) (B.held out.new)) }
+    ensures refused { IfErr result (λ e. Stopped B.Lacks mechanism.now client.old client.new
+        server_first.old.items server_first.new.items server_final.old.items server_final.new.items
+        (B.held out.old) (B.held out.new) e) }
 {
     let Some(first) = client.message() else {
         return Err(SaslRefusal::Unexpected);
