@@ -12,7 +12,7 @@ use crate::rows::{ColumnError, int4_column, text_column};
 use crate::server::answer;
 use crate::session::one_query;
 use crate::streams::{completed, frame_count, front_row};
-use crate::values::{parameter, value_of};
+use crate::values::{bind_int4, parameter, value_of};
 use crate::writing::{ask, ask_in_place};
 use bytes::BytesMut;
 use postgres_protocol::authentication::sasl::{ChannelBinding, NoPrep, ScramSha256, is_nonce};
@@ -121,6 +121,19 @@ fn parameters_of_a_statement(rt: HostRuntime) -> Result<(), Fail> {
     assert_eq!(rt;
         buf.as_slice(),
         b"B\x00\x00\x00\x1d\x00s\x00\x00\x01\x00\x01\x00\x02\x00\x00\x00\x04\x00\x00\x00\x05\xff\xff\xff\xff\x00\x01\x00\x01".as_slice()
+    );
+    Ok(())
+}
+
+/// Each length by hand: 4 of its own, two empty names, one format, one value, no format of results.
+#[test]
+fn one_value_is_bound(rt: HostRuntime) -> Result<(), Fail> {
+    let mut buf = BytesMut::new(rt.alloc());
+    assert!(rt; bind_int4(Some(5), &mut buf).is_ok());
+    assert!(rt; bind_int4(None, &mut buf).is_ok());
+    assert_eq!(rt;
+        buf.as_slice(),
+        b"B\x00\x00\x00\x16\x00\x00\x00\x01\x00\x01\x00\x01\x00\x00\x00\x04\x00\x00\x00\x05\x00\x00B\x00\x00\x00\x12\x00\x00\x00\x01\x00\x01\x00\x01\xff\xff\xff\xff\x00\x00".as_slice()
     );
     Ok(())
 }
