@@ -1,3 +1,4 @@
+pub mod Bound
 pub mod Passed
 pub mod Places
 pub mod Written

@@ -1,3 +1,4 @@
+pub mod Client
 pub mod Filter
 pub mod Login
 pub mod Recorder

@@ -1,10 +1,14 @@
 -- What a serializer makes of a parameter.
-use Rattle.std.specs.Prelude.{◌≡◌, ◌⊎◌, Option, Some, None, Result, Ok, Err}
+use Rattle.std.specs.Prelude.{◌≡◌, ◌⊎◌, ℕ, pos, List, [], ◌∷◌, Option, Some, None, option_map, Result, Ok, Err}
 use Rattle.pgp_base.specs.Cause.{WantsMemory}
 use Rattle.pgp_base.specs.Held.{Held, ◌⊕◌, Leaves}
 use Rattle.pgp_base.specs.declared.error.Error.{Error}
+use Rattle.pgp_base.specs.declared.error.BindError.{BindError}
+use Rattle.pgp_base.specs.declared.error.BindError.TheVariants.{Conversion, Serialization}
 use Rattle.pgp_base.specs.declared.number.IsNull.{IsNull}
 use Rattle.pgp_base.specs.declared.number.IsNull.TheVariants.{Yes, No}
+use Rattle.pgp_frontend.specs.ClientMessage.{ClientMessage, Bind}
+use Rattle.pgp_frontend.specs.Payload.{bytes_of, cause}
 use Rattle.pgp_types.specs.Format.{Plain}
 
 -- A null: nothing is appended. A value: what the format writes for it, or a refusal for want of memory or for its
@@ -14,3 +18,24 @@ Serializes f None lacks old new (Ok Yes) = new ≡ old
 Serializes f (Some v) lacks old new (Ok No) = (f.cause v ≡ None) × (new ≡ old ⊕ f.written v)
 Serializes f (Some v) lacks old new (Err e) = (WantsMemory lacks e ⊎ (f.cause v ≡ Some e)) × Leaves old new
 Serializes f value lacks old new result = ⊥
+
+-- the message that binds a value, in binary, to the one parameter of the unnamed statement
+abbrev pub bound : Option (List ℕ) → ClientMessage
+bound value = Bind [] [] (pos 1 ∷ []) (value ∷ []) []
+
+-- a null always has a spelling
+abbrev pub HasSpelling : {V : Type 0} → Plain V → Option V → Type 0
+HasSpelling f None = Unit {0}
+HasSpelling f (Some v) = f.cause v ≡ None
+
+-- why a value wasn't written; a null always is
+abbrev pub RefusesValue : {V : Type 0} → Plain V → Option V → Type 0 → Error → Type 0
+RefusesValue f None lacks e = ⊥
+RefusesValue f (Some v) lacks e = WantsMemory lacks e ⊎ (f.cause v ≡ Some e)
+
+-- What a `bind` of one value comes to: the message of what its format writes; or the value is refused, or the message
+-- is, and the bytes are left.
+abbrev pub BindsValue : {V K : Type 0} → Plain V → Option V → Type 0 → Held K → Held K → Result (Unit {0}) (BindError Error) → Type 0
+BindsValue f value lacks old new (Ok done) = HasSpelling f value × (cause (bound (option_map f.written value)) ≡ None) × (new ≡ old ⊕ bytes_of (bound (option_map f.written value)))
+BindsValue f value lacks old new (Err (Conversion e)) = RefusesValue f value lacks e × Leaves old new
+BindsValue f value lacks old new (Err (Serialization e)) = (WantsMemory lacks e ⊎ (HasSpelling f value × (cause (bound (option_map f.written value)) ≡ Some e))) × Leaves old new

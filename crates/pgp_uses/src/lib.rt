@@ -1,6 +1,7 @@
 //! Short callers of the protocol's crates, each with its contract: what `docs/CALLING.md` shows.
 #![tactic(auto)]
 
+pub mod client;
 pub mod filter;
 pub mod login;
 pub mod recorder;

@@ -4,6 +4,7 @@
 ghost use Rattle.std.specs.Prelude.{ℕ, ◌+◌, ◌%◌, ◌^◌, Some};
 ghost use Rattle.rand_core.specs.Steps.{stream_of, steps_u32};
 
+use crate::client::{Client, Event, Phase, StepError};
 use crate::filter::{FilterError, pass};
 use crate::login::{begin, equals, respond, set_password};
 use crate::recorder::record;
@@ -11,12 +12,13 @@ use crate::rows::{ColumnError, int4_column, text_column};
 use crate::server::answer;
 use crate::session::one_query;
 use crate::streams::{completed, frame_count, front_row};
-use crate::values::{parameter, value_of};
+use crate::values::{bind_int4, parameter, value_of};
 use crate::writing::{ask, ask_in_place};
 use bytes::BytesMut;
 use postgres_protocol::authentication::sasl::{ChannelBinding, NoPrep, ScramSha256, is_nonce};
+use postgres_protocol::message::backend::Messages;
 use postgres_protocol::message::frontend;
-use postgres_protocol::session::StreamParser;
+use postgres_protocol::session::{ClientStream, StreamParser};
 use postgres_protocol::{Error, IsNull};
 use rand_core::Rng;
 use rand_core::utils::{self, NextWord};
@@ -119,6 +121,19 @@ fn parameters_of_a_statement(rt: HostRuntime) -> Result<(), Fail> {
     assert_eq!(rt;
         buf.as_slice(),
         b"B\x00\x00\x00\x1d\x00s\x00\x00\x01\x00\x01\x00\x02\x00\x00\x00\x04\x00\x00\x00\x05\xff\xff\xff\xff\x00\x01\x00\x01".as_slice()
+    );
+    Ok(())
+}
+
+/// Each length by hand: 4 of its own, two empty names, one format, one value, no format of results.
+#[test]
+fn one_value_is_bound(rt: HostRuntime) -> Result<(), Fail> {
+    let mut buf = BytesMut::new(rt.alloc());
+    assert!(rt; bind_int4(Some(5), &mut buf).is_ok());
+    assert!(rt; bind_int4(None, &mut buf).is_ok());
+    assert_eq!(rt;
+        buf.as_slice(),
+        b"B\x00\x00\x00\x16\x00\x00\x00\x01\x00\x01\x00\x01\x00\x00\x00\x04\x00\x00\x00\x05\x00\x00B\x00\x00\x00\x12\x00\x00\x00\x01\x00\x01\x00\x01\xff\xff\xff\xff\x00\x00".as_slice()
     );
     Ok(())
 }
@@ -267,4 +282,71 @@ impl Rng for Counting {
     fn fill_bytes(&mut self, dst: &mut [u8]) {
         utils::fill_bytes_via_u32(self, dst)
     }
+}
+
+/// A message that says that the server is ready.
+const READY: &[u8; 6] = b"Z\x00\x00\x00\x05I";
+
+/// What a client makes of the message at the front of a server's bytes.
+fn taken(bytes: &[u8], client: &mut Client<'_, BytesMut>) -> Option<Result<Event, StepError>> {
+    if !client.out.is_open() {
+        return None;
+    }
+    let mut messages = Messages::new(bytes);
+    match messages.next() {
+        Ok(Some(message)) => {
+            let told = client.step(&message);
+            drop(message);
+            Some(told)
+        }
+        _ => None,
+    }
+}
+
+/// Start-up, one query and its answer, each message as the manual's message formats spell it.
+#[test]
+fn a_client_asks_one_query(rt: HostRuntime) -> Result<(), Fail> {
+    let stream = ClientStream::<BytesMut>::new(rt.alloc());
+    let mut client = Client::open("alice", "SELECT 1", stream)?;
+    let login = b"R\x00\x00\x00\x08\x00\x00\x00\x00";
+    assert_eq!(rt; taken(READY, &mut client), Some(Err(StepError::Unexpected)));
+    assert_eq!(rt; taken(login, &mut client), Some(Ok(Event::Admitted)));
+    assert_eq!(rt; taken(login, &mut client), Some(Err(StepError::Unexpected)));
+    let setting = b"S\x00\x00\x00\x08a\x00b\x00";
+    assert_eq!(rt; taken(setting, &mut client), Some(Ok(Event::Noted)));
+    assert_eq!(rt; taken(READY, &mut client), Some(Ok(Event::Asked)));
+    assert_eq!(rt; taken(ROW, &mut client), Some(Ok(Event::Row)));
+    let complete = b"C\x00\x00\x00\x0dSELECT 1\x00";
+    assert_eq!(rt; taken(complete, &mut client), Some(Ok(Event::Noted)));
+    let error = b"E\x00\x00\x00\x05\x00";
+    assert_eq!(rt; taken(error, &mut client), Some(Ok(Event::Failed)));
+    assert_eq!(rt; client.phase, Phase::Querying);
+    assert_eq!(rt; taken(READY, &mut client), Some(Ok(Event::Ended)));
+    assert_eq!(rt; taken(ROW, &mut client), Some(Err(StepError::Unexpected)));
+    assert_eq!(rt;
+        client.out.bytes(),
+        b"\x00\x00\x00\x14\x00\x03\x00\x00user\x00alice\x00\x00Q\x00\x00\x00\x0dSELECT 1\x00X\x00\x00\x00\x04".as_slice()
+    );
+    Ok(())
+}
+
+#[test]
+fn a_client_is_refused(rt: HostRuntime) -> Result<(), Fail> {
+    let stream = ClientStream::<BytesMut>::new(rt.alloc());
+    let mut client = Client::open("alice", "a\0b", stream)?;
+    assert_eq!(rt;
+        taken(b"R\x00\x00\x00\x08\x00\x00\x00\x00", &mut client),
+        Some(Ok(Event::Admitted))
+    );
+    assert_eq!(rt;
+        taken(READY, &mut client),
+        Some(Err(StepError::Unsent(Error::EmbeddedNull)))
+    );
+    assert_eq!(rt; client.phase, Phase::Starting);
+    assert_eq!(rt;
+        taken(b"E\x00\x00\x00\x05\x00", &mut client),
+        Some(Ok(Event::Refused))
+    );
+    assert_eq!(rt; client.phase, Phase::Over);
+    Ok(())
 }

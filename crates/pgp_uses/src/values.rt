@@ -3,15 +3,19 @@
 ghost use Rattle.std.specs.Prelude.{◌≡◌, ◌<◌, ◌^◌, ℕ, List, option_map};
 ghost use Rattle.std.specs.Borrow.{Bor};
 ghost use Rattle.pgp_types.specs.Format.{Plain, ReadsBy, Writes};
+ghost use Rattle.pgp_types.specs.Scalar.{int4};
 ghost use Rattle.pgp_message.specs.Table.{column};
 ghost use Rattle.pgp_uses.specs.Rows.{ReadsColumnBy};
-ghost use Rattle.pgp_uses.specs.Values.{Serializes};
+ghost use Rattle.pgp_base.specs.Calls.{OwesValues};
+ghost use Rattle.postgres_protocol.specs.OneValue.{BindsOne};
+ghost use Rattle.pgp_uses.specs.Values.{BindsValue, Serializes};
 
 use crate::rows::ColumnError;
 use pgp_base::{Buffer, IsNull};
-use postgres_protocol::Error;
 use postgres_protocol::message::backend::RowIndex;
+use postgres_protocol::message::frontend::bind;
 use postgres_protocol::types::{int4_from_sql, int4_to_sql, text_from_sql, text_to_sql};
+use postgres_protocol::{BindError, Error};
 use std::alloc::Allocator;
 
 /// A type whose values have a binary format. It may borrow from the bytes that it is read from.
@@ -120,4 +124,39 @@ pub fn parameter<'a, V: Value<'a>, B: Buffer>(
             Ok(IsNull::No)
         }
     }
+}
+
+/// Binds an `int4` or a null, in binary, to the one parameter of the unnamed statement.
+///
+/// # Errors
+///
+/// `OutOfMemory`: `Conversion` where the buffer refused the value's bytes, `Serialization` where it refused others.
+/// The buffer keeps its bytes.
+pub fn bind_int4<B: Buffer>(value: Option<i32>, buf: &mut B) -> Result<(), BindError<Error>>
+    ensures { BindsValue int4 value B.Lacks (B.held buf.old) (B.held buf.new) result }
+{
+    bind_one(|_: u8, buf: &mut B| put_int4(value, buf), buf)
+}
+
+/// Appends the value, if it isn't a null.
+fn put_int4<B: Buffer>(value: Option<i32>, buf: &mut B) -> Result<IsNull, Error>
+    ensures { Serializes int4 value B.Lacks (B.held buf.old) (B.held buf.new) result }
+{
+    let Some(value) = value else {
+        return Ok(IsNull::Yes);
+    };
+    int4_to_sql(value, buf)?;
+    Ok(IsNull::No)
+}
+
+/// Binds the one value that the serializer makes.
+fn bind_one<B: Buffer, F: FnMut(u8, &mut B) -> Result<IsNull, Error> + Drop>(
+    serializer: F,
+    buf: &mut B,
+) -> Result<(), BindError<Error>>
+    requires callable { F.IsAlwaysCallable serializer }
+    requires owes { OwesValues B.held F.pre F.step }
+    ensures { BindsOne B.held F.step serializer (B.held buf.old) B.Lacks (B.held buf.new) result }
+{
+    bind("", "", Some(1i16), Some(0u8), serializer, None::<i16>, buf)
 }

@@ -5,3 +5,4 @@ pub mod StartupPairs
 pub mod RowLemmas
 pub mod StepLemmas
 pub mod BindLemmas
+pub mod SaslStops

@@ -1,16 +1,20 @@
--- What an exchange of SCRAM-SHA-256 leaves, whose texts pass through messages.
+-- What an exchange of SCRAM-SHA-256 leaves, whose texts pass through messages, and where one stops.
 -- PostgreSQL manual, "SASL Authentication"; RFC 5802; RFC 7677.
-use Rattle.std.specs.Prelude.{◌≡◌, ℕ, ◌+◌, max, List, Ok}
+use Rattle.std.specs.Prelude.{◌≡◌, ◌⊎◌, ℕ, ◌+◌, max, List, Ok, Err}
 use Rattle.pgp_base.specs.Held.{Held, ◌⊕◌}
+use Rattle.pgp_base.specs.declared.error.Error.{Error}
 use Rattle.pgp_auth.specs.Verifier.{verifier}
 use Rattle.pgp_auth.specs.ScramServer.{Accepts, Signs}
-use Rattle.pgp_auth.specs.ScramRefusal.{Meets, Verifies}
-use Rattle.pgp_auth.specs.ScramClient.{Client, Begun, Answered, AwaitsFirst, Over, first_text, signature_of}
+use Rattle.pgp_auth.specs.ScramRefusal.{Refusal, Meets, Verifies}
+use Rattle.pgp_auth.specs.ScramClient.{Client, Begun, Answered, Answers, UpdateRefused, FinishRefused, AwaitsFirst, Over, first_text, signature_of}
+use Rattle.pgp_auth.specs.ScramErrorView.{refusal}
 use Rattle.pgp_frontend.specs.ClientMessage.{SaslInitialResponse, SaslResponse}
-use Rattle.pgp_frontend.specs.Payload.{bytes_of}
+use Rattle.pgp_frontend.specs.Payload.{bytes_of, WritesMessage}
 use Rattle.pgp_frontend.specs.Reading.{IsSpelled}
-use Rattle.pgp_message.specs.BackendMessage.{Authentication, AuthenticationSaslContinue, AuthenticationSaslFinal}
-use Rattle.pgp_message.specs.Stream.{TakesFrame}
+use Rattle.pgp_message.specs.BackendMessage.{Message, Authentication, AuthenticationSaslContinue, AuthenticationSaslFinal}
+use Rattle.pgp_message.specs.Stream.{IsPartial, TakesFrame, Step}
+use Rattle.postgres_protocol.specs.declared.laws.sasl.SaslRefusal.{SaslRefusal}
+use Rattle.postgres_protocol.specs.declared.laws.sasl.SaslRefusal.TheVariants as refusals
 
 -- The exchange came to its end. Each side of a buffer is what it held before and after.
 pub record Exchanged {Kept : Type 0} (mechanism : List ℕ) (old new : Client) (first_old first_new final_old final_new : List ℕ) (out_old out_new : Held Kept) : Type 0 where
@@ -36,3 +40,94 @@ pub record Exchanged {Kept : Type 0} (mechanism : List ℕ) (old new : Client) (
   pub verifies : Verifies (signature_of answered) final
   pub over : new.state ≡ Over
   pub hmacs : new.hmacs ≡ (old.hmacs + (max count 1 + 2)) + 2
+
+-- another message than the one with the server's first text
+abbrev pub IsNoContinue : Message → Type 0
+IsNoContinue (Authentication (AuthenticationSaslContinue text)) = ⊥
+IsNoContinue _ = Unit {0}
+
+-- another message than the one with the server's final text
+abbrev pub IsNoFinal : Message → Type 0
+IsNoFinal (Authentication (AuthenticationSaslFinal text)) = ⊥
+IsNoFinal _ = Unit {0}
+
+-- the front of old is the frame of another message, and new is what follows it
+pub record TakesOther (IsOther : Message → Type 0) (old new : List ℕ) : Type 0 where
+  pub message : Message
+  pub taken : TakesFrame old (Ok message) new
+  pub other : IsOther message
+
+-- Why a buffer gave no text: no whole frame stands in front, or that of another message, or reading refused it.
+abbrev pub GivesNone : {A : Type 0} → (Message → Type 0) → List ℕ → List ℕ → SaslRefusal A → Type 0
+GivesNone IsOther old new refusals.Unexpected = (IsPartial old × (new ≡ old)) ⊎ TakesOther IsOther old new
+GivesNone IsOther old new (refusals.Message e) = Step old (Err e) new
+GivesNone IsOther old new (refusals.Scram e) = ⊥
+
+-- Where an exchange stopped. Each side is what it was before the call and is behind it.
+module _ {Kept : Type 0} (lacks : Type 0) (mechanism : List ℕ) (old new : Client) (first_old first_new final_old final_new : List ℕ) (out_old out_new : Held Kept) where
+  -- the client's first text wasn't written, and nothing was taken
+  pub record FirstUnwritten (e : Error) : Type 0 where
+    pub begun : Begun
+    pub due : old.state ≡ AwaitsFirst begun
+    pub refused : WritesMessage (SaslInitialResponse mechanism (first_text begun)) lacks out_old out_new (Err e)
+    pub client : new ≡ old
+    pub first : first_new ≡ first_old
+    pub final : final_new ≡ final_old
+
+  -- the client's first text was written, and the server's first text didn't stand in its buffer
+  pub record FirstMissing {A : Type 0} (r : SaslRefusal A) : Type 0 where
+    pub begun : Begun
+    pub due : old.state ≡ AwaitsFirst begun
+    pub sent : out_new ≡ out_old ⊕ bytes_of (SaslInitialResponse mechanism (first_text begun))
+    pub missing : GivesNone IsNoContinue first_old first_new r
+    pub client : new ≡ old
+    pub final : final_new ≡ final_old
+
+  -- the server's first text was refused
+  pub record FirstRefused (e : Refusal) : Type 0 where
+    pub begun : Begun
+    pub due : old.state ≡ AwaitsFirst begun
+    pub sent : out_new ≡ out_old ⊕ bytes_of (SaslInitialResponse mechanism (first_text begun))
+    pub first : List ℕ
+    pub first_taken : TakesFrame first_old (Ok (Authentication (AuthenticationSaslContinue first))) first_new
+    pub refused : UpdateRefused old first e new
+    pub final : final_new ≡ final_old
+
+  -- the server's first text was answered, and the answer wasn't written
+  pub record FinalUnwritten (e : Error) : Type 0 where
+    pub begun : Begun
+    pub due : old.state ≡ AwaitsFirst begun
+    pub first : List ℕ
+    pub first_taken : TakesFrame first_old (Ok (Authentication (AuthenticationSaslContinue first))) first_new
+    pub answers : Answers old first new
+    pub refused : WritesMessage (SaslResponse answers.answered.final) lacks (out_old ⊕ bytes_of (SaslInitialResponse mechanism (first_text begun))) out_new (Err e)
+    pub final : final_new ≡ final_old
+
+  -- both of the client's texts were written, and the server's final text didn't stand in its buffer
+  pub record FinalMissing {A : Type 0} (r : SaslRefusal A) : Type 0 where
+    pub begun : Begun
+    pub due : old.state ≡ AwaitsFirst begun
+    pub first : List ℕ
+    pub first_taken : TakesFrame first_old (Ok (Authentication (AuthenticationSaslContinue first))) first_new
+    pub answers : Answers old first new
+    pub sent : out_new ≡ out_old ⊕ bytes_of (SaslInitialResponse mechanism (first_text begun)) ⊕ bytes_of (SaslResponse answers.answered.final)
+    pub missing : GivesNone IsNoFinal final_old final_new r
+
+  -- the server's final text was refused
+  pub record FinalRefused (e : Refusal) : Type 0 where
+    pub begun : Begun
+    pub due : old.state ≡ AwaitsFirst begun
+    pub first : List ℕ
+    pub first_taken : TakesFrame first_old (Ok (Authentication (AuthenticationSaslContinue first))) first_new
+    pub between : Client
+    pub answers : Answers old first between
+    pub sent : out_new ≡ out_old ⊕ bytes_of (SaslInitialResponse mechanism (first_text begun)) ⊕ bytes_of (SaslResponse answers.answered.final)
+    pub final : List ℕ
+    pub final_taken : TakesFrame final_old (Ok (Authentication (AuthenticationSaslFinal final))) final_new
+    pub refused : FinishRefused between final e new
+
+  -- Why it stopped, by the refusal.
+  abbrev pub Stopped : {A : Type 0} → SaslRefusal A → Type 0
+  Stopped {A} refusals.Unexpected = FirstMissing {A = A} refusals.Unexpected ⊎ FinalMissing {A = A} refusals.Unexpected
+  Stopped {A} (refusals.Message e) = FirstUnwritten e ⊎ (FirstMissing {A = A} (refusals.Message e) ⊎ (FinalUnwritten e ⊎ FinalMissing {A = A} (refusals.Message e)))
+  Stopped {A} (refusals.Scram e) = FirstRefused (refusal e) ⊎ FinalRefused (refusal e)

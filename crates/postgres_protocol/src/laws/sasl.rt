@@ -1,11 +1,12 @@
 //! A whole exchange of SCRAM-SHA-256, by the calls of three crates.
 
-ghost use Rattle.std.specs.Prelude.{◌≡◌, Ok, IfOk, OnOk, OnErr};
+ghost use Rattle.std.specs.Prelude.{◌≡◌, None, Ok, IfSome, IfOk, IfErr, OnOk, OnErr};
 ghost use Rattle.pgp_base.specs.Calls.{IsFrontOf};
 ghost use Rattle.pgp_auth.specs.ScramClient.{Begun, AwaitsFirst};
 ghost use Rattle.pgp_message.specs.BackendMessage.{Authentication, AuthenticationSaslContinue, AuthenticationSaslFinal};
 ghost use Rattle.pgp_message.specs.Stream.{TakesFrame};
-ghost use Rattle.postgres_protocol.specs.SaslExchange.{Exchanged};
+ghost use Rattle.pgp_message.specs.Views.{view};
+ghost use Rattle.postgres_protocol.specs.SaslExchange.{Exchanged, GivesNone, IsNoContinue, IsNoFinal, Stopped};
 
 use bytes::{Bytes, BytesMut};
 use pgp_auth::authentication::sasl::{ScramError, ScramSha256};
@@ -46,7 +47,10 @@ pub fn sasl_exchange<A: Allocator + Copy, B: Buffer>(
     ensures done { OnOk result (Exchanged mechanism.now client.old client.new
         server_first.old.items server_first.new.items server_final.old.items server_final.new.items
         (B.held out.old) (B.held out.new)) }
-    ensures refused { OnErr result (IsFrontOf (B.held out.old) (B.held out.new)) }
+    ensures front { OnErr result (IsFrontOf (B.held out.old) (B.held out.new)) }
+    ensures refused { IfErr result (λ e. Stopped B.Lacks mechanism.now client.old client.new
+        server_first.old.items server_first.new.items server_final.old.items server_final.new.items
+        (B.held out.old) (B.held out.new) e) }
 {
     let Some(first) = client.message() else {
         return Err(SaslRefusal::Unexpected);
@@ -75,12 +79,32 @@ pub fn sasl_exchange<A: Allocator + Copy, B: Buffer>(
 fn challenge_of<A: Allocator + Copy>(
     buf: &mut BytesMut<A>,
 ) -> Result<AuthenticationSaslContinueBody<Bytes<A>>, SaslRefusal<A>>
-    ensures { IfOk result (λ text. TakesFrame buf.old.items (Ok (Authentication (AuthenticationSaslContinue text))) buf.new.items) }
+    ensures taken { IfOk result (λ text. TakesFrame buf.old.items (Ok (Authentication (AuthenticationSaslContinue text))) buf.new.items) }
+    ensures refused { IfErr result (λ e. GivesNone IsNoContinue buf.old.items buf.new.items e) }
 {
     match Message::parse(buf) {
-        Ok(Some(Message::AuthenticationSaslContinue(body))) => Ok(body),
-        Ok(_) => Err(SaslRefusal::Unexpected),
+        Ok(Some(message)) => match challenge_in(message) {
+            Some(body) => Ok(body),
+            None => Err(SaslRefusal::Unexpected),
+        },
+        Ok(None) => Err(SaslRefusal::Unexpected),
         Err(e) => Err(SaslRefusal::Message(e)),
+    }
+}
+
+/// The server's first text, where the message has one.
+fn challenge_in<A: Allocator + Copy>(
+    message: Message<Bytes<A>>,
+) -> Option<AuthenticationSaslContinueBody<Bytes<A>>>
+    ensures taken { IfSome result (λ text. view message ≡ Authentication (AuthenticationSaslContinue text)) }
+    ensures other { result ≡ None → IsNoContinue (view message) }
+{
+    match message {
+        Message::AuthenticationSaslContinue(body) => Some(body),
+        other => {
+            drop(other);
+            None
+        }
     }
 }
 
@@ -88,11 +112,31 @@ fn challenge_of<A: Allocator + Copy>(
 fn outcome_of<A: Allocator + Copy>(
     buf: &mut BytesMut<A>,
 ) -> Result<AuthenticationSaslFinalBody<Bytes<A>>, SaslRefusal<A>>
-    ensures { IfOk result (λ text. TakesFrame buf.old.items (Ok (Authentication (AuthenticationSaslFinal text))) buf.new.items) }
+    ensures taken { IfOk result (λ text. TakesFrame buf.old.items (Ok (Authentication (AuthenticationSaslFinal text))) buf.new.items) }
+    ensures refused { IfErr result (λ e. GivesNone IsNoFinal buf.old.items buf.new.items e) }
 {
     match Message::parse(buf) {
-        Ok(Some(Message::AuthenticationSaslFinal(body))) => Ok(body),
-        Ok(_) => Err(SaslRefusal::Unexpected),
+        Ok(Some(message)) => match outcome_in(message) {
+            Some(body) => Ok(body),
+            None => Err(SaslRefusal::Unexpected),
+        },
+        Ok(None) => Err(SaslRefusal::Unexpected),
         Err(e) => Err(SaslRefusal::Message(e)),
+    }
+}
+
+/// The server's final text, where the message has one.
+fn outcome_in<A: Allocator + Copy>(
+    message: Message<Bytes<A>>,
+) -> Option<AuthenticationSaslFinalBody<Bytes<A>>>
+    ensures taken { IfSome result (λ text. view message ≡ Authentication (AuthenticationSaslFinal text)) }
+    ensures other { result ≡ None → IsNoFinal (view message) }
+{
+    match message {
+        Message::AuthenticationSaslFinal(body) => Some(body),
+        other => {
+            drop(other);
+            None
+        }
     }
 }
