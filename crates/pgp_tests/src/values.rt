@@ -5,20 +5,28 @@ ghost use Rattle.pgp_base.specs.Calls.{KeepsValue};
 ghost use Rattle.pgp_base.specs.Held.{items_held};
 
 use bytes::BytesMut;
-use pgp_base::{BindError, Buffer, Error, IsNull};
+use pgp_base::{BindError, Buffer, IsNull};
 use pgp_frontend::bind;
 use pgp_types::{ArrayDimension, array_to_sql, int4_to_sql};
 use std::test::Fail;
 
-// A value of four bytes, or a null.
-fn put_int4(n: Option<i32>, buf: &mut BytesMut) -> Result<IsNull, Error>
+// An element is a number, a null, or refused.
+#[derive(Clone, Copy)]
+enum Element {
+    Number(i32),
+    Null,
+    Refuse,
+}
+
+fn put_element(element: Element, buf: &mut BytesMut) -> Result<IsNull, u8>
     ensures { KeepsValue result (items_held buf.entry.now.items) (items_held buf.exit.now.items) }
 {
-    match n {
-        None => Ok(IsNull::Yes),
-        Some(n) => match int4_to_sql(n, buf) {
+    match element {
+        Element::Null => Ok(IsNull::Yes),
+        Element::Refuse => Err(2),
+        Element::Number(n) => match int4_to_sql(n, buf) {
             Ok(()) => Ok(IsNull::No),
-            Err(e) => Err(e),
+            Err(_) => Err(1),
         },
     }
 }
@@ -31,8 +39,8 @@ fn a_number_and_a_null_are_bound(rt: HostRuntime) {
         "",
         "s",
         Some(1i16),
-        [Some(5), None].as_slice(),
-        |n: &Option<i32>, buf: &mut BytesMut| put_int4(*n, buf),
+        [Element::Number(5), Element::Null].as_slice(),
+        |element: &Element, buf: &mut BytesMut| put_element(*element, buf),
         Some(1i16),
         &mut buf,
     );
@@ -41,14 +49,6 @@ fn a_number_and_a_null_are_bound(rt: HostRuntime) {
         buf.as_slice(),
         b"B\0\0\0\x1d\0s\0\0\x01\0\x01\0\x02\0\0\0\x04\0\0\0\x05\xff\xff\xff\xff\0\x01\0\x01".as_slice()
     );
-}
-
-// An element is a number, a null, or refused.
-#[derive(Clone, Copy)]
-enum Element {
-    Number(i32),
-    Null,
-    Refuse,
 }
 
 // The array of these elements, as a value that is never a null.
@@ -62,16 +62,7 @@ fn put_array(elements: &[Element], buf: &mut BytesMut) -> Result<IsNull, BindErr
         }),
         23,
         elements,
-        |element: &Element, buf: &mut BytesMut| -> Result<IsNull, u8> {
-            match *element {
-                Element::Null => Ok(IsNull::Yes),
-                Element::Refuse => Err(2),
-                Element::Number(n) => match int4_to_sql(n, buf) {
-                    Ok(()) => Ok(IsNull::No),
-                    Err(_) => Err(1),
-                },
-            }
-        },
+        |element: &Element, buf: &mut BytesMut| put_element(*element, buf),
         buf,
     );
     match answer {
