@@ -10,6 +10,8 @@ mod bound_values;
 #[cfg(test)]
 mod frontend;
 #[cfg(test)]
+mod growth;
+#[cfg(test)]
 mod message;
 #[cfg(test)]
 mod session;
