@@ -14,6 +14,8 @@ mod growth;
 #[cfg(test)]
 mod message;
 #[cfg(test)]
+mod pieces;
+#[cfg(test)]
 mod session;
 #[cfg(test)]
 mod types;
