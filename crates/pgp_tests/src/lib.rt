@@ -10,7 +10,11 @@ mod bound_values;
 #[cfg(test)]
 mod frontend;
 #[cfg(test)]
+mod growth;
+#[cfg(test)]
 mod message;
+#[cfg(test)]
+mod pieces;
 #[cfg(test)]
 mod session;
 #[cfg(test)]

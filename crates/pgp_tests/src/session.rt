@@ -1,12 +1,11 @@
-//! Streams of both sides, with each allocation refused in turn.
+//! A client's stream, with each allocation refused in turn.
 #![tactic(auto, using(pgp_base::proofs::Parts::held_steps))]
 
 use bytes::BytesMut;
 use pgp_base::{BindError, Buffer, Error, IsNull, put_u32};
 use pgp_frontend::CopyData;
-use pgp_message::{Message, Storage};
 use pgp_test_alloc::Refusing;
-use postgres_protocol::session::{ClientStream, StreamParser, parse_stream};
+use postgres_protocol::session::ClientStream;
 use std::alloc::Global;
 use std::test::Fail;
 
@@ -147,87 +146,5 @@ fn calls_with_each_allocation_refused(rt: HostRuntime) -> Result<(), Fail> {
         }
         assert!(rt; refusals > 0, "call {what}");
     }
-    Ok(())
-}
-
-/// AuthenticationSASL, RowDescription, DataRow, ErrorResponse, a ReadyForQuery with a byte too many,
-/// ParseComplete, and a length fault.
-const HOSTILE: [u8; 101] =
-    *b"R\0\0\0\x17\0\0\0\x0aSCRAM-SHA-256\0\0T\0\0\0\x1a\0\x01a\0\0\0\0\0\0\0\0\0\0\x17\0\x04\xff\xff\xff\xff\0\0D\0\0\0\x13\0\x03\0\0\0\x01a\xff\xff\xff\xff\0\0\0\0E\0\0\0\x0cSERROR\0\0Z\0\0\0\x06I\0\x31\0\0\0\x04Z\0\0\0\x03";
-
-/// What its results are: the first letter or the tag of a message, or the number of a refusal.
-const MARKS: &[u8] = b"STDE\x081";
-
-fn mark<S: Storage>(read: &Result<Message<S>, Error>) -> u8 {
-    match read {
-        Ok(Message::AuthenticationSasl(_)) => b'S',
-        Ok(Message::RowDescription(_)) => b'T',
-        Ok(Message::DataRow(_)) => b'D',
-        Ok(Message::ErrorResponse(_)) => b'E',
-        Ok(Message::ParseComplete) => b'1',
-        Ok(_) => b'?',
-        Err(e) => e.number(),
-    }
-}
-
-/// Whether these are the first results of that stream.
-fn are_first<S: Storage>(results: &[Result<Message<S>, Error>]) -> bool {
-    results.len() <= MARKS.len() && results.iter().zip(MARKS).all(|(r, m)| mark(r) == *m)
-}
-
-/// A parser that is refused memory has failed, and its results are the stream's first.
-#[test]
-fn pieces_with_each_allocation_refused(rt: HostRuntime) -> Result<(), Fail> {
-    let (front, back) = HOSTILE.split_at(60);
-    let mut refusals = 0u64;
-    for number in 1..1000u64 {
-        let heap = Refusing::new(rt.alloc(), 0);
-        let mut parser: StreamParser<&Refusing<Global>> = StreamParser::new(&heap);
-        heap.refuse(number);
-        let mut answer = parser.feed(front);
-        if answer.is_ok() && !parser.failed() {
-            answer = parser.feed(back);
-        }
-        assert!(rt; are_first(parser.results()));
-        if answer.is_err() {
-            assert_eq!(rt; answer, Err(Error::OutOfMemory));
-            assert!(rt; parser.failed());
-            refusals = refusals.saturating_add(1);
-        } else {
-            assert!(rt; !parser.failed());
-            assert_eq!(rt; parser.results().len(), MARKS.len());
-            assert_eq!(rt; parser.rest(), b"Z\0\0\0\x03".as_slice());
-        }
-        if heap.is_pending() {
-            break;
-        }
-    }
-    assert!(rt; refusals > 0);
-    Ok(())
-}
-
-#[test]
-fn parse_stream_with_each_allocation_refused(rt: HostRuntime) -> Result<(), Fail> {
-    let (front, back) = HOSTILE.split_at(60);
-    let mut refusals = 0u64;
-    for number in 1..1000u64 {
-        let heap = Refusing::new(rt.alloc(), number);
-        match parse_stream(&heap, &[front, back]) {
-            Ok(parsed) => {
-                assert_eq!(rt; parsed.results().len(), MARKS.len());
-                assert!(rt; are_first(parsed.results()));
-                assert!(rt; parsed.stopped());
-                assert_eq!(rt; parsed.rest(), b"Z\0\0\0\x03".as_slice());
-            }
-            Err(e) => {
-                assert_eq!(rt; e, Error::OutOfMemory);
-                refusals = refusals.saturating_add(1);
-            }
-        }
-        if heap.is_pending() {
-            break;
-        }
-    }
-    assert!(rt; refusals > 0);
     Ok(())
 }

@@ -35,6 +35,13 @@ complaint_of Memory = line (codes "pgwire: out of memory")
 complaint_of Read = line (codes "pgwire: read failed")
 complaint_of Write = line (codes "pgwire: write failed")
 
+-- What stands behind a fault, where reads and writes fail so: a command answers a fault of reading or writing
+-- only where a call of its reader or of its writer failed.
+abbrev pub Caused : Type 0 → Type 0 → Fault → Type 0
+Caused read_failed write_failed Memory = ⊤
+Caused read_failed write_failed Read = read_failed
+Caused read_failed write_failed Write = write_failed
+
 -- Before and after: what the reader has left, what the writer holds.
 pub record Streams : Type 0 where
   pub input : Option (List ℕ)
@@ -91,20 +98,6 @@ pub record IsCut (command : Command) (before after : Streams) : Type 0 where
   pub meant : Makes command before bytes
   pub taken : AppendsFront before.output after.output bytes
 
--- A command stopped at a fault: nothing was written, unless writing failed.
-pub record Stops (command : Command) (before after : Streams) (fault : Fault) : Type 0 where
-  pub met : Meets command fault
-  pub input : MayRead command before after
-  pub output : fault ≢ Write → Keeps before.output after.output
-  pub cut : fault ≡ Write → IsCut command before after
-
--- a fault was met, and is told
-pub record IsFaulty (command : Command) (before after : Streams) (status : ℕ) (complaint : List ℕ) : Type 0 where
-  pub fault : Fault
-  pub stops : Stops command before after fault
-  pub told : complaint ≡ complaint_of fault
-  pub failed : status ≡ 1
-
 -- What a command does to the streams, with the status and what is to be said on standard error, unless
 -- it meets a fault.
 abbrev pub Succeeds : Command → Streams → Streams → ℕ → List ℕ → Type 0
@@ -129,34 +122,54 @@ pub record IsRefused (words : List (List ℕ)) (before after : Streams) (status 
   pub input : Keeps before.input after.input
   pub output : Keeps before.output after.output
 
--- What the words ask for is done.
-pub record IsDone (words : List (List ℕ)) (before after : Streams) (status : ℕ) (complaint : List ℕ) : Type 0 where
-  pub command : Command
-  pub asks : Asks words command
-  pub does : Succeeds command before after status complaint ⊎ IsFaulty command before after status complaint
-
-abbrev pub Obeys : List (List ℕ) → Streams → Streams → ℕ → List ℕ → Type 0
-Obeys words before after status complaint = IsDone words before after status complaint ⊎ IsRefused words before after status complaint
-
--- A run: the words are obeyed, and of what is then to be said on standard error a front is said, and
--- nothing else.
-pub record Runs (words : List (List ℕ)) (before after : Streams) (old new : Option (List ℕ)) (status : ℕ) : Type 0 where
-  pub complaint : List ℕ
-  pub obeyed : Obeys words before after status complaint
-  pub said : AppendsFront old new complaint
-
 -- The words of the process aren't texts, or there is no memory for them: nothing is read or written.
 pub record IsUnread (before after : Streams) (status : ℕ) (complaint : List ℕ) : Type 0 where
   pub told : ((complaint ≡ usage) × (status ≡ 2)) ⊎ ((complaint ≡ complaint_of Memory) × (status ≡ 1))
   pub input : Keeps before.input after.input
   pub output : Keeps before.output after.output
 
--- Its words are obeyed, or aren't read.
-abbrev pub ObeysOwn : Streams → Streams → ℕ → List ℕ → Type 0
-ObeysOwn before after status complaint = ((words : List (List ℕ)) × Obeys words before after status complaint) ⊎ IsUnread before after status complaint
+-- What is to be said on standard error is said; or a front of it is, where a call of its writer failed.
+abbrev pub IsSaid : Type 0 → Option (List ℕ) → Option (List ℕ) → List ℕ → Type 0
+IsSaid failed old new text = Appends old new text ⊎ (failed × AppendsFront old new text)
 
--- A run on the words of the process.
-pub record RunsOwn (before after : Streams) (old new : Option (List ℕ)) (status : ℕ) : Type 0 where
-  pub complaint : List ℕ
-  pub obeyed : ObeysOwn before after status complaint
-  pub said : AppendsFront old new complaint
+-- Where reads and writes fail so.
+module _ (read_failed write_failed : Type 0) where
+  -- A command stopped at a fault: nothing was written, unless writing failed.
+  pub record Stops (command : Command) (before after : Streams) (fault : Fault) : Type 0 where
+    pub met : Meets command fault
+    pub cause : Caused read_failed write_failed fault
+    pub input : MayRead command before after
+    pub output : fault ≢ Write → Keeps before.output after.output
+    pub cut : fault ≡ Write → IsCut command before after
+
+  -- a fault was met, and is told
+  pub record IsFaulty (command : Command) (before after : Streams) (status : ℕ) (complaint : List ℕ) : Type 0 where
+    pub fault : Fault
+    pub stops : Stops command before after fault
+    pub told : complaint ≡ complaint_of fault
+    pub failed : status ≡ 1
+
+  -- What the words ask for is done.
+  pub record IsDone (words : List (List ℕ)) (before after : Streams) (status : ℕ) (complaint : List ℕ) : Type 0 where
+    pub command : Command
+    pub asks : Asks words command
+    pub does : Succeeds command before after status complaint ⊎ IsFaulty command before after status complaint
+
+  abbrev pub Obeys : List (List ℕ) → Streams → Streams → ℕ → List ℕ → Type 0
+  Obeys words before after status complaint = IsDone words before after status complaint ⊎ IsRefused words before after status complaint
+
+  -- A run: the words are obeyed, and it is said what is then to be said.
+  pub record Runs (said_failed : Type 0) (words : List (List ℕ)) (before after : Streams) (old new : Option (List ℕ)) (status : ℕ) : Type 0 where
+    pub complaint : List ℕ
+    pub obeyed : Obeys words before after status complaint
+    pub said : IsSaid said_failed old new complaint
+
+  -- The words of the process are obeyed, or aren't read.
+  abbrev pub ObeysOwn : Streams → Streams → ℕ → List ℕ → Type 0
+  ObeysOwn before after status complaint = ((words : List (List ℕ)) × Obeys words before after status complaint) ⊎ IsUnread before after status complaint
+
+  -- A run on the words of the process.
+  pub record RunsOwn (said_failed : Type 0) (before after : Streams) (old new : Option (List ℕ)) (status : ℕ) : Type 0 where
+    pub complaint : List ℕ
+    pub obeyed : ObeysOwn before after status complaint
+    pub said : IsSaid said_failed old new complaint

@@ -5,16 +5,18 @@ ghost use Rattle.std.specs.Io.KnownBytes.{IsAtEnd, Keeps};
 ghost use Rattle.std.specs.List.{flat_map};
 ghost use Rattle.pgp_message.specs.Views.{seen, view};
 ghost use Rattle.pgwire.specs.Output.{name_of, line_of, last_line, BackendOutput, ListsPiece, Writes};
-ghost use Rattle.pgwire.specs.Command.{Backend, IsCut};
+ghost use Rattle.pgwire.specs.Command.{Backend, Caused, IsCut};
 
 use crate::fault::Fault;
+use crate::ports::{Input, Output};
 use crate::print::put;
+use crate::rest::read_rest;
 use postgres_protocol::Error;
 use postgres_protocol::message::backend::{Message, Storage};
 use postgres_protocol::session::StreamParser;
 use std::alloc::Allocator;
 use std::fmt::Write as _;
-use std::io::{ErrorKind, Read, Write};
+use std::io::ErrorKind;
 
 /// How many bytes are read at a time.
 const PIECE: usize = 65536;
@@ -26,7 +28,7 @@ const PIECE: usize = 65536;
 ///
 /// `Memory` where memory is refused and `Read` where reading fails, both before anything is written; `Write`
 /// where writing or the flush fails, behind a front of the listing.
-pub fn backend<A: Allocator + Copy, R: Read, W: Write>(
+pub fn backend<A: Allocator + Copy, R: Input, W: Output>(
     alloc: A,
     input: &mut R,
     output: &mut W,
@@ -39,6 +41,7 @@ pub fn backend<A: Allocator + Copy, R: Read, W: Write>(
     ensures cut { IfErr result (λ fault. fault ≡ Fault.Write → IsCut Backend
         (record { input = R.remaining input.old; output = W.contents output.old })
         (record { input = R.remaining input.new; output = W.contents output.new })) }
+    ensures cause { IfErr result (Caused R.Fails W.Fails) }
 {
     let text = listing(alloc, input)?;
     put(text.as_bytes(), output)?;
@@ -46,17 +49,18 @@ pub fn backend<A: Allocator + Copy, R: Read, W: Write>(
 }
 
 /// Reads all bytes, and answers the lines for them.
-fn listing<A: Allocator + Copy, R: Read>(alloc: A, input: &mut R) -> Result<String<A>, Fault>
+fn listing<A: Allocator + Copy, R: Input>(alloc: A, input: &mut R) -> Result<String<A>, Fault>
     ensures read { OnOk result (IsAtEnd (R.remaining input.new)) }
     ensures lines { IfOk result (λ text. IfSome (R.remaining input.old) (λ bytes. BackendOutput bytes (string_bytes text) 0)) }
-    ensures fault { IfErr result (λ fault. fault ≢ Fault.Write) }
+    ensures cause { IfErr result (Caused R.Fails ⊥) }
 {
     let mut piece = vec![in alloc; 0u8; PIECE]?;
     lines_of(alloc, input, piece.as_mut_slice())
 }
 
-/// Reads all bytes, a piece at a time, and answers the lines for them.
-fn lines_of<A: Allocator + Copy, R: Read>(
+/// Reads all bytes, a piece at a time, and answers the lines for them. What is left behind so many pieces that
+/// they can't be counted is read at once.
+fn lines_of<A: Allocator + Copy, R: Input>(
     alloc: A,
     input: &mut R,
     piece: &mut [u8],
@@ -64,12 +68,12 @@ fn lines_of<A: Allocator + Copy, R: Read>(
     requires { 0 < length piece.old }
     ensures read { OnOk result (IsAtEnd (R.remaining input.new)) }
     ensures lines { IfOk result (λ text. IfSome (R.remaining input.old) (λ bytes. BackendOutput bytes (string_bytes text) 0)) }
-    ensures fault { IfErr result (λ fault. fault ≢ Fault.Write) }
+    ensures cause { IfErr result (Caused R.Fails ⊥) }
 {
     let mut parser = StreamParser::new(alloc);
     let mut text = String::new(alloc);
     for _ in 0..u64::MAX {
-        match input.read(piece) {
+        match input.read_some(piece) {
             Ok(0) => {
                 list_rest(parser.stopped(), parser.rest().len(), &mut text)?;
                 return Ok(text);
@@ -82,7 +86,10 @@ fn lines_of<A: Allocator + Copy, R: Read>(
             },
         }
     }
-    Err(Fault::Read)
+    let last = read_rest(alloc, input)?;
+    list_piece(last.as_slice(), &mut parser, &mut text)?;
+    list_rest(parser.stopped(), parser.rest().len(), &mut text)?;
+    Ok(text)
 }
 
 /// Feeds a piece to the parser, and takes its results and adds their lines.

@@ -6,14 +6,16 @@ ghost use Rattle.std.specs.List.{slice_split};
 ghost use Rattle.pgp_frontend.specs.Reading.{IsNamed};
 ghost use Rattle.postgres_protocol.specs.ClientStream.{AddsMessage};
 ghost use Rattle.pgwire.specs.ClientOutput.{ClientOutput, WritesAnswer, told};
-ghost use Rattle.pgwire.specs.Command.{Client, IsCut};
+ghost use Rattle.pgwire.specs.Command.{Caused, Client, IsCut};
 ghost use Rattle.pgwire.specs.Output.{line};
 ghost use Rattle.pgwire.specs.Request.{asked};
 ghost use Rattle.pgwire.specs.Script.{is_newline};
 ghost use Rattle.pgwire.specs.Sending.{HasSent, SendsLine, SendsLines, is_opening, lines_left, size_left};
 
 use crate::fault::Fault;
+use crate::ports::{Input, Output};
 use crate::print::put;
+use crate::rest::read_rest;
 use crate::script::{Request, request_of};
 use bytes::BytesMut;
 use memchr::memchr;
@@ -22,7 +24,6 @@ use postgres_protocol::Error;
 use postgres_protocol::session::ClientStream;
 use std::alloc::Allocator;
 use std::fmt::Write as _;
-use std::io::{ErrorKind, Read, Write};
 
 /// Why a line was refused.
 #[derive(Debug, Clone, Copy, PartialEq, Eq)]
@@ -47,7 +48,7 @@ struct Answer<A: Allocator> {
 ///
 /// `Memory` where memory is refused and `Read` where reading fails, both before anything is written; `Write`
 /// where writing or the flush fails, behind a front of what was to be written.
-pub fn client<A: Allocator + Copy, R: Read, W: Write>(
+pub fn client<A: Allocator + Copy, R: Input, W: Output>(
     alloc: A,
     input: &mut R,
     output: &mut W,
@@ -59,14 +60,9 @@ pub fn client<A: Allocator + Copy, R: Read, W: Write>(
     ensures cut { IfErr result (λ fault. fault ≡ Fault.Write → IsCut Client
         (record { input = R.remaining input.old; output = W.contents output.old })
         (record { input = R.remaining input.new; output = W.contents output.new })) }
+    ensures cause { IfErr result (Caused R.Fails W.Fails) }
 {
-    let mut script = Vec::new(alloc);
-    if let Err(e) = input.read_to_end(&mut script) {
-        return Err(match e.kind() {
-            ErrorKind::OutOfMemory => Fault::Memory,
-            _ => Fault::Read,
-        });
-    }
+    let script = read_rest(alloc, input)?;
     let answer = answer_to(alloc, script.as_slice())?;
     put(answer.text.as_bytes(), output)?;
     Ok(answer.status)

@@ -1,41 +1,59 @@
 //! Writing: all of some bytes, or what a failing writer took of them.
 
-ghost use Rattle.std.specs.Prelude.{◌≡◌, ◌≢◌, ◌⊎◌, IfErr, IfOk, OnErr, OnOk, string_bytes};
+ghost use Rattle.std.specs.Prelude.{◌≡◌, ◌≢◌, ◌<◌, ◌≤◌, length, take, IfErr, IfOk, OnErr, OnOk, string_bytes};
 ghost use Rattle.std.specs.Io.KnownBytes.{Appends, Keeps};
+ghost use Rattle.pgwire.specs.Command.{Caused};
 ghost use Rattle.pgwire.specs.Output.{line};
 ghost use Rattle.pgwire.specs.Taken.{AppendsFront};
 
 use crate::fault::Fault;
+use crate::ports::Output;
 use std::alloc::Allocator;
-use std::io::{ErrorKind, Write};
+use std::io::ErrorKind;
 
 /// Writes the bytes and flushes the writer. Where either fails, a front of the bytes was taken.
-pub fn put<W: Write>(bytes: &[u8], output: &mut W) -> Result<(), Fault>
+pub fn put<W: Output>(bytes: &[u8], output: &mut W) -> Result<(), Fault>
     ensures written { OnOk result (Appends (W.contents output.old) (W.contents output.new) bytes.now) }
     ensures front { OnErr result (AppendsFront (W.contents output.old) (W.contents output.new) bytes.now) }
     ensures fault { IfErr result (λ fault. fault ≡ Fault.Write) }
+    ensures failed { OnErr result W.Fails }
 {
     write(bytes, output)?;
-    match output.flush() {
+    match output.pass_on() {
         Ok(()) => Ok(()),
         Err(_) => Err(Fault::Write),
     }
 }
 
-/// Writes the bytes. A write that was interrupted is tried again; one that takes nothing is a failure.
-fn write<W: Write>(bytes: &[u8], output: &mut W) -> Result<(), Fault>
+/// Writes the bytes.
+fn write<W: Output>(bytes: &[u8], output: &mut W) -> Result<(), Fault>
     ensures written { OnOk result (Appends (W.contents output.old) (W.contents output.new) bytes.now) }
     ensures front { OnErr result (AppendsFront (W.contents output.old) (W.contents output.new) bytes.now) }
     ensures fault { IfErr result (λ fault. fault ≡ Fault.Write) }
+    ensures failed { OnErr result W.Fails }
 {
     let mut rest = bytes;
+    'rest: while !rest.is_empty() {
+        let n = write_some(rest, output)?;
+        rest = &rest[n..];
+    }
+    Ok(())
+}
+
+/// Writes some of the bytes, and answers how many. A write that was interrupted is tried again; one that takes
+/// nothing is a failure.
+fn write_some<W: Output>(bytes: &[u8], output: &mut W) -> Result<usize, Fault>
+    requires { 0 < length bytes.now }
+    ensures some { IfOk result (λ n. (0 < n) × (n ≤ length bytes.now)) }
+    ensures written { IfOk result (λ n. Appends (W.contents output.old) (W.contents output.new) (take n bytes.now)) }
+    ensures none { OnErr result (Keeps (W.contents output.old) (W.contents output.new)) }
+    ensures fault { IfErr result (λ fault. fault ≡ Fault.Write) }
+    ensures failed { OnErr result W.Fails }
+{
     'tries: for _ in 0..u64::MAX {
-        if rest.is_empty() {
-            return Ok(());
-        }
-        match output.write(rest) {
+        match output.write_some(bytes) {
             Ok(0) => return Err(Fault::Write),
-            Ok(n) => rest = &rest[n..],
+            Ok(n) => return Ok(n),
             Err(e) => {
                 if e.kind() != ErrorKind::Interrupted {
                     return Err(Fault::Write);
@@ -47,12 +65,12 @@ fn write<W: Write>(bytes: &[u8], output: &mut W) -> Result<(), Fault>
 }
 
 /// Writes the text and a newline.
-pub fn print<A: Allocator, W: Write>(mut text: String<A>, output: &mut W) -> Result<u8, Fault>
+pub fn print<A: Allocator, W: Output>(mut text: String<A>, output: &mut W) -> Result<u8, Fault>
     ensures written { OnOk result (Appends (W.contents output.old) (W.contents output.new) (line (string_bytes text))) }
     ensures status { IfOk result (λ status. status ≡ 0) }
     ensures quiet { IfErr result (λ fault. fault ≢ Fault.Write → Keeps (W.contents output.old) (W.contents output.new)) }
     ensures front { OnErr result (AppendsFront (W.contents output.old) (W.contents output.new) (line (string_bytes text))) }
-    ensures fault { IfErr result (λ fault. (fault ≡ Fault.Memory) ⊎ (fault ≡ Fault.Write)) }
+    ensures cause { IfErr result (Caused ⊥ W.Fails) }
 {
     text.push('\n')?;
     put(text.as_bytes(), output)?;

@@ -2,19 +2,18 @@
 
 ghost use Rattle.std.specs.Prelude.{◌≡◌, [], map, IfSome, IfNone, IfOk, IfErr};
 ghost use Rattle.std.specs.Io.KnownBytes.{Keeps};
-ghost use Rattle.pgwire.specs.Command.{Asks, IsOther, usage, complaint_of, Obeys, Succeeds, Stops, Runs, ObeysOwn, RunsOwn};
+ghost use Rattle.pgwire.specs.Command.{Asks, IsOther, usage, complaint_of, Obeys, Succeeds, Stops, Runs, ObeysOwn, RunsOwn, IsSaid};
 ghost use Rattle.pgwire.specs.Asked.{asked};
-ghost use Rattle.pgwire.specs.Taken.{AppendsFront};
 
 use crate::backend::backend;
 use crate::client::client;
 use crate::fault::Fault;
+use crate::ports::{Input, Output};
 use crate::print::put;
 use crate::text;
 use crate::words::{lent, texts};
 use hex::FromHex;
 use std::alloc::Allocator;
-use std::io::{Read, Write};
 use std::rt::Env;
 
 const USAGE: &str =
@@ -79,7 +78,7 @@ fn command_of<'a>(words: &[&'a str]) -> Option<Command<'a>>
 }
 
 /// Does what the command asks for.
-fn perform<A: Allocator + Copy, R: Read, W: Write>(
+fn perform<A: Allocator + Copy, R: Input, W: Output>(
     alloc: A,
     command: Command<'_>,
     input: &mut R,
@@ -89,7 +88,7 @@ fn perform<A: Allocator + Copy, R: Read, W: Write>(
         (record { input = R.remaining input.old; output = W.contents output.old })
         (record { input = R.remaining input.new; output = W.contents output.new })
         status []) }
-    ensures fault { IfErr result (λ fault. Stops (asked command.entry)
+    ensures fault { IfErr result (λ fault. Stops R.Fails W.Fails (asked command.entry)
         (record { input = R.remaining input.old; output = W.contents output.old })
         (record { input = R.remaining input.new; output = W.contents output.new })
         fault) }
@@ -104,13 +103,13 @@ fn perform<A: Allocator + Copy, R: Read, W: Write>(
 }
 
 /// Does what the words ask for.
-pub fn obey<A: Allocator + Copy, R: Read, W: Write>(
+pub fn obey<A: Allocator + Copy, R: Input, W: Output>(
     alloc: A,
     words: &[&str],
     input: &mut R,
     output: &mut W,
 ) -> Outcome
-    ensures { Obeys (map (λ word. word.now) words.now)
+    ensures { Obeys R.Fails W.Fails (map (λ word. word.now) words.now)
         (record { input = R.remaining input.old; output = W.contents output.old })
         (record { input = R.remaining input.new; output = W.contents output.new })
         result.status result.complaint.now }
@@ -127,10 +126,10 @@ pub fn obey<A: Allocator + Copy, R: Read, W: Write>(
     }
 }
 
-/// Says on `errors` what is to be said there, as far as it can be said, and answers the status.
-fn tell<E: Write>(outcome: Outcome, errors: &mut E) -> u8
+/// Says on `errors` what is to be said there, or as much of it as it takes where it fails, and answers the status.
+fn tell<E: Output>(outcome: Outcome, errors: &mut E) -> u8
     ensures status { result ≡ outcome.status }
-    ensures told { AppendsFront (E.contents errors.old) (E.contents errors.new) outcome.complaint.now }
+    ensures told { IsSaid E.Fails (E.contents errors.old) (E.contents errors.new) outcome.complaint.now }
 {
     let _ = put(outcome.complaint.as_bytes(), errors);
     outcome.status
@@ -138,15 +137,15 @@ fn tell<E: Write>(outcome: Outcome, errors: &mut E) -> u8
 
 /// Does what the words ask for, says on `errors` what is to be said there, and answers the status.
 ///
-/// Where `errors` fails, a front of that was said.
-pub fn run<A: Allocator + Copy, R: Read, W: Write, E: Write>(
+/// Where `errors` fails, a front of that is said.
+pub fn run<A: Allocator + Copy, R: Input, W: Output, E: Output>(
     alloc: A,
     words: &[&str],
     input: &mut R,
     output: &mut W,
     errors: &mut E,
 ) -> u8
-    ensures { Runs (map (λ word. word.now) words.now)
+    ensures { Runs R.Fails W.Fails E.Fails (map (λ word. word.now) words.now)
         (record { input = R.remaining input.old; output = W.contents output.old })
         (record { input = R.remaining input.new; output = W.contents output.new })
         (E.contents errors.old) (E.contents errors.new) result }
@@ -156,13 +155,13 @@ pub fn run<A: Allocator + Copy, R: Read, W: Write, E: Write>(
 
 /// Does what the program's own words ask for, where there is memory for them. A word that isn't UTF-8
 /// asks for nothing that there is.
-fn try_own<A: Allocator + Copy, V: Env, R: Read, W: Write>(
+fn try_own<A: Allocator + Copy, V: Env, R: Input, W: Output>(
     alloc: A,
     env: &V,
     input: &mut R,
     output: &mut W,
 ) -> Result<Outcome, Fault>
-    ensures obeyed { IfOk result (λ outcome. ObeysOwn
+    ensures obeyed { IfOk result (λ outcome. ObeysOwn R.Fails W.Fails
         (record { input = R.remaining input.old; output = W.contents output.old })
         (record { input = R.remaining input.new; output = W.contents output.new })
         outcome.status outcome.complaint.now) }
@@ -178,13 +177,13 @@ fn try_own<A: Allocator + Copy, V: Env, R: Read, W: Write>(
 }
 
 /// Does what the program's own words ask for.
-fn obey_own<A: Allocator + Copy, V: Env, R: Read, W: Write>(
+fn obey_own<A: Allocator + Copy, V: Env, R: Input, W: Output>(
     alloc: A,
     env: &V,
     input: &mut R,
     output: &mut W,
 ) -> Outcome
-    ensures { ObeysOwn
+    ensures { ObeysOwn R.Fails W.Fails
         (record { input = R.remaining input.old; output = W.contents output.old })
         (record { input = R.remaining input.new; output = W.contents output.new })
         result.status result.complaint.now }
@@ -196,14 +195,14 @@ fn obey_own<A: Allocator + Copy, V: Env, R: Read, W: Write>(
 }
 
 /// Runs on the words of the process, behind its name.
-pub fn run_own<A: Allocator + Copy, V: Env, R: Read, W: Write, E: Write>(
+pub fn run_own<A: Allocator + Copy, V: Env, R: Input, W: Output, E: Output>(
     alloc: A,
     env: &V,
     input: &mut R,
     output: &mut W,
     errors: &mut E,
 ) -> u8
-    ensures { RunsOwn
+    ensures { RunsOwn R.Fails W.Fails E.Fails
         (record { input = R.remaining input.old; output = W.contents output.old })
         (record { input = R.remaining input.new; output = W.contents output.new })
         (E.contents errors.old) (E.contents errors.new) result }

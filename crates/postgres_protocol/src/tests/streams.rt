@@ -1,86 +1,12 @@
-//! A longer stream of a server, cut in many ways. Its bytes are from the message formats of the PostgreSQL manual.
+//! A message with a body of its own, cut in two. Its bytes are from the message formats of the PostgreSQL manual.
 
-use crate::message::backend::{Message, Storage};
-use crate::session::{StreamParser, parse_stream};
+use crate::message::backend::Message;
+use crate::session::parse_stream;
 use crate::{Error, FallibleIterator};
 use std::test::Fail;
 
 /// An AuthenticationSASL with one mechanism.
 const SASL: [u8; 24] = *b"R\0\0\0\x17\0\0\0\x0aSCRAM-SHA-256\0\0";
-
-/// AuthenticationSASL, RowDescription, DataRow, ErrorResponse, a ReadyForQuery with a byte too many,
-/// ParseComplete, and a length fault.
-const HOSTILE: [u8; 101] =
-    *b"R\0\0\0\x17\0\0\0\x0aSCRAM-SHA-256\0\0T\0\0\0\x1a\0\x01a\0\0\0\0\0\0\0\0\0\0\x17\0\x04\xff\xff\xff\xff\0\0D\0\0\0\x13\0\x03\0\0\0\x01a\xff\xff\xff\xff\0\0\0\0E\0\0\0\x0cSERROR\0\0Z\0\0\0\x06I\0\x31\0\0\0\x04Z\0\0\0\x03";
-
-/// What its results are: the first letter or the tag of a message, or the number of a refusal.
-const MARKS: &[u8] = b"STDE\x081";
-
-fn mark<S: Storage>(read: &Result<Message<S>, Error>) -> u8 {
-    match read {
-        Ok(Message::AuthenticationSasl(_)) => b'S',
-        Ok(Message::RowDescription(_)) => b'T',
-        Ok(Message::DataRow(_)) => b'D',
-        Ok(Message::ErrorResponse(_)) => b'E',
-        Ok(Message::ParseComplete) => b'1',
-        Ok(_) => b'?',
-        Err(e) => e.number(),
-    }
-}
-
-/// Whether these are all results of that stream.
-fn are_all<S: Storage>(results: &[Result<Message<S>, Error>]) -> bool {
-    results.len() == MARKS.len() && results.iter().zip(MARKS).all(|(r, m)| mark(r) == *m)
-}
-
-/// Feeds the pieces.
-fn feed(parser: &mut StreamParser, pieces: &[&[u8]]) -> Result<(), Error> {
-    for piece in pieces {
-        if !parser.failed() {
-            parser.feed(piece)?;
-        }
-    }
-    Ok(())
-}
-
-#[test]
-fn every_cutting_into_three(rt: HostRuntime) -> Result<(), Fail> {
-    for cut in 0..102usize {
-        for more in 0..6usize {
-            let (front, back) = HOSTILE.split_at(cut);
-            let (middle, last) = back.split_at(more.min(back.len()));
-            let mut parser = StreamParser::new(rt.alloc());
-            feed(&mut parser, &[front, middle, last])?;
-            assert!(rt; are_all(parser.results()));
-            assert!(rt; parser.stopped());
-            assert!(rt; !parser.failed());
-            assert_eq!(rt; parser.headers(), 7);
-            assert_eq!(rt; parser.rest(), b"Z\0\0\0\x03".as_slice());
-        }
-    }
-    Ok(())
-}
-
-/// Results are handed out once, and none is lost.
-#[test]
-fn taken_after_each_byte(rt: HostRuntime) -> Result<(), Fail> {
-    let mut parser = StreamParser::new(rt.alloc());
-    let mut marks = Vec::new(rt.alloc());
-    for byte in &HOSTILE {
-        feed(&mut parser, &[&[*byte]])?;
-        for read in &parser.take() {
-            marks.push(mark(read))?;
-        }
-        assert!(rt; parser.results().is_empty());
-    }
-    assert_eq!(rt; marks.as_slice(), MARKS);
-    assert_eq!(rt; parser.headers(), 7);
-    assert!(rt; parser.stopped());
-    feed(&mut parser, &[b"1\0\0\0\x04"])?;
-    assert!(rt; parser.take().is_empty());
-    assert_eq!(rt; parser.rest(), b"Z\0\0\0\x031\0\0\0\x04".as_slice());
-    Ok(())
-}
 
 /// The one mechanism that the one result names.
 fn mechanism_of(results: &[Result<Message, Error>]) -> Result<Option<&str>, Error> {

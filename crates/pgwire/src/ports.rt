@@ -1,0 +1,89 @@
+//! What the program reads from and writes to.
+
+ghost use Rattle.std.specs.Prelude.{◌≡◌, ◌<◌, ◌++◌, length, IfOk, IfSome, OnErr, OnOk};
+ghost use Rattle.std.specs.Io.{ReadsAtMost, WritesAtMost, StartsWith, appended_bytes};
+ghost use Rattle.std.specs.Io.KnownBytes.{Consumes, IsAtEnd, Keeps, ReadConsumes, WriteAppends};
+
+use std::alloc::Allocator;
+use std::io::{self, Read, Write};
+
+/// A reader, any of std's.
+pub trait Input: Read {
+    /// A call of such a reader failed.
+    ghost Fails: { Type 0 };
+
+    /// Reads what comes at once, as `read` does.
+    ///
+    /// # Errors
+    ///
+    /// That of the reader.
+    fn read_some(&mut self, piece: &mut [u8]) -> io::Result<usize>
+        ensures bound { ReadsAtMost result piece.new }
+        ensures bytes { ReadConsumes (Self.remaining self.old) (Self.remaining self.new) result piece.new }
+        ensures fails { OnErr result Fails };
+
+    /// Reads all that is left, as `read_to_end` does.
+    ///
+    /// # Errors
+    ///
+    /// That of the reader.
+    fn read_rest<A: Allocator>(&mut self, bytes: &mut Vec<u8, A>) -> io::Result<usize>
+        ensures appends { StartsWith bytes.new.items bytes.old.items }
+        ensures rest { OnOk result (IfSome (Self.remaining self.old) (λ rest. bytes.new.items ≡ bytes.old.items ++ rest)) }
+        ensures end { OnOk result (IsAtEnd (Self.remaining self.new)) }
+        ensures consumes { Consumes (Self.remaining self.old) (Self.remaining self.new)
+            (appended_bytes bytes.old.items bytes.new.items) }
+        ensures fails { OnErr result Fails };
+}
+
+/// Of its failures nothing is said: any call may fail.
+impl<R: Read> Input for R {
+    ghost Fails = { Unit {0} };
+
+    fn read_some(&mut self, piece: &mut [u8]) -> io::Result<usize> {
+        self.read(piece)
+    }
+
+    fn read_rest<A: Allocator>(&mut self, bytes: &mut Vec<u8, A>) -> io::Result<usize> {
+        self.read_to_end(bytes)
+    }
+}
+
+/// A writer, any of std's.
+pub trait Output: Write {
+    /// A call of such a writer failed, or took none of some bytes.
+    ghost Fails: { Type 0 };
+
+    /// Writes a front of the bytes, as `write` does.
+    ///
+    /// # Errors
+    ///
+    /// That of the writer.
+    fn write_some(&mut self, bytes: &[u8]) -> io::Result<usize>
+        ensures bound { WritesAtMost result bytes.now }
+        ensures bytes { WriteAppends (Self.contents self.old) (Self.contents self.new) result bytes.now }
+        ensures idle { IfOk result (λ n. n ≡ 0 → 0 < length bytes.now → Fails) }
+        ensures fails { OnErr result Fails };
+
+    /// Has what was written passed on, as `flush` does.
+    ///
+    /// # Errors
+    ///
+    /// That of the writer.
+    fn pass_on(&mut self) -> io::Result<()>
+        ensures bytes { Keeps (Self.contents self.old) (Self.contents self.new) }
+        ensures fails { OnErr result Fails };
+}
+
+/// Of its failures nothing is said: any call may fail.
+impl<W: Write> Output for W {
+    ghost Fails = { Unit {0} };
+
+    fn write_some(&mut self, bytes: &[u8]) -> io::Result<usize> {
+        self.write(bytes)
+    }
+
+    fn pass_on(&mut self) -> io::Result<()> {
+        self.flush()
+    }
+}
