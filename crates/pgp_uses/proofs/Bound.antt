@@ -18,13 +18,13 @@ use Rattle.pgp_uses.specs.Values.{BindsValue, HasSpelling, RefusesValue, Seriali
 
 module _ {V K : Type 0} (f : Plain V) (lacks : Type 0) where
   -- the value behind `here` is what the format writes
-  written : (v : Option V) (null : IsNull) (bytes : List ℕ) (here before after : Held K) → before ≡ here → after ≡ here ⊕ bytes → Serializes f v lacks before after (Ok null) → HasSpelling f v × (value_of null bytes ≡ option_map f.written v)
+  pub written : (v : Option V) (null : IsNull) (bytes : List ℕ) (here before after : Held K) → before ≡ here → after ≡ here ⊕ bytes → Serializes f v lacks before after (Ok null) → HasSpelling f v × (value_of null bytes ≡ option_map f.written v)
   written None Yes bytes here before after s p w = (tt, refl)
   written None No bytes here before after s p w = absurd w
   written (Some x) Yes bytes here before after s p w = absurd w
   written (Some x) No bytes here before after s p w = (w.0, ap (λ (b : List ℕ). Some b) (same_more here after bytes (f.written x) p (w.1 ∙ ap (λ h. h ⊕ f.written x) s)))
 
-  refused : (v : Option V) (e : Error) (before after : Held K) → Serializes f v lacks before after (Err e) → RefusesValue f v lacks e
+  pub refused : (v : Option V) (e : Error) (before after : Held K) → Serializes f v lacks before after (Err e) → RefusesValue f v lacks e
   refused None e before after w = absurd w
   refused (Some x) e before after w = w.0
 

@@ -1,8 +1,10 @@
+pub mod Arrays
 pub mod Client
 pub mod Filter
 pub mod Login
 pub mod Recorder
 pub mod Rows
+pub mod ScramLogin
 pub mod Server
 pub mod Streams
 pub mod Values

@@ -1,11 +1,13 @@
 //! Short callers of the protocol's crates, each with its contract: what `docs/CALLING.md` shows.
 #![tactic(auto)]
 
+pub mod arrays;
 pub mod client;
 pub mod filter;
 pub mod login;
 pub mod recorder;
 pub mod rows;
+pub mod scram_login;
 pub mod server;
 pub mod session;
 pub mod streams;

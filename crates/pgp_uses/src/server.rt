@@ -41,7 +41,7 @@ pub fn answer<B: Buffer>(tag: u8, payload: &[u8], buf: &mut B) -> Result<(), Err
 }
 
 /// The refusal, whoever refused.
-fn refusal(e: BindError<Error>) -> Error
+pub(crate) fn refusal(e: BindError<Error>) -> Error
     ensures { result ≡ refusal_of e }
 {
     match e {

@@ -4,24 +4,29 @@
 ghost use Rattle.std.specs.Prelude.{ℕ, ◌+◌, ◌%◌, ◌^◌, Some};
 ghost use Rattle.rand_core.specs.Steps.{stream_of, steps_u32};
 
+use crate::arrays::{ArrayError, bind_int4s, list_of};
 use crate::client::{Client, Event, Phase, StepError};
 use crate::filter::{FilterError, pass};
 use crate::login::{begin, equals, respond, set_password};
 use crate::recorder::record;
 use crate::rows::{ColumnError, int4_column, text_column};
+use crate::scram_login::{LoginEvent, LoginFault, LoginPhase, ScramLogin};
 use crate::server::answer;
 use crate::session::one_query;
 use crate::streams::{completed, frame_count, front_row};
 use crate::values::{bind_int4, parameter, value_of};
 use crate::writing::{ask, ask_in_place};
 use bytes::BytesMut;
-use postgres_protocol::authentication::sasl::{ChannelBinding, NoPrep, ScramSha256, is_nonce};
+use postgres_protocol::authentication::sasl::{
+    ChannelBinding, NoPrep, ScramError, ScramSha256, is_nonce,
+};
 use postgres_protocol::message::backend::Messages;
 use postgres_protocol::message::frontend;
 use postgres_protocol::session::{ClientStream, StreamParser};
 use postgres_protocol::{Error, IsNull};
 use rand_core::Rng;
 use rand_core::utils::{self, NextWord};
+use std::alloc::Global;
 use std::marker::Model;
 use std::test::Fail;
 
@@ -348,5 +353,176 @@ fn a_client_is_refused(rt: HostRuntime) -> Result<(), Fail> {
         Some(Ok(Event::Refused))
     );
     assert_eq!(rt; client.phase, Phase::Over);
+    Ok(())
+}
+
+/// An array of the int4 7 and a null, one of two dimensions, an empty one, a null, and one whose element has 3 bytes: the
+/// layout as a server sends it.
+const ARRAYS: &[u8; 134] = b"D\x00\x00\x00\x85\x00\x05\
+\x00\x00\x00\x20\x00\x00\x00\x01\x00\x00\x00\x01\x00\x00\x00\x17\x00\x00\x00\x02\x00\x00\x00\x01\x00\x00\x00\x04\x00\x00\x00\x07\xff\xff\xff\xff\
+\x00\x00\x00\x24\x00\x00\x00\x02\x00\x00\x00\x00\x00\x00\x00\x17\x00\x00\x00\x01\x00\x00\x00\x01\x00\x00\x00\x01\x00\x00\x00\x01\x00\x00\x00\x04\x00\x00\x00\x07\
+\x00\x00\x00\x0c\x00\x00\x00\x00\x00\x00\x00\x00\x00\x00\x00\x17\
+\xff\xff\xff\xff\
+\x00\x00\x00\x1b\x00\x00\x00\x01\x00\x00\x00\x00\x00\x00\x00\x17\x00\x00\x00\x01\x00\x00\x00\x01\x00\x00\x00\x03\x00\x00\x07";
+
+#[test]
+fn arrays_are_lists(rt: HostRuntime) -> Result<(), Fail> {
+    let Some((row, _)) = front_row(ARRAYS) else {
+        return Err(Error::UnexpectedEof.into());
+    };
+    let index = row.index(rt.alloc())?;
+    let first = list_of::<i32, _, _>(rt.alloc(), &index, 0);
+    assert!(rt; matches!(first, Ok(Some(list)) if list.as_slice() == [Some(7), None].as_slice()));
+    let second = list_of::<i32, _, _>(rt.alloc(), &index, 1);
+    assert!(rt; matches!(second, Err(ArrayError::Dimensions)));
+    let third = list_of::<i32, _, _>(rt.alloc(), &index, 2);
+    assert!(rt; matches!(third, Ok(Some(list)) if list.is_empty()));
+    let fourth = list_of::<i32, _, _>(rt.alloc(), &index, 3);
+    assert!(rt; matches!(fourth, Ok(None)));
+    let fifth = list_of::<i32, _, _>(rt.alloc(), &index, 4);
+    assert!(rt; matches!(fifth, Err(ArrayError::Value(Error::UnexpectedEof))));
+    let sixth = list_of::<i32, _, _>(rt.alloc(), &index, 5);
+    assert!(rt; matches!(sixth, Err(ArrayError::NoColumn)));
+    Ok(())
+}
+
+#[test]
+fn an_array_is_bound(rt: HostRuntime) -> Result<(), Fail> {
+    let mut buf = BytesMut::new(rt.alloc());
+    assert!(rt; bind_int4s(&[Some(7), None], &mut buf).is_ok());
+    assert_eq!(rt;
+        buf.as_slice(),
+        b"B\x00\x00\x00\x32\x00\x00\x00\x01\x00\x01\x00\x01\x00\x00\x00\x20\x00\x00\x00\x01\x00\x00\x00\x01\x00\x00\x00\x17\x00\x00\x00\x02\x00\x00\x00\x01\x00\x00\x00\x04\x00\x00\x00\x07\xff\xff\xff\xff\x00\x00".as_slice()
+    );
+    Ok(())
+}
+
+const OFFER: &[u8; 43] =
+    b"R\x00\x00\x00\x2a\x00\x00\x00\x0aSCRAM-SHA-256-PLUS\x00SCRAM-SHA-256\x00\x00";
+
+const CHALLENGE: &[u8; 85] =
+    b"R\x00\x00\x00\x54\x00\x00\x00\x0br=9IZ2O01zb9IgiIZ1WJ/zgpJBjx/oIRLs02gGSHcw1KEty3eY,s=fs3IXBy7U7+IvVjZ,i=4096";
+
+const OUTCOME: &[u8; 55] =
+    b"R\x00\x00\x00\x36\x00\x00\x00\x0cv=U+ppxD5XUKtradnv8e2MkeupiA8FU87Sg8CXzXHDAzw=";
+
+const WELCOME: &[u8; 9] = b"R\x00\x00\x00\x08\x00\x00\x00\x00";
+
+/// A log-in whose startup packet is written, with the password `foobar`.
+fn opened(rt: &HostRuntime) -> Result<ScramLogin<Global, BytesMut>, Fail> {
+    let nonce = String::from_str(rt.alloc(), NONCE)?;
+    if !is_nonce(&nonce) {
+        return Err(Error::NotUtf8.into());
+    }
+    let binding = ChannelBinding::unsupported();
+    let exchange = ScramSha256::with_nonce(rt.alloc(), b"foobar", binding, nonce, &NoPrep)?;
+    let stream = ClientStream::<BytesMut>::new(rt.alloc());
+    Ok(ScramLogin::open("alice", exchange, stream)?)
+}
+
+/// What a log-in makes of the message at the front of a server's bytes.
+fn heard(
+    bytes: &[u8],
+    login: &mut ScramLogin<Global, BytesMut>,
+) -> Option<Result<LoginEvent, LoginFault>> {
+    if !login.out.is_open() {
+        return None;
+    }
+    let mut messages = Messages::new(bytes);
+    match messages.next() {
+        Ok(Some(message)) => {
+            let told = login.step(&message);
+            drop(message);
+            Some(told)
+        }
+        _ => None,
+    }
+}
+
+/// The texts of the Rust crate's own test, in messages of the manual's formats.
+#[test]
+fn a_password_is_proved(rt: HostRuntime) -> Result<(), Fail> {
+    let mut login = opened(&rt)?;
+    assert!(rt;
+        matches!(
+            heard(WELCOME, &mut login),
+            Some(Err(LoginFault::Unexpected))
+        )
+    );
+    assert!(rt; matches!(heard(OFFER, &mut login), Some(Ok(LoginEvent::Began))));
+    assert!(rt;
+        matches!(
+            heard(WELCOME, &mut login),
+            Some(Err(LoginFault::Unexpected))
+        )
+    );
+    assert!(rt; matches!(heard(OFFER, &mut login), Some(Err(LoginFault::Unexpected))));
+    assert!(rt; matches!(heard(CHALLENGE, &mut login), Some(Ok(LoginEvent::Replied))));
+    assert!(rt;
+        matches!(
+            heard(WELCOME, &mut login),
+            Some(Err(LoginFault::Unexpected))
+        )
+    );
+    assert!(rt; matches!(heard(OUTCOME, &mut login), Some(Ok(LoginEvent::Verified))));
+    assert!(rt;
+        matches!(
+            heard(OUTCOME, &mut login),
+            Some(Err(LoginFault::Unexpected))
+        )
+    );
+    assert!(rt; matches!(heard(WELCOME, &mut login), Some(Ok(LoginEvent::Admitted))));
+    assert_eq!(rt; login.phase, LoginPhase::Done);
+    assert_eq!(rt;
+        login.out.bytes(),
+        b"\x00\x00\x00\x14\x00\x03\x00\x00user\x00alice\x00\x00p\x00\x00\x00\x36SCRAM-SHA-256\x00\x00\x00\x00\x20n,,n=,r=9IZ2O01zb9IgiIZ1WJ/zgpJBp\x00\x00\x00\x6cc=biws,r=9IZ2O01zb9IgiIZ1WJ/zgpJBjx/oIRLs02gGSHcw1KEty3eY,p=AmNKosjJzS31NTlQYNs5BTeQjdHdk7lOflDo5re2an8=".as_slice()
+    );
+    Ok(())
+}
+
+#[test]
+fn a_log_in_is_refused(rt: HostRuntime) -> Result<(), Fail> {
+    let mut login = opened(&rt)?;
+    let plus = b"R\x00\x00\x00\x1c\x00\x00\x00\x0aSCRAM-SHA-256-PLUS\x00\x00";
+    assert!(rt; matches!(heard(plus, &mut login), Some(Err(LoginFault::NotOffered))));
+    let endless = b"R\x00\x00\x00\x16\x00\x00\x00\x0aSCRAM-SHA-256\x00";
+    assert!(rt;
+        matches!(
+            heard(endless, &mut login),
+            Some(Err(LoginFault::NotOffered))
+        )
+    );
+    assert!(rt;
+        matches!(
+            heard(CHALLENGE, &mut login),
+            Some(Err(LoginFault::Unexpected))
+        )
+    );
+    assert!(rt; matches!(heard(OFFER, &mut login), Some(Ok(LoginEvent::Began))));
+    assert!(rt;
+        matches!(
+            heard(OUTCOME, &mut login),
+            Some(Err(LoginFault::Unexpected))
+        )
+    );
+    assert!(rt; matches!(heard(CHALLENGE, &mut login), Some(Ok(LoginEvent::Replied))));
+    let other = b"R\x00\x00\x00\x36\x00\x00\x00\x0cv=V+ppxD5XUKtradnv8e2MkeupiA8FU87Sg8CXzXHDAzw=";
+    assert!(rt;
+        matches!(
+            heard(other, &mut login),
+            Some(Err(LoginFault::Scram(ScramError::Verification)))
+        )
+    );
+    assert!(rt;
+        matches!(
+            heard(WELCOME, &mut login),
+            Some(Err(LoginFault::Unexpected))
+        )
+    );
+    assert_eq!(rt; login.phase, LoginPhase::Over);
+    let mut failed = opened(&rt)?;
+    let error = b"E\x00\x00\x00\x05\x00";
+    assert!(rt; matches!(heard(error, &mut failed), Some(Ok(LoginEvent::Refused))));
+    assert_eq!(rt; failed.phase, LoginPhase::Over);
     Ok(())
 }

@@ -6,14 +6,12 @@ ghost use Rattle.pgp_types.specs.Format.{Plain, ReadsBy, Writes};
 ghost use Rattle.pgp_types.specs.Scalar.{int4};
 ghost use Rattle.pgp_message.specs.Table.{column};
 ghost use Rattle.pgp_uses.specs.Rows.{ReadsColumnBy};
-ghost use Rattle.pgp_base.specs.Calls.{OwesValues};
-ghost use Rattle.postgres_protocol.specs.OneValue.{BindsOne};
 ghost use Rattle.pgp_uses.specs.Values.{BindsValue, Serializes};
 
 use crate::rows::ColumnError;
 use pgp_base::{Buffer, IsNull};
+use postgres_protocol::laws::bind_one;
 use postgres_protocol::message::backend::RowIndex;
-use postgres_protocol::message::frontend::bind;
 use postgres_protocol::types::{int4_from_sql, int4_to_sql, text_from_sql, text_to_sql};
 use postgres_protocol::{BindError, Error};
 use std::alloc::Allocator;
@@ -139,7 +137,7 @@ pub fn bind_int4<B: Buffer>(value: Option<i32>, buf: &mut B) -> Result<(), BindE
 }
 
 /// Appends the value, if it isn't a null.
-fn put_int4<B: Buffer>(value: Option<i32>, buf: &mut B) -> Result<IsNull, Error>
+pub(crate) fn put_int4<B: Buffer>(value: Option<i32>, buf: &mut B) -> Result<IsNull, Error>
     ensures { Serializes int4 value B.Lacks (B.held buf.old) (B.held buf.new) result }
 {
     let Some(value) = value else {
@@ -147,16 +145,4 @@ fn put_int4<B: Buffer>(value: Option<i32>, buf: &mut B) -> Result<IsNull, Error>
     };
     int4_to_sql(value, buf)?;
     Ok(IsNull::No)
-}
-
-/// Binds the one value that the serializer makes.
-fn bind_one<B: Buffer, F: FnMut(u8, &mut B) -> Result<IsNull, Error> + Drop>(
-    serializer: F,
-    buf: &mut B,
-) -> Result<(), BindError<Error>>
-    requires callable { F.IsAlwaysCallable serializer }
-    requires owes { OwesValues B.held F.pre F.step }
-    ensures { BindsOne B.held F.step serializer (B.held buf.old) B.Lacks (B.held buf.new) result }
-{
-    bind("", "", Some(1i16), Some(0u8), serializer, None::<i16>, buf)
 }

@@ -10,7 +10,7 @@ mod array;
 mod row;
 mod sasl;
 
-pub use array::{Step, bind_array, bound_arrays_read_back};
+pub use array::{Step, bind_array, bind_one, bound_arrays_read_back};
 pub use row::row_int4;
 pub use sasl::{SaslRefusal, sasl_exchange};
 

@@ -58,8 +58,14 @@ fn put_array<B: Buffer>(
     }
 }
 
-/// Binds the value that the serializer makes, in binary, to the one parameter of the unnamed statement.
-fn bind_one<B: Buffer, E: Drop, F: FnMut(u8, &mut B) -> Result<IsNull, E> + Drop>(
+/// Binds the value that the serializer makes, in binary, to the one parameter of the unnamed statement. The serializer
+/// is called once, behind the place of the value's length.
+///
+/// # Errors
+///
+/// `Conversion` is the serializer's refusal. `Serialization` is `TooLarge` where the value or the message passes the
+/// greatest `i32`, and `OutOfMemory`. The buffer keeps its bytes.
+pub fn bind_one<B: Buffer, E: Drop, F: FnMut(u8, &mut B) -> Result<IsNull, E> + Drop>(
     serializer: F,
     buf: &mut B,
 ) -> Result<(), BindError<E>>
