@@ -1,5 +1,8 @@
 //! The works, by name.
 
+ghost use Rattle.std.specs.Prelude.{◌≡◌};
+ghost use Rattle.pgp_bench.specs.Works.{name_of, units_of};
+
 use crate::escapes::{identifiers, literals};
 use crate::input::Input;
 use crate::keys::keys;
@@ -96,7 +99,10 @@ impl Work {
         Work::Key,
     ];
 
-    pub fn name(self) -> &'static str {
+    /// The name by which it is asked for.
+    pub fn name(self) -> &'static str
+        ensures { result.now ≡ name_of self }
+    {
         match self {
             Work::Bare => "read_bare",
             Work::Tiny => "read_tiny",
@@ -128,7 +134,9 @@ impl Work {
     }
 
     /// How many units are timed together: some hundredths of a second.
-    pub fn units(self) -> u32 {
+    pub fn units(self) -> u32
+        ensures { result ≡ units_of self }
+    {
         match self {
             Work::Key => 8,
             Work::LiteralPlain | Work::LiteralQuotes | Work::Identifier | Work::CopyData => 50_000,

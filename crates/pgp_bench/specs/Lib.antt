@@ -1,0 +1,5 @@
+pub mod Escapes
+pub mod Inputs
+pub mod Sums
+pub mod Values
+pub mod Works
