@@ -1,5 +1,6 @@
 pub mod Escapes
 pub mod Inputs
+pub mod Streams
 pub mod Sums
 pub mod Values
 pub mod Works
