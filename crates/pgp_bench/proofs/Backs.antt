@@ -31,3 +31,7 @@ there_and_back n r z u lt a b d =
     let first : cast_unsigned w32 r ≡ n = ap (cast_unsigned w32) a ∙ once in
     let second : cast_unsigned w32 z ≡ n = ap (cast_unsigned w32) (b ∙ ap (cast_signed w32) first) ∙ once in
     d ∙ (ap (λ (k : ℕ). cast_unsigned w32 (cast_signed w32 k)) second ∙ once)
+
+-- a number that is handed on as a signed one
+pub to_signed : (n : ℕ) (r : ℤ) → n < 2 ^ 32 → r ≡ cast_signed w32 n → cast_signed w32 (cast_unsigned w32 r) ≡ cast_signed w32 n
+to_signed n r lt a = ap (cast_signed w32) (ap (cast_unsigned w32) a ∙ of_z-to_z w32 n lt)

@@ -1,6 +1,7 @@
 //! The works, by name.
 
 ghost use Rattle.std.specs.Prelude.{◌≡◌};
+ghost use Rattle.pgp_bench.specs.Answers.{AnswersWork};
 ghost use Rattle.pgp_bench.specs.Works.{name_of, units_of};
 
 use crate::escapes::{identifiers, literals};
@@ -147,7 +148,13 @@ impl Work {
 
 /// Does the work as often as the count says, and answers a sum made of the answers, so that no work
 /// can be left out.
-pub fn sum_of(alloc: Global, work: Work, input: &mut Input, count: u32) -> Result<u64, Error> {
+///
+/// # Errors
+///
+/// Those of the work.
+pub fn sum_of(alloc: Global, work: Work, input: &mut Input, count: u32) -> Result<u64, Error>
+    ensures { AnswersWork work input.old count result input.new }
+{
     match work {
         Work::Bare | Work::Tiny | Work::Kept | Work::Row | Work::Fields => read(&mut input.stream),
         Work::TinyInPlace | Work::RowInPlace => read_in_place(input.stream.as_slice()),

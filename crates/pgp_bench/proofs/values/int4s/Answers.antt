@@ -11,4 +11,4 @@ rounds-init c = refl
 pub rounds-preserved : goal.rounds-preserved
 rounds-preserved c =
     total_more (λ n. n) c.rounds.n c.rounds.sum c.cast_unsigned.result c.rounds.invariant
-        (there_and_back c.rounds.n c.cast_signed.result c.in_ok-int4.field-0 c.cast_unsigned.result (omega (arith, c.ranges.count.fits)) c.cast_signed.ensures c.in_ok-int4.ensures c.cast_unsigned.ensures)
+    (there_and_back c.rounds.n c.cast_signed.result c.in_ok-int4.field-0 c.cast_unsigned.result (omega (arith, c.ranges.count.fits)) c.cast_signed.ensures c.in_ok-int4.ensures c.cast_unsigned.ensures)

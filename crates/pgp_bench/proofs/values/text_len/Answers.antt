@@ -13,5 +13,5 @@ pub returns-in-Err : goal.returns-in-Err
 returns-in-Err c =
     let written = alone _ _ _ c.clear.ensures.items c.in_ok-text_to_sql.ensures.1 in
     let back = read_back text text_sound c.args.text.now c.utf8.text refl c.as_slice.result.now (c.as_slice.ensures ∙ written)
-        (Err c.in-Err.e) c.in-Err.ensures in
+    (Err c.in-Err.e) c.in-Err.ensures in
     absurd (err_not_ok _ _ back)
