@@ -1,11 +1,15 @@
 //! What the works take, made on the heap before the clock starts.
 
+ghost use Rattle.std.specs.Prelude.{◌≡◌, IfOk, string_bytes};
+ghost use Rattle.std.specs.List.{repeat};
+ghost use Rattle.pgp_bench.specs.Inputs.{bytes_of, messages_of, IsInput};
+
 use crate::work::Work;
 use bytes::BytesMut;
 use std::alloc::{AllocError, Global};
 
-/// The bytes of a long text.
-const LONG: u32 = 1024;
+/// How many pieces of two bytes a long text has.
+const PIECES: u32 = 512;
 
 const BARE: &[u8] = b"1\0\0\0\x04";
 
@@ -32,26 +36,55 @@ pub struct Input {
     pub quotes: String,
 }
 
+// The messages of a unit.
+#[tactic(auto, unfolding(pgp_base::specs::Wire::uint16, pgp_base::specs::Wire::uint32))]
+fn unit(work: Work) -> &'static [u8]
+    ensures { result.now ≡ bytes_of (messages_of work) }
+{
+    match work {
+        Work::Bare => BARE,
+        Work::Tiny | Work::TinyInPlace => TINY,
+        Work::Kept => KEPT,
+        Work::Row | Work::RowInPlace => ROW,
+        Work::Fields => FIELDS,
+        _ => b"",
+    }
+}
+
+// So many units, one behind another.
+fn stream(alloc: Global, unit: &[u8], count: u32) -> Result<BytesMut, AllocError>
+    ensures { IfOk result (λ all. all.items ≡ repeat count unit.now) }
+{
+    let mut all = BytesMut::new(alloc);
+    'rounds: for _round in 0..count {
+        all.extend_from_slice(unit)?;
+    }
+    Ok(all)
+}
+
+// A long text of one piece, again and again.
+fn long(alloc: Global, piece: &str) -> Result<String, AllocError>
+    ensures { IfOk result (λ all. string_bytes all ≡ repeat PIECES piece.now) }
+{
+    let mut all = String::new(alloc);
+    'rounds: for _round in 0..PIECES {
+        all.push_str(piece)?;
+    }
+    Ok(all)
+}
+
 impl Input {
-    pub fn new(alloc: Global, work: Work, count: u32) -> Result<Input, AllocError> {
-        let frame = match work {
-            Work::Bare => BARE,
-            Work::Tiny | Work::TinyInPlace => TINY,
-            Work::Kept => KEPT,
-            Work::Row | Work::RowInPlace => ROW,
-            Work::Fields => FIELDS,
-            _ => b"",
-        };
-        let mut stream = BytesMut::new(alloc);
-        for _ in 0..count {
-            stream.extend_from_slice(frame)?;
-        }
-        let mut plain = String::new(alloc);
-        let mut quotes = String::new(alloc);
-        for _ in 0..LONG / 2 {
-            plain.push_str("ab")?;
-            quotes.push_str("a'")?;
-        }
+    /// What so many units of the work take.
+    ///
+    /// # Errors
+    ///
+    /// `AllocError` where there is no memory for it.
+    pub fn new(alloc: Global, work: Work, count: u32) -> Result<Input, AllocError>
+        ensures { IfOk result (IsInput work count) }
+    {
+        let stream = stream(alloc, unit(work), count)?;
+        let plain = long(alloc, "ab")?;
+        let quotes = long(alloc, "a'")?;
         Ok(Input {
             stream,
             buf: BytesMut::new(alloc),

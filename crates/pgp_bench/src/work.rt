@@ -1,5 +1,9 @@
 //! The works, by name.
 
+ghost use Rattle.std.specs.Prelude.{◌≡◌};
+ghost use Rattle.pgp_bench.specs.Answers.{AnswersWork};
+ghost use Rattle.pgp_bench.specs.Works.{name_of, units_of};
+
 use crate::escapes::{identifiers, literals};
 use crate::input::Input;
 use crate::keys::keys;
@@ -96,7 +100,10 @@ impl Work {
         Work::Key,
     ];
 
-    pub fn name(self) -> &'static str {
+    /// The name by which it is asked for.
+    pub fn name(self) -> &'static str
+        ensures { result.now ≡ name_of self }
+    {
         match self {
             Work::Bare => "read_bare",
             Work::Tiny => "read_tiny",
@@ -128,7 +135,9 @@ impl Work {
     }
 
     /// How many units are timed together: some hundredths of a second.
-    pub fn units(self) -> u32 {
+    pub fn units(self) -> u32
+        ensures { result ≡ units_of self }
+    {
         match self {
             Work::Key => 8,
             Work::LiteralPlain | Work::LiteralQuotes | Work::Identifier | Work::CopyData => 50_000,
@@ -139,7 +148,13 @@ impl Work {
 
 /// Does the work as often as the count says, and answers a sum made of the answers, so that no work
 /// can be left out.
-pub fn sum_of(alloc: Global, work: Work, input: &mut Input, count: u32) -> Result<u64, Error> {
+///
+/// # Errors
+///
+/// Those of the work.
+pub fn sum_of(alloc: Global, work: Work, input: &mut Input, count: u32) -> Result<u64, Error>
+    ensures { AnswersWork work input.old count result input.new }
+{
     match work {
         Work::Bare | Work::Tiny | Work::Kept | Work::Row | Work::Fields => read(&mut input.stream),
         Work::TinyInPlace | Work::RowInPlace => read_in_place(input.stream.as_slice()),

@@ -1,0 +1,4 @@
+pub mod Adding
+pub mod Backs
+pub mod Weighing
+pub mod Writing
