@@ -15,6 +15,7 @@ use Rattle.pgp_frontend.specs.Payload.{bytes_of, cause}
 use Rattle.pgp_types.specs.Array.{Array, ArrayRead, array, array_bytes}
 use Rattle.pgp_types.specs.Format.{Format, Plain, Reads}
 use Rattle.pgp_types.specs.Scalar.{int4}
+use Rattle.postgres_protocol.specs.ArraySteps.{IsReadBack}
 use Rattle.pgp_uses.specs.Values.{bound}
 use Rattle.pgp_uses.specs.declared.arrays.ArrayError.{ArrayError}
 use Rattle.pgp_uses.specs.declared.arrays.ArrayError.TheVariants.{NoColumn, Dimensions, Value, OutOfMemory}
@@ -105,3 +106,15 @@ BindsInt4s values lacks old new (Err (Serialization e)) = (WantsMemory lacks e �
 abbrev pub PutsInt4s : {K : Type 0} → List (Option ℤ) → Type 0 → Held K → Held K → Result IsNull Error → Type 0
 PutsInt4s values lacks old new (Ok null) = (null ≡ No) × (length_cause (length values) ≡ None) × (new ≡ old ⊕ array_bytes (int4_array values))
 PutsInt4s values lacks old new (Err e) = (WantsMemory lacks e ⊎ (length_cause (length values) ≡ Some e)) × Leaves old new
+
+-- What was bound is read back.
+
+abbrev pub IsInt4 : Option ℤ → Type 0
+IsInt4 None = Unit {0}
+IsInt4 (Some z) = int4.IsValue z
+
+-- A server that knows only the grammar reads the message and its array, and nothing else (`IsReadBack`); and the array is
+-- these values as a list.
+pub record AreReadBack (values : List (Option ℤ)) : Type 0 where
+  pub message : IsReadBack (int4_array values).dimensions 23 (int4_array values).elements
+  pub list : ReadsList (λ (z : ℤ). z) int4 (λ xs. xs) (array_bytes (int4_array values)) (Ok values)

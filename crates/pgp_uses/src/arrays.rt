@@ -1,8 +1,12 @@
 //! Arrays of one dimension as lists of values: out of a row's column, and into a statement's parameter.
 
+ghost use Rattle.std.specs.Prelude.{◌≡◌, ℤ, List, length, Option, None};
+ghost use Rattle.std.specs.List.{AllByRecursion};
+ghost use Rattle.pgp_base.specs.Cause.{length_cause};
+ghost use Rattle.pgp_frontend.specs.Payload.{cause};
 ghost use Rattle.pgp_message.specs.Table.{column};
 ghost use Rattle.pgp_types.specs.PartReading.{shown};
-ghost use Rattle.pgp_uses.specs.Arrays.{BindsInt4s, PutsInt4s, ReadsElement, ReadsList, ReadsListColumn, ReadsWalk};
+ghost use Rattle.pgp_uses.specs.Arrays.{AreReadBack, BindsInt4s, IsInt4, PutsInt4s, ReadsElement, ReadsList, ReadsListColumn, ReadsWalk, binding};
 
 use crate::server::refusal;
 use crate::values::{Value, put_int4};
@@ -143,4 +147,14 @@ fn put_array<B: Buffer>(values: &[Option<i32>], buf: &mut B) -> Result<IsNull, E
         Ok(()) => Ok(IsNull::No),
         Err(e) => Err(refusal(e)),
     }
+}
+
+/// A server that knows only the grammar reads the message of bound `int4`s as that message, whatever follows it, and its
+/// value as their array and as nothing else. As a list of `int4`s, the array is these very values.
+pub fn int4s_read_back()
+    ensures { (values : List (Option ℤ)) → AllByRecursion IsInt4 values → length_cause (length values) ≡ None → cause (binding values) ≡ None
+        → AreReadBack values }
+{
+    postgres_protocol::laws::bound_arrays_read_back();
+    postgres_protocol::types::laws::scalars();
 }

@@ -20,7 +20,7 @@ use bytes::BytesMut;
 use postgres_protocol::authentication::sasl::{
     ChannelBinding, NoPrep, ScramError, ScramSha256, is_nonce,
 };
-use postgres_protocol::message::backend::Messages;
+use postgres_protocol::message::backend::{Messages, RowIndex};
 use postgres_protocol::message::frontend;
 use postgres_protocol::session::{ClientStream, StreamParser};
 use postgres_protocol::{Error, IsNull};
@@ -371,19 +371,32 @@ fn arrays_are_lists(rt: HostRuntime) -> Result<(), Fail> {
         return Err(Error::UnexpectedEof.into());
     };
     let index = row.index(rt.alloc())?;
-    let first = list_of::<i32, _, _>(rt.alloc(), &index, 0);
-    assert!(rt; matches!(first, Ok(Some(list)) if list.as_slice() == [Some(7), None].as_slice()));
-    let second = list_of::<i32, _, _>(rt.alloc(), &index, 1);
-    assert!(rt; matches!(second, Err(ArrayError::Dimensions)));
-    let third = list_of::<i32, _, _>(rt.alloc(), &index, 2);
-    assert!(rt; matches!(third, Ok(Some(list)) if list.is_empty()));
-    let fourth = list_of::<i32, _, _>(rt.alloc(), &index, 3);
-    assert!(rt; matches!(fourth, Ok(None)));
-    let fifth = list_of::<i32, _, _>(rt.alloc(), &index, 4);
-    assert!(rt; matches!(fifth, Err(ArrayError::Value(Error::UnexpectedEof))));
-    let sixth = list_of::<i32, _, _>(rt.alloc(), &index, 5);
-    assert!(rt; matches!(sixth, Err(ArrayError::NoColumn)));
+    let Ok(Some(list)) = list_of::<i32, _, _>(rt.alloc(), &index, 0) else {
+        return Err(Error::UnexpectedEof.into());
+    };
+    assert_eq!(rt; list.as_slice(), [Some(7), None].as_slice());
+    assert_eq!(rt; size_of(rt.alloc(), &index, 1), Err(ArrayError::Dimensions));
+    assert_eq!(rt; size_of(rt.alloc(), &index, 2), Ok(Some(0)));
+    assert_eq!(rt; size_of(rt.alloc(), &index, 3), Ok(None));
+    assert_eq!(rt;
+        size_of(rt.alloc(), &index, 4),
+        Err(ArrayError::Value(Error::UnexpectedEof))
+    );
+    assert_eq!(rt; size_of(rt.alloc(), &index, 5), Err(ArrayError::NoColumn));
     Ok(())
+}
+
+/// How many `int4`s and nulls a column's array has.
+fn size_of(
+    alloc: Global,
+    row: &RowIndex<'_, Global>,
+    i: usize,
+) -> Result<Option<usize>, ArrayError> {
+    match list_of::<i32, _, _>(alloc, row, i) {
+        Ok(Some(list)) => Ok(Some(list.len())),
+        Ok(None) => Ok(None),
+        Err(e) => Err(e),
+    }
 }
 
 #[test]

@@ -42,7 +42,7 @@ returns-in-Err g c =
     let values = c.args.values.now in
     let held = g.B.Buffer.held in
     rw c.refusal.ensures (
-      inl (array_refused held _ g.B.Buffer.Lacks (λ f f' x b b' r s. search rules) _ 23 values _ _
+      inl (array_refused held _ g.B.Buffer.Lacks (λ f f' x b b' r s. search rules) _ _ values _ _
           (λ xs k. all_same (FromOption _) once_steps (Some _) (_ ∷ []) (λ it from. YieldsList-from_once (Some _) from.0) xs k)
           (λ xs x k. (first_of_one _ xs x (some_same (FromOption _) once_steps (Some _) (_ ∷ []) (λ it from. YieldsList-from_once (Some _) from.0) xs x k)).0)
           (λ xs k. all_given _ _ c.args.values (λ x. x.now) values (λ it from. YieldsList-from_slice values from.0) xs k)
