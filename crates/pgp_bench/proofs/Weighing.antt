@@ -1,15 +1,15 @@
 -- A message's weight, and a value's, is added to a sum.
-use Rattle.std.proofs.Common.{◌≡◌, ℕ, ◌+◌, ◌%◌, ◌^◌, ◌<◌, false, List, [], ◌∷◌, ◌++◌, length, length-append, Option, Some, None, Result, Ok, Err, refl, ap, sym, ◌∙◌, arith}
+use Rattle.std.proofs.Common.{◌≡◌, ℕ, ◌+◌, ◌%◌, ◌^◌, ◌<◌, List, [], ◌∷◌, ◌++◌, length, length-append, Some, None, Result, Ok, Err, refl, ap, sym, ◌∙◌, arith}
 use Rattle.std.proofs.Math.Nat.{mod-add-mod}
 use Rattle.std.specs.List.{sum_by}
 use Rattle.std.proofs.lemmas.List.Sums.{sum_by-cons}
 use Rattle.pgp_base.specs.Wire.{uint32}
 use Rattle.pgp_base.specs.declared.error.Error.{Error}
 use Rattle.pgp_message.specs.BackendMessage.{Message}
-use Rattle.pgp_message.specs.Stream.{Frames, TakesFrame, IsPartial, Step}
+use Rattle.pgp_message.specs.Stream.{Frames}
 use Rattle.pgp_message.proofs.Runs.{frames_none, frames_next}
 use Rattle.pgp_bench.specs.Sums.{in_64_bits}
-use Rattle.pgp_bench.specs.Streams.{Weighs, Weigh, none, more, IsWeighed, IsStopped, ReadsStream, TakesWeight}
+use Rattle.pgp_bench.specs.Streams.{Weigh, none, more, IsWeighed, IsStopped, TakesWeight}
 
 -- the messages of the bytes up to a rest weigh so much
 pub record IsRead (bytes : List ℕ) (sum : ℕ) (rest : List ℕ) : Type 0 where

@@ -10,7 +10,7 @@ use Rattle.pgp_frontend.specs.ClientMessage.{ClientMessage}
 use Rattle.pgp_frontend.specs.Payload.{bytes_of, WritesMessage}
 use Rattle.pgp_frontend.specs.Given.{Appended}
 use Rattle.pgp_bench.specs.Sums.{in_64_bits}
-use Rattle.pgp_bench.specs.Writers.{Appends, IsMessage, Take, none, more, SumsBytes}
+use Rattle.pgp_bench.specs.Writers.{Appends, IsMessage, Take, more, SumsBytes}
 use Rattle.pgp_bench.specs.declared.work.Work.{Work}
 use Rattle.pgp_bench.specs.declared.work.Work.TheVariants as works
 

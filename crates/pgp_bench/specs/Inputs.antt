@@ -1,5 +1,5 @@
 -- What the works take.
-use Rattle.std.specs.Prelude.{◌≡◌, ℕ, pos, List, [], ◌∷◌, ◌++◌, Some, codes, string_bytes}
+use Rattle.std.specs.Prelude.{◌≡◌, ℕ, List, [], ◌∷◌, ◌++◌, Some, codes, string_bytes}
 use Rattle.std.specs.List.{flat_map, repeat}
 use Rattle.pgp_base.specs.Wire.{frame, text, nullable}
 use Rattle.pgp_message.specs.BackendMessage.{Message, ParseComplete, BindComplete, CommandComplete, DataRow, ErrorResponse, tag_of, payload_of}

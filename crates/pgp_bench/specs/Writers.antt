@@ -8,8 +8,8 @@ use Rattle.pgp_bench.specs.Sums.{in_64_bits}
 use Rattle.pgp_bench.specs.declared.work.Work.{Work}
 use Rattle.pgp_bench.specs.declared.work.Work.TheVariants.{Bind, Query, Parse, Startup, Execute, Describe, Close, Cancel, Sync}
 
--- The n-th message of a work, which is handed a name, a short text and a long one. Of the values that `bind` is handed
--- nothing is said here. What is no other work writes `CopyData`.
+-- The n-th message of a work, which is handed a name, a short text and a long one. Of the formats and values of
+-- `bind` nothing is said here. What is no other work writes `CopyData`.
 abbrev pub IsMessage : Work → (name short long : List ℕ) → ℕ → ClientMessage → Type 0
 IsMessage Bind name short long n m = (formats : List ℤ) × (values : List (Option (List ℕ))) × (result_formats : List ℤ) × (m ≡ message.Bind [] name formats values result_formats)
 IsMessage Query name short long n m = m ≡ message.Query (codes "SELECT id, name FROM t WHERE id = 1234567")

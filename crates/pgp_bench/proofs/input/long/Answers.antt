@@ -1,4 +1,3 @@
-use Rattle.std.proofs.Common.{refl}
 use Rattle.pgp_bench.proofs.Adding.{repeat_more}
 use Rattle.pgp_bench.proofs.input.long.Goals as goal
 

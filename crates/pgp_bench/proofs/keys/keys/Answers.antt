@@ -1,5 +1,5 @@
 use Rattle.std.proofs.Common.{refl}
-use Rattle.std.specs.Prelude.{slice_index, ◌≡◌, List, ℕ}
+use Rattle.std.specs.Prelude.{List, ℕ}
 use Rattle.std.proofs.Common.{ap, get_or}
 use Rattle.pgp_bench.specs.Sums.{total}
 use Rattle.pgp_bench.specs.Works.{first_of_key}

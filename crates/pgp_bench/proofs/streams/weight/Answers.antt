@@ -1,4 +1,3 @@
-use Rattle.std.proofs.Common.{length}
 use Rattle.pgp_message.proofs.TableLemmas.{places_in}
 use Rattle.pgp_bench.proofs.streams.weight.Goals as goal
 

@@ -1,4 +1,4 @@
-use Rattle.std.proofs.Common.{◌≡◌, ◌+◌, length, ap, refl, arith}
+use Rattle.std.proofs.Common.{◌≡◌, ◌+◌, length, ap, arith}
 use Rattle.pgp_bench.specs.Sums.{in_64_bits}
 use Rattle.pgp_bench.specs.Writers.{none}
 use Rattle.pgp_bench.proofs.Writing.{round_more, round_end}
