@@ -1,4 +1,5 @@
 pub mod Bound
+pub mod Descriptions
 pub mod Elements
 pub mod Known
 pub mod Lists

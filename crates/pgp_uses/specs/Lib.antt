@@ -1,5 +1,6 @@
 pub mod Arrays
 pub mod Client
+pub mod Columns
 pub mod Filter
 pub mod Login
 pub mod Recorder

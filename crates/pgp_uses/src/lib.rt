@@ -3,6 +3,7 @@
 
 pub mod arrays;
 pub mod client;
+pub mod columns;
 pub mod filter;
 pub mod login;
 pub mod recorder;

@@ -6,6 +6,7 @@ ghost use Rattle.rand_core.specs.Steps.{stream_of, steps_u32};
 
 use crate::arrays::{ArrayError, bind_int4s, list_of};
 use crate::client::{Client, Event, Phase, StepError};
+use crate::columns::{NamesError, column_names};
 use crate::filter::{FilterError, pass};
 use crate::login::{begin, equals, respond, set_password};
 use crate::recorder::record;
@@ -107,6 +108,25 @@ fn columns_of_a_row(rt: HostRuntime) -> Result<(), Fail> {
     assert_eq!(rt; value_of::<&str, _>(&index, 2), Ok(None));
     assert_eq!(rt; value_of::<i32, _>(&index, 3), Err(ColumnError::NoColumn));
     assert!(rt; front_row(rest).is_none());
+    Ok(())
+}
+
+// A parameter's status, that the server is ready, and a description of two columns.
+const DESCRIBED: &[u8] =
+    b"S\0\0\0\x16server_version\x0016\0Z\0\0\0\x05IT\0\0\0\x32\0\x02id\0\0\0\x40\0\0\x01\0\0\0\x17\0\x04\xff\xff\xff\xff\0\0name\0\0\0\x40\0\0\x02\0\0\0\x19\xff\xff\xff\xff\xff\xff\0\0C\0\0\0\x0dSELECT 0\0";
+
+#[test]
+fn columns_have_names(rt: HostRuntime) -> Result<(), Fail> {
+    match column_names(rt.alloc(), DESCRIBED) {
+        Ok(names) => assert_eq!(rt; names.as_slice(), ["id", "name"].as_slice()),
+        Err(e) => assert_eq!(rt; e, NamesError::NoDescription),
+    }
+    let none = column_names(rt.alloc(), &DESCRIBED[..29]);
+    assert!(rt; matches!(&none, Err(NamesError::NoDescription)));
+    // The second column announces more than there is.
+    let short = b"T\0\0\0\x1b\0\x02id\0\0\0\x40\0\0\x01\0\0\0\x17\0\x04\xff\xff\xff\xff\0\0";
+    let cut = column_names(rt.alloc(), short);
+    assert!(rt; matches!(&cut, Err(NamesError::Refused(Error::UnexpectedEof))));
     Ok(())
 }
 
