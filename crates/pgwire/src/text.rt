@@ -1,6 +1,6 @@
 //! The commands that print a text: verifiers and escaped texts.
 
-ghost use Rattle.std.specs.Prelude.{◌≡◌, ◌≢◌, ◌⊎◌, ℕ, List, IfOk, IfErr, OnOk};
+ghost use Rattle.std.specs.Prelude.{◌≡◌, ◌≢◌, ℕ, List, IfOk, IfErr, OnOk};
 ghost use Rattle.std.specs.Io.KnownBytes.{Appends, Keeps};
 ghost use Rattle.pgp_auth.specs.Lexer.{Identifier};
 ghost use Rattle.pgp_auth.specs.Verifier.{verifier, verifier_text};
