@@ -96,3 +96,7 @@ took piece old mid new all (Ok w) g h a = record {
   reads = λ bytes taken k. h.reads (bytes ++ piece) taken (g.reads bytes taken k);
 }
 took piece old mid new all (Err e) g h a = tt
+
+pub nothing : (xs : List ℕ) → length xs ≡ 0 → xs ≡ []
+nothing [] e = refl
+nothing (x ∷ xs) e = absurd (omega (arith, e))

@@ -1,5 +1,5 @@
-use Rattle.std.proofs.Common.{◌≡◌, [], rules}
-use Rattle.pgp_bench.proofs.Feeding.{fed_none, fed_more, fed_end}
+use Rattle.std.proofs.Common.{◌≡◌, length, rules}
+use Rattle.pgp_bench.proofs.Feeding.{fed_none, fed_more, fed_end, nothing}
 use Rattle.pgp_bench.proofs.pieces.fed.Goals as goal
 
 pub pieces-init : goal.pieces-init
@@ -10,5 +10,5 @@ pieces-preserved c = fed_more _ _ c.split_at.result.0.now _ _ _ _ _ c.pieces.inv
 
 pub returns : goal.returns
 returns c =
-    let end : c.pieces.rest.now ≡ [] = search rules in
-    fed_end _ _ _ _ c.pieces.invariant end
+    let empty : length c.pieces.rest.now ≡ 0 = search rules in
+    fed_end _ _ _ _ c.pieces.invariant (nothing c.pieces.rest.now empty)
