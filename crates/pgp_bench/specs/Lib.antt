@@ -1,6 +1,7 @@
 pub mod Answers
 pub mod Escapes
 pub mod Inputs
+pub mod Pieces
 pub mod Streams
 pub mod Sums
 pub mod Values

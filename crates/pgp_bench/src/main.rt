@@ -7,6 +7,7 @@
 mod escapes;
 mod input;
 mod keys;
+mod pieces;
 mod streams;
 mod values;
 mod work;

@@ -49,7 +49,7 @@ fn next_weight(buf: &mut BytesMut) -> Result<Option<u64>, Error>
 
 /// A message that keeps nothing weighs 1, another one the bytes of its texts or values.
 #[inline(always)]
-fn weight(message: &Message) -> u64
+pub(crate) fn weight(message: &Message) -> u64
     ensures { Weighs (view message.now) result }
 {
     match message {

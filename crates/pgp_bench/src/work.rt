@@ -7,6 +7,7 @@ ghost use Rattle.pgp_bench.specs.Works.{name_of, units_of};
 use crate::escapes::{identifiers, literals};
 use crate::input::Input;
 use crate::keys::keys;
+use crate::pieces::feed;
 use crate::streams::{read, read_in_place};
 use crate::values::{inet4s, inet6s, int4s, texts};
 use crate::writers::write;
@@ -30,6 +31,10 @@ pub enum Work {
     TinyInPlace,
     /// The row, read in place, and its ranges walked.
     RowInPlace,
+    /// The three of `Tiny`, fed to a parser in pieces.
+    FeedTiny,
+    /// The row, fed to a parser in pieces.
+    FeedRow,
     /// `bind` of five int4 values.
     Bind,
     /// `query` of 41 bytes.
@@ -71,7 +76,7 @@ pub enum Work {
 }
 
 impl Work {
-    pub const ALL: [Work; 26] = [
+    pub const ALL: [Work; 28] = [
         Work::Bare,
         Work::Tiny,
         Work::Kept,
@@ -79,6 +84,8 @@ impl Work {
         Work::Fields,
         Work::TinyInPlace,
         Work::RowInPlace,
+        Work::FeedTiny,
+        Work::FeedRow,
         Work::Bind,
         Work::Query,
         Work::Parse,
@@ -112,6 +119,8 @@ impl Work {
             Work::Fields => "read_fields",
             Work::TinyInPlace => "place_tiny",
             Work::RowInPlace => "place_row",
+            Work::FeedTiny => "feed_tiny",
+            Work::FeedRow => "feed_row",
             Work::Bind => "write_bind",
             Work::Query => "write_query",
             Work::Parse => "write_parse",
@@ -158,6 +167,7 @@ pub fn sum_of(alloc: Global, work: Work, input: &mut Input, count: u32) -> Resul
     match work {
         Work::Bare | Work::Tiny | Work::Kept | Work::Row | Work::Fields => read(&mut input.stream),
         Work::TinyInPlace | Work::RowInPlace => read_in_place(input.stream.as_slice()),
+        Work::FeedTiny | Work::FeedRow => feed(alloc, input.stream.as_slice()),
         Work::Int4 => int4s(&mut input.buf, count),
         Work::Inet4 => inet4s(&mut input.buf, count),
         Work::Inet6 => inet6s(&mut input.buf, count),
