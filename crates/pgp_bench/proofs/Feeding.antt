@@ -1,5 +1,5 @@
 -- What is taken piece by piece.
-use Rattle.std.proofs.Common.{◌≡◌, ℕ, ◌+◌, ◌<◌, ◌≤◌, ◌%◌, ◌^◌, false, List, [], ◌∷◌, ◌++◌, length, map, take, get_or, Result, Ok, Err, IfOk, refl, ap, sym, subst, ◌∙◌, arith, append-nil}
+use Rattle.std.proofs.Common.{◌≡◌, ℕ, ◌+◌, ◌<◌, ◌%◌, ◌^◌, false, List, [], ◌∷◌, ◌++◌, length, map, take, get_or, Result, Ok, Err, IfOk, refl, ap, sym, subst, ◌∙◌, arith, append-nil}
 use Rattle.std.proofs.Math.Nat.{add-mod}
 use Rattle.std.proofs.Math.Seq.{take-length}
 use Rattle.std.proofs.lemmas.List.{append_assoc, take_more, map_push}
@@ -9,7 +9,7 @@ use Rattle.pgp_message.specs.Stream.{BackendRun}
 use Rattle.postgres_protocol.specs.ServerStream.{Reading, HasRead, GoesOn, HandsOut}
 use Rattle.pgp_bench.specs.Sums.{in_64_bits}
 use Rattle.pgp_bench.specs.Streams.{Weighs, Weigh, none, more}
-use Rattle.pgp_bench.specs.Pieces.{WeighMore, AllWeigh, TakesPiece, IsFed}
+use Rattle.pgp_bench.specs.Pieces.{AllWeigh, TakesPiece, IsFed}
 use Rattle.pgp_bench.proofs.Weighing.{added}
 
 joined : {X : Type 0} (a b c : List X) → (a ++ b) ++ c ≡ a ++ (b ++ c)

@@ -1,6 +1,6 @@
 -- The first description of a row in a server's bytes, and the names of its columns.
 -- PostgreSQL manual, "Message Formats": RowDescription.
-use Rattle.std.specs.Prelude.{◌≡◌, ◌⊎◌, ℕ, Bool, List, [], ◌∷◌, ◌++◌, map, Option, Some, None, Result, Ok, Err}
+use Rattle.std.specs.Prelude.{◌≡◌, ◌⊎◌, ℕ, Bool, List, [], ◌∷◌, ◌++◌, map, Option, Some, None, Result, Ok}
 use Rattle.std.specs.List.{AllByRecursion}
 use Rattle.pgp_base.specs.Items.{CountedItems}
 use Rattle.pgp_base.specs.Walk.{Walk}

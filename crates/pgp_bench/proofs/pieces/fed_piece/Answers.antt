@@ -1,4 +1,4 @@
-use Rattle.std.proofs.Common.{IfOk, List, map, subst}
+use Rattle.std.proofs.Common.{IfOk, map, subst}
 use Rattle.pgp_message.specs.Views.{seen}
 use Rattle.pgp_bench.specs.Pieces.{AllWeigh}
 use Rattle.pgp_bench.proofs.Feeding.{took}

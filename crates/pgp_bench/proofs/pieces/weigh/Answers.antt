@@ -1,4 +1,4 @@
-use Rattle.std.proofs.Common.{◌++◌, ◌∷◌, [], List, map, take, ap, subst, arith, ◌∙◌}
+use Rattle.std.proofs.Common.{◌++◌, ◌∷◌, [], map, take, ap, subst, arith, ◌∙◌}
 use Rattle.pgp_message.specs.Views.{seen, view}
 use Rattle.pgp_bench.specs.Pieces.{AllWeigh}
 use Rattle.pgp_bench.proofs.Feeding.{weigh_none, weigh_more, seen_more, seen_all}

@@ -1,4 +1,4 @@
-use Rattle.std.proofs.Common.{◌≤◌, map, take, length}
+use Rattle.std.proofs.Common.{map, take}
 use Rattle.pgp_message.specs.Views.{seen}
 use Rattle.pgp_bench.specs.Pieces.{AllWeigh}
 use Rattle.pgp_bench.proofs.pieces.weigh.Given as goal
