@@ -37,7 +37,7 @@ pub fn one_query<A: Allocator + Copy>(
 }
 
 /// Why a question wasn't asked whole.
-#[derive(Debug, Drop)]
+#[derive(Debug, Clone, Copy, PartialEq, Eq)]
 pub enum AskError {
     /// A message other than the binding was refused.
     Message(Error),
