@@ -9,8 +9,8 @@ use Rattle.pgp_base.specs.Wire.{uint32, nullable}
 use Rattle.pgp_base.specs.declared.error.Error.{Error}
 use Rattle.pgp_base.specs.declared.error.BindError.{BindError}
 use Rattle.pgp_base.specs.declared.number.IsNull.{IsNull}
-use Rattle.pgp_frontend.specs.ClientMessage.{ClientMessage, PasswordKind, Bind, Parse}
-use Rattle.pgp_frontend.specs.Payload.{Part, Text, part_cause, parts_cause, cause}
+use Rattle.pgp_frontend.specs.ClientMessage.{ClientMessage, Bind, Parse}
+use Rattle.pgp_frontend.specs.Payload.{Text, part_cause, parts_cause, cause}
 use Rattle.pgp_base.specs.Cause.{Cause, either}
 use Rattle.std.specs.Result.{IsErrAnd}
 use Rattle.pgp_uses.specs.declared.session.AskError.{AskError}
@@ -18,7 +18,7 @@ use Rattle.pgp_frontend.specs.Given.{Serves, before_values, BindWhole, BindRefus
 use Rattle.pgp_types.specs.Scalar.{int4}
 use Rattle.postgres_protocol.specs.ClientRun.{ClientRun, kinds_of, is_startup}
 use Rattle.postgres_protocol.specs.ClientStream.{Sent, IsAdded, IsLeft, Adds, RefusesMessage}
-use Rattle.pgp_uses.specs.Asking.{AreAdded, Blames, Stops, AddsAll, PutsNamed, NamedAdded, NamedBinds, BindsNamed, named_bound}
+use Rattle.pgp_uses.specs.Asking.{AreAdded, Blames, Stops, AddsAll, PutsNamed, NamedBinds, BindsNamed, named_bound}
 use Rattle.pgp_uses.specs.Values.{Serializes}
 use Rattle.pgp_uses.proofs.Bound.{written}
 

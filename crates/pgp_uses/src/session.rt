@@ -71,7 +71,8 @@ impl From<BindError<Error>> for AskError {
 /// # Errors
 ///
 /// `EmbeddedNull` where the name or the text has a 0 byte, `TooLarge` where it is too long for its message, and
-/// `OutOfMemory`. The messages before the refused one stay.
+/// `OutOfMemory`. The messages before the refused one stay. The contract tells the cause of each refusal but the
+/// binding's.
 pub fn ask_named<B: Buffer>(
     name: &str,
     sql: &str,

@@ -12,7 +12,6 @@ use Rattle.pgp_types.specs.Scalar.{int4}
 use Rattle.postgres_protocol.proofs.StepLemmas.{all_same, some_same, none_of_none}
 use Rattle.std.specs.Prelude.{pos}
 use Rattle.pgp_uses.specs.Asking.{AreAdded, named_bound}
-use Rattle.pgp_uses.specs.declared.session.AskError.TheVariants.{Message, Binding}
 use Rattle.pgp_uses.proofs.Asking.{none_yet, one_more, stops, parse_refused, bound_is}
 use Rattle.pgp_uses.proofs.Bound.{keeps_value}
 use Rattle.pgp_uses.proofs.session.ask_named.Goals as goal
@@ -56,7 +55,7 @@ returns-in_err-describe g c =
     let start = c.args.stream.now in
     let p = parsed name sql held start c.parse.new.self c.requires c.in_ok-parse.ensures in
     let b = one_more held _ bound bound start c.parse.new.self c.bind_named.new.stream p refl
-        (bound_is held _ g.B.Buffer.Lacks _ name c.args.value c.parse.new.self c.bind_named.new.stream c.in_ok-bind_named.ensures (λ u x b b' r s. search rules)) in
+    (bound_is held _ g.B.Buffer.Lacks _ name c.args.value c.parse.new.self c.bind_named.new.stream c.in_ok-bind_named.ensures (λ u x b b' r s. search rules)) in
     stops held _ (Describe 80 []) _ g.B.Buffer.Lacks _ start c.bind_named.new.stream c.describe.new.self _ c.from_residual-in_err-describe.ensures.1 b c.in_err-describe.ensures.1 c.in_err-describe.ensures.0
 
 pub returns-in_err-execute : goal.returns-in_err-execute
@@ -68,7 +67,7 @@ returns-in_err-execute g c =
     let start = c.args.stream.now in
     let p = parsed name sql held start c.parse.new.self c.requires c.in_ok-parse.ensures in
     let b = one_more held _ bound bound start c.parse.new.self c.bind_named.new.stream p refl
-        (bound_is held _ g.B.Buffer.Lacks _ name c.args.value c.parse.new.self c.bind_named.new.stream c.in_ok-bind_named.ensures (λ u x b b' r s. search rules)) in
+    (bound_is held _ g.B.Buffer.Lacks _ name c.args.value c.parse.new.self c.bind_named.new.stream c.in_ok-bind_named.ensures (λ u x b b' r s. search rules)) in
     let d = one_more held _ c.in_ok-describe.ensures.0 (Describe 80 []) start c.bind_named.new.stream c.describe.new.self b c.in_ok-describe.ensures.1 c.in_ok-describe.ensures.2 in
     stops held _ (Execute [] (pos 0)) _ g.B.Buffer.Lacks _ start c.describe.new.self c.execute.new.self _ c.from_residual-in_err-execute.ensures.1 d c.in_err-execute.ensures.1 c.in_err-execute.ensures.0
 
@@ -81,7 +80,7 @@ returns-in_err-sync g c =
     let start = c.args.stream.now in
     let p = parsed name sql held start c.parse.new.self c.requires c.in_ok-parse.ensures in
     let b = one_more held _ bound bound start c.parse.new.self c.bind_named.new.stream p refl
-        (bound_is held _ g.B.Buffer.Lacks _ name c.args.value c.parse.new.self c.bind_named.new.stream c.in_ok-bind_named.ensures (λ u x b b' r s. search rules)) in
+    (bound_is held _ g.B.Buffer.Lacks _ name c.args.value c.parse.new.self c.bind_named.new.stream c.in_ok-bind_named.ensures (λ u x b b' r s. search rules)) in
     let d = one_more held _ c.in_ok-describe.ensures.0 (Describe 80 []) start c.bind_named.new.stream c.describe.new.self b c.in_ok-describe.ensures.1 c.in_ok-describe.ensures.2 in
     let e = one_more held _ c.in_ok-execute.ensures.0 (Execute [] (pos 0)) start c.describe.new.self c.execute.new.self d c.in_ok-execute.ensures.1 c.in_ok-execute.ensures.2 in
     stops held _ (Sync) _ g.B.Buffer.Lacks _ start c.execute.new.self c.sync.new.self _ c.from_residual-in_err-sync.ensures.1 e c.in_err-sync.ensures.1 c.in_err-sync.ensures.0
@@ -95,7 +94,7 @@ returns g c =
     let start = c.args.stream.now in
     let p = parsed name sql held start c.parse.new.self c.requires c.in_ok-parse.ensures in
     let b = one_more held _ bound bound start c.parse.new.self c.bind_named.new.stream p refl
-        (bound_is held _ g.B.Buffer.Lacks _ name c.args.value c.parse.new.self c.bind_named.new.stream c.in_ok-bind_named.ensures (λ u x b b' r s. search rules)) in
+    (bound_is held _ g.B.Buffer.Lacks _ name c.args.value c.parse.new.self c.bind_named.new.stream c.in_ok-bind_named.ensures (λ u x b b' r s. search rules)) in
     let d = one_more held _ c.in_ok-describe.ensures.0 (Describe 80 []) start c.bind_named.new.stream c.describe.new.self b c.in_ok-describe.ensures.1 c.in_ok-describe.ensures.2 in
     let e = one_more held _ c.in_ok-execute.ensures.0 (Execute [] (pos 0)) start c.describe.new.self c.execute.new.self d c.in_ok-execute.ensures.1 c.in_ok-execute.ensures.2 in
     one_more held _ c.in_ok-sync.ensures.0 Sync start c.execute.new.self c.sync.new.self e c.in_ok-sync.ensures.1 c.in_ok-sync.ensures.2
