@@ -3,10 +3,9 @@ use Rattle.std.proofs.Common.{◌≡◌, ℕ, List, Option, Some, None, Result, 
 use Rattle.pgp_base.specs.Held.{Held}
 use Rattle.pgp_auth.specs.ScramClient.{Client, Answers}
 use Rattle.pgp_message.specs.BackendMessage.{Message}
-use Rattle.postgres_protocol.specs.ClientStream.{Sent}
-use Rattle.pgp_uses.specs.ScramLogin.{Said, Notice, Failure, Offer, First, Final, Welcome, says, if_due, Knows, Shown, in_phase, HearsOffer, HearsFirst, HearsFinal, Hears, StepsOn, Steps}
+use Rattle.pgp_uses.specs.ScramLogin.{Said, Notice, Failure, Offer, First, Final, Welcome, says, if_due, Knows, Shown, HearsOffer, HearsFirst, HearsFinal, Hears, StepsOn, Steps}
 use Rattle.pgp_uses.specs.declared.scram_login.LoginPhase.{LoginPhase}
-use Rattle.pgp_uses.specs.declared.scram_login.LoginPhase.TheVariants.{AwaitsOffer, AwaitsFirst, AwaitsFinal, AwaitsOk, Done, Over}
+use Rattle.pgp_uses.specs.declared.scram_login.LoginPhase.TheVariants.{AwaitsOffer, AwaitsFirst, AwaitsFinal, AwaitsOk, Over}
 use Rattle.pgp_uses.specs.declared.scram_login.LoginEvent.{LoginEvent}
 use Rattle.pgp_uses.specs.declared.scram_login.LoginEvent.TheVariants.{Noted, Refused, Began, Replied, Verified, Admitted}
 use Rattle.pgp_uses.specs.declared.scram_login.LoginFault.{LoginFault}

@@ -1,6 +1,5 @@
 -- An array whose elements a format writes, alone and as the value of a message.
-use Rattle.std.proofs.Common.{◌≡◌, ◌≤◌, ℕ, ℤ, pos, List, [], ◌∷◌, ◌++◌, map, length, Option, Some, None, option_map, Result, Ok, Err, Bor, MutBor, refl, sym, ap, subst, ◌∙◌, inl, inr, arith}
-use Rattle.std.specs.Prelude.{◌⊎◌}
+use Rattle.std.proofs.Common.{◌≡◌, ℕ, ℤ, List, [], ◌∷◌, map, length, Option, Some, None, option_map, Result, Ok, Err, Bor, MutBor, refl, sym, ap, ◌∙◌, inl, inr, arith}
 use Rattle.pgp_base.specs.declared.error.Error.{Error}
 use Rattle.pgp_base.specs.declared.error.BindError.{BindError}
 use Rattle.pgp_base.specs.declared.error.BindError.TheVariants.{Conversion, Serialization}
@@ -8,10 +7,9 @@ use Rattle.pgp_base.specs.declared.number.IsNull.{IsNull}
 use Rattle.pgp_base.specs.declared.number.IsNull.TheVariants.{Yes, No}
 use Rattle.pgp_base.specs.Wire.{int32, uint32, nullable}
 use Rattle.pgp_base.specs.Cause.{WantsMemory, length_cause}
-use Rattle.pgp_base.specs.Held.{Held, ◌⊕◌, Leaves}
+use Rattle.pgp_base.specs.Held.{Held, ◌⊕◌}
 use Rattle.pgp_base.specs.Calls.{value_of, KeepsValue, Puts, Gives, Runs}
 use Rattle.pgp_base.proofs.PartLemmas.{int32_number}
-use Rattle.pgp_frontend.specs.Payload.{bytes_of, cause}
 use Rattle.pgp_types.specs.declared.array.ArrayDimension.{ArrayDimension}
 use Rattle.pgp_types.specs.Array.{Array, array_bytes}
 use Rattle.pgp_types.specs.ArrayWriting.{ArrayWritten, ArrayRefused}
@@ -20,7 +18,7 @@ use Rattle.pgp_types.specs.Scalar.{int4}
 use Rattle.postgres_protocol.specs.OneValue.{BindsOne}
 use Rattle.pgp_uses.specs.Arrays.{BindsInt4s, PutsInt4s, int4_array}
 use Rattle.pgp_uses.specs.Server.{refusal_of}
-use Rattle.pgp_uses.specs.Values.{BindsValue, Serializes, bound}
+use Rattle.pgp_uses.specs.Values.{BindsValue, Serializes}
 use Rattle.pgp_uses.proofs.Bound.{written, keeps_value, binds_value}
 
 same_array : (xs ds : List ArrayDimension) (m n : ℕ) (vs ws : List (Option (List ℕ))) → xs ≡ ds → m ≡ n → vs ≡ ws

@@ -1,4 +1,4 @@
-use Rattle.std.proofs.Common.{rules, arith, ◌≡◌, ◌<◌, ◌^◌, ℕ, ℤ, zero, suc, pos, List, [], ◌∷◌, map, length, Option, Some, None, option_map, Ok, refl, ap, ◌∙◌}
+use Rattle.std.proofs.Common.{rules, arith, ◌≡◌, ◌<◌, ◌^◌, ℕ, ℤ, zero, suc, pos, List, [], ◌∷◌, map, length, Option, Some, None, option_map, Ok, refl, ap}
 use Rattle.std.specs.List.{AllByRecursion, AllZip}
 use Rattle.std.specs.Prelude.{slice_index_or}
 use Rattle.std.specs.Int.{w32}

@@ -4,7 +4,7 @@ use Rattle.pgp_types.specs.Array.{Array, array_bytes}
 use Rattle.pgp_types.specs.Scalar.{int4}
 use Rattle.std.specs.Int.{w32}
 use Rattle.std.proofs.lemmas.Int.{to_z_pos}
-use Rattle.std.proofs.Common.{rules, ◌≡◌, ◌≤◌, ℤ, pos, List, map, option_map, ap, ◌∙◌, Option, length, [], ◌∷◌, Some, refl, inl, inr, arith}
+use Rattle.std.proofs.Common.{rules, ◌≡◌, ◌≤◌, ℤ, pos, List, map, option_map, ap, ◌∙◌, Option, length, [], ◌∷◌, Some, refl, inl, arith}
 use Rattle.std.specs.Iterator.Adapters.{once_item, once_steps}
 use Rattle.std.specs.Option.{option_len}
 use Rattle.std.specs.declared.iter.Once.{Once}

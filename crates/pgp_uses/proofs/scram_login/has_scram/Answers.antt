@@ -1,5 +1,4 @@
-use Rattle.std.proofs.Common.{rules, codes, ◌≡◌, true, false, None}
-use Rattle.pgp_base.specs.Walk.{TakesItem, IsFinished, IsRefused}
+use Rattle.std.proofs.Common.{rules, codes}
 use Rattle.pgp_base.proofs.Walks.{one_fewer}
 use Rattle.pgp_uses.proofs.Mechanisms.{none_sought, one_sought, all_sought, refused_sought}
 use Rattle.pgp_uses.proofs.scram_login.has_scram.Goals as goal

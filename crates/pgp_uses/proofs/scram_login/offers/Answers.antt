@@ -1,4 +1,4 @@
-use Rattle.std.proofs.Common.{◌≡◌, ℕ, List, None, codes, Contains, sym, subst}
+use Rattle.std.proofs.Common.{ℕ, List, None, codes, Contains, sym, subst}
 use Rattle.pgp_uses.proofs.scram_login.offers.Goals as goal
 
 pub returns-clause-no : goal.returns-clause-no
