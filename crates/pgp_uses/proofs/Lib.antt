@@ -1,3 +1,4 @@
+pub mod Asking
 pub mod Bound
 pub mod Descriptions
 pub mod Elements

@@ -1,4 +1,5 @@
 pub mod Arrays
+pub mod Asking
 pub mod Client
 pub mod Columns
 pub mod Filter

@@ -1,13 +1,17 @@
 //! What a client sends, as one stream.
 
-ghost use Rattle.std.specs.Prelude.{◌≡◌, ◌⊎◌, [], ◌∷◌, codes, Some, IfOk, IfErr};
+ghost use Rattle.std.specs.Prelude.{◌≡◌, ◌⊎◌, true, [], ◌∷◌, codes, Some, IfOk, IfErr};
+ghost use Rattle.pgp_base.specs.Calls.{OwesValues};
 ghost use Rattle.pgp_frontend.specs.ClientMessage.{Query, Startup, Terminate};
 ghost use Rattle.pgp_frontend.specs.Payload.{cause};
 ghost use Rattle.postgres_protocol.specs.ClientRun.{ClientRun};
+ghost use Rattle.pgp_uses.specs.Asking.{AddsAll, BindsNamed, question};
 
+use crate::values::put_int4;
 use bytes::BytesMut;
-use postgres_protocol::Error;
+use pgp_base::{Buffer, IsNull};
 use postgres_protocol::session::ClientStream;
+use postgres_protocol::{BindError, Error, Oid};
 use std::alloc::{Allocator, Global};
 
 /// A session that asks one query and ends. A server reads its bytes as exactly these three messages.
@@ -30,4 +34,77 @@ pub fn one_query<A: Allocator + Copy>(
     stream.query(query)?;
     stream.terminate()?;
     Ok(stream)
+}
+
+/// Why a question wasn't asked whole.
+#[derive(Debug, Clone, Copy, PartialEq, Eq)]
+pub enum AskError {
+    /// A message other than the binding was refused.
+    Message(Error),
+    /// The binding was refused, or its value.
+    Binding(BindError<Error>),
+}
+
+impl From<Error> for AskError {
+    ghost use Rattle.pgp_uses.specs.declared.session.AskError.TheVariants.{Message};
+
+    ghost from_gives = { λ e r. r ≡ Message e };
+
+    fn from(e: Error) -> AskError {
+        AskError::Message(e)
+    }
+}
+
+impl From<BindError<Error>> for AskError {
+    ghost use Rattle.pgp_uses.specs.declared.session.AskError.TheVariants.{Binding};
+
+    ghost from_gives = { λ e r. r ≡ Binding e };
+
+    fn from(e: BindError<Error>) -> AskError {
+        AskError::Binding(e)
+    }
+}
+
+/// Asks a statement by its name, with an `int4` in binary for its one parameter: it is parsed, bound, described and run.
+/// A server reads exactly these five messages behind what it read before.
+///
+/// # Errors
+///
+/// `EmbeddedNull` where the name or the text has a 0 byte, `TooLarge` where it is too long for its message, and
+/// `OutOfMemory`. The messages before the refused one stay. The contract tells the cause of each refusal but the
+/// binding's.
+pub fn ask_named<B: Buffer>(
+    name: &str,
+    sql: &str,
+    value: i32,
+    stream: &mut ClientStream<B>,
+) -> Result<(), AskError>
+    requires { stream.old.opened ≡ true }
+    ensures { AddsAll B.held (question name.now sql.now value) B.Lacks stream.old stream.new result }
+{
+    stream.parse(name, sql, None::<Oid>)?;
+    bind_named(
+        stream,
+        name,
+        |_: u8, buf: &mut B| put_int4(Some(value), buf),
+    )?;
+    stream.describe(b'P', "")?;
+    stream.execute("", 0)?;
+    stream.sync()?;
+    Ok(())
+}
+
+/// Binds one value, in binary, to the named statement.
+#[tactic(auto, using(pgp_base::proofs::Parts::held_steps))]
+fn bind_named<B: Buffer, F: FnMut(u8, &mut B) -> Result<IsNull, Error> + Drop>(
+    stream: &mut ClientStream<B>,
+    name: &str,
+    serializer: F,
+) -> Result<(), BindError<Error>>
+    requires opened { stream.old.opened ≡ true }
+    requires callable { F.IsAlwaysCallable serializer }
+    requires owes { OwesValues B.held F.pre F.step }
+    ensures { BindsNamed B.held F.step serializer name.now stream.old stream.new result }
+{
+    stream.bind("", name, Some(1i16), Some(0u8), serializer, Some(1i16))
 }

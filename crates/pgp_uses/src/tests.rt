@@ -13,7 +13,7 @@ use crate::recorder::record;
 use crate::rows::{ColumnError, int4_column, text_column};
 use crate::scram_login::{LoginEvent, LoginFault, LoginPhase, ScramLogin};
 use crate::server::answer;
-use crate::session::one_query;
+use crate::session::{AskError, ask_named, one_query};
 use crate::streams::{completed, frame_count, front_row};
 use crate::values::{bind_int4, parameter, value_of};
 use crate::writing::{ask, ask_in_place};
@@ -69,6 +69,33 @@ fn a_session_of_one_query(rt: HostRuntime) -> Result<(), Fail> {
     assert_eq!(rt;
         stream.bytes(),
         b"\x00\x00\x00\x14\x00\x03\x00\x00user\x00alice\x00\x00Q\x00\x00\x00\x0dSELECT 1\x00X\x00\x00\x00\x04".as_slice()
+    );
+    Ok(())
+}
+
+#[test]
+fn a_named_statement_is_asked(rt: HostRuntime) -> Result<(), Fail> {
+    let mut stream = ClientStream::<BytesMut>::new(rt.alloc());
+    stream.startup_message(&[("user", "app")])?;
+    assert_eq!(rt; ask_named("s", "select $1", -2, &mut stream), Ok(()));
+    assert_eq!(rt;
+        stream.bytes(),
+        b"\x00\x00\x00\x12\x00\x03\x00\x00user\x00app\x00\x00P\x00\x00\x00\x12s\x00select $1\x00\x00\x00B\x00\x00\x00\x19\x00s\x00\x00\x01\x00\x01\x00\x01\x00\x00\x00\x04\xff\xff\xff\xfe\x00\x01\x00\x01D\x00\x00\x00\x06P\x00E\x00\x00\x00\x09\x00\x00\x00\x00\x00S\x00\x00\x00\x04".as_slice()
+    );
+    Ok(())
+}
+
+#[test]
+fn a_refused_statement_is_not_asked(rt: HostRuntime) -> Result<(), Fail> {
+    let mut stream = ClientStream::<BytesMut>::new(rt.alloc());
+    stream.startup_message(&[("user", "app")])?;
+    assert_eq!(rt;
+        ask_named("s", "a\0b", 7, &mut stream),
+        Err(AskError::Message(Error::EmbeddedNull))
+    );
+    assert_eq!(rt;
+        stream.bytes(),
+        b"\x00\x00\x00\x12\x00\x03\x00\x00user\x00app\x00\x00".as_slice()
     );
     Ok(())
 }

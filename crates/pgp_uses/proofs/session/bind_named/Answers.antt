@@ -1,0 +1,25 @@
+use Rattle.std.proofs.Common.{◌≡◌, ◌≤◌, Option, pos, [], ◌∷◌, Some}
+use Rattle.std.specs.Iterator.Adapters.{once_item, once_steps}
+use Rattle.std.specs.Option.{option_len}
+use Rattle.std.specs.declared.iter.Once.{Once}
+use Rattle.std.proofs.lemmas.Iterator.Adapters.{YieldsList-from_once}
+use Rattle.pgp_base.specs.Calls.{Came}
+use Rattle.postgres_protocol.proofs.StepLemmas.{all_same}
+use Rattle.pgp_uses.proofs.Asking.{named_binds}
+use Rattle.pgp_uses.proofs.session.bind_named.Goals as goal
+
+-- the iterator of an `Option`
+abbrev FromOption : {A : Type 0} → Type 0 → Option A → Once A → Type 0
+FromOption Ends source it = (once_item it ≡ source) × (option_len (once_item it) ≤ 1) × Ends
+
+pub returns : goal.returns
+returns g c =
+    let held = g.B.Buffer.held in
+    record {
+      last = c.bind.ensures.0;
+      binds = named_binds held (goal.F-step g) g.B.Buffer.Lacks (Came (FromOption _) once_steps (Some (pos 1))) (Came (FromOption _) once_steps (Some 0)) (Came (FromOption _) once_steps (Some (pos 1)))
+          (λ xs k. all_same (FromOption _) once_steps (Some (pos 1)) (pos 1 ∷ []) (λ it from. YieldsList-from_once (Some (pos 1)) from.0) xs k)
+          (λ xs k. all_same (FromOption _) once_steps (Some 0) (0 ∷ []) (λ it from. YieldsList-from_once (Some 0) from.0) xs k)
+          (λ xs k. all_same (FromOption _) once_steps (Some (pos 1)) (pos 1 ∷ []) (λ it from. YieldsList-from_once (Some (pos 1)) from.0) xs k)
+          c.args.serializer c.bind.ensures.0 c.args.name.now c.args.stream.now c.bind.result c.bind.new.self c.bind.ensures.1;
+    }

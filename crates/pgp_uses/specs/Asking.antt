@@ -1,0 +1,79 @@
+-- What a question by a named statement sends: the extended query of one int4.
+-- PostgreSQL manual, "Message Flow": "Extended Query".
+use Rattle.std.specs.Prelude.{◌≡◌, ℕ, ℤ, pos, true, List, [], ◌∷◌, ◌++◌, Option, Some, Result, Ok, Err}
+use Rattle.std.specs.List.{flat_map}
+use Rattle.pgp_base.specs.Calls.{value_of, Puts}
+use Rattle.pgp_base.specs.Held.{Held, ◌⊕◌}
+use Rattle.pgp_base.specs.Wire.{uint32}
+use Rattle.pgp_base.specs.declared.error.Error.{Error}
+use Rattle.pgp_base.specs.declared.error.BindError.{BindError}
+use Rattle.pgp_base.specs.declared.number.IsNull.{IsNull}
+use Rattle.pgp_frontend.specs.ClientMessage.{ClientMessage, PasswordKind, Parse, Bind, Describe, Execute, Sync}
+use Rattle.pgp_frontend.specs.Given.{before_values}
+use Rattle.pgp_types.specs.Scalar.{int4}
+use Rattle.postgres_protocol.specs.ClientRun.{ClientRun, kinds_of}
+use Rattle.postgres_protocol.specs.ClientStream.{Sent, IsAdded, IsLeft, RefusesMessage}
+use Rattle.pgp_uses.specs.declared.session.AskError.{AskError}
+use Rattle.pgp_uses.specs.declared.session.AskError.TheVariants.{Message, Binding}
+use denote.Ref.{MutBor}
+
+-- the message that binds a value, in binary, to the one parameter of the named statement, for an answer in binary
+abbrev pub named_bound : List ℕ → Option (List ℕ) → ClientMessage
+named_bound name v = Bind [] name (pos 1 ∷ []) (v ∷ []) (pos 1 ∷ [])
+
+-- the statement is parsed, bound to the value, described (80 is `P`, a portal), and run with no limit of rows
+abbrev pub question : List ℕ → List ℕ → ℤ → List ClientMessage
+question name sql value = Parse name sql [] ∷ named_bound name (Some (int4.written value)) ∷ Describe 80 [] ∷ Execute [] (pos 0) ∷ Sync ∷ []
+
+abbrev pub IsBind : ClientMessage → Type 0
+IsBind (Bind portal statement formats values results) = Unit {0}
+IsBind m = ⊥
+
+-- Which message an error tells of: the binding, whose cause isn't said here; or another, for its cause or for want of
+-- memory.
+abbrev pub Blames : Type 0 → AskError → ClientMessage → Type 0
+Blames lacks (Message e) m = RefusesMessage m lacks e
+Blames lacks (Binding e) m = IsBind m
+
+module _ {B K : Type 0} (held : B → Held K) where
+  -- However a server reads the bytes that stood there, it now reads these messages behind them.
+  pub record AreAdded (ms : List ClientMessage) (old new : Sent B) : Type 0 where
+    pub opened : new.opened ≡ true
+    pub reads : (kinds : List PasswordKind) (messages : List ClientMessage) → ClientRun kinds messages (held old.buf).bytes
+        → ClientRun (kinds ++ flat_map kinds_of ms) (messages ++ ms) (held new.buf).bytes
+
+  -- a message was refused, and those before it were added
+  pub record Stops (ms : List ClientMessage) (lacks : Type 0) (e : AskError) (old new : Sent B) : Type 0 where
+    pub front : List ClientMessage
+    pub at : ClientMessage
+    pub rest : List ClientMessage
+    pub are : ms ≡ front ++ at ∷ rest
+    pub added : AreAdded front old new
+    pub why : Blames lacks e at
+
+  -- all messages were added; or those before one that was refused
+  abbrev pub AddsAll : List ClientMessage → Type 0 → Sent B → Sent B → Result (Unit {0}) AskError → Type 0
+  AddsAll ms lacks old new (Ok done) = AreAdded ms old new
+  AddsAll ms lacks old new (Err e) = Stops ms lacks e old new
+
+-- What a `bind` to a named statement of one value comes to, which a serializer makes: it was called once, behind the place of the
+-- value's length, and left as `last`.
+module _ {F B K : Type 0} (held : B → Held K) (step : F → ℕ → MutBor B → Result IsNull Error → MutBor B → F → Type 0) (f last : F) (name : List ℕ) (old : Sent B) where
+  abbrev pub PutsNamed : Result IsNull Error → List ℕ → Type 0
+  PutsNamed answer bytes = Puts held step (before_values (held old.buf) [] name (pos 1 ∷ []) ⊕ uint32 0) f 0 answer bytes last
+
+  -- the message of the value that it made was added
+  pub record NamedAdded (new : Sent B) : Type 0 where
+    pub null : IsNull
+    pub bytes : List ℕ
+    pub put : PutsNamed (Ok null) bytes
+    pub added : IsAdded held (named_bound name (value_of null bytes)) old new
+
+  abbrev pub NamedBinds : Sent B → Result (Unit {0}) (BindError Error) → Type 0
+  NamedBinds new (Ok done) = NamedAdded new
+  NamedBinds new (Err e) = IsLeft held old new
+
+-- the same, with the serializer's last state
+pub record BindsNamed {F B K : Type 0} (held : B → Held K) (step : F → ℕ → MutBor B → Result IsNull Error → MutBor B → F → Type 0) (f : F) (name : List ℕ) (old new : Sent B) (result : Result (Unit {0}) (BindError Error)) : Type 0 where
+  pub last : F
+  pub binds : NamedBinds held step f last name old new result
