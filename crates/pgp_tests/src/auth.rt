@@ -96,11 +96,11 @@ fn texts_with_each_allocation_refused(rt: HostRuntime) -> Result<(), Fail> {
             match text_of(&heap, call) {
                 Ok(text) => {
                     assert_eq!(rt; text.as_str(), ample.as_str());
-                    assert!(rt; heap.is_pending());
+                    assert!(rt; heap.until_refusal.get() != 0);
                 }
                 Err(e) => assert_eq!(rt; e, Error::OutOfMemory),
             }
-            if heap.is_pending() {
+            if heap.until_refusal.get() != 0 {
                 break;
             }
             refusals = number;
@@ -197,7 +197,7 @@ fn exchanges_with_each_allocation_refused(rt: HostRuntime) -> Result<(), Fail> {
             let heap = Refusing::new(rt.alloc(), number);
             match end_of(&heap, course) {
                 Ok((0, finished, hmacs)) => {
-                    let is_refused = !heap.is_pending();
+                    let is_refused = heap.until_refusal.get() == 0;
                     let end = if is_refused { (0, 1, 3) } else { ample };
                     assert_eq!(rt; (0, finished, hmacs), end, "{number}");
                 }
@@ -207,7 +207,7 @@ fn exchanges_with_each_allocation_refused(rt: HostRuntime) -> Result<(), Fail> {
                 }
                 Err(e) => assert_eq!(rt; e.number(), 1, "{number}"),
             }
-            if heap.is_pending() {
+            if heap.until_refusal.get() != 0 {
                 break;
             }
             refusals = number;

@@ -111,9 +111,9 @@ fn writers_with_each_allocation_refused(rt: HostRuntime) -> Result<(), Fail> {
         for number in 1..1000u64 {
             let heap = Refusing::new(rt.alloc(), 0);
             let mut buf: BytesMut<&Refusing<Global>> = full(&heap)?;
-            heap.refuse(number);
+            heap.until_refusal.set(number);
             let answer = write(writer, &mut buf);
-            if heap.is_pending() {
+            if heap.until_refusal.get() != 0 {
                 assert_eq!(rt; answer, Ok(()), "writer {writer}");
                 assert_eq!(rt; buf.as_slice(), ample.as_slice(), "writer {writer}");
                 break;
@@ -138,7 +138,7 @@ fn a_refused_piece_is_written_later(rt: HostRuntime) -> Result<(), Fail> {
     match CopyData::new(b"ab".as_slice()) {
         Err(_) => assert!(rt; false),
         Ok(piece) => {
-            heap.refuse(1);
+            heap.until_refusal.set(1);
             match piece.write(&mut buf) {
                 Ok(()) => assert!(rt; false),
                 Err(piece) => {

@@ -38,9 +38,9 @@ fn parse_with_each_allocation_refused(rt: HostRuntime) -> Result<(), Fail> {
     for number in 1..100u64 {
         let heap = Refusing::new(rt.alloc(), 0);
         let mut buf = buffer(&heap, frame)?;
-        heap.refuse(number);
+        heap.until_refusal.set(number);
         let answer = is_copy_of(&mut buf, b"ab");
-        if heap.is_pending() {
+        if heap.until_refusal.get() != 0 {
             assert_eq!(rt; answer, Ok(Some(true)));
             assert!(rt; buf.is_empty());
             break;
@@ -62,10 +62,10 @@ fn unfinished_frame_with_each_allocation_refused(rt: HostRuntime) -> Result<(), 
     for number in 1..100u64 {
         let heap = Refusing::new(rt.alloc(), 0);
         let mut buf = buffer(&heap, front)?;
-        heap.refuse(number);
+        heap.until_refusal.set(number);
         assert_eq!(rt; is_copy_of(&mut buf, b""), Ok(None));
         assert_eq!(rt; buf.as_slice(), front);
-        if heap.is_pending() {
+        if heap.until_refusal.get() != 0 {
             break;
         }
         refusals = number;
@@ -105,10 +105,10 @@ fn bare_frames_ask_for_no_memory(rt: HostRuntime) -> Result<(), Fail> {
     for (bytes, answer) in frames {
         let heap = Refusing::new(rt.alloc(), 0);
         let mut buf = buffer(&heap, bytes)?;
-        heap.refuse(1);
+        heap.until_refusal.set(1);
         assert_eq!(rt; is_message(&mut buf), answer);
         assert!(rt; buf.is_empty());
-        assert!(rt; heap.is_pending());
+        assert!(rt; heap.until_refusal.get() != 0);
     }
     Ok(())
 }
@@ -137,9 +137,9 @@ fn clone_with_each_allocation_refused(rt: HostRuntime) -> Result<(), Fail> {
     let frame: &[u8] = b"\x44\0\0\0\x13\0\x03\0\0\0\x01\x61\xff\xff\xff\xff\0\0\0\0";
     let heap = Refusing::new(rt.alloc(), 0);
     let row = row(&heap, frame)?;
-    heap.refuse(1);
+    heap.until_refusal.set(1);
     assert_eq!(rt; cloned(&row, &frame[7..]), Ok(true));
-    assert!(rt; heap.is_pending());
+    assert!(rt; heap.until_refusal.get() != 0);
     Ok(())
 }
 
@@ -162,7 +162,7 @@ fn refusals_of(rt: &impl Abort, alloc: Global, message: &Message, len: usize) ->
     for number in 1..100u64 {
         let heap = Refusing::new(alloc, number);
         let answer = collected(&heap, message);
-        if heap.is_pending() {
+        if heap.until_refusal.get() != 0 {
             assert_eq!(rt; answer, Ok(len));
             break;
         }
@@ -232,9 +232,9 @@ fn parser_with_each_allocation_refused(rt: HostRuntime) -> Result<(), Fail> {
         let heap = Refusing::new(rt.alloc(), 0);
         let mut buf = buffer(&heap, frame)?;
         let mut parser = FrameParser::new();
-        heap.refuse(number);
+        heap.until_refusal.set(number);
         let answer = is_next_copy_of(&mut parser, &mut buf, b"ab");
-        if heap.is_pending() {
+        if heap.until_refusal.get() != 0 {
             assert_eq!(rt; answer, Ok(Some(true)));
             assert!(rt; buf.is_empty());
             break;
@@ -269,7 +269,7 @@ fn refusals_of_table(rt: &impl Abort, alloc: Global, row: &[u8], len: usize) -> 
     for number in 1..100u64 {
         let heap = Refusing::new(alloc, number);
         let answer = columns(&heap, row);
-        if heap.is_pending() {
+        if heap.until_refusal.get() != 0 {
             assert_eq!(rt; answer, Ok(len));
             break;
         }
@@ -292,7 +292,7 @@ fn index_with_each_allocation_refused(rt: HostRuntime) -> Result<(), Fail> {
     let cut = b"\x44\0\0\0\x0a\xff\xff\0\0\0\x05";
     let heap = Refusing::new(rt.alloc(), 1);
     assert_eq!(rt; columns(&heap, cut), Err(Error::UnexpectedEof));
-    assert!(rt; heap.is_pending());
+    assert!(rt; heap.until_refusal.get() != 0);
     Ok(())
 }
 

@@ -95,7 +95,7 @@ fn pieces_with_each_allocation_refused(rt: HostRuntime) -> Result<(), Fail> {
     for number in 1..1000u64 {
         let heap = Refusing::new(rt.alloc(), 0);
         let mut parser: StreamParser<&Refusing<Global>> = StreamParser::new(&heap);
-        heap.refuse(number);
+        heap.until_refusal.set(number);
         let mut answer = parser.feed(front);
         if answer.is_ok() && !parser.failed() {
             answer = parser.feed(back);
@@ -110,7 +110,7 @@ fn pieces_with_each_allocation_refused(rt: HostRuntime) -> Result<(), Fail> {
             assert_eq!(rt; parser.results().len(), MARKS.len());
             assert_eq!(rt; parser.rest(), b"Z\0\0\0\x03".as_slice());
         }
-        if heap.is_pending() {
+        if heap.until_refusal.get() != 0 {
             break;
         }
     }
@@ -136,7 +136,7 @@ fn parse_stream_with_each_allocation_refused(rt: HostRuntime) -> Result<(), Fail
                 refusals = refusals.saturating_add(1);
             }
         }
-        if heap.is_pending() {
+        if heap.until_refusal.get() != 0 {
             break;
         }
     }

@@ -104,9 +104,9 @@ fn requests_with_each_allocation_refused(rt: HostRuntime) -> Result<(), Fail> {
         for number in 1..100u64 {
             let heap = Refusing::new(rt.alloc(), 0);
             let mut stream: ClientStream<BytesMut<&Refusing<Global>>> = ClientStream::new(&heap);
-            heap.refuse(number);
+            heap.until_refusal.set(number);
             let answer = begin(request, &mut stream);
-            if heap.is_pending() {
+            if heap.until_refusal.get() != 0 {
                 assert_eq!(rt; answer, Ok(()), "request {request}");
                 break;
             }
@@ -132,9 +132,9 @@ fn calls_with_each_allocation_refused(rt: HostRuntime) -> Result<(), Fail> {
             let buf: BytesMut<&Refusing<Global>> = BytesMut::with_capacity(&heap, STARTUP.len())?;
             let mut stream = ClientStream::over(buf);
             assert_eq!(rt; begin(3, &mut stream), Ok(()));
-            heap.refuse(number);
+            heap.until_refusal.set(number);
             let answer = call(what, &mut stream);
-            if heap.is_pending() {
+            if heap.until_refusal.get() != 0 {
                 assert_eq!(rt; answer, Ok(()), "call {what}");
                 break;
             }

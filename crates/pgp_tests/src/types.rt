@@ -146,9 +146,9 @@ fn writers_with_each_allocation_refused(rt: HostRuntime) -> Result<(), Fail> {
             }
             let held = buf.as_slice().to_vec(rt.alloc())?;
             for request in 1..100u64 {
-                heap.refuse(request);
+                heap.until_refusal.set(request);
                 let answer = write(number, &mut buf);
-                if heap.is_pending() {
+                if heap.until_refusal.get() != 0 {
                     assert_eq!(rt; answer, Ok(()));
                     let appended = buf.as_slice().strip_prefix(held.as_slice());
                     assert!(rt; appended == Some(*bytes), "writer {number}");
@@ -173,7 +173,7 @@ fn collect_reserves_nothing_by_the_count(rt: HostRuntime) -> Result<(), Fail> {
         let answer = array.values().collect(&heap);
         assert!(rt; matches!(answer, Err(Error::UnexpectedEof)));
         drop(answer);
-        assert!(rt; heap.is_pending());
+        assert!(rt; heap.until_refusal.get() != 0);
     }
     Ok(())
 }
@@ -205,7 +205,7 @@ fn collect_with_each_allocation_refused(rt: HostRuntime) {
         for number in 1..100u64 {
             let heap = Refusing::new(rt.alloc(), number);
             let answer = collected(&heap, walk);
-            if heap.is_pending() {
+            if heap.until_refusal.get() != 0 {
                 assert_eq!(rt; answer, Ok(5));
                 break;
             }

@@ -359,7 +359,7 @@ fn words_are_not_read_with_each_allocation_refused(rt: HostRuntime) {
         let mut output = Vec::new(rt.alloc());
         let mut errors = Vec::new(rt.alloc());
         let status = run_own(&heap, &env, &mut input, &mut output, &mut errors);
-        if heap.is_pending() {
+        if heap.until_refusal.get() != 0 {
             assert_eq!(rt; status, 0);
             assert_eq!(rt; output.as_slice(), b"'f''oo'\n".as_slice());
             break;
@@ -422,7 +422,7 @@ fn engine_writes_nothing_with_each_allocation_refused(rt: HostRuntime) {
         let mut input: &[u8] = frames;
         let mut output = Vec::new(rt.alloc());
         let answer = backend(&heap, &mut input, &mut output);
-        if heap.is_pending() {
+        if heap.until_refusal.get() != 0 {
             assert_eq!(rt; answer, Ok(0));
             assert_eq!(rt; output.as_slice(), lines.as_bytes());
             break;
@@ -449,7 +449,7 @@ fn texts_are_not_printed_with_each_allocation_refused(rt: HostRuntime) {
             let mut output = Vec::new(rt.alloc());
             let mut errors = Vec::new(rt.alloc());
             let status = run(&heap, words, &mut input, &mut output, &mut errors);
-            if heap.is_pending() {
+            if heap.until_refusal.get() != 0 {
                 assert_eq!(rt; status, 0);
                 break;
             }
