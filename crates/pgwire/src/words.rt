@@ -14,7 +14,7 @@ const FIRST_SIZE: usize = 256;
 ///
 /// # Errors
 ///
-/// There is no memory for them, as there is none for a text at each place.
+/// There is no memory for them; where a word stands at each place, there can't be.
 pub fn texts<A: Allocator + Copy, V: Words>(
     alloc: A,
     env: &V,
