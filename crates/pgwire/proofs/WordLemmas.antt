@@ -11,6 +11,6 @@ module _ (Stands : ℕ → List ℕ → Type 0) where
 
   pub one_more : (at : ℕ) (words new : List (List ℕ)) (word : List ℕ) → TextsFrom Stands 1 words → at ≡ 1 + length words → Stands at word → IsUtf8 word → new ≡ words ++ word ∷ [] → TextsFrom Stands 1 new × (at + 1 ≡ 1 + length new)
   one_more at words new word texts here stands utf8 added = (
-      subst (TextsFrom Stands 1) (sym added) (texts_more 1 at words word texts here stands utf8),
-      omega (arith, here, ap length added, length-append words (word ∷ [])),
-    )
+    subst (TextsFrom Stands 1) (sym added) (texts_more 1 at words word texts here stands utf8),
+    omega (arith, here, ap length added, length-append words (word ∷ [])),
+  )

@@ -11,4 +11,4 @@ places-preserved g c =
     let text = c.in-Ok.text in
     let stands : Stands c.places.place (string_bytes text) = subst (λ b. Stands c.places.place b.items) (sym c.in-Ok.ensures.ok) (search rules) in
     one_more Stands c.places.place _ _ _ texts here stands (IsUtf8-string_bytes text)
-        (ap (map string_bytes) c.in_ok-push-in-Ok.ensures.items ∙ map-append string_bytes c.places.texts.items (text ∷ []))
+    (ap (map string_bytes) c.in_ok-push-in-Ok.ensures.items ∙ map-append string_bytes c.places.texts.items (text ∷ []))
