@@ -9,6 +9,7 @@ use Rattle.pgwire.specs.declared.fault.Fault.TheVariants.{Memory, Read, Write}
 use Rattle.pgwire.specs.Output.{line, Writes, BackendOutput}
 use Rattle.pgwire.specs.ClientOutput.{ClientOutput, WritesAnswer}
 use Rattle.pgwire.specs.Taken.{AppendsFront}
+use Rattle.pgwire.specs.Words.{AreWords, HasOther}
 
 pub data Command : Type 0 where
   Client : Command
@@ -122,9 +123,10 @@ pub record IsRefused (words : List (List ℕ)) (before after : Streams) (status 
   pub input : Keeps before.input after.input
   pub output : Keeps before.output after.output
 
--- The words of the process aren't texts, or there is no memory for them: nothing is read or written.
-pub record IsUnread (before after : Streams) (status : ℕ) (complaint : List ℕ) : Type 0 where
-  pub told : ((complaint ≡ usage) × (status ≡ 2)) ⊎ ((complaint ≡ complaint_of Memory) × (status ≡ 1))
+-- The words of the process aren't obeyed: this is told, and nothing is read or written.
+pub record IsUnread (text : List ℕ) (code : ℕ) (before after : Streams) (status : ℕ) (complaint : List ℕ) : Type 0 where
+  pub told : complaint ≡ text
+  pub failed : status ≡ code
   pub input : Keeps before.input after.input
   pub output : Keeps before.output after.output
 
@@ -164,12 +166,22 @@ module _ (read_failed write_failed : Type 0) where
     pub obeyed : Obeys words before after status complaint
     pub said : IsSaid said_failed old new complaint
 
-  -- The words of the process are obeyed, or aren't read.
-  abbrev pub ObeysOwn : Streams → Streams → ℕ → List ℕ → Type 0
-  ObeysOwn before after status complaint = ((words : List (List ℕ)) × Obeys words before after status complaint) ⊎ IsUnread before after status complaint
+  -- What is done for the words of the process, where words stand so and none stands at such places.
+  module _ (Stands : ℕ → List ℕ → Type 0) (Ends : ℕ → Type 0) where
+    -- They are obeyed, and no other words.
+    pub record ObeysAll (before after : Streams) (status : ℕ) (complaint : List ℕ) : Type 0 where
+      pub words : List (List ℕ)
+      pub own : AreWords Stands Ends words
+      pub obeyed : Obeys words before after status complaint
 
-  -- A run on the words of the process.
-  pub record RunsOwn (said_failed : Type 0) (before after : Streams) (old new : Option (List ℕ)) (status : ℕ) : Type 0 where
-    pub complaint : List ℕ
-    pub obeyed : ObeysOwn before after status complaint
-    pub said : IsSaid said_failed old new complaint
+    -- They are obeyed; or one of them isn't UTF-8; or there is no memory for them.
+    abbrev pub ObeysOwn : Streams → Streams → ℕ → List ℕ → Type 0
+    ObeysOwn before after status complaint = ObeysAll before after status complaint
+        ⊎ (HasOther Stands × IsUnread usage 2 before after status complaint)
+        ⊎ IsUnread (complaint_of Memory) 1 before after status complaint
+
+    -- A run on the words of the process.
+    pub record RunsOwn (said_failed : Type 0) (before after : Streams) (old new : Option (List ℕ)) (status : ℕ) : Type 0 where
+      pub complaint : List ℕ
+      pub obeyed : ObeysOwn before after status complaint
+      pub said : IsSaid said_failed old new complaint

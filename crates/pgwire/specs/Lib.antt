@@ -4,5 +4,6 @@ pub mod Script
 pub mod Request
 pub mod ClientOutput
 pub mod Sending
+pub mod Words
 pub mod Command
 pub mod Asked

@@ -1,11 +1,13 @@
-//! What the program reads from and writes to.
+//! What the program reads from and writes to, and the words that it was started with.
 
-ghost use Rattle.std.specs.Prelude.{◌≡◌, ◌<◌, ◌++◌, length, IfOk, IfSome, OnErr, OnOk};
+ghost use Rattle.std.specs.Prelude.{◌≡◌, ◌<◌, ◌++◌, ℕ, List, length, take, IfErr, IfOk, IfSome, OnErr, OnOk};
 ghost use Rattle.std.specs.Io.{ReadsAtMost, WritesAtMost, StartsWith, appended_bytes};
 ghost use Rattle.std.specs.Io.KnownBytes.{Consumes, IsAtEnd, Keeps, ReadConsumes, WriteAppends};
 
 use std::alloc::Allocator;
+use std::env::FillError;
 use std::io::{self, Read, Write};
+use std::rt::Env;
 
 /// A reader, any of std's.
 pub trait Input: Read {
@@ -85,5 +87,35 @@ impl<W: Write> Output for W {
 
     fn pass_on(&mut self) -> io::Result<()> {
         self.flush()
+    }
+}
+
+/// An environment, any of std's.
+pub trait Words: Env {
+    /// The word stands at the place; the program's name stands at 0.
+    ghost Stands: { Self → ℕ → List ℕ → Type 0 };
+
+    /// No word stands at the place.
+    ghost Ends: { Self → ℕ → Type 0 };
+
+    /// Copies the word at the place to the start of the buffer, as `arg` does, and answers its length.
+    ///
+    /// # Errors
+    ///
+    /// `NotPresent` where no word stands there, `TooLong` where the buffer is shorter than the word.
+    fn word_at(&self, place: usize, buffer: &mut [u8]) -> Result<usize, FillError>
+        ensures bound { WritesAtMost result buffer.new }
+        ensures word { IfOk result (λ n. Self.Stands self.now place (take n buffer.new)) }
+        ensures none { IfErr result (λ e. e ≡ FillError.NotPresent → Self.Ends self.now place) };
+}
+
+/// Of its words nothing is said: any may stand anywhere.
+impl<V: Env> Words for V {
+    ghost Stands = { λ _ _ _. Unit {0} };
+
+    ghost Ends = { λ _ _. Unit {0} };
+
+    fn word_at(&self, place: usize, buffer: &mut [u8]) -> Result<usize, FillError> {
+        self.arg(place, buffer)
     }
 }

@@ -8,13 +8,12 @@ ghost use Rattle.pgwire.specs.Asked.{asked};
 use crate::backend::backend;
 use crate::client::client;
 use crate::fault::Fault;
-use crate::ports::{Input, Output};
+use crate::ports::{Input, Output, Words};
 use crate::print::put;
 use crate::text;
 use crate::words::{lent, texts};
 use hex::FromHex;
 use std::alloc::Allocator;
-use std::rt::Env;
 
 const USAGE: &str =
     "usage: pgwire client | backend | verifier PASSWORD SALTHEX | escape literal|identifier TEXT\n";
@@ -155,13 +154,13 @@ pub fn run<A: Allocator + Copy, R: Input, W: Output, E: Output>(
 
 /// Does what the program's own words ask for, where there is memory for them. A word that isn't UTF-8
 /// asks for nothing that there is.
-fn try_own<A: Allocator + Copy, V: Env, R: Input, W: Output>(
+fn try_own<A: Allocator + Copy, V: Words, R: Input, W: Output>(
     alloc: A,
     env: &V,
     input: &mut R,
     output: &mut W,
 ) -> Result<Outcome, Fault>
-    ensures obeyed { IfOk result (λ outcome. ObeysOwn R.Fails W.Fails
+    ensures obeyed { IfOk result (λ outcome. ObeysOwn R.Fails W.Fails (V.Stands env.now) (V.Ends env.now)
         (record { input = R.remaining input.old; output = W.contents output.old })
         (record { input = R.remaining input.new; output = W.contents output.new })
         outcome.status outcome.complaint.now) }
@@ -177,13 +176,13 @@ fn try_own<A: Allocator + Copy, V: Env, R: Input, W: Output>(
 }
 
 /// Does what the program's own words ask for.
-fn obey_own<A: Allocator + Copy, V: Env, R: Input, W: Output>(
+fn obey_own<A: Allocator + Copy, V: Words, R: Input, W: Output>(
     alloc: A,
     env: &V,
     input: &mut R,
     output: &mut W,
 ) -> Outcome
-    ensures { ObeysOwn R.Fails W.Fails
+    ensures { ObeysOwn R.Fails W.Fails (V.Stands env.now) (V.Ends env.now)
         (record { input = R.remaining input.old; output = W.contents output.old })
         (record { input = R.remaining input.new; output = W.contents output.new })
         result.status result.complaint.now }
@@ -195,14 +194,14 @@ fn obey_own<A: Allocator + Copy, V: Env, R: Input, W: Output>(
 }
 
 /// Runs on the words of the process, behind its name.
-pub fn run_own<A: Allocator + Copy, V: Env, R: Input, W: Output, E: Output>(
+pub fn run_own<A: Allocator + Copy, V: Words, R: Input, W: Output, E: Output>(
     alloc: A,
     env: &V,
     input: &mut R,
     output: &mut W,
     errors: &mut E,
 ) -> u8
-    ensures { RunsOwn R.Fails W.Fails E.Fails
+    ensures { RunsOwn R.Fails W.Fails (V.Stands env.now) (V.Ends env.now) E.Fails
         (record { input = R.remaining input.old; output = W.contents output.old })
         (record { input = R.remaining input.new; output = W.contents output.new })
         (E.contents errors.old) (E.contents errors.new) result }

@@ -1,30 +1,39 @@
 //! The words that the process was started with.
 
-ghost use Rattle.std.specs.Prelude.{◌≡◌, map, IfOk, string_bytes};
+ghost use Rattle.std.specs.Prelude.{◌≡◌, map, IfNone, IfOk, IfSome, string_bytes};
+ghost use Rattle.pgwire.specs.Words.{AreWords, HasOther};
 
+use crate::ports::Words;
 use std::alloc::{AllocError, Allocator};
 use std::env::FillError;
-use std::rt::Env;
 
 /// The size of the first buffer for a word; it is doubled until the word fits.
 const FIRST_SIZE: usize = 256;
 
 /// The words behind the program's name as texts, or nothing where one of them isn't UTF-8.
-pub fn texts<A: Allocator + Copy, V: Env>(
+///
+/// # Errors
+///
+/// There is no memory for them; where a word stands at each place, there can't be.
+pub fn texts<A: Allocator + Copy, V: Words>(
     alloc: A,
     env: &V,
-) -> Result<Option<Vec<String<A>, A>>, AllocError> {
+) -> Result<Option<Vec<String<A>, A>>, AllocError>
+    ensures all { IfOk result (λ found. IfSome found (λ texts.
+        AreWords (V.Stands env.now) (V.Ends env.now) (map string_bytes texts.items))) }
+    ensures other { IfOk result (λ found. IfNone found (HasOther (V.Stands env.now))) }
+{
     let mut texts = Vec::new(alloc);
-    for place in 1..usize::MAX {
+    'places: for place in 1..usize::MAX {
         let Some(bytes) = word(alloc, env, place)? else {
-            break;
+            return Ok(Some(texts));
         };
         match String::from_utf8(bytes) {
             Ok(text) => texts.push(text)?,
             Err(_) => return Ok(None),
         }
     }
-    Ok(Some(texts))
+    Err(AllocError)
 }
 
 /// The texts, lent out.
@@ -39,16 +48,19 @@ pub fn lent<A: Allocator + Copy>(alloc: A, texts: &[String<A>]) -> Result<Vec<&s
 }
 
 /// The bytes of the word at the place, or nothing behind the last word.
-fn word<A: Allocator + Copy, V: Env>(
+fn word<A: Allocator + Copy, V: Words>(
     alloc: A,
     env: &V,
     place: usize,
-) -> Result<Option<Vec<u8, A>>, AllocError> {
+) -> Result<Option<Vec<u8, A>>, AllocError>
+    ensures word { IfOk result (λ found. IfSome found (λ bytes. V.Stands env.now place bytes.items)) }
+    ensures none { IfOk result (λ found. IfNone found (V.Ends env.now place)) }
+{
     let mut bytes = Vec::new(alloc);
     let mut size = FIRST_SIZE;
     for _ in 0..usize::BITS {
         bytes.resize(size, 0)?;
-        match env.arg(place, bytes.as_mut_slice()) {
+        match env.word_at(place, bytes.as_mut_slice()) {
             Ok(len) => {
                 bytes.truncate(len);
                 return Ok(Some(bytes));

@@ -1,0 +1,23 @@
+-- The words that a process was started with.
+use Rattle.std.specs.Prelude.{⊤, ℕ, suc, ◌+◌, List, [], ◌∷◌, length}
+use Rattle.std.specs.Str.{IsUtf8}
+
+-- Where words stand so:
+module _ (Stands : ℕ → List ℕ → Type 0) where
+  -- these words are UTF-8, and stand one after another from the place on
+  abbrev pub TextsFrom : ℕ → List (List ℕ) → Type 0
+  TextsFrom place [] = ⊤
+  TextsFrom place (word ∷ words) = Stands place word × IsUtf8 word × TextsFrom (suc place) words
+
+  -- behind the program's name, which stands at the place 0, a word isn't UTF-8, and those before it are
+  pub record HasOther : Type 0 where
+    pub before : List (List ℕ)
+    pub texts : TextsFrom 1 before
+    pub word : List ℕ
+    pub stands : Stands (1 + length before) word
+    pub other : ¬ IsUtf8 word
+
+  -- these are all the words behind the program's name, where none stands at such places
+  pub record AreWords (Ends : ℕ → Type 0) (words : List (List ℕ)) : Type 0 where
+    pub texts : TextsFrom 1 words
+    pub end : Ends (1 + length words)
