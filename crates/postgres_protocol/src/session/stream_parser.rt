@@ -9,7 +9,7 @@ use super::parsed::Parsed;
 use bytes::{Bytes, BytesMut};
 use pgp_base::Error;
 use pgp_message::{FrameParser, Message, laws};
-use std::alloc::{Allocator, Global};
+use std::alloc::{AllocError, Allocator, Global};
 use std::marker::Model;
 use std::mem;
 
@@ -20,6 +20,8 @@ pub struct StreamParser<A: Allocator = Global> {
     frames: FrameParser,
     rest: BytesMut<A>,
     results: Vec<Result<Message<Bytes<A>>, Error>, A>,
+    /// How many results were taken last: the list that comes then begins with room for as many.
+    taken: usize,
     stopped: bool,
     failed: bool,
 }
@@ -54,6 +56,7 @@ impl<A: Allocator + Copy> StreamParser<A> {
             frames: FrameParser::new(),
             rest: BytesMut::new(alloc),
             results: Vec::new(alloc),
+            taken: 0,
             stopped: false,
             failed: false,
         }
@@ -83,7 +86,7 @@ impl<A: Allocator + Copy> StreamParser<A> {
         if self.stopped {
             return Ok(());
         }
-        match take_frames(&mut self.frames, &mut self.rest, &mut self.results) {
+        match take_frames(&mut self.frames, &mut self.rest, &mut self.results, self.taken) {
             Ok(stopped) => {
                 self.stopped = stopped;
                 Ok(())
@@ -135,6 +138,7 @@ impl<A: Allocator + Copy> StreamParser<A> {
         ensures { HandsOut (map seen result.items) self.old self.new }
     {
         let alloc = *self.rest.allocator();
+        self.taken = self.results.len();
         mem::replace(&mut self.results, Vec::new(alloc))
     }
 
@@ -153,11 +157,13 @@ impl<A: Allocator + Copy> StreamParser<A> {
     }
 }
 
-/// Takes all frames off the buffer, and answers whether a length fault stands at its front.
+/// Takes all frames off the buffer, and answers whether a length fault stands at its front. So many results are
+/// expected.
 fn take_frames<A: Allocator + Copy>(
     frames: &mut FrameParser,
     rest: &mut BytesMut<A>,
     results: &mut Vec<Result<Message<Bytes<A>>, Error>, A>,
+    expected: usize,
 ) -> Result<bool, Error>
     requires { Fits frames.old rest.old.items }
     ensures ok { IfOk result (λ stopped. TakesAll rest.old.items rest.new.items
@@ -167,6 +173,7 @@ fn take_frames<A: Allocator + Copy>(
 {
     laws::no_frame();
     laws::next_frame();
+    make_room(results, expected)?;
     'frames: loop {
         let read = match frames.parse(rest) {
             Ok(None) => return Ok(false),
@@ -179,4 +186,14 @@ fn take_frames<A: Allocator + Copy>(
             return Err(Error::OutOfMemory);
         }
     }
+}
+
+/// Asks for room for so many where the list is empty.
+fn make_room<T, A: Allocator>(list: &mut Vec<T, A>, expected: usize) -> Result<(), AllocError>
+    ensures { list.new.items ≡ list.old.items }
+{
+    if list.is_empty() {
+        list.reserve(expected)?;
+    }
+    Ok(())
 }

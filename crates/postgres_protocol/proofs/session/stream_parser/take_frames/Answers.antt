@@ -3,9 +3,17 @@ use Rattle.std.proofs.lemmas.List.{map_push}
 use Rattle.pgp_message.specs.Remembered.{memory_after}
 use Rattle.pgp_message.specs.Stream.{TakesFrame}
 use Rattle.pgp_message.specs.Views.{seen}
+use Rattle.postgres_protocol.specs.ServerStream.{TakesSome}
 use Rattle.postgres_protocol.proofs.Pieces.{answer_of, takes_more, taken_by, taken_shorter}
 use Rattle.postgres_protocol.proofs.session.stream_parser.take_frames.Goals as goal
 use Rattle.postgres_protocol.proofs.session.stream_parser.take_frames.Goals.{in-Ok-Some, in-Err}
+
+pub returns-in_err-make_room-clause-some : goal.returns-in_err-make_room-clause-some
+returns-in_err-make_room-clause-some g c =
+    let grown : map seen c.make_room.new.list.items ≡ map seen c.args.results.now.items ++ [] = search rules in
+    let some : TakesSome c.args.rest.now.items (map seen c.args.results.now.items) (map seen c.make_room.new.list.items) =
+        record { more = []; grown = grown; left = c.args.rest.now.items; frames = c.no_frame.ensures c.args.rest.now.items } in
+    search rules
 
 pub frames-preserved : goal.frames-preserved
 frames-preserved g c =
