@@ -1,6 +1,6 @@
 //! A server's stream, read as it comes.
 
-ghost use Rattle.std.specs.Prelude.{◌≡◌, [], map, false, IfOk, IfErr, OnErr};
+ghost use Rattle.std.specs.Prelude.{◌≡◌, ◌∷◌, ◌++◌, [], map, false, IfOk, IfErr, OnOk, OnErr};
 ghost use Rattle.pgp_message.specs.Remembered.{Fits};
 ghost use Rattle.pgp_message.specs.Views.{seen};
 ghost use Rattle.postgres_protocol.specs.ServerStream.{HasRead, Feeds, HandsOut, TakesAll, TakesSome};
@@ -9,7 +9,7 @@ use super::parsed::Parsed;
 use bytes::{Bytes, BytesMut};
 use pgp_base::Error;
 use pgp_message::{FrameParser, Message, laws};
-use std::alloc::{Allocator, Global};
+use std::alloc::{AllocError, Allocator, Global};
 use std::marker::Model;
 use std::mem;
 
@@ -20,6 +20,8 @@ pub struct StreamParser<A: Allocator = Global> {
     frames: FrameParser,
     rest: BytesMut<A>,
     results: Vec<Result<Message<Bytes<A>>, Error>, A>,
+    /// How many results were taken last: the list that comes then begins with room for as many.
+    taken: usize,
     stopped: bool,
     failed: bool,
 }
@@ -54,6 +56,7 @@ impl<A: Allocator + Copy> StreamParser<A> {
             frames: FrameParser::new(),
             rest: BytesMut::new(alloc),
             results: Vec::new(alloc),
+            taken: 0,
             stopped: false,
             failed: false,
         }
@@ -83,7 +86,12 @@ impl<A: Allocator + Copy> StreamParser<A> {
         if self.stopped {
             return Ok(());
         }
-        match take_frames(&mut self.frames, &mut self.rest, &mut self.results) {
+        match take_frames(
+            &mut self.frames,
+            &mut self.rest,
+            &mut self.results,
+            self.taken,
+        ) {
             Ok(stopped) => {
                 self.stopped = stopped;
                 Ok(())
@@ -135,6 +143,7 @@ impl<A: Allocator + Copy> StreamParser<A> {
         ensures { HandsOut (map seen result.items) self.old self.new }
     {
         let alloc = *self.rest.allocator();
+        self.taken = self.results.len();
         mem::replace(&mut self.results, Vec::new(alloc))
     }
 
@@ -153,11 +162,13 @@ impl<A: Allocator + Copy> StreamParser<A> {
     }
 }
 
-/// Takes all frames off the buffer, and answers whether a length fault stands at its front.
+/// Takes all frames off the buffer, and answers whether a length fault stands at its front. So many results are
+/// expected.
 fn take_frames<A: Allocator + Copy>(
     frames: &mut FrameParser,
     rest: &mut BytesMut<A>,
     results: &mut Vec<Result<Message<Bytes<A>>, Error>, A>,
+    expected: usize,
 ) -> Result<bool, Error>
     requires { Fits frames.old rest.old.items }
     ensures ok { IfOk result (λ stopped. TakesAll rest.old.items rest.new.items
@@ -167,16 +178,34 @@ fn take_frames<A: Allocator + Copy>(
 {
     laws::no_frame();
     laws::next_frame();
+    make_room(results, expected)?;
     'frames: loop {
-        let read = match frames.parse(rest) {
+        match frames.parse(rest) {
+            Ok(Some(message)) => add(results, Ok(message))?,
             Ok(None) => return Ok(false),
             Err(Error::InvalidLength) => return Ok(true),
             Err(Error::OutOfMemory) => return Err(Error::OutOfMemory),
-            Ok(Some(message)) => Ok(message),
-            Err(e) => Err(e),
-        };
-        if results.push(read).is_err() {
-            return Err(Error::OutOfMemory);
+            Err(e) => add(results, Err(e))?,
         }
     }
+}
+
+/// Adds an item to the list. Inlined for speed: a message is then moved once, from where it was read to the list.
+#[inline(always)]
+fn add<T: Drop, A: Allocator>(list: &mut Vec<T, A>, item: T) -> Result<(), AllocError>
+    ensures ok { OnOk result (list.new.items ≡ list.old.items ++ item ∷ []) }
+    ensures err { OnErr result (list.new.items ≡ list.old.items) }
+{
+    list.push(item)?;
+    Ok(())
+}
+
+/// Asks for room for so many where the list is empty.
+fn make_room<T, A: Allocator>(list: &mut Vec<T, A>, expected: usize) -> Result<(), AllocError>
+    ensures { list.new.items ≡ list.old.items }
+{
+    if list.is_empty() {
+        list.reserve(expected)?;
+    }
+    Ok(())
 }
