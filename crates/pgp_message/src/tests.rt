@@ -9,6 +9,7 @@ use bodies::{
 use bytes::{Bytes, BytesMut};
 use pgp_base::{Error, FallibleIterator};
 use std::alloc::Global;
+use std::process::Abort;
 use std::test::Fail;
 
 fn buffer(alloc: Global, bytes: &[u8]) -> Result<BytesMut, Error> {
@@ -57,6 +58,15 @@ fn named<S: Storage>(
         Ok(None) => Ok(None),
         Err(e) => Err(e),
     }
+}
+
+/// The variant that came is the one that is wanted.
+fn tells(
+    rt: &impl Abort,
+    came: Result<Option<&'static str>, Error>,
+    wanted: Result<Option<&'static str>, Error>,
+) {
+    assert_eq!(rt; came, wanted);
 }
 
 fn variant<S: Storage>(message: &Message<S>) -> &'static str {
@@ -172,7 +182,7 @@ const FRAMES: [(&[u8], &str); 31] = [
 fn each_message_is_read(rt: HostRuntime) -> Result<(), Fail> {
     for (bytes, name) in FRAMES {
         let mut buf = buffer(rt.alloc(), bytes)?;
-        assert_eq!(rt; parsed(&mut buf), Ok(Some(name)));
+        tells(&rt, parsed(&mut buf), Ok(Some(name)));
         assert!(rt; buf.is_empty());
     }
     Ok(())
@@ -181,9 +191,9 @@ fn each_message_is_read(rt: HostRuntime) -> Result<(), Fail> {
 #[test]
 fn refused_frame_is_removed_and_reading_goes_on(rt: HostRuntime) -> Result<(), Fail> {
     let mut buf = buffer(rt.alloc(), b"\x5a\0\0\0\x06\x49\0\x31\0\0\0\x04")?;
-    assert_eq!(rt; parsed(&mut buf), Err(Error::NotDrained));
-    assert_eq!(rt; parsed(&mut buf), Ok(Some("ParseComplete")));
-    assert_eq!(rt; parsed(&mut buf), Ok(None));
+    tells(&rt, parsed(&mut buf), Err(Error::NotDrained));
+    tells(&rt, parsed(&mut buf), Ok(Some("ParseComplete")));
+    tells(&rt, parsed(&mut buf), Ok(None));
     assert!(rt; buf.is_empty());
     let refused: [(&[u8], Error); 7] = [
         (b"\x57\0\0\0\x04", Error::UnknownTag(0x57)),
@@ -202,7 +212,7 @@ fn refused_frame_is_removed_and_reading_goes_on(rt: HostRuntime) -> Result<(), F
     ];
     for (bytes, error) in refused {
         let mut buf = buffer(rt.alloc(), bytes)?;
-        assert_eq!(rt; parsed(&mut buf), Err(error));
+        tells(&rt, parsed(&mut buf), Err(error));
         assert!(rt; buf.is_empty());
     }
     Ok(())
@@ -213,13 +223,13 @@ fn bytes_stay_where_no_frame_is_whole(rt: HostRuntime) -> Result<(), Fail> {
     let waiting: [&[u8]; 4] = [b"", b"\x5a\0\0\0", b"\x5a\0\0\0\x05", b"\x44\x80\0\0\0"];
     for bytes in waiting {
         let mut buf = buffer(rt.alloc(), bytes)?;
-        assert_eq!(rt; parsed(&mut buf), Ok(None));
+        tells(&rt, parsed(&mut buf), Ok(None));
         assert_eq!(rt; buf.as_slice(), bytes);
     }
     let fault: &[u8] = b"\x5a\0\0\0\x03\x31\0\0\0\x04";
     let mut buf = buffer(rt.alloc(), fault)?;
     for _ in 0..2 {
-        assert_eq!(rt; parsed(&mut buf), Err(Error::InvalidLength));
+        tells(&rt, parsed(&mut buf), Err(Error::InvalidLength));
         assert_eq!(rt; buf.as_slice(), fault);
     }
     Ok(())
@@ -616,9 +626,9 @@ fn next_name(messages: &mut Messages<'_>) -> Result<Option<&'static str>, Error>
 fn each_message_is_read_in_place(rt: HostRuntime) -> Result<(), Fail> {
     for (bytes, name) in FRAMES {
         let mut messages = Messages::new(bytes);
-        assert_eq!(rt; next_name(&mut messages), Ok(Some(name)));
+        tells(&rt, next_name(&mut messages), Ok(Some(name)));
         assert!(rt; messages.rest().is_empty());
-        assert_eq!(rt; next_name(&mut messages), Ok(None));
+        tells(&rt, next_name(&mut messages), Ok(None));
     }
     Ok(())
 }
@@ -626,10 +636,10 @@ fn each_message_is_read_in_place(rt: HostRuntime) -> Result<(), Fail> {
 #[test]
 fn what_is_no_message_is_told_in_place(rt: HostRuntime) -> Result<(), Fail> {
     let mut messages = Messages::new(REFUSED_THEN_READ);
-    assert_eq!(rt; next_name(&mut messages), Err(Error::NotDrained));
+    tells(&rt, next_name(&mut messages), Err(Error::NotDrained));
     assert_eq!(rt; messages.rest().len(), 5);
-    assert_eq!(rt; next_name(&mut messages), Ok(Some("ParseComplete")));
-    assert_eq!(rt; next_name(&mut messages), Ok(None));
+    tells(&rt, next_name(&mut messages), Ok(Some("ParseComplete")));
+    tells(&rt, next_name(&mut messages), Ok(None));
     let left: [(&[u8], Result<Option<&'static str>, Error>); 4] = [
         (b"\x5a\0\0\0", Ok(None)),
         (b"\x5a\0\0\0\x05", Ok(None)),
@@ -638,7 +648,7 @@ fn what_is_no_message_is_told_in_place(rt: HostRuntime) -> Result<(), Fail> {
     ];
     for (bytes, answer) in left {
         let mut messages = Messages::new(bytes);
-        assert_eq!(rt; next_name(&mut messages), answer);
+        tells(&rt, next_name(&mut messages), answer);
         assert_eq!(rt; messages.rest(), bytes);
     }
     Ok(())
@@ -653,7 +663,7 @@ fn first(bytes: &[u8]) -> Read<&[u8]> {
 fn a_message_is_kept_while_the_reader_goes_on(rt: HostRuntime) -> Result<(), Fail> {
     let mut messages = Messages::new(b"d\0\0\0\x06ab1\0\0\0\x04");
     let data = copy_data(there(messages.next()))?.data();
-    assert_eq!(rt; next_name(&mut messages), Ok(Some("ParseComplete")));
+    tells(&rt, next_name(&mut messages), Ok(Some("ParseComplete")));
     assert_eq!(rt; data, b"ab".as_slice());
     Ok(())
 }
