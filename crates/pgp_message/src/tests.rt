@@ -1,7 +1,15 @@
+mod bodies;
+
 use crate::{FrameParser, Header, Message, Messages, Storage};
-use bytes::BytesMut;
+use bodies::{
+    Read, command_complete, copy_data, copy_in, copy_out, data_row, error_response, gss_continue,
+    key_data, md5_password, notice_response, notification, parameter_description, parameter_status,
+    readiness, row_description, sasl, sasl_continue, sasl_final,
+};
+use bytes::{Bytes, BytesMut};
 use pgp_base::{Error, FallibleIterator};
 use std::alloc::Global;
+use std::process::Abort;
 use std::test::Fail;
 
 fn buffer(alloc: Global, bytes: &[u8]) -> Result<BytesMut, Error> {
@@ -11,26 +19,18 @@ fn buffer(alloc: Global, bytes: &[u8]) -> Result<BytesMut, Error> {
 }
 
 /// The message at the front of the bytes.
-fn message(rt: &HostRuntime, bytes: &[u8]) -> Result<Message, Error> {
+fn message(rt: &HostRuntime, bytes: &[u8]) -> Read<Bytes> {
     let mut buf = buffer(rt.alloc(), bytes)?;
-    match Message::parse(&mut buf) {
+    there(Message::parse(&mut buf))
+}
+
+/// The message, which has to be there.
+fn there<S: Storage>(read: Result<Option<Message<S>>, Error>) -> Read<S> {
+    match read {
         Ok(Some(message)) => Ok(message),
         Ok(None) => Err(Error::InvalidCount),
         Err(e) => Err(e),
     }
-}
-
-/// The body of the one message, which has to be of this variant.
-macro_rules! body {
-    ($rt:ident, $variant:ident, $bytes:expr) => {
-        match message(&$rt, $bytes)? {
-            Message::$variant(body) => body,
-            other => {
-                drop(other);
-                panic!($rt; "another message")
-            }
-        }
-    };
 }
 
 /// How many items a walk collects.
@@ -42,12 +42,31 @@ macro_rules! collected {
 
 /// The variant of the message at the front, which is removed.
 fn parsed(buf: &mut BytesMut) -> Result<Option<&'static str>, Error> {
-    let Some(message) = Message::parse(buf)? else {
-        return Ok(None);
-    };
-    let name = variant(&message);
-    drop(message);
-    Ok(Some(name))
+    named(Message::parse(buf))
+}
+
+/// The variant of a message, which is let go.
+fn named<S: Storage>(
+    read: Result<Option<Message<S>>, Error>,
+) -> Result<Option<&'static str>, Error> {
+    match read {
+        Ok(Some(message)) => {
+            let name = variant(&message);
+            drop(message);
+            Ok(Some(name))
+        }
+        Ok(None) => Ok(None),
+        Err(e) => Err(e),
+    }
+}
+
+/// The variant that came is the one that is wanted.
+fn tells(
+    rt: &impl Abort,
+    came: Result<Option<&'static str>, Error>,
+    wanted: Result<Option<&'static str>, Error>,
+) {
+    assert_eq!(rt; came, wanted);
 }
 
 fn variant<S: Storage>(message: &Message<S>) -> &'static str {
@@ -163,7 +182,7 @@ const FRAMES: [(&[u8], &str); 31] = [
 fn each_message_is_read(rt: HostRuntime) -> Result<(), Fail> {
     for (bytes, name) in FRAMES {
         let mut buf = buffer(rt.alloc(), bytes)?;
-        assert_eq!(rt; parsed(&mut buf), Ok(Some(name)));
+        tells(&rt, parsed(&mut buf), Ok(Some(name)));
         assert!(rt; buf.is_empty());
     }
     Ok(())
@@ -172,9 +191,9 @@ fn each_message_is_read(rt: HostRuntime) -> Result<(), Fail> {
 #[test]
 fn refused_frame_is_removed_and_reading_goes_on(rt: HostRuntime) -> Result<(), Fail> {
     let mut buf = buffer(rt.alloc(), b"\x5a\0\0\0\x06\x49\0\x31\0\0\0\x04")?;
-    assert_eq!(rt; parsed(&mut buf), Err(Error::NotDrained));
-    assert_eq!(rt; parsed(&mut buf), Ok(Some("ParseComplete")));
-    assert_eq!(rt; parsed(&mut buf), Ok(None));
+    tells(&rt, parsed(&mut buf), Err(Error::NotDrained));
+    tells(&rt, parsed(&mut buf), Ok(Some("ParseComplete")));
+    tells(&rt, parsed(&mut buf), Ok(None));
     assert!(rt; buf.is_empty());
     let refused: [(&[u8], Error); 7] = [
         (b"\x57\0\0\0\x04", Error::UnknownTag(0x57)),
@@ -193,7 +212,7 @@ fn refused_frame_is_removed_and_reading_goes_on(rt: HostRuntime) -> Result<(), F
     ];
     for (bytes, error) in refused {
         let mut buf = buffer(rt.alloc(), bytes)?;
-        assert_eq!(rt; parsed(&mut buf), Err(error));
+        tells(&rt, parsed(&mut buf), Err(error));
         assert!(rt; buf.is_empty());
     }
     Ok(())
@@ -204,13 +223,13 @@ fn bytes_stay_where_no_frame_is_whole(rt: HostRuntime) -> Result<(), Fail> {
     let waiting: [&[u8]; 4] = [b"", b"\x5a\0\0\0", b"\x5a\0\0\0\x05", b"\x44\x80\0\0\0"];
     for bytes in waiting {
         let mut buf = buffer(rt.alloc(), bytes)?;
-        assert_eq!(rt; parsed(&mut buf), Ok(None));
+        tells(&rt, parsed(&mut buf), Ok(None));
         assert_eq!(rt; buf.as_slice(), bytes);
     }
     let fault: &[u8] = b"\x5a\0\0\0\x03\x31\0\0\0\x04";
     let mut buf = buffer(rt.alloc(), fault)?;
     for _ in 0..2 {
-        assert_eq!(rt; parsed(&mut buf), Err(Error::InvalidLength));
+        tells(&rt, parsed(&mut buf), Err(Error::InvalidLength));
         assert_eq!(rt; buf.as_slice(), fault);
     }
     Ok(())
@@ -232,7 +251,7 @@ fn header_reads_a_signed_length(rt: HostRuntime) -> Result<(), Fail> {
 #[test]
 fn a_row_gives_the_places_of_its_values(rt: HostRuntime) -> Result<(), Fail> {
     let frame = b"\x44\0\0\0\x13\0\x03\0\0\0\x01\x61\xff\xff\xff\xff\0\0\0\0";
-    let first = body!(rt, DataRow, frame);
+    let first = data_row(message(&rt, frame))?;
     for row in [first.clone()?, first] {
         assert_eq!(rt; row.buffer(), &frame[7..]);
         assert_eq!(rt; row.buffer_bytes().as_slice(), row.buffer());
@@ -250,7 +269,7 @@ fn a_row_gives_the_places_of_its_values(rt: HostRuntime) -> Result<(), Fail> {
 
 #[test]
 fn a_refused_row_stays_refused(rt: HostRuntime) -> Result<(), Fail> {
-    let row = body!(rt, DataRow, b"\x44\0\0\0\x0a\0\x01\0\0\0\x05");
+    let row = data_row(message(&rt, b"\x44\0\0\0\x0a\0\x01\0\0\0\x05"))?;
     let mut ranges = row.ranges();
     assert_eq!(rt; ranges.size_hint(), (1, Some(1)));
     for _ in 0..2 {
@@ -263,7 +282,7 @@ fn a_refused_row_stays_refused(rt: HostRuntime) -> Result<(), Fail> {
 
 #[test]
 fn parameters_are_types(rt: HostRuntime) -> Result<(), Fail> {
-    let body = body!(rt, ParameterDescription, b"\x74\0\0\0\x0a\0\x01\0\0\0\x17");
+    let body = parameter_description(message(&rt, b"\x74\0\0\0\x0a\0\x01\0\0\0\x17"))?;
     let mut parameters = body.parameters();
     assert_eq!(rt; parameters.next(), Ok(Some(23)));
     assert_eq!(rt; parameters.next(), Ok(None));
@@ -274,7 +293,7 @@ fn parameters_are_types(rt: HostRuntime) -> Result<(), Fail> {
 
 #[test]
 fn parameters_that_are_missing_are_refused_for_ever(rt: HostRuntime) -> Result<(), Fail> {
-    let body = body!(rt, ParameterDescription, b"\x74\0\0\0\x06\0\x02");
+    let body = parameter_description(message(&rt, b"\x74\0\0\0\x06\0\x02"))?;
     let mut parameters = body.parameters();
     assert_eq!(rt; parameters.size_hint(), (2, Some(2)));
     assert_eq!(rt; parameters.next(), Err(Error::UnexpectedEof));
@@ -284,7 +303,7 @@ fn parameters_that_are_missing_are_refused_for_ever(rt: HostRuntime) -> Result<(
 
 #[test]
 fn a_copy_in_has_formats(rt: HostRuntime) -> Result<(), Fail> {
-    let copy = body!(rt, CopyInResponse, b"\x47\0\0\0\x09\0\0\x01\0\x01");
+    let copy = copy_in(message(&rt, b"\x47\0\0\0\x09\0\0\x01\0\x01"))?;
     assert_eq!(rt; copy.format(), 0);
     let mut formats = copy.column_formats();
     assert_eq!(rt; formats.size_hint(), (1, Some(1)));
@@ -297,11 +316,7 @@ fn a_copy_in_has_formats(rt: HostRuntime) -> Result<(), Fail> {
 
 #[test]
 fn a_copy_out_has_unsigned_formats(rt: HostRuntime) -> Result<(), Fail> {
-    let copy = body!(
-        rt,
-        CopyOutResponse,
-        b"\x48\0\0\0\x0b\x01\0\x02\xff\xff\0\x01"
-    );
+    let copy = copy_out(message(&rt, b"\x48\0\0\0\x0b\x01\0\x02\xff\xff\0\x01"))?;
     assert_eq!(rt; copy.format(), 1);
     let mut formats = copy.column_formats();
     assert_eq!(rt; formats.next(), Ok(Some(0xffff)));
@@ -313,7 +328,7 @@ fn a_copy_out_has_unsigned_formats(rt: HostRuntime) -> Result<(), Fail> {
 #[test]
 fn a_row_description_names_its_columns(rt: HostRuntime) -> Result<(), Fail> {
     let frame = b"\x54\0\0\0\x1a\0\x01\x61\0\0\0\0\0\0\0\0\0\0\x17\0\x04\xff\xff\xff\xff\0\0";
-    let body = body!(rt, RowDescription, frame);
+    let body = row_description(message(&rt, frame))?;
     let mut fields = body.fields();
     assert_eq!(rt; fields.size_hint(), (1, Some(1)));
     let Ok(Some(field)) = fields.next() else {
@@ -334,7 +349,7 @@ fn a_row_description_names_its_columns(rt: HostRuntime) -> Result<(), Fail> {
 
 #[test]
 fn an_error_lists_its_fields(rt: HostRuntime) -> Result<(), Fail> {
-    let body = body!(rt, ErrorResponse, b"\x45\0\0\0\x0c\x53ERROR\0\0");
+    let body = error_response(message(&rt, b"\x45\0\0\0\x0c\x53ERROR\0\0"))?;
     let mut fields = body.fields();
     assert_eq!(rt; fields.size_hint(), (0, None));
     let Ok(Some(field)) = fields.next() else {
@@ -350,7 +365,7 @@ fn an_error_lists_its_fields(rt: HostRuntime) -> Result<(), Fail> {
 
 #[test]
 fn a_value_of_an_error_may_not_be_utf8(rt: HostRuntime) -> Result<(), Fail> {
-    let body = body!(rt, ErrorResponse, b"\x45\0\0\0\x08\x4d\xff\0\0");
+    let body = error_response(message(&rt, b"\x45\0\0\0\x08\x4d\xff\0\0"))?;
     let mut fields = body.fields();
     let Ok(Some(field)) = fields.next() else {
         panic!(rt; "no field");
@@ -364,7 +379,7 @@ fn a_value_of_an_error_may_not_be_utf8(rt: HostRuntime) -> Result<(), Fail> {
 
 #[test]
 fn a_notice_that_goes_on_behind_its_end_is_refused(rt: HostRuntime) -> Result<(), Fail> {
-    let body = body!(rt, NoticeResponse, b"\x4e\0\0\0\x06\0\x01");
+    let body = notice_response(message(&rt, b"\x4e\0\0\0\x06\0\x01"))?;
     let mut fields = body.fields();
     assert!(rt; matches!(fields.next(), Err(Error::NotDrained)));
     assert!(rt; matches!(fields.next(), Err(Error::NotDrained)));
@@ -374,7 +389,7 @@ fn a_notice_that_goes_on_behind_its_end_is_refused(rt: HostRuntime) -> Result<()
 #[test]
 fn a_server_offers_mechanisms(rt: HostRuntime) -> Result<(), Fail> {
     let frame = b"\x52\0\0\0\x17\0\0\0\x0aSCRAM-SHA-256\0\0";
-    let body = body!(rt, AuthenticationSasl, frame);
+    let body = sasl(message(&rt, frame))?;
     let mut mechanisms = body.mechanisms();
     assert_eq!(rt; mechanisms.size_hint(), (0, None));
     assert_eq!(rt; mechanisms.next(), Ok(Some("SCRAM-SHA-256")));
@@ -386,7 +401,7 @@ fn a_server_offers_mechanisms(rt: HostRuntime) -> Result<(), Fail> {
 
 #[test]
 fn a_mechanism_that_is_not_utf8_is_refused(rt: HostRuntime) -> Result<(), Fail> {
-    let body = body!(rt, AuthenticationSasl, b"\x52\0\0\0\x0a\0\0\0\x0a\xff\0");
+    let body = sasl(message(&rt, b"\x52\0\0\0\x0a\0\0\0\x0a\xff\0"))?;
     assert_eq!(rt; body.mechanisms().next(), Err(Error::NotUtf8));
     Ok(())
 }
@@ -394,22 +409,18 @@ fn a_mechanism_that_is_not_utf8_is_refused(rt: HostRuntime) -> Result<(), Fail> 
 #[test]
 fn an_md5_request_carries_its_salt(rt: HostRuntime) -> Result<(), Fail> {
     let frame = b"\x52\0\0\0\x0c\0\0\0\x05\x01\x02\x03\x04";
-    let body = body!(rt, AuthenticationMd5Password, frame);
+    let body = md5_password(message(&rt, frame))?;
     assert_eq!(rt; body.salt(), [1, 2, 3, 4]);
     Ok(())
 }
 
 #[test]
 fn an_exchange_carries_its_bytes(rt: HostRuntime) -> Result<(), Fail> {
-    let token = body!(rt, AuthenticationGssContinue, b"\x52\0\0\0\x0a\0\0\0\x08ab");
+    let token = gss_continue(message(&rt, b"\x52\0\0\0\x0a\0\0\0\x08ab"))?;
     assert_eq!(rt; token.data(), b"ab".as_slice());
-    let challenge = body!(
-        rt,
-        AuthenticationSaslContinue,
-        b"\x52\0\0\0\x0a\0\0\0\x0bab"
-    );
+    let challenge = sasl_continue(message(&rt, b"\x52\0\0\0\x0a\0\0\0\x0bab"))?;
     assert_eq!(rt; challenge.data(), b"ab".as_slice());
-    let outcome = body!(rt, AuthenticationSaslFinal, b"\x52\0\0\0\x0a\0\0\0\x0cab");
+    let outcome = sasl_final(message(&rt, b"\x52\0\0\0\x0a\0\0\0\x0cab"))?;
     assert_eq!(rt; outcome.data(), b"ab".as_slice());
     Ok(())
 }
@@ -417,7 +428,7 @@ fn an_exchange_carries_its_bytes(rt: HostRuntime) -> Result<(), Fail> {
 #[test]
 fn key_data_are_two_numbers(rt: HostRuntime) -> Result<(), Fail> {
     let frame = b"\x4b\0\0\0\x0c\0\0\0\x01\0\0\0\x02";
-    let body = body!(rt, BackendKeyData, frame);
+    let body = key_data(message(&rt, frame))?;
     assert_eq!(rt; body.process_id(), 1);
     assert_eq!(rt; body.secret_key(), 2);
     Ok(())
@@ -425,7 +436,7 @@ fn key_data_are_two_numbers(rt: HostRuntime) -> Result<(), Fail> {
 
 #[test]
 fn a_notification_is_a_number_and_two_texts(rt: HostRuntime) -> Result<(), Fail> {
-    let body = body!(rt, NotificationResponse, b"\x41\0\0\0\x0c\0\0\0\x01c\0m\0");
+    let body = notification(message(&rt, b"\x41\0\0\0\x0c\0\0\0\x01c\0m\0"))?;
     assert_eq!(rt; body.process_id(), 1);
     assert_eq!(rt; body.channel(), Ok("c"));
     assert_eq!(rt; body.message(), Ok("m"));
@@ -434,7 +445,7 @@ fn a_notification_is_a_number_and_two_texts(rt: HostRuntime) -> Result<(), Fail>
 
 #[test]
 fn a_parameter_has_a_name_and_a_value(rt: HostRuntime) -> Result<(), Fail> {
-    let body = body!(rt, ParameterStatus, b"\x53\0\0\0\x08n\0v\0");
+    let body = parameter_status(message(&rt, b"\x53\0\0\0\x08n\0v\0"))?;
     assert_eq!(rt; body.name(), Ok("n"));
     assert_eq!(rt; body.value(), Ok("v"));
     Ok(())
@@ -442,16 +453,16 @@ fn a_parameter_has_a_name_and_a_value(rt: HostRuntime) -> Result<(), Fail> {
 
 #[test]
 fn readiness_has_a_status(rt: HostRuntime) -> Result<(), Fail> {
-    let body = body!(rt, ReadyForQuery, b"\x5a\0\0\0\x05I");
+    let body = readiness(message(&rt, b"\x5a\0\0\0\x05I"))?;
     assert_eq!(rt; body.status(), b'I');
     Ok(())
 }
 
 #[test]
 fn query_bodies_give_their_parts(rt: HostRuntime) -> Result<(), Fail> {
-    let body = body!(rt, CommandComplete, b"\x43\0\0\0\x0dSELECT 1\0");
+    let body = command_complete(message(&rt, b"\x43\0\0\0\x0dSELECT 1\0"))?;
     assert_eq!(rt; body.tag(), Ok("SELECT 1"));
-    let body = body!(rt, CopyData, b"\x64\0\0\0\x06ab");
+    let body = copy_data(message(&rt, b"\x64\0\0\0\x06ab"))?;
     assert_eq!(rt; body.data(), b"ab".as_slice());
     assert_eq!(rt; body.into_bytes().as_slice(), b"ab".as_slice());
     Ok(())
@@ -459,14 +470,14 @@ fn query_bodies_give_their_parts(rt: HostRuntime) -> Result<(), Fail> {
 
 #[test]
 fn a_tag_that_is_not_utf8_is_refused_when_asked_for(rt: HostRuntime) -> Result<(), Fail> {
-    let body = body!(rt, CommandComplete, b"\x43\0\0\0\x06\xff\0");
+    let body = command_complete(message(&rt, b"\x43\0\0\0\x06\xff\0"))?;
     assert_eq!(rt; body.tag(), Err(Error::NotUtf8));
     Ok(())
 }
 
 #[test]
 fn a_value_that_is_not_utf8_is_refused_when_asked_for(rt: HostRuntime) -> Result<(), Fail> {
-    let body = body!(rt, ParameterStatus, b"\x53\0\0\0\x08n\0\xff\0");
+    let body = parameter_status(message(&rt, b"\x53\0\0\0\x08n\0\xff\0"))?;
     assert_eq!(rt; body.name(), Ok("n"));
     assert_eq!(rt; body.value(), Err(Error::NotUtf8));
     Ok(())
@@ -474,11 +485,7 @@ fn a_value_that_is_not_utf8_is_refused_when_asked_for(rt: HostRuntime) -> Result
 
 #[test]
 fn a_channel_that_is_not_utf8_is_refused_when_asked_for(rt: HostRuntime) -> Result<(), Fail> {
-    let body = body!(
-        rt,
-        NotificationResponse,
-        b"\x41\0\0\0\x0c\xff\xff\xff\xff\xff\0m\0"
-    );
+    let body = notification(message(&rt, b"\x41\0\0\0\x0c\xff\xff\xff\xff\xff\0m\0"))?;
     assert_eq!(rt; body.process_id(), -1);
     assert_eq!(rt; body.channel(), Err(Error::NotUtf8));
     assert_eq!(rt; body.message(), Ok("m"));
@@ -490,12 +497,7 @@ fn taken(parser: &mut FrameParser, buf: &mut BytesMut) -> Result<Option<&'static
     if !parser.fits(buf) {
         return Err(Error::InvalidCount);
     }
-    let Some(message) = parser.parse(buf)? else {
-        return Ok(None);
-    };
-    let name = variant(&message);
-    drop(message);
-    Ok(Some(name))
+    named(parser.parse(buf))
 }
 
 /// Takes what can be taken, and tells how many of these results came then in their order.
@@ -617,21 +619,16 @@ fn repeated_parse_reads_the_same_at_every_place(rt: HostRuntime) -> Result<(), F
 
 /// The variant of the next message of a slice.
 fn next_name(messages: &mut Messages<'_>) -> Result<Option<&'static str>, Error> {
-    let Some(message) = messages.next()? else {
-        return Ok(None);
-    };
-    let name = variant(&message);
-    drop(message);
-    Ok(Some(name))
+    named(messages.next())
 }
 
 #[test]
 fn each_message_is_read_in_place(rt: HostRuntime) -> Result<(), Fail> {
     for (bytes, name) in FRAMES {
         let mut messages = Messages::new(bytes);
-        assert_eq!(rt; next_name(&mut messages), Ok(Some(name)));
+        tells(&rt, next_name(&mut messages), Ok(Some(name)));
         assert!(rt; messages.rest().is_empty());
-        assert_eq!(rt; next_name(&mut messages), Ok(None));
+        tells(&rt, next_name(&mut messages), Ok(None));
     }
     Ok(())
 }
@@ -639,10 +636,10 @@ fn each_message_is_read_in_place(rt: HostRuntime) -> Result<(), Fail> {
 #[test]
 fn what_is_no_message_is_told_in_place(rt: HostRuntime) -> Result<(), Fail> {
     let mut messages = Messages::new(REFUSED_THEN_READ);
-    assert_eq!(rt; next_name(&mut messages), Err(Error::NotDrained));
+    tells(&rt, next_name(&mut messages), Err(Error::NotDrained));
     assert_eq!(rt; messages.rest().len(), 5);
-    assert_eq!(rt; next_name(&mut messages), Ok(Some("ParseComplete")));
-    assert_eq!(rt; next_name(&mut messages), Ok(None));
+    tells(&rt, next_name(&mut messages), Ok(Some("ParseComplete")));
+    tells(&rt, next_name(&mut messages), Ok(None));
     let left: [(&[u8], Result<Option<&'static str>, Error>); 4] = [
         (b"\x5a\0\0\0", Ok(None)),
         (b"\x5a\0\0\0\x05", Ok(None)),
@@ -651,43 +648,29 @@ fn what_is_no_message_is_told_in_place(rt: HostRuntime) -> Result<(), Fail> {
     ];
     for (bytes, answer) in left {
         let mut messages = Messages::new(bytes);
-        assert_eq!(rt; next_name(&mut messages), answer);
+        tells(&rt, next_name(&mut messages), answer);
         assert_eq!(rt; messages.rest(), bytes);
     }
     Ok(())
 }
 
-/// The body of the first message of a slice, which has to be of this variant.
-macro_rules! body_in_place {
-    ($rt:ident, $variant:ident, $bytes:expr) => {
-        match Messages::new($bytes).next() {
-            Ok(Some(Message::$variant(body))) => body,
-            other => {
-                drop(other);
-                panic!($rt; "another message")
-            }
-        }
-    };
+/// The first message of a slice.
+fn first(bytes: &[u8]) -> Read<&[u8]> {
+    there(Messages::new(bytes).next())
 }
 
 #[test]
 fn a_message_is_kept_while_the_reader_goes_on(rt: HostRuntime) -> Result<(), Fail> {
     let mut messages = Messages::new(b"d\0\0\0\x06ab1\0\0\0\x04");
-    let data = match messages.next() {
-        Ok(Some(Message::CopyData(body))) => body.data(),
-        other => {
-            drop(other);
-            panic!(rt; "another message")
-        }
-    };
-    assert_eq!(rt; next_name(&mut messages), Ok(Some("ParseComplete")));
+    let data = copy_data(there(messages.next()))?.data();
+    tells(&rt, next_name(&mut messages), Ok(Some("ParseComplete")));
     assert_eq!(rt; data, b"ab".as_slice());
     Ok(())
 }
 
 #[test]
 fn a_row_is_walked_in_place(rt: HostRuntime) -> Result<(), Fail> {
-    let row = body_in_place!(rt, DataRow, ROW);
+    let row = data_row(first(ROW))?;
     assert_eq!(rt; row.buffer(), &ROW[7..]);
     let mut ranges = row.ranges();
     assert_eq!(rt; ranges.next(), Ok(Some(Some(4..5))));
@@ -701,12 +684,12 @@ fn a_row_is_walked_in_place(rt: HostRuntime) -> Result<(), Fail> {
 
 #[test]
 fn texts_are_read_in_place(rt: HostRuntime) -> Result<(), Fail> {
-    let tag = body_in_place!(rt, CommandComplete, b"\x43\0\0\0\x0dSELECT 1\0").tag();
+    let tag = command_complete(first(b"\x43\0\0\0\x0dSELECT 1\0"))?.tag();
     assert_eq!(rt; tag, Ok("SELECT 1"));
-    let setting = body_in_place!(rt, ParameterStatus, b"\x53\0\0\0\x08n\0v\0");
+    let setting = parameter_status(first(b"\x53\0\0\0\x08n\0v\0"))?;
     assert_eq!(rt; setting.name(), Ok("n"));
     assert_eq!(rt; setting.value(), Ok("v"));
-    let heard = body_in_place!(rt, NotificationResponse, b"\x41\0\0\0\x0c\0\0\0\x01c\0m\0");
+    let heard = notification(first(b"\x41\0\0\0\x0c\0\0\0\x01c\0m\0"))?;
     assert_eq!(rt; heard.channel(), Ok("c"));
     assert_eq!(rt; heard.message(), Ok("m"));
     Ok(())
@@ -714,18 +697,14 @@ fn texts_are_read_in_place(rt: HostRuntime) -> Result<(), Fail> {
 
 #[test]
 fn an_exchange_is_read_in_place(rt: HostRuntime) -> Result<(), Fail> {
-    let token = body_in_place!(rt, AuthenticationGssContinue, b"\x52\0\0\0\x0a\0\0\0\x08ab");
+    let token = gss_continue(first(b"\x52\0\0\0\x0a\0\0\0\x08ab"))?;
     assert_eq!(rt; token.data(), b"ab".as_slice());
-    let challenge = body_in_place!(
-        rt,
-        AuthenticationSaslContinue,
-        b"\x52\0\0\0\x0a\0\0\0\x0bab"
-    );
+    let challenge = sasl_continue(first(b"\x52\0\0\0\x0a\0\0\0\x0bab"))?;
     assert_eq!(rt; challenge.data(), b"ab".as_slice());
-    let outcome = body_in_place!(rt, AuthenticationSaslFinal, b"\x52\0\0\0\x0a\0\0\0\x0cab");
+    let outcome = sasl_final(first(b"\x52\0\0\0\x0a\0\0\0\x0cab"))?;
     assert_eq!(rt; outcome.data(), b"ab".as_slice());
     let frame = b"\x52\0\0\0\x17\0\0\0\x0aSCRAM-SHA-256\0\0";
-    let mut mechanisms = body_in_place!(rt, AuthenticationSasl, frame).mechanisms();
+    let mut mechanisms = sasl(first(frame))?.mechanisms();
     assert_eq!(rt; mechanisms.next(), Ok(Some("SCRAM-SHA-256")));
     assert_eq!(rt; mechanisms.next(), Ok(None));
     Ok(())
@@ -733,15 +712,15 @@ fn an_exchange_is_read_in_place(rt: HostRuntime) -> Result<(), Fail> {
 
 #[test]
 fn lists_are_walked_in_place(rt: HostRuntime) -> Result<(), Fail> {
-    let copy = body_in_place!(rt, CopyInResponse, b"\x47\0\0\0\x09\0\0\x01\0\x01");
+    let copy = copy_in(first(b"\x47\0\0\0\x09\0\0\x01\0\x01"))?;
     assert_eq!(rt; copy.column_formats().next(), Ok(Some(1)));
-    let copy = body_in_place!(rt, CopyOutResponse, b"\x48\0\0\0\x09\x01\0\x01\0\x01");
+    let copy = copy_out(first(b"\x48\0\0\0\x09\x01\0\x01\0\x01"))?;
     assert_eq!(rt; copy.format(), 1);
     assert_eq!(rt; copy.column_formats().next(), Ok(Some(1)));
-    let types = body_in_place!(rt, ParameterDescription, b"\x74\0\0\0\x0a\0\x01\0\0\0\x17");
+    let types = parameter_description(first(b"\x74\0\0\0\x0a\0\x01\0\0\0\x17"))?;
     assert_eq!(rt; types.parameters().next(), Ok(Some(23)));
     let frame = b"\x54\0\0\0\x1a\0\x01\x61\0\0\0\0\0\0\0\0\0\0\x17\0\x04\xff\xff\xff\xff\0\0";
-    let mut columns = body_in_place!(rt, RowDescription, frame).fields();
+    let mut columns = row_description(first(frame))?.fields();
     let Ok(Some(column)) = columns.next() else {
         panic!(rt; "no column");
     };
@@ -751,21 +730,21 @@ fn lists_are_walked_in_place(rt: HostRuntime) -> Result<(), Fail> {
 
 #[test]
 fn errors_and_notices_are_walked_in_place(rt: HostRuntime) -> Result<(), Fail> {
-    let mut error = body_in_place!(rt, ErrorResponse, b"\x45\0\0\0\x0c\x53ERROR\0\0").fields();
+    let mut error = error_response(first(b"\x45\0\0\0\x0c\x53ERROR\0\0"))?.fields();
     let value = match error.next() {
         Ok(Some(field)) => field.value(),
         _ => Ok(""),
     };
     assert_eq!(rt; value, Ok("ERROR"));
     assert!(rt; matches!(error.next(), Ok(None)));
-    let mut notice = body_in_place!(rt, NoticeResponse, b"\x4e\0\0\0\x06\0\x01").fields();
+    let mut notice = notice_response(first(b"\x4e\0\0\0\x06\0\x01"))?.fields();
     assert!(rt; matches!(notice.next(), Err(Error::NotDrained)));
     Ok(())
 }
 
 #[test]
 fn any_column_of_a_row_is_at_hand(rt: HostRuntime) -> Result<(), Fail> {
-    let row = body!(rt, DataRow, ROW);
+    let row = data_row(message(&rt, ROW))?;
     let index = row.index(rt.alloc())?;
     assert_eq!(rt; index.len(), 3);
     let values = [Some(b"a".as_slice()), None, Some(b"".as_slice())];
@@ -794,7 +773,7 @@ fn any_column_of_a_row_is_at_hand(rt: HostRuntime) -> Result<(), Fail> {
 
 #[test]
 fn the_columns_at_hand_are_those_of_the_walk(rt: HostRuntime) -> Result<(), Fail> {
-    let row = body!(rt, DataRow, ROW);
+    let row = data_row(message(&rt, ROW))?;
     let index = row.index(rt.alloc())?;
     let mut ranges = row.ranges();
     for column in 0..3usize {
