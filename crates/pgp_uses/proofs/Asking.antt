@@ -1,30 +1,48 @@
 -- Messages behind those that a server read, and the binding among them.
 use Rattle.std.proofs.Common.{◌≡◌, ℕ, ℤ, pos, true, false, List, [], ◌∷◌, ◌++◌, Option, Some, None, Result, Ok, Err, MutBor, refl, sym, ap, subst, ◌∙◌, append_assoc, inl, inr, if◌then◌else◌}
-use Rattle.std.specs.List.{flat_map}
+use Rattle.std.specs.List.{flat_map, AllByRecursion}
 use Rattle.std.proofs.lemmas.List.{append-nil}
 use Rattle.std.proofs.lemmas.Grind.{flat_map-append}
-use Rattle.pgp_base.specs.Calls.{value_of, Puts, Gives, Runs}
-use Rattle.pgp_base.specs.Held.{Held, ◌⊕◌}
-use Rattle.pgp_base.specs.Wire.{uint32, nullable}
+use Rattle.pgp_base.specs.Calls.{value_of}
+use Rattle.pgp_base.proofs.Parts.{more_bytes}
+use Rattle.pgp_base.specs.Held.{Held, ◌⊕◌, lengthened}
+use Rattle.pgp_base.specs.Wire.{uint32}
 use Rattle.pgp_base.specs.declared.error.Error.{Error}
 use Rattle.pgp_base.specs.declared.error.BindError.{BindError}
+use Rattle.pgp_base.specs.declared.error.BindError.TheVariants.{Conversion, Serialization}
 use Rattle.pgp_base.specs.declared.number.IsNull.{IsNull}
-use Rattle.pgp_frontend.specs.ClientMessage.{ClientMessage, Bind, Parse}
-use Rattle.pgp_frontend.specs.Payload.{Text, part_cause, parts_cause, cause}
+use Rattle.pgp_frontend.specs.ClientMessage.{ClientMessage, Parse}
+use Rattle.pgp_frontend.specs.Payload.{Text, bytes_of, part_cause, parts_cause, cause}
 use Rattle.pgp_base.specs.Cause.{Cause, either}
 use Rattle.std.specs.Result.{IsErrAnd}
+use Rattle.postgres_protocol.specs.OneValue.{PutsOne}
+use Rattle.postgres_protocol.proofs.BindLemmas.{names_first, one_whole, one_refused}
 use Rattle.pgp_uses.specs.declared.session.AskError.{AskError}
+use Rattle.pgp_uses.specs.declared.session.AskError.TheVariants.{Binding}
 use Rattle.pgp_frontend.specs.Given.{Serves, before_values, BindWhole, BindRefused, Refused, ParseWhole, ParseReached}
 use Rattle.pgp_types.specs.Scalar.{int4}
 use Rattle.postgres_protocol.specs.ClientRun.{ClientRun, kinds_of, is_startup}
 use Rattle.postgres_protocol.specs.ClientStream.{Sent, IsAdded, IsLeft, Adds, RefusesMessage}
-use Rattle.pgp_uses.specs.Asking.{AreAdded, Blames, Stops, AddsAll, PutsNamed, NamedBinds, BindsNamed, named_bound}
+use Rattle.pgp_uses.specs.Asking.{AreAdded, Blames, Stops, AddsAll, NamedBinds, BindsNamed, named, named_bound}
 use Rattle.pgp_uses.specs.Values.{Serializes}
-use Rattle.pgp_uses.proofs.Bound.{written}
+use Rattle.pgp_uses.proofs.Bound.{written, refused}
+
+still_kept : {K : Type 0} (a b : Held K) (z : List ℕ) → b ≡ a ⊕ z → b.kept ≡ a.kept
+unfolding lengthened
+still_kept a b z e = ap (λ (h : Held _). h.kept) e
+
+one_none : (ms : List ClientMessage) (n : ClientMessage) → AllByRecursion (λ m. cause m ≡ None) ms → cause n ≡ None → AllByRecursion (λ m. cause m ≡ None) (ms ++ n ∷ [])
+one_none [] n all one = (one, tt)
+one_none (m ∷ ms) n all one = (all.0, one_none ms n all.1 one)
+
+one_behind : {K : Type 0} (old : List ℕ) (a b : Held K) (ms : List ClientMessage) (n : ClientMessage) → a.bytes ≡ old ++ flat_map bytes_of ms → b ≡ a ⊕ bytes_of n → b.bytes ≡ old ++ flat_map bytes_of (ms ++ n ∷ [])
+one_behind old a b ms n e f =
+    let all : flat_map bytes_of ms ++ bytes_of n ≡ flat_map bytes_of (ms ++ n ∷ []) = sym (flat_map-append bytes_of ms (n ∷ []) ∙ ap (λ l. flat_map bytes_of ms ++ l) (append-nil (bytes_of n))) in
+    ap (λ (h : Held _). h.bytes) f ∙ (more_bytes a (bytes_of n) ∙ (ap (λ l. l ++ bytes_of n) e ∙ (append_assoc old (flat_map bytes_of ms) (bytes_of n) ∙ ap (λ l. old ++ l) all)))
 
 module _ {B K : Type 0} (held : B → Held K) where
   pub none_yet : (s : Sent B) → s.opened ≡ true → AreAdded held [] s s
-  none_yet s opens = record { opened = opens; reads = λ kinds messages run. subst (λ ks. ClientRun ks (messages ++ []) (held s.buf).bytes) (sym (append-nil kinds)) (subst (λ ms. ClientRun kinds ms (held s.buf).bytes) (sym (append-nil messages)) run) }
+  none_yet s opens = record { opened = opens; none = tt; bytes = sym (append-nil (held s.buf).bytes); kept = refl; reads = λ kinds messages run. subst (λ ks. ClientRun ks (messages ++ []) (held s.buf).bytes) (sym (append-nil kinds)) (subst (λ ms. ClientRun kinds ms (held s.buf).bytes) (sym (append-nil messages)) run) }
 
   still_open : (m : ClientMessage) (mid new : Sent B) → mid.opened ≡ true → IsAdded held m mid new → new.opened ≡ true
   still_open m mid new opens a = elim (is_startup m) as (λ b. new.opened ≡ (if b then true else mid.opened) → new.opened ≡ true) [
@@ -38,6 +56,9 @@ module _ {B K : Type 0} (held : B → Held K) where
       let a = subst (λ m. IsAdded held m mid new) e added in
       record {
         opened = still_open n mid new before.opened a;
+        none = one_none ms n before.none a.none;
+        bytes = one_behind (held old.buf).bytes (held mid.buf) (held new.buf) ms n before.bytes a.appended;
+        kept = still_kept (held mid.buf) (held new.buf) (bytes_of n) a.appended ∙ before.kept;
         reads = λ kinds messages run.
             let r = a.reads (kinds ++ flat_map kinds_of ms) (messages ++ ms) (before.reads kinds messages run) in
             let ks : kinds ++ flat_map kinds_of ms ++ kinds_of n ≡ kinds ++ flat_map kinds_of (ms ++ n ∷ []) =
@@ -50,6 +71,9 @@ module _ {B K : Type 0} (held : B → Held K) where
   pub none_more : (ms : List ClientMessage) (old mid new : Sent B) → AreAdded held ms old mid → IsLeft held mid new → AreAdded held ms old new
   none_more ms old mid new before left = record {
     opened = left.opened ∙ before.opened;
+    none = before.none;
+    bytes = left.left.bytes ∙ before.bytes;
+    kept = left.left.kept ∙ before.kept;
     reads = λ kinds messages run. subst (λ bytes. ClientRun (kinds ++ flat_map kinds_of ms) (messages ++ ms) bytes) (sym left.left.bytes) (before.reads kinds messages run);
   }
 
@@ -82,53 +106,50 @@ module _ (name sql : List ℕ) (types : List ℕ → Option ℕ → Type 0) (all
 
 -- ---- the binding
 
-module _ {F B K : Type 0} (held : B → Held K) (step : F → ℕ → MutBor B → Result IsNull Error → MutBor B → F → Type 0) (lacks : Type 0)
+module _ {F B K : Type 0} (held : B → Held K) (step : F → ℕ → MutBor B → Result IsNull Error → MutBor B → F → Type 0) (lacks : Type 0) (name : List ℕ)
     (formats : List ℤ → Option ℤ → Type 0) (values : List ℕ → Option ℕ → Type 0) (results : List ℤ → Option ℤ → Type 0)
-    (all_formats : (xs : List ℤ) → formats xs None → xs ≡ pos 1 ∷ []) (all_values : (xs : List ℕ) → values xs None → xs ≡ 0 ∷ []) (all_results : (xs : List ℤ) → results xs None → xs ≡ pos 1 ∷ [])
-    (f last : F) (name : List ℕ) (old : Sent B) where
-  abbrev before : List ℤ → Held K
-  before fs = before_values (held old.buf) [] name fs
-
-  put_same : (h k : Held K) (x y : ℕ) (answer : Result IsNull Error) (bytes : List ℕ) (t u : F) → h ≡ k → x ≡ y → t ≡ u → Puts held step h f x answer bytes t → Puts held step k f y answer bytes u
-  put_same h k x y answer bytes t u e i j put = rw (← e, ← i, ← j) put
-
-  -- the one value
-  one_value : (fs : List ℤ) (xs : List ℕ) (vs : List (Option (List ℕ))) → fs ≡ pos 1 ∷ [] → xs ≡ 0 ∷ [] → Runs (Gives held step) nullable (before fs) f xs vs last
-      → (null : IsNull) × (bytes : List ℕ) × (vs ≡ value_of null bytes ∷ []) × PutsNamed held step f last name old (Ok null) bytes
-  one_value fs [] vs e h r = absurd cc
-  one_value fs (x ∷ []) [] e h r = absurd r
-  one_value fs (x ∷ []) (v ∷ []) e h r =
-      let m = r.1 in
-      let x_is : x ≡ 0 = cc in
-      (m.null, m.bytes, ap (λ v. v ∷ []) m.value, put_same (before fs ⊕ uint32 0) (before (pos 1 ∷ []) ⊕ uint32 0) x 0 (Ok m.null) m.bytes r.0 last (ap (λ fs. before fs ⊕ uint32 0) e) x_is r.2 m.put)
-  one_value fs (x ∷ []) (v ∷ w ∷ vs) e h r = absurd r.2
-  one_value fs (x ∷ y ∷ xs) vs e h r = absurd cc
-
-  same_bind : (fs rs : List ℤ) (vs : List (Option (List ℕ))) (v : Option (List ℕ)) → fs ≡ pos 1 ∷ [] → vs ≡ v ∷ [] → rs ≡ pos 1 ∷ [] → Bind [] name fs vs rs ≡ named_bound name v
-  same_bind fs rs vs v e f h = rw (e, f, h) refl
-
-  whole : (m : ClientMessage) → BindWhole [] name formats values (Serves held step f last) results (held old.buf) m
-      → (null : IsNull) × (bytes : List ℕ) × (m ≡ named_bound name (value_of null bytes)) × PutsNamed held step f last name old (Ok null) bytes
-  whole m w =
-      let fs = all_formats w.0 w.1 in
-      let served = w.2.1 in
-      let v = one_value w.0 served.xs w.2.0 fs (all_values served.xs served.came) served.made in
-      (v.0, v.1, w.2.2.2 ∙ same_bind w.0 w.2.2.0 w.2.0 (value_of v.0 v.1) fs v.2 (all_results w.2.2.0 w.2.2.1), v.3)
-
+    (all_formats : (xs : List ℤ) → formats xs None → xs ≡ pos 1 ∷ []) (some_formats : (xs : List ℤ) (x : ℤ) → formats xs (Some x) → xs ++ x ∷ [] ≡ pos 1 ∷ [])
+    (all_values : (xs : List ℕ) → values xs None → xs ≡ 0 ∷ []) (some_values : (xs : List ℕ) (x : ℕ) → values xs (Some x) → (xs ≡ []) × (xs ++ x ∷ [] ≡ 0 ∷ []))
+    (all_results : (xs : List ℤ) → results xs None → xs ≡ pos 1 ∷ []) (some_results : (xs : List ℤ) (x : ℤ) → results xs (Some x) → xs ++ x ∷ [] ≡ pos 1 ∷ [])
+    (f last : F) (old : Sent B) where
   pub named_binds : (r : Result (Unit {0}) (BindError Error)) (new : Sent B)
       → Adds held (BindWhole [] name formats values (Serves held step f last) results (held old.buf)) (BindRefused [] name formats values (Serves held step f last) results (held old.buf) lacks) old new r
-      → NamedBinds held step f last name old new r
+      → NamedBinds held step f last name old lacks new r
   named_binds (Ok done) new w =
-      let k = whole w.0 w.1 in
+      let k = one_whole held step lacks (named name) formats values results all_formats some_formats all_values some_values all_results some_results f last (held old.buf) w.0 w.1 in
       record { null = k.0; bytes = k.1; put = k.3; added = subst (λ m. IsAdded held m old new) k.2 w.2 }
-  named_binds (Err e) new w = w.1
+  named_binds (Err e) new w = (one_refused held step lacks (named name) formats values results all_formats some_formats all_values some_values all_results some_results f last (held old.buf) e w.0, w.1)
 
 -- the value that was bound is what the serializer writes
-pub bound_is : {F B K : Type 0} (held : B → Held K) (step : F → ℕ → MutBor B → Result IsNull Error → MutBor B → F → Type 0) (lacks : Type 0) (f : F) (name : List ℕ) (v : ℤ) (old new : Sent B)
-    → BindsNamed held step f name old new (Ok tt) → ((u : F) (x : ℕ) (b b' : MutBor B) (r : Result IsNull Error) → step f x b r b' u → Serializes int4 (Some v) lacks (held b.now) (held b'.now) r)
-    → IsAdded held (named_bound name (Some (int4.written v))) old new
-bound_is held step lacks f name v old new b acts =
-    let w = b.binds in
-    let m = w.put in
-    let k = written int4 lacks (Some v) w.null w.bytes (before_values (held old.buf) [] name (pos 1 ∷ []) ⊕ uint32 0) (held m.before.now) (held m.after.now) m.stood m.appended (acts b.last 0 m.before m.after (Ok w.null) m.called) in
-    subst (λ v. IsAdded held (named_bound name v) old new) k.1 w.added
+module _ {F B K : Type 0} (held : B → Held K) (step : F → ℕ → MutBor B → Result IsNull Error → MutBor B → F → Type 0) (lacks : Type 0) (f : F) (name : List ℕ) (v : ℤ) (old new : Sent B) where
+  value_is : (null : IsNull) (bytes : List ℕ) (last : F) → PutsOne held step (named name) f last (held old.buf) (Ok null) bytes
+      → ((u : F) (x : ℕ) (b b' : MutBor B) (r : Result IsNull Error) → step f x b r b' u → Serializes int4 (Some v) lacks (held b.now) (held b'.now) r) → value_of null bytes ≡ Some (int4.written v)
+  value_is null bytes last m acts =
+      (written int4 lacks (Some v) null bytes (before_values (held old.buf) [] name (pos 1 ∷ []) ⊕ uint32 0) (held m.before.now) (held m.after.now) m.stood m.appended (acts last 0 m.before m.after (Ok null) m.called)).1
+
+  pub bound_is : BindsNamed held step f name lacks old new (Ok tt) → ((u : F) (x : ℕ) (b b' : MutBor B) (r : Result IsNull Error) → step f x b r b' u → Serializes int4 (Some v) lacks (held b.now) (held b'.now) r)
+      → IsAdded held (named_bound name (Some (int4.written v))) old new
+  bound_is b acts = subst (λ v. IsAdded held (named_bound name v) old new) (value_is b.binds.null b.binds.bytes b.last b.binds.put acts) b.binds.added
+
+  -- it was refused
+  pub bind_left : (e : BindError Error) → BindsNamed held step f name lacks old new (Err e) → IsLeft held old new
+  bind_left e b = b.binds.1
+
+  pub bind_blames : (e : BindError Error) → BindsNamed held step f name lacks old new (Err e) → ((u : F) (x : ℕ) (b b' : MutBor B) (r : Result IsNull Error) → step f x b r b' u → Serializes int4 (Some v) lacks (held b.now) (held b'.now) r)
+      → Blames lacks (Binding e) (named_bound name (Some (int4.written v)))
+  bind_blames (Conversion e) b acts =
+      let m = b.binds.0.1 in (
+        tt,
+        elim (refused int4 lacks (Some v) e (held m.before.now) (held m.after.now) (acts b.last 0 m.before m.after (Err e) m.called)) [
+          | inl memory ↦ memory
+          | inr c ↦ let none : None ≡ Some e = c in absurd cc
+        ],
+      )
+  bind_blames (Serialization e) b acts = (
+    tt,
+    elim b.binds.0 [
+      | inl memory ↦ inl memory
+      | inr (inl names) ↦ inr (names_first (named name) (Some (int4.written v)) e names.1)
+      | inr (inr long) ↦ inr (subst (λ v. cause (named_bound name v) ≡ Some e) (value_is long.null long.bytes b.last long.put acts) long.some)
+    ],
+  )

@@ -12,7 +12,7 @@ use Rattle.pgp_base.proofs.Parts.{front_left}
 use Rattle.pgp_frontend.specs.Payload.{bytes_of, cause}
 use Rattle.pgp_frontend.specs.Given.{before_values}
 use Rattle.pgp_types.specs.Format.{Plain}
-use Rattle.postgres_protocol.specs.OneValue.{PutsOne, OneBinds, BindsOne}
+use Rattle.postgres_protocol.specs.OneValue.{unnamed, PutsOne, OneBinds, BindsOne}
 use Rattle.postgres_protocol.proofs.StepLemmas.{same_more}
 use Rattle.pgp_uses.specs.Values.{BindsValue, HasSpelling, RefusesValue, Serializes, bound}
 
@@ -39,11 +39,11 @@ keeps_value f lacks (Some x) old new (Err e) w = front_left old new w.1
 
 module _ {V F B K : Type 0} (held : B → Held K) (step : F → ℕ → MutBor B → Result IsNull Error → MutBor B → F → Type 0) (lacks : Type 0) (f : Plain V) (v : Option V) (first last : F) (old : Held K)
     (acts : (u : F) (x : ℕ) (b b' : MutBor B) (r : Result IsNull Error) → step first x b r b' u → Serializes f v lacks (held b.now) (held b'.now) r) where
-  made : (null : IsNull) (bytes : List ℕ) → PutsOne held step first last old (Ok null) bytes → HasSpelling f v × (value_of null bytes ≡ option_map f.written v)
+  made : (null : IsNull) (bytes : List ℕ) → PutsOne held step unnamed first last old (Ok null) bytes → HasSpelling f v × (value_of null bytes ≡ option_map f.written v)
   made null bytes m =
       written f lacks v null bytes (before_values old [] [] (pos 1 ∷ []) ⊕ uint32 0) (held m.before.now) (held m.after.now) m.stood m.appended (acts last 0 m.before m.after (Ok null) m.called)
 
-  binds : (r : Result (Unit {0}) (BindError Error)) (new : Held K) → OneBinds held step first last old lacks new r → BindsValue f v lacks old new r
+  binds : (r : Result (Unit {0}) (BindError Error)) (new : Held K) → OneBinds held step unnamed first last old lacks new r → BindsValue f v lacks old new r
   binds (Ok done) new w =
       let k = made w.null w.bytes w.put in
       (k.0, subst (λ (o : Option (List ℕ)). cause (bound o) ≡ None) k.1 w.none, w.appended ∙ ap (λ (o : Option (List ℕ)). old ⊕ bytes_of (bound o)) k.1)
@@ -51,7 +51,8 @@ module _ {V F B K : Type 0} (held : B → Held K) (step : F → ℕ → MutBor B
   binds (Err (Serialization e)) new w = (
     elim w.0 [
       | inl memory ↦ inl memory
-      | inr long ↦
+      | inr (inl names) ↦ let none : None ≡ Some e = names.1 in absurd cc
+      | inr (inr long) ↦
           let k = made long.null long.bytes long.put in
           inr (k.0, subst (λ (o : Option (List ℕ)). cause (bound o) ≡ Some e) k.1 long.some)
     ],

@@ -1,18 +1,20 @@
 -- What a question by a named statement sends: the extended query of one int4.
 -- PostgreSQL manual, "Message Flow": "Extended Query".
-use Rattle.std.specs.Prelude.{◌≡◌, ℕ, ℤ, pos, true, List, [], ◌∷◌, ◌++◌, Option, Some, Result, Ok, Err}
-use Rattle.std.specs.List.{flat_map}
-use Rattle.pgp_base.specs.Calls.{value_of, Puts}
-use Rattle.pgp_base.specs.Held.{Held, ◌⊕◌}
-use Rattle.pgp_base.specs.Wire.{uint32}
+use Rattle.std.specs.Prelude.{◌≡◌, ℕ, ℤ, pos, true, List, [], ◌∷◌, ◌++◌, Option, Some, None, Result, Ok, Err}
+use Rattle.std.specs.List.{flat_map, AllByRecursion}
+use Rattle.pgp_base.specs.Calls.{value_of}
+use Rattle.pgp_base.specs.Cause.{WantsMemory}
+use Rattle.pgp_base.specs.Held.{Held}
 use Rattle.pgp_base.specs.declared.error.Error.{Error}
 use Rattle.pgp_base.specs.declared.error.BindError.{BindError}
+use Rattle.pgp_base.specs.declared.error.BindError.TheVariants.{Conversion, Serialization}
 use Rattle.pgp_base.specs.declared.number.IsNull.{IsNull}
 use Rattle.pgp_frontend.specs.ClientMessage.{ClientMessage, PasswordKind, Parse, Bind, Describe, Execute, Sync}
-use Rattle.pgp_frontend.specs.Given.{before_values}
+use Rattle.pgp_frontend.specs.Payload.{bytes_of, cause}
 use Rattle.pgp_types.specs.Scalar.{int4}
 use Rattle.postgres_protocol.specs.ClientRun.{ClientRun, kinds_of}
 use Rattle.postgres_protocol.specs.ClientStream.{Sent, IsAdded, IsLeft, RefusesMessage}
+use Rattle.postgres_protocol.specs.OneValue.{Target, PutsOne, OneRefused}
 use Rattle.pgp_uses.specs.declared.session.AskError.{AskError}
 use Rattle.pgp_uses.specs.declared.session.AskError.TheVariants.{Message, Binding}
 use denote.Ref.{MutBor}
@@ -29,16 +31,21 @@ abbrev pub IsBind : ClientMessage → Type 0
 IsBind (Bind portal statement formats values results) = Unit {0}
 IsBind m = ⊥
 
--- Which message an error tells of: the binding, whose cause isn't said here; or another, for its cause or for want of
--- memory.
+-- Which message an error tells of, and why that was refused: for want of memory, or for its cause. `Conversion` is the
+-- refusal of the value itself, and an int4 always has a spelling.
 abbrev pub Blames : Type 0 → AskError → ClientMessage → Type 0
-Blames lacks (Message e) m = RefusesMessage m lacks e
-Blames lacks (Binding e) m = IsBind m
+Blames lacks (Message e) m = (IsBind m → ⊥) × RefusesMessage m lacks e
+Blames lacks (Binding (Conversion e)) m = IsBind m × WantsMemory lacks e
+Blames lacks (Binding (Serialization e)) m = IsBind m × RefusesMessage m lacks e
 
 module _ {B K : Type 0} (held : B → Held K) where
-  -- However a server reads the bytes that stood there, it now reads these messages behind them.
+  -- Each has a spelling, and these stand behind the old bytes: however a server reads those, it now reads these messages
+  -- behind them.
   pub record AreAdded (ms : List ClientMessage) (old new : Sent B) : Type 0 where
     pub opened : new.opened ≡ true
+    pub none : AllByRecursion (λ m. cause m ≡ None) ms
+    pub bytes : (held new.buf).bytes ≡ (held old.buf).bytes ++ flat_map bytes_of ms
+    pub kept : (held new.buf).kept ≡ (held old.buf).kept
     pub reads : (kinds : List PasswordKind) (messages : List ClientMessage) → ClientRun kinds messages (held old.buf).bytes
         → ClientRun (kinds ++ flat_map kinds_of ms) (messages ++ ms) (held new.buf).bytes
 
@@ -56,24 +63,25 @@ module _ {B K : Type 0} (held : B → Held K) where
   AddsAll ms lacks old new (Ok done) = AreAdded ms old new
   AddsAll ms lacks old new (Err e) = Stops ms lacks e old new
 
+-- what it is bound to, for an answer in binary
+abbrev pub named : List ℕ → Target
+named name = record { portal = []; statement = name; results = pos 1 ∷ [] }
+
 -- What a `bind` to a named statement of one value comes to, which a serializer makes: it was called once, behind the place of the
 -- value's length, and left as `last`.
 module _ {F B K : Type 0} (held : B → Held K) (step : F → ℕ → MutBor B → Result IsNull Error → MutBor B → F → Type 0) (f last : F) (name : List ℕ) (old : Sent B) where
-  abbrev pub PutsNamed : Result IsNull Error → List ℕ → Type 0
-  PutsNamed answer bytes = Puts held step (before_values (held old.buf) [] name (pos 1 ∷ []) ⊕ uint32 0) f 0 answer bytes last
-
   -- the message of the value that it made was added
   pub record NamedAdded (new : Sent B) : Type 0 where
     pub null : IsNull
     pub bytes : List ℕ
-    pub put : PutsNamed (Ok null) bytes
+    pub put : PutsOne held step (named name) f last (held old.buf) (Ok null) bytes
     pub added : IsAdded held (named_bound name (value_of null bytes)) old new
 
-  abbrev pub NamedBinds : Sent B → Result (Unit {0}) (BindError Error) → Type 0
-  NamedBinds new (Ok done) = NamedAdded new
-  NamedBinds new (Err e) = IsLeft held old new
+  abbrev pub NamedBinds : Type 0 → Sent B → Result (Unit {0}) (BindError Error) → Type 0
+  NamedBinds lacks new (Ok done) = NamedAdded new
+  NamedBinds lacks new (Err e) = OneRefused held step (named name) f last (held old.buf) lacks e × IsLeft held old new
 
 -- the same, with the serializer's last state
-pub record BindsNamed {F B K : Type 0} (held : B → Held K) (step : F → ℕ → MutBor B → Result IsNull Error → MutBor B → F → Type 0) (f : F) (name : List ℕ) (old new : Sent B) (result : Result (Unit {0}) (BindError Error)) : Type 0 where
+pub record BindsNamed {F B K : Type 0} (held : B → Held K) (step : F → ℕ → MutBor B → Result IsNull Error → MutBor B → F → Type 0) (f : F) (name : List ℕ) (lacks : Type 0) (old new : Sent B) (result : Result (Unit {0}) (BindError Error)) : Type 0 where
   pub last : F
-  pub binds : NamedBinds held step f last name old new result
+  pub binds : NamedBinds held step f last name old lacks new result

@@ -11,6 +11,7 @@ places_of at [] = []
 places_of at (f ∷ frames) = record { start = at; end = at + length (frame_bytes f) } ∷ places_of (at + length (frame_bytes f)) frames
 
 -- The places are those of the stream's frames, all of them, and what stands behind the last is the stream's rest.
+-- That the stream is read in one way alone is a law (`one_run` of `pgp_message`).
 pub record IsRecording (bytes : List ℕ) (places : List (Range ℕ)) (stopped : Bool) (rest : ℕ) : Type 0 where
   pub results : List (Result Message Error)
   pub run : BackendRun bytes results stopped (drop rest bytes)

@@ -137,7 +137,7 @@ module _ {B K : Type 0} (held : B → Held K) (lacks : Type 0) where
     Steps m old new result = StepsOn (heard old.phase m) old new result
 
 -- what the code's word says
-abbrev pub seen : Heard → Said
+abbrev pub seen : {S : Type 0} → Heard S → Said
 seen code.Notice = Notice
 seen code.Failure = Failure
 seen (code.Offer body) = Offer body.now

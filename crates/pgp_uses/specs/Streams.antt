@@ -11,7 +11,7 @@ use Rattle.postgres_protocol.specs.ServerStream.{Reading, HasRead}
 abbrev pub Completes : List ℕ → List (Result Message Error) → Reading → Reading → Type 0
 Completes piece got old new = (bytes : List ℕ) (taken : List (Result Message Error)) → HasRead bytes taken old → HasRead (bytes ++ piece) (taken ++ got) new
 
--- the stream has so many frames
+-- the stream has so many frames; that it is read in one way alone is a law (`one_run` of `pgp_message`)
 abbrev pub HasFrames : List ℕ → ℕ → Type 0
 HasFrames bytes n = (results : List (Result Message Error)) × (stopped : Bool) × (rest : List ℕ) × BackendRun bytes results stopped rest × (n ≡ length results)
 
@@ -20,6 +20,7 @@ is_row (Ok (Some (DataRow row))) = true
 is_row read = false
 
 -- A row stands at the front, and these bytes behind it; or a step along the stream gives no row.
+-- A step that is refused memory gives none either: that `Messages` never is stands in its own contract.
 abbrev pub FrontRow : List ℕ → Option (CountedBytes × List ℕ) → Type 0
 FrontRow bytes (Some front) = TakesFrame bytes (Ok (DataRow front.0)) front.1
 FrontRow bytes None = (read : Result (Option Message) Error) × (new : List ℕ) × Step bytes read new × (is_row read ≡ false)

@@ -2,17 +2,24 @@
 //! messages, and tells what they come to and what is to be sent. It reads and writes nothing itself.
 
 ghost use Rattle.std.specs.Prelude.{◌≡◌, [], ◌∷◌, codes, true, false, option_map, Contains, None, IfOk, IfErr};
+ghost use Rattle.pgp_base.specs.Items.{MarkedItems};
 ghost use Rattle.pgp_auth.specs.ScramClient.{Client as Exchange};
 ghost use Rattle.pgp_frontend.specs.ClientMessage.{Startup};
+ghost use Rattle.pgp_message.specs.Items.{TextSpelled, TextRefused};
 ghost use Rattle.pgp_message.specs.Views.{view};
 ghost use Rattle.postgres_protocol.specs.ClientStream.{IsAdded, RefusesMessage};
 ghost use Rattle.pgp_uses.specs.ScramLogin.{HearsFinal, HearsFirst, HearsOffer, Knows, Offers, Steps, is_due, heard, says, seen};
 
 use crate::client::{Client, Phase};
+use bytes::Bytes;
 use pgp_base::{Buffer, FallibleIterator};
+use pgp_message::Storage;
 use postgres_protocol::Error;
 use postgres_protocol::authentication::sasl::{SCRAM_SHA_256, ScramError, ScramSha256};
-use postgres_protocol::message::backend::{AuthenticationSaslBody, Message, SaslMechanisms};
+use postgres_protocol::message::backend::{
+    AuthenticationSaslBody, AuthenticationSaslContinueBody, AuthenticationSaslFinalBody, Message,
+    SaslMechanisms,
+};
 use postgres_protocol::session::ClientStream;
 use std::alloc::{Allocator, Global};
 
@@ -63,6 +70,49 @@ pub enum LoginFault<A: Allocator = Global> {
     Scram(ScramError<A>),
 }
 
+/// Bytes that a message keeps, shared or in place, where what a server says in a SASL exchange can be read.
+pub trait SaslStorage: Storage + Sized {
+    /// The mechanisms, by name.
+    fn mechanisms<'m>(body: &'m AuthenticationSaslBody<Self>) -> SaslMechanisms<'m>
+        ensures items { MarkedItems TextSpelled TextRefused body.now result.items result.end };
+
+    /// The server's challenge.
+    fn challenge<'m>(body: &'m AuthenticationSaslContinueBody<Self>) -> &'m [u8]
+        ensures { result.now ≡ body.now };
+
+    /// The server's last word.
+    fn outcome<'m>(body: &'m AuthenticationSaslFinalBody<Self>) -> &'m [u8]
+        ensures { result.now ≡ body.now };
+}
+
+impl<A: Allocator> SaslStorage for Bytes<A> {
+    fn mechanisms<'m>(body: &'m AuthenticationSaslBody<Bytes<A>>) -> SaslMechanisms<'m> {
+        body.mechanisms()
+    }
+
+    fn challenge<'m>(body: &'m AuthenticationSaslContinueBody<Bytes<A>>) -> &'m [u8] {
+        body.data()
+    }
+
+    fn outcome<'m>(body: &'m AuthenticationSaslFinalBody<Bytes<A>>) -> &'m [u8] {
+        body.data()
+    }
+}
+
+impl<'a> SaslStorage for &'a [u8] {
+    fn mechanisms<'m>(body: &'m AuthenticationSaslBody<&'a [u8]>) -> SaslMechanisms<'m> {
+        body.mechanisms()
+    }
+
+    fn challenge<'m>(body: &'m AuthenticationSaslContinueBody<&'a [u8]>) -> &'m [u8] {
+        body.data()
+    }
+
+    fn outcome<'m>(body: &'m AuthenticationSaslFinalBody<&'a [u8]>) -> &'m [u8] {
+        body.data()
+    }
+}
+
 /// A log-in with SCRAM-SHA-256.
 #[derive(Drop)]
 pub struct ScramLogin<A: Allocator, B: Buffer> {
@@ -108,7 +158,10 @@ impl<A: Allocator + Copy, B: Buffer + Drop> ScramLogin<A, B> {
     /// `Unexpected` where the message has no place in the phase, and `NotOffered` where the server offers no
     /// SCRAM-SHA-256: the log-in is as it was. `Scram` where the exchange refuses the server's text, and `Unsent` of
     /// `OutOfMemory` where the buffer's growth is refused: behind the first text of the exchange the log-in is over.
-    pub fn step(&mut self, message: &Message<&[u8]>) -> Result<LoginEvent, LoginFault<A>>
+    pub fn step<S: SaslStorage>(
+        &mut self,
+        message: &Message<S>,
+    ) -> Result<LoginEvent, LoginFault<A>>
         requires { self.old.out.opened ≡ true }
         ensures stepped { Steps B.held B.Lacks (view message.now)
             (record { phase = self.old.phase; exchange = self.old.exchange; out = self.old.out })
@@ -120,7 +173,7 @@ impl<A: Allocator + Copy, B: Buffer + Drop> ScramLogin<A, B> {
     }
 
     /// The step, by what the message says.
-    fn hear(&mut self, message: &Message<&[u8]>) -> Result<LoginEvent, LoginFault<A>>
+    fn hear<S: SaslStorage>(&mut self, message: &Message<S>) -> Result<LoginEvent, LoginFault<A>>
         requires { self.old.out.opened ≡ true }
         ensures stepped { Steps B.held B.Lacks (view message.now)
             (record { phase = self.old.phase; exchange = self.old.exchange; out = self.old.out })
@@ -161,7 +214,10 @@ impl<A: Allocator + Copy, B: Buffer + Drop> ScramLogin<A, B> {
     }
 
     /// The server's mechanisms came: the exchange's first text is sent.
-    fn begin(&mut self, body: &AuthenticationSaslBody<&[u8]>) -> Result<LoginEvent, LoginFault<A>>
+    fn begin<S: SaslStorage>(
+        &mut self,
+        body: &AuthenticationSaslBody<S>,
+    ) -> Result<LoginEvent, LoginFault<A>>
         requires { self.old.out.opened ≡ true }
         ensures heard { HearsOffer B.held B.Lacks body.now
             (record { phase = self.old.phase; exchange = self.old.exchange; out = self.old.out })
@@ -221,17 +277,17 @@ impl<A: Allocator + Copy, B: Buffer + Drop> ScramLogin<A, B> {
 
 /// What a server says to a client that logs in.
 #[derive(Drop)]
-enum Heard<'m, 'a> {
+enum Heard<'m, S: Storage> {
     Notice,
     Failure,
-    Offer(&'m AuthenticationSaslBody<&'a [u8]>),
-    First(&'a [u8]),
-    Final(&'a [u8]),
+    Offer(&'m AuthenticationSaslBody<S>),
+    First(&'m [u8]),
+    Final(&'m [u8]),
     Welcome,
 }
 
 /// What the message says, if that is due in the phase.
-fn heard_in<'m, 'a>(phase: LoginPhase, message: &'m Message<&'a [u8]>) -> Option<Heard<'m, 'a>>
+fn heard_in<'m, S: SaslStorage>(phase: LoginPhase, message: &'m Message<S>) -> Option<Heard<'m, S>>
     ensures { option_map seen result ≡ heard phase (view message.now) }
 {
     match said_by(message) {
@@ -241,22 +297,22 @@ fn heard_in<'m, 'a>(phase: LoginPhase, message: &'m Message<&'a [u8]>) -> Option
 }
 
 /// What the message says.
-fn said_by<'m, 'a>(message: &'m Message<&'a [u8]>) -> Option<Heard<'m, 'a>>
+fn said_by<'m, S: SaslStorage>(message: &'m Message<S>) -> Option<Heard<'m, S>>
     ensures { option_map seen result ≡ says (view message.now) }
 {
     match message {
         Message::NoticeResponse(_) => Some(Heard::Notice),
         Message::ErrorResponse(_) => Some(Heard::Failure),
         Message::AuthenticationSasl(body) => Some(Heard::Offer(body)),
-        Message::AuthenticationSaslContinue(body) => Some(Heard::First(body.data())),
-        Message::AuthenticationSaslFinal(body) => Some(Heard::Final(body.data())),
+        Message::AuthenticationSaslContinue(body) => Some(Heard::First(S::challenge(body))),
+        Message::AuthenticationSaslFinal(body) => Some(Heard::Final(S::outcome(body))),
         Message::AuthenticationOk => Some(Heard::Welcome),
         _ => None,
     }
 }
 
 /// Whether it is due in the phase.
-fn is_due(phase: LoginPhase, said: &Heard<'_, '_>) -> bool
+fn is_due<S: Storage>(phase: LoginPhase, said: &Heard<'_, S>) -> bool
     ensures { result ≡ is_due phase (seen said.now) }
 {
     match phase {
@@ -269,12 +325,12 @@ fn is_due(phase: LoginPhase, said: &Heard<'_, '_>) -> bool
 }
 
 /// Whether SCRAM-SHA-256 is one of the mechanisms, whose list ends well.
-fn offers(body: &AuthenticationSaslBody<&[u8]>) -> bool
+fn offers<S: SaslStorage>(body: &AuthenticationSaslBody<S>) -> bool
     ensures yes { result ≡ true → Offers body.now }
     ensures no { result ≡ false → Offers body.now → ⊥ }
 {
     postgres_protocol::message::backend::laws::one_list_of_mechanisms();
-    has_scram(body.mechanisms())
+    has_scram(S::mechanisms(body))
 }
 
 /// Whether SCRAM-SHA-256 is one of the names, and the walk isn't refused.

@@ -71,8 +71,8 @@ impl From<BindError<Error>> for AskError {
 /// # Errors
 ///
 /// `EmbeddedNull` where the name or the text has a 0 byte, `TooLarge` where it is too long for its message, and
-/// `OutOfMemory`. The messages before the refused one stay. The contract tells the cause of each refusal but the
-/// binding's.
+/// `OutOfMemory`: of the binding as `Binding` of `Serialization`, or of `Conversion` where the buffer refused the value's
+/// bytes, and of another message as `Message`. The messages before the refused one stay, and nothing of it.
 pub fn ask_named<B: Buffer>(
     name: &str,
     sql: &str,
@@ -104,7 +104,7 @@ fn bind_named<B: Buffer, F: FnMut(u8, &mut B) -> Result<IsNull, Error> + Drop>(
     requires opened { stream.old.opened ≡ true }
     requires callable { F.IsAlwaysCallable serializer }
     requires owes { OwesValues B.held F.pre F.step }
-    ensures { BindsNamed B.held F.step serializer name.now stream.old stream.new result }
+    ensures { BindsNamed B.held F.step serializer name.now B.Lacks stream.old stream.new result }
 {
     stream.bind("", name, Some(1i16), Some(0u8), serializer, Some(1i16))
 }

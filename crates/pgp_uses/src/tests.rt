@@ -18,13 +18,14 @@ use crate::streams::{completed, frame_count, front_row};
 use crate::values::{bind_int4, parameter, value_of};
 use crate::writing::{ask, ask_in_place};
 use bytes::BytesMut;
+use pgp_base::Window;
 use postgres_protocol::authentication::sasl::{
     ChannelBinding, NoPrep, ScramError, ScramSha256, is_nonce,
 };
-use postgres_protocol::message::backend::{Messages, RowIndex};
+use postgres_protocol::message::backend::{Message, Messages, RowIndex};
 use postgres_protocol::message::frontend;
 use postgres_protocol::session::{ClientStream, StreamParser};
-use postgres_protocol::{Error, IsNull};
+use postgres_protocol::{BindError, Error, IsNull};
 use rand_core::Rng;
 use rand_core::utils::{self, NextWord};
 use std::alloc::Global;
@@ -96,6 +97,23 @@ fn a_refused_statement_is_not_asked(rt: HostRuntime) -> Result<(), Fail> {
     assert_eq!(rt;
         stream.bytes(),
         b"\x00\x00\x00\x12\x00\x03\x00\x00user\x00app\x00\x00".as_slice()
+    );
+    Ok(())
+}
+
+/// The memory holds the startup packet, the statement's text, and the binding up to its value, which it lacks.
+#[test]
+fn a_binding_without_room_is_refused(rt: HostRuntime) -> Result<(), Fail> {
+    let mut room = [0u8; 56];
+    let mut stream = ClientStream::over(Window::new(&mut room));
+    stream.startup_message(&[("user", "app")])?;
+    assert_eq!(rt;
+        ask_named("s", "select $1", -2, &mut stream),
+        Err(AskError::Binding(BindError::Conversion(Error::OutOfMemory)))
+    );
+    assert_eq!(rt;
+        stream.bytes(),
+        b"\x00\x00\x00\x12\x00\x03\x00\x00user\x00app\x00\x00P\x00\x00\x00\x12s\x00select $1\x00\x00\x00".as_slice()
     );
     Ok(())
 }
@@ -537,6 +555,47 @@ fn a_password_is_proved(rt: HostRuntime) -> Result<(), Fail> {
         login.out.bytes(),
         b"\x00\x00\x00\x14\x00\x03\x00\x00user\x00alice\x00\x00p\x00\x00\x00\x36SCRAM-SHA-256\x00\x00\x00\x00\x20n,,n=,r=9IZ2O01zb9IgiIZ1WJ/zgpJBp\x00\x00\x00\x6cc=biws,r=9IZ2O01zb9IgiIZ1WJ/zgpJBjx/oIRLs02gGSHcw1KEty3eY,p=AmNKosjJzS31NTlQYNs5BTeQjdHdk7lOflDo5re2an8=".as_slice()
     );
+    Ok(())
+}
+
+/// What a log-in makes of the message at the front of a server's bytes, which keeps its frame.
+fn heard_whole(
+    rt: &HostRuntime,
+    bytes: &[u8],
+    login: &mut ScramLogin<Global, BytesMut>,
+) -> Result<Option<Result<LoginEvent, LoginFault>>, Fail> {
+    if !login.out.is_open() {
+        return Ok(None);
+    }
+    let mut read = BytesMut::new(rt.alloc());
+    read.extend_from_slice(bytes)?;
+    match Message::parse(&mut read) {
+        Ok(Some(message)) => {
+            let told = login.step(&message);
+            drop(message);
+            Ok(Some(told))
+        }
+        _ => Ok(None),
+    }
+}
+
+/// The same exchange, by messages that keep their frames.
+#[test]
+fn a_password_is_proved_to_frames(rt: HostRuntime) -> Result<(), Fail> {
+    let mut login = opened(&rt)?;
+    let began = heard_whole(&rt, OFFER, &mut login)?;
+    assert!(rt; matches!(began, Some(Ok(LoginEvent::Began))));
+    drop(began);
+    let replied = heard_whole(&rt, CHALLENGE, &mut login)?;
+    assert!(rt; matches!(replied, Some(Ok(LoginEvent::Replied))));
+    drop(replied);
+    let verified = heard_whole(&rt, OUTCOME, &mut login)?;
+    assert!(rt; matches!(verified, Some(Ok(LoginEvent::Verified))));
+    drop(verified);
+    let admitted = heard_whole(&rt, WELCOME, &mut login)?;
+    assert!(rt; matches!(admitted, Some(Ok(LoginEvent::Admitted))));
+    drop(admitted);
+    assert_eq!(rt; login.phase, LoginPhase::Done);
     Ok(())
 }
 

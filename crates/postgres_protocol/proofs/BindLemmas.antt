@@ -1,59 +1,74 @@
 -- The message that binds one value, and the one that binds an array of steps.
 use Rattle.std.proofs.Common.{◌≡◌, ℕ, ℤ, pos, List, [], ◌∷◌, ◌++◌, length, Option, Some, None, Result, Ok, Err, MutBor, refl, sym, ap, subst, ◌∙◌, inl, inr, arith}
+use Rattle.std.specs.Prelude.{map, ◌⊎◌}
 use Rattle.std.specs.List.{flat_map}
+use Rattle.std.proofs.lemmas.List.{map-append}
 use Rattle.pgp_base.specs.declared.error.Error.{Error}
 use Rattle.pgp_base.specs.declared.error.BindError.{BindError}
 use Rattle.pgp_base.specs.declared.error.BindError.TheVariants.{Conversion, Serialization}
 use Rattle.pgp_base.specs.declared.number.IsNull.{IsNull}
 use Rattle.pgp_base.specs.declared.number.IsNull.TheVariants.{No}
 use Rattle.pgp_base.specs.Wire.{uint32, nullable}
-use Rattle.pgp_base.specs.Cause.{Cause, either}
+use Rattle.pgp_base.specs.Cause.{Cause, either, first}
 use Rattle.pgp_base.specs.Held.{Held, ◌⊕◌}
 use Rattle.pgp_base.specs.Calls.{value_of, Puts, Gives, Runs}
+use Rattle.pgp_base.proofs.Causes.{either_first, first-append}
 use Rattle.pgp_base.proofs.Parts.{nothing_more}
 use Rattle.pgp_frontend.specs.ClientMessage.{ClientMessage, Bind}
-use Rattle.pgp_frontend.specs.Payload.{Part, Text, Int16s, Values, part_cause, parts_cause, bytes_of, cause}
-use Rattle.pgp_frontend.specs.Given.{Serves, before_values, BindWhole, BindReached, WritesBind}
+use Rattle.pgp_frontend.specs.Payload.{Part, Text, Int16s, Values, part_cause, parts, parts_cause, bytes_of, cause}
+use Rattle.pgp_frontend.specs.Given.{Serves, before_values, BindWhole, BindReached, BindRefused, WritesBind}
 use Rattle.pgp_types.specs.declared.array.ArrayDimension.{ArrayDimension}
 use Rattle.pgp_types.specs.Array.{array_bytes, array_cause}
 use Rattle.postgres_protocol.specs.declared.laws.array.Step.{Step}
 use Rattle.postgres_protocol.specs.ArraySteps.{Give, array_of, WritesSteps, binding, BindsArray}
-use Rattle.postgres_protocol.specs.OneValue.{one_bound, PutsOne, OneTooLong, OneBinds, BindsOne}
+use Rattle.postgres_protocol.specs.OneValue.{Target, unnamed, one_bound, names_cause, PutsOne, NamesRefused, OneTooLong, OneRefused, OneBinds, BindsOne}
 use Rattle.postgres_protocol.proofs.StepLemmas.{same_more}
 
 -- ---- one value
 
-no_cause : (c : Cause) (e : Error) → c ≡ None → c ≡ Some e → ⊥
-no_cause c e h k = let f : None ≡ Some e = sym h ∙ k in absurd cc
-
 only_one : (vs : List (Option (List ℕ))) (v w : Option (List ℕ)) → vs ≡ [] → v ≡ w → vs ++ v ∷ [] ≡ w ∷ []
 only_one vs v w e f = rw (e, f) refl
 
-same_bind : (fs : List ℤ) (vs : List (Option (List ℕ))) (v : Option (List ℕ)) (rs : List ℤ) → fs ≡ pos 1 ∷ [] → vs ≡ v ∷ [] → rs ≡ [] → Bind [] [] fs vs rs ≡ one_bound v
-same_bind fs vs v rs e f h = rw (e, f, h) refl
+-- a cause of the first parts is one of all
+front_cause : (ps qs : List Part) (e : Error) → parts_cause ps ≡ Some e → parts_cause (ps ++ qs) ≡ Some e
+front_cause ps qs e h = ap first (map-append part_cause ps qs) ∙ (first-append (map part_cause ps) (map part_cause qs) ∙ either_first (parts_cause ps) (parts_cause qs) e h)
 
--- a cause of the value is one of the message
-value_cause : (v : Option (List ℕ)) (e : Error) → parts_cause (Text [] ∷ Text [] ∷ Int16s (pos 1 ∷ []) ∷ Values (v ∷ []) ∷ []) ≡ Some e → cause (one_bound v) ≡ Some e
-value_cause v e h =
-    let by_cause : (c d : Cause) → either c None ≡ Some e → either (either c (either None None)) d ≡ Some e = λ c d. elim c as (λ c. either c None ≡ Some e → either (either c (either None None)) d ≡ Some e) [
-      | None ↦ λ k. absurd cc
-      | Some x ↦ λ k. k
-    ] in
-    by_cause (part_cause (Values (v ∷ []))) _ h
+-- and one of the message
+parts_first : (m : ClientMessage) (e : Error) → parts_cause (parts m) ≡ Some e → cause m ≡ Some e
+parts_first m e h = either_first (parts_cause (parts m)) _ e h
 
-parts_are : (fs : List ℤ) (vs : List (Option (List ℕ))) (v : Option (List ℕ)) (ps : List Part) (e : Error) → ps ≡ Text [] ∷ Text [] ∷ Int16s fs ∷ Values vs ∷ [] → fs ≡ pos 1 ∷ [] → vs ≡ v ∷ [] → parts_cause ps ≡ Some e
-    → cause (one_bound v) ≡ Some e
-parts_are fs vs v ps e is f w c =
-    value_cause v e (ap (λ gs. parts_cause (Text [] ∷ Text [] ∷ Int16s gs ∷ Values (v ∷ []) ∷ [])) (sym f) ∙ ap (λ ws. parts_cause (Text [] ∷ Text [] ∷ Int16s fs ∷ Values ws ∷ [])) (sym w) ∙ ap parts_cause (sym is) ∙ c)
+module _ (to : Target) where
+  -- the parts up to the value, and all of them
+  abbrev up_to : List ℤ → List (Option (List ℕ)) → List Part
+  up_to fs vs = Text to.portal ∷ Text to.statement ∷ Int16s fs ∷ Values vs ∷ []
 
-module _ {F E B K : Type 0} (held : B → Held K) (step : F → ℕ → MutBor B → Result IsNull E → MutBor B → F → Type 0) (lacks : Type 0)
+  same_bind : (fs : List ℤ) (vs : List (Option (List ℕ))) (v : Option (List ℕ)) (rs : List ℤ) → fs ≡ pos 1 ∷ [] → vs ≡ v ∷ [] → rs ≡ to.results → Bind to.portal to.statement fs vs rs ≡ one_bound to v
+  same_bind fs vs v rs e f h = rw (e, f, h) refl
+
+  -- a cause of the names is one of the message
+  pub names_first : (v : Option (List ℕ)) (e : Error) → names_cause to ≡ Some e → cause (one_bound to v) ≡ Some e
+  names_first v e h = parts_first (one_bound to v) e (front_cause (Text to.portal ∷ Text to.statement ∷ []) (Int16s (pos 1 ∷ []) ∷ Values (v ∷ []) ∷ Int16s to.results ∷ []) e h)
+
+  -- the one format has none
+  format_last : (c d : Cause) → either c (either d (either None None)) ≡ either c (either d None)
+  format_last c d = refl
+
+  names_alone : (fs : List ℤ) → fs ≡ pos 1 ∷ [] → parts_cause (Text to.portal ∷ Text to.statement ∷ Int16s fs ∷ []) ≡ names_cause to
+  names_alone fs e = rw e (format_last (part_cause (Text to.portal)) (part_cause (Text to.statement)))
+
+  parts_are : (fs : List ℤ) (vs : List (Option (List ℕ))) (v : Option (List ℕ)) (ps : List Part) (e : Error) → ps ≡ up_to fs vs → fs ≡ pos 1 ∷ [] → vs ≡ v ∷ [] → parts_cause ps ≡ Some e → cause (one_bound to v) ≡ Some e
+  parts_are fs vs v ps e is f w c =
+      parts_first (one_bound to v) e
+      (front_cause (up_to (pos 1 ∷ []) (v ∷ [])) (Int16s to.results ∷ []) e (ap (λ gs. parts_cause (up_to gs (v ∷ []))) (sym f) ∙ ap (λ ws. parts_cause (up_to fs ws)) (sym w) ∙ ap parts_cause (sym is) ∙ c))
+
+module _ {F E B K : Type 0} (held : B → Held K) (step : F → ℕ → MutBor B → Result IsNull E → MutBor B → F → Type 0) (lacks : Type 0) (to : Target)
     (formats : List ℤ → Option ℤ → Type 0) (values : List ℕ → Option ℕ → Type 0) (results : List ℤ → Option ℤ → Type 0)
     (all_formats : (xs : List ℤ) → formats xs None → xs ≡ pos 1 ∷ []) (some_formats : (xs : List ℤ) (x : ℤ) → formats xs (Some x) → xs ++ x ∷ [] ≡ pos 1 ∷ [])
     (all_values : (xs : List ℕ) → values xs None → xs ≡ 0 ∷ []) (some_values : (xs : List ℕ) (x : ℕ) → values xs (Some x) → (xs ≡ []) × (xs ++ x ∷ [] ≡ 0 ∷ []))
-    (all_results : (xs : List ℤ) → results xs None → xs ≡ []) (some_results : (xs : List ℤ) (x : ℤ) → results xs (Some x) → ⊥)
+    (all_results : (xs : List ℤ) → results xs None → xs ≡ to.results) (some_results : (xs : List ℤ) (x : ℤ) → results xs (Some x) → xs ++ x ∷ [] ≡ to.results)
     (f last : F) (old : Held K) where
   abbrev before : List ℤ → Held K
-  before fs = before_values old [] [] fs
+  before fs = before_values old to.portal to.statement fs
 
   -- the same call
   put_same : (h k : Held K) (a b : F) (x y : ℕ) (answer : Result IsNull E) (bytes : List ℕ) (t u : F) → h ≡ k → a ≡ b → x ≡ y → t ≡ u → Puts held step h a x answer bytes t → Puts held step k b y answer bytes u
@@ -70,7 +85,7 @@ module _ {F E B K : Type 0} (held : B → Held K) (step : F → ℕ → MutBor B
 
   -- the one call
   one_put : (fs : List ℤ) (xs : List ℕ) (x : ℕ) (vs : List (Option (List ℕ))) (at : F) (answer : Result IsNull E) (bytes : List ℕ) → fs ≡ pos 1 ∷ [] → (xs ≡ []) × (xs ++ x ∷ [] ≡ 0 ∷ [])
-      → Runs (Gives held step) nullable (before fs) f xs vs at → Puts held step (before fs ⊕ flat_map nullable vs ⊕ uint32 0) at x answer bytes last → PutsOne held step f last old answer bytes
+      → Runs (Gives held step) nullable (before fs) f xs vs at → Puts held step (before fs ⊕ flat_map nullable vs ⊕ uint32 0) at x answer bytes last → PutsOne held step to f last old answer bytes
   one_put fs xs x vs at answer bytes is come runs put =
       let made = none_made (before fs) xs vs at come.0 runs in
       let here : before fs ⊕ flat_map nullable vs ⊕ uint32 0 ≡ before (pos 1 ∷ []) ⊕ uint32 0 =
@@ -79,7 +94,7 @@ module _ {F E B K : Type 0} (held : B → Held K) (step : F → ℕ → MutBor B
 
   -- the one value
   one_value : (fs : List ℤ) (xs : List ℕ) (vs : List (Option (List ℕ))) → fs ≡ pos 1 ∷ [] → xs ≡ 0 ∷ [] → Runs (Gives held step) nullable (before fs) f xs vs last
-      → (null : IsNull) × (bytes : List ℕ) × (vs ≡ value_of null bytes ∷ []) × PutsOne held step f last old (Ok null) bytes
+      → (null : IsNull) × (bytes : List ℕ) × (vs ≡ value_of null bytes ∷ []) × PutsOne held step to f last old (Ok null) bytes
   one_value fs [] vs e h r = absurd cc
   one_value fs (x ∷ []) [] e h r = absurd r
   one_value fs (x ∷ []) (v ∷ []) e h r =
@@ -89,20 +104,24 @@ module _ {F E B K : Type 0} (held : B → Held K) (step : F → ℕ → MutBor B
   one_value fs (x ∷ []) (v ∷ w ∷ vs) e h r = absurd r.2
   one_value fs (x ∷ y ∷ xs) vs e h r = absurd cc
 
+  abbrev Whole : ClientMessage → Type 0
+  Whole m = BindWhole to.portal to.statement formats values (Serves held step f last) results old m
+
   -- the message of the one value
-  whole : (m : ClientMessage) → BindWhole [] [] formats values (Serves held step f last) results old m → (null : IsNull) × (bytes : List ℕ) × (m ≡ one_bound (value_of null bytes)) × PutsOne held step f last old (Ok null) bytes
-  whole m w =
+  pub one_whole : (m : ClientMessage) → Whole m → (null : IsNull) × (bytes : List ℕ) × (m ≡ one_bound to (value_of null bytes)) × PutsOne held step to f last old (Ok null) bytes
+  one_whole m w =
       let fs = all_formats w.0 w.1 in
       let served = w.2.1 in
       let v = one_value w.0 served.xs w.2.0 fs (all_values served.xs served.came) served.made in
-      (v.0, v.1, w.2.2.2 ∙ same_bind w.0 w.2.0 (value_of v.0 v.1) w.2.2.0 fs v.2 (all_results w.2.2.0 w.2.2.1), v.3)
+      (v.0, v.1, w.2.2.2 ∙ same_bind to w.0 w.2.0 (value_of v.0 v.1) w.2.2.0 fs v.2 (all_results w.2.2.0 w.2.2.1), v.3)
 
-  reached : (ps : List Part) (e : Error) → BindReached [] [] formats values (Serves held step f last) results old ps → parts_cause ps ≡ Some e → OneTooLong held step f last old e
-  reached ps e (inl texts) c = absurd (no_cause (parts_cause ps) e (ap parts_cause texts.1) c)
+  reached : (ps : List Part) (e : Error) → BindReached to.portal to.statement formats values (Serves held step f last) results old ps → parts_cause ps ≡ Some e
+      → NamesRefused held step to f last old e ⊎ OneTooLong held step to f last old e
+  reached ps e (inl texts) c = inl (texts.0, ap parts_cause (sym texts.1) ∙ c)
   reached ps e (inr (inl begun)) c =
       let b = begun.1.1 in
       let fs : begun.1.0 ≡ pos 1 ∷ [] = b.are ∙ some_formats b.before b.last b.came in
-      absurd (no_cause (parts_cause ps) e (ap parts_cause begun.1.2 ∙ ap (λ (fs : List ℤ). parts_cause (Text [] ∷ Text [] ∷ Int16s fs ∷ [])) fs) c)
+      inl (begun.0, sym (names_alone to begun.1.0 fs) ∙ (ap parts_cause (sym begun.1.2) ∙ c))
   reached ps e (inr (inr (inl begun))) c =
       let fs = all_formats begun.0 begun.1 in
       let b = begun.2.1 in
@@ -113,18 +132,36 @@ module _ {F E B K : Type 0} (held : B → Held K) (step : F → ℕ → MutBor B
             let bytes = long.1.0 in
             let at = long.1.1 in
             let made = none_made (before begun.0) b.xs b.before at.0 come.0 at.1 in
-            record {
+            inr (record {
               null = No;
               bytes = bytes;
               put = one_put begun.0 b.xs b.x b.before at.0 (Ok No) bytes fs come at.1 at.2;
-              some = parts_are begun.0 begun.2.0 (Some bytes) ps e begun.2.2 fs (b.are ∙ only_one b.before b.value (Some bytes) made.1 long.1.2) c;
-            }
+              some = parts_are to begun.0 begun.2.0 (Some bytes) ps e begun.2.2 fs (b.are ∙ only_one b.before b.value (Some bytes) made.1 long.1.2) c;
+            })
       ]
-  reached ps e (inr (inr (inr begun))) c = let b = begun.2.2.1 in absurd (some_results b.before b.last b.came)
+  reached ps e (inr (inr (inr begun))) c =
+      let fs = all_formats begun.0 begun.1 in
+      let served = begun.2.1 in
+      let v = one_value begun.0 served.xs begun.2.0 fs (all_values served.xs served.came) served.made in
+      let b = begun.2.2.1 in
+      let rs : begun.2.2.0 ≡ to.results = b.are ∙ some_results b.before b.last b.came in
+      let m = same_bind to begun.0 begun.2.0 (value_of v.0 v.1) begun.2.2.0 fs v.2 rs in
+      inr (record { null = v.0; bytes = v.1; put = v.3; some = parts_first (one_bound to (value_of v.0 v.1)) e (ap (λ (m : ClientMessage). parts_cause (parts m)) (sym m) ∙ (ap parts_cause (sym begun.2.2.2) ∙ c)) })
 
-  pub one_binds : (r : Result (Unit {0}) (BindError E)) (new : Held K) → WritesBind [] [] formats values (Serves held step f last) results old lacks new r → OneBinds held step f last old lacks new r
+  pub one_refused : (e : BindError E) → BindRefused to.portal to.statement formats values (Serves held step f last) results old lacks e → OneRefused held step to f last old lacks e
+  one_refused (Conversion e) w =
+      let fs = all_formats w.0 w.1.0 in
+      let v = w.2 in
+      (v.bytes, one_put w.0 v.xs v.x v.before v.made.0 (Err e) v.bytes fs (some_values v.xs v.x v.came) v.made.1 v.made.2, sym (names_alone to w.0 fs) ∙ w.1.1)
+  one_refused (Serialization e) (inl memory) = inl (memory.0, memory.1.0)
+  one_refused (Serialization e) (inr (inl ps)) = inr (reached ps.0 e ps.1 ps.2)
+  one_refused (Serialization e) (inr (inr m)) =
+      let k = one_whole m.0 m.1 in
+      inr (inr (record { null = k.0; bytes = k.1; put = k.3; some = subst (λ (m : ClientMessage). cause m ≡ Some e) k.2 m.2 }))
+
+  pub one_binds : (r : Result (Unit {0}) (BindError E)) (new : Held K) → WritesBind to.portal to.statement formats values (Serves held step f last) results old lacks new r → OneBinds held step to f last old lacks new r
   one_binds (Ok done) new w =
-      let k = whole w.message w.whole in
+      let k = one_whole w.message w.whole in
       record {
         null = k.0;
         bytes = k.1;
@@ -132,22 +169,7 @@ module _ {F E B K : Type 0} (held : B → Held K) (step : F → ℕ → MutBor B
         none = subst (λ (m : ClientMessage). cause m ≡ None) k.2 w.none;
         appended = w.appended ∙ ap (λ (m : ClientMessage). old ⊕ bytes_of m) k.2;
       }
-  one_binds (Err (Conversion e)) new w =
-      let fs = all_formats w.0.0 w.0.1.0 in
-      let v = w.0.2 in
-      ((v.bytes, one_put w.0.0 v.xs v.x v.before v.made.0 (Err e) v.bytes fs (some_values v.xs v.x v.came) v.made.1 v.made.2), w.1)
-  one_binds (Err (Serialization e)) new w = (
-    elim w.0 [
-      | inl memory ↦ inl (memory.0, memory.1.0)
-      | inr cause_of ↦ elim cause_of [
-        | inl parts ↦ inr (reached parts.0 e parts.1 parts.2)
-        | inr m ↦
-            let k = whole m.0 m.1 in
-            inr (record { null = k.0; bytes = k.1; put = k.3; some = subst (λ (m : ClientMessage). cause m ≡ Some e) k.2 m.2 })
-      ]
-    ],
-    w.1,
-  )
+  one_binds (Err e) new w = (one_refused e w.0, w.1)
 
 -- ---- the value is an array
 
@@ -160,17 +182,17 @@ module _ {F B K : Type 0} (held : B → Held K) (step : F → ℕ → MutBor B �
     (ds : List ArrayDimension) (type : ℕ) (steps : List Step) (f last : F) (old : Held K)
     (acts : (u : F) (x : ℕ) (b b' : MutBor B) (r : Result IsNull (BindError Error)) → step f x b r b' u → WritesSteps ds type steps lacks (held b.now) (held b'.now) r) where
   -- the value is an array of what the steps give
-  made_array : (null : IsNull) (bytes : List ℕ) → PutsOne held step f last old (Ok null) bytes
-      → (ws : List (Option (List ℕ))) × Give steps ws × (array_cause (array_of ds type ws) ≡ None) × (one_bound (value_of null bytes) ≡ binding ds type ws)
+  made_array : (null : IsNull) (bytes : List ℕ) → PutsOne held step unnamed f last old (Ok null) bytes
+      → (ws : List (Option (List ℕ))) × Give steps ws × (array_cause (array_of ds type ws) ≡ None) × (one_bound unnamed (value_of null bytes) ≡ binding ds type ws)
   made_array null bytes m =
       let here = before_values old [] [] (pos 1 ∷ []) ⊕ uint32 0 in
       let a = acts last 0 m.before m.after (Ok null) m.called in
       let w = a.1 in
       let stands : held m.after.now ≡ here ⊕ array_bytes (array_of ds type w.vs) = w.appended ∙ ap (λ h. h ⊕ array_bytes (array_of ds type w.vs)) m.stood in
       let are : bytes ≡ array_bytes (array_of ds type w.vs) = same_more here (held m.after.now) bytes _ m.appended stands in
-      (w.vs, w.give, w.none, ap (λ (n : IsNull). one_bound (value_of n bytes)) a.0 ∙ ap (λ (b : List ℕ). one_bound (Some b)) are)
+      (w.vs, w.give, w.none, ap (λ (n : IsNull). one_bound unnamed (value_of n bytes)) a.0 ∙ ap (λ (b : List ℕ). one_bound unnamed (Some b)) are)
 
-  array_binds : (r : Result (Unit {0}) (BindError (BindError Error))) (new : Held K) → OneBinds held step f last old lacks new r → BindsArray ds type steps lacks old new r
+  array_binds : (r : Result (Unit {0}) (BindError (BindError Error))) (new : Held K) → OneBinds held step unnamed f last old lacks new r → BindsArray ds type steps lacks old new r
   array_binds (Ok done) new w =
       let k = made_array w.null w.bytes w.put in
       record {
@@ -184,7 +206,8 @@ module _ {F B K : Type 0} (held : B → Held K) (step : F → ℕ → MutBor B �
   array_binds (Err (Serialization e)) new w = (
     elim w.0 [
       | inl memory ↦ inl memory
-      | inr long ↦
+      | inr (inl names) ↦ let none : None ≡ Some e = names.1 in absurd cc
+      | inr (inr long) ↦
           let k = made_array long.null long.bytes long.put in
           inr (record { vs = k.0; give = k.1; none = k.2; some = subst (λ (m : ClientMessage). cause m ≡ Some e) k.3 long.some })
     ],

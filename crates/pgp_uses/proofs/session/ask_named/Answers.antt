@@ -12,7 +12,7 @@ use Rattle.pgp_types.specs.Scalar.{int4}
 use Rattle.postgres_protocol.proofs.StepLemmas.{all_same, some_same, none_of_none}
 use Rattle.std.specs.Prelude.{pos}
 use Rattle.pgp_uses.specs.Asking.{AreAdded, named_bound}
-use Rattle.pgp_uses.proofs.Asking.{none_yet, one_more, stops, parse_refused, bound_is}
+use Rattle.pgp_uses.proofs.Asking.{none_yet, one_more, stops, parse_refused, bound_is, bind_left, bind_blames}
 use Rattle.pgp_uses.proofs.Bound.{keeps_value}
 use Rattle.pgp_uses.proofs.session.ask_named.Goals as goal
 
@@ -34,7 +34,7 @@ pub returns-in_err-parse : goal.returns-in_err-parse
 returns-in_err-parse g c =
     let start = c.args.stream.now in
     let refused = parse_refused c.args.name.now c.args.sql.now _ (λ xs k. all_types xs k) (λ xs x k. some_types xs x k) g.B.Buffer.Lacks _ c.in_err-parse.ensures.0 in
-    stops g.B.Buffer.held [] (Parse c.args.name.now c.args.sql.now []) _ g.B.Buffer.Lacks _ start start c.parse.new.self _ c.from_residual.ensures.1 (none_yet g.B.Buffer.held start c.requires) c.in_err-parse.ensures.1 refused
+    stops g.B.Buffer.held [] (Parse c.args.name.now c.args.sql.now []) _ g.B.Buffer.Lacks _ start start c.parse.new.self _ c.from_residual.ensures.1 (none_yet g.B.Buffer.held start c.requires) c.in_err-parse.ensures.1 (λ b. b, refused)
 
 pub bind_named-requires-clause-owes : goal.bind_named-requires-clause-owes
 bind_named-requires-clause-owes g c = λ f f' x b b' r p s. keeps_value int4 g.B.Buffer.Lacks (Some f.0.now) (g.B.Buffer.held b.now) (g.B.Buffer.held b'.now) r (search rules)
@@ -44,7 +44,10 @@ returns-in_err-bind_named g c =
     let name = c.args.name.now in
     let start = c.args.stream.now in
     let p = parsed name c.args.sql.now g.B.Buffer.held start c.parse.new.self c.requires c.in_ok-parse.ensures in
-    stops g.B.Buffer.held _ (named_bound name (Some (int4.written c.args.value))) _ g.B.Buffer.Lacks _ start c.parse.new.self c.bind_named.new.stream _ c.from_residual-in_err-bind_named.ensures.1 p c.in_err-bind_named.ensures.binds tt
+    let held = g.B.Buffer.held in
+    let left = bind_left held _ g.B.Buffer.Lacks _ name c.args.value c.parse.new.self c.bind_named.new.stream _ c.in_err-bind_named.ensures in
+    let blames = bind_blames held _ g.B.Buffer.Lacks _ name c.args.value c.parse.new.self c.bind_named.new.stream _ c.in_err-bind_named.ensures (λ u x b b' r s. search rules) in
+    stops g.B.Buffer.held _ (named_bound name (Some (int4.written c.args.value))) _ g.B.Buffer.Lacks _ start c.parse.new.self c.bind_named.new.stream _ c.from_residual-in_err-bind_named.ensures.1 p left blames
 
 pub returns-in_err-describe : goal.returns-in_err-describe
 returns-in_err-describe g c =
@@ -56,7 +59,7 @@ returns-in_err-describe g c =
     let p = parsed name sql held start c.parse.new.self c.requires c.in_ok-parse.ensures in
     let b = one_more held _ bound bound start c.parse.new.self c.bind_named.new.stream p refl
     (bound_is held _ g.B.Buffer.Lacks _ name c.args.value c.parse.new.self c.bind_named.new.stream c.in_ok-bind_named.ensures (λ u x b b' r s. search rules)) in
-    stops held _ (Describe 80 []) _ g.B.Buffer.Lacks _ start c.bind_named.new.stream c.describe.new.self _ c.from_residual-in_err-describe.ensures.1 b c.in_err-describe.ensures.1 c.in_err-describe.ensures.0
+    stops held _ (Describe 80 []) _ g.B.Buffer.Lacks _ start c.bind_named.new.stream c.describe.new.self _ c.from_residual-in_err-describe.ensures.1 b c.in_err-describe.ensures.1 (λ b. b, c.in_err-describe.ensures.0)
 
 pub returns-in_err-execute : goal.returns-in_err-execute
 returns-in_err-execute g c =
@@ -69,7 +72,7 @@ returns-in_err-execute g c =
     let b = one_more held _ bound bound start c.parse.new.self c.bind_named.new.stream p refl
     (bound_is held _ g.B.Buffer.Lacks _ name c.args.value c.parse.new.self c.bind_named.new.stream c.in_ok-bind_named.ensures (λ u x b b' r s. search rules)) in
     let d = one_more held _ c.in_ok-describe.ensures.0 (Describe 80 []) start c.bind_named.new.stream c.describe.new.self b c.in_ok-describe.ensures.1 c.in_ok-describe.ensures.2 in
-    stops held _ (Execute [] (pos 0)) _ g.B.Buffer.Lacks _ start c.describe.new.self c.execute.new.self _ c.from_residual-in_err-execute.ensures.1 d c.in_err-execute.ensures.1 c.in_err-execute.ensures.0
+    stops held _ (Execute [] (pos 0)) _ g.B.Buffer.Lacks _ start c.describe.new.self c.execute.new.self _ c.from_residual-in_err-execute.ensures.1 d c.in_err-execute.ensures.1 (λ b. b, c.in_err-execute.ensures.0)
 
 pub returns-in_err-sync : goal.returns-in_err-sync
 returns-in_err-sync g c =
@@ -83,7 +86,7 @@ returns-in_err-sync g c =
     (bound_is held _ g.B.Buffer.Lacks _ name c.args.value c.parse.new.self c.bind_named.new.stream c.in_ok-bind_named.ensures (λ u x b b' r s. search rules)) in
     let d = one_more held _ c.in_ok-describe.ensures.0 (Describe 80 []) start c.bind_named.new.stream c.describe.new.self b c.in_ok-describe.ensures.1 c.in_ok-describe.ensures.2 in
     let e = one_more held _ c.in_ok-execute.ensures.0 (Execute [] (pos 0)) start c.describe.new.self c.execute.new.self d c.in_ok-execute.ensures.1 c.in_ok-execute.ensures.2 in
-    stops held _ (Sync) _ g.B.Buffer.Lacks _ start c.execute.new.self c.sync.new.self _ c.from_residual-in_err-sync.ensures.1 e c.in_err-sync.ensures.1 c.in_err-sync.ensures.0
+    stops held _ (Sync) _ g.B.Buffer.Lacks _ start c.execute.new.self c.sync.new.self _ c.from_residual-in_err-sync.ensures.1 e c.in_err-sync.ensures.1 (λ b. b, c.in_err-sync.ensures.0)
 
 pub returns : goal.returns
 returns g c =

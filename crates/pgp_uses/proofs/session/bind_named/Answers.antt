@@ -4,7 +4,7 @@ use Rattle.std.specs.Option.{option_len}
 use Rattle.std.specs.declared.iter.Once.{Once}
 use Rattle.std.proofs.lemmas.Iterator.Adapters.{YieldsList-from_once}
 use Rattle.pgp_base.specs.Calls.{Came}
-use Rattle.postgres_protocol.proofs.StepLemmas.{all_same}
+use Rattle.postgres_protocol.proofs.StepLemmas.{all_same, some_same, first_of_one}
 use Rattle.pgp_uses.proofs.Asking.{named_binds}
 use Rattle.pgp_uses.proofs.session.bind_named.Goals as goal
 
@@ -17,9 +17,12 @@ returns g c =
     let held = g.B.Buffer.held in
     record {
       last = c.bind.ensures.0;
-      binds = named_binds held (goal.F-step g) g.B.Buffer.Lacks (Came (FromOption _) once_steps (Some (pos 1))) (Came (FromOption _) once_steps (Some 0)) (Came (FromOption _) once_steps (Some (pos 1)))
+      binds = named_binds held (goal.F-step g) g.B.Buffer.Lacks c.args.name.now (Came (FromOption _) once_steps (Some (pos 1))) (Came (FromOption _) once_steps (Some 0)) (Came (FromOption _) once_steps (Some (pos 1)))
           (λ xs k. all_same (FromOption _) once_steps (Some (pos 1)) (pos 1 ∷ []) (λ it from. YieldsList-from_once (Some (pos 1)) from.0) xs k)
+          (λ xs x k. (first_of_one (pos 1) xs x (some_same (FromOption _) once_steps (Some (pos 1)) (pos 1 ∷ []) (λ it from. YieldsList-from_once (Some (pos 1)) from.0) xs x k)).1)
           (λ xs k. all_same (FromOption _) once_steps (Some 0) (0 ∷ []) (λ it from. YieldsList-from_once (Some 0) from.0) xs k)
+          (λ xs x k. first_of_one 0 xs x (some_same (FromOption _) once_steps (Some 0) (0 ∷ []) (λ it from. YieldsList-from_once (Some 0) from.0) xs x k))
           (λ xs k. all_same (FromOption _) once_steps (Some (pos 1)) (pos 1 ∷ []) (λ it from. YieldsList-from_once (Some (pos 1)) from.0) xs k)
-          c.args.serializer c.bind.ensures.0 c.args.name.now c.args.stream.now c.bind.result c.bind.new.self c.bind.ensures.1;
+          (λ xs x k. (first_of_one (pos 1) xs x (some_same (FromOption _) once_steps (Some (pos 1)) (pos 1 ∷ []) (λ it from. YieldsList-from_once (Some (pos 1)) from.0) xs x k)).1)
+          c.args.serializer c.bind.ensures.0 c.args.stream.now c.bind.result c.bind.new.self c.bind.ensures.1;
     }
