@@ -1,6 +1,7 @@
 -- What a stream's frames come to, in the words of its grammar.
-use Rattle.std.specs.Prelude.{◌≡◌, ℕ, Bool, true, false, List, ◌++◌, length, Option, Some, None, Result, Ok}
+use Rattle.std.specs.Prelude.{◌≡◌, ◌≢◌, ℕ, Bool, true, false, List, ◌++◌, length, Option, Some, None, Result, Ok, Err}
 use Rattle.pgp_base.specs.declared.error.Error.{Error}
+use Rattle.pgp_base.specs.declared.error.Error.TheVariants.{OutOfMemory}
 use Rattle.pgp_message.specs.BackendMessage.{Message, DataRow}
 use Rattle.pgp_message.specs.Parts.{CountedBytes}
 use Rattle.pgp_message.specs.Stream.{BackendRun, Step, TakesFrame}
@@ -19,8 +20,8 @@ abbrev pub is_row : Result (Option Message) Error → Bool
 is_row (Ok (Some (DataRow row))) = true
 is_row read = false
 
--- A row stands at the front, and these bytes behind it; or a step along the stream gives no row.
--- A step that is refused memory gives none either: that `Messages` never is stands in its own contract.
+-- A row stands at the front, and these bytes behind it; or a step along the stream, which has all the memory that it needs,
+-- gives no row.
 abbrev pub FrontRow : List ℕ → Option (CountedBytes × List ℕ) → Type 0
 FrontRow bytes (Some front) = TakesFrame bytes (Ok (DataRow front.0)) front.1
-FrontRow bytes None = (read : Result (Option Message) Error) × (new : List ℕ) × Step bytes read new × (is_row read ≡ false)
+FrontRow bytes None = (read : Result (Option Message) Error) × (new : List ℕ) × Step bytes read new × (is_row read ≡ false) × (read ≢ Err OutOfMemory)
