@@ -1,8 +1,8 @@
 //! The messages that a server sends.
 
-ghost use Rattle.std.specs.Prelude.{◌≡◌, ◌≢◌, false, Ok, Err, None, IfErr};
-ghost use Rattle.pgp_message.specs.BackendMessage.{Authentication};
-ghost use Rattle.pgp_message.specs.Reading.{ended, made, bare_request, bare_request_of, request_of, bare_of, body_of};
+ghost use Rattle.std.specs.Prelude.{◌≡◌, ◌≢◌, ◌<◌, ◌++◌, ◌∷◌, [], map, false, Ok, Err, None, IfErr, vec_len, vec_capacity};
+ghost use Rattle.pgp_message.specs.BackendMessage.{Authentication, BackendKeyData, ReadyForQuery};
+ghost use Rattle.pgp_message.specs.Reading.{ended, made, bare_request, bare_request_of, request_of, bare_of, body_of, key_data_of, byte_of};
 ghost use Rattle.pgp_message.specs.Stream.{Step, IsPartial, IsLengthFault};
 ghost use Rattle.pgp_message.specs.Views.{view, seen, parsed};
 
@@ -28,6 +28,7 @@ use bytes::{Buf, Bytes, BytesMut};
 use pgp_base::Error;
 use pgp_base::reading::oid_at;
 use std::alloc::Allocator;
+use std::convert::identity;
 use std::marker::Model;
 
 /// A message that a server sends. It keeps the bytes of its frame, shared, as a `Bytes`; one that was read in place
@@ -210,19 +211,66 @@ fn request_keeps_bytes(payload: &[u8]) -> bool
 pub(crate) fn bare<S: Storage>(tag: u8, payload: &[u8]) -> Result<Message<S>, Error>
     ensures { seen result ≡ bare_of tag payload.now }
 {
-    match tag {
-        PARSE_COMPLETE_TAG => ended(payload, Message::ParseComplete),
-        BIND_COMPLETE_TAG => ended(payload, Message::BindComplete),
-        CLOSE_COMPLETE_TAG => ended(payload, Message::CloseComplete),
-        EMPTY_QUERY_RESPONSE_TAG => ended(payload, Message::EmptyQueryResponse),
-        BACKEND_KEY_DATA_TAG => Ok(Message::BackendKeyData(BackendKeyDataBody::read(payload)?)),
-        AUTHENTICATION_TAG => bare_authentication(payload),
-        READY_FOR_QUERY_TAG => Ok(Message::ReadyForQuery(ReadyForQueryBody::read(payload)?)),
-        COPY_DONE_TAG => ended(payload, Message::CopyDone),
-        NO_DATA_TAG => ended(payload, Message::NoData),
-        PORTAL_SUSPENDED_TAG => ended(payload, Message::PortalSuspended),
-        tag => Err(Error::UnknownTag(tag)),
+    if tag == AUTHENTICATION_TAG {
+        return bare_authentication(payload);
     }
+    plain(tag, payload)
+}
+
+/// What is told of a frame of which nothing is kept, where it is no authentication request: one call for each tag.
+/// A call of its own stores what it tells at once, where answers that meet behind a `match` go through memory.
+macro_rules! plain {
+    ($tag:ident, $payload:ident, $ended:ident, $told:ident $(, $list:ident)?) => {
+        match $tag {
+            PARSE_COMPLETE_TAG => $ended($($list,)? $payload, Message::ParseComplete),
+            BIND_COMPLETE_TAG => $ended($($list,)? $payload, Message::BindComplete),
+            CLOSE_COMPLETE_TAG => $ended($($list,)? $payload, Message::CloseComplete),
+            EMPTY_QUERY_RESPONSE_TAG => $ended($($list,)? $payload, Message::EmptyQueryResponse),
+            BACKEND_KEY_DATA_TAG => $told($($list,)? key_data($payload)),
+            READY_FOR_QUERY_TAG => $told($($list,)? ready_for_query($payload)),
+            COPY_DONE_TAG => $ended($($list,)? $payload, Message::CopyDone),
+            NO_DATA_TAG => $ended($($list,)? $payload, Message::NoData),
+            PORTAL_SUSPENDED_TAG => $ended($($list,)? $payload, Message::PortalSuspended),
+            tag => $told($($list,)? Err(Error::UnknownTag(tag))),
+        }
+    };
+}
+
+/// The message of a frame of which nothing is kept, where it is no authentication request.
+// The hint carries the speed of messages without parts: else the answer goes through memory.
+#[inline(always)]
+#[tactic(auto, unfolding(crate::specs::Reading::bare_of))]
+fn plain<S: Storage>(tag: u8, payload: &[u8]) -> Result<Message<S>, Error>
+    requires { tag ≢ 82 }
+    ensures { seen result ≡ bare_of tag payload.now }
+{
+    plain!(tag, payload, ended, identity)
+}
+
+/// Adds that message, or its refusal, to a list that has room for it.
+#[tactic(auto, unfolding(crate::specs::Reading::bare_of))]
+pub(crate) fn plain_onto<S: Storage, A: Allocator>(
+    list: &mut Vec<Result<Message<S>, Error>, A>,
+    tag: u8,
+    payload: &[u8],
+)
+    requires tag { tag ≢ 82 }
+    requires room { vec_len list.old < vec_capacity list.old }
+    ensures { map seen list.new.items ≡ map seen list.old.items ++ bare_of tag payload.now ∷ [] }
+{
+    plain!(tag, payload, ended_onto, put, list)
+}
+
+fn key_data<S: Storage>(payload: &[u8]) -> Result<Message<S>, Error>
+    ensures { seen result ≡ made BackendKeyData (key_data_of payload.now) }
+{
+    Ok(Message::BackendKeyData(BackendKeyDataBody::read(payload)?))
+}
+
+fn ready_for_query<S: Storage>(payload: &[u8]) -> Result<Message<S>, Error>
+    ensures { seen result ≡ made ReadyForQuery (byte_of payload.now) }
+{
+    Ok(Message::ReadyForQuery(ReadyForQueryBody::read(payload)?))
 }
 
 /// The authentication request of a frame of which nothing is kept.
@@ -303,4 +351,32 @@ fn ended<S: Storage>(payload: &[u8], message: Message<S>) -> Result<Message<S>, 
         return Err(Error::NotDrained);
     }
     Ok(message)
+}
+
+/// Adds a message without parts to a list that has room for it, or its refusal where bytes are left.
+#[inline(always)]
+fn ended_onto<S: Storage, A: Allocator>(
+    list: &mut Vec<Result<Message<S>, Error>, A>,
+    payload: &[u8],
+    message: Message<S>,
+)
+    requires { vec_len list.old < vec_capacity list.old }
+    ensures { map seen list.new.items ≡ map seen list.old.items ++ ended (view message) payload.now ∷ [] }
+{
+    if !payload.is_empty() {
+        return put(list, Err(Error::NotDrained));
+    }
+    put(list, Ok(message));
+}
+
+/// Adds what was read to a list that has room for it.
+#[inline(always)]
+fn put<S: Storage, A: Allocator>(
+    list: &mut Vec<Result<Message<S>, Error>, A>,
+    read: Result<Message<S>, Error>,
+)
+    requires { vec_len list.old < vec_capacity list.old }
+    ensures { map seen list.new.items ≡ map seen list.old.items ++ seen read ∷ [] }
+{
+    list.push_reserved(read);
 }

@@ -1,13 +1,14 @@
 //! Cutting messages off the front of a buffer.
 
-ghost use Rattle.std.specs.Prelude.{◌≡◌, ◌↔◌, IsTrue, Ok, Err, None};
+ghost use Rattle.std.specs.Prelude.{◌≡◌, ◌↔◌, IsTrue, Ok, Err, None, map};
 ghost use Rattle.pgp_base.specs.Wire.{IsBytes};
-ghost use Rattle.pgp_message.specs.Remembered.{Fits, header_of, headers_after, memory_after};
+ghost use Rattle.pgp_message.specs.Remembered.{Fits, Adds, header_of, headers_after, memory_after};
 ghost use Rattle.pgp_message.specs.Stream.{Step, IsPartial, IsLengthFault};
-ghost use Rattle.pgp_message.specs.Views.{parsed};
+ghost use Rattle.pgp_message.specs.Views.{parsed, seen};
 
 use crate::frame::{Front, head, header_of, room};
-use crate::message::{Message, bare, body, keeps_bytes};
+use crate::message::{Message, bare, body, keeps_bytes, plain_onto};
+use crate::tag::AUTHENTICATION_TAG;
 use bytes::{Buf, Bytes, BytesMut};
 use pgp_base::Error;
 use std::alloc::Allocator;
@@ -92,6 +93,51 @@ impl FrameParser {
         self.header = None;
         payload.advance(5);
         body(front.tag, payload).map(Some)
+    }
+
+    /// Whether the bytes begin with no whole frame yet, and no length fault. Their header is remembered for the next call.
+    pub fn waits(&mut self, bytes: &[u8]) -> bool
+        requires { Fits self.old bytes.now }
+        ensures waits { IsTrue result ↔ IsPartial bytes.now }
+        ensures memory { self.new ≡ memory_after self.old bytes.now (Ok None) }
+    {
+        let header = self.read(bytes);
+        matches!(Front::find(header, bytes), Ok(None))
+    }
+
+    /// Takes the message at the front of shared bytes, as `parse` does, and adds it, or the refusal of its body, to the
+    /// list. The answer is whether there was one. Where the bytes were left, their header is remembered for the next call.
+    ///
+    /// # Errors
+    ///
+    /// `InvalidLength` where a length below 4 is announced, and `OutOfMemory`. The bytes and the list stay as they are.
+    pub fn parse_onto<A: Allocator>(
+        &mut self,
+        bytes: &mut Bytes<A>,
+        results: &mut Vec<Result<Message<Bytes<A>>, Error>, A>,
+    ) -> Result<bool, Error>
+        requires { Fits self.old bytes.old }
+        ensures adds { Adds bytes.old bytes.new (map seen results.old.items) (map seen results.new.items) self.old self.new result }
+        ensures fits { Fits self.new bytes.new }
+    {
+        let header = self.read(bytes.as_slice());
+        let Some(front) = Front::find(header, bytes.as_slice())? else {
+            return Ok(false);
+        };
+        results.reserve(1)?;
+        let payload = &bytes.as_slice()[5..front.total];
+        // Requests of authentication are rare: without them the answers of this branch stay in registers.
+        if front.tag != AUTHENTICATION_TAG && !keeps_bytes(front.tag, payload) {
+            plain_onto(results, front.tag, payload);
+            bytes.advance(front.total);
+            self.header = None;
+            return Ok(true);
+        }
+        let mut payload = bytes.split_to(front.total)?;
+        self.header = None;
+        payload.advance(5);
+        results.push_reserved(body(front.tag, payload));
+        Ok(true)
     }
 
     /// The header at the front of the bytes, which is remembered from now on. It is read, and counted,

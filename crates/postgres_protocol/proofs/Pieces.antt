@@ -9,7 +9,7 @@ use Rattle.std.proofs.lemmas.List.Concat.{flat_map-cons}
 use Rattle.std.proofs.lemmas.Grind.{flat_map-append}
 use Rattle.pgp_base.specs.Wire.{uint32}
 use Rattle.pgp_base.specs.declared.error.Error.TheVariants as errors
-use Rattle.pgp_message.specs.Remembered.{Memory, Fits, header_of, header_after, headers_after, memory_after}
+use Rattle.pgp_message.specs.Remembered.{Memory, Fits, Adds, Joins, header_of, header_after, headers_after, memory_after}
 use Rattle.pgp_message.specs.Stream.{Frames, IsEnding, Step, TakesFrame, BackendRun}
 use Rattle.postgres_protocol.specs.ServerStream.{headers_read, Reading, GoesOn, Fails, Takes, TakesAll, TakesSome}
 
@@ -34,6 +34,11 @@ counted_left (Some y) (Some x) j n fits c = c
 abbrev pub answer_of : Result Message Error → Result (Option Message) Error
 answer_of (Ok m) = Ok (Some m)
 answer_of (Err e) = Err e
+
+-- a header fits itself
+fits_itself : (here : Option (ℕ × ℕ)) → IfSome here (λ h. here ≡ Some h)
+fits_itself None = tt
+fits_itself (Some h) = refl
 
 forgets : (old new : List ℕ) (r : Result Message Error) (here : Option (ℕ × ℕ)) → TakesFrame old r new → header_after (answer_of r) here ≡ None
 forgets old new (Ok m) here t = refl
@@ -65,17 +70,141 @@ takes_more a old new before mid after m n next r so_far takes frames grown memor
           count ∙ one ∙ ap (λ j. headers_read j None) sum ∙ ap (headers_read (k + length (so_far.more ++ r ∷ []))) (sym none);
     }
 
+-- a frame takes bytes
+pub taken_shorter : (old new : List ℕ) (r : Result Message Error) → TakesFrame old r new → length new < length old
+taken_shorter old new r t =
+    let body : List ℕ = uint32 (length t.first.payload + 4) ++ t.first.payload in
+    omega (arith, ap length t.whole, length-append body new)
+
 -- a refusal that isn't of the whole stream is that of a frame
 pub taken_by : (old new : List ℕ) (e : Error) → e ≢ errors.OutOfMemory → e ≢ errors.InvalidLength → Step old (Err e) new → TakesFrame old (Err e) new
 taken_by old new errors.OutOfMemory p q step = absurd (p refl)
 taken_by old new errors.InvalidLength p q step = absurd (q refl)
 taken_by old new e p q step = step
 
--- a frame takes bytes
-pub taken_shorter : (old new : List ℕ) (r : Result Message Error) → TakesFrame old r new → length new < length old
-taken_shorter old new r t =
-    let body : List ℕ = uint32 (length t.first.payload + 4) ++ t.first.payload in
-    omega (arith, ap length t.whole, length-append body new)
+-- a step that added a result took a frame
+record AddsFrame (old new : List ℕ) (mid after : List (Result Message Error)) (n next : Memory) : Type 0 where
+  r : Result Message Error
+  takes : TakesFrame old r new
+  grown : after ≡ mid ++ r ∷ []
+  memory : next ≡ memory_after n old (answer_of r)
+
+adds_frame : (old new : List ℕ) (mid after : List (Result Message Error)) (n next : Memory) (result : Result (Option Message) Error)
+    → Step old result new → Joins result mid after (Ok true) → next ≡ memory_after n old result → AddsFrame old new mid after n next
+adds_frame old new mid after n next (Ok (Some message)) step joins memory = record { r = Ok message; takes = step; grown = joins.0; memory = memory }
+adds_frame old new mid after n next (Ok None) step joins memory = absurd (cc joins.1)
+adds_frame old new mid after n next (Err errors.InvalidLength) step joins memory = absurd (cc joins.1)
+adds_frame old new mid after n next (Err errors.OutOfMemory) step joins memory = absurd (cc joins.1)
+adds_frame old new mid after n next (Err e) step joins memory = record { r = Err e; takes = step; grown = joins.0; memory = memory }
+
+-- one frame more was taken
+pub adds_more : (a old new : List ℕ) (before mid after : List (Result Message Error)) (m n next : Memory) → Takes a old before mid m n → Adds old new mid after n next (Ok true) → Fits next new
+    → ((bytes old new : List ℕ) (results : List (Result Message Error)) (r : Result Message Error) → Frames bytes results old → TakesFrame old r new → Frames bytes (results ++ r ∷ []) new)
+    → Takes a new before after m next
+adds_more a old new before mid after m n next so_far adds fits goes =
+    let one = adds_frame old new mid after n next adds.result adds.step adds.joins adds.memory in
+    takes_more a old new before mid after m n next one.r so_far one.takes (goes a old new so_far.more one.r so_far.frames one.takes) one.grown one.memory fits
+
+-- a frame that was taken takes bytes
+pub adds_shorter : (old new : List ℕ) (mid after : List (Result Message Error)) (n next : Memory) → Adds old new mid after n next (Ok true) → length new < length old
+adds_shorter old new mid after n next adds =
+    let one = adds_frame old new mid after n next adds.result adds.step adds.joins adds.memory in
+    taken_shorter old new one.r one.takes
+
+-- what stands where no frame was taken
+record StaysThere (stopped : Bool) (old new : List ℕ) (mid after : List (Result Message Error)) (n next : Memory) : Type 0 where
+  ending : IsEnding stopped old
+  same : new ≡ old
+  stays : after ≡ mid
+  memory : next ≡ memory_after n old (Ok None)
+
+-- the answer where reading ends
+abbrev end_of : Bool → Result Bool Error
+end_of false = Ok false
+end_of true = Err errors.InvalidLength
+
+stays_there : (stopped : Bool) (old new : List ℕ) (mid after : List (Result Message Error)) (n next : Memory) (result : Result (Option Message) Error)
+    → Step old result new → Joins result mid after (end_of stopped) → next ≡ memory_after n old result → StaysThere stopped old new mid after n next
+stays_there false old new mid after n next (Ok None) step joins memory = record { ending = step.0; same = step.1; stays = joins.0; memory = memory }
+stays_there true old new mid after n next (Err errors.InvalidLength) step joins memory = record { ending = step.0; same = step.1; stays = joins.0; memory = memory }
+stays_there false old new mid after n next (Ok (Some message)) step joins memory = absurd (cc joins.1)
+stays_there false old new mid after n next (Err errors.InvalidLength) step joins memory = absurd (cc joins.1)
+stays_there false old new mid after n next (Err errors.OutOfMemory) step joins memory = absurd (cc joins.1)
+stays_there false old new mid after n next (Err e) step joins memory = absurd (cc joins.1)
+stays_there true old new mid after n next (Ok None) step joins memory = absurd (cc joins.1)
+stays_there true old new mid after n next (Ok (Some message)) step joins memory = absurd (cc joins.1)
+stays_there true old new mid after n next (Err errors.OutOfMemory) step joins memory = absurd (cc joins.1)
+stays_there true old new mid after n next (Err e) step joins memory = absurd (cc joins.1)
+
+-- nothing was read yet
+pub takes_none : (a : List ℕ) (before : List (Result Message Error)) (m : Memory) → Frames a [] a → Fits m a → Takes a a before before m m
+takes_none a before m none fits = record {
+  more = [];
+  grown = sym (append-nil before);
+  frames = none;
+  fits = fits;
+  counted = λ k c. c ∙ ap (λ j. headers_read j m.header) (omega arith);
+}
+
+-- the bytes were left, and their header is remembered
+pub takes_all : (a old : List ℕ) (before mid : List (Result Message Error)) (m n next : Memory) (stopped : Bool) → Takes a old before mid m n → IsEnding stopped old → next ≡ memory_after n old (Ok None)
+    → TakesAll a old before mid m next stopped
+takes_all a old before mid m n next stopped so_far ending memory =
+    let here = header_of old in
+    let header : next.header ≡ here = ap (λ (x : Memory). x.header) memory in
+    let count : next.headers ≡ headers_after n.header here n.headers = ap (λ (x : Memory). x.headers) memory in
+    record {
+      takes = record {
+        more = so_far.more;
+        grown = so_far.grown;
+        frames = so_far.frames;
+        fits = subst (λ (h : Option (ℕ × ℕ)). IfSome h (λ x. here ≡ Some x)) (sym header) (fits_itself here);
+        counted = λ k c. count ∙ counted_left n.header here (k + length so_far.more) n.headers so_far.fits (so_far.counted k c) ∙ ap (headers_read (k + length so_far.more)) (sym header);
+      };
+      ending = ending;
+      header = header;
+    }
+
+-- no frame was left
+pub adds_none : (a old new : List ℕ) (before mid after : List (Result Message Error)) (m n next : Memory) (stopped : Bool) → Takes a old before mid m n → Adds old new mid after n next (end_of stopped)
+    → TakesAll a new before after m next stopped
+adds_none a old new before mid after m n next stopped so_far adds =
+    let there = stays_there stopped old new mid after n next adds.result adds.step adds.joins adds.memory in
+    rw there.same (rw there.stays (takes_all a old before mid m n next stopped so_far there.ending there.memory))
+
+-- memory was refused behind some frames
+pub adds_fails : (a old new : List ℕ) (before mid after : List (Result Message Error)) (m n next : Memory) (e : Error) → e ≢ errors.InvalidLength → Takes a old before mid m n
+    → Adds old new mid after n next (Err e) → TakesSome a before after × (e ≡ errors.OutOfMemory)
+adds_fails a old new before mid after m n next e not so_far adds = fails_there adds.result adds.joins where
+  fails_there : (result : Result (Option Message) Error) → Joins result mid after (Err e) → TakesSome a before after × (e ≡ errors.OutOfMemory)
+  fails_there (Ok None) joins = absurd (cc joins.1)
+  fails_there (Ok (Some message)) joins = absurd (cc joins.1)
+  fails_there (Err errors.InvalidLength) joins = absurd (not (cc joins.1))
+  fails_there (Err errors.OutOfMemory) joins = (record { more = so_far.more; grown = joins.0 ∙ so_far.grown; left = old; frames = so_far.frames }, cc joins.1)
+  fails_there (Err d) joins = absurd (cc joins.1)
+
+-- what was taken off bytes whose header was read before
+pub takes_seen : (a new : List ℕ) (before after : List (Result Message Error)) (m n o : Memory) (stopped : Bool) → Fits m a → n ≡ memory_after m a (Ok None) → TakesAll a new before after n o stopped
+    → TakesAll a new before after m o stopped
+takes_seen a new before after m n o stopped fits memory all =
+    let here = header_of a in
+    let header : n.header ≡ here = ap (λ (x : Memory). x.header) memory in
+    let count : n.headers ≡ headers_after m.header here m.headers = ap (λ (x : Memory). x.headers) memory in
+    record {
+      takes = record {
+        more = all.takes.more;
+        grown = all.takes.grown;
+        frames = all.takes.frames;
+        fits = all.takes.fits;
+        counted = λ k c. all.takes.counted k (count ∙ counted_left m.header here k m.headers fits c ∙ ap (headers_read k) (sym header));
+      };
+      ending = all.ending;
+      header = all.header;
+    }
+
+-- all that was taken is some
+pub takes_some : (a new : List ℕ) (before after : List (Result Message Error)) (m n : Memory) (stopped : Bool) → TakesAll a new before after m n stopped → TakesSome a before after
+takes_some a new before after m n stopped all = record { more = all.takes.more; grown = all.takes.grown; left = new; frames = all.takes.frames }
 
 -- where a length fault stopped it a header stands there
 pub stopped_long : (stopped : Bool) (rest : List ℕ) → IsEnding stopped rest → stopped ≡ true → 5 ≤ length rest

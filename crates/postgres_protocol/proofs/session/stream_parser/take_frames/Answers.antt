@@ -1,10 +1,17 @@
-use Rattle.std.proofs.Common.{◌≡◌, rules, map, ap, ◌∙◌, ◌++◌, ◌∷◌, [], Ok, Err}
-use Rattle.std.proofs.lemmas.List.{map_push}
-use Rattle.pgp_message.specs.Stream.{TakesFrame}
+use Rattle.std.proofs.Common.{◌≡◌, ◌++◌, [], take, drop, rules, map, ap, sym, subst, ◌∙◌, false}
+use Rattle.std.proofs.Math.Seq.{take-length, drop-length}
+use Rattle.pgp_message.specs.Stream.{IsPartial}
 use Rattle.pgp_message.specs.Views.{seen}
-use Rattle.postgres_protocol.specs.ServerStream.{TakesSome}
-use Rattle.postgres_protocol.proofs.Pieces.{takes_more, taken_by}
+use Rattle.postgres_protocol.specs.ServerStream.{TakesAll, TakesSome}
+use Rattle.postgres_protocol.proofs.Pieces.{takes_none, takes_all, takes_seen, takes_some}
 use Rattle.postgres_protocol.proofs.session.stream_parser.take_frames.Goals as goal
+
+pub returns-then-waits-clause-ok : goal.returns-then-waits-clause-ok
+returns-then-waits-clause-ok g c =
+    let a = c.args.rest.now.items in
+    let before = map seen c.args.results.now.items in
+    let partial : IsPartial a = search rules in
+    takes_all a a before before c.args.frames.now c.args.frames.now c.waits.new.self false (takes_none a before c.args.frames.now (c.no_frame.ensures a) c.requires) partial (search rules)
 
 pub returns-in_err-make_room-clause-some : goal.returns-in_err-make_room-clause-some
 returns-in_err-make_room-clause-some g c =
@@ -13,34 +20,37 @@ returns-in_err-make_room-clause-some g c =
     record { more = []; grown = grown; left = c.args.rest.now.items; frames = c.no_frame.ensures c.args.rest.now.items } in
     search rules
 
-pub frames-preserved-in-Continue-branch-2 : goal.frames-preserved-in-Continue-branch-2
-frames-preserved-in-Continue-branch-2 g c =
-    let a = c.args.rest.now.items in
-    let old = c.frames.rest.items in
-    let new = c.parse.new.buf.items in
-    let read = Ok c.in-Ok-Some.message in
-    let run = c.frames.invariant in
-    let takes : TakesFrame old (seen read) new = search rules in
-    let grown : map seen c.add.new.list.items ≡ map seen c.frames.results.items ++ seen read ∷ [] = ap (map seen) (search rules) ∙ map_push seen c.frames.results.items read in
-    takes_more a old new (map seen c.args.results.now.items) (map seen c.frames.results.items) (map seen c.add.new.list.items) c.args.frames.now c.frames.frames c.parse.new.self (seen read) run
-    takes (c.next_frame.ensures a old new run.more (seen read) run.frames takes) grown (search rules) c.parse.ensures.fits
-
-pub returns-in_err-add-in-Ok-Some-clause-some : goal.returns-in_err-add-in-Ok-Some-clause-some
-returns-in_err-add-in-Ok-Some-clause-some g c =
-    let run = c.frames.invariant in
-    let grown : map seen c.add.new.list.items ≡ map seen c.args.results.now.items ++ run.more = search rules in
-    let some : TakesSome c.args.rest.now.items (map seen c.args.results.now.items) (map seen c.add.new.list.items) =
-    record { more = run.more; grown = grown; left = c.frames.rest.items; frames = run.frames } in
+pub returns-in_err-shared-clause-some : goal.returns-in_err-shared-clause-some
+returns-in_err-shared-clause-some g c =
+    let grown : map seen c.make_room.new.list.items ≡ map seen c.args.results.now.items ++ [] = search rules in
+    let some : TakesSome c.args.rest.now.items (map seen c.args.results.now.items) (map seen c.make_room.new.list.items) =
+    record { more = []; grown = grown; left = c.args.rest.now.items; frames = c.no_frame.ensures c.args.rest.now.items } in
     search rules
 
-pub frames-preserved : goal.frames-preserved
-frames-preserved g c =
+pub returns-in_err-extend_from_slice-clause-some : goal.returns-in_err-extend_from_slice-clause-some
+returns-in_err-extend_from_slice-clause-some g c =
     let a = c.args.rest.now.items in
-    let old = c.frames.rest.items in
-    let new = c.parse.new.buf.items in
-    let read = Err c.in-Err.e in
-    let run = c.frames.invariant in
-    let takes : TakesFrame old (seen read) new = taken_by old new c.in-Err.e (λ h. search rules) (λ h. search rules) c.in-Err.ensures.step in
-    let grown : map seen c.add-in-Err.new.list.items ≡ map seen c.frames.results.items ++ seen read ∷ [] = ap (map seen) (search rules) ∙ map_push seen c.frames.results.items read in
-    takes_more a old new (map seen c.args.results.now.items) (map seen c.frames.results.items) (map seen c.add-in-Err.new.list.items) c.args.frames.now c.frames.frames c.parse.new.self (seen read) run
-    takes (c.next_frame.ensures a old new run.more (seen read) run.frames takes) grown (search rules) c.parse.ensures.fits
+    let before = map seen c.args.results.now.items in
+    let after = map seen c.take_shared.new.results.items in
+    let stays : map seen c.make_room.new.list.items ≡ before = ap (map seen) (search rules) in
+    let whole : c.in_ok-shared.shared ≡ a = c.in_ok-shared.ensures.front ∙ ap (λ n. take n a) c.len.ensures.value ∙ take-length a in
+    let all : TakesAll c.in_ok-shared.shared c.take_shared.new.shared (map seen c.make_room.new.list.items) after c.waits.new.self c.take_shared.new.frames c.in_ok-stopped.stopped = search rules in
+    let some : TakesSome a before after = takes_some a c.take_shared.new.shared before after c.waits.new.self c.take_shared.new.frames c.in_ok-stopped.stopped
+        (subst (λ l. TakesAll l c.take_shared.new.shared before after c.waits.new.self c.take_shared.new.frames c.in_ok-stopped.stopped) whole (subst (λ l. TakesAll c.in_ok-shared.shared c.take_shared.new.shared l after c.waits.new.self c.take_shared.new.frames c.in_ok-stopped.stopped) stays all)) in
+    search rules
+
+pub returns-clause-ok : goal.returns-clause-ok
+returns-clause-ok g c =
+    let a = c.args.rest.now.items in
+    let before = map seen c.args.results.now.items in
+    let after = map seen c.take_shared.new.results.items in
+    let stays : map seen c.make_room.new.list.items ≡ before = ap (map seen) (search rules) in
+    let whole : c.in_ok-shared.shared ≡ a = c.in_ok-shared.ensures.front ∙ ap (λ n. take n a) c.len.ensures.value ∙ take-length a in
+    let none : c.freeze_to.new.self.items ≡ [] = c.in_ok-shared.ensures.rest.0 ∙ ap (λ n. drop n a) c.len.ensures.value ∙ drop-length a in
+    let left : c.take_shared.new.shared ≡ c.extend_from_slice.new.self.items = search rules in
+    let all : TakesAll c.in_ok-shared.shared c.take_shared.new.shared (map seen c.make_room.new.list.items) after c.waits.new.self c.take_shared.new.frames c.in_ok-stopped.stopped = search rules in
+    let here : TakesAll a c.extend_from_slice.new.self.items before after c.waits.new.self c.take_shared.new.frames c.in_ok-stopped.stopped =
+        subst (λ l. TakesAll l c.extend_from_slice.new.self.items before after c.waits.new.self c.take_shared.new.frames c.in_ok-stopped.stopped) whole
+        (subst (λ l. TakesAll c.in_ok-shared.shared l before after c.waits.new.self c.take_shared.new.frames c.in_ok-stopped.stopped) left
+        (subst (λ l. TakesAll c.in_ok-shared.shared c.take_shared.new.shared l after c.waits.new.self c.take_shared.new.frames c.in_ok-stopped.stopped) stays all)) in
+    takes_seen a c.extend_from_slice.new.self.items before after c.args.frames.now c.waits.new.self c.take_shared.new.frames c.in_ok-stopped.stopped c.requires (search rules) here

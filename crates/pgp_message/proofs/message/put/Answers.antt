@@ -1,0 +1,7 @@
+use Rattle.std.proofs.Common.{◌≡◌, rules, map, ap, ◌∙◌}
+use Rattle.std.proofs.lemmas.List.{map_push}
+use Rattle.pgp_message.specs.Views.{seen}
+use Rattle.pgp_message.proofs.message.put.Goals as goal
+
+pub returns : goal.returns
+returns g c = ap (map seen) (search rules) ∙ map_push seen c.args.list.now.items c.args.read
