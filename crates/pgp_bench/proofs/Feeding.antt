@@ -34,13 +34,6 @@ weigh_more results m sum w all h = (
   added all.0 sum w all.2,
 )
 
--- one item of a list more
-pub seen_more : {X Y : Type 0} (f : X → Y) (xs : List X) (k : ℕ) (x : X) → k < length xs → x ≡ get_or xs k x → map f (take (k + 1) xs) ≡ map f (take k xs) ++ f x ∷ []
-seen_more f xs k x lt is = ap (map f) (take_more xs k x lt ∙ ap (λ y. take k xs ++ y ∷ []) (sym is)) ∙ map_push f (take k xs) x
-
-pub seen_all : {X Y : Type 0} (f : X → Y) (xs : List X) (k : ℕ) → k ≡ length xs → map f (take k xs) ≡ map f xs
-seen_all f xs k all = rw all (ap (map f) (take-length xs))
-
 -- what was read up to a rest
 pub record IsFedTo (bytes : List ℕ) (sum : ℕ) (rest : List ℕ) (now : Reading) : Type 0 where
   pub front : List ℕ

@@ -5,7 +5,7 @@ use Rattle.pgp_base.specs.Wire.{frame, text, nullable}
 use Rattle.pgp_message.specs.BackendMessage.{Message, ParseComplete, BindComplete, CommandComplete, DataRow, ErrorResponse, tag_of, payload_of}
 use Rattle.pgp_bench.specs.declared.input.Input.{Input}
 use Rattle.pgp_bench.specs.declared.work.Work.{Work}
-use Rattle.pgp_bench.specs.declared.work.Work.TheVariants.{Bare, Tiny, Kept, Row, Fields, TinyInPlace, RowInPlace, FeedTiny, FeedRow}
+use Rattle.pgp_bench.specs.declared.work.Work.TheVariants.{Bare, Tiny, Kept, Row, Fields, TinyInPlace, RowInPlace, TinyCopied, RowCopied, FeedTiny, FeedRow}
 
 -- three messages, of which two keep nothing
 abbrev pub tiny : List Message
@@ -24,6 +24,8 @@ messages_of Row = row
 messages_of Fields = ErrorResponse (text (codes "SERROR") ++ text (codes "C42P01") ++ text (codes "Mno such relation") ++ 0 ∷ []) ∷ []
 messages_of TinyInPlace = tiny
 messages_of RowInPlace = row
+messages_of TinyCopied = tiny
+messages_of RowCopied = row
 messages_of FeedTiny = tiny
 messages_of FeedRow = row
 messages_of work = []

@@ -2,7 +2,7 @@
 use Rattle.std.specs.Prelude.{ℕ, ◌%◌, List, [], ◌∷◌, codes, slice_index}
 use Rattle.pgp_auth.specs.IteratedKey.{salted}
 use Rattle.pgp_bench.specs.declared.work.Work.{Work}
-use Rattle.pgp_bench.specs.declared.work.Work.TheVariants.{Bare, Tiny, Kept, Row, Fields, TinyInPlace, RowInPlace, FeedTiny, FeedRow, Bind, Query, Parse, Startup, Execute, Describe, Close, Cancel, Sync, CopyData, Int4, Inet4, Inet6, Text, LiteralShort, LiteralPlain, LiteralQuotes, Identifier, Key}
+use Rattle.pgp_bench.specs.declared.work.Work.TheVariants.{Bare, Tiny, Kept, Row, Fields, TinyInPlace, RowInPlace, TinyCopied, RowCopied, FeedTiny, FeedRow, Bind, Query, Parse, Startup, Execute, Describe, Close, Cancel, Sync, CopyData, Int4, Inet4, Inet6, Text, LiteralShort, LiteralPlain, LiteralQuotes, Identifier, Key}
 
 abbrev pub name_of : Work → List ℕ
 name_of Bare = codes "read_bare"
@@ -12,6 +12,8 @@ name_of Row = codes "read_row"
 name_of Fields = codes "read_fields"
 name_of TinyInPlace = codes "place_tiny"
 name_of RowInPlace = codes "place_row"
+name_of TinyCopied = codes "copied_tiny"
+name_of RowCopied = codes "copied_row"
 name_of FeedTiny = codes "feed_tiny"
 name_of FeedRow = codes "feed_row"
 name_of Bind = codes "write_bind"

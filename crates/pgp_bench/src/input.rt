@@ -43,9 +43,9 @@ fn unit(work: Work) -> &'static [u8]
 {
     match work {
         Work::Bare => BARE,
-        Work::Tiny | Work::TinyInPlace | Work::FeedTiny => TINY,
+        Work::Tiny | Work::TinyInPlace | Work::TinyCopied | Work::FeedTiny => TINY,
         Work::Kept => KEPT,
-        Work::Row | Work::RowInPlace | Work::FeedRow => ROW,
+        Work::Row | Work::RowInPlace | Work::RowCopied | Work::FeedRow => ROW,
         Work::Fields => FIELDS,
         _ => b"",
     }

@@ -51,18 +51,22 @@ fn fed_piece(parser: &mut StreamParser, piece: &[u8]) -> Result<u64, Error>
     ensures { IfOk result (λ w. TakesPiece piece.now w parser.old parser.new) }
 {
     parser.feed(piece)?;
-    let results = parser.take();
-    weigh(results.as_slice())
+    weigh(parser.take())
 }
 
-fn weigh(results: &[Result<Message, Error>]) -> Result<u64, Error>
-    ensures { IfOk result (AllWeigh (map seen results.now)) }
+// Each message is let go as soon as it is weighed.
+#[inline(always)]
+fn weigh(results: Vec<Result<Message, Error>>) -> Result<u64, Error>
+    ensures { IfOk result (AllWeigh (map seen results.items)) }
 {
     let mut sum = 0u64;
     'taken: for item in results {
         match item {
-            Ok(message) => sum = sum.wrapping_add(weight(message)),
-            Err(e) => return Err(*e),
+            Ok(message) => {
+                sum = sum.wrapping_add(weight(&message));
+                drop(message);
+            }
+            Err(e) => return Err(e),
         }
     }
     Ok(sum)

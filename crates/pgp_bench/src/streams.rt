@@ -1,15 +1,16 @@
 //! Streams of a server's messages, parsed and walked.
 
-ghost use Rattle.std.specs.Prelude.{◌≡◌, ◌≢◌, ◌≤◌, ℕ, Ok, Err, length, List, IfErr, MatchResult};
+ghost use Rattle.std.specs.Prelude.{◌≡◌, ◌≢◌, ◌≤◌, ℕ, Ok, Err, length, List, IfOk, IfErr, MatchResult};
 ghost use Rattle.std.specs.List.{sum_by, AllByRecursion};
 ghost use Rattle.pgp_message.specs.Table.{IsPlaceIn};
 ghost use Rattle.pgp_message.specs.Views.{view};
 ghost use Rattle.pgp_bench.specs.Sums.{in_64_bits};
-ghost use Rattle.pgp_bench.specs.Streams.{value_size, field_size, RowWeighs, FieldsWeigh, Weighs, TakesWeight, ReadsStream};
+ghost use Rattle.pgp_bench.specs.Streams.{value_size, field_size, RowWeighs, FieldsWeigh, Weighs, TakesWeight, ReadsStream, IsWeighed};
 
 use bytes::BytesMut;
 use pgp_base::{Error, FallibleIterator};
 use pgp_message::{DataRowRanges, ErrorFields, Message, Messages};
+use std::alloc::Global;
 use std::ops::Range;
 
 /// Parses all messages, and sums up what each weighs.
@@ -108,6 +109,19 @@ fn fields(walk: &mut ErrorFields<'_>) -> u64
             Err(_) => return sum,
         }
     }
+}
+
+/// The same of messages that stand in a slice, which is copied into a buffer first. Of a refusal nothing is promised.
+///
+/// # Errors
+///
+/// Those of `read`, and `OutOfMemory` for the copy.
+#[inline(never)]
+pub fn read_copied(alloc: Global, bytes: &[u8]) -> Result<u64, Error>
+    ensures { IfOk result (λ sum. (left : List ℕ) × IsWeighed bytes.now sum left) }
+{
+    let mut buf = BytesMut::copy_from_slice(alloc, bytes)?;
+    read(&mut buf)
 }
 
 /// The same of messages that are read in place.

@@ -8,7 +8,7 @@ use crate::escapes::{identifiers, literals};
 use crate::input::Input;
 use crate::keys::keys;
 use crate::pieces::feed;
-use crate::streams::{read, read_in_place};
+use crate::streams::{read, read_copied, read_in_place};
 use crate::values::{inet4s, inet6s, int4s, texts};
 use crate::writers::write;
 use pgp_base::Error;
@@ -31,6 +31,10 @@ pub enum Work {
     TinyInPlace,
     /// The row, read in place, and its ranges walked.
     RowInPlace,
+    /// The three of `Tiny`, copied into a buffer, and parsed.
+    TinyCopied,
+    /// The row, copied into a buffer, parsed, and its ranges walked.
+    RowCopied,
     /// The three of `Tiny`, fed to a parser in pieces.
     FeedTiny,
     /// The row, fed to a parser in pieces.
@@ -76,7 +80,7 @@ pub enum Work {
 }
 
 impl Work {
-    pub const ALL: [Work; 28] = [
+    pub const ALL: [Work; 30] = [
         Work::Bare,
         Work::Tiny,
         Work::Kept,
@@ -84,6 +88,8 @@ impl Work {
         Work::Fields,
         Work::TinyInPlace,
         Work::RowInPlace,
+        Work::TinyCopied,
+        Work::RowCopied,
         Work::FeedTiny,
         Work::FeedRow,
         Work::Bind,
@@ -119,6 +125,8 @@ impl Work {
             Work::Fields => "read_fields",
             Work::TinyInPlace => "place_tiny",
             Work::RowInPlace => "place_row",
+            Work::TinyCopied => "copied_tiny",
+            Work::RowCopied => "copied_row",
             Work::FeedTiny => "feed_tiny",
             Work::FeedRow => "feed_row",
             Work::Bind => "write_bind",
@@ -167,6 +175,7 @@ pub fn sum_of(alloc: Global, work: Work, input: &mut Input, count: u32) -> Resul
     match work {
         Work::Bare | Work::Tiny | Work::Kept | Work::Row | Work::Fields => read(&mut input.stream),
         Work::TinyInPlace | Work::RowInPlace => read_in_place(input.stream.as_slice()),
+        Work::TinyCopied | Work::RowCopied => read_copied(alloc, input.stream.as_slice()),
         Work::FeedTiny | Work::FeedRow => feed(alloc, input.stream.as_slice()),
         Work::Int4 => int4s(&mut input.buf, count),
         Work::Inet4 => inet4s(&mut input.buf, count),

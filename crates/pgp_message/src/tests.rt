@@ -580,6 +580,51 @@ fn the_header_of_a_long_frame_is_read_once(rt: HostRuntime) -> Result<(), Fail> 
     Ok(())
 }
 
+/// What stands there in a list of results.
+fn told(list: &[Read<Bytes>], at: usize) -> Option<Result<&'static str, Error>> {
+    match list.get(at) {
+        Some(Ok(message)) => Some(Ok(variant(message))),
+        Some(Err(e)) => Some(Err(*e)),
+        None => None,
+    }
+}
+
+#[test]
+fn shared_bytes_are_read_onto_a_list(rt: HostRuntime) -> Result<(), Fail> {
+    let bytes = b"\x5a\0\0\0\x06\x49\0\x31\0\0\0\x04\x43\0\0\0\x06A\0\x44\0\0\0\x13\0";
+    let mut bytes = Bytes::copy_from_slice(rt.alloc(), bytes)?;
+    let mut parser = FrameParser::new();
+    let mut list = Vec::new(rt.alloc());
+    assert_eq!(rt; parser.waits(bytes.as_slice()), false);
+    assert_eq!(rt; parser.parse_onto(&mut bytes, &mut list), Ok(true));
+    assert_eq!(rt; parser.parse_onto(&mut bytes, &mut list), Ok(true));
+    assert_eq!(rt; parser.parse_onto(&mut bytes, &mut list), Ok(true));
+    assert_eq!(rt; parser.parse_onto(&mut bytes, &mut list), Ok(false));
+    assert_eq!(rt; parser.waits(bytes.as_slice()), true);
+    assert_eq!(rt; bytes.as_slice(), b"\x44\0\0\0\x13\0".as_slice());
+    assert_eq!(rt; parser.headers(), 4);
+    assert_eq!(rt; told(list.as_slice(), 0), Some(Err(Error::NotDrained)));
+    assert_eq!(rt; told(list.as_slice(), 1), Some(Ok("ParseComplete")));
+    assert_eq!(rt; told(list.as_slice(), 2), Some(Ok("CommandComplete")));
+    assert_eq!(rt; told(list.as_slice(), 3), None);
+    Ok(())
+}
+
+#[test]
+fn a_length_fault_in_shared_bytes_adds_nothing(rt: HostRuntime) -> Result<(), Fail> {
+    let mut bytes = Bytes::copy_from_slice(rt.alloc(), b"\x31\0\0\0\x03\x31\0\0\0\x04")?;
+    let mut parser = FrameParser::new();
+    let mut list = Vec::new(rt.alloc());
+    assert_eq!(rt; parser.waits(bytes.as_slice()), false);
+    assert_eq!(rt;
+        parser.parse_onto(&mut bytes, &mut list),
+        Err(Error::InvalidLength)
+    );
+    assert_eq!(rt; bytes.len(), 10);
+    assert_eq!(rt; told(list.as_slice(), 0), None);
+    Ok(())
+}
+
 /// Whether these results come by repeated `Message::parse`, where the bytes come in two pieces.
 fn parse_in_two(
     alloc: Global,

@@ -1,20 +1,27 @@
-use Rattle.std.proofs.Common.{◌++◌, ◌∷◌, [], map, take, ap, subst, arith, ◌∙◌}
+use Rattle.std.proofs.Common.{◌≡◌, ◌++◌, ◌∷◌, [], List, map, refl, sym, ap, subst, ◌∙◌, rules}
+use Rattle.std.proofs.lemmas.Iterator.Adapters.{YieldsList-from_vec}
+use Rattle.std.proofs.lemmas.Iterator.Consumers.{YieldsList-end}
+use Rattle.std.proofs.lemmas.List.{map_push}
 use Rattle.pgp_message.specs.Views.{seen, view}
 use Rattle.pgp_bench.specs.Pieces.{AllWeigh}
-use Rattle.pgp_bench.proofs.Feeding.{weigh_none, weigh_more, seen_more, seen_all}
+use Rattle.pgp_bench.proofs.Feeding.{weigh_none, weigh_more}
 use Rattle.pgp_bench.proofs.pieces.weigh.Goals as goal
+
+-- each item as it is
+map_same : {X : Type 0} (xs : List X) → map (λ (y : X). y) xs ≡ xs
+map_same [] = refl
+map_same (x ∷ xs) = ap (λ l. x ∷ l) (map_same xs)
 
 pub taken-init : goal.taken-init
 taken-init c = weigh_none
 
 pub taken-preserved : goal.taken-preserved
 taken-preserved c =
-    let xs = c.args.results.now in
-    let k = c.taken.item-index in
-    let grown = seen_more seen xs k c.item-item.result c.taken-test.true c.item-item.is ∙ ap (λ y. map seen (take k xs) ++ y ∷ []) (ap seen c.in-Ok.is) in
+    let grown = map_push seen c.taken.yielded c.in-Some.item ∙ ap (λ y. map seen c.taken.yielded ++ y ∷ []) (ap seen c.in-Ok.is) in
     rw grown (weigh_more _ (view c.in-Ok.message) _ _ c.taken.invariant c.weight-sum.ensures)
 
 pub returns : goal.returns
 returns c =
-    let all = seen_all seen c.args.results.now c.taken.item-index (omega (arith, c.taken-test.false, c.taken.auto.item-index-end)) in
-    subst (λ l. AllWeigh l c.taken.sum) all c.taken.invariant
+    let end = YieldsList-end (YieldsList-from_vec c.args.results.items (search rules) (search rules)) c.taken.yielded c.taken.item-iterator c.taken.yielded_by c.next.result c.next.new.self c.in-None.is c.next.ensures.steps in
+    let all : c.taken.yielded ≡ c.args.results.items = sym (map_same c.taken.yielded) ∙ end.0 in
+    subst (λ l. AllWeigh (map seen l) c.taken.sum) all c.taken.invariant

@@ -36,7 +36,7 @@ returns-in_err-extend_from_slice-clause-some g c =
     let whole : c.in_ok-shared.shared ≡ a = c.in_ok-shared.ensures.front ∙ ap (λ n. take n a) c.len.ensures.value ∙ take-length a in
     let all : TakesAll c.in_ok-shared.shared c.take_shared.new.shared (map seen c.make_room.new.list.items) after c.waits.new.self c.take_shared.new.frames c.in_ok-stopped.stopped = search rules in
     let some : TakesSome a before after = takes_some a c.take_shared.new.shared before after c.waits.new.self c.take_shared.new.frames c.in_ok-stopped.stopped
-        (subst (λ l. TakesAll l c.take_shared.new.shared before after c.waits.new.self c.take_shared.new.frames c.in_ok-stopped.stopped) whole (subst (λ l. TakesAll c.in_ok-shared.shared c.take_shared.new.shared l after c.waits.new.self c.take_shared.new.frames c.in_ok-stopped.stopped) stays all)) in
+    (subst (λ l. TakesAll l c.take_shared.new.shared before after c.waits.new.self c.take_shared.new.frames c.in_ok-stopped.stopped) whole (subst (λ l. TakesAll c.in_ok-shared.shared c.take_shared.new.shared l after c.waits.new.self c.take_shared.new.frames c.in_ok-stopped.stopped) stays all)) in
     search rules
 
 pub returns-clause-ok : goal.returns-clause-ok
@@ -50,7 +50,7 @@ returns-clause-ok g c =
     let left : c.take_shared.new.shared ≡ c.extend_from_slice.new.self.items = search rules in
     let all : TakesAll c.in_ok-shared.shared c.take_shared.new.shared (map seen c.make_room.new.list.items) after c.waits.new.self c.take_shared.new.frames c.in_ok-stopped.stopped = search rules in
     let here : TakesAll a c.extend_from_slice.new.self.items before after c.waits.new.self c.take_shared.new.frames c.in_ok-stopped.stopped =
-        subst (λ l. TakesAll l c.extend_from_slice.new.self.items before after c.waits.new.self c.take_shared.new.frames c.in_ok-stopped.stopped) whole
-        (subst (λ l. TakesAll c.in_ok-shared.shared l before after c.waits.new.self c.take_shared.new.frames c.in_ok-stopped.stopped) left
-        (subst (λ l. TakesAll c.in_ok-shared.shared c.take_shared.new.shared l after c.waits.new.self c.take_shared.new.frames c.in_ok-stopped.stopped) stays all)) in
+    subst (λ l. TakesAll l c.extend_from_slice.new.self.items before after c.waits.new.self c.take_shared.new.frames c.in_ok-stopped.stopped) whole
+    (subst (λ l. TakesAll c.in_ok-shared.shared l before after c.waits.new.self c.take_shared.new.frames c.in_ok-stopped.stopped) left
+    (subst (λ l. TakesAll c.in_ok-shared.shared c.take_shared.new.shared l after c.waits.new.self c.take_shared.new.frames c.in_ok-stopped.stopped) stays all)) in
     takes_seen a c.extend_from_slice.new.self.items before after c.args.frames.now c.waits.new.self c.take_shared.new.frames c.in_ok-stopped.stopped c.requires (search rules) here
