@@ -9,7 +9,7 @@ use crate::{
 use pgp_base::Error;
 
 /// A message that was read, or why there is none.
-pub type Read<S> = Result<Message<S>, Error>;
+pub(super) type Read<S> = Result<Message<S>, Error>;
 
 /// The body, where the message is of this variant.
 macro_rules! body {
@@ -25,78 +25,86 @@ macro_rules! body {
     };
 }
 
-pub fn gss_continue<S: Storage>(read: Read<S>) -> Result<AuthenticationGssContinueBody<S>, Error> {
+pub(super) fn gss_continue<S: Storage>(
+    read: Read<S>,
+) -> Result<AuthenticationGssContinueBody<S>, Error> {
     body!(read, AuthenticationGssContinue)
 }
 
-pub fn md5_password<S: Storage>(read: Read<S>) -> Result<AuthenticationMd5PasswordBody, Error> {
+pub(super) fn md5_password<S: Storage>(
+    read: Read<S>,
+) -> Result<AuthenticationMd5PasswordBody, Error> {
     body!(read, AuthenticationMd5Password)
 }
 
-pub fn sasl<S: Storage>(read: Read<S>) -> Result<AuthenticationSaslBody<S>, Error> {
+pub(super) fn sasl<S: Storage>(read: Read<S>) -> Result<AuthenticationSaslBody<S>, Error> {
     body!(read, AuthenticationSasl)
 }
 
-pub fn sasl_continue<S: Storage>(
+pub(super) fn sasl_continue<S: Storage>(
     read: Read<S>,
 ) -> Result<AuthenticationSaslContinueBody<S>, Error> {
     body!(read, AuthenticationSaslContinue)
 }
 
-pub fn sasl_final<S: Storage>(read: Read<S>) -> Result<AuthenticationSaslFinalBody<S>, Error> {
+pub(super) fn sasl_final<S: Storage>(
+    read: Read<S>,
+) -> Result<AuthenticationSaslFinalBody<S>, Error> {
     body!(read, AuthenticationSaslFinal)
 }
 
-pub fn key_data<S: Storage>(read: Read<S>) -> Result<BackendKeyDataBody, Error> {
+pub(super) fn key_data<S: Storage>(read: Read<S>) -> Result<BackendKeyDataBody, Error> {
     body!(read, BackendKeyData)
 }
 
-pub fn command_complete<S: Storage>(read: Read<S>) -> Result<CommandCompleteBody<S>, Error> {
+pub(super) fn command_complete<S: Storage>(read: Read<S>) -> Result<CommandCompleteBody<S>, Error> {
     body!(read, CommandComplete)
 }
 
-pub fn copy_data<S: Storage>(read: Read<S>) -> Result<CopyDataBody<S>, Error> {
+pub(super) fn copy_data<S: Storage>(read: Read<S>) -> Result<CopyDataBody<S>, Error> {
     body!(read, CopyData)
 }
 
-pub fn copy_in<S: Storage>(read: Read<S>) -> Result<CopyInResponseBody<S>, Error> {
+pub(super) fn copy_in<S: Storage>(read: Read<S>) -> Result<CopyInResponseBody<S>, Error> {
     body!(read, CopyInResponse)
 }
 
-pub fn copy_out<S: Storage>(read: Read<S>) -> Result<CopyOutResponseBody<S>, Error> {
+pub(super) fn copy_out<S: Storage>(read: Read<S>) -> Result<CopyOutResponseBody<S>, Error> {
     body!(read, CopyOutResponse)
 }
 
-pub fn data_row<S: Storage>(read: Read<S>) -> Result<DataRowBody<S>, Error> {
+pub(super) fn data_row<S: Storage>(read: Read<S>) -> Result<DataRowBody<S>, Error> {
     body!(read, DataRow)
 }
 
-pub fn error_response<S: Storage>(read: Read<S>) -> Result<ErrorResponseBody<S>, Error> {
+pub(super) fn error_response<S: Storage>(read: Read<S>) -> Result<ErrorResponseBody<S>, Error> {
     body!(read, ErrorResponse)
 }
 
-pub fn notice_response<S: Storage>(read: Read<S>) -> Result<NoticeResponseBody<S>, Error> {
+pub(super) fn notice_response<S: Storage>(read: Read<S>) -> Result<NoticeResponseBody<S>, Error> {
     body!(read, NoticeResponse)
 }
 
-pub fn notification<S: Storage>(read: Read<S>) -> Result<NotificationResponseBody<S>, Error> {
+pub(super) fn notification<S: Storage>(
+    read: Read<S>,
+) -> Result<NotificationResponseBody<S>, Error> {
     body!(read, NotificationResponse)
 }
 
-pub fn parameter_description<S: Storage>(
+pub(super) fn parameter_description<S: Storage>(
     read: Read<S>,
 ) -> Result<ParameterDescriptionBody<S>, Error> {
     body!(read, ParameterDescription)
 }
 
-pub fn parameter_status<S: Storage>(read: Read<S>) -> Result<ParameterStatusBody<S>, Error> {
+pub(super) fn parameter_status<S: Storage>(read: Read<S>) -> Result<ParameterStatusBody<S>, Error> {
     body!(read, ParameterStatus)
 }
 
-pub fn readiness<S: Storage>(read: Read<S>) -> Result<ReadyForQueryBody, Error> {
+pub(super) fn readiness<S: Storage>(read: Read<S>) -> Result<ReadyForQueryBody, Error> {
     body!(read, ReadyForQuery)
 }
 
-pub fn row_description<S: Storage>(read: Read<S>) -> Result<RowDescriptionBody<S>, Error> {
+pub(super) fn row_description<S: Storage>(read: Read<S>) -> Result<RowDescriptionBody<S>, Error> {
     body!(read, RowDescription)
 }
