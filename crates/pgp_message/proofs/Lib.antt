@@ -13,4 +13,4 @@ pub mod TableLemmas
 pub mod FieldLemmas
 pub mod ErrorFieldLemmas
 pub mod Headers
-pub mod Joined
+pub mod FindLemmas

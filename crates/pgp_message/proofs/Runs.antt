@@ -26,11 +26,11 @@ bodies_push [] (s ∷ results) f r all one = absurd all
 bodies_push (g ∷ frames) [] f r all one = absurd all
 bodies_push (g ∷ frames) (s ∷ results) f r all one = (all.0, bodies_push frames results f r all.1 one)
 
-each_push : (frames : List Frame) (f : Frame) → AllByRecursion IsFrame frames → IsFrame f → AllByRecursion IsFrame (frames ++ f ∷ [])
+pub each_push : (frames : List Frame) (f : Frame) → AllByRecursion IsFrame frames → IsFrame f → AllByRecursion IsFrame (frames ++ f ∷ [])
 each_push [] f all one = (one, tt)
 each_push (g ∷ frames) f all one = (all.0, each_push frames f all.1 one)
 
-pushed : (frames : List Frame) (f : Frame) → flat_map frame_bytes (frames ++ f ∷ []) ≡ flat_map frame_bytes frames ++ frame_bytes f
+pub pushed : (frames : List Frame) (f : Frame) → flat_map frame_bytes (frames ++ f ∷ []) ≡ flat_map frame_bytes frames ++ frame_bytes f
 pushed frames f = flat_map-append frame_bytes frames (f ∷ []) ∙ ap (λ l. flat_map frame_bytes frames ++ l) (flat_map-cons frame_bytes f [] ∙ append-nil (frame_bytes f))
 
 pub frames_next : (bytes old new : List ℕ) (results : List (Result Message Error)) (r : Result Message Error) → Frames bytes results old → TakesFrame old r new → Frames bytes (results ++ r ∷ []) new
@@ -55,7 +55,7 @@ append_front (c ∷ a) (d ∷ b) x y len e =
 abbrev framed : List ℕ → ℕ → Frame
 framed q t = record { tag = t; payload = q }
 
-same_frame : (f g : Frame) → f.tag ≡ g.tag → f.payload ≡ g.payload → f ≡ g
+pub same_frame : (f g : Frame) → f.tag ≡ g.tag → f.payload ≡ g.payload → f ≡ g
 same_frame f g t p = ap (framed f.payload) t ∙ ap (λ q. framed q g.tag) p
 
 announced_frame : (f : Frame) (x : List ℕ) → IsFrame f → announced (frame_bytes f ++ x) ≡ length f.payload + 4
@@ -71,7 +71,7 @@ unfolding uint32
 behind_header f g x y e = ap (λ l. drop 5 l) e
 
 -- two frames at the front of one list are one
-front_is_one : (f g : Frame) (x y : List ℕ) → IsFrame f → IsFrame g → frame_bytes f ++ x ≡ frame_bytes g ++ y → (f ≡ g) × (x ≡ y)
+pub front_is_one : (f g : Frame) (x y : List ℕ) → IsFrame f → IsFrame g → frame_bytes f ++ x ≡ frame_bytes g ++ y → (f ≡ g) × (x ≡ y)
 front_is_one f g x y ff gg e =
     let tags : f.tag ≡ g.tag = ap (λ l. get_or l 0 0) e in
     let lens : length f.payload + 4 ≡ length g.payload + 4 = sym (announced_frame f x ff) ∙ ap announced e ∙ announced_frame g y gg in

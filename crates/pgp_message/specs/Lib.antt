@@ -3,6 +3,7 @@ pub mod BackendMessage
 pub mod Stream
 pub mod Header
 pub mod Remembered
+pub mod Found
 pub mod Items
 pub mod Table
 pub mod Views

@@ -1,10 +1,9 @@
 -- What a parser of frames remembers.
-use Rattle.std.specs.Prelude.{◌≡◌, ℕ, ◌+◌, ◌-◌, ◌^◌, min, Bool, true, false, List, ◌∷◌, [], ◌++◌, Option, Some, None, IfSome, Result, Ok, Err}
+use Rattle.std.specs.Prelude.{◌≡◌, ℕ, ◌+◌, ◌-◌, ◌^◌, min, List, ◌∷◌, [], Option, Some, None, IfSome, Result, Ok, Err}
 use Rattle.std.specs.Int.{w32, from_be_bytes}
 use Rattle.pgp_base.specs.declared.error.Error.{Error}
 use Rattle.pgp_base.specs.declared.error.Error.TheVariants as errors
 use Rattle.pgp_message.specs.BackendMessage.{Message}
-use Rattle.pgp_message.specs.Stream.{Step}
 
 -- the header at the front of the bytes, where five stand there: the tag, and the length that they announce
 abbrev pub header_of : List ℕ → Option (ℕ × ℕ)
@@ -41,17 +40,12 @@ memory_after old bytes answer = record {
   headers = headers_after old.header (header_of bytes) old.headers;
 }
 
--- What a step adds to a list, and what is answered: a message or the refusal of a frame joins the list.
-abbrev pub Joins : Result (Option Message) Error → List (Result Message Error) → List (Result Message Error) → Result Bool Error → Type 0
-Joins (Ok None) before after answer = (after ≡ before) × (answer ≡ Ok false)
-Joins (Ok (Some m)) before after answer = (after ≡ before ++ Ok m ∷ []) × (answer ≡ Ok true)
-Joins (Err errors.InvalidLength) before after answer = (after ≡ before) × (answer ≡ Err errors.InvalidLength)
-Joins (Err errors.OutOfMemory) before after answer = (after ≡ before) × (answer ≡ Err errors.OutOfMemory)
-Joins (Err e) before after answer = (after ≡ before ++ Err e ∷ []) × (answer ≡ Ok true)
+-- what is missing to the header, or to the frame that it announces, where so many bytes are there
+abbrev pub missing_of : Option (ℕ × ℕ) → ℕ → ℕ
+missing_of None held = 5 - held
+missing_of (Some (tag, len)) held = len + 1 - held
 
--- One step along the bytes, whose result joins a list.
-pub record Adds (old new : List ℕ) (before after : List (Result Message Error)) (m n : Memory) (answer : Result Bool Error) : Type 0 where
-  pub result : Result (Option Message) Error
-  pub step : Step old result new
-  pub joins : Joins result before after answer
-  pub memory : n ≡ memory_after m old result
+-- how many headers stand there: one or none
+abbrev pub count_of : Option (ℕ × ℕ) → ℕ
+count_of None = 0
+count_of (Some header) = 1

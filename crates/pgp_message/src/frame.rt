@@ -1,8 +1,8 @@
 //! The frame at the front of a buffer.
 
-ghost use Rattle.std.specs.Prelude.{◌≡◌, ◌≤◌, Ok, Err, None, length, slice_index};
+ghost use Rattle.std.specs.Prelude.{◌≡◌, ◌≤◌, Ok, Err, None, length, min, slice_index};
 ghost use Rattle.pgp_base.specs.Wire.{IsBytes};
-ghost use Rattle.pgp_message.specs.Remembered.{header_of};
+ghost use Rattle.pgp_message.specs.Remembered.{header_of, missing_of};
 ghost use Rattle.pgp_message.specs.FrontReading.{Finds, announced};
 ghost use Rattle.pgp_message.specs.Stream.{IsPartial, IsLengthFault};
 
@@ -54,7 +54,7 @@ impl Front {
 /// How much room to ask for where so many bytes of a frame stand there: for what is missing to its
 /// header, or to all of it.
 pub fn room(header: Option<(u8, u32)>, held: usize) -> usize
-    ensures few { result ≤ 65536 }
+    ensures { result ≡ min (missing_of header held) 65536 }
 {
     match header {
         None => 5usize.saturating_sub(held),

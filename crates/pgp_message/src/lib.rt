@@ -2,6 +2,7 @@
 #![tactic(auto)]
 
 mod body;
+mod found;
 mod frame;
 mod header;
 pub mod laws;
@@ -19,6 +20,8 @@ pub use body::{
     ErrorResponseBody, NoticeResponseBody, NotificationResponseBody, ParameterDescriptionBody,
     ParameterStatusBody, ReadyForQueryBody, RowDescriptionBody,
 };
+pub use found::Found;
+pub use frame::Front;
 pub use header::Header;
 pub use message::{Message, Messages};
 pub use parser::FrameParser;

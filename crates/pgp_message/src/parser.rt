@@ -1,17 +1,18 @@
 //! Cutting messages off the front of a buffer.
 
-ghost use Rattle.std.specs.Prelude.{◌≡◌, ◌↔◌, IsTrue, Ok, Err, None, map};
+ghost use Rattle.std.specs.Prelude.{◌≡◌, ◌↔◌, IsTrue, Ok, Err, None, IfOk, OnErr, max, min};
 ghost use Rattle.pgp_base.specs.Wire.{IsBytes};
-ghost use Rattle.pgp_message.specs.Remembered.{Fits, Adds, header_of, headers_after, memory_after};
+ghost use Rattle.pgp_message.specs.Found.{FindsAll};
+ghost use Rattle.pgp_message.specs.Remembered.{Fits, header_of, headers_after, memory_after, missing_of};
 ghost use Rattle.pgp_message.specs.Stream.{Step, IsPartial, IsLengthFault};
-ghost use Rattle.pgp_message.specs.Views.{parsed, seen};
+ghost use Rattle.pgp_message.specs.Views.{parsed};
 
-use crate::frame::{Front, head, header_of, room};
-use crate::message::{Message, bare, body, keeps_bytes, plain_onto};
-use crate::tag::AUTHENTICATION_TAG;
+use crate::found::Found;
+use crate::frame::{Front, head, room};
+use crate::message::{Message, bare, body, keeps_bytes};
 use bytes::{Buf, Bytes, BytesMut};
 use pgp_base::Error;
-use std::alloc::Allocator;
+use std::alloc::{AllocError, Allocator};
 use std::marker::Model;
 
 /// Takes messages off the front of a buffer, and remembers the header of a frame that it had to leave,
@@ -95,49 +96,52 @@ impl FrameParser {
         body(front.tag, payload).map(Some)
     }
 
-    /// Whether the bytes begin with no whole frame yet, and no length fault. Their header is remembered for the next call.
-    pub fn waits(&mut self, bytes: &[u8]) -> bool
-        requires { Fits self.old bytes.now }
-        ensures waits { IsTrue result ↔ IsPartial bytes.now }
-        ensures memory { self.new ≡ memory_after self.old bytes.now (Ok None) }
+    /// How many bytes are missing to the header or to the frame at the front, of which so many are there: at least one,
+    /// and at most 65,536.
+    pub fn missing(&self, held: usize) -> usize
+        ensures { result ≡ max 1 (min (missing_of self.now.header held) 65536) }
     {
-        let header = self.read(bytes);
-        matches!(Front::find(header, bytes), Ok(None))
+        room(self.header, held).max(1)
     }
 
-    /// Takes the message at the front of shared bytes, as `parse` does, and adds it, or the refusal of its body, to the
-    /// list. The answer is whether there was one. Where the bytes were left, their header is remembered for the next call.
+    /// Looks for the whole frames at the front of the bytes, takes none, and adds the place of each to the list. The
+    /// header behind them is remembered for the next call, and each header is read once.
     ///
     /// # Errors
     ///
-    /// `InvalidLength` where a length below 4 is announced, and `OutOfMemory`. The bytes and the list stay as they are.
-    pub fn parse_onto<A: Allocator>(
+    /// `AllocError` where the list couldn't grow. Then nothing was read.
+    pub fn find_all<A: Allocator>(
         &mut self,
-        bytes: &mut Bytes<A>,
-        results: &mut Vec<Result<Message<Bytes<A>>, Error>, A>,
-    ) -> Result<bool, Error>
-        requires { Fits self.old bytes.old }
-        ensures adds { Adds bytes.old bytes.new (map seen results.old.items) (map seen results.new.items) self.old self.new result }
-        ensures fits { Fits self.new bytes.new }
+        bytes: &[u8],
+        fronts: &mut Vec<Front, A>,
+    ) -> Result<Found, AllocError>
+        requires { self.old.header ≡ None }
+        ensures ok { IfOk result (FindsAll bytes.now fronts.old.items fronts.new.items self.old self.new) }
+        ensures err { OnErr result (self.new ≡ self.old) }
     {
-        let header = self.read(bytes.as_slice());
-        let Some(front) = Front::find(header, bytes.as_slice())? else {
-            return Ok(false);
+        let mut parser = FrameParser {
+            header: None,
+            headers: self.headers,
         };
-        results.reserve(1)?;
-        let payload = &bytes.as_slice()[5..front.total];
-        // Requests of authentication are rare: without them the answers of this branch stay in registers.
-        if front.tag != AUTHENTICATION_TAG && !keeps_bytes(front.tag, payload) {
-            plain_onto(results, front.tag, payload);
-            bytes.advance(front.total);
-            self.header = None;
-            return Ok(true);
+        let mut rest = bytes;
+        'fronts: loop {
+            let header = parser.read(rest);
+            match Front::find(header, rest) {
+                Ok(Some(front)) => {
+                    fronts.push(front)?;
+                    let (_, after) = rest.split_at(front.total);
+                    rest = after;
+                    parser.header = None;
+                }
+                ended => {
+                    *self = parser;
+                    return Ok(Found {
+                        len: bytes.len() - rest.len(),
+                        stopped: ended.is_err(),
+                    });
+                }
+            }
         }
-        let mut payload = bytes.split_to(front.total)?;
-        self.header = None;
-        payload.advance(5);
-        results.push_reserved(body(front.tag, payload));
-        Ok(true)
     }
 
     /// The header at the front of the bytes, which is remembered from now on. It is read, and counted,

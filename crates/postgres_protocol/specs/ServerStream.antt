@@ -1,10 +1,13 @@
 -- What was read of a server's stream that comes in pieces.
-use Rattle.std.specs.Prelude.{◌≡◌, ℕ, ◌+◌, ◌-◌, ◌^◌, ◌≤◌, min, Bool, true, false, List, [], ◌++◌, length, Option, Some, None, Result, Ok, Err}
+use Rattle.std.specs.Prelude.{◌≡◌, ℕ, ◌+◌, ◌-◌, ◌^◌, ◌≤◌, min, Bool, true, false, List, [], ◌++◌, length, map, Option, Some, None, Result, Ok, Err}
+use Rattle.std.specs.List.{flat_map, AllByRecursion}
 use Rattle.pgp_base.specs.declared.error.Error.{Error}
 use Rattle.pgp_base.specs.declared.error.Error.TheVariants as errors
 use Rattle.pgp_message.specs.BackendMessage.{Message}
-use Rattle.pgp_message.specs.Remembered.{Memory, Fits, header_of}
-use Rattle.pgp_message.specs.Stream.{Frames, IsEnding, BackendRun}
+use Rattle.pgp_message.specs.Remembered.{Memory, Fits, header_of, count_of}
+use Rattle.pgp_message.specs.Found.{place_of}
+use Rattle.pgp_message.specs.FrontReading.{Front}
+use Rattle.pgp_message.specs.Stream.{Frame, frame_bytes, IsFrame, Frames, IsEnding, BackendRun}
 
 -- What a parser of pieces shows: the results that weren't handed out yet, whether a length fault stopped
 -- it, what is left to read, how many headers it has read, and whether it failed for want of memory.
@@ -20,11 +23,6 @@ pub record Told : Type 0 where
   pub results : List (Result Message Error)
   pub stopped : Bool
   pub rest : List ℕ
-
--- how many headers stand there: one or none
-abbrev pub count_of : Option (ℕ × ℕ) → ℕ
-count_of None = 0
-count_of (Some header) = 1
 
 -- how many headers were read where there are n results and this header stands behind them; at most the greatest u64
 abbrev pub headers_read : ℕ → Option (ℕ × ℕ) → ℕ
@@ -71,7 +69,7 @@ pub record IsSound (memory : Memory) (failed stopped : Bool) (rest : List ℕ) :
   pub header : failed ≡ false → memory.header ≡ header_of rest
   pub fault : failed ≡ false → stopped ≡ true → 5 ≤ length rest
 
--- One call takes all frames off the buffer.
+-- One call takes all frames.
 
 -- frames were read between two buffers, with the results that were added, and each header once
 pub record Takes (old new : List ℕ) (before after : List (Result Message Error)) (m n : Memory) : Type 0 where
@@ -93,3 +91,17 @@ pub record TakesSome (old : List ℕ) (before after : List (Result Message Error
   pub grown : after ≡ before ++ more
   pub left : List ℕ
   pub frames : Frames old more left
+
+-- frames of these places are all of the bytes
+pub record AreFronts (fronts : List Front) (bytes : List ℕ) : Type 0 where
+  pub frames : List Frame
+  pub places : fronts ≡ map place_of frames
+  pub whole : bytes ≡ flat_map frame_bytes frames
+  pub each : AllByRecursion IsFrame frames
+
+-- so many frames were all of the bytes, and were read
+pub record TakesEach (bytes : List ℕ) (before after : List (Result Message Error)) (n : ℕ) : Type 0 where
+  pub more : List (Result Message Error)
+  pub grown : after ≡ before ++ more
+  pub frames : Frames bytes more []
+  pub count : length more ≡ n

@@ -1,14 +1,14 @@
 //! A server's stream, read as it comes.
 
-ghost use Rattle.std.specs.Prelude.{◌≡◌, ◌∷◌, ◌++◌, [], map, false, IfOk, IfErr, OnOk, OnErr};
+ghost use Rattle.std.specs.Prelude.{◌≡◌, ◌∷◌, ◌++◌, [], length, map, false, None, IfOk, IfErr, OnOk, OnErr};
 ghost use Rattle.pgp_message.specs.Remembered.{Fits};
 ghost use Rattle.pgp_message.specs.Views.{seen};
-ghost use Rattle.postgres_protocol.specs.ServerStream.{HasRead, Feeds, HandsOut, TakesAll, TakesSome};
+ghost use Rattle.postgres_protocol.specs.ServerStream.{HasRead, Feeds, HandsOut, TakesAll, TakesSome, AreFronts, TakesEach};
 
 use super::parsed::Parsed;
 use bytes::{Bytes, BytesMut};
 use pgp_base::Error;
-use pgp_message::{FrameParser, Message, laws};
+use pgp_message::{FrameParser, Front, Message, laws};
 use std::alloc::{AllocError, Allocator, Global};
 use std::marker::Model;
 use std::mem;
@@ -19,9 +19,9 @@ use std::mem;
 pub struct StreamParser<A: Allocator = Global> {
     frames: FrameParser,
     rest: BytesMut<A>,
+    /// Where the whole frames of a piece stand.
+    fronts: Vec<Front, A>,
     results: Vec<Result<Message<Bytes<A>>, Error>, A>,
-    /// How many results were taken last: the list that comes then begins with room for as many.
-    taken: usize,
     stopped: bool,
     failed: bool,
 }
@@ -55,8 +55,8 @@ impl<A: Allocator + Copy> StreamParser<A> {
         StreamParser {
             frames: FrameParser::new(),
             rest: BytesMut::new(alloc),
+            fronts: Vec::new(alloc),
             results: Vec::new(alloc),
-            taken: 0,
             stopped: false,
             failed: false,
         }
@@ -79,18 +79,19 @@ impl<A: Allocator + Copy> StreamParser<A> {
         laws::frames_stand();
         laws::runs_grow();
         laws::bytes_may_come();
-        if self.rest.extend_from_slice(piece).is_err() {
-            self.failed = true;
-            return Err(Error::OutOfMemory);
-        }
         if self.stopped {
+            if self.rest.extend_from_slice(piece).is_err() {
+                self.failed = true;
+                return Err(Error::OutOfMemory);
+            }
             return Ok(());
         }
         match take_frames(
             &mut self.frames,
             &mut self.rest,
+            &mut self.fronts,
             &mut self.results,
-            self.taken,
+            piece,
         ) {
             Ok(stopped) => {
                 self.stopped = stopped;
@@ -143,7 +144,6 @@ impl<A: Allocator + Copy> StreamParser<A> {
         ensures { HandsOut (map seen result.items) self.old self.new }
     {
         let alloc = *self.rest.allocator();
-        self.taken = self.results.len();
         mem::replace(&mut self.results, Vec::new(alloc))
     }
 
@@ -162,61 +162,110 @@ impl<A: Allocator + Copy> StreamParser<A> {
     }
 }
 
-/// Takes all frames off the buffer, and answers whether a length fault stands at its front. So many results are
-/// expected. The frames share what came as one: to cut the buffer for each would be slower.
+/// Takes all frames of what is kept and of the piece behind it, and answers whether a length fault ended them. A frame
+/// that was cut is completed by itself, so that each byte is copied once: to where its message keeps it.
 fn take_frames<A: Allocator + Copy>(
     frames: &mut FrameParser,
     rest: &mut BytesMut<A>,
+    fronts: &mut Vec<Front, A>,
     results: &mut Vec<Result<Message<Bytes<A>>, Error>, A>,
-    expected: usize,
+    piece: &[u8],
 ) -> Result<bool, Error>
     requires { Fits frames.old rest.old.items }
-    ensures ok { IfOk result (λ stopped. TakesAll rest.old.items rest.new.items
+    ensures ok { IfOk result (λ stopped. TakesAll (rest.old.items ++ piece.now) rest.new.items
         (map seen results.old.items) (map seen results.new.items) frames.old frames.new stopped) }
-    ensures some { OnErr result (TakesSome rest.old.items (map seen results.old.items) (map seen results.new.items)) }
-    ensures err { IfErr result (λ e. e ≡ Error.OutOfMemory) }
-{
-    laws::no_frame();
-    if frames.waits(rest.as_slice()) {
-        return Ok(false);
-    }
-    make_room(results, expected)?;
-    let mut shared = rest.freeze_to(rest.len())?;
-    let stopped = take_shared(frames, &mut shared, results)?;
-    rest.extend_from_slice(shared.as_slice())?;
-    Ok(stopped)
-}
-
-/// Takes all frames off shared bytes, and answers whether a length fault stands at their front.
-fn take_shared<A: Allocator>(
-    frames: &mut FrameParser,
-    shared: &mut Bytes<A>,
-    results: &mut Vec<Result<Message<Bytes<A>>, Error>, A>,
-) -> Result<bool, Error>
-    requires { Fits frames.old shared.old }
-    ensures ok { IfOk result (λ stopped. TakesAll shared.old shared.new
-        (map seen results.old.items) (map seen results.new.items) frames.old frames.new stopped) }
-    ensures some { OnErr result (TakesSome shared.old (map seen results.old.items) (map seen results.new.items)) }
+    ensures some { OnErr result (TakesSome (rest.old.items ++ piece.now) (map seen results.old.items) (map seen results.new.items)) }
     ensures err { IfErr result (λ e. e ≡ Error.OutOfMemory) }
 {
     laws::no_frame();
     laws::next_frame();
-    'frames: loop {
-        match frames.parse_onto(shared, results) {
-            Ok(true) => {}
-            Ok(false) => return Ok(false),
-            Err(Error::InvalidLength) => return Ok(true),
-            Err(e) => return Err(e),
+    laws::frames_go_on();
+    let mut left = piece;
+    'cut: while !rest.is_empty() {
+        let (more, after) = left.split_at(left.len().min(frames.missing(rest.len())));
+        rest.extend_from_slice(more)?;
+        left = after;
+        match frames.parse(rest) {
+            Ok(Some(message)) => add(results, Ok(message))?,
+            Ok(None) if left.is_empty() => return Ok(false),
+            Ok(None) => {}
+            Err(Error::InvalidLength) => {
+                rest.extend_from_slice(left)?;
+                return Ok(true);
+            }
+            Err(Error::OutOfMemory) => return Err(Error::OutOfMemory),
+            Err(e) => add(results, Err(e))?,
         }
     }
+    take_whole(frames, rest, fronts, results, left)
 }
 
-/// Asks for room for so many where the list is empty.
-fn make_room<T, A: Allocator>(list: &mut Vec<T, A>, expected: usize) -> Result<(), AllocError>
-    ensures { list.new.items ≡ list.old.items }
+/// Takes all frames that are whole in a piece, and keeps the bytes behind them.
+fn take_whole<A: Allocator + Copy>(
+    frames: &mut FrameParser,
+    rest: &mut BytesMut<A>,
+    fronts: &mut Vec<Front, A>,
+    results: &mut Vec<Result<Message<Bytes<A>>, Error>, A>,
+    piece: &[u8],
+) -> Result<bool, Error>
+    requires none { frames.old.header ≡ None }
+    requires empty { rest.old.items ≡ [] }
+    ensures ok { IfOk result (λ stopped. TakesAll piece.now rest.new.items
+        (map seen results.old.items) (map seen results.new.items) frames.old frames.new stopped) }
+    ensures some { OnErr result (TakesSome piece.now (map seen results.old.items) (map seen results.new.items)) }
+    ensures err { IfErr result (λ e. e ≡ Error.OutOfMemory) }
 {
-    if list.is_empty() {
-        list.reserve(expected)?;
+    laws::no_frame();
+    fronts.clear();
+    let found = frames.find_all(piece, fronts)?;
+    let (whole, cut) = piece.split_at(found.len);
+    let shared = Bytes::copy_from_slice(*rest.allocator(), whole)?;
+    take_each(fronts.as_slice(), shared, results)?;
+    keep(rest, cut, frames.missing(cut.len()))?;
+    Ok(found.stopped)
+}
+
+/// Takes frames off shared bytes that are these frames.
+fn take_each<A: Allocator>(
+    fronts: &[Front],
+    shared: Bytes<A>,
+    results: &mut Vec<Result<Message<Bytes<A>>, Error>, A>,
+) -> Result<(), AllocError>
+    requires { AreFronts fronts.now shared }
+    ensures ok { OnOk result (TakesEach shared (map seen results.old.items) (map seen results.new.items) (length fronts.now)) }
+    ensures some { OnErr result (TakesSome shared (map seen results.old.items) (map seen results.new.items)) }
+{
+    laws::no_frame();
+    laws::next_frame();
+    results.reserve(fronts.len())?;
+    let mut shared = shared;
+    for front in fronts {
+        front.take_onto(&mut shared, results)?;
     }
+    Ok(())
+}
+
+/// Keeps the front of a frame of which so many bytes are missing, with room for them.
+fn keep<A: Allocator + Copy>(
+    rest: &mut BytesMut<A>,
+    cut: &[u8],
+    missing: usize,
+) -> Result<(), AllocError>
+    ensures ok { OnOk result (rest.new.items ≡ rest.old.items ++ cut.now) }
+    ensures err { OnErr result (rest.new.items ≡ rest.old.items) }
+{
+    if !cut.is_empty() {
+        // A refusal is told where the bytes come.
+        let _ = rest.reserve(cut.len().saturating_add(missing));
+    }
+    rest.extend_from_slice(cut)
+}
+
+/// Adds an item to the list.
+fn add<T: Drop, A: Allocator>(list: &mut Vec<T, A>, item: T) -> Result<(), AllocError>
+    ensures ok { OnOk result (list.new.items ≡ list.old.items ++ item ∷ []) }
+    ensures err { OnErr result (list.new.items ≡ list.old.items) }
+{
+    list.push(item)?;
     Ok(())
 }

@@ -29,8 +29,7 @@ returns-in-Ok g c =
     let old : Reading = record { results = map seen inside.results.items; stopped = inside.stopped; rest = inside.rest.items; headers = inside.frames.headers; failed = inside.failed } in
     let new : Reading = record { results = map seen after.results.items; stopped = c.in-Ok.stopped; rest = after.rest.items; headers = after.frames.headers; failed = inside.failed } in
     let sound : inside.failed ≡ false = ap (λ (r : Reading). r.failed) c.self.view_is ∙ c.requires in
-    let rest : c.extend_from_slice.new.self.items ≡ inside.rest.items ++ c.args.piece.now = search rules in
-    let all : TakesAll (inside.rest.items ++ c.args.piece.now) after.rest.items (map seen inside.results.items) (map seen after.results.items) inside.frames after.frames c.in-Ok.stopped = subst (λ l. TakesAll l after.rest.items (map seen inside.results.items) (map seen after.results.items) inside.frames after.frames c.in-Ok.stopped) rest c.in-Ok.ensures.ok in
+    let all : TakesAll (inside.rest.items ++ c.args.piece.now) after.rest.items (map seen inside.results.items) (map seen after.results.items) inside.frames after.frames c.in-Ok.stopped = c.in-Ok.ensures.ok in
     let on : GoesOn c.args.piece.now old new = goes_on c.args.piece.now after.rest.items old (map seen after.results.items) inside.frames after.frames c.in-Ok.stopped sound c.if-self.false refl (c.self.invariant.header sound) all c.waits_go_on.ensures in
     subst (λ (r : Reading). GoesOn c.args.piece.now r new) c.self.view_is on
 
@@ -40,8 +39,7 @@ returns-in-Err g c =
     let after = c.take_frames.new in
     let old : Reading = record { results = map seen inside.results.items; stopped = inside.stopped; rest = inside.rest.items; headers = inside.frames.headers; failed = inside.failed } in
     let new : Reading = record { results = map seen after.results.items; stopped = inside.stopped; rest = after.rest.items; headers = after.frames.headers; failed = true } in
-    let rest : c.extend_from_slice.new.self.items ≡ inside.rest.items ++ c.args.piece.now = search rules in
-    let some : TakesSome (inside.rest.items ++ c.args.piece.now) (map seen inside.results.items) (map seen after.results.items) = subst (λ l. TakesSome l (map seen inside.results.items) (map seen after.results.items)) rest c.in-Err.ensures.some in
+    let some : TakesSome (inside.rest.items ++ c.args.piece.now) (map seen inside.results.items) (map seen after.results.items) = c.in-Err.ensures.some in
     let fails : Fails c.args.piece.now old new = fails_behind c.args.piece.now old new refl some c.frames_go_on.ensures c.frames_stand.ensures in
     (search rules, subst (λ (r : Reading). Fails c.args.piece.now r new) c.self.view_is fails)
 
