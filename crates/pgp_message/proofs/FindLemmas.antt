@@ -1,6 +1,6 @@
 -- Frames that are found at the front of bytes, and taken off.
-use Rattle.std.proofs.Common.{◌≡◌, ℕ, ◌+◌, ◌-◌, ◌≤◌, ◌^◌, List, [], ◌∷◌, ◌++◌, length, take, drop, map, Option, Some, None, Result, refl, sym, ap, subst, ◌∙◌, append_assoc, arith}
-use Rattle.std.specs.Prelude.{min}
+use Rattle.std.proofs.Common.{◌≡◌, ℕ, ◌+◌, ◌-◌, ◌≤◌, List, [], ◌∷◌, ◌++◌, length, take, drop, map, Option, Some, None, Result, refl, sym, ap, subst, ◌∙◌, append_assoc, arith}
+use Rattle.std.specs.Prelude.{IfSome}
 use Rattle.std.specs.List.{flat_map, AllByRecursion}
 use Rattle.std.proofs.Math.Seq.{take-append_seam, drop-append_seam}
 use Rattle.std.proofs.lemmas.List.{append-nil, length-append, length-drop, length-take, map_push}
@@ -10,7 +10,7 @@ use Rattle.pgp_message.specs.BackendMessage.{Message}
 use Rattle.pgp_message.specs.Found.{Found, place_of, FindsAll, StandsAt, TakesOnto}
 use Rattle.pgp_message.specs.FrontReading.{Front, IsFront, front_frame}
 use Rattle.pgp_message.specs.Reading.{body_of}
-use Rattle.pgp_message.specs.Remembered.{Memory, header_of, headers_after, count_of}
+use Rattle.pgp_message.specs.Remembered.{Memory, Fits, header_of, headers_after, headers_read}
 use Rattle.pgp_message.specs.Stream.{Frame, frame_bytes, IsFrame, IsEnding, TakesFrame}
 use Rattle.pgp_message.proofs.Headers.{header_of_long}
 use Rattle.pgp_message.proofs.Runs.{each_push, pushed, same_frame}
@@ -18,26 +18,37 @@ use Rattle.pgp_message.proofs.Steps.{takes}
 
 -- ---- found
 
--- so many frames were found, and the rest is still to be read
-pub record Finding (bytes rest : List ℕ) (before after : List Front) (old : ℕ) (now : Memory) : Type 0 where
+-- a frame was removed, whose header is read
+pub counted_frame : (known here : Option (ℕ × ℕ)) (j n : ℕ) (h : ℕ × ℕ) → here ≡ Some h → n ≡ headers_read j known → headers_after known here n ≡ headers_read (j + 1) None
+counted_frame None None j n h e c = cc
+counted_frame None (Some x) j n h e c = omega (arith, c)
+counted_frame (Some y) here j n h e c = omega (arith, c)
+
+-- the bytes were left
+pub counted_left : (known here : Option (ℕ × ℕ)) (j n : ℕ) → IfSome known (λ h. here ≡ Some h) → n ≡ headers_read j known → headers_after known here n ≡ headers_read j here
+counted_left None None j n fits c = c
+counted_left None (Some x) j n fits c = omega (arith, c)
+counted_left (Some y) None j n fits c = cc
+counted_left (Some y) (Some x) j n fits c = c
+
+-- these frames were found, and the rest is still to be read
+pub record Finding (bytes rest : List ℕ) (before after : List Front) (old now : Memory) : Type 0 where
   pub frames : List Frame
   pub whole : bytes ≡ flat_map frame_bytes frames ++ rest
   pub each : AllByRecursion IsFrame frames
   pub places : after ≡ before ++ map place_of frames
-  pub none : now.header ≡ None
-  pub headers : (k : ℕ) → old ≡ min k (2 ^ 64 - 1) → now.headers ≡ min (k + length frames) (2 ^ 64 - 1)
+  pub fits : Fits now rest
+  pub counted : (k : ℕ) → old.headers ≡ headers_read k old.header → now.headers ≡ headers_read (k + length frames) now.header
 
-pub finding_none : (bytes : List ℕ) (before : List Front) (old : ℕ) (now : Memory) → now ≡ record { header = None; headers = old } → Finding bytes bytes before before old now
-finding_none bytes before old now is =
-    let headers : now.headers ≡ old = ap (λ (m : Memory). m.headers) is in
-    record {
-      frames = [];
-      whole = refl;
-      each = tt;
-      places = sym (append-nil before);
-      none = ap (λ (m : Memory). m.header) is;
-      headers = λ k c. omega (arith, headers, c);
-    }
+pub finding_none : (bytes : List ℕ) (before : List Front) (old now : Memory) → Fits old bytes → now ≡ old → Finding bytes bytes before before old now
+finding_none bytes before old now fits same = subst (λ (m : Memory). Finding bytes bytes before before old m) (sym same) (record {
+  frames = [];
+  whole = refl;
+  each = tt;
+  places = sym (append-nil before);
+  fits = fits;
+  counted = λ k c. c ∙ ap (λ j. headers_read j old.header) (omega arith);
+})
 
 -- the place of a front's frame is the front
 place_of_front : (f : Front) (bytes : List ℕ) → IsFront f bytes → place_of (front_frame f bytes) ≡ f
@@ -47,44 +58,46 @@ place_of_front f bytes front =
   placed : ℕ → ℕ → Front
   placed tag total = record { tag = tag; total = total }
 
-header_read : (bytes : List ℕ) (old n : ℕ) → 5 ≤ length bytes → n ≡ headers_after None (header_of bytes) old → n ≡ min (old + 1) (2 ^ 64 - 1)
-header_read bytes old n long is = is ∙ ap (λ h. headers_after None h old) (header_of_long bytes long)
-
-pub finding_more : (bytes rest new : List ℕ) (before after grown : List Front) (old : ℕ) (now next : Memory) (f : Front) → Finding bytes rest before after old now → IsFront f rest
-    → new ≡ drop f.total rest → grown ≡ after ++ f ∷ [] → next ≡ record { header = None; headers = headers_after None (header_of rest) now.headers } → Finding bytes new before grown old next
+pub finding_more : (bytes rest new : List ℕ) (before after grown : List Front) (old now next : Memory) (f : Front) → Finding bytes rest before after old now → IsFront f rest
+    → new ≡ drop f.total rest → grown ≡ after ++ f ∷ [] → next ≡ record { header = None; headers = headers_after now.header (header_of rest) now.headers } → Finding bytes new before grown old next
 finding_more bytes rest new before after grown old now next f so_far front left joined is =
     let frame = front_frame f rest in
     let fs = flat_map frame_bytes so_far.frames in
     let whole : rest ≡ frame_bytes frame ++ new = front.whole ∙ ap (λ l. frame_bytes frame ++ l) (sym left) in
     let places : map place_of (so_far.frames ++ frame ∷ []) ≡ map place_of so_far.frames ++ f ∷ [] = map_push place_of so_far.frames frame ∙ ap (λ (p : Front). map place_of so_far.frames ++ p ∷ []) (place_of_front f rest front) in
-    let one : next.headers ≡ min (now.headers + 1) (2 ^ 64 - 1) = header_read rest now.headers next.headers (omega (arith, front.least, front.most)) (ap (λ (m : Memory). m.headers) is) in
+    let long : 5 ≤ length rest = omega (arith, front.least, front.most) in
+    let none : next.header ≡ None = ap (λ (m : Memory). m.header) is in
     let more : length (so_far.frames ++ frame ∷ []) ≡ length so_far.frames + 1 = length-append so_far.frames (frame ∷ []) in
     record {
       frames = so_far.frames ++ frame ∷ [];
       whole = so_far.whole ∙ ap (λ l. fs ++ l) whole ∙ sym (append_assoc fs (frame_bytes frame) new) ∙ ap (λ l. l ++ new) (sym (pushed so_far.frames frame));
       each = each_push so_far.frames frame so_far.each front.fits;
       places = joined ∙ ap (λ l. l ++ f ∷ []) so_far.places ∙ append_assoc before (map place_of so_far.frames) (f ∷ []) ∙ ap (λ l. before ++ l) (sym places);
-      none = ap (λ (m : Memory). m.header) is;
-      headers = λ k c. omega (arith, one, so_far.headers k c, more);
+      fits = subst (λ (h : Option (ℕ × ℕ)). IfSome h (λ x. header_of new ≡ Some x)) (sym none) tt;
+      counted = λ k c.
+          let j = k + length so_far.frames in
+          let one = counted_frame now.header (header_of rest) j now.headers _ (header_of_long rest long) (so_far.counted k c) in
+          let sum : j + 1 ≡ k + length (so_far.frames ++ frame ∷ []) = omega (arith, more) in
+          ap (λ (m : Memory). m.headers) is ∙ one ∙ ap (λ i. headers_read i None) sum ∙ ap (headers_read (k + length (so_far.frames ++ frame ∷ []))) (sym none);
     }
 
-counted : (here : Option (ℕ × ℕ)) (n k : ℕ) → n ≡ min k (2 ^ 64 - 1) → headers_after None here n ≡ min (k + count_of here) (2 ^ 64 - 1)
-counted None n k is = omega (arith, is)
-counted (Some header) n k is = omega (arith, is)
-
-pub finds_all : (bytes rest : List ℕ) (before after : List Front) (old now next : Memory) (found : Found) → Finding bytes rest before after old.headers now → IsEnding found.stopped rest
-    → found.len ≡ length bytes - length rest → next ≡ record { header = header_of rest; headers = headers_after None (header_of rest) now.headers } → FindsAll bytes before after old next found
-finds_all bytes rest before after old now next found so_far ending len is = record {
-  frames = so_far.frames;
-  rest = rest;
-  whole = so_far.whole;
-  each = so_far.each;
-  places = so_far.places;
-  len = omega (arith, len, ap length so_far.whole, length-append (flat_map frame_bytes so_far.frames) rest);
-  ending = ending;
-  header = ap (λ (m : Memory). m.header) is;
-  headers = λ k c. ap (λ (m : Memory). m.headers) is ∙ counted (header_of rest) now.headers (k + length so_far.frames) (so_far.headers k c);
-}
+pub finds_all : (bytes rest : List ℕ) (before after : List Front) (old now next : Memory) (found : Found) → Finding bytes rest before after old now → IsEnding found.stopped rest
+    → found.len ≡ length bytes - length rest → next ≡ record { header = header_of rest; headers = headers_after now.header (header_of rest) now.headers } → FindsAll bytes before after old next found
+finds_all bytes rest before after old now next found so_far ending len is =
+    let header : next.header ≡ header_of rest = ap (λ (m : Memory). m.header) is in
+    record {
+      frames = so_far.frames;
+      rest = rest;
+      whole = so_far.whole;
+      each = so_far.each;
+      places = so_far.places;
+      len = omega (arith, len, ap length so_far.whole, length-append (flat_map frame_bytes so_far.frames) rest);
+      ending = ending;
+      header = header;
+      counted = λ k c.
+          let j = k + length so_far.frames in
+          ap (λ (m : Memory). m.headers) is ∙ counted_left now.header (header_of rest) j now.headers so_far.fits (so_far.counted k c) ∙ ap (headers_read j) (sym header);
+    }
 
 -- ---- taken
 

@@ -1,10 +1,10 @@
 -- Whole frames that are found at the front of bytes, and then taken off.
-use Rattle.std.specs.Prelude.{◌≡◌, ℕ, ◌+◌, ◌-◌, ◌^◌, min, Bool, List, ◌∷◌, [], ◌++◌, length, map, Result}
+use Rattle.std.specs.Prelude.{◌≡◌, ℕ, ◌+◌, Bool, List, ◌∷◌, [], ◌++◌, length, map, Result}
 use Rattle.std.specs.List.{flat_map, AllByRecursion}
 use Rattle.pgp_base.specs.declared.error.Error.{Error}
 use Rattle.pgp_message.specs.BackendMessage.{Message}
 use Rattle.pgp_message.specs.FrontReading.{Front}
-use Rattle.pgp_message.specs.Remembered.{Memory, header_of, count_of}
+use Rattle.pgp_message.specs.Remembered.{Memory, header_of, headers_read}
 use Rattle.pgp_message.specs.Stream.{Frame, frame_bytes, IsFrame, IsEnding, TakesFrame}
 
 -- How far whole frames reach, and whether a length fault stands behind them.
@@ -16,8 +16,8 @@ pub record Found : Type 0 where
 abbrev pub place_of : Frame → Front
 place_of f = record { tag = f.tag; total = length f.payload + 5 }
 
--- The bytes are frames and what ends them. The place of each frame joins the list. One header was read for each, and one
--- more where the end has one, which is remembered; the count of all that were read stays at the greatest u64.
+-- The bytes are frames and what ends them. The place of each frame joins the list. In all one header was read for each, and
+-- one more where the end has one, which is remembered.
 pub record FindsAll (bytes : List ℕ) (before after : List Front) (old new : Memory) (found : Found) : Type 0 where
   pub frames : List Frame
   pub rest : List ℕ
@@ -27,7 +27,7 @@ pub record FindsAll (bytes : List ℕ) (before after : List Front) (old new : Me
   pub len : found.len ≡ length (flat_map frame_bytes frames)
   pub ending : IsEnding found.stopped rest
   pub header : new.header ≡ header_of rest
-  pub headers : (k : ℕ) → old.headers ≡ min k (2 ^ 64 - 1) → new.headers ≡ min (k + length frames + count_of (header_of rest)) (2 ^ 64 - 1)
+  pub counted : (k : ℕ) → old.headers ≡ headers_read k old.header → new.headers ≡ headers_read (k + length frames) new.header
 
 -- the frame of this place is the first of the bytes
 pub record StandsAt (front : Front) (bytes : List ℕ) : Type 0 where

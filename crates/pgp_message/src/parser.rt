@@ -115,12 +115,12 @@ impl FrameParser {
         bytes: &[u8],
         fronts: &mut Vec<Front, A>,
     ) -> Result<Found, AllocError>
-        requires { self.old.header ≡ None }
+        requires { Fits self.old bytes.now }
         ensures ok { IfOk result (FindsAll bytes.now fronts.old.items fronts.new.items self.old self.new) }
         ensures err { OnErr result (self.new ≡ self.old) }
     {
         let mut parser = FrameParser {
-            header: None,
+            header: self.header,
             headers: self.headers,
         };
         let mut rest = bytes;

@@ -11,116 +11,19 @@ use Rattle.std.proofs.lemmas.List.Concat.{flat_map-cons}
 use Rattle.std.proofs.lemmas.Grind.{flat_map-append}
 use Rattle.pgp_base.specs.Wire.{uint32}
 use Rattle.pgp_base.specs.declared.error.Error.TheVariants as errors
-use Rattle.pgp_message.specs.Remembered.{Memory, Fits, header_of, header_after, headers_after, memory_after}
+use Rattle.pgp_message.specs.Remembered.{Memory, Fits, header_of, headers_read}
 use Rattle.pgp_message.specs.Found.{Found, place_of, FindsAll, StandsAt, TakesOnto}
 use Rattle.pgp_message.specs.FrontReading.{Front}
 use Rattle.pgp_message.specs.Stream.{Frame, frame_bytes, IsFrame, Frames, IsEnding, Step, TakesFrame, BackendRun}
 use Rattle.pgp_message.proofs.Fronts.{fault_stays}
 use Rattle.pgp_message.proofs.Headers.{fits_grows}
-use Rattle.pgp_message.proofs.Runs.{front_is_one}
-use Rattle.postgres_protocol.specs.ServerStream.{headers_read, Reading, GoesOn, Fails, Takes, TakesAll, TakesSome, AreFronts, TakesEach}
-
--- ---- the count of headers
-
--- a frame was removed, whose header is read
-counted_frame : (known here : Option (ℕ × ℕ)) (j n : ℕ) (h : ℕ × ℕ) → here ≡ Some h → n ≡ headers_read j known → headers_after known here n ≡ headers_read (j + 1) None
-counted_frame None None j n h e c = cc
-counted_frame None (Some x) j n h e c = omega (arith, c)
-counted_frame (Some y) here j n h e c = omega (arith, c)
-
--- the bytes were left
-counted_left : (known here : Option (ℕ × ℕ)) (j n : ℕ) → IfSome known (λ h. here ≡ Some h) → n ≡ headers_read j known → headers_after known here n ≡ headers_read j here
-counted_left None None j n fits c = c
-counted_left None (Some x) j n fits c = omega (arith, c)
-counted_left (Some y) None j n fits c = cc
-counted_left (Some y) (Some x) j n fits c = c
-
--- ---- a frame more
-
--- a frame's result as the answer of a step
-abbrev pub answer_of : Result Message Error → Result (Option Message) Error
-answer_of (Ok m) = Ok (Some m)
-answer_of (Err e) = Err e
+use Rattle.pgp_message.proofs.Runs.{front_is_one, frames_join}
+use Rattle.postgres_protocol.specs.ServerStream.{Reading, GoesOn, Fails, Takes, TakesAll, TakesSome, AreFronts, TakesEach}
 
 -- a header fits itself
 fits_itself : (here : Option (ℕ × ℕ)) → IfSome here (λ h. here ≡ Some h)
 fits_itself None = tt
 fits_itself (Some h) = refl
-
-forgets : (old new : List ℕ) (r : Result Message Error) (here : Option (ℕ × ℕ)) → TakesFrame old r new → header_after (answer_of r) here ≡ None
-forgets old new (Ok m) here t = refl
-forgets old new (Err errors.InvalidLength) here t = absurd t.body
-forgets old new (Err errors.OutOfMemory) here t = absurd t.body
-forgets old new (Err e) here t = refl
-
--- a frame has a header
-header_of_frame : (old new : List ℕ) (r : Result Message Error) → TakesFrame old r new → (h : ℕ × ℕ) × (header_of old ≡ Some h)
-unfolding uint32
-header_of_frame old new r t = (_, ap header_of t.whole)
-
-pub takes_more : (a old new : List ℕ) (before mid after : List (Result Message Error)) (m n next : Memory) (r : Result Message Error) (so_far : Takes a old before mid m n)
-    → TakesFrame old r new → Frames a (so_far.more ++ r ∷ []) new → after ≡ mid ++ r ∷ [] → next ≡ memory_after n old (answer_of r) → Fits next new → Takes a new before after m next
-takes_more a old new before mid after m n next r so_far takes frames grown memory fits =
-    let here = header_of old in
-    let h = header_of_frame old new r takes in
-    let none : next.header ≡ None = ap (λ (x : Memory). x.header) memory ∙ forgets old new r here takes in
-    let count : next.headers ≡ headers_after n.header here n.headers = ap (λ (x : Memory). x.headers) memory in
-    let len : length (so_far.more ++ r ∷ []) ≡ length so_far.more + 1 = length-append so_far.more (r ∷ []) in
-    record {
-      more = so_far.more ++ r ∷ [];
-      grown = grown ∙ ap (λ l. l ++ r ∷ []) so_far.grown ∙ append_assoc before so_far.more (r ∷ []);
-      frames = frames;
-      fits = fits;
-      counted = λ k c.
-          let one = counted_frame n.header here (k + length so_far.more) n.headers h.0 h.1 (so_far.counted k c) in
-          let sum : (k + length so_far.more) + 1 ≡ k + length (so_far.more ++ r ∷ []) = omega (arith, len) in
-          count ∙ one ∙ ap (λ j. headers_read j None) sum ∙ ap (headers_read (k + length (so_far.more ++ r ∷ []))) (sym none);
-    }
-
--- a frame takes bytes
-pub taken_shorter : (old new : List ℕ) (r : Result Message Error) → TakesFrame old r new → length new < length old
-taken_shorter old new r t =
-    let body : List ℕ = uint32 (length t.first.payload + 4) ++ t.first.payload in
-    omega (arith, ap length t.whole, length-append body new)
-
--- a refusal that isn't of the whole stream is that of a frame
-pub taken_by : (old new : List ℕ) (e : Error) → e ≢ errors.OutOfMemory → e ≢ errors.InvalidLength → Step old (Err e) new → TakesFrame old (Err e) new
-taken_by old new errors.OutOfMemory p q step = absurd (p refl)
-taken_by old new errors.InvalidLength p q step = absurd (q refl)
-taken_by old new e p q step = step
-
--- nothing was read yet
-pub takes_none : (a : List ℕ) (before : List (Result Message Error)) (m : Memory) → Frames a [] a → Fits m a → Takes a a before before m m
-takes_none a before m none fits = record {
-  more = [];
-  grown = sym (append-nil before);
-  frames = none;
-  fits = fits;
-  counted = λ k c. c ∙ ap (λ j. headers_read j m.header) (omega arith);
-}
-
--- the bytes were left, and their header is remembered
-pub takes_all : (a old : List ℕ) (before mid : List (Result Message Error)) (m n next : Memory) (stopped : Bool) → Takes a old before mid m n → IsEnding stopped old → next ≡ memory_after n old (Ok None)
-    → TakesAll a old before mid m next stopped
-takes_all a old before mid m n next stopped so_far ending memory =
-    let here = header_of old in
-    let header : next.header ≡ here = ap (λ (x : Memory). x.header) memory in
-    let count : next.headers ≡ headers_after n.header here n.headers = ap (λ (x : Memory). x.headers) memory in
-    record {
-      takes = record {
-        more = so_far.more;
-        grown = so_far.grown;
-        frames = so_far.frames;
-        fits = subst (λ (h : Option (ℕ × ℕ)). IfSome h (λ x. here ≡ Some x)) (sym header) (fits_itself here);
-        counted = λ k c. count ∙ counted_left n.header here (k + length so_far.more) n.headers so_far.fits (so_far.counted k c) ∙ ap (headers_read (k + length so_far.more)) (sym header);
-      };
-      ending = ending;
-      header = header;
-    }
-
--- all that was taken is some
-pub takes_some : (a new : List ℕ) (before after : List (Result Message Error)) (m n : Memory) (stopped : Bool) → TakesAll a new before after m n stopped → TakesSome a before after
-takes_some a new before after m n stopped all = record { more = all.takes.more; grown = all.takes.grown; left = new; frames = all.takes.frames }
 
 -- where a length fault stopped it a header stands there
 pub stopped_long : (stopped : Bool) (rest : List ℕ) → IsEnding stopped rest → stopped ≡ true → 5 ≤ length rest
@@ -146,6 +49,11 @@ frames_behind a old more results f = record {
   bodies = f.bodies;
 }
 
+-- frames behind frames
+frames_chained : (a b c : List ℕ) (first second : List (Result Message Error)) → Frames a first b → Frames b second c → Frames a (first ++ second) c
+frames_chained a b c first second p q =
+    subst (λ l. Frames l (first ++ second) c) (append-nil a) (frames_join a [] b c first second p (subst (λ l. Frames l second c) (sym (append-nil b)) q))
+
 -- ---- a frame that was cut
 
 -- A frame is completed from the front of a piece, of which some is left. What was read so far is told.
@@ -155,11 +63,15 @@ pub record Completing (old piece left now : List ℕ) (before mid : List (Result
   pub takes : Takes (old ++ done) now before mid m n
 
 pub completing_none : (old piece : List ℕ) (before : List (Result Message Error)) (m : Memory) → Frames old [] old → Fits m old → Completing old piece piece old before before m m
-completing_none old piece before m none fits = record {
-  done = [];
-  whole = refl;
-  takes = subst (λ l. Takes l old before before m m) (sym (append-nil old)) (takes_none old before m none fits);
-}
+completing_none old piece before m none fits =
+    let nothing : Takes old old before before m m = record {
+      more = [];
+      grown = sym (append-nil before);
+      frames = none;
+      fits = fits;
+      counted = λ k c. c ∙ ap (λ j. headers_read j m.header) (omega arith);
+    } in
+    record { done = []; whole = refl; takes = subst (λ l. Takes l old before before m m) (sym (append-nil old)) nothing }
 
 pub none_of : (l : List ℕ) → length l ≡ 0 → l ≡ []
 none_of [] h = refl
@@ -181,48 +93,49 @@ completing_more old piece left more after now grown before mid m n c parts is =
       takes = subst (λ l. Takes l grown before mid m n) (append_assoc old c.done more) (subst (λ l. Takes ((old ++ c.done) ++ more) l before mid m n) (sym is) behind);
     }
 
--- the frame was taken
-pub completing_frame : (old piece left now new : List ℕ) (before mid after : List (Result Message Error)) (m n next : Memory) (r : Result Message Error) → Completing old piece left now before mid m n
-    → TakesFrame now r new → after ≡ mid ++ r ∷ [] → next ≡ memory_after n now (answer_of r) → Fits next new
-    → ((bytes old new : List ℕ) (results : List (Result Message Error)) (r : Result Message Error) → Frames bytes results old → TakesFrame old r new → Frames bytes (results ++ r ∷ []) new)
-    → Completing old piece left new before after m next
-completing_frame old piece left now new before mid after m n next r c takes grown memory fits goes =
-    let a = old ++ c.done in
+-- all frames of what stands there were taken
+pub completing_reads : (old piece left now new : List ℕ) (before mid after : List (Result Message Error)) (m n o : Memory) (stopped : Bool) → Completing old piece left now before mid m n
+    → TakesAll now new mid after n o stopped → Completing old piece left new before after m o
+completing_reads old piece left now new before mid after m n o stopped c all =
+    let t = c.takes in
+    let u = all.takes in
+    let len : length (t.more ++ u.more) ≡ length t.more + length u.more = length-append t.more u.more in
     record {
       done = c.done;
       whole = c.whole;
-      takes = takes_more a now new before mid after m n next r c.takes takes (goes a now new c.takes.more r c.takes.frames takes) grown memory fits;
+      takes = record {
+        more = t.more ++ u.more;
+        grown = u.grown ∙ ap (λ l. l ++ u.more) t.grown ∙ append_assoc before t.more u.more;
+        frames = frames_chained (old ++ c.done) now new t.more u.more t.frames u.frames;
+        fits = u.fits;
+        counted = λ k e.
+            let sum : (k + length t.more) + length u.more ≡ k + length (t.more ++ u.more) = omega (arith, len) in
+            u.counted (k + length t.more) (t.counted k e) ∙ ap (λ j. headers_read j o.header) sum;
+      };
     }
 
--- it isn't whole yet
-pub completing_waits : (old piece left now new : List ℕ) (before mid : List (Result Message Error)) (m n next : Memory) → Completing old piece left now before mid m n → IsEnding false now → new ≡ now
-    → next ≡ memory_after n now (Ok None) → Completing old piece left new before mid m next
-completing_waits old piece left now new before mid m n next c ending same memory = record {
-  done = c.done;
-  whole = c.whole;
-  takes = subst (λ l. Takes (old ++ c.done) l before mid m next) (sym same) (takes_all (old ++ c.done) now before mid m n next false c.takes ending memory).takes;
-}
-
--- the piece ends before the frame does
-pub completing_ends : (old piece left now new : List ℕ) (before mid : List (Result Message Error)) (m n next : Memory) → Completing old piece left now before mid m n → left ≡ [] → IsEnding false now → new ≡ now
-    → next ≡ memory_after n now (Ok None) → TakesAll (old ++ piece) new before mid m next false
-completing_ends old piece left now new before mid m n next c none ending same memory =
-    let all : piece ≡ c.done = c.whole ∙ ap (λ l. c.done ++ l) none ∙ append-nil c.done in
-    subst (λ l. TakesAll (old ++ l) new before mid m next false) (sym all) (subst (λ l. TakesAll (old ++ c.done) l before mid m next false) (sym same) (takes_all (old ++ c.done) now before mid m n next false c.takes ending memory))
+-- all of the piece was read
+pub completing_ends : (old piece left now new : List ℕ) (before mid after : List (Result Message Error)) (m n o : Memory) (stopped : Bool) → Completing old piece left now before mid m n → left ≡ []
+    → TakesAll now new mid after n o stopped → TakesAll (old ++ piece) new before after m o stopped
+completing_ends old piece left now new before mid after m n o stopped c none all =
+    let read = completing_reads old piece left now new before mid after m n o stopped c all in
+    let whole : piece ≡ read.done = read.whole ∙ ap (λ l. read.done ++ l) none ∙ append-nil read.done in
+    record { takes = subst (λ l. Takes (old ++ l) new before after m o) (sym whole) read.takes; ending = all.ending; header = all.header }
 
 -- a length fault stands there, and what is left of the piece is kept behind it
-pub completing_stops : (old piece left now new : List ℕ) (before mid : List (Result Message Error)) (m n next : Memory) → Completing old piece left now before mid m n → IsEnding true now → new ≡ now ++ left
-    → next ≡ memory_after n now (Ok None) → TakesAll (old ++ piece) new before mid m next true
-completing_stops old piece left now new before mid m n next c ending is memory =
-    let all = takes_all (old ++ c.done) now before mid m n next true c.takes ending memory in
-    let t = all.takes in
-    let behind : TakesAll ((old ++ c.done) ++ left) (now ++ left) before mid m next true = record {
-      takes = record { more = t.more; grown = t.grown; frames = frames_behind (old ++ c.done) now left t.more t.frames; fits = fits_grows next now left t.fits; counted = t.counted };
-      ending = fault_stays now left ending;
-      header = all.header ∙ sym (header_of_more now left (stopped_long true now ending refl));
+pub completing_stops : (old piece left now new kept : List ℕ) (before mid after : List (Result Message Error)) (m n o : Memory) (stopped : Bool) → Completing old piece left now before mid m n → stopped ≡ true
+    → TakesAll now new mid after n o stopped → kept ≡ new ++ left → TakesAll (old ++ piece) kept before after m o true
+completing_stops old piece left now new kept before mid after m n o stopped c stops all is =
+    let r = completing_reads old piece left now new before mid after m n o stopped c all in
+    let t = r.takes in
+    let fault : IsEnding true new = subst (λ b. IsEnding b new) stops all.ending in
+    let whole : (old ++ r.done) ++ left ≡ old ++ piece = append_assoc old r.done left ∙ ap (λ l. old ++ l) (sym r.whole) in
+    let behind : TakesAll ((old ++ r.done) ++ left) (new ++ left) before after m o true = record {
+      takes = record { more = t.more; grown = t.grown; frames = frames_behind (old ++ r.done) new left t.more t.frames; fits = fits_grows o new left t.fits; counted = t.counted };
+      ending = fault_stays new left fault;
+      header = all.header ∙ sym (header_of_more new left (stopped_long true new fault refl));
     } in
-    let whole : (old ++ c.done) ++ left ≡ old ++ piece = append_assoc old c.done left ∙ ap (λ l. old ++ l) (sym c.whole) in
-    subst (λ l. TakesAll (old ++ piece) l before mid m next true) (sym is) (subst (λ l. TakesAll l (now ++ left) before mid m next true) whole behind)
+    subst (λ l. TakesAll (old ++ piece) l before after m o true) (sym is) (subst (λ l. TakesAll l (new ++ left) before after m o true) whole behind)
 
 -- memory was refused
 pub completing_fails : (old piece left now : List ℕ) (before mid after : List (Result Message Error)) (m n : Memory) → Completing old piece left now before mid m n → after ≡ mid → TakesSome (old ++ piece) before after
@@ -231,65 +144,40 @@ completing_fails old piece left now before mid after m n c same =
     let t = c.takes in
     record { more = t.more; grown = same ∙ t.grown; left = now ++ left; frames = subst (λ l. Frames l t.more (now ++ left)) whole (frames_behind (old ++ c.done) now left t.more t.frames) }
 
--- what is left of the piece is read behind the frame
-pub completing_joins : (old piece left now new : List ℕ) (before mid after : List (Result Message Error)) (m n o : Memory) (stopped : Bool) → Completing old piece left now before mid m n → now ≡ []
-    → TakesAll left new mid after n o stopped
-    → ((bytes more rest left : List ℕ) (first second : List (Result Message Error)) → Frames bytes first rest → Frames (rest ++ more) second left → Frames (bytes ++ more) (first ++ second) left)
-    → TakesAll (old ++ piece) new before after m o stopped
-completing_joins old piece left now new before mid after m n o stopped c none all join =
-    let t = c.takes in
-    let u = all.takes in
-    let whole : (old ++ c.done) ++ left ≡ old ++ piece = append_assoc old c.done left ∙ ap (λ l. old ++ l) (sym c.whole) in
-    let first : Frames (old ++ c.done) t.more [] = subst (λ l. Frames (old ++ c.done) t.more l) none t.frames in
-    let len : length (t.more ++ u.more) ≡ length t.more + length u.more = length-append t.more u.more in
-    record {
-      takes = record {
-        more = t.more ++ u.more;
-        grown = u.grown ∙ ap (λ l. l ++ u.more) t.grown ∙ append_assoc before t.more u.more;
-        frames = subst (λ l. Frames l (t.more ++ u.more) new) whole (join (old ++ c.done) left [] new t.more u.more first u.frames);
-        fits = u.fits;
-        counted = λ k e.
-            let sum : (k + length t.more) + length u.more ≡ k + length (t.more ++ u.more) = omega (arith, len) in
-            u.counted (k + length t.more) (t.counted k e) ∙ ap (λ j. headers_read j o.header) sum;
-      };
-      ending = all.ending;
-      header = all.header;
-    }
-
-pub completing_some : (old piece left now : List ℕ) (before mid after : List (Result Message Error)) (m n : Memory) → Completing old piece left now before mid m n → now ≡ [] → TakesSome left mid after
-    → ((bytes more rest left : List ℕ) (first second : List (Result Message Error)) → Frames bytes first rest → Frames (rest ++ more) second left → Frames (bytes ++ more) (first ++ second) left)
+-- memory was refused behind some frames more
+pub completing_some : (old piece left now : List ℕ) (before mid after : List (Result Message Error)) (m n : Memory) → Completing old piece left now before mid m n → TakesSome now mid after
     → TakesSome (old ++ piece) before after
-completing_some old piece left now before mid after m n c none some join =
+completing_some old piece left now before mid after m n c some =
     let t = c.takes in
     let whole : (old ++ c.done) ++ left ≡ old ++ piece = append_assoc old c.done left ∙ ap (λ l. old ++ l) (sym c.whole) in
-    let first : Frames (old ++ c.done) t.more [] = subst (λ l. Frames (old ++ c.done) t.more l) none t.frames in
+    let frames = frames_chained (old ++ c.done) now some.left t.more some.more t.frames some.frames in
     record {
       more = t.more ++ some.more;
       grown = some.grown ∙ ap (λ l. l ++ some.more) t.grown ∙ append_assoc before t.more some.more;
-      left = some.left;
-      frames = subst (λ l. Frames l (t.more ++ some.more) some.left) whole (join (old ++ c.done) left [] some.left t.more some.more first some.frames);
+      left = some.left ++ left;
+      frames = subst (λ l. Frames l (t.more ++ some.more) (some.left ++ left)) whole (frames_behind (old ++ c.done) some.left left (t.more ++ some.more) frames);
     }
 
+-- the rest of the piece is read where nothing is kept
 pub joins_ok : (old piece left now new : List ℕ) (before mid after : List (Result Message Error)) (m n o : Memory) (result : Result Bool Error) → Completing old piece left now before mid m n → now ≡ []
-    → IfOk result (λ stopped. TakesAll left new mid after n o stopped)
-    → ((bytes more rest left : List ℕ) (first second : List (Result Message Error)) → Frames bytes first rest → Frames (rest ++ more) second left → Frames (bytes ++ more) (first ++ second) left)
-    → IfOk result (λ stopped. TakesAll (old ++ piece) new before after m o stopped)
-joins_ok old piece left now new before mid after m n o (Ok stopped) c none all join = completing_joins old piece left now new before mid after m n o stopped c none all join
-joins_ok old piece left now new before mid after m n o (Err e) c none all join = tt
+    → IfOk result (λ stopped. TakesAll left new mid after n o stopped) → IfOk result (λ stopped. TakesAll (old ++ piece) new before after m o stopped)
+joins_ok old piece left now new before mid after m n o (Ok stopped) c none all =
+    completing_ends old piece [] left new before mid after m n o stopped (completing_more old piece left left [] now left before mid m n c (sym (append-nil left)) (ap (λ l. l ++ left) (sym none))) refl all
+joins_ok old piece left now new before mid after m n o (Err e) c none all = tt
 
 pub joins_err : (old piece left now : List ℕ) (before mid after : List (Result Message Error)) (m n : Memory) (result : Result Bool Error) → Completing old piece left now before mid m n → now ≡ []
-    → OnErr result (TakesSome left mid after)
-    → ((bytes more rest left : List ℕ) (first second : List (Result Message Error)) → Frames bytes first rest → Frames (rest ++ more) second left → Frames (bytes ++ more) (first ++ second) left)
-    → OnErr result (TakesSome (old ++ piece) before after)
-joins_err old piece left now before mid after m n (Ok stopped) c none some join = tt
-joins_err old piece left now before mid after m n (Err e) c none some join = completing_some old piece left now before mid after m n c none some join
+    → OnErr result (TakesSome left mid after) → OnErr result (TakesSome (old ++ piece) before after)
+joins_err old piece left now before mid after m n (Ok stopped) c none some = tt
+joins_err old piece left now before mid after m n (Err e) c none some =
+    completing_some old piece [] left before mid after m n (completing_more old piece left left [] now left before mid m n c (sym (append-nil left)) (ap (λ l. l ++ left) (sym none))) some
 
--- nothing is remembered of no bytes
-pub forgets_none : (m : Memory) (bytes : List ℕ) → bytes ≡ [] → Fits m bytes → m.header ≡ None
-forgets_none m bytes none fits = unread m.header (subst (λ l. IfSome m.header (λ h. header_of l ≡ Some h)) none fits) where
-  unread : (known : Option (ℕ × ℕ)) → IfSome known (λ h. None ≡ Some h) → known ≡ None
-  unread None fits = refl
-  unread (Some h) fits = cc
+-- what is remembered of no bytes fits all
+pub fits_all : (m : Memory) (now left : List ℕ) → now ≡ [] → Fits m now → Fits m left
+fits_all m now left none fits = fits_grows m [] left (subst (λ l. IfSome m.header (λ h. header_of l ≡ Some h)) none fits)
+
+-- no byte more is left than stood there
+pub taken_less : (old new : List ℕ) (before after : List (Result Message Error)) (m n : Memory) (stopped : Bool) → TakesAll old new before after m n stopped → length new ≤ length old
+taken_less old new before after m n stopped all = omega (arith, ap length all.takes.frames.whole, length-append (flat_map frame_bytes all.takes.frames.frames) new)
 
 -- ---- the whole frames of a piece
 
@@ -309,9 +197,9 @@ halves piece fronts m n found all =
 pub whole_frames : (piece : List ℕ) (fronts : List Front) (m n : Memory) (found : Found) → FindsAll piece [] fronts m n found → AreFronts fronts (take found.len piece)
 whole_frames piece fronts m n found all = record { frames = all.frames; places = all.places; whole = (halves piece fronts m n found all).front; each = all.each }
 
-pub whole_taken : (piece kept : List ℕ) (fronts : List Front) (before after : List (Result Message Error)) (m n : Memory) (found : Found) → FindsAll piece [] fronts m n found → m.header ≡ None
+pub whole_taken : (piece kept : List ℕ) (fronts : List Front) (before after : List (Result Message Error)) (m n : Memory) (found : Found) → FindsAll piece [] fronts m n found
     → TakesEach (take found.len piece) before after (length fronts) → kept ≡ drop found.len piece → TakesAll piece kept before after m n found.stopped
-whole_taken piece kept fronts before after m n found all none each is =
+whole_taken piece kept fronts before after m n found all each is =
     let both = halves piece fronts m n found all in
     let rest : kept ≡ all.rest = is ∙ both.back in
     let many : length each.more ≡ length all.frames = each.count ∙ ap length all.places ∙ length-map all.frames place_of in
@@ -323,10 +211,7 @@ whole_taken piece kept fronts before after m n found all none each is =
         grown = each.grown;
         frames = subst (λ l. Frames l each.more all.rest) whole frames;
         fits = subst (λ (h : Option (ℕ × ℕ)). IfSome h (λ x. header_of all.rest ≡ Some x)) (sym all.header) (fits_itself (header_of all.rest));
-        counted = λ k c.
-            let before_it : m.headers ≡ headers_read k None = c ∙ ap (headers_read k) none in
-            let zero : headers_read k None ≡ min k (2 ^ 64 - 1) = ap (λ j. min j (2 ^ 64 - 1)) (omega arith) in
-            all.headers k (before_it ∙ zero) ∙ ap (λ j. headers_read (k + j) (header_of all.rest)) (sym many) ∙ ap (headers_read (k + length each.more)) (sym all.header);
+        counted = λ k c. all.counted k c ∙ ap (λ j. headers_read (k + j) n.header) (sym many);
       };
       ending = all.ending;
       header = all.header;

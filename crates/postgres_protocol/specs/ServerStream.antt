@@ -4,7 +4,7 @@ use Rattle.std.specs.List.{flat_map, AllByRecursion}
 use Rattle.pgp_base.specs.declared.error.Error.{Error}
 use Rattle.pgp_base.specs.declared.error.Error.TheVariants as errors
 use Rattle.pgp_message.specs.BackendMessage.{Message}
-use Rattle.pgp_message.specs.Remembered.{Memory, Fits, header_of, count_of}
+use Rattle.pgp_message.specs.Remembered.{Memory, Fits, header_of, headers_read}
 use Rattle.pgp_message.specs.Found.{place_of}
 use Rattle.pgp_message.specs.FrontReading.{Front}
 use Rattle.pgp_message.specs.Stream.{Frame, frame_bytes, IsFrame, Frames, IsEnding, BackendRun}
@@ -23,10 +23,6 @@ pub record Told : Type 0 where
   pub results : List (Result Message Error)
   pub stopped : Bool
   pub rest : List ℕ
-
--- how many headers were read where there are n results and this header stands behind them; at most the greatest u64
-abbrev pub headers_read : ℕ → Option (ℕ × ℕ) → ℕ
-headers_read n header = min (n + count_of header) (2 ^ 64 - 1)
 
 -- These bytes came. Their results are those that were taken and those that weren't, and one header was read
 -- for each, and one more where the rest has one.

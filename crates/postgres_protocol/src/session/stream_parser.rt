@@ -1,6 +1,6 @@
 //! A server's stream, read as it comes.
 
-ghost use Rattle.std.specs.Prelude.{◌≡◌, ◌∷◌, ◌++◌, [], length, map, false, None, IfOk, IfErr, OnOk, OnErr};
+ghost use Rattle.std.specs.Prelude.{◌≡◌, ◌++◌, [], length, map, false, IfOk, IfErr, OnOk, OnErr};
 ghost use Rattle.pgp_message.specs.Remembered.{Fits};
 ghost use Rattle.pgp_message.specs.Views.{seen};
 ghost use Rattle.postgres_protocol.specs.ServerStream.{HasRead, Feeds, HandsOut, TakesAll, TakesSome, AreFronts, TakesEach};
@@ -178,26 +178,41 @@ fn take_frames<A: Allocator + Copy>(
     ensures err { IfErr result (λ e. e ≡ Error.OutOfMemory) }
 {
     laws::no_frame();
-    laws::next_frame();
-    laws::frames_go_on();
     let mut left = piece;
     'cut: while !rest.is_empty() {
         let (more, after) = left.split_at(left.len().min(frames.missing(rest.len())));
         rest.extend_from_slice(more)?;
         left = after;
-        match frames.parse(rest) {
-            Ok(Some(message)) => add(results, Ok(message))?,
-            Ok(None) if left.is_empty() => return Ok(false),
-            Ok(None) => {}
-            Err(Error::InvalidLength) => {
-                rest.extend_from_slice(left)?;
-                return Ok(true);
-            }
-            Err(Error::OutOfMemory) => return Err(Error::OutOfMemory),
-            Err(e) => add(results, Err(e))?,
+        if take_kept(frames, rest, fronts, results)? {
+            rest.extend_from_slice(left)?;
+            return Ok(true);
+        }
+        if left.is_empty() {
+            return Ok(false);
         }
     }
     take_whole(frames, rest, fronts, results, left)
+}
+
+/// Takes all frames that are whole in what is kept.
+fn take_kept<A: Allocator + Copy>(
+    frames: &mut FrameParser,
+    rest: &mut BytesMut<A>,
+    fronts: &mut Vec<Front, A>,
+    results: &mut Vec<Result<Message<Bytes<A>>, Error>, A>,
+) -> Result<bool, Error>
+    requires { Fits frames.old rest.old.items }
+    ensures ok { IfOk result (λ stopped. TakesAll rest.old.items rest.new.items
+        (map seen results.old.items) (map seen results.new.items) frames.old frames.new stopped) }
+    ensures some { OnErr result (TakesSome rest.old.items (map seen results.old.items) (map seen results.new.items)) }
+    ensures err { IfErr result (λ e. e ≡ Error.OutOfMemory) }
+{
+    laws::no_frame();
+    fronts.clear();
+    let found = frames.find_all(rest.as_slice(), fronts)?;
+    let whole = rest.freeze_to(found.len)?;
+    take_each(fronts.as_slice(), whole, results)?;
+    Ok(found.stopped)
 }
 
 /// Takes all frames that are whole in a piece, and keeps the bytes behind them.
@@ -208,7 +223,7 @@ fn take_whole<A: Allocator + Copy>(
     results: &mut Vec<Result<Message<Bytes<A>>, Error>, A>,
     piece: &[u8],
 ) -> Result<bool, Error>
-    requires none { frames.old.header ≡ None }
+    requires fits { Fits frames.old piece.now }
     requires empty { rest.old.items ≡ [] }
     ensures ok { IfOk result (λ stopped. TakesAll piece.now rest.new.items
         (map seen results.old.items) (map seen results.new.items) frames.old frames.new stopped) }
@@ -219,8 +234,8 @@ fn take_whole<A: Allocator + Copy>(
     fronts.clear();
     let found = frames.find_all(piece, fronts)?;
     let (whole, cut) = piece.split_at(found.len);
-    let shared = Bytes::copy_from_slice(*rest.allocator(), whole)?;
-    take_each(fronts.as_slice(), shared, results)?;
+    let whole = Bytes::copy_from_slice(*rest.allocator(), whole)?;
+    take_each(fronts.as_slice(), whole, results)?;
     keep(rest, cut, frames.missing(cut.len()))?;
     Ok(found.stopped)
 }
@@ -259,13 +274,4 @@ fn keep<A: Allocator + Copy>(
         let _ = rest.reserve(cut.len().saturating_add(missing));
     }
     rest.extend_from_slice(cut)
-}
-
-/// Adds an item to the list.
-fn add<T: Drop, A: Allocator>(list: &mut Vec<T, A>, item: T) -> Result<(), AllocError>
-    ensures ok { OnOk result (list.new.items ≡ list.old.items ++ item ∷ []) }
-    ensures err { OnErr result (list.new.items ≡ list.old.items) }
-{
-    list.push(item)?;
-    Ok(())
 }

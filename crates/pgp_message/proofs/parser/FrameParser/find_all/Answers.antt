@@ -1,14 +1,12 @@
-use Rattle.std.proofs.Common.{◌≡◌, rules, refl, ap, ◌∙◌}
+use Rattle.std.proofs.Common.{◌≡◌, rules, refl}
 use Rattle.pgp_message.specs.FrontReading.{Front, IsFront}
-use Rattle.pgp_message.specs.Remembered.{Memory}
 use Rattle.pgp_message.proofs.FindLemmas.{Finding, finding_none, finding_more, finds_all}
 use Rattle.pgp_message.proofs.parser.FrameParser.find_all.Goals as goal
 
 pub fronts-init : goal.fronts-init
 fronts-init g c =
-    let headers : c.self.inside.headers ≡ c.args.self.now.headers = ap (λ (m : Memory). m.headers) c.self.view_is in
     record {
-      so_far = finding_none c.args.bytes.now c.args.fronts.now.items c.args.self.now.headers _ (search (rules, headers));
+      so_far = finding_none c.args.bytes.now c.args.fronts.now.items c.args.self.now _ c.requires (search rules);
       same = refl;
     }
 
@@ -17,6 +15,6 @@ fronts-preserved g c =
     let f : Front = record { tag = c.front.inside.tag; total = c.front.inside.total } in
     let front : IsFront f c.fronts.rest.now = search rules in
     record {
-      so_far = finding_more c.args.bytes.now c.fronts.rest.now _ c.args.fronts.now.items c.fronts.fronts.items c.push.new.self.items c.args.self.now.headers c.fronts.parser _ f c.fronts.invariant.so_far front (search rules) (search rules) (search rules);
+      so_far = finding_more c.args.bytes.now c.fronts.rest.now _ c.args.fronts.now.items c.fronts.fronts.items c.push.new.self.items c.args.self.now c.fronts.parser _ f c.fronts.invariant.so_far front (search rules) (search rules) (search rules);
       same = c.fronts.invariant.same;
     }
