@@ -55,8 +55,8 @@ place_of_front : (f : Front) (bytes : List ℕ) → IsFront f bytes → place_of
 place_of_front f bytes front =
     let total : length (drop 5 (take f.total bytes)) + 5 ≡ f.total = omega (arith, length-drop 5 (take f.total bytes), length-take f.total bytes, front.least, front.most) in
     ap (placed f.tag) total where
-  placed : ℕ → ℕ → Front
-  placed tag total = record { tag = tag; total = total }
+      placed : ℕ → ℕ → Front
+      placed tag total = record { tag = tag; total = total }
 
 pub finding_more : (bytes rest new : List ℕ) (before after grown : List Front) (old now next : Memory) (f : Front) → Finding bytes rest before after old now → IsFront f rest
     → new ≡ drop f.total rest → grown ≡ after ++ f ∷ [] → next ≡ record { header = None; headers = headers_after now.header (header_of rest) now.headers } → Finding bytes new before grown old next
@@ -100,6 +100,10 @@ finds_all bytes rest before after old now next found so_far ending len is =
     }
 
 -- ---- taken
+
+-- the front that was found stands there
+pub stands : (f : Front) (bytes : List ℕ) → IsFront f bytes → StandsAt f bytes
+stands f bytes front = record { frame = front_frame f bytes; rest = drop f.total bytes; place = sym (place_of_front f bytes front); whole = front.whole; fits = front.fits }
 
 length-frame_bytes : (f : Frame) → length (frame_bytes f) ≡ length f.payload + 5
 unfolding uint32

@@ -3,9 +3,13 @@ use Rattle.std.specs.Prelude.{◌≡◌, ℕ, ◌+◌, Bool, List, ◌∷◌, []
 use Rattle.std.specs.List.{flat_map, AllByRecursion}
 use Rattle.pgp_base.specs.declared.error.Error.{Error}
 use Rattle.pgp_message.specs.BackendMessage.{Message}
-use Rattle.pgp_message.specs.FrontReading.{Front}
 use Rattle.pgp_message.specs.Remembered.{Memory, header_of, headers_read}
 use Rattle.pgp_message.specs.Stream.{Frame, frame_bytes, IsFrame, IsEnding, TakesFrame}
+
+-- The place of a whole frame: its tag, and how many bytes it takes.
+pub record Front : Type 0 where
+  pub tag : ℕ
+  pub total : ℕ
 
 -- How far whole frames reach, and whether a length fault stands behind them.
 pub record Found : Type 0 where

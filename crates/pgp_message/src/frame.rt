@@ -12,15 +12,16 @@ use std::marker::Model;
 /// The most room that is asked for at a time.
 const MAX_ROOM: usize = 65536;
 
-/// A whole frame at the front of a buffer: its tag, and how many bytes it takes.
+/// A whole frame at the front of bytes.
 #[derive(Clone, Copy)]
 pub struct Front {
     pub tag: u8,
+    /// How many bytes it takes, its tag and its length counted.
     pub total: usize,
 }
 
 impl Model for Front {
-    ghost use Rattle.pgp_message.specs.FrontReading.{Front};
+    ghost use Rattle.pgp_message.specs.Found.{Front};
 
     ghost Value = { Front };
 

@@ -1,6 +1,10 @@
 mod bodies;
 
-use crate::{FrameParser, Header, Message, Messages, Storage};
+ghost use Rattle.std.specs.Prelude.{IfSome};
+ghost use Rattle.pgp_message.specs.Found.{StandsAt};
+
+use crate::frame::header_of;
+use crate::{FrameParser, Front, Header, Message, Messages, Storage};
 use bodies::{
     Read, command_complete, copy_data, copy_in, copy_out, data_row, error_response, gss_continue,
     key_data, md5_password, notice_response, notification, parameter_description, parameter_status,
@@ -589,39 +593,102 @@ fn told(list: &[Read<Bytes>], at: usize) -> Option<Result<&'static str, Error>> 
     }
 }
 
+const FOUR_AND_A_CUT_ROW: &[u8] =
+    b"\x5a\0\0\0\x06\x49\0\x31\0\0\0\x04\x43\0\0\0\x06A\0\x52\0\0\0\x08\0\0\0\0\x44\0\0\0\x13\0";
+
 #[test]
-fn shared_bytes_are_read_onto_a_list(rt: HostRuntime) -> Result<(), Fail> {
-    let bytes = b"\x5a\0\0\0\x06\x49\0\x31\0\0\0\x04\x43\0\0\0\x06A\0\x44\0\0\0\x13\0";
-    let mut bytes = Bytes::copy_from_slice(rt.alloc(), bytes)?;
+fn whole_frames_are_found_where_they_stand(rt: HostRuntime) -> Result<(), Fail> {
     let mut parser = FrameParser::new();
-    let mut list = Vec::new(rt.alloc());
-    assert_eq!(rt; parser.waits(bytes.as_slice()), false);
-    assert_eq!(rt; parser.parse_onto(&mut bytes, &mut list), Ok(true));
-    assert_eq!(rt; parser.parse_onto(&mut bytes, &mut list), Ok(true));
-    assert_eq!(rt; parser.parse_onto(&mut bytes, &mut list), Ok(true));
-    assert_eq!(rt; parser.parse_onto(&mut bytes, &mut list), Ok(false));
-    assert_eq!(rt; parser.waits(bytes.as_slice()), true);
-    assert_eq!(rt; bytes.as_slice(), b"\x44\0\0\0\x13\0".as_slice());
-    assert_eq!(rt; parser.headers(), 4);
-    assert_eq!(rt; told(list.as_slice(), 0), Some(Err(Error::NotDrained)));
-    assert_eq!(rt; told(list.as_slice(), 1), Some(Ok("ParseComplete")));
-    assert_eq!(rt; told(list.as_slice(), 2), Some(Ok("CommandComplete")));
-    assert_eq!(rt; told(list.as_slice(), 3), None);
+    let mut fronts = Vec::new(rt.alloc());
+    let found = parser.find_all(FOUR_AND_A_CUT_ROW, &mut fronts)?;
+    assert_eq!(rt; (found.len, found.stopped), (28, false));
+    assert_eq!(rt; fronts.len(), 4);
+    let places = [(0x5a, 7), (0x31, 5), (0x43, 7), (0x52, 9)];
+    for (at, place) in places.iter().enumerate() {
+        assert_eq!(rt; place_at(fronts.as_slice(), at), Some(*place));
+    }
+    assert_eq!(rt; (parser.headers(), parser.missing(6)), (5, 14));
+    Ok(())
+}
+
+/// The tag of the frame found there, and how many bytes it takes.
+fn place_at(fronts: &[Front], at: usize) -> Option<(u8, usize)> {
+    let front = fronts.get(at)?;
+    Some((front.tag, front.total))
+}
+
+#[test]
+fn a_remembered_header_is_not_read_again(rt: HostRuntime) -> Result<(), Fail> {
+    let mut parser = FrameParser::new();
+    let mut fronts = Vec::new(rt.alloc());
+    assert_eq!(rt; parser.missing(0), 5);
+    let found = parser.find_all(b"\x44\0\0", &mut fronts)?;
+    assert_eq!(rt;
+        (found.len, fronts.len(), parser.headers(), parser.missing(3)),
+        (0, 0, 0, 2)
+    );
+    let found = parser.find_all(&ROW[..5], &mut fronts)?;
+    assert_eq!(rt;
+        (found.len, fronts.len(), parser.headers(), parser.missing(5)),
+        (0, 0, 1, 15)
+    );
+    let found = parser.find_all(ROW, &mut fronts)?;
+    assert_eq!(rt; (found.len, fronts.len(), parser.headers()), (20, 1, 1));
     Ok(())
 }
 
 #[test]
-fn a_length_fault_in_shared_bytes_adds_nothing(rt: HostRuntime) -> Result<(), Fail> {
-    let mut bytes = Bytes::copy_from_slice(rt.alloc(), b"\x31\0\0\0\x03\x31\0\0\0\x04")?;
+fn a_long_frame_is_asked_for_in_parts(rt: HostRuntime) -> Result<(), Fail> {
     let mut parser = FrameParser::new();
+    let mut fronts: Vec<Front, Global> = Vec::new(rt.alloc());
+    let found = parser.find_all(b"\x64\0\x0f\x42\x40", &mut fronts)?;
+    assert_eq!(rt; (found.len, found.stopped), (0, false));
+    assert_eq!(rt; parser.missing(5), 65536);
+    assert_eq!(rt; parser.missing(1_000_000), 1);
+    assert_eq!(rt; parser.missing(1_000_001), 1);
+    Ok(())
+}
+
+#[test]
+fn a_length_fault_ends_what_is_found(rt: HostRuntime) -> Result<(), Fail> {
+    let mut parser = FrameParser::new();
+    let mut fronts = Vec::new(rt.alloc());
+    let found = parser.find_all(b"\x31\0\0\0\x04\x31\0\0\0\x03\x31\0\0\0\x04", &mut fronts)?;
+    assert_eq!(rt; (found.len, found.stopped), (5, true));
+    assert_eq!(rt; (fronts.len(), parser.headers()), (1, 2));
+    Ok(())
+}
+
+/// The first frame of the bytes.
+fn first_front(bytes: &[u8]) -> Option<Front>
+    ensures { IfSome result (λ front. StandsAt front bytes.now) }
+{
+    match Front::find(header_of(bytes), bytes) {
+        Ok(Some(front)) => Some(front),
+        _ => None,
+    }
+}
+
+#[test]
+fn found_frames_are_taken_onto_a_list(rt: HostRuntime) -> Result<(), Fail> {
+    let mut fronts = Vec::new(rt.alloc());
+    let found = FrameParser::new().find_all(FOUR_AND_A_CUT_ROW, &mut fronts)?;
+    assert_eq!(rt; found.len, 28);
+    let mut bytes = Bytes::copy_from_slice(rt.alloc(), FOUR_AND_A_CUT_ROW)?;
     let mut list = Vec::new(rt.alloc());
-    assert_eq!(rt; parser.waits(bytes.as_slice()), false);
-    assert_eq!(rt;
-        parser.parse_onto(&mut bytes, &mut list),
-        Err(Error::InvalidLength)
-    );
-    assert_eq!(rt; bytes.len(), 10);
-    assert_eq!(rt; told(list.as_slice(), 0), None);
+    for total in [7usize, 5, 7, 9] {
+        let Some(front) = first_front(bytes.as_slice()) else {
+            return Err(Error::UnexpectedEof.into());
+        };
+        assert_eq!(rt; front.total, total);
+        front.take_onto(&mut bytes, &mut list)?;
+    }
+    assert_eq!(rt; bytes.as_slice(), b"\x44\0\0\0\x13\0".as_slice());
+    assert_eq!(rt; told(list.as_slice(), 0), Some(Err(Error::NotDrained)));
+    assert_eq!(rt; told(list.as_slice(), 1), Some(Ok("ParseComplete")));
+    assert_eq!(rt; told(list.as_slice(), 2), Some(Ok("CommandComplete")));
+    assert_eq!(rt; told(list.as_slice(), 3), Some(Ok("AuthenticationOk")));
+    assert_eq!(rt; told(list.as_slice(), 4), None);
     Ok(())
 }
 

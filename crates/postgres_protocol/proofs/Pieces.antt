@@ -1,6 +1,6 @@
 -- A stream that goes on by a frame, or by a piece.
-use Rattle.std.proofs.Common.{◌≡◌, ◌≢◌, ℕ, suc, ◌+◌, ◌-◌, ◌^◌, ◌<◌, ◌≤◌, Bool, true, false, List, [], ◌∷◌, ◌++◌, length, take, drop, map, get_or, Option, Some, None, Result, Ok, Err, refl, sym, ap, subst, ◌∙◌, append_assoc, arith}
-use Rattle.std.specs.Prelude.{IfSome, IfOk, OnErr, min}
+use Rattle.std.proofs.Common.{◌≡◌, ℕ, suc, ◌+◌, ◌<◌, ◌≤◌, Bool, true, false, List, [], ◌∷◌, ◌++◌, length, take, drop, map, get_or, Option, Some, None, Result, Ok, Err, refl, sym, ap, subst, ◌∙◌, append_assoc, arith}
+use Rattle.std.specs.Prelude.{IfSome, IfOk, OnErr}
 use Rattle.std.specs.List.{flat_map, AllByRecursion}
 use Rattle.std.proofs.Math.ListN.{drop_of_length-le}
 use Rattle.std.proofs.Math.Seq.{take-append_seam, drop-append_seam, drop-cons}
@@ -10,11 +10,9 @@ use Rattle.pgp_message.specs.BackendMessage.{Message}
 use Rattle.std.proofs.lemmas.List.Concat.{flat_map-cons}
 use Rattle.std.proofs.lemmas.Grind.{flat_map-append}
 use Rattle.pgp_base.specs.Wire.{uint32}
-use Rattle.pgp_base.specs.declared.error.Error.TheVariants as errors
 use Rattle.pgp_message.specs.Remembered.{Memory, Fits, header_of, headers_read}
-use Rattle.pgp_message.specs.Found.{Found, place_of, FindsAll, StandsAt, TakesOnto}
-use Rattle.pgp_message.specs.FrontReading.{Front}
-use Rattle.pgp_message.specs.Stream.{Frame, frame_bytes, IsFrame, Frames, IsEnding, Step, TakesFrame, BackendRun}
+use Rattle.pgp_message.specs.Found.{Front, Found, place_of, FindsAll, StandsAt, TakesOnto}
+use Rattle.pgp_message.specs.Stream.{Frame, frame_bytes, IsFrame, Frames, IsEnding, TakesFrame, BackendRun}
 use Rattle.pgp_message.proofs.Fronts.{fault_stays}
 use Rattle.pgp_message.proofs.Headers.{fits_grows}
 use Rattle.pgp_message.proofs.Runs.{front_is_one, frames_join}

@@ -1,6 +1,6 @@
 -- What an array of steps comes to, alone and as the value of a message.
 use Rattle.std.proofs.Common.{◌≡◌, ℕ, ◌+◌, List, [], ◌∷◌, ◌++◌, map, length, Option, Some, None, Result, Ok, Err, Bor, MutBor, refl, sym, ap, subst, ◌∙◌, inl, inr, arith, length-append}
-use Rattle.std.proofs.lemmas.List.{append_cancel_left, map-append}
+use Rattle.std.proofs.lemmas.List.{map-id, append_cancel_left, map-append}
 use Rattle.std.proofs.lemmas.Iterator.{YieldsList, items_from_drains}
 use Rattle.std.specs.Iterator.{Yields, AlwaysYields}
 use Rattle.pgp_base.specs.declared.error.Error.{Error}
@@ -181,20 +181,16 @@ pub some_given : {U S A B : Type 0} (into_iter_gives : U → S → Type 0) (next
     → (xs : List A) (x : A) → Came into_iter_gives next_gives source xs (Some x) → (more : List B) × (ys ≡ map v xs ++ v x ∷ more)
 some_given into_iter_gives next_gives source v ys y xs x k = yields_front next_gives v k.iterator ys xs k.came.0 x k.left (y k.iterator k.from).runs k.came.1 k.came.2
 
-pub map_same : {A : Type 0} (xs : List A) → map (λ (x : A). x) xs ≡ xs
-map_same [] = refl
-map_same (x ∷ xs) = ap (λ l. x ∷ l) (map_same xs)
-
 -- the same where the items are seen as they are
 pub all_same : {U S A : Type 0} (into_iter_gives : U → S → Type 0) (next_gives : S → Option A → S → Type 0) (source : U) (ys : List A) → ((it : S) → into_iter_gives source it → YieldsList next_gives (λ (x : A). x) it ys)
     → (xs : List A) → Came into_iter_gives next_gives source xs None → xs ≡ ys
-all_same into_iter_gives next_gives source ys y xs k = sym (map_same xs) ∙ all_given into_iter_gives next_gives source (λ x. x) ys y xs k
+all_same into_iter_gives next_gives source ys y xs k = sym (map-id xs) ∙ all_given into_iter_gives next_gives source (λ x. x) ys y xs k
 
 pub some_same : {U S A : Type 0} (into_iter_gives : U → S → Type 0) (next_gives : S → Option A → S → Type 0) (source : U) (ys : List A) → ((it : S) → into_iter_gives source it → YieldsList next_gives (λ (x : A). x) it ys)
     → (xs : List A) (x : A) → Came into_iter_gives next_gives source xs (Some x) → (more : List A) × (ys ≡ xs ++ x ∷ more)
 some_same into_iter_gives next_gives source ys y xs x k =
     let m = some_given into_iter_gives next_gives source (λ x. x) ys y xs x k in
-    (m.0, m.1 ∙ ap (λ l. l ++ x ∷ m.0) (map_same xs))
+    (m.0, m.1 ∙ ap (λ l. l ++ x ∷ m.0) (map-id xs))
 
 -- of a list of one item, or of none
 pub first_of_one : {A : Type 0} (a : A) (xs : List A) (x : A) → (more : List A) × (a ∷ [] ≡ xs ++ x ∷ more) → (xs ≡ []) × (xs ++ x ∷ [] ≡ a ∷ [])

@@ -1,12 +1,11 @@
 -- What was read of a server's stream that comes in pieces.
-use Rattle.std.specs.Prelude.{◌≡◌, ℕ, ◌+◌, ◌-◌, ◌^◌, ◌≤◌, min, Bool, true, false, List, [], ◌++◌, length, map, Option, Some, None, Result, Ok, Err}
+use Rattle.std.specs.Prelude.{◌≡◌, ℕ, ◌+◌, ◌≤◌, Bool, true, false, List, [], ◌++◌, length, map, Result, Ok, Err}
 use Rattle.std.specs.List.{flat_map, AllByRecursion}
 use Rattle.pgp_base.specs.declared.error.Error.{Error}
 use Rattle.pgp_base.specs.declared.error.Error.TheVariants as errors
 use Rattle.pgp_message.specs.BackendMessage.{Message}
 use Rattle.pgp_message.specs.Remembered.{Memory, Fits, header_of, headers_read}
-use Rattle.pgp_message.specs.Found.{place_of}
-use Rattle.pgp_message.specs.FrontReading.{Front}
+use Rattle.pgp_message.specs.Found.{Front, place_of}
 use Rattle.pgp_message.specs.Stream.{Frame, frame_bytes, IsFrame, Frames, IsEnding, BackendRun}
 
 -- What a parser of pieces shows: the results that weren't handed out yet, whether a length fault stopped

@@ -1,16 +1,11 @@
-use Rattle.std.proofs.Common.{◌≡◌, ◌++◌, ◌∷◌, [], List, map, refl, sym, ap, subst, ◌∙◌, rules}
+use Rattle.std.proofs.Common.{◌≡◌, ◌++◌, ◌∷◌, [], map, sym, ap, subst, ◌∙◌, rules}
 use Rattle.std.proofs.lemmas.Iterator.Adapters.{YieldsList-from_vec}
 use Rattle.std.proofs.lemmas.Iterator.Consumers.{YieldsList-end}
-use Rattle.std.proofs.lemmas.List.{map_push}
+use Rattle.std.proofs.lemmas.List.{map-id, map_push}
 use Rattle.pgp_message.specs.Views.{seen, view}
 use Rattle.pgp_bench.specs.Pieces.{AllWeigh}
 use Rattle.pgp_bench.proofs.Feeding.{weigh_none, weigh_more}
 use Rattle.pgp_bench.proofs.pieces.weigh.Goals as goal
-
--- each item as it is
-map_same : {X : Type 0} (xs : List X) → map (λ (y : X). y) xs ≡ xs
-map_same [] = refl
-map_same (x ∷ xs) = ap (λ l. x ∷ l) (map_same xs)
 
 pub taken-init : goal.taken-init
 taken-init c = weigh_none
@@ -23,5 +18,5 @@ taken-preserved c =
 pub returns : goal.returns
 returns c =
     let end = YieldsList-end (YieldsList-from_vec c.args.results.items (search rules) (search rules)) c.taken.yielded c.taken.item-iterator c.taken.yielded_by c.next.result c.next.new.self c.in-None.is c.next.ensures.steps in
-    let all : c.taken.yielded ≡ c.args.results.items = sym (map_same c.taken.yielded) ∙ end.0 in
+    let all : c.taken.yielded ≡ c.args.results.items = sym (map-id c.taken.yielded) ∙ end.0 in
     subst (λ l. AllWeigh (map seen l) c.taken.sum) all c.taken.invariant

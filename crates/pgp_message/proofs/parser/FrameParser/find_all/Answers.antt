@@ -1,6 +1,6 @@
-use Rattle.std.proofs.Common.{◌≡◌, rules, refl}
+use Rattle.std.proofs.Common.{rules, refl}
 use Rattle.pgp_message.specs.FrontReading.{Front, IsFront}
-use Rattle.pgp_message.proofs.FindLemmas.{Finding, finding_none, finding_more, finds_all}
+use Rattle.pgp_message.proofs.FindLemmas.{finding_none, finding_more}
 use Rattle.pgp_message.proofs.parser.FrameParser.find_all.Goals as goal
 
 pub fronts-init : goal.fronts-init

@@ -1,6 +1,5 @@
 use Rattle.std.proofs.Common.{◌≡◌, ◌≤◌, length, get_or, map, rules, arith, sym, ap, subst}
-use Rattle.pgp_message.specs.Found.{StandsAt, TakesOnto}
-use Rattle.pgp_message.specs.FrontReading.{Front}
+use Rattle.pgp_message.specs.Found.{Front, StandsAt, TakesOnto}
 use Rattle.pgp_message.specs.Views.{seen}
 use Rattle.postgres_protocol.specs.ServerStream.{TakesSome}
 use Rattle.postgres_protocol.proofs.Pieces.{Taking, takes_nothing, taking_none, taking_stands, taking_more, taking_some, taking_all}

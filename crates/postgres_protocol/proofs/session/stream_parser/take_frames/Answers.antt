@@ -2,7 +2,7 @@ use Rattle.std.proofs.Common.{◌≡◌, ◌≢◌, ◌≤◌, ◌++◌, [], tru
 use Rattle.std.proofs.lemmas.List.{length-append}
 use Rattle.pgp_message.specs.Views.{seen}
 use Rattle.postgres_protocol.specs.ServerStream.{TakesAll, TakesSome}
-use Rattle.postgres_protocol.proofs.Pieces.{Completing, none_of, rejoined, completing_none, completing_more, completing_reads, completing_ends, completing_stops, completing_fails, completing_some, joins_ok, joins_err, fits_all, taken_less}
+use Rattle.postgres_protocol.proofs.Pieces.{Completing, none_of, rejoined, completing_none, completing_more, completing_reads, completing_ends, completing_stops, completing_fails, completing_some, joins_ok, joins_err, taken_less}
 use Rattle.postgres_protocol.proofs.session.stream_parser.take_frames.Goals as goal
 
 pub cut-init : goal.cut-init

@@ -1,8 +1,8 @@
 use Rattle.std.proofs.Common.{◌≡◌, [], length, take, drop, map, rules, refl, subst}
 use Rattle.pgp_message.specs.Found.{Found, FindsAll}
 use Rattle.pgp_message.specs.Views.{seen}
-use Rattle.postgres_protocol.specs.ServerStream.{AreFronts, TakesEach, TakesSome}
-use Rattle.postgres_protocol.proofs.Pieces.{takes_nothing, whole_frames, whole_taken, whole_some}
+use Rattle.postgres_protocol.specs.ServerStream.{TakesEach, TakesSome}
+use Rattle.postgres_protocol.proofs.Pieces.{takes_nothing, whole_taken, whole_some}
 use Rattle.postgres_protocol.proofs.session.stream_parser.take_whole.Goals as goal
 
 pub returns-in_err-found-clause-some : goal.returns-in_err-found-clause-some
