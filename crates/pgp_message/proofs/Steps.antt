@@ -1,5 +1,5 @@
 -- A step along a stream: a frame that was cut, and what its body says.
-use Rattle.std.proofs.Common.{◌≡◌, ℕ, ◌-◌, ◌≤◌, List, ◌++◌, take, drop, Option, Some, Result, Ok, Err, sym, ap, ◌∙◌, subst}
+use Rattle.std.proofs.Common.{◌≡◌, ℕ, ◌-◌, ◌≤◌, List, ◌++◌, take, drop, Option, Some, Result, Ok, Err, refl, sym, ap, ◌∙◌, subst}
 use Rattle.std.specs.Prelude.{◌≢◌, MatchResult, IsOkAnd, IfErr}
 use Rattle.bytes.proofs.Ranges.{drop-take_less}
 use Rattle.pgp_base.specs.declared.error.Error.{Error}
@@ -30,6 +30,12 @@ answers : {A : Type 0} (old new : List ℕ) (r : Result (code.Message.Message A)
 answers old new (Ok m) (Ok o) t e = found_here old new m o t e
 answers old new (Ok m) (Err d) t e = absurd e
 answers {A} old new (Err e) out t is = subst (λ (x : Result (Option (code.Message.Message A)) Error). Step old (parsed x) new) (sym is) (refused old new e t)
+
+-- a refusal that isn't of the whole stream is that of a frame
+pub taken_by : (old new : List ℕ) (e : Error) → e ≢ errors.OutOfMemory → e ≢ errors.InvalidLength → Step old (Err e) new → TakesFrame old (Err e) new
+taken_by old new errors.OutOfMemory p q step = absurd (p refl)
+taken_by old new errors.InvalidLength p q step = absurd (q refl)
+taken_by old new e p q step = step
 
 -- the front that was found is removed
 pub steps : {A : Type 0} (old new : List ℕ) (f : Front) (r : Result (code.Message.Message A) Error) (out : Result (Option (code.Message.Message A)) Error)

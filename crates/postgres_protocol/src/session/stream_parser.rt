@@ -180,8 +180,9 @@ fn take_frames<A: Allocator + Copy>(
     laws::no_frame();
     let mut left = piece;
     'cut: while !rest.is_empty() {
-        let (more, after) = left.split_at(left.len().min(frames.missing(rest.len())));
-        rest.extend_from_slice(more)?;
+        let missing = frames.missing(rest.len());
+        let (more, after) = left.split_at(left.len().min(missing));
+        keep(rest, more, missing - more.len())?;
         left = after;
         if take_kept(frames, rest, fronts, results)? {
             rest.extend_from_slice(left)?;
@@ -260,7 +261,7 @@ fn take_each<A: Allocator>(
     Ok(())
 }
 
-/// Keeps the front of a frame of which so many bytes are missing, with room for them.
+/// Keeps bytes of a frame behind which so many more are missing, with room for those.
 fn keep<A: Allocator + Copy>(
     rest: &mut BytesMut<A>,
     cut: &[u8],

@@ -8,8 +8,8 @@ use Rattle.postgres_protocol.proofs.session.stream_parser.take_frames.Goals as g
 pub cut-init : goal.cut-init
 cut-init g c = completing_none c.args.rest.now.items c.args.piece.now (map seen c.args.results.now.items) c.args.frames.now (c.no_frame.ensures c.args.rest.now.items) c.requires
 
-pub returns-in_err-extend_from_slice-clause-some : goal.returns-in_err-extend_from_slice-clause-some
-returns-in_err-extend_from_slice-clause-some g c =
+pub returns-in_err-keep-clause-some : goal.returns-in_err-keep-clause-some
+returns-in_err-keep-clause-some g c =
     let before = map seen c.args.results.now.items in
     let mid = map seen c.cut.results.items in
     let some : TakesSome (c.args.rest.now.items ++ c.args.piece.now) before mid = completing_fails c.args.rest.now.items c.args.piece.now c.cut.left.now c.cut.rest.items before mid mid c.args.frames.now c.cut.frames c.cut.invariant refl in
@@ -23,7 +23,7 @@ cut-preserved g c =
     let more = c.split_at.result.0.now in
     let after = c.split_at.result.1.now in
     let now = c.cut.rest.items in
-    let grown = c.extend_from_slice.new.self.items in
+    let grown = c.keep.new.rest.items in
     let before = map seen c.args.results.now.items in
     let mid = map seen c.cut.results.items in
     let read = map seen c.take_kept.new.results.items in
@@ -56,7 +56,7 @@ returns-in_err-take_kept-clause-some g c =
     let more = c.split_at.result.0.now in
     let after = c.split_at.result.1.now in
     let now = c.cut.rest.items in
-    let grown = c.extend_from_slice.new.self.items in
+    let grown = c.keep.new.rest.items in
     let before = map seen c.args.results.now.items in
     let mid = map seen c.cut.results.items in
     let read = map seen c.take_kept.new.results.items in
@@ -67,15 +67,15 @@ returns-in_err-take_kept-clause-some g c =
     let all : TakesSome (old ++ piece) before read = completing_some old piece after grown before mid read c.args.frames.now c.cut.frames reading some in
     search rules
 
-pub returns-in_err-extend_from_slice-2-clause-some : goal.returns-in_err-extend_from_slice-2-clause-some
-returns-in_err-extend_from_slice-2-clause-some g c =
+pub returns-in_err-extend_from_slice-clause-some : goal.returns-in_err-extend_from_slice-clause-some
+returns-in_err-extend_from_slice-clause-some g c =
     let old = c.args.rest.now.items in
     let piece = c.args.piece.now in
     let left = c.cut.left.now in
     let more = c.split_at.result.0.now in
     let after = c.split_at.result.1.now in
     let now = c.cut.rest.items in
-    let grown = c.extend_from_slice.new.self.items in
+    let grown = c.keep.new.rest.items in
     let before = map seen c.args.results.now.items in
     let mid = map seen c.cut.results.items in
     let read = map seen c.take_kept.new.results.items in
@@ -95,7 +95,7 @@ returns-then-branch-clause-ok g c =
     let more = c.split_at.result.0.now in
     let after = c.split_at.result.1.now in
     let now = c.cut.rest.items in
-    let grown = c.extend_from_slice.new.self.items in
+    let grown = c.keep.new.rest.items in
     let before = map seen c.args.results.now.items in
     let mid = map seen c.cut.results.items in
     let read = map seen c.take_kept.new.results.items in
@@ -104,7 +104,7 @@ returns-then-branch-clause-ok g c =
     let reading : Completing old piece after grown before mid c.args.frames.now c.cut.frames = completing_more old piece left more after now grown before mid c.args.frames.now c.cut.frames c.cut.invariant parts is in
     let new = c.take_kept.new.rest.items in
     let all : TakesAll grown new mid read c.cut.frames c.take_kept.new.frames c.in_ok-take_kept.field-0 = search rules in
-    let kept = c.extend_from_slice-then-branch.new.self.items in
+    let kept = c.extend_from_slice.new.self.items in
     let behind : kept ≡ new ++ after = search rules in
     let stops : c.in_ok-take_kept.field-0 ≡ true = search rules in
     completing_stops old piece after grown new kept before mid read c.args.frames.now c.cut.frames c.take_kept.new.frames c.in_ok-take_kept.field-0 reading stops all behind
@@ -117,7 +117,7 @@ returns-then-is_empty-clause-ok g c =
     let more = c.split_at.result.0.now in
     let after = c.split_at.result.1.now in
     let now = c.cut.rest.items in
-    let grown = c.extend_from_slice.new.self.items in
+    let grown = c.keep.new.rest.items in
     let before = map seen c.args.results.now.items in
     let mid = map seen c.cut.results.items in
     let read = map seen c.take_kept.new.results.items in
@@ -137,7 +137,7 @@ cut-smaller g c =
     let more = c.split_at.result.0.now in
     let after = c.split_at.result.1.now in
     let now = c.cut.rest.items in
-    let grown = c.extend_from_slice.new.self.items in
+    let grown = c.keep.new.rest.items in
     let mid = map seen c.cut.results.items in
     let parts : left ≡ more ++ after = rejoined left more after _ c.split_at.ensures.front c.split_at.ensures.back in
     let is : grown ≡ now ++ more = search rules in
@@ -145,5 +145,5 @@ cut-smaller g c =
     let new = c.take_kept.new.rest.items in
     let all : TakesAll grown new mid read c.cut.frames c.take_kept.new.frames c.in_ok-take_kept.field-0 = search rules in
     let full : length after ≢ 0 = search rules in
-    let some : 1 ≤ length more = omega (arith, full, c.split_at.ensures.front_len, c.min.ensures, c.missing.ensures, ap length parts, length-append more after) in
+    let some : 1 ≤ length more = omega (arith, full, c.split_at.ensures.front_len, c.min.ensures, c.missing-missing.ensures, ap length parts, length-append more after) in
     omega (arith, some, taken_less grown new mid read c.cut.frames c.take_kept.new.frames c.in_ok-take_kept.field-0 all, ap length is, length-append now more, ap length parts, length-append more after)
