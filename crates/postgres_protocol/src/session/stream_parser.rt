@@ -66,8 +66,8 @@ impl<A: Allocator + Copy> StreamParser<A> {
     ///
     /// # Errors
     ///
-    /// `OutOfMemory` where memory was refused for the piece, for a message or for the list of results. Then the parser
-    /// has failed: its results stand, but nothing more can be read. A refused frame is no error of the call: its
+    /// `OutOfMemory` where memory was refused for the piece, for a message, for room for a frame that isn't whole or for the
+    /// list of results. Then the parser has failed: its results stand, but nothing more can be read. A refused frame is no error of the call: its
     /// refusal stands among the results.
     pub fn feed(&mut self, piece: &[u8]) -> Result<(), Error>
         requires { self.old.failed ≡ false }
@@ -270,9 +270,10 @@ fn keep<A: Allocator + Copy>(
     ensures ok { OnOk result (rest.new.items ≡ rest.old.items ++ cut.now) }
     ensures err { OnErr result (rest.new.items ≡ rest.old.items) }
 {
-    if !cut.is_empty() {
-        // A refusal is told where the bytes come.
-        let _ = rest.reserve(cut.len().saturating_add(missing));
+    if cut.is_empty() {
+        return Ok(());
     }
-    rest.extend_from_slice(cut)
+    rest.reserve(cut.len().saturating_add(missing))?;
+    rest.extend_reserved(cut);
+    Ok(())
 }
