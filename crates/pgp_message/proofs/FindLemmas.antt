@@ -1,35 +1,43 @@
 -- Frames that are found at the front of bytes, and taken off.
-use Rattle.std.proofs.Common.{◌≡◌, ℕ, ◌+◌, ◌-◌, ◌≤◌, List, [], ◌∷◌, ◌++◌, length, take, drop, map, Option, Some, None, Result, refl, sym, ap, subst, ◌∙◌, append_assoc, arith}
+use Rattle.std.proofs.Common.{◌≡◌, ℕ, ◌+◌, ◌-◌, ◌^◌, ◌<◌, ◌≤◌, min, List, [], ◌∷◌, ◌++◌, length, take, drop, map, Option, Some, None, Result, refl, sym, ap, subst, ◌∙◌, append_assoc, arith}
 use Rattle.std.specs.Prelude.{IfSome}
 use Rattle.std.specs.List.{flat_map, AllByRecursion}
 use Rattle.std.proofs.Math.Seq.{take-append_seam, drop-append_seam}
-use Rattle.std.proofs.lemmas.List.{append-nil, length-append, length-drop, length-take, map_push}
+use Rattle.std.proofs.lemmas.List.{append-nil, drop-drop, length-append, length-drop, length-take, map_push}
 use Rattle.pgp_base.specs.Wire.{uint32}
 use Rattle.pgp_base.specs.declared.error.Error.{Error}
 use Rattle.pgp_message.specs.BackendMessage.{Message}
-use Rattle.pgp_message.specs.Found.{Found, place_of, FindsAll, StandsAt, TakesOnto}
+use Rattle.pgp_message.specs.Found.{Found, place_of, FindsAll, FindsSome, StandsAt, TakesOnto}
 use Rattle.pgp_message.specs.FrontReading.{Front, IsFront, front_frame}
 use Rattle.pgp_message.specs.Reading.{body_of}
-use Rattle.pgp_message.specs.Remembered.{Memory, Fits, header_of, headers_after, headers_read}
+use Rattle.pgp_message.specs.Remembered.{Memory, Fits, header_of, headers_after, count_of}
 use Rattle.pgp_message.specs.Stream.{Frame, frame_bytes, IsFrame, IsEnding, TakesFrame}
 use Rattle.pgp_message.proofs.Headers.{header_of_long}
 use Rattle.pgp_message.proofs.Runs.{each_push, pushed, same_frame}
-use Rattle.pgp_message.proofs.Steps.{takes}
+use Rattle.pgp_message.proofs.Steps.{takes, payload_of_front}
 
 -- ---- found
 
--- a frame was removed, whose header is read
-pub counted_frame : (known here : Option (ℕ × ℕ)) (j n : ℕ) (h : ℕ × ℕ) → here ≡ Some h → n ≡ headers_read j known → headers_after known here n ≡ headers_read (j + 1) None
-counted_frame None None j n h e c = cc
-counted_frame None (Some x) j n h e c = omega (arith, c)
-counted_frame (Some y) here j n h e c = omega (arith, c)
+-- how many headers are read: one where none is remembered and one stands there
+abbrev fresh : Option (ℕ × ℕ) → Option (ℕ × ℕ) → ℕ
+fresh None (Some header) = 1
+fresh known here = 0
 
--- the bytes were left
-pub counted_left : (known here : Option (ℕ × ℕ)) (j n : ℕ) → IfSome known (λ h. here ≡ Some h) → n ≡ headers_read j known → headers_after known here n ≡ headers_read j here
-counted_left None None j n fits c = c
-counted_left None (Some x) j n fits c = omega (arith, c)
-counted_left (Some y) None j n fits c = cc
-counted_left (Some y) (Some x) j n fits c = c
+fresh_counts : (known here : Option (ℕ × ℕ)) (n : ℕ) → n ≤ 2 ^ 64 - 1 → headers_after known here n ≡ min (n + fresh known here) (2 ^ 64 - 1)
+fresh_counts None None n most = omega (arith, most)
+fresh_counts None (Some x) n most = refl
+fresh_counts (Some y) here n most = omega (arith, most)
+
+fresh_frame : (known here : Option (ℕ × ℕ)) (h : ℕ × ℕ) → here ≡ Some h → count_of known + fresh known here ≡ 1
+fresh_frame None None h e = cc
+fresh_frame None (Some x) h e = refl
+fresh_frame (Some y) here h e = refl
+
+fresh_left : (known here : Option (ℕ × ℕ)) → IfSome known (λ h. here ≡ Some h) → count_of known + fresh known here ≡ count_of here
+fresh_left None None fits = refl
+fresh_left None (Some x) fits = refl
+fresh_left (Some y) None fits = cc
+fresh_left (Some y) (Some x) fits = refl
 
 -- these frames were found, and the rest is still to be read
 pub record Finding (bytes rest : List ℕ) (before after : List Front) (old now : Memory) : Type 0 where
@@ -38,7 +46,9 @@ pub record Finding (bytes rest : List ℕ) (before after : List Front) (old now 
   pub each : AllByRecursion IsFrame frames
   pub places : after ≡ before ++ map place_of frames
   pub fits : Fits now rest
-  pub counted : (k : ℕ) → old.headers ≡ headers_read k old.header → now.headers ≡ headers_read (k + length frames) now.header
+  pub read : ℕ
+  pub one_each : count_of old.header + read ≡ length frames + count_of now.header
+  pub counted : old.headers < 2 ^ 64 → now.headers ≡ min (old.headers + read) (2 ^ 64 - 1)
 
 pub finding_none : (bytes : List ℕ) (before : List Front) (old now : Memory) → Fits old bytes → now ≡ old → Finding bytes bytes before before old now
 finding_none bytes before old now fits same = subst (λ (m : Memory). Finding bytes bytes before before old m) (sym same) (record {
@@ -47,7 +57,9 @@ finding_none bytes before old now fits same = subst (λ (m : Memory). Finding by
   each = tt;
   places = sym (append-nil before);
   fits = fits;
-  counted = λ k c. c ∙ ap (λ j. headers_read j old.header) (omega arith);
+  read = 0;
+  one_each = omega arith;
+  counted = λ most. omega (arith, most);
 })
 
 -- the place of a front's frame is the front
@@ -74,11 +86,9 @@ finding_more bytes rest new before after grown old now next f so_far front left 
       each = each_push so_far.frames frame so_far.each front.fits;
       places = joined ∙ ap (λ l. l ++ f ∷ []) so_far.places ∙ append_assoc before (map place_of so_far.frames) (f ∷ []) ∙ ap (λ l. before ++ l) (sym places);
       fits = subst (λ (h : Option (ℕ × ℕ)). IfSome h (λ x. header_of new ≡ Some x)) (sym none) tt;
-      counted = λ k c.
-          let j = k + length so_far.frames in
-          let one = counted_frame now.header (header_of rest) j now.headers _ (header_of_long rest long) (so_far.counted k c) in
-          let sum : j + 1 ≡ k + length (so_far.frames ++ frame ∷ []) = omega (arith, more) in
-          ap (λ (m : Memory). m.headers) is ∙ one ∙ ap (λ i. headers_read i None) sum ∙ ap (headers_read (k + length (so_far.frames ++ frame ∷ []))) (sym none);
+      read = so_far.read + fresh now.header (header_of rest);
+      one_each = omega (arith, so_far.one_each, fresh_frame now.header (header_of rest) _ (header_of_long rest long), more, ap count_of none);
+      counted = λ most. omega (arith, ap (λ (m : Memory). m.headers) is, fresh_counts now.header (header_of rest) now.headers (omega (arith, so_far.counted most)), so_far.counted most);
     }
 
 pub finds_all : (bytes rest : List ℕ) (before after : List Front) (old now next : Memory) (found : Found) → Finding bytes rest before after old now → IsEnding found.stopped rest
@@ -94,10 +104,13 @@ finds_all bytes rest before after old now next found so_far ending len is =
       len = omega (arith, len, ap length so_far.whole, length-append (flat_map frame_bytes so_far.frames) rest);
       ending = ending;
       header = header;
-      counted = λ k c.
-          let j = k + length so_far.frames in
-          ap (λ (m : Memory). m.headers) is ∙ counted_left now.header (header_of rest) j now.headers so_far.fits (so_far.counted k c) ∙ ap (headers_read j) (sym header);
+      read = so_far.read + fresh now.header (header_of rest);
+      one_each = omega (arith, so_far.one_each, fresh_left now.header (header_of rest) so_far.fits, ap count_of header);
+      counted = λ most. omega (arith, ap (λ (m : Memory). m.headers) is, fresh_counts now.header (header_of rest) now.headers (omega (arith, so_far.counted most)), so_far.counted most);
     }
+
+pub finds_some : (bytes rest : List ℕ) (before after grown : List Front) (old now : Memory) → Finding bytes rest before after old now → grown ≡ after → FindsSome bytes before grown
+finds_some bytes rest before after grown old now so_far same = record { frames = so_far.frames; rest = rest; whole = so_far.whole; each = so_far.each; places = same ∙ so_far.places }
 
 -- ---- taken
 
@@ -127,6 +140,16 @@ front_there f bytes there =
       least = omega (arith, total, length-frame_bytes frame);
       most = omega (arith, total, ap length there.whole, length-append (frame_bytes frame) there.rest);
     }
+
+-- the frame that stands further on ends within the bytes
+pub ends_within : (f : Front) (bytes : List ℕ) (at : ℕ) → IsFront f (drop at bytes) → at + f.total ≤ length bytes
+ends_within f bytes at front = omega (arith, front.least, front.most, length-drop at bytes)
+
+-- its payload, as it is sliced
+pub payload_at : (bytes all : List ℕ) (at t : ℕ) → 5 ≤ t → bytes ≡ all → take (at + t - (at + 5)) (drop (at + 5) bytes) ≡ drop 5 (take t (drop at all))
+payload_at bytes all at t least same =
+    let less : at + t - (at + 5) ≡ t - 5 = omega (arith, least) in
+    ap (λ n. take n (drop (at + 5) bytes)) less ∙ ap (take (t - 5)) (sym (drop-drop 5 at bytes)) ∙ payload_of_front (drop at bytes) (drop at all) t least (ap (drop at) same)
 
 pub takes_onto : (old new : List ℕ) (f : Front) (r : Result Message Error) (before after : List (Result Message Error)) → IsFront f old → new ≡ drop f.total old
     → r ≡ body_of f.tag (drop 5 (take f.total old)) → after ≡ before ++ r ∷ [] → TakesOnto old new before after

@@ -1,9 +1,9 @@
 -- Whole frames that are found at the front of bytes, and then taken off.
-use Rattle.std.specs.Prelude.{◌≡◌, ℕ, ◌+◌, Bool, List, ◌∷◌, [], ◌++◌, length, map, Result}
+use Rattle.std.specs.Prelude.{◌≡◌, ℕ, ◌+◌, ◌-◌, ◌^◌, ◌<◌, min, Bool, List, ◌∷◌, [], ◌++◌, length, map, Result}
 use Rattle.std.specs.List.{flat_map, AllByRecursion}
 use Rattle.pgp_base.specs.declared.error.Error.{Error}
 use Rattle.pgp_message.specs.BackendMessage.{Message}
-use Rattle.pgp_message.specs.Remembered.{Memory, header_of, headers_read}
+use Rattle.pgp_message.specs.Remembered.{Memory, header_of, count_of}
 use Rattle.pgp_message.specs.Stream.{Frame, frame_bytes, IsFrame, IsEnding, TakesFrame}
 
 -- The place of a whole frame: its tag, and how many bytes it takes.
@@ -20,8 +20,8 @@ pub record Found : Type 0 where
 abbrev pub place_of : Frame → Front
 place_of f = record { tag = f.tag; total = length f.payload + 5 }
 
--- The bytes are frames and what ends them. The place of each frame joins the list. In all one header was read for each, and
--- one more where the end has one, which is remembered.
+-- The bytes are frames and what ends them. The place of each frame joins the list. The header behind them is remembered. With the one
+-- that was remembered before, the headers that were read are one for each frame and that one; the count stays at the greatest u64.
 pub record FindsAll (bytes : List ℕ) (before after : List Front) (old new : Memory) (found : Found) : Type 0 where
   pub frames : List Frame
   pub rest : List ℕ
@@ -31,7 +31,17 @@ pub record FindsAll (bytes : List ℕ) (before after : List Front) (old new : Me
   pub len : found.len ≡ length (flat_map frame_bytes frames)
   pub ending : IsEnding found.stopped rest
   pub header : new.header ≡ header_of rest
-  pub counted : (k : ℕ) → old.headers ≡ headers_read k old.header → new.headers ≡ headers_read (k + length frames) new.header
+  pub read : ℕ
+  pub one_each : count_of old.header + read ≡ length frames + count_of new.header
+  pub counted : old.headers < 2 ^ 64 → new.headers ≡ min (old.headers + read) (2 ^ 64 - 1)
+
+-- The bytes begin with some frames, and the place of each joins the list.
+pub record FindsSome (bytes : List ℕ) (before after : List Front) : Type 0 where
+  pub frames : List Frame
+  pub rest : List ℕ
+  pub whole : bytes ≡ flat_map frame_bytes frames ++ rest
+  pub each : AllByRecursion IsFrame frames
+  pub places : after ≡ before ++ map place_of frames
 
 -- the frame of this place is the first of the bytes
 pub record StandsAt (front : Front) (bytes : List ℕ) : Type 0 where

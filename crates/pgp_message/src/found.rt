@@ -1,13 +1,13 @@
 //! Frames that were found in a slice, and then taken off shared bytes.
 
-ghost use Rattle.std.specs.Prelude.{◌≡◌, map, OnOk, OnErr};
+ghost use Rattle.std.specs.Prelude.{◌≡◌, ◌+◌, drop, map, IfOk, OnErr};
 ghost use Rattle.pgp_message.specs.Found.{StandsAt, TakesOnto};
 ghost use Rattle.pgp_message.specs.Views.{seen};
 
 use crate::frame::Front;
 use crate::message::{Message, body, keeps_bytes, plain_onto};
 use crate::tag::AUTHENTICATION_TAG;
-use bytes::{Buf, Bytes};
+use bytes::Bytes;
 use pgp_base::Error;
 use std::alloc::{AllocError, Allocator};
 use std::marker::Model;
@@ -32,33 +32,35 @@ impl Model for Found {
 }
 
 impl Front {
-    /// Takes this frame, which stands at the front, off shared bytes, and adds its message, or the refusal of its body,
-    /// to the list.
+    /// Adds the message of this frame, which stands at `at` in shared bytes, or the refusal of its body, to the list, and
+    /// answers where the frame ends.
     ///
     /// # Errors
     ///
-    /// `AllocError` where memory was refused. The bytes and the list stay as they are.
+    /// `AllocError` where memory was refused. The list stays as it is.
     pub fn take_onto<A: Allocator>(
         self,
-        bytes: &mut Bytes<A>,
+        bytes: &Bytes<A>,
+        at: usize,
         results: &mut Vec<Result<Message<Bytes<A>>, Error>, A>,
-    ) -> Result<(), AllocError>
-        requires { StandsAt self bytes.old }
-        ensures ok { OnOk result (TakesOnto bytes.old bytes.new (map seen results.old.items) (map seen results.new.items)) }
-        ensures bytes { OnErr result (bytes.new ≡ bytes.old) }
+    ) -> Result<usize, AllocError>
+        requires { StandsAt self (drop at bytes.now) }
+        ensures end { IfOk result (λ end. end ≡ at + self.total) }
+        ensures ok { IfOk result (λ end. TakesOnto (drop at bytes.now) (drop end bytes.now)
+            (map seen results.old.items) (map seen results.new.items)) }
         ensures list { OnErr result (map seen results.new.items ≡ map seen results.old.items) }
     {
         results.reserve(1)?;
-        let payload = &bytes.as_slice()[5..self.total];
+        let all = bytes.as_slice();
+        let end = at + self.total;
+        let payload = &all[at + 5..end];
         // Requests of authentication are rare: without them the answers of this branch stay in registers.
         if self.tag != AUTHENTICATION_TAG && !keeps_bytes(self.tag, payload) {
             plain_onto(results, self.tag, payload);
-            bytes.advance(self.total);
-            return Ok(());
+            return Ok(end);
         }
-        let mut payload = bytes.split_to(self.total)?;
-        payload.advance(5);
+        let payload = bytes.slice(at + 5..end)?;
         results.push_reserved(body(self.tag, payload));
-        Ok(())
+        Ok(end)
     }
 }

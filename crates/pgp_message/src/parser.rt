@@ -2,7 +2,7 @@
 
 ghost use Rattle.std.specs.Prelude.{◌≡◌, ◌↔◌, IsTrue, Ok, Err, None, IfOk, OnErr, max, min};
 ghost use Rattle.pgp_base.specs.Wire.{IsBytes};
-ghost use Rattle.pgp_message.specs.Found.{FindsAll};
+ghost use Rattle.pgp_message.specs.Found.{FindsAll, FindsSome};
 ghost use Rattle.pgp_message.specs.Remembered.{Fits, header_of, headers_after, memory_after, missing_of};
 ghost use Rattle.pgp_message.specs.Stream.{Step, IsPartial, IsLengthFault};
 ghost use Rattle.pgp_message.specs.Views.{parsed};
@@ -109,7 +109,7 @@ impl FrameParser {
     ///
     /// # Errors
     ///
-    /// `AllocError` where the list couldn't grow. Then nothing was read.
+    /// `AllocError` where the list couldn't grow. Then it has some of the places, and the parser stays as it was.
     pub fn find_all<A: Allocator>(
         &mut self,
         bytes: &[u8],
@@ -118,6 +118,7 @@ impl FrameParser {
         requires { Fits self.old bytes.now }
         ensures ok { IfOk result (FindsAll bytes.now fronts.old.items fronts.new.items self.old self.new) }
         ensures err { OnErr result (self.new ≡ self.old) }
+        ensures some { OnErr result (FindsSome bytes.now fronts.old.items fronts.new.items) }
     {
         let mut parser = FrameParser {
             header: self.header,

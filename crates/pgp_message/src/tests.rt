@@ -1,6 +1,6 @@
 mod bodies;
 
-ghost use Rattle.std.specs.Prelude.{IfSome};
+ghost use Rattle.std.specs.Prelude.{◌≤◌, length, drop, IfSome};
 ghost use Rattle.pgp_message.specs.Found.{StandsAt};
 
 use crate::frame::header_of;
@@ -659,11 +659,13 @@ fn a_length_fault_ends_what_is_found(rt: HostRuntime) -> Result<(), Fail> {
     Ok(())
 }
 
-/// The first frame of the bytes.
-fn first_front(bytes: &[u8]) -> Option<Front>
-    ensures { IfSome result (λ front. StandsAt front bytes.now) }
+/// The frame that stands there in the bytes.
+fn front_at(bytes: &[u8], at: usize) -> Option<Front>
+    requires { at ≤ length bytes.now }
+    ensures { IfSome result (λ front. StandsAt front (drop at bytes.now)) }
 {
-    match Front::find(header_of(bytes), bytes) {
+    let (_, here) = bytes.split_at(at);
+    match Front::find(header_of(here), here) {
         Ok(Some(front)) => Some(front),
         _ => None,
     }
@@ -674,16 +676,15 @@ fn found_frames_are_taken_onto_a_list(rt: HostRuntime) -> Result<(), Fail> {
     let mut fronts = Vec::new(rt.alloc());
     let found = FrameParser::new().find_all(FOUR_AND_A_CUT_ROW, &mut fronts)?;
     assert_eq!(rt; found.len, 28);
-    let mut bytes = Bytes::copy_from_slice(rt.alloc(), FOUR_AND_A_CUT_ROW)?;
+    let bytes = Bytes::copy_from_slice(rt.alloc(), FOUR_AND_A_CUT_ROW)?;
     let mut list = Vec::new(rt.alloc());
-    for total in [7usize, 5, 7, 9] {
-        let Some(front) = first_front(bytes.as_slice()) else {
+    for (at, end) in [(0usize, 7usize), (7, 12), (12, 19), (19, 28)] {
+        assert!(rt; at <= bytes.len());
+        let Some(front) = front_at(bytes.as_slice(), at) else {
             return Err(Error::UnexpectedEof.into());
         };
-        assert_eq!(rt; front.total, total);
-        front.take_onto(&mut bytes, &mut list)?;
+        assert_eq!(rt; front.take_onto(&bytes, at, &mut list)?, end);
     }
-    assert_eq!(rt; bytes.as_slice(), b"\x44\0\0\0\x13\0".as_slice());
     assert_eq!(rt; told(list.as_slice(), 0), Some(Err(Error::NotDrained)));
     assert_eq!(rt; told(list.as_slice(), 1), Some(Ok("ParseComplete")));
     assert_eq!(rt; told(list.as_slice(), 2), Some(Ok("CommandComplete")));

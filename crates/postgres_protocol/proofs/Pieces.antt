@@ -1,10 +1,10 @@
 -- A stream that goes on by a frame, or by a piece.
-use Rattle.std.proofs.Common.{◌≡◌, ℕ, suc, ◌+◌, ◌<◌, ◌≤◌, Bool, true, false, List, [], ◌∷◌, ◌++◌, length, take, drop, map, get_or, Option, Some, None, Result, Ok, Err, refl, sym, ap, subst, ◌∙◌, append_assoc, arith}
-use Rattle.std.specs.Prelude.{IfSome, IfOk, OnErr}
+use Rattle.std.proofs.Common.{◌≡◌, ℕ, suc, ◌+◌, ◌<◌, ◌≤◌, Bool, true, false, List, [], ◌∷◌, ◌++◌, length, take, drop, map, get_or, Option, Some, None, Result, refl, sym, ap, subst, ◌∙◌, append_assoc, arith}
+use Rattle.std.specs.Prelude.{IfSome}
 use Rattle.std.specs.List.{flat_map, AllByRecursion}
 use Rattle.std.proofs.Math.ListN.{drop_of_length-le}
-use Rattle.std.proofs.Math.Seq.{take-append_seam, drop-append_seam, drop-cons}
-use Rattle.std.proofs.lemmas.List.{take_more, take-append-drop, append-nil, length-append, length-map}
+use Rattle.std.proofs.Math.Seq.{take-append_seam, drop-append_seam, drop-cons, take-length}
+use Rattle.std.proofs.lemmas.List.{take_more, take-append-drop, append-nil, length-append, length-drop, length-map}
 use Rattle.pgp_base.specs.declared.error.Error.{Error}
 use Rattle.pgp_message.specs.BackendMessage.{Message}
 use Rattle.std.proofs.lemmas.List.Concat.{flat_map-cons}
@@ -16,7 +16,7 @@ use Rattle.pgp_message.specs.Stream.{Frame, frame_bytes, IsFrame, Frames, IsEndi
 use Rattle.pgp_message.proofs.Fronts.{fault_stays}
 use Rattle.pgp_message.proofs.Headers.{fits_grows}
 use Rattle.pgp_message.proofs.Runs.{front_is_one, frames_join}
-use Rattle.postgres_protocol.specs.ServerStream.{Reading, GoesOn, Fails, Takes, TakesAll, TakesSome, AreFronts, TakesEach}
+use Rattle.postgres_protocol.specs.ServerStream.{Reading, GoesOn, Fails, Takes, TakesAll, TakesSome, Moves, TakesPart, ready, AreFronts, TakesEach}
 
 -- a header fits itself
 fits_itself : (here : Option (ℕ × ℕ)) → IfSome here (λ h. here ≡ Some h)
@@ -70,14 +70,6 @@ completing_none old piece before m none fits =
       counted = λ k c. c ∙ ap (λ j. headers_read j m.header) (omega arith);
     } in
     record { done = []; whole = refl; takes = subst (λ l. Takes l old before before m m) (sym (append-nil old)) nothing }
-
-pub none_of : (l : List ℕ) → length l ≡ 0 → l ≡ []
-none_of [] h = refl
-none_of (x ∷ l) h = absurd (omega (arith, h))
-
--- the two parts of what is left
-pub rejoined : (left more after : List ℕ) (k : ℕ) → more ≡ take k left → after ≡ drop k left → left ≡ more ++ after
-rejoined left more after k front back = sym (take-append-drop k left) ∙ ap (λ l. l ++ drop k left) (sym front) ∙ ap (λ l. more ++ l) (sym back)
 
 -- more of the piece is read
 pub completing_more : (old piece left more after now grown : List ℕ) (before mid : List (Result Message Error)) (m n : Memory) → Completing old piece left now before mid m n → left ≡ more ++ after
@@ -156,26 +148,89 @@ completing_some old piece left now before mid after m n c some =
       frames = subst (λ l. Frames l (t.more ++ some.more) (some.left ++ left)) whole (frames_behind (old ++ c.done) some.left left (t.more ++ some.more) frames);
     }
 
--- the rest of the piece is read where nothing is kept
-pub joins_ok : (old piece left now new : List ℕ) (before mid after : List (Result Message Error)) (m n o : Memory) (result : Result Bool Error) → Completing old piece left now before mid m n → now ≡ []
-    → IfOk result (λ stopped. TakesAll left new mid after n o stopped) → IfOk result (λ stopped. TakesAll (old ++ piece) new before after m o stopped)
-joins_ok old piece left now new before mid after m n o (Ok stopped) c none all =
-    completing_ends old piece [] left new before mid after m n o stopped (completing_more old piece left left [] now left before mid m n c (sym (append-nil left)) (ap (λ l. l ++ left) (sym none))) refl all
-joins_ok old piece left now new before mid after m n o (Err e) c none all = tt
+-- so many bytes moved behind what is kept
+pub completing_moved : (old piece left behind now grown : List ℕ) (before mid : List (Result Message Error)) (m n : Memory) (k : ℕ) → Completing old piece left now before mid m n → Moves now grown left k → behind ≡ drop k left
+    → Completing old piece behind grown before mid m n
+completing_moved old piece left behind now grown before mid m n k c moves is =
+    completing_more old piece left (take k left) behind now grown before mid m n c (sym (take-append-drop k left) ∙ ap (λ l. take k left ++ l) (sym is)) moves.grown
 
-pub joins_err : (old piece left now : List ℕ) (before mid after : List (Result Message Error)) (m n : Memory) (result : Result Bool Error) → Completing old piece left now before mid m n → now ≡ []
-    → OnErr result (TakesSome left mid after) → OnErr result (TakesSome (old ++ piece) before after)
-joins_err old piece left now before mid after m n (Ok stopped) c none some = tt
-joins_err old piece left now before mid after m n (Err e) c none some =
-    completing_some old piece [] left before mid after m n (completing_more old piece left left [] now left before mid m n c (sym (append-nil left)) (ap (λ l. l ++ left) (sym none))) some
+-- the bytes that a part of the reading uses are told
+used_part : (old piece left after now : List ℕ) (before mid : List (Result Message Error)) (m n : Memory) (k : ℕ) → Completing old piece left now before mid m n → after ≡ drop k left
+    → Completing old piece after (now ++ take k left) before mid m n
+used_part old piece left after now before mid m n k c is =
+    completing_more old piece left (take k left) after now (now ++ take k left) before mid m n c (sym (take-append-drop k left) ∙ ap (λ l. take k left ++ l) (sym is)) refl
+
+pub part_read : (old piece left after now new : List ℕ) (before mid read : List (Result Message Error)) (m n o : Memory) (told : ℕ × Bool) → Completing old piece left now before mid m n → TakesPart now new left mid read n o told
+    → after ≡ drop told.0 left → Completing old piece after new before read m o
+part_read old piece left after now new before mid read m n o told c part is =
+    completing_reads old piece after (now ++ take told.0 left) new before mid read m n o told.1 (used_part old piece left after now before mid m n told.0 c is) part.all
+
+pub part_ends : (old piece left after now new : List ℕ) (before mid read : List (Result Message Error)) (m n o : Memory) (told : ℕ × Bool) → Completing old piece left now before mid m n → TakesPart now new left mid read n o told
+    → after ≡ drop told.0 left → after ≡ [] → told.1 ≡ false → TakesAll (old ++ piece) new before read m o false
+part_ends old piece left after now new before mid read m n o told c part is none goes =
+    subst (λ b. TakesAll (old ++ piece) new before read m o b) goes
+    (completing_ends old piece after (now ++ take told.0 left) new before mid read m n o told.1 (used_part old piece left after now before mid m n told.0 c is) none part.all)
+
+pub part_stops : (old piece left after now new kept : List ℕ) (before mid read : List (Result Message Error)) (m n o : Memory) (told : ℕ × Bool) → Completing old piece left now before mid m n → TakesPart now new left mid read n o told
+    → after ≡ drop told.0 left → told.1 ≡ true → kept ≡ new ++ after → TakesAll (old ++ piece) kept before read m o true
+part_stops old piece left after now new kept before mid read m n o told c part is stops behind =
+    completing_stops old piece after (now ++ take told.0 left) new kept before mid read m n o told.1 (used_part old piece left after now before mid m n told.0 c is) stops part.all behind
+
+pub part_fails : (old piece left now : List ℕ) (before mid read : List (Result Message Error)) (m n : Memory) → Completing old piece left now before mid m n → TakesSome (now ++ left) mid read → TakesSome (old ++ piece) before read
+part_fails old piece left now before mid read m n c some =
+    completing_some old piece [] (now ++ left) before mid read m n (completing_more old piece left left [] now (now ++ left) before mid m n c (sym (append-nil left)) refl) some
+
+-- a part goes on only behind a frame that was completed
+pub part_shorter : (now grown left behind after new : List ℕ) (mid read : List (Result Message Error)) (n o : Memory) (k : ℕ) (told : ℕ × Bool) → Moves now grown left k → behind ≡ drop k left → TakesPart grown new behind mid read n o told
+    → after ≡ drop told.0 behind → 0 < length after → length after < length left
+part_shorter [] grown left behind after new mid read n o k told moves is part rest more =
+    let none : k ≡ 0 = moves.none refl in
+    let empty : grown ≡ [] = moves.grown ∙ ap (λ j. take j left) none in
+    absurd (omega (arith, more, ap length rest, length-drop told.0 behind, part.last empty))
+part_shorter (b ∷ now) grown left behind after new mid read n o k told moves is part rest more =
+    omega (arith, more, ap length rest, length-drop told.0 behind, ap length is, length-drop k left, moves.some (omega arith) (omega (arith, more, ap length rest, length-drop told.0 behind, ap length is, length-drop k left)))
+
+-- ---- what is read next
+
+pub ready_kept : (old piece : List ℕ) → 0 < length old → ready old piece ≡ old
+ready_kept [] piece h = absurd (omega (arith, h))
+ready_kept (b ∷ old) piece h = refl
+
+pub ready_piece : (old piece : List ℕ) → length old ≡ 0 → ready old piece ≡ piece
+ready_piece [] piece h = refl
+ready_piece (b ∷ old) piece h = absurd (omega (arith, h))
 
 -- what is remembered of no bytes fits all
-pub fits_all : (m : Memory) (now left : List ℕ) → now ≡ [] → Fits m now → Fits m left
-fits_all m now left none fits = fits_grows m [] left (subst (λ l. IfSome m.header (λ h. header_of l ≡ Some h)) none fits)
+pub fits_ready : (m : Memory) (old piece : List ℕ) → Fits m old → Fits m (ready old piece)
+fits_ready m [] piece fits = fits_grows m [] piece fits
+fits_ready m (b ∷ old) piece fits = fits
 
--- no byte more is left than stood there
-pub taken_less : (old new : List ℕ) (before after : List (Result Message Error)) (m n : Memory) (stopped : Bool) → TakesAll old new before after m n stopped → length new ≤ length old
-taken_less old new before after m n stopped all = omega (arith, ap length all.takes.frames.whole, length-append (flat_map frame_bytes all.takes.frames.frames) new)
+pub some_of_ready : (old piece : List ℕ) (before after : List (Result Message Error)) → TakesSome (ready old piece) before after → TakesSome (old ++ piece) before after
+some_of_ready [] piece before after some = some
+some_of_ready (b ∷ old) piece before after some = record { more = some.more; grown = some.grown; left = some.left ++ piece; frames = frames_behind (b ∷ old) some.left piece some.more some.frames }
+
+-- the frames of what is kept were taken, and no byte of the piece
+pub part_of_kept : (old new piece : List ℕ) (before after : List (Result Message Error)) (m n : Memory) (stopped : Bool) → 0 < length old → TakesAll old new before after m n stopped
+    → TakesPart old new piece before after m n (0, stopped)
+part_of_kept old new piece before after m n stopped some all = record {
+  most = omega arith;
+  all = subst (λ l. TakesAll l new before after m n stopped) (sym (append-nil old)) all;
+  last = λ none. absurd (omega (arith, some, ap length none));
+}
+
+-- those of the whole piece were taken
+pub part_of_piece : (old new piece : List ℕ) (before after : List (Result Message Error)) (m n : Memory) (stopped : Bool) → length old ≡ 0 → TakesAll piece new before after m n stopped
+    → TakesPart old new piece before after m n (length piece, stopped)
+part_of_piece [] new piece before after m n stopped none all = record {
+  most = omega arith;
+  all = subst (λ l. TakesAll l new before after m n stopped) (sym (take-length piece)) all;
+  last = λ e. refl;
+}
+part_of_piece (b ∷ old) new piece before after m n stopped none all = absurd (omega (arith, none))
+
+-- all were taken: these are some
+pub some_of_all : (old new : List ℕ) (before after : List (Result Message Error)) (m n : Memory) (stopped : Bool) → TakesAll old new before after m n stopped → TakesSome old before after
+some_of_all old new before after m n stopped all = record { more = all.takes.more; grown = all.takes.grown; left = new; frames = all.takes.frames }
 
 -- ---- the whole frames of a piece
 
@@ -209,7 +264,7 @@ whole_taken piece kept fronts before after m n found all each is =
         grown = each.grown;
         frames = subst (λ l. Frames l each.more all.rest) whole frames;
         fits = subst (λ (h : Option (ℕ × ℕ)). IfSome h (λ x. header_of all.rest ≡ Some x)) (sym all.header) (fits_itself (header_of all.rest));
-        counted = λ k c. all.counted k c ∙ ap (λ j. headers_read (k + j) n.header) (sym many);
+        counted = λ k c. omega (arith, c, many, all.one_each, all.counted (omega (arith, c)));
       };
       ending = all.ending;
       header = all.header;

@@ -1,5 +1,5 @@
 -- What was read of a server's stream that comes in pieces.
-use Rattle.std.specs.Prelude.{◌≡◌, ℕ, ◌+◌, ◌≤◌, Bool, true, false, List, [], ◌++◌, length, map, Result, Ok, Err}
+use Rattle.std.specs.Prelude.{◌≡◌, ℕ, ◌+◌, ◌<◌, ◌≤◌, Bool, true, false, List, [], ◌∷◌, ◌++◌, length, take, map, Result, Ok, Err}
 use Rattle.std.specs.List.{flat_map, AllByRecursion}
 use Rattle.pgp_base.specs.declared.error.Error.{Error}
 use Rattle.pgp_base.specs.declared.error.Error.TheVariants as errors
@@ -86,6 +86,24 @@ pub record TakesSome (old : List ℕ) (before after : List (Result Message Error
   pub grown : after ≡ before ++ more
   pub left : List ℕ
   pub frames : Frames old more left
+
+-- So many bytes of a piece moved behind what is kept: none where nothing is kept, else at least one where one is there.
+pub record Moves (old new piece : List ℕ) (moved : ℕ) : Type 0 where
+  pub most : moved ≤ length piece
+  pub grown : new ≡ old ++ take moved piece
+  pub none : old ≡ [] → moved ≡ 0
+  pub some : 0 < length old → 0 < length piece → 0 < moved
+
+-- what is read next: what is kept, or the piece where nothing is kept
+abbrev pub ready : List ℕ → List ℕ → List ℕ
+ready [] piece = piece
+ready (byte ∷ kept) piece = byte ∷ kept
+
+-- All frames were taken of what was kept and of the first bytes of the piece, so many as are told; they are all where nothing was kept.
+pub record TakesPart (old new piece : List ℕ) (before after : List (Result Message Error)) (m n : Memory) (told : ℕ × Bool) : Type 0 where
+  pub most : told.0 ≤ length piece
+  pub all : TakesAll (old ++ take told.0 piece) new before after m n told.1
+  pub last : old ≡ [] → told.0 ≡ length piece
 
 -- frames of these places are all of the bytes
 pub record AreFronts (fronts : List Front) (bytes : List ℕ) : Type 0 where

@@ -1,9 +1,9 @@
 //! A server's stream, read as it comes.
 
-ghost use Rattle.std.specs.Prelude.{◌≡◌, ◌++◌, [], length, map, false, IfOk, IfErr, OnOk, OnErr};
+ghost use Rattle.std.specs.Prelude.{◌≡◌, ◌≤◌, ◌++◌, [], length, take, drop, map, false, IfOk, IfErr, OnOk, OnErr};
 ghost use Rattle.pgp_message.specs.Remembered.{Fits};
 ghost use Rattle.pgp_message.specs.Views.{seen};
-ghost use Rattle.postgres_protocol.specs.ServerStream.{HasRead, Feeds, HandsOut, TakesAll, TakesSome, AreFronts, TakesEach};
+ghost use Rattle.postgres_protocol.specs.ServerStream.{HasRead, Feeds, HandsOut, TakesAll, TakesSome, Moves, TakesPart, ready, AreFronts, TakesEach};
 
 use super::parsed::Parsed;
 use bytes::{Bytes, BytesMut};
@@ -179,84 +179,113 @@ fn take_frames<A: Allocator + Copy>(
 {
     laws::no_frame();
     let mut left = piece;
-    'cut: while !rest.is_empty() {
-        let missing = frames.missing(rest.len());
-        let (more, after) = left.split_at(left.len().min(missing));
-        keep(rest, more, missing - more.len())?;
-        left = after;
-        if take_kept(frames, rest, fronts, results)? {
-            rest.extend_from_slice(left)?;
+    'parts: loop {
+        let moved = complete(frames, rest, left)?;
+        let (_, behind) = left.split_at(moved);
+        let (used, stopped) = take_part(frames, rest, fronts, results, behind)?;
+        let (_, after) = behind.split_at(used);
+        if stopped {
+            rest.extend_from_slice(after)?;
             return Ok(true);
         }
-        if left.is_empty() {
+        if after.is_empty() {
             return Ok(false);
         }
+        left = after;
     }
-    take_whole(frames, rest, fronts, results, left)
 }
 
-/// Takes all frames that are whole in what is kept.
-fn take_kept<A: Allocator + Copy>(
-    frames: &mut FrameParser,
+/// Moves what the frame that is kept lacks off the piece, and answers how many bytes those are: none where nothing is kept.
+fn complete<A: Allocator + Copy>(
+    frames: &FrameParser,
     rest: &mut BytesMut<A>,
-    fronts: &mut Vec<Front, A>,
-    results: &mut Vec<Result<Message<Bytes<A>>, Error>, A>,
-) -> Result<bool, Error>
-    requires { Fits frames.old rest.old.items }
-    ensures ok { IfOk result (λ stopped. TakesAll rest.old.items rest.new.items
-        (map seen results.old.items) (map seen results.new.items) frames.old frames.new stopped) }
-    ensures some { OnErr result (TakesSome rest.old.items (map seen results.old.items) (map seen results.new.items)) }
-    ensures err { IfErr result (λ e. e ≡ Error.OutOfMemory) }
+    piece: &[u8],
+) -> Result<usize, AllocError>
+    ensures ok { IfOk result (Moves rest.old.items rest.new.items piece.now) }
+    ensures err { OnErr result (rest.new.items ≡ rest.old.items) }
 {
-    laws::no_frame();
-    fronts.clear();
-    let found = frames.find_all(rest.as_slice(), fronts)?;
-    let whole = rest.freeze_to(found.len)?;
-    take_each(fronts.as_slice(), whole, results)?;
-    Ok(found.stopped)
+    if rest.is_empty() {
+        return Ok(0);
+    }
+    let missing = frames.missing(rest.len());
+    let moved = missing.min(piece.len());
+    keep(rest, &piece[..moved], missing - moved)?;
+    Ok(moved)
 }
 
-/// Takes all frames that are whole in a piece, and keeps the bytes behind them.
-fn take_whole<A: Allocator + Copy>(
+/// Takes all frames that are whole in what is kept. Where nothing is kept it takes those of the piece, and keeps the bytes
+/// behind them. It answers how many bytes of the piece it used, none or all, and whether a length fault ended the frames.
+// One function for both: what it calls is called from here alone, so that LLVM inlines it.
+fn take_part<A: Allocator + Copy>(
     frames: &mut FrameParser,
     rest: &mut BytesMut<A>,
     fronts: &mut Vec<Front, A>,
     results: &mut Vec<Result<Message<Bytes<A>>, Error>, A>,
     piece: &[u8],
-) -> Result<bool, Error>
-    requires fits { Fits frames.old piece.now }
-    requires empty { rest.old.items ≡ [] }
-    ensures ok { IfOk result (λ stopped. TakesAll piece.now rest.new.items
-        (map seen results.old.items) (map seen results.new.items) frames.old frames.new stopped) }
-    ensures some { OnErr result (TakesSome piece.now (map seen results.old.items) (map seen results.new.items)) }
+) -> Result<(usize, bool), Error>
+    requires { Fits frames.old rest.old.items }
+    ensures ok { IfOk result (TakesPart rest.old.items rest.new.items piece.now
+        (map seen results.old.items) (map seen results.new.items) frames.old frames.new) }
+    ensures some { OnErr result (TakesSome (rest.old.items ++ piece.now) (map seen results.old.items) (map seen results.new.items)) }
     ensures err { IfErr result (λ e. e ≡ Error.OutOfMemory) }
 {
     laws::no_frame();
     fronts.clear();
-    let found = frames.find_all(piece, fronts)?;
-    let (whole, cut) = piece.split_at(found.len);
-    let whole = Bytes::copy_from_slice(*rest.allocator(), whole)?;
-    take_each(fronts.as_slice(), whole, results)?;
+    let found = frames.find_all(ready(rest, piece), fronts)?;
+    let kept = !rest.is_empty();
+    let whole = share(rest, piece, found.len)?;
+    take_each(fronts.as_slice(), &whole, results)?;
+    if kept {
+        return Ok((0, found.stopped));
+    }
+    let (_, cut) = piece.split_at(found.len);
     keep(rest, cut, frames.missing(cut.len()))?;
-    Ok(found.stopped)
+    Ok((piece.len(), found.stopped))
 }
 
-/// Takes frames off shared bytes that are these frames.
+/// What is read next: what is kept, or the piece where nothing is kept.
+fn ready<'a, A: Allocator>(rest: &'a BytesMut<A>, piece: &'a [u8]) -> &'a [u8]
+    ensures { result.now ≡ ready rest.now.items piece.now }
+{
+    if rest.is_empty() {
+        return piece;
+    }
+    rest.as_slice()
+}
+
+/// Shares the first bytes of what is read next: those that are kept are taken off, those of a piece are copied.
+fn share<A: Allocator + Copy>(
+    rest: &mut BytesMut<A>,
+    piece: &[u8],
+    len: usize,
+) -> Result<Bytes<A>, AllocError>
+    requires { len ≤ length (ready rest.old.items piece.now) }
+    ensures front { IfOk result (λ whole. whole ≡ take len (ready rest.old.items piece.now)) }
+    ensures rest { OnOk result (rest.new.items ≡ drop len rest.old.items) }
+    ensures err { OnErr result (rest.new.items ≡ rest.old.items) }
+{
+    if rest.is_empty() {
+        return Bytes::copy_from_slice(*rest.allocator(), &piece[..len]);
+    }
+    rest.freeze_to(len)
+}
+
+/// Adds the messages of the frames that shared bytes are.
 fn take_each<A: Allocator>(
     fronts: &[Front],
-    shared: Bytes<A>,
+    shared: &Bytes<A>,
     results: &mut Vec<Result<Message<Bytes<A>>, Error>, A>,
 ) -> Result<(), AllocError>
-    requires { AreFronts fronts.now shared }
-    ensures ok { OnOk result (TakesEach shared (map seen results.old.items) (map seen results.new.items) (length fronts.now)) }
-    ensures some { OnErr result (TakesSome shared (map seen results.old.items) (map seen results.new.items)) }
+    requires { AreFronts fronts.now shared.now }
+    ensures ok { OnOk result (TakesEach shared.now (map seen results.old.items) (map seen results.new.items) (length fronts.now)) }
+    ensures some { OnErr result (TakesSome shared.now (map seen results.old.items) (map seen results.new.items)) }
 {
     laws::no_frame();
     laws::next_frame();
     results.reserve(fronts.len())?;
-    let mut shared = shared;
+    let mut at = 0usize;
     for front in fronts {
-        front.take_onto(&mut shared, results)?;
+        at = front.take_onto(shared, at, results)?;
     }
     Ok(())
 }

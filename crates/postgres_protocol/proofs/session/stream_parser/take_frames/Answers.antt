@@ -1,149 +1,124 @@
-use Rattle.std.proofs.Common.{◌≡◌, ◌≢◌, ◌≤◌, ◌++◌, [], true, false, length, map, rules, arith, refl, ap, subst}
-use Rattle.std.proofs.lemmas.List.{length-append}
+use Rattle.std.proofs.Common.{◌≡◌, ◌<◌, ◌++◌, length, map, rules, refl}
+use Rattle.std.proofs.lemmas.List.{nil_from_length}
 use Rattle.pgp_message.specs.Views.{seen}
-use Rattle.postgres_protocol.specs.ServerStream.{TakesAll, TakesSome}
-use Rattle.postgres_protocol.proofs.Pieces.{Completing, none_of, rejoined, completing_none, completing_more, completing_reads, completing_ends, completing_stops, completing_fails, completing_some, joins_ok, joins_err, taken_less}
+use Rattle.postgres_protocol.specs.ServerStream.{TakesSome, Moves, TakesPart}
+use Rattle.postgres_protocol.proofs.Pieces.{Completing, completing_none, completing_moved, completing_fails, part_read, part_ends, part_stops, part_fails, part_shorter}
 use Rattle.postgres_protocol.proofs.session.stream_parser.take_frames.Goals as goal
 
-pub cut-init : goal.cut-init
-cut-init g c = completing_none c.args.rest.now.items c.args.piece.now (map seen c.args.results.now.items) c.args.frames.now (c.no_frame.ensures c.args.rest.now.items) c.requires
+pub parts-init : goal.parts-init
+parts-init g c = completing_none c.args.rest.now.items c.args.piece.now (map seen c.args.results.now.items) c.args.frames.now (c.no_frame.ensures c.args.rest.now.items) c.requires
 
-pub returns-in_err-keep-clause-some : goal.returns-in_err-keep-clause-some
-returns-in_err-keep-clause-some g c =
+pub returns-in_err-moved-clause-some : goal.returns-in_err-moved-clause-some
+returns-in_err-moved-clause-some g c =
     let before = map seen c.args.results.now.items in
-    let mid = map seen c.cut.results.items in
-    let some : TakesSome (c.args.rest.now.items ++ c.args.piece.now) before mid = completing_fails c.args.rest.now.items c.args.piece.now c.cut.left.now c.cut.rest.items before mid mid c.args.frames.now c.cut.frames c.cut.invariant refl in
+    let mid = map seen c.parts.results.items in
+    let some : TakesSome (c.args.rest.now.items ++ c.args.piece.now) before mid = completing_fails c.args.rest.now.items c.args.piece.now c.parts.left.now c.parts.rest.items before mid mid c.args.frames.now c.parts.frames c.parts.invariant refl in
     search rules
 
-pub cut-preserved : goal.cut-preserved
-cut-preserved g c =
+pub returns-in_err-used-clause-some : goal.returns-in_err-used-clause-some
+returns-in_err-used-clause-some g c =
     let old = c.args.rest.now.items in
     let piece = c.args.piece.now in
-    let left = c.cut.left.now in
-    let more = c.split_at.result.0.now in
-    let after = c.split_at.result.1.now in
-    let now = c.cut.rest.items in
-    let grown = c.keep.new.rest.items in
+    let left = c.parts.left.now in
+    let behind = c.split_at.result.1.now in
+    let now = c.parts.rest.items in
+    let grown = c.complete.new.rest.items in
     let before = map seen c.args.results.now.items in
-    let mid = map seen c.cut.results.items in
-    let read = map seen c.take_kept.new.results.items in
-    let parts : left ≡ more ++ after = rejoined left more after _ c.split_at.ensures.front c.split_at.ensures.back in
-    let is : grown ≡ now ++ more = search rules in
-    let reading : Completing old piece after grown before mid c.args.frames.now c.cut.frames = completing_more old piece left more after now grown before mid c.args.frames.now c.cut.frames c.cut.invariant parts is in
-    let new = c.take_kept.new.rest.items in
-    let all : TakesAll grown new mid read c.cut.frames c.take_kept.new.frames c.in_ok-take_kept.field-0 = search rules in
-    completing_reads old piece after grown new before mid read c.args.frames.now c.cut.frames c.take_kept.new.frames _ reading all
-
-pub returns-clause-ok : goal.returns-clause-ok
-returns-clause-ok g c =
-    let empty : length c.cut.rest.items ≡ 0 = search rules in
-    let none : c.cut.rest.items ≡ [] = none_of c.cut.rest.items empty in
-    joins_ok c.args.rest.now.items c.args.piece.now c.cut.left.now c.cut.rest.items c.take_whole.new.rest.items (map seen c.args.results.now.items) (map seen c.cut.results.items) (map seen c.take_whole.new.results.items)
-    c.args.frames.now c.cut.frames c.take_whole.new.frames c.take_whole.result c.cut.invariant none c.take_whole.ensures.ok
-
-pub returns-clause-some : goal.returns-clause-some
-returns-clause-some g c =
-    let empty : length c.cut.rest.items ≡ 0 = search rules in
-    let none : c.cut.rest.items ≡ [] = none_of c.cut.rest.items empty in
-    joins_err c.args.rest.now.items c.args.piece.now c.cut.left.now c.cut.rest.items (map seen c.args.results.now.items) (map seen c.cut.results.items) (map seen c.take_whole.new.results.items)
-    c.args.frames.now c.cut.frames c.take_whole.result c.cut.invariant none c.take_whole.ensures.some
-
-pub returns-in_err-take_kept-clause-some : goal.returns-in_err-take_kept-clause-some
-returns-in_err-take_kept-clause-some g c =
-    let old = c.args.rest.now.items in
-    let piece = c.args.piece.now in
-    let left = c.cut.left.now in
-    let more = c.split_at.result.0.now in
-    let after = c.split_at.result.1.now in
-    let now = c.cut.rest.items in
-    let grown = c.keep.new.rest.items in
-    let before = map seen c.args.results.now.items in
-    let mid = map seen c.cut.results.items in
-    let read = map seen c.take_kept.new.results.items in
-    let parts : left ≡ more ++ after = rejoined left more after _ c.split_at.ensures.front c.split_at.ensures.back in
-    let is : grown ≡ now ++ more = search rules in
-    let reading : Completing old piece after grown before mid c.args.frames.now c.cut.frames = completing_more old piece left more after now grown before mid c.args.frames.now c.cut.frames c.cut.invariant parts is in
-    let some : TakesSome grown mid read = search rules in
-    let all : TakesSome (old ++ piece) before read = completing_some old piece after grown before mid read c.args.frames.now c.cut.frames reading some in
+    let mid = map seen c.parts.results.items in
+    let moves : Moves now grown left c.in_ok-moved.moved = search rules in
+    let moved : Completing old piece behind grown before mid c.args.frames.now c.parts.frames = completing_moved old piece left behind now grown before mid c.args.frames.now c.parts.frames c.in_ok-moved.moved c.parts.invariant moves c.split_at.ensures.back in
+    let read = map seen c.take_part.new.results.items in
+    let some : TakesSome (grown ++ behind) mid read = search rules in
+    let all : TakesSome (old ++ piece) before read = part_fails old piece behind grown before mid read c.args.frames.now c.parts.frames moved some in
     search rules
 
 pub returns-in_err-extend_from_slice-clause-some : goal.returns-in_err-extend_from_slice-clause-some
 returns-in_err-extend_from_slice-clause-some g c =
     let old = c.args.rest.now.items in
     let piece = c.args.piece.now in
-    let left = c.cut.left.now in
-    let more = c.split_at.result.0.now in
-    let after = c.split_at.result.1.now in
-    let now = c.cut.rest.items in
-    let grown = c.keep.new.rest.items in
+    let left = c.parts.left.now in
+    let behind = c.split_at.result.1.now in
+    let now = c.parts.rest.items in
+    let grown = c.complete.new.rest.items in
     let before = map seen c.args.results.now.items in
-    let mid = map seen c.cut.results.items in
-    let read = map seen c.take_kept.new.results.items in
-    let parts : left ≡ more ++ after = rejoined left more after _ c.split_at.ensures.front c.split_at.ensures.back in
-    let is : grown ≡ now ++ more = search rules in
-    let reading : Completing old piece after grown before mid c.args.frames.now c.cut.frames = completing_more old piece left more after now grown before mid c.args.frames.now c.cut.frames c.cut.invariant parts is in
-    let new = c.take_kept.new.rest.items in
-    let all : TakesAll grown new mid read c.cut.frames c.take_kept.new.frames c.in_ok-take_kept.field-0 = search rules in
-    let some : TakesSome (old ++ piece) before read = completing_fails old piece after new before read read c.args.frames.now c.take_kept.new.frames (completing_reads old piece after grown new before mid read c.args.frames.now c.cut.frames c.take_kept.new.frames c.in_ok-take_kept.field-0 reading all) refl in
+    let mid = map seen c.parts.results.items in
+    let moves : Moves now grown left c.in_ok-moved.moved = search rules in
+    let moved : Completing old piece behind grown before mid c.args.frames.now c.parts.frames = completing_moved old piece left behind now grown before mid c.args.frames.now c.parts.frames c.in_ok-moved.moved c.parts.invariant moves c.split_at.ensures.back in
+    let read = map seen c.take_part.new.results.items in
+    let new = c.take_part.new.rest.items in
+    let after = c.split_at-in-parts.result.1.now in
+    let part : TakesPart grown new behind mid read c.parts.frames c.take_part.new.frames (c.in_ok-used.used, c.in_ok-used.stopped) = search rules in
+    let some : TakesSome (old ++ piece) before read = completing_fails old piece after new before read read c.args.frames.now c.take_part.new.frames
+    (part_read old piece behind after grown new before mid read c.args.frames.now c.parts.frames c.take_part.new.frames _ moved part c.split_at-in-parts.ensures.back) refl in
     search rules
 
-pub returns-then-branch-clause-ok : goal.returns-then-branch-clause-ok
-returns-then-branch-clause-ok g c =
+pub returns-then-stopped-clause-ok : goal.returns-then-stopped-clause-ok
+returns-then-stopped-clause-ok g c =
     let old = c.args.rest.now.items in
     let piece = c.args.piece.now in
-    let left = c.cut.left.now in
-    let more = c.split_at.result.0.now in
-    let after = c.split_at.result.1.now in
-    let now = c.cut.rest.items in
-    let grown = c.keep.new.rest.items in
+    let left = c.parts.left.now in
+    let behind = c.split_at.result.1.now in
+    let now = c.parts.rest.items in
+    let grown = c.complete.new.rest.items in
     let before = map seen c.args.results.now.items in
-    let mid = map seen c.cut.results.items in
-    let read = map seen c.take_kept.new.results.items in
-    let parts : left ≡ more ++ after = rejoined left more after _ c.split_at.ensures.front c.split_at.ensures.back in
-    let is : grown ≡ now ++ more = search rules in
-    let reading : Completing old piece after grown before mid c.args.frames.now c.cut.frames = completing_more old piece left more after now grown before mid c.args.frames.now c.cut.frames c.cut.invariant parts is in
-    let new = c.take_kept.new.rest.items in
-    let all : TakesAll grown new mid read c.cut.frames c.take_kept.new.frames c.in_ok-take_kept.field-0 = search rules in
-    let kept = c.extend_from_slice.new.self.items in
-    let behind : kept ≡ new ++ after = search rules in
-    let stops : c.in_ok-take_kept.field-0 ≡ true = search rules in
-    completing_stops old piece after grown new kept before mid read c.args.frames.now c.cut.frames c.take_kept.new.frames c.in_ok-take_kept.field-0 reading stops all behind
+    let mid = map seen c.parts.results.items in
+    let moves : Moves now grown left c.in_ok-moved.moved = search rules in
+    let moved : Completing old piece behind grown before mid c.args.frames.now c.parts.frames = completing_moved old piece left behind now grown before mid c.args.frames.now c.parts.frames c.in_ok-moved.moved c.parts.invariant moves c.split_at.ensures.back in
+    let read = map seen c.take_part.new.results.items in
+    let new = c.take_part.new.rest.items in
+    let after = c.split_at-in-parts.result.1.now in
+    let part : TakesPart grown new behind mid read c.parts.frames c.take_part.new.frames (c.in_ok-used.used, c.in_ok-used.stopped) = search rules in
+    let kept : c.extend_from_slice.new.self.items ≡ new ++ after = search rules in
+    part_stops old piece behind after grown new c.extend_from_slice.new.self.items before mid read c.args.frames.now c.parts.frames c.take_part.new.frames (c.in_ok-used.used, c.in_ok-used.stopped) moved part c.split_at-in-parts.ensures.back c.if-stopped.true kept
 
 pub returns-then-is_empty-clause-ok : goal.returns-then-is_empty-clause-ok
 returns-then-is_empty-clause-ok g c =
     let old = c.args.rest.now.items in
     let piece = c.args.piece.now in
-    let left = c.cut.left.now in
-    let more = c.split_at.result.0.now in
-    let after = c.split_at.result.1.now in
-    let now = c.cut.rest.items in
-    let grown = c.keep.new.rest.items in
+    let left = c.parts.left.now in
+    let behind = c.split_at.result.1.now in
+    let now = c.parts.rest.items in
+    let grown = c.complete.new.rest.items in
     let before = map seen c.args.results.now.items in
-    let mid = map seen c.cut.results.items in
-    let read = map seen c.take_kept.new.results.items in
-    let parts : left ≡ more ++ after = rejoined left more after _ c.split_at.ensures.front c.split_at.ensures.back in
-    let is : grown ≡ now ++ more = search rules in
-    let reading : Completing old piece after grown before mid c.args.frames.now c.cut.frames = completing_more old piece left more after now grown before mid c.args.frames.now c.cut.frames c.cut.invariant parts is in
-    let new = c.take_kept.new.rest.items in
-    let all : TakesAll grown new mid read c.cut.frames c.take_kept.new.frames c.in_ok-take_kept.field-0 = search rules in
+    let mid = map seen c.parts.results.items in
+    let moves : Moves now grown left c.in_ok-moved.moved = search rules in
+    let moved : Completing old piece behind grown before mid c.args.frames.now c.parts.frames = completing_moved old piece left behind now grown before mid c.args.frames.now c.parts.frames c.in_ok-moved.moved c.parts.invariant moves c.split_at.ensures.back in
+    let read = map seen c.take_part.new.results.items in
+    let new = c.take_part.new.rest.items in
+    let after = c.split_at-in-parts.result.1.now in
+    let part : TakesPart grown new behind mid read c.parts.frames c.take_part.new.frames (c.in_ok-used.used, c.in_ok-used.stopped) = search rules in
     let empty : length after ≡ 0 = search rules in
-    let goes : c.in_ok-take_kept.field-0 ≡ false = search rules in
-    subst (λ b. TakesAll (old ++ piece) new before read c.args.frames.now c.take_kept.new.frames b) goes
-    (completing_ends old piece after grown new before mid read c.args.frames.now c.cut.frames c.take_kept.new.frames c.in_ok-take_kept.field-0 reading (none_of after empty) all)
+    part_ends old piece behind after grown new before mid read c.args.frames.now c.parts.frames c.take_part.new.frames (c.in_ok-used.used, c.in_ok-used.stopped) moved part c.split_at-in-parts.ensures.back (nil_from_length after empty) c.if-stopped.false
 
-pub cut-smaller : goal.cut-smaller
-cut-smaller g c =
-    let left = c.cut.left.now in
-    let more = c.split_at.result.0.now in
-    let after = c.split_at.result.1.now in
-    let now = c.cut.rest.items in
-    let grown = c.keep.new.rest.items in
-    let mid = map seen c.cut.results.items in
-    let parts : left ≡ more ++ after = rejoined left more after _ c.split_at.ensures.front c.split_at.ensures.back in
-    let is : grown ≡ now ++ more = search rules in
-    let read = map seen c.take_kept.new.results.items in
-    let new = c.take_kept.new.rest.items in
-    let all : TakesAll grown new mid read c.cut.frames c.take_kept.new.frames c.in_ok-take_kept.field-0 = search rules in
-    let full : length after ≢ 0 = search rules in
-    let some : 1 ≤ length more = omega (arith, full, c.split_at.ensures.front_len, c.min.ensures, c.missing-missing.ensures, ap length parts, length-append more after) in
-    omega (arith, some, taken_less grown new mid read c.cut.frames c.take_kept.new.frames c.in_ok-take_kept.field-0 all, ap length is, length-append now more, ap length parts, length-append more after)
+pub parts-preserved : goal.parts-preserved
+parts-preserved g c =
+    let old = c.args.rest.now.items in
+    let piece = c.args.piece.now in
+    let left = c.parts.left.now in
+    let behind = c.split_at.result.1.now in
+    let now = c.parts.rest.items in
+    let grown = c.complete.new.rest.items in
+    let before = map seen c.args.results.now.items in
+    let mid = map seen c.parts.results.items in
+    let moves : Moves now grown left c.in_ok-moved.moved = search rules in
+    let moved : Completing old piece behind grown before mid c.args.frames.now c.parts.frames = completing_moved old piece left behind now grown before mid c.args.frames.now c.parts.frames c.in_ok-moved.moved c.parts.invariant moves c.split_at.ensures.back in
+    let read = map seen c.take_part.new.results.items in
+    let new = c.take_part.new.rest.items in
+    let after = c.split_at-in-parts.result.1.now in
+    let part : TakesPart grown new behind mid read c.parts.frames c.take_part.new.frames (c.in_ok-used.used, c.in_ok-used.stopped) = search rules in
+    part_read old piece behind after grown new before mid read c.args.frames.now c.parts.frames c.take_part.new.frames (c.in_ok-used.used, c.in_ok-used.stopped) moved part c.split_at-in-parts.ensures.back
+
+pub parts-smaller : goal.parts-smaller
+parts-smaller g c =
+    let left = c.parts.left.now in
+    let behind = c.split_at.result.1.now in
+    let now = c.parts.rest.items in
+    let grown = c.complete.new.rest.items in
+    let mid = map seen c.parts.results.items in
+    let moves : Moves now grown left c.in_ok-moved.moved = search rules in
+    let read = map seen c.take_part.new.results.items in
+    let new = c.take_part.new.rest.items in
+    let after = c.split_at-in-parts.result.1.now in
+    let part : TakesPart grown new behind mid read c.parts.frames c.take_part.new.frames (c.in_ok-used.used, c.in_ok-used.stopped) = search rules in
+    let more : 0 < length after = search rules in
+    part_shorter now grown left behind after new mid read c.parts.frames c.take_part.new.frames c.in_ok-moved.moved (c.in_ok-used.used, c.in_ok-used.stopped) moves c.split_at.ensures.back part c.split_at-in-parts.ensures.back more

@@ -1,10 +1,10 @@
-use Rattle.std.proofs.Common.{◌+◌, length, map}
+use Rattle.std.proofs.Common.{length, map}
 use Rattle.pgp_message.specs.Views.{seen}
 use Rattle.postgres_protocol.proofs.Pieces.{Completing}
 use Rattle.postgres_protocol.proofs.session.stream_parser.take_frames.Given as goal
 
-abbrev pub invariant-cut : goal.invariant-cut
-invariant-cut g l = Completing l.fn.rest.items l.fn.piece l.left l.rest.items (map seen l.fn.results.items) (map seen l.results.items) l.fn.frames l.frames
+abbrev pub invariant-parts : goal.invariant-parts
+invariant-parts g l = Completing l.fn.rest.items l.fn.piece l.left l.rest.items (map seen l.fn.results.items) (map seen l.results.items) l.fn.frames l.frames
 
-abbrev pub decreases-cut : goal.decreases-cut
-decreases-cut g l = length l.left + length l.left + length l.rest.items
+abbrev pub decreases-parts : goal.decreases-parts
+decreases-parts g l = length l.left
