@@ -16,25 +16,25 @@ use std::str;
 /// are asked for.
 #[derive(Drop)]
 pub struct NotificationResponseBody<S: Storage = Bytes> {
-    process_id: i32,
-    texts: S,
+    // without the zero behind the message
+    payload: S,
     channel_len: usize,
-    message_len: usize,
 }
 
 impl<S: Storage> Model for NotificationResponseBody<S> {
     ghost use Rattle.std.specs.Prelude.{◌+◌, ◌≤◌, length, take, drop};
+    ghost use Rattle.std.specs.Int.{w32, from_be_bytes, cast_signed};
     ghost use Rattle.pgp_message.specs.Parts.{Notification};
 
     ghost Value = { Notification };
 
     ghost view = { λ body. record {
-      process_id = body.process_id;
-      channel = take body.channel_len (S.bytes body.texts);
-      message = take body.message_len (drop (body.channel_len + 1) (S.bytes body.texts));
+      process_id = cast_signed w32 (from_be_bytes w32 (take 4 (S.bytes body.payload)));
+      channel = take body.channel_len (drop 4 (S.bytes body.payload));
+      message = drop (body.channel_len + 5) (S.bytes body.payload);
     } };
 
-    ghost invariant = { λ body. body.channel_len + 1 + body.message_len ≤ length (S.bytes body.texts) };
+    ghost invariant = { λ body. body.channel_len + 5 ≤ length (S.bytes body.payload) };
 }
 
 impl<S: Storage> NotificationResponseBody<S> {
@@ -42,20 +42,18 @@ impl<S: Storage> NotificationResponseBody<S> {
     pub(crate) fn read(mut payload: S) -> Result<NotificationResponseBody<S>, Error>
         ensures { result ≡ notification_of (S.bytes payload) }
     {
-        let (process_id, rest) = int32_at(payload.as_slice())?;
+        let (_, rest) = int32_at(payload.as_slice())?;
         let (channel, rest) = string_at(rest)?;
-        let (message, rest) = string_at(rest)?;
+        let (_, rest) = string_at(rest)?;
         if !rest.is_empty() {
             return Err(Error::NotDrained);
         }
         let channel_len = channel.len();
-        let message_len = message.len();
-        payload.skip(4);
+        let len = payload.as_slice().len();
+        payload.cut(len - 1);
         Ok(NotificationResponseBody {
-            process_id,
-            texts: payload,
+            payload,
             channel_len,
-            message_len,
         })
     }
 
@@ -63,7 +61,8 @@ impl<S: Storage> NotificationResponseBody<S> {
     pub fn process_id(&self) -> i32
         ensures { result ≡ self.now.process_id }
     {
-        self.process_id
+        let bytes = self.payload.as_slice();
+        i32::from_be_bytes([bytes[0], bytes[1], bytes[2], bytes[3]])
     }
 }
 
@@ -76,7 +75,8 @@ impl<A: Allocator> NotificationResponseBody<Bytes<A>> {
     pub fn channel(&self) -> Result<&str, Error>
         ensures { MatchResult result (λ text. text.now ≡ self.now.channel) (λ e. (e ≡ Error.NotUtf8) × ¬ IsUtf8 self.now.channel) }
     {
-        str::from_utf8(&self.texts.as_slice()[..self.channel_len]).map_err(|_| Error::NotUtf8)
+        let payload = self.payload.as_slice();
+        str::from_utf8(&payload[4..4 + self.channel_len]).map_err(|_| Error::NotUtf8)
     }
 
     /// What was said.
@@ -87,9 +87,9 @@ impl<A: Allocator> NotificationResponseBody<Bytes<A>> {
     pub fn message(&self) -> Result<&str, Error>
         ensures { MatchResult result (λ text. text.now ≡ self.now.message) (λ e. (e ≡ Error.NotUtf8) × ¬ IsUtf8 self.now.message) }
     {
-        let texts = self.texts.as_slice();
-        let start = self.channel_len + 1;
-        str::from_utf8(&texts[start..start + self.message_len]).map_err(|_| Error::NotUtf8)
+        let payload = self.payload.as_slice();
+        let start = self.channel_len + 5;
+        str::from_utf8(&payload[start..]).map_err(|_| Error::NotUtf8)
     }
 }
 
@@ -102,7 +102,7 @@ impl<'a> NotificationResponseBody<&'a [u8]> {
     pub fn channel(&self) -> Result<&'a str, Error>
         ensures { MatchResult result (λ text. text.now ≡ self.now.channel) (λ e. (e ≡ Error.NotUtf8) × ¬ IsUtf8 self.now.channel) }
     {
-        str::from_utf8(&self.texts[..self.channel_len]).map_err(|_| Error::NotUtf8)
+        str::from_utf8(&self.payload[4..4 + self.channel_len]).map_err(|_| Error::NotUtf8)
     }
 
     /// What was said.
@@ -113,7 +113,7 @@ impl<'a> NotificationResponseBody<&'a [u8]> {
     pub fn message(&self) -> Result<&'a str, Error>
         ensures { MatchResult result (λ text. text.now ≡ self.now.message) (λ e. (e ≡ Error.NotUtf8) × ¬ IsUtf8 self.now.message) }
     {
-        let from = self.channel_len + 1;
-        str::from_utf8(&self.texts[from..from + self.message_len]).map_err(|_| Error::NotUtf8)
+        let from = self.channel_len + 5;
+        str::from_utf8(&self.payload[from..]).map_err(|_| Error::NotUtf8)
     }
 }

@@ -96,9 +96,9 @@ impl ReadyForQueryBody {
 /// is cut when they are asked for.
 #[derive(Drop)]
 pub struct ParameterStatusBody<S: Storage = Bytes> {
+    // without the zero behind the value
     texts: S,
     name_len: usize,
-    value_len: usize,
 }
 
 impl<S: Storage> Model for ParameterStatusBody<S> {
@@ -109,15 +109,15 @@ impl<S: Storage> Model for ParameterStatusBody<S> {
 
     ghost view = { λ body. record {
       name = take body.name_len (S.bytes body.texts);
-      value = take body.value_len (drop (body.name_len + 1) (S.bytes body.texts));
+      value = drop (body.name_len + 1) (S.bytes body.texts);
     } };
 
-    ghost invariant = { λ body. body.name_len + 1 + body.value_len ≤ length (S.bytes body.texts) };
+    ghost invariant = { λ body. body.name_len + 1 ≤ length (S.bytes body.texts) };
 }
 
 impl<S: Storage> ParameterStatusBody<S> {
     #[tactic(auto, unfolding(crate::specs::Reading::setting_of))]
-    pub(crate) fn read(payload: S) -> Result<ParameterStatusBody<S>, Error>
+    pub(crate) fn read(mut payload: S) -> Result<ParameterStatusBody<S>, Error>
         ensures { result ≡ setting_of (S.bytes payload) }
     {
         let (name, rest) = string_at(payload.as_slice())?;
@@ -126,11 +126,11 @@ impl<S: Storage> ParameterStatusBody<S> {
             return Err(Error::NotDrained);
         }
         let name_len = name.len();
-        let value_len = value.len();
+        let len = name_len + 1 + value.len();
+        payload.cut(len);
         Ok(ParameterStatusBody {
             texts: payload,
             name_len,
-            value_len,
         })
     }
 }
@@ -157,7 +157,7 @@ impl<A: Allocator> ParameterStatusBody<Bytes<A>> {
     {
         let texts = self.texts.as_slice();
         let start = self.name_len + 1;
-        str::from_utf8(&texts[start..start + self.value_len]).map_err(|_| Error::NotUtf8)
+        str::from_utf8(&texts[start..]).map_err(|_| Error::NotUtf8)
     }
 }
 
@@ -182,6 +182,6 @@ impl<'a> ParameterStatusBody<&'a [u8]> {
         ensures { MatchResult result (λ text. text.now ≡ self.now.value) (λ e. (e ≡ Error.NotUtf8) × ¬ IsUtf8 self.now.value) }
     {
         let from = self.name_len + 1;
-        str::from_utf8(&self.texts[from..from + self.value_len]).map_err(|_| Error::NotUtf8)
+        str::from_utf8(&self.texts[from..]).map_err(|_| Error::NotUtf8)
     }
 }
