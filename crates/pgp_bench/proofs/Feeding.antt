@@ -11,9 +11,6 @@ use Rattle.pgp_bench.specs.Streams.{Weighs, Weigh, none, more}
 use Rattle.pgp_bench.specs.Pieces.{AllWeigh, TakesPiece, IsFed}
 use Rattle.pgp_bench.proofs.Weighing.{added}
 
-joined : {X : Type 0} (a b c : List X) → (a ++ b) ++ c ≡ a ++ (b ++ c)
-joined a b c = simp append_assoc
-
 pub weigh_none : AllWeigh [] 0
 weigh_none = (
   0,
@@ -29,7 +26,7 @@ weigh_more results m sum w all h = (
   all.0 + w,
   (λ before total g.
       let whole : total + (all.0 + w) ≡ (total + all.0) + w = omega arith in
-      rw (← joined before results (Ok m ∷ []), whole) (more (before ++ results) m (total + all.0) w (all.1 before total g) h)),
+      rw (← append_assoc before results (Ok m ∷ []), whole) (more (before ++ results) m (total + all.0) w (all.1 before total g) h)),
   added all.0 sum w all.2,
 )
 
@@ -54,7 +51,7 @@ sums total sum n w e d = rw (e, d) (sym (add-mod total n (2 ^ 64)))
 pub fed_more : (bytes rest piece after : List ℕ) (sum w : ℕ) (old new : Reading) → IsFedTo bytes sum rest old → TakesPiece piece w old new → rest ≡ piece ++ after → IsFedTo bytes ((sum + w) % 2 ^ 64) after new
 fed_more bytes rest piece after sum w old new f t cut = record {
   front = f.front ++ piece;
-  whole = f.whole ∙ (ap (λ r. f.front ++ r) cut ∙ sym (joined f.front piece after));
+  whole = f.whole ∙ (ap (λ r. f.front ++ r) cut ∙ sym (append_assoc f.front piece after));
   taken = f.taken ++ t.results;
   total = f.total + t.weigh.0;
   read = t.reads f.front f.taken f.read;
@@ -88,7 +85,3 @@ took piece old mid new all (Ok w) g h a = record {
   reads = λ bytes taken k. h.reads (bytes ++ piece) taken (g.reads bytes taken k);
 }
 took piece old mid new all (Err e) g h a = tt
-
-pub nothing : (xs : List ℕ) → length xs ≡ 0 → xs ≡ []
-nothing [] e = refl
-nothing (x ∷ xs) e = absurd (omega (arith, e))

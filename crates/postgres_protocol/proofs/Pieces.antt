@@ -14,14 +14,9 @@ use Rattle.pgp_message.specs.Remembered.{Memory, Fits, header_of, headers_read}
 use Rattle.pgp_message.specs.Found.{Front, Found, place_of, FindsAll, StandsAt, TakesOnto}
 use Rattle.pgp_message.specs.Stream.{Frame, frame_bytes, IsFrame, Frames, IsEnding, TakesFrame, BackendRun}
 use Rattle.pgp_message.proofs.Fronts.{fault_stays}
-use Rattle.pgp_message.proofs.Headers.{fits_grows}
+use Rattle.pgp_message.proofs.Headers.{fits_grows, fits_itself, header_of_long, header_stays}
 use Rattle.pgp_message.proofs.Runs.{front_is_one, frames_join}
 use Rattle.postgres_protocol.specs.ServerStream.{Reading, GoesOn, Fails, Takes, TakesAll, TakesSome, Moves, TakesPart, ready, AreFronts, TakesEach}
-
--- a header fits itself
-fits_itself : (here : Option (ℕ × ℕ)) → IfSome here (λ h. here ≡ Some h)
-fits_itself None = tt
-fits_itself (Some h) = refl
 
 -- where a length fault stopped it a header stands there
 pub stopped_long : (stopped : Bool) (rest : List ℕ) → IsEnding stopped rest → stopped ≡ true → 5 ≤ length rest
@@ -31,12 +26,7 @@ stopped_long false rest fault s = cc
 
 -- bytes that come behind a header leave it
 pub header_of_more : (bytes more : List ℕ) → 5 ≤ length bytes → header_of (bytes ++ more) ≡ header_of bytes
-header_of_more (t ∷ a ∷ b ∷ c ∷ d ∷ rest) more h = refl
-header_of_more (t ∷ a ∷ b ∷ c ∷ []) more h = absurd (omega (arith, h))
-header_of_more (t ∷ a ∷ b ∷ []) more h = absurd (omega (arith, h))
-header_of_more (t ∷ a ∷ []) more h = absurd (omega (arith, h))
-header_of_more (t ∷ []) more h = absurd (omega (arith, h))
-header_of_more [] more h = absurd (omega (arith, h))
+header_of_more bytes more h = header_stays bytes more _ (header_of_long bytes h) ∙ sym (header_of_long bytes h)
 
 -- bytes came behind what was read
 frames_behind : (a old more : List ℕ) (results : List (Result Message Error)) → Frames a results old → Frames (a ++ more) results (old ++ more)
@@ -263,7 +253,7 @@ whole_taken piece kept fronts before after m n found all each is =
         more = each.more;
         grown = each.grown;
         frames = subst (λ l. Frames l each.more all.rest) whole frames;
-        fits = subst (λ (h : Option (ℕ × ℕ)). IfSome h (λ x. header_of all.rest ≡ Some x)) (sym all.header) (fits_itself (header_of all.rest));
+        fits = subst (λ (h : Option (ℕ × ℕ)). IfSome h (λ x. header_of all.rest ≡ Some x)) (sym all.header) (fits_itself all.rest n.headers);
         counted = λ k c. omega (arith, c, many, all.one_each, all.counted (omega (arith, c)));
       };
       ending = all.ending;

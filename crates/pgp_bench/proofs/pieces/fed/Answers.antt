@@ -1,5 +1,6 @@
 use Rattle.std.proofs.Common.{◌≡◌, length, rules}
-use Rattle.pgp_bench.proofs.Feeding.{fed_none, fed_more, fed_end, nothing}
+use Rattle.std.proofs.lemmas.List.{nil_from_length}
+use Rattle.pgp_bench.proofs.Feeding.{fed_none, fed_more, fed_end}
 use Rattle.pgp_bench.proofs.pieces.fed.Goals as goal
 
 pub pieces-init : goal.pieces-init
@@ -11,4 +12,4 @@ pieces-preserved c = fed_more _ _ c.split_at.result.0.now _ _ _ _ _ c.pieces.inv
 pub returns : goal.returns
 returns c =
     let empty : length c.pieces.rest.now ≡ 0 = search rules in
-    fed_end _ _ _ _ c.pieces.invariant (nothing c.pieces.rest.now empty)
+    fed_end _ _ _ _ c.pieces.invariant (nil_from_length c.pieces.rest.now empty)
