@@ -1,13 +1,13 @@
--- Frames that are found at the front of bytes, and taken off.
+-- Frames that are found at the front of bytes, and read there.
 use Rattle.std.proofs.Common.{◌≡◌, ℕ, ◌+◌, ◌-◌, ◌^◌, ◌<◌, ◌≤◌, min, List, [], ◌∷◌, ◌++◌, length, take, drop, map, Option, Some, None, Result, refl, sym, ap, subst, ◌∙◌, append_assoc, arith}
 use Rattle.std.specs.Prelude.{IfSome}
-use Rattle.std.specs.List.{flat_map, AllByRecursion}
+use Rattle.std.specs.List.{flat_map}
 use Rattle.std.proofs.Math.Seq.{take-append_seam, drop-append_seam}
 use Rattle.std.proofs.lemmas.List.{append-nil, drop-drop, length-append, length-drop, length-take, map_push}
 use Rattle.pgp_base.specs.Wire.{uint32}
 use Rattle.pgp_base.specs.declared.error.Error.{Error}
 use Rattle.pgp_message.specs.BackendMessage.{Message}
-use Rattle.pgp_message.specs.Found.{Found, place_of, FindsAll, FindsSome, StandsAt, TakesOnto}
+use Rattle.pgp_message.specs.Found.{Found, place_of, NotesFrames, FindsAll, StandsAt, TakesOnto}
 use Rattle.pgp_message.specs.FrontReading.{Front, IsFront, front_frame}
 use Rattle.pgp_message.specs.Reading.{body_of}
 use Rattle.pgp_message.specs.Remembered.{Memory, Fits, header_of, headers_after, count_of}
@@ -39,23 +39,17 @@ fresh_left None (Some x) fits = refl
 fresh_left (Some y) None fits = cc
 fresh_left (Some y) (Some x) fits = refl
 
--- these frames were found, and the rest is still to be read
+-- frames were found, and the rest is still to be read
 pub record Finding (bytes rest : List ℕ) (before after : List Front) (old now : Memory) : Type 0 where
-  pub frames : List Frame
-  pub whole : bytes ≡ flat_map frame_bytes frames ++ rest
-  pub each : AllByRecursion IsFrame frames
-  pub places : after ≡ before ++ map place_of frames
+  pub noted : NotesFrames bytes rest before after
   pub fits : Fits now rest
   pub read : ℕ
-  pub one_each : count_of old.header + read ≡ length frames + count_of now.header
+  pub one_each : count_of old.header + read ≡ length noted.frames + count_of now.header
   pub counted : old.headers < 2 ^ 64 → now.headers ≡ min (old.headers + read) (2 ^ 64 - 1)
 
 pub finding_none : (bytes : List ℕ) (before : List Front) (old now : Memory) → Fits old bytes → now ≡ old → Finding bytes bytes before before old now
 finding_none bytes before old now fits same = subst (λ (m : Memory). Finding bytes bytes before before old m) (sym same) (record {
-  frames = [];
-  whole = refl;
-  each = tt;
-  places = sym (append-nil before);
+  noted = record { frames = []; whole = refl; each = tt; places = sym (append-nil before) };
   fits = fits;
   read = 0;
   one_each = omega arith;
@@ -70,21 +64,30 @@ place_of_front f bytes front =
       placed : ℕ → ℕ → Front
       placed tag total = record { tag = tag; total = total }
 
+notes_more : (bytes rest new : List ℕ) (before after grown : List Front) (f : Front) → NotesFrames bytes rest before after → IsFront f rest → new ≡ drop f.total rest
+    → grown ≡ after ++ f ∷ [] → NotesFrames bytes new before grown
+notes_more bytes rest new before after grown f noted front left joined =
+    let frame = front_frame f rest in
+    let fs = flat_map frame_bytes noted.frames in
+    let whole : rest ≡ frame_bytes frame ++ new = front.whole ∙ ap (λ l. frame_bytes frame ++ l) (sym left) in
+    let places : map place_of (noted.frames ++ frame ∷ []) ≡ map place_of noted.frames ++ f ∷ [] = map_push place_of noted.frames frame ∙ ap (λ (p : Front). map place_of noted.frames ++ p ∷ []) (place_of_front f rest front) in
+    record {
+      frames = noted.frames ++ frame ∷ [];
+      whole = noted.whole ∙ ap (λ l. fs ++ l) whole ∙ sym (append_assoc fs (frame_bytes frame) new) ∙ ap (λ l. l ++ new) (sym (pushed noted.frames frame));
+      each = each_push noted.frames frame noted.each front.fits;
+      places = joined ∙ ap (λ l. l ++ f ∷ []) noted.places ∙ append_assoc before (map place_of noted.frames) (f ∷ []) ∙ ap (λ l. before ++ l) (sym places);
+    }
+
 pub finding_more : (bytes rest new : List ℕ) (before after grown : List Front) (old now next : Memory) (f : Front) → Finding bytes rest before after old now → IsFront f rest
     → new ≡ drop f.total rest → grown ≡ after ++ f ∷ [] → next ≡ record { header = None; headers = headers_after now.header (header_of rest) now.headers } → Finding bytes new before grown old next
+unfolding notes_more
 finding_more bytes rest new before after grown old now next f so_far front left joined is =
-    let frame = front_frame f rest in
-    let fs = flat_map frame_bytes so_far.frames in
-    let whole : rest ≡ frame_bytes frame ++ new = front.whole ∙ ap (λ l. frame_bytes frame ++ l) (sym left) in
-    let places : map place_of (so_far.frames ++ frame ∷ []) ≡ map place_of so_far.frames ++ f ∷ [] = map_push place_of so_far.frames frame ∙ ap (λ (p : Front). map place_of so_far.frames ++ p ∷ []) (place_of_front f rest front) in
+    let noted = notes_more bytes rest new before after grown f so_far.noted front left joined in
     let long : 5 ≤ length rest = omega (arith, front.least, front.most) in
     let none : next.header ≡ None = ap (λ (m : Memory). m.header) is in
-    let more : length (so_far.frames ++ frame ∷ []) ≡ length so_far.frames + 1 = length-append so_far.frames (frame ∷ []) in
+    let more : length noted.frames ≡ length so_far.noted.frames + 1 = length-append so_far.noted.frames (front_frame f rest ∷ []) in
     record {
-      frames = so_far.frames ++ frame ∷ [];
-      whole = so_far.whole ∙ ap (λ l. fs ++ l) whole ∙ sym (append_assoc fs (frame_bytes frame) new) ∙ ap (λ l. l ++ new) (sym (pushed so_far.frames frame));
-      each = each_push so_far.frames frame so_far.each front.fits;
-      places = joined ∙ ap (λ l. l ++ f ∷ []) so_far.places ∙ append_assoc before (map place_of so_far.frames) (f ∷ []) ∙ ap (λ l. before ++ l) (sym places);
+      noted = noted;
       fits = subst (λ (h : Option (ℕ × ℕ)). IfSome h (λ x. header_of new ≡ Some x)) (sym none) tt;
       read = so_far.read + fresh now.header (header_of rest);
       one_each = omega (arith, so_far.one_each, fresh_frame now.header (header_of rest) _ (header_of_long rest long), more, ap count_of none);
@@ -96,21 +99,15 @@ pub finds_all : (bytes rest : List ℕ) (before after : List Front) (old now nex
 finds_all bytes rest before after old now next found so_far ending len is =
     let header : next.header ≡ header_of rest = ap (λ (m : Memory). m.header) is in
     record {
-      frames = so_far.frames;
       rest = rest;
-      whole = so_far.whole;
-      each = so_far.each;
-      places = so_far.places;
-      len = omega (arith, len, ap length so_far.whole, length-append (flat_map frame_bytes so_far.frames) rest);
+      noted = so_far.noted;
+      len = omega (arith, len, ap length so_far.noted.whole, length-append (flat_map frame_bytes so_far.noted.frames) rest);
       ending = ending;
       header = header;
       read = so_far.read + fresh now.header (header_of rest);
       one_each = omega (arith, so_far.one_each, fresh_left now.header (header_of rest) so_far.fits, ap count_of header);
       counted = λ most. omega (arith, ap (λ (m : Memory). m.headers) is, fresh_counts now.header (header_of rest) now.headers (omega (arith, so_far.counted most)), so_far.counted most);
     }
-
-pub finds_some : (bytes rest : List ℕ) (before after grown : List Front) (old now : Memory) → Finding bytes rest before after old now → grown ≡ after → FindsSome bytes before grown
-finds_some bytes rest before after grown old now so_far same = record { frames = so_far.frames; rest = rest; whole = so_far.whole; each = so_far.each; places = same ∙ so_far.places }
 
 -- ---- taken
 
@@ -151,10 +148,13 @@ payload_at bytes all at t least same =
     let less : at + t - (at + 5) ≡ t - 5 = omega (arith, least) in
     ap (λ n. take n (drop (at + 5) bytes)) less ∙ ap (take (t - 5)) (sym (drop-drop 5 at bytes)) ∙ payload_of_front (drop at bytes) (drop at all) t least (ap (drop at) same)
 
-pub takes_onto : (old new : List ℕ) (f : Front) (r : Result Message Error) (before after : List (Result Message Error)) → IsFront f old → new ≡ drop f.total old
-    → r ≡ body_of f.tag (drop 5 (take f.total old)) → after ≡ before ++ r ∷ [] → TakesOnto old new before after
-takes_onto old new f r before after front rest read grown = record {
-  result = r;
-  takes = subst (λ (x : Result Message Error). TakesFrame old x new) (sym read) (subst (λ l. TakesFrame old (body_of f.tag (drop 5 (take f.total old))) l) (sym rest) (takes old (drop f.total old) (front_frame f old) front.whole front.fits));
-  grown = grown;
-}
+-- a frame's body was read, and joined the list
+pub takes_onto : (old new payload : List ℕ) (f : Front) (before mid after : List (Result Message Error)) → IsFront f old → new ≡ drop f.total old → payload ≡ drop 5 (take f.total old)
+    → mid ≡ before → after ≡ mid ++ body_of f.tag payload ∷ [] → TakesOnto old new before after
+takes_onto old new payload f before mid after front rest cut same grown =
+    let read : body_of f.tag payload ≡ body_of f.tag (drop 5 (take f.total old)) = ap (body_of f.tag) cut in
+    record {
+      result = body_of f.tag payload;
+      takes = subst (λ (x : Result Message Error). TakesFrame old x new) (sym read) (subst (λ l. TakesFrame old (body_of f.tag (drop 5 (take f.total old))) l) (sym rest) (takes old (drop f.total old) (front_frame f old) front.whole front.fits));
+      grown = grown ∙ ap (λ l. l ++ body_of f.tag payload ∷ []) same;
+    }

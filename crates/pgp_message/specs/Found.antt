@@ -1,4 +1,4 @@
--- Whole frames that are found at the front of bytes, and then taken off.
+-- Whole frames that are found at the front of bytes, and then read where they stand.
 use Rattle.std.specs.Prelude.{◌≡◌, ℕ, ◌+◌, ◌-◌, ◌^◌, ◌<◌, min, Bool, List, ◌∷◌, [], ◌++◌, length, map, Result}
 use Rattle.std.specs.List.{flat_map, AllByRecursion}
 use Rattle.pgp_base.specs.declared.error.Error.{Error}
@@ -20,28 +20,28 @@ pub record Found : Type 0 where
 abbrev pub place_of : Frame → Front
 place_of f = record { tag = f.tag; total = length f.payload + 5 }
 
--- The bytes are frames and what ends them. The place of each frame joins the list. The header behind them is remembered. With the one
--- that was remembered before, the headers that were read are one for each frame and that one; the count stays at the greatest u64.
-pub record FindsAll (bytes : List ℕ) (before after : List Front) (old new : Memory) (found : Found) : Type 0 where
+-- The bytes begin with some frames, and the place of each joins the list.
+pub record NotesFrames (bytes rest : List ℕ) (before after : List Front) : Type 0 where
   pub frames : List Frame
-  pub rest : List ℕ
   pub whole : bytes ≡ flat_map frame_bytes frames ++ rest
   pub each : AllByRecursion IsFrame frames
   pub places : after ≡ before ++ map place_of frames
-  pub len : found.len ≡ length (flat_map frame_bytes frames)
+
+-- Behind the frames stands what ends them, and its header is remembered. With the header that was remembered before, those that were
+-- read are one for each frame and that one; the count stays at the greatest u64.
+pub record FindsAll (bytes : List ℕ) (before after : List Front) (old new : Memory) (found : Found) : Type 0 where
+  pub rest : List ℕ
+  pub noted : NotesFrames bytes rest before after
+  pub len : found.len ≡ length (flat_map frame_bytes noted.frames)
   pub ending : IsEnding found.stopped rest
   pub header : new.header ≡ header_of rest
   pub read : ℕ
-  pub one_each : count_of old.header + read ≡ length frames + count_of new.header
+  pub one_each : count_of old.header + read ≡ length noted.frames + count_of new.header
   pub counted : old.headers < 2 ^ 64 → new.headers ≡ min (old.headers + read) (2 ^ 64 - 1)
 
--- The bytes begin with some frames, and the place of each joins the list.
-pub record FindsSome (bytes : List ℕ) (before after : List Front) : Type 0 where
-  pub frames : List Frame
-  pub rest : List ℕ
-  pub whole : bytes ≡ flat_map frame_bytes frames ++ rest
-  pub each : AllByRecursion IsFrame frames
-  pub places : after ≡ before ++ map place_of frames
+-- some frames were noted, whatever stands behind them
+abbrev pub FindsSome : List ℕ → List Front → List Front → Type 0
+FindsSome bytes before after = (rest : List ℕ) × NotesFrames bytes rest before after
 
 -- the frame of this place is the first of the bytes
 pub record StandsAt (front : Front) (bytes : List ℕ) : Type 0 where

@@ -1,11 +1,11 @@
-//! Frames that were found in a slice, and then taken off shared bytes.
+//! Frames that were found in a slice, and then read where they stand in shared bytes.
 
 ghost use Rattle.std.specs.Prelude.{◌≡◌, ◌+◌, drop, map, IfOk, OnErr};
 ghost use Rattle.pgp_message.specs.Found.{StandsAt, TakesOnto};
 ghost use Rattle.pgp_message.specs.Views.{seen};
 
 use crate::frame::Front;
-use crate::message::{Message, body, keeps_bytes, plain_onto};
+use crate::message::{Message, body_onto, keeps_bytes, plain_onto};
 use crate::tag::AUTHENTICATION_TAG;
 use bytes::Bytes;
 use pgp_base::Error;
@@ -60,7 +60,7 @@ impl Front {
             return Ok(end);
         }
         let payload = bytes.slice(at + 5..end)?;
-        results.push_reserved(body(self.tag, payload));
+        body_onto(results, self.tag, payload);
         Ok(end)
     }
 }

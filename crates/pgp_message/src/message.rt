@@ -325,6 +325,31 @@ pub(crate) fn body<S: Storage>(tag: u8, payload: S) -> Result<Message<S>, Error>
     }
 }
 
+/// Adds that message, or its refusal, to a list that has room for it.
+// The kinds that come by the thousand have calls of their own, as in `plain!`.
+#[tactic(auto, unfolding(crate::specs::Reading::body_of))]
+pub(crate) fn body_onto<S: Storage, A: Allocator>(
+    list: &mut Vec<Result<Message<S>, Error>, A>,
+    tag: u8,
+    payload: S,
+)
+    requires { vec_len list.old < vec_capacity list.old }
+    ensures { map seen list.new.items ≡ map seen list.old.items ++ body_of tag (S.bytes payload) ∷ [] }
+{
+    match tag {
+        COMMAND_COMPLETE_TAG => match CommandCompleteBody::read(payload) {
+            Ok(body) => put(list, Ok(Message::CommandComplete(body))),
+            Err(e) => put(list, Err(e)),
+        },
+        DATA_ROW_TAG => match DataRowBody::read(payload) {
+            Ok(body) => put(list, Ok(Message::DataRow(body))),
+            Err(e) => put(list, Err(e)),
+        },
+        COPY_DATA_TAG => put(list, Ok(Message::CopyData(CopyDataBody::new(payload)))),
+        tag => put(list, body(tag, payload)),
+    }
+}
+
 /// The message of an authentication request, which its code tells.
 #[tactic(auto, unfolding(crate::specs::Reading::request_of, crate::specs::Reading::by_code))]
 fn authentication<S: Storage>(mut payload: S) -> Result<Message<S>, Error>

@@ -113,6 +113,32 @@ fn bare_frames_ask_for_no_memory(rt: HostRuntime) -> Result<(), Fail> {
     Ok(())
 }
 
+// A refused look for frames leaves the places that it found, and counts no header.
+#[test]
+fn find_all_with_each_allocation_refused(rt: HostRuntime) -> Result<(), Fail> {
+    let frames: &[u8] = b"\x31\0\0\0\x04\x31\0\0\0\x04\x31\0\0\0\x04\x31\0\0\0\x04\x31\0\0\0\x04";
+    let mut refusals = 0u64;
+    for number in 1..100u64 {
+        let heap = Refusing::new(rt.alloc(), number);
+        let mut parser = FrameParser::new();
+        let mut fronts = Vec::new(&heap);
+        let found = parser.find_all(frames, &mut fronts);
+        for front in &fronts {
+            assert_eq!(rt; (front.tag, front.total), (0x31, 5));
+        }
+        if let Ok(found) = found {
+            assert_eq!(rt; (found.len, found.stopped), (25, false));
+            assert_eq!(rt; (fronts.len(), parser.headers()), (5, 5));
+            break;
+        }
+        assert!(rt; fronts.len() < 5);
+        assert_eq!(rt; parser.headers(), 0);
+        refusals = number;
+    }
+    assert!(rt; refusals > 1);
+    Ok(())
+}
+
 fn row<A: Allocator + Copy>(alloc: A, bytes: &[u8]) -> Result<DataRowBody<Bytes<A>>, Error> {
     let mut buf = buffer(alloc, bytes)?;
     match Message::parse(&mut buf)? {

@@ -138,33 +138,27 @@ completing_some old piece left now before mid after m n c some =
       frames = subst (λ l. Frames l (t.more ++ some.more) (some.left ++ left)) whole (frames_behind (old ++ c.done) some.left left (t.more ++ some.more) frames);
     }
 
--- so many bytes moved behind what is kept
-pub completing_moved : (old piece left behind now grown : List ℕ) (before mid : List (Result Message Error)) (m n : Memory) (k : ℕ) → Completing old piece left now before mid m n → Moves now grown left k → behind ≡ drop k left
-    → Completing old piece behind grown before mid m n
-completing_moved old piece left behind now grown before mid m n k c moves is =
-    completing_more old piece left (take k left) behind now grown before mid m n c (sym (take-append-drop k left) ∙ ap (λ l. take k left ++ l) (sym is)) moves.grown
-
--- the bytes that a part of the reading uses are told
-used_part : (old piece left after now : List ℕ) (before mid : List (Result Message Error)) (m n : Memory) (k : ℕ) → Completing old piece left now before mid m n → after ≡ drop k left
-    → Completing old piece after (now ++ take k left) before mid m n
-used_part old piece left after now before mid m n k c is =
-    completing_more old piece left (take k left) after now (now ++ take k left) before mid m n c (sym (take-append-drop k left) ∙ ap (λ l. take k left ++ l) (sym is)) refl
+-- so many bytes of what is left are behind what is kept
+pub completing_by : (old piece left after now grown : List ℕ) (before mid : List (Result Message Error)) (m n : Memory) (k : ℕ) → Completing old piece left now before mid m n → grown ≡ now ++ take k left → after ≡ drop k left
+    → Completing old piece after grown before mid m n
+completing_by old piece left after now grown before mid m n k c is rest =
+    completing_more old piece left (take k left) after now grown before mid m n c (sym (take-append-drop k left) ∙ ap (λ l. take k left ++ l) (sym rest)) is
 
 pub part_read : (old piece left after now new : List ℕ) (before mid read : List (Result Message Error)) (m n o : Memory) (told : ℕ × Bool) → Completing old piece left now before mid m n → TakesPart now new left mid read n o told
     → after ≡ drop told.0 left → Completing old piece after new before read m o
 part_read old piece left after now new before mid read m n o told c part is =
-    completing_reads old piece after (now ++ take told.0 left) new before mid read m n o told.1 (used_part old piece left after now before mid m n told.0 c is) part.all
+    completing_reads old piece after (now ++ take told.0 left) new before mid read m n o told.1 (completing_by old piece left after now _ before mid m n told.0 c refl is) part.all
 
 pub part_ends : (old piece left after now new : List ℕ) (before mid read : List (Result Message Error)) (m n o : Memory) (told : ℕ × Bool) → Completing old piece left now before mid m n → TakesPart now new left mid read n o told
     → after ≡ drop told.0 left → after ≡ [] → told.1 ≡ false → TakesAll (old ++ piece) new before read m o false
 part_ends old piece left after now new before mid read m n o told c part is none goes =
     subst (λ b. TakesAll (old ++ piece) new before read m o b) goes
-    (completing_ends old piece after (now ++ take told.0 left) new before mid read m n o told.1 (used_part old piece left after now before mid m n told.0 c is) none part.all)
+    (completing_ends old piece after (now ++ take told.0 left) new before mid read m n o told.1 (completing_by old piece left after now _ before mid m n told.0 c refl is) none part.all)
 
 pub part_stops : (old piece left after now new kept : List ℕ) (before mid read : List (Result Message Error)) (m n o : Memory) (told : ℕ × Bool) → Completing old piece left now before mid m n → TakesPart now new left mid read n o told
     → after ≡ drop told.0 left → told.1 ≡ true → kept ≡ new ++ after → TakesAll (old ++ piece) kept before read m o true
 part_stops old piece left after now new kept before mid read m n o told c part is stops behind =
-    completing_stops old piece after (now ++ take told.0 left) new kept before mid read m n o told.1 (used_part old piece left after now before mid m n told.0 c is) stops part.all behind
+    completing_stops old piece after (now ++ take told.0 left) new kept before mid read m n o told.1 (completing_by old piece left after now _ before mid m n told.0 c refl is) stops part.all behind
 
 pub part_fails : (old piece left now : List ℕ) (before mid read : List (Result Message Error)) (m n : Memory) → Completing old piece left now before mid m n → TakesSome (now ++ left) mid read → TakesSome (old ++ piece) before read
 part_fails old piece left now before mid read m n c some =
@@ -206,6 +200,7 @@ part_of_kept old new piece before after m n stopped some all = record {
   most = omega arith;
   all = subst (λ l. TakesAll l new before after m n stopped) (sym (append-nil old)) all;
   last = λ none. absurd (omega (arith, some, ap length none));
+  kept = λ more. refl;
 }
 
 -- those of the whole piece were taken
@@ -215,6 +210,7 @@ part_of_piece [] new piece before after m n stopped none all = record {
   most = omega arith;
   all = subst (λ l. TakesAll l new before after m n stopped) (sym (take-length piece)) all;
   last = λ e. refl;
+  kept = λ more. absurd (omega (arith, more));
 }
 part_of_piece (b ∷ old) new piece before after m n stopped none all = absurd (omega (arith, none))
 
@@ -226,28 +222,28 @@ some_of_all old new before after m n stopped all = record { more = all.takes.mor
 
 -- the frames that were found, and what stands behind them
 record Halves (piece : List ℕ) (fronts : List Front) (m n : Memory) (found : Found) (all : FindsAll piece [] fronts m n found) : Type 0 where
-  front : take found.len piece ≡ flat_map frame_bytes all.frames
+  front : take found.len piece ≡ flat_map frame_bytes all.noted.frames
   back : drop found.len piece ≡ all.rest
 
 halves : (piece : List ℕ) (fronts : List Front) (m n : Memory) (found : Found) (all : FindsAll piece [] fronts m n found) → Halves piece fronts m n found all
 halves piece fronts m n found all =
-    let fs = flat_map frame_bytes all.frames in
+    let fs = flat_map frame_bytes all.noted.frames in
     record {
-      front = ap (λ j. take j piece) all.len ∙ ap (take (length fs)) all.whole ∙ take-append_seam fs all.rest;
-      back = ap (λ j. drop j piece) all.len ∙ ap (drop (length fs)) all.whole ∙ drop-append_seam fs all.rest;
+      front = ap (λ j. take j piece) all.len ∙ ap (take (length fs)) all.noted.whole ∙ take-append_seam fs all.rest;
+      back = ap (λ j. drop j piece) all.len ∙ ap (drop (length fs)) all.noted.whole ∙ drop-append_seam fs all.rest;
     }
 
 pub whole_frames : (piece : List ℕ) (fronts : List Front) (m n : Memory) (found : Found) → FindsAll piece [] fronts m n found → AreFronts fronts (take found.len piece)
-whole_frames piece fronts m n found all = record { frames = all.frames; places = all.places; whole = (halves piece fronts m n found all).front; each = all.each }
+whole_frames piece fronts m n found all = record { frames = all.noted.frames; places = all.noted.places; whole = (halves piece fronts m n found all).front; each = all.noted.each }
 
 pub whole_taken : (piece kept : List ℕ) (fronts : List Front) (before after : List (Result Message Error)) (m n : Memory) (found : Found) → FindsAll piece [] fronts m n found
     → TakesEach (take found.len piece) before after (length fronts) → kept ≡ drop found.len piece → TakesAll piece kept before after m n found.stopped
 whole_taken piece kept fronts before after m n found all each is =
     let both = halves piece fronts m n found all in
     let rest : kept ≡ all.rest = is ∙ both.back in
-    let many : length each.more ≡ length all.frames = each.count ∙ ap length all.places ∙ length-map all.frames place_of in
+    let many : length each.more ≡ length all.noted.frames = each.count ∙ ap length all.noted.places ∙ length-map all.noted.frames place_of in
     let frames : Frames ((take found.len piece) ++ all.rest) each.more all.rest = frames_behind (take found.len piece) [] all.rest each.more each.frames in
-    let whole : take found.len piece ++ all.rest ≡ piece = ap (λ l. l ++ all.rest) both.front ∙ sym all.whole in
+    let whole : take found.len piece ++ all.rest ≡ piece = ap (λ l. l ++ all.rest) both.front ∙ sym all.noted.whole in
     let here : TakesAll piece all.rest before after m n found.stopped = record {
       takes = record {
         more = each.more;
@@ -265,7 +261,7 @@ pub whole_some : (piece : List ℕ) (fronts : List Front) (before after : List (
     → TakesSome (take found.len piece) before after → TakesSome piece before after
 whole_some piece fronts before after m n found all some =
     let both = halves piece fronts m n found all in
-    let whole : take found.len piece ++ all.rest ≡ piece = ap (λ l. l ++ all.rest) both.front ∙ sym all.whole in
+    let whole : take found.len piece ++ all.rest ≡ piece = ap (λ l. l ++ all.rest) both.front ∙ sym all.noted.whole in
     record { more = some.more; grown = some.grown; left = some.left ++ all.rest; frames = subst (λ l. Frames l some.more (some.left ++ all.rest)) whole (frames_behind (take found.len piece) some.left all.rest some.more some.frames) }
 
 -- nothing was taken

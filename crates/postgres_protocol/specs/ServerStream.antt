@@ -99,11 +99,12 @@ abbrev pub ready : List ℕ → List ℕ → List ℕ
 ready [] piece = piece
 ready (byte ∷ kept) piece = byte ∷ kept
 
--- All frames were taken of what was kept and of the first bytes of the piece, so many as are told; they are all where nothing was kept.
+-- All frames were taken of what was kept and of the first bytes of the piece, so many as are told: all where nothing was kept, else none.
 pub record TakesPart (old new piece : List ℕ) (before after : List (Result Message Error)) (m n : Memory) (told : ℕ × Bool) : Type 0 where
   pub most : told.0 ≤ length piece
   pub all : TakesAll (old ++ take told.0 piece) new before after m n told.1
   pub last : old ≡ [] → told.0 ≡ length piece
+  pub kept : 0 < length old → told.0 ≡ 0
 
 -- frames of these places are all of the bytes
 pub record AreFronts (fronts : List Front) (bytes : List ℕ) : Type 0 where

@@ -67,8 +67,8 @@ impl<A: Allocator + Copy> StreamParser<A> {
     /// # Errors
     ///
     /// `OutOfMemory` where memory was refused for the piece, for a message, for room for a frame that isn't whole or for the
-    /// list of results. Then the parser has failed: its results stand, but nothing more can be read. A refused frame is no error of the call: its
-    /// refusal stands among the results.
+    /// list of results. Then the parser has failed: its results stand, but nothing more can be read. A refused frame is no
+    /// error of the call: its refusal stands among the results.
     pub fn feed(&mut self, piece: &[u8]) -> Result<(), Error>
         requires { self.old.failed ≡ false }
         ensures { Feeds piece.now self.old self.new result }
@@ -78,7 +78,6 @@ impl<A: Allocator + Copy> StreamParser<A> {
         laws::frames_go_on();
         laws::frames_stand();
         laws::runs_grow();
-        laws::bytes_may_come();
         if self.stopped {
             if self.rest.extend_from_slice(piece).is_err() {
                 self.failed = true;
@@ -163,7 +162,7 @@ impl<A: Allocator + Copy> StreamParser<A> {
 }
 
 /// Takes all frames of what is kept and of the piece behind it, and answers whether a length fault ended them. A frame
-/// that was cut is completed by itself, so that each byte is copied once: to where its message keeps it.
+/// that was cut is completed by itself, so that the parser copies each byte once: to where its message keeps it.
 fn take_frames<A: Allocator + Copy>(
     frames: &mut FrameParser,
     rest: &mut BytesMut<A>,
@@ -215,7 +214,7 @@ fn complete<A: Allocator + Copy>(
 
 /// Takes all frames that are whole in what is kept. Where nothing is kept it takes those of the piece, and keeps the bytes
 /// behind them. It answers how many bytes of the piece it used, none or all, and whether a length fault ended the frames.
-// One function for both: what it calls is called from here alone, so that LLVM inlines it.
+// One function for both, so that what reads the frames is called from here alone, and LLVM inlines it.
 fn take_part<A: Allocator + Copy>(
     frames: &mut FrameParser,
     rest: &mut BytesMut<A>,

@@ -2,7 +2,7 @@ use Rattle.std.proofs.Common.{◌≡◌, ◌<◌, ◌++◌, length, map, rules, 
 use Rattle.std.proofs.lemmas.List.{nil_from_length}
 use Rattle.pgp_message.specs.Views.{seen}
 use Rattle.postgres_protocol.specs.ServerStream.{TakesSome, Moves, TakesPart}
-use Rattle.postgres_protocol.proofs.Pieces.{Completing, completing_none, completing_moved, completing_fails, part_read, part_ends, part_stops, part_fails, part_shorter}
+use Rattle.postgres_protocol.proofs.Pieces.{Completing, completing_none, completing_by, completing_fails, part_read, part_ends, part_stops, part_fails, part_shorter}
 use Rattle.postgres_protocol.proofs.session.stream_parser.take_frames.Goals as goal
 
 pub parts-init : goal.parts-init
@@ -26,7 +26,7 @@ returns-in_err-used-clause-some g c =
     let before = map seen c.args.results.now.items in
     let mid = map seen c.parts.results.items in
     let moves : Moves now grown left c.in_ok-moved.moved = search rules in
-    let moved : Completing old piece behind grown before mid c.args.frames.now c.parts.frames = completing_moved old piece left behind now grown before mid c.args.frames.now c.parts.frames c.in_ok-moved.moved c.parts.invariant moves c.split_at.ensures.back in
+    let moved : Completing old piece behind grown before mid c.args.frames.now c.parts.frames = completing_by old piece left behind now grown before mid c.args.frames.now c.parts.frames c.in_ok-moved.moved c.parts.invariant moves.grown c.split_at.ensures.back in
     let read = map seen c.take_part.new.results.items in
     let some : TakesSome (grown ++ behind) mid read = search rules in
     let all : TakesSome (old ++ piece) before read = part_fails old piece behind grown before mid read c.args.frames.now c.parts.frames moved some in
@@ -43,7 +43,7 @@ returns-in_err-extend_from_slice-clause-some g c =
     let before = map seen c.args.results.now.items in
     let mid = map seen c.parts.results.items in
     let moves : Moves now grown left c.in_ok-moved.moved = search rules in
-    let moved : Completing old piece behind grown before mid c.args.frames.now c.parts.frames = completing_moved old piece left behind now grown before mid c.args.frames.now c.parts.frames c.in_ok-moved.moved c.parts.invariant moves c.split_at.ensures.back in
+    let moved : Completing old piece behind grown before mid c.args.frames.now c.parts.frames = completing_by old piece left behind now grown before mid c.args.frames.now c.parts.frames c.in_ok-moved.moved c.parts.invariant moves.grown c.split_at.ensures.back in
     let read = map seen c.take_part.new.results.items in
     let new = c.take_part.new.rest.items in
     let after = c.split_at-in-parts.result.1.now in
@@ -63,7 +63,7 @@ returns-then-stopped-clause-ok g c =
     let before = map seen c.args.results.now.items in
     let mid = map seen c.parts.results.items in
     let moves : Moves now grown left c.in_ok-moved.moved = search rules in
-    let moved : Completing old piece behind grown before mid c.args.frames.now c.parts.frames = completing_moved old piece left behind now grown before mid c.args.frames.now c.parts.frames c.in_ok-moved.moved c.parts.invariant moves c.split_at.ensures.back in
+    let moved : Completing old piece behind grown before mid c.args.frames.now c.parts.frames = completing_by old piece left behind now grown before mid c.args.frames.now c.parts.frames c.in_ok-moved.moved c.parts.invariant moves.grown c.split_at.ensures.back in
     let read = map seen c.take_part.new.results.items in
     let new = c.take_part.new.rest.items in
     let after = c.split_at-in-parts.result.1.now in
@@ -82,7 +82,7 @@ returns-then-is_empty-clause-ok g c =
     let before = map seen c.args.results.now.items in
     let mid = map seen c.parts.results.items in
     let moves : Moves now grown left c.in_ok-moved.moved = search rules in
-    let moved : Completing old piece behind grown before mid c.args.frames.now c.parts.frames = completing_moved old piece left behind now grown before mid c.args.frames.now c.parts.frames c.in_ok-moved.moved c.parts.invariant moves c.split_at.ensures.back in
+    let moved : Completing old piece behind grown before mid c.args.frames.now c.parts.frames = completing_by old piece left behind now grown before mid c.args.frames.now c.parts.frames c.in_ok-moved.moved c.parts.invariant moves.grown c.split_at.ensures.back in
     let read = map seen c.take_part.new.results.items in
     let new = c.take_part.new.rest.items in
     let after = c.split_at-in-parts.result.1.now in
@@ -101,7 +101,7 @@ parts-preserved g c =
     let before = map seen c.args.results.now.items in
     let mid = map seen c.parts.results.items in
     let moves : Moves now grown left c.in_ok-moved.moved = search rules in
-    let moved : Completing old piece behind grown before mid c.args.frames.now c.parts.frames = completing_moved old piece left behind now grown before mid c.args.frames.now c.parts.frames c.in_ok-moved.moved c.parts.invariant moves c.split_at.ensures.back in
+    let moved : Completing old piece behind grown before mid c.args.frames.now c.parts.frames = completing_by old piece left behind now grown before mid c.args.frames.now c.parts.frames c.in_ok-moved.moved c.parts.invariant moves.grown c.split_at.ensures.back in
     let read = map seen c.take_part.new.results.items in
     let new = c.take_part.new.rest.items in
     let after = c.split_at-in-parts.result.1.now in
