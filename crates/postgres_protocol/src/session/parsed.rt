@@ -6,7 +6,7 @@ ghost use Rattle.pgp_message.specs.Stream.{BackendRun};
 ghost use Rattle.pgp_message.specs.Views.{seen};
 
 use super::stream_parser::StreamParser;
-use bytes::{Bytes, BytesMut};
+use bytes::Bytes;
 use pgp_base::Error;
 use pgp_message::Message;
 use std::alloc::{Allocator, Global};
@@ -17,7 +17,7 @@ use std::marker::Model;
 pub struct Parsed<A: Allocator = Global> {
     results: Vec<Result<Message<Bytes<A>>, Error>, A>,
     stopped: bool,
-    rest: BytesMut<A>,
+    rest: Vec<u8, A>,
 }
 
 impl<A: Allocator> Model for Parsed<A> {
@@ -34,7 +34,7 @@ impl<A: Allocator + Copy> Parsed<A> {
     pub(crate) fn new(
         results: Vec<Result<Message<Bytes<A>>, Error>, A>,
         stopped: bool,
-        rest: BytesMut<A>,
+        rest: Vec<u8, A>,
     ) -> Parsed<A>
         ensures { result ≡ record { results = map seen results.items; stopped = stopped; rest = rest.items } }
     {

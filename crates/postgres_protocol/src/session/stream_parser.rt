@@ -6,7 +6,7 @@ ghost use Rattle.pgp_message.specs.Views.{seen};
 ghost use Rattle.postgres_protocol.specs.ServerStream.{HasRead, Feeds, HandsOut, TakesAll, TakesSome, Moves, TakesPart, ready, AreFronts, TakesEach};
 
 use super::parsed::Parsed;
-use bytes::{Bytes, BytesMut};
+use bytes::Bytes;
 use pgp_base::Error;
 use pgp_message::{FrameParser, Front, Message, laws};
 use std::alloc::{AllocError, Allocator, Global};
@@ -18,7 +18,7 @@ use std::mem;
 #[derive(Drop)]
 pub struct StreamParser<A: Allocator = Global> {
     frames: FrameParser,
-    rest: BytesMut<A>,
+    rest: Vec<u8, A>,
     /// Where the whole frames of a piece stand.
     fronts: Vec<Front, A>,
     results: Vec<Result<Message<Bytes<A>>, Error>, A>,
@@ -54,7 +54,7 @@ impl<A: Allocator + Copy> StreamParser<A> {
         laws::no_bytes();
         StreamParser {
             frames: FrameParser::new(),
-            rest: BytesMut::new(alloc),
+            rest: Vec::new(alloc),
             fronts: Vec::new(alloc),
             results: Vec::new(alloc),
             stopped: false,
@@ -165,7 +165,7 @@ impl<A: Allocator + Copy> StreamParser<A> {
 /// that was cut is completed by itself, so that the parser copies each byte once: to where its message keeps it.
 fn take_frames<A: Allocator + Copy>(
     frames: &mut FrameParser,
-    rest: &mut BytesMut<A>,
+    rest: &mut Vec<u8, A>,
     fronts: &mut Vec<Front, A>,
     results: &mut Vec<Result<Message<Bytes<A>>, Error>, A>,
     piece: &[u8],
@@ -197,7 +197,7 @@ fn take_frames<A: Allocator + Copy>(
 /// Moves what the frame that is kept lacks off the piece, and answers how many bytes those are: none where nothing is kept.
 fn complete<A: Allocator + Copy>(
     frames: &FrameParser,
-    rest: &mut BytesMut<A>,
+    rest: &mut Vec<u8, A>,
     piece: &[u8],
 ) -> Result<usize, AllocError>
     ensures ok { IfOk result (Moves rest.old.items rest.new.items piece.now) }
@@ -217,7 +217,7 @@ fn complete<A: Allocator + Copy>(
 // One function for both, so that what reads the frames is called from here alone, and LLVM inlines it.
 fn take_part<A: Allocator + Copy>(
     frames: &mut FrameParser,
-    rest: &mut BytesMut<A>,
+    rest: &mut Vec<u8, A>,
     fronts: &mut Vec<Front, A>,
     results: &mut Vec<Result<Message<Bytes<A>>, Error>, A>,
     piece: &[u8],
@@ -243,7 +243,7 @@ fn take_part<A: Allocator + Copy>(
 }
 
 /// What is read next: what is kept, or the piece where nothing is kept.
-fn ready<'a, A: Allocator>(rest: &'a BytesMut<A>, piece: &'a [u8]) -> &'a [u8]
+fn ready<'a, A: Allocator>(rest: &'a Vec<u8, A>, piece: &'a [u8]) -> &'a [u8]
     ensures { result.now ≡ ready rest.now.items piece.now }
 {
     if rest.is_empty() {
@@ -254,7 +254,7 @@ fn ready<'a, A: Allocator>(rest: &'a BytesMut<A>, piece: &'a [u8]) -> &'a [u8]
 
 /// Shares the first bytes of what is read next: those that are kept are taken off, those of a piece are copied.
 fn share<A: Allocator + Copy>(
-    rest: &mut BytesMut<A>,
+    rest: &mut Vec<u8, A>,
     piece: &[u8],
     len: usize,
 ) -> Result<Bytes<A>, AllocError>
@@ -263,10 +263,24 @@ fn share<A: Allocator + Copy>(
     ensures rest { OnOk result (rest.new.items ≡ drop len rest.old.items) }
     ensures err { OnErr result (rest.new.items ≡ rest.old.items) }
 {
+    let alloc = *rest.allocator();
     if rest.is_empty() {
-        return Bytes::copy_from_slice(*rest.allocator(), &piece[..len]);
+        return Bytes::copy_from_slice(alloc, &piece[..len]);
     }
-    rest.freeze_to(len)
+    if len == 0 {
+        return Ok(Bytes::new());
+    }
+    let behind = Vec::from_slice(alloc, &rest[len..])?;
+    match Bytes::from_vec(mem::replace(rest, behind)) {
+        Ok(mut whole) => {
+            whole.truncate(len);
+            Ok(whole)
+        }
+        Err(refused) => {
+            *rest = refused.value;
+            Err(AllocError)
+        }
+    }
 }
 
 /// Adds the messages of the frames that shared bytes are.
@@ -291,7 +305,7 @@ fn take_each<A: Allocator>(
 
 /// Keeps bytes of a frame behind which so many more are missing, with room for those.
 fn keep<A: Allocator + Copy>(
-    rest: &mut BytesMut<A>,
+    rest: &mut Vec<u8, A>,
     cut: &[u8],
     missing: usize,
 ) -> Result<(), AllocError>
@@ -302,6 +316,5 @@ fn keep<A: Allocator + Copy>(
         return Ok(());
     }
     rest.reserve(cut.len().saturating_add(missing))?;
-    rest.extend_reserved(cut);
-    Ok(())
+    rest.extend_from_slice(cut)
 }
