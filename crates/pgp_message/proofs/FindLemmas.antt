@@ -1,142 +1,166 @@
 -- Frames that are found at the front of bytes, and read there.
-use Rattle.std.proofs.Common.{◌≡◌, ℕ, ◌+◌, ◌-◌, ◌^◌, ◌<◌, ◌≤◌, min, List, [], ◌∷◌, ◌++◌, length, take, drop, map, Option, Some, None, Result, refl, sym, ap, subst, ◌∙◌, append_assoc, arith}
+use Rattle.std.proofs.Common.{◌≡◌, ℕ, ◌+◌, ◌-◌, ◌^◌, ◌<◌, ◌≤◌, min, List, [], ◌∷◌, ◌++◌, length, get_or, take, drop, Option, Some, None, Result, refl, sym, ap, subst, ◌∙◌, append_assoc, arith}
 use Rattle.std.specs.Prelude.{IfSome}
-use Rattle.std.specs.List.{flat_map}
+use Rattle.std.specs.List.{flat_map, AllByRecursion}
 use Rattle.std.proofs.Math.Seq.{take-append_seam, drop-append_seam}
-use Rattle.std.proofs.lemmas.List.{append-nil, drop-drop, length-append, length-drop, length-take, map_push}
-use Rattle.pgp_base.specs.Wire.{uint32}
+use Rattle.std.proofs.lemmas.List.{append-nil, drop-drop, length-append, length-drop, length-take}
+use Rattle.std.proofs.lemmas.List.Concat.{flat_map-cons}
+use Rattle.pgp_base.specs.Wire.{IsBytes}
 use Rattle.pgp_base.specs.declared.error.Error.{Error}
 use Rattle.pgp_message.specs.BackendMessage.{Message}
-use Rattle.pgp_message.specs.Found.{Found, place_of, NotesFrames, FindsAll, StandsAt, TakesOnto}
-use Rattle.pgp_message.specs.FrontReading.{Front, IsFront, front_frame}
+use Rattle.pgp_message.specs.Found.{Found, FindsFrames, FindsAll, AreFrames, TakesOnto, TakesEach, TakesSome}
+use Rattle.pgp_message.specs.FrontReading.{Front, IsFront, announced, front_frame}
 use Rattle.pgp_message.specs.Reading.{body_of}
-use Rattle.pgp_message.specs.Remembered.{Memory, Fits, header_of, headers_after, count_of}
-use Rattle.pgp_message.specs.Stream.{Frame, frame_bytes, IsFrame, IsEnding, TakesFrame}
-use Rattle.pgp_message.proofs.Headers.{header_of_long}
-use Rattle.pgp_message.proofs.Runs.{each_push, pushed, same_frame}
+use Rattle.pgp_message.specs.Remembered.{Memory, header_of, count_of}
+use Rattle.pgp_message.specs.Stream.{Frame, frame_bytes, IsFrame, IsEnding, Frames, BeginsWithFrame, TakesFrame}
+use Rattle.pgp_message.proofs.Cuts.{cut, found}
+use Rattle.pgp_message.proofs.Runs.{each_push, pushed, front_is_one, frames_none, frames_next, announced_frame, length-frame}
 use Rattle.pgp_message.proofs.Steps.{takes, payload_of_front}
 
 -- ---- found
 
--- how many headers are read: one where none is remembered and one stands there
-abbrev fresh : Option (ℕ × ℕ) → Option (ℕ × ℕ) → ℕ
-fresh None (Some header) = 1
-fresh known here = 0
-
-fresh_counts : (known here : Option (ℕ × ℕ)) (n : ℕ) → n ≤ 2 ^ 64 - 1 → headers_after known here n ≡ min (n + fresh known here) (2 ^ 64 - 1)
-fresh_counts None None n most = omega (arith, most)
-fresh_counts None (Some x) n most = refl
-fresh_counts (Some y) here n most = omega (arith, most)
-
-fresh_frame : (known here : Option (ℕ × ℕ)) (h : ℕ × ℕ) → here ≡ Some h → count_of known + fresh known here ≡ 1
-fresh_frame None None h e = cc
-fresh_frame None (Some x) h e = refl
-fresh_frame (Some y) here h e = refl
-
-fresh_left : (known here : Option (ℕ × ℕ)) → IfSome known (λ h. here ≡ Some h) → count_of known + fresh known here ≡ count_of here
-fresh_left None None fits = refl
-fresh_left None (Some x) fits = refl
-fresh_left (Some y) None fits = cc
-fresh_left (Some y) (Some x) fits = refl
-
 -- frames were found, and the rest is still to be read
-pub record Finding (bytes rest : List ℕ) (before after : List Front) (old now : Memory) : Type 0 where
-  pub noted : NotesFrames bytes rest before after
-  pub fits : Fits now rest
-  pub read : ℕ
-  pub one_each : count_of old.header + read ≡ length noted.frames + count_of now.header
-  pub counted : old.headers < 2 ^ 64 → now.headers ≡ min (old.headers + read) (2 ^ 64 - 1)
+pub record Finding (bytes rest : List ℕ) (n : ℕ) : Type 0 where
+  pub frames : List Frame
+  pub whole : bytes ≡ flat_map frame_bytes frames ++ rest
+  pub each : AllByRecursion IsFrame frames
+  pub count : n ≡ length frames
 
-pub finding_none : (bytes : List ℕ) (before : List Front) (old now : Memory) → Fits old bytes → now ≡ old → Finding bytes bytes before before old now
-finding_none bytes before old now fits same = subst (λ (m : Memory). Finding bytes bytes before before old m) (sym same) (record {
-  noted = record { frames = []; whole = refl; each = tt; places = sym (append-nil before) };
-  fits = fits;
-  read = 0;
-  one_each = omega arith;
-  counted = λ most. omega (arith, most);
-})
+pub finding_none : (bytes : List ℕ) → Finding bytes bytes 0
+finding_none bytes = record { frames = []; whole = refl; each = tt; count = refl }
 
--- the place of a front's frame is the front
-place_of_front : (f : Front) (bytes : List ℕ) → IsFront f bytes → place_of (front_frame f bytes) ≡ f
-place_of_front f bytes front =
-    let total : length (drop 5 (take f.total bytes)) + 5 ≡ f.total = omega (arith, length-drop 5 (take f.total bytes), length-take f.total bytes, front.least, front.most) in
-    ap (placed f.tag) total where
-      placed : ℕ → ℕ → Front
-      placed tag total = record { tag = tag; total = total }
-
-notes_more : (bytes rest new : List ℕ) (before after grown : List Front) (f : Front) → NotesFrames bytes rest before after → IsFront f rest → new ≡ drop f.total rest
-    → grown ≡ after ++ f ∷ [] → NotesFrames bytes new before grown
-notes_more bytes rest new before after grown f noted front left joined =
+pub finding_more : (bytes rest new : List ℕ) (count : ℕ) (f : Front) → Finding bytes rest count → IsFront f rest → new ≡ drop f.total rest → Finding bytes new (count + 1)
+finding_more bytes rest new count f so_far front left =
     let frame = front_frame f rest in
-    let fs = flat_map frame_bytes noted.frames in
+    let fs = flat_map frame_bytes so_far.frames in
     let whole : rest ≡ frame_bytes frame ++ new = front.whole ∙ ap (λ l. frame_bytes frame ++ l) (sym left) in
-    let places : map place_of (noted.frames ++ frame ∷ []) ≡ map place_of noted.frames ++ f ∷ [] = map_push place_of noted.frames frame ∙ ap (λ (p : Front). map place_of noted.frames ++ p ∷ []) (place_of_front f rest front) in
     record {
-      frames = noted.frames ++ frame ∷ [];
-      whole = noted.whole ∙ ap (λ l. fs ++ l) whole ∙ sym (append_assoc fs (frame_bytes frame) new) ∙ ap (λ l. l ++ new) (sym (pushed noted.frames frame));
-      each = each_push noted.frames frame noted.each front.fits;
-      places = joined ∙ ap (λ l. l ++ f ∷ []) noted.places ∙ append_assoc before (map place_of noted.frames) (f ∷ []) ∙ ap (λ l. before ++ l) (sym places);
+      frames = so_far.frames ++ frame ∷ [];
+      whole = so_far.whole ∙ ap (λ l. fs ++ l) whole ∙ sym (append_assoc fs (frame_bytes frame) new) ∙ ap (λ l. l ++ new) (sym (pushed so_far.frames frame));
+      each = each_push so_far.frames frame so_far.each front.fits;
+      count = omega (arith, so_far.count, length-append so_far.frames (frame ∷ []));
     }
 
-pub finding_more : (bytes rest new : List ℕ) (before after grown : List Front) (old now next : Memory) (f : Front) → Finding bytes rest before after old now → IsFront f rest
-    → new ≡ drop f.total rest → grown ≡ after ++ f ∷ [] → next ≡ record { header = None; headers = headers_after now.header (header_of rest) now.headers } → Finding bytes new before grown old next
-unfolding notes_more
-finding_more bytes rest new before after grown old now next f so_far front left joined is =
-    let noted = notes_more bytes rest new before after grown f so_far.noted front left joined in
-    let long : 5 ≤ length rest = omega (arith, front.least, front.most) in
-    let none : next.header ≡ None = ap (λ (m : Memory). m.header) is in
-    let more : length noted.frames ≡ length so_far.noted.frames + 1 = length-append so_far.noted.frames (front_frame f rest ∷ []) in
+-- each frame takes bytes
+frames_take : (frames : List Frame) → length frames ≤ length (flat_map frame_bytes frames)
+frames_take [] = omega arith
+frames_take (f ∷ frames) =
+    let cons : length (flat_map frame_bytes (f ∷ frames)) ≡ length (frame_bytes f ++ flat_map frame_bytes frames) = ap length (flat_map-cons frame_bytes f frames) in
+    omega (arith, cons, length-frame f (flat_map frame_bytes frames), frames_take frames)
+
+pub finding_within : (bytes rest : List ℕ) (count : ℕ) → Finding bytes rest count → count + length rest ≤ length bytes
+finding_within bytes rest count so_far = omega (arith, so_far.count, frames_take so_far.frames, ap length so_far.whole, length-append (flat_map frame_bytes so_far.frames) rest)
+
+pub finds_frames : (bytes rest : List ℕ) (found : Found) → Finding bytes rest found.count → IsEnding found.stopped rest → found.len ≡ length bytes - length rest → FindsFrames bytes found
+finds_frames bytes rest found so_far ending is =
+    let fs = flat_map frame_bytes so_far.frames in
+    let len : found.len ≡ length fs = omega (arith, is, ap length so_far.whole, length-append fs rest) in
+    let front : take found.len bytes ≡ fs = ap (λ j. take j bytes) len ∙ ap (take (length fs)) so_far.whole ∙ take-append_seam fs rest in
+    let behind : drop found.len bytes ≡ rest = ap (λ j. drop j bytes) len ∙ ap (drop (length fs)) so_far.whole ∙ drop-append_seam fs rest in
     record {
-      noted = noted;
-      fits = subst (λ (h : Option (ℕ × ℕ)). IfSome h (λ x. header_of new ≡ Some x)) (sym none) tt;
-      read = so_far.read + fresh now.header (header_of rest);
-      one_each = omega (arith, so_far.one_each, fresh_frame now.header (header_of rest) _ (header_of_long rest long), more, ap count_of none);
-      counted = λ most. omega (arith, ap (λ (m : Memory). m.headers) is, fresh_counts now.header (header_of rest) now.headers (omega (arith, so_far.counted most)), so_far.counted most);
+      within = omega (arith, is);
+      front = record { frames = so_far.frames; whole = front; each = so_far.each; count = so_far.count };
+      ending = subst (IsEnding found.stopped) (sym behind) ending;
     }
 
-pub finds_all : (bytes rest : List ℕ) (before after : List Front) (old now next : Memory) (found : Found) → Finding bytes rest before after old now → IsEnding found.stopped rest
-    → found.len ≡ length bytes - length rest → next ≡ record { header = header_of rest; headers = headers_after now.header (header_of rest) now.headers } → FindsAll bytes before after old next found
-finds_all bytes rest before after old now next found so_far ending len is =
-    let header : next.header ≡ header_of rest = ap (λ (m : Memory). m.header) is in
-    record {
-      rest = rest;
-      noted = so_far.noted;
-      len = omega (arith, len, ap length so_far.noted.whole, length-append (flat_map frame_bytes so_far.noted.frames) rest);
-      ending = ending;
-      header = header;
-      read = so_far.read + fresh now.header (header_of rest);
-      one_each = omega (arith, so_far.one_each, fresh_left now.header (header_of rest) so_far.fits, ap count_of header);
-      counted = λ most. omega (arith, ap (λ (m : Memory). m.headers) is, fresh_counts now.header (header_of rest) now.headers (omega (arith, so_far.counted most)), so_far.counted most);
-    }
+pub found_within : (bytes : List ℕ) (found : Found) → FindsFrames bytes found → found.count ≤ length bytes
+found_within bytes found all = omega (arith, all.front.count, frames_take all.front.frames, ap length all.front.whole, length-take found.len bytes)
 
--- ---- taken
+pub count_one : (header : Option (ℕ × ℕ)) → count_of header ≤ 1
+count_one None = omega arith
+count_one (Some header) = omega arith
 
--- the front that was found stands there
-pub stands : (f : Front) (bytes : List ℕ) → IsFront f bytes → StandsAt f bytes
-stands f bytes front = record { frame = front_frame f bytes; rest = drop f.total bytes; place = sym (place_of_front f bytes front); whole = front.whole; fits = front.fits }
+-- a header that is remembered is that of the first frame, or of what stands behind no frame
+known_of : (frames : List Frame) (bytes : List ℕ) (len : ℕ) (known : Option (ℕ × ℕ)) → take len bytes ≡ flat_map frame_bytes frames → len ≤ length bytes → IfSome known (λ h. header_of bytes ≡ Some h)
+    → count_of known ≤ length frames + count_of (header_of (drop len bytes))
+known_of (f ∷ frames) bytes len known front within fits = omega (arith, count_one known)
+known_of [] bytes len None front within fits = omega arith
+known_of [] bytes len (Some h) front within fits =
+    let none : len ≡ 0 = omega (arith, ap length front, length-take len bytes, within) in
+    omega (arith, ap count_of (ap (λ j. header_of (drop j bytes)) none ∙ fits))
 
-length-frame_bytes : (f : Frame) → length (frame_bytes f) ≡ length f.payload + 5
-unfolding uint32
-length-frame_bytes f = omega arith
+pub known_counts : (bytes : List ℕ) (known behind : Option (ℕ × ℕ)) (found : Found) → FindsFrames bytes found → behind ≡ header_of (drop found.len bytes) → IfSome known (λ h. header_of bytes ≡ Some h) → count_of known ≤ found.count + count_of behind
+known_counts bytes known behind found all is fits = omega (arith, known_of all.front.frames bytes found.len known all.front.whole all.within fits, all.front.count, ap count_of is)
 
-behind : (f : Frame) → drop 5 (frame_bytes f) ≡ f.payload
-unfolding uint32
-behind f = refl
+pub finds_all : (bytes : List ℕ) (old new : Memory) (found : Found) (read : ℕ) → FindsFrames bytes found → new.header ≡ header_of (drop found.len bytes) → read ≡ found.count + count_of new.header - count_of old.header
+    → count_of old.header ≤ found.count + count_of new.header → (old.headers < 2 ^ 64 → new.headers ≡ min (old.headers + read) (2 ^ 64 - 1)) → FindsAll bytes old new found
+finds_all bytes old new found read finds header is most counted = record { finds = finds; header = header; read = read; one_each = omega (arith, is, most); counted = counted }
 
--- the frame that stands there is the one that is cut
-pub front_there : (f : Front) (bytes : List ℕ) → StandsAt f bytes → IsFront f bytes
-front_there f bytes there =
-    let frame = there.frame in
-    let total : f.total ≡ length (frame_bytes frame) = ap (λ (p : Front). p.total) there.place ∙ sym (length-frame_bytes frame) in
-    let cut : take f.total bytes ≡ frame_bytes frame = ap (λ l. take f.total l) there.whole ∙ ap (λ n. take n (frame_bytes frame ++ there.rest)) total ∙ take-append_seam (frame_bytes frame) there.rest in
-    let left : drop f.total bytes ≡ there.rest = ap (λ l. drop f.total l) there.whole ∙ ap (λ n. drop n (frame_bytes frame ++ there.rest)) total ∙ drop-append_seam (frame_bytes frame) there.rest in
-    let same : front_frame f bytes ≡ frame = same_frame (front_frame f bytes) frame (ap (λ (p : Front). p.tag) there.place) (ap (λ l. drop 5 l) cut ∙ behind frame) in
-    record {
-      whole = there.whole ∙ ap (λ (g : Frame). frame_bytes g ++ there.rest) (sym same) ∙ ap (λ l. frame_bytes (front_frame f bytes) ++ l) (sym left);
-      fits = subst IsFrame (sym same) there.fits;
-      least = omega (arith, total, length-frame_bytes frame);
-      most = omega (arith, total, ap length there.whole, length-append (frame_bytes frame) there.rest);
-    }
+-- ---- read
+
+pub begins_long : (bytes : List ℕ) → BeginsWithFrame bytes → 5 ≤ length bytes
+begins_long bytes b = omega (arith, ap length b.whole, length-frame b.first b.rest)
+
+-- the frame that the bytes begin with is the one that its header tells
+pub front_begins : (bytes : List ℕ) (tag total : ℕ) → IsBytes bytes → BeginsWithFrame bytes → tag ≡ get_or bytes 0 0 → total ≡ announced bytes + 1 → IsFront (record { tag = tag; total = total }) bytes
+front_begins bytes tag total each b tag_is total_is =
+    let is : announced bytes ≡ length b.first.payload + 4 = ap announced b.whole ∙ announced_frame b.first b.rest b.fits in
+    let len = ap length b.whole ∙ length-frame b.first b.rest in
+    found bytes (announced bytes) tag total (cut bytes (announced bytes) each (omega (arith, is, b.fits.fits)) refl (omega (arith, is)) (omega (arith, is, len))) tag_is total_is
+
+-- the bytes begin with the first of the frames
+pub frames_begin : (bytes : List ℕ) (n : ℕ) → AreFrames bytes n → 0 < n → BeginsWithFrame bytes
+frames_begin bytes n are some = begin are.frames are.whole are.each are.count
+  where
+    begin : (frames : List Frame) → bytes ≡ flat_map frame_bytes frames → AllByRecursion IsFrame frames → n ≡ length frames → BeginsWithFrame bytes
+    begin [] whole each count = absurd (omega (arith, some, count))
+    begin (f ∷ frames) whole each count = record { first = f; rest = flat_map frame_bytes frames; whole = whole ∙ flat_map-cons frame_bytes f frames; fits = each.0 }
+
+-- behind it are the others
+frames_left : (bytes new : List ℕ) (n : ℕ) (r : Result Message Error) → AreFrames bytes n → 0 < n → TakesFrame bytes r new → AreFrames new (n - 1)
+frames_left bytes new n r are some one = behind are.frames are.whole are.each are.count
+  where
+    behind : (frames : List Frame) → bytes ≡ flat_map frame_bytes frames → AllByRecursion IsFrame frames → n ≡ length frames → AreFrames new (n - 1)
+    behind [] whole each count = absurd (omega (arith, some, count))
+    behind (f ∷ frames) whole each count =
+        let same = front_is_one f one.first (flat_map frame_bytes frames) new each.0 one.fits (sym (flat_map-cons frame_bytes f frames) ∙ sym whole ∙ one.whole) in
+        record { frames = frames; whole = sym same.1; each = each.1; count = omega (arith, count) }
+
+-- there are frames where there are bytes
+pub frames_some : (bytes : List ℕ) (n : ℕ) → AreFrames bytes n → 0 < length bytes → 0 < n
+frames_some bytes n are some = count are.frames are.whole are.count
+  where
+    count : (frames : List Frame) → bytes ≡ flat_map frame_bytes frames → n ≡ length frames → 0 < n
+    count [] whole is = absurd (omega (arith, some, ap length whole))
+    count (f ∷ frames) whole is = omega (arith, is)
+
+no_frames : (bytes : List ℕ) (n : ℕ) → AreFrames bytes n → length bytes ≡ 0 → (bytes ≡ []) × (n ≡ 0)
+no_frames bytes n are empty = none are.frames are.whole are.count
+  where
+    none : (frames : List Frame) → bytes ≡ flat_map frame_bytes frames → n ≡ length frames → (bytes ≡ []) × (n ≡ 0)
+    none [] whole is = (whole, is)
+    none (f ∷ frames) whole is = absurd (omega (arith, empty, ap length whole, ap length (flat_map-cons frame_bytes f frames), length-frame f (flat_map frame_bytes frames)))
+
+-- some frames were read, and so many are left
+pub record Taking (all now : List ℕ) (n left : ℕ) (before mid : List (Result Message Error)) : Type 0 where
+  pub more : List (Result Message Error)
+  pub grown : mid ≡ before ++ more
+  pub frames : Frames all more now
+  pub count : length more + left ≡ n
+  pub behind : AreFrames now left
+
+pub taking_none : (all : List ℕ) (n : ℕ) (before mid : List (Result Message Error)) → AreFrames all n → mid ≡ before → Taking all all n n before mid
+taking_none all n before mid are same = record { more = []; grown = same ∙ sym (append-nil before); frames = frames_none all; count = omega arith; behind = are }
+
+pub taking_more : (all now new : List ℕ) (n left : ℕ) (before mid after : List (Result Message Error)) → Taking all now n left before mid → 0 < left → TakesOnto now new mid after → Taking all new n (left - 1) before after
+taking_more all now new n left before mid after t some one = record {
+  more = t.more ++ one.result ∷ [];
+  grown = one.grown ∙ ap (λ l. l ++ one.result ∷ []) t.grown ∙ append_assoc before t.more (one.result ∷ []);
+  frames = frames_next all now new t.more one.result t.frames one.takes;
+  count = omega (arith, length-append t.more (one.result ∷ []), t.count, some);
+  behind = frames_left now new left one.result t.behind some one.takes;
+}
+
+pub takes_none : (bytes : List ℕ) (before after : List (Result Message Error)) → after ≡ before → TakesSome bytes before after
+takes_none bytes before after same = record { more = []; grown = same ∙ sym (append-nil before); left = bytes; frames = frames_none bytes }
+
+pub taking_some : (all now : List ℕ) (n left : ℕ) (before mid after : List (Result Message Error)) → Taking all now n left before mid → after ≡ mid → TakesSome all before after
+taking_some all now n left before mid after t same = record { more = t.more; grown = same ∙ t.grown; left = now; frames = t.frames }
+
+pub taking_all : (all now : List ℕ) (n left : ℕ) (before mid : List (Result Message Error)) → Taking all now n left before mid → length now ≡ 0 → TakesEach all n before mid
+taking_all all now n left before mid t empty =
+    let none = no_frames now left t.behind empty in
+    record { more = t.more; grown = t.grown; frames = subst (λ l. Frames all t.more l) none.0 t.frames; count = omega (arith, t.count, none.1) }
 
 -- the frame that stands further on ends within the bytes
 pub ends_within : (f : Front) (bytes : List ℕ) (at : ℕ) → IsFront f (drop at bytes) → at + f.total ≤ length bytes

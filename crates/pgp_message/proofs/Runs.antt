@@ -58,11 +58,11 @@ framed q t = record { tag = t; payload = q }
 pub same_frame : (f g : Frame) → f.tag ≡ g.tag → f.payload ≡ g.payload → f ≡ g
 same_frame f g t p = ap (framed f.payload) t ∙ ap (λ q. framed q g.tag) p
 
-announced_frame : (f : Frame) (x : List ℕ) → IsFrame f → announced (frame_bytes f ++ x) ≡ length f.payload + 4
+pub announced_frame : (f : Frame) (x : List ℕ) → IsFrame f → announced (frame_bytes f ++ x) ≡ length f.payload + 4
 unfolding uint32
 announced_frame f x fits = from_be_bytes-to_be_bytes_4 (length f.payload + 4) fits.fits
 
-length-frame : (f : Frame) (x : List ℕ) → length (frame_bytes f ++ x) ≡ length f.payload + 5 + length x
+pub length-frame : (f : Frame) (x : List ℕ) → length (frame_bytes f ++ x) ≡ length f.payload + 5 + length x
 unfolding uint32
 length-frame f x = omega (arith, length-append f.payload x)
 

@@ -3,8 +3,12 @@ use Rattle.std.specs.Prelude.{◌≡◌, ℕ, ◌≤◌, List, ◌++◌, length,
 use Rattle.std.specs.Int.{w32, from_be_bytes}
 use Rattle.pgp_base.specs.declared.error.Error.{Error}
 use Rattle.pgp_base.specs.declared.error.Error.TheVariants as errors
-pub use Rattle.pgp_message.specs.Found.{Front}
 use Rattle.pgp_message.specs.Stream.{Frame, frame_bytes, IsFrame, IsPartial, IsLengthFault}
+
+-- the header of a whole frame as it is used: its tag, and how many bytes the frame takes
+pub record Front : Type 0 where
+  pub tag : ℕ
+  pub total : ℕ
 
 -- the length that the bytes announce behind their tag
 abbrev pub announced : List ℕ → ℕ

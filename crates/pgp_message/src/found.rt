@@ -1,22 +1,19 @@
-//! Frames that were found in a slice, and then read where they stand in shared bytes.
+//! Whole frames that are found at the front of bytes.
 
-ghost use Rattle.std.specs.Prelude.{◌≡◌, ◌+◌, drop, map, IfOk, OnErr};
-ghost use Rattle.pgp_message.specs.Found.{StandsAt, TakesOnto};
-ghost use Rattle.pgp_message.specs.Views.{seen};
+ghost use Rattle.std.specs.Prelude.{◌≡◌, ◌≤◌, drop, length};
+ghost use Rattle.pgp_message.specs.Found.{FindsFrames};
+ghost use Rattle.pgp_message.specs.Remembered.{header_of};
 
-use crate::frame::Front;
-use crate::message::{Message, body_onto, keeps_bytes, plain_onto};
-use crate::tag::AUTHENTICATION_TAG;
-use bytes::Bytes;
-use pgp_base::Error;
-use std::alloc::{AllocError, Allocator};
+use crate::frame::{Front, header_of};
 use std::marker::Model;
 
-/// How far whole frames reach.
+/// Whole frames at the front of bytes.
 #[derive(Clone, Copy)]
 pub struct Found {
     /// How many bytes they take.
     pub len: usize,
+    /// How many they are.
+    pub count: usize,
     /// Whether a length fault stands behind them.
     pub stopped: bool,
 }
@@ -26,41 +23,48 @@ impl Model for Found {
 
     ghost Value = { Found };
 
-    ghost view = { λ found. record { len = found.len; stopped = found.stopped } };
+    ghost view = { λ found. record { len = found.len; count = found.count; stopped = found.stopped } };
 
-    ghost inverse = { λ found. record { len = found.len; stopped = found.stopped } };
+    ghost inverse = { λ found. record { len = found.len; count = found.count; stopped = found.stopped } };
 }
 
-impl Front {
-    /// Adds the message of this frame, which stands at `at` in shared bytes, or the refusal of its body, to the list, and
-    /// answers where the frame ends.
-    ///
-    /// # Errors
-    ///
-    /// `AllocError` where memory was refused. The list stays as it is.
-    pub fn take_onto<A: Allocator>(
-        self,
-        bytes: &Bytes<A>,
-        at: usize,
-        results: &mut Vec<Result<Message<Bytes<A>>, Error>, A>,
-    ) -> Result<usize, AllocError>
-        requires { StandsAt self (drop at bytes.now) }
-        ensures end { IfOk result (λ end. end ≡ at + self.total) }
-        ensures ok { IfOk result (λ end. TakesOnto (drop at bytes.now) (drop end bytes.now)
-            (map seen results.old.items) (map seen results.new.items)) }
-        ensures list { OnErr result (map seen results.new.items ≡ map seen results.old.items) }
-    {
-        results.reserve(1)?;
-        let all = bytes.as_slice();
-        let end = at + self.total;
-        let payload = &all[at + 5..end];
-        // Requests of authentication are rare: without them the answers of this branch stay in registers.
-        if self.tag != AUTHENTICATION_TAG && !keeps_bytes(self.tag, payload) {
-            plain_onto(results, self.tag, payload);
-            return Ok(end);
+/// Looks for the whole frames at the front of bytes that have this header.
+pub(crate) fn whole_frames(header: Option<(u8, u32)>, bytes: &[u8]) -> Found
+    requires { header ≡ header_of bytes.now }
+    ensures { FindsFrames bytes.now result }
+{
+    let mut here = header;
+    let mut rest = bytes;
+    let mut count = 0usize;
+    'frames: loop {
+        match Front::find(here, rest) {
+            Ok(Some(front)) => {
+                let (_, after) = rest.split_at(front.total);
+                here = header_of(after);
+                rest = after;
+                count += 1;
+            }
+            // The header is not told: so the loop has no need of the tags.
+            ended => {
+                return Found {
+                    len: bytes.len() - rest.len(),
+                    count,
+                    stopped: ended.is_err(),
+                };
+            }
         }
-        let payload = bytes.slice(at + 5..end)?;
-        body_onto(results, self.tag, payload);
-        Ok(end)
     }
+}
+
+/// The header behind so many bytes; behind none it is the first one, which isn't read again.
+pub(crate) fn header_behind(first: Option<(u8, u32)>, bytes: &[u8], len: usize) -> Option<(u8, u32)>
+    requires first { first ≡ header_of bytes.now }
+    requires within { len ≤ length bytes.now }
+    ensures { result ≡ header_of (drop len bytes.now) }
+{
+    if len == 0 {
+        return first;
+    }
+    let (_, rest) = bytes.split_at(len);
+    header_of(rest)
 }

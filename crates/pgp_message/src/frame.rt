@@ -2,7 +2,7 @@
 
 ghost use Rattle.std.specs.Prelude.{◌≡◌, ◌≤◌, Ok, Err, None, length, min, slice_index};
 ghost use Rattle.pgp_base.specs.Wire.{IsBytes};
-ghost use Rattle.pgp_message.specs.Remembered.{header_of, missing_of};
+ghost use Rattle.pgp_message.specs.Remembered.{count_of, header_of, missing_of};
 ghost use Rattle.pgp_message.specs.FrontReading.{Finds, announced};
 ghost use Rattle.pgp_message.specs.Stream.{IsPartial, IsLengthFault};
 
@@ -21,7 +21,7 @@ pub struct Front {
 }
 
 impl Model for Front {
-    ghost use Rattle.pgp_message.specs.Found.{Front};
+    ghost use Rattle.pgp_message.specs.FrontReading.{Front};
 
     ghost Value = { Front };
 
@@ -83,4 +83,14 @@ pub fn header_of(bytes: &[u8]) -> Option<(u8, u32)>
         return None;
     }
     Some(head(bytes))
+}
+
+/// How many headers these are.
+pub fn count_of(header: Option<(u8, u32)>) -> usize
+    ensures { result ≡ count_of header }
+{
+    match header {
+        None => 0,
+        Some(_) => 1,
+    }
 }

@@ -4,6 +4,7 @@
 mod body;
 mod found;
 mod frame;
+mod frames;
 mod header;
 pub mod laws;
 mod message;
@@ -21,7 +22,7 @@ pub use body::{
     ParameterStatusBody, ReadyForQueryBody, RowDescriptionBody,
 };
 pub use found::Found;
-pub use frame::Front;
+pub use frames::read_frames;
 pub use header::Header;
 pub use message::{Message, Messages};
 pub use parser::FrameParser;

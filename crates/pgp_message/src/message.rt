@@ -1,6 +1,6 @@
 //! The messages that a server sends.
 
-ghost use Rattle.std.specs.Prelude.{◌≡◌, ◌≢◌, ◌<◌, ◌++◌, ◌∷◌, [], map, false, Ok, Err, None, IfErr, vec_len, vec_capacity};
+ghost use Rattle.std.specs.Prelude.{◌≡◌, ◌≢◌, ◌<◌, ◌++◌, ◌∷◌, [], map, true, false, Ok, Err, None, IfErr, vec_len, vec_capacity};
 ghost use Rattle.pgp_message.specs.BackendMessage.{Authentication, BackendKeyData, ReadyForQuery};
 ghost use Rattle.pgp_message.specs.Reading.{ended, made, bare_request, bare_request_of, request_of, bare_of, body_of, key_data_of, byte_of};
 ghost use Rattle.pgp_message.specs.Stream.{Step, IsPartial, IsLengthFault};
@@ -220,7 +220,7 @@ pub(crate) fn bare<S: Storage>(tag: u8, payload: &[u8]) -> Result<Message<S>, Er
 /// What is told of a frame of which nothing is kept, where it is no authentication request: one call for each tag.
 /// A call of its own stores what it tells at once, where answers that meet behind a `match` go through memory.
 macro_rules! plain {
-    ($tag:ident, $payload:ident, $ended:ident, $told:ident $(, $list:ident)?) => {
+    ($tag:ident, $payload:ident, $ended:ident, $told:ident, $other:expr $(, $list:ident)?) => {
         match $tag {
             PARSE_COMPLETE_TAG => $ended($($list,)? $payload, Message::ParseComplete),
             BIND_COMPLETE_TAG => $ended($($list,)? $payload, Message::BindComplete),
@@ -231,7 +231,7 @@ macro_rules! plain {
             COPY_DONE_TAG => $ended($($list,)? $payload, Message::CopyDone),
             NO_DATA_TAG => $ended($($list,)? $payload, Message::NoData),
             PORTAL_SUSPENDED_TAG => $ended($($list,)? $payload, Message::PortalSuspended),
-            tag => $told($($list,)? Err(Error::UnknownTag(tag))),
+            _ => $other,
         }
     };
 }
@@ -244,21 +244,24 @@ fn plain<S: Storage>(tag: u8, payload: &[u8]) -> Result<Message<S>, Error>
     requires { tag ≢ 82 }
     ensures { seen result ≡ bare_of tag payload.now }
 {
-    plain!(tag, payload, ended, identity)
+    plain!(tag, payload, ended, identity, Err(Error::UnknownTag(tag)))
 }
 
-/// Adds that message, or its refusal, to a list that has room for it.
-#[tactic(auto, unfolding(crate::specs::Reading::bare_of))]
+/// Adds the message of a frame, or its refusal, to a list that has room for it, where the tag alone tells that it keeps no
+/// bytes of its frame; else it answers false and leaves the list.
+#[tactic(auto, unfolding(crate::specs::Reading::body_of, crate::specs::Reading::bare_of))]
 pub(crate) fn plain_onto<S: Storage, A: Allocator>(
     list: &mut Vec<Result<Message<S>, Error>, A>,
     tag: u8,
     payload: &[u8],
-)
-    requires tag { tag ≢ 82 }
-    requires room { vec_len list.old < vec_capacity list.old }
-    ensures { map seen list.new.items ≡ map seen list.old.items ++ bare_of tag payload.now ∷ [] }
+) -> bool
+    requires { vec_len list.old < vec_capacity list.old }
+    ensures joined { result ≡ true → map seen list.new.items ≡ map seen list.old.items ++ body_of tag payload.now ∷ [] }
+    ensures same { result ≡ false → (list.new.items ≡ list.old.items) × (vec_len list.new ≡ vec_len list.old) }
+    ensures room { vec_capacity list.new ≡ vec_capacity list.old }
 {
-    plain!(tag, payload, ended_onto, put, list)
+    plain!(tag, payload, ended_onto, put, return false, list);
+    true
 }
 
 fn key_data<S: Storage>(payload: &[u8]) -> Result<Message<S>, Error>
@@ -334,7 +337,8 @@ pub(crate) fn body_onto<S: Storage, A: Allocator>(
     payload: S,
 )
     requires { vec_len list.old < vec_capacity list.old }
-    ensures { map seen list.new.items ≡ map seen list.old.items ++ body_of tag (S.bytes payload) ∷ [] }
+    ensures joined { map seen list.new.items ≡ map seen list.old.items ++ body_of tag (S.bytes payload) ∷ [] }
+    ensures room { vec_capacity list.new ≡ vec_capacity list.old }
 {
     match tag {
         COMMAND_COMPLETE_TAG => match CommandCompleteBody::read(payload) {
@@ -386,7 +390,8 @@ fn ended_onto<S: Storage, A: Allocator>(
     message: Message<S>,
 )
     requires { vec_len list.old < vec_capacity list.old }
-    ensures { map seen list.new.items ≡ map seen list.old.items ++ ended (view message) payload.now ∷ [] }
+    ensures joined { map seen list.new.items ≡ map seen list.old.items ++ ended (view message) payload.now ∷ [] }
+    ensures room { vec_capacity list.new ≡ vec_capacity list.old }
 {
     if !payload.is_empty() {
         return put(list, Err(Error::NotDrained));
@@ -401,7 +406,8 @@ fn put<S: Storage, A: Allocator>(
     read: Result<Message<S>, Error>,
 )
     requires { vec_len list.old < vec_capacity list.old }
-    ensures { map seen list.new.items ≡ map seen list.old.items ++ seen read ∷ [] }
+    ensures joined { map seen list.new.items ≡ map seen list.old.items ++ seen read ∷ [] }
+    ensures room { vec_capacity list.new ≡ vec_capacity list.old }
 {
     list.push_reserved(read);
 }

@@ -1,18 +1,18 @@
 //! Cutting messages off the front of a buffer.
 
-ghost use Rattle.std.specs.Prelude.{◌≡◌, ◌↔◌, IsTrue, Ok, Err, None, IfOk, OnErr, max, min};
+ghost use Rattle.std.specs.Prelude.{◌≡◌, ◌↔◌, IsTrue, Ok, Err, None, max, min};
 ghost use Rattle.pgp_base.specs.Wire.{IsBytes};
-ghost use Rattle.pgp_message.specs.Found.{FindsAll, FindsSome};
+ghost use Rattle.pgp_message.specs.Found.{FindsAll};
 ghost use Rattle.pgp_message.specs.Remembered.{Fits, header_of, headers_after, memory_after, missing_of};
 ghost use Rattle.pgp_message.specs.Stream.{Step, IsPartial, IsLengthFault};
 ghost use Rattle.pgp_message.specs.Views.{parsed};
 
-use crate::found::Found;
-use crate::frame::{Front, head, room};
+use crate::found::{Found, header_behind, whole_frames};
+use crate::frame::{Front, count_of, head, header_of, room};
 use crate::message::{Message, bare, body, keeps_bytes};
 use bytes::{Buf, Bytes, BytesMut};
 use pgp_base::Error;
-use std::alloc::{AllocError, Allocator};
+use std::alloc::Allocator;
 use std::marker::Model;
 
 /// Takes messages off the front of a buffer, and remembers the header of a frame that it had to leave,
@@ -104,45 +104,23 @@ impl FrameParser {
         room(self.header, held).max(1)
     }
 
-    /// Looks for the whole frames at the front of the bytes, takes none, and adds the place of each to the list. The
-    /// header behind them is remembered for the next call, and each header is read once.
-    ///
-    /// # Errors
-    ///
-    /// `AllocError` where the list couldn't grow. Then it has some of the places, and the parser stays as it was.
-    pub fn find_all<A: Allocator>(
-        &mut self,
-        bytes: &[u8],
-        fronts: &mut Vec<Front, A>,
-    ) -> Result<Found, AllocError>
+    /// Looks for the whole frames at the front of the bytes, and takes none. The header behind them is remembered for the
+    /// next call. The header of each frame is counted once, and one that was remembered isn't read again.
+    pub fn find_all(&mut self, bytes: &[u8]) -> Found
         requires { Fits self.old bytes.now }
-        ensures ok { IfOk result (FindsAll bytes.now fronts.old.items fronts.new.items self.old self.new) }
-        ensures err { OnErr result (self.new ≡ self.old) }
-        ensures some { OnErr result (FindsSome bytes.now fronts.old.items fronts.new.items) }
+        ensures { FindsAll bytes.now self.old self.new result }
     {
-        let mut parser = FrameParser {
-            header: self.header,
-            headers: self.headers,
+        let known = self.header;
+        let first = match known {
+            Some(header) => Some(header),
+            None => header_of(bytes),
         };
-        let mut rest = bytes;
-        'fronts: loop {
-            let header = parser.read(rest);
-            match Front::find(header, rest) {
-                Ok(Some(front)) => {
-                    fronts.push(front)?;
-                    let (_, after) = rest.split_at(front.total);
-                    rest = after;
-                    parser.header = None;
-                }
-                ended => {
-                    *self = parser;
-                    return Ok(Found {
-                        len: bytes.len() - rest.len(),
-                        stopped: ended.is_err(),
-                    });
-                }
-            }
-        }
+        let found = whole_frames(first, bytes);
+        let behind = header_behind(first, bytes, found.len);
+        let read = found.count + count_of(behind) - count_of(known);
+        self.header = behind;
+        self.headers = self.headers.saturating_add(read as u64);
+        found
     }
 
     /// The header at the front of the bytes, which is remembered from now on. It is read, and counted,

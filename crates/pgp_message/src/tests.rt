@@ -1,10 +1,6 @@
 mod bodies;
 
-ghost use Rattle.std.specs.Prelude.{◌≤◌, length, drop, IfSome};
-ghost use Rattle.pgp_message.specs.Found.{StandsAt};
-
-use crate::frame::header_of;
-use crate::{FrameParser, Front, Header, Message, Messages, Storage};
+use crate::{FrameParser, Header, Message, Messages, Storage, read_frames};
 use bodies::{
     Read, command_complete, copy_data, copy_in, copy_out, data_row, error_response, gss_continue,
     key_data, md5_password, notice_response, notification, parameter_description, parameter_status,
@@ -597,52 +593,38 @@ const FOUR_AND_A_CUT_ROW: &[u8] =
     b"\x5a\0\0\0\x06\x49\0\x31\0\0\0\x04\x43\0\0\0\x06A\0\x52\0\0\0\x08\0\0\0\0\x44\0\0\0\x13\0";
 
 #[test]
-fn whole_frames_are_found_where_they_stand(rt: HostRuntime) -> Result<(), Fail> {
+fn whole_frames_are_found(rt: HostRuntime) -> Result<(), Fail> {
     let mut parser = FrameParser::new();
-    let mut fronts = Vec::new(rt.alloc());
-    let found = parser.find_all(FOUR_AND_A_CUT_ROW, &mut fronts)?;
-    assert_eq!(rt; (found.len, found.stopped), (28, false));
-    assert_eq!(rt; fronts.len(), 4);
-    let places = [(0x5a, 7), (0x31, 5), (0x43, 7), (0x52, 9)];
-    for (at, place) in places.iter().enumerate() {
-        assert_eq!(rt; place_at(fronts.as_slice(), at), Some(*place));
-    }
+    let found = parser.find_all(FOUR_AND_A_CUT_ROW);
+    assert_eq!(rt; (found.len, found.count, found.stopped), (28, 4, false));
     assert_eq!(rt; (parser.headers(), parser.missing(6)), (5, 14));
     Ok(())
 }
 
-/// The tag of the frame found there, and how many bytes it takes.
-fn place_at(fronts: &[Front], at: usize) -> Option<(u8, usize)> {
-    let front = fronts.get(at)?;
-    Some((front.tag, front.total))
-}
-
 #[test]
-fn a_remembered_header_is_not_read_again(rt: HostRuntime) -> Result<(), Fail> {
+fn a_remembered_header_is_not_counted_again(rt: HostRuntime) -> Result<(), Fail> {
     let mut parser = FrameParser::new();
-    let mut fronts = Vec::new(rt.alloc());
     assert_eq!(rt; parser.missing(0), 5);
-    let found = parser.find_all(b"\x44\0\0", &mut fronts)?;
+    let found = parser.find_all(b"\x44\0\0");
     assert_eq!(rt;
-        (found.len, fronts.len(), parser.headers(), parser.missing(3)),
+        (found.len, found.count, parser.headers(), parser.missing(3)),
         (0, 0, 0, 2)
     );
-    let found = parser.find_all(&ROW[..5], &mut fronts)?;
+    let found = parser.find_all(&ROW[..5]);
     assert_eq!(rt;
-        (found.len, fronts.len(), parser.headers(), parser.missing(5)),
+        (found.len, found.count, parser.headers(), parser.missing(5)),
         (0, 0, 1, 15)
     );
-    let found = parser.find_all(ROW, &mut fronts)?;
-    assert_eq!(rt; (found.len, fronts.len(), parser.headers()), (20, 1, 1));
+    let found = parser.find_all(ROW);
+    assert_eq!(rt; (found.len, found.count, parser.headers()), (20, 1, 1));
     Ok(())
 }
 
 #[test]
 fn a_long_frame_is_asked_for_in_parts(rt: HostRuntime) -> Result<(), Fail> {
     let mut parser = FrameParser::new();
-    let mut fronts: Vec<Front, Global> = Vec::new(rt.alloc());
-    let found = parser.find_all(b"\x64\0\x0f\x42\x40", &mut fronts)?;
-    assert_eq!(rt; (found.len, found.stopped), (0, false));
+    let found = parser.find_all(b"\x64\0\x0f\x42\x40");
+    assert_eq!(rt; (found.len, found.count, found.stopped), (0, 0, false));
     assert_eq!(rt; parser.missing(5), 65536);
     assert_eq!(rt; parser.missing(1_000_000), 1);
     assert_eq!(rt; parser.missing(1_000_001), 1);
@@ -652,39 +634,24 @@ fn a_long_frame_is_asked_for_in_parts(rt: HostRuntime) -> Result<(), Fail> {
 #[test]
 fn a_length_fault_ends_what_is_found(rt: HostRuntime) -> Result<(), Fail> {
     let mut parser = FrameParser::new();
-    let mut fronts = Vec::new(rt.alloc());
-    let found = parser.find_all(b"\x31\0\0\0\x04\x31\0\0\0\x03\x31\0\0\0\x04", &mut fronts)?;
-    assert_eq!(rt; (found.len, found.stopped), (5, true));
-    assert_eq!(rt; (fronts.len(), parser.headers()), (1, 2));
+    let found = parser.find_all(b"\x31\0\0\0\x04\x31\0\0\0\x03\x31\0\0\0\x04");
+    assert_eq!(rt; (found.len, found.count, found.stopped), (5, 1, true));
+    assert_eq!(rt; parser.headers(), 2);
     Ok(())
 }
 
-/// The frame that stands there in the bytes.
-fn front_at(bytes: &[u8], at: usize) -> Option<Front>
-    requires { at ≤ length bytes.now }
-    ensures { IfSome result (λ front. StandsAt front (drop at bytes.now)) }
-{
-    let (_, here) = bytes.split_at(at);
-    match Front::find(header_of(here), here) {
-        Ok(Some(front)) => Some(front),
-        _ => None,
-    }
+/// What the whole frames of the bytes are read as.
+fn read_found(alloc: Global, bytes: &[u8]) -> Result<Vec<Read<Bytes>>, Error> {
+    let found = FrameParser::new().find_all(bytes);
+    let frames = Bytes::copy_from_slice(alloc, &bytes[..found.len])?;
+    let mut list = Vec::new(alloc);
+    read_frames(&frames, found.count, &mut list)?;
+    Ok(list)
 }
 
 #[test]
-fn found_frames_are_taken_onto_a_list(rt: HostRuntime) -> Result<(), Fail> {
-    let mut fronts = Vec::new(rt.alloc());
-    let found = FrameParser::new().find_all(FOUR_AND_A_CUT_ROW, &mut fronts)?;
-    assert_eq!(rt; found.len, 28);
-    let bytes = Bytes::copy_from_slice(rt.alloc(), FOUR_AND_A_CUT_ROW)?;
-    let mut list = Vec::new(rt.alloc());
-    for (at, end) in [(0usize, 7usize), (7, 12), (12, 19), (19, 28)] {
-        assert!(rt; at <= bytes.len());
-        let Some(front) = front_at(bytes.as_slice(), at) else {
-            return Err(Error::UnexpectedEof.into());
-        };
-        assert_eq!(rt; front.take_onto(&bytes, at, &mut list)?, end);
-    }
+fn found_frames_are_read_onto_a_list(rt: HostRuntime) -> Result<(), Fail> {
+    let list = read_found(rt.alloc(), FOUR_AND_A_CUT_ROW)?;
     assert_eq!(rt; told(list.as_slice(), 0), Some(Err(Error::NotDrained)));
     assert_eq!(rt; told(list.as_slice(), 1), Some(Ok("ParseComplete")));
     assert_eq!(rt; told(list.as_slice(), 2), Some(Ok("CommandComplete")));

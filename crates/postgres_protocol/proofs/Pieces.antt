@@ -1,22 +1,21 @@
 -- A stream that goes on by a frame, or by a piece.
-use Rattle.std.proofs.Common.{◌≡◌, ℕ, suc, ◌+◌, ◌<◌, ◌≤◌, Bool, true, false, List, [], ◌∷◌, ◌++◌, length, take, drop, map, get_or, Option, Some, Result, refl, sym, ap, subst, ◌∙◌, append_assoc, arith}
+use Rattle.std.proofs.Common.{◌≡◌, ℕ, ◌+◌, ◌<◌, ◌≤◌, Bool, true, false, List, [], ◌∷◌, ◌++◌, length, take, drop, get_or, Option, Some, Result, refl, sym, ap, subst, ◌∙◌, append_assoc, arith}
 use Rattle.std.specs.Prelude.{IfSome}
-use Rattle.std.specs.List.{flat_map, AllByRecursion}
-use Rattle.std.proofs.Math.ListN.{drop_of_length-le}
-use Rattle.std.proofs.Math.Seq.{take-append_seam, drop-append_seam, drop-cons, take-length}
-use Rattle.std.proofs.lemmas.List.{take_more, take-append-drop, append-nil, length-append, length-drop, length-map}
+use Rattle.std.specs.List.{flat_map}
+use Rattle.std.proofs.Math.Seq.{take-length}
+use Rattle.std.proofs.lemmas.List.{take_more, take-append-drop, append-nil, length-append, length-drop}
 use Rattle.pgp_base.specs.declared.error.Error.{Error}
 use Rattle.pgp_message.specs.BackendMessage.{Message}
 use Rattle.std.proofs.lemmas.List.Concat.{flat_map-cons}
 use Rattle.std.proofs.lemmas.Grind.{flat_map-append}
 use Rattle.pgp_base.specs.Wire.{uint32}
 use Rattle.pgp_message.specs.Remembered.{Memory, Fits, header_of, headers_read}
-use Rattle.pgp_message.specs.Found.{Front, Found, place_of, FindsAll, StandsAt, TakesOnto}
-use Rattle.pgp_message.specs.Stream.{Frame, frame_bytes, IsFrame, Frames, IsEnding, TakesFrame, BackendRun}
+use Rattle.pgp_message.specs.Found.{Found, FindsAll, TakesEach, TakesSome}
+use Rattle.pgp_message.specs.Stream.{frame_bytes, Frames, IsEnding, BackendRun}
 use Rattle.pgp_message.proofs.Fronts.{fault_stays}
 use Rattle.pgp_message.proofs.Headers.{fits_grows, fits_itself, header_of_long, header_stays}
-use Rattle.pgp_message.proofs.Runs.{front_is_one, frames_join}
-use Rattle.postgres_protocol.specs.ServerStream.{Reading, GoesOn, Fails, Takes, TakesAll, TakesSome, Moves, TakesPart, ready, AreFronts, TakesEach}
+use Rattle.pgp_message.proofs.Runs.{frames_join}
+use Rattle.postgres_protocol.specs.ServerStream.{Reading, GoesOn, Fails, Takes, TakesAll, Moves, TakesPart, ready}
 
 -- where a length fault stopped it a header stands there
 pub stopped_long : (stopped : Bool) (rest : List ℕ) → IsEnding stopped rest → stopped ≡ true → 5 ≤ length rest
@@ -220,145 +219,29 @@ some_of_all old new before after m n stopped all = record { more = all.takes.mor
 
 -- ---- the whole frames of a piece
 
--- the frames that were found, and what stands behind them
-record Halves (piece : List ℕ) (fronts : List Front) (m n : Memory) (found : Found) (all : FindsAll piece [] fronts m n found) : Type 0 where
-  front : take found.len piece ≡ flat_map frame_bytes all.noted.frames
-  back : drop found.len piece ≡ all.rest
-
-halves : (piece : List ℕ) (fronts : List Front) (m n : Memory) (found : Found) (all : FindsAll piece [] fronts m n found) → Halves piece fronts m n found all
-halves piece fronts m n found all =
-    let fs = flat_map frame_bytes all.noted.frames in
-    record {
-      front = ap (λ j. take j piece) all.len ∙ ap (take (length fs)) all.noted.whole ∙ take-append_seam fs all.rest;
-      back = ap (λ j. drop j piece) all.len ∙ ap (drop (length fs)) all.noted.whole ∙ drop-append_seam fs all.rest;
-    }
-
-pub whole_frames : (piece : List ℕ) (fronts : List Front) (m n : Memory) (found : Found) → FindsAll piece [] fronts m n found → AreFronts fronts (take found.len piece)
-whole_frames piece fronts m n found all = record { frames = all.noted.frames; places = all.noted.places; whole = (halves piece fronts m n found all).front; each = all.noted.each }
-
-pub whole_taken : (piece kept : List ℕ) (fronts : List Front) (before after : List (Result Message Error)) (m n : Memory) (found : Found) → FindsAll piece [] fronts m n found
-    → TakesEach (take found.len piece) before after (length fronts) → kept ≡ drop found.len piece → TakesAll piece kept before after m n found.stopped
-whole_taken piece kept fronts before after m n found all each is =
-    let both = halves piece fronts m n found all in
-    let rest : kept ≡ all.rest = is ∙ both.back in
-    let many : length each.more ≡ length all.noted.frames = each.count ∙ ap length all.noted.places ∙ length-map all.noted.frames place_of in
-    let frames : Frames ((take found.len piece) ++ all.rest) each.more all.rest = frames_behind (take found.len piece) [] all.rest each.more each.frames in
-    let whole : take found.len piece ++ all.rest ≡ piece = ap (λ l. l ++ all.rest) both.front ∙ sym all.noted.whole in
-    let here : TakesAll piece all.rest before after m n found.stopped = record {
+pub whole_taken : (piece kept : List ℕ) (before after : List (Result Message Error)) (m n : Memory) (found : Found) → FindsAll piece m n found
+    → TakesEach (take found.len piece) found.count before after → kept ≡ drop found.len piece → TakesAll piece kept before after m n found.stopped
+whole_taken piece kept before after m n found all each is =
+    let front = take found.len piece in
+    let rest = drop found.len piece in
+    let here : TakesAll (front ++ rest) rest before after m n found.stopped = record {
       takes = record {
         more = each.more;
         grown = each.grown;
-        frames = subst (λ l. Frames l each.more all.rest) whole frames;
-        fits = subst (λ (h : Option (ℕ × ℕ)). IfSome h (λ x. header_of all.rest ≡ Some x)) (sym all.header) (fits_itself all.rest n.headers);
-        counted = λ k c. omega (arith, c, many, all.one_each, all.counted (omega (arith, c)));
+        frames = frames_behind front [] rest each.more each.frames;
+        fits = subst (λ (h : Option (ℕ × ℕ)). IfSome h (λ x. header_of rest ≡ Some x)) (sym all.header) (fits_itself rest n.headers);
+        counted = λ k c. omega (arith, c, each.count, all.one_each, all.counted (omega (arith, c)));
       };
-      ending = all.ending;
+      ending = all.finds.ending;
       header = all.header;
     } in
-    subst (λ l. TakesAll piece l before after m n found.stopped) (sym rest) here
+    subst (λ l. TakesAll piece l before after m n found.stopped) (sym is) (subst (λ l. TakesAll l rest before after m n found.stopped) (take-append-drop found.len piece) here)
 
-pub whole_some : (piece : List ℕ) (fronts : List Front) (before after : List (Result Message Error)) (m n : Memory) (found : Found) → FindsAll piece [] fronts m n found
-    → TakesSome (take found.len piece) before after → TakesSome piece before after
-whole_some piece fronts before after m n found all some =
-    let both = halves piece fronts m n found all in
-    let whole : take found.len piece ++ all.rest ≡ piece = ap (λ l. l ++ all.rest) both.front ∙ sym all.noted.whole in
-    record { more = some.more; grown = some.grown; left = some.left ++ all.rest; frames = subst (λ l. Frames l some.more (some.left ++ all.rest)) whole (frames_behind (take found.len piece) some.left all.rest some.more some.frames) }
-
--- nothing was taken
-pub takes_nothing : (bytes : List ℕ) (before after : List (Result Message Error)) → Frames bytes [] bytes → after ≡ before → TakesSome bytes before after
-takes_nothing bytes before after none same = record { more = []; grown = same ∙ sym (append-nil before); left = bytes; frames = none }
-
--- so many of the frames were taken
-pub record Taking (fronts : List Front) (i : ℕ) (all now : List ℕ) (before mid : List (Result Message Error)) : Type 0 where
-  pub more : List (Result Message Error)
-  pub grown : mid ≡ before ++ more
-  pub frames : Frames all more now
-  pub count : length more ≡ i
-  pub most : i ≤ length fronts
-  pub left : List Frame
-  pub places : drop i fronts ≡ map place_of left
-  pub whole : now ≡ flat_map frame_bytes left
-  pub each : AllByRecursion IsFrame left
-
-pub taking_none : (fronts : List Front) (all : List ℕ) (before : List (Result Message Error)) → AreFronts fronts all → Frames all [] all → Taking fronts 0 all all before before
-taking_none fronts all before are none = record {
-  more = [];
-  grown = sym (append-nil before);
-  frames = none;
-  count = refl;
-  most = omega arith;
-  left = are.frames;
-  places = are.places;
-  whole = are.whole;
-  each = are.each;
-}
-
--- the next frame, and those behind it
-record Next (front : Front) (fronts : List Front) (left : List Frame) : Type 0 where
-  frame : Frame
-  others : List Frame
-  is : left ≡ frame ∷ others
-  place : front ≡ place_of frame
-  places : fronts ≡ map place_of others
-
-next_of : (front : Front) (fronts : List Front) (left : List Frame) → front ∷ fronts ≡ map place_of left → Next front fronts left
-next_of front fronts [] e = absurd (cc e)
-next_of front fronts (f ∷ left) e = record { frame = f; others = left; is = refl; place = cc; places = cc }
-
-next_frame : (fronts : List Front) (i : ℕ) (d : Front) (all now : List ℕ) (before mid : List (Result Message Error)) → i < length fronts → (t : Taking fronts i all now before mid)
-    → Next (get_or fronts i d) (drop (i + 1) fronts) t.left
-next_frame fronts i d all now before mid lt t =
-    let one : suc i ≡ i + 1 = omega arith in
-    next_of (get_or fronts i d) (drop (i + 1) fronts) t.left (sym (drop-cons fronts i d lt ∙ ap (λ j. get_or fronts i d ∷ drop j fronts) one) ∙ t.places)
-
-next_bytes : (now : List ℕ) (left others : List Frame) (f : Frame) → left ≡ f ∷ others → now ≡ flat_map frame_bytes left → now ≡ frame_bytes f ++ flat_map frame_bytes others
-next_bytes now left others f is whole = whole ∙ ap (flat_map frame_bytes) is ∙ flat_map-cons frame_bytes f others
-
-next_each : (left others : List Frame) (f : Frame) → left ≡ f ∷ others → AllByRecursion IsFrame left → IsFrame f × AllByRecursion IsFrame others
-next_each left others f is each = subst (AllByRecursion IsFrame) is each
-
-pub taking_stands : (fronts : List Front) (i : ℕ) (d : Front) (all now : List ℕ) (before mid : List (Result Message Error)) → i < length fronts → Taking fronts i all now before mid → StandsAt (get_or fronts i d) now
-taking_stands fronts i d all now before mid lt t =
-    let next = next_frame fronts i d all now before mid lt t in
-    record {
-      frame = next.frame;
-      rest = flat_map frame_bytes next.others;
-      place = next.place;
-      whole = next_bytes now t.left next.others next.frame next.is t.whole;
-      fits = (next_each t.left next.others next.frame next.is t.each).0;
-    }
-
-pub taking_more : (fronts : List Front) (i : ℕ) (d : Front) (all now new : List ℕ) (before mid after : List (Result Message Error)) → i < length fronts → Taking fronts i all now before mid → TakesOnto now new mid after
-    → ((bytes old new : List ℕ) (results : List (Result Message Error)) (r : Result Message Error) → Frames bytes results old → TakesFrame old r new → Frames bytes (results ++ r ∷ []) new)
-    → Taking fronts (i + 1) all new before after
-taking_more fronts i d all now new before mid after lt t one goes =
-    let next = next_frame fronts i d all now before mid lt t in
-    let parts = next_each t.left next.others next.frame next.is t.each in
-    let same = front_is_one next.frame one.takes.first (flat_map frame_bytes next.others) new parts.0 one.takes.fits (sym (next_bytes now t.left next.others next.frame next.is t.whole) ∙ one.takes.whole) in
-    record {
-      more = t.more ++ one.result ∷ [];
-      grown = one.grown ∙ ap (λ l. l ++ one.result ∷ []) t.grown ∙ append_assoc before t.more (one.result ∷ []);
-      frames = goes all now new t.more one.result t.frames one.takes;
-      count = omega (arith, length-append t.more (one.result ∷ []), t.count);
-      most = omega (arith, lt);
-      left = next.others;
-      places = next.places;
-      whole = sym same.1;
-      each = parts.1;
-    }
-
-pub taking_some : (fronts : List Front) (i : ℕ) (all now : List ℕ) (before mid after : List (Result Message Error)) → Taking fronts i all now before mid → after ≡ mid → TakesSome all before after
-taking_some fronts i all now before mid after t same = record { more = t.more; grown = same ∙ t.grown; left = now; frames = t.frames }
-
--- no frame is left where no place is
-none_left : (left : List Frame) → map place_of left ≡ [] → flat_map frame_bytes left ≡ []
-none_left [] e = refl
-none_left (f ∷ left) e = cc
-
-pub taking_all : (fronts : List Front) (i : ℕ) (all now : List ℕ) (before mid : List (Result Message Error)) → length fronts ≤ i → Taking fronts i all now before mid → TakesEach all before mid (length fronts)
-taking_all fronts i all now before mid le t =
-    let none : now ≡ [] = t.whole ∙ none_left t.left (sym t.places ∙ drop_of_length-le fronts le) in
-    record { more = t.more; grown = t.grown; frames = subst (λ l. Frames all t.more l) none t.frames; count = omega (arith, t.count, t.most, le) }
+pub whole_some : (piece : List ℕ) (before after : List (Result Message Error)) (k : ℕ) → TakesSome (take k piece) before after → TakesSome piece before after
+whole_some piece before after k some =
+    let rest = drop k piece in
+    let frames = frames_behind (take k piece) some.left rest some.more some.frames in
+    record { more = some.more; grown = some.grown; left = some.left ++ rest; frames = subst (λ l. Frames l some.more (some.left ++ rest)) (take-append-drop k piece) frames }
 
 -- ---- what is shown of a piece
 

@@ -1,12 +1,10 @@
 -- What was read of a server's stream that comes in pieces.
-use Rattle.std.specs.Prelude.{◌≡◌, ℕ, ◌+◌, ◌<◌, ◌≤◌, Bool, true, false, List, [], ◌∷◌, ◌++◌, length, take, map, Result, Ok, Err}
-use Rattle.std.specs.List.{flat_map, AllByRecursion}
+use Rattle.std.specs.Prelude.{◌≡◌, ℕ, ◌+◌, ◌<◌, ◌≤◌, Bool, true, false, List, [], ◌∷◌, ◌++◌, length, take, Result, Ok, Err}
 use Rattle.pgp_base.specs.declared.error.Error.{Error}
 use Rattle.pgp_base.specs.declared.error.Error.TheVariants as errors
 use Rattle.pgp_message.specs.BackendMessage.{Message}
 use Rattle.pgp_message.specs.Remembered.{Memory, Fits, header_of, headers_read}
-use Rattle.pgp_message.specs.Found.{Front, place_of}
-use Rattle.pgp_message.specs.Stream.{Frame, frame_bytes, IsFrame, Frames, IsEnding, BackendRun}
+use Rattle.pgp_message.specs.Stream.{Frames, IsEnding, BackendRun}
 
 -- What a parser of pieces shows: the results that weren't handed out yet, whether a length fault stopped
 -- it, what is left to read, how many headers it has read, and whether it failed for want of memory.
@@ -80,13 +78,6 @@ pub record TakesAll (old new : List ℕ) (before after : List (Result Message Er
   pub ending : IsEnding stopped new
   pub header : n.header ≡ header_of new
 
--- some frames were read
-pub record TakesSome (old : List ℕ) (before after : List (Result Message Error)) : Type 0 where
-  pub more : List (Result Message Error)
-  pub grown : after ≡ before ++ more
-  pub left : List ℕ
-  pub frames : Frames old more left
-
 -- So many bytes of a piece moved behind what is kept: none where nothing is kept, else at least one where one is there.
 pub record Moves (old new piece : List ℕ) (moved : ℕ) : Type 0 where
   pub most : moved ≤ length piece
@@ -105,17 +96,3 @@ pub record TakesPart (old new piece : List ℕ) (before after : List (Result Mes
   pub all : TakesAll (old ++ take told.0 piece) new before after m n told.1
   pub last : old ≡ [] → told.0 ≡ length piece
   pub kept : 0 < length old → told.0 ≡ 0
-
--- frames of these places are all of the bytes
-pub record AreFronts (fronts : List Front) (bytes : List ℕ) : Type 0 where
-  pub frames : List Frame
-  pub places : fronts ≡ map place_of frames
-  pub whole : bytes ≡ flat_map frame_bytes frames
-  pub each : AllByRecursion IsFrame frames
-
--- so many frames were all of the bytes, and were read
-pub record TakesEach (bytes : List ℕ) (before after : List (Result Message Error)) (n : ℕ) : Type 0 where
-  pub more : List (Result Message Error)
-  pub grown : after ≡ before ++ more
-  pub frames : Frames bytes more []
-  pub count : length more ≡ n

@@ -1,14 +1,15 @@
 //! A server's stream, read as it comes.
 
 ghost use Rattle.std.specs.Prelude.{◌≡◌, ◌≤◌, ◌++◌, [], length, take, drop, map, false, IfOk, IfErr, OnOk, OnErr};
+ghost use Rattle.pgp_message.specs.Found.{TakesSome};
 ghost use Rattle.pgp_message.specs.Remembered.{Fits};
 ghost use Rattle.pgp_message.specs.Views.{seen};
-ghost use Rattle.postgres_protocol.specs.ServerStream.{HasRead, Feeds, HandsOut, TakesAll, TakesSome, Moves, TakesPart, ready, AreFronts, TakesEach};
+ghost use Rattle.postgres_protocol.specs.ServerStream.{HasRead, Feeds, HandsOut, TakesAll, Moves, TakesPart, ready};
 
 use super::parsed::Parsed;
 use bytes::Bytes;
 use pgp_base::Error;
-use pgp_message::{FrameParser, Front, Message, laws};
+use pgp_message::{FrameParser, Message, laws, read_frames};
 use std::alloc::{AllocError, Allocator, Global};
 use std::marker::Model;
 use std::mem;
@@ -19,8 +20,6 @@ use std::mem;
 pub struct StreamParser<A: Allocator = Global> {
     frames: FrameParser,
     rest: Vec<u8, A>,
-    /// Where the whole frames of a piece stand.
-    fronts: Vec<Front, A>,
     results: Vec<Result<Message<Bytes<A>>, Error>, A>,
     stopped: bool,
     failed: bool,
@@ -55,7 +54,6 @@ impl<A: Allocator + Copy> StreamParser<A> {
         StreamParser {
             frames: FrameParser::new(),
             rest: Vec::new(alloc),
-            fronts: Vec::new(alloc),
             results: Vec::new(alloc),
             stopped: false,
             failed: false,
@@ -85,13 +83,7 @@ impl<A: Allocator + Copy> StreamParser<A> {
             }
             return Ok(());
         }
-        match take_frames(
-            &mut self.frames,
-            &mut self.rest,
-            &mut self.fronts,
-            &mut self.results,
-            piece,
-        ) {
+        match take_frames(&mut self.frames, &mut self.rest, &mut self.results, piece) {
             Ok(stopped) => {
                 self.stopped = stopped;
                 Ok(())
@@ -166,7 +158,6 @@ impl<A: Allocator + Copy> StreamParser<A> {
 fn take_frames<A: Allocator + Copy>(
     frames: &mut FrameParser,
     rest: &mut Vec<u8, A>,
-    fronts: &mut Vec<Front, A>,
     results: &mut Vec<Result<Message<Bytes<A>>, Error>, A>,
     piece: &[u8],
 ) -> Result<bool, Error>
@@ -181,7 +172,7 @@ fn take_frames<A: Allocator + Copy>(
     'parts: loop {
         let moved = complete(frames, rest, left)?;
         let (_, behind) = left.split_at(moved);
-        let (used, stopped) = take_part(frames, rest, fronts, results, behind)?;
+        let (used, stopped) = take_part(frames, rest, results, behind)?;
         let (_, after) = behind.split_at(used);
         if stopped {
             rest.extend_from_slice(after)?;
@@ -218,7 +209,6 @@ fn complete<A: Allocator + Copy>(
 fn take_part<A: Allocator + Copy>(
     frames: &mut FrameParser,
     rest: &mut Vec<u8, A>,
-    fronts: &mut Vec<Front, A>,
     results: &mut Vec<Result<Message<Bytes<A>>, Error>, A>,
     piece: &[u8],
 ) -> Result<(usize, bool), Error>
@@ -228,12 +218,10 @@ fn take_part<A: Allocator + Copy>(
     ensures some { OnErr result (TakesSome (rest.old.items ++ piece.now) (map seen results.old.items) (map seen results.new.items)) }
     ensures err { IfErr result (λ e. e ≡ Error.OutOfMemory) }
 {
-    laws::no_frame();
-    fronts.clear();
-    let found = frames.find_all(ready(rest, piece), fronts)?;
+    let found = frames.find_all(ready(rest, piece));
     let kept = !rest.is_empty();
     let whole = share(rest, piece, found.len)?;
-    take_each(fronts.as_slice(), &whole, results)?;
+    read_frames(&whole, found.count, results)?;
     if kept {
         return Ok((0, found.stopped));
     }
@@ -281,26 +269,6 @@ fn share<A: Allocator + Copy>(
             Err(AllocError)
         }
     }
-}
-
-/// Adds the messages of the frames that shared bytes are.
-fn take_each<A: Allocator>(
-    fronts: &[Front],
-    shared: &Bytes<A>,
-    results: &mut Vec<Result<Message<Bytes<A>>, Error>, A>,
-) -> Result<(), AllocError>
-    requires { AreFronts fronts.now shared.now }
-    ensures ok { OnOk result (TakesEach shared.now (map seen results.old.items) (map seen results.new.items) (length fronts.now)) }
-    ensures some { OnErr result (TakesSome shared.now (map seen results.old.items) (map seen results.new.items)) }
-{
-    laws::no_frame();
-    laws::next_frame();
-    results.reserve(fronts.len())?;
-    let mut at = 0usize;
-    for front in fronts {
-        at = front.take_onto(shared, at, results)?;
-    }
-    Ok(())
 }
 
 /// Keeps bytes of a frame behind which so many more are missing, with room for those.

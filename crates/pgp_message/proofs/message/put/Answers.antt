@@ -3,5 +3,5 @@ use Rattle.std.proofs.lemmas.List.{map_push}
 use Rattle.pgp_message.specs.Views.{seen}
 use Rattle.pgp_message.proofs.message.put.Goals as goal
 
-pub returns : goal.returns
-returns g c = ap (map seen) (search rules) ∙ map_push seen c.args.list.now.items c.args.read
+pub returns-clause-joined : goal.returns-clause-joined
+returns-clause-joined g c = ap (map seen) (search rules) ∙ map_push seen c.args.list.now.items c.args.read

@@ -1,24 +1,22 @@
-use Rattle.std.proofs.Common.{rules, refl}
-use Rattle.pgp_message.specs.FrontReading.{Front, IsFront}
-use Rattle.pgp_message.proofs.FindLemmas.{finding_none, finding_more, finds_all}
+use Rattle.std.proofs.Common.{◌≡◌, ◌+◌, ◌-◌, ◌≤◌, drop, length, rules}
+use Rattle.pgp_message.specs.Remembered.{header_of, count_of}
+use Rattle.pgp_message.proofs.FindLemmas.{count_one, found_within, known_counts, finds_all}
 use Rattle.pgp_message.proofs.parser.FrameParser.find_all.Goals as goal
 
-pub fronts-init : goal.fronts-init
-fronts-init g c =
-    record {
-      so_far = finding_none c.args.bytes.now c.args.fronts.now.items c.args.self.now _ c.requires (search rules);
-      same = refl;
-    }
+pub header_behind-behind-requires-clause-within : goal.header_behind-behind-requires-clause-within
+header_behind-behind-requires-clause-within c = search rules
 
-pub fronts-preserved : goal.fronts-preserved
-fronts-preserved g c =
-    let f : Front = record { tag = c.front.inside.tag; total = c.front.inside.total } in
-    let front : IsFront f c.fronts.rest.now = search rules in
-    record {
-      so_far = finding_more c.args.bytes.now c.fronts.rest.now _ c.args.fronts.now.items c.fronts.fronts.items c.push.new.self.items c.args.self.now c.fronts.parser _ f c.fronts.invariant.so_far front (search rules) (search rules) (search rules);
-      same = c.fronts.invariant.same;
-    }
+pub overflow_add-read : goal.overflow_add-read
+overflow_add-read c =
+    let within : c.whole_frames-found.result.count ≤ length c.args.bytes.now = found_within c.args.bytes.now c.whole_frames-found.result c.whole_frames-found.ensures in
+    let same : c.found.inside.count ≡ c.whole_frames-found.result.count = search rules in
+    search (rules, within, same, count_one c.header_behind-behind.result)
 
-pub returns-in_default-clause-ok : goal.returns-in_default-clause-ok
-returns-in_default-clause-ok g c =
-    finds_all c.args.bytes.now c.fronts.rest.now c.args.fronts.now.items c.fronts.fronts.items c.args.self.now c.fronts.parser _ _ c.fronts.invariant.so_far (search rules) (search rules) (search rules)
+pub returns : goal.returns
+returns c =
+    let behind = c.header_behind-behind.result in
+    let known = c.args.self.now.header in
+    let finds = c.whole_frames-found.ensures in
+    let is : behind ≡ header_of (drop c.whole_frames-found.result.len c.args.bytes.now) = search rules in
+    finds_all c.args.bytes.now c.args.self.now _ c.whole_frames-found.result (c.found.inside.count + count_of behind - count_of known) finds is (search rules)
+    (known_counts c.args.bytes.now known behind c.whole_frames-found.result finds is c.requires) (λ small. search rules)

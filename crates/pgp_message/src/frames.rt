@@ -1,0 +1,76 @@
+//! How whole frames are read where they stand in shared bytes.
+
+ghost use Rattle.std.specs.Prelude.{◌≡◌, ◌<◌, ◌≤◌, drop, length, map, IfOk, OnOk, OnErr, vec_len, vec_capacity};
+ghost use Rattle.pgp_message.specs.Found.{AreFrames, TakesOnto, TakesEach, TakesSome};
+ghost use Rattle.pgp_message.specs.FrontReading.{IsFront};
+ghost use Rattle.pgp_message.specs.Stream.{BeginsWithFrame};
+ghost use Rattle.pgp_message.specs.Views.{seen};
+
+use crate::frame::{Front, head};
+use crate::message::{Message, body_onto, plain_onto};
+use bytes::Bytes;
+use pgp_base::Error;
+use std::alloc::{AllocError, Allocator};
+
+/// Adds the messages of frames to the list, each with its tag and its payload where they stand in the shared bytes, or the
+/// refusals of their bodies. The bytes are so many whole frames, as `FrameParser::find_all` finds them.
+///
+/// # Errors
+///
+/// `AllocError` where memory was refused. Then the list has what the first frames gave.
+pub fn read_frames<A: Allocator>(
+    frames: &Bytes<A>,
+    count: usize,
+    results: &mut Vec<Result<Message<Bytes<A>>, Error>, A>,
+) -> Result<(), AllocError>
+    requires { AreFrames frames.now count }
+    ensures ok { OnOk result (TakesEach frames.now count (map seen results.old.items) (map seen results.new.items)) }
+    ensures some { OnErr result (TakesSome frames.now (map seen results.old.items) (map seen results.new.items)) }
+{
+    results.reserve(count)?;
+    let mut at = 0usize;
+    'frames: while at < frames.len() {
+        at = read_onto(frames, at, results)?;
+    }
+    Ok(())
+}
+
+/// Adds the message of the frame that stands at `at`, or the refusal of its body, to a list that has room for it, and answers
+/// where the frame ends.
+fn read_onto<A: Allocator>(
+    bytes: &Bytes<A>,
+    at: usize,
+    results: &mut Vec<Result<Message<Bytes<A>>, Error>, A>,
+) -> Result<usize, AllocError>
+    requires within { at ≤ length bytes.now }
+    requires frame { BeginsWithFrame (drop at bytes.now) }
+    requires room { vec_len results.old < vec_capacity results.old }
+    ensures ok { IfOk result (λ end. TakesOnto (drop at bytes.now) (drop end bytes.now)
+        (map seen results.old.items) (map seen results.new.items)) }
+    ensures end { IfOk result (λ end. (at < end) × (end ≤ length bytes.now)) }
+    ensures list { OnErr result (map seen results.new.items ≡ map seen results.old.items) }
+    ensures room { vec_capacity results.new ≡ vec_capacity results.old }
+{
+    let (_, here) = bytes.as_slice().split_at(at);
+    let front = whole_front(here);
+    let end = at + front.total;
+    let payload = &here[5..front.total];
+    if plain_onto(results, front.tag, payload) {
+        return Ok(end);
+    }
+    let payload = bytes.slice(at + 5..end)?;
+    body_onto(results, front.tag, payload);
+    Ok(end)
+}
+
+/// The frame that the bytes begin with, by its header alone.
+fn whole_front(bytes: &[u8]) -> Front
+    requires { BeginsWithFrame bytes.now }
+    ensures { IsFront result bytes.now }
+{
+    let (tag, len) = head(bytes);
+    Front {
+        tag,
+        total: len as usize + 1,
+    }
+}
