@@ -643,7 +643,8 @@ fn a_length_fault_ends_what_is_found(rt: HostRuntime) -> Result<(), Fail> {
 /// What the whole frames of the bytes are read as.
 fn read_found(alloc: Global, bytes: &[u8]) -> Result<Vec<Read<Bytes>>, Error> {
     let found = FrameParser::new().find_all(bytes);
-    let frames = Bytes::copy_from_slice(alloc, &bytes[..found.len])?;
+    let (front, _) = bytes.split_at(found.len);
+    let frames = Bytes::copy_from_slice(alloc, front)?;
     let mut list = Vec::new(alloc);
     read_frames(&frames, found.count, &mut list)?;
     Ok(list)

@@ -120,7 +120,8 @@ fn read_found<A: Allocator + Copy>(
     list: &mut Vec<Result<Message<Bytes<A>>, Error>, A>,
 ) -> Result<(), AllocError> {
     let found = FrameParser::new().find_all(bytes);
-    let frames = Bytes::copy_from_slice(alloc, &bytes[..found.len])?;
+    let (front, _) = bytes.split_at(found.len);
+    let frames = Bytes::copy_from_slice(alloc, front)?;
     read_frames(&frames, found.count, list)
 }
 
