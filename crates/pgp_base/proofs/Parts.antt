@@ -1,16 +1,17 @@
 -- What a buffer holds after parts whose lengths and counts are filled in at last.
-use Rattle.std.proofs.Common.{◌≡◌, ℕ, ◌+◌, List, [], ◌∷◌, ◌++◌, length, take, drop, Result, Ok, Err, Some, None, MutBor, refl, sym, ap, ◌∙◌, subst, append_assoc, length-append, suc, OnOk, OnErr, arith, inr}
+use Rattle.std.proofs.Common.{◌≡◌, ℕ, ◌+◌, List, [], ◌∷◌, ◌++◌, length, take, drop, Result, Ok, Err, Some, None, MutBor, refl, sym, ap, ◌∙◌, subst, append_assoc, length-append, suc, OnOk, OnErr, arith, inl, inr, ◌≤◌, true, false}
 use Rattle.std.proofs.lemmas.List.{append-nil, drop-drop}
 use Rattle.std.proofs.Math.Seq.{take-append_seam, drop-append_seam}
 use Rattle.std.specs.List.{flat_map}
 use Rattle.std.specs.Prelude.{ℤ, IfErr}
 use Rattle.std.specs.Int.{w16, w32, cast_unsigned}
-use Rattle.std.specs.Result.{IsErrAnd}
+use Rattle.std.specs.Result.{IsErr, IsErrAnd}
 use Rattle.pgp_base.specs.Wire.{uint16, uint32, int16, int32, nullable, counted}
-use Rattle.pgp_base.specs.Cause.{Cause, length_cause, Writes}
-use Rattle.pgp_base.specs.Held.{Held, ◌⊕◌, lengthened, overwritten, Leaves}
-use Rattle.pgp_base.specs.Calls.{IsFrontOf, value_of, length_of, null_of, Keeps, KeepsValue, Adds, Puts, Runs, ValueRefused, Appends, BodyRefused, NullableRefused}
+use Rattle.pgp_base.specs.Cause.{Cause, length_cause, Wants, Writes}
+use Rattle.pgp_base.specs.Held.{Held, ◌⊕◌, lengthened, overwritten, Leaves, IsFrontOf}
+use Rattle.pgp_base.specs.Calls.{value_of, length_of, null_of, Keeps, KeepsValue, Adds, Puts, Runs, ValueRefused, Appends, BodyRefused, NullableRefused}
 use Rattle.pgp_base.specs.declared.error.Error.{Error}
+use Rattle.pgp_base.specs.declared.error.Error.TheVariants.{OutOfMemory}
 use Rattle.pgp_base.specs.declared.error.BindError.TheVariants.{Serialization}
 use Rattle.pgp_base.specs.declared.number.IsNull.{IsNull}
 use Rattle.pgp_base.specs.declared.number.IsNull.TheVariants.{Yes, No}
@@ -134,9 +135,36 @@ module _ {K : Type 0} where
   pub cut_back : (a b d : Held K) (n : ℕ) → IsFrontOf a b → n ≡ length a.bytes → d.bytes ≡ take n b.bytes → d.kept ≡ b.kept → Leaves a d
   cut_back a b d n f e h k = record { bytes = h ∙ (rw (f.bytes, e) (take-append_seam a.bytes f.more)); kept = k ∙ f.kept }
 
+-- A growth that was refused.
+module _ {K : Type 0} {lacks : Held K → ℕ → Type 0} where
+  -- here
+  pub wants_here : (a : Held K) (n m : ℕ) → lacks a n → n ≤ m → Wants lacks a m
+  wants_here a n m l h = record { here = a; more = n; front = front_self a; within = omega (arith, h); refused = l }
+
+  pub wants_now : (a : Held K) (n : ℕ) → lacks a n → Wants lacks a n
+  wants_now a n l = wants_here a n n l (omega arith)
+
+  -- of fewer bytes than these
+  pub wants_more : (a : Held K) (n m : ℕ) → n ≤ m → Wants lacks a n → Wants lacks a m
+  wants_more a n m h w = record { here = w.here; more = w.more; front = w.front; within = omega (arith, h, w.within); refused = w.refused }
+
+  -- behind what was appended
+  pub wants_then : (a b : Held K) (p : List ℕ) (n m : ℕ) → b ≡ a ⊕ p → length p + n ≤ m → Wants lacks b n → Wants lacks a m
+  wants_then a b p n m e h w =
+      let s : length b.bytes ≡ length a.bytes + length p = ap (λ h. length h.bytes) e ∙ (ap length (more_bytes a p) ∙ length-append a.bytes p) in
+      record { here = w.here; more = w.more; front = front_then a b w.here p e w.front; within = omega (arith, h, s, w.within); refused = w.refused }
+
+  pub wants_same : (a b : Held K) (n : ℕ) → b ≡ a → Wants lacks b n → Wants lacks a n
+  wants_same a b n e w = subst (λ (b : Held K). Wants lacks b n) e w
+
 pub on_err : {T E : Type 0} (r : Result T E) (P : Type 0) → P → OnErr r P
 on_err (Ok x) P p = tt
 on_err (Err e) P p = p
+
+-- a writer's refusal for want of memory
+pub writes_out : {K : Type 0} (r : Result (Unit {0}) Error) (p : List ℕ) (cause : Cause) (lacks : Held K → ℕ → Type 0) (old new : Held K) → IsErr r → IsErrAnd r (λ e. e ≡ OutOfMemory) → Wants lacks old (length p) → Leaves old new → Writes p cause lacks old new r
+writes_out (Ok x) p cause lacks old new is h w l = let e : false ≡ true = is in cc
+writes_out (Err e) p cause lacks old new is h w l = (inl (h, w), l)
 
 -- what the call of a closure added, by its law
 pub adds_of : {X E K : Type 0} (r : Result X E) (old new : Held K) → Keeps r old new → (p : List ℕ) × Adds r p old new
@@ -154,7 +182,7 @@ pub keeps_put : {X E K : Type 0} (r : Result X E) (old new : Held K) (p : List �
 keeps_put (Ok x) old new p ok err = (p, ok)
 keeps_put (Err e) old new p ok err = front_same old new err
 
-pub keeps_writes : {K : Type 0} (r : Result (Unit {0}) Error) (old new : Held K) (p : List ℕ) (cause : Cause) (lacks : Type 0) → Writes p cause lacks old new r → Keeps r old new
+pub keeps_writes : {K : Type 0} (r : Result (Unit {0}) Error) (old new : Held K) (p : List ℕ) (cause : Cause) (lacks : Held K → ℕ → Type 0) → Writes p cause lacks old new r → Keeps r old new
 keeps_writes (Ok x) old new p cause lacks w = (p, w.1)
 keeps_writes (Err e) old new p cause lacks w = front_left old new w.1
 
@@ -215,7 +243,7 @@ null_again Yes bytes = refl
 null_again No bytes = refl
 
 -- a value whose bytes pass the length's field is refused
-pub value_refused : {F T E B K : Type 0} (held : B → Held K) (step : F → T → MutBor B → Result IsNull E → MutBor B → F → Type 0) (lacks : Type 0) (here b : Held K) (f : F) (x : T) (u : F) (e : Error) (null : IsNull) (p q : List ℕ)
+pub value_refused : {F T E B K : Type 0} (held : B → Held K) (step : F → T → MutBor B → Result IsNull E → MutBor B → F → Type 0) (lacks : Held K → ℕ → Type 0) (here b : Held K) (f : F) (x : T) (u : F) (e : Error) (null : IsNull) (p q : List ℕ)
     → null ≡ No → q ≡ p → length_cause (length q) ≡ Some e → b ≡ here ⊕ uint32 0 → Puts held step b f x (Ok null) p u → ValueRefused held step lacks here f x (Serialization e) u
 value_refused {K = K} held step lacks here b f x u e null p q n s c h put =
     let put' : Puts held step b f x (Ok No) p u = subst (λ (n : IsNull). Puts held step b f x (Ok n) p u) n put in
@@ -223,7 +251,7 @@ value_refused {K = K} held step lacks here b f x u e null p q n s c h put =
     inr (p, put'', subst (λ (q : List ℕ). length_cause (length q) ≡ Some e) s c)
 
 -- the same of a value that is made once
-pub nullable_refused : {F E B K : Type 0} (held : B → Held K) (post : F → MutBor B → Result IsNull E → MutBor B → Type 0) (lacks : Type 0) (old b : Held K) (f : F) (e : Error) (null : IsNull) (p q : List ℕ)
+pub nullable_refused : {F E B K : Type 0} (held : B → Held K) (post : F → MutBor B → Result IsNull E → MutBor B → Type 0) (lacks : Held K → ℕ → Type 0) (old b : Held K) (f : F) (e : Error) (null : IsNull) (p q : List ℕ)
     → null ≡ No → q ≡ p → length_cause (length q) ≡ Some e → b ≡ old ⊕ uint32 0 → Appends held post b f (Ok null) p → NullableRefused held post lacks f old (Serialization e)
 nullable_refused {K = K} held post lacks old b f e null p q n s c h put =
     let put' : Appends held post b f (Ok No) p = subst (λ (n : IsNull). Appends held post b f (Ok n) p) n put in
@@ -231,7 +259,7 @@ nullable_refused {K = K} held post lacks old b f e null p q n s c h put =
     inr (p, put'', subst (λ (q : List ℕ). length_cause (length q) ≡ Some e) s c)
 
 -- a body whose bytes pass the length's field is refused
-pub body_refused : {F E B K : Type 0} (held : B → Held K) (post : F → MutBor B → Result (Unit {0}) E → MutBor B → Type 0) (lacks : Type 0) (old b : Held K) (f : F) (e : Error) (p : List ℕ) (n : ℕ)
+pub body_refused : {F E B K : Type 0} (held : B → Held K) (post : F → MutBor B → Result (Unit {0}) E → MutBor B → Type 0) (lacks : Held K → ℕ → Type 0) (old b : Held K) (f : F) (e : Error) (p : List ℕ) (n : ℕ)
     → n ≡ length p + 4 → length_cause n ≡ Some e → b ≡ old ⊕ uint32 0 → Appends held post b f (Ok tt) p → BodyRefused held post lacks f old (Serialization e)
 body_refused {K = K} held post lacks old b f e p n k c h put =
     let put' : Appends held post (old ⊕ uint32 0) f (Ok tt) p = subst (λ (b : Held K). Appends held post b f (Ok tt) p) h put in

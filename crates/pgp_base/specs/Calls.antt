@@ -1,22 +1,16 @@
 -- What is said of the closures and the iterators that a writer is handed.
-use Rattle.std.specs.Prelude.{◌≡◌, ◌⊎◌, ℕ, ◌+◌, ◌<◌, List, [], ◌∷◌, ◌++◌, length, Result, Ok, Err, Option, Some, None}
+use Rattle.std.specs.Prelude.{◌≡◌, ◌⊎◌, ℕ, ◌+◌, ◌<◌, List, [], ◌∷◌, ◌++◌, length, Result, Ok, Err, Option, Some, None, option_to_list}
 use Rattle.std.specs.List.{flat_map}
 use Rattle.std.specs.Iterator.{YieldsThen}
 use Rattle.pgp_base.specs.Wire.{uint16, uint32, nullable, counted}
-use Rattle.pgp_base.specs.Cause.{length_cause, count_cause, nullable_cause, WantsMemory}
-use Rattle.pgp_base.specs.Held.{Held, ◌⊕◌}
+use Rattle.pgp_base.specs.Cause.{length_cause, count_cause, nullable_cause, Wants, WantsMemory}
+use Rattle.pgp_base.specs.Held.{Held, ◌⊕◌, IsFrontOf}
 use Rattle.pgp_base.specs.declared.number.IsNull.{IsNull}
 use Rattle.pgp_base.specs.declared.number.IsNull.TheVariants.{Yes, No}
 use Rattle.pgp_base.specs.declared.error.Error.TheVariants.{OutOfMemory, TooLarge}
 use Rattle.pgp_base.specs.declared.error.BindError.{BindError}
 use Rattle.pgp_base.specs.declared.error.BindError.TheVariants.{Conversion, Serialization}
 use denote.Ref.{MutBor}
-
--- b holds the bytes of a, and more behind them
-pub record IsFrontOf {Kept : Type 0} (a b : Held Kept) : Type 0 where
-  pub more : List ℕ
-  pub bytes : b.bytes ≡ a.bytes ++ more
-  pub kept : b.kept ≡ a.kept
 
 -- what a closure may do to a buffer: append, and where it is refused use more of what stands behind the bytes
 abbrev pub Keeps : {X E K : Type 0} → Result X E → Held K → Held K → Type 0
@@ -96,11 +90,11 @@ module _ {F T E B K : Type 0} (held : B → Held K) (step : F → T → MutBor B
     pub value : v ≡ value_of null bytes
     pub fits : nullable_cause v ≡ None
 
-  -- Why the value of x was refused: the serializer refused, or its bytes pass the length's field. Or there
-  -- is no memory, and it wasn't called.
-  abbrev pub ValueRefused : Type 0 → Held K → F → T → BindError E → F → Type 0
+  -- Why the value of x was refused: the serializer refused, or its bytes pass the length's field. Or the four bytes
+  -- of its length don't fit, and it wasn't called.
+  abbrev pub ValueRefused : (Held K → ℕ → Type 0) → Held K → F → T → BindError E → F → Type 0
   ValueRefused lacks here f x (Conversion e) f' = (p : List ℕ) × Puts held step (here ⊕ uint32 0) f x (Err e) p f'
-  ValueRefused lacks here f x (Serialization e) f' = (WantsMemory lacks e × (f' ≡ f)) ⊎ ((p : List ℕ) × Puts held step (here ⊕ uint32 0) f x (Ok No) p f' × (length_cause (length p) ≡ Some e))
+  ValueRefused lacks here f x (Serialization e) f' = (WantsMemory lacks here 4 e × (f' ≡ f)) ⊎ ((p : List ℕ) × Puts held step (here ⊕ uint32 0) f x (Ok No) p f' × (length_cause (length p) ≡ Some e))
 
 module _ {F T E B K : Type 0} (held : B → Held K) (step : F → T → MutBor B → Result (Unit {0}) E → MutBor B → F → Type 0) where
   -- a call of f at x succeeded with p behind that
@@ -123,6 +117,17 @@ pub record Came {U S A : Type 0} (into_iter_gives : U → S → Type 0) (next_gi
   pub left : S
   pub came : YieldsThen next_gives iterator xs next left
 
+-- `given before next`: an iterator's calls gave `before` and then `next`. xs are all items that these calls gave.
+pub record Asked {A : Type 0} (given : List A → Option A → Type 0) (xs : List A) : Type 0 where
+  pub before : List A
+  pub next : Option A
+  pub came : given before next
+  pub are : xs ≡ before ++ option_to_list next
+
+-- xs are the items that came so far: none was asked for, or these
+abbrev pub SoFar : {A : Type 0} → (List A → Option A → Type 0) → List A → Type 0
+SoFar given xs = (xs ≡ []) ⊎ Asked given xs
+
 -- What the writers over closures come to. `old` is what the buffer held before the call.
 
 module _ {F E B K : Type 0} (held : B → Held K) (post : F → MutBor B → Result (Unit {0}) E → MutBor B → Type 0) where
@@ -133,10 +138,10 @@ module _ {F E B K : Type 0} (held : B → Held K) (post : F → MutBor B → Res
     pub fits : length_cause (length body + 4) ≡ None
     pub appended : new ≡ old ⊕ uint32 (length body + 4) ⊕ body
 
-  -- why a body was refused: f refused, or its bytes pass the length's field, or there is no memory
-  abbrev pub BodyRefused : Type 0 → F → Held K → BindError E → Type 0
+  -- why a body was refused: f refused, or its bytes pass the length's field, or the four bytes of its length don't fit
+  abbrev pub BodyRefused : (Held K → ℕ → Type 0) → F → Held K → BindError E → Type 0
   BodyRefused lacks f old (Conversion e) = (p : List ℕ) × Appends held post (old ⊕ uint32 0) f (Err e) p
-  BodyRefused lacks f old (Serialization e) = WantsMemory lacks e ⊎ ((p : List ℕ) × Appends held post (old ⊕ uint32 0) f (Ok tt) p × (length_cause (length p + 4) ≡ Some e))
+  BodyRefused lacks f old (Serialization e) = WantsMemory lacks old 4 e ⊎ ((p : List ℕ) × Appends held post (old ⊕ uint32 0) f (Ok tt) p × (length_cause (length p + 4) ≡ Some e))
 
 module _ {F E B K : Type 0} (held : B → Held K) (post : F → MutBor B → Result IsNull E → MutBor B → Type 0) where
   -- the value that f made behind the place of its length
@@ -148,9 +153,9 @@ module _ {F E B K : Type 0} (held : B → Held K) (post : F → MutBor B → Res
     pub appended : new ≡ old ⊕ nullable (value_of null bytes)
 
   -- why it was refused
-  abbrev pub NullableRefused : Type 0 → F → Held K → BindError E → Type 0
+  abbrev pub NullableRefused : (Held K → ℕ → Type 0) → F → Held K → BindError E → Type 0
   NullableRefused lacks f old (Conversion e) = (p : List ℕ) × Appends held post (old ⊕ uint32 0) f (Err e) p
-  NullableRefused lacks f old (Serialization e) = WantsMemory lacks e ⊎ ((p : List ℕ) × Appends held post (old ⊕ uint32 0) f (Ok No) p × (length_cause (length p) ≡ Some e))
+  NullableRefused lacks f old (Serialization e) = WantsMemory lacks old 4 e ⊎ ((p : List ℕ) × Appends held post (old ⊕ uint32 0) f (Ok No) p × (length_cause (length p) ≡ Some e))
 
 module _ {F T E B K : Type 0} (held : B → Held K) (step : F → T → MutBor B → Result (Unit {0}) E → MutBor B → F → Type 0) {U S : Type 0} (into_iter_gives : U → S → Type 0) (next_gives : S → Option T → S → Type 0) where
   -- the items that came, each written behind the place of the count and the items before it, which left `last`
@@ -173,6 +178,6 @@ module _ {F T E B K : Type 0} (held : B → Held K) (step : F → T → MutBor B
     pub runs : Runs (Wrote held step) (λ p. p) (old ⊕ uint16 0) f xs parts at
     pub cause : ((length xs ≡ 65535) × (e ≡ Serialization TooLarge) × (last ≡ at)) ⊎ ((length xs < 65535) × ((p : List ℕ) × (why : E) × (e ≡ Conversion why) × Puts held step (old ⊕ uint16 0 ⊕ flat_map (λ p. p) parts) at x (Err why) p last))
 
-  -- why the items were refused: there; or for want of memory, and the serializer wasn't called
-  abbrev pub CountedRefused : Type 0 → U → F → F → Held K → BindError E → Type 0
-  CountedRefused lacks source f last old e = ((e ≡ Serialization OutOfMemory) × lacks × (last ≡ f)) ⊎ CountedStops source f last old e
+  -- why the items were refused: there; or the two bytes of the count don't fit, and the serializer wasn't called
+  abbrev pub CountedRefused : (Held K → ℕ → Type 0) → U → F → F → Held K → BindError E → Type 0
+  CountedRefused lacks source f last old e = ((e ≡ Serialization OutOfMemory) × Wants lacks old 2 × (last ≡ f)) ⊎ CountedStops source f last old e

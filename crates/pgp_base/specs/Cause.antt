@@ -1,7 +1,7 @@
 -- Why a part of a message has no spelling, and what the call of a writer comes to.
-use Rattle.std.specs.Prelude.{◌≡◌, ◌⊎◌, ℕ, List, [], ◌∷◌, length, map, take, Option, Some, None, Result, Ok, Err, nat_le, ◌==◌, if◌then◌else◌}
+use Rattle.std.specs.Prelude.{◌≡◌, ◌⊎◌, ℕ, ◌+◌, ◌≤◌, List, [], ◌∷◌, length, map, take, Option, Some, None, Result, Ok, Err, nat_le, ◌==◌, if◌then◌else◌}
 use Rattle.std.specs.List.{list_any}
-use Rattle.pgp_base.specs.Held.{Held, ◌⊕◌, Leaves}
+use Rattle.pgp_base.specs.Held.{Held, ◌⊕◌, IsFrontOf, Leaves}
 use Rattle.pgp_base.specs.declared.error.Error.{Error}
 use Rattle.pgp_base.specs.declared.error.Error.TheVariants.{OutOfMemory, EmbeddedNull, TooLarge}
 
@@ -40,12 +40,21 @@ nullable_cause (Some bytes) = length_cause (length bytes)
 abbrev pub counted_cause : {A : Type 0} → (A → Cause) → List A → Cause
 counted_cause of xs = either (first (map of (take 65535 xs))) (count_cause (length xs))
 
--- the refusal for want of memory, which a buffer gives only where one of its growths was refused
-abbrev pub WantsMemory : Type 0 → Error → Type 0
-WantsMemory lacks e = (e ≡ OutOfMemory) × lacks
+-- `needed` bytes behind those of `old` met a refused growth: one by `more`, while the buffer held `here`, which is `old`
+-- and more behind it, and both together take no more than they do. `lacks` is what a buffer's refusal says.
+pub record Wants {Kept : Type 0} (lacks : Held Kept → ℕ → Type 0) (old : Held Kept) (needed : ℕ) : Type 0 where
+  pub here : Held Kept
+  pub more : ℕ
+  pub front : IsFrontOf old here
+  pub within : length here.bytes + more ≤ length old.bytes + needed
+  pub refused : lacks here more
+
+-- the refusal for want of memory, which a buffer gives only where a growth was refused that so many bytes need
+abbrev pub WantsMemory : {Kept : Type 0} → (Held Kept → ℕ → Type 0) → Held Kept → ℕ → Error → Type 0
+WantsMemory lacks old needed e = (e ≡ OutOfMemory) × Wants lacks old needed
 
 -- A writer of what is spelled so and has this cause: it appends the spelling, and there is no cause;
--- or it leaves the bytes, and is refused for want of memory or for the cause.
-abbrev pub Writes : {Kept : Type 0} → List ℕ → Cause → Type 0 → Held Kept → Held Kept → Result (Unit {0}) Error → Type 0
+-- or it leaves the bytes, and is refused for want of the memory that the spelling needs, or for the cause.
+abbrev pub Writes : {Kept : Type 0} → List ℕ → Cause → (Held Kept → ℕ → Type 0) → Held Kept → Held Kept → Result (Unit {0}) Error → Type 0
 Writes spelling cause lacks old new (Ok done) = (cause ≡ None) × (new ≡ old ⊕ spelling)
-Writes spelling cause lacks old new (Err e) = (WantsMemory lacks e ⊎ (cause ≡ Some e)) × Leaves old new
+Writes spelling cause lacks old new (Err e) = (WantsMemory lacks old (length spelling) e ⊎ (cause ≡ Some e)) × Leaves old new

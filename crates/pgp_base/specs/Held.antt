@@ -24,6 +24,12 @@ h ⊕ z = lengthened h z
 unfoldable pub overwritten : {Kept : Type 0} → Held Kept → ℕ → List ℕ → Held Kept
 overwritten h place z = record { bytes = take place h.bytes ++ z ++ drop (place + length z) h.bytes; behind = h.behind; kept = h.kept }
 
+-- b holds the bytes of a, and more behind them
+pub record IsFrontOf {Kept : Type 0} (a b : Held Kept) : Type 0 where
+  pub more : List ℕ
+  pub bytes : b.bytes ≡ a.bytes ++ more
+  pub kept : b.kept ≡ a.kept
+
 -- the bytes are the same; what stands behind them may not be
 pub record Leaves {Kept : Type 0} (old new : Held Kept) : Type 0 where
   pub bytes : new.bytes ≡ old.bytes

@@ -14,11 +14,8 @@ pub trait Buffer {
     /// The bytes that it holds, what stands behind them, and what no call changes.
     ghost held: { Self → Held Kept };
 
-    /// A growth of such a buffer was refused.
-    ghost Lacks: { Type 0 };
-
-    /// So many bytes more are sure to fit.
-    ghost Fits: { Self → ℕ → Type 0 };
+    /// A growth by so many bytes was refused while the buffer held that.
+    ghost Lacks: { Held Kept → ℕ → Type 0 };
 
     /// How many bytes it holds.
     fn len(&self) -> usize
@@ -36,8 +33,7 @@ pub trait Buffer {
     /// `AllocError` where there is no memory for them.
     fn reserve(&mut self, additional: usize) -> Result<(), AllocError>
         ensures same { held self.new ≡ held self.old }
-        ensures full { OnErr result (Fits self.old additional → ⊥) }
-        ensures lacks { OnErr result Lacks };
+        ensures lacks { OnErr result (Lacks (held self.old) additional) };
 
     /// Appends all of `more`, or nothing.
     ///
@@ -47,8 +43,7 @@ pub trait Buffer {
     fn append(&mut self, more: &[u8]) -> Result<(), AllocError>
         ensures ok { OnOk result (held self.new ≡ held self.old ⊕ more.now) }
         ensures err { OnErr result (held self.new ≡ held self.old) }
-        ensures full { OnErr result (Fits self.old (length more.now) → ⊥) }
-        ensures lacks { OnErr result Lacks };
+        ensures lacks { OnErr result (Lacks (held self.old) (length more.now)) };
 
     /// Appends all that is left of `more` and leaves none of it there; or appends nothing, and leaves
     /// `more` as it is.
@@ -61,8 +56,7 @@ pub trait Buffer {
         ensures drained { OnOk result (T.unread more.new ≡ []) }
         ensures err { OnErr result (held self.new ≡ held self.old) }
         ensures kept { OnErr result (more.new ≡ more.old) }
-        ensures full { OnErr result (Fits self.old (length (T.unread more.old)) → ⊥) }
-        ensures lacks { OnErr result Lacks };
+        ensures lacks { OnErr result (Lacks (held self.old) (length (T.unread more.old))) };
 
     /// Cuts what stands past `len`.
     fn truncate(&mut self, len: usize)
@@ -75,15 +69,13 @@ pub trait Buffer {
         ensures { held self.new ≡ overwritten (held self.old) place over.now };
 }
 
-/// Of its memory nothing is said: a growth may always be refused.
+/// Of its memory nothing is said: any growth may be refused, but not one by no byte.
 impl<A: Allocator + Copy> Buffer for BytesMut<A> {
     ghost Kept = { Unit {0} };
 
     ghost held = { λ b. items_held b.items };
 
-    ghost Lacks = { Unit {0} };
-
-    ghost Fits = { λ _ _. ⊥ };
+    ghost Lacks = { λ _ n. 0 < n };
 
     fn len(&self) -> usize {
         BytesMut::<A>::len(self)

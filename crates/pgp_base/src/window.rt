@@ -30,15 +30,13 @@ impl<'a> Window<'a> {
 impl Buffer for Window<'_> {
     ghost use Rattle.std.specs.Prelude.{ℕ};
     ghost use Rattle.std.specs.Borrow.{GName};
-    ghost use Rattle.pgp_base.specs.Window.{window_held, window_fits};
+    ghost use Rattle.pgp_base.specs.Window.{window_held, window_lacks};
 
     ghost Kept = { GName × ℕ };
 
     ghost held = { window_held };
 
-    ghost Lacks = { Unit {0} };
-
-    ghost Fits = { window_fits };
+    ghost Lacks = { window_lacks };
 
     fn len(&self) -> usize {
         self.len

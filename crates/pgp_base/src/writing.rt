@@ -7,8 +7,8 @@ ghost use Rattle.std.specs.Prelude.{◌≡◌, ℕ, ◌+◌, ◌-◌, ◌<◌, �
 ghost use Rattle.std.specs.Iterator.{IsFiniteIterable};
 ghost use Rattle.pgp_base.specs.Wire.{uint16, uint32, text, nullable};
 ghost use Rattle.pgp_base.specs.Cause.{text_cause, length_cause, nullable_cause, WantsMemory, Writes};
-ghost use Rattle.pgp_base.specs.Held.{◌⊕◌, overwritten, Leaves};
-ghost use Rattle.pgp_base.specs.Calls.{IsFrontOf, Adds, KeepsFront, KeepsFronts, OwesValue, OwesValues, Appends, Puts, Gives, ValueRefused, value_of, length_of, null_of, WritesBody, BodyRefused, WritesValue, NullableRefused, WritesCounted, CountedRefused};
+ghost use Rattle.pgp_base.specs.Held.{◌⊕◌, overwritten, Leaves, IsFrontOf};
+ghost use Rattle.pgp_base.specs.Calls.{Adds, KeepsFront, KeepsFronts, OwesValue, OwesValues, Appends, Puts, Gives, ValueRefused, value_of, length_of, null_of, WritesBody, BodyRefused, WritesValue, NullableRefused, WritesCounted, CountedRefused};
 
 use crate::buffer::Buffer;
 use crate::error::{BindError, Error};
@@ -20,10 +20,11 @@ use memchr::memchr;
 /// # Errors
 ///
 /// `OutOfMemory` where a growth was refused.
+#[tactic(auto, using(crate::proofs::Parts::wants_now))]
 pub fn put_u8<B: Buffer>(buf: &mut B, n: u8) -> Result<(), Error>
     ensures ok { OnOk result (B.held buf.new ≡ B.held buf.old ⊕ n ∷ []) }
     ensures err { OnErr result (B.held buf.new ≡ B.held buf.old) }
-    ensures cause { IfErr result (WantsMemory B.Lacks) }
+    ensures cause { IfErr result (WantsMemory B.Lacks (B.held buf.old) 1) }
 {
     buf.append(&[n])?;
     Ok(())
@@ -34,11 +35,11 @@ pub fn put_u8<B: Buffer>(buf: &mut B, n: u8) -> Result<(), Error>
 /// # Errors
 ///
 /// `OutOfMemory` where a growth was refused.
-#[tactic(auto, unfolding(crate::specs::Wire::uint16))]
+#[tactic(auto, unfolding(crate::specs::Wire::uint16), using(crate::proofs::Parts::wants_now))]
 pub fn put_u16<B: Buffer>(buf: &mut B, n: u16) -> Result<(), Error>
     ensures ok { OnOk result (B.held buf.new ≡ B.held buf.old ⊕ uint16 n) }
     ensures err { OnErr result (B.held buf.new ≡ B.held buf.old) }
-    ensures cause { IfErr result (WantsMemory B.Lacks) }
+    ensures cause { IfErr result (WantsMemory B.Lacks (B.held buf.old) 2) }
 {
     buf.append(&n.to_be_bytes())?;
     Ok(())
@@ -49,11 +50,11 @@ pub fn put_u16<B: Buffer>(buf: &mut B, n: u16) -> Result<(), Error>
 /// # Errors
 ///
 /// `OutOfMemory` where a growth was refused.
-#[tactic(auto, unfolding(crate::specs::Wire::uint32))]
+#[tactic(auto, unfolding(crate::specs::Wire::uint32), using(crate::proofs::Parts::wants_now))]
 pub fn put_u32<B: Buffer>(buf: &mut B, n: u32) -> Result<(), Error>
     ensures ok { OnOk result (B.held buf.new ≡ B.held buf.old ⊕ uint32 n) }
     ensures err { OnErr result (B.held buf.new ≡ B.held buf.old) }
-    ensures cause { IfErr result (WantsMemory B.Lacks) }
+    ensures cause { IfErr result (WantsMemory B.Lacks (B.held buf.old) 4) }
 {
     let bytes = n.to_be_bytes();
     buf.append(&bytes)?;

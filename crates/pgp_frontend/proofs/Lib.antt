@@ -1,6 +1,8 @@
 pub mod BindLemmas
 pub mod Fields
+pub mod Fitting
 pub mod Frames
+pub mod Needs
 pub mod PairLemmas
 pub mod Shapes
 pub mod Readings

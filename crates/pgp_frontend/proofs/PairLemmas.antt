@@ -1,5 +1,5 @@
 -- Names and values, one pair more.
-use Rattle.std.proofs.Common.{◌≡◌, ℕ, List, [], ◌∷◌, ◌++◌, Some, None, sym, ap, ◌∙◌, map, Bor}
+use Rattle.std.proofs.Common.{◌≡◌, ℕ, ◌+◌, length, length-append, arith, List, [], ◌∷◌, ◌++◌, Some, None, sym, ap, ◌∙◌, map, Bor}
 use Rattle.std.specs.List.{flat_map}
 use Rattle.std.proofs.lemmas.List.{map-append}
 use Rattle.pgp_base.specs.Wire.{text}
@@ -9,6 +9,7 @@ use Rattle.pgp_base.proofs.Parts.{more_parts, more_twice}
 use Rattle.pgp_base.specs.Held.{Held, ◌⊕◌}
 use Rattle.pgp_base.specs.declared.error.Error.{Error}
 use Rattle.pgp_frontend.specs.Given.{shown}
+use Rattle.pgp_frontend.proofs.Needs.{flat_more}
 use Rattle.pgp_frontend.specs.Payload.{pair, pair_cause, part_cause, Pairs}
 
 causes_more : (xs : List (Bor (List ℕ) × Bor (List ℕ))) (x : Bor (List ℕ) × Bor (List ℕ)) → map pair_cause (map shown (xs ++ x ∷ [])) ≡ map pair_cause (map shown xs) ++ pair_cause (shown x) ∷ []
@@ -34,3 +35,10 @@ module _ (xs : List (Bor (List ℕ) × Bor (List ℕ))) (name value : Bor (List 
   pairs_held a b d r e f h =
       let step : r ≡ b ⊕ pair (shown (name, value)) = h ∙ (ap (λ d. d ⊕ text v) f ∙ (more_twice b (text n) (text v) ∙ (ap (λ n. b ⊕ (text n ++ text v)) is_name ∙ ap (λ v. b ⊕ (text name.now ++ text v)) is_value))) in
       more_parts pair a b r (map shown xs) (shown (name, value)) e step ∙ ap (λ ps. a ⊕ flat_map pair ps) (sym (map-append shown xs ((name, value) ∷ [])))
+
+  -- what they take, with the 0 byte behind them
+  pub pairs_length : length (flat_map pair (map shown (xs ++ (name, value) ∷ [])) ++ 0 ∷ []) ≡ length (flat_map pair (map shown xs)) + length n + length v + 3
+  pairs_length =
+      let e : length (flat_map pair (map shown (xs ++ (name, value) ∷ []))) ≡ length (flat_map pair (map shown xs)) + length (pair (shown (name, value))) =
+      ap (λ ps. length (flat_map pair ps)) (map-append shown xs ((name, value) ∷ [])) ∙ flat_more pair (map shown xs) (shown (name, value)) in
+      omega (arith, e, length-append (flat_map pair (map shown (xs ++ (name, value) ∷ []))) (0 ∷ []), length-append (text name.now) (text value.now), length-append name.now (0 ∷ []), length-append value.now (0 ∷ []), ap length is_name, ap length is_value)

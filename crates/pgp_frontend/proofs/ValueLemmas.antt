@@ -2,7 +2,9 @@
 use Rattle.std.proofs.Common.{◌≡◌, ℕ, ◌<◌, List, [], ◌∷◌, ◌++◌, Result, Option, Some, None, refl, sym, ap, ◌∙◌, map, take, length, length-append, arith, inl, inr, MutBor, subst}
 use Rattle.std.specs.List.{flat_map}
 use Rattle.std.proofs.lemmas.List.{map-append, take_all, take_at}
-use Rattle.pgp_base.specs.Wire.{nullable, uint32}
+use Rattle.pgp_base.specs.Wire.{nullable, uint16, uint32}
+use Rattle.std.specs.Prelude.{negsuc}
+use Rattle.pgp_frontend.proofs.Needs.{counted_wants, int32_length}
 use Rattle.pgp_base.specs.Cause.{first, nullable_cause, count_cause}
 use Rattle.pgp_base.specs.Calls.{Gives, Runs, Came, ValueRefused}
 use Rattle.pgp_base.proofs.Causes.{either_none, either_first, either_then, first_here, count_fits, count_past}
@@ -42,11 +44,11 @@ values_long vs v e n h k =
     either_first (first (map nullable_cause (take 65535 (vs ++ v ∷ [])))) (count_cause (length (vs ++ v ∷ []))) e
     (ap (λ ws. first (map nullable_cause ws)) all ∙ (ap first (map-append nullable_cause vs (v ∷ [])) ∙ first_here (map nullable_cause vs) (nullable_cause v) [] e h k))
 
-module _ {F T E B K : Type 0} (held : B → Held K) (step : F → T → MutBor B → Result IsNull E → MutBor B → F → Type 0) {U S : Type 0} (into_iter_gives : U → S → Type 0) (next_gives : S → Option T → S → Type 0) (source : U) (f : F) (here : Held K) (lacks : Type 0) where
+module _ {F T E B K : Type 0} (held : B → Held K) (step : F → T → MutBor B → Result IsNull E → MutBor B → F → Type 0) {U S : Type 0} (into_iter_gives : U → S → Type 0) (next_gives : S → Option T → S → Type 0) (source : U) (f : F) (here old : Held K) (at_count : here ≡ old ⊕ uint16 0) (lacks : Held K → ℕ → Type 0) where
   -- a value that was refused behind those that were made
   pub value_stops : (xs : List T) (x : T) (vs : List (Option (List ℕ))) (at u : F) (b : Held K) (e : BindError E)
       → Came into_iter_gives next_gives source xs (Some x) → Runs (Gives held step) nullable here f xs vs at → length xs < 65535 → b ≡ here ⊕ flat_map nullable vs
-      → ValueRefused held step lacks b at x e u → ValuesRefused (Came into_iter_gives next_gives source) (Serves held step f u) here lacks e
+      → ValueRefused held step lacks b at x e u → ValuesRefused (Came into_iter_gives next_gives source) (Serves held step f u) here lacks old e
   value_stops xs x vs at u b (Conversion e) came runs few h r =
       record { xs = xs; x = x; came = came; few = few; before = vs; bytes = r.0; made = (at, runs, Puts-at _ _ (ap (λ b. b ⊕ uint32 0) h) r.1) }
   value_stops xs x vs at u b (Serialization e) came runs few h r =
@@ -55,7 +57,13 @@ module _ {F T E B K : Type 0} (held : B → Held K) (step : F → T → MutBor B
       elim r [
         | inl memory ↦
             let runs' : Runs (Gives held step) nullable here f xs vs u = subst (λ (t : F). Runs (Gives held step) nullable here f xs vs t) (sym memory.1) runs in
-            inl (memory.0.0, (memory.0.1, inr (record { xs = xs; next = Some x; came = came; vs = vs; made = runs'; none = values_fit vs (omega arith) (Runs-fit held step here f xs vs at runs) })))
+            inl (
+              memory.0.0,
+              inr (
+                record { xs = xs; next = Some x; came = came; vs = vs; made = runs'; none = values_fit vs (omega arith) (Runs-fit held step here f xs vs at runs) },
+                counted_wants nullable vs None old b 4 (h ∙ ap (λ k. k ⊕ flat_map nullable vs) at_count) (omega (arith, int32_length (negsuc 0))) memory.0.1,
+              ),
+            )
         | inr long ↦ inr (
           vs ++ Some long.0 ∷ [],
           record { xs = xs; x = x; came = came; before = vs; value = Some long.0; are = refl; made = inr (few, (long.0, (at, runs, Puts-at _ _ (ap (λ b. b ⊕ uint32 0) h) long.1), refl)) },
@@ -65,7 +73,7 @@ module _ {F T E B K : Type 0} (held : B → Held K) (step : F → T → MutBor B
 
   -- an item past the count's field
   pub count_stops : (xs : List T) (x : T) (vs : List (Option (List ℕ))) (at : F) → Came into_iter_gives next_gives source xs (Some x) → Runs (Gives held step) nullable here f xs vs at → length xs ≡ 65535
-      → (let e : BindError E = Serialization TooLarge in ValuesRefused (Came into_iter_gives next_gives source) (Serves held step f at) here lacks e)
+      → (let e : BindError E = Serialization TooLarge in ValuesRefused (Came into_iter_gives next_gives source) (Serves held step f at) here lacks old e)
   count_stops xs x vs at came runs n =
       let k = Runs-length (Gives held step) nullable here f xs vs at runs in
       let full : length vs ≡ 65535 = sym k ∙ n in

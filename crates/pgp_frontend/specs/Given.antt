@@ -7,9 +7,11 @@ use Rattle.pgp_frontend.specs.ClientMessage.{ClientMessage, Bind, Parse, Startup
 use Rattle.pgp_frontend.specs.Payload.{Part, Int32, Text, Int16s, Oids, Values, Pairs, part_cause, parts_cause, joined, cause, bytes_of, IsInRange}
 use Rattle.std.specs.Prelude.{pos, ◌<◌, length}
 use Rattle.std.specs.List.{flat_map}
-use Rattle.pgp_base.specs.Wire.{uint16, uint32, nullable}
-use Rattle.pgp_base.specs.Calls.{Puts, Gives, Runs}
-use Rattle.pgp_base.specs.Cause.{WantsMemory}
+use Rattle.std.specs.Prelude.{option_to_list}
+use Rattle.pgp_base.specs.Wire.{uint16, uint32, nullable, counted}
+use Rattle.pgp_base.specs.Calls.{Puts, Gives, Runs, SoFar}
+use Rattle.pgp_base.specs.Cause.{Wants}
+use Rattle.pgp_base.specs.declared.error.Error.TheVariants.{OutOfMemory}
 use Rattle.pgp_base.specs.Held.{Held, ◌⊕◌, Leaves}
 use Rattle.pgp_base.specs.declared.number.IsNull.{IsNull}
 use Rattle.pgp_base.specs.declared.number.IsNull.TheVariants.{No}
@@ -26,12 +28,12 @@ pub record Appended {K : Type 0} (Whole : ClientMessage → Type 0) (old new : H
   pub none : cause message ≡ None
   pub appended : new ≡ old ⊕ bytes_of message
 
--- `Reached` are the parts of what the iterators gave up to a refusal.
-module _ (Whole : ClientMessage → Type 0) (Reached : List Part → Type 0) (lacks : Type 0) where
+-- `Reached` are the parts of what the iterators gave up to a refusal; `Wanted` is what is said of a want of memory.
+module _ (Whole : ClientMessage → Type 0) (Reached : List Part → Type 0) (Wanted : Type 0) where
   -- why the call was refused: for want of memory, for the first cause of the parts that it reached, or
   -- for the cause of the whole message
   abbrev pub Refused : Error → Type 0
-  Refused e = WantsMemory lacks e ⊎ (((ps : List Part) × Reached ps × (parts_cause ps ≡ Some e)) ⊎ ((m : ClientMessage) × Whole m × (cause m ≡ Some e)))
+  Refused e = ((e ≡ OutOfMemory) × Wanted) ⊎ (((ps : List Part) × Reached ps × (parts_cause ps ≡ Some e)) ⊎ ((m : ClientMessage) × Whole m × (cause m ≡ Some e)))
 
   -- It appends the message of all items; or it leaves the bytes, and is refused.
   abbrev pub WritesGiven : {K : Type 0} → Held K → Held K → Result (Unit {0}) Error → Type 0
@@ -46,6 +48,10 @@ pub record Begun {A : Type 0} (given : List A → Option A → Type 0) (part : L
   pub none : part_cause (part before) ≡ None
   pub are : xs ≡ before ++ last ∷ []
 
+-- A growth was refused that the message of the items so far needs: all that came by then, as `Message` tells.
+abbrev pub WantsMessage : {K : Type 0} → (ClientMessage → Type 0) → (Held K → ℕ → Type 0) → Held K → Type 0
+WantsMessage Message lacks old = (m : ClientMessage) × Message m × Wants lacks old (length (bytes_of m))
+
 -- `parse` of these texts and of the types that were given
 module _ (name query : List ℕ) (types : List ℕ → Option ℕ → Type 0) where
   abbrev pub ParseWhole : ClientMessage → Type 0
@@ -55,8 +61,12 @@ module _ (name query : List ℕ) (types : List ℕ → Option ℕ → Type 0) wh
   ParseReached ps = (ps ≡ Text name ∷ Text query ∷ [])
       ⊎ ((ts : List ℕ) × Begun types Oids ts × (ps ≡ Text name ∷ Text query ∷ Oids ts ∷ []))
 
-  abbrev pub WritesParse : {K : Type 0} → Type 0 → Held K → Held K → Result (Unit {0}) Error → Type 0
-  WritesParse lacks old new result = WritesGiven ParseWhole ParseReached lacks old new result
+  -- the message of the types that came so far
+  abbrev pub ParseSoFar : ClientMessage → Type 0
+  ParseSoFar m = (ts : List ℕ) × SoFar types ts × (m ≡ Parse name query ts)
+
+  abbrev pub WritesParse : {K : Type 0} → (Held K → ℕ → Type 0) → Held K → Held K → Result (Unit {0}) Error → Type 0
+  WritesParse lacks old new result = WritesGiven ParseWhole ParseReached (WantsMessage ParseSoFar lacks old) old new result
 
 -- the bytes of a name and a value
 abbrev pub shown : Bor (List ℕ) × Bor (List ℕ) → List ℕ × List ℕ
@@ -74,8 +84,12 @@ module _ (parameters : List (Bor (List ℕ) × Bor (List ℕ)) → Option (Bor (
   abbrev pub StartupReached : List Part → Type 0
   StartupReached ps = (xs : List (Bor (List ℕ) × Bor (List ℕ))) × Begun parameters shown_pairs xs × (ps ≡ Int32 (pos 196608) ∷ shown_pairs xs ∷ [])
 
-  abbrev pub WritesStartup : {K : Type 0} → Type 0 → Held K → Held K → Result (Unit {0}) Error → Type 0
-  WritesStartup lacks old new result = WritesGiven StartupWhole StartupReached lacks old new result
+  -- the message of the names and values that came so far
+  abbrev pub StartupSoFar : ClientMessage → Type 0
+  StartupSoFar m = (xs : List (Bor (List ℕ) × Bor (List ℕ))) × SoFar parameters xs × (m ≡ Startup (map shown xs))
+
+  abbrev pub WritesStartup : {K : Type 0} → (Held K → ℕ → Type 0) → Held K → Held K → Result (Unit {0}) Error → Type 0
+  WritesStartup lacks old new result = WritesGiven StartupWhole StartupReached (WantsMessage StartupSoFar lacks old) old new result
 
 -- a call of a serializer: the item, its answer, and the bytes that it put behind the place of the value's length
 pub record Call (T E : Type 0) : Type 0 where
@@ -132,14 +146,18 @@ module _ {T E K : Type 0} (given : List T → Option T → Type 0) (serves : Hel
     pub made : serves here xs vs None
     pub none : part_cause (Values vs) ≡ None
 
-  -- it wasn't called, or at the first items
-  abbrev pub IsCalledInOrder : Type 0
-  IsCalledInOrder = serves here [] [] None ⊎ MakesFirst
+  -- those values; and where one item more came, a null for it, whose length is all that a refused growth can have been for
+  abbrev pub values_so_far : MakesFirst → List (Option (List ℕ))
+  values_so_far first = first.vs ++ map (λ x. None) (option_to_list first.next)
+
+  -- Behind `old` the count or a value's length didn't fit: the serializer wasn't called, or it was at the first items.
+  abbrev pub ValuesWant : (Held K → ℕ → Type 0) → Held K → Type 0
+  ValuesWant lacks old = (serves here [] [] None × Wants lacks old 2) ⊎ ((first : MakesFirst) × Wants lacks old (length (counted nullable (values_so_far first))))
 
   -- why the values were refused
-  abbrev pub ValuesRefused : Type 0 → BindError E → Type 0
-  ValuesRefused lacks (Conversion e) = Converts e
-  ValuesRefused lacks (Serialization e) = WantsMemory (lacks × IsCalledInOrder) e ⊎ ((vs : List (Option (List ℕ))) × ValuesBegun vs × (part_cause (Values vs) ≡ Some e))
+  abbrev pub ValuesRefused : (Held K → ℕ → Type 0) → Held K → BindError E → Type 0
+  ValuesRefused lacks old (Conversion e) = Converts e
+  ValuesRefused lacks old (Serialization e) = ((e ≡ OutOfMemory) × ValuesWant lacks old) ⊎ ((vs : List (Option (List ℕ))) × ValuesBegun vs × (part_cause (Values vs) ≡ Some e))
 
 -- what the buffer holds before the first value of a `bind`: zeros stand where the length and the count of values are to come
 abbrev pub before_values : {K : Type 0} → Held K → List ℕ → List ℕ → List ℤ → Held K
@@ -176,15 +194,18 @@ module _ {T E K : Type 0} (portal statement : List ℕ) (formats : List ℤ → 
   abbrev pub BindConverts : E → Type 0
   BindConverts e = (fs : List ℤ) × ComesToValues fs × Converts values serves (before_values old portal statement fs) e
 
-  -- what the serializer did before memory was wanted: nothing where a part before the values has a cause
-  abbrev pub BindCalls : Type 0
-  BindCalls = IsNotCalled ⊎ ((fs : List ℤ) × ComesToValues fs × MakesFirst values serves (before_values old portal statement fs))
+  -- A growth was refused that the message of what came so far needs: of formats, and the serializer wasn't called;
+  -- or of all formats, the values that the serializer made of the first items, and result formats.
+  abbrev pub BindWants : (Held K → ℕ → Type 0) → Type 0
+  BindWants lacks = (IsNotCalled × ((fs : List ℤ) × SoFar formats fs × Wants lacks old (length (bytes_of (Bind portal statement fs [] [])))))
+      ⊎ ((fs : List ℤ) × ComesToValues fs × ((first : MakesFirst values serves (before_values old portal statement fs)) × ((rs : List ℤ) × SoFar result_formats rs
+      × Wants lacks old (length (bytes_of (Bind portal statement fs (values_so_far values serves (before_values old portal statement fs) first) rs))))))
 
   -- why the call was refused: by the serializer, or as any writer
-  abbrev pub BindRefused : Type 0 → BindError E → Type 0
+  abbrev pub BindRefused : (Held K → ℕ → Type 0) → BindError E → Type 0
   BindRefused lacks (Conversion e) = BindConverts e
-  BindRefused lacks (Serialization e) = Refused BindWhole BindReached (lacks × BindCalls) e
+  BindRefused lacks (Serialization e) = Refused BindWhole BindReached (BindWants lacks) e
 
-  abbrev pub WritesBind : Type 0 → Held K → Result (Unit {0}) (BindError E) → Type 0
+  abbrev pub WritesBind : (Held K → ℕ → Type 0) → Held K → Result (Unit {0}) (BindError E) → Type 0
   WritesBind lacks new (Ok done) = Appended BindWhole old new
   WritesBind lacks new (Err e) = BindRefused lacks e × Leaves old new

@@ -145,10 +145,10 @@ abbrev pub IsInRange : ClientMessage → Type 0
 IsInRange m = EachInRange (parts m)
 
 -- A writer of these parts behind this tag: it appends the frame, and there is no cause; or it leaves
--- the bytes, and is refused for want of memory or for the first cause.
-abbrev pub WritesFrame : {K : Type 0} → Option ℕ → List Part → Type 0 → Held K → Held K → Result (Unit {0}) Error → Type 0
+-- the bytes, and is refused for want of the memory that the frame needs, or for the first cause.
+abbrev pub WritesFrame : {K : Type 0} → Option ℕ → List Part → (Held K → ℕ → Type 0) → Held K → Held K → Result (Unit {0}) Error → Type 0
 WritesFrame tag ps lacks old new result = Writes (framed tag (joined ps)) (frame_cause ps) lacks old new result
 
 -- The call of a writer of the message.
-abbrev pub WritesMessage : {K : Type 0} → ClientMessage → Type 0 → Held K → Held K → Result (Unit {0}) Error → Type 0
+abbrev pub WritesMessage : {K : Type 0} → ClientMessage → (Held K → ℕ → Type 0) → Held K → Held K → Result (Unit {0}) Error → Type 0
 WritesMessage m lacks old new result = IsInRange m × Writes (bytes_of m) (cause m) lacks old new result

@@ -3,10 +3,10 @@
 
 ghost use Rattle.std.specs.Prelude.{◌≡◌, ◌+◌, ◌<◌, ◌^◌, length, Some, None, Ok, OnOk, OnErr, IfOk, IfErr, ◌∷◌, ◌++◌};
 ghost use Rattle.pgp_base.specs.Wire.{uint32};
-ghost use Rattle.pgp_base.specs.Held.{◌⊕◌, Leaves};
-ghost use Rattle.pgp_base.specs.Calls.{IsFrontOf};
+ghost use Rattle.pgp_base.specs.Cause.{Wants};
+ghost use Rattle.pgp_base.specs.Held.{◌⊕◌, Leaves, IsFrontOf};
 ghost use Rattle.pgp_frontend.specs.ClientMessage.{CopyData as DataMessage, CopyDone, CopyFail};
-ghost use Rattle.pgp_frontend.specs.Payload.{cause, WritesMessage};
+ghost use Rattle.pgp_frontend.specs.Payload.{cause, bytes_of, WritesMessage};
 
 use crate::field::{Field, message};
 use bytes::Buf;
@@ -54,7 +54,7 @@ impl<T: Buf + Drop> CopyData<T> {
     /// Itself, nothing read from it, where a growth was refused. The buffer keeps its bytes.
     pub fn write<B: Buffer>(self, out: &mut B) -> Result<(), CopyData<T>>
         ensures ok { OnOk result (WritesMessage (DataMessage (T.unread self)) B.Lacks (B.held out.old) (B.held out.new) (Ok tt)) }
-        ensures err { IfErr result (λ piece. (piece ≡ self) × B.Lacks × Leaves (B.held out.old) (B.held out.new)) }
+        ensures err { IfErr result (λ piece. (piece ≡ self) × Wants B.Lacks (B.held out.old) (length (bytes_of (DataMessage (T.unread self)))) × Leaves (B.held out.old) (B.held out.new)) }
     {
         let CopyData { mut buf, size } = self;
         let start = out.len();
@@ -70,9 +70,10 @@ impl<T: Buf + Drop> CopyData<T> {
 
 // The frame of what is left of `buf`. A refusal reads nothing, and leaves what stood there as a front.
 fn fill<T: Buf, B: Buffer>(size: u32, buf: &mut T, out: &mut B) -> Result<(), Error>
+    requires { size ≡ length (T.unread buf.old) + 4 }
     ensures ok { OnOk result (B.held out.new ≡ B.held out.old ⊕ (100 ∷ uint32 size ++ T.unread buf.old)) }
     ensures kept { OnErr result (buf.new ≡ buf.old) }
-    ensures lacks { OnErr result B.Lacks }
+    ensures lacks { OnErr result (Wants B.Lacks (B.held out.old) (length (T.unread buf.old) + 5)) }
     ensures err { OnErr result (IsFrontOf (B.held out.old) (B.held out.new)) }
 {
     out.reserve(size as usize + 1)?;

@@ -5,9 +5,9 @@ ghost use Rattle.std.specs.Prelude.{◌≡◌, ℕ, ℤ, ◌^◌, ◌<◌, ◌�
 ghost use Rattle.std.specs.Int.{w16};
 ghost use Rattle.std.specs.Iterator.{IsFiniteIterable};
 ghost use Rattle.pgp_base.specs.Wire.{int16, oid, counted};
-ghost use Rattle.pgp_base.specs.Held.{◌⊕◌};
-ghost use Rattle.pgp_base.specs.Cause.{WantsMemory};
-ghost use Rattle.pgp_base.specs.Calls.{IsFrontOf, Came};
+ghost use Rattle.pgp_base.specs.Held.{◌⊕◌, IsFrontOf};
+ghost use Rattle.pgp_base.specs.Cause.{Wants};
+ghost use Rattle.pgp_base.specs.Calls.{Came, SoFar};
 ghost use Rattle.pgp_frontend.specs.Given.{Begun};
 ghost use Rattle.pgp_frontend.specs.Payload.{Int16s, Oids, part_cause};
 
@@ -24,7 +24,7 @@ where
     ensures ok { OnOk result ((xs : List ℕ) × Came I.into_iter_gives I.IntoIter.next_gives items xs None
         × All (λ n. n < 2 ^ 32) xs × (part_cause (Oids xs) ≡ None) × (B.held buf.new ≡ B.held buf.old ⊕ counted oid xs)) }
     ensures err { OnErr result (IsFrontOf (B.held buf.old) (B.held buf.new)) }
-    ensures cause { IfErr result (λ e. WantsMemory B.Lacks e
+    ensures cause { IfErr result (λ e. ((e ≡ Error.OutOfMemory) × ((xs : List ℕ) × SoFar (Came I.into_iter_gives I.IntoIter.next_gives items) xs × Wants B.Lacks (B.held buf.old) (length (counted oid xs))))
         ⊎ ((xs : List ℕ) × Begun (Came I.into_iter_gives I.IntoIter.next_gives items) Oids xs × (part_cause (Oids xs) ≡ Some e))) }
 {
     let base = buf.len();
@@ -52,7 +52,7 @@ where
     ensures ok { OnOk result ((xs : List ℤ) × Came I.into_iter_gives I.IntoIter.next_gives items xs None
         × All (FitsSigned w16) xs × (part_cause (Int16s xs) ≡ None) × (B.held buf.new ≡ B.held buf.old ⊕ counted int16 xs)) }
     ensures err { OnErr result (IsFrontOf (B.held buf.old) (B.held buf.new)) }
-    ensures cause { IfErr result (λ e. WantsMemory B.Lacks e
+    ensures cause { IfErr result (λ e. ((e ≡ Error.OutOfMemory) × ((xs : List ℤ) × SoFar (Came I.into_iter_gives I.IntoIter.next_gives items) xs × Wants B.Lacks (B.held buf.old) (length (counted int16 xs))))
         ⊎ ((xs : List ℤ) × Begun (Came I.into_iter_gives I.IntoIter.next_gives items) Int16s xs × (part_cause (Int16s xs) ≡ Some e))) }
 {
     let base = buf.len();

@@ -1,12 +1,19 @@
-//! Laws on what a server reads from the messages of a client, knowing only the grammar.
+//! Laws on what a server reads from the messages of a client, knowing only the grammar; and on what fits in a window.
 
-ghost use Rattle.std.specs.Prelude.{◌≡◌, ◌≢◌, ℕ, ◌+◌, List, ◌++◌, length, None};
+ghost use Rattle.std.specs.Prelude.{◌≡◌, ◌≢◌, ◌⊎◌, ℕ, ◌+◌, ◌≤◌, List, ◌++◌, length, Some, None, Result, IfErr};
+ghost use Rattle.std.specs.Result.{IsOk};
+ghost use Rattle.std.specs.Borrow.{GName};
 ghost use Rattle.pgp_base.specs.Wire.{frame};
-ghost use Rattle.pgp_base.specs.Cause.{length_cause};
-ghost use Rattle.pgp_frontend.specs.ClientMessage.{ClientMessage};
+ghost use Rattle.pgp_base.specs.Cause.{length_cause, Wants};
+ghost use Rattle.pgp_base.specs.Held.{Held, ◌⊕◌};
+ghost use Rattle.pgp_base.specs.Window.{window_held, window_lacks};
+ghost use Rattle.pgp_frontend.specs.ClientMessage.{ClientMessage, Query};
 ghost use Rattle.pgp_frontend.specs.Opening.{Opening};
-ghost use Rattle.pgp_frontend.specs.Payload.{Part, spelling, payload, tag_of, kind_of, bytes_of};
+ghost use Rattle.pgp_frontend.specs.Payload.{Part, spelling, payload, tag_of, kind_of, bytes_of, cause, WritesMessage};
 ghost use Rattle.pgp_frontend.specs.Reading.{AllBytes, shape, HasSpelling, IsSpelled};
+
+use crate::simple::query;
+use pgp_base::{Error, Window};
 
 /// No spelling of a part, one of all bytes excepted, begins another spelling of that part.
 pub fn parts_begin_no_other()
@@ -33,3 +40,29 @@ pub fn frames_begin_no_other()
 pub fn opening_packets_begin_no_other()
     ensures { (m n : ClientMessage) (b c more rest : List ℕ) → Opening m b → Opening n c → b ++ more ≡ c ++ rest → (m ≡ n) × (more ≡ rest) }
 {}
+
+/// A writer of a message into a window is refused memory only where the message is longer than the room that is left.
+pub fn only_what_is_too_long_wants_memory()
+    ensures wants { (old : Held (GName × ℕ)) (n : ℕ) → Wants window_lacks old n → window_lacks old n }
+    ensures longer { (m : ClientMessage) (old new : Held (GName × ℕ)) (result : Result (Unit {0}) Error) → WritesMessage m window_lacks old new result
+        → IfErr result (λ e. ((e ≡ Error.OutOfMemory) × window_lacks old (length (bytes_of m))) ⊎ (cause m ≡ Some e)) }
+{}
+
+/// A message without a cause that fits in the room that a window has left is written.
+pub fn what_fits_is_written()
+    ensures { (m : ClientMessage) (old new : Held (GName × ℕ)) (result : Result (Unit {0}) Error) → WritesMessage m window_lacks old new result
+        → cause m ≡ None → length old.bytes + length (bytes_of m) ≤ old.kept.1 → IsOk result × (new ≡ old ⊕ bytes_of m) }
+{}
+
+/// A query that fits in the room that a window has left, and has no cause, is written.
+///
+/// # Errors
+///
+/// None.
+pub fn query_that_fits(text: &str, window: &mut Window) -> Result<(), Error>
+    requires none { cause (Query text.now) ≡ None }
+    requires fits { length (window_held window.old).bytes + length (bytes_of (Query text.now)) ≤ (window_held window.old).kept.1 }
+    ensures { IsOk result × (window_held window.new ≡ window_held window.old ⊕ bytes_of (Query text.now)) }
+{
+    query(text, window)
+}

@@ -4,8 +4,8 @@
 ghost use Rattle.std.specs.Prelude.{◌≡◌, ℕ, List, ◌++◌, Option, None, OnOk, OnErr, IfErr};
 ghost use Rattle.std.specs.Iterator.{IsFiniteIterable};
 ghost use Rattle.pgp_base.specs.Wire.{uint16, counted, nullable};
-ghost use Rattle.pgp_base.specs.Held.{◌⊕◌};
-ghost use Rattle.pgp_base.specs.Calls.{IsFrontOf, Came, OwesValues};
+ghost use Rattle.pgp_base.specs.Held.{◌⊕◌, IsFrontOf};
+ghost use Rattle.pgp_base.specs.Calls.{Came, OwesValues};
 ghost use Rattle.pgp_frontend.specs.Given.{Serves, Served, ValuesRefused};
 ghost use Rattle.pgp_frontend.specs.Payload.{Values, part_cause};
 
@@ -29,7 +29,7 @@ where
         × Served (Came J.into_iter_gives J.IntoIter.next_gives values) (Serves B.held F.step serializer.old serializer.new) (B.held buf.old ⊕ uint16 0) vs
         × (part_cause (Values vs) ≡ None) × (B.held buf.new ≡ B.held buf.old ⊕ counted nullable vs)) }
     ensures err { OnErr result (IsFrontOf (B.held buf.old) (B.held buf.new)) }
-    ensures cause { IfErr result (ValuesRefused (Came J.into_iter_gives J.IntoIter.next_gives values) (Serves B.held F.step serializer.old serializer.new) (B.held buf.old ⊕ uint16 0) B.Lacks) }
+    ensures cause { IfErr result (ValuesRefused (Came J.into_iter_gives J.IntoIter.next_gives values) (Serves B.held F.step serializer.old serializer.new) (B.held buf.old ⊕ uint16 0) B.Lacks (B.held buf.old)) }
 {
     let base = buf.len();
     put_u16(buf, 0)?;

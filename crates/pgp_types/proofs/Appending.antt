@@ -1,17 +1,27 @@
 -- A value in two parts, of which the second was refused and the first cut off.
-use Rattle.std.proofs.Common.{◌≡◌, ℕ, List, Bool, true, ◌∙◌, sym, length, take, Result, Ok, Err, OnErr, None, Some, subst, refl, ◌++◌, inl, inr, ◌⊎◌}
-use Rattle.std.specs.Result.{is_err, IsErrAnd}
-use Rattle.pgp_base.specs.Held.{Held, ◌⊕◌, overwritten}
-use Rattle.pgp_base.proofs.Parts.{front_then, front_twice, front_trans, front_left, cut_back, filled4, more_twice}
-use Rattle.pgp_base.specs.Calls.{IsFrontOf}
-use Rattle.pgp_base.specs.Wire.{uint32}
+use Rattle.std.proofs.Common.{◌≡◌, ℕ, ◌+◌, ◌≤◌, List, Bool, true, false, ◌∙◌, sym, length, take, Result, Ok, Err, OnErr, None, Some, subst, refl, ◌++◌, [], ◌∷◌, ap, arith, length-append, inl, inr, ◌⊎◌}
+use Rattle.std.specs.List.{flat_map}
+use Rattle.std.proofs.lemmas.List.Concat.{flat_map-append}
+use Rattle.std.proofs.lemmas.List.{append-nil}
+use Rattle.std.specs.Result.{is_err, IsErr, IsErrAnd}
+use Rattle.pgp_base.specs.Held.{Held, ◌⊕◌, overwritten, IsFrontOf}
+use Rattle.pgp_base.proofs.Parts.{int32_spelled, front_then, front_twice, front_trans, front_left, cut_back, filled4, more_twice, length-uint32, wants_more, wants_then}
+use Rattle.pgp_base.specs.Wire.{uint32, nullable}
+use Rattle.std.specs.Prelude.{Option, IfErr, negsuc}
+use Rattle.std.specs.Int.{w32, cast_unsigned}
 use Rattle.pgp_base.specs.declared.error.Error.{Error}
 use Rattle.pgp_base.specs.Cause.{Cause, WantsMemory, Writes}
 
-pub part_refused : {K : Type 0} (all more p : List ℕ) (lacks : Type 0) (a b d e : Held K) (n : ℕ) (refused : Error)
+pub part_refused : {K : Type 0} (all more p : List ℕ) (lacks : Held K → ℕ → Type 0) (a b d e : Held K) (n : ℕ) (refused : Error)
     → Writes more None lacks b d (Err refused) → b ≡ a ⊕ p → n ≡ length a.bytes → e.bytes ≡ take n d.bytes → e.kept ≡ d.kept
-    → Writes all None lacks a e (Err refused)
-part_refused all more p lacks a b d e n refused k is at bytes kept = (k.0, cut_back a d e n (front_then a b d p is (front_left b d k.1)) at bytes kept)
+    → length p + length more ≤ length all → Writes all None lacks a e (Err refused)
+part_refused all more p lacks a b d e n refused k is at bytes kept whole = (elim k.0 [ inl memory ↦ inl (memory.0, wants_then a b p _ _ is whole memory.1) | inr c ↦ inr c ], cut_back a d e n (front_then a b d p is (front_left b d k.1)) at bytes kept)
+
+pub flat_more : {A : Type 0} (f : A → List ℕ) (xs : List A) (x : A) → length (flat_map f (xs ++ x ∷ [])) ≡ length (flat_map f xs) + length (f x)
+flat_more f xs x = ap length (flat_map-append f xs (x ∷ [])) ∙ (length-append (flat_map f xs) (f x ++ []) ∙ ap (λ z. length (flat_map f xs) + length z) (append-nil (f x)))
+
+pub sized_length : (z : List ℕ) → length (uint32 (length z) ++ z) ≡ length z + 4
+sized_length z = omega (arith, length-append (uint32 (length z)) z, length-uint32 (length z))
 
 -- what holds where a result is an error
 pub at_err : {T E : Type 0} (r : Result T E) (P : Type 0) (b : Bool) → OnErr r P → b ≡ is_err r → b ≡ true → P
@@ -35,6 +45,20 @@ module _ {K : Type 0} (a : Held K) where
   counted_up4 p d r base n m e h i j = filled4 a p (a ⊕ uint32 0) d r base n m refl e h i j ∙ more_twice a (uint32 m) p
 
 -- where no part has a cause
-pub only_memory : {lacks : Type 0} (e : Error) → WantsMemory lacks e ⊎ (let none : Cause = None in none ≡ Some e) → WantsMemory lacks e
+pub only_memory : {K : Type 0} {lacks : Held K → ℕ → Type 0} {old : Held K} {n : ℕ} (e : Error) → WantsMemory lacks old n e ⊎ (let none : Cause = None in none ≡ Some e) → WantsMemory lacks old n e
 only_memory e (inl memory) = memory
 only_memory e (inr cause) = absurd cc
+
+-- a writer hands on the refusal of a part
+pub handed_on : {K : Type 0} {lacks : Held K → ℕ → Type 0} (r : Result (Unit {0}) Error) (x : Error) (p q : List ℕ) (old new : Held K) → IsErr r → IsErrAnd r (λ e. e ≡ x) → Writes p None lacks old new (Err x) → length p ≤ length q → Writes q None lacks old new r
+handed_on (Ok y) x p q old new is h k le = let e : false ≡ true = is in cc
+handed_on (Err e) x p q old new is h k le = let m = only_memory x k.0 in (inl (h ∙ m.0, wants_more old (length p) (length q) le m.1), k.1)
+
+-- a value takes four bytes at least
+pub nullable_least : (v : Option (List ℕ)) → 4 ≤ length (nullable v)
+nullable_least None = omega (arith, ap length (int32_spelled (negsuc 0)), length-uint32 (cast_unsigned w32 (negsuc 0)))
+nullable_least (Some z) = omega (arith, sized_length z)
+
+pub memory_as : {T K : Type 0} (lacks : Held K → ℕ → Type 0) (r : Result T Error) (old : Held K) (n m : ℕ) (C : Error → Type 0) → n ≤ m → IfErr r (WantsMemory lacks old n) → IfErr r (λ e. WantsMemory lacks old m e ⊎ C e)
+memory_as lacks (Ok x) old n m C le w = tt
+memory_as lacks (Err e) old n m C le w = inl (w.0, wants_more old n m le w.1)

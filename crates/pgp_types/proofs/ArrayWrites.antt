@@ -1,11 +1,11 @@
 -- What the writer of an array leaves.
-use Rattle.std.proofs.Common.{◌≡◌, ℕ, ◌+◌, ◌≤◌, Bool, true, false, List, [], ◌∷◌, ◌++◌, map, length, Result, Option, Some, None, MutBor, refl, sym, ap, subst, ◌∙◌, arith, length-append}
+use Rattle.std.proofs.Common.{◌≡◌, ℕ, ◌+◌, ◌≤◌, Bool, true, false, List, [], ◌∷◌, ◌++◌, map, length, Result, Option, Some, None, MutBor, refl, sym, ap, subst, ◌∙◌, arith, length-append, ℤ, ◌*◌}
 use Rattle.std.specs.Int.{w32, cast_unsigned, from_bool}
 use Rattle.std.specs.List.{flat_map}
 use Rattle.pgp_base.specs.declared.number.IsNull.{IsNull}
 use Rattle.pgp_base.specs.declared.number.IsNull.TheVariants.{Yes, No}
 use Rattle.pgp_base.specs.declared.error.BindError.{BindError}
-use Rattle.pgp_base.specs.Wire.{uint32, oid, nullable}
+use Rattle.pgp_base.specs.Wire.{uint32, int32, oid, nullable}
 use Rattle.pgp_base.specs.Cause.{first, length_cause, nullable_cause}
 use Rattle.pgp_base.specs.Held.{Held, ◌⊕◌, overwritten}
 use Rattle.pgp_base.specs.Calls.{null_of, Gives, Runs, ValueRefused}
@@ -33,7 +33,7 @@ value_then (None ∷ vs) v e = refl
 value_then (Some w ∷ vs) v e = value_then vs v e
 
 -- an element that was refused behind those that were made
-pub value_stops : {F T E B K : Type 0} (held : B → Held K) (step : F → T → MutBor B → Result IsNull E → MutBor B → F → Type 0) (given : List T → Option T → Type 0) (f : F) (here : Held K) (lacks : Type 0)
+pub value_stops : {F T E B K : Type 0} (held : B → Held K) (step : F → T → MutBor B → Result IsNull E → MutBor B → F → Type 0) (given : List T → Option T → Type 0) (f : F) (here : Held K) (lacks : Held K → ℕ → Type 0)
     (xs : List T) (x : T) (vs : List (Option (List ℕ))) (at u : F) (b : Held K) (e : BindError E)
     → given xs (Some x) → Runs (Gives held step) nullable here f xs vs at → b ≡ here ⊕ flat_map nullable vs
     → ValueRefused held step lacks b at x e u → MadeUpTo held step given f u here lacks e
@@ -42,7 +42,7 @@ value_stops {K = K} held step given f here lacks xs x vs at u b e came runs h r 
 
 module _ {F T E B K : Type 0} (held : B → Held K) (step : F → T → MutBor B → Result IsNull E → MutBor B → F → Type 0) (given : List T → Option T → Type 0) (f last : F) where
   -- the same, before which a buffer held the same
-  pub stops_at : (here there : Held K) (lacks : Type 0) (e : BindError E) → here ≡ there → MadeUpTo held step given f last here lacks e → MadeUpTo held step given f last there lacks e
+  pub stops_at : (here there : Held K) (lacks : Held K → ℕ → Type 0) (e : BindError E) → here ≡ there → MadeUpTo held step given f last here lacks e → MadeUpTo held step given f last there lacks e
   stops_at here there lacks e h r = subst (λ (here : Held K). MadeUpTo held step given f last here lacks e) h r
 
   pub made_at : (here there : Held K) (vs : List (Option (List ℕ))) → here ≡ there → Made held step given f last here vs → Made held step given f last there vs
@@ -115,3 +115,11 @@ flag_is n true false e h = absurd cc
 -- an array whose dimensions can be counted, and whose elements were made
 pub no_cause : (a : Array) → length_cause (length a.dimensions) ≡ None → first (map nullable_cause a.elements) ≡ None → array_cause a ≡ None
 no_cause a h k = either_none (length_cause (length a.dimensions)) (first (map nullable_cause a.elements)) h k
+
+four : (z : ℤ) → length (int32 z) ≡ 4
+four z = ap length (int32_spelled z) ∙ length-uint32 _
+
+-- each dimension takes eight bytes
+pub dimensions_length : (ds : List ArrayDimension) → length (flat_map dimension_bytes ds) ≡ 8 * length ds
+dimensions_length [] = refl
+dimensions_length (d ∷ ds) = let r = dimensions_length ds in omega (arith, r, length-append (dimension_bytes d) (flat_map dimension_bytes ds), length-append (int32 d.len) (int32 d.lower_bound), four d.len, four d.lower_bound)

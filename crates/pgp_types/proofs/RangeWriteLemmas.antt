@@ -6,8 +6,8 @@ use Rattle.std.proofs.Math.Seq.{take-append_seam, drop-append_seam}
 use Rattle.pgp_base.specs.declared.error.BindError.{BindError}
 use Rattle.pgp_base.specs.declared.number.IsNull.{IsNull}
 use Rattle.pgp_base.specs.declared.number.IsNull.TheVariants.{Yes, No}
-use Rattle.pgp_base.specs.Calls.{IsFrontOf, Adds}
-use Rattle.pgp_base.specs.Held.{Held, ◌⊕◌, lengthened, overwritten}
+use Rattle.pgp_base.specs.Calls.{Adds}
+use Rattle.pgp_base.specs.Held.{Held, ◌⊕◌, lengthened, overwritten, IsFrontOf}
 use Rattle.pgp_base.specs.Wire.{uint32, nullable}
 use Rattle.pgp_base.proofs.Parts.{nothing_more, more_twice, more_bytes, more_kept, front_twice, cut_back, valued}
 use Rattle.pgp_types.specs.declared.range.RangeBound.{RangeBound}
@@ -56,7 +56,7 @@ stands_at Unbounded b here r e m = (m.0 ∙ ap (λ h. h.bytes ++ []) e, m.1 ∙ 
 stands_at (Inclusive v) b here r e m = m ∙ ap (λ h. h ⊕ nullable v) e
 stands_at (Exclusive v) b here r e m = m ∙ ap (λ h. h ⊕ nullable v) e
 
-pub stops_at : {F E B K : Type 0} (held : B → Held K) (post : F → MutBor B → Result (RangeBound IsNull) E → MutBor B → Type 0) (lacks : Type 0) (b here : Held K) (f : F) (e : BindError E) → b ≡ here → SideStops held post lacks b f e → SideStops held post lacks here f e
+pub stops_at : {F E B K : Type 0} (held : B → Held K) (post : F → MutBor B → Result (RangeBound IsNull) E → MutBor B → Type 0) (lacks : Held K → ℕ → Type 0) (b here : Held K) (f : F) (e : BindError E) → b ≡ here → SideStops held post lacks b f e → SideStops held post lacks here f e
 stops_at {K = K} held post lacks b here f e is m = subst (λ (b : Held K). SideStops held post lacks b f e) is m
 
 -- the bits of both sides

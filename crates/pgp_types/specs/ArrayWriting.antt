@@ -1,14 +1,15 @@
 -- What `array_to_sql` comes to.
-use Rattle.std.specs.Prelude.{◌≡◌, ◌⊎◌, ℕ, List, length, Option, Some, None, Result, Ok, Err, All}
+use Rattle.std.specs.Prelude.{◌≡◌, ◌⊎◌, ℕ, ◌+◌, ◌*◌, List, length, Option, Some, None, Result, Ok, Err, All}
 use Rattle.std.specs.List.{flat_map}
-use Rattle.pgp_base.specs.declared.error.Error.TheVariants.{TooLarge}
+use Rattle.pgp_base.specs.declared.error.Error.TheVariants.{OutOfMemory, TooLarge}
+use Rattle.pgp_base.specs.declared.error.Error.{Error}
 use Rattle.pgp_base.specs.declared.error.BindError.{BindError}
 use Rattle.pgp_base.specs.declared.error.BindError.TheVariants.{Conversion, Serialization}
 use Rattle.pgp_base.specs.declared.number.IsNull.{IsNull}
 use Rattle.pgp_base.specs.Wire.{uint32, oid, nullable}
-use Rattle.pgp_base.specs.Cause.{length_cause, WantsMemory}
+use Rattle.pgp_base.specs.Cause.{length_cause, Wants}
 use Rattle.pgp_base.specs.Held.{Held, ◌⊕◌, Leaves}
-use Rattle.pgp_base.specs.Calls.{Gives, Runs, ValueRefused}
+use Rattle.pgp_base.specs.Calls.{Gives, Runs, SoFar, ValueRefused}
 use Rattle.pgp_types.specs.declared.array.ArrayDimension.{ArrayDimension}
 use Rattle.pgp_types.specs.Array.{Array, IsDimension, dimension_bytes, array_bytes, array_cause}
 use denote.Ref.{MutBor}
@@ -27,6 +28,10 @@ pub record DimensionsPast (given : List ArrayDimension → Option ArrayDimension
   pub came : given before (Some last)
   pub full : length before ≡ 2147483647
 
+-- a growth was refused that the head of the dimensions so far needs: three numbers, and two for each
+abbrev pub WantsHead : {K : Type 0} → (List ArrayDimension → Option ArrayDimension → Type 0) → (Held K → ℕ → Type 0) → Held K → Error → Type 0
+WantsHead given lacks old e = (e ≡ OutOfMemory) × ((ds : List ArrayDimension) × SoFar given ds × Wants lacks old (12 + 8 * length ds))
+
 -- The elements that a serializer makes of the items that were given. It begins as `f` and is left as `last`; `here`
 -- is what the buffer holds before the first of them.
 module _ {F T E B K : Type 0} (held : B → Held K) (step : F → T → MutBor B → Result IsNull E → MutBor B → F → Type 0) (given : List T → Option T → Type 0) (f last : F) (here : Held K) where
@@ -37,7 +42,7 @@ module _ {F T E B K : Type 0} (held : B → Held K) (step : F → T → MutBor B
     pub runs : Runs (Gives held step) nullable here f xs vs last
 
   -- it made the elements of the first items, and the one behind them was refused
-  pub record MadeUpTo (lacks : Type 0) (e : BindError E) : Type 0 where
+  pub record MadeUpTo (lacks : Held K → ℕ → Type 0) (e : BindError E) : Type 0 where
     pub xs : List T
     pub x : T
     pub came : given xs (Some x)
@@ -59,21 +64,21 @@ module _ {F T E B K : Type 0} (held : B → Held K) (step : F → T → MutBor B
     pub appended : new ≡ old ⊕ array_bytes array
 
   -- before the elements: for want of memory, or for too many dimensions
-  abbrev pub HeadRefused : Type 0 → BindError E → Type 0
+  abbrev pub HeadRefused : (Held K → ℕ → Type 0) → BindError E → Type 0
   HeadRefused lacks (Conversion e) = ⊥
-  HeadRefused lacks (Serialization e) = WantsMemory lacks e ⊎ (DimensionsPast dimensions × (e ≡ TooLarge))
+  HeadRefused lacks (Serialization e) = WantsHead dimensions lacks old e ⊎ (DimensionsPast dimensions × (e ≡ TooLarge))
 
   -- at an element
-  pub record ElementRefused (lacks : Type 0) (e : BindError E) : Type 0 where
+  pub record ElementRefused (lacks : Held K → ℕ → Type 0) (e : BindError E) : Type 0 where
     pub all : List ArrayDimension
     pub came : dimensions all None
     pub fits : length_cause (length all) ≡ None
     pub stops : MadeUpTo held step elements f last (before_elements old all element_type) lacks e
 
   -- Why the call was refused: before the elements, and the serializer wasn't called; or at an element.
-  abbrev pub ArrayRefused : Type 0 → BindError E → Type 0
+  abbrev pub ArrayRefused : (Held K → ℕ → Type 0) → BindError E → Type 0
   ArrayRefused lacks e = (HeadRefused lacks e × (last ≡ f)) ⊎ ElementRefused lacks e
 
-  abbrev pub WritesArray : Type 0 → Held K → Result (Unit {0}) (BindError E) → Type 0
+  abbrev pub WritesArray : (Held K → ℕ → Type 0) → Held K → Result (Unit {0}) (BindError E) → Type 0
   WritesArray lacks new (Ok done) = ArrayWritten new
   WritesArray lacks new (Err e) = ArrayRefused lacks e × Leaves old new

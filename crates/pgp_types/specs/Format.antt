@@ -26,9 +26,9 @@ Plain V = Format V V
 abbrev pub plain : {V : Type 0} → (V → Type 0) → (V → List ℕ) → (List ℕ → Result V Error → Type 0) → Plain V
 plain IsValue written Reads = record { IsValue = IsValue; written = written; cause = λ _. None; seen = λ v. v; Reads = Reads }
 
--- What a writer leaves: the bytes of the value behind the old ones; or the old ones, where memory or the value was
--- refused.
-abbrev pub Writes : {V R K : Type 0} → Format V R → V → Type 0 → Held K → Result (Unit {0}) Error → Held K → Type 0
+-- What a writer leaves: the bytes of the value behind the old ones; or the old ones, where the memory that these bytes need, or
+-- the value, was refused.
+abbrev pub Writes : {V R K : Type 0} → Format V R → V → (Held K → ℕ → Type 0) → Held K → Result (Unit {0}) Error → Held K → Type 0
 Writes f v lacks old result new = WritesSpelling (f.written v) (f.cause v) lacks old new result
 
 -- What a reader answers for the bytes.

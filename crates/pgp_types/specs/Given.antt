@@ -1,7 +1,9 @@
 -- What the writers over iterators come to.
-use Rattle.std.specs.Prelude.{◌≡◌, ◌⊎◌, List, [], ◌∷◌, ◌++◌, Option, Some, None, Result, Ok, Err}
+use Rattle.std.specs.Prelude.{◌≡◌, ◌⊎◌, ℕ, length, List, [], ◌∷◌, ◌++◌, Option, Some, None, Result, Ok, Err}
 use Rattle.pgp_base.specs.declared.error.Error.{Error}
-use Rattle.pgp_base.specs.Cause.{WantsMemory}
+use Rattle.pgp_base.specs.declared.error.Error.TheVariants.{OutOfMemory}
+use Rattle.pgp_base.specs.Calls.{SoFar}
+use Rattle.pgp_base.specs.Cause.{Wants}
 use Rattle.pgp_base.specs.Held.{Held, ◌⊕◌, Leaves}
 use Rattle.pgp_types.specs.Format.{Format}
 
@@ -22,7 +24,11 @@ module _ {A V R : Type 0} (came : List A → Option A → Type 0) (f : Format V 
     pub fits : f.cause (value before) ≡ None
     pub passes : f.cause (value (before ++ last ∷ [])) ≡ Some e
 
+  -- a growth was refused that the value of the items so far needs
+  abbrev pub WantsValue : {K : Type 0} → (Held K → ℕ → Type 0) → Held K → Error → Type 0
+  WantsValue lacks old e = (e ≡ OutOfMemory) × ((items : List A) × SoFar came items × Wants lacks old (length (f.written (value items))))
+
   -- It writes the value of all items; or it leaves the bytes, and is refused for want of memory or for the first cause.
-  abbrev pub WritesAll : {K : Type 0} → Type 0 → Held K → Result (Unit {0}) Error → Held K → Type 0
+  abbrev pub WritesAll : {K : Type 0} → (Held K → ℕ → Type 0) → Held K → Result (Unit {0}) Error → Held K → Type 0
   WritesAll lacks old (Ok done) new = Whole old new
-  WritesAll lacks old (Err e) new = (WantsMemory lacks e ⊎ Stops e) × Leaves old new
+  WritesAll lacks old (Err e) new = (WantsValue lacks old e ⊎ Stops e) × Leaves old new

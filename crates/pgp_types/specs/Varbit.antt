@@ -5,12 +5,12 @@ use Rattle.std.specs.Prelude.{Some}
 use Rattle.std.specs.Int.{div_ceil}
 use Rattle.pgp_base.specs.declared.error.Error.{Error}
 use Rattle.pgp_base.specs.declared.error.Error.TheVariants.{InvalidBitLength, InvalidSize}
-use Rattle.pgp_base.specs.Cause.{length_cause, WantsMemory}
+use Rattle.pgp_base.specs.Cause.{length_cause}
 use Rattle.pgp_base.specs.Held.{Held, Leaves}
 use Rattle.pgp_base.specs.Wire.{uint32}
 use Rattle.pgp_types.specs.Format.{Format}
 use Rattle.pgp_types.specs.Part.{Part, Begins, natural}
-use Rattle.pgp_types.specs.Given.{Whole}
+use Rattle.pgp_types.specs.Given.{Whole, WantsValue}
 
 pub record Varbit : Type 0 where
   pub len : ℕ
@@ -35,6 +35,10 @@ varbit = record { IsValue = IsVarbit; written = λ v. uint32 v.len ++ v.bytes; c
 -- What the writer leaves that is handed the number of bits and an iterator over the bytes: all of them stand behind the
 -- number; or the old bytes stay, for want of memory, or since the number passes its field.
 module _ (came : List ℕ → Option ℕ → Type 0) (len : ℕ) where
-  abbrev pub WritesVarbit : {K : Type 0} → Type 0 → Held K → Result (Unit {0}) Error → Held K → Type 0
+  -- a growth was refused that the number and the bytes so far need
+  abbrev pub WantsVarbit : {K : Type 0} → (Held K → ℕ → Type 0) → Held K → Error → Type 0
+  WantsVarbit lacks old e = WantsValue came varbit (λ bytes. record { len = len; bytes = bytes }) lacks old e
+
+  abbrev pub WritesVarbit : {K : Type 0} → (Held K → ℕ → Type 0) → Held K → Result (Unit {0}) Error → Held K → Type 0
   WritesVarbit lacks old (Ok done) new = Whole came varbit (λ bytes. record { len = len; bytes = bytes }) old new
-  WritesVarbit lacks old (Err e) new = (WantsMemory lacks e ⊎ (length_cause len ≡ Some e)) × Leaves old new
+  WritesVarbit lacks old (Err e) new = (WantsVarbit lacks old e ⊎ (length_cause len ≡ Some e)) × Leaves old new

@@ -3,20 +3,20 @@
 //! PostgreSQL manual, "Arrays".
 #![tactic(auto, using(pgp_base::proofs::Parts::held_steps))]
 
-ghost use Rattle.std.specs.Prelude.{◌≡◌, ◌≢◌, ℕ, ◌<◌, ◌^◌, ◌++◌, ◌⊎◌, List, length, Option, None, OnErr, OnOk, IfOk, IfErr, All};
+ghost use Rattle.std.specs.Prelude.{◌≡◌, ◌≢◌, ℕ, ◌*◌, ◌<◌, ◌^◌, ◌++◌, ◌⊎◌, List, length, Option, None, OnErr, OnOk, IfOk, IfErr, All};
 ghost use Rattle.std.specs.List.{flat_map};
 ghost use Rattle.std.specs.Iterator.{IsFiniteIterable};
 ghost use Rattle.pgp_base.specs.Wire.{nullable};
-ghost use Rattle.pgp_base.specs.Cause.{length_cause, WantsMemory};
-ghost use Rattle.pgp_base.specs.Held.{◌⊕◌};
-ghost use Rattle.pgp_base.specs.Calls.{IsFrontOf, Came, OwesValues};
+ghost use Rattle.pgp_base.specs.Cause.{length_cause, Wants, WantsMemory};
+ghost use Rattle.pgp_base.specs.Held.{◌⊕◌, IsFrontOf};
+ghost use Rattle.pgp_base.specs.Calls.{Came, SoFar, OwesValues};
 ghost use Rattle.pgp_base.specs.Wire.{IsBytes};
 ghost use Rattle.pgp_base.specs.PartReading.{Answers};
 ghost use Rattle.pgp_types.specs.Format.{Reads};
 ghost use Rattle.pgp_types.specs.PartReading.{shown};
 ghost use Rattle.pgp_types.specs.ArrayReading.{head_at, product_at, each_at};
 ghost use Rattle.pgp_types.specs.Array.{array, dimension, Extent, IsDimension, has_null, dimension_bytes};
-ghost use Rattle.pgp_types.specs.ArrayWriting.{before_elements, DimensionsPast, Made, MadeUpTo, ArrayWritten, ArrayRefused, WritesArray};
+ghost use Rattle.pgp_types.specs.ArrayWriting.{before_elements, WantsHead, DimensionsPast, Made, MadeUpTo, ArrayWritten, ArrayRefused, WritesArray};
 
 use crate::part::{natural_at, nullable_at};
 use pgp_base::reading::{int32_at, oid_at};
@@ -36,7 +36,7 @@ pub struct ArrayDimension {
 fn put_dimension<B: Buffer>(dimension: ArrayDimension, buf: &mut B) -> Result<(), Error>
     ensures ok { OnOk result (B.held buf.new ≡ B.held buf.old ⊕ dimension_bytes dimension) }
     ensures err { OnErr result (IsFrontOf (B.held buf.old) (B.held buf.new)) }
-    ensures cause { IfErr result (WantsMemory B.Lacks) }
+    ensures cause { IfErr result (WantsMemory B.Lacks (B.held buf.old) 8) }
 {
     put_u32(buf, dimension.len.cast_unsigned())?;
     put_u32(buf, dimension.lower_bound.cast_unsigned())?;
@@ -55,7 +55,7 @@ where
         × All IsDimension ds × (n ≡ length ds) × (length_cause (length ds) ≡ None)
         × (B.held buf.new ≡ B.held buf.old ⊕ flat_map dimension_bytes ds)) }
     ensures err { OnErr result (IsFrontOf (B.held buf.old) (B.held buf.new)) }
-    ensures cause { IfErr result (λ e. WantsMemory B.Lacks e
+    ensures cause { IfErr result (λ e. ((e ≡ Error.OutOfMemory) × ((ds : List ArrayDimension) × SoFar (Came I.into_iter_gives I.IntoIter.next_gives dimensions) ds × Wants B.Lacks (B.held buf.old) (8 * length ds)))
         ⊎ (DimensionsPast (Came I.into_iter_gives I.IntoIter.next_gives dimensions) × (e ≡ Error.TooLarge))) }
 {
     let mut count = 0u32;
@@ -113,7 +113,7 @@ where
     ensures ok { OnOk result ((ds : List ArrayDimension) × Came I.into_iter_gives I.IntoIter.next_gives dimensions ds None
         × All IsDimension ds × (length_cause (length ds) ≡ None) × (B.held buf.new ≡ before_elements (B.held buf.old) ds element_type)) }
     ensures err { OnErr result (IsFrontOf (B.held buf.old) (B.held buf.new)) }
-    ensures cause { IfErr result (λ e. WantsMemory B.Lacks e
+    ensures cause { IfErr result (λ e. WantsHead (Came I.into_iter_gives I.IntoIter.next_gives dimensions) B.Lacks (B.held buf.old) e
         ⊎ (DimensionsPast (Came I.into_iter_gives I.IntoIter.next_gives dimensions) × (e ≡ Error.TooLarge))) }
 {
     let base = buf.len();

@@ -11,6 +11,7 @@ use pgp_base::{Buffer, Error};
 pub const MOST_ITEMS: u32 = 0x7fff_ffff;
 
 // All of the bytes, or nothing.
+#[tactic(auto, using(pgp_base::proofs::Parts::held_steps, pgp_base::proofs::Parts::wants_now))]
 pub fn append<B: Buffer>(bytes: &[u8], buf: &mut B) -> Result<(), Error>
     ensures { Writes bytes.now None B.Lacks (B.held buf.old) (B.held buf.new) result }
 {

@@ -5,13 +5,13 @@
 
 ghost use Rattle.std.specs.Prelude.{◌≡◌, ◌≤◌, ◌⊎◌, ℕ, length, OnOk, OnErr, IfOk, IfErr};
 ghost use Rattle.std.specs.Iterator.{IsFiniteIterable};
-ghost use Rattle.pgp_base.specs.Calls.{IsFrontOf, Came};
+ghost use Rattle.pgp_base.specs.Calls.{Came};
 ghost use Rattle.pgp_base.specs.Cause.{WantsMemory, nullable_cause};
-ghost use Rattle.pgp_base.specs.Held.{◌⊕◌};
+ghost use Rattle.pgp_base.specs.Held.{◌⊕◌, IsFrontOf};
 ghost use Rattle.pgp_base.specs.PartReading.{Answers};
 ghost use Rattle.pgp_base.specs.Wire.{nullable};
 ghost use Rattle.pgp_types.specs.Format.{Reads};
-ghost use Rattle.pgp_types.specs.Given.{Whole, Stops, WritesAll};
+ghost use Rattle.pgp_types.specs.Given.{Whole, Stops, WritesAll, WantsValue};
 ghost use Rattle.pgp_types.specs.Hstore.{hstore, shown_entry, shown_entries};
 ghost use Rattle.pgp_types.specs.PartReading.{shown, key_at, entry_value_at, entry_at};
 
@@ -29,7 +29,7 @@ const NULL: u32 = 0xffff_ffff;
 fn put_nullable<B: Buffer>(v: Option<&str>, buf: &mut B) -> Result<(), Error>
     ensures ok { OnOk result ((nullable_cause (shown v.entry) ≡ None) × (B.held buf.new ≡ B.held buf.old ⊕ nullable (shown v.entry))) }
     ensures err { OnErr result (IsFrontOf (B.held buf.old) (B.held buf.new)) }
-    ensures cause { IfErr result (λ e. WantsMemory B.Lacks e ⊎ (nullable_cause (shown v.entry) ≡ Some e)) }
+    ensures cause { IfErr result (λ e. WantsMemory B.Lacks (B.held buf.old) (length (nullable (shown v.entry))) e ⊎ (nullable_cause (shown v.entry) ≡ Some e)) }
 {
     let Some(text) = v else {
         return put_u32(buf, NULL);
@@ -49,7 +49,7 @@ where
     requires { IsFiniteIterable I.into_iter_gives I.IntoIter.can_next I.IntoIter.remaining pairs }
     ensures ok { OnOk result (Whole (Came I.into_iter_gives I.IntoIter.next_gives pairs) hstore shown_entries (B.held buf.old) (B.held buf.new)) }
     ensures err { OnErr result (IsFrontOf (B.held buf.old) (B.held buf.new)) }
-    ensures cause { IfErr result (λ e. WantsMemory B.Lacks e ⊎ Stops (Came I.into_iter_gives I.IntoIter.next_gives pairs) hstore shown_entries e) }
+    ensures cause { IfErr result (λ e. WantsValue (Came I.into_iter_gives I.IntoIter.next_gives pairs) hstore shown_entries B.Lacks (B.held buf.old) e ⊎ Stops (Came I.into_iter_gives I.IntoIter.next_gives pairs) hstore shown_entries e) }
 {
     let base = buf.len();
     put_u32(buf, 0)?;

@@ -5,11 +5,11 @@
 
 ghost use Rattle.std.specs.Prelude.{◌≡◌, ◌≤◌, ◌⊎◌, ℕ, length, OnOk, OnErr, IfOk, IfErr};
 ghost use Rattle.std.specs.Iterator.{IsFiniteIterable};
-ghost use Rattle.pgp_base.specs.Calls.{IsFrontOf, Came};
-ghost use Rattle.pgp_base.specs.Cause.{WantsMemory};
+ghost use Rattle.pgp_base.specs.Held.{IsFrontOf};
+ghost use Rattle.pgp_base.specs.Calls.{Came};
 ghost use Rattle.pgp_base.specs.PartReading.{Answers};
 ghost use Rattle.pgp_types.specs.Format.{Reads};
-ghost use Rattle.pgp_types.specs.Given.{Whole, Stops, WritesAll};
+ghost use Rattle.pgp_types.specs.Given.{Whole, Stops, WritesAll, WantsValue};
 ghost use Rattle.pgp_types.specs.PartReading.{point_at};
 ghost use Rattle.pgp_types.specs.Path.{path, path_of, point_at_xy};
 
@@ -120,7 +120,7 @@ where
     requires { IsFiniteIterable I.into_iter_gives I.IntoIter.can_next I.IntoIter.remaining points }
     ensures ok { OnOk result (Whole (Came I.into_iter_gives I.IntoIter.next_gives points) path (path_of closed) (B.held buf.old) (B.held buf.new)) }
     ensures err { OnErr result (IsFrontOf (B.held buf.old) (B.held buf.new)) }
-    ensures cause { IfErr result (λ e. WantsMemory B.Lacks e ⊎ Stops (Came I.into_iter_gives I.IntoIter.next_gives points) path (path_of closed) e) }
+    ensures cause { IfErr result (λ e. WantsValue (Came I.into_iter_gives I.IntoIter.next_gives points) path (path_of closed) B.Lacks (B.held buf.old) e ⊎ Stops (Came I.into_iter_gives I.IntoIter.next_gives points) path (path_of closed) e) }
 {
     bool_to_sql(closed, buf)?;
     let base = buf.len();

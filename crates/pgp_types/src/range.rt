@@ -4,9 +4,9 @@
 #![tactic(auto, using(pgp_base::proofs::Parts::held_steps))]
 
 ghost use Rattle.std.specs.Prelude.{◌≡◌, ℕ, ◌+◌, ◌≤◌, List, [], length, drop, Some, None, OnOk, OnErr, IfOk, IfErr};
-ghost use Rattle.pgp_base.specs.Calls.{IsFrontOf, Adds, Appends, value_of, length_of};
+ghost use Rattle.pgp_base.specs.Calls.{Adds, Appends, value_of, length_of};
 ghost use Rattle.pgp_base.specs.Cause.{nullable_cause};
-ghost use Rattle.pgp_base.specs.Held.{overwritten};
+ghost use Rattle.pgp_base.specs.Held.{overwritten, IsFrontOf};
 ghost use Rattle.pgp_base.specs.PartReading.{Answers};
 ghost use Rattle.pgp_types.specs.Format.{ReadsBy, Writes};
 ghost use Rattle.pgp_types.specs.Range.{Side, range, empty, side_bit, side_bytes, side_cause};

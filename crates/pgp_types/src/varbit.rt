@@ -5,12 +5,11 @@
 
 ghost use Rattle.std.specs.Prelude.{◌≡◌, ◌⊎◌, ◌↔◌, ◌++◌, ℕ, List, Some, None, true, OnOk, OnErr, IfErr};
 ghost use Rattle.std.specs.Iterator.{IsFinite, YieldsThen};
-ghost use Rattle.pgp_base.specs.Cause.{length_cause, WantsMemory};
-ghost use Rattle.pgp_base.specs.Calls.{IsFrontOf};
-ghost use Rattle.pgp_base.specs.Held.{◌⊕◌};
+ghost use Rattle.pgp_base.specs.Cause.{length_cause};
+ghost use Rattle.pgp_base.specs.Held.{◌⊕◌, IsFrontOf};
 ghost use Rattle.pgp_types.specs.Format.{Reads};
 ghost use Rattle.pgp_types.specs.Given.{Whole};
-ghost use Rattle.pgp_types.specs.Varbit.{varbit, WritesVarbit};
+ghost use Rattle.pgp_types.specs.Varbit.{varbit, WritesVarbit, WantsVarbit};
 
 use crate::part::natural_at;
 use pgp_base::{Buffer, Error, length_field, put_u8, put_u32};
@@ -64,7 +63,7 @@ fn fill_varbit<B: Buffer, I: Iterator<Item = u8> + Drop>(
     requires ends { IsFinite (I.remaining bytes) }
     ensures ok { OnOk result (Whole (λ xs next. (left : I) × YieldsThen I.next_gives bytes xs next left) varbit (λ bytes. record { len = len; bytes = bytes }) (B.held buf.old) (B.held buf.new)) }
     ensures err { OnErr result (IsFrontOf (B.held buf.old) (B.held buf.new)) }
-    ensures cause { IfErr result (λ e. WantsMemory B.Lacks e ⊎ (length_cause len ≡ Some e)) }
+    ensures cause { IfErr result (λ e. WantsVarbit (λ xs next. (left : I) × YieldsThen I.next_gives bytes xs next left) len B.Lacks (B.held buf.old) e ⊎ (length_cause len ≡ Some e)) }
 {
     put_u32(buf, length_field(len)?)?;
     for byte in bytes {

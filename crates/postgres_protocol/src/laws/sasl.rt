@@ -1,7 +1,7 @@
 //! A whole exchange of SCRAM-SHA-256, by the calls of three crates.
 
 ghost use Rattle.std.specs.Prelude.{◌≡◌, None, Ok, IfSome, IfOk, IfErr, OnOk, OnErr};
-ghost use Rattle.pgp_base.specs.Calls.{IsFrontOf};
+ghost use Rattle.pgp_base.specs.Held.{IsFrontOf};
 ghost use Rattle.pgp_auth.specs.ScramClient.{Begun, AwaitsFirst};
 ghost use Rattle.pgp_message.specs.BackendMessage.{Authentication, AuthenticationSaslContinue, AuthenticationSaslFinal};
 ghost use Rattle.pgp_message.specs.Stream.{TakesFrame};

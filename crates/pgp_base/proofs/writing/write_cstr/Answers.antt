@@ -1,8 +1,8 @@
-use Rattle.std.proofs.Common.{rules, [], ◌∷◌, ap, ◌∙◌, inl}
+use Rattle.std.proofs.Common.{rules, arith, length-append, [], ◌∷◌, ap, ◌∙◌, inl}
 use Rattle.std.specs.List.{Contains}
 use Rattle.pgp_base.specs.Held.{◌⊕◌}
 use Rattle.pgp_base.proofs.Causes.{text_clean}
-use Rattle.pgp_base.proofs.Parts.{more_twice, front_more, cut_back}
+use Rattle.pgp_base.proofs.Parts.{more_twice, front_more, cut_back, left_same, wants_here, wants_same, wants_then, writes_out}
 use Rattle.pgp_base.proofs.writing.write_cstr.Goals as goal
 
 pub returns-in-Ok : goal.returns-in-Ok
@@ -14,4 +14,16 @@ returns-in-Ok g c =
 pub returns-in-Err : goal.returns-in-Err
 returns-in-Err g c =
     let front = c.in-Err.ensures.err ∙ (c.in_ok-append.ensures.ok ∙ ap (λ held. held ⊕ c.args.bytes.now) c.in_ok-reserve.ensures.same) in
-    (inl (c.into.ensures, c.in-Err.ensures.lacks), cut_back _ _ _ c.len-base.result (front_more (g.B.Buffer.held c.args.buf.now) _ _ front) c.len-base.ensures.value c.truncate.ensures.bytes c.truncate.ensures.kept)
+    let before = c.in_ok-append.ensures.ok ∙ ap (λ held. held ⊕ c.args.bytes.now) c.in_ok-reserve.ensures.same in
+    let wants = wants_then (g.B.Buffer.held c.args.buf.now) _ c.args.bytes.now 1 _ before (omega (arith, length-append c.args.bytes.now (0 ∷ []))) (wants_here _ 1 1 c.in-Err.ensures.lacks (omega arith)) in
+    (inl (c.into.ensures, wants), cut_back _ _ _ c.len-base.result (front_more (g.B.Buffer.held c.args.buf.now) _ _ front) c.len-base.ensures.value c.truncate.ensures.bytes c.truncate.ensures.kept)
+
+pub returns-in_err-reserve : goal.returns-in_err-reserve
+returns-in_err-reserve g c =
+    let wants = wants_here (g.B.Buffer.held c.args.buf.now) _ _ c.in_err-reserve.ensures.lacks (omega (arith, length-append c.args.bytes.now (0 ∷ []))) in
+    writes_out _ _ _ _ _ _ c.from_residual.ensures.0 c.from_residual.ensures.1 wants (left_same _ _ c.in_err-reserve.ensures.same)
+
+pub returns-in_err-append : goal.returns-in_err-append
+returns-in_err-append g c =
+    let wants = wants_here _ _ _ c.in_err-append.ensures.lacks (omega (arith, length-append c.args.bytes.now (0 ∷ []))) in
+    writes_out _ _ _ _ _ _ c.from_residual-in_err-append.ensures.0 c.from_residual-in_err-append.ensures.1 (wants_same _ _ _ c.in_ok-reserve.ensures.same wants) (left_same _ _ (c.in_err-append.ensures.err ∙ c.in_ok-reserve.ensures.same))

@@ -1,11 +1,12 @@
-use Rattle.std.proofs.Common.{rules, arith, ◌≡◌, [], ◌∷◌, ◌++◌, length, refl, inr, sym, ap, ◌∙◌, length-append}
+use Rattle.std.proofs.Common.{rules, arith, ◌≡◌, [], ◌∷◌, ◌++◌, length, refl, inl, inr, Some, sym, ap, ◌∙◌, length-append}
 use Rattle.std.specs.Prelude.{FitsSigned}
 use Rattle.std.specs.Int.{w16, cast_unsigned}
 use Rattle.std.proofs.lemmas.List.Elements.{All-push}
 use Rattle.pgp_base.specs.Held.{◌⊕◌}
 use Rattle.pgp_base.specs.Wire.{int16, uint16}
 use Rattle.pgp_base.proofs.Causes.{count_fits, count_past}
-use Rattle.pgp_base.proofs.Parts.{counted_up, sized2, more_parts, int16_spelled}
+use Rattle.pgp_frontend.proofs.Needs.{counted_length, counted_wants, int16_length}
+use Rattle.pgp_base.proofs.Parts.{if_err_at, wants_more, counted_up, sized2, more_parts, int16_spelled}
 use Rattle.pgp_frontend.proofs.counted.put_int16s.Goals as goal
 
 pub loop-item-preserved : goal.loop-item-preserved
@@ -32,3 +33,15 @@ returns-then-count-clause-cause g c =
       record { before = c.loop-item.yielded; last = c.in-Some.item; came = search rules; none = count_fits (length c.loop-item.yielded) (omega arith); are = refl },
       count_past (length (c.loop-item.yielded ++ c.in-Some.item ∷ [])) (omega (arith, length-append c.loop-item.yielded (c.in-Some.item ∷ []))),
     )
+
+pub returns-in_err-put_u16-clause-cause : goal.returns-in_err-put_u16-clause-cause
+returns-in_err-put_u16-clause-cause g c =
+    let memory = c.in_err-put_u16.ensures.cause in
+    if_err_at _ _ _ c.from_residual.ensures.1 (inl (memory.0, ([], inl refl, wants_more _ 2 _ (omega (arith, counted_length int16 [])) memory.1)))
+
+pub returns-in_err-put_u16-2-clause-cause : goal.returns-in_err-put_u16-2-clause-cause
+returns-in_err-put_u16-2-clause-cause g c =
+    let i = c.loop-item.invariant in
+    let memory = c.in_err-put_u16-2.ensures.cause in
+    if_err_at _ _ _ c.from_residual-in_err-put_u16-2.ensures.1
+    (inl (memory.0, (c.loop-item.yielded ++ c.in-Some.item ∷ [], inr (record { before = c.loop-item.yielded; next = Some c.in-Some.item; came = search rules; are = refl }), counted_wants int16 c.loop-item.yielded c.in-Some.item (g.B.Buffer.held c.args.buf.now) _ _ i.2 (omega (arith, int16_length c.in-Some.item)) memory.1)))

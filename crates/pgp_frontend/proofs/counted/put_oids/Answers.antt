@@ -1,9 +1,10 @@
-use Rattle.std.proofs.Common.{rules, arith, ◌^◌, ◌<◌, ◌≡◌, [], ◌∷◌, ◌++◌, length, refl, inr, length-append}
+use Rattle.std.proofs.Common.{rules, arith, ◌^◌, ◌<◌, ◌≡◌, [], ◌∷◌, ◌++◌, length, refl, inl, inr, Some, length-append}
 use Rattle.pgp_base.specs.Held.{◌⊕◌}
 use Rattle.std.proofs.lemmas.List.Elements.{All-push}
 use Rattle.pgp_base.specs.Wire.{uint16, oid}
 use Rattle.pgp_base.proofs.Causes.{count_fits, count_past}
-use Rattle.pgp_base.proofs.Parts.{counted_up, sized2, more_parts}
+use Rattle.pgp_frontend.proofs.Needs.{counted_length, counted_wants}
+use Rattle.pgp_base.proofs.Parts.{if_err_at, wants_more, length-uint32, counted_up, sized2, more_parts}
 use Rattle.pgp_frontend.proofs.counted.put_oids.Goals as goal
 
 pub patch_u16-requires : goal.patch_u16-requires
@@ -29,3 +30,15 @@ loop-item-preserved g c =
     let put : g.B.Buffer.held c.put_u32.new.buf ≡ g.B.Buffer.held c.loop-item.buf ⊕ oid c.in-Some.item = search rules in
     let fits : c.in-Some.item < 2 ^ 32 = search rules in
     (omega (arith, length-append c.loop-item.yielded (c.in-Some.item ∷ [])), All-push (λ n. n < 2 ^ 32) c.loop-item.yielded c.in-Some.item i.1 fits, more_parts oid (g.B.Buffer.held c.args.buf.now ⊕ uint16 0) _ _ c.loop-item.yielded c.in-Some.item i.2 put)
+
+pub returns-in_err-put_u16-clause-cause : goal.returns-in_err-put_u16-clause-cause
+returns-in_err-put_u16-clause-cause g c =
+    let memory = c.in_err-put_u16.ensures.cause in
+    if_err_at _ _ _ c.from_residual.ensures.1 (inl (memory.0, ([], inl refl, wants_more _ 2 _ (omega (arith, counted_length oid [])) memory.1)))
+
+pub returns-in_err-put_u32-clause-cause : goal.returns-in_err-put_u32-clause-cause
+returns-in_err-put_u32-clause-cause g c =
+    let i = c.loop-item.invariant in
+    let memory = c.in_err-put_u32.ensures.cause in
+    if_err_at _ _ _ c.from_residual-in_err-put_u32.ensures.1
+    (inl (memory.0, (c.loop-item.yielded ++ c.in-Some.item ∷ [], inr (record { before = c.loop-item.yielded; next = Some c.in-Some.item; came = search rules; are = refl }), counted_wants oid c.loop-item.yielded c.in-Some.item (g.B.Buffer.held c.args.buf.now) _ _ i.2 (omega (arith, length-uint32 c.in-Some.item)) memory.1)))

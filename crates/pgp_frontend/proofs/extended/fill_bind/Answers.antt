@@ -14,8 +14,8 @@ pub returns-in_err-put_values-clause-cause : goal.returns-in_err-put_values-clau
 returns-in_err-put_values-clause-cause g c =
     let k = c.in_ok-fill_formats.ensures.ok in
     if_err_at _ _ _ c.from_residual-in_err-put_values.ensures.1
-    (values_refused g.B.Buffer.held (goal.F-step g) _ _ _ _ _ _ c.args.portal.now c.args.statement.now c.args.formats c.args.values c.args.serializer.now c.put_values.new.serializer c.args.result_formats (g.B.Buffer.held c.args.buf.now) g.B.Buffer.Lacks k.0 k.1 k.3 _
-    (refused_at _ _ _ _ _ _ _ _ _ _ _ (ap (λ b. b ⊕ uint16 0) k.4) c.in_err-put_values.ensures.cause))
+    (values_refused g.B.Buffer.held (goal.F-step g) _ _ _ _ _ _ c.args.portal.now c.args.statement.now c.args.formats c.args.values c.args.serializer.now c.put_values.new.serializer c.args.result_formats (g.B.Buffer.held c.args.buf.now) g.B.Buffer.Lacks k.0 k.1 k.3 _ _ k.4
+    (refused_at _ _ _ _ _ _ _ _ _ _ _ _ (ap (λ b. b ⊕ uint16 0) k.4) c.in_err-put_values.ensures.cause))
 
 pub returns-in_err-put_int16s-clause-cause : goal.returns-in_err-put_int16s-clause-cause
 returns-in_err-put_int16s-clause-cause g c =
@@ -23,7 +23,7 @@ returns-in_err-put_int16s-clause-cause g c =
     let v = c.in_ok-put_values.ensures.ok in
     if_err_at _ _ _ c.from_residual-in_err-put_int16s.ensures.1
     (results_refused g.B.Buffer.held (goal.F-step g) _ _ _ _ _ _ c.args.portal.now c.args.statement.now c.args.formats c.args.values c.args.serializer.now c.put_values.new.serializer c.args.result_formats (g.B.Buffer.held c.args.buf.now) g.B.Buffer.Lacks k.0 k.1 k.3
-    v.0 (served_at _ _ _ _ _ _ _ _ _ v.0 (ap (λ b. b ⊕ uint16 0) k.4) v.1) v.2 _ c.in_err-put_int16s.ensures.cause)
+    v.0 (served_at _ _ _ _ _ _ _ _ _ v.0 (ap (λ b. b ⊕ uint16 0) k.4) v.1) v.2 _ _ _ k.4 v.3 c.in_err-put_int16s.ensures.cause)
 
 pub finish_body-requires : goal.finish_body-requires
 finish_body-requires g c =

@@ -1,5 +1,8 @@
-use Rattle.std.proofs.Common.{inl, inr}
-use Rattle.pgp_base.proofs.Parts.{if_err_at}
+use Rattle.std.proofs.Common.{arith, inl, inr}
+use Rattle.pgp_base.specs.Wire.{uint32}
+use Rattle.pgp_frontend.specs.Payload.{joined}
+use Rattle.pgp_frontend.proofs.Needs.{framed_length, memory_more, memory_then}
+use Rattle.pgp_base.proofs.Parts.{if_err_at, length-uint32}
 use Rattle.pgp_frontend.specs.View.{parts_of}
 use Rattle.pgp_frontend.proofs.Frames.{frame_room, frame_done, frame_fits, frame_passes, frame_refused}
 use Rattle.pgp_frontend.proofs.field.fill.Goals as goal
@@ -19,10 +22,14 @@ returns-clause-ok g c =
 pub returns-in_err-put_fields-clause-cause : goal.returns-in_err-put_fields-clause-cause
 returns-in_err-put_fields-clause-cause g c =
     if_err_at _ _ _ c.from_residual-in_err-put_fields.ensures.1
-    (elim c.in_err-put_fields.ensures.cause [ inl memory ↦ inl memory | inr refused ↦ inr (frame_refused (parts_of c.args.fields.now) _ refused) ])
+    (elim c.in_err-put_fields.ensures.cause [ inl memory ↦ inl (memory_then (g.B.Buffer.held c.args.buf.now) _ (uint32 0) _ _ _ c.in_ok-put_u32.ensures.ok (omega (arith, framed_length (joined (parts_of c.args.fields.now)), length-uint32 0)) memory) | inr refused ↦ inr (frame_refused (parts_of c.args.fields.now) _ refused) ])
 
 pub returns-in_err-finish_body-clause-cause : goal.returns-in_err-finish_body-clause-cause
 returns-in_err-finish_body-clause-cause g c =
     let k = c.in_ok-put_fields.ensures.ok in
     if_err_at _ _ _ c.from_residual-in_err-finish_body.ensures.1
     (inr (frame_passes (parts_of c.args.fields.now) (g.B.Buffer.held c.args.buf.now) _ _ _ c.in_ok-put_u32.ensures.ok k.1 c.len-base.ensures.value _ k.0 c.in_err-finish_body.ensures.cause))
+
+pub returns-in_err-put_u32-clause-cause : goal.returns-in_err-put_u32-clause-cause
+returns-in_err-put_u32-clause-cause g c =
+    if_err_at _ _ _ c.from_residual.ensures.1 (inl (memory_more _ 4 _ _ (omega (arith, framed_length (joined (parts_of c.args.fields.now)))) c.in_err-put_u32.ensures.cause))

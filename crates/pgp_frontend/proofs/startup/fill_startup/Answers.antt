@@ -1,11 +1,13 @@
-use Rattle.std.proofs.Common.{rules, [], ◌∷◌, refl, inl, inr, map}
+use Rattle.std.proofs.Common.{rules, arith, ◌+◌, length, [], ◌∷◌, refl, inl, inr, map}
 use Rattle.std.specs.Prelude.{pos}
 use Rattle.std.specs.Prelude.{FitsSigned}
 use Rattle.std.specs.Int.{w32}
-use Rattle.pgp_base.proofs.Parts.{if_err_at}
+use Rattle.pgp_base.proofs.Parts.{if_err_at, length-uint32, wants_more, wants_then}
+use Rattle.pgp_base.specs.Wire.{uint32, int32}
+use Rattle.pgp_frontend.proofs.Needs.{int32_length, startup_length}
 use Rattle.pgp_frontend.specs.ClientMessage.{Startup}
 use Rattle.pgp_frontend.specs.Given.{shown}
-use Rattle.pgp_frontend.specs.Payload.{Int32, Pairs}
+use Rattle.pgp_frontend.specs.Payload.{Int32, Pairs, spelling}
 use Rattle.pgp_frontend.proofs.Fields.{cause_more, cause_here}
 use Rattle.pgp_frontend.proofs.Frames.{frame_room, frame_done, frame_fits, frame_passes}
 use Rattle.pgp_frontend.proofs.Texts.{part_more, first_part}
@@ -15,7 +17,9 @@ pub returns-in_err-put_pairs-clause-cause : goal.returns-in_err-put_pairs-clause
 returns-in_err-put_pairs-clause-cause g c =
     if_err_at _ _ _ c.from_residual-in_err-put_pairs.ensures.1
     (elim c.in_err-put_pairs.ensures.cause [
-      | inl memory ↦ inl memory
+      | inl memory ↦
+          let m = memory.1 in
+          inl (memory.0, (Startup (map shown m.0), (m.0, m.1, refl), wants_then (g.B.Buffer.held c.args.buf.now) _ (uint32 0) _ _ c.in_ok-put_u32.ensures.ok (omega (arith, startup_length (map shown m.0), length-uint32 0)) (wants_then _ _ (int32 (pos 196608)) _ (4 + length (spelling (Pairs (map shown m.0)))) c.in_ok-put_int32.ensures.ok (omega (arith, int32_length (pos 196608))) m.2)))
       | inr refused ↦ inr (inl (_, (refused.0, refused.1, refl), cause_here (Int32 (pos 196608) ∷ []) (Pairs (map shown refused.0)) [] _ refl refused.2))
     ])
 
@@ -47,3 +51,14 @@ returns-clause-ok g c =
       none = frame_fits (Int32 (pos 196608) ∷ Pairs (map shown k.0) ∷ []) (g.B.Buffer.held c.args.buf.now) _ _ _ c.in_ok-put_u32.ensures.ok all c.len-base.ensures.value clean w.fits;
       appended = frame_done (Int32 (pos 196608) ∷ Pairs (map shown k.0) ∷ []) (g.B.Buffer.held c.args.buf.now) _ _ _ c.in_ok-put_u32.ensures.ok all c.len-base.ensures.value _ w.ok;
     }
+
+pub returns-in_err-put_u32-clause-cause : goal.returns-in_err-put_u32-clause-cause
+returns-in_err-put_u32-clause-cause g c =
+    let memory = c.in_err-put_u32.ensures.cause in
+    if_err_at _ _ _ c.from_residual.ensures.1 (inl (memory.0, (Startup [], ([], inl refl, refl), wants_more _ 4 _ (omega (arith, startup_length [])) memory.1)))
+
+pub returns-in_err-put_int32-clause-cause : goal.returns-in_err-put_int32-clause-cause
+returns-in_err-put_int32-clause-cause g c =
+    let memory = c.in_err-put_int32.ensures.cause in
+    if_err_at _ _ _ c.from_residual-in_err-put_int32.ensures.1
+    (inl (memory.0, (Startup [], ([], inl refl, refl), wants_then (g.B.Buffer.held c.args.buf.now) _ (uint32 0) _ _ c.in_ok-put_u32.ensures.ok (omega (arith, startup_length [], length-uint32 0, int32_length (pos 196608))) memory.1)))

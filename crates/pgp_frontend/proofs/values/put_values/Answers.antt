@@ -28,9 +28,9 @@ returns-clause-ok g c =
 pub returns-in-Err-clause-cause : goal.returns-in-Err-clause-cause
 returns-in-Err-clause-cause g c =
     let i = c.loop-item.invariant in
-    value_stops g.B.Buffer.held (goal.F-step g) _ _ c.args.values c.args.serializer.now (g.B.Buffer.held c.args.buf.now ⊕ uint16 0) g.B.Buffer.Lacks c.loop-item.yielded c.in-Some.item i.2.0 c.loop-item.serializer c.put_value.new.f _ c.in-Err.e (search rules) i.2.1 (omega arith) i.2.2 c.in-Err.ensures.cause
+    value_stops g.B.Buffer.held (goal.F-step g) _ _ c.args.values c.args.serializer.now (g.B.Buffer.held c.args.buf.now ⊕ uint16 0) (g.B.Buffer.held c.args.buf.now) refl g.B.Buffer.Lacks c.loop-item.yielded c.in-Some.item i.2.0 c.loop-item.serializer c.put_value.new.f _ c.in-Err.e (search rules) i.2.1 (omega arith) i.2.2 c.in-Err.ensures.cause
 
 pub returns-then-count-clause-cause : goal.returns-then-count-clause-cause
 returns-then-count-clause-cause g c =
     let i = c.loop-item.invariant in
-    count_stops g.B.Buffer.held (goal.F-step g) _ _ c.args.values c.args.serializer.now (g.B.Buffer.held c.args.buf.now ⊕ uint16 0) g.B.Buffer.Lacks c.loop-item.yielded c.in-Some.item i.2.0 c.loop-item.serializer (search rules) i.2.1 (omega arith)
+    count_stops g.B.Buffer.held (goal.F-step g) _ _ c.args.values c.args.serializer.now (g.B.Buffer.held c.args.buf.now ⊕ uint16 0) (g.B.Buffer.held c.args.buf.now) refl g.B.Buffer.Lacks c.loop-item.yielded c.in-Some.item i.2.0 c.loop-item.serializer (search rules) i.2.1 (omega arith)

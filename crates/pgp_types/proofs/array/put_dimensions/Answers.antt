@@ -1,7 +1,9 @@
-use Rattle.std.proofs.Common.{rules, arith, [], ◌∷◌, refl, inr, length-append}
+use Rattle.std.proofs.Common.{rules, arith, [], ◌∷◌, refl, inl, inr, Some, ◌++◌, length-append}
+use Rattle.std.specs.List.{flat_map}
+use Rattle.pgp_types.proofs.ArrayWrites.{dimensions_length}
 use Rattle.std.proofs.lemmas.List.Elements.{All-push}
 use Rattle.pgp_base.proofs.Causes.{length_fits}
-use Rattle.pgp_base.proofs.Parts.{more_parts}
+use Rattle.pgp_base.proofs.Parts.{more_parts, if_err_at, wants_then}
 use Rattle.pgp_types.specs.Array.{IsDimension, dimension_bytes}
 use Rattle.pgp_types.proofs.array.put_dimensions.Goals as goal
 
@@ -23,3 +25,17 @@ returns-clause-ok g c =
 pub returns-then-count-eq2147483647-clause-cause : goal.returns-then-count-eq2147483647-clause-cause
 returns-then-count-eq2147483647-clause-cause g c =
     inr (record { before = c.loop-dimension.yielded; last = c.in-Some.dimension; came = search rules; full = omega arith }, refl)
+
+pub returns-in_err-put_dimension-clause-cause : goal.returns-in_err-put_dimension-clause-cause
+returns-in_err-put_dimension-clause-cause g c =
+    let i = c.loop-dimension.invariant in
+    let memory = c.in_err-put_dimension.ensures.cause in
+    if_err_at _ _ _ c.from_residual.ensures.1
+    (inl (
+      memory.0,
+      (
+        c.loop-dimension.yielded ++ c.in-Some.dimension ∷ [],
+        inr (record { before = c.loop-dimension.yielded; next = Some c.in-Some.dimension; came = search rules; are = refl }),
+        wants_then (g.B.Buffer.held c.args.buf.now) _ (flat_map dimension_bytes c.loop-dimension.yielded) 8 _ i.3 (omega (arith, dimensions_length c.loop-dimension.yielded, length-append c.loop-dimension.yielded (c.in-Some.dimension ∷ []))) memory.1,
+      ),
+    ))

@@ -1,11 +1,11 @@
-use Rattle.std.proofs.Common.{rules, ◌≡◌, [], ◌∷◌, length, refl, inl, inr, arith, length-append}
+use Rattle.std.proofs.Common.{rules, Bor, List, Option, ℕ, ◌+◌, ◌++◌, ap, ◌∙◌, Some, ◌≡◌, [], ◌∷◌, length, refl, inl, inr, arith, length-append}
 use Rattle.std.specs.List.{flat_map}
-use Rattle.std.proofs.lemmas.List.{length-map}
+use Rattle.std.proofs.lemmas.List.{length-map, map-append}
 use Rattle.pgp_base.specs.Held.{◌⊕◌}
-use Rattle.pgp_base.specs.Wire.{uint32}
-use Rattle.pgp_base.proofs.Parts.{sized4, if_err_at, on_err, front_twice, front_then, front_trans}
+use Rattle.pgp_base.specs.Wire.{uint32, nullable}
+use Rattle.pgp_base.proofs.Parts.{length-uint32, wants_more, wants_then, sized4, if_err_at, on_err, front_twice, front_then, front_trans}
 use Rattle.pgp_types.specs.Hstore.{entry_bytes, shown_entry, shown_entries}
-use Rattle.pgp_types.proofs.Appending.{counted_up4}
+use Rattle.pgp_types.proofs.Appending.{counted_up4, flat_more}
 use Rattle.pgp_types.proofs.HstoreLemmas.{entries_fit, entries_pass, key_stops, value_stops, entries_more, entries_held}
 use Rattle.pgp_types.proofs.hstore.fill_hstore.Goals as goal
 
@@ -36,7 +36,24 @@ returns-in_err-put_nullable-clause-cause g c =
     let i = c.loop-key.invariant in
     if_err_at _ _ _ c.from_residual-in_err-put_nullable.ensures.1
     (elim c.in_err-put_nullable.ensures.cause [
-      | inl memory ↦ inl memory
+      | inl memory ↦
+          let x : Bor (List ℕ) × Option (Bor (List ℕ)) = (c.in-Some.key, c.in-Some.value) in
+          let items = c.loop-key.yielded ++ x ∷ [] in
+          let front = flat_map entry_bytes (shown_entries c.loop-key.yielded) in
+          let k = nullable (Some (shown_entry x).0) in
+          let v = nullable (shown_entry x).1 in
+          let all : length (flat_map entry_bytes (shown_entries items)) ≡ length front + length (k ++ v) = ap (λ es. length (flat_map entry_bytes es)) (map-append shown_entry c.loop-key.yielded (x ∷ [])) ∙ flat_more entry_bytes (shown_entries c.loop-key.yielded) (shown_entry x) in
+          let n = length (shown_entries items) in
+          let need = length front + length k + length v in
+          inl (
+            memory.0,
+            (
+              items,
+              inr (record { before = c.loop-key.yielded; next = Some x; came = search rules; are = refl }),
+              wants_then (g.B.Buffer.held c.args.buf.now) (g.B.Buffer.held c.args.buf.now ⊕ uint32 0) (uint32 0) need _ refl (omega (arith, all, length-append k v, length-uint32 0, length-uint32 n, length-append (uint32 n) (flat_map entry_bytes (shown_entries items))))
+                  (wants_then (g.B.Buffer.held c.args.buf.now ⊕ uint32 0) _ front (length k) need c.loop-key.invariant.3 (omega arith) memory.1),
+            ),
+          )
       | inr cause ↦ inr (record {
         before = c.loop-key.yielded;
         last = (c.in-Some.key, c.in-Some.value);
@@ -51,7 +68,24 @@ returns-in_err-put_nullable-2-clause-cause g c =
     let i = c.loop-key.invariant in
     if_err_at _ _ _ c.from_residual-in_err-put_nullable-2.ensures.1
     (elim c.in_err-put_nullable-2.ensures.cause [
-      | inl memory ↦ inl memory
+      | inl memory ↦
+          let x : Bor (List ℕ) × Option (Bor (List ℕ)) = (c.in-Some.key, c.in-Some.value) in
+          let items = c.loop-key.yielded ++ x ∷ [] in
+          let front = flat_map entry_bytes (shown_entries c.loop-key.yielded) in
+          let k = nullable (Some (shown_entry x).0) in
+          let v = nullable (shown_entry x).1 in
+          let all : length (flat_map entry_bytes (shown_entries items)) ≡ length front + length (k ++ v) = ap (λ es. length (flat_map entry_bytes es)) (map-append shown_entry c.loop-key.yielded (x ∷ [])) ∙ flat_more entry_bytes (shown_entries c.loop-key.yielded) (shown_entry x) in
+          let n = length (shown_entries items) in
+          let need = length front + length k + length v in
+          inl (
+            memory.0,
+            (
+              items,
+              inr (record { before = c.loop-key.yielded; next = Some x; came = search rules; are = refl }),
+              wants_then (g.B.Buffer.held c.args.buf.now) (g.B.Buffer.held c.args.buf.now ⊕ uint32 0) (uint32 0) need _ refl (omega (arith, all, length-append k v, length-uint32 0, length-uint32 n, length-append (uint32 n) (flat_map entry_bytes (shown_entries items))))
+                  (wants_then (g.B.Buffer.held c.args.buf.now ⊕ uint32 0) _ front (length k + length v) need c.loop-key.invariant.3 (omega arith) (wants_then _ _ k (length v) _ c.in_ok-put_nullable.ensures.ok.1 (omega arith) memory.1)),
+            ),
+          )
       | inr cause ↦ inr (record {
         before = c.loop-key.yielded;
         last = (c.in-Some.key, c.in-Some.value);
@@ -86,3 +120,8 @@ returns-clause-ok g c =
       fits = entries_fit c.loop-key.yielded (omega arith) i.2;
       appended = counted_up4 (g.B.Buffer.held c.args.buf.now) (flat_map entry_bytes (shown_entries c.loop-key.yielded)) _ _ _ _ _ i.3 c.len-base.ensures.value n c.patch_u32.ensures;
     }
+
+pub returns-in_err-put_u32-clause-cause : goal.returns-in_err-put_u32-clause-cause
+returns-in_err-put_u32-clause-cause g c =
+    let memory = c.in_err-put_u32.ensures.cause in
+    if_err_at _ _ _ c.from_residual.ensures.1 (inl (memory.0, ([], inl refl, wants_more (g.B.Buffer.held c.args.buf.now) 4 _ (omega (arith, length-append (uint32 0) [], length-uint32 0)) memory.1)))

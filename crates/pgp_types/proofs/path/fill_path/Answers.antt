@@ -1,13 +1,13 @@
-use Rattle.std.proofs.Common.{rules, ◌≡◌, [], ◌∷◌, map, length, refl, sym, ap, ◌∙◌, inl, inr, arith, length-append}
+use Rattle.std.proofs.Common.{rules, ◌+◌, ◌≤◌, ◌++◌, Some, ◌≡◌, [], ◌∷◌, map, length, refl, sym, ap, ◌∙◌, inl, inr, arith, length-append}
 use Rattle.std.specs.List.{flat_map}
 use Rattle.std.proofs.lemmas.List.{length-map, map-append}
 use Rattle.pgp_base.specs.Held.{◌⊕◌}
 use Rattle.pgp_base.specs.Wire.{uint32}
-use Rattle.pgp_base.proofs.Parts.{sized4, more_twice, more_parts, if_err_at, on_err, front_left}
+use Rattle.pgp_base.proofs.Parts.{length-uint32, wants_more, wants_then, sized4, more_twice, more_parts, if_err_at, on_err, front_left}
 use Rattle.pgp_types.specs.Geometry.{point_bytes}
-use Rattle.pgp_types.specs.Path.{point_at_xy}
+use Rattle.pgp_types.specs.Path.{path_bytes, path_of, point_at_xy}
 use Rattle.pgp_types.specs.Scalar.{bool_bytes}
-use Rattle.pgp_types.proofs.Appending.{counted_up4, front_thrice, front_thrice_then, only_memory}
+use Rattle.pgp_types.proofs.Appending.{counted_up4, flat_more, front_thrice, front_thrice_then, only_memory}
 use Rattle.pgp_types.proofs.PathLemmas.{points_fit, points_pass}
 use Rattle.pgp_types.proofs.path.fill_path.Goals as goal
 
@@ -31,7 +31,26 @@ returns-in_err-point_to_sql-clause-err g c =
 
 pub returns-in_err-point_to_sql-clause-cause : goal.returns-in_err-point_to_sql-clause-cause
 returns-in_err-point_to_sql-clause-cause g c =
-    if_err_at _ _ _ c.from_residual-in_err-point_to_sql.ensures.1 (inl (only_memory _ c.in_err-point_to_sql.ensures.0))
+    let memory = only_memory _ c.in_err-point_to_sql.ensures.0 in
+    let old = g.B.Buffer.held c.args.buf.now in
+    let flag = bool_bytes c.args.closed in
+    let front = flat_map point_bytes (map point_at_xy c.loop-x.yielded) in
+    let next = point_bytes (point_at_xy (c.in-Some.x, c.in-Some.y)) in
+    let items = c.loop-x.yielded ++ (c.in-Some.x, c.in-Some.y) ∷ [] in
+    let all : length (flat_map point_bytes (map point_at_xy items)) ≡ length front + length next = ap (λ ps. length (flat_map point_bytes ps)) (map-append point_at_xy c.loop-x.yielded ((c.in-Some.x, c.in-Some.y) ∷ [])) ∙ flat_more point_bytes (map point_at_xy c.loop-x.yielded) (point_at_xy (c.in-Some.x, c.in-Some.y)) in
+    let count = uint32 (length (map point_at_xy items)) in
+    let whole : length flag + (4 + (length front + length next)) ≤ length (path_bytes (path_of c.args.closed items)) = omega (arith, all, length-uint32 (length (map point_at_xy items)), length-append flag (count ++ flat_map point_bytes (map point_at_xy items)), length-append count (flat_map point_bytes (map point_at_xy items))) in
+    if_err_at _ _ _ c.from_residual-in_err-point_to_sql.ensures.1
+    (inl (
+      memory.0,
+      (
+        items,
+        inr (record { before = c.loop-x.yielded; next = Some (c.in-Some.x, c.in-Some.y); came = search rules; are = refl }),
+        wants_then old (old ⊕ flag) flag _ _ refl whole
+            (wants_then (old ⊕ flag) (old ⊕ flag ⊕ uint32 0) (uint32 0) (length front + length next) _ refl (omega (arith, length-uint32 0))
+            (wants_then (old ⊕ flag ⊕ uint32 0) _ front _ _ c.loop-x.invariant.2 (omega arith) memory.1)),
+      ),
+    ))
 
 pub loop-x-preserved : goal.loop-x-preserved
 loop-x-preserved g c =
@@ -55,3 +74,16 @@ returns-clause-ok g c =
       fits = points_fit c.args.closed c.loop-x.yielded (omega arith);
       appended = counted_up4 (g.B.Buffer.held c.args.buf.now ⊕ bool_bytes c.args.closed) (flat_map point_bytes (map point_at_xy c.loop-x.yielded)) _ _ _ _ _ i.2 base n c.patch_u32.ensures ∙ more_twice (g.B.Buffer.held c.args.buf.now) (bool_bytes c.args.closed) _;
     }
+
+pub returns-in_err-bool_to_sql-clause-cause : goal.returns-in_err-bool_to_sql-clause-cause
+returns-in_err-bool_to_sql-clause-cause g c =
+    let memory = only_memory _ c.in_err-bool_to_sql.ensures.0 in
+    let flag = bool_bytes c.args.closed in
+    if_err_at _ _ _ c.from_residual.ensures.1 (inl (memory.0, ([], inl refl, wants_more (g.B.Buffer.held c.args.buf.now) _ _ (omega (arith, length-append flag (uint32 0 ++ []))) memory.1)))
+
+pub returns-in_err-put_u32-clause-cause : goal.returns-in_err-put_u32-clause-cause
+returns-in_err-put_u32-clause-cause g c =
+    let memory = c.in_err-put_u32.ensures.cause in
+    let flag = bool_bytes c.args.closed in
+    if_err_at _ _ _ c.from_residual-in_err-put_u32.ensures.1
+    (inl (memory.0, ([], inl refl, wants_then (g.B.Buffer.held c.args.buf.now) _ flag 4 _ c.in_ok-bool_to_sql.ensures.1 (omega (arith, length-append flag (uint32 0 ++ []), length-append (uint32 0) [], length-uint32 0)) memory.1)))

@@ -1,0 +1,28 @@
+-- What a writer comes to in a window, by the room that is left there.
+use Rattle.std.proofs.Common.{◌≡◌, ◌⊎◌, ℕ, ◌+◌, ◌≤◌, length, Some, None, Result, Ok, Err, refl, sym, ap, ◌∙◌, arith, inl, inr}
+use Rattle.std.specs.Prelude.{IfErr}
+use Rattle.std.specs.Result.{IsOk}
+use Rattle.std.specs.Borrow.{GName}
+use Rattle.pgp_base.specs.Cause.{Wants}
+use Rattle.pgp_base.specs.Held.{Held, ◌⊕◌}
+use Rattle.pgp_base.specs.Window.{window_lacks}
+use Rattle.pgp_base.specs.declared.error.Error.{Error}
+use Rattle.pgp_base.specs.declared.error.Error.TheVariants.{OutOfMemory}
+use Rattle.pgp_frontend.specs.ClientMessage.{ClientMessage}
+use Rattle.pgp_frontend.specs.Payload.{bytes_of, cause, WritesMessage}
+
+-- a growth that n bytes need was refused: they don't fit
+pub wants_window : (old : Held (GName × ℕ)) (n : ℕ) → Wants window_lacks old n → window_lacks old n
+wants_window old n w = let same = ap (λ (k : GName × ℕ). k.1) w.front.kept in omega (arith, w.refused, w.within, same)
+
+module _ (m : ClientMessage) (old new : Held (GName × ℕ)) where
+  pub too_long : (result : Result (Unit {0}) Error) → WritesMessage m window_lacks old new result → IfErr result (λ e. ((e ≡ OutOfMemory) × window_lacks old (length (bytes_of m))) ⊎ (cause m ≡ Some e))
+  too_long (Ok done) w = tt
+  too_long (Err e) w = elim w.1.0 [ inl memory ↦ inl (memory.0, wants_window old _ memory.1) | inr c ↦ inr c ]
+
+  pub fits_written : (result : Result (Unit {0}) Error) → WritesMessage m window_lacks old new result → cause m ≡ None → length old.bytes + length (bytes_of m) ≤ old.kept.1 → IsOk result × (new ≡ old ⊕ bytes_of m)
+  fits_written (Ok done) w none fits = (refl, w.1.1)
+  fits_written (Err e) w none fits = elim w.1.0 [
+    | inl memory ↦ let long = wants_window old _ memory.1 in absurd (omega (arith, long, fits))
+    | inr c ↦ let k : Some e ≡ None = sym c ∙ none in cc
+  ]

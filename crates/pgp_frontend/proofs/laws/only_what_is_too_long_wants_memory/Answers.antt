@@ -1,0 +1,8 @@
+use Rattle.pgp_frontend.proofs.Fitting.{wants_window, too_long}
+use Rattle.pgp_frontend.proofs.laws.only_what_is_too_long_wants_memory.Goals as goal
+
+pub returns-clause-wants : goal.returns-clause-wants
+returns-clause-wants c = wants_window
+
+pub returns-clause-longer : goal.returns-clause-longer
+returns-clause-longer c = too_long
