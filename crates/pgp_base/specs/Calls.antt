@@ -94,7 +94,7 @@ module _ {F T E B K : Type 0} (held : B → Held K) (step : F → T → MutBor B
   -- of its length don't fit, and it wasn't called.
   abbrev pub ValueRefused : (Held K → ℕ → Type 0) → Held K → F → T → BindError E → F → Type 0
   ValueRefused lacks here f x (Conversion e) f' = (p : List ℕ) × Puts held step (here ⊕ uint32 0) f x (Err e) p f'
-  ValueRefused lacks here f x (Serialization e) f' = (WantsMemory lacks here 4 e × (f' ≡ f)) ⊎ ((p : List ℕ) × Puts held step (here ⊕ uint32 0) f x (Ok No) p f' × (length_cause (length p) ≡ Some e))
+  ValueRefused lacks here f x (Serialization e) f' = (WantsMemory (Wants lacks here 4) e × (f' ≡ f)) ⊎ ((p : List ℕ) × Puts held step (here ⊕ uint32 0) f x (Ok No) p f' × (length_cause (length p) ≡ Some e))
 
 module _ {F T E B K : Type 0} (held : B → Held K) (step : F → T → MutBor B → Result (Unit {0}) E → MutBor B → F → Type 0) where
   -- a call of f at x succeeded with p behind that
@@ -141,7 +141,7 @@ module _ {F E B K : Type 0} (held : B → Held K) (post : F → MutBor B → Res
   -- why a body was refused: f refused, or its bytes pass the length's field, or the four bytes of its length don't fit
   abbrev pub BodyRefused : (Held K → ℕ → Type 0) → F → Held K → BindError E → Type 0
   BodyRefused lacks f old (Conversion e) = (p : List ℕ) × Appends held post (old ⊕ uint32 0) f (Err e) p
-  BodyRefused lacks f old (Serialization e) = WantsMemory lacks old 4 e ⊎ ((p : List ℕ) × Appends held post (old ⊕ uint32 0) f (Ok tt) p × (length_cause (length p + 4) ≡ Some e))
+  BodyRefused lacks f old (Serialization e) = WantsMemory (Wants lacks old 4) e ⊎ ((p : List ℕ) × Appends held post (old ⊕ uint32 0) f (Ok tt) p × (length_cause (length p + 4) ≡ Some e))
 
 module _ {F E B K : Type 0} (held : B → Held K) (post : F → MutBor B → Result IsNull E → MutBor B → Type 0) where
   -- the value that f made behind the place of its length
@@ -155,7 +155,7 @@ module _ {F E B K : Type 0} (held : B → Held K) (post : F → MutBor B → Res
   -- why it was refused
   abbrev pub NullableRefused : (Held K → ℕ → Type 0) → F → Held K → BindError E → Type 0
   NullableRefused lacks f old (Conversion e) = (p : List ℕ) × Appends held post (old ⊕ uint32 0) f (Err e) p
-  NullableRefused lacks f old (Serialization e) = WantsMemory lacks old 4 e ⊎ ((p : List ℕ) × Appends held post (old ⊕ uint32 0) f (Ok No) p × (length_cause (length p) ≡ Some e))
+  NullableRefused lacks f old (Serialization e) = WantsMemory (Wants lacks old 4) e ⊎ ((p : List ℕ) × Appends held post (old ⊕ uint32 0) f (Ok No) p × (length_cause (length p) ≡ Some e))
 
 module _ {F T E B K : Type 0} (held : B → Held K) (step : F → T → MutBor B → Result (Unit {0}) E → MutBor B → F → Type 0) {U S : Type 0} (into_iter_gives : U → S → Type 0) (next_gives : S → Option T → S → Type 0) where
   -- the items that came, each written behind the place of the count and the items before it, which left `last`

@@ -49,12 +49,12 @@ pub record Wants {Kept : Type 0} (lacks : Held Kept → ℕ → Type 0) (old : H
   pub within : length here.bytes + more ≤ length old.bytes + needed
   pub refused : lacks here more
 
--- the refusal for want of memory, which a buffer gives only where a growth was refused that so many bytes need
-abbrev pub WantsMemory : {Kept : Type 0} → (Held Kept → ℕ → Type 0) → Held Kept → ℕ → Error → Type 0
-WantsMemory lacks old needed e = (e ≡ OutOfMemory) × Wants lacks old needed
+-- the refusal for want of memory, which comes only where a growth was refused: `lacks` says which
+abbrev pub WantsMemory : Type 0 → Error → Type 0
+WantsMemory lacks e = (e ≡ OutOfMemory) × lacks
 
 -- A writer of what is spelled so and has this cause: it appends the spelling, and there is no cause;
 -- or it leaves the bytes, and is refused for want of the memory that the spelling needs, or for the cause.
 abbrev pub Writes : {Kept : Type 0} → List ℕ → Cause → (Held Kept → ℕ → Type 0) → Held Kept → Held Kept → Result (Unit {0}) Error → Type 0
 Writes spelling cause lacks old new (Ok done) = (cause ≡ None) × (new ≡ old ⊕ spelling)
-Writes spelling cause lacks old new (Err e) = (WantsMemory lacks old (length spelling) e ⊎ (cause ≡ Some e)) × Leaves old new
+Writes spelling cause lacks old new (Err e) = (WantsMemory (Wants lacks old (length spelling)) e ⊎ (cause ≡ Some e)) × Leaves old new

@@ -6,7 +6,7 @@
 ghost use Rattle.std.specs.Prelude.{◌≡◌, ℕ, ◌+◌, ◌-◌, ◌<◌, ◌≤◌, ◌^◌, List, [], ◌∷◌, length, drop, Option, Some, None, Ok, OnOk, OnErr, IfOk, IfErr};
 ghost use Rattle.std.specs.Iterator.{IsFiniteIterable};
 ghost use Rattle.pgp_base.specs.Wire.{uint16, uint32, text, nullable};
-ghost use Rattle.pgp_base.specs.Cause.{text_cause, length_cause, nullable_cause, WantsMemory, Writes};
+ghost use Rattle.pgp_base.specs.Cause.{text_cause, length_cause, nullable_cause, Wants, WantsMemory, Writes};
 ghost use Rattle.pgp_base.specs.Held.{◌⊕◌, overwritten, Leaves, IsFrontOf};
 ghost use Rattle.pgp_base.specs.Calls.{Adds, KeepsFront, KeepsFronts, OwesValue, OwesValues, Appends, Puts, Gives, ValueRefused, value_of, length_of, null_of, WritesBody, BodyRefused, WritesValue, NullableRefused, WritesCounted, CountedRefused};
 
@@ -24,7 +24,7 @@ use memchr::memchr;
 pub fn put_u8<B: Buffer>(buf: &mut B, n: u8) -> Result<(), Error>
     ensures ok { OnOk result (B.held buf.new ≡ B.held buf.old ⊕ n ∷ []) }
     ensures err { OnErr result (B.held buf.new ≡ B.held buf.old) }
-    ensures cause { IfErr result (WantsMemory B.Lacks (B.held buf.old) 1) }
+    ensures cause { IfErr result (WantsMemory (Wants B.Lacks (B.held buf.old) 1)) }
 {
     buf.append(&[n])?;
     Ok(())
@@ -39,7 +39,7 @@ pub fn put_u8<B: Buffer>(buf: &mut B, n: u8) -> Result<(), Error>
 pub fn put_u16<B: Buffer>(buf: &mut B, n: u16) -> Result<(), Error>
     ensures ok { OnOk result (B.held buf.new ≡ B.held buf.old ⊕ uint16 n) }
     ensures err { OnErr result (B.held buf.new ≡ B.held buf.old) }
-    ensures cause { IfErr result (WantsMemory B.Lacks (B.held buf.old) 2) }
+    ensures cause { IfErr result (WantsMemory (Wants B.Lacks (B.held buf.old) 2)) }
 {
     buf.append(&n.to_be_bytes())?;
     Ok(())
@@ -54,7 +54,7 @@ pub fn put_u16<B: Buffer>(buf: &mut B, n: u16) -> Result<(), Error>
 pub fn put_u32<B: Buffer>(buf: &mut B, n: u32) -> Result<(), Error>
     ensures ok { OnOk result (B.held buf.new ≡ B.held buf.old ⊕ uint32 n) }
     ensures err { OnErr result (B.held buf.new ≡ B.held buf.old) }
-    ensures cause { IfErr result (WantsMemory B.Lacks (B.held buf.old) 4) }
+    ensures cause { IfErr result (WantsMemory (Wants B.Lacks (B.held buf.old) 4)) }
 {
     let bytes = n.to_be_bytes();
     buf.append(&bytes)?;

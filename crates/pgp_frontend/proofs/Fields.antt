@@ -4,7 +4,7 @@ use Rattle.std.proofs.lemmas.List.{take_more, map-append, take-append-drop, drop
 use Rattle.pgp_base.proofs.Causes.{first_more, first_here}
 use Rattle.pgp_base.proofs.Parts.{more_parts, nothing_more, more_twice}
 use Rattle.pgp_base.specs.Held.{Held, ◌⊕◌}
-use Rattle.pgp_base.specs.Cause.{first, either, WantsMemory}
+use Rattle.pgp_base.specs.Cause.{first, either, Wants, WantsMemory}
 use Rattle.std.proofs.lemmas.List.Concat.{flat_map-append}
 use Rattle.pgp_base.proofs.Parts.{wants_more}
 use Rattle.pgp_frontend.proofs.Needs.{memory_then}
@@ -68,12 +68,12 @@ fields_need fields i d h =
     omega (arith, ap length e, length-append (joined (parts_of (take i fields))) (spelling (part_of (get_or fields i d)) ++ joined (parts_of (drop (i + 1) fields))), length-append (spelling (part_of (get_or fields i d))) (joined (parts_of (drop (i + 1) fields))))
 
 module _ {K : Type 0} {lacks : Held K → ℕ → Type 0} where
-  pub fields_want : (fields : List Field) (i : ℕ) (d : Field) (old b : Held K) (e : Error) → i < length fields → b ≡ old ⊕ joined (parts_of (take i fields)) → WantsMemory lacks b (length (spelling (part_of (get_or fields i d)))) e → WantsMemory lacks old (length (joined (parts_of fields))) e
+  pub fields_want : (fields : List Field) (i : ℕ) (d : Field) (old b : Held K) (e : Error) → i < length fields → b ≡ old ⊕ joined (parts_of (take i fields)) → WantsMemory (Wants lacks b (length (spelling (part_of (get_or fields i d))))) e → WantsMemory (Wants lacks old (length (joined (parts_of fields)))) e
   fields_want fields i d old b e h s w = memory_then old b (joined (parts_of (take i fields))) _ _ e s (fields_need fields i d h) w
 
   -- the first field was refused
-  pub first_refused : (fields : List Field) (d : Field) (old : Held K) (e : Error) → 0 < length fields → WantsMemory lacks old (length (spelling (part_of (get_or fields 0 d)))) e ⊎ (part_cause (part_of (get_or fields 0 d)) ≡ Some e)
-      → WantsMemory lacks old (length (joined (parts_of fields))) e ⊎ (parts_cause (parts_of fields) ≡ Some e)
+  pub first_refused : (fields : List Field) (d : Field) (old : Held K) (e : Error) → 0 < length fields → WantsMemory (Wants lacks old (length (spelling (part_of (get_or fields 0 d))))) e ⊎ (part_cause (part_of (get_or fields 0 d)) ≡ Some e)
+      → WantsMemory (Wants lacks old (length (joined (parts_of fields)))) e ⊎ (parts_cause (parts_of fields) ≡ Some e)
   first_refused [] d old e lt r = absurd (omega arith)
   first_refused (f ∷ fs) d old e lt (inl w) = inl (w.0, wants_more old _ _ (omega (arith, length-append (spelling (part_of f)) (joined (parts_of fs)))) w.1)
   first_refused (f ∷ fs) d old e lt (inr k) = inr (cause_here [] (part_of f) (parts_of fs) e refl k)
@@ -81,8 +81,8 @@ module _ {K : Type 0} {lacks : Held K → ℕ → Type 0} where
 -- one behind it
 pub later_refused : {K : Type 0} (lacks : Held K → ℕ → Type 0) (result : Result (Unit {0}) Error) (fields : List Field) (d : Field) (old b : Held K) → 0 < length fields
     → (part_cause (part_of (get_or fields 0 d)) ≡ None) × (b ≡ old ⊕ spelling (part_of (get_or fields 0 d)))
-    → IfErr result (λ e. WantsMemory lacks b (length (joined (parts_of (take (length fields - 1) (drop 1 fields))))) e ⊎ (parts_cause (parts_of (take (length fields - 1) (drop 1 fields))) ≡ Some e))
-    → IfErr result (λ e. WantsMemory lacks old (length (joined (parts_of fields))) e ⊎ (parts_cause (parts_of fields) ≡ Some e))
+    → IfErr result (λ e. WantsMemory (Wants lacks b (length (joined (parts_of (take (length fields - 1) (drop 1 fields)))))) e ⊎ (parts_cause (parts_of (take (length fields - 1) (drop 1 fields))) ≡ Some e))
+    → IfErr result (λ e. WantsMemory (Wants lacks old (length (joined (parts_of fields)))) e ⊎ (parts_cause (parts_of fields) ≡ Some e))
 later_refused lacks result [] d old b lt is behind = absurd (omega arith)
 later_refused lacks (Ok u) (f ∷ fs) d old b lt is behind = tt
 later_refused lacks (Err e) (f ∷ fs) d old b lt is behind =

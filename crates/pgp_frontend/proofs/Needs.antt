@@ -64,23 +64,23 @@ if_err_map (Ok x) P Q f p = tt
 if_err_map (Err e) P Q f p = f e p
 
 module _ {K : Type 0} {lacks : Held K → ℕ → Type 0} where
-  pub memory_more : (a : Held K) (n m : ℕ) (e : Error) → n ≤ m → WantsMemory lacks a n e → WantsMemory lacks a m e
+  pub memory_more : (a : Held K) (n m : ℕ) (e : Error) → n ≤ m → WantsMemory (Wants lacks a n) e → WantsMemory (Wants lacks a m) e
   memory_more a n m e h w = (w.0, wants_more a n m h w.1)
 
-  pub memory_then : (a b : Held K) (p : List ℕ) (n m : ℕ) (e : Error) → b ≡ a ⊕ p → length p + n ≤ m → WantsMemory lacks b n e → WantsMemory lacks a m e
+  pub memory_then : (a b : Held K) (p : List ℕ) (n m : ℕ) (e : Error) → b ≡ a ⊕ p → length p + n ≤ m → WantsMemory (Wants lacks b n) e → WantsMemory (Wants lacks a m) e
   memory_then a b p n m e h k w = (w.0, wants_then a b p n m h k w.1)
 
   -- the same, of a buffer that holds the same
-  pub refused_same : (a b : Held K) (n : ℕ) (e : Error) (C : Type 0) → b ≡ a → WantsMemory lacks b n e ⊎ C → WantsMemory lacks a n e ⊎ C
+  pub refused_same : (a b : Held K) (n : ℕ) (e : Error) (C : Type 0) → b ≡ a → WantsMemory (Wants lacks b n) e ⊎ C → WantsMemory (Wants lacks a n) e ⊎ C
   refused_same a b n e C h (inl m) = inl (m.0, wants_same a b n h m.1)
   refused_same a b n e C h (inr c) = inr c
 
-  pub refused_then : (a b : Held K) (p : List ℕ) (n m : ℕ) (e : Error) (C : Type 0) → b ≡ a ⊕ p → length p + n ≤ m → WantsMemory lacks b n e ⊎ C → WantsMemory lacks a m e ⊎ C
+  pub refused_then : (a b : Held K) (p : List ℕ) (n m : ℕ) (e : Error) (C : Type 0) → b ≡ a ⊕ p → length p + n ≤ m → WantsMemory (Wants lacks b n) e ⊎ C → WantsMemory (Wants lacks a m) e ⊎ C
   refused_then a b p n m e C h k (inl w) = inl (memory_then a b p n m e h k w)
   refused_then a b p n m e C h k (inr c) = inr c
 
   -- a writer hands on a refusal for want of memory
-  pub writes_memory : (r : Result (Unit {0}) Error) (x : Error) (p : List ℕ) (cause : Cause) (old new : Held K) → IsErr r → IsErrAnd r (λ e. e ≡ x) → WantsMemory lacks old (length p) x → Leaves old new → Writes p cause lacks old new r
+  pub writes_memory : (r : Result (Unit {0}) Error) (x : Error) (p : List ℕ) (cause : Cause) (old new : Held K) → IsErr r → IsErrAnd r (λ e. e ≡ x) → WantsMemory (Wants lacks old (length p)) x → Leaves old new → Writes p cause lacks old new r
   writes_memory (Ok u) x p cause old new is h w l = let e : false ≡ true = is in cc
   writes_memory (Err e) x p cause old new is h w l = (inl (h ∙ w.0, w.1), l)
 

@@ -4,7 +4,7 @@
 ghost use Rattle.std.specs.Prelude.{◌≡◌, ◌<◌, ◌≤◌, ◌^◌, ◌++◌, ◌⊎◌, Option, Some, None, OnOk, OnErr, IfErr};
 ghost use Rattle.std.specs.Prelude.{length};
 ghost use Rattle.pgp_base.specs.Wire.{int32, nullable};
-ghost use Rattle.pgp_base.specs.Cause.{length_cause, WantsMemory};
+ghost use Rattle.pgp_base.specs.Cause.{length_cause, Wants, WantsMemory};
 ghost use Rattle.pgp_base.specs.Held.{◌⊕◌, IsFrontOf};
 ghost use Rattle.pgp_frontend.specs.Payload.{spelling, part_cause, parts_cause, joined, frame_cause, framed, WritesFrame};
 ghost use Rattle.pgp_frontend.specs.View.{part_of, parts_of};
@@ -59,7 +59,7 @@ pub fn room(fields: &[Field]) -> usize
 pub fn put_int32<B: Buffer>(n: i32, buf: &mut B) -> Result<(), Error>
     ensures ok { OnOk result (B.held buf.new ≡ B.held buf.old ⊕ int32 n) }
     ensures err { OnErr result (B.held buf.new ≡ B.held buf.old) }
-    ensures cause { IfErr result (WantsMemory B.Lacks (B.held buf.old) (length (int32 n))) }
+    ensures cause { IfErr result (WantsMemory (Wants B.Lacks (B.held buf.old) (length (int32 n)))) }
 {
     put_u32(buf, n.cast_unsigned())
 }
@@ -69,7 +69,7 @@ pub fn put_int32<B: Buffer>(n: i32, buf: &mut B) -> Result<(), Error>
 fn put_sized<B: Buffer>(bytes: &[u8], buf: &mut B) -> Result<(), Error>
     ensures ok { OnOk result ((length_cause (length bytes.now) ≡ None) × (B.held buf.new ≡ B.held buf.old ⊕ nullable (Some bytes.now))) }
     ensures err { OnErr result (IsFrontOf (B.held buf.old) (B.held buf.new)) }
-    ensures cause { IfErr result (λ e. WantsMemory B.Lacks (B.held buf.old) (length (nullable (Some bytes.now))) e ⊎ (length_cause (length bytes.now) ≡ Some e)) }
+    ensures cause { IfErr result (λ e. WantsMemory (Wants B.Lacks (B.held buf.old) (length (nullable (Some bytes.now)))) e ⊎ (length_cause (length bytes.now) ≡ Some e)) }
 {
     let size = length_field(bytes.len())?;
     put_u32(buf, size)?;
@@ -83,7 +83,7 @@ fn put_sized<B: Buffer>(bytes: &[u8], buf: &mut B) -> Result<(), Error>
 fn put_field<B: Buffer>(field: &Field, buf: &mut B) -> Result<(), Error>
     ensures ok { OnOk result ((part_cause (part_of field.now) ≡ None) × (B.held buf.new ≡ B.held buf.old ⊕ spelling (part_of field.now))) }
     ensures err { OnErr result (IsFrontOf (B.held buf.old) (B.held buf.new)) }
-    ensures cause { IfErr result (λ e. WantsMemory B.Lacks (B.held buf.old) (length (spelling (part_of field.now))) e ⊎ (part_cause (part_of field.now) ≡ Some e)) }
+    ensures cause { IfErr result (λ e. WantsMemory (Wants B.Lacks (B.held buf.old) (length (spelling (part_of field.now)))) e ⊎ (part_cause (part_of field.now) ≡ Some e)) }
 {
     match field {
         Field::Byte(n) => put_u8(buf, *n),
@@ -100,7 +100,7 @@ fn put_field<B: Buffer>(field: &Field, buf: &mut B) -> Result<(), Error>
 fn put_each<B: Buffer>(fields: &[Field], buf: &mut B) -> Result<(), Error>
     ensures ok { OnOk result ((parts_cause (parts_of fields.now) ≡ None) × (B.held buf.new ≡ B.held buf.old ⊕ joined (parts_of fields.now))) }
     ensures err { OnErr result (IsFrontOf (B.held buf.old) (B.held buf.new)) }
-    ensures cause { IfErr result (λ e. WantsMemory B.Lacks (B.held buf.old) (length (joined (parts_of fields.now))) e ⊎ (parts_cause (parts_of fields.now) ≡ Some e)) }
+    ensures cause { IfErr result (λ e. WantsMemory (Wants B.Lacks (B.held buf.old) (length (joined (parts_of fields.now)))) e ⊎ (parts_cause (parts_of fields.now) ≡ Some e)) }
 {
     for field in fields {
         put_field(field, buf)?;
@@ -114,7 +114,7 @@ fn put_each<B: Buffer>(fields: &[Field], buf: &mut B) -> Result<(), Error>
 fn put_later<B: Buffer>(fields: &[Field], buf: &mut B) -> Result<(), Error>
     ensures ok { OnOk result ((parts_cause (parts_of fields.now) ≡ None) × (B.held buf.new ≡ B.held buf.old ⊕ joined (parts_of fields.now))) }
     ensures err { OnErr result (IsFrontOf (B.held buf.old) (B.held buf.new)) }
-    ensures cause { IfErr result (λ e. WantsMemory B.Lacks (B.held buf.old) (length (joined (parts_of fields.now))) e ⊎ (parts_cause (parts_of fields.now) ≡ Some e)) }
+    ensures cause { IfErr result (λ e. WantsMemory (Wants B.Lacks (B.held buf.old) (length (joined (parts_of fields.now)))) e ⊎ (parts_cause (parts_of fields.now) ≡ Some e)) }
 {
     let [first, rest @ ..] = fields else {
         return Ok(());
@@ -130,7 +130,7 @@ fn put_later<B: Buffer>(fields: &[Field], buf: &mut B) -> Result<(), Error>
 pub fn put_fields<B: Buffer>(fields: &[Field], buf: &mut B) -> Result<(), Error>
     ensures ok { OnOk result ((parts_cause (parts_of fields.now) ≡ None) × (B.held buf.new ≡ B.held buf.old ⊕ joined (parts_of fields.now))) }
     ensures err { OnErr result (IsFrontOf (B.held buf.old) (B.held buf.new)) }
-    ensures cause { IfErr result (λ e. WantsMemory B.Lacks (B.held buf.old) (length (joined (parts_of fields.now))) e ⊎ (parts_cause (parts_of fields.now) ≡ Some e)) }
+    ensures cause { IfErr result (λ e. WantsMemory (Wants B.Lacks (B.held buf.old) (length (joined (parts_of fields.now)))) e ⊎ (parts_cause (parts_of fields.now) ≡ Some e)) }
 {
     let [first, rest @ ..] = fields else {
         return Ok(());
@@ -144,7 +144,7 @@ pub fn put_fields<B: Buffer>(fields: &[Field], buf: &mut B) -> Result<(), Error>
 fn fill<B: Buffer>(fields: &[Field], buf: &mut B) -> Result<(), Error>
     ensures ok { OnOk result ((frame_cause (parts_of fields.now) ≡ None) × (B.held buf.new ≡ B.held buf.old ⊕ framed None (joined (parts_of fields.now)))) }
     ensures err { OnErr result (IsFrontOf (B.held buf.old) (B.held buf.new)) }
-    ensures cause { IfErr result (λ e. WantsMemory B.Lacks (B.held buf.old) (length (framed None (joined (parts_of fields.now)))) e ⊎ (frame_cause (parts_of fields.now) ≡ Some e)) }
+    ensures cause { IfErr result (λ e. WantsMemory (Wants B.Lacks (B.held buf.old) (length (framed None (joined (parts_of fields.now))))) e ⊎ (frame_cause (parts_of fields.now) ≡ Some e)) }
 {
     let base = buf.len();
     put_u32(buf, 0)?;

@@ -10,7 +10,7 @@ use Rattle.pgp_base.specs.Wire.{uint32, nullable}
 use Rattle.std.specs.Prelude.{Option, IfErr, negsuc}
 use Rattle.std.specs.Int.{w32, cast_unsigned}
 use Rattle.pgp_base.specs.declared.error.Error.{Error}
-use Rattle.pgp_base.specs.Cause.{Cause, WantsMemory, Writes}
+use Rattle.pgp_base.specs.Cause.{Cause, Wants, WantsMemory, Writes}
 
 pub part_refused : {K : Type 0} (all more p : List ℕ) (lacks : Held K → ℕ → Type 0) (a b d e : Held K) (n : ℕ) (refused : Error)
     → Writes more None lacks b d (Err refused) → b ≡ a ⊕ p → n ≡ length a.bytes → e.bytes ≡ take n d.bytes → e.kept ≡ d.kept
@@ -45,7 +45,7 @@ module _ {K : Type 0} (a : Held K) where
   counted_up4 p d r base n m e h i j = filled4 a p (a ⊕ uint32 0) d r base n m refl e h i j ∙ more_twice a (uint32 m) p
 
 -- where no part has a cause
-pub only_memory : {K : Type 0} {lacks : Held K → ℕ → Type 0} {old : Held K} {n : ℕ} (e : Error) → WantsMemory lacks old n e ⊎ (let none : Cause = None in none ≡ Some e) → WantsMemory lacks old n e
+pub only_memory : {K : Type 0} {lacks : Held K → ℕ → Type 0} {old : Held K} {n : ℕ} (e : Error) → WantsMemory (Wants lacks old n) e ⊎ (let none : Cause = None in none ≡ Some e) → WantsMemory (Wants lacks old n) e
 only_memory e (inl memory) = memory
 only_memory e (inr cause) = absurd cc
 
@@ -59,6 +59,6 @@ pub nullable_least : (v : Option (List ℕ)) → 4 ≤ length (nullable v)
 nullable_least None = omega (arith, ap length (int32_spelled (negsuc 0)), length-uint32 (cast_unsigned w32 (negsuc 0)))
 nullable_least (Some z) = omega (arith, sized_length z)
 
-pub memory_as : {T K : Type 0} (lacks : Held K → ℕ → Type 0) (r : Result T Error) (old : Held K) (n m : ℕ) (C : Error → Type 0) → n ≤ m → IfErr r (WantsMemory lacks old n) → IfErr r (λ e. WantsMemory lacks old m e ⊎ C e)
+pub memory_as : {T K : Type 0} (lacks : Held K → ℕ → Type 0) (r : Result T Error) (old : Held K) (n m : ℕ) (C : Error → Type 0) → n ≤ m → IfErr r (WantsMemory (Wants lacks old n)) → IfErr r (λ e. WantsMemory (Wants lacks old m) e ⊎ C e)
 memory_as lacks (Ok x) old n m C le w = tt
 memory_as lacks (Err e) old n m C le w = inl (w.0, wants_more old n m le w.1)

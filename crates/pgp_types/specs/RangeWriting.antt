@@ -6,7 +6,7 @@ use Rattle.pgp_base.specs.declared.error.Error.{Error}
 use Rattle.pgp_base.specs.declared.error.BindError.{BindError}
 use Rattle.pgp_base.specs.declared.error.BindError.TheVariants.{Conversion, Serialization}
 use Rattle.pgp_base.specs.Calls.{Appends, value_of, length_of}
-use Rattle.pgp_base.specs.Cause.{WantsMemory}
+use Rattle.pgp_base.specs.Cause.{Wants, WantsMemory}
 use Rattle.pgp_base.specs.Held.{Held, ◌⊕◌, overwritten, Leaves, IsFrontOf}
 use Rattle.pgp_base.specs.Wire.{uint32}
 use Rattle.pgp_types.specs.declared.range.RangeBound.{RangeBound}
@@ -77,7 +77,7 @@ module _ {F E B K : Type 0} (held : B → Held K) (post : F → MutBor B → Res
   -- Why a side was refused: f refused, or its bytes pass the length's field, or there is no memory.
   abbrev pub SideStops : (Held K → ℕ → Type 0) → Held K → F → BindError E → Type 0
   SideStops lacks here f (Conversion e) = (p : List ℕ) × Appends held post (here ⊕ uint32 0) f (Err e) p
-  SideStops lacks here f (Serialization e) = WantsMemory lacks here 4 e ⊎ ((answer : RangeBound IsNull) × (p : List ℕ) × Appends held post (here ⊕ uint32 0) f (Ok answer) p × (side_cause (side_of answer p) ≡ Some e))
+  SideStops lacks here f (Serialization e) = WantsMemory (Wants lacks here 4) e ⊎ ((answer : RangeBound IsNull) × (p : List ℕ) × Appends held post (here ⊕ uint32 0) f (Ok answer) p × (side_cause (side_of answer p) ≡ Some e))
 
 -- The closures f and g, of the lower side and the upper, and what the buffer held before the call.
 module _ {F G E B K : Type 0} (held : B → Held K) (post_f : F → MutBor B → Result (RangeBound IsNull) E → MutBor B → Type 0) (post_g : G → MutBor B → Result (RangeBound IsNull) E → MutBor B → Type 0) (f : F) (g : G) (old : Held K) where
@@ -98,7 +98,7 @@ module _ {F G E B K : Type 0} (held : B → Held K) (post_f : F → MutBor B →
 
   -- there was no memory for the tag, or the lower side was refused, or behind it the upper
   abbrev pub RangeStops : (Held K → ℕ → Type 0) → BindError E → Type 0
-  RangeStops lacks e = ((why : Error) × (e ≡ Serialization why) × WantsMemory lacks old 1 why) ⊎ (SideStops held post_f lacks (old ⊕ 0 ∷ []) f e
+  RangeStops lacks e = ((why : Error) × (e ≡ Serialization why) × WantsMemory (Wants lacks old 1) why) ⊎ (SideStops held post_f lacks (old ⊕ 0 ∷ []) f e
       ⊎ ((lower : Side) × (mid : Held K) × LowerMade lower mid × SideStops held post_g lacks mid g e))
 
   abbrev pub RangeWritten : (Held K → ℕ → Type 0) → Held K → Result (Unit {0}) (BindError E) → Type 0

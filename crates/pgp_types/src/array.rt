@@ -36,7 +36,7 @@ pub struct ArrayDimension {
 fn put_dimension<B: Buffer>(dimension: ArrayDimension, buf: &mut B) -> Result<(), Error>
     ensures ok { OnOk result (B.held buf.new ≡ B.held buf.old ⊕ dimension_bytes dimension) }
     ensures err { OnErr result (IsFrontOf (B.held buf.old) (B.held buf.new)) }
-    ensures cause { IfErr result (WantsMemory B.Lacks (B.held buf.old) 8) }
+    ensures cause { IfErr result (WantsMemory (Wants B.Lacks (B.held buf.old) 8)) }
 {
     put_u32(buf, dimension.len.cast_unsigned())?;
     put_u32(buf, dimension.lower_bound.cast_unsigned())?;

@@ -6,7 +6,7 @@
 ghost use Rattle.std.specs.Prelude.{◌≡◌, ◌≤◌, ◌⊎◌, ℕ, length, OnOk, OnErr, IfOk, IfErr};
 ghost use Rattle.std.specs.Iterator.{IsFiniteIterable};
 ghost use Rattle.pgp_base.specs.Calls.{Came};
-ghost use Rattle.pgp_base.specs.Cause.{WantsMemory, nullable_cause};
+ghost use Rattle.pgp_base.specs.Cause.{Wants, WantsMemory, nullable_cause};
 ghost use Rattle.pgp_base.specs.Held.{◌⊕◌, IsFrontOf};
 ghost use Rattle.pgp_base.specs.PartReading.{Answers};
 ghost use Rattle.pgp_base.specs.Wire.{nullable};
@@ -29,7 +29,7 @@ const NULL: u32 = 0xffff_ffff;
 fn put_nullable<B: Buffer>(v: Option<&str>, buf: &mut B) -> Result<(), Error>
     ensures ok { OnOk result ((nullable_cause (shown v.entry) ≡ None) × (B.held buf.new ≡ B.held buf.old ⊕ nullable (shown v.entry))) }
     ensures err { OnErr result (IsFrontOf (B.held buf.old) (B.held buf.new)) }
-    ensures cause { IfErr result (λ e. WantsMemory B.Lacks (B.held buf.old) (length (nullable (shown v.entry))) e ⊎ (nullable_cause (shown v.entry) ≡ Some e)) }
+    ensures cause { IfErr result (λ e. WantsMemory (Wants B.Lacks (B.held buf.old) (length (nullable (shown v.entry)))) e ⊎ (nullable_cause (shown v.entry) ≡ Some e)) }
 {
     let Some(text) = v else {
         return put_u32(buf, NULL);

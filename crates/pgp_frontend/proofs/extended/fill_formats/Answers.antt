@@ -1,7 +1,7 @@
 use Rattle.std.proofs.Common.{arith, ◌≤◌, length, refl, sym, ◌≡◌, [], ◌∷◌, Some, None, inl, inr, ap, ◌∙◌}
 use Rattle.pgp_base.specs.Held.{◌⊕◌}
 use Rattle.pgp_base.specs.Wire.{uint32, int16, nullable}
-use Rattle.pgp_base.specs.Cause.{WantsMemory}
+use Rattle.pgp_base.specs.Cause.{Wants, WantsMemory}
 use Rattle.pgp_base.proofs.Parts.{if_err_at, nothing_more, wants_here, wants_more, wants_same, wants_then}
 use Rattle.pgp_frontend.proofs.Needs.{framed_length, bind_length, joined_more, counted_length, framed_wants}
 use Rattle.pgp_frontend.specs.Payload.{Text, Int16s, joined, framed, parts_cause}
@@ -15,7 +15,7 @@ returns-in_err-put_fields-clause-cause g c =
     (elim c.in_err-put_fields.ensures.cause [
       | inl memory ↦
           let texts = Text c.args.portal.now ∷ Text c.args.statement.now ∷ [] in
-          let wanted = two_texts (λ ps. WantsMemory g.B.Buffer.Lacks (g.B.Buffer.held c.put_u32.new.buf) (length (joined ps)) c.in_err-put_fields.field-0.0) _ c.args.portal.now _ c.args.statement.now c.as_bytes.ensures.value c.as_bytes-2.ensures.value memory in
+          let wanted = two_texts (λ ps. WantsMemory (Wants g.B.Buffer.Lacks (g.B.Buffer.held c.put_u32.new.buf) (length (joined ps))) c.in_err-put_fields.field-0.0) _ c.args.portal.now _ c.args.statement.now c.as_bytes.ensures.value c.as_bytes-2.ensures.value memory in
           let place = c.in_ok-put_u32.ensures.ok ∙ ap (λ held. held ⊕ uint32 0) (c.in_ok-put_u8.ensures.ok ∙ ap (λ held. held ⊕ 66 ∷ []) c.in_ok-reserve.ensures.same) in
           inl (wanted.0, ([], inl refl, framed_wants 66 [] (g.B.Buffer.held c.args.buf.now) _ _ _ (place ∙ sym (nothing_more (g.B.Buffer.held c.args.buf.now ⊕ 66 ∷ [] ⊕ uint32 0))) (omega (arith, bind_length c.args.portal.now c.args.statement.now [] [] [], joined_more texts (Int16s []), counted_length int16 [], counted_length nullable [])) wanted.1))
       | inr refused ↦ inr (inl (two_texts (λ ps. parts_cause ps ≡ Some c.in_err-put_fields.field-0.0) _ c.args.portal.now _ c.args.statement.now c.as_bytes.ensures.value c.as_bytes-2.ensures.value refused))

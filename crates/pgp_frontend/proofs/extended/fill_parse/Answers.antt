@@ -1,7 +1,7 @@
 use Rattle.std.proofs.Common.{arith, ◌≤◌, length, sym, ◌≡◌, [], ◌∷◌, ◌++◌, Some, None, refl, inl, inr, ap, ◌∙◌}
 use Rattle.pgp_base.specs.Held.{◌⊕◌}
 use Rattle.pgp_base.specs.Wire.{uint32, oid}
-use Rattle.pgp_base.specs.Cause.{WantsMemory}
+use Rattle.pgp_base.specs.Cause.{Wants, WantsMemory}
 use Rattle.pgp_base.proofs.Parts.{if_err_at, nothing_more, wants_here, wants_more, wants_same, wants_then}
 use Rattle.pgp_frontend.proofs.Needs.{framed_length, parse_length, counted_length, framed_wants}
 use Rattle.pgp_frontend.specs.ClientMessage.{Parse}
@@ -17,7 +17,7 @@ returns-in_err-put_fields-clause-cause g c =
     (elim c.in_err-put_fields.ensures.cause [
       | inl memory ↦
           let texts = Text c.args.name.now ∷ Text c.args.query.now ∷ [] in
-          let wanted = two_texts (λ ps. WantsMemory g.B.Buffer.Lacks (g.B.Buffer.held c.put_u32.new.buf) (length (joined ps)) c.in_err-put_fields.field-0.0) _ c.args.name.now _ c.args.query.now c.as_bytes.ensures.value c.as_bytes-2.ensures.value memory in
+          let wanted = two_texts (λ ps. WantsMemory (Wants g.B.Buffer.Lacks (g.B.Buffer.held c.put_u32.new.buf) (length (joined ps))) c.in_err-put_fields.field-0.0) _ c.args.name.now _ c.args.query.now c.as_bytes.ensures.value c.as_bytes-2.ensures.value memory in
           let place = c.in_ok-put_u32.ensures.ok ∙ ap (λ held. held ⊕ uint32 0) (c.in_ok-put_u8.ensures.ok ∙ ap (λ held. held ⊕ 80 ∷ []) c.in_ok-reserve.ensures.same) in
           inl (wanted.0, (Parse c.args.name.now c.args.query.now [], ([], inl refl, refl), framed_wants 80 [] (g.B.Buffer.held c.args.buf.now) _ _ _ (place ∙ sym (nothing_more (g.B.Buffer.held c.args.buf.now ⊕ 80 ∷ [] ⊕ uint32 0))) (omega (arith, parse_length c.args.name.now c.args.query.now [], counted_length oid [])) wanted.1))
       | inr refused ↦ inr (inl (_, inl refl, two_texts (λ ps. parts_cause ps ≡ Some c.in_err-put_fields.field-0.0) _ c.args.name.now _ c.args.query.now c.as_bytes.ensures.value c.as_bytes-2.ensures.value refused))
