@@ -3,8 +3,9 @@
 ghost use Rattle.std.specs.Prelude.{◌≡◌, ℕ, ◌+◌, ◌<◌, ◌≤◌, ◌^◌, [], length, take, OnOk, OnErr};
 ghost use Rattle.pgp_base.specs.Held.{Held, ◌⊕◌, overwritten, items_held};
 
-use bytes::{Buf, BufMut, BytesMut};
-use std::alloc::{AllocError, Allocator};
+use crate::memory::Memory;
+use bytes::{Buf, BytesMut};
+use std::alloc::AllocError;
 
 /// A buffer that writers append to, as a `BytesMut` over any allocator.
 pub trait Buffer {
@@ -75,13 +76,13 @@ pub trait Buffer {
         ensures { held self.new ≡ overwritten (held self.old) place over.now };
 }
 
-/// Of its memory nothing is said: a growth may always be refused.
-impl<A: Allocator + Copy> Buffer for BytesMut<A> {
+/// It lacks what its memory lacks. Of room nothing is said: a growth may always be refused.
+impl<A: Memory> Buffer for BytesMut<A> {
     ghost Kept = { Unit {0} };
 
     ghost held = { λ b. items_held b.items };
 
-    ghost Lacks = { Unit {0} };
+    ghost Lacks = { A.Lacks };
 
     ghost Fits = { λ _ _. ⊥ };
 
@@ -94,17 +95,17 @@ impl<A: Allocator + Copy> Buffer for BytesMut<A> {
     }
 
     fn reserve(&mut self, additional: usize) -> Result<(), AllocError> {
-        BytesMut::<A>::reserve(self, additional)
+        A::reserve_bytes(self, additional)
     }
 
     #[tactic(auto, unfolding(crate::specs::Held::lengthened))]
     fn append(&mut self, more: &[u8]) -> Result<(), AllocError> {
-        self.extend_from_slice(more)
+        A::append(self, more)
     }
 
     #[tactic(auto, unfolding(crate::specs::Held::lengthened))]
     fn append_from<T: Buf>(&mut self, more: &mut T) -> Result<(), AllocError> {
-        self.put_from(more)
+        A::append_from(self, more)
     }
 
     fn truncate(&mut self, len: usize) {
