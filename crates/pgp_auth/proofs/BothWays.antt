@@ -110,10 +110,10 @@ never_refused old new text signature a s e before after refused =
 same_begun : (a b : Begun) → AwaitsFirst a ≡ AwaitsFirst b → a ≡ b
 same_begun a b e = cc
 
-pub update_memory : (old new : Client) (f g : List ℕ) (e : Refusal) → Serves old.state f g → UpdateRefused old f e new → e ≡ OutOfMemory
-update_memory old new f g e s r = from_why s (rw s.due at r.why)
+pub update_memory : (lacks : Type 0) (old new : Client) (f g : List ℕ) (e : Refusal) → Serves old.state f g → UpdateRefused lacks old f e new → e ≡ OutOfMemory
+update_memory lacks old new f g e s r = from_why s (rw s.due at r.why)
   where
-    from_why : (s : Serves old.state f g) → UpdateRefuses (AwaitsFirst s.begun) f e old.hmacs new.hmacs → e ≡ OutOfMemory
+    from_why : (s : Serves old.state f g) → UpdateRefuses lacks (AwaitsFirst s.begun) f e old.hmacs new.hmacs → e ≡ OutOfMemory
     from_why s (inl cause) = absurd (meets_not_refused s.begun.nonce f s.nonce s.salt s.count e s.meets cause.0)
     from_why s (inr memory) = memory.0
 

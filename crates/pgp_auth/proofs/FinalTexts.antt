@@ -146,10 +146,10 @@ pub error_kept : (m signature : List ℕ) (e : Refusal) (n : ℕ) → RefusesFin
 error_kept m signature e n (inl cause) = inl (cause, refl)
 error_kept m signature e n (inr memory) = inr (inr (memory.0, memory.1, refl))
 
-pub long_not : {A : Type 0} (m t signature : List ℕ) (e : ScramError A) (n : ℕ) → ServerFinal m t → 64 < length t
-    → (e ≡ code.OutOfMemory) ⊎ ((e ≡ code.InvalidBase64) × IsErr (decode_of standard t)) → NotVerified signature m (refusal e) n n
-long_not m t signature e n s far (inl memory) = inr (inr (ap refusal memory, long s far, refl))
-long_not m t signature e n s far (inr bad) = inl (final_no_base64 m t (refusal e) s bad.1 (ap refusal bad.0), refl)
+pub long_not : {A : Type 0} (lacks : Type 0) (m t signature : List ℕ) (e : ScramError A) (n : ℕ) → ServerFinal m t → 64 < length t
+    → ((e ≡ code.OutOfMemory) × lacks) ⊎ ((e ≡ code.InvalidBase64) × IsErr (decode_of standard t)) → NotVerified signature m (refusal e) n n
+long_not lacks m t signature e n s far (inl memory) = inr (inr (ap refusal memory.0, long s far, refl))
+long_not lacks m t signature e n s far (inr bad) = inl (final_no_base64 m t (refusal e) s bad.1 (ap refusal bad.0), refl)
 
 pub short_not : {A : Type 0} (m t signature : List ℕ) (e : ScramError A) (n : ℕ) → ServerFinal m t
     → (e ≡ code.InvalidBase64) × IsErr (decode_of standard t) → NotVerified signature m (refusal e) n n

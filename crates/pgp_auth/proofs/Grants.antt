@@ -115,13 +115,13 @@ granted_admitted c m g h =
     parts_admitted c m j.parts j.read (j.granted.begins, j.granted.few)
 
 -- why the parts aren't granted is why the text isn't
-pub refused_parts : {A X : Type 0} (r : Result X (ScramError A)) (c m : List ℕ) (p : FirstParts) → is_utf8 m ≡ true → read_first m ≡ Ok p
-    → IfErr r (λ e. ((e ≡ code.OutOfMemory) × AdmitsParts c p) ⊎ (grant_parts c p ≡ Err (refusal e)))
-    → IfErr r (λ e. ((e ≡ code.OutOfMemory) × Admitted c m) ⊎ (grant c m ≡ Err (refusal e)))
+pub refused_parts : {A X : Type 0} (r : Result X (ScramError A)) (lacks : Type 0) (c m : List ℕ) (p : FirstParts) → is_utf8 m ≡ true → read_first m ≡ Ok p
+    → IfErr r (λ e. ((e ≡ code.OutOfMemory) × lacks × AdmitsParts c p) ⊎ (grant_parts c p ≡ Err (refusal e)))
+    → IfErr r (λ e. ((e ≡ code.OutOfMemory) × lacks × Admitted c m) ⊎ (grant c m ≡ Err (refusal e)))
 unfolding grant
-refused_parts (Ok x) c m p u read h = tt
-refused_parts (Err e) c m p u read (inl memory) = inl (memory.0, parts_admitted c m p read memory.1)
-refused_parts (Err e) c m p u read (inr cause) = inr (rw (u, read) cause)
+refused_parts (Ok x) lacks c m p u read h = tt
+refused_parts (Err e) lacks c m p u read (inl memory) = inl (memory.0, memory.1, parts_admitted c m p read memory.2)
+refused_parts (Err e) lacks c m p u read (inr cause) = inr (rw (u, read) cause)
 
 -- ---- a server's first text is ASCII
 

@@ -90,17 +90,17 @@ update_answers old new text begun answered before after due same a new_is =
       new_is = rw (← same, ← a.answers.hmacs) new_is;
     }
 
-text_refused : (c text : List ℕ) (e : Refusal) (before after : ℕ) → RefusesText c text e before after
-    → (RefusesFirst c text e × (after ≡ before)) ⊎ ((e ≡ OutOfMemory) × Admitted c text × ((after ≡ before) ⊎ MadeSome c text before after))
-text_refused c text e before after (inl (memory, admitted, inl none)) = inr (memory, admitted, inl none)
-text_refused c text e before after (inl (memory, admitted, inr m)) =
-    inr (memory, admitted, inr (record { nonce = m.g.nonce; salt = m.g.salt; count = m.g.count; meets = granted_meets c text m.g m.granted; grows = m.grows; at_most = m.at_most }))
-text_refused c text e before after (inr cause) = inl (not_granted c text e cause.0, cause.1)
+text_refused : (lacks : Type 0) (c text : List ℕ) (e : Refusal) (before after : ℕ) → RefusesText lacks c text e before after
+    → (RefusesFirst c text e × (after ≡ before)) ⊎ ((e ≡ OutOfMemory) × lacks × Admitted c text × ((after ≡ before) ⊎ MadeSome c text before after))
+text_refused lacks c text e before after (inl (memory, lack, admitted, inl none)) = inr (memory, lack, admitted, inl none)
+text_refused lacks c text e before after (inl (memory, lack, admitted, inr m)) =
+    inr (memory, lack, admitted, inr (record { nonce = m.g.nonce; salt = m.g.salt; count = m.g.count; meets = granted_meets c text m.g m.granted; grows = m.grows; at_most = m.at_most }))
+text_refused lacks c text e before after (inr cause) = inl (not_granted c text e cause.0, cause.1)
 
-pub update_refused : (old new : Client) (text : List ℕ) (e : Refusal) (begun : Begun) (before : ℕ) → old.state ≡ AwaitsFirst begun → before ≡ old.hmacs
-    → new.state ≡ Over → RefusesText begun.nonce text e before new.hmacs → UpdateRefused old text e new
-update_refused old new text e begun before due same over r = record {
-  why = rw (due, ← same) (text_refused begun.nonce text e before new.hmacs r);
+pub update_refused : (lacks : Type 0) (old new : Client) (text : List ℕ) (e : Refusal) (begun : Begun) (before : ℕ) → old.state ≡ AwaitsFirst begun → before ≡ old.hmacs
+    → new.state ≡ Over → RefusesText lacks begun.nonce text e before new.hmacs → UpdateRefused lacks old text e new
+update_refused lacks old new text e begun before due same over r = record {
+  why = rw (due, ← same) (text_refused lacks begun.nonce text e before new.hmacs r);
   over = over;
 }
 

@@ -38,6 +38,6 @@ pub record MadeGranted (client_nonce text : List ℕ) (before after : ℕ) : Typ
   pub at_most : after ≤ before + (max g.count 1 + 2)
 
 -- memory was refused, before or after HMACs; or the text is refused, before them
-abbrev pub RefusesText : List ℕ → List ℕ → Refusal → ℕ → ℕ → Type 0
-RefusesText client_nonce text e before after =
-    ((e ≡ OutOfMemory) × Admitted client_nonce text × ((after ≡ before) ⊎ MadeGranted client_nonce text before after)) ⊎ ((grant client_nonce text ≡ Err e) × (after ≡ before))
+abbrev pub RefusesText : Type 0 → List ℕ → List ℕ → Refusal → ℕ → ℕ → Type 0
+RefusesText lacks client_nonce text e before after =
+    ((e ≡ OutOfMemory) × lacks × Admitted client_nonce text × ((after ≡ before) ⊎ MadeGranted client_nonce text before after)) ⊎ ((grant client_nonce text ≡ Err e) × (after ≡ before))

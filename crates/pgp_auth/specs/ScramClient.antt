@@ -74,15 +74,15 @@ pub record MadeSome (client_nonce text : List ℕ) (before after : ℕ) : Type 0
 
 -- why `update` refuses in a state, and the HMACs before and after it. It takes memory for the salt and what
 -- comes behind it, so no cause gives way to want of memory but a salt that isn't base64.
-abbrev pub UpdateRefuses : State → List ℕ → Refusal → ℕ → ℕ → Type 0
-UpdateRefuses (AwaitsFirst begun) text e before after =
-    (RefusesFirst begun.nonce text e × (after ≡ before)) ⊎ ((e ≡ OutOfMemory) × Admitted begun.nonce text × ((after ≡ before) ⊎ MadeSome begun.nonce text before after))
-UpdateRefuses (AwaitsFinal answered) text e before after = (e ≡ WrongState) × (after ≡ before)
-UpdateRefuses Over text e before after = (e ≡ WrongState) × (after ≡ before)
+abbrev pub UpdateRefuses : Type 0 → State → List ℕ → Refusal → ℕ → ℕ → Type 0
+UpdateRefuses lacks (AwaitsFirst begun) text e before after =
+    (RefusesFirst begun.nonce text e × (after ≡ before)) ⊎ ((e ≡ OutOfMemory) × lacks × Admitted begun.nonce text × ((after ≡ before) ⊎ MadeSome begun.nonce text before after))
+UpdateRefuses lacks (AwaitsFinal answered) text e before after = (e ≡ WrongState) × (after ≡ before)
+UpdateRefuses lacks Over text e before after = (e ≡ WrongState) × (after ≡ before)
 
 -- a refused `update` ends the exchange
-pub record UpdateRefused (old : Client) (text : List ℕ) (e : Refusal) (new : Client) : Type 0 where
-  pub why : UpdateRefuses old.state text e old.hmacs new.hmacs
+pub record UpdateRefused (lacks : Type 0) (old : Client) (text : List ℕ) (e : Refusal) (new : Client) : Type 0 where
+  pub why : UpdateRefuses lacks old.state text e old.hmacs new.hmacs
   pub over : new.state ≡ Over
 
 -- `finish` that is Ok: it was due, and the text shows the signature; the exchange is over

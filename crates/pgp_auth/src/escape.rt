@@ -4,13 +4,13 @@
 
 ghost use Rattle.std.specs.Prelude.{◌≡◌, ◌<◌, ◌≤◌, ◌++◌, length, ◌↔◌, ◌∷◌, [], true, false, string_bytes, IfOk, IfErr, OnOk, Contains};
 ghost use Rattle.std.specs.List.{count_by};
+ghost use Rattle.pgp_base.specs.Cause.{WantsMemory};
 ghost use Rattle.memchr.specs.Find.{IsFirstByte};
 ghost use Rattle.pgp_auth.specs.Lexer.{Literal, Identifier, IsPlain, backslash};
 ghost use Rattle.pgp_auth.specs.Doubling.{is_doubled, doubled};
 
 use memchr::{memchr, memchr2};
-use pgp_base::Error;
-use std::alloc::Allocator;
+use pgp_base::{Error, Memory};
 
 // The bytes that are counted at a time.
 const BLOCK_LEN: usize = 192;
@@ -70,7 +70,7 @@ fn count_twice(quote: u8, slashes: bool, bytes: &[u8]) -> usize
 
 // Appends a block with each byte that is written twice standing twice. Every byte is put down twice, and the
 // second goes over the first where it is written once: so no branch depends on the text.
-fn push_block<A: Allocator>(
+fn push_block<A: Memory>(
     out: &mut Vec<u8, A>,
     block: &[u8],
     quote: u8,
@@ -78,7 +78,7 @@ fn push_block<A: Allocator>(
 ) -> Result<(), Error>
     requires { length block.now ≤ BLOCK_LEN }
     ensures ok { OnOk result (out.new.items ≡ out.old.items ++ doubled quote slashes block.now) }
-    ensures memory { IfErr result (λ e. e ≡ Error.OutOfMemory) }
+    ensures memory { IfErr result (WantsMemory A.Lacks) }
 {
     let mut room = [0u8; 2 * BLOCK_LEN];
     let mut len = 0;
@@ -88,20 +88,20 @@ fn push_block<A: Allocator>(
         room[len] = *byte;
         len += 1;
     }
-    out.extend_from_slice(&room[..len])?;
+    A::extend(out, &room[..len])?;
     Ok(())
 }
 
 // Appends the input like `push_doubled`, byte by byte in blocks: the faster way where many bytes are
 // written twice.
-fn push_blocks<A: Allocator>(
+fn push_blocks<A: Memory>(
     out: &mut Vec<u8, A>,
     input: &[u8],
     quote: u8,
     slashes: bool,
 ) -> Result<(), Error>
     ensures ok { OnOk result (out.new.items ≡ out.old.items ++ doubled quote slashes input.now) }
-    ensures memory { IfErr result (λ e. e ≡ Error.OutOfMemory) }
+    ensures memory { IfErr result (WantsMemory A.Lacks) }
 {
     let mut rest = input;
     'pieces: while BLOCK_LEN < rest.len() {
@@ -113,7 +113,7 @@ fn push_blocks<A: Allocator>(
 }
 
 // The text with the input behind it as `push_doubled` appends it, by blocks.
-fn with_blocks<A: Allocator>(
+fn with_blocks<A: Memory>(
     out: String<A>,
     input: &str,
     quote: u8,
@@ -121,7 +121,7 @@ fn with_blocks<A: Allocator>(
 ) -> Result<String<A>, Error>
     requires { quote < 128 }
     ensures ok { IfOk result (λ t. string_bytes t ≡ string_bytes out ++ doubled quote slashes input.now) }
-    ensures memory { IfErr result (λ e. e ≡ Error.OutOfMemory) }
+    ensures memory { IfErr result (WantsMemory A.Lacks) }
 {
     let mut bytes = out.into_bytes();
     push_blocks(&mut bytes, input.as_bytes(), quote, slashes)?;
@@ -132,7 +132,7 @@ fn with_blocks<A: Allocator>(
 }
 
 // Appends the input with each quote written twice, and each backslash too where `slashes`.
-fn push_doubled<A: Allocator>(
+fn push_doubled<A: Memory>(
     out: &mut String<A>,
     input: &str,
     quote: u8,
@@ -140,20 +140,20 @@ fn push_doubled<A: Allocator>(
 ) -> Result<(), Error>
     requires { quote < 128 }
     ensures ok { OnOk result (string_bytes out.new ≡ string_bytes out.old ++ doubled quote slashes input.now) }
-    ensures memory { IfErr result (λ e. e ≡ Error.OutOfMemory) }
+    ensures memory { IfErr result (WantsMemory A.Lacks) }
 {
     let mut rest = input;
     'runs: while let Some(at) = first_doubled(quote, slashes, rest.as_bytes()) {
-        out.push_str(&rest[..at + 1])?;
-        out.push_str(&rest[at..at + 1])?;
+        A::push_str(out, &rest[..at + 1])?;
+        A::push_str(out, &rest[at..at + 1])?;
         rest = &rest[at + 1..];
     }
-    out.push_str(rest)?;
+    A::push_str(out, rest)?;
     Ok(())
 }
 
 // The input between quotes, behind a front; the room is asked for once.
-fn quoted<A: Allocator>(
+fn quoted<A: Memory>(
     alloc: A,
     front: &str,
     input: &str,
@@ -162,7 +162,7 @@ fn quoted<A: Allocator>(
 ) -> Result<String<A>, Error>
     requires { quote < 128 }
     ensures ok { IfOk result (λ t. string_bytes t ≡ front.now ++ quote ∷ (doubled quote slashes input.now ++ quote ∷ [])) }
-    ensures memory { IfErr result (λ e. e ≡ Error.OutOfMemory) }
+    ensures memory { IfErr result (WantsMemory A.Lacks) }
 {
     let twice = match first_doubled(quote, slashes, input.as_bytes()) {
         Some(_) => count_twice(quote, slashes, input.as_bytes()),
@@ -173,15 +173,15 @@ fn quoted<A: Allocator>(
         .saturating_add(twice)
         .saturating_add(front.len())
         .saturating_add(2);
-    let mut out = String::with_capacity(alloc, room)?;
-    out.push_str(front)?;
-    out.push(quote as char)?;
+    let mut out = A::text_with_capacity(alloc, room)?;
+    A::push_str(&mut out, front)?;
+    A::push_char(&mut out, quote as char)?;
     if twice > input.len() / DENSE {
         out = with_blocks(out, input, quote, slashes)?;
     } else {
         push_doubled(&mut out, input, quote, slashes)?;
     }
-    out.push(quote as char)?;
+    A::push_char(&mut out, quote as char)?;
     Ok(out)
 }
 
@@ -193,11 +193,11 @@ fn quoted<A: Allocator>(
 ///
 /// `OutOfMemory` where memory for the text is refused.
 #[tactic(auto, using(crate::proofs::Quoting::escape_reads, crate::proofs::Quoting::plain_reads))]
-pub fn escape_literal<A: Allocator + Copy>(alloc: A, input: &str) -> Result<String<A>, Error>
+pub fn escape_literal<A: Memory>(alloc: A, input: &str) -> Result<String<A>, Error>
     ensures standard { IfOk result (λ t. Literal true (string_bytes t) input.now) }
     ensures not_standard { IfOk result (λ t. Literal false (string_bytes t) input.now) }
     ensures form { IfOk result (λ t. IsPlain (string_bytes t) ↔ (¬ Contains input.now backslash)) }
-    ensures memory { IfErr result (λ e. e ≡ Error.OutOfMemory) }
+    ensures memory { IfErr result (WantsMemory A.Lacks) }
 {
     match memchr(b'\\', input.as_bytes()) {
         Some(_) => quoted(alloc, " E", input, b'\'', true),
@@ -212,9 +212,9 @@ pub fn escape_literal<A: Allocator + Copy>(alloc: A, input: &str) -> Result<Stri
 ///
 /// `OutOfMemory` where memory for the text is refused.
 #[tactic(auto, using(crate::proofs::Quoting::identifier_reads))]
-pub fn escape_identifier<A: Allocator + Copy>(alloc: A, input: &str) -> Result<String<A>, Error>
+pub fn escape_identifier<A: Memory>(alloc: A, input: &str) -> Result<String<A>, Error>
     ensures ok { IfOk result (λ t. Identifier (string_bytes t) input.now) }
-    ensures memory { IfErr result (λ e. e ≡ Error.OutOfMemory) }
+    ensures memory { IfErr result (WantsMemory A.Lacks) }
 {
     quoted(alloc, "", input, b'"', false)
 }

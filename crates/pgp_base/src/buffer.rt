@@ -3,8 +3,9 @@
 ghost use Rattle.std.specs.Prelude.{◌≡◌, ℕ, ◌+◌, ◌<◌, ◌≤◌, ◌^◌, [], length, take, OnOk, OnErr};
 ghost use Rattle.pgp_base.specs.Held.{Held, ◌⊕◌, overwritten, items_held};
 
-use bytes::{Buf, BufMut, BytesMut};
-use std::alloc::{AllocError, Allocator};
+use crate::memory::Memory;
+use bytes::{Buf, BytesMut};
+use std::alloc::AllocError;
 
 /// A buffer that writers append to, as a `BytesMut` over any allocator.
 pub trait Buffer {
@@ -69,13 +70,13 @@ pub trait Buffer {
         ensures { held self.new ≡ overwritten (held self.old) place over.now };
 }
 
-/// Of its memory nothing is said: any growth may be refused, but not one by no byte.
-impl<A: Allocator + Copy> Buffer for BytesMut<A> {
+/// It lacks what its memory lacks: any growth by a byte or more may be refused.
+impl<A: Memory> Buffer for BytesMut<A> {
     ghost Kept = { Unit {0} };
 
     ghost held = { λ b. items_held b.items };
 
-    ghost Lacks = { λ _ n. 0 < n };
+    ghost Lacks = { λ _ n. A.Lacks × (0 < n) };
 
     fn len(&self) -> usize {
         BytesMut::<A>::len(self)
@@ -86,17 +87,17 @@ impl<A: Allocator + Copy> Buffer for BytesMut<A> {
     }
 
     fn reserve(&mut self, additional: usize) -> Result<(), AllocError> {
-        BytesMut::<A>::reserve(self, additional)
+        A::reserve_bytes(self, additional)
     }
 
     #[tactic(auto, unfolding(crate::specs::Held::lengthened))]
     fn append(&mut self, more: &[u8]) -> Result<(), AllocError> {
-        self.extend_from_slice(more)
+        A::append(self, more)
     }
 
     #[tactic(auto, unfolding(crate::specs::Held::lengthened))]
     fn append_from<T: Buf>(&mut self, more: &mut T) -> Result<(), AllocError> {
-        self.put_from(more)
+        A::append_from(self, more)
     }
 
     fn truncate(&mut self, len: usize) {

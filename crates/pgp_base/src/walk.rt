@@ -5,7 +5,7 @@ ghost use Rattle.pgp_base.specs.declared.error.Error.{Error};
 ghost use Rattle.pgp_base.specs.Walk.{Walk, TakesFront, CollectsFrom, RefusesFrom, hint_of};
 
 use crate::error::Error;
-use std::alloc::Allocator;
+use crate::memory::Memory;
 
 /// A walk over a list of items, which ends or is refused.
 pub trait FallibleIterator {
@@ -36,18 +36,18 @@ pub trait FallibleIterator {
     ///
     /// # Errors
     ///
-    /// The walk's own refusal where its list ends with one, or `OutOfMemory` where the `Vec` was refused
-    /// memory.
-    final fn collect<A: Allocator>(mut self, alloc: A) -> Result<Vec<Self::Item, A>, Error>
+    /// The walk's own refusal where its list ends with one, or `OutOfMemory` where a growth of the `Vec` was
+    /// refused.
+    final fn collect<A: Memory>(mut self, alloc: A) -> Result<Vec<Self::Item, A>, Error>
     where
         Self: Sized + Drop,
         Self::Item: Drop,
         ensures ok { IfOk result (λ items. CollectsFrom meaning (walk self) items.items) }
-        ensures err { IfErr result (λ e. RefusesFrom (walk self) e) }
+        ensures err { IfErr result (λ e. RefusesFrom A.Lacks (walk self) e) }
     {
         let mut items = Vec::new(alloc);
         'items: while let Some(item) = self.next()? {
-            if items.push(item).is_err() {
+            if A::push(&mut items, item).is_err() {
                 return Err(Error::OutOfMemory);
             }
         }

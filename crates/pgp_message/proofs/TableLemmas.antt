@@ -38,6 +38,6 @@ collected_places row walk xs has all =
     subst (λ (l : List (Option (Range ℕ))). HasPlaces row l None) same (subst (λ (e : Option Error). HasPlaces row walk.items e) all.end has)
 
 -- the refusal of a walk is the row's
-pub refused_places : (row : CountedBytes) (walk : Walk (Option (Range ℕ))) (e : Error) → HasPlaces row walk.items walk.end → RefusesFrom walk e → Tabulates row (Err e)
-refused_places row walk e has (inl end) = inr (walk.items, subst (λ (d : Option Error). HasPlaces row walk.items d) end has)
-refused_places row walk e has (inr memory) = inl memory
+pub refused_places : (lacks : Type 0) (row : CountedBytes) (walk : Walk (Option (Range ℕ))) (e : Error) → HasPlaces row walk.items walk.end → RefusesFrom lacks walk e → Tabulates row lacks (Err e)
+refused_places lacks row walk e has (inr end) = inr (walk.items, subst (λ (d : Option Error). HasPlaces row walk.items d) end has)
+refused_places lacks row walk e has (inl memory) = inl memory

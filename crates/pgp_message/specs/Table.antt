@@ -4,7 +4,7 @@ use Rattle.std.specs.List.{slice_get, slice_range}
 use Rattle.std.specs.Option.{option_map}
 use Rattle.std.specs.declared.ops.Range.{Range}
 use Rattle.pgp_base.specs.declared.error.Error.{Error}
-use Rattle.pgp_base.specs.declared.error.Error.TheVariants.{OutOfMemory}
+use Rattle.pgp_base.specs.Cause.{WantsMemory}
 use Rattle.pgp_base.specs.Items.{CountedItems}
 use Rattle.pgp_message.specs.Parts.{CountedBytes}
 use Rattle.pgp_message.specs.Items.{RangeSpelled, RangeRefused}
@@ -19,9 +19,9 @@ abbrev pub HasPlaces : CountedBytes → List (Option (Range ℕ)) → Option Err
 HasPlaces row places end = CountedItems RangeSpelled RangeRefused row.count row.storage places end
 
 -- The table of a row: its list, which is finished; or why it isn't finished; or want of memory.
-abbrev pub Tabulates : CountedBytes → Result Table Error → Type 0
-Tabulates row (Ok table) = (table.buffer ≡ row.storage) × HasPlaces row table.places None
-Tabulates row (Err e) = (e ≡ OutOfMemory) ⊎ ((places : List (Option (Range ℕ))) × HasPlaces row places (Some e))
+abbrev pub Tabulates : CountedBytes → Type 0 → Result Table Error → Type 0
+Tabulates row lacks (Ok table) = (table.buffer ≡ row.storage) × HasPlaces row table.places None
+Tabulates row lacks (Err e) = WantsMemory lacks e ⊎ ((places : List (Option (Range ℕ))) × HasPlaces row places (Some e))
 
 -- the bytes at a place; none for a null
 abbrev pub value_at : List ℕ → Option (Range ℕ) → Option (List ℕ)

@@ -8,7 +8,7 @@ ghost use Rattle.pgp_message.specs.Parts.{CountedBytes};
 ghost use Rattle.pgp_message.specs.Table.{Tabulates, column};
 
 use crate::walk::DataRowRanges;
-use pgp_base::{Error, FallibleIterator};
+use pgp_base::{Error, FallibleIterator, Memory};
 use std::alloc::{Allocator, Global};
 use std::marker::Model;
 use std::ops::Range;
@@ -36,15 +36,17 @@ impl<'a, A: Allocator> Model for RowIndex<'a, A> {
     ghost invariant = { λ index. AllByRecursion (IsPlaceIn (length index.buffer.now)) index.places.items };
 }
 
-impl<'a, A: Allocator> RowIndex<'a, A> {
+impl<'a, A: Memory> RowIndex<'a, A> {
     /// The table of a row of so many columns.
     pub(crate) fn over(alloc: A, buffer: &'a [u8], count: u16) -> Result<RowIndex<'a, A>, Error>
-        ensures { Tabulates (record { count = count; storage = buffer.now }) result }
+        ensures { Tabulates (record { count = count; storage = buffer.now }) A.Lacks result }
     {
         let places = places(alloc, DataRowRanges::over(buffer, count))?;
         Ok(RowIndex { buffer, places })
     }
+}
 
+impl<'a, A: Allocator> RowIndex<'a, A> {
     /// How many columns the row has.
     pub fn len(&self) -> usize
         ensures { result ≡ length self.now.places }
@@ -76,22 +78,22 @@ impl<'a, A: Allocator> RowIndex<'a, A> {
 }
 
 /// The places of a whole row. The table takes memory once a column has come, and grows as they come.
-fn places<A: Allocator>(
+fn places<A: Memory>(
     alloc: A,
     mut ranges: DataRowRanges<'_>,
 ) -> Result<Vec<Option<Range<usize>>, A>, Error>
     ensures ok { IfOk result (λ places. CollectsFrom (λ place. place) ranges.entry places.items) }
-    ensures err { IfErr result (λ e. RefusesFrom ranges.entry e) }
+    ensures err { IfErr result (λ e. RefusesFrom A.Lacks ranges.entry e) }
 {
     let mut places = Vec::new(alloc);
     'places: while let Some(place) = ranges.next()? {
         if places.is_empty() {
             let more = ranges.size_hint().0.min(SHORT_ROW);
-            if places.reserve(more.saturating_add(1)).is_err() {
+            if A::reserve(&mut places, more.saturating_add(1)).is_err() {
                 return Err(Error::OutOfMemory);
             }
         }
-        if places.push(place).is_err() {
+        if A::push(&mut places, place).is_err() {
             return Err(Error::OutOfMemory);
         }
     }

@@ -33,10 +33,10 @@ BeginRefused message lacks (Scram e) = refusal e ≡ OutOfMemory
 BeginRefused message lacks Over = ⊥
 
 -- why the server's first text wasn't answered: the exchange refused it, or the final text wasn't sent
-abbrev pub RespondRefused : {A : Type 0} → Client → List ℕ → Client → Type 0 → LoginError A → Type 0
-RespondRefused old challenge new lacks (Message e) = Answers old challenge new × ((text : List ℕ) × (message_of new.state ≡ Some text) × RefusesMessage (SaslResponse text) lacks e)
-RespondRefused old challenge new lacks (Scram e) = UpdateRefused old challenge (refusal e) new
-RespondRefused old challenge new lacks Over = ⊥
+abbrev pub RespondRefused : {A : Type 0} → Client → List ℕ → Client → Type 0 → Type 0 → LoginError A → Type 0
+RespondRefused old challenge new memory lacks (Message e) = Answers old challenge new × ((text : List ℕ) × (message_of new.state ≡ Some text) × RefusesMessage (SaslResponse text) lacks e)
+RespondRefused old challenge new memory lacks (Scram e) = UpdateRefused memory old challenge (refusal e) new
+RespondRefused old challenge new memory lacks Over = ⊥
 
 -- the command names this user and this verifier, and a server reads both as they are, whatever
 -- standard_conforming_strings says

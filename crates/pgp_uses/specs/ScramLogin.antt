@@ -110,7 +110,7 @@ module _ {B K : Type 0} (held : B → Held K) (lacks : Type 0) where
     abbrev pub HearsFirst : List ℕ → Shown B → Shown B → Result LoginEvent (LoginFault A) → Type 0
     HearsFirst text old new (Ok Replied) = (new.phase ≡ AwaitsFinal) × Answers old.exchange text new.exchange × Adds SaslResponse new.exchange old.out new.out
     HearsFirst text old new (Err (Unsent e)) = (new.phase ≡ Over) × Answers old.exchange text new.exchange × AddsNone SaslResponse new.exchange e old.out new.out
-    HearsFirst text old new (Err (Scram e)) = (new.phase ≡ Over) × UpdateRefused old.exchange text (refusal e) new.exchange × (new.out ≡ old.out)
+    HearsFirst text old new (Err (Scram e)) = (new.phase ≡ Over) × UpdateRefused (Unit {0}) old.exchange text (refusal e) new.exchange × (new.out ≡ old.out)
     HearsFirst text old new result = ⊥
 
     -- the server's final text came; a refusal ends the log-in

@@ -10,7 +10,7 @@ ghost use Rattle.pgp_auth.specs.Verifier.{verifier, verifier_text};
 ghost use Rattle.pgp_frontend.specs.ClientMessage.{SaslResponse};
 ghost use Rattle.pgp_uses.specs.Login.{Sends, BeginRefused, RespondRefused, IsSetPassword, IsComparison, initial, unmapped};
 
-use pgp_base::Buffer;
+use pgp_base::{Buffer, Memory};
 use postgres_protocol::authentication::sasl::{
     ChannelBinding, NoPrep, SCRAM_SHA_256, ScramError, ScramSha256,
 };
@@ -77,7 +77,7 @@ pub fn begin<A: Allocator + Copy, R: Rng, B: Buffer>(
 /// # Errors
 ///
 /// `Scram` where the text is refused, and `Message` where the buffer's growth is.
-pub fn respond<A: Allocator + Copy, B: Buffer>(
+pub fn respond<A: Memory, B: Buffer>(
     challenge: &[u8],
     client: &mut ScramSha256<A>,
     out: &mut B,
@@ -85,7 +85,7 @@ pub fn respond<A: Allocator + Copy, B: Buffer>(
     ensures answers { OnOk result (Answers client.old challenge.now client.new) }
     ensures sent { OnOk result (Sends SaslResponse client.new (B.held out.old) (B.held out.new)) }
     ensures kept { OnErr result (Leaves (B.held out.old) (B.held out.new)) }
-    ensures refused { IfErr result (RespondRefused client.old challenge.now client.new B.Lacks) }
+    ensures refused { IfErr result (RespondRefused client.old challenge.now client.new A.Lacks B.Lacks) }
 {
     if let Err(e) = client.update(challenge) {
         return Err(LoginError::Scram(e));

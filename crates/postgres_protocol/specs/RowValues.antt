@@ -2,7 +2,7 @@
 use Rattle.std.specs.Prelude.{◌≡◌, ◌⊎◌, ℕ, ℤ, List, [], ◌∷◌, Option, Some, None, Result, Ok, Err}
 use Rattle.std.specs.declared.ops.Range.{Range}
 use Rattle.pgp_base.specs.declared.error.Error.{Error}
-use Rattle.pgp_base.specs.declared.error.Error.TheVariants.{OutOfMemory}
+use Rattle.pgp_base.specs.Cause.{WantsMemory}
 use Rattle.pgp_message.specs.Parts.{CountedBytes}
 use Rattle.pgp_message.specs.Table.{HasPlaces, value_at}
 use Rattle.pgp_types.specs.Format.{Reads}
@@ -23,6 +23,6 @@ AreInt4 buffer (p ∷ ps) [] = ⊥
 AreInt4 buffer (p ∷ ps) (r ∷ rs) = IsInt4 (value_at buffer p) r × AreInt4 buffer ps rs
 
 -- All values of a row that ends well; or why it doesn't; or want of memory.
-abbrev pub RowRead : {X : Type 0} → (X → List (Option (Result ℤ Error))) → CountedBytes → Result X Error → Type 0
-RowRead view row (Ok x) = (places : List (Option (Range ℕ))) × HasPlaces row places None × AreInt4 row.storage places (view x)
-RowRead view row (Err e) = (e ≡ OutOfMemory) ⊎ ((places : List (Option (Range ℕ))) × HasPlaces row places (Some e))
+abbrev pub RowRead : {X : Type 0} → (X → List (Option (Result ℤ Error))) → CountedBytes → Type 0 → Result X Error → Type 0
+RowRead view row lacks (Ok x) = (places : List (Option (Range ℕ))) × HasPlaces row places None × AreInt4 row.storage places (view x)
+RowRead view row lacks (Err e) = WantsMemory lacks e ⊎ ((places : List (Option (Range ℕ))) × HasPlaces row places (Some e))

@@ -90,7 +90,7 @@ module _ {Kept : Type 0} (lacks : Type 0) (mechanism : List ℕ) (old new : Clie
     pub sent : out_new ≡ out_old ⊕ bytes_of (SaslInitialResponse mechanism (first_text begun))
     pub first : List ℕ
     pub first_taken : TakesFrame first_old (Ok (Authentication (AuthenticationSaslContinue first))) first_new
-    pub refused : UpdateRefused old first e new
+    pub refused : UpdateRefused (Unit {0}) old first e new
     pub final : final_new ≡ final_old
 
   -- the server's first text was answered, and the answer wasn't written

@@ -13,7 +13,7 @@ ghost use Rattle.pgp_auth.specs.ScramRefusal.{Admitted};
 use crate::scram::error::ScramError;
 use crate::scram::reading::{Fault, ServerFirst, is_text, server_first};
 use base64::DecodeAllocError;
-use base64::engine::general_purpose::STANDARD;
+use pgp_base::Memory;
 use std::alloc::Allocator;
 
 const MAX_ITERATIONS: u32 = 100_000;
@@ -40,11 +40,11 @@ pub(crate) struct Granted<'a, A: Allocator> {
 }
 
 // The bytes that a text shows.
-pub(crate) fn shown<A: Allocator + Copy>(alloc: A, text: &[u8]) -> Result<Vec<u8, A>, ScramError<A>>
+pub(crate) fn shown<A: Memory>(alloc: A, text: &[u8]) -> Result<Vec<u8, A>, ScramError<A>>
     ensures ok { IfOk result (λ v. decode_of standard text.now ≡ Ok v.items) }
-    ensures err { IfErr result (λ e. (e ≡ OutOfMemory) ⊎ ((e ≡ InvalidBase64) × IsErr (decode_of standard text.now))) }
+    ensures err { IfErr result (λ e. ((e ≡ OutOfMemory) × A.Lacks) ⊎ ((e ≡ InvalidBase64) × IsErr (decode_of standard text.now))) }
 {
-    match STANDARD.decode(alloc, text) {
+    match A::base64_shown(alloc, text) {
         Ok(bytes) => Ok(bytes),
         Err(DecodeAllocError::OutOfMemory) => Err(ScramError::OutOfMemory),
         Err(DecodeAllocError::DecodeError(_)) => Err(ScramError::InvalidBase64),
@@ -53,13 +53,13 @@ pub(crate) fn shown<A: Allocator + Copy>(alloc: A, text: &[u8]) -> Result<Vec<u8
 
 // The parts of the text, where they extend the client's nonce and ask for few rounds.
 #[tactic(auto, unfolding(crate::specs::ScramReading::grant_parts))]
-fn grant<'a, A: Allocator + Copy>(
+fn grant<'a, A: Memory>(
     alloc: A,
     client_nonce: &[u8],
     parts: ServerFirst<'a>,
 ) -> Result<Granted<'a, A>, ScramError<A>>
     ensures ok { IfOk result (λ g. grant_parts client_nonce.now (parts_of parts.entry) ≡ Ok (granted_of g)) }
-    ensures err { IfErr result (λ e. ((e ≡ OutOfMemory) × AdmitsParts client_nonce.now (parts_of parts.entry)) ⊎ (grant_parts client_nonce.now (parts_of parts.entry) ≡ Err (refusal e))) }
+    ensures err { IfErr result (λ e. ((e ≡ OutOfMemory) × A.Lacks × AdmitsParts client_nonce.now (parts_of parts.entry)) ⊎ (grant_parts client_nonce.now (parts_of parts.entry) ≡ Err (refusal e))) }
 {
     let ServerFirst { nonce, salt, count } = parts;
     if !nonce.starts_with(client_nonce) {
@@ -74,13 +74,13 @@ fn grant<'a, A: Allocator + Copy>(
 
 // What a server's first text grants a client with this nonce.
 #[tactic(auto, using(crate::proofs::Grants::parts_admitted), unfolding(crate::specs::ScramReading::grant))]
-pub(crate) fn admit<'a, A: Allocator + Copy>(
+pub(crate) fn admit<'a, A: Memory>(
     alloc: A,
     client_nonce: &[u8],
     message: &'a [u8],
 ) -> Result<Granted<'a, A>, ScramError<A>>
     ensures ok { IfOk result (λ g. grant client_nonce.now message.now ≡ Ok (granted_of g)) }
-    ensures err { IfErr result (λ e. ((e ≡ OutOfMemory) × Admitted client_nonce.now message.now) ⊎ (grant client_nonce.now message.now ≡ Err (refusal e))) }
+    ensures err { IfErr result (λ e. ((e ≡ OutOfMemory) × A.Lacks × Admitted client_nonce.now message.now) ⊎ (grant client_nonce.now message.now ≡ Err (refusal e))) }
 {
     if !is_text(message) {
         return Err(ScramError::NotUtf8);

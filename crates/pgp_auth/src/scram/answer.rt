@@ -1,6 +1,6 @@
 //! The client's final text.
 
-ghost use Rattle.std.specs.Prelude.{◌≡◌, ◌+◌, ◌<◌, ◌≤◌, ◌^◌, ◌++◌, max, IfOk, IfErr};
+ghost use Rattle.std.specs.Prelude.{◌≡◌, ◌+◌, ◌<◌, ◌≤◌, ◌^◌, ◌++◌, max, IfOk, IfErr, OnErr};
 ghost use Rattle.pgp_auth.specs.Base64.{base64};
 ghost use Rattle.pgp_auth.specs.ScramText.{gs2_header, binding_data, client_first, first_bare, without_proof, with_proof, auth_message};
 ghost use Rattle.pgp_auth.specs.ScramAnswer.{client_proof, AnswersGranted, AnswersText, RefusesText};
@@ -16,8 +16,9 @@ use crate::scram::binding::ChannelBinding;
 use crate::scram::error::ScramError;
 use crate::scram::state::{Signed, Start};
 use base64::engine::general_purpose::STANDARD;
+use pgp_base::Memory;
 use sha2::{Digest, Sha256};
-use std::alloc::{AllocError, Allocator};
+use std::alloc::AllocError;
 
 // The characters of the base64 text of a proof.
 const PROOF_LEN: usize = 44;
@@ -39,81 +40,85 @@ pub(crate) fn proof_of(key: &[u8; 32], auth: &[u8], made: &mut u64) -> [u8; 32]
 }
 
 // The client's first text.
-pub(crate) fn client_first_text<A: Allocator + Copy>(
+pub(crate) fn client_first_text<A: Memory>(
     alloc: A,
     binding: &ChannelBinding<A>,
     nonce: &[u8],
 ) -> Result<Vec<u8, A>, AllocError>
-    ensures { IfOk result (λ v. v.items ≡ client_first binding.now nonce.now) }
+    ensures ok { IfOk result (λ v. v.items ≡ client_first binding.now nonce.now) }
+    ensures lacks { OnErr result A.Lacks }
 {
     let header = binding.gs2_header().as_bytes();
     let room = header.len().saturating_add(nonce.len()).saturating_add(5);
-    let mut text = Vec::with_capacity(alloc, room)?;
-    text.extend_from_slice(header)?;
-    text.extend_from_slice(b"n=,r=")?;
-    text.extend_from_slice(nonce)?;
+    let mut text = A::list_with_capacity(alloc, room)?;
+    A::extend(&mut text, header)?;
+    A::extend(&mut text, b"n=,r=")?;
+    A::extend(&mut text, nonce)?;
     Ok(text)
 }
 
 // The final text without its proof.
 #[tactic(auto, using(crate::proofs::HeaderText::encoded_apart))]
-fn final_front<A: Allocator + Copy>(
+fn final_front<A: Memory>(
     alloc: A,
     binding: &ChannelBinding<A>,
     nonce: &[u8],
 ) -> Result<Vec<u8, A>, AllocError>
-    ensures { IfOk result (λ v. v.items ≡ without_proof (gs2_header binding.now) (binding_data binding.now) nonce.now) }
+    ensures ok { IfOk result (λ v. v.items ≡ without_proof (gs2_header binding.now) (binding_data binding.now) nonce.now) }
+    ensures lacks { OnErr result A.Lacks }
 {
     let header = binding.gs2_header().as_bytes();
     let data = binding.data();
     let room = header.len().saturating_add(data.len()).saturating_mul(2);
     let room = room.saturating_add(nonce.len()).saturating_add(FIXED_LEN);
-    let mut text = String::with_capacity(alloc, room)?;
-    text.push_str("c=")?;
+    let mut text = A::text_with_capacity(alloc, room)?;
+    A::push_str(&mut text, "c=")?;
     // A header is a whole number of groups of three bytes, so that the two texts stand side by side.
-    STANDARD.encode_string(header, &mut text)?;
-    STANDARD.encode_string(data, &mut text)?;
+    A::push_base64(&mut text, header)?;
+    A::push_base64(&mut text, data)?;
     let mut text = text.into_bytes();
-    text.extend_from_slice(b",r=")?;
-    text.extend_from_slice(nonce)?;
+    A::extend(&mut text, b",r=")?;
+    A::extend(&mut text, nonce)?;
     Ok(text)
 }
 
 // The text that both sides sign.
-fn signed_text<A: Allocator + Copy>(
+fn signed_text<A: Memory>(
     alloc: A,
     client_nonce: &[u8],
     server_first: &[u8],
     front: &[u8],
 ) -> Result<Vec<u8, A>, AllocError>
-    ensures { IfOk result (λ v. v.items ≡ auth_message (first_bare client_nonce.now) server_first.now front.now) }
+    ensures ok { IfOk result (λ v. v.items ≡ auth_message (first_bare client_nonce.now) server_first.now front.now) }
+    ensures lacks { OnErr result A.Lacks }
 {
     let room = client_nonce.len().saturating_add(server_first.len());
     let room = room.saturating_add(front.len()).saturating_add(7);
-    let mut text = Vec::with_capacity(alloc, room)?;
-    text.extend_from_slice(b"n=,r=")?;
-    text.extend_from_slice(client_nonce)?;
-    text.extend_from_slice(b",")?;
-    text.extend_from_slice(server_first)?;
-    text.extend_from_slice(b",")?;
-    text.extend_from_slice(front)?;
+    let mut text = A::list_with_capacity(alloc, room)?;
+    A::extend(&mut text, b"n=,r=")?;
+    A::extend(&mut text, client_nonce)?;
+    A::extend(&mut text, b",")?;
+    A::extend(&mut text, server_first)?;
+    A::extend(&mut text, b",")?;
+    A::extend(&mut text, front)?;
     Ok(text)
 }
 
 // `front`, with the proof added.
-fn proved_text<A: Allocator>(front: Vec<u8, A>, proof: &[u8; 32]) -> Result<Vec<u8, A>, AllocError>
-    ensures { IfOk result (λ v. v.items ≡ with_proof front.items (base64 proof.now)) }
+fn proved_text<A: Memory>(front: Vec<u8, A>, proof: &[u8; 32]) -> Result<Vec<u8, A>, AllocError>
+    ensures ok { IfOk result (λ v. v.items ≡ with_proof front.items (base64 proof.now)) }
+    ensures lacks { OnErr result A.Lacks }
 {
     let mut text = front;
     let mut shown = [0; PROOF_LEN];
     STANDARD.encode_slice(proof, &mut shown).unwrap();
-    text.extend_from_slice(b",p=")?;
-    text.extend_from_slice(&shown)?;
+    A::extend(&mut text, b",p=")?;
+    A::extend(&mut text, &shown)?;
     Ok(text)
 }
 
 // The answer to what a server granted.
-fn answer_granted<A: Allocator + Copy>(
+fn answer_granted<A: Memory>(
     alloc: A,
     start: &Start<A>,
     message: &[u8],
@@ -122,6 +127,7 @@ fn answer_granted<A: Allocator + Copy>(
 ) -> Result<Signed<A>, AllocError>
     requires few { made.old < 2 ^ 61 }
     ensures ok { IfOk result (λ s. AnswersGranted (begun_of start.now) message.now (granted_of granted.now) (answered_of s) made.old made.new) }
+    ensures lacks { OnErr result A.Lacks }
     ensures grows { made.old ≤ made.new }
     ensures count { made.new ≤ made.old + (max granted.now.count 1 + 2) }
 {
@@ -139,7 +145,7 @@ fn answer_granted<A: Allocator + Copy>(
 
 // The answer to a server's first text.
 #[tactic(auto, using(crate::proofs::Grants::granted_few, crate::proofs::Grants::granted_admitted))]
-pub(crate) fn respond<A: Allocator + Copy>(
+pub(crate) fn respond<A: Memory>(
     alloc: A,
     start: &Start<A>,
     message: &[u8],
@@ -147,7 +153,7 @@ pub(crate) fn respond<A: Allocator + Copy>(
 ) -> Result<Signed<A>, ScramError<A>>
     requires few { made.old < 2 ^ 61 }
     ensures ok { IfOk result (λ s. AnswersText (begun_of start.now) message.now (answered_of s) made.old made.new) }
-    ensures err { IfErr result (λ e. RefusesText start.now.nonce.items message.now (refusal e) made.old made.new) }
+    ensures err { IfErr result (λ e. RefusesText A.Lacks start.now.nonce.items message.now (refusal e) made.old made.new) }
     ensures few { made.new ≤ made.old + 100002 }
 {
     let granted = admit(alloc, &start.nonce, message)?;

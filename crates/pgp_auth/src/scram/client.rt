@@ -16,6 +16,7 @@ use crate::scram::error::ScramError;
 use crate::scram::nonce::draw_nonce;
 use crate::scram::state::{Start, State};
 use crate::scram::verify::verify;
+use pgp_base::Memory;
 use rand_core::Rng;
 use std::alloc::{Allocator, Global};
 use std::marker::Model;
@@ -110,38 +111,6 @@ impl<A: Allocator + Copy> ScramSha256<A> {
         self.made
     }
 
-    /// Takes the server's first text, `r=` nonce `,s=` salt `,i=` count, and makes the client-final text, which
-    /// `message` then is. A refusal ends the exchange.
-    ///
-    /// # Errors
-    ///
-    /// The first of these. Places are byte places in the server's text.
-    ///
-    /// - `WrongState`: the server's first text was taken before, or the exchange is over.
-    /// - `NotUtf8`.
-    /// - `UnexpectedEnd`, `UnexpectedCharacter`: the text ends, or has another character, where one has to
-    ///   stand.
-    /// - `InvalidNumber`: the count has no digits, or is no number of 32 bits.
-    /// - `Trailing`: something follows the count, as an extension.
-    /// - `InvalidNonce`: the server's nonce doesn't begin with the client's.
-    /// - `TooManyIterations`: the count is over 100,000.
-    /// - `InvalidBase64`: the salt isn't base64 with padding.
-    /// - `OutOfMemory`: memory is refused for the salt, or for the texts behind it.
-    pub fn update(&mut self, message: &[u8]) -> Result<(), ScramError<A>>
-        ensures ok { OnOk result (Answers self.old message.now self.new) }
-        ensures err { IfErr result (λ e. UpdateRefused self.old message.now (refusal e) self.new) }
-    {
-        let start = match mem::replace(&mut self.state, State::Over) {
-            State::AwaitsFirst(start) => start,
-            State::AwaitsFinal(_) | State::Over => return Err(ScramError::WrongState),
-        };
-        let mut made = self.made;
-        let answer = respond(*start.nonce.allocator(), &start, message, &mut made);
-        self.made = made;
-        self.state = State::AwaitsFinal(answer?);
-        Ok(())
-    }
-
     /// Takes the server's final text, `v=` and the signature or `e=` and an error, and ends the exchange.
     ///
     /// The signature is compared in a time that doesn't depend on the bytes that differ.
@@ -171,6 +140,40 @@ impl<A: Allocator + Copy> ScramSha256<A> {
         let outcome = verify(*signed.auth.allocator(), &signed, message, &mut made);
         self.made = made;
         outcome
+    }
+}
+
+impl<A: Memory> ScramSha256<A> {
+    /// Takes the server's first text, `r=` nonce `,s=` salt `,i=` count, and makes the client-final text, which
+    /// `message` then is. A refusal ends the exchange.
+    ///
+    /// # Errors
+    ///
+    /// The first of these. Places are byte places in the server's text.
+    ///
+    /// - `WrongState`: the server's first text was taken before, or the exchange is over.
+    /// - `NotUtf8`.
+    /// - `UnexpectedEnd`, `UnexpectedCharacter`: the text ends, or has another character, where one has to
+    ///   stand.
+    /// - `InvalidNumber`: the count has no digits, or is no number of 32 bits.
+    /// - `Trailing`: something follows the count, as an extension.
+    /// - `InvalidNonce`: the server's nonce doesn't begin with the client's.
+    /// - `TooManyIterations`: the count is over 100,000.
+    /// - `InvalidBase64`: the salt isn't base64 with padding.
+    /// - `OutOfMemory`: memory is refused for the salt, or for the texts behind it.
+    pub fn update(&mut self, message: &[u8]) -> Result<(), ScramError<A>>
+        ensures ok { OnOk result (Answers self.old message.now self.new) }
+        ensures err { IfErr result (λ e. UpdateRefused A.Lacks self.old message.now (refusal e) self.new) }
+    {
+        let start = match mem::replace(&mut self.state, State::Over) {
+            State::AwaitsFirst(start) => start,
+            State::AwaitsFinal(_) | State::Over => return Err(ScramError::WrongState),
+        };
+        let mut made = self.made;
+        let answer = respond(*start.nonce.allocator(), &start, message, &mut made);
+        self.made = made;
+        self.state = State::AwaitsFinal(answer?);
+        Ok(())
     }
 }
 

@@ -2,6 +2,7 @@
 
 ghost use Rattle.std.specs.Prelude.{◌≡◌, ◌≤◌, length, Some, IfOk, IfErr, MatchResult};
 ghost use Rattle.std.specs.Str.{IsUtf8};
+ghost use Rattle.pgp_base.specs.Cause.{WantsMemory};
 ghost use Rattle.pgp_base.specs.Items.{CountedItems};
 ghost use Rattle.pgp_message.specs.Items.{RangeSpelled, RangeRefused, FieldSpelled, FieldRefused, TypeSpelled, TypeRefused};
 ghost use Rattle.pgp_message.specs.Reading.{string_of, counted_of};
@@ -12,8 +13,8 @@ use crate::row_index::RowIndex;
 use crate::storage::Storage;
 use crate::walk::{DataRowRanges, Fields, Parameters};
 use bytes::Bytes;
-use pgp_base::Error;
 use pgp_base::reading::string_at;
+use pgp_base::{Error, Memory};
 use std::alloc::Allocator;
 use std::marker::Model;
 use std::str;
@@ -119,26 +120,10 @@ impl<A: Allocator> DataRowBody<Bytes<A>> {
     ///
     /// The refusal of that walk: `UnexpectedEof` where a value is cut short, `NotDrained` where bytes stand behind
     /// the last value. `OutOfMemory` where the table's memory was refused.
-    pub fn index<T: Allocator>(&self, alloc: T) -> Result<RowIndex<'_, T>, Error>
-        ensures { Tabulates self.now result }
+    pub fn index<T: Memory>(&self, alloc: T) -> Result<RowIndex<'_, T>, Error>
+        ensures { Tabulates self.now T.Lacks result }
     {
         RowIndex::over(alloc, self.row.storage.as_slice(), self.row.len)
-    }
-
-    /// The same row over the same bytes.
-    ///
-    /// # Errors
-    ///
-    /// `OutOfMemory`.
-    pub fn clone(&self) -> Result<DataRowBody<Bytes<A>>, Error>
-        ensures ok { IfOk result (λ row. row ≡ self.now) }
-        ensures err { IfErr result (λ e. e ≡ Error.OutOfMemory) }
-    {
-        let storage = self.row.storage.clone()?;
-        let len = self.row.len;
-        Ok(DataRowBody {
-            row: CountedBytes { len, storage },
-        })
     }
 
     /// The same bytes, as they are shared.
@@ -146,6 +131,24 @@ impl<A: Allocator> DataRowBody<Bytes<A>> {
         ensures { result.now ≡ self.now.storage }
     {
         &self.row.storage
+    }
+}
+
+impl<A: Memory> DataRowBody<Bytes<A>> {
+    /// The same row over the same bytes.
+    ///
+    /// # Errors
+    ///
+    /// `OutOfMemory` where a growth was refused.
+    pub fn clone(&self) -> Result<DataRowBody<Bytes<A>>, Error>
+        ensures ok { IfOk result (λ row. row ≡ self.now) }
+        ensures err { IfErr result (WantsMemory A.Lacks) }
+    {
+        let storage = A::clone_shared(&self.row.storage)?;
+        let len = self.row.len;
+        Ok(DataRowBody {
+            row: CountedBytes { len, storage },
+        })
     }
 }
 
@@ -172,8 +175,8 @@ impl<'a> DataRowBody<&'a [u8]> {
     ///
     /// The refusal of that walk: `UnexpectedEof` where a value is cut short, `NotDrained` where bytes stand behind
     /// the last value. `OutOfMemory` where the table's memory was refused.
-    pub fn index<A: Allocator>(&self, alloc: A) -> Result<RowIndex<'a, A>, Error>
-        ensures { Tabulates self.now result }
+    pub fn index<A: Memory>(&self, alloc: A) -> Result<RowIndex<'a, A>, Error>
+        ensures { Tabulates self.now A.Lacks result }
     {
         RowIndex::over(alloc, self.row.storage, self.row.len)
     }

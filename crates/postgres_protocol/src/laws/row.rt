@@ -1,10 +1,11 @@
 //! The values of a row, by the calls of two crates.
 
 ghost use Rattle.std.specs.Prelude.{◌≡◌, IfOk, IfErr};
+ghost use Rattle.pgp_base.specs.Cause.{WantsMemory};
 ghost use Rattle.postgres_protocol.specs.RowValues.{AreInt4, RowRead};
 
 use bytes::Bytes;
-use pgp_base::Error;
+use pgp_base::{Error, Memory};
 use pgp_message::{DataRowBody, RowIndex};
 use pgp_types::int4_from_sql;
 use std::alloc::Allocator;
@@ -16,30 +17,28 @@ use std::alloc::Allocator;
 ///
 /// The refusal of the walk over the row's values: `UnexpectedEof` where one is cut short, `NotDrained` where
 /// bytes stand behind the last. `OutOfMemory` where the memory of the table or of the list was refused.
-pub fn row_int4<A: Allocator + Copy, R: Allocator + Copy>(
+pub fn row_int4<A: Memory, R: Allocator + Copy>(
     alloc: A,
     row: &DataRowBody<Bytes<R>>,
 ) -> Result<Vec<Option<Result<i32, Error>>, A>, Error>
-    ensures { RowRead (λ values. values.items) row.now result }
+    ensures { RowRead (λ values. values.items) row.now A.Lacks result }
 {
     let index = row.index(alloc)?;
     columns(alloc, &index)
 }
 
 /// Each column of the table as an int4.
-fn columns<A: Allocator + Copy>(
+fn columns<A: Memory>(
     alloc: A,
     index: &RowIndex<'_, A>,
 ) -> Result<Vec<Option<Result<i32, Error>>, A>, Error>
     ensures ok { IfOk result (λ values. AreInt4 index.now.buffer index.now.places values.items) }
-    ensures err { IfErr result (λ e. e ≡ Error.OutOfMemory) }
+    ensures err { IfErr result (WantsMemory A.Lacks) }
 {
     let mut values = Vec::new(alloc);
     'columns: while let Some(column) = index.value(values.len()) {
-        if values
-            .push(column.map(|bytes| int4_from_sql(bytes)))
-            .is_err()
-        {
+        let value = column.map(|bytes| int4_from_sql(bytes));
+        if A::push(&mut values, value).is_err() {
             return Err(Error::OutOfMemory);
         }
     }

@@ -5,7 +5,7 @@ use Rattle.pgp_auth.proofs.laws.exchange.Goals as goal
 pub returns-in_err-update-clause-memory : goal.returns-in_err-update-clause-memory
 returns-in_err-update-clause-memory g c =
     if_err_at c.from_residual.result _ _ c.from_residual.ensures.1
-    (update_memory _ _ c.args.server_first.now c.args.server_final.now _ c.requires c.in_err-update.ensures.err)
+    (update_memory _ _ _ c.args.server_first.now c.args.server_final.now _ c.requires c.in_err-update.ensures.err)
 
 pub returns-clause-memory : goal.returns-clause-memory
 returns-clause-memory g c =

@@ -6,7 +6,7 @@ use Rattle.pgp_auth.proofs.scram.verify.verify_shown.Goals as goal
 pub returns-in_err-bytes-2-clause-err : goal.returns-in_err-bytes-2-clause-err
 returns-in_err-bytes-2-clause-err g c =
     if_err_at c.from_residual-in_err-bytes-2.result _ _ c.from_residual-in_err-bytes-2.ensures.1
-    (long_not c.args.message.now c.in_ok-text.text.now _ c.in_err-bytes-2.field-0.0 c.args.made.now c.in_ok-text.ensures.ok (omega (arith, c.if-text-le-SHORT_LEN.false)) c.in_err-bytes-2.ensures.err)
+    (long_not _ c.args.message.now c.in_ok-text.text.now _ c.in_err-bytes-2.field-0.0 c.args.made.now c.in_ok-text.ensures.ok (omega (arith, c.if-text-le-SHORT_LEN.false)) c.in_err-bytes-2.ensures.err)
 
 pub returns-in_ok-bytes-clause-err : goal.returns-in_ok-bytes-clause-err
 returns-in_ok-bytes-clause-err g c =

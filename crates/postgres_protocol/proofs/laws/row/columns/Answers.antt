@@ -11,9 +11,9 @@ columns-preserved g c =
     let rs = c.columns.values.items in
     let v : Option (List ℕ) = option_map (λ value. value.now) c.in-Some.column in
     let at : Some v ≡ column table (length rs) = search rules in
-    let read : IsInt4 v c.map.result = search rules in
-    let grown : c.push.new.self.items ≡ rs ++ c.map.result ∷ [] = search rules in
-    subst (AreFirst table.buffer table.places) (sym grown) (value_read table rs v c.map.result c.columns.invariant at read)
+    let read : IsInt4 v c.map-value.result = search rules in
+    let grown : c.push.new.list.items ≡ rs ++ c.map-value.result ∷ [] = search rules in
+    subst (AreFirst table.buffer table.places) (sym grown) (value_read table rs v c.map-value.result c.columns.invariant at read)
 
 pub returns-clause-ok : goal.returns-clause-ok
 returns-clause-ok g c =

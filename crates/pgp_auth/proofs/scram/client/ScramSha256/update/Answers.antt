@@ -8,7 +8,7 @@ pub returns-in_err-answer-clause-err : goal.returns-in_err-answer-clause-err
 returns-in_err-answer-clause-err g c =
     let due = due_of _ _ _ c.self.view_is (ap state_of (sym c.in-AwaitsFirst.ensures.value)) in
     if_err_at c.from_residual.result _ _ c.from_residual.ensures.1
-    (update_refused _ _ c.args.message.now _ (begun_of c.in-AwaitsFirst.start) c.self.inside.made due (hmacs_of _ _ c.self.view_is) (over_of c.replace.new.dest c.in-AwaitsFirst.ensures.after) c.in_err-answer.ensures.err)
+    (update_refused _ _ _ c.args.message.now _ (begun_of c.in-AwaitsFirst.start) c.self.inside.made due (hmacs_of _ _ c.self.view_is) (over_of c.replace.new.dest c.in-AwaitsFirst.ensures.after) c.in_err-answer.ensures.err)
 
 pub returns-clause-ok : goal.returns-clause-ok
 returns-clause-ok g c =
