@@ -13,3 +13,4 @@ pub mod PartReading
 pub mod WalkReading
 pub mod CountedRest
 pub mod CountedWalk
+pub mod Ascii

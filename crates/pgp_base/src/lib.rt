@@ -9,15 +9,18 @@ pub mod laws;
 mod memory;
 mod number;
 pub mod reading;
+mod texts;
 mod walk;
 mod window;
 mod writing;
+mod zero;
 
 pub use buffer::Buffer;
 pub use counted::Counted;
 pub use error::{BindError, Error};
 pub use memory::Memory;
 pub use number::{IsNull, Lsn, Oid, i16_from_usize, i32_from_usize, u16_from_usize};
+pub use texts::text;
 pub use walk::FallibleIterator;
 pub use window::Window;
 pub use writing::{

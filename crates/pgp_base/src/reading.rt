@@ -5,8 +5,8 @@ ghost use Rattle.pgp_base.specs.WalkReading.{is_marked};
 ghost use Rattle.pgp_base.specs.PartReading.{Gives, Answers, byte_at, uint16_at, oid_at, int16_at, int32_at, string_at, text_at};
 
 use crate::error::Error;
-use memchr::memchr;
-use std::str;
+use crate::texts::text;
+use crate::zero::first_zero;
 
 /// Whether a byte 0, which ends a list, stands at the front.
 pub fn is_marked(bytes: &[u8]) -> bool
@@ -96,7 +96,7 @@ pub fn int32_at(bytes: &[u8]) -> Result<(i32, &[u8]), Error>
 pub fn string_at(bytes: &[u8]) -> Result<(&[u8], &[u8]), Error>
     ensures { Gives (λ x. (x.0.now, x.1.now)) result (string_at bytes.now) }
 {
-    match memchr(0, bytes) {
+    match first_zero(bytes) {
         Some(end) => {
             let (_, rest) = bytes.split_at(end + 1);
             Ok((&bytes[..end], rest))
@@ -116,7 +116,7 @@ pub fn text_at(bytes: &[u8]) -> Result<(&str, &[u8]), Error>
     ensures { Answers (λ x. (x.0.now, x.1.now)) result (text_at bytes.now) }
 {
     let (string, rest) = string_at(bytes)?;
-    match str::from_utf8(string) {
+    match text(string) {
         Ok(text) => Ok((text, rest)),
         Err(_) => Err(Error::NotUtf8),
     }

@@ -17,9 +17,8 @@ ghost use Rattle.pgp_types.specs.PartReading.{shown, key_at, entry_value_at, ent
 
 use crate::codec::MOST_ITEMS;
 use crate::part::{natural_at, nullable_at, sized_at};
-use pgp_base::{Buffer, Counted, Error, FallibleIterator, length_field, patch_u32, put_u32};
+use pgp_base::{Buffer, Counted, Error, FallibleIterator, length_field, patch_u32, put_u32, text};
 use std::marker::Model;
-use std::str;
 
 // The length of a null.
 const NULL: u32 = 0xffff_ffff;
@@ -137,7 +136,7 @@ fn key_at(bytes: &[u8]) -> Result<(&str, &[u8]), Error>
     ensures { Answers (λ x. (x.0.now, x.1.now)) result (key_at bytes.now) }
 {
     let (key, rest) = sized_at(bytes, Error::InvalidKeyLength)?;
-    match str::from_utf8(key) {
+    match text(key) {
         Ok(key) => Ok((key, rest)),
         Err(_) => Err(Error::NotUtf8),
     }
@@ -152,7 +151,7 @@ fn entry_value_at(bytes: &[u8]) -> Result<(Option<&str>, &[u8]), Error>
     let Some(value) = value else {
         return Ok((None, rest));
     };
-    match str::from_utf8(value) {
+    match text(value) {
         Ok(value) => Ok((Some(value), rest)),
         Err(_) => Err(Error::NotUtf8),
     }

@@ -8,7 +8,6 @@ ghost use Rattle.pgp_types.specs.Text.{text, label, ltree, lquery, ltxtquery};
 
 use crate::codec::{append, append_both};
 use pgp_base::{Buffer, Error};
-use std::str;
 
 // The versions of the label types' formats.
 const LTREE_VERSION: u8 = 1;
@@ -28,7 +27,7 @@ pub fn text_to_sql<B: Buffer>(v: &str, buf: &mut B) -> Result<(), Error>
 pub fn text_from_sql(buf: &[u8]) -> Result<&str, Error>
     ensures { ReadsBy (λ t. t.now) text buf.now result }
 {
-    str::from_utf8(buf).map_err(|_| Error::NotUtf8)
+    pgp_base::text(buf)
 }
 
 // Appends a text behind the version of its format.

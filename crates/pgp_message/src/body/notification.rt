@@ -6,11 +6,10 @@ ghost use Rattle.pgp_message.specs.Reading.{notification_of};
 
 use crate::storage::Storage;
 use bytes::Bytes;
-use pgp_base::Error;
 use pgp_base::reading::{int32_at, string_at};
+use pgp_base::{Error, text};
 use std::alloc::Allocator;
 use std::marker::Model;
-use std::str;
 
 /// A notification from another session. The texts stand in one run of bytes, which is cut when they
 /// are asked for.
@@ -76,7 +75,7 @@ impl<A: Allocator> NotificationResponseBody<Bytes<A>> {
         ensures { MatchResult result (λ text. text.now ≡ self.now.channel) (λ e. (e ≡ Error.NotUtf8) × ¬ IsUtf8 self.now.channel) }
     {
         let payload = self.payload.as_slice();
-        str::from_utf8(&payload[4..4 + self.channel_len]).map_err(|_| Error::NotUtf8)
+        text(&payload[4..4 + self.channel_len])
     }
 
     /// What was said.
@@ -89,7 +88,7 @@ impl<A: Allocator> NotificationResponseBody<Bytes<A>> {
     {
         let payload = self.payload.as_slice();
         let start = self.channel_len + 5;
-        str::from_utf8(&payload[start..]).map_err(|_| Error::NotUtf8)
+        text(&payload[start..])
     }
 }
 
@@ -102,7 +101,7 @@ impl<'a> NotificationResponseBody<&'a [u8]> {
     pub fn channel(&self) -> Result<&'a str, Error>
         ensures { MatchResult result (λ text. text.now ≡ self.now.channel) (λ e. (e ≡ Error.NotUtf8) × ¬ IsUtf8 self.now.channel) }
     {
-        str::from_utf8(&self.payload[4..4 + self.channel_len]).map_err(|_| Error::NotUtf8)
+        text(&self.payload[4..4 + self.channel_len])
     }
 
     /// What was said.
@@ -114,6 +113,6 @@ impl<'a> NotificationResponseBody<&'a [u8]> {
         ensures { MatchResult result (λ text. text.now ≡ self.now.message) (λ e. (e ≡ Error.NotUtf8) × ¬ IsUtf8 self.now.message) }
     {
         let from = self.channel_len + 5;
-        str::from_utf8(&self.payload[from..]).map_err(|_| Error::NotUtf8)
+        text(&self.payload[from..])
     }
 }

@@ -14,10 +14,9 @@ use crate::storage::Storage;
 use crate::walk::{DataRowRanges, Fields, Parameters};
 use bytes::Bytes;
 use pgp_base::reading::string_at;
-use pgp_base::{Error, Memory};
+use pgp_base::{Error, Memory, text};
 use std::alloc::Allocator;
 use std::marker::Model;
-use std::str;
 
 /// A command is complete.
 #[derive(Drop)]
@@ -57,7 +56,7 @@ impl<A: Allocator> CommandCompleteBody<Bytes<A>> {
     pub fn tag(&self) -> Result<&str, Error>
         ensures { MatchResult result (λ text. text.now ≡ self.now) (λ e. (e ≡ Error.NotUtf8) × ¬ IsUtf8 self.now) }
     {
-        str::from_utf8(self.tag.as_slice()).map_err(|_| Error::NotUtf8)
+        text(self.tag.as_slice())
     }
 }
 
@@ -70,7 +69,7 @@ impl<'a> CommandCompleteBody<&'a [u8]> {
     pub fn tag(&self) -> Result<&'a str, Error>
         ensures { MatchResult result (λ text. text.now ≡ self.now) (λ e. (e ≡ Error.NotUtf8) × ¬ IsUtf8 self.now) }
     {
-        str::from_utf8(self.tag).map_err(|_| Error::NotUtf8)
+        text(self.tag)
     }
 }
 

@@ -6,11 +6,10 @@ ghost use Rattle.pgp_message.specs.Reading.{byte_of, key_data_of, setting_of};
 
 use crate::storage::Storage;
 use bytes::Bytes;
-use pgp_base::Error;
 use pgp_base::reading::{byte_at, int32_at, string_at};
+use pgp_base::{Error, text};
 use std::alloc::Allocator;
 use std::marker::Model;
-use std::str;
 
 /// What a later request to cancel has to show.
 #[derive(Drop)]
@@ -144,7 +143,7 @@ impl<A: Allocator> ParameterStatusBody<Bytes<A>> {
     pub fn name(&self) -> Result<&str, Error>
         ensures { MatchResult result (λ text. text.now ≡ self.now.name) (λ e. (e ≡ Error.NotUtf8) × ¬ IsUtf8 self.now.name) }
     {
-        str::from_utf8(&self.texts.as_slice()[..self.name_len]).map_err(|_| Error::NotUtf8)
+        text(&self.texts.as_slice()[..self.name_len])
     }
 
     /// The parameter's value.
@@ -157,7 +156,7 @@ impl<A: Allocator> ParameterStatusBody<Bytes<A>> {
     {
         let texts = self.texts.as_slice();
         let start = self.name_len + 1;
-        str::from_utf8(&texts[start..]).map_err(|_| Error::NotUtf8)
+        text(&texts[start..])
     }
 }
 
@@ -170,7 +169,7 @@ impl<'a> ParameterStatusBody<&'a [u8]> {
     pub fn name(&self) -> Result<&'a str, Error>
         ensures { MatchResult result (λ text. text.now ≡ self.now.name) (λ e. (e ≡ Error.NotUtf8) × ¬ IsUtf8 self.now.name) }
     {
-        str::from_utf8(&self.texts[..self.name_len]).map_err(|_| Error::NotUtf8)
+        text(&self.texts[..self.name_len])
     }
 
     /// The parameter's value.
@@ -182,6 +181,6 @@ impl<'a> ParameterStatusBody<&'a [u8]> {
         ensures { MatchResult result (λ text. text.now ≡ self.now.value) (λ e. (e ≡ Error.NotUtf8) × ¬ IsUtf8 self.now.value) }
     {
         let from = self.name_len + 1;
-        str::from_utf8(&self.texts[from..]).map_err(|_| Error::NotUtf8)
+        text(&self.texts[from..])
     }
 }

@@ -8,9 +8,8 @@ ghost use Rattle.pgp_message.specs.Items.{ErrorPart, ErrorFieldSpelled, ErrorFie
 ghost use Rattle.pgp_message.specs.ItemReading.{error_field_at};
 
 use pgp_base::reading::{is_marked, string_at};
-use pgp_base::{Error, FallibleIterator};
+use pgp_base::{Error, FallibleIterator, text};
 use std::marker::Model;
-use std::str;
 
 /// A field of an error or a notice.
 #[derive(Drop)]
@@ -50,7 +49,7 @@ impl<'a> ErrorField<'a> {
     pub fn value(&self) -> Result<&'a str, Error>
         ensures { MatchResult result (λ text. text.now ≡ self.now.value) (λ e. (e ≡ Error.NotUtf8) × ¬ IsUtf8 self.now.value) }
     {
-        str::from_utf8(self.value).map_err(|_| Error::NotUtf8)
+        text(self.value)
     }
 }
 

@@ -1,0 +1,75 @@
+//! The byte 0 that ends a string, which mostly is near.
+
+ghost use Rattle.std.specs.Prelude.{◌+◌, ◌≤◌, length};
+ghost use Rattle.memchr.specs.Find.{IsFirst, IsFirstByte, Passes, is_byte};
+
+use memchr::memchr;
+use std::simd::prelude::*;
+
+// The first 0 among the 32 bytes at `at`.
+#[inline(always)]
+fn zero_in_32(bytes: &[u8], at: usize) -> Option<usize>
+    requires { at + 32 ≤ length bytes.now }
+    ensures { IsFirst (Passes (is_byte 0) bytes.now) at (at + 32) result }
+{
+    let lanes = u8x32::from_slice(&bytes[at..]);
+    let zeros = lanes.simd_eq(u8x32::splat(0)).to_bitmask();
+    if zeros == 0 {
+        return None;
+    }
+    Some(at + zeros.trailing_zeros() as usize)
+}
+
+// The first 0 among the 16 bytes at `at`.
+#[inline(always)]
+fn zero_in_16(bytes: &[u8], at: usize) -> Option<usize>
+    requires { at + 16 ≤ length bytes.now }
+    ensures { IsFirst (Passes (is_byte 0) bytes.now) at (at + 16) result }
+{
+    let lanes = u8x16::from_slice(&bytes[at..]);
+    let zeros = lanes.simd_eq(u8x16::splat(0)).to_bitmask();
+    if zeros == 0 {
+        return None;
+    }
+    Some(at + zeros.trailing_zeros() as usize)
+}
+
+// The first 0 among the 8 bytes at `at`.
+#[inline(always)]
+fn zero_in_8(bytes: &[u8], at: usize) -> Option<usize>
+    requires { at + 8 ≤ length bytes.now }
+    ensures { IsFirst (Passes (is_byte 0) bytes.now) at (at + 8) result }
+{
+    let lanes = u8x8::from_slice(&bytes[at..]);
+    let zeros = lanes.simd_eq(u8x8::splat(0)).to_bitmask();
+    if zeros == 0 {
+        return None;
+    }
+    Some(at + zeros.trailing_zeros() as usize)
+}
+
+// The place of the first 0. Where fewer than 32 bytes are left, two looks that may overlap cover them.
+#[inline]
+pub(crate) fn first_zero(bytes: &[u8]) -> Option<usize>
+    ensures { IsFirstByte (is_byte 0) bytes.now result }
+{
+    let len = bytes.len();
+    if 32 <= len {
+        match zero_in_32(bytes, 0) {
+            Some(at) => Some(at),
+            None => memchr(0, bytes),
+        }
+    } else if 16 <= len {
+        match zero_in_16(bytes, 0) {
+            Some(at) => Some(at),
+            None => zero_in_16(bytes, len - 16),
+        }
+    } else if 8 <= len {
+        match zero_in_8(bytes, 0) {
+            Some(at) => Some(at),
+            None => zero_in_8(bytes, len - 8),
+        }
+    } else {
+        memchr(0, bytes)
+    }
+}
