@@ -16,3 +16,4 @@ pub mod Spellings
 pub mod CountedWalks
 pub mod AsciiLemmas
 pub mod ZeroLemmas
+pub mod Needs

@@ -1,14 +1,18 @@
 //! What owned lists, texts and shared bytes take their memory from.
 
-ghost use Rattle.std.specs.Prelude.{◌≡◌, ◌+◌, ◌<◌, ◌≤◌, ◌∷◌, ◌++◌, [], length, is_ok, if◌then◌else◌, string_bytes, vec_len, vec_capacity, Ok, IsOk, IfOk, IfErr, OnErr, OnOk};
+ghost use Rattle.std.specs.Prelude.{◌≡◌, ◌+◌, ◌<◌, ◌≤◌, ◌∷◌, ◌++◌, [], length, take, drop, is_ok, if◌then◌else◌, string_bytes, vec_len, vec_capacity, Ok, IsOk, IfOk, IfErr, OnErr, OnOk};
 ghost use Rattle.std.specs.Char.{encode_utf8};
+ghost use Rattle.std.specs.Fmt.{AppendsText};
+ghost use Rattle.std.specs.List.{slice_range};
 ghost use Rattle.base64.specs.Engines.{standard};
 ghost use Rattle.base64.specs.GeneralPurpose.{encode_of, decode_of, IsDecodeFailure};
+ghost use Rattle.hex.specs.Hex.{encode_lower};
 
 use base64::DecodeAllocError;
 use base64::engine::general_purpose::STANDARD;
 use bytes::{Buf, BufMut, Bytes, BytesMut};
 use std::alloc::{AllocError, AllocFailed, Allocator};
+use std::fmt::Display;
 use std::mem;
 
 /// An allocator, any of std's, that tells of its refusals: a call here does what the call of std does, and where it
@@ -73,6 +77,25 @@ pub trait Memory: Allocator + Copy {
         ensures succeeds { vec_len list.old + length more.now ≤ vec_capacity list.old → IsOk result }
         ensures lacks { OnErr result Lacks };
 
+    /// A list of so many bytes of this value, as `vec!` makes it.
+    ///
+    /// # Errors
+    ///
+    /// `AllocError` where there is no memory for them.
+    fn list_filled(self, byte: u8, len: usize) -> Result<Vec<u8, Self>, AllocError>
+        ensures len { IfOk result (λ v. vec_len v ≡ len) }
+        ensures lacks { OnErr result Lacks };
+
+    /// Makes a list so many bytes long: it is cut, or this value follows, as `Vec::resize` does.
+    ///
+    /// # Errors
+    ///
+    /// `AllocError` where there is no memory for them.
+    fn resize(list: &mut Vec<u8, Self>, len: usize, byte: u8) -> Result<(), AllocError>
+        ensures len { OnOk result (vec_len list.new ≡ len) }
+        ensures err { OnErr result (list.new.items ≡ list.old.items) }
+        ensures lacks { OnErr result Lacks };
+
     /// An empty text with room for so many bytes, as `String::with_capacity` makes it.
     ///
     /// # Errors
@@ -107,6 +130,24 @@ pub trait Memory: Allocator + Copy {
     /// `AllocError` where there is no memory for it.
     fn push_char(text: &mut String<Self>, more: char) -> Result<(), AllocError>
         ensures bytes { string_bytes text.new ≡ (if is_ok result then string_bytes text.old ++ encode_utf8 more else string_bytes text.old) }
+        ensures lacks { OnErr result Lacks };
+
+    /// Appends what the value shows, as `write!` does.
+    ///
+    /// # Errors
+    ///
+    /// `AllocError` where there is no memory for it.
+    fn push_shown<D: Display + Drop>(text: &mut String<Self>, value: D) -> Result<(), AllocError>
+        ensures bytes { OnOk result (AppendsText (string_bytes text.old) (string_bytes text.new) (D.output value)) }
+        ensures lacks { OnErr result Lacks };
+
+    /// The hex digits of these bytes, as `encode` of hex makes them.
+    ///
+    /// # Errors
+    ///
+    /// `AllocError` where there is no memory for them.
+    fn hex_of(self, bytes: &[u8]) -> Result<String<Self>, AllocError>
+        ensures ok { IfOk result (λ text. string_bytes text ≡ encode_lower bytes.now) }
         ensures lacks { OnErr result Lacks };
 
     /// Appends the base64 text of these bytes, as `encode_string` of base64's `STANDARD` does.
@@ -156,6 +197,33 @@ pub trait Memory: Allocator + Copy {
     /// `AllocError` where there is no memory for it.
     fn clone_shared(bytes: &Bytes<Self>) -> Result<Bytes<Self>, AllocError>
         ensures ok { IfOk result (λ b. b ≡ bytes.now) }
+        ensures lacks { OnErr result Lacks };
+
+    /// One more owner of the bytes from `start` to `end`, as `Bytes::slice` makes it.
+    ///
+    /// # Errors
+    ///
+    /// `AllocError` where there is no memory for it.
+    fn slice_shared(
+        bytes: &Bytes<Self>,
+        start: usize,
+        end: usize,
+    ) -> Result<Bytes<Self>, AllocError>
+        requires order { start ≤ end }
+        requires within { end ≤ length bytes.now }
+        ensures ok { IfOk result (λ b. b ≡ slice_range bytes.now start end) }
+        ensures lacks { OnErr result Lacks };
+
+    /// Takes the first bytes off a buffer, to be shared, as `BytesMut::freeze_to` does.
+    ///
+    /// # Errors
+    ///
+    /// `AllocError` where there is no memory for their owners. The buffer stays as it is.
+    fn freeze_to(buf: &mut BytesMut<Self>, at: usize) -> Result<Bytes<Self>, AllocError>
+        requires { at ≤ length buf.old.items }
+        ensures front { IfOk result (λ b. b ≡ take at buf.old.items) }
+        ensures rest { OnOk result (buf.new.items ≡ drop at buf.old.items) }
+        ensures err { OnErr result (buf.new ≡ buf.old) }
         ensures lacks { OnErr result Lacks };
 
     /// Makes room in a buffer for so many bytes more, as `BytesMut::reserve` does.
@@ -217,6 +285,14 @@ impl<A: Allocator + Copy> Memory for A {
         list.extend_from_slice(more)
     }
 
+    fn list_filled(self, byte: u8, len: usize) -> Result<Vec<u8, A>, AllocError> {
+        Vec::from_elem(self, byte, len)
+    }
+
+    fn resize(list: &mut Vec<u8, A>, len: usize, byte: u8) -> Result<(), AllocError> {
+        list.resize(len, byte)
+    }
+
     fn text_with_capacity(self, capacity: usize) -> Result<String<A>, AllocError> {
         String::with_capacity(self, capacity)
     }
@@ -231,6 +307,14 @@ impl<A: Allocator + Copy> Memory for A {
 
     fn push_char(text: &mut String<A>, more: char) -> Result<(), AllocError> {
         text.push(more)
+    }
+
+    fn push_shown<D: Display + Drop>(text: &mut String<A>, value: D) -> Result<(), AllocError> {
+        text.write_fmt(value)
+    }
+
+    fn hex_of(self, bytes: &[u8]) -> Result<String<A>, AllocError> {
+        hex::encode(self, bytes)
     }
 
     fn push_base64(text: &mut String<A>, bytes: &[u8]) -> Result<(), AllocError> {
@@ -258,6 +342,14 @@ impl<A: Allocator + Copy> Memory for A {
 
     fn clone_shared(bytes: &Bytes<A>) -> Result<Bytes<A>, AllocError> {
         bytes.clone()
+    }
+
+    fn slice_shared(bytes: &Bytes<A>, start: usize, end: usize) -> Result<Bytes<A>, AllocError> {
+        bytes.slice(start..end)
+    }
+
+    fn freeze_to(buf: &mut BytesMut<A>, at: usize) -> Result<Bytes<A>, AllocError> {
+        buf.freeze_to(at)
     }
 
     fn reserve_bytes(buf: &mut BytesMut<A>, additional: usize) -> Result<(), AllocError> {

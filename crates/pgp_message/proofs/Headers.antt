@@ -78,12 +78,12 @@ pub fits_itself : (bytes : List ℕ) (n : ℕ) → Fits (record { header = heade
 fits_itself bytes n = itself (header_of bytes)
 
 -- what is remembered fits what a step leaves
-pub fits_after : (old new : List ℕ) (memory : Memory) (answer : Result (Option Message) Error) → Step old answer new → Fits (memory_after memory old answer) new
-fits_after old new memory (Ok None) step = subst (λ (l : List ℕ). IfSome (header_of old) (λ header. header_of l ≡ Some header)) (sym step.1) (itself (header_of old))
-fits_after old new memory (Ok (Some m)) step = tt
-fits_after old new memory (Err errors.InvalidLength) step = subst (λ (l : List ℕ). IfSome (header_of old) (λ header. header_of l ≡ Some header)) (sym step.1) (itself (header_of old))
-fits_after old new memory (Err errors.OutOfMemory) step = subst (λ (l : List ℕ). IfSome (header_of old) (λ header. header_of l ≡ Some header)) (sym step.1) (itself (header_of old))
-fits_after old new memory (Err e) step = tt
+pub fits_after : (lacks : Type 0) (old new : List ℕ) (memory : Memory) (answer : Result (Option Message) Error) → Step lacks old answer new → Fits (memory_after memory old answer) new
+fits_after lacks old new memory (Ok None) step = subst (λ (l : List ℕ). IfSome (header_of old) (λ header. header_of l ≡ Some header)) (sym step.1) (itself (header_of old))
+fits_after lacks old new memory (Ok (Some m)) step = tt
+fits_after lacks old new memory (Err errors.InvalidLength) step = subst (λ (l : List ℕ). IfSome (header_of old) (λ header. header_of l ≡ Some header)) (sym step.1) (itself (header_of old))
+fits_after lacks old new memory (Err errors.OutOfMemory) step = subst (λ (l : List ℕ). IfSome (header_of old) (λ header. header_of l ≡ Some header)) (sym step.2) (itself (header_of old))
+fits_after lacks old new memory (Err e) step = tt
 
 -- bytes that come behind it change no header
 pub header_stays : (bytes more : List ℕ) (header : ℕ × ℕ) → header_of bytes ≡ Some header → header_of (bytes ++ more) ≡ Some header

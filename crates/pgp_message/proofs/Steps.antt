@@ -1,13 +1,13 @@
 -- A step along a stream: a frame that was cut, and what its body says.
 use Rattle.std.proofs.Common.{◌≡◌, ℕ, ◌-◌, ◌≤◌, List, ◌++◌, take, drop, Option, Some, Result, Ok, Err, refl, sym, ap, ◌∙◌, subst}
-use Rattle.std.specs.Prelude.{◌≢◌, MatchResult, IsOkAnd, IfErr}
+use Rattle.std.specs.Prelude.{◌≢◌, MatchResult, IsOkAnd}
 use Rattle.bytes.proofs.Ranges.{drop-take_less}
 use Rattle.pgp_base.specs.declared.error.Error.{Error}
 use Rattle.pgp_base.specs.declared.error.Error.TheVariants as errors
 use Rattle.pgp_message.specs.declared.message as code
-use Rattle.pgp_message.specs.BackendMessage.{Message, Body}
+use Rattle.pgp_message.specs.BackendMessage.{Message}
 use Rattle.pgp_message.specs.FrontReading.{Front, IsFront, front_frame}
-use Rattle.pgp_message.specs.Stream.{Frame, frame_bytes, IsFrame, BeginsWithFrame, TakesFrame, Step}
+use Rattle.pgp_message.specs.Stream.{Frame, frame_bytes, IsFrame, BeginsWithKept, KeepsBytes, TakesFrame, Step}
 use Rattle.pgp_message.specs.Reading.{body_of}
 use Rattle.pgp_message.specs.Views.{view, seen, parsed}
 use Rattle.pgp_message.proofs.Bodies.{body_is}
@@ -16,56 +16,39 @@ pub takes : (old new : List ℕ) (f : Frame) → old ≡ frame_bytes f ++ new �
 takes old new f whole fits = record { first = f; whole = whole; fits = fits; body = body_is f.tag f.payload fits.payload }
 
 -- a refused body is a refused step
-refused : (old new : List ℕ) (e : Error) → TakesFrame old (Err e) new → Step old (Err e) new
-refused old new errors.InvalidLength t = absurd t.body
-refused old new errors.OutOfMemory t = absurd t.body
-refused old new e t = t
+refused : (lacks : Type 0) (old new : List ℕ) (e : Error) → TakesFrame old (Err e) new → Step lacks old (Err e) new
+refused lacks old new errors.InvalidLength t = absurd t.body
+refused lacks old new errors.OutOfMemory t = absurd t.body
+refused lacks old new e t = t
 
-found_here : {A : Type 0} (old new : List ℕ) (m : code.Message.Message A) (o : Option (code.Message.Message A)) → TakesFrame old (Ok (view m)) new → o ≡ Some m → Step old (parsed (Ok o)) new
-found_here {A} old new m o t e = subst (λ (x : Option (code.Message.Message A)). Step old (parsed (Ok x)) new) (sym e) t
+found_here : {A : Type 0} (lacks : Type 0) (old new : List ℕ) (m : code.Message.Message A) (o : Option (code.Message.Message A)) → TakesFrame old (Ok (view m)) new → o ≡ Some m → Step lacks old (parsed (Ok o)) new
+found_here {A} lacks old new m o t e = subst (λ (x : Option (code.Message.Message A)). Step lacks old (parsed (Ok x)) new) (sym e) t
 
 -- a body's answer as the answer of a step
-answers : {A : Type 0} (old new : List ℕ) (r : Result (code.Message.Message A) Error) (out : Result (Option (code.Message.Message A)) Error) → TakesFrame old (seen r) new
-    → MatchResult r (λ m. IsOkAnd out (λ o. o ≡ Some m)) (λ e. out ≡ Err e) → Step old (parsed out) new
-answers old new (Ok m) (Ok o) t e = found_here old new m o t e
-answers old new (Ok m) (Err d) t e = absurd e
-answers {A} old new (Err e) out t is = subst (λ (x : Result (Option (code.Message.Message A)) Error). Step old (parsed x) new) (sym is) (refused old new e t)
+answers : {A : Type 0} (lacks : Type 0) (old new : List ℕ) (r : Result (code.Message.Message A) Error) (out : Result (Option (code.Message.Message A)) Error) → TakesFrame old (seen r) new
+    → MatchResult r (λ m. IsOkAnd out (λ o. o ≡ Some m)) (λ e. out ≡ Err e) → Step lacks old (parsed out) new
+answers lacks old new (Ok m) (Ok o) t e = found_here lacks old new m o t e
+answers lacks old new (Ok m) (Err d) t e = absurd e
+answers {A} lacks old new (Err e) out t is = subst (λ (x : Result (Option (code.Message.Message A)) Error). Step lacks old (parsed x) new) (sym is) (refused lacks old new e t)
 
 -- a refusal that isn't of the whole stream is that of a frame
-pub taken_by : (old new : List ℕ) (e : Error) → e ≢ errors.OutOfMemory → e ≢ errors.InvalidLength → Step old (Err e) new → TakesFrame old (Err e) new
-taken_by old new errors.OutOfMemory p q step = absurd (p refl)
-taken_by old new errors.InvalidLength p q step = absurd (q refl)
-taken_by old new e p q step = step
+pub taken_by : (lacks : Type 0) (old new : List ℕ) (e : Error) → e ≢ errors.OutOfMemory → e ≢ errors.InvalidLength → Step lacks old (Err e) new → TakesFrame old (Err e) new
+taken_by lacks old new errors.OutOfMemory p q step = absurd (p refl)
+taken_by lacks old new errors.InvalidLength p q step = absurd (q refl)
+taken_by lacks old new e p q step = step
 
 -- the front that was found is removed
-pub steps : {A : Type 0} (old new : List ℕ) (f : Front) (r : Result (code.Message.Message A) Error) (out : Result (Option (code.Message.Message A)) Error)
+pub steps : {A : Type 0} (lacks : Type 0) (old new : List ℕ) (f : Front) (r : Result (code.Message.Message A) Error) (out : Result (Option (code.Message.Message A)) Error)
     → IsFront f old → new ≡ drop f.total old → seen r ≡ body_of f.tag (drop 5 (take f.total old))
-    → MatchResult r (λ m. IsOkAnd out (λ o. o ≡ Some m)) (λ e. out ≡ Err e) → Step old (parsed out) new
-steps {A} old new f r out front rest read is =
+    → MatchResult r (λ m. IsOkAnd out (λ o. o ≡ Some m)) (λ e. out ≡ Err e) → Step lacks old (parsed out) new
+steps {A} lacks old new f r out front rest read is =
     let taken : TakesFrame old (seen r) (drop f.total old) = subst (λ (x : Result Message Error). TakesFrame old x (drop f.total old)) (sym read) (takes old (drop f.total old) (front_frame f old) front.whole front.fits) in
-    rw rest (answers old (drop f.total old) r out taken is)
+    rw rest (answers lacks old (drop f.total old) r out taken is)
 
--- a whole frame stands there
-pub begins : (old : List ℕ) (f : Front) → IsFront f old → BeginsWithFrame old
-begins old f front = record { first = front_frame f old; rest = drop f.total old; whole = front.whole; fits = front.fits }
+-- a whole frame stands there, whose message keeps bytes of it
+pub begins : (old : List ℕ) (f : Front) → IsFront f old → KeepsBytes f.tag (drop 5 (take f.total old)) → BeginsWithKept old
+begins old f front keeps = record { first = front_frame f old; rest = drop f.total old; whole = front.whole; fits = front.fits; keeps = keeps }
 
 -- what stands behind the header, as it is sliced
 pub payload_of_front : (bytes old : List ℕ) (t : ℕ) → 5 ≤ t → bytes ≡ old → take (t - 5) (drop 5 bytes) ≡ drop 5 (take t old)
 payload_of_front bytes old t least same = ap (λ l. take (t - 5) (drop 5 l)) same ∙ sym (drop-take_less old 5 t least)
-
--- no body is want of memory
-body_wants_none : {A : Type 0} (tag : ℕ) (payload : List ℕ) (r : Result (code.Message.Message A) Error) (out : Result (Option (code.Message.Message A)) Error)
-    → Body tag payload (seen r) → MatchResult r (λ m. IsOkAnd out (λ o. o ≡ Some m)) (λ e. out ≡ Err e) → IfErr out (λ e. e ≢ errors.OutOfMemory)
-body_wants_none tag payload (Ok m) (Ok o) body is = tt
-body_wants_none tag payload (Ok m) (Err d) body is = absurd is
-body_wants_none {A} tag payload (Err e) out body is =
-    subst (λ (x : Result (Option (code.Message.Message A)) Error). IfErr x (λ d. d ≢ errors.OutOfMemory)) (sym is)
-    (λ same. subst (λ (d : Error). Body tag payload (Err d)) same body)
-
--- what stands at the front is read without memory
-pub wants_no_memory : {A : Type 0} (old : List ℕ) (f : Front) (r : Result (code.Message.Message A) Error) (out : Result (Option (code.Message.Message A)) Error)
-    → IsFront f old → seen r ≡ body_of f.tag (drop 5 (take f.total old))
-    → MatchResult r (λ m. IsOkAnd out (λ o. o ≡ Some m)) (λ e. out ≡ Err e) → IfErr out (λ e. e ≢ errors.OutOfMemory)
-wants_no_memory old f r out front read is =
-    let frame = front_frame f old in
-    body_wants_none frame.tag frame.payload r out (subst (Body frame.tag frame.payload) (sym read) (body_is frame.tag frame.payload front.fits.payload)) is

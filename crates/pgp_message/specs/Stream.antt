@@ -1,7 +1,8 @@
 -- The stream of a server: a relation between its bytes, the results of its frames, and what is left.
 -- PostgreSQL manual, "Message Flow" and "Messaging Overview".
-use Rattle.std.specs.Prelude.{◌≡◌, ℕ, ◌+◌, ◌<◌, ◌≤◌, ◌^◌, Bool, true, false, List, [], ◌∷◌, ◌++◌, length, Option, Some, None, Result, Ok, Err, ◌⊎◌}
-use Rattle.std.specs.List.{flat_map, AllByRecursion}
+use Rattle.std.specs.Prelude.{◌≡◌, ℕ, ◌+◌, ◌<◌, ◌≤◌, ◌^◌, Bool, true, false, List, [], ◌∷◌, ◌++◌, length, Option, Some, None, Result, Ok, Err, ◌⊎◌, ◌==◌}
+use Rattle.std.specs.List.{flat_map, list_any, AllByRecursion}
+use Rattle.pgp_base.specs.PartReading.{oid_at}
 use Rattle.pgp_base.specs.Wire.{frame, uint32, IsBytes}
 use Rattle.pgp_base.specs.declared.error.Error.{Error}
 use Rattle.pgp_base.specs.declared.error.Error.TheVariants as errors
@@ -81,10 +82,31 @@ pub record BeginsWithFrame (bytes : List ℕ) : Type 0 where
   pub whole : bytes ≡ frame_bytes first ++ rest
   pub fits : IsFrame first
 
--- One step along a stream.
-abbrev pub Step : List ℕ → Result (Option Message) Error → List ℕ → Type 0
-Step old (Ok None) new = IsPartial old × (new ≡ old)
-Step old (Ok (Some m)) new = TakesFrame old (Ok m) new
-Step old (Err errors.InvalidLength) new = IsLengthFault old × (new ≡ old)
-Step old (Err errors.OutOfMemory) new = BeginsWithFrame old × (new ≡ old)
-Step old (Err e) new = TakesFrame old (Err e) new
+-- The tags of messages that keep bytes of their frames: those with texts, lists or data.
+abbrev pub keeping_tags : List ℕ
+keeping_tags = 65 ∷ 67 ∷ 68 ∷ 69 ∷ 71 ∷ 72 ∷ 78 ∷ 83 ∷ 84 ∷ 100 ∷ 116 ∷ []
+
+-- And the codes of authentication requests that do: those with the bytes of an exchange, or its mechanisms.
+abbrev pub keeping_codes : List ℕ
+keeping_codes = 8 ∷ 10 ∷ 11 ∷ 12 ∷ []
+
+-- A message of this tag keeps bytes of its frame. Of an authentication request (82, `R`) the code tells it.
+abbrev pub KeepsBytes : ℕ → List ℕ → Type 0
+KeepsBytes tag payload = (list_any (λ t. t == tag) keeping_tags ≡ true)
+    ⊎ ((tag ≡ 82) × (code : ℕ) × (rest : List ℕ) × (oid_at payload ≡ Some (code, rest)) × (list_any (λ c. c == code) keeping_codes ≡ true))
+
+-- the bytes begin with the whole frame of such a message
+pub record BeginsWithKept (bytes : List ℕ) : Type 0 where
+  pub first : Frame
+  pub rest : List ℕ
+  pub whole : bytes ≡ frame_bytes first ++ rest
+  pub fits : IsFrame first
+  pub keeps : KeepsBytes first.tag first.payload
+
+-- One step along a stream. Memory is wanted only for a message that keeps bytes of its frame; `lacks` says that it was refused.
+abbrev pub Step : Type 0 → List ℕ → Result (Option Message) Error → List ℕ → Type 0
+Step lacks old (Ok None) new = IsPartial old × (new ≡ old)
+Step lacks old (Ok (Some m)) new = TakesFrame old (Ok m) new
+Step lacks old (Err errors.InvalidLength) new = IsLengthFault old × (new ≡ old)
+Step lacks old (Err errors.OutOfMemory) new = BeginsWithKept old × lacks × (new ≡ old)
+Step lacks old (Err e) new = TakesFrame old (Err e) new

@@ -9,8 +9,8 @@ ghost use Rattle.pgp_message.specs.Views.{seen};
 use crate::frame::{Front, head};
 use crate::message::{Message, body_onto, plain_onto};
 use bytes::Bytes;
-use pgp_base::Error;
-use std::alloc::{AllocError, Allocator};
+use pgp_base::{Error, Memory};
+use std::alloc::AllocError;
 
 /// Adds the messages of frames to the list, each with its tag and its payload where they stand in the shared bytes, or the
 /// refusals of their bodies. The bytes are so many whole frames, as `FrameParser::find_all` finds them.
@@ -18,7 +18,7 @@ use std::alloc::{AllocError, Allocator};
 /// # Errors
 ///
 /// `AllocError` where memory was refused. Then the list has what the first frames gave.
-pub fn read_frames<A: Allocator>(
+pub fn read_frames<A: Memory>(
     frames: &Bytes<A>,
     count: usize,
     results: &mut Vec<Result<Message<Bytes<A>>, Error>, A>,
@@ -26,8 +26,9 @@ pub fn read_frames<A: Allocator>(
     requires { AreFrames frames.now count }
     ensures ok { OnOk result (TakesEach frames.now count (map seen results.old.items) (map seen results.new.items)) }
     ensures some { OnErr result (TakesSome frames.now (map seen results.old.items) (map seen results.new.items)) }
+    ensures lacks { OnErr result A.Lacks }
 {
-    results.reserve(count)?;
+    A::reserve(results, count)?;
     let mut at = 0usize;
     'frames: while at < frames.len() {
         at = read_onto(frames, at, results)?;
@@ -37,7 +38,7 @@ pub fn read_frames<A: Allocator>(
 
 /// Adds the message of the frame that stands at `at`, or the refusal of its body, to a list that has room for it, and answers
 /// where the frame ends.
-fn read_onto<A: Allocator>(
+fn read_onto<A: Memory>(
     bytes: &Bytes<A>,
     at: usize,
     results: &mut Vec<Result<Message<Bytes<A>>, Error>, A>,
@@ -49,6 +50,7 @@ fn read_onto<A: Allocator>(
         (map seen results.old.items) (map seen results.new.items)) }
     ensures end { IfOk result (λ end. (at < end) × (end ≤ length bytes.now)) }
     ensures list { OnErr result (map seen results.new.items ≡ map seen results.old.items) }
+    ensures lacks { OnErr result A.Lacks }
     ensures room { vec_capacity results.new ≡ vec_capacity results.old }
 {
     let (_, here) = bytes.as_slice().split_at(at);
@@ -58,7 +60,7 @@ fn read_onto<A: Allocator>(
     if plain_onto(results, front.tag, payload) {
         return Ok(end);
     }
-    let payload = bytes.slice(at + 5..end)?;
+    let payload = A::slice_shared(bytes, at + 5, end)?;
     body_onto(results, front.tag, payload);
     Ok(end)
 }

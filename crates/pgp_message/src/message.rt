@@ -1,9 +1,9 @@
 //! The messages that a server sends.
 
-ghost use Rattle.std.specs.Prelude.{◌≡◌, ◌≢◌, ◌<◌, ◌++◌, ◌∷◌, [], map, true, false, Ok, Err, None, IfErr, vec_len, vec_capacity};
+ghost use Rattle.std.specs.Prelude.{◌≡◌, ◌≢◌, ◌<◌, ◌++◌, ◌∷◌, [], map, true, false, Ok, Err, None, vec_len, vec_capacity};
 ghost use Rattle.pgp_message.specs.BackendMessage.{Authentication, BackendKeyData, ReadyForQuery};
 ghost use Rattle.pgp_message.specs.Reading.{ended, made, bare_request, bare_request_of, request_of, bare_of, body_of, key_data_of, byte_of};
-ghost use Rattle.pgp_message.specs.Stream.{Step, IsPartial, IsLengthFault};
+ghost use Rattle.pgp_message.specs.Stream.{Step, IsPartial, IsLengthFault, KeepsBytes};
 ghost use Rattle.pgp_message.specs.Views.{view, seen, parsed};
 
 use crate::body::{
@@ -25,8 +25,8 @@ use crate::tag::{
     ROW_DESCRIPTION_TAG,
 };
 use bytes::{Buf, Bytes, BytesMut};
-use pgp_base::Error;
 use pgp_base::reading::oid_at;
+use pgp_base::{Error, Memory};
 use std::alloc::Allocator;
 use std::convert::identity;
 use std::marker::Model;
@@ -99,7 +99,7 @@ pub enum Message<S: Storage = Bytes> {
     RowDescription(RowDescriptionBody<S>),
 }
 
-impl<A: Allocator + Copy> Message<Bytes<A>> {
+impl<A: Memory> Message<Bytes<A>> {
     /// Takes the message at the front of the bytes, and removes its frame; `None` where it isn't
     /// whole. Memory is asked for only where the message keeps bytes of its frame, and for room for a frame
     /// that isn't whole: for what is missing, at most 65,536 bytes at a time, and a refusal of it isn't told.
@@ -110,7 +110,7 @@ impl<A: Allocator + Copy> Message<Bytes<A>> {
     /// short, and `NotDrained` where bytes are left behind the last part. The bytes stay as they are for
     /// `InvalidLength`, where a length below 4 is announced, and for `OutOfMemory`.
     pub fn parse(buf: &mut BytesMut<A>) -> Result<Option<Message<Bytes<A>>>, Error>
-        ensures step { Step buf.old.items (parsed result) buf.new.items }
+        ensures step { Step A.Lacks buf.old.items (parsed result) buf.new.items }
         ensures waits { IsPartial buf.old.items → result ≡ Ok None }
         ensures fault { IsLengthFault buf.old.items → result ≡ Err Error.InvalidLength }
     {
@@ -155,10 +155,9 @@ impl<'a> Messages<'a> {
     /// `UnknownTag`, `UnknownAuthentication`, `UnexpectedEof` where a part is cut short, and `NotDrained` where bytes are
     /// left behind the last part. Never `OutOfMemory`.
     pub fn next(&mut self) -> Result<Option<Message<&'a [u8]>>, Error>
-        ensures step { Step self.old (parsed result) self.new }
+        ensures step { Step ⊥ self.old (parsed result) self.new }
         ensures waits { IsPartial self.old → result ≡ Ok None }
         ensures fault { IsLengthFault self.old → result ≡ Err Error.InvalidLength }
-        ensures memory { IfErr result (λ e. e ≢ Error.OutOfMemory) }
     {
         let header = header_of(self.rest);
         let Some(front) = Front::find(header, self.rest)? else {
@@ -174,7 +173,8 @@ impl<'a> Messages<'a> {
 /// Whether a message of this tag keeps bytes of its frame.
 #[tactic(auto, unfolding(crate::specs::Reading::body_of, crate::specs::Reading::bare_of))]
 pub(crate) fn keeps_bytes(tag: u8, payload: &[u8]) -> bool
-    ensures { result ≡ false → body_of tag payload.now ≡ bare_of tag payload.now }
+    ensures bare { result ≡ false → body_of tag payload.now ≡ bare_of tag payload.now }
+    ensures keeps { result ≡ true → KeepsBytes tag payload.now }
 {
     match tag {
         NOTIFICATION_RESPONSE_TAG
@@ -196,7 +196,8 @@ pub(crate) fn keeps_bytes(tag: u8, payload: &[u8]) -> bool
 /// Whether an authentication request keeps bytes of its frame.
 #[tactic(auto, unfolding(crate::specs::Reading::request_of, crate::specs::Reading::bare_request_of, crate::specs::Reading::by_code))]
 fn request_keeps_bytes(payload: &[u8]) -> bool
-    ensures { result ≡ false → request_of payload.now ≡ bare_request_of payload.now }
+    ensures bare { result ≡ false → request_of payload.now ≡ bare_request_of payload.now }
+    ensures keeps { result ≡ true → KeepsBytes 82 payload.now }
 {
     match oid_at(payload) {
         Ok((8 | 10 | 11 | 12, _)) => true,

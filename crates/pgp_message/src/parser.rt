@@ -11,7 +11,7 @@ use crate::found::{Found, header_behind, whole_frames};
 use crate::frame::{Front, count_of, head, header_of, room};
 use crate::message::{Message, bare, body, keeps_bytes};
 use bytes::{Buf, Bytes, BytesMut};
-use pgp_base::Error;
+use pgp_base::{Error, Memory};
 use std::alloc::Allocator;
 use std::marker::Model;
 
@@ -65,12 +65,12 @@ impl FrameParser {
     /// # Errors
     ///
     /// Those of `Message::parse`, with the same effect on the bytes.
-    pub fn parse<A: Allocator + Copy>(
+    pub fn parse<A: Memory>(
         &mut self,
         buf: &mut BytesMut<A>,
     ) -> Result<Option<Message<Bytes<A>>>, Error>
         requires { Fits self.old buf.old.items }
-        ensures step { Step buf.old.items (parsed result) buf.new.items }
+        ensures step { Step A.Lacks buf.old.items (parsed result) buf.new.items }
         ensures waits { IsPartial buf.old.items → result ≡ Ok None }
         ensures fault { IsLengthFault buf.old.items → result ≡ Err Error.InvalidLength }
         ensures memory { self.new ≡ memory_after self.old buf.old.items (parsed result) }
@@ -88,7 +88,7 @@ impl FrameParser {
             self.header = None;
             return answer.map(Some);
         }
-        let Ok(mut payload) = buf.freeze_to(front.total) else {
+        let Ok(mut payload) = A::freeze_to(buf, front.total) else {
             return Err(Error::OutOfMemory);
         };
         self.header = None;

@@ -54,7 +54,7 @@ module _ {B K : Type 0} (held : B → Held K) (a b : B) (o : Bool) (inv : Reads 
     still = subst (λ x. Reads x o) (sym same.bytes) inv
 
   -- a writer of the message was called
-  module _ (m : ClientMessage) (may : MayCome m o) (plain : is_startup m ≡ false) (lacks : Type 0) where
+  module _ (m : ClientMessage) (may : MayCome m o) (plain : is_startup m ≡ false) (lacks : Held K → ℕ → Type 0) where
     unchanged : o ≡ (if is_startup m then true else o)
     unchanged = ap (λ (x : Bool). if x then true else o) (sym plain)
 
@@ -74,7 +74,7 @@ later m o e t = subst (λ (x : Bool). MayCome m x) (sym e) (λ none. let h : fal
 earlier : (m : ClientMessage) (o : Bool) → o ≡ false → (IsStartup m ⊎ IsRequest m) × IsNamed m → MayCome m o
 earlier m o e t = subst (λ (x : Bool). MayCome m x) (sym e) t
 
-module _ {B K : Type 0} (held : B → Held K) (a b : B) (o : Bool) (inv : Reads (held a).bytes o) (m : ClientMessage) (plain : is_startup m ≡ false) (lacks : Type 0) (r : Result (Unit {0}) Error) (w : WritesMessage m lacks (held a) (held b) r) where
+module _ {B K : Type 0} (held : B → Held K) (a b : B) (o : Bool) (inv : Reads (held a).bytes o) (m : ClientMessage) (plain : is_startup m ≡ false) (lacks : Held K → ℕ → Type 0) (r : Result (Unit {0}) Error) (w : WritesMessage m lacks (held a) (held b) r) where
   module _ (e : o ≡ true) (t : is_some (tag_of m) ≡ true) where
     pub later_adds : AddsMessage held m lacks (record { buf = a; opened = o }) (record { buf = b; opened = o }) r
     later_adds = adds held a b o inv m (later m o e t) plain lacks r w
@@ -114,7 +114,7 @@ module _ {B K : Type 0} (held : B → Held K) (a b : B) (o : Bool) (inv : Reads 
   first_stays = stays held a b o inv m true opened (earlier m o e (inl s, n)) in_range none grown
 
 -- the numbers as they were given
-pub same_numbers : {B K : Type 0} (held : B → Held K) (lacks : Type 0) (old new : Sent B) (r : Result (Unit {0}) Error) {x y p q : ℤ} → x ≡ y → p ≡ q
+pub same_numbers : {B K : Type 0} (held : B → Held K) (lacks : Held K → ℕ → Type 0) (old new : Sent B) (r : Result (Unit {0}) Error) {x y p q : ℤ} → x ≡ y → p ≡ q
     → AddsMessage held (CancelRequest x p) lacks old new r → AddsMessage held (CancelRequest y q) lacks old new r
 same_numbers held lacks old new r {y = y} {p = p} e f h =
     subst (λ z. AddsMessage held (CancelRequest y z) lacks old new r) f (subst (λ z. AddsMessage held (CancelRequest z p) lacks old new r) e h)

@@ -1,27 +1,31 @@
 -- The message that binds one value, and the one that binds an array of steps.
-use Rattle.std.proofs.Common.{◌≡◌, ℕ, ℤ, pos, List, [], ◌∷◌, ◌++◌, length, Option, Some, None, Result, Ok, Err, MutBor, refl, sym, ap, subst, ◌∙◌, inl, inr, arith}
+use Rattle.std.proofs.Common.{◌≡◌, ℕ, ◌+◌, ◌≤◌, ℤ, pos, negsuc, List, [], ◌∷◌, ◌++◌, length, take, Option, Some, None, Result, Ok, Err, MutBor, refl, sym, ap, subst, ◌∙◌, inl, inr, arith}
 use Rattle.std.specs.Prelude.{map, ◌⊎◌}
 use Rattle.std.specs.List.{flat_map}
-use Rattle.std.proofs.lemmas.List.{map-append}
+use Rattle.std.proofs.lemmas.List.{map-append, append-nil}
 use Rattle.pgp_base.specs.declared.error.Error.{Error}
 use Rattle.pgp_base.specs.declared.error.BindError.{BindError}
 use Rattle.pgp_base.specs.declared.error.BindError.TheVariants.{Conversion, Serialization}
 use Rattle.pgp_base.specs.declared.number.IsNull.{IsNull}
 use Rattle.pgp_base.specs.declared.number.IsNull.TheVariants.{No}
-use Rattle.pgp_base.specs.Wire.{uint32, nullable}
-use Rattle.pgp_base.specs.Cause.{Cause, either, first}
+use Rattle.std.specs.Option.{option_to_list}
+use Rattle.pgp_base.specs.Wire.{uint16, uint32, int16, nullable, counted}
+use Rattle.pgp_base.specs.Cause.{Cause, Wants, either, first}
 use Rattle.pgp_base.specs.Held.{Held, ◌⊕◌}
-use Rattle.pgp_base.specs.Calls.{value_of, Puts, Gives, Runs}
+use Rattle.pgp_base.specs.Calls.{value_of, Puts, Gives, Runs, SoFar}
 use Rattle.pgp_base.proofs.Causes.{either_first, first-append}
-use Rattle.pgp_base.proofs.Parts.{nothing_more}
+use Rattle.pgp_base.proofs.Needs.{flat_more, counted_length, nullable_least, sized_wants, counted_wants}
+use Rattle.pgp_base.proofs.Parts.{nothing_more, wants_more}
+use Rattle.pgp_frontend.proofs.Needs.{int32_length, bind_length, joined_more, framed_wants}
 use Rattle.pgp_frontend.specs.ClientMessage.{ClientMessage, Bind}
-use Rattle.pgp_frontend.specs.Payload.{Part, Text, Int16s, Values, part_cause, parts, parts_cause, bytes_of, cause}
-use Rattle.pgp_frontend.specs.Given.{Serves, before_values, BindWhole, BindReached, BindRefused, WritesBind}
+use Rattle.pgp_frontend.specs.Payload.{Part, Text, Int16s, Values, part_cause, parts, parts_cause, joined, bytes_of, cause}
+use Rattle.pgp_frontend.specs.Given.{Serves, before_values, BindWhole, BindReached, BindRefused, BindWants as WantsBind, WritesBind}
 use Rattle.pgp_types.specs.declared.array.ArrayDimension.{ArrayDimension}
 use Rattle.pgp_types.specs.Array.{array_bytes, array_cause}
 use Rattle.postgres_protocol.specs.declared.laws.array.Step.{Step}
-use Rattle.postgres_protocol.specs.ArraySteps.{Give, array_of, WritesSteps, binding, BindsArray}
-use Rattle.postgres_protocol.specs.OneValue.{Target, unnamed, one_bound, names_cause, PutsOne, NamesRefused, OneTooLong, OneRefused, OneBinds, BindsOne}
+use Rattle.postgres_protocol.specs.declared.laws.array.Step.TheVariants.{Append, Null, Refuse}
+use Rattle.postgres_protocol.specs.ArraySteps.{Give, RefusesAt, array_of, ElementsWant, ArrayRefused, ArrayWants, WritesSteps, binding, BindWants, BindsArray}
+use Rattle.postgres_protocol.specs.OneValue.{Target, unnamed, one_bound, names_cause, PutsOne, NamesRefused, OneTooLong, OneWants, OneRefused, OneBinds, BindsOne}
 use Rattle.postgres_protocol.proofs.StepLemmas.{same_more}
 
 -- ---- one value
@@ -61,7 +65,53 @@ module _ (to : Target) where
       parts_first (one_bound to v) e
       (front_cause (up_to (pos 1 ∷ []) (v ∷ [])) (Int16s to.results ∷ []) e (ap (λ gs. parts_cause (up_to gs (v ∷ []))) (sym f) ∙ ap (λ ws. parts_cause (up_to fs ws)) (sym w) ∙ ap parts_cause (sym is) ∙ c))
 
-module _ {F E B K : Type 0} (held : B → Held K) (step : F → ℕ → MutBor B → Result IsNull E → MutBor B → F → Type 0) (lacks : Type 0) (to : Target)
+-- ---- growths that the message of one value needs
+
+-- of a list that came none or all of it did so far
+asked_all : {A : Type 0} (given : List A → Option A → Type 0) (all : List A) → ((xs : List A) → given xs None → xs ≡ all) → ((xs : List A) (x : A) → given xs (Some x) → xs ++ x ∷ [] ≡ all)
+    → (before : List A) (next : Option A) (xs : List A) → given before next → xs ≡ before ++ option_to_list next → xs ≡ all
+asked_all given all ends goes before None xs came are = are ∙ (append-nil before ∙ ends before came)
+asked_all given all ends goes before (Some x) xs came are = are ∙ goes before x came
+
+none_or_all : (given : List ℤ → Option ℤ → Type 0) (all : List ℤ) → ((xs : List ℤ) → given xs None → xs ≡ all) → ((xs : List ℤ) (x : ℤ) → given xs (Some x) → xs ++ x ∷ [] ≡ all)
+    → (xs : List ℤ) → SoFar given xs → length (counted int16 xs) ≤ length (counted int16 all)
+none_or_all given all ends goes xs (inl none) = let n = ap (λ l. length (counted int16 l)) none in omega (arith, n, counted_length int16 [], counted_length int16 all)
+none_or_all given all ends goes xs (inr asked) = let n = ap (λ l. length (counted int16 l)) (asked_all given all ends goes asked.before asked.next xs asked.came asked.are) in omega (arith, n)
+
+module _ {K : Type 0} {lacks : Held K → ℕ → Type 0} {old : Held K} (to : Target) where
+  -- the part before the values
+  head_length : (fs : List ℤ) → length (joined (Text to.portal ∷ Text to.statement ∷ Int16s fs ∷ [])) ≡ length (joined (Text to.portal ∷ Text to.statement ∷ [])) + length (counted int16 fs)
+  head_length fs = joined_more (Text to.portal ∷ Text to.statement ∷ []) (Int16s fs)
+
+  one_length : (v : Option (List ℕ)) → length (bytes_of (one_bound to v)) ≡ 5 + (length (joined (Text to.portal ∷ Text to.statement ∷ [])) + length (counted int16 (pos 1 ∷ []))) + length (counted nullable (v ∷ [])) + length (counted int16 to.results)
+  one_length v = let n = bind_length to.portal to.statement (pos 1 ∷ []) (v ∷ []) to.results in let m = head_length (pos 1 ∷ []) in omega (arith, n, m)
+
+  head_wants : (fs : List ℤ) → length (counted int16 fs) ≤ length (counted int16 (pos 1 ∷ [])) → Wants lacks old (length (bytes_of (Bind to.portal to.statement fs [] []))) → Wants lacks old (length (bytes_of (one_bound to None)))
+  head_wants fs few w =
+      let n = bind_length to.portal to.statement fs [] [] in
+      let m = head_length fs in
+      let k = one_length None in
+      wants_more old _ _ (omega (arith, n, m, k, few, counted_length nullable [], counted_length nullable (None ∷ []), counted_length int16 [], counted_length int16 to.results)) w
+
+  bind_wants : (fs : List ℤ) (vs : List (Option (List ℕ))) (v : Option (List ℕ)) (rs : List ℤ) → length (counted int16 fs) ≡ length (counted int16 (pos 1 ∷ [])) → vs ≡ v ∷ [] → length (counted int16 rs) ≤ length (counted int16 to.results)
+      → Wants lacks old (length (bytes_of (Bind to.portal to.statement fs vs rs))) → Wants lacks old (length (bytes_of (one_bound to v)))
+  bind_wants fs vs v rs is are few w =
+      let n = bind_length to.portal to.statement fs vs rs in
+      let m = head_length fs in
+      let k = one_length v in
+      let one = ap (λ l. length (counted nullable l)) are in
+      wants_more old _ _ (omega (arith, n, m, k, is, one, few)) w
+
+  -- behind the place of the value's length
+  pub value_wants : (b : Held K) (v : Option (List ℕ)) (n : ℕ) → b ≡ before_values old to.portal to.statement (pos 1 ∷ []) → n ≤ length (nullable v) → Wants lacks b n → Wants lacks old (length (bytes_of (one_bound to v)))
+  value_wants b v n h k w =
+      let ps = Text to.portal ∷ Text to.statement ∷ Int16s (pos 1 ∷ []) ∷ [] in
+      let here = old ⊕ 66 ∷ [] ⊕ uint32 0 ⊕ joined ps in
+      let counts = counted_wants nullable [] v here b n (h ∙ sym (nothing_more (here ⊕ uint16 0))) k w in
+      let m = bind_length to.portal to.statement (pos 1 ∷ []) (v ∷ []) to.results in
+      framed_wants 66 ps old here (length (counted nullable (v ∷ []))) _ refl (omega (arith, m)) counts
+
+module _ {F E B K : Type 0} (held : B → Held K) (step : F → ℕ → MutBor B → Result IsNull E → MutBor B → F → Type 0) (lacks : Held K → ℕ → Type 0) (to : Target)
     (formats : List ℤ → Option ℤ → Type 0) (values : List ℕ → Option ℕ → Type 0) (results : List ℤ → Option ℤ → Type 0)
     (all_formats : (xs : List ℤ) → formats xs None → xs ≡ pos 1 ∷ []) (some_formats : (xs : List ℤ) (x : ℤ) → formats xs (Some x) → xs ++ x ∷ [] ≡ pos 1 ∷ [])
     (all_values : (xs : List ℕ) → values xs None → xs ≡ 0 ∷ []) (some_values : (xs : List ℕ) (x : ℕ) → values xs (Some x) → (xs ≡ []) × (xs ++ x ∷ [] ≡ 0 ∷ []))
@@ -148,12 +198,37 @@ module _ {F E B K : Type 0} (held : B → Held K) (step : F → ℕ → MutBor B
       let m = same_bind to begun.0 begun.2.0 (value_of v.0 v.1) begun.2.2.0 fs v.2 rs in
       inr (record { null = v.0; bytes = v.1; put = v.3; some = parts_first (one_bound to (value_of v.0 v.1)) e (ap (λ (m : ClientMessage). parts_cause (parts m)) (sym m) ∙ (ap parts_cause (sym begun.2.2.2) ∙ c)) })
 
+  -- the formats, and the formats of results, that came so far: none or all
+  few_formats : (fs : List ℤ) → SoFar formats fs → length (counted int16 fs) ≤ length (counted int16 (pos 1 ∷ []))
+  few_formats fs so_far = none_or_all formats (pos 1 ∷ []) all_formats some_formats fs so_far
+
+  few_results : (rs : List ℤ) → SoFar results rs → length (counted int16 rs) ≤ length (counted int16 to.results)
+  few_results rs so_far = none_or_all results to.results all_results some_results rs so_far
+
+  -- behind the place of the value's length there was room for what came before
+  first_wants : (fs : List ℤ) (xs : List ℕ) (next : Option ℕ) (vs : List (Option (List ℕ))) (rs : List ℤ) → fs ≡ pos 1 ∷ [] → values xs next → Runs (Gives held step) nullable (before fs) f xs vs last → length (counted int16 rs) ≤ length (counted int16 to.results)
+      → Wants lacks old (length (bytes_of (Bind to.portal to.statement fs (vs ++ map (λ x. None) (option_to_list next)) rs))) → OneWants held step to f last old lacks
+  first_wants fs xs None vs rs is came runs few w =
+      let v = one_value fs xs vs is (all_values xs came) runs in
+      inr (v.0, v.1, v.3, bind_wants to fs (vs ++ []) (value_of v.0 v.1) rs (ap (λ l. length (counted int16 l)) is) (append-nil vs ∙ v.2) few w)
+  first_wants fs xs (Some x) vs rs is came runs few w =
+      let made = none_made (before fs) xs vs last (some_values xs x came).0 runs in
+      inl (made.0, bind_wants to fs (vs ++ None ∷ []) None rs (ap (λ l. length (counted int16 l)) is) (ap (λ (vs : List (Option (List ℕ))). vs ++ None ∷ []) made.1) few w)
+
+  one_wants : WantsBind to.portal to.statement formats values (Serves held step f last) results old lacks → OneWants held step to f last old lacks
+  one_wants (inl head) =
+      let few = few_formats head.1.0 head.1.1 in
+      inl (head.0, head_wants to head.1.0 few head.1.2)
+  one_wants (inr behind) =
+      let first = behind.2.0 in
+      first_wants behind.0 first.xs first.next first.vs behind.2.1.0 (all_formats behind.0 behind.1.0) first.came first.made (few_results behind.2.1.0 behind.2.1.1) behind.2.1.2
+
   pub one_refused : (e : BindError E) → BindRefused to.portal to.statement formats values (Serves held step f last) results old lacks e → OneRefused held step to f last old lacks e
   one_refused (Conversion e) w =
       let fs = all_formats w.0 w.1.0 in
       let v = w.2 in
       (v.bytes, one_put w.0 v.xs v.x v.before v.made.0 (Err e) v.bytes fs (some_values v.xs v.x v.came) v.made.1 v.made.2, sym (names_alone to w.0 fs) ∙ w.1.1)
-  one_refused (Serialization e) (inl memory) = inl (memory.0, memory.1.0)
+  one_refused (Serialization e) (inl memory) = inl (memory.0, one_wants memory.1)
   one_refused (Serialization e) (inr (inl ps)) = inr (reached ps.0 e ps.1 ps.2)
   one_refused (Serialization e) (inr (inr m)) =
       let k = one_whole m.0 m.1 in
@@ -173,12 +248,57 @@ module _ {F E B K : Type 0} (held : B → Held K) (step : F → ℕ → MutBor B
 
 -- ---- the value is an array
 
+-- what is said of a growth in the array is said of one in the message
+refuses_as : (P Q : List ℕ → Type 0) (s : Step) (e : Error) → ((bytes : List ℕ) → P bytes → Q bytes) → RefusesAt P s e → RefusesAt Q s e
+refuses_as P Q (Append bytes) e as r = (r.0, as bytes.items r.1)
+refuses_as P Q Null e as r = absurd r
+refuses_as P Q (Refuse d) e as r = r
+
+refused_as : (ds : List ArrayDimension) (type : ℕ) (steps : List Step) (P Q : List (Option (List ℕ)) → Type 0) → ((vs : List (Option (List ℕ))) → P vs → Q vs) → (e : BindError Error) → ArrayRefused ds type steps P e → ArrayRefused ds type steps Q e
+refused_as ds type steps P Q as (Conversion e) r = record {
+  before = r.before;
+  step = r.step;
+  more = r.more;
+  are = r.are;
+  vs = r.vs;
+  give = r.give;
+  none = r.none;
+  refuses = refuses_as (λ bytes. P (r.vs ++ Some bytes ∷ [])) (λ bytes. Q (r.vs ++ Some bytes ∷ [])) r.step e (λ bytes. as (r.vs ++ Some bytes ∷ [])) r.refuses;
+}
+refused_as ds type steps P Q as (Serialization e) (inl memory) =
+    let w = memory.1 in
+    inl (memory.0, record { before = w.before; more = w.more; are = w.are; vs = w.vs; give = w.give; wanted = as (w.vs ++ map (λ step. None) (take 1 w.more)) w.wanted })
+refused_as ds type steps P Q as (Serialization e) (inr cause) = inr cause
+
+null_length : length (nullable None) ≡ 4
+null_length = int32_length (negsuc 0)
+
+-- the message of a null is no longer than that of an array
+null_wants : {K : Type 0} {lacks : Held K → ℕ → Type 0} {old : Held K} (ds : List ArrayDimension) (type : ℕ) (vs : List (Option (List ℕ))) → Wants lacks old (length (bytes_of (one_bound unnamed None))) → Wants lacks old (length (bytes_of (binding ds type vs)))
+null_wants {old = old} ds type vs w =
+    let bytes = array_bytes (array_of ds type vs) in
+    let n = one_length unnamed None in
+    let m = one_length unnamed (Some bytes) in
+    let least = nullable_least (Some bytes) in
+    wants_more old _ _
+    (omega (
+      arith,
+      n,
+      m,
+      least,
+      counted_length nullable (None ∷ []),
+      counted_length nullable (Some bytes ∷ []),
+      flat_more nullable [] None,
+      flat_more nullable [] (Some bytes),
+      null_length,
+    )) w
+
 -- the same steps
-pub same_steps : {K : Type 0} (ds xs : List ArrayDimension) (type n : ℕ) (steps ys : List Step) (lacks : Type 0) (old new : Held K) (r : Result IsNull (BindError Error)) → (xs ≡ ds) × (n ≡ type) × (ys ≡ steps)
+pub same_steps : {K : Type 0} (ds xs : List ArrayDimension) (type n : ℕ) (steps ys : List Step) (lacks : Held K → ℕ → Type 0) (old new : Held K) (r : Result IsNull (BindError Error)) → (xs ≡ ds) × (n ≡ type) × (ys ≡ steps)
     → WritesSteps xs n ys lacks old new r → WritesSteps ds type steps lacks old new r
 same_steps ds xs type n steps ys lacks old new r i w = rw (← i.0, ← i.1, ← i.2) w
 
-module _ {F B K : Type 0} (held : B → Held K) (step : F → ℕ → MutBor B → Result IsNull (BindError Error) → MutBor B → F → Type 0) (lacks : Type 0)
+module _ {F B K : Type 0} (held : B → Held K) (step : F → ℕ → MutBor B → Result IsNull (BindError Error) → MutBor B → F → Type 0) (lacks : Held K → ℕ → Type 0)
     (ds : List ArrayDimension) (type : ℕ) (steps : List Step) (f last : F) (old : Held K)
     (acts : (u : F) (x : ℕ) (b b' : MutBor B) (r : Result IsNull (BindError Error)) → step f x b r b' u → WritesSteps ds type steps lacks (held b.now) (held b'.now) r) where
   -- the value is an array of what the steps give
@@ -192,6 +312,19 @@ module _ {F B K : Type 0} (held : B → Held K) (step : F → ℕ → MutBor B �
       let are : bytes ≡ array_bytes (array_of ds type w.vs) = same_more here (held m.after.now) bytes _ m.appended stands in
       (w.vs, w.give, w.none, ap (λ (n : IsNull). one_bound unnamed (value_of n bytes)) a.0 ∙ ap (λ (b : List ℕ). one_bound unnamed (Some b)) are)
 
+  elements_want : OneWants held step unnamed f last old lacks → ElementsWant steps (BindWants ds type lacks old)
+  elements_want (inl head) = record { before = []; more = steps; are = refl; vs = []; give = refl; wanted = null_wants ds type (map (λ step. None) (take 1 steps)) head.1 }
+  elements_want (inr made) =
+      let k = made_array made.0 made.1 made.2 in
+      record {
+        before = steps;
+        more = [];
+        are = sym (append-nil steps);
+        vs = k.0;
+        give = k.1;
+        wanted = subst (λ (vs : List (Option (List ℕ))). BindWants ds type lacks old vs) (sym (append-nil k.0)) (subst (λ (m : ClientMessage). Wants lacks old (length (bytes_of m))) k.3 made.3);
+      }
+
   array_binds : (r : Result (Unit {0}) (BindError (BindError Error))) (new : Held K) → OneBinds held step unnamed f last old lacks new r → BindsArray ds type steps lacks old new r
   array_binds (Ok done) new w =
       let k = made_array w.null w.bytes w.put in
@@ -202,10 +335,13 @@ module _ {F B K : Type 0} (held : B → Held K) (step : F → ℕ → MutBor B �
         fits = subst (λ (m : ClientMessage). cause m ≡ None) k.3 w.none;
         appended = w.appended ∙ ap (λ (m : ClientMessage). old ⊕ bytes_of m) k.3;
       }
-  array_binds (Err (Conversion e)) new w = let m = w.0.1 in ((acts last 0 m.before m.after (Err e) m.called).0, w.1)
+  array_binds (Err (Conversion e)) new w =
+      let m = w.0.1 in
+      let wants = λ vs s. value_wants unnamed _ (Some (array_bytes (array_of ds type vs))) _ refl (omega arith) (sized_wants (array_bytes (array_of ds type vs)) 0 _ (held m.before.now) m.stood s) in
+      (refused_as ds type steps (ArrayWants ds type lacks (held m.before.now)) (BindWants ds type lacks old) wants e (acts last 0 m.before m.after (Err e) m.called).0, w.1)
   array_binds (Err (Serialization e)) new w = (
     elim w.0 [
-      | inl memory ↦ inl memory
+      | inl memory ↦ inl (memory.0, elements_want memory.1)
       | inr (inl names) ↦ let none : None ≡ Some e = names.1 in absurd cc
       | inr (inr long) ↦
           let k = made_array long.null long.bytes long.put in
@@ -214,7 +350,7 @@ module _ {F B K : Type 0} (held : B → Held K) (step : F → ℕ → MutBor B �
     w.1,
   )
 
-pub binds_array : {F B K : Type 0} (held : B → Held K) (step : F → ℕ → MutBor B → Result IsNull (BindError Error) → MutBor B → F → Type 0) (lacks : Type 0) (f : F) (old new : Held K) (r : Result (Unit {0}) (BindError (BindError Error)))
+pub binds_array : {F B K : Type 0} (held : B → Held K) (step : F → ℕ → MutBor B → Result IsNull (BindError Error) → MutBor B → F → Type 0) (lacks : Held K → ℕ → Type 0) (f : F) (old new : Held K) (r : Result (Unit {0}) (BindError (BindError Error)))
     → BindsOne held step f old lacks new r → (ds : List ArrayDimension) (type : ℕ) (steps : List Step)
     → ((u : F) (x : ℕ) (b b' : MutBor B) (r : Result IsNull (BindError Error)) → step f x b r b' u → WritesSteps ds type steps lacks (held b.now) (held b'.now) r) → BindsArray ds type steps lacks old new r
 binds_array held step lacks f old new r one ds type steps acts = array_binds held step lacks ds type steps f one.last old acts r new one.binds

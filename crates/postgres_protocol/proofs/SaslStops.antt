@@ -34,7 +34,7 @@ answered_text old new handed text e a = subst (λ (t : List ℕ). Answers old t 
 pub finished_text : (old new : Client) (handed text : List ℕ) (e : Refusal) → handed ≡ text → FinishRefused old handed e new → FinishRefused old text e new
 finished_text old new handed text e is r = subst (λ (t : List ℕ). FinishRefused old t e new) is r
 
-module _ {Kept : Type 0} (lacks : Type 0) (mechanism : List ℕ) (old between : Client) (first_old first_new final_old : List ℕ) (out_old out_mid : Held Kept) (begun : Begun) (text first answer : List ℕ)
+module _ {Kept : Type 0} (lacks : Held Kept → ℕ → Type 0) (mechanism : List ℕ) (old between : Client) (first_old first_new final_old : List ℕ) (out_old out_mid : Held Kept) (begun : Begun) (text first answer : List ℕ)
     (due : old.state ≡ AwaitsFirst begun) (said : Some text ≡ message_of old.state) (sent : out_mid ≡ out_old ⊕ bytes_of (SaslInitialResponse mechanism text))
     (taken : TakesFrame first_old (Ok (Authentication (AuthenticationSaslContinue first))) first_new) (answers : Answers old first between) (replied : Some answer ≡ message_of between.state) where
   sent_first : out_mid ≡ out_old ⊕ bytes_of (SaslInitialResponse mechanism (first_text begun))

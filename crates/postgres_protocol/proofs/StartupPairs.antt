@@ -1,15 +1,22 @@
 -- The pairs of a startup packet, as an iterator gave them.
-use Rattle.std.proofs.Common.{◌≡◌, ℕ, zero, suc, ◌+◌, List, [], ◌∷◌, ◌++◌, length, take, map, Option, Some, None, refl, sym, ap, ◌∙◌, Bor}
+use Rattle.std.proofs.Common.{◌≡◌, ℕ, zero, suc, ◌+◌, ◌≤◌, List, [], ◌∷◌, ◌++◌, length, take, map, Option, Some, None, refl, sym, ap, ◌∙◌, Bor, inl, inr, arith, length-append}
 use Rattle.std.specs.Prelude.{pos}
+use Rattle.std.specs.List.{flat_map}
 use Rattle.std.specs.Iterator.{YieldsThen}
-use Rattle.std.proofs.lemmas.List.{take_more}
+use Rattle.std.proofs.lemmas.List.{take_more, append-nil}
+use Rattle.std.proofs.Math.Seq.{take-length}
+use Rattle.std.specs.Option.{option_to_list}
 use Rattle.std.proofs.lemmas.Iterator.{YieldsList}
 use Rattle.std.proofs.lemmas.Iterator.Consumers.{YieldsList-so_far, YieldsList-turn, YieldsList-end}
-use Rattle.pgp_base.specs.Cause.{Cause, either, first}
+use Rattle.pgp_base.specs.Calls.{Came, SoFar}
+use Rattle.pgp_base.specs.Cause.{Cause, Wants, either, first}
+use Rattle.pgp_base.specs.Held.{Held}
 use Rattle.pgp_base.specs.declared.error.Error.{Error}
 use Rattle.pgp_frontend.specs.ClientMessage.{Startup}
 use Rattle.pgp_frontend.specs.Given.{shown, shown_pairs}
-use Rattle.pgp_frontend.specs.Payload.{Int32, pair_cause, parts_cause, cause}
+use Rattle.pgp_frontend.specs.Payload.{Int32, pair, pair_cause, parts_cause, bytes_of, cause}
+use Rattle.pgp_base.proofs.Parts.{wants_more}
+use Rattle.pgp_frontend.proofs.Needs.{startup_length}
 
 -- ---- the items of a list, one after another
 
@@ -28,6 +35,35 @@ module _ {S X : Type 0} (steps : S → Option X → S → Type 0) (s : S) (all :
       let turn = YieldsList-turn road xs came.0 came.1 (Some x) left x refl came.2 in
       let so_far = sym (map_itself xs) ∙ YieldsList-so_far road xs came.0 came.1 in
       ap (λ l. l ++ x ∷ []) so_far ∙ ap (λ y. take (length xs) all ++ y ∷ []) turn.1 ∙ sym (take_more all (length xs) x turn.0)
+
+-- those that came so far are the first ones
+module _ {S X U : Type 0} (into_iter_gives : U → S → Type 0) (steps : S → Option X → S → Type 0) (source : U) (all : List X) (roads : (s : S) → into_iter_gives source s → YieldsList steps (λ x. x) s all) (xs : List X) where
+  asked_front : (before : List X) (next : Option X) → Came into_iter_gives steps source before next → xs ≡ before ++ option_to_list next → (k : ℕ) × (xs ≡ take k all)
+  asked_front before None came are = (length all, are ∙ (append-nil before ∙ (came_all steps came.iterator all (roads came.iterator came.from) before came.left came.came ∙ sym (take-length all))))
+  asked_front before (Some x) came are = (length before + 1, are ∙ came_front steps came.iterator all (roads came.iterator came.from) before x came.left came.came)
+
+  pub came_so_far : SoFar (Came into_iter_gives steps source) xs → (k : ℕ) × (xs ≡ take k all)
+  came_so_far (inl none) = (0, none)
+  came_so_far (inr asked) = asked_front asked.before asked.next asked.came asked.are
+
+-- ---- the packet of the first pairs is no longer than that of all
+
+shorter_front : (all : List (Bor (List ℕ) × Bor (List ℕ))) (k : ℕ) → length (flat_map pair (map shown (take k all))) ≤ length (flat_map pair (map shown all))
+shorter_front [] zero = omega arith
+shorter_front [] (suc k) = omega arith
+shorter_front (x ∷ xs) zero = omega arith
+shorter_front (x ∷ xs) (suc k) =
+    let more = shorter_front xs k in
+    omega (arith, more, length-append (pair (shown x)) (flat_map pair (map shown (take k xs))), length-append (pair (shown x)) (flat_map pair (map shown xs)))
+
+pub startup_wants : {K : Type 0} {lacks : Held K → ℕ → Type 0} (all xs : List (Bor (List ℕ) × Bor (List ℕ))) (old : Held K) → (k : ℕ) × (xs ≡ take k all) → Wants lacks old (length (bytes_of (Startup (map shown xs))))
+    → Wants lacks old (length (bytes_of (Startup (map shown all))))
+startup_wants all xs old so_far w =
+    let front = ap (λ l. length (flat_map pair (map shown l))) so_far.1 in
+    let less = shorter_front all so_far.0 in
+    let some = startup_length (map shown xs) in
+    let whole = startup_length (map shown all) in
+    wants_more old _ _ (omega (arith, front, less, some, whole, length-append (flat_map pair (map shown xs)) (0 ∷ []), length-append (flat_map pair (map shown all)) (0 ∷ []))) w
 
 -- ---- the first cause of the first pairs is that of the packet
 

@@ -1,5 +1,5 @@
 -- What an array of steps comes to, alone and as the value of a message.
-use Rattle.std.proofs.Common.{◌≡◌, ℕ, ◌+◌, List, [], ◌∷◌, ◌++◌, map, length, Option, Some, None, Result, Ok, Err, Bor, MutBor, refl, sym, ap, subst, ◌∙◌, inl, inr, arith, length-append}
+use Rattle.std.proofs.Common.{◌≡◌, ℕ, ◌+◌, ◌*◌, ◌≤◌, List, [], ◌∷◌, ◌++◌, map, take, length, Option, Some, None, Result, Ok, Err, Bor, MutBor, refl, sym, ap, subst, ◌∙◌, inl, inr, arith, length-append}
 use Rattle.std.proofs.lemmas.List.{map-id, append_cancel_left, map-append}
 use Rattle.std.proofs.lemmas.Iterator.{YieldsList, items_from_drains}
 use Rattle.std.specs.Iterator.{Yields, AlwaysYields}
@@ -8,22 +8,26 @@ use Rattle.pgp_base.specs.declared.error.BindError.{BindError}
 use Rattle.pgp_base.specs.declared.error.BindError.TheVariants.{Conversion, Serialization}
 use Rattle.pgp_base.specs.declared.number.IsNull.{IsNull}
 use Rattle.pgp_base.specs.declared.number.IsNull.TheVariants.{Yes, No}
-use Rattle.pgp_base.specs.Wire.{uint32, nullable}
-use Rattle.pgp_base.specs.Cause.{either, first, length_cause, nullable_cause}
+use Rattle.std.specs.List.{flat_map}
+use Rattle.std.specs.Option.{option_to_list}
+use Rattle.pgp_base.specs.Wire.{uint32, int32, oid, nullable}
+use Rattle.pgp_base.specs.Cause.{either, first, length_cause, nullable_cause, Wants}
 use Rattle.pgp_base.specs.Held.{Held, ◌⊕◌}
-use Rattle.pgp_base.specs.Calls.{value_of, Came, Puts, Gives, Runs, KeepsValue}
+use Rattle.pgp_base.specs.Calls.{value_of, Came, Puts, Gives, Runs, SoFar, KeepsValue}
 use Rattle.pgp_base.proofs.Causes.{either_none, either_then, first_here, length_past}
-use Rattle.pgp_base.proofs.Parts.{more_bytes, front_same, front_left}
+use Rattle.pgp_base.proofs.Needs.{flat_more, nullable_least, sized_wants}
+use Rattle.pgp_base.proofs.Parts.{length-uint32, more_bytes, more_twice, front_same, front_left, wants_more, wants_then}
+use Rattle.pgp_frontend.proofs.Needs.{int32_length}
 use Rattle.pgp_types.specs.declared.array.ArrayDimension.{ArrayDimension}
-use Rattle.pgp_types.specs.Array.{Array, array_bytes, array_cause}
+use Rattle.pgp_types.specs.Array.{Array, dimension_bytes, has_null, flag_of, array_bytes, array_cause}
 use Rattle.pgp_types.specs.ArrayWriting.{before_elements, MadeUpTo, ArrayWritten, ArrayRefused as RefusedArray}
 use Rattle.postgres_protocol.specs.declared.laws.array.Step.{Step}
 use Rattle.postgres_protocol.specs.declared.laws.array.Step.TheVariants.{Append, Null, Refuse}
-use Rattle.postgres_protocol.specs.ArraySteps.{Does, gives, Give, RefusesAt, array_of, ArrayRefused, ArrayAppended, WritesSteps}
+use Rattle.postgres_protocol.specs.ArraySteps.{Does, gives, Give, RefusesAt, array_of, ArrayRefused, ArrayWants, ArrayAppended, WritesSteps}
 
 -- The laws of the closures.
 
-pub keeps_does : {K : Type 0} (s : Step) (lacks : Type 0) (old new : Held K) (r : Result IsNull Error) → Does s lacks old new r → KeepsValue r old new
+pub keeps_does : {K : Type 0} (s : Step) (lacks : Held K → ℕ → Type 0) (old new : Held K) (r : Result IsNull Error) → Does s lacks old new r → KeepsValue r old new
 keeps_does (Append bytes) lacks old new (Ok Yes) d = let e : Yes ≡ No = d.0 in absurd cc
 keeps_does (Append bytes) lacks old new (Ok No) d = (bytes.items, d.1)
 keeps_does (Append bytes) lacks old new (Err e) d = front_same old new d.1
@@ -33,7 +37,7 @@ keeps_does Null lacks old new (Err e) d = absurd d
 keeps_does (Refuse w) lacks old new (Ok null) d = absurd d
 keeps_does (Refuse w) lacks old new (Err e) d = front_same old new d.1
 
-pub keeps_steps : {K : Type 0} (ds : List ArrayDimension) (type : ℕ) (steps : List Step) (lacks : Type 0) (old new : Held K) (r : Result IsNull (BindError Error)) → WritesSteps ds type steps lacks old new r → KeepsValue r old new
+pub keeps_steps : {K : Type 0} (ds : List ArrayDimension) (type : ℕ) (steps : List Step) (lacks : Held K → ℕ → Type 0) (old new : Held K) (r : Result IsNull (BindError Error)) → WritesSteps ds type steps lacks old new r → KeepsValue r old new
 keeps_steps ds type steps lacks old new (Ok Yes) d = let e : Yes ≡ No = d.0 in absurd cc
 keeps_steps ds type steps lacks old new (Ok No) d = (array_bytes (array_of ds type d.1.vs), d.1.appended)
 keeps_steps ds type steps lacks old new (Err e) d = front_left old new d.1
@@ -70,19 +74,74 @@ same_array xs ds m n vs e f = rw (e, f) refl
 -- The inner closure does the steps.
 
 -- what a step that answered gave
-step_known : {K : Type 0} (s : Step) (lacks : Type 0) (null : IsNull) (bytes : List ℕ) (before after : Held K) (v : Option (List ℕ)) → v ≡ value_of null bytes → Does s lacks before after (Ok null) → after ≡ before ⊕ bytes → gives s ≡ Some v
+step_known : {K : Type 0} (s : Step) (lacks : Held K → ℕ → Type 0) (null : IsNull) (bytes : List ℕ) (before after : Held K) (v : Option (List ℕ)) → v ≡ value_of null bytes → Does s lacks before after (Ok null) → after ≡ before ⊕ bytes → gives s ≡ Some v
 step_known (Append w) lacks null bytes before after v e d b =
     let i : w.items ≡ bytes = same_more before after w.items bytes d.1 b in
     rw (e, d.0, i) refl
 step_known Null lacks null bytes before after v e d b = rw (e, d.0) refl
 step_known (Refuse r) lacks null bytes before after v e d b = absurd d
 
-step_refuses : {K : Type 0} (s : Step) (lacks : Type 0) (before after : Held K) (e : Error) → Does s lacks before after (Err e) → RefusesAt lacks s e
-step_refuses (Append w) lacks before after e d = d.0
-step_refuses Null lacks before after e d = absurd d
-step_refuses (Refuse r) lacks before after e d = d.0
+step_refuses : {K : Type 0} (s : Step) (lacks : Held K → ℕ → Type 0) (before after : Held K) (e : Error) (Wanted : List ℕ → Type 0) → ((bytes : List ℕ) → Wants lacks before (length bytes) → Wanted bytes)
+    → Does s lacks before after (Err e) → RefusesAt Wanted s e
+step_refuses (Append w) lacks before after e Wanted wants d = (d.0.0, wants w.items d.0.1)
+step_refuses Null lacks before after e Wanted wants d = absurd d
+step_refuses (Refuse r) lacks before after e Wanted wants d = d.0
 
-module _ {F B K : Type 0} (held : B → Held K) (step : F → Bor Step → MutBor B → Result IsNull Error → MutBor B → F → Type 0) (lacks : Type 0)
+-- A growth that an element needs is one that the array needs.
+
+-- each dimension takes eight bytes
+dimensions_length : (ds : List ArrayDimension) → length (flat_map dimension_bytes ds) ≡ 8 * length ds
+dimensions_length [] = refl
+dimensions_length (d ∷ ds) = let r = dimensions_length ds in omega (arith, r, length-append (dimension_bytes d) (flat_map dimension_bytes ds), length-append (int32 d.len) (int32 d.lower_bound), int32_length d.len, int32_length d.lower_bound)
+
+module _ (ds : List ArrayDimension) (type : ℕ) where
+  abbrev flag : List (Option (List ℕ)) → List ℕ
+  flag vs = uint32 (flag_of (has_null vs))
+
+  array_length : (vs : List (Option (List ℕ))) → length (array_bytes (array_of ds type vs)) ≡ 12 + 8 * length ds + length (flat_map nullable vs)
+  array_length vs =
+      omega (
+        arith,
+        dimensions_length ds,
+        length-append (uint32 (length ds)) (flag vs ++ oid type ++ flat_map dimension_bytes ds ++ flat_map nullable vs),
+        length-append (flag vs) (oid type ++ flat_map dimension_bytes ds ++ flat_map nullable vs),
+        length-append (oid type) (flat_map dimension_bytes ds ++ flat_map nullable vs),
+        length-append (flat_map dimension_bytes ds) (flat_map nullable vs),
+        length-uint32 (length ds),
+        length-uint32 (flag_of (has_null vs)),
+        length-uint32 type,
+      )
+
+  module _ {K : Type 0} {lacks : Held K → ℕ → Type 0} (old : Held K) where
+    -- of the head, in whose dimensions these stand
+    head_wants : (n : ℕ) (vs : List (Option (List ℕ))) → n ≤ length ds → Wants lacks old (12 + 8 * n) → Wants lacks old (length (array_bytes (array_of ds type vs)))
+    head_wants n vs h w = wants_more old (12 + 8 * n) _ (let l = array_length vs in omega (arith, l, h)) w
+
+    -- of an element, behind others
+    element_wants : (b : Held K) (vs : List (Option (List ℕ))) (v : Option (List ℕ)) (n : ℕ) → b ≡ before_elements old ds type ⊕ flat_map nullable vs → n ≤ length (nullable v) → Wants lacks b n
+        → Wants lacks old (length (array_bytes (array_of ds type (vs ++ v ∷ []))))
+    element_wants b vs v n h k w =
+        let count = uint32 (length ds) in
+        let made = flat_map nullable vs in
+        let all = flat_map dimension_bytes ds in
+        let stands = h ∙ (more_twice (old ⊕ count ⊕ uint32 0 ⊕ oid type) all made ∙ (more_twice (old ⊕ count ⊕ uint32 0) (oid type) (all ++ made) ∙ (more_twice (old ⊕ count) (uint32 0) (oid type ++ all ++ made) ∙ more_twice old count (uint32 0 ++ oid type ++ all ++ made)))) in
+        wants_then old b (count ++ uint32 0 ++ oid type ++ all ++ made) n _ stands
+        (omega (
+          arith,
+          k,
+          array_length (vs ++ v ∷ []),
+          flat_more nullable vs v,
+          dimensions_length ds,
+          length-append count (uint32 0 ++ oid type ++ all ++ made),
+          length-append (uint32 0) (oid type ++ all ++ made),
+          length-append (oid type) (all ++ made),
+          length-append all made,
+          length-uint32 (length ds),
+          length-uint32 0,
+          length-uint32 type,
+        )) w
+
+module _ {F B K : Type 0} (held : B → Held K) (step : F → Bor Step → MutBor B → Result IsNull Error → MutBor B → F → Type 0) (lacks : Held K → ℕ → Type 0)
     (does : (f f' : F) (x : Bor Step) (b b' : MutBor B) (r : Result IsNull Error) → step f x b r b' f' → Does x.now lacks (held b.now) (held b'.now) r) where
   put_gives : (here : Held K) (f : F) (x : Bor Step) (null : IsNull) (bytes : List ℕ) (u : F) (v : Option (List ℕ)) → v ≡ value_of null bytes → Puts held step here f x (Ok null) bytes u → gives x.now ≡ Some v
   put_gives here f x null bytes u v is m =
@@ -118,10 +177,12 @@ module _ {F B K : Type 0} (held : B → Held K) (step : F → Bor Step → MutBo
           appended = w.appended ∙ ap (λ (a : Array). old ⊕ array_bytes a) same;
         }
 
-    stopped : (e : BindError Error) (all : List ArrayDimension) → dimensions all None → length_cause (length all) ≡ None → MadeUpTo held step elements f last (before_elements old all type) lacks e → ArrayRefused ds type steps lacks e
+    stopped : (e : BindError Error) (all : List ArrayDimension) → dimensions all None → length_cause (length all) ≡ None → MadeUpTo held step elements f last (before_elements old all type) lacks e → ArrayRefused ds type steps (ArrayWants ds type lacks old) e
     stopped (Conversion e) all came fits s =
         let k = some_steps s.xs s.x s.came in
         let d = all_dimensions all came in
+        let call = s.refused.1 in
+        let behind : before_elements old all type ⊕ flat_map nullable s.made ≡ before_elements old ds type ⊕ flat_map nullable s.made = ap (λ ds. before_elements old ds type ⊕ flat_map nullable s.made) d in
         record {
           before = map (λ x. x.now) s.xs;
           step = s.x.now;
@@ -130,13 +191,26 @@ module _ {F B K : Type 0} (held : B → Held K) (step : F → Bor Step → MutBo
           vs = s.made;
           give = runs_give _ f s.xs s.made s.at s.runs;
           none = either_none (length_cause (length ds)) (first (map nullable_cause s.made)) (subst (λ (xs : List ArrayDimension). length_cause (length xs) ≡ None) d fits) (runs_fit _ f s.xs s.made s.at s.runs);
-          refuses = step_refuses s.x.now lacks _ _ e (does s.at last s.x s.refused.1.before s.refused.1.after (Err e) s.refused.1.called);
+          refuses = step_refuses s.x.now lacks (held call.before.now) (held call.after.now) e (λ bytes. ArrayWants ds type lacks old (s.made ++ Some bytes ∷ []))
+              (λ bytes w. element_wants ds type old _ s.made (Some bytes) (length (nullable (Some bytes))) behind (omega arith) (sized_wants bytes 0 _ (held call.before.now) call.stood w))
+              (does s.at last s.x call.before call.after (Err e) call.called);
         }
     stopped (Serialization e) all came fits s =
         let k = some_steps s.xs s.x s.came in
         let d = all_dimensions all came in
         elim s.refused [
-          | inl memory ↦ inl memory.0
+          | inl memory ↦
+              inl (
+                memory.0.0,
+                record {
+                  before = map (λ x. x.now) s.xs;
+                  more = s.x.now ∷ k.0;
+                  are = k.1;
+                  vs = s.made;
+                  give = runs_give _ f s.xs s.made s.at s.runs;
+                  wanted = element_wants ds type old _ s.made None 4 (ap (λ ds. before_elements old ds type ⊕ flat_map nullable s.made) d) (nullable_least None) memory.0.1;
+                },
+              )
           | inr long ↦
               let v : Option (List ℕ) = Some long.0 in
               let one = put_gives _ s.at s.x No long.0 last v refl long.1 in
@@ -151,11 +225,26 @@ module _ {F B K : Type 0} (held : B → Held K) (step : F → Bor Step → MutBo
               })
         ]
 
-    pub steps_refused : (e : BindError Error) → RefusedArray held step dimensions type elements f last old lacks e → ArrayRefused ds type steps lacks e
+    -- of the dimensions, those that came so far are no more than all
+    asked_few : (before : List ArrayDimension) (next : Option ArrayDimension) (xs : List ArrayDimension) → dimensions before next → xs ≡ before ++ option_to_list next → length xs ≤ length ds
+    asked_few before None xs came are = let n = ap (λ l. length l) are in let m = ap (λ l. length l) (all_dimensions before came) in omega (arith, n, m, length-append before [])
+    asked_few before (Some x) xs came are =
+        let k = some_dimensions before x came in
+        let n = ap (λ l. length l) are in
+        let m = ap (λ l. length l) k.1 in
+        omega (arith, n, m, length-append before (x ∷ []), length-append before (x ∷ k.0))
+
+    few : (xs : List ArrayDimension) → SoFar dimensions xs → length xs ≤ length ds
+    few xs (inl none) = let n = ap (λ l. length l) none in omega (arith, n)
+    few xs (inr asked) = asked_few asked.before asked.next xs asked.came asked.are
+
+    pub steps_refused : (e : BindError Error) → RefusedArray held step dimensions type elements f last old lacks e → ArrayRefused ds type steps (ArrayWants ds type lacks old) e
     steps_refused (Conversion e) (inl head) = absurd head.0
     steps_refused (Serialization e) (inl head) =
         elim head.0 [
-          | inl memory ↦ inl memory
+          | inl memory ↦
+              let so_far = memory.1 in
+              inl (memory.0, record { before = []; more = steps; are = refl; vs = []; give = refl; wanted = head_wants ds type old (length so_far.0) (map (λ step. None) (take 1 steps)) (few so_far.0 so_far.1) so_far.2 })
           | inr past ↦
               let p = past.0 in
               let k = some_dimensions p.before p.last p.came in

@@ -1,11 +1,11 @@
 -- An array as the one value of a `bind`, for every list of what its serializer does.
-use Rattle.std.specs.Prelude.{◌≡◌, ◌≢◌, ◌⊎◌, ℕ, pos, List, [], ◌∷◌, ◌++◌, map, Option, Some, None, Result, Ok, Err}
+use Rattle.std.specs.Prelude.{◌≡◌, ◌≢◌, ◌⊎◌, ℕ, pos, List, [], ◌∷◌, ◌++◌, length, map, take, Option, Some, None, Result, Ok, Err}
 use Rattle.pgp_base.specs.declared.error.Error.{Error}
 use Rattle.pgp_base.specs.declared.error.BindError.{BindError}
 use Rattle.pgp_base.specs.declared.error.BindError.TheVariants.{Conversion, Serialization}
 use Rattle.pgp_base.specs.declared.number.IsNull.{IsNull}
 use Rattle.pgp_base.specs.declared.number.IsNull.TheVariants.{Yes, No}
-use Rattle.pgp_base.specs.Cause.{WantsMemory}
+use Rattle.pgp_base.specs.Cause.{Wants, WantsMemory}
 use Rattle.pgp_base.specs.Held.{Held, ◌⊕◌, Leaves}
 use Rattle.pgp_frontend.specs.ClientMessage.{ClientMessage, Bind}
 use Rattle.pgp_frontend.specs.Payload.{tag_of, bytes_of, cause}
@@ -17,9 +17,9 @@ use Rattle.postgres_protocol.specs.declared.laws.array.Step.{Step}
 use Rattle.postgres_protocol.specs.declared.laws.array.Step.TheVariants.{Append, Null, Refuse}
 
 -- What a step does to a buffer, and answers.
-abbrev pub Does : {K : Type 0} → Step → Type 0 → Held K → Held K → Result IsNull Error → Type 0
+abbrev pub Does : {K : Type 0} → Step → (Held K → ℕ → Type 0) → Held K → Held K → Result IsNull Error → Type 0
 Does (Append bytes) lacks old new (Ok null) = (null ≡ No) × (new ≡ old ⊕ bytes.items)
-Does (Append bytes) lacks old new (Err e) = WantsMemory lacks e × (new ≡ old)
+Does (Append bytes) lacks old new (Err e) = WantsMemory (Wants lacks old (length bytes.items)) e × (new ≡ old)
 Does Null lacks old new (Ok null) = (null ≡ Yes) × (new ≡ old)
 Does Null lacks old new (Err e) = ⊥
 Does (Refuse d) lacks old new (Ok null) = ⊥
@@ -35,11 +35,11 @@ gives (Refuse e) = None
 abbrev pub Give : List Step → List (Option (List ℕ)) → Type 0
 Give steps vs = map gives steps ≡ map (λ v. Some v) vs
 
--- why a step that is reached refuses
-abbrev pub RefusesAt : Type 0 → Step → Error → Type 0
-RefusesAt lacks (Append bytes) e = WantsMemory lacks e
-RefusesAt lacks Null e = ⊥
-RefusesAt lacks (Refuse d) e = e ≡ d
+-- Why a step that is reached refuses. `Wanted bytes` says that a growth was refused that these bytes need.
+abbrev pub RefusesAt : (List ℕ → Type 0) → Step → Error → Type 0
+RefusesAt Wanted (Append bytes) e = WantsMemory (Wanted bytes.items) e
+RefusesAt Wanted Null e = ⊥
+RefusesAt Wanted (Refuse d) e = e ≡ d
 
 -- An array of these dimensions and elements, and the message that binds it.
 module _ (dimensions : List ArrayDimension) (element_type : ℕ) (vs : List (Option (List ℕ))) where
@@ -59,8 +59,9 @@ module _ (dimensions : List ArrayDimension) (element_type : ℕ) (vs : List (Opt
     pub only : (r : Result ArrayRead Error) → Reads array (array_bytes array_of) r → r ≡ Ok (array_seen array_of)
 
 module _ (dimensions : List ArrayDimension) (element_type : ℕ) (steps : List Step) where
-  -- behind steps that give elements, with which the array has no cause, one refuses
-  pub record StepRefuses (lacks : Type 0) (e : Error) : Type 0 where
+  -- Behind steps that give elements, with which the array has no cause, one refuses. `Wanted vs` says that a growth was
+  -- refused that what is written of these elements needs.
+  pub record StepRefuses (Wanted : List (Option (List ℕ)) → Type 0) (e : Error) : Type 0 where
     pub before : List Step
     pub step : Step
     pub more : List Step
@@ -68,7 +69,17 @@ module _ (dimensions : List ArrayDimension) (element_type : ℕ) (steps : List S
     pub vs : List (Option (List ℕ))
     pub give : Give before vs
     pub none : array_cause (array_of dimensions element_type vs) ≡ None
-    pub refuses : RefusesAt lacks step e
+    pub refuses : RefusesAt (λ bytes. Wanted (vs ++ Some bytes ∷ [])) step e
+
+  -- A growth was refused that what is written of the first elements needs. Where a step comes behind them, a null stands for
+  -- its element: no more than the place of its length was asked for.
+  pub record ElementsWant (Wanted : List (Option (List ℕ)) → Type 0) : Type 0 where
+    pub before : List Step
+    pub more : List Step
+    pub are : steps ≡ before ++ more
+    pub vs : List (Option (List ℕ))
+    pub give : Give before vs
+    pub wanted : Wanted (vs ++ map (λ step. None) (take 1 more))
 
   -- the first steps give elements with which the array has this cause
   pub record HasCause (e : Error) : Type 0 where
@@ -80,9 +91,13 @@ module _ (dimensions : List ArrayDimension) (element_type : ℕ) (steps : List S
     pub some : array_cause (array_of dimensions element_type vs) ≡ Some e
 
   -- why the array was refused: by a step; or for its own cause, or for want of memory
-  abbrev pub ArrayRefused : Type 0 → BindError Error → Type 0
-  ArrayRefused lacks (Conversion e) = StepRefuses lacks e
-  ArrayRefused lacks (Serialization e) = WantsMemory lacks e ⊎ HasCause e
+  abbrev pub ArrayRefused : (List (Option (List ℕ)) → Type 0) → BindError Error → Type 0
+  ArrayRefused Wanted (Conversion e) = StepRefuses Wanted e
+  ArrayRefused Wanted (Serialization e) = WantsMemory (ElementsWant Wanted) e ⊎ HasCause e
+
+  -- a growth was refused that the array of these elements needs
+  abbrev pub ArrayWants : {K : Type 0} → (Held K → ℕ → Type 0) → Held K → List (Option (List ℕ)) → Type 0
+  ArrayWants lacks old vs = Wants lacks old (length (array_bytes (array_of dimensions element_type vs)))
 
   -- the array of the elements that the steps give stands behind the old bytes, and has no cause
   pub record ArrayAppended {K : Type 0} (old new : Held K) : Type 0 where
@@ -91,9 +106,9 @@ module _ (dimensions : List ArrayDimension) (element_type : ℕ) (steps : List S
     pub none : array_cause (array_of dimensions element_type vs) ≡ None
     pub appended : new ≡ old ⊕ array_bytes (array_of dimensions element_type vs)
 
-  abbrev pub WritesSteps : {K : Type 0} → Type 0 → Held K → Held K → Result IsNull (BindError Error) → Type 0
+  abbrev pub WritesSteps : {K : Type 0} → (Held K → ℕ → Type 0) → Held K → Held K → Result IsNull (BindError Error) → Type 0
   WritesSteps lacks old new (Ok null) = (null ≡ No) × ArrayAppended old new
-  WritesSteps lacks old new (Err e) = ArrayRefused lacks e × Leaves old new
+  WritesSteps lacks old new (Err e) = ArrayRefused (ArrayWants lacks old) e × Leaves old new
 
   -- the frame of the message stands behind the old bytes, and neither it nor the array has a cause
   pub record BindAppended {K : Type 0} (old new : Held K) : Type 0 where
@@ -111,10 +126,14 @@ module _ (dimensions : List ArrayDimension) (element_type : ℕ) (steps : List S
     pub some : cause (binding dimensions element_type vs) ≡ Some e
 
   -- why the message was refused: as the array was; or for its own cause, or for want of memory
-  abbrev pub BindRefused : Type 0 → BindError (BindError Error) → Type 0
-  BindRefused lacks (Conversion e) = ArrayRefused lacks e
-  BindRefused lacks (Serialization e) = WantsMemory lacks e ⊎ IsTooLong e
+  abbrev pub BindRefused : (List (Option (List ℕ)) → Type 0) → BindError (BindError Error) → Type 0
+  BindRefused Wanted (Conversion e) = ArrayRefused Wanted e
+  BindRefused Wanted (Serialization e) = WantsMemory (ElementsWant Wanted) e ⊎ IsTooLong e
 
-  abbrev pub BindsArray : {K : Type 0} → Type 0 → Held K → Held K → Result (Unit {0}) (BindError (BindError Error)) → Type 0
+  -- a growth was refused that the message which binds these elements needs
+  abbrev pub BindWants : {K : Type 0} → (Held K → ℕ → Type 0) → Held K → List (Option (List ℕ)) → Type 0
+  BindWants lacks old vs = Wants lacks old (length (bytes_of (binding dimensions element_type vs)))
+
+  abbrev pub BindsArray : {K : Type 0} → (Held K → ℕ → Type 0) → Held K → Held K → Result (Unit {0}) (BindError (BindError Error)) → Type 0
   BindsArray lacks old new (Ok done) = BindAppended old new
-  BindsArray lacks old new (Err e) = BindRefused lacks e × Leaves old new
+  BindsArray lacks old new (Err e) = BindRefused (BindWants lacks old) e × Leaves old new

@@ -1,10 +1,10 @@
 -- What a client has to send, and what a call adds to it.
-use Rattle.std.specs.Prelude.{◌≡◌, ◌⊎◌, ℕ, Bool, true, List, [], ◌∷◌, ◌++◌, Some, None, Result, Ok, Err, if◌then◌else◌}
-use Rattle.pgp_base.specs.Cause.{WantsMemory}
+use Rattle.std.specs.Prelude.{◌≡◌, ◌⊎◌, ℕ, Bool, true, List, [], ◌∷◌, ◌++◌, length, Some, None, Result, Ok, Err, if◌then◌else◌}
+use Rattle.pgp_base.specs.Cause.{Wants, WantsMemory}
 use Rattle.pgp_base.specs.Held.{Held, ◌⊕◌, Leaves}
 use Rattle.pgp_base.specs.declared.error.Error.{Error}
 use Rattle.pgp_frontend.specs.ClientMessage.{ClientMessage, PasswordKind}
-use Rattle.pgp_frontend.specs.Given.{Refused}
+use Rattle.pgp_frontend.specs.Given.{Refused, WantsMessage}
 use Rattle.pgp_frontend.specs.Payload.{Part, bytes_of, cause, IsInRange}
 use Rattle.postgres_protocol.specs.ClientRun.{ClientRun, kinds_of, is_startup, is_opened}
 
@@ -36,18 +36,18 @@ module _ {B Kept : Type 0} (held : B → Held Kept) where
   Adds Meant Refuses old new (Ok done) = (m : ClientMessage) × Meant m × IsAdded m old new
   Adds Meant Refuses old new (Err e) = Refuses e × IsLeft old new
 
--- a writer of the message refuses for want of memory, or for the message's cause
-abbrev pub RefusesMessage : ClientMessage → Type 0 → Error → Type 0
-RefusesMessage m lacks e = WantsMemory lacks e ⊎ (cause m ≡ Some e)
+-- a writer of the message refuses for want of the memory that it needs, or for the message's cause
+abbrev pub RefusesMessage : {Kept : Type 0} → ClientMessage → (Held Kept → ℕ → Type 0) → Held Kept → Error → Type 0
+RefusesMessage m lacks old e = WantsMemory (Wants lacks old (length (bytes_of m))) e ⊎ (cause m ≡ Some e)
 
 -- the call adds this message
-abbrev pub AddsMessage : {B Kept : Type 0} → (B → Held Kept) → ClientMessage → Type 0 → Sent B → Sent B → Result (Unit {0}) Error → Type 0
-AddsMessage held m lacks = Adds held (λ n. n ≡ m) (RefusesMessage m lacks)
+abbrev pub AddsMessage : {B Kept : Type 0} → (B → Held Kept) → ClientMessage → (Held Kept → ℕ → Type 0) → Sent B → Sent B → Result (Unit {0}) Error → Type 0
+AddsMessage held m lacks old new result = Adds held (λ n. n ≡ m) (RefusesMessage m lacks (held old.buf)) old new result
 
--- The call adds the message of all that iterators gave, which `Whole` tells; `Reached` are the parts of what
--- they gave up to a refusal.
-abbrev pub AddsGiven : {B Kept : Type 0} → (B → Held Kept) → (ClientMessage → Type 0) → (List Part → Type 0) → Type 0 → Sent B → Sent B → Result (Unit {0}) Error → Type 0
-AddsGiven held Whole Reached lacks = Adds held Whole (Refused Whole Reached lacks)
+-- The call adds the message of all that iterators gave, which `Whole` tells. `Reached` are the parts of what
+-- they gave up to a refusal, and `SoFar` the messages of what they gave up to a want of memory.
+abbrev pub AddsGiven : {B Kept : Type 0} → (B → Held Kept) → (ClientMessage → Type 0) → (List Part → Type 0) → (ClientMessage → Type 0) → (Held Kept → ℕ → Type 0) → Sent B → Sent B → Result (Unit {0}) Error → Type 0
+AddsGiven held Whole Reached SoFar lacks old new result = Adds held Whole (Refused Whole Reached (WantsMessage SoFar lacks (held old.buf))) old new result
 
 -- a server reads these bytes so, and a startup packet is among what it reads where the stream was opened
 pub record IsRead (kinds : List PasswordKind) (messages : List ClientMessage) (bytes : List ℕ) (opened : Bool) : Type 0 where

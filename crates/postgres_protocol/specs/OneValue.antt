@@ -1,12 +1,12 @@
 -- What a `bind` of one value comes to, which a serializer makes.
-use Rattle.std.specs.Prelude.{◌≡◌, ◌⊎◌, ℕ, ℤ, pos, List, [], ◌∷◌, Option, Some, None, Result, Ok, Err}
+use Rattle.std.specs.Prelude.{◌≡◌, ◌⊎◌, ℕ, ℤ, pos, List, [], ◌∷◌, length, Option, Some, None, Result, Ok, Err}
 use Rattle.pgp_base.specs.declared.error.Error.{Error}
 use Rattle.pgp_base.specs.declared.error.BindError.{BindError}
 use Rattle.pgp_base.specs.declared.error.BindError.TheVariants.{Conversion, Serialization}
 use Rattle.pgp_base.specs.declared.number.IsNull.{IsNull}
 use Rattle.pgp_base.specs.Wire.{uint32}
 use Rattle.pgp_base.specs.Calls.{value_of, Puts}
-use Rattle.pgp_base.specs.Cause.{Cause, WantsMemory}
+use Rattle.pgp_base.specs.Cause.{Cause, Wants, WantsMemory}
 use Rattle.pgp_base.specs.Held.{Held, ◌⊕◌, Leaves}
 use Rattle.pgp_frontend.specs.ClientMessage.{ClientMessage, Bind}
 use Rattle.pgp_frontend.specs.Payload.{Text, bytes_of, cause, parts_cause}
@@ -55,17 +55,22 @@ module _ {F E B K : Type 0} (held : B → Held K) (step : F → ℕ → MutBor B
   abbrev pub NamesRefused : Error → Type 0
   NamesRefused e = (f ≡ last) × (names_cause to ≡ Some e)
 
+  -- A growth was refused that the message needs: of a null, where it wasn't called; or of the value that it made.
+  abbrev pub OneWants : (Held K → ℕ → Type 0) → Type 0
+  OneWants lacks = ((f ≡ last) × Wants lacks old (length (bytes_of (one_bound to None))))
+      ⊎ ((null : IsNull) × (bytes : List ℕ) × PutsOne (Ok null) bytes × Wants lacks old (length (bytes_of (one_bound to (value_of null bytes)))))
+
   -- why there is no message: it refused, behind names that have no cause; or for want of memory, for the cause of the
   -- names, or for that of the message
-  abbrev pub OneRefused : Type 0 → BindError E → Type 0
+  abbrev pub OneRefused : (Held K → ℕ → Type 0) → BindError E → Type 0
   OneRefused lacks (Conversion e) = (bytes : List ℕ) × PutsOne (Err e) bytes × (names_cause to ≡ None)
-  OneRefused lacks (Serialization e) = WantsMemory lacks e ⊎ (NamesRefused e ⊎ OneTooLong e)
+  OneRefused lacks (Serialization e) = WantsMemory (OneWants lacks) e ⊎ (NamesRefused e ⊎ OneTooLong e)
 
-  abbrev pub OneBinds : Type 0 → Held K → Result (Unit {0}) (BindError E) → Type 0
+  abbrev pub OneBinds : (Held K → ℕ → Type 0) → Held K → Result (Unit {0}) (BindError E) → Type 0
   OneBinds lacks new (Ok done) = OneWritten new
   OneBinds lacks new (Err e) = OneRefused lacks e × Leaves old new
 
 -- the same for the unnamed statement, with the serializer's last state
-pub record BindsOne {F E B K : Type 0} (held : B → Held K) (step : F → ℕ → MutBor B → Result IsNull E → MutBor B → F → Type 0) (f : F) (old : Held K) (lacks : Type 0) (new : Held K) (result : Result (Unit {0}) (BindError E)) : Type 0 where
+pub record BindsOne {F E B K : Type 0} (held : B → Held K) (step : F → ℕ → MutBor B → Result IsNull E → MutBor B → F → Type 0) (f : F) (old : Held K) (lacks : Held K → ℕ → Type 0) (new : Held K) (result : Result (Unit {0}) (BindError E)) : Type 0 where
   pub last : F
   pub binds : OneBinds held step unnamed f last old lacks new result

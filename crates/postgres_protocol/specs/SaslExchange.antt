@@ -64,7 +64,7 @@ GivesNone IsOther old new (refusals.Message e) = Step old (Err e) new
 GivesNone IsOther old new (refusals.Scram e) = ⊥
 
 -- Where an exchange stopped. Each side is what it was before the call and is behind it.
-module _ {Kept : Type 0} (lacks : Type 0) (mechanism : List ℕ) (old new : Client) (first_old first_new final_old final_new : List ℕ) (out_old out_new : Held Kept) where
+module _ {Kept : Type 0} (lacks : Held Kept → ℕ → Type 0) (mechanism : List ℕ) (old new : Client) (first_old first_new final_old final_new : List ℕ) (out_old out_new : Held Kept) where
   -- the client's first text wasn't written, and nothing was taken
   pub record FirstUnwritten (e : Error) : Type 0 where
     pub begun : Begun

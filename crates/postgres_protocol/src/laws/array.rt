@@ -24,6 +24,7 @@ pub enum Step {
 }
 
 /// Does the step.
+#[tactic(auto, using(pgp_base::proofs::Parts::wants_now))]
 fn put_step<B: Buffer>(step: &Step, buf: &mut B) -> Result<IsNull, Error>
     ensures { Does step.now B.Lacks (B.held buf.old) (B.held buf.new) result }
 {

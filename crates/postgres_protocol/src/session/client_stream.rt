@@ -1,12 +1,13 @@
 //! What a client sends, as one stream.
 
-ghost use Rattle.std.specs.Prelude.{◌≡◌, List, true, false, [], map};
+ghost use Rattle.std.specs.Prelude.{◌≡◌, List, true, false, [], length, map};
 ghost use Rattle.pgp_base.specs.Held.{items_held};
-ghost use Rattle.pgp_base.specs.Cause.{WantsMemory};
+ghost use Rattle.pgp_base.specs.Cause.{Wants};
 ghost use Rattle.std.specs.Iterator.{IsFiniteIterable};
 ghost use Rattle.pgp_base.specs.Calls.{Came, OwesValues};
 ghost use Rattle.pgp_frontend.specs.ClientMessage.{ClientMessage, PasswordKind, CancelRequest, Close, CopyData as DataMessage, CopyDone, CopyFail, Describe, Execute, Flush, PasswordMessage, Query, SaslInitialResponse, SaslResponse, SslRequest, Startup, Sync, Terminate};
-ghost use Rattle.pgp_frontend.specs.Given.{BindWhole, BindRefused, ParseWhole, ParseReached, Serves, shown};
+ghost use Rattle.pgp_frontend.specs.Given.{BindWhole, BindRefused, ParseWhole, ParseReached, ParseSoFar, Serves, shown};
+ghost use Rattle.pgp_frontend.specs.Payload.{bytes_of};
 ghost use Rattle.pgp_frontend.specs.Reading.{IsNamed};
 ghost use Rattle.postgres_protocol.specs.ClientRun.{ClientRun, is_opened};
 ghost use Rattle.postgres_protocol.specs.ClientStream.{Adds, AddsGiven, AddsMessage, Reads};
@@ -225,7 +226,7 @@ impl<B: Buffer> ClientStream<B> {
     /// The piece itself, nothing read from it, where a growth was refused. The stream stays as it is.
     pub fn copy_data<T: Buf + Drop>(&mut self, piece: CopyData<T>) -> Result<(), CopyData<T>>
         requires { self.old.opened ≡ true }
-        ensures { Adds B.held (λ m. m ≡ DataMessage (T.unread piece)) (λ back. (back ≡ piece) × B.Lacks) self.old self.new result }
+        ensures { Adds B.held (λ m. m ≡ DataMessage (T.unread piece)) (λ back. (back ≡ piece) × Wants B.Lacks (B.held self.old.buf) (length (bytes_of (DataMessage (T.unread piece))))) self.old self.new result }
     {
         match piece.write(&mut self.buf) {
             Ok(()) => Ok(()),
@@ -305,6 +306,7 @@ impl<B: Buffer> ClientStream<B> {
         ensures { AddsGiven B.held
             (ParseWhole name.now query.now (Came I.into_iter_gives I.IntoIter.next_gives param_types))
             (ParseReached name.now query.now (Came I.into_iter_gives I.IntoIter.next_gives param_types))
+            (ParseSoFar name.now query.now (Came I.into_iter_gives I.IntoIter.next_gives param_types))
             B.Lacks self.old self.new result }
     {
         match frontend::parse(name, query, param_types, &mut self.buf) {

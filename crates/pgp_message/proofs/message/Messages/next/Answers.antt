@@ -1,7 +1,7 @@
 use Rattle.std.proofs.Common.{rules, ap, ◌∙◌}
 use Rattle.pgp_message.specs.FrontReading.{Front, IsFront}
 use Rattle.pgp_message.specs.Reading.{body_of}
-use Rattle.pgp_message.proofs.Steps.{steps, payload_of_front, wants_no_memory}
+use Rattle.pgp_message.proofs.Steps.{steps, payload_of_front}
 use Rattle.pgp_message.proofs.message.Messages.next.Goals as goal
 
 pub returns-clause-step : goal.returns-clause-step
@@ -10,12 +10,4 @@ returns-clause-step c =
     let front : IsFront f c.args.self.now = search rules in
     let payload = payload_of_front c.self.inside.rest.now c.args.self.now c.front.inside.total front.least (search rules) in
     let read = c.body.ensures ∙ ap (body_of c.front.inside.tag) payload in
-    steps c.args.self.now c.split_at.result.1.now f c.body.result c.map.result front (search rules) read c.map.ensures.cases
-
-pub returns-clause-memory : goal.returns-clause-memory
-returns-clause-memory c =
-    let f : Front = record { tag = c.front.inside.tag; total = c.front.inside.total } in
-    let front : IsFront f c.args.self.now = search rules in
-    let payload = payload_of_front c.self.inside.rest.now c.args.self.now c.front.inside.total front.least (search rules) in
-    let read = c.body.ensures ∙ ap (body_of c.front.inside.tag) payload in
-    wants_no_memory c.args.self.now f c.body.result c.map.result front read c.map.ensures.cases
+    steps ⊥ c.args.self.now c.split_at.result.1.now f c.body.result c.map.result front (search rules) read c.map.ensures.cases

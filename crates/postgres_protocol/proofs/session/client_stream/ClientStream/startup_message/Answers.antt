@@ -5,11 +5,12 @@ use Rattle.std.proofs.lemmas.Iterator.{YieldsList, YieldsList-from_slice}
 use Rattle.std.proofs.lemmas.Iterator.Consumers.{YieldsList-from_copied}
 use Rattle.pgp_frontend.specs.ClientMessage.{Startup}
 use Rattle.pgp_frontend.specs.Given.{shown, shown_pairs}
-use Rattle.pgp_frontend.specs.Payload.{Int32, parts_cause, cause}
+use Rattle.pgp_base.specs.Cause.{Wants}
+use Rattle.pgp_frontend.specs.Payload.{Int32, parts_cause, bytes_of, cause}
 use Rattle.pgp_frontend.specs.Reading.{IsNamed}
 use Rattle.postgres_protocol.specs.ClientRun.{IsStartup, is_startup}
 use Rattle.postgres_protocol.proofs.Additions.{same_phase, first_added, first_stays, left, still}
-use Rattle.postgres_protocol.proofs.StartupPairs.{came_all, came_front, front_refused}
+use Rattle.postgres_protocol.proofs.StartupPairs.{came_all, came_front, came_so_far, startup_wants, front_refused}
 use Rattle.postgres_protocol.proofs.session.client_stream.ClientStream.startup_message.Goals as goal
 
 pub returns-in-Ok : goal.returns-in-Ok
@@ -39,7 +40,11 @@ returns-in-Err g c =
     let road : YieldsList (copies fronts) (λ x. x) c.copied.result all = YieldsList-from_copied (YieldsList-from_slice all cc) in
     rw (← c.self.view_is) (
       elim c.in-Err.ensures.0 [
-        | inl memory ↦ inl memory
+        | inl memory ↦
+            (let wants = memory.1 in
+            let xs = wants.1.0 in
+            let so_far = came_so_far _ (copies fronts) c.copied.result all (λ s from. subst (λ s. YieldsList (copies fronts) (λ x. x) s all) (sym from) road) xs wants.1.1 in
+            inl (memory.0, startup_wants all xs (g.B.Buffer.held c.self.inside.buf) so_far (subst (λ m. Wants g.B.Buffer.Lacks (g.B.Buffer.held c.self.inside.buf) (length (bytes_of m))) wants.1.2 wants.2)))
         | inr (inl r) ↦
             (let begun = r.1.1 in
             let came = begun.came in
