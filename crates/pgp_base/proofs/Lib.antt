@@ -17,3 +17,4 @@ pub mod CountedWalks
 pub mod AsciiLemmas
 pub mod ZeroLemmas
 pub mod Needs
+pub mod Fitting

@@ -1,10 +1,13 @@
 //! Laws on the definitions that every crate of the port speaks of.
 
-ghost use Rattle.std.specs.Prelude.{◌≡◌, ◌≢◌, ℕ, ◌<◌, ◌^◌, List, [], ◌∷◌, length, drop, Option, None, Result, true, false, All, FitsSigned};
-ghost use Rattle.std.specs.Borrow.{Bor};
+ghost use Rattle.std.specs.Prelude.{◌≡◌, ◌≢◌, ◌⊎◌, ℕ, ◌+◌, ◌<◌, ◌≤◌, ◌^◌, List, [], ◌∷◌, length, drop, Option, Some, None, Result, Err, IsOk, IfErr, true, false, All, FitsSigned};
+ghost use Rattle.std.specs.Borrow.{Bor, GName};
 ghost use Rattle.std.specs.Int.{w16, w32, w64};
 ghost use Rattle.pgp_base.specs.Wire.{int16, int32, int64, uint16, uint32, uint64, oid, text, counted, nullable, IsBytes};
-ghost use Rattle.pgp_base.specs.Cause.{text_cause, count_cause, nullable_cause};
+ghost use Rattle.pgp_base.specs.Cause.{Cause, text_cause, count_cause, nullable_cause, Wants, Writes};
+ghost use Rattle.pgp_base.specs.Held.{Held, ◌⊕◌};
+ghost use Rattle.pgp_base.specs.Window.{window_held, window_lacks};
+ghost use Rattle.pgp_base.specs.declared.window.Window.{Window};
 ghost use Rattle.pgp_base.specs.Reading.{BeginsNoOther, ReadsSpelling, ReadsTexts};
 ghost use Rattle.pgp_base.specs.Grammar.{IsReader};
 ghost use Rattle.pgp_base.specs.PartReading.{byte_at, uint16_at, oid_at, int16_at, int32_at, string_at, text_at};
@@ -20,6 +23,18 @@ use crate::walk::FallibleIterator;
 /// The numbers tell the variants apart.
 pub fn numbers_differ()
     ensures { (d e : Error) → number_of d ≡ number_of e → plain d ≡ plain e }
+{}
+
+/// In a window what fits is never refused: a writer of what has no cause writes it where it is no longer than the room that is
+/// left, and wants memory where it is longer, and nowhere else.
+pub fn what_fits_is_written()
+    ensures wants { (old : Held (GName × ℕ)) (n : ℕ) → Wants window_lacks old n → window_lacks old n }
+    ensures fits { (spelling : List ℕ) (cause : Cause) (old new : Window) (result : Result (Unit {0}) Error) → Writes spelling cause window_lacks (window_held old) (window_held new) result
+        → cause ≡ None → length (window_held old).bytes + length spelling ≤ (window_held old).kept.1 → IsOk result × (window_held new ≡ window_held old ⊕ spelling) }
+    ensures longer { (spelling : List ℕ) (cause : Cause) (old new : Window) (result : Result (Unit {0}) Error) → Writes spelling cause window_lacks (window_held old) (window_held new) result
+        → cause ≡ None → window_lacks (window_held old) (length spelling) → result ≡ Err Error.OutOfMemory }
+    ensures only { (spelling : List ℕ) (cause : Cause) (old new : Window) (result : Result (Unit {0}) Error) → Writes spelling cause window_lacks (window_held old) (window_held new) result
+        → IfErr result (λ e. ((e ≡ Error.OutOfMemory) × window_lacks (window_held old) (length spelling)) ⊎ (cause ≡ Some e)) }
 {}
 
 /// A walk at its end gives the same answer for ever.

@@ -31,11 +31,11 @@ answers lacks old new (Ok m) (Ok o) t e = found_here lacks old new m o t e
 answers lacks old new (Ok m) (Err d) t e = absurd e
 answers {A} lacks old new (Err e) out t is = subst (λ (x : Result (Option (code.Message.Message A)) Error). Step lacks old (parsed x) new) (sym is) (refused lacks old new e t)
 
--- a refusal that isn't of the whole stream is that of a frame
-pub taken_by : (lacks : Type 0) (old new : List ℕ) (e : Error) → e ≢ errors.OutOfMemory → e ≢ errors.InvalidLength → Step lacks old (Err e) new → TakesFrame old (Err e) new
-taken_by lacks old new errors.OutOfMemory p q step = absurd (p refl)
-taken_by lacks old new errors.InvalidLength p q step = absurd (q refl)
-taken_by lacks old new e p q step = step
+-- where no memory is wanted, a refusal that isn't a length fault is that of a frame
+pub taken_by : (old new : List ℕ) (e : Error) → e ≢ errors.InvalidLength → Step ⊥ old (Err e) new → TakesFrame old (Err e) new
+taken_by old new errors.OutOfMemory q step = absurd step.1
+taken_by old new errors.InvalidLength q step = absurd (q refl)
+taken_by old new e q step = step
 
 -- the front that was found is removed
 pub steps : {A : Type 0} (lacks : Type 0) (old new : List ℕ) (f : Front) (r : Result (code.Message.Message A) Error) (out : Result (Option (code.Message.Message A)) Error)

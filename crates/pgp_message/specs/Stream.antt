@@ -86,14 +86,11 @@ pub record BeginsWithFrame (bytes : List ℕ) : Type 0 where
 abbrev pub keeping_tags : List ℕ
 keeping_tags = 65 ∷ 67 ∷ 68 ∷ 69 ∷ 71 ∷ 72 ∷ 78 ∷ 83 ∷ 84 ∷ 100 ∷ 116 ∷ []
 
--- And the codes of authentication requests that do: those with the bytes of an exchange, or its mechanisms.
-abbrev pub keeping_codes : List ℕ
-keeping_codes = 8 ∷ 10 ∷ 11 ∷ 12 ∷ []
-
--- A message of this tag keeps bytes of its frame. Of an authentication request (82, `R`) the code tells it.
+-- A message of this tag keeps bytes of its frame. An authentication request (82, `R`) tells by its code: 8, or 10 to 12, which have
+-- the bytes of an exchange or the names of mechanisms.
 abbrev pub KeepsBytes : ℕ → List ℕ → Type 0
 KeepsBytes tag payload = (list_any (λ t. t == tag) keeping_tags ≡ true)
-    ⊎ ((tag ≡ 82) × (code : ℕ) × (rest : List ℕ) × (oid_at payload ≡ Some (code, rest)) × (list_any (λ c. c == code) keeping_codes ≡ true))
+    ⊎ ((tag ≡ 82) × (code : ℕ) × (rest : List ℕ) × (oid_at payload ≡ Some (code, rest)) × ((code ≡ 8) ⊎ ((10 ≤ code) × (code ≤ 12))))
 
 -- the bytes begin with the whole frame of such a message
 pub record BeginsWithKept (bytes : List ℕ) : Type 0 where

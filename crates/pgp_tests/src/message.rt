@@ -187,7 +187,7 @@ fn clone_with_each_allocation_refused(rt: HostRuntime) -> Result<(), Fail> {
 }
 
 // How many items the walk over the message's body collects.
-fn collected<A: Allocator>(alloc: A, message: &Message) -> Result<usize, Error> {
+fn collected<A: Allocator + Copy>(alloc: A, message: &Message) -> Result<usize, Error> {
     match message {
         Message::CopyInResponse(body) => Ok(body.column_formats().collect(alloc)?.len()),
         Message::ParameterDescription(body) => Ok(body.parameters().collect(alloc)?.len()),
@@ -296,7 +296,7 @@ fn parser_with_each_allocation_refused(rt: HostRuntime) -> Result<(), Fail> {
 }
 
 // How many columns the table of the first message has, which has to be a row.
-fn columns<A: Allocator>(alloc: A, bytes: &[u8]) -> Result<usize, Error> {
+fn columns<A: Allocator + Copy>(alloc: A, bytes: &[u8]) -> Result<usize, Error> {
     match Messages::new(bytes).next() {
         Ok(Some(Message::DataRow(row))) => Ok(row.index(alloc)?.len()),
         other => {

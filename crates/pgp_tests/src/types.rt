@@ -179,7 +179,7 @@ fn collect_reserves_nothing_by_the_count(rt: HostRuntime) -> Result<(), Fail> {
 }
 
 // How many items the walk over the value of this number collects.
-fn collected<A: Allocator>(alloc: A, number: u32) -> Result<usize, Error> {
+fn collected<A: Allocator + Copy>(alloc: A, number: u32) -> Result<usize, Error> {
     match number {
         0 => Ok(hstore_from_sql(PAIRS)?.collect(alloc)?.len()),
         1 => Ok(path_from_sql(POINTS)?.points().collect(alloc)?.len()),

@@ -1,9 +1,11 @@
 -- Messages behind those that a server read, and the binding among them.
-use Rattle.std.proofs.Common.{◌≡◌, ℕ, ℤ, pos, true, false, List, [], ◌∷◌, ◌++◌, Option, Some, None, Result, Ok, Err, MutBor, refl, sym, ap, subst, ◌∙◌, append_assoc, inl, inr, if◌then◌else◌}
+use Rattle.std.proofs.Common.{◌≡◌, ℕ, ℤ, pos, true, false, List, [], ◌∷◌, ◌++◌, length, Option, Some, None, Result, Ok, Err, MutBor, refl, sym, ap, subst, ◌∙◌, append_assoc, inl, inr, arith, if◌then◌else◌}
 use Rattle.std.specs.List.{flat_map, AllByRecursion}
+use Rattle.std.specs.Option.{option_to_list}
 use Rattle.std.proofs.lemmas.List.{append-nil}
 use Rattle.std.proofs.lemmas.Grind.{flat_map-append}
-use Rattle.pgp_base.specs.Calls.{value_of}
+use Rattle.pgp_base.specs.Calls.{value_of, SoFar}
+use Rattle.pgp_base.proofs.Needs.{sized_wants}
 use Rattle.pgp_base.proofs.Parts.{more_bytes}
 use Rattle.pgp_base.specs.Held.{Held, ◌⊕◌, lengthened}
 use Rattle.pgp_base.specs.Wire.{uint32}
@@ -13,13 +15,13 @@ use Rattle.pgp_base.specs.declared.error.BindError.TheVariants.{Conversion, Seri
 use Rattle.pgp_base.specs.declared.number.IsNull.{IsNull}
 use Rattle.pgp_frontend.specs.ClientMessage.{ClientMessage, Parse}
 use Rattle.pgp_frontend.specs.Payload.{Text, bytes_of, part_cause, parts_cause, cause}
-use Rattle.pgp_base.specs.Cause.{Cause, either}
+use Rattle.pgp_base.specs.Cause.{Cause, Wants, either}
 use Rattle.std.specs.Result.{IsErrAnd}
-use Rattle.postgres_protocol.specs.OneValue.{PutsOne}
-use Rattle.postgres_protocol.proofs.BindLemmas.{names_first, one_whole, one_refused}
+use Rattle.postgres_protocol.specs.OneValue.{PutsOne, OneWants}
+use Rattle.postgres_protocol.proofs.BindLemmas.{names_first, one_whole, one_refused, null_wants, value_wants}
 use Rattle.pgp_uses.specs.declared.session.AskError.{AskError}
 use Rattle.pgp_uses.specs.declared.session.AskError.TheVariants.{Binding}
-use Rattle.pgp_frontend.specs.Given.{Serves, before_values, BindWhole, BindRefused, Refused, ParseWhole, ParseReached}
+use Rattle.pgp_frontend.specs.Given.{Serves, before_values, BindWhole, BindRefused, Refused, ParseWhole, ParseReached, ParseSoFar, WantsMessage}
 use Rattle.pgp_types.specs.Scalar.{int4}
 use Rattle.postgres_protocol.specs.ClientRun.{ClientRun, kinds_of, is_startup}
 use Rattle.postgres_protocol.specs.ClientStream.{Sent, IsAdded, IsLeft, Adds, RefusesMessage}
@@ -78,15 +80,15 @@ module _ {B K : Type 0} (held : B → Held K) where
   }
 
   -- the refusal that a call handed on
-  pub stops : (front : List ClientMessage) (at : ClientMessage) (rest : List ClientMessage) (lacks : Type 0) (x : AskError) (old mid new : Sent B) (r : Result (Unit {0}) AskError)
-      → IsErrAnd r (λ e. e ≡ x) → AreAdded held front old mid → IsLeft held mid new → Blames lacks x at → AddsAll held (front ++ at ∷ rest) lacks old new r
+  pub stops : (front : List ClientMessage) (at : ClientMessage) (rest : List ClientMessage) (lacks : Held K → ℕ → Type 0) (x : AskError) (old mid new : Sent B) (r : Result (Unit {0}) AskError)
+      → IsErrAnd r (λ e. e ≡ x) → AreAdded held front old mid → IsLeft held mid new → Blames lacks (held mid.buf) x at → AddsAll held (front ++ at ∷ rest) lacks old new r
   stops front at rest lacks x old mid new (Ok done) is before left why = absurd is
   stops front at rest lacks x old mid new (Err e) is before left why =
-      subst (λ e. Stops held (front ++ at ∷ rest) lacks e old new) (sym is) (record { front = front; at = at; rest = rest; are = refl; added = none_more front old mid new before left; why = why })
+      subst (λ e. Stops held (front ++ at ∷ rest) lacks e old new) (sym is) (record { front = front; at = at; rest = rest; are = refl; reached = mid; begun = before; added = none_more front old mid new before left; why = why })
 
 -- ---- the refusal of `parse` without types
 
-module _ (name sql : List ℕ) (types : List ℕ → Option ℕ → Type 0) (all_types : (xs : List ℕ) → types xs None → xs ≡ []) (some_types : (xs : List ℕ) (x : ℕ) → types xs (Some x) → ⊥) (lacks : Type 0) where
+module _ (name sql : List ℕ) (types : List ℕ → Option ℕ → Type 0) (all_types : (xs : List ℕ) → types xs None → xs ≡ []) (some_types : (xs : List ℕ) (x : ℕ) → types xs (Some x) → ⊥) {K : Type 0} (lacks : Held K → ℕ → Type 0) (old : Held K) where
   texts_cause : (e : Error) → parts_cause (Text name ∷ Text sql ∷ []) ≡ Some e → cause (Parse name sql []) ≡ Some e
   texts_cause e h =
       let by_cause : (c d k : Cause) → either c (either d None) ≡ Some e → either (either c (either d (either None None))) k ≡ Some e = λ c d k. elim c as (λ c. either c (either d None) ≡ Some e → either (either c (either d (either None None))) k ≡ Some e) [
@@ -98,15 +100,26 @@ module _ (name sql : List ℕ) (types : List ℕ → Option ℕ → Type 0) (all
       ] in
       by_cause (part_cause (Text name)) (part_cause (Text sql)) _ h
 
-  pub parse_refused : (e : Error) → Refused (ParseWhole name sql types) (ParseReached name sql types) lacks e → RefusesMessage (Parse name sql []) lacks e
-  parse_refused e (inl memory) = inl memory
+  -- no type came so far
+  asked_none : (before : List ℕ) (next : Option ℕ) (ts : List ℕ) → types before next → ts ≡ before ++ option_to_list next → ts ≡ []
+  asked_none before None ts came are = are ∙ (append-nil before ∙ all_types before came)
+  asked_none before (Some x) ts came are = absurd (some_types before x came)
+
+  none_so_far : (ts : List ℕ) → SoFar types ts → ts ≡ []
+  none_so_far ts (inl none) = none
+  none_so_far ts (inr asked) = asked_none asked.before asked.next ts asked.came asked.are
+
+  pub parse_refused : (e : Error) → Refused (ParseWhole name sql types) (ParseReached name sql types) (WantsMessage (ParseSoFar name sql types) lacks old) e → RefusesMessage (Parse name sql []) lacks old e
+  parse_refused e (inl memory) =
+      let w = memory.1 in
+      inl (memory.0, subst (λ (m : ClientMessage). Wants lacks old (length (bytes_of m))) (w.1.2 ∙ ap (λ ts. Parse name sql ts) (none_so_far w.1.0 w.1.1)) w.2)
   parse_refused e (inr (inl (ps, inl texts, c))) = inr (texts_cause e (ap parts_cause (sym texts) ∙ c))
   parse_refused e (inr (inl (ps, inr (ts, begun, are), c))) = absurd (some_types begun.before begun.last begun.came)
   parse_refused e (inr (inr (m, whole, c))) = inr (ap cause (sym (whole.2 ∙ ap (λ ts. Parse name sql ts) (all_types whole.0 whole.1))) ∙ c)
 
 -- ---- the binding
 
-module _ {F B K : Type 0} (held : B → Held K) (step : F → ℕ → MutBor B → Result IsNull Error → MutBor B → F → Type 0) (lacks : Type 0) (name : List ℕ)
+module _ {F B K : Type 0} (held : B → Held K) (step : F → ℕ → MutBor B → Result IsNull Error → MutBor B → F → Type 0) (lacks : Held K → ℕ → Type 0) (name : List ℕ)
     (formats : List ℤ → Option ℤ → Type 0) (values : List ℕ → Option ℕ → Type 0) (results : List ℤ → Option ℤ → Type 0)
     (all_formats : (xs : List ℤ) → formats xs None → xs ≡ pos 1 ∷ []) (some_formats : (xs : List ℤ) (x : ℤ) → formats xs (Some x) → xs ++ x ∷ [] ≡ pos 1 ∷ [])
     (all_values : (xs : List ℕ) → values xs None → xs ≡ 0 ∷ []) (some_values : (xs : List ℕ) (x : ℕ) → values xs (Some x) → (xs ≡ []) × (xs ++ x ∷ [] ≡ 0 ∷ []))
@@ -121,7 +134,7 @@ module _ {F B K : Type 0} (held : B → Held K) (step : F → ℕ → MutBor B �
   named_binds (Err e) new w = (one_refused held step lacks (named name) formats values results all_formats some_formats all_values some_values all_results some_results f last (held old.buf) e w.0, w.1)
 
 -- the value that was bound is what the serializer writes
-module _ {F B K : Type 0} (held : B → Held K) (step : F → ℕ → MutBor B → Result IsNull Error → MutBor B → F → Type 0) (lacks : Type 0) (f : F) (name : List ℕ) (v : ℤ) (old new : Sent B) where
+module _ {F B K : Type 0} (held : B → Held K) (step : F → ℕ → MutBor B → Result IsNull Error → MutBor B → F → Type 0) (lacks : Held K → ℕ → Type 0) (f : F) (name : List ℕ) (v : ℤ) (old new : Sent B) where
   value_is : (null : IsNull) (bytes : List ℕ) (last : F) → PutsOne held step (named name) f last (held old.buf) (Ok null) bytes
       → ((u : F) (x : ℕ) (b b' : MutBor B) (r : Result IsNull Error) → step f x b r b' u → Serializes int4 (Some v) lacks (held b.now) (held b'.now) r) → value_of null bytes ≡ Some (int4.written v)
   value_is null bytes last m acts =
@@ -135,12 +148,23 @@ module _ {F B K : Type 0} (held : B → Held K) (step : F → ℕ → MutBor B �
   pub bind_left : (e : BindError Error) → BindsNamed held step f name lacks old new (Err e) → IsLeft held old new
   bind_left e b = b.binds.1
 
+  -- a growth that the message needs
+  one_wants : (last : F) → OneWants held step (named name) f last (held old.buf) lacks → ((u : F) (x : ℕ) (b b' : MutBor B) (r : Result IsNull Error) → step f x b r b' u → Serializes int4 (Some v) lacks (held b.now) (held b'.now) r)
+      → Wants lacks (held old.buf) (length (bytes_of (named_bound name (Some (int4.written v)))))
+  one_wants last (inl head) acts = null_wants (named name) (Some (int4.written v)) head.1
+  one_wants last (inr made) acts = subst (λ (v : Option (List ℕ)). Wants lacks (held old.buf) (length (bytes_of (named_bound name v)))) (value_is made.0 made.1 last made.2 acts) made.3
+
   pub bind_blames : (e : BindError Error) → BindsNamed held step f name lacks old new (Err e) → ((u : F) (x : ℕ) (b b' : MutBor B) (r : Result IsNull Error) → step f x b r b' u → Serializes int4 (Some v) lacks (held b.now) (held b'.now) r)
-      → Blames lacks (Binding e) (named_bound name (Some (int4.written v)))
+      → Blames lacks (held old.buf) (Binding e) (named_bound name (Some (int4.written v)))
   bind_blames (Conversion e) b acts =
-      let m = b.binds.0.1 in (
+      let m = b.binds.0.1 in
+      let bytes = int4.written v in
+      let here = before_values (held old.buf) [] name (pos 1 ∷ []) in
+      let wants : (x : ℤ) → Some v ≡ Some x → Wants lacks (held m.before.now) (length (int4.written x)) → Wants lacks (held old.buf) (length (bytes_of (named_bound name (Some bytes)))) = λ x is s.
+          let same : v ≡ x = cc in
+          value_wants (named name) here (Some bytes) _ refl (omega arith) (sized_wants bytes 0 here (held m.before.now) m.stood (subst (λ (x : ℤ). Wants lacks (held m.before.now) (length (int4.written x))) (sym same) s)) in (
         tt,
-        elim (refused int4 lacks (Some v) e (held m.before.now) (held m.after.now) (acts b.last 0 m.before m.after (Err e) m.called)) [
+        elim (refused int4 lacks (Some v) e (Wants lacks (held old.buf) (length (bytes_of (named_bound name (Some bytes))))) (held m.before.now) (held m.after.now) wants (acts b.last 0 m.before m.after (Err e) m.called)) [
           | inl memory ↦ memory
           | inr c ↦ let none : None ≡ Some e = c in absurd cc
         ],
@@ -148,7 +172,7 @@ module _ {F B K : Type 0} (held : B → Held K) (step : F → ℕ → MutBor B �
   bind_blames (Serialization e) b acts = (
     tt,
     elim b.binds.0 [
-      | inl memory ↦ inl memory
+      | inl memory ↦ inl (memory.0, one_wants b.last memory.1 acts)
       | inr (inl names) ↦ inr (names_first (named name) (Some (int4.written v)) e names.1)
       | inr (inr long) ↦ inr (subst (λ v. cause (named_bound name v) ≡ Some e) (value_is long.null long.bytes b.last long.put acts) long.some)
     ],

@@ -31,9 +31,9 @@ pub skips : (bytes old new : List ℕ) (m : Message) → Passed bytes old → Ta
 skips bytes old new m p takes h = passes bytes old new (Ok m) p takes (is_other m h)
 
 -- a refused frame
-pub skips_fault : (bytes old new : List ℕ) (e : Error) → Passed bytes old → Step old (Err e) new → Passed bytes new
+pub skips_fault : (bytes old new : List ℕ) (e : Error) → Passed bytes old → Step ⊥ old (Err e) new → Passed bytes new
 skips_fault bytes old new errors.InvalidLength p s = subst (λ l. Passed bytes l) (sym s.1) p
-skips_fault bytes old new errors.OutOfMemory p s = subst (λ l. Passed bytes l) (sym s.1) p
+skips_fault bytes old new errors.OutOfMemory p s = absurd s.1
 skips_fault bytes old new e p s = passes bytes old new (Err e) p s tt
 
 -- the first message with columns

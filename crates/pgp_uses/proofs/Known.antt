@@ -25,7 +25,7 @@ module _ {B : Type 0} (start : Client) (old new : Shown B) where
   stays : new ≡ old → Stays
   stays e k = subst (λ (s : Shown B). Knows start s.phase s.exchange) (sym e) k
 
-module _ {A B K : Type 0} (held : B → Held K) (lacks : Type 0) (start : Client) (old new : Shown B) where
+module _ {A B K : Type 0} (held : B → Held K) (lacks : Held K → ℕ → Type 0) (start : Client) (old new : Shown B) where
   notice : (r : Result LoginEvent (LoginFault A)) → Hears held lacks {A = A} Notice old new r → Stays start old new
   notice (Ok Noted) w = stays start old new w
   notice r w = absurd w

@@ -1,21 +1,30 @@
 -- An array whose elements a format writes, alone and as the value of a message.
-use Rattle.std.proofs.Common.{◌≡◌, ℕ, ℤ, List, [], ◌∷◌, map, length, Option, Some, None, option_map, Result, Ok, Err, Bor, MutBor, refl, sym, ap, ◌∙◌, inl, inr, arith}
+use Rattle.std.proofs.Common.{◌≡◌, ℕ, ℤ, ◌+◌, ◌*◌, ◌≤◌, List, [], ◌∷◌, ◌++◌, map, length, length-append, Option, Some, None, option_map, Result, Ok, Err, Bor, MutBor, refl, sym, ap, ◌∙◌, inl, inr, arith}
 use Rattle.pgp_base.specs.declared.error.Error.{Error}
 use Rattle.pgp_base.specs.declared.error.BindError.{BindError}
 use Rattle.pgp_base.specs.declared.error.BindError.TheVariants.{Conversion, Serialization}
 use Rattle.pgp_base.specs.declared.number.IsNull.{IsNull}
 use Rattle.pgp_base.specs.declared.number.IsNull.TheVariants.{Yes, No}
 use Rattle.pgp_base.specs.Wire.{int32, uint32, nullable}
-use Rattle.pgp_base.specs.Cause.{WantsMemory, length_cause}
+use Rattle.std.specs.List.{flat_map}
+use Rattle.std.specs.Option.{option_to_list}
+use Rattle.std.proofs.lemmas.List.{map-append}
+use Rattle.std.proofs.lemmas.List.Concat.{flat_map-append}
+use Rattle.pgp_base.specs.Cause.{Wants, WantsMemory, length_cause}
 use Rattle.pgp_base.specs.Held.{Held, ◌⊕◌}
-use Rattle.pgp_base.specs.Calls.{value_of, KeepsValue, Puts, Gives, Runs}
+use Rattle.pgp_base.specs.Calls.{value_of, KeepsValue, Puts, Gives, Runs, SoFar}
+use Rattle.pgp_base.proofs.Needs.{flat_more, nullable_least, sized_wants}
+use Rattle.pgp_base.proofs.Parts.{wants_more}
 use Rattle.pgp_base.proofs.PartLemmas.{int32_number}
 use Rattle.pgp_types.specs.declared.array.ArrayDimension.{ArrayDimension}
 use Rattle.pgp_types.specs.Array.{Array, array_bytes}
-use Rattle.pgp_types.specs.ArrayWriting.{ArrayWritten, ArrayRefused}
+use Rattle.pgp_types.specs.ArrayWriting.{before_elements, ArrayWritten, ArrayRefused}
 use Rattle.pgp_types.specs.Format.{Plain}
 use Rattle.pgp_types.specs.Scalar.{int4}
+use Rattle.postgres_protocol.specs.ArraySteps.{array_of}
 use Rattle.postgres_protocol.specs.OneValue.{BindsOne}
+use Rattle.postgres_protocol.proofs.BindLemmas.{null_length}
+use Rattle.postgres_protocol.proofs.StepLemmas.{array_length, head_wants, element_wants}
 use Rattle.pgp_uses.specs.Arrays.{BindsInt4s, PutsInt4s, int4_array}
 use Rattle.pgp_uses.specs.Server.{refusal_of}
 use Rattle.pgp_uses.specs.Values.{BindsValue, Serializes}
@@ -26,9 +35,9 @@ same_array : (xs ds : List ArrayDimension) (m n : ℕ) (vs ws : List (Option (Li
 same_array xs ds m n vs ws e f h = rw (e, f, h) refl
 
 -- no int4 has a cause, nor is one too long
-no_cause : {K : Type 0} (lacks : Type 0) (v : Option ℤ) (old new : Held K) (e : Error) → Serializes int4 v lacks old new (Err e) → WantsMemory lacks e
+no_cause : {K : Type 0} (lacks : Held K → ℕ → Type 0) (v : Option ℤ) (old new : Held K) (e : Error) → Serializes int4 v lacks old new (Err e) → (z : ℤ) × (v ≡ Some z) × WantsMemory (Wants lacks old (length (int4.written z))) e
 no_cause lacks None old new e w = absurd w
-no_cause lacks (Some z) old new e w = elim w.0 [ inl memory ↦ memory | inr some ↦ absurd (let none : None ≡ Some e = some in cc) ]
+no_cause lacks (Some z) old new e w = (z, refl, elim w.0 [ inl memory ↦ memory | inr some ↦ absurd (let none : None ≡ Some e = some in cc) ])
 
 four : (v : Option ℤ) (bytes : List ℕ) (e : Error) → Some bytes ≡ option_map int4.written v → length_cause (length bytes) ≡ Some e → ⊥
 four None bytes e is long = cc
@@ -38,7 +47,7 @@ four (Some z) bytes e is long =
     let none : None ≡ Some e = ap length_cause (sym size) ∙ long in
     cc
 
-module _ {F B K : Type 0} (held : B → Held K) (step : F → Bor (Option ℤ) → MutBor B → Result IsNull Error → MutBor B → F → Type 0) (lacks : Type 0)
+module _ {F B K : Type 0} (held : B → Held K) (step : F → Bor (Option ℤ) → MutBor B → Result IsNull Error → MutBor B → F → Type 0) (lacks : Held K → ℕ → Type 0)
     (does : (f f' : F) (x : Bor (Option ℤ)) (b b' : MutBor B) (r : Result IsNull Error) → step f x b r b' f' → Serializes int4 x.now lacks (held b.now) (held b'.now) r) where
   put_is : (here : Held K) (f : F) (x : Bor (Option ℤ)) (null : IsNull) (bytes : List ℕ) (u : F) → Puts held step here f x (Ok null) bytes u → value_of null bytes ≡ option_map int4.written x.now
   put_is here f x null bytes u m =
@@ -59,7 +68,7 @@ module _ {F B K : Type 0} (held : B → Held K) (step : F → Bor (Option ℤ) �
 
   module _ (d : ArrayDimension) (type : ℕ) (values : List (Option ℤ)) (dimensions : List ArrayDimension → Option ArrayDimension → Type 0) (elements : List (Bor (Option ℤ)) → Option (Bor (Option ℤ)) → Type 0)
       (all_dimensions : (xs : List ArrayDimension) → dimensions xs None → xs ≡ d ∷ []) (some_dimensions : (xs : List ArrayDimension) (x : ArrayDimension) → dimensions xs (Some x) → xs ≡ [])
-      (all_elements : (xs : List (Bor (Option ℤ))) → elements xs None → map (λ x. x.now) xs ≡ values)
+      (all_elements : (xs : List (Bor (Option ℤ))) → elements xs None → map (λ x. x.now) xs ≡ values) (some_elements : (xs : List (Bor (Option ℤ))) (x : Bor (Option ℤ)) → elements xs (Some x) → (more : List (Option ℤ)) × (values ≡ map (λ x. x.now) xs ++ x.now ∷ more))
       (f last : F) (old : Held K) where
     pub array_ok : (new : Held K) → ArrayWritten held step dimensions type elements f last old new
         → new ≡ old ⊕ array_bytes (record { dimensions = d ∷ []; element_type = type; elements = map (option_map int4.written) values })
@@ -68,17 +77,62 @@ module _ {F B K : Type 0} (held : B → Held K) (step : F → Bor (Option ℤ) �
         let are : w.array.elements ≡ map (option_map int4.written) values = runs_are _ f made.xs w.array.elements last made.runs ∙ ap (λ xs. map (option_map int4.written) xs) (all_elements made.xs made.came) in
         w.appended ∙ ap (λ (a : Array). old ⊕ array_bytes a) (same_array w.array.dimensions (d ∷ []) w.array.element_type type w.array.elements (map (option_map int4.written) values) (all_dimensions w.array.dimensions w.came) w.type are)
 
-    pub array_refused : (e : BindError Error) → ArrayRefused held step dimensions type elements f last old lacks e → WantsMemory lacks (refusal_of e)
+    -- the whole array's bytes, and a growth that they need
+    abbrev whole : List ℕ
+    whole = array_bytes (record { dimensions = d ∷ []; element_type = type; elements = map (option_map int4.written) values })
+
+    -- what a front of the elements needs, the array does
+    front_wants : (xs : List (Option ℤ)) (x : Option ℤ) (more : List (Option ℤ)) (vs : List (Option (List ℕ))) (v : Option (List ℕ)) → values ≡ xs ++ x ∷ more → vs ≡ map (option_map int4.written) xs → length (nullable v) ≤ length (nullable (option_map int4.written x))
+        → Wants lacks old (length (array_bytes (array_of (d ∷ []) type (vs ++ v ∷ [])))) → Wants lacks old (length whole)
+    front_wants xs x more vs v are is least w =
+        let front = array_length (d ∷ []) type (vs ++ v ∷ []) in
+        let all = array_length (d ∷ []) type (map (option_map int4.written) values) in
+        let some = flat_more nullable vs v in
+        let cut = ap (λ l. length (flat_map nullable (map (option_map int4.written) l))) are
+            ∙ (ap (λ l. length (flat_map nullable l)) (map-append (option_map int4.written) xs (x ∷ more))
+            ∙ (ap length (flat_map-append nullable (map (option_map int4.written) xs) (option_map int4.written x ∷ map (option_map int4.written) more))
+            ∙ length-append (flat_map nullable (map (option_map int4.written) xs)) (nullable (option_map int4.written x) ++ flat_map nullable (map (option_map int4.written) more)))) in
+        let first = ap (λ l. length (flat_map nullable l)) is in
+        wants_more old _ _ (omega (arith, front, all, some, cut, first, least, length-append (nullable (option_map int4.written x)) (flat_map nullable (map (option_map int4.written) more)))) w
+
+    few_asked : (before : List ArrayDimension) (next : Option ArrayDimension) (ds : List ArrayDimension) → dimensions before next → ds ≡ before ++ option_to_list next → length ds ≤ 1
+    few_asked before None ds came are = let n = ap (λ l. length l) are in let m = ap (λ l. length l) (all_dimensions before came) in omega (arith, n, m, length-append before [])
+    few_asked before (Some x) ds came are = let n = ap (λ l. length l) are in let m = ap (λ l. length l) (some_dimensions before x came) in omega (arith, n, m, length-append before (x ∷ []))
+
+    few_of : (ds : List ArrayDimension) → SoFar dimensions ds → length ds ≤ 1
+    few_of ds (inl none) = let n = ap (λ l. length l) none in omega (arith, n)
+    few_of ds (inr asked) = few_asked asked.before asked.next ds asked.came asked.are
+
+    head_needs : (ds : List ArrayDimension) → SoFar dimensions ds → Wants lacks old (12 + 8 * length ds) → Wants lacks old (length whole)
+    head_needs ds so_far w = head_wants (d ∷ []) type old (length ds) (map (option_map int4.written) values) (few_of ds so_far) w
+
+    pub array_refused : (e : BindError Error) → ArrayRefused held step dimensions type elements f last old lacks e → WantsMemory (Wants lacks old (length whole)) (refusal_of e)
     array_refused (Conversion e) (inl head) = absurd head.0
-    array_refused (Conversion e) (inr at) = let s = at.stops in let m = s.refused.1 in no_cause lacks s.x.now (held m.before.now) (held m.after.now) e (does s.at last s.x m.before m.after (Err e) m.called)
+    array_refused (Conversion e) (inr at) =
+        let s = at.stops in
+        let m = s.refused.1 in
+        let k = some_elements s.xs s.x s.came in
+        let no = no_cause lacks s.x.now (held m.before.now) (held m.after.now) e (does s.at last s.x m.before m.after (Err e) m.called) in
+        let bytes = int4.written no.0 in
+        let least : length (nullable (Some bytes)) ≤ length (nullable (option_map int4.written s.x.now)) = let n = ap (λ v. length (nullable (option_map int4.written v))) no.1 in omega (arith, n) in
+        let here = ap (λ ds. before_elements old ds type ⊕ flat_map nullable s.made) (all_dimensions at.all at.came) in
+        let wants = element_wants (d ∷ []) type old _ s.made (Some bytes) (length (nullable (Some bytes))) here (omega arith) (sized_wants bytes 0 _ (held m.before.now) m.stood no.2.1) in
+        (no.2.0, front_wants (map (λ x. x.now) s.xs) s.x.now k.0 s.made (Some bytes) k.1 (runs_are _ f s.xs s.made s.at s.runs) least wants)
     array_refused (Serialization e) (inl head) = elim head.0 [
-      | inl memory ↦ memory
+      | inl memory ↦ let so_far = memory.1 in (memory.0, head_needs so_far.0 so_far.1 so_far.2)
       | inr past ↦ let p = past.0 in absurd (omega (arith, p.full, ap length (some_dimensions p.before p.last p.came)))
     ]
-    array_refused (Serialization e) (inr at) = let s = at.stops in elim s.refused [
-      | inl memory ↦ memory.0
-      | inr long ↦ absurd (long_value _ s.at s.x long.0 last e long.1 long.2)
-    ]
+    array_refused (Serialization e) (inr at) =
+        let s = at.stops in
+        let k = some_elements s.xs s.x s.came in
+        let here = ap (λ ds. before_elements old ds type ⊕ flat_map nullable s.made) (all_dimensions at.all at.came) in
+        elim s.refused [
+          | inl memory ↦
+              let wants = element_wants (d ∷ []) type old _ s.made None 4 here (nullable_least None) memory.0.1 in
+              let least : length (nullable None) ≤ length (nullable (option_map int4.written s.x.now)) = let n = nullable_least (option_map int4.written s.x.now) in omega (arith, n, null_length) in
+              (memory.0.0, front_wants (map (λ x. x.now) s.xs) s.x.now k.0 s.made None k.1 (runs_are _ f s.xs s.made s.at s.runs) least wants)
+          | inr long ↦ absurd (long_value _ s.at s.x long.0 last e long.1 long.2)
+        ]
 
 -- ---- the value of a message
 
@@ -92,7 +146,7 @@ int4s = record {
   Reads = λ bytes result. Unit {0};
 }
 
-module _ {K : Type 0} (values : List (Option ℤ)) (lacks : Type 0) (old new : Held K) where
+module _ {K : Type 0} (values : List (Option ℤ)) (lacks : Held K → ℕ → Type 0) (old new : Held K) where
   as_value : (r : Result IsNull Error) → PutsInt4s values lacks old new r → Serializes int4s (Some values) lacks old new r
   as_value (Ok Yes) w = let e : Yes ≡ No = w.0 in absurd cc
   as_value (Ok No) w = (w.1, w.2)
@@ -106,7 +160,7 @@ module _ {K : Type 0} (values : List (Option ℤ)) (lacks : Type 0) (old new : H
   as_message (Err (Conversion e)) w = w
   as_message (Err (Serialization e)) w = (elim w.0 [ inl memory ↦ inl memory | inr long ↦ inr long.1 ], w.1)
 
-pub binds_int4s : {F B K : Type 0} (held : B → Held K) (step : F → ℕ → MutBor B → Result IsNull Error → MutBor B → F → Type 0) (lacks : Type 0) (f : F) (old new : Held K) (r : Result (Unit {0}) (BindError Error))
+pub binds_int4s : {F B K : Type 0} (held : B → Held K) (step : F → ℕ → MutBor B → Result IsNull Error → MutBor B → F → Type 0) (lacks : Held K → ℕ → Type 0) (f : F) (old new : Held K) (r : Result (Unit {0}) (BindError Error))
     → BindsOne held step f old lacks new r → (values : List (Option ℤ))
     → ((u : F) (x : ℕ) (b b' : MutBor B) (r : Result IsNull Error) → step f x b r b' u → PutsInt4s values lacks (held b.now) (held b'.now) r) → BindsInt4s values lacks old new r
 binds_int4s held step lacks f old new r one values acts =

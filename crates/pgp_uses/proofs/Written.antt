@@ -1,15 +1,15 @@
 -- A frame whose body a closure wrote.
-use Rattle.std.proofs.Common.{◌≡◌, ℕ, ◌+◌, List, [], ◌∷◌, length, Some, Result, Ok, Err, sym, ap, ◌∙◌, inl, inr, MutBor}
+use Rattle.std.proofs.Common.{◌≡◌, ℕ, ◌+◌, ◌≤◌, List, [], ◌∷◌, length, Some, Result, Ok, Err, sym, ap, ◌∙◌, inl, inr, arith, length-append, MutBor}
 use Rattle.std.specs.Prelude.{◌⊎◌}
 use Rattle.std.proofs.lemmas.List.{append_cancel_left}
 use Rattle.pgp_base.specs.Calls.{Appends, BodyRefused, WritesBody}
-use Rattle.pgp_base.specs.Cause.{WantsMemory, length_cause}
+use Rattle.pgp_base.specs.Cause.{Wants, WantsMemory, length_cause}
 use Rattle.pgp_base.specs.declared.error.Error.{Error}
 use Rattle.pgp_base.specs.declared.error.BindError.{BindError}
 use Rattle.pgp_base.specs.declared.error.BindError.TheVariants.{Conversion, Serialization}
 use Rattle.pgp_base.specs.Held.{Held, ◌⊕◌}
 use Rattle.pgp_base.specs.Wire.{frame, uint32}
-use Rattle.pgp_base.proofs.Parts.{more_bytes, more_twice}
+use Rattle.pgp_base.proofs.Parts.{length-uint32, more_bytes, more_twice, wants_then}
 use Rattle.pgp_uses.specs.Server.{refusal_of}
 
 -- the closure appends q where it succeeds
@@ -24,10 +24,16 @@ module _ {F E B K : Type 0} (held : B → Held K) (post : F → MutBor B → Res
       let size = uint32 (length q + 4) in
       w.appended ∙ (ap (λ p. tagged ⊕ uint32 (length p + 4) ⊕ p) (body_is (tagged ⊕ uint32 0) w.body w.put) ∙ (ap (λ h. h ⊕ size ⊕ q) t ∙ (ap (λ h. h ⊕ q) (more_twice old (tag ∷ []) size) ∙ more_twice old (tag ∷ size) q)))
 
--- why it was refused, where the closure wants memory alone
-pub refused : {F B K : Type 0} (held : B → Held K) (post : F → MutBor B → Result (Unit {0}) Error → MutBor B → Type 0) (f : F) (q : List ℕ) (lacks : Type 0) (tagged : Held K) (e : BindError Error)
-    → ((b d : MutBor B) → post f b (Ok tt) d → held d.now ≡ held b.now ⊕ q) → ((b d : MutBor B) (x : Error) → post f b (Err x) d → WantsMemory lacks x)
-    → BodyRefused held post lacks f tagged e → WantsMemory lacks (refusal_of e) ⊎ (length_cause (length q + 4) ≡ Some (refusal_of e))
-refused held post f q lacks tagged (Conversion x) law wants w = inl (wants w.1.before w.1.after x w.1.called)
-refused held post f q lacks tagged (Serialization x) law wants (inl memory) = inl memory
-refused held post f q lacks tagged (Serialization x) law wants (inr w) = inr (ap (λ p. length_cause (length p + 4)) (sym (body_is held post f q law (tagged ⊕ uint32 0) w.0 w.1)) ∙ w.2)
+-- why it was refused, where the closure wants memory for q alone
+module _ {F B K : Type 0} (held : B → Held K) (post : F → MutBor B → Result (Unit {0}) Error → MutBor B → Type 0) (f : F) (q : List ℕ) (lacks : Held K → ℕ → Type 0) (old tagged : Held K) (tag : ℕ) where
+  -- what is wanted behind the tag, the message wants
+  behind_tag : (n : ℕ) → tagged ≡ old ⊕ (tag ∷ []) → n ≤ length q + 4 → Wants lacks tagged n → Wants lacks old (length (frame tag q))
+  behind_tag n t h w = wants_then old tagged (tag ∷ []) n _ t (omega (arith, h, length-append (uint32 (length q + 4)) q, length-uint32 (length q + 4))) w
+
+  pub refused : (e : BindError Error) → tagged ≡ old ⊕ (tag ∷ []) → ((b d : MutBor B) → post f b (Ok tt) d → held d.now ≡ held b.now ⊕ q) → ((b d : MutBor B) (x : Error) → post f b (Err x) d → WantsMemory (Wants lacks (held b.now) (length q)) x)
+      → BodyRefused held post lacks f tagged e → WantsMemory (Wants lacks old (length (frame tag q))) (refusal_of e) ⊎ (length_cause (length q + 4) ≡ Some (refusal_of e))
+  refused (Conversion x) t law wants w =
+      let m = wants w.1.before w.1.after x w.1.called in
+      inl (m.0, behind_tag (length q + 4) t (omega arith) (wants_then tagged (held w.1.before.now) (uint32 0) (length q) _ w.1.stood (omega (arith, length-uint32 0)) m.1))
+  refused (Serialization x) t law wants (inl memory) = inl (memory.0, behind_tag 4 t (omega arith) memory.1)
+  refused (Serialization x) t law wants (inr w) = inr (ap (λ p. length_cause (length p + 4)) (sym (body_is held post f q law (tagged ⊕ uint32 0) w.0 w.1)) ∙ w.2)

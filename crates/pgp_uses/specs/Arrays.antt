@@ -2,7 +2,7 @@
 -- PostgreSQL manual, "Arrays"; the layout as a server sends it.
 use Rattle.std.specs.Prelude.{◌≡◌, ◌⊎◌, ℕ, ℤ, pos, ◌<◌, ◌≤◌, List, [], ◌∷◌, ◌++◌, length, map, Option, Some, None, option_map, Result, Ok, Err}
 use Rattle.std.specs.List.{AllZip}
-use Rattle.pgp_base.specs.Cause.{WantsMemory, length_cause}
+use Rattle.pgp_base.specs.Cause.{Wants, WantsMemory, length_cause}
 use Rattle.pgp_base.specs.Held.{Held, ◌⊕◌, Leaves}
 use Rattle.pgp_base.specs.Walk.{Walk}
 use Rattle.pgp_base.specs.declared.error.Error.{Error}
@@ -49,13 +49,13 @@ module _ {X V R : Type 0} (view : X → R) (f : Format V R) where
     pub xs : List (Option X)
     pub read : ReadsElements w.items xs
 
-  -- `list` shows the list that was made.
-  module _ {Y : Type 0} (list : Y → List (Option X)) where
+  -- `list` shows the list that was made; `lacks` says that memory for it was refused.
+  module _ {Y : Type 0} (list : Y → List (Option X)) (lacks : Type 0) where
     -- all elements of an array, in order; or a refusal
     abbrev pub ReadsWalk : Walk (Option (List ℕ)) → Result Y ArrayError → Type 0
     ReadsWalk w (Ok y) = (w.end ≡ None) × ReadsElements w.items (list y)
     ReadsWalk w (Err (Value e)) = RefusesElement w.items e ⊎ RefusesEnd w e
-    ReadsWalk w (Err OutOfMemory) = Unit {0}
+    ReadsWalk w (Err OutOfMemory) = lacks
     ReadsWalk w result = ⊥
 
     -- the bytes are an array of one dimension, or of none, and this comes of its elements
@@ -67,7 +67,7 @@ module _ {X V R : Type 0} (view : X → R) (f : Format V R) where
     ReadsList bytes (Ok y) = ReadsOne bytes (Ok y)
     ReadsList bytes (Err (Value e)) = Reads array bytes (Err e) ⊎ ReadsOne bytes (Err (Value e))
     ReadsList bytes (Err Dimensions) = (read : ArrayRead) × Reads array bytes (Ok read) × (1 < length read.dimensions.items)
-    ReadsList bytes (Err OutOfMemory) = Unit {0}
+    ReadsList bytes (Err OutOfMemory) = lacks
     ReadsList bytes (Err NoColumn) = ⊥
 
     -- There is no such column; or it is null, and so is the list; or its bytes are read as a list.
@@ -97,15 +97,15 @@ abbrev pub binding : List (Option ℤ) → ClientMessage
 binding values = bound (Some (array_bytes (int4_array values)))
 
 -- What a `bind` of the array comes to: its message; or the array is refused, or the message is, and the bytes are left.
-abbrev pub BindsInt4s : {K : Type 0} → List (Option ℤ) → Type 0 → Held K → Held K → Result (Unit {0}) (BindError Error) → Type 0
+abbrev pub BindsInt4s : {K : Type 0} → List (Option ℤ) → (Held K → ℕ → Type 0) → Held K → Held K → Result (Unit {0}) (BindError Error) → Type 0
 BindsInt4s values lacks old new (Ok done) = (cause (binding values) ≡ None) × (new ≡ old ⊕ bytes_of (binding values))
-BindsInt4s values lacks old new (Err (Conversion e)) = (WantsMemory lacks e ⊎ (length_cause (length values) ≡ Some e)) × Leaves old new
-BindsInt4s values lacks old new (Err (Serialization e)) = (WantsMemory lacks e ⊎ (cause (binding values) ≡ Some e)) × Leaves old new
+BindsInt4s values lacks old new (Err (Conversion e)) = (WantsMemory (Wants lacks old (length (bytes_of (binding values)))) e ⊎ (length_cause (length values) ≡ Some e)) × Leaves old new
+BindsInt4s values lacks old new (Err (Serialization e)) = (WantsMemory (Wants lacks old (length (bytes_of (binding values)))) e ⊎ (cause (binding values) ≡ Some e)) × Leaves old new
 
 -- the array's bytes stand behind the old ones, and are no null; or it is refused, and they are left
-abbrev pub PutsInt4s : {K : Type 0} → List (Option ℤ) → Type 0 → Held K → Held K → Result IsNull Error → Type 0
+abbrev pub PutsInt4s : {K : Type 0} → List (Option ℤ) → (Held K → ℕ → Type 0) → Held K → Held K → Result IsNull Error → Type 0
 PutsInt4s values lacks old new (Ok null) = (null ≡ No) × (length_cause (length values) ≡ None) × (new ≡ old ⊕ array_bytes (int4_array values))
-PutsInt4s values lacks old new (Err e) = (WantsMemory lacks e ⊎ (length_cause (length values) ≡ Some e)) × Leaves old new
+PutsInt4s values lacks old new (Err e) = (WantsMemory (Wants lacks old (length (array_bytes (int4_array values)))) e ⊎ (length_cause (length values) ≡ Some e)) × Leaves old new
 
 -- What was bound is read back.
 
@@ -117,4 +117,4 @@ IsInt4 (Some z) = int4.IsValue z
 -- these values as a list.
 pub record AreReadBack (values : List (Option ℤ)) : Type 0 where
   pub message : IsReadBack (int4_array values).dimensions 23 (int4_array values).elements
-  pub list : ReadsList (λ (z : ℤ). z) int4 (λ xs. xs) (array_bytes (int4_array values)) (Ok values)
+  pub list : ReadsList (λ (z : ℤ). z) int4 (λ xs. xs) ⊥ (array_bytes (int4_array values)) (Ok values)

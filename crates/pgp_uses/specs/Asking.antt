@@ -1,9 +1,9 @@
 -- What a question by a named statement sends: the extended query of one int4.
 -- PostgreSQL manual, "Message Flow": "Extended Query".
-use Rattle.std.specs.Prelude.{◌≡◌, ℕ, ℤ, pos, true, List, [], ◌∷◌, ◌++◌, Option, Some, None, Result, Ok, Err}
+use Rattle.std.specs.Prelude.{◌≡◌, ℕ, ℤ, pos, true, List, [], ◌∷◌, ◌++◌, length, Option, Some, None, Result, Ok, Err}
 use Rattle.std.specs.List.{flat_map, AllByRecursion}
 use Rattle.pgp_base.specs.Calls.{value_of}
-use Rattle.pgp_base.specs.Cause.{WantsMemory}
+use Rattle.pgp_base.specs.Cause.{Wants, WantsMemory}
 use Rattle.pgp_base.specs.Held.{Held}
 use Rattle.pgp_base.specs.declared.error.Error.{Error}
 use Rattle.pgp_base.specs.declared.error.BindError.{BindError}
@@ -31,12 +31,12 @@ abbrev pub IsBind : ClientMessage → Type 0
 IsBind (Bind portal statement formats values results) = Unit {0}
 IsBind m = ⊥
 
--- Which message an error tells of, and why that was refused: for want of memory, or for its cause. `Conversion` is the
+-- Which message an error tells of, and why that was refused behind what stood `here`: for want of memory, or for its cause. `Conversion` is the
 -- refusal of the value itself, and an int4 always has a spelling.
-abbrev pub Blames : Type 0 → AskError → ClientMessage → Type 0
-Blames lacks (Message e) m = (IsBind m → ⊥) × RefusesMessage m lacks e
-Blames lacks (Binding (Conversion e)) m = IsBind m × WantsMemory lacks e
-Blames lacks (Binding (Serialization e)) m = IsBind m × RefusesMessage m lacks e
+abbrev pub Blames : {K : Type 0} → (Held K → ℕ → Type 0) → Held K → AskError → ClientMessage → Type 0
+Blames lacks here (Message e) m = (IsBind m → ⊥) × RefusesMessage m lacks here e
+Blames lacks here (Binding (Conversion e)) m = IsBind m × WantsMemory (Wants lacks here (length (bytes_of m))) e
+Blames lacks here (Binding (Serialization e)) m = IsBind m × RefusesMessage m lacks here e
 
 module _ {B K : Type 0} (held : B → Held K) where
   -- Each has a spelling, and these stand behind the old bytes: however a server reads those, it now reads these messages
@@ -49,17 +49,19 @@ module _ {B K : Type 0} (held : B → Held K) where
     pub reads : (kinds : List PasswordKind) (messages : List ClientMessage) → ClientRun kinds messages (held old.buf).bytes
         → ClientRun (kinds ++ flat_map kinds_of ms) (messages ++ ms) (held new.buf).bytes
 
-  -- a message was refused, and those before it were added
-  pub record Stops (ms : List ClientMessage) (lacks : Type 0) (e : AskError) (old new : Sent B) : Type 0 where
+  -- a message was refused, and those before it were added, which was `reached`
+  pub record Stops (ms : List ClientMessage) (lacks : Held K → ℕ → Type 0) (e : AskError) (old new : Sent B) : Type 0 where
     pub front : List ClientMessage
     pub at : ClientMessage
     pub rest : List ClientMessage
     pub are : ms ≡ front ++ at ∷ rest
+    pub reached : Sent B
+    pub begun : AreAdded front old reached
     pub added : AreAdded front old new
-    pub why : Blames lacks e at
+    pub why : Blames lacks (held reached.buf) e at
 
   -- all messages were added; or those before one that was refused
-  abbrev pub AddsAll : List ClientMessage → Type 0 → Sent B → Sent B → Result (Unit {0}) AskError → Type 0
+  abbrev pub AddsAll : List ClientMessage → (Held K → ℕ → Type 0) → Sent B → Sent B → Result (Unit {0}) AskError → Type 0
   AddsAll ms lacks old new (Ok done) = AreAdded ms old new
   AddsAll ms lacks old new (Err e) = Stops ms lacks e old new
 
@@ -77,11 +79,11 @@ module _ {F B K : Type 0} (held : B → Held K) (step : F → ℕ → MutBor B �
     pub put : PutsOne held step (named name) f last (held old.buf) (Ok null) bytes
     pub added : IsAdded held (named_bound name (value_of null bytes)) old new
 
-  abbrev pub NamedBinds : Type 0 → Sent B → Result (Unit {0}) (BindError Error) → Type 0
+  abbrev pub NamedBinds : (Held K → ℕ → Type 0) → Sent B → Result (Unit {0}) (BindError Error) → Type 0
   NamedBinds lacks new (Ok done) = NamedAdded new
   NamedBinds lacks new (Err e) = OneRefused held step (named name) f last (held old.buf) lacks e × IsLeft held old new
 
 -- the same, with the serializer's last state
-pub record BindsNamed {F B K : Type 0} (held : B → Held K) (step : F → ℕ → MutBor B → Result IsNull Error → MutBor B → F → Type 0) (f : F) (name : List ℕ) (lacks : Type 0) (old new : Sent B) (result : Result (Unit {0}) (BindError Error)) : Type 0 where
+pub record BindsNamed {F B K : Type 0} (held : B → Held K) (step : F → ℕ → MutBor B → Result IsNull Error → MutBor B → F → Type 0) (f : F) (name : List ℕ) (lacks : Held K → ℕ → Type 0) (old new : Sent B) (result : Result (Unit {0}) (BindError Error)) : Type 0 where
   pub last : F
   pub binds : NamedBinds held step f last name old lacks new result

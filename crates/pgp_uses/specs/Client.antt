@@ -64,11 +64,11 @@ reply_to query Asked = Some (Query query)
 reply_to query Ended = Some Terminate
 reply_to query event = None
 
--- the flow has no place for the message, or the reply couldn't be written
-abbrev pub Refuses : List ℕ → Message → Type 0 → Phase → StepError → Type 0
-Refuses query m lacks phase Unexpected = event_of phase m ≡ None
-Refuses query m lacks phase (Unsent e) = (event : Event) × (reply : ClientMessage)
-    × (event_of phase m ≡ Some event) × (reply_to query event ≡ Some reply) × RefusesMessage reply lacks e
+-- the flow has no place for the message, or the reply couldn't be written behind what stood `here`
+abbrev pub Refuses : {K : Type 0} → List ℕ → Message → (Held K → ℕ → Type 0) → Held K → Phase → StepError → Type 0
+Refuses query m lacks here phase Unexpected = event_of phase m ≡ None
+Refuses query m lacks here phase (Unsent e) = (event : Event) × (reply : ClientMessage)
+    × (event_of phase m ≡ Some event) × (reply_to query event ≡ Some reply) × RefusesMessage reply lacks here e
 
 -- a client's phase, and what it has to send
 pub record Shown (B : Type 0) : Type 0 where
@@ -89,6 +89,6 @@ module _ {B K : Type 0} (held : B → Held K) where
     pub sent : Replies (reply_to query event) old.out new.out
 
   -- What a step comes to. One that is refused leaves the phase, and what was to be sent.
-  abbrev pub Steps : List ℕ → Message → Type 0 → Shown B → Shown B → Result Event StepError → Type 0
+  abbrev pub Steps : List ℕ → Message → (Held K → ℕ → Type 0) → Shown B → Shown B → Result Event StepError → Type 0
   Steps query m lacks old new (Ok event) = Tells query m old new event
-  Steps query m lacks old new (Err e) = Refuses query m lacks old.phase e × (new.phase ≡ old.phase) × IsLeft held old.out new.out
+  Steps query m lacks old new (Err e) = Refuses query m lacks (held old.out.buf) old.phase e × (new.phase ≡ old.phase) × IsLeft held old.out new.out

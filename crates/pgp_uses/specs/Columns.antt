@@ -5,7 +5,7 @@ use Rattle.std.specs.List.{AllByRecursion}
 use Rattle.pgp_base.specs.Items.{CountedItems}
 use Rattle.pgp_base.specs.Walk.{Walk}
 use Rattle.pgp_base.specs.declared.error.Error.{Error}
-use Rattle.pgp_base.specs.declared.error.Error.TheVariants.{OutOfMemory}
+use Rattle.pgp_base.specs.Cause.{WantsMemory}
 use Rattle.pgp_message.specs.BackendMessage.{Message, RowDescription}
 use Rattle.pgp_message.specs.Items.{FieldPart, FieldSpelled, FieldRefused}
 use Rattle.pgp_message.specs.Parts.{CountedBytes}
@@ -64,7 +64,7 @@ HasNames bytes names = (columns : List FieldPart) × FirstColumns bytes columns 
 abbrev pub HasBroken : List ℕ → Error → Type 0
 HasBroken bytes e = (columns : List FieldPart) × FirstColumns bytes columns (Some e)
 
--- why there are no names
-abbrev pub NamesRefused : List ℕ → NamesError → Type 0
-NamesRefused bytes NoDescription = HasNone bytes
-NamesRefused bytes (Refused e) = (e ≡ OutOfMemory) ⊎ HasBroken bytes e
+-- Why there are no names. `lacks` says that memory for them was refused.
+abbrev pub NamesRefused : Type 0 → List ℕ → NamesError → Type 0
+NamesRefused lacks bytes NoDescription = HasNone bytes
+NamesRefused lacks bytes (Refused e) = WantsMemory lacks e ⊎ HasBroken bytes e

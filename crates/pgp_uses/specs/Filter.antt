@@ -24,15 +24,26 @@ pub record Lacking (limit : ℤ) (came : List ℕ) : Type 0 where
   pub within : header.len ≤ℤ limit
   pub missing : pos (length came) ≤ℤ header.len
 
+-- a growth was refused that the frame at the front needs, whose length is at most the limit
+pub record LacksFrame {Kept : Type 0} (limit : ℤ) (came : List ℕ) (lacks : Held Kept → ℕ → Type 0) (old : Held Kept) : Type 0 where
+  pub header : HeaderPart
+  pub begins : IsHeader came header
+  pub least : pos 4 ≤ℤ header.len
+  pub within : header.len ≤ℤ limit
+  pub size : ℕ
+  pub size_is : pos size ≡ header.len + 1
+  pub whole : size ≤ length came
+  pub refused : lacks old size
+
 -- the bytes begin with a header, whose length is such
 abbrev pub Announces : List ℕ → (ℤ → Type 0) → Type 0
 Announces came Is = (header : HeaderPart) × IsHeader came header × Is header.len
 
 -- What a call comes to: a frame is passed on; or more has to come; or the header is refused, whatever follows it; or
 -- memory is.
-abbrev pub Passes : {Kept : Type 0} → ℤ → List ℕ → Type 0 → Held Kept → Held Kept → Result (Option ℕ) FilterError → Type 0
+abbrev pub Passes : {Kept : Type 0} → ℤ → List ℕ → (Held Kept → ℕ → Type 0) → Held Kept → Held Kept → Result (Option ℕ) FilterError → Type 0
 Passes limit came lacks old new (Ok (Some size)) = PassesFrame limit came size old new
 Passes limit came lacks old new (Ok None) = (new ≡ old) × ((length came < 5) ⊎ Lacking limit came)
 Passes limit came lacks old new (Err PastLimit) = (new ≡ old) × Announces came (λ len. limit <ℤ len)
 Passes limit came lacks old new (Err InvalidLength) = (new ≡ old) × Announces came (λ len. len <ℤ pos 4)
-Passes limit came lacks old new (Err OutOfMemory) = (new ≡ old) × lacks
+Passes limit came lacks old new (Err OutOfMemory) = (new ≡ old) × LacksFrame limit came lacks old

@@ -26,17 +26,17 @@ pub record Sends {Kept : Type 0} (message : List ℕ → ClientMessage) (client 
 abbrev pub initial : List ℕ → ClientMessage
 initial text = SaslInitialResponse (codes "SCRAM-SHA-256") text
 
--- why a log-in didn't begin: for want of memory, or the first message was refused
-abbrev pub BeginRefused : {A : Type 0} → ClientMessage → Type 0 → LoginError A → Type 0
-BeginRefused message lacks (Message e) = RefusesMessage message lacks e
-BeginRefused message lacks (Scram e) = refusal e ≡ OutOfMemory
-BeginRefused message lacks Over = ⊥
+-- Why a log-in didn't begin behind what stood `here`: for want of memory, which `memory` tells, or the first message was refused.
+abbrev pub BeginRefused : {A K : Type 0} → ClientMessage → Type 0 → (Held K → ℕ → Type 0) → Held K → LoginError A → Type 0
+BeginRefused message memory lacks here (Message e) = RefusesMessage message lacks here e
+BeginRefused message memory lacks here (Scram e) = (refusal e ≡ OutOfMemory) × memory
+BeginRefused message memory lacks here Over = ⊥
 
 -- why the server's first text wasn't answered: the exchange refused it, or the final text wasn't sent
-abbrev pub RespondRefused : {A : Type 0} → Client → List ℕ → Client → Type 0 → Type 0 → LoginError A → Type 0
-RespondRefused old challenge new memory lacks (Message e) = Answers old challenge new × ((text : List ℕ) × (message_of new.state ≡ Some text) × RefusesMessage (SaslResponse text) lacks e)
-RespondRefused old challenge new memory lacks (Scram e) = UpdateRefused memory old challenge (refusal e) new
-RespondRefused old challenge new memory lacks Over = ⊥
+abbrev pub RespondRefused : {A K : Type 0} → Client → List ℕ → Client → Type 0 → (Held K → ℕ → Type 0) → Held K → LoginError A → Type 0
+RespondRefused old challenge new memory lacks here (Message e) = Answers old challenge new × ((text : List ℕ) × (message_of new.state ≡ Some text) × RefusesMessage (SaslResponse text) lacks here e)
+RespondRefused old challenge new memory lacks here (Scram e) = UpdateRefused memory old challenge (refusal e) new
+RespondRefused old challenge new memory lacks here Over = ⊥
 
 -- the command names this user and this verifier, and a server reads both as they are, whatever
 -- standard_conforming_strings says

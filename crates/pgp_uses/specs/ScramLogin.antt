@@ -88,14 +88,14 @@ abbrev pub in_phase : {B : Type 0} → LoginPhase → Shown B → Shown B
 in_phase phase s = record { phase = phase; exchange = s.exchange; out = s.out }
 
 -- `held` says what a buffer holds.
-module _ {B K : Type 0} (held : B → Held K) (lacks : Type 0) where
+module _ {B K : Type 0} (held : B → Held K) (lacks : Held K → ℕ → Type 0) where
   -- what the exchange has to say was added, in this message
   abbrev pub Adds : (List ℕ → ClientMessage) → Client → Sent B → Sent B → Type 0
   Adds message exchange old new = (text : List ℕ) × (message_of exchange.state ≡ Some text) × IsAdded held (message text) old new
 
   -- it wasn't, and nothing is added
   abbrev pub AddsNone : (List ℕ → ClientMessage) → Client → Error → Sent B → Sent B → Type 0
-  AddsNone message exchange e old new = (text : List ℕ) × (message_of exchange.state ≡ Some text) × RefusesMessage (message text) lacks e × IsLeft held old new
+  AddsNone message exchange e old new = (text : List ℕ) × (message_of exchange.state ≡ Some text) × RefusesMessage (message text) lacks (held old.buf) e × IsLeft held old new
 
   module _ {A : Type 0} where
     -- The mechanisms were offered. A refusal leaves the log-in as it is; the last is that the exchange was over before.

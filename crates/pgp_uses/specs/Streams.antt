@@ -1,7 +1,6 @@
 -- What a stream's frames come to, in the words of its grammar.
-use Rattle.std.specs.Prelude.{◌≡◌, ◌≢◌, ℕ, Bool, true, false, List, ◌++◌, length, Option, Some, None, Result, Ok, Err}
+use Rattle.std.specs.Prelude.{◌≡◌, ℕ, Bool, true, false, List, ◌++◌, length, Option, Some, None, Result, Ok, Err}
 use Rattle.pgp_base.specs.declared.error.Error.{Error}
-use Rattle.pgp_base.specs.declared.error.Error.TheVariants.{OutOfMemory}
 use Rattle.pgp_message.specs.BackendMessage.{Message, DataRow}
 use Rattle.pgp_message.specs.Parts.{CountedBytes}
 use Rattle.pgp_message.specs.Stream.{BackendRun, Step, TakesFrame}
@@ -24,4 +23,4 @@ is_row read = false
 -- gives no row.
 abbrev pub FrontRow : List ℕ → Option (CountedBytes × List ℕ) → Type 0
 FrontRow bytes (Some front) = TakesFrame bytes (Ok (DataRow front.0)) front.1
-FrontRow bytes None = (read : Result (Option Message) Error) × (new : List ℕ) × Step bytes read new × (is_row read ≡ false) × (read ≢ Err OutOfMemory)
+FrontRow bytes None = (read : Result (Option Message) Error) × (new : List ℕ) × Step ⊥ bytes read new × (is_row read ≡ false)

@@ -10,7 +10,7 @@ ghost use Rattle.pgp_uses.specs.Arrays.{AreReadBack, BindsInt4s, IsInt4, PutsInt
 
 use crate::server::refusal;
 use crate::values::{Value, put_int4};
-use pgp_base::{BindError, Buffer, FallibleIterator, IsNull, Oid};
+use pgp_base::{BindError, Buffer, FallibleIterator, IsNull, Memory, Oid};
 use postgres_protocol::Error;
 use postgres_protocol::laws::bind_one;
 use postgres_protocol::message::backend::RowIndex;
@@ -39,12 +39,12 @@ pub enum ArrayError {
 ///
 /// `NoColumn` where the row has no column `i`; `Value` where its bytes are refused as an array, or the first of its
 /// elements that is refused as the type; `Dimensions` where it has more than one; and `OutOfMemory`.
-pub fn list_of<'a, V: Value<'a> + Drop, A: Allocator, R: Allocator>(
+pub fn list_of<'a, V: Value<'a> + Drop, A: Memory, R: Allocator>(
     alloc: A,
     row: &RowIndex<'a, R>,
     i: usize,
 ) -> Result<Option<Vec<Option<V>, A>>, ArrayError>
-    ensures { ReadsListColumn V.meaning V.format (λ values. values.items) (column row.now i) result }
+    ensures { ReadsListColumn V.meaning V.format (λ values. values.items) A.Lacks (column row.now i) result }
 {
     match row.value(i) {
         None => Err(ArrayError::NoColumn),
@@ -57,11 +57,11 @@ pub fn list_of<'a, V: Value<'a> + Drop, A: Allocator, R: Allocator>(
 }
 
 /// The array's elements as values.
-fn list_in<'a, V: Value<'a> + Drop, A: Allocator>(
+fn list_in<'a, V: Value<'a> + Drop, A: Memory>(
     alloc: A,
     bytes: &'a [u8],
 ) -> Result<Vec<Option<V>, A>, ArrayError>
-    ensures { ReadsList V.meaning V.format (λ values. values.items) bytes.now result }
+    ensures { ReadsList V.meaning V.format (λ values. values.items) A.Lacks bytes.now result }
 {
     let array = match array_from_sql(bytes) {
         Ok(array) => array,
@@ -74,11 +74,11 @@ fn list_in<'a, V: Value<'a> + Drop, A: Allocator>(
 }
 
 /// All elements as values.
-fn elements_in<'a, V: Value<'a> + Drop, A: Allocator>(
+fn elements_in<'a, V: Value<'a> + Drop, A: Memory>(
     alloc: A,
     mut elements: ArrayValues<'a>,
 ) -> Result<Vec<Option<V>, A>, ArrayError>
-    ensures { ReadsWalk V.meaning V.format (λ values. values.items) elements.entry result }
+    ensures { ReadsWalk V.meaning V.format (λ values. values.items) A.Lacks elements.entry result }
 {
     let mut values = Vec::new(alloc);
     'elements: loop {
@@ -90,7 +90,7 @@ fn elements_in<'a, V: Value<'a> + Drop, A: Allocator>(
                 Err(e) => return Err(ArrayError::Value(e)),
             },
         };
-        if values.push(value).is_err() {
+        if A::push(&mut values, value).is_err() {
             return Err(ArrayError::OutOfMemory);
         }
     }

@@ -1,13 +1,14 @@
 //! The names of the columns that a server describes.
 
-ghost use Rattle.std.specs.Prelude.{◌≡◌, ◌⊎◌, Some, None, map, IfOk, IfErr};
+ghost use Rattle.std.specs.Prelude.{◌≡◌, ◌⊎◌, Some, None, map, IfOk, IfErr, OnErr};
+ghost use Rattle.pgp_base.specs.Cause.{WantsMemory};
 ghost use Rattle.pgp_message.specs.Views.{view};
 ghost use Rattle.pgp_uses.specs.Columns.{Columns, Describes, HasNames, NamesRefused};
 
-use pgp_base::FallibleIterator;
+use pgp_base::{FallibleIterator, Memory};
 use postgres_protocol::Error;
 use postgres_protocol::message::backend::{Field, Fields, Message, Messages};
-use std::alloc::{AllocError, Allocator};
+use std::alloc::AllocError;
 
 /// Why a stream gives no column names.
 #[derive(Debug, Clone, Copy, PartialEq, Eq)]
@@ -25,12 +26,12 @@ pub enum NamesError {
 /// `NoDescription` where no frame is one; `Refused` of the reason for which its columns can't be read, or of
 /// `OutOfMemory`.
 #[tactic(auto, using(crate::proofs::Descriptions::has_names, crate::proofs::Descriptions::has_broken))]
-pub fn column_names<'a, A: Allocator + Copy>(
+pub fn column_names<'a, A: Memory>(
     alloc: A,
     bytes: &'a [u8],
 ) -> Result<Vec<&'a str, A>, NamesError>
     ensures ok { IfOk result (λ found. HasNames bytes.now (map (λ name. name.now) found.items)) }
-    ensures err { IfErr result (NamesRefused bytes.now) }
+    ensures err { IfErr result (NamesRefused A.Lacks bytes.now) }
 {
     match description(bytes) {
         None => Err(NamesError::NoDescription),
@@ -73,10 +74,10 @@ fn columns_of<'a>(message: &Message<&'a [u8]>) -> Option<Fields<'a>>
 }
 
 /// The names of the columns.
-fn listed<'a, A: Allocator + Copy>(alloc: A, columns: Fields<'a>) -> Result<Vec<&'a str, A>, Error>
+fn listed<'a, A: Memory>(alloc: A, columns: Fields<'a>) -> Result<Vec<&'a str, A>, Error>
     ensures ok { IfOk result (λ found. map (λ name. name.now) found.items ≡ map (λ column. column.name) columns.entry.items) }
     ensures end { IfOk result (λ found. columns.entry.end ≡ None) }
-    ensures err { IfErr result (λ e. (e ≡ Error.OutOfMemory) ⊎ (columns.entry.end ≡ Some e)) }
+    ensures err { IfErr result (λ e. WantsMemory A.Lacks e ⊎ (columns.entry.end ≡ Some e)) }
 {
     let columns = columns.collect(alloc)?;
     match names_of(alloc, &columns) {
@@ -86,15 +87,16 @@ fn listed<'a, A: Allocator + Copy>(alloc: A, columns: Fields<'a>) -> Result<Vec<
 }
 
 /// The names of these columns.
-fn names_of<'a, A: Allocator>(
+fn names_of<'a, A: Memory>(
     alloc: A,
     columns: &[Field<'a>],
 ) -> Result<Vec<&'a str, A>, AllocError>
-    ensures { IfOk result (λ found. map (λ name. name.now) found.items ≡ map (λ column. column.name) columns.now) }
+    ensures lacks { OnErr result A.Lacks }
+    ensures names { IfOk result (λ found. map (λ name. name.now) found.items ≡ map (λ column. column.name) columns.now) }
 {
     let mut found = Vec::new(alloc);
     for column in columns {
-        found.push(column.name())?;
+        A::push(&mut found, column.name())?;
     }
     Ok(found)
 }

@@ -2,6 +2,7 @@
 
 ghost use Rattle.std.specs.Prelude.{◌≡◌, string_bytes, IfOk, IfErr, OnOk, OnErr};
 ghost use Rattle.rand_core.specs.Stream.{fill_bytes};
+ghost use Rattle.pgp_base.specs.Cause.{WantsMemory};
 ghost use Rattle.pgp_base.specs.Held.{Leaves};
 ghost use Rattle.pgp_auth.specs.Nonce.{drawn_chars};
 ghost use Rattle.pgp_auth.specs.ScramClient.{Answers, fresh};
@@ -37,7 +38,7 @@ pub enum LoginError<A: Allocator = Global> {
 /// # Errors
 ///
 /// `Scram` of `OutOfMemory` where memory for the exchange is refused, and `Message` where the buffer's growth is.
-pub fn begin<A: Allocator + Copy, R: Rng, B: Buffer>(
+pub fn begin<A: Memory, R: Rng, B: Buffer>(
     alloc: A,
     password: &[u8],
     rng: &mut R,
@@ -48,7 +49,7 @@ pub fn begin<A: Allocator + Copy, R: Rng, B: Buffer>(
     ensures sent { IfOk result (λ client. Sends initial client (B.held out.old) (B.held out.new)) }
     ensures kept { OnErr result (Leaves (B.held out.old) (B.held out.new)) }
     ensures refused { let nonce = (drawn_chars 24 (R.stream rng.old)).0 in
-        IfErr result (BeginRefused (initial (client_first Unsupported nonce)) B.Lacks) }
+        IfErr result (BeginRefused (initial (client_first Unsupported nonce)) A.Lacks B.Lacks (B.held out.old)) }
     ensures drawn { R.stream rng.new ≡ (drawn_chars 24 (R.stream rng.old)).1 }
 {
     let client = match ScramSha256::new(
@@ -85,7 +86,7 @@ pub fn respond<A: Memory, B: Buffer>(
     ensures answers { OnOk result (Answers client.old challenge.now client.new) }
     ensures sent { OnOk result (Sends SaslResponse client.new (B.held out.old) (B.held out.new)) }
     ensures kept { OnErr result (Leaves (B.held out.old) (B.held out.new)) }
-    ensures refused { IfErr result (RespondRefused client.old challenge.now client.new A.Lacks B.Lacks) }
+    ensures refused { IfErr result (RespondRefused client.old challenge.now client.new A.Lacks B.Lacks (B.held out.old)) }
 {
     if let Err(e) = client.update(challenge) {
         return Err(LoginError::Scram(e));
@@ -104,7 +105,7 @@ pub fn respond<A: Memory, B: Buffer>(
 /// # Errors
 ///
 /// `OutOfMemory`.
-pub fn set_password<A: Allocator + Copy, R: Rng>(
+pub fn set_password<A: Memory, R: Rng>(
     alloc: A,
     user: &str,
     password: &[u8],
@@ -113,13 +114,13 @@ pub fn set_password<A: Allocator + Copy, R: Rng>(
     ensures command { let salt = (fill_bytes 16 (R.stream rng.old)).0 in
         IfOk result (λ t. IsSetPassword user.now (verifier_text (verifier (unmapped password.now) salt 4096)) (string_bytes t)) }
     ensures drawn { R.stream rng.new ≡ (fill_bytes 16 (R.stream rng.old)).1 }
-    ensures err { IfErr result (λ e. e ≡ Error.OutOfMemory) }
+    ensures err { IfErr result (WantsMemory A.Lacks) }
 {
     let verifier = password::scram_sha_256(alloc, password, &NoPrep, rng)?;
-    let mut text = String::from_str(alloc, "ALTER USER ")?;
-    text.push_str(&escape_identifier(alloc, user)?)?;
-    text.push_str(" PASSWORD ")?;
-    text.push_str(&escape_literal(alloc, &verifier)?)?;
+    let mut text = A::text_of(alloc, "ALTER USER ")?;
+    A::push_str(&mut text, &escape_identifier(alloc, user)?)?;
+    A::push_str(&mut text, " PASSWORD ")?;
+    A::push_str(&mut text, &escape_literal(alloc, &verifier)?)?;
     Ok(text)
 }
 
@@ -128,12 +129,12 @@ pub fn set_password<A: Allocator + Copy, R: Rng>(
 /// # Errors
 ///
 /// `OutOfMemory`.
-pub fn equals<A: Allocator + Copy>(alloc: A, column: &str, value: &str) -> Result<String<A>, Error>
+pub fn equals<A: Memory>(alloc: A, column: &str, value: &str) -> Result<String<A>, Error>
     ensures text { IfOk result (λ t. IsComparison column.now value.now (string_bytes t)) }
-    ensures err { IfErr result (λ e. e ≡ Error.OutOfMemory) }
+    ensures err { IfErr result (WantsMemory A.Lacks) }
 {
     let mut text = escape_identifier(alloc, column)?;
-    text.push_str(" = ")?;
-    text.push_str(&escape_literal(alloc, value)?)?;
+    A::push_str(&mut text, " = ")?;
+    A::push_str(&mut text, &escape_literal(alloc, value)?)?;
     Ok(text)
 }

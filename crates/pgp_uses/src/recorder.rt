@@ -1,8 +1,9 @@
 //! A server's stream, cut into frames that stay where they stand.
 
-ghost use Rattle.std.specs.Prelude.{◌≡◌, IfOk};
+ghost use Rattle.std.specs.Prelude.{◌≡◌, IfOk, OnErr};
 ghost use Rattle.pgp_uses.specs.Recorder.{IsRecording};
 
+use pgp_base::Memory;
 use postgres_protocol::Error;
 use postgres_protocol::message::backend::Messages;
 use std::alloc::{AllocError, Allocator, Global};
@@ -24,8 +25,9 @@ pub struct Recording<A: Allocator = Global> {
 /// # Errors
 ///
 /// `AllocError` where memory for the places is refused.
-pub fn record<A: Allocator>(alloc: A, bytes: &[u8]) -> Result<Recording<A>, AllocError>
-    ensures { IfOk result (λ all. IsRecording bytes.now all.places.items all.stopped all.rest) }
+pub fn record<A: Memory>(alloc: A, bytes: &[u8]) -> Result<Recording<A>, AllocError>
+    ensures all { IfOk result (λ all. IsRecording bytes.now all.places.items all.stopped all.rest) }
+    ensures lacks { OnErr result A.Lacks }
 {
     let mut messages = Messages::new(bytes);
     let mut places = Vec::new(alloc);
@@ -50,7 +52,7 @@ pub fn record<A: Allocator>(alloc: A, bytes: &[u8]) -> Result<Recording<A>, Allo
             Err(_) => {}
         }
         let end = bytes.len() - messages.rest().len();
-        places.push(rest..end)?;
+        A::push(&mut places, rest..end)?;
         rest = end;
     }
 }

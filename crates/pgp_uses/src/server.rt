@@ -2,7 +2,7 @@
 #![tactic(auto, using(pgp_base::proofs::Parts::held_steps))]
 
 ghost use Rattle.std.specs.Prelude.{◌≡◌, ◌⊎◌, ◌+◌, length, Some, IfErr, OnOk, OnErr};
-ghost use Rattle.pgp_base.specs.Cause.{WantsMemory, length_cause};
+ghost use Rattle.pgp_base.specs.Cause.{Wants, WantsMemory, length_cause};
 ghost use Rattle.pgp_base.specs.Held.{◌⊕◌, Leaves};
 ghost use Rattle.pgp_base.specs.Wire.{frame};
 ghost use Rattle.pgp_uses.specs.Server.{refusal_of};
@@ -18,7 +18,7 @@ use postgres_protocol::{BindError, Error};
 pub fn answer<B: Buffer>(tag: u8, payload: &[u8], buf: &mut B) -> Result<(), Error>
     ensures ok { OnOk result (B.held buf.new ≡ B.held buf.old ⊕ frame tag payload.now) }
     ensures err { OnErr result (Leaves (B.held buf.old) (B.held buf.new)) }
-    ensures cause { IfErr result (λ e. WantsMemory B.Lacks e ⊎ (length_cause (length payload.now + 4) ≡ Some e)) }
+    ensures cause { IfErr result (λ e. WantsMemory (Wants B.Lacks (B.held buf.old) (length (frame tag payload.now))) e ⊎ (length_cause (length payload.now + 4) ≡ Some e)) }
 {
     let start = buf.len();
     put_u8(buf, tag)?;
@@ -27,7 +27,7 @@ pub fn answer<B: Buffer>(tag: u8, payload: &[u8], buf: &mut B) -> Result<(), Err
         |buf: &mut B| -> Result<(), Error>
             ensures ok { OnOk result (B.held buf.exit.now ≡ B.held buf.entry.now ⊕ payload.entry.now) }
             ensures err { OnErr result (B.held buf.exit.now ≡ B.held buf.entry.now) }
-            ensures cause { IfErr result (WantsMemory B.Lacks) }
+            ensures cause { IfErr result (WantsMemory (Wants B.Lacks (B.held buf.entry.now) (length payload.entry.now))) }
         {
             buf.append(payload)?;
             Ok(())

@@ -2,14 +2,15 @@
 
 ghost use Rattle.std.specs.Prelude.{◌≡◌, false, true, map, option_map, IfOk, IfErr, OnOk, OnErr};
 ghost use Rattle.std.specs.List.{flat_map};
+ghost use Rattle.pgp_base.specs.Cause.{WantsMemory};
 ghost use Rattle.pgp_message.specs.Views.{seen};
 ghost use Rattle.pgp_uses.specs.Streams.{Completes, FrontRow, HasFrames};
 
 use bytes::Bytes;
+use pgp_base::Memory;
 use postgres_protocol::Error;
 use postgres_protocol::message::backend::{DataRowBody, Message, Messages};
 use postgres_protocol::session::{StreamParser, parse_stream};
-use std::alloc::Allocator;
 
 /// The messages and refusals of the frames that a piece completes. Whatever came and was taken before, all that was
 /// taken is what the stream's grammar gives for all bytes.
@@ -17,7 +18,7 @@ use std::alloc::Allocator;
 /// # Errors
 ///
 /// `OutOfMemory`. The parser has failed then; what it had read can still be taken.
-pub fn completed<A: Allocator + Copy>(
+pub fn completed<A: Memory>(
     piece: &[u8],
     parser: &mut StreamParser<A>,
 ) -> Result<Vec<Result<Message<Bytes<A>>, Error>, A>, Error>
@@ -25,7 +26,7 @@ pub fn completed<A: Allocator + Copy>(
     ensures read { IfOk result (λ got. Completes piece.now (map seen got.items) parser.old parser.new) }
     ensures sound { OnOk result (parser.new.failed ≡ false) }
     ensures failed { OnErr result (parser.new.failed ≡ true) }
-    ensures err { IfErr result (λ e. e ≡ Error.OutOfMemory) }
+    ensures err { IfErr result (WantsMemory A.Lacks) }
 {
     parser.feed(piece)?;
     Ok(parser.take())
@@ -36,9 +37,9 @@ pub fn completed<A: Allocator + Copy>(
 /// # Errors
 ///
 /// `OutOfMemory`.
-pub fn frame_count<A: Allocator + Copy>(alloc: A, pieces: &[&[u8]]) -> Result<usize, Error>
+pub fn frame_count<A: Memory>(alloc: A, pieces: &[&[u8]]) -> Result<usize, Error>
     ensures count { IfOk result (λ n. HasFrames (flat_map (λ piece. piece.now) pieces.now) n) }
-    ensures err { IfErr result (λ e. e ≡ Error.OutOfMemory) }
+    ensures err { IfErr result (WantsMemory A.Lacks) }
 {
     let parsed = parse_stream(alloc, pieces)?;
     Ok(parsed.results().len())

@@ -67,6 +67,9 @@ module _ (to : Target) where
 
 -- ---- growths that the message of one value needs
 
+pub null_length : length (nullable None) ≡ 4
+null_length = int32_length (negsuc 0)
+
 -- of a list that came none or all of it did so far
 asked_all : {A : Type 0} (given : List A → Option A → Type 0) (all : List A) → ((xs : List A) → given xs None → xs ≡ all) → ((xs : List A) (x : A) → given xs (Some x) → xs ++ x ∷ [] ≡ all)
     → (before : List A) (next : Option A) (xs : List A) → given before next → xs ≡ before ++ option_to_list next → xs ≡ all
@@ -101,6 +104,13 @@ module _ {K : Type 0} {lacks : Held K → ℕ → Type 0} {old : Held K} (to : T
       let k = one_length v in
       let one = ap (λ l. length (counted nullable l)) are in
       wants_more old _ _ (omega (arith, n, m, k, is, one, few)) w
+
+  -- the message of a null is no longer than that of any value
+  pub null_wants : (v : Option (List ℕ)) → Wants lacks old (length (bytes_of (one_bound to None))) → Wants lacks old (length (bytes_of (one_bound to v)))
+  null_wants v w =
+      let n = one_length None in
+      let m = one_length v in
+      wants_more old _ _ (omega (arith, n, m, nullable_least v, null_length, counted_length nullable (None ∷ []), counted_length nullable (v ∷ []), flat_more nullable [] None, flat_more nullable [] v)) w
 
   -- behind the place of the value's length
   pub value_wants : (b : Held K) (v : Option (List ℕ)) (n : ℕ) → b ≡ before_values old to.portal to.statement (pos 1 ∷ []) → n ≤ length (nullable v) → Wants lacks b n → Wants lacks old (length (bytes_of (one_bound to v)))
@@ -270,29 +280,6 @@ refused_as ds type steps P Q as (Serialization e) (inl memory) =
     inl (memory.0, record { before = w.before; more = w.more; are = w.are; vs = w.vs; give = w.give; wanted = as (w.vs ++ map (λ step. None) (take 1 w.more)) w.wanted })
 refused_as ds type steps P Q as (Serialization e) (inr cause) = inr cause
 
-null_length : length (nullable None) ≡ 4
-null_length = int32_length (negsuc 0)
-
--- the message of a null is no longer than that of an array
-null_wants : {K : Type 0} {lacks : Held K → ℕ → Type 0} {old : Held K} (ds : List ArrayDimension) (type : ℕ) (vs : List (Option (List ℕ))) → Wants lacks old (length (bytes_of (one_bound unnamed None))) → Wants lacks old (length (bytes_of (binding ds type vs)))
-null_wants {old = old} ds type vs w =
-    let bytes = array_bytes (array_of ds type vs) in
-    let n = one_length unnamed None in
-    let m = one_length unnamed (Some bytes) in
-    let least = nullable_least (Some bytes) in
-    wants_more old _ _
-    (omega (
-      arith,
-      n,
-      m,
-      least,
-      counted_length nullable (None ∷ []),
-      counted_length nullable (Some bytes ∷ []),
-      flat_more nullable [] None,
-      flat_more nullable [] (Some bytes),
-      null_length,
-    )) w
-
 -- the same steps
 pub same_steps : {K : Type 0} (ds xs : List ArrayDimension) (type n : ℕ) (steps ys : List Step) (lacks : Held K → ℕ → Type 0) (old new : Held K) (r : Result IsNull (BindError Error)) → (xs ≡ ds) × (n ≡ type) × (ys ≡ steps)
     → WritesSteps xs n ys lacks old new r → WritesSteps ds type steps lacks old new r
@@ -313,7 +300,7 @@ module _ {F B K : Type 0} (held : B → Held K) (step : F → ℕ → MutBor B �
       (w.vs, w.give, w.none, ap (λ (n : IsNull). one_bound unnamed (value_of n bytes)) a.0 ∙ ap (λ (b : List ℕ). one_bound unnamed (Some b)) are)
 
   elements_want : OneWants held step unnamed f last old lacks → ElementsWant steps (BindWants ds type lacks old)
-  elements_want (inl head) = record { before = []; more = steps; are = refl; vs = []; give = refl; wanted = null_wants ds type (map (λ step. None) (take 1 steps)) head.1 }
+  elements_want (inl head) = record { before = []; more = steps; are = refl; vs = []; give = refl; wanted = null_wants unnamed (Some (array_bytes (array_of ds type (map (λ step. None) (take 1 steps))))) head.1 }
   elements_want (inr made) =
       let k = made_array made.0 made.1 made.2 in
       record {

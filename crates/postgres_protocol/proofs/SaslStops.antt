@@ -34,7 +34,7 @@ answered_text old new handed text e a = subst (λ (t : List ℕ). Answers old t 
 pub finished_text : (old new : Client) (handed text : List ℕ) (e : Refusal) → handed ≡ text → FinishRefused old handed e new → FinishRefused old text e new
 finished_text old new handed text e is r = subst (λ (t : List ℕ). FinishRefused old t e new) is r
 
-module _ {Kept : Type 0} (lacks : Held Kept → ℕ → Type 0) (mechanism : List ℕ) (old between : Client) (first_old first_new final_old : List ℕ) (out_old out_mid : Held Kept) (begun : Begun) (text first answer : List ℕ)
+module _ {Kept : Type 0} (memory : Type 0) (lacks : Held Kept → ℕ → Type 0) (mechanism : List ℕ) (old between : Client) (first_old first_new final_old : List ℕ) (out_old out_mid : Held Kept) (begun : Begun) (text first answer : List ℕ)
     (due : old.state ≡ AwaitsFirst begun) (said : Some text ≡ message_of old.state) (sent : out_mid ≡ out_old ⊕ bytes_of (SaslInitialResponse mechanism text))
     (taken : TakesFrame first_old (Ok (Authentication (AuthenticationSaslContinue first))) first_new) (answers : Answers old first between) (replied : Some answer ≡ message_of between.state) where
   sent_first : out_mid ≡ out_old ⊕ bytes_of (SaslInitialResponse mechanism (first_text begun))
@@ -47,7 +47,7 @@ module _ {Kept : Type 0} (lacks : Held Kept → ℕ → Type 0) (mechanism : Lis
   sent_both out_new e = e ∙ (ap (λ (h : Held Kept). h ⊕ bytes_of (SaslResponse answer)) sent_first ∙ ap (λ (t : List ℕ). out_old ⊕ bytes_of (SaslInitialResponse mechanism (first_text begun)) ⊕ bytes_of (SaslResponse t)) reply)
 
   -- the answer wasn't written
-  pub unwritten : (out_new : Held Kept) (e : Error) → WritesMessage (SaslResponse answer) lacks out_mid out_new (Err e) → FinalUnwritten lacks mechanism old between first_old first_new final_old final_old out_old out_new e
+  pub unwritten : (out_new : Held Kept) (e : Error) → WritesMessage (SaslResponse answer) lacks out_mid out_new (Err e) → FinalUnwritten memory lacks mechanism old between first_old first_new final_old final_old out_old out_new e
   unwritten out_new e w = record {
     begun = begun;
     due = due;
@@ -59,24 +59,24 @@ module _ {Kept : Type 0} (lacks : Held Kept → ℕ → Type 0) (mechanism : Lis
     final = refl;
   }
 
-  missing_at : {A : Type 0} (final_new : List ℕ) (out_new : Held Kept) (r : SaslRefusal A) → out_new ≡ out_mid ⊕ bytes_of (SaslResponse answer) → GivesNone IsNoFinal final_old final_new r
-      → FinalMissing lacks mechanism old between first_old first_new final_old final_new out_old out_new r
+  missing_at : {A : Type 0} (final_new : List ℕ) (out_new : Held Kept) (r : SaslRefusal A) → out_new ≡ out_mid ⊕ bytes_of (SaslResponse answer) → GivesNone memory IsNoFinal final_old final_new r
+      → FinalMissing memory lacks mechanism old between first_old first_new final_old final_new out_old out_new r
   missing_at final_new out_new r e m = record { begun = begun; due = due; first = first; first_taken = taken; answers = answers; sent = sent_both out_new e; missing = m }
 
-  missing_stops : {A : Type 0} (final_new : List ℕ) (out_new : Held Kept) (r : SaslRefusal A) → out_new ≡ out_mid ⊕ bytes_of (SaslResponse answer) → GivesNone IsNoFinal final_old final_new r
-      → Stopped lacks mechanism old between first_old first_new final_old final_new out_old out_new r
+  missing_stops : {A : Type 0} (final_new : List ℕ) (out_new : Held Kept) (r : SaslRefusal A) → out_new ≡ out_mid ⊕ bytes_of (SaslResponse answer) → GivesNone memory IsNoFinal final_old final_new r
+      → Stopped memory lacks mechanism old between first_old first_new final_old final_new out_old out_new r
   missing_stops final_new out_new refusals.Unexpected e m = inr (missing_at final_new out_new refusals.Unexpected e m)
   missing_stops final_new out_new (refusals.Message x) e m = inr (inr (inr (missing_at final_new out_new (refusals.Message x) e m)))
   missing_stops final_new out_new (refusals.Scram x) e m = absurd m
 
   -- the server's final text didn't stand in its buffer, and its refusal was handed on
-  pub missing : {A T : Type 0} (r : Result T (SaslRefusal A)) (x : SaslRefusal A) → IsErrAnd r (λ e. e ≡ x) → (final_new : List ℕ) (out_new : Held Kept) → out_new ≡ out_mid ⊕ bytes_of (SaslResponse answer) → GivesNone IsNoFinal final_old final_new x
-      → IfErr r (λ e. Stopped lacks mechanism old between first_old first_new final_old final_new out_old out_new e)
-  missing r x h final_new out_new e m = if_err_at r x (λ e. Stopped lacks mechanism old between first_old first_new final_old final_new out_old out_new e) h (missing_stops final_new out_new x e m)
+  pub missing : {A T : Type 0} (r : Result T (SaslRefusal A)) (x : SaslRefusal A) → IsErrAnd r (λ e. e ≡ x) → (final_new : List ℕ) (out_new : Held Kept) → out_new ≡ out_mid ⊕ bytes_of (SaslResponse answer) → GivesNone memory IsNoFinal final_old final_new x
+      → IfErr r (λ e. Stopped memory lacks mechanism old between first_old first_new final_old final_new out_old out_new e)
+  missing r x h final_new out_new e m = if_err_at r x (λ e. Stopped memory lacks mechanism old between first_old first_new final_old final_new out_old out_new e) h (missing_stops final_new out_new x e m)
 
   -- it was refused
   pub refused : (new : Client) (final_new : List ℕ) (out_new : Held Kept) (final : List ℕ) (e : Refusal) → out_new ≡ out_mid ⊕ bytes_of (SaslResponse answer)
-      → TakesFrame final_old (Ok (Authentication (AuthenticationSaslFinal final))) final_new → FinishRefused between final e new → FinalRefused lacks mechanism old new first_old first_new final_old final_new out_old out_new e
+      → TakesFrame final_old (Ok (Authentication (AuthenticationSaslFinal final))) final_new → FinishRefused between final e new → FinalRefused memory lacks mechanism old new first_old first_new final_old final_new out_old out_new e
   refused new final_new out_new final e is t r = record {
     begun = begun;
     due = due;

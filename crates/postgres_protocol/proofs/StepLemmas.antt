@@ -98,7 +98,7 @@ module _ (ds : List ArrayDimension) (type : ℕ) where
   abbrev flag : List (Option (List ℕ)) → List ℕ
   flag vs = uint32 (flag_of (has_null vs))
 
-  array_length : (vs : List (Option (List ℕ))) → length (array_bytes (array_of ds type vs)) ≡ 12 + 8 * length ds + length (flat_map nullable vs)
+  pub array_length : (vs : List (Option (List ℕ))) → length (array_bytes (array_of ds type vs)) ≡ 12 + 8 * length ds + length (flat_map nullable vs)
   array_length vs =
       omega (
         arith,
@@ -114,11 +114,11 @@ module _ (ds : List ArrayDimension) (type : ℕ) where
 
   module _ {K : Type 0} {lacks : Held K → ℕ → Type 0} (old : Held K) where
     -- of the head, in whose dimensions these stand
-    head_wants : (n : ℕ) (vs : List (Option (List ℕ))) → n ≤ length ds → Wants lacks old (12 + 8 * n) → Wants lacks old (length (array_bytes (array_of ds type vs)))
+    pub head_wants : (n : ℕ) (vs : List (Option (List ℕ))) → n ≤ length ds → Wants lacks old (12 + 8 * n) → Wants lacks old (length (array_bytes (array_of ds type vs)))
     head_wants n vs h w = wants_more old (12 + 8 * n) _ (let l = array_length vs in omega (arith, l, h)) w
 
     -- of an element, behind others
-    element_wants : (b : Held K) (vs : List (Option (List ℕ))) (v : Option (List ℕ)) (n : ℕ) → b ≡ before_elements old ds type ⊕ flat_map nullable vs → n ≤ length (nullable v) → Wants lacks b n
+    pub element_wants : (b : Held K) (vs : List (Option (List ℕ))) (v : Option (List ℕ)) (n : ℕ) → b ≡ before_elements old ds type ⊕ flat_map nullable vs → n ≤ length (nullable v) → Wants lacks b n
         → Wants lacks old (length (array_bytes (array_of ds type (vs ++ v ∷ []))))
     element_wants b vs v n h k w =
         let count = uint32 (length ds) in

@@ -57,14 +57,16 @@ pub record TakesOther (IsOther : Message → Type 0) (old new : List ℕ) : Type
   pub taken : TakesFrame old (Ok message) new
   pub other : IsOther message
 
--- Why a buffer gave no text: no whole frame stands in front, or that of another message, or reading refused it.
-abbrev pub GivesNone : {A : Type 0} → (Message → Type 0) → List ℕ → List ℕ → SaslRefusal A → Type 0
-GivesNone IsOther old new refusals.Unexpected = (IsPartial old × (new ≡ old)) ⊎ TakesOther IsOther old new
-GivesNone IsOther old new (refusals.Message e) = Step old (Err e) new
-GivesNone IsOther old new (refusals.Scram e) = ⊥
+-- Why a buffer gave no text: no whole frame stands in front, or that of another message, or reading refused it. `memory` says that
+-- memory for a message was refused.
+abbrev pub GivesNone : {A : Type 0} → Type 0 → (Message → Type 0) → List ℕ → List ℕ → SaslRefusal A → Type 0
+GivesNone memory IsOther old new refusals.Unexpected = (IsPartial old × (new ≡ old)) ⊎ TakesOther IsOther old new
+GivesNone memory IsOther old new (refusals.Message e) = Step memory old (Err e) new
+GivesNone memory IsOther old new (refusals.Scram e) = ⊥
 
--- Where an exchange stopped. Each side is what it was before the call and is behind it.
-module _ {Kept : Type 0} (lacks : Held Kept → ℕ → Type 0) (mechanism : List ℕ) (old new : Client) (first_old first_new final_old final_new : List ℕ) (out_old out_new : Held Kept) where
+-- Where an exchange stopped. Each side is what it was before the call and is behind it. `memory` is what a refusal of memory for the
+-- exchange and the server's messages says, `lacks` that of a growth of the buffer.
+module _ {Kept : Type 0} (memory : Type 0) (lacks : Held Kept → ℕ → Type 0) (mechanism : List ℕ) (old new : Client) (first_old first_new final_old final_new : List ℕ) (out_old out_new : Held Kept) where
   -- the client's first text wasn't written, and nothing was taken
   pub record FirstUnwritten (e : Error) : Type 0 where
     pub begun : Begun
@@ -79,7 +81,7 @@ module _ {Kept : Type 0} (lacks : Held Kept → ℕ → Type 0) (mechanism : Lis
     pub begun : Begun
     pub due : old.state ≡ AwaitsFirst begun
     pub sent : out_new ≡ out_old ⊕ bytes_of (SaslInitialResponse mechanism (first_text begun))
-    pub missing : GivesNone IsNoContinue first_old first_new r
+    pub missing : GivesNone memory IsNoContinue first_old first_new r
     pub client : new ≡ old
     pub final : final_new ≡ final_old
 
@@ -90,7 +92,7 @@ module _ {Kept : Type 0} (lacks : Held Kept → ℕ → Type 0) (mechanism : Lis
     pub sent : out_new ≡ out_old ⊕ bytes_of (SaslInitialResponse mechanism (first_text begun))
     pub first : List ℕ
     pub first_taken : TakesFrame first_old (Ok (Authentication (AuthenticationSaslContinue first))) first_new
-    pub refused : UpdateRefused (Unit {0}) old first e new
+    pub refused : UpdateRefused memory old first e new
     pub final : final_new ≡ final_old
 
   -- the server's first text was answered, and the answer wasn't written
@@ -111,7 +113,7 @@ module _ {Kept : Type 0} (lacks : Held Kept → ℕ → Type 0) (mechanism : Lis
     pub first_taken : TakesFrame first_old (Ok (Authentication (AuthenticationSaslContinue first))) first_new
     pub answers : Answers old first new
     pub sent : out_new ≡ out_old ⊕ bytes_of (SaslInitialResponse mechanism (first_text begun)) ⊕ bytes_of (SaslResponse answers.answered.final)
-    pub missing : GivesNone IsNoFinal final_old final_new r
+    pub missing : GivesNone memory IsNoFinal final_old final_new r
 
   -- the server's final text was refused
   pub record FinalRefused (e : Refusal) : Type 0 where

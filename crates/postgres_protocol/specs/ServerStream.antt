@@ -1,7 +1,7 @@
 -- What was read of a server's stream that comes in pieces.
 use Rattle.std.specs.Prelude.{◌≡◌, ℕ, ◌+◌, ◌<◌, ◌≤◌, Bool, true, false, List, [], ◌∷◌, ◌++◌, length, take, Result, Ok, Err}
 use Rattle.pgp_base.specs.declared.error.Error.{Error}
-use Rattle.pgp_base.specs.declared.error.Error.TheVariants as errors
+use Rattle.pgp_base.specs.Cause.{WantsMemory}
 use Rattle.pgp_message.specs.BackendMessage.{Message}
 use Rattle.pgp_message.specs.Remembered.{Memory, Fits, header_of, headers_read}
 use Rattle.pgp_message.specs.Stream.{Frames, IsEnding, BackendRun}
@@ -46,10 +46,10 @@ pub record Fails (piece : List ℕ) (old new : Reading) : Type 0 where
   pub grown : new.results ≡ old.results ++ more
   pub reads : (bytes : List ℕ) (taken : List (Result Message Error)) → HasRead bytes taken old → AreFirst (bytes ++ piece) (taken ++ new.results)
 
--- What feeding a piece comes to.
-abbrev pub Feeds : List ℕ → Reading → Reading → Result (Unit {0}) Error → Type 0
-Feeds piece old new (Ok done) = GoesOn piece old new
-Feeds piece old new (Err e) = (e ≡ errors.OutOfMemory) × Fails piece old new
+-- What feeding a piece comes to. `lacks` says that memory was refused.
+abbrev pub Feeds : List ℕ → Type 0 → Reading → Reading → Result (Unit {0}) Error → Type 0
+Feeds piece lacks old new (Ok done) = GoesOn piece old new
+Feeds piece lacks old new (Err e) = WantsMemory lacks e × Fails piece old new
 
 -- The results so far are handed out, and none is kept.
 pub record HandsOut (results : List (Result Message Error)) (old new : Reading) : Type 0 where

@@ -10,7 +10,7 @@ ghost use Rattle.postgres_protocol.specs.SaslExchange.{Exchanged, GivesNone, IsN
 
 use bytes::{Bytes, BytesMut};
 use pgp_auth::authentication::sasl::{ScramError, ScramSha256};
-use pgp_base::{Buffer, Error};
+use pgp_base::{Buffer, Error, Memory};
 use pgp_frontend as frontend;
 use pgp_message::{AuthenticationSaslContinueBody, AuthenticationSaslFinalBody, Message};
 use std::alloc::{Allocator, Global};
@@ -36,7 +36,7 @@ pub enum SaslRefusal<A: Allocator = Global> {
 /// message stands there or another one than is due, and `Scram` where `update` or `finish` refuses a text. What was
 /// written and taken off before stays so, and `out` keeps what it held in front of it.
 #[tactic(auto, using(pgp_base::proofs::Parts::held_steps))]
-pub fn sasl_exchange<A: Allocator + Copy, B: Buffer>(
+pub fn sasl_exchange<A: Memory, B: Buffer>(
     client: &mut ScramSha256<A>,
     mechanism: &str,
     server_first: &mut BytesMut<A>,
@@ -48,7 +48,7 @@ pub fn sasl_exchange<A: Allocator + Copy, B: Buffer>(
         server_first.old.items server_first.new.items server_final.old.items server_final.new.items
         (B.held out.old) (B.held out.new)) }
     ensures front { OnErr result (IsFrontOf (B.held out.old) (B.held out.new)) }
-    ensures refused { IfErr result (λ e. Stopped B.Lacks mechanism.now client.old client.new
+    ensures refused { IfErr result (λ e. Stopped A.Lacks B.Lacks mechanism.now client.old client.new
         server_first.old.items server_first.new.items server_final.old.items server_final.new.items
         (B.held out.old) (B.held out.new) e) }
 {
@@ -76,11 +76,11 @@ pub fn sasl_exchange<A: Allocator + Copy, B: Buffer>(
 }
 
 /// The server's first text, whose message is taken off the buffer.
-fn challenge_of<A: Allocator + Copy>(
+fn challenge_of<A: Memory>(
     buf: &mut BytesMut<A>,
 ) -> Result<AuthenticationSaslContinueBody<Bytes<A>>, SaslRefusal<A>>
     ensures taken { IfOk result (λ text. TakesFrame buf.old.items (Ok (Authentication (AuthenticationSaslContinue text))) buf.new.items) }
-    ensures refused { IfErr result (λ e. GivesNone IsNoContinue buf.old.items buf.new.items e) }
+    ensures refused { IfErr result (λ e. GivesNone A.Lacks IsNoContinue buf.old.items buf.new.items e) }
 {
     match Message::parse(buf) {
         Ok(Some(message)) => match challenge_in(message) {
@@ -109,11 +109,11 @@ fn challenge_in<A: Allocator + Copy>(
 }
 
 /// The server's final text, whose message is taken off the buffer.
-fn outcome_of<A: Allocator + Copy>(
+fn outcome_of<A: Memory>(
     buf: &mut BytesMut<A>,
 ) -> Result<AuthenticationSaslFinalBody<Bytes<A>>, SaslRefusal<A>>
     ensures taken { IfOk result (λ text. TakesFrame buf.old.items (Ok (Authentication (AuthenticationSaslFinal text))) buf.new.items) }
-    ensures refused { IfErr result (λ e. GivesNone IsNoFinal buf.old.items buf.new.items e) }
+    ensures refused { IfErr result (λ e. GivesNone A.Lacks IsNoFinal buf.old.items buf.new.items e) }
 {
     match Message::parse(buf) {
         Ok(Some(message)) => match outcome_in(message) {

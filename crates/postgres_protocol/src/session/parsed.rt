@@ -2,12 +2,13 @@
 
 ghost use Rattle.std.specs.Prelude.{◌≡◌, IfOk, IfErr, map};
 ghost use Rattle.std.specs.List.{flat_map};
+ghost use Rattle.pgp_base.specs.Cause.{WantsMemory};
 ghost use Rattle.pgp_message.specs.Stream.{BackendRun};
 ghost use Rattle.pgp_message.specs.Views.{seen};
 
 use super::stream_parser::StreamParser;
 use bytes::Bytes;
-use pgp_base::Error;
+use pgp_base::{Error, Memory};
 use pgp_message::Message;
 use std::alloc::{Allocator, Global};
 use std::marker::Model;
@@ -73,9 +74,9 @@ impl<A: Allocator + Copy> Parsed<A> {
 ///
 /// `OutOfMemory` where memory was refused. A refused frame is no error of the call: its refusal stands among the
 /// results.
-pub fn parse_stream<A: Allocator + Copy>(alloc: A, pieces: &[&[u8]]) -> Result<Parsed<A>, Error>
+pub fn parse_stream<A: Memory>(alloc: A, pieces: &[&[u8]]) -> Result<Parsed<A>, Error>
     ensures run { IfOk result (λ s. BackendRun (flat_map (λ piece. piece.now) pieces.now) s.results s.stopped s.rest) }
-    ensures err { IfErr result (λ e. e ≡ Error.OutOfMemory) }
+    ensures err { IfErr result (WantsMemory A.Lacks) }
 {
     let mut parser = StreamParser::new(alloc);
     for piece in pieces {

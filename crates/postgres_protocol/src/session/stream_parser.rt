@@ -1,6 +1,7 @@
 //! A server's stream, read as it comes.
 
 ghost use Rattle.std.specs.Prelude.{◌≡◌, ◌≤◌, ◌++◌, [], length, take, drop, map, false, IfOk, IfErr, OnOk, OnErr};
+ghost use Rattle.pgp_base.specs.Cause.{WantsMemory};
 ghost use Rattle.pgp_message.specs.Found.{TakesSome};
 ghost use Rattle.pgp_message.specs.Remembered.{Fits};
 ghost use Rattle.pgp_message.specs.Views.{seen};
@@ -8,7 +9,7 @@ ghost use Rattle.postgres_protocol.specs.ServerStream.{HasRead, Feeds, HandsOut,
 
 use super::parsed::Parsed;
 use bytes::Bytes;
-use pgp_base::Error;
+use pgp_base::{Error, Memory};
 use pgp_message::{FrameParser, Message, laws, read_frames};
 use std::alloc::{AllocError, Allocator, Global};
 use std::marker::Model;
@@ -44,7 +45,7 @@ impl<A: Allocator> Model for StreamParser<A> {
     ghost invariant = { λ p. IsSound p.frames p.failed p.stopped p.rest.items };
 }
 
-impl<A: Allocator + Copy> StreamParser<A> {
+impl<A: Memory> StreamParser<A> {
     /// A parser of a stream of which nothing came.
     pub fn new(alloc: A) -> StreamParser<A>
         ensures empty { result ≡ record { results = []; stopped = false; rest = []; headers = 0; failed = false } }
@@ -69,7 +70,7 @@ impl<A: Allocator + Copy> StreamParser<A> {
     /// error of the call: its refusal stands among the results.
     pub fn feed(&mut self, piece: &[u8]) -> Result<(), Error>
         requires { self.old.failed ≡ false }
-        ensures { Feeds piece.now self.old self.new result }
+        ensures { Feeds piece.now A.Lacks self.old self.new result }
     {
         laws::waits_go_on();
         laws::stops_stay();
@@ -77,7 +78,7 @@ impl<A: Allocator + Copy> StreamParser<A> {
         laws::frames_stand();
         laws::runs_grow();
         if self.stopped {
-            if self.rest.extend_from_slice(piece).is_err() {
+            if A::extend(&mut self.rest, piece).is_err() {
                 self.failed = true;
                 return Err(Error::OutOfMemory);
             }
@@ -155,7 +156,7 @@ impl<A: Allocator + Copy> StreamParser<A> {
 
 /// Takes all frames of what is kept and of the piece behind it, and answers whether a length fault ended them. A frame
 /// that was cut is completed by itself, so that the parser copies each byte once: to where its message keeps it.
-fn take_frames<A: Allocator + Copy>(
+fn take_frames<A: Memory>(
     frames: &mut FrameParser,
     rest: &mut Vec<u8, A>,
     results: &mut Vec<Result<Message<Bytes<A>>, Error>, A>,
@@ -165,7 +166,7 @@ fn take_frames<A: Allocator + Copy>(
     ensures ok { IfOk result (λ stopped. TakesAll (rest.old.items ++ piece.now) rest.new.items
         (map seen results.old.items) (map seen results.new.items) frames.old frames.new stopped) }
     ensures some { OnErr result (TakesSome (rest.old.items ++ piece.now) (map seen results.old.items) (map seen results.new.items)) }
-    ensures err { IfErr result (λ e. e ≡ Error.OutOfMemory) }
+    ensures err { IfErr result (WantsMemory A.Lacks) }
 {
     laws::no_frame();
     let mut left = piece;
@@ -175,7 +176,7 @@ fn take_frames<A: Allocator + Copy>(
         let (used, stopped) = take_part(frames, rest, results, behind)?;
         let (_, after) = behind.split_at(used);
         if stopped {
-            rest.extend_from_slice(after)?;
+            A::extend(rest, after)?;
             return Ok(true);
         }
         if after.is_empty() {
@@ -186,13 +187,14 @@ fn take_frames<A: Allocator + Copy>(
 }
 
 /// Moves what the frame that is kept lacks off the piece, and answers how many bytes those are: none where nothing is kept.
-fn complete<A: Allocator + Copy>(
+fn complete<A: Memory>(
     frames: &FrameParser,
     rest: &mut Vec<u8, A>,
     piece: &[u8],
 ) -> Result<usize, AllocError>
     ensures ok { IfOk result (Moves rest.old.items rest.new.items piece.now) }
     ensures err { OnErr result (rest.new.items ≡ rest.old.items) }
+    ensures lacks { OnErr result A.Lacks }
 {
     if rest.is_empty() {
         return Ok(0);
@@ -206,7 +208,7 @@ fn complete<A: Allocator + Copy>(
 /// Takes all frames that are whole in what is kept. Where nothing is kept it takes those of the piece, and keeps the bytes
 /// behind them. It answers how many bytes of the piece it used, none or all, and whether a length fault ended the frames.
 // One function for both, so that what reads the frames is called from here alone, and LLVM inlines it.
-fn take_part<A: Allocator + Copy>(
+fn take_part<A: Memory>(
     frames: &mut FrameParser,
     rest: &mut Vec<u8, A>,
     results: &mut Vec<Result<Message<Bytes<A>>, Error>, A>,
@@ -216,7 +218,7 @@ fn take_part<A: Allocator + Copy>(
     ensures ok { IfOk result (TakesPart rest.old.items rest.new.items piece.now
         (map seen results.old.items) (map seen results.new.items) frames.old frames.new) }
     ensures some { OnErr result (TakesSome (rest.old.items ++ piece.now) (map seen results.old.items) (map seen results.new.items)) }
-    ensures err { IfErr result (λ e. e ≡ Error.OutOfMemory) }
+    ensures err { IfErr result (WantsMemory A.Lacks) }
 {
     let found = frames.find_all(ready(rest, piece));
     let kept = !rest.is_empty();
@@ -241,48 +243,36 @@ fn ready<'a, A: Allocator>(rest: &'a Vec<u8, A>, piece: &'a [u8]) -> &'a [u8]
 }
 
 /// Shares the first bytes of what is read next: those that are kept are taken off, those of a piece are copied.
-fn share<A: Allocator + Copy>(
-    rest: &mut Vec<u8, A>,
-    piece: &[u8],
-    len: usize,
-) -> Result<Bytes<A>, AllocError>
+fn share<A: Memory>(rest: &mut Vec<u8, A>, piece: &[u8], len: usize) -> Result<Bytes<A>, AllocError>
     requires { len ≤ length (ready rest.old.items piece.now) }
     ensures front { IfOk result (λ whole. whole ≡ take len (ready rest.old.items piece.now)) }
     ensures rest { OnOk result (rest.new.items ≡ drop len rest.old.items) }
     ensures err { OnErr result (rest.new.items ≡ rest.old.items) }
+    ensures lacks { OnErr result A.Lacks }
 {
     let alloc = *rest.allocator();
     if rest.is_empty() {
-        return Bytes::copy_from_slice(alloc, &piece[..len]);
+        return A::shared_of(alloc, &piece[..len]);
     }
     if len == 0 {
         return Ok(Bytes::new());
     }
-    let behind = Vec::from_slice(alloc, &rest[len..])?;
-    match Bytes::from_vec(mem::replace(rest, behind)) {
-        Ok(mut whole) => {
-            whole.truncate(len);
-            Ok(whole)
-        }
-        Err(refused) => {
-            *rest = refused.value;
-            Err(AllocError)
-        }
-    }
+    let behind = A::list_of(alloc, &rest[len..])?;
+    let mut whole = A::share(rest)?;
+    *rest = behind;
+    whole.truncate(len);
+    Ok(whole)
 }
 
 /// Keeps bytes of a frame behind which so many more are missing, with room for those.
-fn keep<A: Allocator + Copy>(
-    rest: &mut Vec<u8, A>,
-    cut: &[u8],
-    missing: usize,
-) -> Result<(), AllocError>
+fn keep<A: Memory>(rest: &mut Vec<u8, A>, cut: &[u8], missing: usize) -> Result<(), AllocError>
     ensures ok { OnOk result (rest.new.items ≡ rest.old.items ++ cut.now) }
     ensures err { OnErr result (rest.new.items ≡ rest.old.items) }
+    ensures lacks { OnErr result A.Lacks }
 {
     if cut.is_empty() {
         return Ok(());
     }
-    rest.reserve(cut.len().saturating_add(missing))?;
-    rest.extend_from_slice(cut)
+    A::reserve(rest, cut.len().saturating_add(missing))?;
+    A::extend(rest, cut)
 }

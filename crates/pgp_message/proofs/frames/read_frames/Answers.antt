@@ -8,13 +8,13 @@ use Rattle.pgp_message.proofs.frames.read_frames.Goals as goal
 pub returns-in_err-reserve-clause-some : goal.returns-in_err-reserve-clause-some
 returns-in_err-reserve-clause-some g c =
     let before = map seen c.args.results.now.items in
-    let some : TakesSome c.args.frames.now before (map seen c.reserve.new.self.items) = takes_none c.args.frames.now before _ (ap (map seen) (search rules)) in
+    let some : TakesSome c.args.frames.now before (map seen c.reserve.new.list.items) = takes_none c.args.frames.now before _ (ap (map seen) (search rules)) in
     search rules
 
 pub frames-init : goal.frames-init
 frames-init g c = record {
   left = c.args.count;
-  taking = taking_none c.args.frames.now c.args.count (map seen c.args.results.now.items) (map seen c.reserve.new.self.items) c.requires (ap (map seen) (search rules));
+  taking = taking_none c.args.frames.now c.args.count (map seen c.args.results.now.items) (map seen c.reserve.new.list.items) c.requires (ap (map seen) (search rules));
   within = omega arith;
   room = search rules;
 }

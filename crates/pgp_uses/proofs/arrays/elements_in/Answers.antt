@@ -5,4 +5,4 @@ use Rattle.pgp_uses.proofs.arrays.elements_in.Goals as goal
 
 pub elements-preserved : goal.elements-preserved
 elements-preserved g c =
-    one_read g.V.Value.meaning g.V.Value.format c.args.elements c.elements.elements c.next.new.self c.elements.values.items c.push.new.self.items (shown c.in-Ok-Some.element) c.in-Ok.value c.elements.invariant (search rules) (search rules) (search rules)
+    one_read g.V.Value.meaning g.V.Value.format c.args.elements c.elements.elements c.next.new.self c.elements.values.items c.push.new.list.items (shown c.in-Ok-Some.element) c.in-Ok.value c.elements.invariant (search rules) (search rules) (search rules)

@@ -1,16 +1,18 @@
 use Rattle.pgp_base.proofs.Causes.{fits_of, length_fits}
-use Rattle.pgp_base.specs.Held.{◌⊕◌}
+use Rattle.pgp_base.specs.Held.{Held, ◌⊕◌}
 use Rattle.pgp_types.specs.Array.{Array, array_bytes}
 use Rattle.pgp_types.specs.Scalar.{int4}
 use Rattle.std.specs.Int.{w32}
 use Rattle.std.proofs.lemmas.Int.{to_z_pos}
-use Rattle.std.proofs.Common.{rules, ◌≡◌, ◌≤◌, ℤ, pos, List, map, option_map, ap, ◌∙◌, Option, length, [], ◌∷◌, Some, refl, inl, arith}
+use Rattle.std.proofs.Common.{rules, ◌≡◌, ◌≤◌, ℕ, ℤ, pos, List, map, option_map, ap, subst, ◌∙◌, Option, length, [], ◌∷◌, Some, refl, inl, arith}
+use Rattle.pgp_base.specs.Cause.{Wants, WantsMemory}
+use Rattle.pgp_base.specs.declared.error.Error.{Error}
 use Rattle.std.specs.Iterator.Adapters.{once_item, once_steps}
 use Rattle.std.specs.Option.{option_len}
 use Rattle.std.specs.declared.iter.Once.{Once}
 use Rattle.std.proofs.lemmas.Iterator.{YieldsList-from_slice}
 use Rattle.std.proofs.lemmas.Iterator.Adapters.{YieldsList-from_once}
-use Rattle.postgres_protocol.proofs.StepLemmas.{all_given, all_same, some_same, first_of_one}
+use Rattle.postgres_protocol.proofs.StepLemmas.{all_given, some_given, all_same, some_same, first_of_one}
 use Rattle.pgp_uses.proofs.Lists.{array_ok, array_refused}
 use Rattle.pgp_uses.proofs.arrays.put_array.Goals as goal
 
@@ -21,6 +23,11 @@ FromOption Ends source it = (once_item it ≡ source) × (option_len (once_item 
 -- the array with this length
 abbrev with_len : ℤ → List (Option ℤ) → Array
 with_len z values = record { dimensions = record { len = z; lower_bound = pos 1 } ∷ []; element_type = 23; elements = map (option_map int4.written) values }
+
+-- a growth that it needs, with the length as a number
+as_counted : {K : Type 0} {lacks : Held K → ℕ → Type 0} {old : Held K} {e : Error} {z : ℤ} (values : List (Option ℤ)) → WantsMemory (Wants lacks old (length (array_bytes (with_len z values)))) e → z ≡ pos (length values)
+    → WantsMemory (Wants lacks old (length (array_bytes (with_len (pos (length values)) values)))) e
+as_counted {lacks = lacks} {old = old} {e = e} values w is = subst (λ (z : ℤ). WantsMemory (Wants lacks old (length (array_bytes (with_len z values)))) e) is w
 
 pub returns-in-Ok : goal.returns-in-Ok
 returns-in-Ok g c =
@@ -33,6 +40,7 @@ returns-in-Ok g c =
           (λ xs k. all_same (FromOption _) once_steps (Some _) (_ ∷ []) (λ it from. YieldsList-from_once (Some _) from.0) xs k)
           (λ xs x k. (first_of_one _ xs x (some_same (FromOption _) once_steps (Some _) (_ ∷ []) (λ it from. YieldsList-from_once (Some _) from.0) xs x k)).0)
           (λ xs k. all_given _ _ c.args.values (λ x. x.now) values (λ it from. YieldsList-from_slice values from.0) xs k)
+          (λ xs x k. some_given _ _ c.args.values (λ x. x.now) values (λ it from. YieldsList-from_slice values from.0) xs x k)
           _ _ (held c.args.buf.now) (held c.array_to_sql.new.buf) c.in-Ok.ensures.1
           ∙ ap (λ z. held c.args.buf.now ⊕ array_bytes (with_len z values)) (to_z_pos w32 (length values) (fits_of (length values) fits)),
     )
@@ -41,11 +49,13 @@ pub returns-in-Err : goal.returns-in-Err
 returns-in-Err g c =
     let values = c.args.values.now in
     let held = g.B.Buffer.held in
+    let fits = length_fits (length values) (omega (arith, c.if-values-gt2147483647.false)) in
     rw c.refusal.ensures (
-      inl (array_refused held _ g.B.Buffer.Lacks (λ f f' x b b' r s. search rules) _ _ values _ _
+      inl (as_counted values (array_refused held _ g.B.Buffer.Lacks (λ f f' x b b' r s. search rules) _ _ values _ _
           (λ xs k. all_same (FromOption _) once_steps (Some _) (_ ∷ []) (λ it from. YieldsList-from_once (Some _) from.0) xs k)
           (λ xs x k. (first_of_one _ xs x (some_same (FromOption _) once_steps (Some _) (_ ∷ []) (λ it from. YieldsList-from_once (Some _) from.0) xs x k)).0)
           (λ xs k. all_given _ _ c.args.values (λ x. x.now) values (λ it from. YieldsList-from_slice values from.0) xs k)
-          _ _ (held c.args.buf.now) c.in-Err.e c.in-Err.ensures.1.0),
+          (λ xs x k. some_given _ _ c.args.values (λ x. x.now) values (λ it from. YieldsList-from_slice values from.0) xs x k)
+          _ _ (held c.args.buf.now) c.in-Err.e c.in-Err.ensures.1.0) (to_z_pos w32 (length values) (fits_of (length values) fits))),
       c.in-Err.ensures.1.1,
     )

@@ -22,6 +22,6 @@ frames-preserved g c =
     let end = length c.args.bytes.now - length c.rest.result.now in
     let ends : end ≡ length c.args.bytes.now - length new = ap (λ (l : _). length c.args.bytes.now - length l) c.rest.ensures in
     elim c.match-next.branch [
-      | in-Ok-Some w ↦ let t : TakesFrame old (Ok (view w.in-Ok-Some.message)) new = search rules in cut_next c.args.bytes.now old new c.frames.places.items c.push.new.self.items c.frames.rest end _ c.frames.invariant t ends (search rules)
-      | in-Err w ↦ cut_next c.args.bytes.now old new c.frames.places.items c.push.new.self.items c.frames.rest end _ c.frames.invariant (taken_by old new w.in-Err.field-0 (λ h. search rules) (λ h. search rules) w.in-Err.ensures.step) ends (search rules)
+      | in-Ok-Some w ↦ let t : TakesFrame old (Ok (view w.in-Ok-Some.message)) new = search rules in cut_next c.args.bytes.now old new c.frames.places.items c.push.new.list.items c.frames.rest end _ c.frames.invariant t ends (search rules)
+      | in-Err w ↦ cut_next c.args.bytes.now old new c.frames.places.items c.push.new.list.items c.frames.rest end _ c.frames.invariant (taken_by old new w.in-Err.field-0 (λ h. search rules) w.in-Err.ensures.step) ends (search rules)
     ]

@@ -11,4 +11,5 @@ returns-in-Err-clause-err g c =
     cut_back _ _ _ c.len-start.result (front_then _ _ _ _ c.in_ok-put_u8.ensures.ok (front_left _ _ c.in-Err.ensures.err)) c.len-start.ensures.value c.truncate.ensures.bytes c.truncate.ensures.kept
 
 pub returns-in-Err-clause-cause : goal.returns-in-Err-clause-cause
-returns-in-Err-clause-cause g c = rw c.refusal.ensures (refused g.B.Buffer.held _ _ _ _ _ c.in-Err.e (λ b d h. search rules) (λ b d x h. search rules) c.in-Err.ensures.cause)
+returns-in-Err-clause-cause g c =
+    rw c.refusal.ensures (refused g.B.Buffer.held _ _ c.args.payload.now g.B.Buffer.Lacks (g.B.Buffer.held c.args.buf.now) _ c.args.tag c.in-Err.e c.in_ok-put_u8.ensures.ok (λ b d h. search rules) (λ b d x h. search rules) c.in-Err.ensures.cause)

@@ -33,7 +33,7 @@ parsed name sql held old new opens w = one_more held [] w.0 (Parse name sql []) 
 pub returns-in_err-parse : goal.returns-in_err-parse
 returns-in_err-parse g c =
     let start = c.args.stream.now in
-    let refused = parse_refused c.args.name.now c.args.sql.now _ (λ xs k. all_types xs k) (λ xs x k. some_types xs x k) g.B.Buffer.Lacks _ c.in_err-parse.ensures.0 in
+    let refused = parse_refused c.args.name.now c.args.sql.now _ (λ xs k. all_types xs k) (λ xs x k. some_types xs x k) g.B.Buffer.Lacks (g.B.Buffer.held start.buf) _ c.in_err-parse.ensures.0 in
     stops g.B.Buffer.held [] (Parse c.args.name.now c.args.sql.now []) _ g.B.Buffer.Lacks _ start start c.parse.new.self _ c.from_residual.ensures.1 (none_yet g.B.Buffer.held start c.requires) c.in_err-parse.ensures.1 (λ b. b, refused)
 
 pub bind_named-requires-clause-owes : goal.bind_named-requires-clause-owes

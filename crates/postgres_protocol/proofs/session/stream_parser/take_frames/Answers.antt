@@ -33,8 +33,8 @@ returns-in_err-used-clause-some g c =
     let all : TakesSome (old ++ piece) before read = part_fails old piece behind grown before mid read c.args.frames.now c.parts.frames moved some in
     search rules
 
-pub returns-in_err-extend_from_slice-clause-some : goal.returns-in_err-extend_from_slice-clause-some
-returns-in_err-extend_from_slice-clause-some g c =
+pub returns-in_err-extend-clause-some : goal.returns-in_err-extend-clause-some
+returns-in_err-extend-clause-some g c =
     let old = c.args.rest.now.items in
     let piece = c.args.piece.now in
     let left = c.parts.left.now in
@@ -69,8 +69,8 @@ returns-then-stopped-clause-ok g c =
     let new = c.take_part.new.rest.items in
     let after = c.split_at-in-parts.result.1.now in
     let part : TakesPart grown new behind mid read c.parts.frames c.take_part.new.frames (c.in_ok-used.used, c.in_ok-used.stopped) = search rules in
-    let kept : c.extend_from_slice.new.self.items ≡ new ++ after = search rules in
-    part_stops old piece behind after grown new c.extend_from_slice.new.self.items before mid read c.args.frames.now c.parts.frames c.take_part.new.frames (c.in_ok-used.used, c.in_ok-used.stopped) moved part c.split_at-in-parts.ensures.back c.if-stopped.true kept
+    let kept : c.extend.new.list.items ≡ new ++ after = search rules in
+    part_stops old piece behind after grown new c.extend.new.list.items before mid read c.args.frames.now c.parts.frames c.take_part.new.frames (c.in_ok-used.used, c.in_ok-used.stopped) moved part c.split_at-in-parts.ensures.back c.if-stopped.true kept
 
 pub returns-then-is_empty-clause-ok : goal.returns-then-is_empty-clause-ok
 returns-then-is_empty-clause-ok g c =

@@ -9,18 +9,18 @@ pub returns-then-is_err : goal.returns-then-is_err
 returns-then-is_err g c =
     let inside = c.self.inside in
     let old : Reading = record { results = map seen inside.results.items; stopped = inside.stopped; rest = inside.rest.items; headers = inside.frames.headers; failed = inside.failed } in
-    let new : Reading = record { results = map seen inside.results.items; stopped = inside.stopped; rest = c.extend_from_slice.new.self.items; headers = inside.frames.headers; failed = true } in
+    let new : Reading = record { results = map seen inside.results.items; stopped = inside.stopped; rest = c.extend.new.list.items; headers = inside.frames.headers; failed = true } in
     let fails : Fails c.args.piece.now old new = fails_at_once c.args.piece.now old new refl refl c.runs_grow.ensures in
-    (refl, subst (λ (r : Reading). Fails c.args.piece.now r new) c.self.view_is fails)
+    ((refl, search rules), subst (λ (r : Reading). Fails c.args.piece.now r new) c.self.view_is fails)
 
 pub returns-then-self : goal.returns-then-self
 returns-then-self g c =
     let inside = c.self.inside in
     let old : Reading = record { results = map seen inside.results.items; stopped = inside.stopped; rest = inside.rest.items; headers = inside.frames.headers; failed = inside.failed } in
-    let new : Reading = record { results = map seen inside.results.items; stopped = inside.stopped; rest = c.extend_from_slice.new.self.items; headers = inside.frames.headers; failed = inside.failed } in
+    let new : Reading = record { results = map seen inside.results.items; stopped = inside.stopped; rest = c.extend.new.list.items; headers = inside.frames.headers; failed = inside.failed } in
     let sound : inside.failed ≡ false = ap (λ (r : Reading). r.failed) c.self.view_is ∙ c.requires in
-    let rest : c.extend_from_slice.new.self.items ≡ inside.rest.items ++ c.args.piece.now = search rules in
-    let stays : GoesOn c.args.piece.now old new = stays_stopped c.args.piece.now c.extend_from_slice.new.self.items old sound c.if-self.true (c.self.invariant.fault sound c.if-self.true) rest c.stops_stay.ensures in
+    let rest : c.extend.new.list.items ≡ inside.rest.items ++ c.args.piece.now = search rules in
+    let stays : GoesOn c.args.piece.now old new = stays_stopped c.args.piece.now c.extend.new.list.items old sound c.if-self.true (c.self.invariant.fault sound c.if-self.true) rest c.stops_stay.ensures in
     subst (λ (r : Reading). GoesOn c.args.piece.now r new) c.self.view_is stays
 
 pub returns-in-Ok : goal.returns-in-Ok
