@@ -15,7 +15,7 @@ ghost use Rattle.pgp_auth.specs.ScramClient.{Client, Answers, first_text, signat
 ghost use Rattle.pgp_auth.specs.ScramErrorView.{refusal};
 
 use crate::authentication::sasl::{ScramError, ScramSha256};
-use std::alloc::Allocator;
+use pgp_base::Memory;
 
 /// What follows a string constant, unless it begins with a quote, changes neither where the constant
 /// ends nor what it is read as. (A quote right behind it would be read as a part of it.)
@@ -90,9 +90,9 @@ pub fn final_text_is_answered_in_one_way()
 
 /// A text that shows the signature is refused for want of memory alone, and only where its base64 has
 /// more than 64 characters.
-pub fn signature_is_refused_for_memory_alone()
+pub fn signature_is_refused_for_memory_alone<A: Memory>()
     ensures { (text signature : List ℕ) (e : Refusal) (before after : ℕ) (v : Verifies signature text) →
-        NotVerified signature text e before after → (e ≡ OutOfMemory) × (64 < length v.shown) }
+        NotVerified A.Lacks signature text e before after → (e ≡ OutOfMemory) × A.Lacks × (64 < length v.shown) }
 {}
 
 /// A server makes one signature of the texts of an exchange.
@@ -103,12 +103,12 @@ pub fn one_signature()
 
 /// Both ways: the server that holds the verifier of the client's password accepts the text that `update`
 /// makes, and `finish` accepts the text that this server answers, and can't refuse it.
-pub fn both_ways()
+pub fn both_ways<A: Memory>()
     ensures { (old new : Client) (text signature : List ℕ) (a : Answers old text new) →
         Signs (verifier a.begun.password a.salt a.count) a.begun.binding (first_text a.begun) text signature →
         Accepts (verifier a.begun.password a.salt a.count) a.begun.binding (first_text a.begun) text a.answered.final
         × Verifies (signature_of a.answered) (codes "v=" ++ base64 signature)
-        × ((e : Refusal) (before after : ℕ) → ¬ NotVerified (signature_of a.answered) (codes "v=" ++ base64 signature) e before after) }
+        × ((e : Refusal) (before after : ℕ) → ¬ NotVerified A.Lacks (signature_of a.answered) (codes "v=" ++ base64 signature) e before after) }
 {}
 
 /// Both ways, as calls: with the texts of a server that holds the verifier of the client's password the
@@ -117,7 +117,7 @@ pub fn both_ways()
 /// # Errors
 ///
 /// `OutOfMemory` where `update` is refused memory.
-pub fn exchange<A: Allocator + Copy>(
+pub fn exchange<A: Memory>(
     client: &mut ScramSha256<A>,
     server_first: &[u8],
     server_final: &[u8],
@@ -125,7 +125,7 @@ pub fn exchange<A: Allocator + Copy>(
     requires { Serves client.old.state server_first.now server_final.now }
     ensures ok { OnOk result (Completes client.old server_first.now server_final.now client.new) }
     ensures over { client.new.state ≡ Over }
-    ensures memory { IfErr result (λ e. refusal e ≡ OutOfMemory) }
+    ensures memory { IfErr result (λ e. (refusal e ≡ OutOfMemory) × A.Lacks) }
 {
     client.update(server_first)?;
     client.finish(server_final)
