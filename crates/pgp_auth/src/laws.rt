@@ -12,7 +12,7 @@ ghost use Rattle.pgp_auth.specs.ScramText.{Binding};
 ghost use Rattle.pgp_auth.specs.ScramServer.{Accepts, Signs};
 ghost use Rattle.pgp_auth.specs.ScramRefusal.{Refusal, OutOfMemory, InvalidBase64, Admitted, Meets, RefusesFirst, RefusesFinal, Verifies, ShowsOther};
 ghost use Rattle.pgp_auth.specs.ScramClient.{Client, Answers, first_text, signature_of, NotVerified, Serves, Completes, Over};
-ghost use Rattle.pgp_auth.specs.ScramErrorView.{refusal};
+ghost use Rattle.pgp_auth.specs.ScramErrorView.{refusal, number_of, plain};
 
 use crate::authentication::sasl::{ScramError, ScramSha256};
 use pgp_base::Memory;
@@ -69,6 +69,11 @@ pub fn verifiers_need_no_escape()
     ensures md5 { (message : List ℕ) → All NeedsNoEscape (md5_text message) }
 {}
 
+/// The numbers tell the variants of `ScramError` apart.
+pub fn numbers_differ()
+    ensures { (d e : Refusal) → number_of d ≡ number_of e → plain d ≡ plain e }
+{}
+
 /// A server's first text either meets the client's conditions, with one nonce, one salt and one count,
 /// or has one cause of refusal.
 pub fn first_text_is_answered_in_one_way()
@@ -82,6 +87,7 @@ pub fn first_text_is_answered_in_one_way()
 
 /// A server's final text shows the signature, shows other bytes, or has one cause of refusal.
 pub fn final_text_is_answered_in_one_way()
+    ensures some { (text signature : List ℕ) → Verifies signature text ⊎ (ShowsOther signature text ⊎ ((e : Refusal) × RefusesFinal text e)) }
     ensures refused { (text : List ℕ) (d e : Refusal) → RefusesFinal text d → RefusesFinal text e → d ≡ e }
     ensures verifies { (text signature : List ℕ) (e : Refusal) → Verifies signature text → ¬ RefusesFinal text e }
     ensures differs { (text signature : List ℕ) (e : Refusal) → ShowsOther signature text → ¬ RefusesFinal text e }
