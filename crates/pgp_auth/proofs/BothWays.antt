@@ -94,28 +94,28 @@ accepts_server old new text signature a s =
     let same : signature ≡ signature_of a.answered = signs_once _ a.begun.binding (first_text a.begun) text signature (signature_of a.answered) s a.signs in
     rw same (shows_signature (signature_of a.answered) (mac_bytes _ _))
 
-pub never_refused : (old new : Client) (text signature : List ℕ) (a : Answers old text new)
+pub never_refused : (lacks : Type 0) (old new : Client) (text signature : List ℕ) (a : Answers old text new)
     → Signs (verifier a.begun.password a.salt a.count) a.begun.binding (first_text a.begun) text signature
-    → (e : Refusal) (before after : ℕ) → ¬ NotVerified (signature_of a.answered) (codes "v=" ++ base64 signature) e before after
+    → (e : Refusal) (before after : ℕ) → ¬ NotVerified lacks (signature_of a.answered) (codes "v=" ++ base64 signature) e before after
 unfolding shows_signature
-never_refused old new text signature a s e before after refused =
+never_refused lacks old new text signature a s e before after refused =
     let same : signature ≡ signature_of a.answered = signs_once _ a.begun.binding (first_text a.begun) text signature (signature_of a.answered) s a.signs in
-    let moved : NotVerified (signature_of a.answered) (codes "v=" ++ base64 (signature_of a.answered)) e before after = rw same at refused in
+    let moved : NotVerified lacks (signature_of a.answered) (codes "v=" ++ base64 (signature_of a.answered)) e before after = rw same at refused in
     let v = shows_signature (signature_of a.answered) (mac_bytes _ _) in
-    let memory = verified_memory _ (signature_of a.answered) e before after v moved in
-    let far : 64 < length (base64 (signature_of a.answered)) = memory.1 in
+    let memory = verified_memory lacks _ (signature_of a.answered) e before after v moved in
+    let far : 64 < length (base64 (signature_of a.answered)) = memory.2 in
     let len = base64_len (signature_of a.answered) (length-mac _ _) in
     omega arith
 
 same_begun : (a b : Begun) → AwaitsFirst a ≡ AwaitsFirst b → a ≡ b
 same_begun a b e = cc
 
-pub update_memory : (lacks : Type 0) (old new : Client) (f g : List ℕ) (e : Refusal) → Serves old.state f g → UpdateRefused lacks old f e new → e ≡ OutOfMemory
+pub update_memory : (lacks : Type 0) (old new : Client) (f g : List ℕ) (e : Refusal) → Serves old.state f g → UpdateRefused lacks old f e new → (e ≡ OutOfMemory) × lacks
 update_memory lacks old new f g e s r = from_why s (rw s.due at r.why)
   where
-    from_why : (s : Serves old.state f g) → UpdateRefuses lacks (AwaitsFirst s.begun) f e old.hmacs new.hmacs → e ≡ OutOfMemory
+    from_why : (s : Serves old.state f g) → UpdateRefuses lacks (AwaitsFirst s.begun) f e old.hmacs new.hmacs → (e ≡ OutOfMemory) × lacks
     from_why s (inl cause) = absurd (meets_not_refused s.begun.nonce f s.nonce s.salt s.count e s.meets cause.0)
-    from_why s (inr memory) = memory.0
+    from_why s (inr memory) = (memory.0, memory.1)
 
 signs_for : (password : List ℕ) (salt salt' : List ℕ) (count count' : ℕ) (b : Binding) (first f x : List ℕ) → salt ≡ salt' → count ≡ count'
     → Signs (verifier password salt count) b first f x → Signs (verifier password salt' count') b first f x
@@ -130,14 +130,14 @@ answered_signs old mid f g s a =
     let signs : Signs (verifier a.begun.password s.salt s.count) a.begun.binding (first_text a.begun) f s.signature = rw same at s.signs in
     signs_for a.begun.password s.salt a.salt s.count a.count a.begun.binding (first_text a.begun) f s.signature once.1 once.2 signs
 
-pub finish_never : (old mid new : Client) (f g : List ℕ) (e : Refusal) → Serves old.state f g → Answers old f mid → FinishRefused mid g e new → ⊥
-finish_never old mid new f g e s a r =
+pub finish_never : (lacks : Type 0) (old mid new : Client) (f g : List ℕ) (e : Refusal) → Serves old.state f g → Answers old f mid → FinishRefused lacks mid g e new → ⊥
+finish_never lacks old mid new f g e s a r =
     let state : mid.state ≡ AwaitsFinal a.answered = ap (λ (x : Client). x.state) a.new_is in
-    let why : FinishRefuses (AwaitsFinal a.answered) g e mid.hmacs new.hmacs = rw state at r.why in
-    let moved : FinishRefuses (AwaitsFinal a.answered) (codes "v=" ++ base64 s.signature) e mid.hmacs new.hmacs = rw s.final_is at why in
-    never_refused old mid f s.signature a (answered_signs old mid f g s a) e mid.hmacs new.hmacs moved
+    let why : FinishRefuses lacks (AwaitsFinal a.answered) g e mid.hmacs new.hmacs = rw state at r.why in
+    let moved : FinishRefuses lacks (AwaitsFinal a.answered) (codes "v=" ++ base64 s.signature) e mid.hmacs new.hmacs = rw s.final_is at why in
+    never_refused lacks old mid f s.signature a (answered_signs old mid f g s a) e mid.hmacs new.hmacs moved
 
-pub finish_memory : {A : Type 0} (r : Result (Unit {0}) (ScramError A)) (old mid new : Client) (f g : List ℕ) → Serves old.state f g → Answers old f mid
-    → IfErr r (λ e. FinishRefused mid g (refusal e) new) → IfErr r (λ e. refusal e ≡ OutOfMemory)
-finish_memory (Ok u) old mid new f g s a h = tt
-finish_memory (Err e) old mid new f g s a h = absurd (finish_never old mid new f g (refusal e) s a h)
+pub finish_memory : {A : Type 0} (lacks : Type 0) (r : Result (Unit {0}) (ScramError A)) (old mid new : Client) (f g : List ℕ) → Serves old.state f g → Answers old f mid
+    → IfErr r (λ e. FinishRefused lacks mid g (refusal e) new) → IfErr r (λ e. (refusal e ≡ OutOfMemory) × lacks)
+finish_memory lacks (Ok u) old mid new f g s a h = tt
+finish_memory lacks (Err e) old mid new f g s a h = absurd (finish_never lacks old mid new f g (refusal e) s a h)

@@ -136,29 +136,29 @@ pub if_err_from : {T E : Type 0} (r : Result T E) (Q P : E → Type 0) → IsErr
 if_err_from (Ok y) Q P h k = tt
 if_err_from (Err e) Q P h k = k e h
 
-pub text_not : (m signature : List ℕ) (n : ℕ) → is_utf8 m ≡ false → NotVerified signature m NotUtf8 n n
-text_not m signature n u = inl (not_utf8 (λ text. not_true (sym u ∙ is_utf8-from_IsUtf8 m text)), refl)
+pub text_not : (lacks : Type 0) (m signature : List ℕ) (n : ℕ) → is_utf8 m ≡ false → NotVerified lacks signature m NotUtf8 n n
+text_not lacks m signature n u = inl (not_utf8 (λ text. not_true (sym u ∙ is_utf8-from_IsUtf8 m text)), refl)
 
-pub error_not : (m signature reason : List ℕ) (n : ℕ) → IsServerError m reason → NotVerified signature m (Server reason) n n
-error_not m signature reason n is = inl (server is, refl)
+pub error_not : (lacks : Type 0) (m signature reason : List ℕ) (n : ℕ) → IsServerError m reason → NotVerified lacks signature m (Server reason) n n
+error_not lacks m signature reason n is = inl (server is, refl)
 
-pub error_kept : (m signature : List ℕ) (e : Refusal) (n : ℕ) → RefusesFinal m e ⊎ ((e ≡ OutOfMemory) × TakesMemory m) → NotVerified signature m e n n
-error_kept m signature e n (inl cause) = inl (cause, refl)
-error_kept m signature e n (inr memory) = inr (inr (memory.0, memory.1, refl))
+pub error_kept : (lacks : Type 0) (m signature : List ℕ) (e : Refusal) (n : ℕ) → RefusesFinal m e ⊎ ((e ≡ OutOfMemory) × lacks × TakesMemory m) → NotVerified lacks signature m e n n
+error_kept lacks m signature e n (inl cause) = inl (cause, refl)
+error_kept lacks m signature e n (inr memory) = inr (inr (memory.0, memory.1, memory.2, refl))
 
 pub long_not : {A : Type 0} (lacks : Type 0) (m t signature : List ℕ) (e : ScramError A) (n : ℕ) → ServerFinal m t → 64 < length t
-    → ((e ≡ code.OutOfMemory) × lacks) ⊎ ((e ≡ code.InvalidBase64) × IsErr (decode_of standard t)) → NotVerified signature m (refusal e) n n
-long_not lacks m t signature e n s far (inl memory) = inr (inr (ap refusal memory.0, long s far, refl))
+    → ((e ≡ code.OutOfMemory) × lacks) ⊎ ((e ≡ code.InvalidBase64) × IsErr (decode_of standard t)) → NotVerified lacks signature m (refusal e) n n
+long_not lacks m t signature e n s far (inl memory) = inr (inr (ap refusal memory.0, memory.1, long s far, refl))
 long_not lacks m t signature e n s far (inr bad) = inl (final_no_base64 m t (refusal e) s bad.1 (ap refusal bad.0), refl)
 
-pub short_not : {A : Type 0} (m t signature : List ℕ) (e : ScramError A) (n : ℕ) → ServerFinal m t
-    → (e ≡ code.InvalidBase64) × IsErr (decode_of standard t) → NotVerified signature m (refusal e) n n
-short_not m t signature e n s bad = inl (final_no_base64 m t (refusal e) s bad.1 (ap refusal bad.0), refl)
+pub short_not : {A : Type 0} (lacks : Type 0) (m t signature : List ℕ) (e : ScramError A) (n : ℕ) → ServerFinal m t
+    → (e ≡ code.InvalidBase64) × IsErr (decode_of standard t) → NotVerified lacks signature m (refusal e) n n
+short_not lacks m t signature e n s bad = inl (final_no_base64 m t (refusal e) s bad.1 (ap refusal bad.0), refl)
 
-pub compared_not : {A : Type 0} (r : Result (Unit {0}) (ScramError A)) (m t bytes signature : List ℕ) (before after : ℕ) → ServerFinal m t → decode_of standard t ≡ Ok bytes
-    → IfErr r (λ e. (e ≡ code.Verification) × (bytes ≢ signature)) → after ≡ before + 2 → IfErr r (λ e. NotVerified signature m (refusal e) before after)
-compared_not (Ok u) m t bytes signature before after s shows h count = tt
-compared_not (Err e) m t bytes signature before after s shows h count =
+pub compared_not : {A : Type 0} (lacks : Type 0) (r : Result (Unit {0}) (ScramError A)) (m t bytes signature : List ℕ) (before after : ℕ) → ServerFinal m t → decode_of standard t ≡ Ok bytes
+    → IfErr r (λ e. (e ≡ code.Verification) × (bytes ≢ signature)) → after ≡ before + 2 → IfErr r (λ e. NotVerified lacks signature m (refusal e) before after)
+compared_not lacks (Ok u) m t bytes signature before after s shows h count = tt
+compared_not lacks (Err e) m t bytes signature before after s shows h count =
     inr (inl (ap refusal h.0, final_other m t bytes signature s shows h.1, count))
 
 pub compared_is : {A : Type 0} (r : Result (Unit {0}) (ScramError A)) (m t bytes signature : List ℕ) → ServerFinal m t → decode_of standard t ≡ Ok bytes

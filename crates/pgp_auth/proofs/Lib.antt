@@ -7,6 +7,7 @@ pub mod Codes
 pub mod Counts
 pub mod Doubles
 pub mod Draws
+pub mod FinalAnswers
 pub mod FinalTexts
 pub mod FirstTexts
 pub mod Grants
@@ -18,6 +19,7 @@ pub mod Patterns
 pub mod Plain
 pub mod Quoting
 pub mod Reading
+pub mod Refusals
 pub mod Runs
 pub mod ServerSide
 pub mod Steps

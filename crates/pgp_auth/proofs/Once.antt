@@ -230,7 +230,7 @@ takes_long : (s signature : List ℕ) (v : Verifies signature s) → TakesMemory
 takes_long s signature v (takes_error {reason = reason} is) = absurd (error_or_shown s v.shown reason v.text_is is)
 takes_long s signature v (long {shown = far} is lt) = long_final s v.shown far v.text_is is lt
 
-pub verified_memory : (s signature : List ℕ) (e : Refusal) (before after : ℕ) (v : Verifies signature s) → NotVerified signature s e before after → (e ≡ OutOfMemory) × (64 < length v.shown)
-verified_memory s signature e before after v (inl cause) = absurd (shows_not_refused s signature e v cause.0)
-verified_memory s signature e before after v (inr (inl differs)) = absurd (shows_not_other s signature v differs.1)
-verified_memory s signature e before after v (inr (inr memory)) = (memory.0, takes_long s signature v memory.1)
+pub verified_memory : (lacks : Type 0) (s signature : List ℕ) (e : Refusal) (before after : ℕ) (v : Verifies signature s) → NotVerified lacks signature s e before after → (e ≡ OutOfMemory) × lacks × (64 < length v.shown)
+verified_memory lacks s signature e before after v (inl cause) = absurd (shows_not_refused s signature e v cause.0)
+verified_memory lacks s signature e before after v (inr (inl differs)) = absurd (shows_not_other s signature v differs.1)
+verified_memory lacks s signature e before after v (inr (inr memory)) = (memory.0, memory.1, takes_long s signature v memory.2)

@@ -110,11 +110,11 @@ finished (Ok u) old new text answered before due same over v count =
     record { answered = answered; due = due; verifies = v; over = over; hmacs = rw (← same) count }
 finished (Err e) old new text answered before due same over v count = tt
 
-pub finish_refused : {A : Type 0} (r : Result (Unit {0}) (ScramError A)) (old new : Client) (text : List ℕ) (answered : Answered) (before : ℕ) → old.state ≡ AwaitsFinal answered → before ≡ old.hmacs
-    → new.state ≡ Over → IfErr r (λ e. NotVerified (signature_of answered) text (refusal e) before new.hmacs)
-    → IfErr r (λ e. FinishRefused old text (refusal e) new)
-finish_refused (Ok u) old new text answered before due same over v = tt
-finish_refused (Err e) old new text answered before due same over v = record { why = rw (due, ← same) v; over = over }
+pub finish_refused : {A : Type 0} (lacks : Type 0) (r : Result (Unit {0}) (ScramError A)) (old new : Client) (text : List ℕ) (answered : Answered) (before : ℕ) → old.state ≡ AwaitsFinal answered → before ≡ old.hmacs
+    → new.state ≡ Over → IfErr r (λ e. NotVerified lacks (signature_of answered) text (refusal e) before new.hmacs)
+    → IfErr r (λ e. FinishRefused lacks old text (refusal e) new)
+finish_refused lacks (Ok u) old new text answered before due same over v = tt
+finish_refused lacks (Err e) old new text answered before due same over v = record { why = rw (due, ← same) v; over = over }
 
 -- what the fields tell of the value
 pub due_of : (old inside : Client) (x : State) → inside ≡ old → inside.state ≡ x → old.state ≡ x

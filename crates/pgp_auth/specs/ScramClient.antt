@@ -104,21 +104,22 @@ pub data TakesMemory (text : List ℕ) : Type 0 where
   error : {reason : List ℕ} → IsServerError text reason → TakesMemory text
   long : {shown : List ℕ} → ServerFinal text shown → 64 < length shown → TakesMemory text
 
--- why `finish` refuses a text in the place of this signature, and the HMACs before and after it
-abbrev pub NotVerified : List ℕ → List ℕ → Refusal → ℕ → ℕ → Type 0
-NotVerified signature text e before after =
+-- why `finish` refuses a text in the place of this signature, and the HMACs before and after it. `lacks` says
+-- that a growth was refused.
+abbrev pub NotVerified : Type 0 → List ℕ → List ℕ → Refusal → ℕ → ℕ → Type 0
+NotVerified lacks signature text e before after =
     (RefusesFinal text e × (after ≡ before))
     ⊎ (((e ≡ Verification) × ShowsOther signature text × (after ≡ before + 2))
-    ⊎ ((e ≡ OutOfMemory) × TakesMemory text × (after ≡ before)))
+    ⊎ ((e ≡ OutOfMemory) × lacks × TakesMemory text × (after ≡ before)))
 
-abbrev pub FinishRefuses : State → List ℕ → Refusal → ℕ → ℕ → Type 0
-FinishRefuses (AwaitsFinal answered) text e before after = NotVerified (signature_of answered) text e before after
-FinishRefuses (AwaitsFirst begun) text e before after = (e ≡ WrongState) × (after ≡ before)
-FinishRefuses Over text e before after = (e ≡ WrongState) × (after ≡ before)
+abbrev pub FinishRefuses : Type 0 → State → List ℕ → Refusal → ℕ → ℕ → Type 0
+FinishRefuses lacks (AwaitsFinal answered) text e before after = NotVerified lacks (signature_of answered) text e before after
+FinishRefuses lacks (AwaitsFirst begun) text e before after = (e ≡ WrongState) × (after ≡ before)
+FinishRefuses lacks Over text e before after = (e ≡ WrongState) × (after ≡ before)
 
 -- a refused `finish` ends the exchange
-pub record FinishRefused (old : Client) (text : List ℕ) (e : Refusal) (new : Client) : Type 0 where
-  pub why : FinishRefuses old.state text e old.hmacs new.hmacs
+pub record FinishRefused (lacks : Type 0) (old : Client) (text : List ℕ) (e : Refusal) (new : Client) : Type 0 where
+  pub why : FinishRefuses lacks old.state text e old.hmacs new.hmacs
   pub over : new.state ≡ Over
 
 -- the two texts of a server that holds the verifier of this client's password: a first text that meets the

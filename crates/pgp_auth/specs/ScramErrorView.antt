@@ -1,5 +1,5 @@
 -- The code's refusals as those of the definitions.
-use Rattle.std.specs.Prelude.{ℕ, string_bytes}
+use Rattle.std.specs.Prelude.{ℕ, [], string_bytes}
 use Rattle.pgp_auth.specs.declared.scram.error.ScramError.{ScramError}
 use Rattle.pgp_auth.specs.declared.scram.error.ScramError.TheVariants as code
 use Rattle.pgp_auth.specs.ScramRefusal.{Refusal, OutOfMemory, WrongState, NotUtf8, UnexpectedEnd, UnexpectedCharacter, Trailing, InvalidNumber, InvalidNonce, TooManyIterations, InvalidBase64, Server, Verification}
@@ -32,3 +32,10 @@ number_of TooManyIterations = 9
 number_of InvalidBase64 = 10
 number_of (Server reason) = 11
 number_of Verification = 12
+
+-- the variant, without the place or the error that it carries
+abbrev pub plain : Refusal → Refusal
+plain (UnexpectedCharacter at) = UnexpectedCharacter 0
+plain (Trailing at) = Trailing 0
+plain (Server reason) = Server []
+plain e = e

@@ -1,11 +1,11 @@
 //! Answers to a server's requests for authentication.
 
 ghost use Rattle.std.specs.Prelude.{◌≡◌, string_bytes, IfOk, IfErr};
+ghost use Rattle.pgp_base.specs.Cause.{WantsMemory};
 ghost use Rattle.pgp_auth.specs.Md5Text.{md5_answer};
 
 use crate::md5_text::{digest_hex, digest_text};
-use pgp_base::Error;
-use std::alloc::Allocator;
+use pgp_base::{Error, Memory};
 
 pub mod sasl;
 
@@ -15,14 +15,14 @@ pub mod sasl;
 /// # Errors
 ///
 /// `OutOfMemory` where memory for the text is refused.
-pub fn md5_hash<A: Allocator + Copy>(
+pub fn md5_hash<A: Memory>(
     alloc: A,
     username: &[u8],
     password: &[u8],
     salt: [u8; 4],
 ) -> Result<String<A>, Error>
     ensures ok { IfOk result (λ t. string_bytes t ≡ md5_answer username.now password.now salt) }
-    ensures memory { IfErr result (λ e. e ≡ Error.OutOfMemory) }
+    ensures memory { IfErr result (WantsMemory A.Lacks) }
 {
     digest_text(alloc, &digest_hex(password, username), &salt)
 }

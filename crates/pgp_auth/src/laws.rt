@@ -12,10 +12,10 @@ ghost use Rattle.pgp_auth.specs.ScramText.{Binding};
 ghost use Rattle.pgp_auth.specs.ScramServer.{Accepts, Signs};
 ghost use Rattle.pgp_auth.specs.ScramRefusal.{Refusal, OutOfMemory, InvalidBase64, Admitted, Meets, RefusesFirst, RefusesFinal, Verifies, ShowsOther};
 ghost use Rattle.pgp_auth.specs.ScramClient.{Client, Answers, first_text, signature_of, NotVerified, Serves, Completes, Over};
-ghost use Rattle.pgp_auth.specs.ScramErrorView.{refusal};
+ghost use Rattle.pgp_auth.specs.ScramErrorView.{refusal, number_of, plain};
 
 use crate::authentication::sasl::{ScramError, ScramSha256};
-use std::alloc::Allocator;
+use pgp_base::Memory;
 
 /// What follows a string constant, unless it begins with a quote, changes neither where the constant
 /// ends nor what it is read as. (A quote right behind it would be read as a part of it.)
@@ -69,6 +69,11 @@ pub fn verifiers_need_no_escape()
     ensures md5 { (message : List ℕ) → All NeedsNoEscape (md5_text message) }
 {}
 
+/// The numbers tell the variants of `ScramError` apart.
+pub fn numbers_differ()
+    ensures { (d e : Refusal) → number_of d ≡ number_of e → plain d ≡ plain e }
+{}
+
 /// A server's first text either meets the client's conditions, with one nonce, one salt and one count,
 /// or has one cause of refusal.
 pub fn first_text_is_answered_in_one_way()
@@ -82,6 +87,7 @@ pub fn first_text_is_answered_in_one_way()
 
 /// A server's final text shows the signature, shows other bytes, or has one cause of refusal.
 pub fn final_text_is_answered_in_one_way()
+    ensures some { (text signature : List ℕ) → Verifies signature text ⊎ (ShowsOther signature text ⊎ ((e : Refusal) × RefusesFinal text e)) }
     ensures refused { (text : List ℕ) (d e : Refusal) → RefusesFinal text d → RefusesFinal text e → d ≡ e }
     ensures verifies { (text signature : List ℕ) (e : Refusal) → Verifies signature text → ¬ RefusesFinal text e }
     ensures differs { (text signature : List ℕ) (e : Refusal) → ShowsOther signature text → ¬ RefusesFinal text e }
@@ -90,9 +96,9 @@ pub fn final_text_is_answered_in_one_way()
 
 /// A text that shows the signature is refused for want of memory alone, and only where its base64 has
 /// more than 64 characters.
-pub fn signature_is_refused_for_memory_alone()
+pub fn signature_is_refused_for_memory_alone<A: Memory>()
     ensures { (text signature : List ℕ) (e : Refusal) (before after : ℕ) (v : Verifies signature text) →
-        NotVerified signature text e before after → (e ≡ OutOfMemory) × (64 < length v.shown) }
+        NotVerified A.Lacks signature text e before after → (e ≡ OutOfMemory) × A.Lacks × (64 < length v.shown) }
 {}
 
 /// A server makes one signature of the texts of an exchange.
@@ -103,12 +109,12 @@ pub fn one_signature()
 
 /// Both ways: the server that holds the verifier of the client's password accepts the text that `update`
 /// makes, and `finish` accepts the text that this server answers, and can't refuse it.
-pub fn both_ways()
+pub fn both_ways<A: Memory>()
     ensures { (old new : Client) (text signature : List ℕ) (a : Answers old text new) →
         Signs (verifier a.begun.password a.salt a.count) a.begun.binding (first_text a.begun) text signature →
         Accepts (verifier a.begun.password a.salt a.count) a.begun.binding (first_text a.begun) text a.answered.final
         × Verifies (signature_of a.answered) (codes "v=" ++ base64 signature)
-        × ((e : Refusal) (before after : ℕ) → ¬ NotVerified (signature_of a.answered) (codes "v=" ++ base64 signature) e before after) }
+        × ((e : Refusal) (before after : ℕ) → ¬ NotVerified A.Lacks (signature_of a.answered) (codes "v=" ++ base64 signature) e before after) }
 {}
 
 /// Both ways, as calls: with the texts of a server that holds the verifier of the client's password the
@@ -117,7 +123,7 @@ pub fn both_ways()
 /// # Errors
 ///
 /// `OutOfMemory` where `update` is refused memory.
-pub fn exchange<A: Allocator + Copy>(
+pub fn exchange<A: Memory>(
     client: &mut ScramSha256<A>,
     server_first: &[u8],
     server_final: &[u8],
@@ -125,7 +131,7 @@ pub fn exchange<A: Allocator + Copy>(
     requires { Serves client.old.state server_first.now server_final.now }
     ensures ok { OnOk result (Completes client.old server_first.now server_final.now client.new) }
     ensures over { client.new.state ≡ Over }
-    ensures memory { IfErr result (λ e. refusal e ≡ OutOfMemory) }
+    ensures memory { IfErr result (λ e. (refusal e ≡ OutOfMemory) × A.Lacks) }
 {
     client.update(server_first)?;
     client.finish(server_final)

@@ -3,11 +3,11 @@
 ghost use Rattle.std.specs.Prelude.{◌≡◌, ◌++◌, string_bytes, IfOk, IfErr};
 ghost use Rattle.hex.specs.Hex.{encode_lower};
 ghost use Rattle.md5.specs.Md5.{md5};
+ghost use Rattle.pgp_base.specs.Cause.{WantsMemory};
 ghost use Rattle.pgp_auth.specs.Md5Text.{md5_text};
 
 use md5::{Digest, Md5};
-use pgp_base::Error;
-use std::alloc::Allocator;
+use pgp_base::{Error, Memory};
 use std::str;
 
 const DIGITS_LEN: usize = 32;
@@ -28,17 +28,17 @@ pub(crate) fn digest_hex(first: &[u8], second: &[u8]) -> [u8; DIGITS_LEN]
 
 // `md5` and these digits; the room is asked for once.
 #[tactic(auto, unfolding(crate::specs::Md5Text::md5_text))]
-pub(crate) fn digest_text<A: Allocator>(
+pub(crate) fn digest_text<A: Memory>(
     alloc: A,
     first: &[u8],
     second: &[u8],
 ) -> Result<String<A>, Error>
     ensures ok { IfOk result (λ t. string_bytes t ≡ md5_text (first.now ++ second.now)) }
-    ensures memory { IfErr result (λ e. e ≡ Error.OutOfMemory) }
+    ensures memory { IfErr result (WantsMemory A.Lacks) }
 {
     let digits = digest_hex(first, second);
-    let mut text = String::with_capacity(alloc, TEXT_LEN)?;
-    text.push_str("md5")?;
-    text.push_str(str::from_utf8(&digits).unwrap())?;
+    let mut text = A::text_with_capacity(alloc, TEXT_LEN)?;
+    A::push_str(&mut text, "md5")?;
+    A::push_str(&mut text, str::from_utf8(&digits).unwrap())?;
     Ok(text)
 }

@@ -5,6 +5,7 @@
 
 ghost use Rattle.std.specs.Prelude.{◌≡◌, ◌++◌, string_bytes, IfOk, IfErr};
 ghost use Rattle.rand_core.specs.Stream.{fill_bytes};
+ghost use Rattle.pgp_base.specs.Cause.{WantsMemory};
 ghost use Rattle.pgp_auth.specs.Md5Text.{md5_verifier};
 ghost use Rattle.pgp_auth.specs.Prepared.{prepared};
 ghost use Rattle.pgp_auth.specs.Verifier.{verifier, verifier_text};
@@ -12,11 +13,9 @@ ghost use Rattle.pgp_auth.specs.Verifier.{verifier, verifier_text};
 use crate::authentication::sasl::{SaslPrep, hi, mapped};
 use crate::hmac::hmac_sha256;
 use crate::md5_text::digest_text;
-use base64::engine::general_purpose::STANDARD;
-use pgp_base::Error;
+use pgp_base::{Error, Memory};
 use rand_core::Rng;
 use sha2::{Digest, Sha256};
-use std::alloc::Allocator;
 
 const ITERATIONS: u32 = 4096;
 
@@ -33,7 +32,7 @@ const VERIFIER_LEN: usize = 133;
 ///
 /// `OutOfMemory` where memory for the text, or the mapping's own, is refused. The generator has given its
 /// 16 bytes then too.
-pub fn scram_sha_256<A: Allocator + Copy, P: SaslPrep, R: Rng>(
+pub fn scram_sha_256<A: Memory, P: SaslPrep, R: Rng>(
     alloc: A,
     password: &[u8],
     prep: &P,
@@ -42,7 +41,7 @@ pub fn scram_sha_256<A: Allocator + Copy, P: SaslPrep, R: Rng>(
     ensures ok { let salt = (fill_bytes 16 (R.stream rng.old)).0 in
         IfOk result (λ t. string_bytes t ≡ verifier_text (verifier (prepared (P.mapping prep.now) password.now) salt 4096)) }
     ensures drawn { R.stream rng.new ≡ (fill_bytes 16 (R.stream rng.old)).1 }
-    ensures memory { IfErr result (λ e. e ≡ Error.OutOfMemory) }
+    ensures memory { IfErr result (WantsMemory A.Lacks) }
 {
     let mut salt = [0; SALT_LEN];
     rng.fill_bytes(&mut salt);
@@ -55,14 +54,14 @@ pub fn scram_sha_256<A: Allocator + Copy, P: SaslPrep, R: Rng>(
 /// # Errors
 ///
 /// `OutOfMemory` where memory for the text, or the mapping's own, is refused.
-pub fn scram_sha_256_salt<A: Allocator + Copy, P: SaslPrep>(
+pub fn scram_sha_256_salt<A: Memory, P: SaslPrep>(
     alloc: A,
     password: &[u8],
     salt: [u8; 16],
     prep: &P,
 ) -> Result<String<A>, Error>
     ensures ok { IfOk result (λ t. string_bytes t ≡ verifier_text (verifier (prepared (P.mapping prep.now) password.now) salt 4096)) }
-    ensures memory { IfErr result (λ e. e ≡ Error.OutOfMemory) }
+    ensures memory { IfErr result (WantsMemory A.Lacks) }
 {
     match mapped(alloc, password, prep)? {
         Some(text) => prepared_verifier(alloc, text.as_bytes(), &salt),
@@ -72,13 +71,9 @@ pub fn scram_sha_256_salt<A: Allocator + Copy, P: SaslPrep>(
 
 // The verifier of a prepared password.
 #[tactic(auto, unfolding(crate::specs::Verifier::verifier))]
-fn prepared_verifier<A: Allocator>(
-    alloc: A,
-    password: &[u8],
-    salt: &[u8],
-) -> Result<String<A>, Error>
+fn prepared_verifier<A: Memory>(alloc: A, password: &[u8], salt: &[u8]) -> Result<String<A>, Error>
     ensures ok { IfOk result (λ t. string_bytes t ≡ verifier_text (verifier password.now salt.now 4096)) }
-    ensures memory { IfErr result (λ e. e ≡ Error.OutOfMemory) }
+    ensures memory { IfErr result (WantsMemory A.Lacks) }
 {
     let salted = hi(password, salt, ITERATIONS);
     let client_key = hmac_sha256(&salted, b"Client Key", b"");
@@ -89,22 +84,22 @@ fn prepared_verifier<A: Allocator>(
 
 // The text of a verifier; the room is asked for once.
 #[tactic(auto, using(crate::proofs::VerifierText::text_of_default))]
-fn text_of<A: Allocator>(
+fn text_of<A: Memory>(
     alloc: A,
     salt: &[u8],
     stored_key: &[u8],
     server_key: &[u8],
 ) -> Result<String<A>, Error>
     ensures ok { IfOk result (λ t. string_bytes t ≡ verifier_text (record { salt = salt.now; count = 4096; stored_key = stored_key.now; server_key = server_key.now })) }
-    ensures memory { IfErr result (λ e. e ≡ Error.OutOfMemory) }
+    ensures memory { IfErr result (WantsMemory A.Lacks) }
 {
-    let mut text = String::with_capacity(alloc, VERIFIER_LEN)?;
-    text.push_str("SCRAM-SHA-256$4096:")?;
-    STANDARD.encode_string(salt, &mut text)?;
-    text.push_str("$")?;
-    STANDARD.encode_string(stored_key, &mut text)?;
-    text.push_str(":")?;
-    STANDARD.encode_string(server_key, &mut text)?;
+    let mut text = A::text_with_capacity(alloc, VERIFIER_LEN)?;
+    A::push_str(&mut text, "SCRAM-SHA-256$4096:")?;
+    A::push_base64(&mut text, salt)?;
+    A::push_str(&mut text, "$")?;
+    A::push_base64(&mut text, stored_key)?;
+    A::push_str(&mut text, ":")?;
+    A::push_base64(&mut text, server_key)?;
     Ok(text)
 }
 
@@ -116,13 +111,9 @@ fn text_of<A: Allocator>(
 /// # Errors
 ///
 /// `OutOfMemory` where memory for the text is refused.
-pub fn md5<A: Allocator + Copy>(
-    alloc: A,
-    password: &[u8],
-    username: &str,
-) -> Result<String<A>, Error>
+pub fn md5<A: Memory>(alloc: A, password: &[u8], username: &str) -> Result<String<A>, Error>
     ensures ok { IfOk result (λ t. string_bytes t ≡ md5_verifier password.now username.now) }
-    ensures memory { IfErr result (λ e. e ≡ Error.OutOfMemory) }
+    ensures memory { IfErr result (WantsMemory A.Lacks) }
 {
     digest_text(alloc, password, username.as_bytes())
 }

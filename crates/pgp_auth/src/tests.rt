@@ -8,11 +8,10 @@ use crate::authentication::sasl::{NoPrep, SaslPrep, hi};
 use crate::escape::{escape_identifier, escape_literal};
 use crate::hmac::hmac_sha256;
 use crate::password::{md5, scram_sha_256, scram_sha_256_salt};
-use pgp_base::Error;
+use pgp_base::{Error, Memory};
 use rand_core::Rng;
 use rand_core::utils::{self, NextWord};
 use sha2::{Digest, Sha256};
-use std::alloc::Allocator;
 use std::cell::Cell;
 use std::marker::Model;
 use std::test::Fail;
@@ -235,13 +234,9 @@ struct ToX {
 impl SaslPrep for ToX {
     ghost mapping = { λ _ _. Some (120 ∷ []) };
 
-    fn prepare<A: Allocator + Copy>(
-        &self,
-        alloc: A,
-        _text: &str,
-    ) -> Result<Option<String<A>>, Error> {
+    fn prepare<A: Memory>(&self, alloc: A, _text: &str) -> Result<Option<String<A>>, Error> {
         self.asked.set(self.asked.get().saturating_add(1));
-        Ok(Some(String::from_str(alloc, "x")?))
+        Ok(Some(A::text_of(alloc, "x")?))
     }
 }
 

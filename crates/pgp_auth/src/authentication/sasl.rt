@@ -1,7 +1,8 @@
 //! SASL's SCRAM-SHA-256 (RFC 5802, RFC 7677): the client, and the parts that it is made of.
 
 ghost use Rattle.std.specs.Prelude.{◌≡◌, ℕ, ◌+◌, ◌<◌, ◌^◌, ◌++◌, List, Option, None, max, option_map, unwrap_or, string_bytes, IfOk, IfErr};
-ghost use Rattle.pgp_base.specs.declared.error.Error.{Error};
+ghost use Rattle.std.specs.Str.{IsNotAscii};
+ghost use Rattle.pgp_base.specs.Cause.{WantsMemory};
 ghost use Rattle.pgp_auth.specs.IteratedKey.{salted};
 ghost use Rattle.pgp_auth.specs.MacBlocks.{code_of};
 ghost use Rattle.pgp_auth.specs.Prepared.{prepared};
@@ -9,8 +10,7 @@ ghost use Rattle.pgp_auth.specs.Prepared.{prepared};
 use crate::hmac::MacKey;
 use crate::lanes::xor_into;
 pub use crate::scram::{ChannelBinding, ScramError, ScramSha256, is_nonce};
-use pgp_base::Error;
-use std::alloc::Allocator;
+use pgp_base::{Error, Memory};
 use std::str;
 
 /// The name of the mechanism without channel binding.
@@ -25,15 +25,17 @@ pub trait SaslPrep {
     // What a text is mapped to, if anything.
     ghost mapping: { Self → List ℕ → Option (List ℕ) };
 
-    /// The text that is used in the place of `text`, or `None` where `text` is used as it is.
+    /// The text that is used in the place of `text`, or `None` where `text` is used as it is. `text` isn't
+    /// ASCII.
     ///
     /// # Errors
     ///
     /// `OutOfMemory` where memory for the text is refused, and nothing else: a text that can't be mapped is
     /// `None`.
-    fn prepare<A: Allocator + Copy>(&self, alloc: A, text: &str) -> Result<Option<String<A>>, Error>
+    fn prepare<A: Memory>(&self, alloc: A, text: &str) -> Result<Option<String<A>>, Error>
+        requires not_ascii { IsNotAscii text.now }
         ensures ok { IfOk result (λ o. option_map string_bytes o ≡ mapping self.now text.now) }
-        ensures memory { IfErr result (λ e. e ≡ Error.OutOfMemory) };
+        ensures memory { IfErr result (WantsMemory A.Lacks) };
 }
 
 /// No mapping: each password is used as it is.
@@ -43,24 +45,20 @@ pub struct NoPrep;
 impl SaslPrep for NoPrep {
     ghost mapping = { λ _ _. None };
 
-    fn prepare<A: Allocator + Copy>(
-        &self,
-        _alloc: A,
-        _text: &str,
-    ) -> Result<Option<String<A>>, Error> {
+    fn prepare<A: Memory>(&self, _alloc: A, _text: &str) -> Result<Option<String<A>>, Error> {
         Ok(None)
     }
 }
 
 // What the mapping puts in the place of the password, if it is asked and has anything.
 #[tactic(auto, using(crate::proofs::Asking::ascii, crate::proofs::Asking::not_text, crate::proofs::Asking::asked))]
-pub(crate) fn mapped<A: Allocator + Copy, P: SaslPrep>(
+pub(crate) fn mapped<A: Memory, P: SaslPrep>(
     alloc: A,
     password: &[u8],
     prep: &P,
 ) -> Result<Option<String<A>>, Error>
     ensures ok { IfOk result (λ o. unwrap_or (option_map string_bytes o) password.now ≡ prepared (P.mapping prep.now) password.now) }
-    ensures memory { IfErr result (λ e. e ≡ Error.OutOfMemory) }
+    ensures memory { IfErr result (WantsMemory A.Lacks) }
 {
     if password.is_ascii() {
         return Ok(None);

@@ -45,7 +45,7 @@ impl<A: Allocator> Model for ScramSha256<A> {
     ghost invariant = { λ client. client.made + reserve client.state ≤ 100004 };
 }
 
-impl<A: Allocator + Copy> ScramSha256<A> {
+impl<A: Memory> ScramSha256<A> {
     /// Begins an exchange with a nonce of 24 characters that the generator draws. `message` is then the
     /// client-first text of RFC 5802, section 7, without a user's name: PostgreSQL takes the one of the
     /// start-up message.
@@ -65,10 +65,10 @@ impl<A: Allocator + Copy> ScramSha256<A> {
             IfOk result (λ client. client ≡ fresh (prepared (P.mapping prep.now) password.now) channel_binding nonce) }
         ensures nonce { IsNonce (drawn_chars 24 (R.stream rng.old)).0 }
         ensures drawn { R.stream rng.new ≡ (drawn_chars 24 (R.stream rng.old)).1 }
-        ensures memory { IfErr result (λ e. e ≡ OutOfMemory) }
+        ensures memory { IfErr result (λ e. (e ≡ OutOfMemory) × A.Lacks) }
     {
         let drawn = draw_nonce(rng);
-        let nonce = Vec::from_slice(alloc, &drawn)?;
+        let nonce = A::list_of(alloc, &drawn)?;
         begin(alloc, password, channel_binding, nonce, prep)
     }
 
@@ -86,64 +86,11 @@ impl<A: Allocator + Copy> ScramSha256<A> {
     ) -> Result<ScramSha256<A>, ScramError<A>>
         requires { IsNonce (string_bytes nonce) }
         ensures ok { IfOk result (λ client. client ≡ fresh (prepared (P.mapping prep.now) password.now) channel_binding (string_bytes nonce)) }
-        ensures memory { IfErr result (λ e. e ≡ OutOfMemory) }
+        ensures memory { IfErr result (λ e. (e ≡ OutOfMemory) × A.Lacks) }
     {
         begin(alloc, password, channel_binding, nonce.into_bytes(), prep)
     }
 
-    /// The text to send, or `None` once the exchange is over.
-    pub fn message(&self) -> Option<&[u8]>
-        ensures { option_copied result ≡ message_of self.now.state }
-    {
-        match &self.state {
-            State::AwaitsFirst(start) => Some(&start.first_text),
-            State::AwaitsFinal(signed) => Some(&signed.final_text),
-            State::Over => None,
-        }
-    }
-
-    /// The HMACs that `update` and `finish` have made: the rounds (at least one) and 2 for an `update` that is
-    /// Ok, 2 for a `finish` that compares.
-    pub fn hmacs(&self) -> u64
-        ensures value { result ≡ self.now.hmacs }
-        ensures few { result ≤ 100004 }
-    {
-        self.made
-    }
-
-    /// Takes the server's final text, `v=` and the signature or `e=` and an error, and ends the exchange.
-    ///
-    /// The signature is compared in a time that doesn't depend on the bytes that differ.
-    ///
-    /// # Errors
-    ///
-    /// The first of these. Places are byte places in the server's text.
-    ///
-    /// - `WrongState`: no `update` was Ok before, or the exchange is over.
-    /// - `NotUtf8`.
-    /// - `UnexpectedEnd`, `UnexpectedCharacter`: the text ends, or has another character, where one has to
-    ///   stand.
-    /// - `Trailing`: something follows the error or the base64 text.
-    /// - `Server`: the server's own error, as it stands behind `e=`.
-    /// - `InvalidBase64`: the text behind `v=` isn't base64 with padding.
-    /// - `Verification`: it shows other bytes than the signature.
-    /// - `OutOfMemory`: memory is refused for the server's error, or for base64 of more than 64 characters.
-    pub fn finish(&mut self, message: &[u8]) -> Result<(), ScramError<A>>
-        ensures ok { OnOk result (Finished self.old message.now self.new) }
-        ensures err { IfErr result (λ e. FinishRefused self.old message.now (refusal e) self.new) }
-    {
-        let signed = match mem::replace(&mut self.state, State::Over) {
-            State::AwaitsFinal(signed) => signed,
-            State::AwaitsFirst(_) | State::Over => return Err(ScramError::WrongState),
-        };
-        let mut made = self.made;
-        let outcome = verify(*signed.auth.allocator(), &signed, message, &mut made);
-        self.made = made;
-        outcome
-    }
-}
-
-impl<A: Memory> ScramSha256<A> {
     /// Takes the server's first text, `r=` nonce `,s=` salt `,i=` count, and makes the client-final text, which
     /// `message` then is. A refusal ends the exchange.
     ///
@@ -175,26 +122,79 @@ impl<A: Memory> ScramSha256<A> {
         self.state = State::AwaitsFinal(answer?);
         Ok(())
     }
+
+    /// Takes the server's final text, `v=` and the signature or `e=` and an error, and ends the exchange.
+    ///
+    /// The signature is compared in a time that doesn't depend on the bytes that differ.
+    ///
+    /// # Errors
+    ///
+    /// The first of these. Places are byte places in the server's text.
+    ///
+    /// - `WrongState`: no `update` was Ok before, or the exchange is over.
+    /// - `NotUtf8`.
+    /// - `UnexpectedEnd`, `UnexpectedCharacter`: the text ends, or has another character, where one has to
+    ///   stand.
+    /// - `Trailing`: something follows the error or the base64 text.
+    /// - `Server`: the server's own error, as it stands behind `e=`.
+    /// - `InvalidBase64`: the text behind `v=` isn't base64 with padding.
+    /// - `Verification`: it shows other bytes than the signature.
+    /// - `OutOfMemory`: memory is refused for the server's error, or for base64 of more than 64 characters.
+    pub fn finish(&mut self, message: &[u8]) -> Result<(), ScramError<A>>
+        ensures ok { OnOk result (Finished self.old message.now self.new) }
+        ensures err { IfErr result (λ e. FinishRefused A.Lacks self.old message.now (refusal e) self.new) }
+    {
+        let signed = match mem::replace(&mut self.state, State::Over) {
+            State::AwaitsFinal(signed) => signed,
+            State::AwaitsFirst(_) | State::Over => return Err(ScramError::WrongState),
+        };
+        let mut made = self.made;
+        let outcome = verify(*signed.auth.allocator(), &signed, message, &mut made);
+        self.made = made;
+        outcome
+    }
+}
+
+impl<A: Allocator> ScramSha256<A> {
+    /// The text to send, or `None` once the exchange is over.
+    pub fn message(&self) -> Option<&[u8]>
+        ensures { option_copied result ≡ message_of self.now.state }
+    {
+        match &self.state {
+            State::AwaitsFirst(start) => Some(&start.first_text),
+            State::AwaitsFinal(signed) => Some(&signed.final_text),
+            State::Over => None,
+        }
+    }
+
+    /// The HMACs that `update` and `finish` have made: the rounds (at least one) and 2 for an `update` that is
+    /// Ok, 2 for a `finish` that compares.
+    pub fn hmacs(&self) -> u64
+        ensures value { result ≡ self.now.hmacs }
+        ensures few { result ≤ 100004 }
+    {
+        self.made
+    }
 }
 
 // The prepared password, owned.
-fn owned_password<A: Allocator + Copy, P: SaslPrep>(
+fn owned_password<A: Memory, P: SaslPrep>(
     alloc: A,
     password: &[u8],
     prep: &P,
 ) -> Result<Vec<u8, A>, ScramError<A>>
     ensures ok { IfOk result (λ v. v.items ≡ prepared (P.mapping prep.now) password.now) }
-    ensures memory { IfErr result (λ e. e ≡ OutOfMemory) }
+    ensures memory { IfErr result (λ e. (e ≡ OutOfMemory) × A.Lacks) }
 {
     match mapped(alloc, password, prep) {
         Ok(Some(text)) => Ok(text.into_bytes()),
-        Ok(None) => Ok(Vec::from_slice(alloc, password)?),
+        Ok(None) => Ok(A::list_of(alloc, password)?),
         Err(_) => Err(ScramError::OutOfMemory),
     }
 }
 
 // An exchange that has begun.
-fn begin<A: Allocator + Copy, P: SaslPrep>(
+fn begin<A: Memory, P: SaslPrep>(
     alloc: A,
     password: &[u8],
     binding: ChannelBinding<A>,
@@ -202,7 +202,7 @@ fn begin<A: Allocator + Copy, P: SaslPrep>(
     prep: &P,
 ) -> Result<ScramSha256<A>, ScramError<A>>
     ensures ok { IfOk result (λ client. client ≡ fresh (prepared (P.mapping prep.now) password.now) binding nonce.items) }
-    ensures memory { IfErr result (λ e. e ≡ OutOfMemory) }
+    ensures memory { IfErr result (λ e. (e ≡ OutOfMemory) × A.Lacks) }
 {
     let password = owned_password(alloc, password, prep)?;
     let first_text = client_first_text(alloc, &binding, &nonce)?;

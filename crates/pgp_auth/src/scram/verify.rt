@@ -20,6 +20,7 @@ use crate::scram::error::ScramError;
 use crate::scram::reading::{Alphabet, is_error, is_text, run_behind};
 use crate::scram::state::Signed;
 use base64::engine::general_purpose::STANDARD;
+use pgp_base::Memory;
 use std::alloc::Allocator;
 use std::str;
 
@@ -29,15 +30,15 @@ const SHORT_ROOM: usize = 48;
 
 // The error that a server tells of.
 #[tactic(auto, using(crate::proofs::FinalTexts::error_refused, crate::proofs::FinalTexts::error_is, crate::proofs::FinalTexts::error_text))]
-fn server_error<A: Allocator + Copy>(alloc: A, message: &[u8]) -> Result<String<A>, ScramError<A>>
+fn server_error<A: Memory>(alloc: A, message: &[u8]) -> Result<String<A>, ScramError<A>>
     requires text { is_utf8 message.now ≡ true }
     requires error { begins_with_e message.now ≡ true }
     ensures ok { IfOk result (λ t. IsServerError message.now (string_bytes t)) }
-    ensures err { IfErr result (λ e. RefusesFinal message.now (refusal e) ⊎ ((refusal e ≡ OutOfMemory) × TakesMemory message.now)) }
+    ensures err { IfErr result (λ e. RefusesFinal message.now (refusal e) ⊎ ((refusal e ≡ OutOfMemory) × A.Lacks × TakesMemory message.now)) }
 {
     let reason = run_behind(b"e=", Alphabet::Value, message)?;
     match str::from_utf8(reason) {
-        Ok(text) => Ok(String::from_str(alloc, text)?),
+        Ok(text) => Ok(A::text_of(alloc, text)?),
         Err(_) => Err(ScramError::NotUtf8),
     }
 }
@@ -122,7 +123,7 @@ fn shown_text<A: Allocator>(message: &[u8]) -> Result<&[u8], ScramError<A>>
 
 // Verifies a text of a server that is no error.
 #[tactic(auto, using(crate::proofs::FinalTexts::final_no_base64, crate::proofs::FinalTexts::final_other))]
-fn verify_shown<A: Allocator + Copy>(
+fn verify_shown<A: Memory>(
     alloc: A,
     signed: &Signed<A>,
     message: &[u8],
@@ -132,7 +133,7 @@ fn verify_shown<A: Allocator + Copy>(
     requires text { is_utf8 message.now ≡ true }
     requires not_error { begins_with_e message.now ≡ false }
     ensures ok { OnOk result (Verifies (signature_of (answered_of signed.now)) message.now) }
-    ensures err { IfErr result (λ e. NotVerified (signature_of (answered_of signed.now)) message.now (refusal e) made.old made.new) }
+    ensures err { IfErr result (λ e. NotVerified A.Lacks (signature_of (answered_of signed.now)) message.now (refusal e) made.old made.new) }
     ensures count { OnOk result (made.new ≡ made.old + 2) }
     ensures few { made.new ≤ made.old + 2 }
 {
@@ -148,7 +149,7 @@ fn verify_shown<A: Allocator + Copy>(
 }
 
 // Verifies a server's final text.
-pub(crate) fn verify<A: Allocator + Copy>(
+pub(crate) fn verify<A: Memory>(
     alloc: A,
     signed: &Signed<A>,
     message: &[u8],
@@ -156,7 +157,7 @@ pub(crate) fn verify<A: Allocator + Copy>(
 ) -> Result<(), ScramError<A>>
     requires { made.old < 2 ^ 62 }
     ensures ok { OnOk result (Verifies (signature_of (answered_of signed.now)) message.now) }
-    ensures err { IfErr result (λ e. NotVerified (signature_of (answered_of signed.now)) message.now (refusal e) made.old made.new) }
+    ensures err { IfErr result (λ e. NotVerified A.Lacks (signature_of (answered_of signed.now)) message.now (refusal e) made.old made.new) }
     ensures count { OnOk result (made.new ≡ made.old + 2) }
     ensures few { made.new ≤ made.old + 2 }
 {

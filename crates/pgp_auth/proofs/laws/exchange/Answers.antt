@@ -9,4 +9,4 @@ returns-in_err-update-clause-memory g c =
 
 pub returns-clause-memory : goal.returns-clause-memory
 returns-clause-memory g c =
-    finish_memory c.finish.result _ _ _ c.args.server_first.now c.args.server_final.now c.requires c.in_ok-update.ensures.ok c.finish.ensures.err
+    finish_memory _ c.finish.result _ _ _ c.args.server_first.now c.args.server_final.now c.requires c.in_ok-update.ensures.ok c.finish.ensures.err

@@ -10,4 +10,4 @@ returns-in_err-bytes-2-clause-err g c =
 
 pub returns-in_ok-bytes-clause-err : goal.returns-in_ok-bytes-clause-err
 returns-in_ok-bytes-clause-err g c =
-    compared_not c.compared.result c.args.message.now c.in_ok-text.text.now c.in_ok-bytes.bytes.now _ c.args.made.now c.compared.new.made c.in_ok-text.ensures.ok c.in_ok-bytes.ensures.ok c.compared.ensures.err c.compared.ensures.count
+    compared_not _ c.compared.result c.args.message.now c.in_ok-text.text.now c.in_ok-bytes.bytes.now _ c.args.made.now c.compared.new.made c.in_ok-text.ensures.ok c.in_ok-bytes.ensures.ok c.compared.ensures.err c.compared.ensures.count

@@ -11,4 +11,4 @@ returns-clause-ok g c =
 pub returns-clause-err : goal.returns-clause-err
 returns-clause-err g c =
     let due = due_of _ _ _ c.self.view_is (ap state_of (sym c.in-AwaitsFinal.ensures.value)) in
-    finish_refused c.verify-outcome.result _ _ c.args.message.now (answered_of c.in-AwaitsFinal.signed) c.self.inside.made due (hmacs_of _ _ c.self.view_is) (over_of c.replace.new.dest c.in-AwaitsFinal.ensures.after) c.verify-outcome.ensures.err
+    finish_refused _ c.verify-outcome.result _ _ c.args.message.now (answered_of c.in-AwaitsFinal.signed) c.self.inside.made due (hmacs_of _ _ c.self.view_is) (over_of c.replace.new.dest c.in-AwaitsFinal.ensures.after) c.verify-outcome.ensures.err
