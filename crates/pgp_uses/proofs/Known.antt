@@ -25,23 +25,23 @@ module _ {B : Type 0} (start : Client) (old new : Shown B) where
   stays : new ≡ old → Stays
   stays e k = subst (λ (s : Shown B). Knows start s.phase s.exchange) (sym e) k
 
-module _ {A B K : Type 0} (held : B → Held K) (lacks : Held K → ℕ → Type 0) (start : Client) (old new : Shown B) where
-  notice : (r : Result LoginEvent (LoginFault A)) → Hears held lacks {A = A} Notice old new r → Stays start old new
+module _ {A B K : Type 0} (held : B → Held K) (memory : Type 0) (lacks : Held K → ℕ → Type 0) (start : Client) (old new : Shown B) where
+  notice : (r : Result LoginEvent (LoginFault A)) → Hears held memory lacks {A = A} Notice old new r → Stays start old new
   notice (Ok Noted) w = stays start old new w
   notice r w = absurd w
 
-  failure : (r : Result LoginEvent (LoginFault A)) → Hears held lacks {A = A} Failure old new r → Stays start old new
+  failure : (r : Result LoginEvent (LoginFault A)) → Hears held memory lacks {A = A} Failure old new r → Stays start old new
   failure (Ok Refused) w = λ k. subst (λ (s : Shown B). Knows start s.phase s.exchange) (sym w) tt
   failure r w = absurd w
 
-  offer : (mechanisms : List ℕ) (r : Result LoginEvent (LoginFault A)) → HearsOffer held lacks {A = A} mechanisms old new r → old.phase ≡ AwaitsOffer → Stays start old new
+  offer : (mechanisms : List ℕ) (r : Result LoginEvent (LoginFault A)) → HearsOffer held memory lacks {A = A} mechanisms old new r → old.phase ≡ AwaitsOffer → Stays start old new
   offer mechanisms (Ok Began) w p = λ k. moved start old new AwaitsFirst old.exchange w.1 w.2 (subst (λ (q : LoginPhase). Knows start q old.exchange) p k)
   offer mechanisms (Err NotOffered) w p = stays start old new w.1
   offer mechanisms (Err (Unsent e)) w p = λ k. moved start old new old.phase old.exchange w.1 w.2 k
   offer mechanisms (Err (Scram e)) w p = stays start old new w.3
   offer mechanisms r w p = absurd w
 
-  first : (text : List ℕ) (r : Result LoginEvent (LoginFault A)) → HearsFirst held lacks {A = A} text old new r → old.phase ≡ AwaitsFirst → Stays start old new
+  first : (text : List ℕ) (r : Result LoginEvent (LoginFault A)) → HearsFirst held memory lacks {A = A} text old new r → old.phase ≡ AwaitsFirst → Stays start old new
   first text (Ok Replied) w p = λ k.
       let same : old.exchange ≡ start = subst (λ (q : LoginPhase). Knows start q old.exchange) p k in
       rw w.0 (text, subst (λ (c : Client). Answers c text new.exchange) same w.1)
@@ -49,18 +49,18 @@ module _ {A B K : Type 0} (held : B → Held K) (lacks : Held K → ℕ → Type
   first text (Err (Scram e)) w p = λ k. ended start old new w.0
   first text r w p = absurd w
 
-  final : (text : List ℕ) (r : Result LoginEvent (LoginFault A)) → HearsFinal held lacks {A = A} text old new r → old.phase ≡ AwaitsFinal → Stays start old new
+  final : (text : List ℕ) (r : Result LoginEvent (LoginFault A)) → HearsFinal held memory lacks {A = A} text old new r → old.phase ≡ AwaitsFinal → Stays start old new
   final text (Ok Verified) w p = λ k.
       let had : Knows start AwaitsFinal old.exchange = subst (λ (q : LoginPhase). Knows start q old.exchange) p k in
       rw w.0 (had.0, text, record { between = old.exchange; answers = had.1; finished = w.1 })
   final text (Err (Scram e)) w p = λ k. ended start old new w.0
   final text r w p = absurd w
 
-  welcome : (r : Result LoginEvent (LoginFault A)) → Hears held lacks {A = A} Welcome old new r → old.phase ≡ AwaitsOk → Stays start old new
+  welcome : (r : Result LoginEvent (LoginFault A)) → Hears held memory lacks {A = A} Welcome old new r → old.phase ≡ AwaitsOk → Stays start old new
   welcome (Ok Admitted) w p = λ k. subst (λ (s : Shown B). Knows start s.phase s.exchange) (sym w) (let had : Knows start AwaitsOk old.exchange = subst (λ (q : LoginPhase). Knows start q old.exchange) p k in had)
   welcome r w p = absurd w
 
-  on : (p : LoginPhase) (o : Option Said) (r : Result LoginEvent (LoginFault A)) → old.phase ≡ p → StepsOn held lacks {A = A} (if_due p o) old new r → Stays start old new
+  on : (p : LoginPhase) (o : Option Said) (r : Result LoginEvent (LoginFault A)) → old.phase ≡ p → StepsOn held memory lacks {A = A} (if_due p o) old new r → Stays start old new
   on p None r e w = stays start old new w.1
   on AwaitsOffer (Some Notice) r e w = notice r w
   on AwaitsFirst (Some Notice) r e w = notice r w
@@ -76,5 +76,5 @@ module _ {A B K : Type 0} (held : B → Held K) (lacks : Held K → ℕ → Type
   on AwaitsOk (Some Welcome) r e w = welcome r w e
   on p (Some said) r e w = stays start old new w.1
 
-  pub known : (m : Message) (r : Result LoginEvent (LoginFault A)) → Steps held lacks {A = A} m old new r → Knows start old.phase old.exchange → Knows start new.phase new.exchange
+  pub known : (m : Message) (r : Result LoginEvent (LoginFault A)) → Steps held memory lacks {A = A} m old new r → Knows start old.phase old.exchange → Knows start new.phase new.exchange
   known m r w = on old.phase (says m) r refl w

@@ -87,8 +87,8 @@ pub record Shown (B : Type 0) : Type 0 where
 abbrev pub in_phase : {B : Type 0} → LoginPhase → Shown B → Shown B
 in_phase phase s = record { phase = phase; exchange = s.exchange; out = s.out }
 
--- `held` says what a buffer holds.
-module _ {B K : Type 0} (held : B → Held K) (lacks : Held K → ℕ → Type 0) where
+-- `held` says what a buffer holds; `memory` is what a refusal of memory for the exchange says, `lacks` that of a growth of the buffer.
+module _ {B K : Type 0} (held : B → Held K) (memory : Type 0) (lacks : Held K → ℕ → Type 0) where
   -- what the exchange has to say was added, in this message
   abbrev pub Adds : (List ℕ → ClientMessage) → Client → Sent B → Sent B → Type 0
   Adds message exchange old new = (text : List ℕ) × (message_of exchange.state ≡ Some text) × IsAdded held (message text) old new
@@ -110,13 +110,13 @@ module _ {B K : Type 0} (held : B → Held K) (lacks : Held K → ℕ → Type 0
     abbrev pub HearsFirst : List ℕ → Shown B → Shown B → Result LoginEvent (LoginFault A) → Type 0
     HearsFirst text old new (Ok Replied) = (new.phase ≡ AwaitsFinal) × Answers old.exchange text new.exchange × Adds SaslResponse new.exchange old.out new.out
     HearsFirst text old new (Err (Unsent e)) = (new.phase ≡ Over) × Answers old.exchange text new.exchange × AddsNone SaslResponse new.exchange e old.out new.out
-    HearsFirst text old new (Err (Scram e)) = (new.phase ≡ Over) × UpdateRefused (Unit {0}) old.exchange text (refusal e) new.exchange × (new.out ≡ old.out)
+    HearsFirst text old new (Err (Scram e)) = (new.phase ≡ Over) × UpdateRefused memory old.exchange text (refusal e) new.exchange × (new.out ≡ old.out)
     HearsFirst text old new result = ⊥
 
     -- the server's final text came; a refusal ends the log-in
     abbrev pub HearsFinal : List ℕ → Shown B → Shown B → Result LoginEvent (LoginFault A) → Type 0
     HearsFinal text old new (Ok Verified) = (new.phase ≡ AwaitsOk) × Finished old.exchange text new.exchange × (new.out ≡ old.out)
-    HearsFinal text old new (Err (Scram e)) = (new.phase ≡ Over) × FinishRefused old.exchange text (refusal e) new.exchange × (new.out ≡ old.out)
+    HearsFinal text old new (Err (Scram e)) = (new.phase ≡ Over) × FinishRefused memory old.exchange text (refusal e) new.exchange × (new.out ≡ old.out)
     HearsFinal text old new result = ⊥
 
     abbrev pub Hears : Said → Shown B → Shown B → Result LoginEvent (LoginFault A) → Type 0

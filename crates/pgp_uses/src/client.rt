@@ -81,7 +81,7 @@ impl<'a, B: Buffer + Drop> Client<'a, B> {
         ensures opened { IfOk result (λ client. client.out.opened ≡ true) }
         ensures phase { IfOk result (λ client. client.phase ≡ Phase.LoggingIn) }
         ensures query { IfOk result (λ client. client.query.now ≡ query.now) }
-        ensures refused { IfErr result (RefusesMessage (Startup ((codes "user", user.now) ∷ [])) B.Lacks) }
+        ensures refused { IfErr result (RefusesMessage (Startup ((codes "user", user.now) ∷ [])) B.Lacks (B.held out.buf)) }
     {
         out.startup_message(&[("user", user)])?;
         Ok(Client {

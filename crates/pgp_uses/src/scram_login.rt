@@ -124,7 +124,7 @@ pub struct ScramLogin<A: Allocator, B: Buffer> {
     pub out: ClientStream<B>,
 }
 
-impl<A: Allocator + Copy, B: Buffer + Drop> ScramLogin<A, B> {
+impl<A: Memory, B: Buffer + Drop> ScramLogin<A, B> {
     /// A log-in of this user, with an exchange that has begun: its startup packet is the first that it has to send.
     ///
     /// # Errors
@@ -140,7 +140,7 @@ impl<A: Allocator + Copy, B: Buffer + Drop> ScramLogin<A, B> {
         ensures opened { IfOk result (λ login. login.out.opened ≡ true) }
         ensures phase { IfOk result (λ login. login.phase ≡ LoginPhase.AwaitsOffer) }
         ensures exchange { IfOk result (λ login. login.exchange ≡ exchange) }
-        ensures refused { IfErr result (RefusesMessage (Startup ((codes "user", user.now) ∷ [])) B.Lacks) }
+        ensures refused { IfErr result (RefusesMessage (Startup ((codes "user", user.now) ∷ [])) B.Lacks (B.held out.buf)) }
     {
         out.startup_message(&[("user", user)])?;
         Ok(ScramLogin {
@@ -163,7 +163,7 @@ impl<A: Allocator + Copy, B: Buffer + Drop> ScramLogin<A, B> {
         message: &Message<S>,
     ) -> Result<LoginEvent, LoginFault<A>>
         requires { self.old.out.opened ≡ true }
-        ensures stepped { Steps B.held B.Lacks (view message.now)
+        ensures stepped { Steps B.held A.Lacks B.Lacks (view message.now)
             (record { phase = self.old.phase; exchange = self.old.exchange; out = self.old.out })
             (record { phase = self.new.phase; exchange = self.new.exchange; out = self.new.out }) result }
         ensures known { (start : Exchange) → Knows start self.old.phase self.old.exchange → Knows start self.new.phase self.new.exchange }
@@ -175,7 +175,7 @@ impl<A: Allocator + Copy, B: Buffer + Drop> ScramLogin<A, B> {
     /// The step, by what the message says.
     fn hear<S: SaslStorage>(&mut self, message: &Message<S>) -> Result<LoginEvent, LoginFault<A>>
         requires { self.old.out.opened ≡ true }
-        ensures stepped { Steps B.held B.Lacks (view message.now)
+        ensures stepped { Steps B.held A.Lacks B.Lacks (view message.now)
             (record { phase = self.old.phase; exchange = self.old.exchange; out = self.old.out })
             (record { phase = self.new.phase; exchange = self.new.exchange; out = self.new.out }) result }
         ensures opened { self.new.out.opened ≡ true }
@@ -219,7 +219,7 @@ impl<A: Allocator + Copy, B: Buffer + Drop> ScramLogin<A, B> {
         body: &AuthenticationSaslBody<S>,
     ) -> Result<LoginEvent, LoginFault<A>>
         requires { self.old.out.opened ≡ true }
-        ensures heard { HearsOffer B.held B.Lacks body.now
+        ensures heard { HearsOffer B.held A.Lacks B.Lacks body.now
             (record { phase = self.old.phase; exchange = self.old.exchange; out = self.old.out })
             (record { phase = self.new.phase; exchange = self.new.exchange; out = self.new.out }) result }
         ensures opened { self.new.out.opened ≡ true }
@@ -240,7 +240,7 @@ impl<A: Allocator + Copy, B: Buffer + Drop> ScramLogin<A, B> {
     /// The server's first text came: the exchange's final text is sent.
     fn reply(&mut self, text: &[u8]) -> Result<LoginEvent, LoginFault<A>>
         requires { self.old.out.opened ≡ true }
-        ensures heard { HearsFirst B.held B.Lacks text.now
+        ensures heard { HearsFirst B.held A.Lacks B.Lacks text.now
             (record { phase = self.old.phase; exchange = self.old.exchange; out = self.old.out })
             (record { phase = self.new.phase; exchange = self.new.exchange; out = self.new.out }) result }
         ensures opened { self.new.out.opened ≡ true }
@@ -261,7 +261,7 @@ impl<A: Allocator + Copy, B: Buffer + Drop> ScramLogin<A, B> {
 
     /// The server's final text came, which has to show its signature.
     fn verify(&mut self, text: &[u8]) -> Result<LoginEvent, LoginFault<A>>
-        ensures heard { HearsFinal B.held B.Lacks text.now
+        ensures heard { HearsFinal B.held A.Lacks B.Lacks text.now
             (record { phase = self.old.phase; exchange = self.old.exchange; out = self.old.out })
             (record { phase = self.new.phase; exchange = self.new.exchange; out = self.new.out }) result }
         ensures out { self.new.out ≡ self.old.out }

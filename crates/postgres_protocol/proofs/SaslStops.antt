@@ -31,8 +31,8 @@ said_final old new first answer a is = ap the_text (is ∙ ap (λ (c : Client). 
 pub answered_text : (old new : Client) (handed text : List ℕ) → handed ≡ text → Answers old handed new → Answers old text new
 answered_text old new handed text e a = subst (λ (t : List ℕ). Answers old t new) e a
 
-pub finished_text : (old new : Client) (handed text : List ℕ) (e : Refusal) → handed ≡ text → FinishRefused old handed e new → FinishRefused old text e new
-finished_text old new handed text e is r = subst (λ (t : List ℕ). FinishRefused old t e new) is r
+pub finished_text : (memory : Type 0) (old new : Client) (handed text : List ℕ) (e : Refusal) → handed ≡ text → FinishRefused memory old handed e new → FinishRefused memory old text e new
+finished_text memory old new handed text e is r = subst (λ (t : List ℕ). FinishRefused memory old t e new) is r
 
 module _ {Kept : Type 0} (memory : Type 0) (lacks : Held Kept → ℕ → Type 0) (mechanism : List ℕ) (old between : Client) (first_old first_new final_old : List ℕ) (out_old out_mid : Held Kept) (begun : Begun) (text first answer : List ℕ)
     (due : old.state ≡ AwaitsFirst begun) (said : Some text ≡ message_of old.state) (sent : out_mid ≡ out_old ⊕ bytes_of (SaslInitialResponse mechanism text))
@@ -76,7 +76,7 @@ module _ {Kept : Type 0} (memory : Type 0) (lacks : Held Kept → ℕ → Type 0
 
   -- it was refused
   pub refused : (new : Client) (final_new : List ℕ) (out_new : Held Kept) (final : List ℕ) (e : Refusal) → out_new ≡ out_mid ⊕ bytes_of (SaslResponse answer)
-      → TakesFrame final_old (Ok (Authentication (AuthenticationSaslFinal final))) final_new → FinishRefused between final e new → FinalRefused memory lacks mechanism old new first_old first_new final_old final_new out_old out_new e
+      → TakesFrame final_old (Ok (Authentication (AuthenticationSaslFinal final))) final_new → FinishRefused memory between final e new → FinalRefused memory lacks mechanism old new first_old first_new final_old final_new out_old out_new e
   refused new final_new out_new final e is t r = record {
     begun = begun;
     due = due;

@@ -126,7 +126,7 @@ module _ {Kept : Type 0} (memory : Type 0) (lacks : Held Kept → ℕ → Type 0
     pub sent : out_new ≡ out_old ⊕ bytes_of (SaslInitialResponse mechanism (first_text begun)) ⊕ bytes_of (SaslResponse answers.answered.final)
     pub final : List ℕ
     pub final_taken : TakesFrame final_old (Ok (Authentication (AuthenticationSaslFinal final))) final_new
-    pub refused : FinishRefused between final e new
+    pub refused : FinishRefused memory between final e new
 
   -- Why it stopped, by the refusal.
   abbrev pub Stopped : {A : Type 0} → SaslRefusal A → Type 0

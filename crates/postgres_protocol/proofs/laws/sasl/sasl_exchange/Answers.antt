@@ -14,4 +14,4 @@ returns-in_err-outcome-clause-refused g c =
 pub returns-in-Err-finish-clause-refused : goal.returns-in-Err-finish-clause-refused
 returns-in-Err-finish-clause-refused g c =
     inr (refused _ _ _ _ _ _ _ _ _ _ _ _ _ _ c.requires.1 c.in-Some.ensures c.in_default-sasl_initial_response.ensures.1.1 c.in_ok-challenge.ensures.taken (answered_text _ _ _ _ c.data.ensures c.in_default-update.ensures.ok) c.in-Some-message.ensures
-    _ _ _ _ _ c.in_default-sasl_response.ensures.1.1 c.in_ok-outcome.ensures.taken (finished_text _ _ _ _ _ c.data-2.ensures c.in-Err-finish.ensures.err))
+    _ _ _ _ _ c.in_default-sasl_response.ensures.1.1 c.in_ok-outcome.ensures.taken (finished_text _ _ _ _ _ _ c.data-2.ensures c.in-Err-finish.ensures.err))
