@@ -12,7 +12,7 @@ ghost use Rattle.pgp_uses.specs.ScramLogin.{HearsFinal, HearsFirst, HearsOffer, 
 
 use crate::client::{Client, Phase};
 use bytes::Bytes;
-use pgp_base::{Buffer, FallibleIterator};
+use pgp_base::{Buffer, FallibleIterator, Memory};
 use pgp_message::Storage;
 use postgres_protocol::Error;
 use postgres_protocol::authentication::sasl::{SCRAM_SHA_256, ScramError, ScramSha256};
