@@ -9,6 +9,7 @@ run:
 
 program:
 	@scripts/program build
+	@printf 'the proved program is built: ./pgwire runs it\n'
 
 test:
 	@command -v rt >/dev/null 2>&1 || { echo "make: the Rattle toolchain is missing: no command 'rt' on the PATH" >&2; exit 1; }
