@@ -1,4 +1,4 @@
-# The two commands of a newcomer: `make run` lists a sample stream within a minute, `make test` is the gate.
+# The two commands of a newcomer: `make run` lists a sample stream in about a minute, `make test` is the gate.
 # `make program` proves and builds the program, which `make run` and `./pgwire` run from then on.
 # `make bench` times the works of crates/pgp_bench, `make bench WORKS=write` those whose names begin so.
 
