@@ -1,11 +1,15 @@
-# The two commands of a newcomer: `make run` lists a sample stream, `make test` is the gate.
+# The two commands of a newcomer: `make run` lists a sample stream in about a minute, `make test` is the gate.
+# `make program` proves and builds the program, which `make run` and `./pgwire` run from then on.
 # `make bench` times the works of crates/pgp_bench, `make bench WORKS=write` those whose names begin so.
 
-.PHONY: run test bench
+.PHONY: run program test bench
 
 run:
-	@printf 'examples/stream.bin, as pgwire lists it:\n'
-	@./pgwire backend < examples/stream.bin
+	@scripts/sample
+
+program:
+	@scripts/program build
+	@printf 'the proved program is built: ./pgwire runs it\n'
 
 test:
 	@command -v rt >/dev/null 2>&1 || { echo "make: the Rattle toolchain is missing: no command 'rt' on the PATH" >&2; exit 1; }

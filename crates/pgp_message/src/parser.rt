@@ -16,7 +16,7 @@ use std::alloc::Allocator;
 use std::marker::Model;
 
 /// Takes messages off the front of a buffer, and remembers the header of a frame that it had to leave,
-/// so that it reads the header of each frame once, in however many pieces the frame comes.
+/// so that it counts the header of each frame once, in however many pieces the frame comes.
 #[derive(Drop)]
 pub struct FrameParser {
     header: Option<(u8, u32)>,
@@ -52,7 +52,7 @@ impl FrameParser {
         }
     }
 
-    /// How many headers were read, or the greatest `u64` where there were more.
+    /// How many frames' headers have come, each counted once, or the greatest `u64` where there were more.
     pub fn headers(&self) -> u64
         ensures { result ≡ self.now.headers }
     {
@@ -105,7 +105,7 @@ impl FrameParser {
     }
 
     /// Looks for the whole frames at the front of the bytes, and takes none. The header behind them is remembered for the
-    /// next call. The header of each frame is counted once, and one that was remembered isn't read again.
+    /// next call. The header of each frame is counted once; whoever reads the frames then reads it again.
     pub fn find_all(&mut self, bytes: &[u8]) -> Found
         requires { Fits self.old bytes.now }
         ensures { FindsAll bytes.now self.old self.new result }

@@ -125,7 +125,7 @@ impl<A: Memory> ScramSha256<A> {
 
     /// Takes the server's final text, `v=` and the signature or `e=` and an error, and ends the exchange.
     ///
-    /// The signature is compared in a time that doesn't depend on the bytes that differ.
+    /// All bytes of the signature have to agree.
     ///
     /// # Errors
     ///

@@ -81,7 +81,7 @@ fn difference(left: &[u8; 32], right: &[u8]) -> u32
     sum
 }
 
-// Whether the bytes are the signature, in a time that depends on their number alone.
+// Whether the bytes are the signature.
 fn is_signature<A: Allocator>(signed: &Signed<A>, bytes: &[u8], made: &mut u64) -> bool
     requires { made.old < 2 ^ 62 }
     ensures yes { result ≡ true → bytes.now ≡ signature_of (answered_of signed.now) }

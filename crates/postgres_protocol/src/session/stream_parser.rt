@@ -103,7 +103,7 @@ impl<A: Memory> StreamParser<A> {
         self.failed
     }
 
-    /// How many headers were read, or the greatest `u64` where there were more.
+    /// How many frames' headers have come, each counted once, or the greatest `u64` where there were more.
     pub fn headers(&self) -> u64
         ensures { result ≡ self.now.headers }
     {
