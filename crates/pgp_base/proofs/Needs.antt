@@ -1,5 +1,5 @@
 -- How many bytes parts take, and growths that were refused on the way.
-use Rattle.std.proofs.Common.{◌≡◌, ◌⊎◌, ℕ, ◌+◌, ◌≤◌, List, [], ◌∷◌, ◌++◌, length, Option, Some, None, Result, Ok, Err, ap, ◌∙◌, arith, inl, inr, length-append, true, false}
+use Rattle.std.proofs.Common.{◌≡◌, ◌⊎◌, ℕ, ◌+◌, ◌≤◌, ◌<◌, List, [], ◌∷◌, ◌++◌, length, Option, Some, None, Result, Ok, Err, ap, ◌∙◌, arith, inl, inr, length-append, true, false}
 use Rattle.std.specs.Prelude.{IfErr, negsuc}
 use Rattle.std.specs.Int.{w32, cast_unsigned}
 use Rattle.std.specs.List.{flat_map}
@@ -70,3 +70,8 @@ module _ {K : Type 0} {lacks : Held K → ℕ → Type 0} where
 -- In a window a growth that n bytes need was refused: they don't fit.
 pub wants_window : (old : Held (GName × ℕ)) (n : ℕ) → Wants window_lacks old n → window_lacks old n
 wants_window old n w = let same = ap (λ (k : GName × ℕ). k.1) w.front.kept in omega (arith, w.refused, w.within, same)
+
+-- In a `BytesMut` one was, by its memory.
+pub memory_lacks : {K L C : Type 0} (old : Held K) (n : ℕ) (e : Error) → WantsMemory (Wants (λ (h : Held K) (m : ℕ). L × (0 < m)) old n) e ⊎ C → WantsMemory L e ⊎ C
+memory_lacks old n e (inl memory) = inl (memory.0, memory.1.refused.0)
+memory_lacks old n e (inr c) = inr c

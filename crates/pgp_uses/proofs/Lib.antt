@@ -8,3 +8,4 @@ pub mod Mechanisms
 pub mod Passed
 pub mod Places
 pub mod Written
+mod Room

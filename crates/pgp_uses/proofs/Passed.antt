@@ -1,8 +1,8 @@
 -- A frame at the front, by its header.
-use Rattle.std.proofs.Common.{◌≡◌, ℕ, ℤ, pos, negsuc, ◌+◌, ◌≤◌, ◌≤ℤ◌, List, ◌∷◌, ◌++◌, length, take, drop, sym, ap, subst, ◌∙◌, arith, inl, inr}
+use Rattle.std.proofs.Common.{◌≡◌, ℕ, ℤ, pos, negsuc, ◌+◌, ◌≤◌, ◌≤ℤ◌, List, ◌∷◌, ◌++◌, length, take, drop, refl, sym, ap, subst, ◌∙◌, arith, inl, inr}
 use Rattle.std.proofs.Math.Dec.{T}
 use Rattle.std.proofs.lemmas.Bool.Decides.{leb_tells}
-use Rattle.std.proofs.lemmas.List.{length-take, length-drop}
+use Rattle.std.proofs.lemmas.List.{length-take, length-take-le, length-drop}
 use Rattle.std.proofs.Math.Seq.{take-append_seam}
 use Rattle.std.proofs.Math.IntN.{nat_abs}
 use Rattle.pgp_base.specs.Held.{Held, ◌⊕◌}
@@ -13,7 +13,7 @@ use Rattle.pgp_message.specs.Header.{HeaderPart, IsHeader}
 use Rattle.pgp_message.specs.Stream.{Frame, frame_bytes, BeginsWithHeader}
 use Rattle.pgp_message.proofs.Cuts.{cut, front_of}
 use Rattle.pgp_message.proofs.Fronts.{header_announced}
-use Rattle.pgp_uses.specs.Filter.{PassesFrame}
+use Rattle.pgp_uses.specs.Filter.{PassesFrame, LacksFrame}
 
 abbrev header_part : ℕ → ℤ → HeaderPart
 header_part tag len = record { tag = tag; len = len }
@@ -51,3 +51,22 @@ passes limit came tag (negsuc n) size old new bytes is least within total there 
 pub passes_frame : {K : Type 0} (limit : ℤ) (came : List ℕ) (header : HeaderPart) (size : ℕ) (old new : Held K)
     → IsBytes came → IsHeader came header → pos 4 ≤ℤ header.len → header.len ≤ℤ limit → size ≡ nat_abs header.len + 1 → size ≤ length came → new ≡ old ⊕ take size came → PassesFrame limit came size old new
 passes_frame limit came header size old new = passes limit came header.tag header.len size old new
+
+-- a growth by it was refused
+lacks_at : {K : Type 0} (lacks : Held K → ℕ → Type 0) (limit : ℤ) (came : List ℕ) (tag : ℕ) (len : ℤ) (size : ℕ) (old : Held K)
+    → IsHeader came (header_part tag len) → pos 4 ≤ℤ len → len ≤ℤ limit → size ≡ nat_abs len + 1 → size ≤ length came → lacks old (length (take size came)) → LacksFrame limit came lacks old
+lacks_at lacks limit came tag (pos n) size old is least within total there refused = record {
+  header = header_part tag (pos n);
+  begins = is;
+  least = least;
+  within = within;
+  len = n;
+  len_is = refl;
+  whole = omega (arith, total, there);
+  refused = subst (λ (k : ℕ). lacks old k) (length-take-le size came there ∙ total) refused;
+}
+lacks_at lacks limit came tag (negsuc n) size old is least within total there refused = absurd least.le
+
+pub lacks_frame : {K : Type 0} (lacks : Held K → ℕ → Type 0) (limit : ℤ) (came : List ℕ) (header : HeaderPart) (size : ℕ) (old : Held K)
+    → IsHeader came header → pos 4 ≤ℤ header.len → header.len ≤ℤ limit → size ≡ nat_abs header.len + 1 → size ≤ length came → lacks old (length (take size came)) → LacksFrame limit came lacks old
+lacks_frame lacks limit came header size old = lacks_at lacks limit came header.tag header.len size old

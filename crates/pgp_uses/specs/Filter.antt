@@ -1,5 +1,5 @@
 -- What a filter of frames does with the bytes that came.
-use Rattle.std.specs.Prelude.{◌≡◌, ◌⊎◌, ℕ, ℤ, pos, ◌+◌, ◌<◌, ◌≤ℤ◌, ◌<ℤ◌, List, ◌++◌, length, Option, Some, None, Result, Ok, Err}
+use Rattle.std.specs.Prelude.{◌≡◌, ◌⊎◌, ℕ, ℤ, pos, ◌+◌, ◌<◌, ◌≤◌, ◌≤ℤ◌, ◌<ℤ◌, List, ◌++◌, length, Option, Some, None, Result, Ok, Err}
 use Rattle.pgp_base.specs.Held.{Held, ◌⊕◌}
 use Rattle.pgp_message.specs.Header.{HeaderPart, IsHeader}
 use Rattle.pgp_message.specs.Stream.{Frame, frame_bytes, IsFrame}
@@ -30,10 +30,10 @@ pub record LacksFrame {Kept : Type 0} (limit : ℤ) (came : List ℕ) (lacks : H
   pub begins : IsHeader came header
   pub least : pos 4 ≤ℤ header.len
   pub within : header.len ≤ℤ limit
-  pub size : ℕ
-  pub size_is : pos size ≡ header.len + 1
-  pub whole : size ≤ length came
-  pub refused : lacks old size
+  pub len : ℕ
+  pub len_is : header.len ≡ pos len
+  pub whole : len + 1 ≤ length came
+  pub refused : lacks old (len + 1)
 
 -- the bytes begin with a header, whose length is such
 abbrev pub Announces : List ℕ → (ℤ → Type 0) → Type 0

@@ -2,6 +2,7 @@
 
 ghost use Rattle.std.specs.Prelude.{◌≡◌, ◌⊎◌, true, [], ◌∷◌, codes, Some, IfOk, IfErr};
 ghost use Rattle.pgp_base.specs.Calls.{OwesValues};
+ghost use Rattle.pgp_base.specs.Cause.{WantsMemory};
 ghost use Rattle.pgp_frontend.specs.ClientMessage.{Query, Startup, Terminate};
 ghost use Rattle.pgp_frontend.specs.Payload.{cause};
 ghost use Rattle.postgres_protocol.specs.ClientRun.{ClientRun};
@@ -9,10 +10,10 @@ ghost use Rattle.pgp_uses.specs.Asking.{AddsAll, BindsNamed, question};
 
 use crate::values::put_int4;
 use bytes::BytesMut;
-use pgp_base::{Buffer, IsNull};
+use pgp_base::{Buffer, IsNull, Memory};
 use postgres_protocol::session::ClientStream;
 use postgres_protocol::{BindError, Error, Oid};
-use std::alloc::{Allocator, Global};
+use std::alloc::Global;
 
 /// A session that asks one query and ends. A server reads its bytes as exactly these three messages.
 ///
@@ -20,13 +21,13 @@ use std::alloc::{Allocator, Global};
 ///
 /// `EmbeddedNull` where the name or the query has a 0 byte, `TooLarge` where it is too long for its message, and
 /// `OutOfMemory`.
-pub fn one_query<A: Allocator + Copy>(
+pub fn one_query<A: Memory>(
     alloc: A,
     user: &str,
     query: &str,
 ) -> Result<ClientStream<BytesMut<A>>, Error>
     ensures run { IfOk result (λ stream. ClientRun [] (Startup ((codes "user", user.now) ∷ []) ∷ Query query.now ∷ Terminate ∷ []) stream.buf.items) }
-    ensures refused { IfErr result (λ e. (e ≡ Error.OutOfMemory)
+    ensures refused { IfErr result (λ e. WantsMemory A.Lacks e
         ⊎ ((cause (Startup ((codes "user", user.now) ∷ [])) ≡ Some e) ⊎ (cause (Query query.now) ≡ Some e))) }
 {
     let mut stream = ClientStream::<BytesMut<A>>::new(alloc);

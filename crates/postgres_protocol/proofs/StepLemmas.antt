@@ -100,13 +100,17 @@ module _ (ds : List ArrayDimension) (type : ℕ) where
 
   pub array_length : (vs : List (Option (List ℕ))) → length (array_bytes (array_of ds type vs)) ≡ 12 + 8 * length ds + length (flat_map nullable vs)
   array_length vs =
+      let made = flat_map nullable vs in
+      let all = flat_map dimension_bytes ds in
+      let parts : length (array_bytes (array_of ds type vs)) ≡ length (uint32 (length ds) ++ (flag vs ++ (oid type ++ (all ++ made)))) = refl in
       omega (
         arith,
+        parts,
         dimensions_length ds,
-        length-append (uint32 (length ds)) (flag vs ++ oid type ++ flat_map dimension_bytes ds ++ flat_map nullable vs),
-        length-append (flag vs) (oid type ++ flat_map dimension_bytes ds ++ flat_map nullable vs),
-        length-append (oid type) (flat_map dimension_bytes ds ++ flat_map nullable vs),
-        length-append (flat_map dimension_bytes ds) (flat_map nullable vs),
+        length-append (uint32 (length ds)) (flag vs ++ (oid type ++ (all ++ made))),
+        length-append (flag vs) (oid type ++ (all ++ made)),
+        length-append (oid type) (all ++ made),
+        length-append all made,
         length-uint32 (length ds),
         length-uint32 (flag_of (has_null vs)),
         length-uint32 type,

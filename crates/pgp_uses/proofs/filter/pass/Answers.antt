@@ -1,6 +1,6 @@
 use Rattle.std.proofs.Common.{rules, arith}
 use Rattle.pgp_base.specs.Wire.{IsBytes}
-use Rattle.pgp_uses.proofs.Passed.{passes_frame}
+use Rattle.pgp_uses.proofs.Passed.{passes_frame, lacks_frame}
 use Rattle.pgp_uses.proofs.filter.pass.Goals as goal
 
 pub returns-in-Ok : goal.returns-in-Ok
@@ -8,3 +8,7 @@ returns-in-Ok g c =
     let came = c.args.came.now in
     let each : IsBytes came = λ i. omega (arith, c.type_inv.came i) in
     passes_frame c.args.limit came c.in-Ok-Some.header _ _ _ each (search rules) (search rules) (search rules) (search rules) (search rules) (search rules)
+
+pub returns-in-Err-append : goal.returns-in-Err-append
+returns-in-Err-append g c =
+    (search rules, lacks_frame g.B.Buffer.Lacks c.args.limit c.args.came.now c.in-Ok-Some.header _ _ (search rules) (search rules) (search rules) (search rules) (search rules) (search rules))
