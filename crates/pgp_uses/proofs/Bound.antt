@@ -29,8 +29,8 @@ module _ {V K : Type 0} (f : Plain V) (lacks : Held K → ℕ → Type 0) where
 
   -- a growth that the value needs is one that what is written of it needs, which `wanted` says
   pub refused : (v : Option V) (e : Error) (wanted : Type 0) (before after : Held K) → ((x : V) → v ≡ Some x → Wants lacks before (length (f.written x)) → wanted) → Serializes f v lacks before after (Err e) → RefusesValue f v wanted e
-  refused None e wanted before after as w = absurd w
-  refused (Some x) e wanted before after as w = elim w.0 [ inl memory ↦ inl (memory.0, as x refl memory.1) | inr cause ↦ inr cause ]
+  refused None e wanted before after turn w = absurd w
+  refused (Some x) e wanted before after turn w = elim w.0 [ inl memory ↦ inl (memory.0, turn x refl memory.1) | inr cause ↦ inr cause ]
 
 -- a serializer of values keeps the bytes that stood there
 pub keeps_value : {V K : Type 0} (f : Plain V) (lacks : Held K → ℕ → Type 0) (v : Option V) (old new : Held K) (r : Result IsNull Error) → Serializes f v lacks old new r → KeepsValue r old new

@@ -81,7 +81,7 @@ none_or_all : (given : List ℤ → Option ℤ → Type 0) (all : List ℤ) → 
 none_or_all given all ends goes xs (inl none) = let n = ap (λ l. length (counted int16 l)) none in omega (arith, n, counted_length int16 [], counted_length int16 all)
 none_or_all given all ends goes xs (inr asked) = let n = ap (λ l. length (counted int16 l)) (asked_all given all ends goes asked.before asked.next xs asked.came asked.are) in omega (arith, n)
 
-module _ {K : Type 0} {lacks : Held K → ℕ → Type 0} {old : Held K} (to : Target) where
+module _ (to : Target) where
   -- the part before the values
   head_length : (fs : List ℤ) → length (joined (Text to.portal ∷ Text to.statement ∷ Int16s fs ∷ [])) ≡ length (joined (Text to.portal ∷ Text to.statement ∷ [])) + length (counted int16 fs)
   head_length fs = joined_more (Text to.portal ∷ Text to.statement ∷ []) (Int16s fs)
@@ -89,27 +89,28 @@ module _ {K : Type 0} {lacks : Held K → ℕ → Type 0} {old : Held K} (to : T
   one_length : (v : Option (List ℕ)) → length (bytes_of (one_bound to v)) ≡ 5 + (length (joined (Text to.portal ∷ Text to.statement ∷ [])) + length (counted int16 (pos 1 ∷ []))) + length (counted nullable (v ∷ [])) + length (counted int16 to.results)
   one_length v = let n = bind_length to.portal to.statement (pos 1 ∷ []) (v ∷ []) to.results in let m = head_length (pos 1 ∷ []) in omega (arith, n, m)
 
+module _ {K : Type 0} {lacks : Held K → ℕ → Type 0} {old : Held K} (to : Target) where
   head_wants : (fs : List ℤ) → length (counted int16 fs) ≤ length (counted int16 (pos 1 ∷ [])) → Wants lacks old (length (bytes_of (Bind to.portal to.statement fs [] []))) → Wants lacks old (length (bytes_of (one_bound to None)))
   head_wants fs few w =
       let n = bind_length to.portal to.statement fs [] [] in
-      let m = head_length fs in
-      let k = one_length None in
+      let m = head_length to fs in
+      let k = one_length to None in
       wants_more old _ _ (omega (arith, n, m, k, few, counted_length nullable [], counted_length nullable (None ∷ []), counted_length int16 [], counted_length int16 to.results)) w
 
   bind_wants : (fs : List ℤ) (vs : List (Option (List ℕ))) (v : Option (List ℕ)) (rs : List ℤ) → length (counted int16 fs) ≡ length (counted int16 (pos 1 ∷ [])) → vs ≡ v ∷ [] → length (counted int16 rs) ≤ length (counted int16 to.results)
       → Wants lacks old (length (bytes_of (Bind to.portal to.statement fs vs rs))) → Wants lacks old (length (bytes_of (one_bound to v)))
   bind_wants fs vs v rs is are few w =
       let n = bind_length to.portal to.statement fs vs rs in
-      let m = head_length fs in
-      let k = one_length v in
+      let m = head_length to fs in
+      let k = one_length to v in
       let one = ap (λ l. length (counted nullable l)) are in
       wants_more old _ _ (omega (arith, n, m, k, is, one, few)) w
 
   -- the message of a null is no longer than that of any value
   pub null_wants : (v : Option (List ℕ)) → Wants lacks old (length (bytes_of (one_bound to None))) → Wants lacks old (length (bytes_of (one_bound to v)))
   null_wants v w =
-      let n = one_length None in
-      let m = one_length v in
+      let n = one_length to None in
+      let m = one_length to v in
       wants_more old _ _ (omega (arith, n, m, nullable_least v, null_length, counted_length nullable (None ∷ []), counted_length nullable (v ∷ []), flat_more nullable [] None, flat_more nullable [] v)) w
 
   -- behind the place of the value's length
@@ -260,12 +261,12 @@ module _ {F E B K : Type 0} (held : B → Held K) (step : F → ℕ → MutBor B
 
 -- what is said of a growth in the array is said of one in the message
 refuses_as : (P Q : List ℕ → Type 0) (s : Step) (e : Error) → ((bytes : List ℕ) → P bytes → Q bytes) → RefusesAt P s e → RefusesAt Q s e
-refuses_as P Q (Append bytes) e as r = (r.0, as bytes.items r.1)
-refuses_as P Q Null e as r = absurd r
-refuses_as P Q (Refuse d) e as r = r
+refuses_as P Q (Append bytes) e turn r = (r.0, turn bytes.items r.1)
+refuses_as P Q Null e turn r = absurd r
+refuses_as P Q (Refuse d) e turn r = r
 
 refused_as : (ds : List ArrayDimension) (type : ℕ) (steps : List Step) (P Q : List (Option (List ℕ)) → Type 0) → ((vs : List (Option (List ℕ))) → P vs → Q vs) → (e : BindError Error) → ArrayRefused ds type steps P e → ArrayRefused ds type steps Q e
-refused_as ds type steps P Q as (Conversion e) r = record {
+refused_as ds type steps P Q turn (Conversion e) r = record {
   before = r.before;
   step = r.step;
   more = r.more;
@@ -273,12 +274,12 @@ refused_as ds type steps P Q as (Conversion e) r = record {
   vs = r.vs;
   give = r.give;
   none = r.none;
-  refuses = refuses_as (λ bytes. P (r.vs ++ Some bytes ∷ [])) (λ bytes. Q (r.vs ++ Some bytes ∷ [])) r.step e (λ bytes. as (r.vs ++ Some bytes ∷ [])) r.refuses;
+  refuses = refuses_as (λ bytes. P (r.vs ++ Some bytes ∷ [])) (λ bytes. Q (r.vs ++ Some bytes ∷ [])) r.step e (λ bytes. turn (r.vs ++ Some bytes ∷ [])) r.refuses;
 }
-refused_as ds type steps P Q as (Serialization e) (inl memory) =
+refused_as ds type steps P Q turn (Serialization e) (inl memory) =
     let w = memory.1 in
-    inl (memory.0, record { before = w.before; more = w.more; are = w.are; vs = w.vs; give = w.give; wanted = as (w.vs ++ map (λ step. None) (take 1 w.more)) w.wanted })
-refused_as ds type steps P Q as (Serialization e) (inr cause) = inr cause
+    inl (memory.0, record { before = w.before; more = w.more; are = w.are; vs = w.vs; give = w.give; wanted = turn (w.vs ++ map (λ step. None) (take 1 w.more)) w.wanted })
+refused_as ds type steps P Q turn (Serialization e) (inr cause) = inr cause
 
 -- the same steps
 pub same_steps : {K : Type 0} (ds xs : List ArrayDimension) (type n : ℕ) (steps ys : List Step) (lacks : Held K → ℕ → Type 0) (old new : Held K) (r : Result IsNull (BindError Error)) → (xs ≡ ds) × (n ≡ type) × (ys ≡ steps)
@@ -299,7 +300,7 @@ module _ {F B K : Type 0} (held : B → Held K) (step : F → ℕ → MutBor B �
       let are : bytes ≡ array_bytes (array_of ds type w.vs) = same_more here (held m.after.now) bytes _ m.appended stands in
       (w.vs, w.give, w.none, ap (λ (n : IsNull). one_bound unnamed (value_of n bytes)) a.0 ∙ ap (λ (b : List ℕ). one_bound unnamed (Some b)) are)
 
-  elements_want : OneWants held step unnamed f last old lacks → ElementsWant steps (BindWants ds type lacks old)
+  elements_want : OneWants held step unnamed f last old lacks → ElementsWant ds type steps (BindWants ds type lacks old)
   elements_want (inl head) = record { before = []; more = steps; are = refl; vs = []; give = refl; wanted = null_wants unnamed (Some (array_bytes (array_of ds type (map (λ step. None) (take 1 steps))))) head.1 }
   elements_want (inr made) =
       let k = made_array made.0 made.1 made.2 in
@@ -324,7 +325,7 @@ module _ {F B K : Type 0} (held : B → Held K) (step : F → ℕ → MutBor B �
       }
   array_binds (Err (Conversion e)) new w =
       let m = w.0.1 in
-      let wants = λ vs s. value_wants unnamed _ (Some (array_bytes (array_of ds type vs))) _ refl (omega arith) (sized_wants (array_bytes (array_of ds type vs)) 0 _ (held m.before.now) m.stood s) in
+      let wants : (vs : List (Option (List ℕ))) → ArrayWants ds type lacks (held m.before.now) vs → BindWants ds type lacks old vs = λ vs s. value_wants unnamed _ (Some (array_bytes (array_of ds type vs))) _ refl (omega arith) (sized_wants (array_bytes (array_of ds type vs)) 0 _ (held m.before.now) m.stood s) in
       (refused_as ds type steps (ArrayWants ds type lacks (held m.before.now)) (BindWants ds type lacks old) wants e (acts last 0 m.before m.after (Err e) m.called).0, w.1)
   array_binds (Err (Serialization e)) new w = (
     elim w.0 [

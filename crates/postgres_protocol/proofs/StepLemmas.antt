@@ -100,17 +100,16 @@ module _ (ds : List ArrayDimension) (type : ℕ) where
 
   pub array_length : (vs : List (Option (List ℕ))) → length (array_bytes (array_of ds type vs)) ≡ 12 + 8 * length ds + length (flat_map nullable vs)
   array_length vs =
+      let count = uint32 (length ds) in
       let made = flat_map nullable vs in
       let all = flat_map dimension_bytes ds in
-      let parts : length (array_bytes (array_of ds type vs)) ≡ length (uint32 (length ds) ++ (flag vs ++ (oid type ++ (all ++ made)))) = refl in
       omega (
         arith,
-        parts,
         dimensions_length ds,
-        length-append (uint32 (length ds)) (flag vs ++ (oid type ++ (all ++ made))),
-        length-append (flag vs) (oid type ++ (all ++ made)),
-        length-append (oid type) (all ++ made),
-        length-append all made,
+        length-append (count ++ flag vs ++ oid type ++ all) made,
+        length-append (count ++ flag vs ++ oid type) all,
+        length-append (count ++ flag vs) (oid type),
+        length-append count (flag vs),
         length-uint32 (length ds),
         length-uint32 (flag_of (has_null vs)),
         length-uint32 type,
@@ -128,16 +127,19 @@ module _ (ds : List ArrayDimension) (type : ℕ) where
         let count = uint32 (length ds) in
         let made = flat_map nullable vs in
         let all = flat_map dimension_bytes ds in
-        let stands = h ∙ (more_twice (old ⊕ count ⊕ uint32 0 ⊕ oid type) all made ∙ (more_twice (old ⊕ count ⊕ uint32 0) (oid type) (all ++ made) ∙ (more_twice (old ⊕ count) (uint32 0) (oid type ++ all ++ made) ∙ more_twice old count (uint32 0 ++ oid type ++ all ++ made)))) in
-        wants_then old b (count ++ uint32 0 ++ oid type ++ all ++ made) n _ stands
+        let stands = h
+        ∙ (more_twice (old ⊕ count ⊕ uint32 0 ⊕ oid type) all made
+        ∙ (more_twice (old ⊕ count ⊕ uint32 0) (oid type) (all ++ made)
+        ∙ (more_twice (old ⊕ count) (uint32 0) (oid type ++ (all ++ made)) ∙ more_twice old count (uint32 0 ++ (oid type ++ (all ++ made)))))) in
+        wants_then old b (count ++ (uint32 0 ++ (oid type ++ (all ++ made)))) n _ stands
         (omega (
           arith,
           k,
           array_length (vs ++ v ∷ []),
           flat_more nullable vs v,
           dimensions_length ds,
-          length-append count (uint32 0 ++ oid type ++ all ++ made),
-          length-append (uint32 0) (oid type ++ all ++ made),
+          length-append count (uint32 0 ++ (oid type ++ (all ++ made))),
+          length-append (uint32 0) (oid type ++ (all ++ made)),
           length-append (oid type) (all ++ made),
           length-append all made,
           length-uint32 (length ds),

@@ -58,6 +58,15 @@ module _ (dimensions : List ArrayDimension) (element_type : ℕ) (vs : List (Opt
     pub value : Reads array (array_bytes array_of) (Ok (array_seen array_of))
     pub only : (r : Result ArrayRead Error) → Reads array (array_bytes array_of) r → r ≡ Ok (array_seen array_of)
 
+module _ (dimensions : List ArrayDimension) (element_type : ℕ) where
+  -- a growth was refused that the array of these elements needs
+  abbrev pub ArrayWants : {K : Type 0} → (Held K → ℕ → Type 0) → Held K → List (Option (List ℕ)) → Type 0
+  ArrayWants lacks old vs = Wants lacks old (length (array_bytes (array_of dimensions element_type vs)))
+
+  -- a growth was refused that the message which binds these elements needs
+  abbrev pub BindWants : {K : Type 0} → (Held K → ℕ → Type 0) → Held K → List (Option (List ℕ)) → Type 0
+  BindWants lacks old vs = Wants lacks old (length (bytes_of (binding dimensions element_type vs)))
+
 module _ (dimensions : List ArrayDimension) (element_type : ℕ) (steps : List Step) where
   -- Behind steps that give elements, with which the array has no cause, one refuses. `Wanted vs` says that a growth was
   -- refused that what is written of these elements needs.
@@ -95,10 +104,6 @@ module _ (dimensions : List ArrayDimension) (element_type : ℕ) (steps : List S
   ArrayRefused Wanted (Conversion e) = StepRefuses Wanted e
   ArrayRefused Wanted (Serialization e) = WantsMemory (ElementsWant Wanted) e ⊎ HasCause e
 
-  -- a growth was refused that the array of these elements needs
-  abbrev pub ArrayWants : {K : Type 0} → (Held K → ℕ → Type 0) → Held K → List (Option (List ℕ)) → Type 0
-  ArrayWants lacks old vs = Wants lacks old (length (array_bytes (array_of dimensions element_type vs)))
-
   -- the array of the elements that the steps give stands behind the old bytes, and has no cause
   pub record ArrayAppended {K : Type 0} (old new : Held K) : Type 0 where
     pub vs : List (Option (List ℕ))
@@ -108,7 +113,7 @@ module _ (dimensions : List ArrayDimension) (element_type : ℕ) (steps : List S
 
   abbrev pub WritesSteps : {K : Type 0} → (Held K → ℕ → Type 0) → Held K → Held K → Result IsNull (BindError Error) → Type 0
   WritesSteps lacks old new (Ok null) = (null ≡ No) × ArrayAppended old new
-  WritesSteps lacks old new (Err e) = ArrayRefused (ArrayWants lacks old) e × Leaves old new
+  WritesSteps lacks old new (Err e) = ArrayRefused (ArrayWants dimensions element_type lacks old) e × Leaves old new
 
   -- the frame of the message stands behind the old bytes, and neither it nor the array has a cause
   pub record BindAppended {K : Type 0} (old new : Held K) : Type 0 where
@@ -130,10 +135,6 @@ module _ (dimensions : List ArrayDimension) (element_type : ℕ) (steps : List S
   BindRefused Wanted (Conversion e) = ArrayRefused Wanted e
   BindRefused Wanted (Serialization e) = WantsMemory (ElementsWant Wanted) e ⊎ IsTooLong e
 
-  -- a growth was refused that the message which binds these elements needs
-  abbrev pub BindWants : {K : Type 0} → (Held K → ℕ → Type 0) → Held K → List (Option (List ℕ)) → Type 0
-  BindWants lacks old vs = Wants lacks old (length (bytes_of (binding dimensions element_type vs)))
-
   abbrev pub BindsArray : {K : Type 0} → (Held K → ℕ → Type 0) → Held K → Held K → Result (Unit {0}) (BindError (BindError Error)) → Type 0
   BindsArray lacks old new (Ok done) = BindAppended old new
-  BindsArray lacks old new (Err e) = BindRefused (BindWants lacks old) e × Leaves old new
+  BindsArray lacks old new (Err e) = BindRefused (BindWants dimensions element_type lacks old) e × Leaves old new
