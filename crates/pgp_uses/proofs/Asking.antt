@@ -161,8 +161,8 @@ module _ {F B K : Type 0} (held : B → Held K) (step : F → ℕ → MutBor B �
       let bytes = int4.written v in
       let here = before_values (held old.buf) [] name (pos 1 ∷ []) in
       let wants : (x : ℤ) → Some v ≡ Some x → Wants lacks (held m.before.now) (length (int4.written x)) → Wants lacks (held old.buf) (length (bytes_of (named_bound name (Some bytes)))) = λ x is s.
-          let same : v ≡ x = cc in
-          value_wants (named name) here (Some bytes) _ refl (omega arith) (sized_wants bytes 0 here (held m.before.now) m.stood (subst (λ (x : ℤ). Wants lacks (held m.before.now) (length (int4.written x))) (sym same) s)) in (
+      let same : v ≡ x = cc in
+      value_wants (named name) here (Some bytes) _ refl (omega arith) (sized_wants bytes 0 here (held m.before.now) m.stood (subst (λ (x : ℤ). Wants lacks (held m.before.now) (length (int4.written x))) (sym same) s)) in (
         tt,
         elim (refused int4 lacks (Some v) e (Wants lacks (held old.buf) (length (bytes_of (named_bound name (Some bytes))))) (held m.before.now) (held m.after.now) wants (acts b.last 0 m.before m.after (Err e) m.called)) [
           | inl memory ↦ memory

@@ -58,7 +58,7 @@ module _ {V F B K : Type 0} (held : B → Held K) (step : F → ℕ → MutBor B
   binds (Err (Conversion e)) new w =
       let m = w.0.1 in
       let wants : (x : V) → v ≡ Some x → Wants lacks (held m.before.now) (length (f.written x)) → BoundWants f v lacks old = λ x is s.
-          subst (λ (v : Option V). BoundWants f v lacks old) (sym is) (value_wants unnamed _ (Some (f.written x)) _ refl (omega arith) (sized_wants (f.written x) 0 _ (held m.before.now) m.stood s)) in
+      subst (λ (v : Option V). BoundWants f v lacks old) (sym is) (value_wants unnamed _ (Some (f.written x)) _ refl (omega arith) (sized_wants (f.written x) 0 _ (held m.before.now) m.stood s)) in
       (refused f lacks v e (BoundWants f v lacks old) (held m.before.now) (held m.after.now) wants (acts last 0 m.before m.after (Err e) m.called), w.1)
   binds (Err (Serialization e)) new w = (
     elim w.0 [

@@ -89,9 +89,9 @@ module _ {F B K : Type 0} (held : B → Held K) (step : F → Bor (Option ℤ) �
         let all = array_length (d ∷ []) type (map (option_map int4.written) values) in
         let some = flat_more nullable vs v in
         let cut = ap (λ l. length (flat_map nullable (map (option_map int4.written) l))) are
-            ∙ (ap (λ l. length (flat_map nullable l)) (map-append (option_map int4.written) xs (x ∷ more))
-            ∙ (ap length (flat_map-append nullable (map (option_map int4.written) xs) (option_map int4.written x ∷ map (option_map int4.written) more))
-            ∙ length-append (flat_map nullable (map (option_map int4.written) xs)) (nullable (option_map int4.written x) ++ flat_map nullable (map (option_map int4.written) more)))) in
+        ∙ (ap (λ l. length (flat_map nullable l)) (map-append (option_map int4.written) xs (x ∷ more))
+        ∙ (ap length (flat_map-append nullable (map (option_map int4.written) xs) (option_map int4.written x ∷ map (option_map int4.written) more))
+        ∙ length-append (flat_map nullable (map (option_map int4.written) xs)) (nullable (option_map int4.written x) ++ flat_map nullable (map (option_map int4.written) more)))) in
         let first = ap (λ l. length (flat_map nullable l)) is in
         wants_more old _ _ (omega (arith, front, all, some, cut, first, least, length-append (nullable (option_map int4.written x)) (flat_map nullable (map (option_map int4.written) more)))) w
 

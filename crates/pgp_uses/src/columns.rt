@@ -26,10 +26,7 @@ pub enum NamesError {
 /// `NoDescription` where no frame is one; `Refused` of the reason for which its columns can't be read, or of
 /// `OutOfMemory`.
 #[tactic(auto, using(crate::proofs::Descriptions::has_names, crate::proofs::Descriptions::has_broken))]
-pub fn column_names<'a, A: Memory>(
-    alloc: A,
-    bytes: &'a [u8],
-) -> Result<Vec<&'a str, A>, NamesError>
+pub fn column_names<'a, A: Memory>(alloc: A, bytes: &'a [u8]) -> Result<Vec<&'a str, A>, NamesError>
     ensures ok { IfOk result (λ found. HasNames bytes.now (map (λ name. name.now) found.items)) }
     ensures err { IfErr result (NamesRefused A.Lacks bytes.now) }
 {
@@ -87,10 +84,7 @@ fn listed<'a, A: Memory>(alloc: A, columns: Fields<'a>) -> Result<Vec<&'a str, A
 }
 
 /// The names of these columns.
-fn names_of<'a, A: Memory>(
-    alloc: A,
-    columns: &[Field<'a>],
-) -> Result<Vec<&'a str, A>, AllocError>
+fn names_of<'a, A: Memory>(alloc: A, columns: &[Field<'a>]) -> Result<Vec<&'a str, A>, AllocError>
     ensures lacks { OnErr result A.Lacks }
     ensures names { IfOk result (λ found. map (λ name. name.now) found.items ≡ map (λ column. column.name) columns.now) }
 {
