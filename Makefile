@@ -1,7 +1,8 @@
 # The two commands of a newcomer: `make run` lists a sample stream, `make test` is the gate.
+# `make edits`, before a release, tries every wrong body by itself, `make edits CRATES=pgp_base` those of one crate.
 # `make bench` times the works of crates/pgp_bench, `make bench WORKS=write` those whose names begin so.
 
-.PHONY: run test bench
+.PHONY: run test edits bench
 
 run:
 	@printf 'examples/stream.bin, as pgwire lists it:\n'
@@ -10,6 +11,9 @@ run:
 test:
 	@command -v rt >/dev/null 2>&1 || { echo "make: the Rattle toolchain is missing: no command 'rt' on the PATH" >&2; exit 1; }
 	rt ci
+
+edits:
+	.ci/edits $(CRATES)
 
 bench:
 	@command -v rt >/dev/null 2>&1 || { echo "make: the Rattle toolchain is missing: no command 'rt' on the PATH" >&2; exit 1; }
