@@ -68,8 +68,7 @@ impl Input {
     /// # Errors
     ///
     /// `AllocError` where there is no memory for it.
-    pub(crate) fn new(alloc: Global, work: Work, count: u32) -> Result<Input, AllocError>
-    {
+    pub(crate) fn new(alloc: Global, work: Work, count: u32) -> Result<Input, AllocError> {
         let stream = stream(alloc, unit(work), count)?;
         let plain = long(alloc, "ab")?;
         let quotes = long(alloc, "a'")?;

@@ -110,8 +110,7 @@ impl Work {
     ];
 
     /// The name by which it is asked for.
-    pub(crate) fn name(self) -> &'static str
-    {
+    pub(crate) fn name(self) -> &'static str {
         match self {
             Work::Bare => "read_bare",
             Work::Tiny => "read_tiny",
@@ -147,8 +146,7 @@ impl Work {
     }
 
     /// How many units are timed together: some hundredths of a second.
-    pub(crate) fn units(self) -> u32
-    {
+    pub(crate) fn units(self) -> u32 {
         match self {
             Work::Key => 8,
             Work::LiteralPlain | Work::LiteralQuotes | Work::Identifier | Work::CopyData => 50_000,
@@ -163,7 +161,12 @@ impl Work {
 /// # Errors
 ///
 /// Those of the work.
-pub(crate) fn sum_of(alloc: Global, work: Work, input: &mut Input, count: u32) -> Result<u64, Error> {
+pub(crate) fn sum_of(
+    alloc: Global,
+    work: Work,
+    input: &mut Input,
+    count: u32,
+) -> Result<u64, Error> {
     match work {
         Work::Bare | Work::Tiny | Work::Kept | Work::Row | Work::Fields => read(&mut input.stream),
         Work::TinyInPlace | Work::RowInPlace => read_in_place(input.stream.as_slice()),
