@@ -12,7 +12,7 @@ use std::alloc::Global;
 #[inline(never)]
 pub(crate) fn literals(alloc: Global, text: &str, count: u32) -> Result<u64, Error> {
     let mut sum = 0u64;
-    'rounds: for _round in 0..count {
+    for _round in 0..count {
         sum = sum.wrapping_add(escape_literal(alloc, text)?.as_str().len() as u64);
     }
     Ok(sum)
@@ -26,7 +26,7 @@ pub(crate) fn literals(alloc: Global, text: &str, count: u32) -> Result<u64, Err
 #[inline(never)]
 pub(crate) fn identifiers(alloc: Global, text: &str, count: u32) -> Result<u64, Error> {
     let mut sum = 0u64;
-    'rounds: for _round in 0..count {
+    for _round in 0..count {
         sum = sum.wrapping_add(escape_identifier(alloc, text)?.as_str().len() as u64);
     }
     Ok(sum)

@@ -47,7 +47,7 @@ fn unit(work: Work) -> &'static [u8] {
 // So many units, one behind another.
 fn stream(alloc: Global, unit: &[u8], count: u32) -> Result<BytesMut, AllocError> {
     let mut all = BytesMut::new(alloc);
-    'rounds: for _round in 0..count {
+    for _round in 0..count {
         all.extend_from_slice(unit)?;
     }
     Ok(all)
@@ -56,7 +56,7 @@ fn stream(alloc: Global, unit: &[u8], count: u32) -> Result<BytesMut, AllocError
 // A long text of one piece, again and again.
 fn long(alloc: Global, piece: &str) -> Result<String, AllocError> {
     let mut all = String::new(alloc);
-    'rounds: for _round in 0..PIECES {
+    for _round in 0..PIECES {
         all.push_str(piece)?;
     }
     Ok(all)

@@ -6,7 +6,7 @@ use pgp_auth::authentication::sasl::hi;
 #[inline(never)]
 pub(crate) fn keys(count: u32) -> u64 {
     let mut sum = 0u64;
-    'rounds: for n in 0..count {
+    for n in 0..count {
         let salt = (n % 256) as u8;
         let key = hi(b"password", &[salt], 4096);
         sum = sum.wrapping_add(key[0] as u64);

@@ -29,7 +29,7 @@ pub(crate) fn feed(alloc: Global, bytes: &[u8]) -> Result<u64, Error> {
 #[inline(always)]
 fn weigh(results: Vec<Result<Message, Error>>) -> Result<u64, Error> {
     let mut sum = 0u64;
-    'taken: for item in results {
+    for item in results {
         let message = item?;
         sum = sum.wrapping_add(weight(&message));
     }

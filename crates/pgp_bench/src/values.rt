@@ -24,7 +24,7 @@ fn int4(n: i32, buf: &mut BytesMut) -> Result<i32, Error> {
 #[inline(never)]
 pub(crate) fn int4s(buf: &mut BytesMut, count: u32) -> Result<u64, Error> {
     let mut sum = 0u64;
-    'rounds: for n in 0..count {
+    for n in 0..count {
         sum = sum.wrapping_add(int4(n.cast_signed(), buf)?.cast_unsigned() as u64);
     }
     Ok(sum)
@@ -60,7 +60,7 @@ fn inet(address: IpAddr, netmask: u8, buf: &mut BytesMut) -> Result<u8, Error> {
 
 fn inets(address: IpAddr, netmask: u8, buf: &mut BytesMut, count: u32) -> Result<u64, Error> {
     let mut sum = 0u64;
-    'rounds: for _round in 0..count {
+    for _round in 0..count {
         sum = sum.wrapping_add(inet(address, netmask, buf)? as u64);
     }
     Ok(sum)
@@ -83,7 +83,7 @@ fn text_len(text: &str, buf: &mut BytesMut) -> Result<usize, Error> {
 pub(crate) fn texts(input: &mut Input, count: u32) -> Result<u64, Error> {
     let Input { buf, short, .. } = input;
     let mut sum = 0u64;
-    'rounds: for _round in 0..count {
+    for _round in 0..count {
         sum = sum.wrapping_add(text_len(short.as_str(), buf)? as u64);
     }
     Ok(sum)

@@ -61,7 +61,7 @@ fn again<W: Writer>(input: &mut Input, count: u32) -> Result<u64, Error> {
         long: plain.as_str(),
     };
     let mut sum = 0u64;
-    'rounds: for n in 0..count {
+    for n in 0..count {
         if n % TOGETHER == 0 {
             sum = sum.wrapping_add(buf.len() as u64);
             buf.clear();
