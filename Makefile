@@ -1,8 +1,9 @@
 # The two commands of a newcomer: `make run` lists a sample stream in about a minute, `make test` is the gate.
 # `make program` proves and builds the program, which `make run` and `./pgwire` run from then on.
+# `make edits`, before a release, tries every wrong body by itself, `make edits CRATES=pgp_base` those of one crate.
 # `make bench` times the works of crates/pgp_bench, `make bench WORKS=write` those whose names begin so.
 
-.PHONY: run program test bench
+.PHONY: run program test edits bench
 
 run:
 	@scripts/sample
@@ -14,6 +15,9 @@ program:
 test:
 	@command -v rt >/dev/null 2>&1 || { echo "make: the Rattle toolchain is missing: no command 'rt' on the PATH" >&2; exit 1; }
 	rt ci
+
+edits:
+	.ci/edits $(CRATES)
 
 bench:
 	@command -v rt >/dev/null 2>&1 || { echo "make: the Rattle toolchain is missing: no command 'rt' on the PATH" >&2; exit 1; }

@@ -1,7 +1,5 @@
 //! Escaping; the sums are the bytes of the escaped texts.
 
-ghost use Rattle.pgp_bench.specs.Escapes.{IsLiteral, IsIdentifier, SumsTexts};
-
 use pgp_auth::escape::{escape_identifier, escape_literal};
 use pgp_base::Error;
 use std::alloc::Global;
@@ -12,11 +10,9 @@ use std::alloc::Global;
 ///
 /// `OutOfMemory` where memory for one of them is refused.
 #[inline(never)]
-pub fn literals(alloc: Global, text: &str, count: u32) -> Result<u64, Error>
-    ensures { SumsTexts (IsLiteral text.now) count result }
-{
+pub(crate) fn literals(alloc: Global, text: &str, count: u32) -> Result<u64, Error> {
     let mut sum = 0u64;
-    'rounds: for _round in 0..count {
+    for _round in 0..count {
         sum = sum.wrapping_add(escape_literal(alloc, text)?.as_str().len() as u64);
     }
     Ok(sum)
@@ -28,11 +24,9 @@ pub fn literals(alloc: Global, text: &str, count: u32) -> Result<u64, Error>
 ///
 /// `OutOfMemory` where memory for one of them is refused.
 #[inline(never)]
-pub fn identifiers(alloc: Global, text: &str, count: u32) -> Result<u64, Error>
-    ensures { SumsTexts (IsIdentifier text.now) count result }
-{
+pub(crate) fn identifiers(alloc: Global, text: &str, count: u32) -> Result<u64, Error> {
     let mut sum = 0u64;
-    'rounds: for _round in 0..count {
+    for _round in 0..count {
         sum = sum.wrapping_add(escape_identifier(alloc, text)?.as_str().len() as u64);
     }
     Ok(sum)

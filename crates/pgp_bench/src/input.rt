@@ -1,9 +1,5 @@
 //! What the works take, made on the heap before the clock starts.
 
-ghost use Rattle.std.specs.Prelude.{◌≡◌, IfOk, string_bytes};
-ghost use Rattle.std.specs.List.{repeat};
-ghost use Rattle.pgp_bench.specs.Inputs.{bytes_of, messages_of, IsInput};
-
 use crate::work::Work;
 use bytes::BytesMut;
 use std::alloc::{AllocError, Global};
@@ -23,24 +19,21 @@ const ROW: &[u8] =
 const FIELDS: &[u8] = b"E\0\0\0\x25SERROR\0C42P01\0Mno such relation\0\0";
 
 #[derive(Drop)]
-pub struct Input {
+pub(crate) struct Input {
     /// As many frames, or triples of frames, as there are units.
-    pub stream: BytesMut,
+    pub(crate) stream: BytesMut,
     /// What is written to.
-    pub buf: BytesMut,
-    pub name: String,
-    pub short: String,
+    pub(crate) buf: BytesMut,
+    pub(crate) name: String,
+    pub(crate) short: String,
     /// 32 bytes, one of them a quote.
-    pub quote: String,
-    pub plain: String,
-    pub quotes: String,
+    pub(crate) quote: String,
+    pub(crate) plain: String,
+    pub(crate) quotes: String,
 }
 
 // The messages of a unit.
-#[tactic(auto, unfolding(pgp_base::specs::Wire::uint16, pgp_base::specs::Wire::uint32))]
-fn unit(work: Work) -> &'static [u8]
-    ensures { result.now ≡ bytes_of (messages_of work) }
-{
+fn unit(work: Work) -> &'static [u8] {
     match work {
         Work::Bare => BARE,
         Work::Tiny | Work::TinyInPlace | Work::TinyCopied | Work::FeedTiny => TINY,
@@ -52,22 +45,18 @@ fn unit(work: Work) -> &'static [u8]
 }
 
 // So many units, one behind another.
-fn stream(alloc: Global, unit: &[u8], count: u32) -> Result<BytesMut, AllocError>
-    ensures { IfOk result (λ all. all.items ≡ repeat count unit.now) }
-{
+fn stream(alloc: Global, unit: &[u8], count: u32) -> Result<BytesMut, AllocError> {
     let mut all = BytesMut::new(alloc);
-    'rounds: for _round in 0..count {
+    for _round in 0..count {
         all.extend_from_slice(unit)?;
     }
     Ok(all)
 }
 
 // A long text of one piece, again and again.
-fn long(alloc: Global, piece: &str) -> Result<String, AllocError>
-    ensures { IfOk result (λ all. string_bytes all ≡ repeat PIECES piece.now) }
-{
+fn long(alloc: Global, piece: &str) -> Result<String, AllocError> {
     let mut all = String::new(alloc);
-    'rounds: for _round in 0..PIECES {
+    for _round in 0..PIECES {
         all.push_str(piece)?;
     }
     Ok(all)
@@ -79,9 +68,7 @@ impl Input {
     /// # Errors
     ///
     /// `AllocError` where there is no memory for it.
-    pub fn new(alloc: Global, work: Work, count: u32) -> Result<Input, AllocError>
-        ensures { IfOk result (IsInput work count) }
-    {
+    pub(crate) fn new(alloc: Global, work: Work, count: u32) -> Result<Input, AllocError> {
         let stream = stream(alloc, unit(work), count)?;
         let plain = long(alloc, "ab")?;
         let quotes = long(alloc, "a'")?;

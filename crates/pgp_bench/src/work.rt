@@ -1,9 +1,5 @@
 //! The works, by name.
 
-ghost use Rattle.std.specs.Prelude.{◌≡◌};
-ghost use Rattle.pgp_bench.specs.Answers.{AnswersWork};
-ghost use Rattle.pgp_bench.specs.Works.{name_of, units_of};
-
 use crate::escapes::{identifiers, literals};
 use crate::input::Input;
 use crate::keys::keys;
@@ -16,7 +12,7 @@ use std::alloc::Global;
 
 /// What is timed.
 #[derive(Debug, Clone, Copy, PartialEq, Eq)]
-pub enum Work {
+pub(crate) enum Work {
     /// `ParseComplete`, parsed.
     Bare,
     /// `ParseComplete`, `BindComplete` and `CommandComplete`, parsed.
@@ -80,7 +76,7 @@ pub enum Work {
 }
 
 impl Work {
-    pub const ALL: [Work; 30] = [
+    pub(crate) const ALL: [Work; 30] = [
         Work::Bare,
         Work::Tiny,
         Work::Kept,
@@ -114,9 +110,7 @@ impl Work {
     ];
 
     /// The name by which it is asked for.
-    pub fn name(self) -> &'static str
-        ensures { result.now ≡ name_of self }
-    {
+    pub(crate) fn name(self) -> &'static str {
         match self {
             Work::Bare => "read_bare",
             Work::Tiny => "read_tiny",
@@ -152,9 +146,7 @@ impl Work {
     }
 
     /// How many units are timed together: some hundredths of a second.
-    pub fn units(self) -> u32
-        ensures { result ≡ units_of self }
-    {
+    pub(crate) fn units(self) -> u32 {
         match self {
             Work::Key => 8,
             Work::LiteralPlain | Work::LiteralQuotes | Work::Identifier | Work::CopyData => 50_000,
@@ -169,9 +161,12 @@ impl Work {
 /// # Errors
 ///
 /// Those of the work.
-pub fn sum_of(alloc: Global, work: Work, input: &mut Input, count: u32) -> Result<u64, Error>
-    ensures { AnswersWork work input.old count result input.new }
-{
+pub(crate) fn sum_of(
+    alloc: Global,
+    work: Work,
+    input: &mut Input,
+    count: u32,
+) -> Result<u64, Error> {
     match work {
         Work::Bare | Work::Tiny | Work::Kept | Work::Row | Work::Fields => read(&mut input.stream),
         Work::TinyInPlace | Work::RowInPlace => read_in_place(input.stream.as_slice()),

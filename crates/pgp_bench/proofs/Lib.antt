@@ -1,5 +1,0 @@
-pub mod Adding
-pub mod Backs
-pub mod Feeding
-pub mod Weighing
-pub mod Writing

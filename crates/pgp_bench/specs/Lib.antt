@@ -1,9 +1,0 @@
-pub mod Answers
-pub mod Escapes
-pub mod Inputs
-pub mod Pieces
-pub mod Streams
-pub mod Sums
-pub mod Values
-pub mod Works
-pub mod Writers
