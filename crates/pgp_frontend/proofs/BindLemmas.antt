@@ -6,7 +6,8 @@ use Rattle.pgp_base.specs.Wire.{uint32, int16, nullable, counted}
 use Rattle.std.proofs.lemmas.List.{append-nil}
 use Rattle.pgp_base.specs.Cause.{length_cause, Wants}
 use Rattle.pgp_base.specs.declared.error.Error.TheVariants.{OutOfMemory}
-use Rattle.pgp_frontend.proofs.Needs.{framed_wants, bind_length, counted_length, joined_more}
+use Rattle.pgp_base.proofs.Needs.{counted_length}
+use Rattle.pgp_frontend.proofs.Needs.{framed_wants, bind_length, joined_more}
 use Rattle.pgp_base.specs.Held.{Held, ◌⊕◌, overwritten}
 use Rattle.pgp_base.proofs.Parts.{more_bytes}
 use Rattle.pgp_base.specs.Calls.{Came, SoFar}

@@ -7,7 +7,7 @@ use Rattle.pgp_base.specs.Held.{Held, ◌⊕◌}
 use Rattle.pgp_base.specs.Cause.{first, either, Wants, WantsMemory}
 use Rattle.std.proofs.lemmas.List.Concat.{flat_map-append}
 use Rattle.pgp_base.proofs.Parts.{wants_more}
-use Rattle.pgp_frontend.proofs.Needs.{memory_then}
+use Rattle.pgp_base.proofs.Needs.{memory_then}
 use Rattle.std.specs.Prelude.{OnOk, IfErr, Result, Ok, Err}
 use Rattle.pgp_base.specs.declared.error.Error.{Error}
 use Rattle.pgp_frontend.specs.Payload.{Part, spelling, part_cause, parts_cause, joined}

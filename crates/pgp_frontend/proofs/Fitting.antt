@@ -3,17 +3,13 @@ use Rattle.std.proofs.Common.{◌≡◌, ◌⊎◌, ℕ, ◌+◌, ◌≤◌, len
 use Rattle.std.specs.Prelude.{IfErr}
 use Rattle.std.specs.Result.{IsOk}
 use Rattle.std.specs.Borrow.{GName}
-use Rattle.pgp_base.specs.Cause.{Wants}
+use Rattle.pgp_base.proofs.Needs.{wants_window}
 use Rattle.pgp_base.specs.Held.{Held, ◌⊕◌}
 use Rattle.pgp_base.specs.Window.{window_lacks}
 use Rattle.pgp_base.specs.declared.error.Error.{Error}
 use Rattle.pgp_base.specs.declared.error.Error.TheVariants.{OutOfMemory}
 use Rattle.pgp_frontend.specs.ClientMessage.{ClientMessage}
 use Rattle.pgp_frontend.specs.Payload.{bytes_of, cause, WritesMessage}
-
--- a growth that n bytes need was refused: they don't fit
-pub wants_window : (old : Held (GName × ℕ)) (n : ℕ) → Wants window_lacks old n → window_lacks old n
-wants_window old n w = let same = ap (λ (k : GName × ℕ). k.1) w.front.kept in omega (arith, w.refused, w.within, same)
 
 module _ (m : ClientMessage) (old new : Held (GName × ℕ)) where
   pub too_long : (result : Result (Unit {0}) Error) → WritesMessage m window_lacks old new result → IfErr result (λ e. ((e ≡ OutOfMemory) × window_lacks old (length (bytes_of m))) ⊎ (cause m ≡ Some e))

@@ -9,7 +9,8 @@ use Rattle.pgp_base.specs.Wire.{uint16, uint32, int16, int32, oid, nullable, cou
 use Rattle.pgp_base.specs.Cause.{Cause, Wants, WantsMemory, Writes}
 use Rattle.pgp_base.specs.Held.{Held, ◌⊕◌, Leaves}
 use Rattle.pgp_base.specs.declared.error.Error.{Error}
-use Rattle.pgp_base.proofs.Parts.{length-uint16, length-uint32, int16_spelled, int32_spelled, wants_more, wants_then, wants_same, more_twice}
+use Rattle.pgp_base.proofs.Needs.{flat_more}
+use Rattle.pgp_base.proofs.Parts.{length-uint16, length-uint32, int16_spelled, int32_spelled, wants_then, more_twice}
 use Rattle.pgp_frontend.specs.ClientMessage.{Bind, Parse, Startup}
 use Rattle.pgp_frontend.specs.Payload.{Part, Int32, Text, Int16s, Oids, Values, Pairs, spelling, joined, framed, bytes_of}
 
@@ -27,17 +28,8 @@ int16_length z = ap length (int16_spelled z) ∙ length-uint16 _
 pub int32_length : (z : ℤ) → length (int32 z) ≡ 4
 int32_length z = ap length (int32_spelled z) ∙ length-uint32 _
 
-pub sized_length : (z : List ℕ) → length (nullable (Some z)) ≡ length z + 4
-sized_length z = omega (arith, length-append (uint32 (length z)) z, length-uint32 (length z))
-
-pub flat_more : {A : Type 0} (f : A → List ℕ) (xs : List A) (x : A) → length (flat_map f (xs ++ x ∷ [])) ≡ length (flat_map f xs) + length (f x)
-flat_more f xs x = ap length (flat_map-append f xs (x ∷ [])) ∙ (length-append (flat_map f xs) (f x ++ []) ∙ ap (λ z. length (flat_map f xs) + length z) (append-nil (f x)))
-
 pub joined_more : (ps : List Part) (p : Part) → length (joined (ps ++ p ∷ [])) ≡ length (joined ps) + length (spelling p)
 joined_more ps p = flat_more spelling ps p
-
-pub counted_length : {A : Type 0} (f : A → List ℕ) (xs : List A) → length (counted f xs) ≡ length (flat_map f xs) + 2
-counted_length f xs = omega (arith, length-append (uint16 (length xs)) (flat_map f xs), length-uint16 (length xs))
 
 pub parse_length : (name query ts : List ℕ) → length (bytes_of (Parse name query ts)) ≡ 5 + length (joined (Text name ∷ Text query ∷ [])) + length (counted oid ts)
 parse_length name query ts = tagged_length 80 (joined (Text name ∷ Text query ∷ Oids ts ∷ [])) ∙ (let e = joined_more (Text name ∷ Text query ∷ []) (Oids ts) in omega (arith, e))
@@ -59,41 +51,7 @@ startup_length ps =
 
 -- Refusals.
 
-pub if_err_map : {T E : Type 0} (r : Result T E) (P Q : E → Type 0) → ((e : E) → P e → Q e) → IfErr r P → IfErr r Q
-if_err_map (Ok x) P Q f p = tt
-if_err_map (Err e) P Q f p = f e p
-
 module _ {K : Type 0} {lacks : Held K → ℕ → Type 0} where
-  pub memory_more : (a : Held K) (n m : ℕ) (e : Error) → n ≤ m → WantsMemory (Wants lacks a n) e → WantsMemory (Wants lacks a m) e
-  memory_more a n m e h w = (w.0, wants_more a n m h w.1)
-
-  pub memory_then : (a b : Held K) (p : List ℕ) (n m : ℕ) (e : Error) → b ≡ a ⊕ p → length p + n ≤ m → WantsMemory (Wants lacks b n) e → WantsMemory (Wants lacks a m) e
-  memory_then a b p n m e h k w = (w.0, wants_then a b p n m h k w.1)
-
-  -- the same, of a buffer that holds the same
-  pub refused_same : (a b : Held K) (n : ℕ) (e : Error) (C : Type 0) → b ≡ a → WantsMemory (Wants lacks b n) e ⊎ C → WantsMemory (Wants lacks a n) e ⊎ C
-  refused_same a b n e C h (inl m) = inl (m.0, wants_same a b n h m.1)
-  refused_same a b n e C h (inr c) = inr c
-
-  pub refused_then : (a b : Held K) (p : List ℕ) (n m : ℕ) (e : Error) (C : Type 0) → b ≡ a ⊕ p → length p + n ≤ m → WantsMemory (Wants lacks b n) e ⊎ C → WantsMemory (Wants lacks a m) e ⊎ C
-  refused_then a b p n m e C h k (inl w) = inl (memory_then a b p n m e h k w)
-  refused_then a b p n m e C h k (inr c) = inr c
-
-  -- a writer hands on a refusal for want of memory
-  pub writes_memory : (r : Result (Unit {0}) Error) (x : Error) (p : List ℕ) (cause : Cause) (old new : Held K) → IsErr r → IsErrAnd r (λ e. e ≡ x) → WantsMemory (Wants lacks old (length p)) x → Leaves old new → Writes p cause lacks old new r
-  writes_memory (Ok u) x p cause old new is h w l = let e : false ≡ true = is in cc
-  writes_memory (Err e) x p cause old new is h w l = (inl (h ∙ w.0, w.1), l)
-
-  -- behind the length of bytes
-  pub sized_wants : (z : List ℕ) (s : ℕ) (a b : Held K) → b ≡ a ⊕ uint32 s → Wants lacks b (length z) → Wants lacks a (length (nullable (Some z)))
-  sized_wants z s a b h w = let size = sized_length z in wants_then a b (uint32 s) (length z) _ h (omega (arith, size, length-uint32 s)) w
-
-  -- behind a count's place, and the items before
-  pub counted_wants : {A : Type 0} (f : A → List ℕ) (xs : List A) (x : A) (old b : Held K) (n : ℕ) → b ≡ old ⊕ uint16 0 ⊕ flat_map f xs → n ≤ length (f x) → Wants lacks b n → Wants lacks old (length (counted f (xs ++ x ∷ [])))
-  counted_wants f xs x old b n h k w =
-      wants_then old b (uint16 0 ++ flat_map f xs) n _ (h ∙ more_twice old (uint16 0) (flat_map f xs))
-      (let c = counted_length f (xs ++ x ∷ []) in let m = flat_more f xs x in omega (arith, c, m, k, length-append (uint16 0) (flat_map f xs), length-uint16 0)) w
-
   -- behind a tag, the place of the length, and parts
   pub framed_wants : (tag : ℕ) (ps : List Part) (old b : Held K) (n m : ℕ) → b ≡ old ⊕ tag ∷ [] ⊕ uint32 0 ⊕ joined ps → 5 + length (joined ps) + n ≤ m → Wants lacks b n → Wants lacks old m
   framed_wants tag ps old b n m h k w =

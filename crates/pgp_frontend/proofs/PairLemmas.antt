@@ -9,7 +9,7 @@ use Rattle.pgp_base.proofs.Parts.{more_parts, more_twice}
 use Rattle.pgp_base.specs.Held.{Held, ◌⊕◌}
 use Rattle.pgp_base.specs.declared.error.Error.{Error}
 use Rattle.pgp_frontend.specs.Given.{shown}
-use Rattle.pgp_frontend.proofs.Needs.{flat_more}
+use Rattle.pgp_base.proofs.Needs.{flat_more}
 use Rattle.pgp_frontend.specs.Payload.{pair, pair_cause, part_cause, Pairs}
 
 causes_more : (xs : List (Bor (List ℕ) × Bor (List ℕ))) (x : Bor (List ℕ) × Bor (List ℕ)) → map pair_cause (map shown (xs ++ x ∷ [])) ≡ map pair_cause (map shown xs) ++ pair_cause (shown x) ∷ []

@@ -4,7 +4,8 @@ use Rattle.std.specs.List.{flat_map}
 use Rattle.std.proofs.lemmas.List.{map-append, take_all, take_at}
 use Rattle.pgp_base.specs.Wire.{nullable, uint16, uint32}
 use Rattle.std.specs.Prelude.{negsuc}
-use Rattle.pgp_frontend.proofs.Needs.{counted_wants, int32_length}
+use Rattle.pgp_base.proofs.Needs.{counted_wants}
+use Rattle.pgp_frontend.proofs.Needs.{int32_length}
 use Rattle.pgp_base.specs.Cause.{first, nullable_cause, count_cause}
 use Rattle.pgp_base.specs.Calls.{Gives, Runs, Came, ValueRefused}
 use Rattle.pgp_base.proofs.Causes.{either_none, either_first, either_then, first_here, count_fits, count_past}

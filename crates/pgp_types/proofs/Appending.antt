@@ -17,12 +17,6 @@ pub part_refused : {K : Type 0} (all more p : List ℕ) (lacks : Held K → ℕ 
     → length p + length more ≤ length all → Writes all None lacks a e (Err refused)
 part_refused all more p lacks a b d e n refused k is at bytes kept whole = (elim k.0 [ inl memory ↦ inl (memory.0, wants_then a b p _ _ is whole memory.1) | inr c ↦ inr c ], cut_back a d e n (front_then a b d p is (front_left b d k.1)) at bytes kept)
 
-pub flat_more : {A : Type 0} (f : A → List ℕ) (xs : List A) (x : A) → length (flat_map f (xs ++ x ∷ [])) ≡ length (flat_map f xs) + length (f x)
-flat_more f xs x = ap length (flat_map-append f xs (x ∷ [])) ∙ (length-append (flat_map f xs) (f x ++ []) ∙ ap (λ z. length (flat_map f xs) + length z) (append-nil (f x)))
-
-pub sized_length : (z : List ℕ) → length (uint32 (length z) ++ z) ≡ length z + 4
-sized_length z = omega (arith, length-append (uint32 (length z)) z, length-uint32 (length z))
-
 -- what holds where a result is an error
 pub at_err : {T E : Type 0} (r : Result T E) (P : Type 0) (b : Bool) → OnErr r P → b ≡ is_err r → b ≡ true → P
 at_err (Ok x) P b h e t = let f = sym e ∙ t in cc
@@ -53,11 +47,6 @@ only_memory e (inr cause) = absurd cc
 pub handed_on : {K : Type 0} {lacks : Held K → ℕ → Type 0} (r : Result (Unit {0}) Error) (x : Error) (p q : List ℕ) (old new : Held K) → IsErr r → IsErrAnd r (λ e. e ≡ x) → Writes p None lacks old new (Err x) → length p ≤ length q → Writes q None lacks old new r
 handed_on (Ok y) x p q old new is h k le = let e : false ≡ true = is in cc
 handed_on (Err e) x p q old new is h k le = let m = only_memory x k.0 in (inl (h ∙ m.0, wants_more old (length p) (length q) le m.1), k.1)
-
--- a value takes four bytes at least
-pub nullable_least : (v : Option (List ℕ)) → 4 ≤ length (nullable v)
-nullable_least None = omega (arith, ap length (int32_spelled (negsuc 0)), length-uint32 (cast_unsigned w32 (negsuc 0)))
-nullable_least (Some z) = omega (arith, sized_length z)
 
 pub memory_as : {T K : Type 0} (lacks : Held K → ℕ → Type 0) (r : Result T Error) (old : Held K) (n m : ℕ) (C : Error → Type 0) → n ≤ m → IfErr r (WantsMemory (Wants lacks old n)) → IfErr r (λ e. WantsMemory (Wants lacks old m) e ⊎ C e)
 memory_as lacks (Ok x) old n m C le w = tt

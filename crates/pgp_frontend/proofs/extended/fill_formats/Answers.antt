@@ -3,7 +3,8 @@ use Rattle.pgp_base.specs.Held.{◌⊕◌}
 use Rattle.pgp_base.specs.Wire.{uint32, int16, nullable}
 use Rattle.pgp_base.specs.Cause.{Wants, WantsMemory}
 use Rattle.pgp_base.proofs.Parts.{if_err_at, nothing_more, wants_here, wants_more, wants_same, wants_then}
-use Rattle.pgp_frontend.proofs.Needs.{framed_length, bind_length, joined_more, counted_length, framed_wants}
+use Rattle.pgp_base.proofs.Needs.{counted_length}
+use Rattle.pgp_frontend.proofs.Needs.{framed_length, bind_length, joined_more, framed_wants}
 use Rattle.pgp_frontend.specs.Payload.{Text, Int16s, joined, framed, parts_cause}
 use Rattle.pgp_frontend.proofs.Fields.{cause_more, cause_here}
 use Rattle.pgp_frontend.proofs.Texts.{two_texts, part_more}

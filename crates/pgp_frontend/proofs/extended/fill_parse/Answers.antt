@@ -3,7 +3,8 @@ use Rattle.pgp_base.specs.Held.{◌⊕◌}
 use Rattle.pgp_base.specs.Wire.{uint32, oid}
 use Rattle.pgp_base.specs.Cause.{Wants, WantsMemory}
 use Rattle.pgp_base.proofs.Parts.{if_err_at, nothing_more, wants_here, wants_more, wants_same, wants_then}
-use Rattle.pgp_frontend.proofs.Needs.{framed_length, parse_length, counted_length, framed_wants}
+use Rattle.pgp_base.proofs.Needs.{counted_length}
+use Rattle.pgp_frontend.proofs.Needs.{framed_length, parse_length, framed_wants}
 use Rattle.pgp_frontend.specs.ClientMessage.{Parse}
 use Rattle.pgp_frontend.specs.Payload.{Text, Oids, joined, framed, parts_cause}
 use Rattle.pgp_frontend.proofs.Fields.{cause_more, cause_here}

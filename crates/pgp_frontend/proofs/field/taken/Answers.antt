@@ -1,5 +1,6 @@
 use Rattle.std.proofs.Common.{arith}
-use Rattle.pgp_frontend.proofs.Needs.{int32_length, sized_length}
+use Rattle.pgp_base.proofs.Needs.{sized_length}
+use Rattle.pgp_frontend.proofs.Needs.{int32_length}
 use Rattle.pgp_frontend.proofs.field.taken.Goals as goal
 
 pub returns-in-Int32 : goal.returns-in-Int32

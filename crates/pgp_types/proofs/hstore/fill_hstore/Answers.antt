@@ -5,7 +5,8 @@ use Rattle.pgp_base.specs.Held.{◌⊕◌}
 use Rattle.pgp_base.specs.Wire.{uint32, nullable}
 use Rattle.pgp_base.proofs.Parts.{length-uint32, wants_more, wants_then, sized4, if_err_at, on_err, front_twice, front_then, front_trans}
 use Rattle.pgp_types.specs.Hstore.{entry_bytes, shown_entry, shown_entries}
-use Rattle.pgp_types.proofs.Appending.{counted_up4, flat_more}
+use Rattle.pgp_base.proofs.Needs.{flat_more}
+use Rattle.pgp_types.proofs.Appending.{counted_up4}
 use Rattle.pgp_types.proofs.HstoreLemmas.{entries_fit, entries_pass, key_stops, value_stops, entries_more, entries_held}
 use Rattle.pgp_types.proofs.hstore.fill_hstore.Goals as goal
 

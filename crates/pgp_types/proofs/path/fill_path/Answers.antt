@@ -7,7 +7,8 @@ use Rattle.pgp_base.proofs.Parts.{length-uint32, wants_more, wants_then, sized4,
 use Rattle.pgp_types.specs.Geometry.{point_bytes}
 use Rattle.pgp_types.specs.Path.{path_bytes, path_of, point_at_xy}
 use Rattle.pgp_types.specs.Scalar.{bool_bytes}
-use Rattle.pgp_types.proofs.Appending.{counted_up4, flat_more, front_thrice, front_thrice_then, only_memory}
+use Rattle.pgp_base.proofs.Needs.{flat_more}
+use Rattle.pgp_types.proofs.Appending.{counted_up4, front_thrice, front_thrice_then, only_memory}
 use Rattle.pgp_types.proofs.PathLemmas.{points_fit, points_pass}
 use Rattle.pgp_types.proofs.path.fill_path.Goals as goal
 
