@@ -10,8 +10,10 @@ mod fault;
 mod lists;
 mod names;
 mod numbers;
+mod passwords;
 mod ranges;
 mod row;
+mod scram;
 mod server;
 mod shapes;
 mod shown;
@@ -20,7 +22,9 @@ mod word;
 
 use codec::{check_value, check_writer};
 use fault::Fault;
+use passwords::{check_escape, check_password};
 use row::Row;
+use scram::check_scram;
 use server::check_server;
 use std::alloc::Global;
 use std::rt::Files;
@@ -40,9 +44,12 @@ enum Family {
     Arrays,
     Ranges,
     Server,
+    Escapes,
+    Passwords,
+    Scram,
 }
 
-const FILES: [(&str, Family); 11] = [
+const FILES: [(&str, Family); 14] = [
     ("client.rows", Family::Client),
     ("integers.rows", Family::Integers),
     ("times.rows", Family::Times),
@@ -54,6 +61,9 @@ const FILES: [(&str, Family); 11] = [
     ("arrays.rows", Family::Arrays),
     ("ranges.rows", Family::Ranges),
     ("server.rows", Family::Server),
+    ("escapes.rows", Family::Escapes),
+    ("passwords.rows", Family::Passwords),
+    ("scram.rows", Family::Scram),
 ];
 
 /// Makes the call of a row.
@@ -70,6 +80,9 @@ fn check(alloc: Global, family: Family, row: &Row<'_>) -> Result<(), Fault> {
         Family::Arrays => check_value::<arrays::Arrays>(alloc, row),
         Family::Ranges => check_value::<ranges::Ranges>(alloc, row),
         Family::Server => check_server(alloc, row),
+        Family::Escapes => check_escape(alloc, row),
+        Family::Passwords => check_password(alloc, row),
+        Family::Scram => check_scram(alloc, row),
     }
 }
 
