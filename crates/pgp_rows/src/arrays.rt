@@ -23,15 +23,10 @@ fn dimensions(alloc: Global, list: &[Word<'_>]) -> Result<Vec<ArrayDimension>, F
 }
 
 /// The elements of a list.
-pub fn elements<'w>(
-    alloc: Global,
-    list: &'w [Word<'w>],
-) -> Result<Vec<Option<&'w [u8]>>, Fault> {
+pub fn elements<'w>(alloc: Global, list: &'w [Word<'w>]) -> Result<Vec<Option<&'w [u8]>>, Fault> {
     let mut elements = Vec::new(alloc);
     for word in list {
-        elements
-            .push(word.nullable()?)
-            .map_err(AllocError::from)?;
+        elements.push(word.nullable()?).map_err(AllocError::from)?;
     }
     Ok(elements)
 }

@@ -108,7 +108,11 @@ fn show_types(types: Parameters<'_>, out: &mut Shown) -> Result<(), Fault> {
 
 fn show_copy(format: u8, columns: ColumnFormats<'_>, out: &mut Shown) -> Result<(), Fault> {
     out.number(format)?;
-    show_walk(columns, |format: u16, out: &mut Shown| out.number(format), out)
+    show_walk(
+        columns,
+        |format: u16, out: &mut Shown| out.number(format),
+        out,
+    )
 }
 
 fn show_texts(

@@ -7,9 +7,7 @@ use crate::fault::Fault;
 use crate::shown::Shown;
 use crate::word::{Word, Words};
 use pgp_base::{Buffer, Error, IsNull};
-use pgp_types::{
-    Range, RangeBound, empty_range_to_sql, int4_to_sql, range_from_sql, range_to_sql,
-};
+use pgp_types::{Range, RangeBound, empty_range_to_sql, int4_to_sql, range_from_sql, range_to_sql};
 use std::alloc::{AllocError, Global};
 
 /// A bound's number, or nothing for a null.

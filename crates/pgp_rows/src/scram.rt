@@ -4,9 +4,7 @@ use crate::fault::Fault;
 use crate::row::Row;
 use crate::shown::{Shown, same};
 use crate::word::Words;
-use pgp_auth::authentication::sasl::{
-    ChannelBinding, NoPrep, ScramError, ScramSha256, is_nonce,
-};
+use pgp_auth::authentication::sasl::{ChannelBinding, NoPrep, ScramError, ScramSha256, is_nonce};
 use std::alloc::{AllocError, Global};
 
 /// The nonce of the exchange that the Rust crate's tests have; its password is `foobar`.
@@ -81,14 +79,31 @@ fn show_message(client: &ScramSha256<Global>, out: &mut Shown) -> Result<(), Fau
     Ok(())
 }
 
-/// The exchange is over: each further step is out of turn, and makes no code. Else `not over` is shown.
+/// Whether the client has a text to send is as it has to be. Else `wrong text` is shown.
+fn show_text_left(
+    client: &ScramSha256<Global>,
+    has_text: bool,
+    out: &mut Shown,
+) -> Result<(), AllocError> {
+    if client.message().is_some() == has_text {
+        Ok(())
+    } else {
+        out.word("wrong text")
+    }
+}
+
+/// Each further step is out of turn, makes no code and leaves no text. Else `not over` is shown.
 fn show_end(client: &mut ScramSha256<Global>, out: &mut Shown) -> Result<(), AllocError> {
     let made = client.hmacs();
-    let is_over = client.message().is_none()
-        && matches!(client.update(ONE_ROUND), Err(ScramError::WrongState))
+    let is_over = matches!(client.update(ONE_ROUND), Err(ScramError::WrongState))
+        && client.message().is_none()
         && matches!(client.finish(b"v=AAAA"), Err(ScramError::WrongState))
         && client.hmacs() == made;
-    if is_over { Ok(()) } else { out.word("not over") }
+    if is_over {
+        Ok(())
+    } else {
+        out.word("not over")
+    }
 }
 
 /// `exchange PASSWORD BINDING NONCE FIRST FINAL`: the client's texts, and how it ends.
@@ -100,6 +115,7 @@ fn show_exchange(alloc: Global, words: &mut Words<'_>, out: &mut Shown) -> Resul
     show_outcome(client.update(words.bytes()?), &client, out)?;
     show_message(&client, out)?;
     show_outcome(client.finish(words.bytes()?), &client, out)?;
+    show_text_left(&client, false, out)?;
     show_end(&mut client, out)?;
     Ok(())
 }
@@ -108,11 +124,10 @@ fn show_exchange(alloc: Global, words: &mut Words<'_>, out: &mut Shown) -> Resul
 fn show_update(alloc: Global, words: &mut Words<'_>, out: &mut Shown) -> Result<(), Fault> {
     let mut client = client_of(alloc, b"foobar", ChannelBinding::unsupported(), NONCE)?;
     let outcome = client.update(words.bytes()?);
-    let is_refused = outcome.is_err();
+    let is_answered = outcome.is_ok();
     show_outcome(outcome, &client, out)?;
-    if is_refused {
-        show_end(&mut client, out)?;
-    }
+    show_text_left(&client, is_answered, out)?;
+    show_end(&mut client, out)?;
     Ok(())
 }
 
@@ -130,6 +145,7 @@ fn show_finish(alloc: Global, words: &mut Words<'_>, out: &mut Shown) -> Result<
         return Err(Fault::Row);
     }
     show_outcome(client.finish(words.bytes()?), &client, out)?;
+    show_text_left(&client, false, out)?;
     show_end(&mut client, out)?;
     Ok(())
 }

@@ -76,7 +76,11 @@ fn bare(alloc: Global, word: &str) -> Word<'_> {
 }
 
 /// Appends the words between two quoted texts.
-fn put_bare<'a>(alloc: Global, piece: &'a str, words: &mut Vec<Word<'a>>) -> Result<(), AllocError> {
+fn put_bare<'a>(
+    alloc: Global,
+    piece: &'a str,
+    words: &mut Vec<Word<'a>>,
+) -> Result<(), AllocError> {
     for word in piece.split_ascii_whitespace() {
         words.push(bare(alloc, word))?;
     }
@@ -89,9 +93,7 @@ pub fn words_of(alloc: Global, text: &str) -> Result<Vec<Word<'_>>, Fault> {
     let mut is_quoted = false;
     for piece in text.split('"') {
         if is_quoted {
-            words
-                .push(quoted(alloc, piece)?)
-                .map_err(AllocError::from)?;
+            words.push(quoted(alloc, piece)?).map_err(AllocError::from)?;
         } else {
             put_bare(alloc, piece, &mut words)?;
         }
