@@ -9,7 +9,7 @@ use pgp_types::{ArrayDimension, array_from_sql, array_to_sql};
 use std::alloc::{AllocError, Global};
 
 /// The dimensions of a list, two numbers each.
-fn dimensions(alloc: Global, list: &[Word<'_>]) -> Result<Vec<ArrayDimension>, Fault> {
+fn dimensions(alloc: Global, list: &[Word]) -> Result<Vec<ArrayDimension>, Fault> {
     let mut dimensions = Vec::new(alloc);
     for pair in list.chunks(2) {
         let mut words = Words::new(pair);
@@ -23,7 +23,7 @@ fn dimensions(alloc: Global, list: &[Word<'_>]) -> Result<Vec<ArrayDimension>, F
 }
 
 /// The elements of a list.
-pub fn elements<'w>(alloc: Global, list: &'w [Word<'w>]) -> Result<Vec<Option<&'w [u8]>>, Fault> {
+pub fn elements<'w>(alloc: Global, list: &'w [Word]) -> Result<Vec<Option<&'w [u8]>>, Fault> {
     let mut elements = Vec::new(alloc);
     for word in list {
         elements.push(word.nullable()?).map_err(AllocError::from)?;

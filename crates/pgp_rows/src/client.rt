@@ -18,7 +18,7 @@ use std::str::FromStr;
 /// The numbers of a list.
 fn numbers<N: FromStr<Err = ParseIntError> + Drop>(
     alloc: Global,
-    list: &[Word<'_>],
+    list: &[Word],
 ) -> Result<Vec<N>, Fault> {
     let mut numbers = Vec::new(alloc);
     for word in list.chunks(1) {
@@ -29,7 +29,7 @@ fn numbers<N: FromStr<Err = ParseIntError> + Drop>(
 }
 
 /// The names and values of a list, two words each.
-fn parameters<'w>(alloc: Global, list: &'w [Word<'w>]) -> Result<Vec<(&'w str, &'w str)>, Fault> {
+fn parameters<'w>(alloc: Global, list: &'w [Word]) -> Result<Vec<(&'w str, &'w str)>, Fault> {
     let mut pairs = Vec::new(alloc);
     for pair in list.chunks(2) {
         let mut words = Words::new(pair);

@@ -19,7 +19,7 @@ pub trait Codec {
     ) -> Result<(), Fault>;
 
     /// Whether the call writes behind its bytes, and takes that back: it needs more room than they take.
-    fn spills(_words: &[Word<'_>]) -> bool {
+    fn spills(_words: &[Word]) -> bool {
         false
     }
 
@@ -60,7 +60,7 @@ fn is_written<C: Codec>(
     alloc: Global,
     row: &Row<'_>,
     name: &str,
-    words: &[Word<'_>],
+    words: &[Word],
 ) -> Result<(), Fault> {
     let mut buf = BytesMut::new(alloc);
     buf.extend_from_slice(SYNC)?;
@@ -76,7 +76,7 @@ fn is_written<C: Codec>(
 fn in_room<C: Codec>(
     alloc: Global,
     name: &str,
-    words: &[Word<'_>],
+    words: &[Word],
     size: usize,
     room: &mut [u8],
 ) -> Result<Shown, Fault> {
@@ -92,12 +92,7 @@ fn in_room<C: Codec>(
 }
 
 /// A call whose bytes fit exactly is not refused, and behind them the memory is as it was.
-fn fits<C: Codec>(
-    alloc: Global,
-    name: &str,
-    words: &[Word<'_>],
-    bytes: &[u8],
-) -> Result<(), Fault> {
+fn fits<C: Codec>(alloc: Global, name: &str, words: &[Word], bytes: &[u8]) -> Result<(), Fault> {
     let mut room = vec![in alloc; 0xffu8; bytes.len().saturating_add(8)]?;
     let mut came = in_room::<C>(alloc, name, words, bytes.len(), &mut room)?;
     let mut wanted = Shown::new(alloc);
@@ -112,7 +107,7 @@ fn fits<C: Codec>(
 fn needs_its_room<C: Codec>(
     alloc: Global,
     name: &str,
-    words: &[Word<'_>],
+    words: &[Word],
     bytes: &[u8],
 ) -> Result<(), Fault> {
     let Some(size) = bytes.len().checked_sub(1) else {
@@ -135,12 +130,7 @@ fn is_read<C: Codec>(alloc: Global, name: &str, bytes: &[u8], wanted: &str) -> R
 }
 
 /// The call appends the bytes, wherever it appends them.
-fn writes<C: Codec>(
-    alloc: Global,
-    row: &Row<'_>,
-    name: &str,
-    words: &[Word<'_>],
-) -> Result<(), Fault> {
+fn writes<C: Codec>(alloc: Global, row: &Row<'_>, name: &str, words: &[Word]) -> Result<(), Fault> {
     is_written::<C>(alloc, row, name, words)?;
     if row.is_refusal() || C::spills(words) {
         return Ok(());

@@ -34,10 +34,7 @@ fn text_or_null<'w>(words: &mut Words<'w>) -> Result<Option<&'w str>, Fault> {
 }
 
 /// The keys and values of a list, two words each.
-fn pairs<'w>(
-    alloc: Global,
-    list: &'w [Word<'w>],
-) -> Result<Vec<(&'w str, Option<&'w str>)>, Fault> {
+fn pairs<'w>(alloc: Global, list: &'w [Word]) -> Result<Vec<(&'w str, Option<&'w str>)>, Fault> {
     let mut pairs = Vec::new(alloc);
     for pair in list.chunks(2) {
         let mut words = Words::new(pair);

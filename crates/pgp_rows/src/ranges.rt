@@ -36,6 +36,7 @@ fn side(words: &mut Words<'_>) -> Result<RangeBound<Option<i32>>, Fault> {
     }
 }
 
+#[tactic(auto, using(pgp_base::proofs::Parts::held_steps))]
 fn put_side<B: Buffer>(
     side: RangeBound<Option<i32>>,
     buf: &mut B,
@@ -101,7 +102,7 @@ impl Codec for Ranges {
     }
 
     /// An upper side without a bound takes the place of its length back.
-    fn spills(words: &[Word<'_>]) -> bool {
+    fn spills(words: &[Word]) -> bool {
         words.last().is_some_and(|word| word.is("none"))
     }
 

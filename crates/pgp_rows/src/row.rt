@@ -31,7 +31,7 @@ impl<'a> Row<'a> {
     }
 
     /// The words behind the call.
-    pub fn words(&self, alloc: Global) -> Result<Vec<Word<'a>>, Fault> {
+    pub fn words(&self, alloc: Global) -> Result<Vec<Word>, Fault> {
         words_of(alloc, self.left)
     }
 

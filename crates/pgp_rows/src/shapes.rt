@@ -29,7 +29,7 @@ fn write_box<B: Buffer>(words: &mut Words<'_>, buf: &mut B) -> Result<(), Fault>
 }
 
 /// The points of a list, two words each.
-fn points(alloc: Global, list: &[Word<'_>]) -> Result<Vec<(u64, u64)>, Fault> {
+fn points(alloc: Global, list: &[Word]) -> Result<Vec<(u64, u64)>, Fault> {
     let mut points = Vec::new(alloc);
     for pair in list.chunks(2) {
         let mut words = Words::new(pair);

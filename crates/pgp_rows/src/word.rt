@@ -6,16 +6,16 @@ use std::str::FromStr;
 
 /// A word: as it is written, and the bytes that it stands for, if it is a quoted text or hex digits.
 #[derive(Drop)]
-pub struct Word<'a> {
-    raw: &'a str,
+pub struct Word {
+    raw: String,
     quoted: bool,
     bytes: Option<Vec<u8>>,
 }
 
-impl Word<'_> {
+impl Word {
     /// Whether it is this word, and no quoted text.
     pub fn is(&self, word: &str) -> bool {
-        !self.quoted && self.raw == word
+        !self.quoted && self.raw.as_str() == word
     }
 
     /// The bytes of a quoted text or of hex digits.
@@ -57,38 +57,34 @@ fn unescape(text: &str, out: &mut Vec<u8>) -> Result<(), Fault> {
     Ok(())
 }
 
-fn quoted(alloc: Global, text: &str) -> Result<Word<'_>, Fault> {
+fn quoted(alloc: Global, text: &str) -> Result<Word, Fault> {
     let mut bytes = Vec::new(alloc);
     unescape(text, &mut bytes)?;
     Ok(Word {
-        raw: text,
+        raw: String::from_str(alloc, text)?,
         quoted: true,
         bytes: Some(bytes),
     })
 }
 
-fn bare(alloc: Global, word: &str) -> Word<'_> {
-    Word {
-        raw: word,
+fn bare(alloc: Global, word: &str) -> Result<Word, AllocError> {
+    Ok(Word {
+        raw: String::from_str(alloc, word)?,
         quoted: false,
         bytes: hex::decode(alloc, word).ok(),
-    }
+    })
 }
 
 /// Appends the words between two quoted texts.
-fn put_bare<'a>(
-    alloc: Global,
-    piece: &'a str,
-    words: &mut Vec<Word<'a>>,
-) -> Result<(), AllocError> {
+fn put_bare(alloc: Global, piece: &str, words: &mut Vec<Word>) -> Result<(), AllocError> {
     for word in piece.split_ascii_whitespace() {
-        words.push(bare(alloc, word))?;
+        words.push(bare(alloc, word)?)?;
     }
     Ok(())
 }
 
 /// The words of a text.
-pub fn words_of(alloc: Global, text: &str) -> Result<Vec<Word<'_>>, Fault> {
+pub fn words_of(alloc: Global, text: &str) -> Result<Vec<Word>, Fault> {
     let mut words = Vec::new(alloc);
     let mut is_quoted = false;
     for piece in text.split('"') {
@@ -103,7 +99,7 @@ pub fn words_of(alloc: Global, text: &str) -> Result<Vec<Word<'_>>, Fault> {
 }
 
 /// The bytes of all these words.
-pub fn joined(alloc: Global, words: &[Word<'_>]) -> Result<Vec<u8>, Fault> {
+pub fn joined(alloc: Global, words: &[Word]) -> Result<Vec<u8>, Fault> {
     let mut bytes = Vec::new(alloc);
     for word in words {
         bytes.extend_from_slice(word.bytes()?)?;
@@ -114,16 +110,16 @@ pub fn joined(alloc: Global, words: &[Word<'_>]) -> Result<Vec<u8>, Fault> {
 /// Words that are read from the left.
 #[derive(Drop)]
 pub struct Words<'w> {
-    rest: &'w [Word<'w>],
+    rest: &'w [Word],
 }
 
 impl<'w> Words<'w> {
-    pub fn new(words: &'w [Word<'w>]) -> Words<'w> {
+    pub fn new(words: &'w [Word]) -> Words<'w> {
         Words { rest: words }
     }
 
     /// The next word.
-    pub fn word(&mut self) -> Result<&'w Word<'w>, Fault> {
+    pub fn word(&mut self) -> Result<&'w Word, Fault> {
         let (word, rest) = self.rest.split_first().ok_or(Fault::Row)?;
         self.rest = rest;
         Ok(word)
@@ -160,7 +156,7 @@ impl<'w> Words<'w> {
     }
 
     /// The words of a list, `[ .. ]`.
-    pub fn list(&mut self) -> Result<&'w [Word<'w>], Fault> {
+    pub fn list(&mut self) -> Result<&'w [Word], Fault> {
         self.expect("[")?;
         let at = self
             .rest
@@ -174,7 +170,7 @@ impl<'w> Words<'w> {
     }
 
     /// What is left.
-    pub fn rest(&self) -> &'w [Word<'w>] {
+    pub fn rest(&self) -> &'w [Word] {
         self.rest
     }
 
