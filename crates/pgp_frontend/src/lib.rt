@@ -18,6 +18,4 @@ pub use simple::{query, terminate};
 pub use startup::{cancel_request, ssl_request, startup_message};
 
 #[cfg(test)]
-mod room_tests;
-#[cfg(test)]
 mod tests;

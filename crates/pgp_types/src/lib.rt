@@ -47,5 +47,3 @@ pub use varbit::{Varbit, varbit_from_sql, varbit_to_sql};
 mod array_tests;
 #[cfg(test)]
 mod range_tests;
-#[cfg(test)]
-mod tests;

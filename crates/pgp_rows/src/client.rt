@@ -1,0 +1,160 @@
+//! The messages of a client.
+
+use crate::arrays::elements;
+use crate::codec::Codec;
+use crate::fault::Fault;
+use crate::shown::Shown;
+use crate::word::{Word, Words};
+use pgp_base::{Buffer, Error, IsNull};
+use pgp_frontend::{
+    CopyData, bind, cancel_request, close, copy_done, copy_fail, describe, execute, flush, parse,
+    password_message, query, sasl_initial_response, sasl_response, ssl_request, startup_message,
+    sync, terminate,
+};
+use std::alloc::{AllocError, Global};
+use std::num::ParseIntError;
+use std::str::FromStr;
+
+/// The numbers of a list.
+fn numbers<N: FromStr<Err = ParseIntError> + Drop>(
+    alloc: Global,
+    list: &[Word],
+) -> Result<Vec<N>, Fault> {
+    let mut numbers = Vec::new(alloc);
+    for word in list.chunks(1) {
+        let number = Words::new(word).number::<N>()?;
+        numbers.push(number).map_err(AllocError::from)?;
+    }
+    Ok(numbers)
+}
+
+/// The names and values of a list, two words each.
+fn parameters<'w>(alloc: Global, list: &'w [Word]) -> Result<Vec<(&'w str, &'w str)>, Fault> {
+    let mut pairs = Vec::new(alloc);
+    for pair in list.chunks(2) {
+        let mut words = Words::new(pair);
+        let name = words.text()?;
+        let value = words.text()?;
+        pairs.push((name, value)).map_err(AllocError::from)?;
+    }
+    Ok(pairs)
+}
+
+fn write_startup<B: Buffer>(
+    alloc: Global,
+    words: &mut Words<'_>,
+    buf: &mut B,
+) -> Result<(), Fault> {
+    let parameters = parameters(alloc, words.list()?)?;
+    Ok(startup_message(parameters.iter().copied(), buf)?)
+}
+
+fn write_parse<B: Buffer>(alloc: Global, words: &mut Words<'_>, buf: &mut B) -> Result<(), Fault> {
+    let name = words.text()?;
+    let text = words.text()?;
+    let types = numbers::<u32>(alloc, words.list()?)?;
+    Ok(parse(name, text, types.iter().copied(), buf)?)
+}
+
+fn write_bind<B: Buffer>(alloc: Global, words: &mut Words<'_>, buf: &mut B) -> Result<(), Fault> {
+    let portal = words.text()?;
+    let statement = words.text()?;
+    let formats = numbers::<i16>(alloc, words.list()?)?;
+    let values = elements(alloc, words.list()?)?;
+    let result_formats = numbers::<i16>(alloc, words.list()?)?;
+    bind(
+        portal,
+        statement,
+        formats.iter().copied(),
+        values.as_slice(),
+        |value: &Option<&[u8]>, buf: &mut B| -> Result<IsNull, Error> {
+            match *value {
+                None => Ok(IsNull::Yes),
+                Some(bytes) => {
+                    buf.append(bytes)?;
+                    Ok(IsNull::No)
+                }
+            }
+        },
+        result_formats.iter().copied(),
+        buf,
+    )?;
+    Ok(())
+}
+
+fn write_copy_data<B: Buffer>(words: &mut Words<'_>, buf: &mut B) -> Result<(), Fault> {
+    let piece = CopyData::new(words.bytes()?)?;
+    match piece.write(buf) {
+        Ok(()) => Ok(()),
+        Err(_) => Err(Fault::Refused(Error::OutOfMemory)),
+    }
+}
+
+/// The byte of a one-letter text.
+fn letter(words: &mut Words<'_>) -> Result<u8, Fault> {
+    let [letter] = words.block::<1>()?;
+    Ok(letter)
+}
+
+/// A message of the simple or the extended query.
+fn write_query<B: Buffer>(
+    alloc: Global,
+    name: &str,
+    words: &mut Words<'_>,
+    buf: &mut B,
+) -> Result<(), Fault> {
+    match name {
+        "bind" => write_bind(alloc, words, buf),
+        "close" => Ok(close(letter(words)?, words.text()?, buf)?),
+        "describe" => Ok(describe(letter(words)?, words.text()?, buf)?),
+        "execute" => Ok(execute(words.text()?, words.number()?, buf)?),
+        "parse" => write_parse(alloc, words, buf),
+        "query" => Ok(query(words.text()?, buf)?),
+        _ => Err(Fault::Row),
+    }
+}
+
+/// A message of a log-in.
+fn write_login<B: Buffer>(
+    alloc: Global,
+    name: &str,
+    words: &mut Words<'_>,
+    buf: &mut B,
+) -> Result<(), Fault> {
+    match name {
+        "cancel_request" => Ok(cancel_request(words.number()?, words.number()?, buf)?),
+        "password_message" => Ok(password_message(words.bytes()?, buf)?),
+        "sasl_initial_response" => Ok(sasl_initial_response(words.text()?, words.bytes()?, buf)?),
+        "sasl_response" => Ok(sasl_response(words.bytes()?, buf)?),
+        "startup_message" => write_startup(alloc, words, buf),
+        _ => write_query(alloc, name, words, buf),
+    }
+}
+
+#[derive(Drop)]
+pub struct Client;
+
+impl Codec for Client {
+    fn write<B: Buffer>(
+        alloc: Global,
+        name: &str,
+        words: &mut Words<'_>,
+        buf: &mut B,
+    ) -> Result<(), Fault> {
+        match name {
+            "copy_data" => write_copy_data(words, buf)?,
+            "copy_done" => copy_done(buf)?,
+            "copy_fail" => copy_fail(words.text()?, buf)?,
+            "flush" => flush(buf)?,
+            "ssl_request" => ssl_request(buf)?,
+            "sync" => sync(buf)?,
+            "terminate" => terminate(buf)?,
+            _ => write_login(alloc, name, words, buf)?,
+        }
+        words.end()
+    }
+
+    fn read(_name: &str, _bytes: &[u8], _out: &mut Shown) -> Result<(), Fault> {
+        Err(Fault::Row)
+    }
+}

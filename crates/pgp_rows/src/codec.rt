@@ -1,0 +1,168 @@
+//! Rows of writers and readers: the bytes that a call appends, and what is read from bytes.
+
+use crate::fault::Fault;
+use crate::row::Row;
+use crate::shown::{Shown, same};
+use crate::word::{Word, Words, joined};
+use bytes::BytesMut;
+use pgp_base::{Buffer, Error, Window};
+use std::alloc::Global;
+
+/// The calls of a family.
+pub trait Codec {
+    /// Makes the call of this name with these words, which appends to the buffer.
+    fn write<B: Buffer>(
+        alloc: Global,
+        name: &str,
+        words: &mut Words<'_>,
+        buf: &mut B,
+    ) -> Result<(), Fault>;
+
+    /// Whether the call writes behind its bytes, and takes that back: it needs more room than they take.
+    fn spills(_words: &[Word]) -> bool {
+        false
+    }
+
+    /// Shows what the type of this name reads from all of the bytes.
+    fn read(name: &str, bytes: &[u8], out: &mut Shown) -> Result<(), Fault>;
+}
+
+/// A message that stands in the buffer already.
+const SYNC: &[u8] = b"S\0\0\0\x04";
+
+/// Appends a refusal. Any other fault is handed on.
+fn show_refusal(answer: Result<(), Fault>, out: &mut Shown) -> Result<(), Fault> {
+    match answer {
+        Err(Fault::Refused(e)) => {
+            out.refusal(e)?;
+            Ok(())
+        }
+        other => other,
+    }
+}
+
+/// What is wanted behind what the buffer held: bytes, or a refusal, and then none.
+fn wanted(alloc: Global, row: &Row<'_>) -> Result<(Shown, Vec<u8>), Fault> {
+    let mut bytes = Vec::new(alloc);
+    let mut out = Shown::new(alloc);
+    bytes.extend_from_slice(SYNC)?;
+    if row.is_refusal() {
+        out.word(row.right)?;
+    } else {
+        bytes.extend_from_slice(&row.wanted_bytes(alloc)?)?;
+    }
+    out.bytes(&bytes)?;
+    Ok((out, bytes))
+}
+
+/// The call appends what the row says, or is refused so and leaves what stood there.
+fn is_written<C: Codec>(
+    alloc: Global,
+    row: &Row<'_>,
+    name: &str,
+    words: &[Word],
+) -> Result<(), Fault> {
+    let mut buf = BytesMut::new(alloc);
+    buf.extend_from_slice(SYNC)?;
+    let answer = C::write(alloc, name, &mut Words::new(words), &mut buf);
+    let mut came = Shown::new(alloc);
+    show_refusal(answer, &mut came)?;
+    came.bytes(buf.as_slice())?;
+    let (wanted, _) = wanted(alloc, row)?;
+    same(wanted.as_str(), came)
+}
+
+/// The call's answer in memory that has room for so many bytes, and that memory.
+fn in_room<C: Codec>(
+    alloc: Global,
+    name: &str,
+    words: &[Word],
+    size: usize,
+    room: &mut [u8],
+) -> Result<Shown, Fault> {
+    let mut out = Shown::new(alloc);
+    let Some(front) = room.get_mut(..size) else {
+        return Err(Fault::Row);
+    };
+    let mut window = Window::new(front);
+    let answer = C::write(alloc, name, &mut Words::new(words), &mut window);
+    show_refusal(answer, &mut out)?;
+    out.bytes(window.as_slice())?;
+    Ok(out)
+}
+
+/// A call whose bytes fit exactly is not refused, and behind them the memory is as it was.
+fn fits<C: Codec>(alloc: Global, name: &str, words: &[Word], bytes: &[u8]) -> Result<(), Fault> {
+    let mut room = vec![in alloc; 0xffu8; bytes.len().saturating_add(8)]?;
+    let mut came = in_room::<C>(alloc, name, words, bytes.len(), &mut room)?;
+    let mut wanted = Shown::new(alloc);
+    wanted.bytes(bytes)?;
+    if room.iter().skip(bytes.len()).any(|byte| *byte != 0xff) {
+        came.word("and more")?;
+    }
+    same(wanted.as_str(), came)
+}
+
+/// In memory that is a byte short the call is refused, and behind it the memory is as it was.
+fn needs_its_room<C: Codec>(
+    alloc: Global,
+    name: &str,
+    words: &[Word],
+    bytes: &[u8],
+) -> Result<(), Fault> {
+    let Some(size) = bytes.len().checked_sub(1) else {
+        return Ok(());
+    };
+    let mut room = vec![in alloc; 0xffu8; bytes.len().saturating_add(8)]?;
+    let mut came = in_room::<C>(alloc, name, words, size, &mut room)?;
+    if room.iter().skip(size).any(|byte| *byte != 0xff) {
+        came.word("and more")?;
+    }
+    same("OutOfMemory \"\"", came)
+}
+
+/// What is read from the bytes is as the text.
+fn is_read<C: Codec>(alloc: Global, name: &str, bytes: &[u8], wanted: &str) -> Result<(), Fault> {
+    let mut came = Shown::new(alloc);
+    let answer = C::read(name, bytes, &mut came);
+    show_refusal(answer, &mut came)?;
+    same(wanted, came)
+}
+
+/// The call appends the bytes, wherever it appends them.
+fn writes<C: Codec>(alloc: Global, row: &Row<'_>, name: &str, words: &[Word]) -> Result<(), Fault> {
+    is_written::<C>(alloc, row, name, words)?;
+    if row.is_refusal() || C::spills(words) {
+        return Ok(());
+    }
+    let bytes = row.wanted_bytes(alloc)?;
+    fits::<C>(alloc, name, words, &bytes)?;
+    needs_its_room::<C>(alloc, name, words, &bytes)
+}
+
+/// A row of a writer: the call appends the bytes, or is refused.
+pub fn check_writer<C: Codec>(alloc: Global, row: &Row<'_>) -> Result<(), Fault> {
+    let words = row.words(alloc)?;
+    writes::<C>(alloc, row, row.call, &words)
+}
+
+/// A row of a type: `read` reads the bytes alone, `write` writes a value alone, and a type's name does both.
+pub fn check_value<C: Codec>(alloc: Global, row: &Row<'_>) -> Result<(), Fault> {
+    match row.call {
+        "read" => {
+            let (name, bytes) = row.front();
+            let words = crate::word::words_of(alloc, bytes)?;
+            is_read::<C>(alloc, name, &joined(alloc, &words)?, row.right)
+        }
+        "write" => {
+            let (name, value) = row.front();
+            let words = crate::word::words_of(alloc, value)?;
+            writes::<C>(alloc, row, name, &words)
+        }
+        name => {
+            let words = row.words(alloc)?;
+            writes::<C>(alloc, row, name, &words)?;
+            is_read::<C>(alloc, name, &row.wanted_bytes(alloc)?, row.left)
+        }
+    }
+}

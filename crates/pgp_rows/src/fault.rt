@@ -1,0 +1,44 @@
+//! Why a row is not right.
+
+use pgp_base::{BindError, Error};
+use std::alloc::AllocError;
+use std::num::ParseIntError;
+
+/// Why a row is not right.
+#[derive(Debug, Drop)]
+pub enum Fault {
+    /// The row is not written as README.md says.
+    Row,
+    /// No memory was left for what the program itself keeps.
+    Memory,
+    /// The call was refused.
+    Refused(Error),
+    /// This came, and not what the row says.
+    Differs(String),
+}
+
+impl From<AllocError> for Fault {
+    fn from(_: AllocError) -> Fault {
+        Fault::Memory
+    }
+}
+
+impl From<ParseIntError> for Fault {
+    fn from(_: ParseIntError) -> Fault {
+        Fault::Row
+    }
+}
+
+impl From<Error> for Fault {
+    fn from(refusal: Error) -> Fault {
+        Fault::Refused(refusal)
+    }
+}
+
+impl From<BindError<Error>> for Fault {
+    fn from(refusal: BindError<Error>) -> Fault {
+        match refusal {
+            BindError::Conversion(e) | BindError::Serialization(e) => Fault::Refused(e),
+        }
+    }
+}

@@ -1,0 +1,125 @@
+//! Runs the tables of `data/`: each row is a call, and what it comes to. README.md says how a row is written.
+#![tactic(auto)]
+
+mod addresses;
+mod arrays;
+mod bodies;
+mod client;
+mod codec;
+mod fault;
+mod lists;
+mod names;
+mod numbers;
+mod passwords;
+mod ranges;
+mod row;
+mod scram;
+mod server;
+mod shapes;
+mod shown;
+mod texts;
+mod word;
+
+use codec::{check_value, check_writer};
+use fault::Fault;
+use passwords::{check_escape, check_password};
+use row::Row;
+use scram::check_scram;
+use server::check_server;
+use std::alloc::Global;
+use std::rt::Files;
+use std::{fs, io};
+
+/// What the calls of a file are.
+#[derive(Debug, Clone, Copy)]
+enum Family {
+    Client,
+    Integers,
+    Times,
+    Bits,
+    Texts,
+    Addresses,
+    Shapes,
+    Lists,
+    Arrays,
+    Ranges,
+    Server,
+    Escapes,
+    Passwords,
+    Scram,
+}
+
+const FILES: [(&str, Family); 14] = [
+    ("client.rows", Family::Client),
+    ("integers.rows", Family::Integers),
+    ("times.rows", Family::Times),
+    ("bits.rows", Family::Bits),
+    ("texts.rows", Family::Texts),
+    ("addresses.rows", Family::Addresses),
+    ("shapes.rows", Family::Shapes),
+    ("lists.rows", Family::Lists),
+    ("arrays.rows", Family::Arrays),
+    ("ranges.rows", Family::Ranges),
+    ("server.rows", Family::Server),
+    ("escapes.rows", Family::Escapes),
+    ("passwords.rows", Family::Passwords),
+    ("scram.rows", Family::Scram),
+];
+
+/// Makes the call of a row.
+fn check(alloc: Global, family: Family, row: &Row<'_>) -> Result<(), Fault> {
+    match family {
+        Family::Client => check_writer::<client::Client>(alloc, row),
+        Family::Integers => check_value::<numbers::Integers>(alloc, row),
+        Family::Times => check_value::<numbers::Times>(alloc, row),
+        Family::Bits => check_value::<numbers::Bits>(alloc, row),
+        Family::Texts => check_value::<texts::Texts>(alloc, row),
+        Family::Addresses => check_value::<addresses::Addresses>(alloc, row),
+        Family::Shapes => check_value::<shapes::Shapes>(alloc, row),
+        Family::Lists => check_value::<lists::Lists>(alloc, row),
+        Family::Arrays => check_value::<arrays::Arrays>(alloc, row),
+        Family::Ranges => check_value::<ranges::Ranges>(alloc, row),
+        Family::Server => check_server(alloc, row),
+        Family::Escapes => check_escape(alloc, row),
+        Family::Passwords => check_password(alloc, row),
+        Family::Scram => check_scram(alloc, row),
+    }
+}
+
+fn check_line(alloc: Global, family: Family, line: &str) -> Result<(), Fault> {
+    check(alloc, family, &Row::parse(line)?)
+}
+
+/// Tells of a line that isn't right.
+fn tell(rt: &impl Print, line: &str, fault: &Fault) -> io::Result<()> {
+    println!(rt; "{line}")?;
+    match fault {
+        Fault::Row => println!(rt; "    is no row"),
+        Fault::Memory => println!(rt; "    found no memory"),
+        Fault::Refused(e) => println!(rt; "    was refused: {e}"),
+        Fault::Differs(came) => println!(rt; "    came to: {came}"),
+    }
+}
+
+/// Runs the rows of a file, and tells how many there were.
+fn run_file<R: Files + AllocGlobal + Print>(rt: &R, name: &str, family: Family) -> io::Result<()> {
+    let text = fs::read_to_string(rt, name)?;
+    let mut rows = 0u64;
+    for line in text.lines() {
+        if line.is_empty() || line.starts_with('#') {
+            continue;
+        }
+        rows = rows.saturating_add(1);
+        if let Err(fault) = check_line(rt.alloc(), family, line) {
+            tell(rt, line, &fault)?;
+        }
+    }
+    println!(rt; "{name}: {rows} rows")
+}
+
+fn main(rt: HostRuntime) -> io::Result<()> {
+    for (name, family) in FILES {
+        run_file(&rt, name, family)?;
+    }
+    Ok(())
+}

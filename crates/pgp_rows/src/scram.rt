@@ -1,0 +1,168 @@
+//! Exchanges of SCRAM-SHA-256, as the client sees them.
+
+use crate::fault::Fault;
+use crate::row::Row;
+use crate::shown::{Shown, same};
+use crate::word::Words;
+use pgp_auth::authentication::sasl::{ChannelBinding, NoPrep, ScramError, ScramSha256, is_nonce};
+use std::alloc::{AllocError, Global};
+
+/// The nonce of the exchange that the Rust crate's tests have; its password is `foobar`.
+const NONCE: &str = "9IZ2O01zb9IgiIZ1WJ/zgpJB";
+
+/// A first text of the server for that client, with one round.
+const ONE_ROUND: &[u8] =
+    b"r=9IZ2O01zb9IgiIZ1WJ/zgpJBjx/oIRLs02gGSHcw1KEty3eY,s=fs3IXBy7U7+IvVjZ,i=1";
+
+/// A client with this nonce.
+fn client_of(
+    alloc: Global,
+    password: &[u8],
+    binding: ChannelBinding<Global>,
+    nonce: &str,
+) -> Result<ScramSha256<Global>, Fault> {
+    let nonce = String::from_str(alloc, nonce)?;
+    if !is_nonce(&nonce) {
+        return Err(Fault::Row);
+    }
+    ScramSha256::with_nonce(alloc, password, binding, nonce, &NoPrep).map_err(|_| Fault::Memory)
+}
+
+/// A channel binding: `unsupported`, `unrequested`, or the hash of the server's certificate.
+fn binding_of(alloc: Global, words: &mut Words<'_>) -> Result<ChannelBinding<Global>, Fault> {
+    let word = words.word()?;
+    if word.is("unsupported") {
+        Ok(ChannelBinding::unsupported())
+    } else if word.is("unrequested") {
+        Ok(ChannelBinding::unrequested())
+    } else {
+        let hash = Vec::from_slice(alloc, word.bytes()?)?;
+        Ok(ChannelBinding::tls_server_end_point(hash))
+    }
+}
+
+/// Shows what a refusal says beside its name.
+fn show_detail(refusal: &ScramError, out: &mut Shown) -> Result<(), AllocError> {
+    match refusal {
+        ScramError::UnexpectedCharacter(at) => out.number(*at),
+        ScramError::Trailing(at) => out.number(*at),
+        ScramError::Server(text) => out.text(text.as_str()),
+        _ => Ok(()),
+    }
+}
+
+/// Shows how a step ended, and how many codes were made until then.
+fn show_outcome(
+    outcome: Result<(), ScramError>,
+    client: &ScramSha256<Global>,
+    out: &mut Shown,
+) -> Result<(), AllocError> {
+    match outcome {
+        Ok(()) => out.word("ok")?,
+        Err(refusal) => {
+            let name = format!(in out.alloc(); "{refusal}")?;
+            out.word(name.as_str())?;
+            show_detail(&refusal, out)?;
+            drop(refusal);
+        }
+    }
+    out.number(client.hmacs())
+}
+
+/// Shows the text that the client sends next, or `over`, and how many codes were made until then.
+fn show_message(client: &ScramSha256<Global>, out: &mut Shown) -> Result<(), Fault> {
+    match client.message() {
+        Some(text) => out.text(str::from_utf8(text).map_err(|_| Fault::Row)?)?,
+        None => out.word("over")?,
+    }
+    out.number(client.hmacs())?;
+    Ok(())
+}
+
+/// Whether the client has a text to send is as it has to be. Else `wrong text` is shown.
+fn show_text_left(
+    client: &ScramSha256<Global>,
+    has_text: bool,
+    out: &mut Shown,
+) -> Result<(), AllocError> {
+    if client.message().is_some() == has_text {
+        Ok(())
+    } else {
+        out.word("wrong text")
+    }
+}
+
+/// Each further step is out of turn, makes no code and leaves no text. Else `not over` is shown.
+fn show_end(client: &mut ScramSha256<Global>, out: &mut Shown) -> Result<(), AllocError> {
+    let made = client.hmacs();
+    let is_over = matches!(client.update(ONE_ROUND), Err(ScramError::WrongState))
+        && client.message().is_none()
+        && matches!(client.finish(b"v=AAAA"), Err(ScramError::WrongState))
+        && client.hmacs() == made;
+    if is_over {
+        Ok(())
+    } else {
+        out.word("not over")
+    }
+}
+
+/// `exchange PASSWORD BINDING NONCE FIRST FINAL`: the client's texts, and how it ends.
+fn show_exchange(alloc: Global, words: &mut Words<'_>, out: &mut Shown) -> Result<(), Fault> {
+    let password = words.bytes()?;
+    let binding = binding_of(alloc, words)?;
+    let mut client = client_of(alloc, password, binding, words.text()?)?;
+    show_message(&client, out)?;
+    show_outcome(client.update(words.bytes()?), &client, out)?;
+    show_message(&client, out)?;
+    show_outcome(client.finish(words.bytes()?), &client, out)?;
+    show_text_left(&client, false, out)?;
+    show_end(&mut client, out)?;
+    Ok(())
+}
+
+/// `update FIRST`: the Rust crate's client gets a first text.
+fn show_update(alloc: Global, words: &mut Words<'_>, out: &mut Shown) -> Result<(), Fault> {
+    let mut client = client_of(alloc, b"foobar", ChannelBinding::unsupported(), NONCE)?;
+    let outcome = client.update(words.bytes()?);
+    let is_answered = outcome.is_ok();
+    show_outcome(outcome, &client, out)?;
+    show_text_left(&client, is_answered, out)?;
+    show_end(&mut client, out)?;
+    Ok(())
+}
+
+/// `answer FIRST`: what the Rust crate's client answers to a first text.
+fn show_answer(alloc: Global, words: &mut Words<'_>, out: &mut Shown) -> Result<(), Fault> {
+    let mut client = client_of(alloc, b"foobar", ChannelBinding::unsupported(), NONCE)?;
+    show_outcome(client.update(words.bytes()?), &client, out)?;
+    show_message(&client, out)
+}
+
+/// `finish FINAL`: the Rust crate's client gets a last text behind a first one with one round.
+fn show_finish(alloc: Global, words: &mut Words<'_>, out: &mut Shown) -> Result<(), Fault> {
+    let mut client = client_of(alloc, b"foobar", ChannelBinding::unsupported(), NONCE)?;
+    if client.update(ONE_ROUND).is_err() {
+        return Err(Fault::Row);
+    }
+    show_outcome(client.finish(words.bytes()?), &client, out)?;
+    show_text_left(&client, false, out)?;
+    show_end(&mut client, out)?;
+    Ok(())
+}
+
+/// A row of an exchange.
+pub fn check_scram(alloc: Global, row: &Row<'_>) -> Result<(), Fault> {
+    let list = row.words(alloc)?;
+    let mut words = Words::new(&list);
+    let mut out = Shown::new(alloc);
+    match row.call {
+        "answer" => show_answer(alloc, &mut words, &mut out)?,
+        "exchange" => show_exchange(alloc, &mut words, &mut out)?,
+        "finish" => show_finish(alloc, &mut words, &mut out)?,
+        "nonce" => out.number(is_nonce(words.text()?))?,
+        "update" => show_update(alloc, &mut words, &mut out)?,
+        _ => return Err(Fault::Row),
+    }
+    words.end()?;
+    same(row.right, out)
+}

@@ -1,0 +1,171 @@
+//! What came, as a row says it: words with one space between them.
+
+use crate::fault::Fault;
+use pgp_base::{Error, FallibleIterator};
+use std::alloc::{AllocError, Global};
+use std::fmt::Display;
+
+/// Words that are written one behind the other.
+#[derive(Drop)]
+pub struct Shown {
+    alloc: Global,
+    text: String,
+}
+
+impl Shown {
+    pub fn new(alloc: Global) -> Shown {
+        Shown {
+            alloc,
+            text: String::new(alloc),
+        }
+    }
+
+    pub fn as_str(&self) -> &str {
+        self.text.as_str()
+    }
+
+    pub fn into_text(self) -> String {
+        let Shown { alloc: _, text } = self;
+        text
+    }
+
+    pub fn alloc(&self) -> Global {
+        self.alloc
+    }
+
+    pub fn word(&mut self, word: &str) -> Result<(), AllocError> {
+        if !self.text.is_empty() {
+            self.text.push(' ')?;
+        }
+        self.text.push_str(word)
+    }
+
+    /// A number, or whatever has a text.
+    pub fn number<N: Display + Drop>(&mut self, n: N) -> Result<(), AllocError> {
+        let text = format!(in self.alloc; "{n}")?;
+        self.word(text.as_str())
+    }
+
+    /// Bytes as hex digits, or none as `""`.
+    pub fn bytes(&mut self, bytes: &[u8]) -> Result<(), AllocError> {
+        if bytes.is_empty() {
+            return self.word("\"\"");
+        }
+        let digits = hex::encode(self.alloc, bytes)?;
+        self.word(digits.as_str())
+    }
+
+    /// Bytes, or `null`.
+    pub fn nullable(&mut self, bytes: Option<&[u8]>) -> Result<(), AllocError> {
+        match bytes {
+            Some(bytes) => self.bytes(bytes),
+            None => self.word("null"),
+        }
+    }
+
+    /// A text in quotes: what isn't plain ASCII, a quote or a backslash is `\x` and two digits.
+    pub fn text(&mut self, text: &str) -> Result<(), AllocError> {
+        self.word("\"")?;
+        for byte in text.bytes() {
+            if (0x20..0x7f).contains(&byte) && byte != b'"' && byte != b'\\' {
+                self.text.push(char::from(byte))?;
+            } else {
+                let escape = format!(in self.alloc; "\\x{byte:02x}")?;
+                self.text.push_str(escape.as_str())?;
+            }
+        }
+        self.text.push('"')
+    }
+
+    /// The name of a refusal, with the tag or the code that it carries.
+    pub fn refusal(&mut self, refusal: Error) -> Result<(), AllocError> {
+        self.number(refusal)?;
+        match refusal {
+            Error::UnknownTag(tag) => self.number(tag),
+            Error::UnknownAuthentication(code) => self.number(code),
+            _ => Ok(()),
+        }
+    }
+
+    /// A text that may have been refused.
+    pub fn text_or_refusal(&mut self, text: Result<&str, Error>) -> Result<(), AllocError> {
+        match text {
+            Ok(text) => self.text(text),
+            Err(e) => self.refusal(e),
+        }
+    }
+}
+
+/// Has to be what came.
+pub fn same(wanted: &str, came: Shown) -> Result<(), Fault> {
+    if came.as_str() == wanted {
+        Ok(())
+    } else {
+        Err(Fault::Differs(came.into_text()))
+    }
+}
+
+/// A list longer than any row's.
+const MOST: usize = 1000;
+
+/// Shows the items and the refusal that ends them, and tells how many items came.
+fn show_items<W: FallibleIterator, F: Fn(W::Item, &mut Shown) -> Result<(), AllocError>>(
+    walk: &mut W,
+    show: &F,
+    out: &mut Shown,
+) -> Result<usize, Fault>
+    requires { F.IsAlwaysCallable show.now }
+{
+    for came in 0..MOST {
+        match walk.next() {
+            Ok(Some(item)) => show(item, out)?,
+            Ok(None) => return Ok(came),
+            Err(e) => {
+                out.refusal(e)?;
+                return Ok(came);
+            }
+        }
+    }
+    Err(Fault::Row)
+}
+
+/// What a walk answers, if it gives no item.
+fn end_of<W: FallibleIterator>(walk: &mut W) -> Result<Result<(), Error>, Fault>
+where
+    W::Item: Drop,
+{
+    match walk.next() {
+        Ok(Some(_)) => Err(Fault::Row),
+        Ok(None) => Ok(Ok(())),
+        Err(e) => Ok(Err(e)),
+    }
+}
+
+/// Shows a walk as a list, `[ .. ]`; behind it `of` and how many were announced, where that isn't how many came; and
+/// `unsteady` where the end isn't answered again.
+pub fn show_walk<
+    W: FallibleIterator + Drop,
+    F: Fn(W::Item, &mut Shown) -> Result<(), AllocError> + Drop,
+>(mut walk: W, show: F, out: &mut Shown) -> Result<(), Fault>
+where
+    W::Item: Drop,
+    requires { F.IsAlwaysCallable show }
+{
+    let announced = walk.size_hint();
+    out.word("[")?;
+    let came = show_items(&mut walk, &show, out)?;
+    out.word("]")?;
+    match announced {
+        (least, Some(most)) if least == came && most == came => {}
+        (0, None) => out.word("of any")?,
+        (least, _) => {
+            out.word("of")?;
+            out.number(least)?;
+        }
+    }
+    let end = end_of(&mut walk)?;
+    if end_of(&mut walk)? != end || walk.size_hint().0 != 0 {
+        out.word("unsteady")?;
+    }
+    Ok(())
+}
