@@ -1,5 +1,7 @@
+mod ample;
 mod played;
 mod published;
+mod worked;
 
 use crate::authentication::sasl::{
     ChannelBinding, NoPrep, SCRAM_SHA_256, SCRAM_SHA_256_PLUS, ScramError, ScramSha256, hi,
