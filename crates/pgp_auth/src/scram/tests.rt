@@ -1,7 +1,9 @@
 //! Exchanges that no row of `pgp_rows` says: steps out of turn, the most rounds, and a server that is played.
 
+mod ample;
 mod played;
 mod published;
+mod worked;
 
 use crate::authentication::sasl::{
     ChannelBinding, NoPrep, SCRAM_SHA_256, SCRAM_SHA_256_PLUS, ScramError, ScramSha256, is_nonce,
