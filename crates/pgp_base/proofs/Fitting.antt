@@ -1,10 +1,10 @@
 -- What a writer comes to in a window, by the room that is left there.
-use Rattle.std.proofs.Common.{◌≡◌, ◌⊎◌, ℕ, ◌+◌, ◌≤◌, List, length, take, Some, None, Result, Ok, Err, refl, sym, ap, ◌∙◌, arith, inl, inr, length-append, min}
+use Rattle.std.proofs.Common.{◌≡◌, ◌⊎◌, ℕ, ◌+◌, ◌≤◌, List, length, take, Some, None, Result, Ok, Err, refl, sym, ap, ◌∙◌, arith, inl, inr, length-append}
 use Rattle.std.specs.Prelude.{IfErr}
 use Rattle.std.specs.Result.{IsOk}
 use Rattle.std.specs.Borrow.{GName}
 use Rattle.std.proofs.lemmas.List.{length-take}
-use Rattle.pgp_base.specs.Cause.{Cause, Wants, Writes}
+use Rattle.pgp_base.specs.Cause.{Cause, Writes}
 use Rattle.pgp_base.specs.Held.{Held, ◌⊕◌, lengthened}
 use Rattle.pgp_base.specs.Window.{window_held, window_lacks}
 use Rattle.pgp_base.specs.declared.window.Window.{Window}

@@ -1,5 +1,5 @@
 -- What a writer comes to in a window, by the room that is left there.
-use Rattle.std.proofs.Common.{◌≡◌, ◌⊎◌, ℕ, ◌+◌, ◌≤◌, length, Some, None, Result, Ok, Err, refl, sym, ap, ◌∙◌, arith, inl, inr}
+use Rattle.std.proofs.Common.{◌≡◌, ◌⊎◌, ℕ, ◌+◌, ◌≤◌, length, Some, None, Result, Ok, Err, refl, sym, ◌∙◌, arith, inl, inr}
 use Rattle.std.specs.Prelude.{IfErr}
 use Rattle.std.specs.Result.{IsOk}
 use Rattle.std.specs.Borrow.{GName}

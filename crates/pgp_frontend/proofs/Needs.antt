@@ -1,14 +1,10 @@
 -- How many bytes messages take, and growths that were refused on the way.
-use Rattle.std.proofs.Common.{◌≡◌, ◌⊎◌, ℕ, ℤ, ◌+◌, ◌≤◌, List, [], ◌∷◌, ◌++◌, length, Option, Some, None, Result, Ok, Err, ap, ◌∙◌, arith, inl, inr, length-append, true, false}
-use Rattle.std.specs.Prelude.{IfErr, pos}
-use Rattle.std.specs.List.{flat_map}
-use Rattle.std.specs.Result.{IsErr, IsErrAnd}
-use Rattle.std.proofs.lemmas.List.Concat.{flat_map-append}
+use Rattle.std.proofs.Common.{◌≡◌, ◌⊎◌, ℕ, ℤ, ◌+◌, ◌≤◌, List, [], ◌∷◌, ◌++◌, length, Option, Some, None, ap, ◌∙◌, arith, length-append, true, false}
+use Rattle.std.specs.Prelude.{pos}
 use Rattle.std.proofs.lemmas.List.{append-nil}
-use Rattle.pgp_base.specs.Wire.{uint16, uint32, int16, int32, oid, nullable, counted}
-use Rattle.pgp_base.specs.Cause.{Cause, Wants, WantsMemory, Writes}
-use Rattle.pgp_base.specs.Held.{Held, ◌⊕◌, Leaves}
-use Rattle.pgp_base.specs.declared.error.Error.{Error}
+use Rattle.pgp_base.specs.Wire.{uint32, int16, int32, oid, nullable, counted}
+use Rattle.pgp_base.specs.Cause.{Wants}
+use Rattle.pgp_base.specs.Held.{Held, ◌⊕◌}
 use Rattle.pgp_base.proofs.Needs.{flat_more}
 use Rattle.pgp_base.proofs.Parts.{length-uint16, length-uint32, int16_spelled, int32_spelled, wants_then, more_twice}
 use Rattle.pgp_frontend.specs.ClientMessage.{Bind, Parse, Startup}

@@ -1,14 +1,10 @@
 -- A value in two parts, of which the second was refused and the first cut off.
-use Rattle.std.proofs.Common.{◌≡◌, ℕ, ◌+◌, ◌≤◌, List, Bool, true, false, ◌∙◌, sym, length, take, Result, Ok, Err, OnErr, None, Some, subst, refl, ◌++◌, [], ◌∷◌, ap, arith, length-append, inl, inr, ◌⊎◌}
-use Rattle.std.specs.List.{flat_map}
-use Rattle.std.proofs.lemmas.List.Concat.{flat_map-append}
-use Rattle.std.proofs.lemmas.List.{append-nil}
+use Rattle.std.proofs.Common.{◌≡◌, ℕ, ◌+◌, ◌≤◌, List, Bool, true, false, ◌∙◌, sym, length, take, Result, Ok, Err, OnErr, None, Some, subst, refl, ◌++◌, [], ◌∷◌, arith, inl, inr, ◌⊎◌}
 use Rattle.std.specs.Result.{is_err, IsErr, IsErrAnd}
 use Rattle.pgp_base.specs.Held.{Held, ◌⊕◌, overwritten, IsFrontOf}
-use Rattle.pgp_base.proofs.Parts.{int32_spelled, front_then, front_twice, front_trans, front_left, cut_back, filled4, more_twice, length-uint32, wants_more, wants_then}
-use Rattle.pgp_base.specs.Wire.{uint32, nullable}
-use Rattle.std.specs.Prelude.{Option, IfErr, negsuc}
-use Rattle.std.specs.Int.{w32, cast_unsigned}
+use Rattle.pgp_base.proofs.Parts.{front_then, front_twice, front_trans, front_left, cut_back, filled4, more_twice, wants_more, wants_then}
+use Rattle.pgp_base.specs.Wire.{uint32}
+use Rattle.std.specs.Prelude.{IfErr}
 use Rattle.pgp_base.specs.declared.error.Error.{Error}
 use Rattle.pgp_base.specs.Cause.{Cause, Wants, WantsMemory, Writes}
 

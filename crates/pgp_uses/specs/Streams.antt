@@ -1,5 +1,5 @@
 -- What a stream's frames come to, in the words of its grammar.
-use Rattle.std.specs.Prelude.{◌≡◌, ℕ, Bool, true, false, List, ◌++◌, length, Option, Some, None, Result, Ok, Err}
+use Rattle.std.specs.Prelude.{◌≡◌, ℕ, Bool, true, false, List, ◌++◌, length, Option, Some, None, Result, Ok}
 use Rattle.pgp_base.specs.declared.error.Error.{Error}
 use Rattle.pgp_message.specs.BackendMessage.{Message, DataRow}
 use Rattle.pgp_message.specs.Parts.{CountedBytes}

@@ -1,5 +1,5 @@
 //! A server for tests: it answers with frames that it makes.
-#![tactic(auto, using(pgp_base::proofs::Parts::held_steps))]
+#![tactic(auto, using(pgp_base::proofs::Parts::held_steps, pgp_base::proofs::Parts::wants_now))]
 
 ghost use Rattle.std.specs.Prelude.{◌≡◌, ◌⊎◌, ◌+◌, length, Some, IfErr, OnOk, OnErr};
 ghost use Rattle.pgp_base.specs.Cause.{Wants, WantsMemory, length_cause};

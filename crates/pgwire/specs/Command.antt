@@ -4,6 +4,7 @@ use Rattle.std.specs.Io.KnownBytes.{Keeps, Appends, IsAtEnd}
 use Rattle.hex.specs.Hex.{decode_sized}
 use Rattle.pgp_auth.specs.Lexer.{Literal, Identifier, IsPlain, backslash}
 use Rattle.pgp_auth.specs.Verifier.{verifier, verifier_text}
+use Rattle.pgp_base.specs.Held.{Held}
 use Rattle.pgwire.specs.declared.fault.Fault.{Fault}
 use Rattle.pgwire.specs.declared.fault.Fault.TheVariants.{Memory, Read, Write}
 use Rattle.pgwire.specs.Output.{line, Writes, BackendOutput}
@@ -36,12 +37,17 @@ complaint_of Memory = line (codes "pgwire: out of memory")
 complaint_of Read = line (codes "pgwire: read failed")
 complaint_of Write = line (codes "pgwire: write failed")
 
--- What stands behind a fault, where reads and writes fail so: a command answers a fault of reading or writing
--- only where a call of its reader or of its writer failed.
-abbrev pub Caused : Type 0 → Type 0 → Fault → Type 0
-Caused read_failed write_failed Memory = ⊤
-Caused read_failed write_failed Read = read_failed
-Caused read_failed write_failed Write = write_failed
+-- What stands behind a fault, where memory is refused and reads and writes fail so: a command answers a fault of reading or writing
+-- only where a call of its reader or of its writer failed, and one of memory only where a growth was refused, or its reader failed for
+-- want of memory.
+abbrev pub Caused : Type 0 → Type 0 → Type 0 → Fault → Type 0
+Caused lacks read_failed write_failed Memory = lacks ⊎ read_failed
+Caused lacks read_failed write_failed Read = read_failed
+Caused lacks read_failed write_failed Write = write_failed
+
+-- the fault of memory, where a growth of a list or of the buffer was refused
+abbrev pub LacksFor : {Kept : Type 0} → Type 0 → (Held Kept → ℕ → Type 0) → Fault → Type 0
+LacksFor lacks grows fault = (fault ≡ Memory) × (lacks ⊎ ((here : Held _) × (n : ℕ) × grows here n))
 
 -- Before and after: what the reader has left, what the writer holds.
 pub record Streams : Type 0 where
@@ -134,12 +140,12 @@ pub record IsUnread (text : List ℕ) (code : ℕ) (before after : Streams) (sta
 abbrev pub IsSaid : Type 0 → Option (List ℕ) → Option (List ℕ) → List ℕ → Type 0
 IsSaid failed old new text = Appends old new text ⊎ (failed × AppendsFront old new text)
 
--- Where reads and writes fail so.
-module _ (read_failed write_failed : Type 0) where
+-- Where memory is refused and reads and writes fail so.
+module _ (lacks read_failed write_failed : Type 0) where
   -- A command stopped at a fault: nothing was written, unless writing failed.
   pub record Stops (command : Command) (before after : Streams) (fault : Fault) : Type 0 where
     pub met : Meets command fault
-    pub cause : Caused read_failed write_failed fault
+    pub cause : Caused lacks read_failed write_failed fault
     pub input : MayRead command before after
     pub output : fault ≢ Write → Keeps before.output after.output
     pub cut : fault ≡ Write → IsCut command before after

@@ -1,21 +1,20 @@
 //! The listing of a server's messages.
 
-ghost use Rattle.std.specs.Prelude.{◌≡◌, ◌≢◌, ◌<◌, ◌++◌, length, false, IfOk, IfErr, OnOk, IfSome, map, string_bytes};
+ghost use Rattle.std.specs.Prelude.{◌≡◌, ◌≢◌, ◌<◌, ◌++◌, length, false, IfOk, IfErr, OnOk, IfSome, map, string_bytes, codes, decimal};
 ghost use Rattle.std.specs.Io.KnownBytes.{IsAtEnd, Keeps};
 ghost use Rattle.std.specs.List.{flat_map};
 ghost use Rattle.pgp_message.specs.Views.{seen, view};
-ghost use Rattle.pgwire.specs.Output.{name_of, line_of, last_line, BackendOutput, ListsPiece, Writes};
+ghost use Rattle.pgwire.specs.Output.{line, name_of, line_of, last_line, BackendOutput, ListsPiece, Writes};
 ghost use Rattle.pgwire.specs.Command.{Backend, Caused, IsCut};
 
 use crate::fault::Fault;
 use crate::ports::{Input, Output};
 use crate::print::put;
 use crate::rest::read_rest;
+use pgp_base::Memory;
 use postgres_protocol::Error;
 use postgres_protocol::message::backend::{Message, Storage};
 use postgres_protocol::session::StreamParser;
-use std::alloc::Allocator;
-use std::fmt::Write as _;
 use std::io::ErrorKind;
 
 /// How many bytes are read at a time.
@@ -28,7 +27,7 @@ const PIECE: usize = 65536;
 ///
 /// `Memory` where memory is refused and `Read` where reading fails, both before anything is written; `Write`
 /// where writing or the flush fails, behind a front of the listing.
-pub fn backend<A: Allocator + Copy, R: Input, W: Output>(
+pub fn backend<A: Memory, R: Input, W: Output>(
     alloc: A,
     input: &mut R,
     output: &mut W,
@@ -41,7 +40,7 @@ pub fn backend<A: Allocator + Copy, R: Input, W: Output>(
     ensures cut { IfErr result (λ fault. fault ≡ Fault.Write → IsCut Backend
         (record { input = R.remaining input.old; output = W.contents output.old })
         (record { input = R.remaining input.new; output = W.contents output.new })) }
-    ensures cause { IfErr result (Caused R.Fails W.Fails) }
+    ensures cause { IfErr result (Caused A.Lacks R.Fails W.Fails) }
 {
     let text = listing(alloc, input)?;
     put(text.as_bytes(), output)?;
@@ -49,18 +48,18 @@ pub fn backend<A: Allocator + Copy, R: Input, W: Output>(
 }
 
 /// Reads all bytes, and answers the lines for them.
-fn listing<A: Allocator + Copy, R: Input>(alloc: A, input: &mut R) -> Result<String<A>, Fault>
+fn listing<A: Memory, R: Input>(alloc: A, input: &mut R) -> Result<String<A>, Fault>
     ensures read { OnOk result (IsAtEnd (R.remaining input.new)) }
     ensures lines { IfOk result (λ text. IfSome (R.remaining input.old) (λ bytes. BackendOutput bytes (string_bytes text) 0)) }
-    ensures cause { IfErr result (Caused R.Fails ⊥) }
+    ensures cause { IfErr result (Caused A.Lacks R.Fails ⊥) }
 {
-    let mut piece = vec![in alloc; 0u8; PIECE]?;
+    let mut piece = A::list_filled(alloc, 0, PIECE)?;
     lines_of(alloc, input, piece.as_mut_slice())
 }
 
 /// Reads all bytes, a piece at a time, and answers the lines for them. What is left behind so many pieces that
 /// they can't be counted is read at once.
-fn lines_of<A: Allocator + Copy, R: Input>(
+fn lines_of<A: Memory, R: Input>(
     alloc: A,
     input: &mut R,
     piece: &mut [u8],
@@ -68,7 +67,7 @@ fn lines_of<A: Allocator + Copy, R: Input>(
     requires { 0 < length piece.old }
     ensures read { OnOk result (IsAtEnd (R.remaining input.new)) }
     ensures lines { IfOk result (λ text. IfSome (R.remaining input.old) (λ bytes. BackendOutput bytes (string_bytes text) 0)) }
-    ensures cause { IfErr result (Caused R.Fails ⊥) }
+    ensures cause { IfErr result (Caused A.Lacks R.Fails ⊥) }
 {
     let mut parser = StreamParser::new(alloc);
     let mut text = String::new(alloc);
@@ -93,16 +92,16 @@ fn lines_of<A: Allocator + Copy, R: Input>(
 }
 
 /// Feeds a piece to the parser, and takes its results and adds their lines.
-fn list_piece<A: Allocator + Copy>(
+fn list_piece<A: Memory>(
     piece: &[u8],
     parser: &mut StreamParser<A>,
     text: &mut String<A>,
 ) -> Result<(), Fault>
     requires { parser.old.failed ≡ false }
     ensures lines { OnOk result (ListsPiece piece.now parser.old parser.new (string_bytes text.old) (string_bytes text.new)) }
-    ensures fault { IfErr result (λ e. e ≡ Fault.Memory) }
+    ensures fault { IfErr result (λ e. (e ≡ Fault.Memory) × A.Lacks) }
 {
-    if parser.feed(piece).is_err() {
+    if let Err(_) = parser.feed(piece) {
         return Err(Fault::Memory);
     }
     list(parser.results(), text)?;
@@ -111,41 +110,50 @@ fn list_piece<A: Allocator + Copy>(
 }
 
 /// Adds a line for each result.
-fn list<S: Storage, A: Allocator + Copy>(
+fn list<S: Storage, A: Memory>(
     results: &[Result<Message<S>, Error>],
     text: &mut String<A>,
 ) -> Result<(), Fault>
     ensures lines { OnOk result (string_bytes text.new ≡ string_bytes text.old ++ flat_map line_of (map seen results.now)) }
-    ensures fault { IfErr result (λ e. e ≡ Fault.Memory) }
+    ensures fault { IfErr result (λ e. (e ≡ Fault.Memory) × A.Lacks) }
 {
     for read in results {
         match read {
-            Ok(message) => {
-                let name = name_of(message);
-                writeln!(text, "{name}")?;
-            }
-            Err(e) => {
-                let n = e.number();
-                writeln!(text, "fault {n}")?;
-            }
+            Ok(message) => put_line(name_of(message), text)?,
+            Err(e) => put_fault(e.number(), text)?,
         }
     }
     Ok(())
 }
 
+/// Adds a line with this word.
+fn put_line<A: Memory>(word: &str, text: &mut String<A>) -> Result<(), Fault>
+    ensures line { OnOk result (string_bytes text.new ≡ string_bytes text.old ++ line word.now) }
+    ensures fault { IfErr result (λ e. (e ≡ Fault.Memory) × A.Lacks) }
+{
+    A::push_str(text, word)?;
+    A::push_char(text, '\n')?;
+    Ok(())
+}
+
+/// Adds the line of a refusal with this number.
+fn put_fault<A: Memory>(n: u8, text: &mut String<A>) -> Result<(), Fault>
+    ensures line { OnOk result (string_bytes text.new ≡ string_bytes text.old ++ line (codes "fault " ++ decimal n)) }
+    ensures fault { IfErr result (λ e. (e ≡ Fault.Memory) × A.Lacks) }
+{
+    A::push_shown(text, format_args!("fault {n}\n"))?;
+    Ok(())
+}
+
 /// Adds the last line, of so many bytes that are left.
-fn list_rest<A: Allocator + Copy>(
-    stopped: bool,
-    n: usize,
-    text: &mut String<A>,
-) -> Result<(), Fault>
+fn list_rest<A: Memory>(stopped: bool, n: usize, text: &mut String<A>) -> Result<(), Fault>
     ensures line { OnOk result (string_bytes text.new ≡ string_bytes text.old ++ last_line stopped n) }
-    ensures fault { IfErr result (λ e. e ≡ Fault.Memory) }
+    ensures fault { IfErr result (λ e. (e ≡ Fault.Memory) × A.Lacks) }
 {
     if stopped {
-        writeln!(text, "stopped rest {n}")?;
+        A::push_shown(text, format_args!("stopped rest {n}\n"))?;
     } else {
-        writeln!(text, "rest {n}")?;
+        A::push_shown(text, format_args!("rest {n}\n"))?;
     }
     Ok(())
 }

@@ -6,7 +6,7 @@ ghost use Rattle.std.specs.List.{slice_split};
 ghost use Rattle.pgp_frontend.specs.Reading.{IsNamed};
 ghost use Rattle.postgres_protocol.specs.ClientStream.{AddsMessage};
 ghost use Rattle.pgwire.specs.ClientOutput.{ClientOutput, WritesAnswer, told};
-ghost use Rattle.pgwire.specs.Command.{Caused, Client, IsCut};
+ghost use Rattle.pgwire.specs.Command.{Caused, Client, IsCut, LacksFor};
 ghost use Rattle.pgwire.specs.Output.{line};
 ghost use Rattle.pgwire.specs.Request.{asked};
 ghost use Rattle.pgwire.specs.Script.{is_newline};
@@ -19,11 +19,10 @@ use crate::rest::read_rest;
 use crate::script::{Request, request_of};
 use bytes::BytesMut;
 use memchr::memchr;
-use pgp_base::Buffer;
+use pgp_base::{Buffer, Memory};
 use postgres_protocol::Error;
 use postgres_protocol::session::ClientStream;
 use std::alloc::Allocator;
-use std::fmt::Write as _;
 
 /// Why a line was refused.
 #[derive(Debug, Clone, Copy, PartialEq, Eq)]
@@ -48,7 +47,7 @@ struct Answer<A: Allocator> {
 ///
 /// `Memory` where memory is refused and `Read` where reading fails, both before anything is written; `Write`
 /// where writing or the flush fails, behind a front of what was to be written.
-pub fn client<A: Allocator + Copy, R: Input, W: Output>(
+pub fn client<A: Memory, R: Input, W: Output>(
     alloc: A,
     input: &mut R,
     output: &mut W,
@@ -60,7 +59,7 @@ pub fn client<A: Allocator + Copy, R: Input, W: Output>(
     ensures cut { IfErr result (λ fault. fault ≡ Fault.Write → IsCut Client
         (record { input = R.remaining input.old; output = W.contents output.old })
         (record { input = R.remaining input.new; output = W.contents output.new })) }
-    ensures cause { IfErr result (Caused R.Fails W.Fails) }
+    ensures cause { IfErr result (Caused A.Lacks R.Fails W.Fails) }
 {
     let script = read_rest(alloc, input)?;
     let answer = answer_to(alloc, script.as_slice())?;
@@ -69,15 +68,15 @@ pub fn client<A: Allocator + Copy, R: Input, W: Output>(
 }
 
 /// What is written for a script, and the status.
-fn answer_to<A: Allocator + Copy>(alloc: A, script: &[u8]) -> Result<Answer<A>, Fault>
+fn answer_to<A: Memory>(alloc: A, script: &[u8]) -> Result<Answer<A>, Fault>
     ensures lines { IfOk result (λ answer. ClientOutput script.now (string_bytes answer.text) answer.status) }
-    ensures fault { IfErr result (λ e. e ≡ Fault.Memory) }
+    ensures fault { IfErr result (λ e. (e ≡ Fault.Memory) × A.Lacks) }
 {
     let mut stream = ClientStream::<BytesMut<A>>::new(alloc);
     match send_lines(alloc, script, &mut stream)? {
         None => {
-            let mut text = hex::encode(alloc, stream.bytes())?;
-            text.push('\n')?;
+            let mut text = A::hex_of(alloc, stream.bytes())?;
+            A::push_char(&mut text, '\n')?;
             Ok(Answer { text, status: 0 })
         }
         Some((number, fault)) => {
@@ -88,37 +87,33 @@ fn answer_to<A: Allocator + Copy>(alloc: A, script: &[u8]) -> Result<Answer<A>, 
 }
 
 /// The line that tells of a refused line.
-fn refusal<A: Allocator + Copy>(
-    alloc: A,
-    number: usize,
-    fault: LineFault,
-) -> Result<String<A>, Fault>
+fn refusal<A: Memory>(alloc: A, number: usize, fault: LineFault) -> Result<String<A>, Fault>
     ensures line { IfOk result (λ text. string_bytes text ≡ line (codes "line " ++ decimal number ++ codes ": " ++ told fault)) }
-    ensures fault { IfErr result (λ e. e ≡ Fault.Memory) }
+    ensures fault { IfErr result (λ e. (e ≡ Fault.Memory) × A.Lacks) }
 {
     let mut text = String::new(alloc);
-    write!(text, "line {number}: ")?;
+    A::push_shown(&mut text, format_args!("line {number}: "))?;
     match fault {
-        LineFault::NotUtf8 => writeln!(text, "not UTF-8")?,
-        LineFault::WrongWords => writeln!(text, "wrong words")?,
-        LineFault::WrongPhase => writeln!(text, "wrong phase")?,
+        LineFault::NotUtf8 => A::push_str(&mut text, "not UTF-8\n")?,
+        LineFault::WrongWords => A::push_str(&mut text, "wrong words\n")?,
+        LineFault::WrongPhase => A::push_str(&mut text, "wrong phase\n")?,
         LineFault::Refused(e) => {
             let n = e.number();
-            writeln!(text, "fault {n}")?;
+            A::push_shown(&mut text, format_args!("fault {n}\n"))?;
         }
     }
     Ok(text)
 }
 
 /// Sends what each line asks for, up to the first line that is refused, which it answers with its number.
-fn send_lines<A: Allocator + Copy, B: Buffer>(
+fn send_lines<A: Memory, B: Buffer>(
     alloc: A,
     script: &[u8],
     stream: &mut ClientStream<B>,
 ) -> Result<Option<(usize, LineFault)>, Fault>
     requires { HasSent [] (B.held stream.old.buf).bytes stream.old.opened }
     ensures lines { IfOk result (SendsLines (slice_split is_newline script.now) (B.held stream.new.buf).bytes stream.new.opened) }
-    ensures fault { IfErr result (λ e. e ≡ Fault.Memory) }
+    ensures fault { IfErr result (LacksFor A.Lacks B.Lacks) }
 {
     let mut rest = Some(script);
     let mut number = 0usize;
@@ -145,13 +140,13 @@ fn cut_line(bytes: &[u8]) -> (&[u8], Option<&[u8]>)
 }
 
 /// Sends what a line asks for, or answers why it is refused.
-fn send_line<A: Allocator + Copy, B: Buffer>(
+fn send_line<A: Memory, B: Buffer>(
     alloc: A,
     line: &[u8],
     stream: &mut ClientStream<B>,
 ) -> Result<Option<LineFault>, Fault>
     ensures line { IfOk result (SendsLine B.held line.now stream.old stream.new) }
-    ensures fault { IfErr result (λ e. e ≡ Fault.Memory) }
+    ensures fault { IfErr result (LacksFor A.Lacks B.Lacks) }
 {
     if line.is_empty() {
         return Ok(None);

@@ -8,7 +8,7 @@ ghost use Rattle.pgwire.specs.Taken.{AppendsFront};
 
 use crate::fault::Fault;
 use crate::ports::Output;
-use std::alloc::Allocator;
+use pgp_base::Memory;
 use std::io::ErrorKind;
 
 /// Writes the bytes and flushes the writer. Where either fails, a front of the bytes was taken.
@@ -65,14 +65,14 @@ fn write_some<W: Output>(bytes: &[u8], output: &mut W) -> Result<usize, Fault>
 }
 
 /// Writes the text and a newline.
-pub fn print<A: Allocator, W: Output>(mut text: String<A>, output: &mut W) -> Result<u8, Fault>
+pub fn print<A: Memory, W: Output>(mut text: String<A>, output: &mut W) -> Result<u8, Fault>
     ensures written { OnOk result (Appends (W.contents output.old) (W.contents output.new) (line (string_bytes text))) }
     ensures status { IfOk result (λ status. status ≡ 0) }
     ensures quiet { IfErr result (λ fault. fault ≢ Fault.Write → Keeps (W.contents output.old) (W.contents output.new)) }
     ensures front { OnErr result (AppendsFront (W.contents output.old) (W.contents output.new) (line (string_bytes text))) }
-    ensures cause { IfErr result (Caused ⊥ W.Fails) }
+    ensures cause { IfErr result (Caused A.Lacks ⊥ W.Fails) }
 {
-    text.push('\n')?;
+    A::push_char(&mut text, '\n')?;
     put(text.as_bytes(), output)?;
     Ok(0)
 }

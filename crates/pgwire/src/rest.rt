@@ -6,7 +6,7 @@ ghost use Rattle.pgwire.specs.Command.{Caused};
 
 use crate::fault::Fault;
 use crate::ports::Input;
-use std::alloc::Allocator;
+use pgp_base::Memory;
 use std::io::ErrorKind;
 
 /// Reads all that is left.
@@ -14,11 +14,11 @@ use std::io::ErrorKind;
 /// # Errors
 ///
 /// `Memory` where memory is refused, and `Read` where reading fails.
-pub fn read_rest<A: Allocator, R: Input>(alloc: A, input: &mut R) -> Result<Vec<u8, A>, Fault>
+pub fn read_rest<A: Memory, R: Input>(alloc: A, input: &mut R) -> Result<Vec<u8, A>, Fault>
     ensures rest { IfOk result (λ bytes. IfSome (R.remaining input.old) (λ rest. bytes.items ≡ rest)) }
     ensures consumes { IfOk result (λ bytes. Consumes (R.remaining input.old) (R.remaining input.new) bytes.items) }
     ensures end { OnOk result (IsAtEnd (R.remaining input.new)) }
-    ensures cause { IfErr result (Caused R.Fails ⊥) }
+    ensures cause { IfErr result (Caused A.Lacks R.Fails ⊥) }
 {
     let mut bytes = Vec::new(alloc);
     match input.read_rest(&mut bytes) {

@@ -13,7 +13,7 @@ use crate::print::put;
 use crate::text;
 use crate::words::{lent, texts};
 use hex::FromHex;
-use std::alloc::Allocator;
+use pgp_base::Memory;
 
 const USAGE: &str =
     "usage: pgwire client | backend | verifier PASSWORD SALTHEX | escape literal|identifier TEXT\n";
@@ -77,7 +77,7 @@ fn command_of<'a>(words: &[&'a str]) -> Option<Command<'a>>
 }
 
 /// Does what the command asks for.
-fn perform<A: Allocator + Copy, R: Input, W: Output>(
+fn perform<A: Memory, R: Input, W: Output>(
     alloc: A,
     command: Command<'_>,
     input: &mut R,
@@ -87,7 +87,7 @@ fn perform<A: Allocator + Copy, R: Input, W: Output>(
         (record { input = R.remaining input.old; output = W.contents output.old })
         (record { input = R.remaining input.new; output = W.contents output.new })
         status []) }
-    ensures fault { IfErr result (λ fault. Stops R.Fails W.Fails (asked command.entry)
+    ensures fault { IfErr result (λ fault. Stops A.Lacks R.Fails W.Fails (asked command.entry)
         (record { input = R.remaining input.old; output = W.contents output.old })
         (record { input = R.remaining input.new; output = W.contents output.new })
         fault) }
@@ -102,13 +102,13 @@ fn perform<A: Allocator + Copy, R: Input, W: Output>(
 }
 
 /// Does what the words ask for.
-pub fn obey<A: Allocator + Copy, R: Input, W: Output>(
+pub fn obey<A: Memory, R: Input, W: Output>(
     alloc: A,
     words: &[&str],
     input: &mut R,
     output: &mut W,
 ) -> Outcome
-    ensures { Obeys R.Fails W.Fails (map (λ word. word.now) words.now)
+    ensures { Obeys A.Lacks R.Fails W.Fails (map (λ word. word.now) words.now)
         (record { input = R.remaining input.old; output = W.contents output.old })
         (record { input = R.remaining input.new; output = W.contents output.new })
         result.status result.complaint.now }
@@ -137,14 +137,14 @@ fn tell<E: Output>(outcome: Outcome, errors: &mut E) -> u8
 /// Does what the words ask for, says on `errors` what is to be said there, and answers the status.
 ///
 /// Where `errors` fails, a front of that is said.
-pub fn run<A: Allocator + Copy, R: Input, W: Output, E: Output>(
+pub fn run<A: Memory, R: Input, W: Output, E: Output>(
     alloc: A,
     words: &[&str],
     input: &mut R,
     output: &mut W,
     errors: &mut E,
 ) -> u8
-    ensures { Runs R.Fails W.Fails E.Fails (map (λ word. word.now) words.now)
+    ensures { Runs A.Lacks R.Fails W.Fails E.Fails (map (λ word. word.now) words.now)
         (record { input = R.remaining input.old; output = W.contents output.old })
         (record { input = R.remaining input.new; output = W.contents output.new })
         (E.contents errors.old) (E.contents errors.new) result }
@@ -154,13 +154,13 @@ pub fn run<A: Allocator + Copy, R: Input, W: Output, E: Output>(
 
 /// Does what the program's own words ask for, where there is memory for them. A word that isn't UTF-8
 /// asks for nothing that there is.
-fn try_own<A: Allocator + Copy, V: Words, R: Input, W: Output>(
+fn try_own<A: Memory, V: Words, R: Input, W: Output>(
     alloc: A,
     env: &V,
     input: &mut R,
     output: &mut W,
 ) -> Result<Outcome, Fault>
-    ensures obeyed { IfOk result (λ outcome. ObeysOwn R.Fails W.Fails (V.Stands env.now) (V.Ends env.now)
+    ensures obeyed { IfOk result (λ outcome. ObeysOwn A.Lacks R.Fails W.Fails (V.Stands env.now) (V.Ends env.now)
         (record { input = R.remaining input.old; output = W.contents output.old })
         (record { input = R.remaining input.new; output = W.contents output.new })
         outcome.status outcome.complaint.now) }
@@ -176,13 +176,13 @@ fn try_own<A: Allocator + Copy, V: Words, R: Input, W: Output>(
 }
 
 /// Does what the program's own words ask for.
-fn obey_own<A: Allocator + Copy, V: Words, R: Input, W: Output>(
+fn obey_own<A: Memory, V: Words, R: Input, W: Output>(
     alloc: A,
     env: &V,
     input: &mut R,
     output: &mut W,
 ) -> Outcome
-    ensures { ObeysOwn R.Fails W.Fails (V.Stands env.now) (V.Ends env.now)
+    ensures { ObeysOwn A.Lacks R.Fails W.Fails (V.Stands env.now) (V.Ends env.now)
         (record { input = R.remaining input.old; output = W.contents output.old })
         (record { input = R.remaining input.new; output = W.contents output.new })
         result.status result.complaint.now }
@@ -194,14 +194,14 @@ fn obey_own<A: Allocator + Copy, V: Words, R: Input, W: Output>(
 }
 
 /// Runs on the words of the process, behind its name.
-pub fn run_own<A: Allocator + Copy, V: Words, R: Input, W: Output, E: Output>(
+pub fn run_own<A: Memory, V: Words, R: Input, W: Output, E: Output>(
     alloc: A,
     env: &V,
     input: &mut R,
     output: &mut W,
     errors: &mut E,
 ) -> u8
-    ensures { RunsOwn R.Fails W.Fails (V.Stands env.now) (V.Ends env.now) E.Fails
+    ensures { RunsOwn A.Lacks R.Fails W.Fails (V.Stands env.now) (V.Ends env.now) E.Fails
         (record { input = R.remaining input.old; output = W.contents output.old })
         (record { input = R.remaining input.new; output = W.contents output.new })
         (E.contents errors.old) (E.contents errors.new) result }

@@ -11,13 +11,13 @@ ghost use Rattle.pgwire.specs.Taken.{AppendsFront};
 use crate::fault::Fault;
 use crate::ports::Output;
 use crate::print::print;
+use pgp_base::Memory;
 use postgres_protocol::authentication::sasl::NoPrep;
 use postgres_protocol::{escape, password};
-use std::alloc::Allocator;
 
 /// Prints the SCRAM-SHA-256 verifier of the password's own bytes.
 #[tactic(auto, using(crate::proofs::Passwords::unmapped))]
-pub fn verifier<A: Allocator + Copy, W: Output>(
+pub fn verifier<A: Memory, W: Output>(
     alloc: A,
     password: &str,
     salt: [u8; 16],
@@ -29,7 +29,7 @@ pub fn verifier<A: Allocator + Copy, W: Output>(
     ensures quiet { IfErr result (λ fault. fault ≢ Fault.Write → Keeps (W.contents output.old) (W.contents output.new)) }
     ensures cut { IfErr result (λ fault. fault ≡ Fault.Write → AppendsFront (W.contents output.old) (W.contents output.new)
         (line (verifier_text (verifier password.now salt 4096)))) }
-    ensures cause { IfErr result (Caused ⊥ W.Fails) }
+    ensures cause { IfErr result (Caused A.Lacks ⊥ W.Fails) }
 {
     match password::scram_sha_256_salt(alloc, password.as_bytes(), salt, &NoPrep) {
         Ok(text) => print(text, output),
@@ -38,7 +38,7 @@ pub fn verifier<A: Allocator + Copy, W: Output>(
 }
 
 /// Prints the text as a string constant.
-pub fn escape_literal<A: Allocator + Copy, W: Output>(
+pub fn escape_literal<A: Memory, W: Output>(
     alloc: A,
     text: &str,
     output: &mut W,
@@ -49,7 +49,7 @@ pub fn escape_literal<A: Allocator + Copy, W: Output>(
     ensures quiet { IfErr result (λ fault. fault ≢ Fault.Write → Keeps (W.contents output.old) (W.contents output.new)) }
     ensures cut { IfErr result (λ fault. fault ≡ Fault.Write → ((literal : List ℕ) × IsEscapedLiteral text.now literal
         × AppendsFront (W.contents output.old) (W.contents output.new) (line literal))) }
-    ensures cause { IfErr result (Caused ⊥ W.Fails) }
+    ensures cause { IfErr result (Caused A.Lacks ⊥ W.Fails) }
 {
     match escape::escape_literal(alloc, text) {
         Ok(literal) => print(literal, output),
@@ -58,7 +58,7 @@ pub fn escape_literal<A: Allocator + Copy, W: Output>(
 }
 
 /// Prints the text as a quoted identifier.
-pub fn escape_identifier<A: Allocator + Copy, W: Output>(
+pub fn escape_identifier<A: Memory, W: Output>(
     alloc: A,
     text: &str,
     output: &mut W,
@@ -69,7 +69,7 @@ pub fn escape_identifier<A: Allocator + Copy, W: Output>(
     ensures quiet { IfErr result (λ fault. fault ≢ Fault.Write → Keeps (W.contents output.old) (W.contents output.new)) }
     ensures cut { IfErr result (λ fault. fault ≡ Fault.Write → ((identifier : List ℕ) × Identifier identifier text.now
         × AppendsFront (W.contents output.old) (W.contents output.new) (line identifier))) }
-    ensures cause { IfErr result (Caused ⊥ W.Fails) }
+    ensures cause { IfErr result (Caused A.Lacks ⊥ W.Fails) }
 {
     match escape::escape_identifier(alloc, text) {
         Ok(identifier) => print(identifier, output),

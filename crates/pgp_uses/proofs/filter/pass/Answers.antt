@@ -1,4 +1,5 @@
-use Rattle.std.proofs.Common.{rules, arith}
+use Rattle.std.proofs.Common.{rules, arith, ◌+◌}
+use Rattle.std.proofs.Math.IntN.{nat_abs}
 use Rattle.pgp_base.specs.Wire.{IsBytes}
 use Rattle.pgp_uses.proofs.Passed.{passes_frame, lacks_frame}
 use Rattle.pgp_uses.proofs.filter.pass.Goals as goal
@@ -11,4 +12,4 @@ returns-in-Ok g c =
 
 pub returns-in-Err-append : goal.returns-in-Err-append
 returns-in-Err-append g c =
-    (search rules, lacks_frame g.B.Buffer.Lacks c.args.limit c.args.came.now c.in-Ok-Some.header _ _ (search rules) (search rules) (search rules) (search rules) (search rules) (search rules))
+    (search rules, lacks_frame g.B.Buffer.Lacks c.args.limit c.args.came.now c.in-Ok-Some.header (nat_abs c.in-Ok-Some.header.len + 1) _ (search rules) (search rules) (search rules) (search rules) (search rules) (search rules))

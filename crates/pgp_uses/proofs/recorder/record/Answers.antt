@@ -9,11 +9,11 @@ use Rattle.pgp_uses.proofs.recorder.record.Goals.{in-Ok-Some, in-Err}
 pub frames-init : goal.frames-init
 frames-init g c = rw (c.new-places.ensures.items, c.new-messages.ensures) (cut_none c.args.bytes.now)
 
-pub returns-in-Ok-None : goal.returns-in-Ok-None
-returns-in-Ok-None g c = cut_end c.args.bytes.now c.frames.messages c.frames.places.items c.frames.rest false c.frames.invariant (search rules)
+pub returns-in-Ok-None-clause-all : goal.returns-in-Ok-None-clause-all
+returns-in-Ok-None-clause-all g c = cut_end c.args.bytes.now c.frames.messages c.frames.places.items c.frames.rest false c.frames.invariant (search rules)
 
-pub returns-in-Err-InvalidLength : goal.returns-in-Err-InvalidLength
-returns-in-Err-InvalidLength g c = cut_end c.args.bytes.now c.frames.messages c.frames.places.items c.frames.rest true c.frames.invariant (search rules)
+pub returns-in-Err-InvalidLength-clause-all : goal.returns-in-Err-InvalidLength-clause-all
+returns-in-Err-InvalidLength-clause-all g c = cut_end c.args.bytes.now c.frames.messages c.frames.places.items c.frames.rest true c.frames.invariant (search rules)
 
 pub frames-preserved : goal.frames-preserved
 frames-preserved g c =

@@ -6,15 +6,15 @@ use Rattle.pgwire.specs.Script.{IsPair}
 use Rattle.pgwire.proofs.ScriptLemmas.{free, never_without}
 use Rattle.pgwire.proofs.script.add.Goals as goal
 
-pub returns-in_default : goal.returns-in_default
-returns-in_default g c =
+pub returns-in_default-clause-added : goal.returns-in_default-clause-added
+returns-in_default-clause-added g c =
     let part = c.args.part.now in
     let parts = split_parts 61 part c.split_once.result c.split_once.ensures.cases (omega arith) in
     let some : part ≢ [] = search rules in
     (some, never_without part (free 61 part (rw c.in_default.is at parts)))
 
-pub returns : goal.returns
-returns g c =
+pub returns-clause-added : goal.returns-clause-added
+returns-clause-added g c =
     let part = c.args.part.now in
     let parts = split_parts 61 part (Some (c.in-Some.name, c.in-Some.value)) c.in-Some.ensures.cases (omega arith) in
     let some : part ≢ [] = search rules in
