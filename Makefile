@@ -17,6 +17,7 @@ test:
 	rt ci
 
 edits:
+	@command -v rt >/dev/null 2>&1 || { echo "make: the Rattle toolchain is missing: no command 'rt' on the PATH" >&2; exit 1; }
 	.ci/edits $(CRATES)
 
 bench:
