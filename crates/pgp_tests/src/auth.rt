@@ -9,7 +9,7 @@ use pgp_auth::authentication::sasl::{
 };
 use pgp_auth::escape::{escape_identifier, escape_literal};
 use pgp_auth::password::{md5, scram_sha_256, scram_sha_256_salt};
-use pgp_base::Error;
+use pgp_base::{Error, Memory};
 use pgp_test_alloc::Refusing;
 use rand_core::SeedableRng;
 use rand_pcg::Pcg32;
@@ -24,27 +24,20 @@ struct ToX;
 impl SaslPrep for ToX {
     ghost mapping = { λ _ _. Some (120 ∷ []) };
 
-    fn prepare<A: Allocator + Copy>(
-        &self,
-        alloc: A,
-        _text: &str,
-    ) -> Result<Option<String<A>>, Error> {
-        Ok(Some(String::from_str(alloc, "x")?))
+    fn prepare<A: Memory>(&self, alloc: A, _text: &str) -> Result<Option<String<A>>, Error> {
+        Ok(Some(A::text_of(alloc, "x")?))
     }
 }
 
-// A mapping that has no memory.
+// A mapping for which there is no memory: it asks for more than there can be.
 struct NoMemory;
 
 impl SaslPrep for NoMemory {
     ghost mapping = { λ _ _. Some (120 ∷ []) };
 
-    fn prepare<A: Allocator + Copy>(
-        &self,
-        _alloc: A,
-        _text: &str,
-    ) -> Result<Option<String<A>>, Error> {
-        Err(Error::OutOfMemory)
+    fn prepare<A: Memory>(&self, alloc: A, _text: &str) -> Result<Option<String<A>>, Error> {
+        A::text_with_capacity(alloc, usize::MAX)?;
+        Ok(Some(A::text_of(alloc, "x")?))
     }
 }
 
