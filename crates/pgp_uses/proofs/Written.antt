@@ -9,7 +9,7 @@ use Rattle.pgp_base.specs.declared.error.BindError.{BindError}
 use Rattle.pgp_base.specs.declared.error.BindError.TheVariants.{Conversion, Serialization}
 use Rattle.pgp_base.specs.Held.{Held, ◌⊕◌}
 use Rattle.pgp_base.specs.Wire.{frame, uint32}
-use Rattle.pgp_base.proofs.Parts.{length-uint32, more_bytes, more_twice, wants_then}
+use Rattle.pgp_base.proofs.Parts.{length-uint32, more_bytes, more_twice, wants_more, wants_then}
 use Rattle.pgp_uses.specs.Server.{refusal_of}
 
 -- the closure appends q where it succeeds
@@ -23,6 +23,10 @@ module _ {F E B K : Type 0} (held : B → Held K) (post : F → MutBor B → Res
   framed old tagged new tag t w =
       let size = uint32 (length q + 4) in
       w.appended ∙ (ap (λ p. tagged ⊕ uint32 (length p + 4) ⊕ p) (body_is (tagged ⊕ uint32 0) w.body w.put) ∙ (ap (λ h. h ⊕ size ⊕ q) t ∙ (ap (λ h. h ⊕ q) (more_twice old (tag ∷ []) size) ∙ more_twice old (tag ∷ size) q)))
+
+-- what the tag wants, the message wants
+pub tag_wants : {K : Type 0} {lacks : Held K → ℕ → Type 0} {old : Held K} (tag : ℕ) (q : List ℕ) → Wants lacks old 1 → Wants lacks old (length (frame tag q))
+tag_wants {old = old} tag q w = wants_more old 1 _ (omega (arith, length-append (uint32 (length q + 4)) q)) w
 
 -- why it was refused, where the closure wants memory for q alone
 module _ {F B K : Type 0} (held : B → Held K) (post : F → MutBor B → Result (Unit {0}) Error → MutBor B → Type 0) (f : F) (q : List ℕ) (lacks : Held K → ℕ → Type 0) (old tagged : Held K) (tag : ℕ) where

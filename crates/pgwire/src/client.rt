@@ -3,6 +3,7 @@
 ghost use Rattle.std.specs.Prelude.{◌≡◌, ◌≢◌, not, [], ◌∷◌, ◌++◌, ◌+◌, length, IfOk, IfErr, OnOk, IfSome, string_bytes, codes, decimal};
 ghost use Rattle.std.specs.Io.KnownBytes.{IsAtEnd, Keeps};
 ghost use Rattle.std.specs.List.{slice_split};
+ghost use Rattle.hex.specs.Hex.{encode_lower};
 ghost use Rattle.pgp_frontend.specs.Reading.{IsNamed};
 ghost use Rattle.postgres_protocol.specs.ClientStream.{AddsMessage};
 ghost use Rattle.pgwire.specs.ClientOutput.{ClientOutput, WritesAnswer, told};
@@ -75,8 +76,7 @@ fn answer_to<A: Memory>(alloc: A, script: &[u8]) -> Result<Answer<A>, Fault>
     let mut stream = ClientStream::<BytesMut<A>>::new(alloc);
     match send_lines(alloc, script, &mut stream)? {
         None => {
-            let mut text = A::hex_of(alloc, stream.bytes())?;
-            A::push_char(&mut text, '\n')?;
+            let text = digits(alloc, stream.bytes())?;
             Ok(Answer { text, status: 0 })
         }
         Some((number, fault)) => {
@@ -84,6 +84,16 @@ fn answer_to<A: Memory>(alloc: A, script: &[u8]) -> Result<Answer<A>, Fault>
             Ok(Answer { text, status: 1 })
         }
     }
+}
+
+/// The bytes as a line of hex digits.
+fn digits<A: Memory>(alloc: A, bytes: &[u8]) -> Result<String<A>, Fault>
+    ensures line { IfOk result (λ text. string_bytes text ≡ line (encode_lower bytes.now)) }
+    ensures fault { IfErr result (λ e. (e ≡ Fault.Memory) × A.Lacks) }
+{
+    let mut text = A::hex_of(alloc, bytes)?;
+    A::push_char(&mut text, '\n')?;
+    Ok(text)
 }
 
 /// The line that tells of a refused line.

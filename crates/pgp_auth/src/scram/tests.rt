@@ -13,6 +13,9 @@ use std::test::Fail;
 
 const NONCE: &str = "9IZ2O01zb9IgiIZ1WJ/zgpJB";
 
+const FIRST: &[u8] =
+    b"r=9IZ2O01zb9IgiIZ1WJ/zgpJBjx/oIRLs02gGSHcw1KEty3eY,s=fs3IXBy7U7+IvVjZ,i=4096";
+
 const ONE_ROUND: &[u8] =
     b"r=9IZ2O01zb9IgiIZ1WJ/zgpJBjx/oIRLs02gGSHcw1KEty3eY,s=fs3IXBy7U7+IvVjZ,i=1";
 
@@ -65,6 +68,14 @@ fn told<A: Allocator>(outcome: Result<(), ScramError<A>>) -> (u8, usize) {
             };
             (e.number(), at)
         }
+    }
+}
+
+// The server's own error.
+fn reason<A: Allocator>(outcome: &Result<(), ScramError<A>>) -> Option<&str> {
+    match outcome {
+        Err(ScramError::Server(text)) => Some(text.as_str()),
+        _ => None,
     }
 }
 

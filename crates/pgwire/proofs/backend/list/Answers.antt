@@ -6,7 +6,7 @@ use Rattle.pgp_message.specs.Views.{seen}
 use Rattle.pgwire.specs.Output.{line_of}
 use Rattle.pgwire.proofs.Lists.{one_line}
 use Rattle.pgwire.proofs.backend.list.Goals as goal
-use Rattle.pgwire.proofs.backend.list.Goals.{in-Ok+in_ok-put_line, in-Err+in_ok-put_fault}
+use Rattle.pgwire.proofs.backend.list.Goals.{in-Ok+in_ok-put_line-in-Ok, in-Err+in_ok-put_fault-in-Err}
 
 pub loop-read-preserved : goal.loop-read-preserved
 loop-read-preserved g c =
@@ -17,8 +17,8 @@ loop-read-preserved g c =
     let lines = flat_map line_of (map seen (take i xs)) in
     let here : get_or xs i item ≡ item = search rules in
     let more : string_bytes c.match-read.text ≡ string_bytes c.loop-read.text ++ line_of (seen item) = elim c.match-read.branch [
-      | in-Ok+in_ok-put_line w ↦ rw w.text-is (search rules)
-      | in-Err+in_ok-put_fault w ↦ rw w.text-is (search rules)
+      | in-Ok+in_ok-put_line-in-Ok w ↦ rw w.text-is (search rules)
+      | in-Err+in_ok-put_fault-in-Err w ↦ rw w.text-is (search rules)
     ] in
     more ∙ ap (λ l. l ++ line_of (seen item)) c.loop-read.invariant ∙ append_assoc before lines (line_of (seen item))
     ∙ ap (λ l. before ++ l) (sym (one_line seen xs i item c.loop-read-test.true ∙ ap (λ r. lines ++ line_of (seen r)) here))

@@ -1,4 +1,4 @@
-use Rattle.std.proofs.Common.{rules, ◌≡◌, ◌≢◌, not, subst, inl, inr, Some}
+use Rattle.std.proofs.Common.{rules, ◌≡◌, ◌≢◌, not, refl, subst, inl, inr, Some}
 use Rattle.std.specs.Str.{IsUtf8}
 use Rattle.pgp_base.specs.declared.error.Error.TheVariants.{OutOfMemory}
 use Rattle.pgp_frontend.specs.Payload.{cause}
@@ -6,6 +6,7 @@ use Rattle.postgres_protocol.specs.ClientStream.{IsAdded}
 use Rattle.pgwire.specs.Request.{asked}
 use Rattle.pgwire.specs.Script.{Says}
 use Rattle.pgwire.specs.Sending.{is_opening}
+use Rattle.pgwire.proofs.NoMemory.{never_memory}
 use Rattle.pgwire.proofs.SendingLemmas.{names_it, comes_now}
 use Rattle.pgwire.proofs.client.send_line.Goals as goal
 
@@ -42,3 +43,12 @@ returns g c =
       line = (utf8, (m, subst (λ t. Says t m) text says, comes_now c.in-Ok.text.now m c.args.stream.now.opened says phase, why));
       fault = tt;
     }
+
+pub returns-in-Err-OutOfMemory-clause-fault : goal.returns-in-Err-OutOfMemory-clause-fault
+returns-in-Err-OutOfMemory-clause-fault g c =
+    let m = asked c.in-Some.request in
+    let says : Says c.in-Ok.text.now m = search rules in
+    elim c.in-Err-OutOfMemory.ensures.0 [
+      | inl w ↦ (refl, inr (w.1.here, w.1.more, w.1.refused))
+      | inr h ↦ absurd (never_memory c.in-Ok.text.now m says h)
+    ]
