@@ -1,7 +1,7 @@
 //! Addresses and identifiers.
 
 use crate::codec::Codec;
-use crate::fault::Fault;
+use crate::fault::{Fault, done};
 use crate::shown::Shown;
 use crate::word::Words;
 use pgp_base::Buffer;
@@ -23,14 +23,19 @@ fn address(words: &mut Words<'_>) -> Result<IpAddr, Fault> {
     }
 }
 
+fn write_inet<B: Buffer>(words: &mut Words<'_>, buf: &mut B) -> Result<(), Fault> {
+    let address = address(words)?;
+    let netmask = words.number()?;
+    done(inet_to_sql(address, netmask, buf))
+}
+
 fn show_inet(bytes: &[u8], out: &mut Shown) -> Result<(), Fault> {
     let inet = inet_from_sql(bytes)?;
     match inet.addr() {
         IpAddr::V4(v4) => out.bytes(&v4.octets())?,
         IpAddr::V6(v6) => out.bytes(&v6.octets())?,
     }
-    out.number(inet.netmask())?;
-    Ok(())
+    out.number(inet.netmask())
 }
 
 #[derive(Drop)]
@@ -44,19 +49,18 @@ impl Codec for Addresses {
         buf: &mut B,
     ) -> Result<(), Fault> {
         match name {
-            "inet" => inet_to_sql(address(words)?, words.number()?, buf)?,
-            "macaddr" => macaddr_to_sql(words.block()?, buf)?,
-            "uuid" => uuid_to_sql(words.block()?, buf)?,
-            _ => return Err(Fault::Row),
+            "inet" => write_inet(words, buf),
+            "macaddr" => done(macaddr_to_sql(words.block()?, buf)),
+            "uuid" => done(uuid_to_sql(words.block()?, buf)),
+            _ => Err(Fault::Row),
         }
-        words.end()
     }
 
     fn read(name: &str, bytes: &[u8], out: &mut Shown) -> Result<(), Fault> {
         match name {
             "inet" => show_inet(bytes, out),
-            "macaddr" => Ok(out.bytes(&macaddr_from_sql(bytes)?)?),
-            "uuid" => Ok(out.bytes(&uuid_from_sql(bytes)?)?),
+            "macaddr" => out.bytes(&macaddr_from_sql(bytes)?),
+            "uuid" => out.bytes(&uuid_from_sql(bytes)?),
             _ => Err(Fault::Row),
         }
     }

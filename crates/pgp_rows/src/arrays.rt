@@ -54,7 +54,7 @@ fn write_array<B: Buffer>(alloc: Global, words: &mut Words<'_>, buf: &mut B) -> 
     Ok(())
 }
 
-fn show_dimension(dimension: ArrayDimension, out: &mut Shown) -> Result<(), AllocError> {
+fn show_dimension(dimension: ArrayDimension, out: &mut Shown) -> Result<(), Fault> {
     out.number(dimension.len)?;
     out.number(dimension.lower_bound)
 }
@@ -72,8 +72,7 @@ impl Codec for Arrays {
         if name != "array" {
             return Err(Fault::Row);
         }
-        write_array(alloc, words, buf)?;
-        words.end()
+        write_array(alloc, words, buf)
     }
 
     fn read(_name: &str, bytes: &[u8], out: &mut Shown) -> Result<(), Fault> {

@@ -8,7 +8,6 @@ use pgp_message::{
     ColumnFormats, DataRowRanges, ErrorField, ErrorFields, Field, Fields, Message, Parameters,
     RowIndex, SaslMechanisms,
 };
-use std::alloc::AllocError;
 use std::ops::Range;
 
 /// A message whose parts can be shown, wherever it keeps them.
@@ -16,7 +15,7 @@ pub trait Parts {
     fn show_parts(&self, out: &mut Shown) -> Result<(), Fault>;
 }
 
-fn show_place(place: Option<Range<usize>>, out: &mut Shown) -> Result<(), AllocError> {
+fn show_place(place: Option<Range<usize>>, out: &mut Shown) -> Result<(), Fault> {
     match place {
         Some(place) => {
             let text = format!(in out.alloc(); "{}..{}", place.start, place.end)?;
@@ -27,7 +26,7 @@ fn show_place(place: Option<Range<usize>>, out: &mut Shown) -> Result<(), AllocE
 }
 
 /// The values that a row's table has, and `more` where it has one behind its last.
-fn show_values(index: &RowIndex<'_>, out: &mut Shown) -> Result<(), AllocError> {
+fn show_values(index: &RowIndex<'_>, out: &mut Shown) -> Result<(), Fault> {
     out.word("[")?;
     for i in 0..index.len() {
         match index.value(i) {
@@ -55,13 +54,12 @@ fn show_row(
     )?;
     out.bytes(buffer)?;
     match index {
-        Ok(index) => show_values(&index, out)?,
-        Err(e) => out.refusal(e)?,
+        Ok(index) => show_values(&index, out),
+        Err(e) => out.refusal(e),
     }
-    Ok(())
 }
 
-fn show_column(column: Field<'_>, out: &mut Shown) -> Result<(), AllocError> {
+fn show_column(column: Field<'_>, out: &mut Shown) -> Result<(), Fault> {
     out.text(column.name())?;
     out.number(column.table_oid())?;
     out.number(column.column_id())?;
@@ -80,7 +78,7 @@ fn show_columns(columns: Fields<'_>, out: &mut Shown) -> Result<(), Fault> {
 }
 
 /// A field of an error: its letter, its text, and the bytes of that.
-fn show_field(field: ErrorField<'_>, out: &mut Shown) -> Result<(), AllocError> {
+fn show_field(field: ErrorField<'_>, out: &mut Shown) -> Result<(), Fault> {
     out.bytes(&[field.type_()])?;
     out.text_or_refusal(field.value())?;
     out.bytes(field.value_bytes())
@@ -121,22 +119,21 @@ fn show_texts(
     out: &mut Shown,
 ) -> Result<(), Fault> {
     out.text_or_refusal(first)?;
-    out.text_or_refusal(second)?;
-    Ok(())
+    out.text_or_refusal(second)
 }
 
 /// The parts of a message of a log-in, or of one of another kind.
 macro_rules! login_parts {
     ($message:ident, $out:ident, $others:ident) => {
         match $message {
-            Message::AuthenticationGssContinue(body) => Ok($out.bytes(body.data())?),
-            Message::AuthenticationMd5Password(body) => Ok($out.bytes(&body.salt())?),
+            Message::AuthenticationGssContinue(body) => $out.bytes(body.data()),
+            Message::AuthenticationMd5Password(body) => $out.bytes(&body.salt()),
             Message::AuthenticationSasl(body) => show_mechanisms(body.mechanisms(), $out),
-            Message::AuthenticationSaslContinue(body) => Ok($out.bytes(body.data())?),
-            Message::AuthenticationSaslFinal(body) => Ok($out.bytes(body.data())?),
+            Message::AuthenticationSaslContinue(body) => $out.bytes(body.data()),
+            Message::AuthenticationSaslFinal(body) => $out.bytes(body.data()),
             Message::BackendKeyData(body) => {
                 $out.number(body.process_id())?;
-                Ok($out.number(body.secret_key())?)
+                $out.number(body.secret_key())
             }
             other => $others(other, $out),
         }
@@ -147,13 +144,13 @@ macro_rules! login_parts {
 macro_rules! query_parts {
     ($message:ident, $out:ident, $others:ident) => {
         match $message {
-            Message::CommandComplete(body) => Ok($out.text_or_refusal(body.tag())?),
+            Message::CommandComplete(body) => $out.text_or_refusal(body.tag()),
             Message::DataRow(body) => {
                 show_row(body.ranges(), body.buffer(), body.index($out.alloc()), $out)
             }
             Message::ParameterDescription(body) => show_types(body.parameters(), $out),
             Message::RowDescription(body) => show_columns(body.fields(), $out),
-            Message::ReadyForQuery(body) => Ok($out.bytes(&[body.status()])?),
+            Message::ReadyForQuery(body) => $out.bytes(&[body.status()]),
             other => $others(other, $out),
         }
     };
@@ -163,7 +160,7 @@ macro_rules! query_parts {
 macro_rules! other_parts {
     ($message:ident, $out:ident) => {
         match $message {
-            Message::CopyData(body) => Ok($out.bytes(body.data())?),
+            Message::CopyData(body) => $out.bytes(body.data()),
             Message::CopyInResponse(body) => show_copy(body.format(), body.column_formats(), $out),
             Message::CopyOutResponse(body) => show_copy(body.format(), body.column_formats(), $out),
             Message::ErrorResponse(body) => show_fields(body.fields(), $out),

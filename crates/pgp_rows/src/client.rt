@@ -2,7 +2,7 @@
 
 use crate::arrays::elements;
 use crate::codec::Codec;
-use crate::fault::Fault;
+use crate::fault::{Fault, done};
 use crate::shown::Shown;
 use crate::word::{Word, Words};
 use pgp_base::{Buffer, Error, IsNull};
@@ -46,14 +46,14 @@ fn write_startup<B: Buffer>(
     buf: &mut B,
 ) -> Result<(), Fault> {
     let parameters = parameters(alloc, words.list()?)?;
-    Ok(startup_message(parameters.iter().copied(), buf)?)
+    done(startup_message(parameters.iter().copied(), buf))
 }
 
 fn write_parse<B: Buffer>(alloc: Global, words: &mut Words<'_>, buf: &mut B) -> Result<(), Fault> {
     let name = words.text()?;
     let text = words.text()?;
     let types = numbers::<u32>(alloc, words.list()?)?;
-    Ok(parse(name, text, types.iter().copied(), buf)?)
+    done(parse(name, text, types.iter().copied(), buf))
 }
 
 fn write_bind<B: Buffer>(alloc: Global, words: &mut Words<'_>, buf: &mut B) -> Result<(), Fault> {
@@ -96,6 +96,31 @@ fn letter(words: &mut Words<'_>) -> Result<u8, Fault> {
     Ok(letter)
 }
 
+fn write_close<B: Buffer>(words: &mut Words<'_>, buf: &mut B) -> Result<(), Fault> {
+    let variant = letter(words)?;
+    done(close(variant, words.text()?, buf))
+}
+
+fn write_describe<B: Buffer>(words: &mut Words<'_>, buf: &mut B) -> Result<(), Fault> {
+    let variant = letter(words)?;
+    done(describe(variant, words.text()?, buf))
+}
+
+fn write_execute<B: Buffer>(words: &mut Words<'_>, buf: &mut B) -> Result<(), Fault> {
+    let portal = words.text()?;
+    done(execute(portal, words.number()?, buf))
+}
+
+fn write_cancel<B: Buffer>(words: &mut Words<'_>, buf: &mut B) -> Result<(), Fault> {
+    let process_id = words.number()?;
+    done(cancel_request(process_id, words.number()?, buf))
+}
+
+fn write_sasl<B: Buffer>(words: &mut Words<'_>, buf: &mut B) -> Result<(), Fault> {
+    let mechanism = words.text()?;
+    done(sasl_initial_response(mechanism, words.bytes()?, buf))
+}
+
 /// A message of the simple or the extended query.
 fn write_query<B: Buffer>(
     alloc: Global,
@@ -105,11 +130,11 @@ fn write_query<B: Buffer>(
 ) -> Result<(), Fault> {
     match name {
         "bind" => write_bind(alloc, words, buf),
-        "close" => Ok(close(letter(words)?, words.text()?, buf)?),
-        "describe" => Ok(describe(letter(words)?, words.text()?, buf)?),
-        "execute" => Ok(execute(words.text()?, words.number()?, buf)?),
+        "close" => write_close(words, buf),
+        "describe" => write_describe(words, buf),
+        "execute" => write_execute(words, buf),
         "parse" => write_parse(alloc, words, buf),
-        "query" => Ok(query(words.text()?, buf)?),
+        "query" => done(query(words.text()?, buf)),
         _ => Err(Fault::Row),
     }
 }
@@ -122,10 +147,10 @@ fn write_login<B: Buffer>(
     buf: &mut B,
 ) -> Result<(), Fault> {
     match name {
-        "cancel_request" => Ok(cancel_request(words.number()?, words.number()?, buf)?),
-        "password_message" => Ok(password_message(words.bytes()?, buf)?),
-        "sasl_initial_response" => Ok(sasl_initial_response(words.text()?, words.bytes()?, buf)?),
-        "sasl_response" => Ok(sasl_response(words.bytes()?, buf)?),
+        "cancel_request" => write_cancel(words, buf),
+        "password_message" => done(password_message(words.bytes()?, buf)),
+        "sasl_initial_response" => write_sasl(words, buf),
+        "sasl_response" => done(sasl_response(words.bytes()?, buf)),
         "startup_message" => write_startup(alloc, words, buf),
         _ => write_query(alloc, name, words, buf),
     }
@@ -142,16 +167,15 @@ impl Codec for Client {
         buf: &mut B,
     ) -> Result<(), Fault> {
         match name {
-            "copy_data" => write_copy_data(words, buf)?,
-            "copy_done" => copy_done(buf)?,
-            "copy_fail" => copy_fail(words.text()?, buf)?,
-            "flush" => flush(buf)?,
-            "ssl_request" => ssl_request(buf)?,
-            "sync" => sync(buf)?,
-            "terminate" => terminate(buf)?,
-            _ => write_login(alloc, name, words, buf)?,
+            "copy_data" => write_copy_data(words, buf),
+            "copy_done" => done(copy_done(buf)),
+            "copy_fail" => done(copy_fail(words.text()?, buf)),
+            "flush" => done(flush(buf)),
+            "ssl_request" => done(ssl_request(buf)),
+            "sync" => done(sync(buf)),
+            "terminate" => done(terminate(buf)),
+            _ => write_login(alloc, name, words, buf),
         }
-        words.end()
     }
 
     fn read(_name: &str, _bytes: &[u8], _out: &mut Shown) -> Result<(), Fault> {

@@ -5,7 +5,7 @@ use crate::row::Row;
 use crate::shown::{Shown, same};
 use crate::word::{Word, Words, joined};
 use bytes::BytesMut;
-use pgp_base::{Buffer, Error, Window};
+use pgp_base::{Buffer, Window};
 use std::alloc::Global;
 
 /// The calls of a family.
@@ -33,10 +33,7 @@ const SYNC: &[u8] = b"S\0\0\0\x04";
 /// Appends a refusal. Any other fault is handed on.
 fn show_refusal(answer: Result<(), Fault>, out: &mut Shown) -> Result<(), Fault> {
     match answer {
-        Err(Fault::Refused(e)) => {
-            out.refusal(e)?;
-            Ok(())
-        }
+        Err(Fault::Refused(e)) => out.refusal(e),
         other => other,
     }
 }
@@ -55,6 +52,18 @@ fn wanted(alloc: Global, row: &Row<'_>) -> Result<(Shown, Vec<u8>), Fault> {
     Ok((out, bytes))
 }
 
+/// Makes a call, which has to take all words.
+fn call<C: Codec, B: Buffer>(
+    alloc: Global,
+    name: &str,
+    words: &[Word],
+    buf: &mut B,
+) -> Result<(), Fault> {
+    let mut words = Words::new(words);
+    C::write(alloc, name, &mut words, buf)?;
+    words.end()
+}
+
 /// The call appends what the row says, or is refused so and leaves what stood there.
 fn is_written<C: Codec>(
     alloc: Global,
@@ -64,7 +73,7 @@ fn is_written<C: Codec>(
 ) -> Result<(), Fault> {
     let mut buf = BytesMut::new(alloc);
     buf.extend_from_slice(SYNC)?;
-    let answer = C::write(alloc, name, &mut Words::new(words), &mut buf);
+    let answer = call::<C, BytesMut>(alloc, name, words, &mut buf);
     let mut came = Shown::new(alloc);
     show_refusal(answer, &mut came)?;
     came.bytes(buf.as_slice())?;
@@ -85,7 +94,7 @@ fn in_room<C: Codec>(
         return Err(Fault::Row);
     };
     let mut window = Window::new(front);
-    let answer = C::write(alloc, name, &mut Words::new(words), &mut window);
+    let answer = call::<C, Window<'_>>(alloc, name, words, &mut window);
     show_refusal(answer, &mut out)?;
     out.bytes(window.as_slice())?;
     Ok(out)

@@ -5,7 +5,7 @@ use std::alloc::AllocError;
 use std::num::ParseIntError;
 
 /// Why a row is not right.
-#[derive(Debug, Drop)]
+#[derive(Drop)]
 pub enum Fault {
     /// The row is not written as README.md says.
     Row,
@@ -40,5 +40,13 @@ impl From<BindError<Error>> for Fault {
         match refusal {
             BindError::Conversion(e) | BindError::Serialization(e) => Fault::Refused(e),
         }
+    }
+}
+
+/// A call's own refusal as a fault.
+pub fn done(answer: Result<(), Error>) -> Result<(), Fault> {
+    match answer {
+        Ok(()) => Ok(()),
+        Err(e) => Err(Fault::Refused(e)),
     }
 }

@@ -1,7 +1,7 @@
 //! Bit strings, and lists of keys and values.
 
 use crate::codec::Codec;
-use crate::fault::Fault;
+use crate::fault::{Fault, done};
 use crate::shown::{Shown, show_walk};
 use crate::word::{Word, Words};
 use pgp_base::Buffer;
@@ -11,7 +11,7 @@ use std::alloc::{AllocError, Global};
 fn write_varbit<B: Buffer>(words: &mut Words<'_>, buf: &mut B) -> Result<(), Fault> {
     let len = words.number()?;
     let bytes = words.bytes()?;
-    Ok(varbit_to_sql(len, bytes.iter().copied(), buf)?)
+    done(varbit_to_sql(len, bytes.iter().copied(), buf))
 }
 
 fn show_varbit(bytes: &[u8], out: &mut Shown) -> Result<(), Fault> {
@@ -47,10 +47,10 @@ fn pairs<'w>(alloc: Global, list: &'w [Word]) -> Result<Vec<(&'w str, Option<&'w
 
 fn write_hstore<B: Buffer>(alloc: Global, words: &mut Words<'_>, buf: &mut B) -> Result<(), Fault> {
     let pairs = pairs(alloc, words.list()?)?;
-    Ok(hstore_to_sql(pairs.iter().copied(), buf)?)
+    done(hstore_to_sql(pairs.iter().copied(), buf))
 }
 
-fn show_entry(entry: (&str, Option<&str>), out: &mut Shown) -> Result<(), AllocError> {
+fn show_entry(entry: (&str, Option<&str>), out: &mut Shown) -> Result<(), Fault> {
     out.text(entry.0)?;
     match entry.1 {
         Some(value) => out.text(value),
@@ -69,11 +69,10 @@ impl Codec for Lists {
         buf: &mut B,
     ) -> Result<(), Fault> {
         match name {
-            "varbit" => write_varbit(words, buf)?,
-            "hstore" => write_hstore(alloc, words, buf)?,
-            _ => return Err(Fault::Row),
+            "varbit" => write_varbit(words, buf),
+            "hstore" => write_hstore(alloc, words, buf),
+            _ => Err(Fault::Row),
         }
-        words.end()
     }
 
     fn read(name: &str, bytes: &[u8], out: &mut Shown) -> Result<(), Fault> {

@@ -22,7 +22,7 @@ mod word;
 
 use codec::{check_value, check_writer};
 use fault::Fault;
-use passwords::{check_escape, check_password};
+use passwords::check_password;
 use row::Row;
 use scram::check_scram;
 use server::check_server;
@@ -31,7 +31,7 @@ use std::rt::Files;
 use std::{fs, io};
 
 /// What the calls of a file are.
-#[derive(Debug, Clone, Copy)]
+#[derive(Clone, Copy)]
 enum Family {
     Client,
     Integers,
@@ -44,7 +44,6 @@ enum Family {
     Arrays,
     Ranges,
     Server,
-    Escapes,
     Passwords,
     Scram,
 }
@@ -61,7 +60,7 @@ const FILES: [(&str, Family); 14] = [
     ("arrays.rows", Family::Arrays),
     ("ranges.rows", Family::Ranges),
     ("server.rows", Family::Server),
-    ("escapes.rows", Family::Escapes),
+    ("escapes.rows", Family::Passwords),
     ("passwords.rows", Family::Passwords),
     ("scram.rows", Family::Scram),
 ];
@@ -80,7 +79,6 @@ fn check(alloc: Global, family: Family, row: &Row<'_>) -> Result<(), Fault> {
         Family::Arrays => check_value::<arrays::Arrays>(alloc, row),
         Family::Ranges => check_value::<ranges::Ranges>(alloc, row),
         Family::Server => check_server(alloc, row),
-        Family::Escapes => check_escape(alloc, row),
         Family::Passwords => check_password(alloc, row),
         Family::Scram => check_scram(alloc, row),
     }

@@ -1,7 +1,7 @@
 //! Values of a fixed size: numbers, times and floats, whose bits are told as bytes.
 
 use crate::codec::Codec;
-use crate::fault::Fault;
+use crate::fault::{Fault, done};
 use crate::shown::Shown;
 use crate::word::Words;
 use pgp_base::Buffer;
@@ -24,28 +24,26 @@ impl Codec for Integers {
         buf: &mut B,
     ) -> Result<(), Fault> {
         match name {
-            "char" => char_to_sql(words.number()?, buf)?,
-            "int2" => int2_to_sql(words.number()?, buf)?,
-            "int4" => int4_to_sql(words.number()?, buf)?,
-            "int8" => int8_to_sql(words.number()?, buf)?,
-            "oid" => oid_to_sql(words.number()?, buf)?,
-            "lsn" => lsn_to_sql(words.number()?, buf)?,
-            _ => return Err(Fault::Row),
+            "char" => done(char_to_sql(words.number()?, buf)),
+            "int2" => done(int2_to_sql(words.number()?, buf)),
+            "int4" => done(int4_to_sql(words.number()?, buf)),
+            "int8" => done(int8_to_sql(words.number()?, buf)),
+            "oid" => done(oid_to_sql(words.number()?, buf)),
+            "lsn" => done(lsn_to_sql(words.number()?, buf)),
+            _ => Err(Fault::Row),
         }
-        words.end()
     }
 
     fn read(name: &str, bytes: &[u8], out: &mut Shown) -> Result<(), Fault> {
         match name {
-            "char" => out.number(char_from_sql(bytes)?)?,
-            "int2" => out.number(int2_from_sql(bytes)?)?,
-            "int4" => out.number(int4_from_sql(bytes)?)?,
-            "int8" => out.number(int8_from_sql(bytes)?)?,
-            "oid" => out.number(oid_from_sql(bytes)?)?,
-            "lsn" => out.number(lsn_from_sql(bytes)?)?,
-            _ => return Err(Fault::Row),
+            "char" => out.number(char_from_sql(bytes)?),
+            "int2" => out.number(int2_from_sql(bytes)?),
+            "int4" => out.number(int4_from_sql(bytes)?),
+            "int8" => out.number(int8_from_sql(bytes)?),
+            "oid" => out.number(oid_from_sql(bytes)?),
+            "lsn" => out.number(lsn_from_sql(bytes)?),
+            _ => Err(Fault::Row),
         }
-        Ok(())
     }
 }
 
@@ -60,22 +58,20 @@ impl Codec for Times {
         buf: &mut B,
     ) -> Result<(), Fault> {
         match name {
-            "timestamp" => timestamp_to_sql(words.number()?, buf)?,
-            "time" => time_to_sql(words.number()?, buf)?,
-            "date" => date_to_sql(words.number()?, buf)?,
-            _ => return Err(Fault::Row),
+            "timestamp" => done(timestamp_to_sql(words.number()?, buf)),
+            "time" => done(time_to_sql(words.number()?, buf)),
+            "date" => done(date_to_sql(words.number()?, buf)),
+            _ => Err(Fault::Row),
         }
-        words.end()
     }
 
     fn read(name: &str, bytes: &[u8], out: &mut Shown) -> Result<(), Fault> {
         match name {
-            "timestamp" => out.number(timestamp_from_sql(bytes)?)?,
-            "time" => out.number(time_from_sql(bytes)?)?,
-            "date" => out.number(date_from_sql(bytes)?)?,
-            _ => return Err(Fault::Row),
+            "timestamp" => out.number(timestamp_from_sql(bytes)?),
+            "time" => out.number(time_from_sql(bytes)?),
+            "date" => out.number(date_from_sql(bytes)?),
+            _ => Err(Fault::Row),
         }
-        Ok(())
     }
 }
 
@@ -102,21 +98,19 @@ impl Codec for Bits {
         buf: &mut B,
     ) -> Result<(), Fault> {
         match name {
-            "bool" => bool_to_sql(truth(words)?, buf)?,
-            "float4" => float4_to_sql(u32::from_be_bytes(words.block()?), buf)?,
-            "float8" => float8_to_sql(u64::from_be_bytes(words.block()?), buf)?,
-            _ => return Err(Fault::Row),
+            "bool" => done(bool_to_sql(truth(words)?, buf)),
+            "float4" => done(float4_to_sql(u32::from_be_bytes(words.block()?), buf)),
+            "float8" => done(float8_to_sql(u64::from_be_bytes(words.block()?), buf)),
+            _ => Err(Fault::Row),
         }
-        words.end()
     }
 
     fn read(name: &str, bytes: &[u8], out: &mut Shown) -> Result<(), Fault> {
         match name {
-            "bool" => out.number(bool_from_sql(bytes)?)?,
-            "float4" => out.bytes(&float4_from_sql(bytes)?.to_be_bytes())?,
-            "float8" => out.bytes(&float8_from_sql(bytes)?.to_be_bytes())?,
-            _ => return Err(Fault::Row),
+            "bool" => out.number(bool_from_sql(bytes)?),
+            "float4" => out.bytes(&float4_from_sql(bytes)?.to_be_bytes()),
+            "float8" => out.bytes(&float8_from_sql(bytes)?.to_be_bytes()),
+            _ => Err(Fault::Row),
         }
-        Ok(())
     }
 }

@@ -3,12 +3,12 @@
 ghost use Rattle.pgp_types.specs.RangeWriting.{KeepsBound};
 
 use crate::codec::Codec;
-use crate::fault::Fault;
+use crate::fault::{Fault, done};
 use crate::shown::Shown;
 use crate::word::{Word, Words};
 use pgp_base::{Buffer, Error, IsNull};
 use pgp_types::{Range, RangeBound, empty_range_to_sql, int4_to_sql, range_from_sql, range_to_sql};
-use std::alloc::{AllocError, Global};
+use std::alloc::Global;
 
 /// A bound's number, or nothing for a null.
 fn number(words: &mut Words<'_>) -> Result<Option<i32>, Fault> {
@@ -69,7 +69,7 @@ fn write_range<B: Buffer>(words: &mut Words<'_>, buf: &mut B) -> Result<(), Faul
     Ok(())
 }
 
-fn show_side(side: RangeBound<Option<&[u8]>>, out: &mut Shown) -> Result<(), AllocError> {
+fn show_side(side: RangeBound<Option<&[u8]>>, out: &mut Shown) -> Result<(), Fault> {
     match side {
         RangeBound::Unbounded => out.word("none"),
         RangeBound::Inclusive(bound) => {
@@ -94,11 +94,10 @@ impl Codec for Ranges {
         buf: &mut B,
     ) -> Result<(), Fault> {
         match name {
-            "range" => write_range(words, buf)?,
-            "empty_range" => empty_range_to_sql(buf)?,
-            _ => return Err(Fault::Row),
+            "range" => write_range(words, buf),
+            "empty_range" => done(empty_range_to_sql(buf)),
+            _ => Err(Fault::Row),
         }
-        words.end()
     }
 
     /// An upper side without a bound takes the place of its length back.
@@ -108,12 +107,11 @@ impl Codec for Ranges {
 
     fn read(_name: &str, bytes: &[u8], out: &mut Shown) -> Result<(), Fault> {
         match range_from_sql(bytes)? {
-            Range::Empty => {}
+            Range::Empty => Ok(()),
             Range::Nonempty(lower, upper) => {
                 show_side(lower, out)?;
-                show_side(upper, out)?;
+                show_side(upper, out)
             }
         }
-        Ok(())
     }
 }

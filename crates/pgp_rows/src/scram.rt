@@ -5,7 +5,7 @@ use crate::row::Row;
 use crate::shown::{Shown, same};
 use crate::word::Words;
 use pgp_auth::authentication::sasl::{ChannelBinding, NoPrep, ScramError, ScramSha256, is_nonce};
-use std::alloc::{AllocError, Global};
+use std::alloc::Global;
 
 /// The nonce of the exchange that the Rust crate's tests have; its password is `foobar`.
 const NONCE: &str = "9IZ2O01zb9IgiIZ1WJ/zgpJB";
@@ -42,7 +42,7 @@ fn binding_of(alloc: Global, words: &mut Words<'_>) -> Result<ChannelBinding<Glo
 }
 
 /// Shows what a refusal says beside its name.
-fn show_detail(refusal: &ScramError, out: &mut Shown) -> Result<(), AllocError> {
+fn show_detail(refusal: &ScramError, out: &mut Shown) -> Result<(), Fault> {
     match refusal {
         ScramError::UnexpectedCharacter(at) => out.number(*at),
         ScramError::Trailing(at) => out.number(*at),
@@ -56,7 +56,7 @@ fn show_outcome(
     outcome: Result<(), ScramError>,
     client: &ScramSha256<Global>,
     out: &mut Shown,
-) -> Result<(), AllocError> {
+) -> Result<(), Fault> {
     match outcome {
         Ok(()) => out.word("ok")?,
         Err(refusal) => {
@@ -75,8 +75,7 @@ fn show_message(client: &ScramSha256<Global>, out: &mut Shown) -> Result<(), Fau
         Some(text) => out.text(str::from_utf8(text).map_err(|_| Fault::Row)?)?,
         None => out.word("over")?,
     }
-    out.number(client.hmacs())?;
-    Ok(())
+    out.number(client.hmacs())
 }
 
 /// Whether the client has a text to send is as it has to be. Else `wrong text` is shown.
@@ -84,7 +83,7 @@ fn show_text_left(
     client: &ScramSha256<Global>,
     has_text: bool,
     out: &mut Shown,
-) -> Result<(), AllocError> {
+) -> Result<(), Fault> {
     if client.message().is_some() == has_text {
         Ok(())
     } else {
@@ -93,7 +92,7 @@ fn show_text_left(
 }
 
 /// Each further step is out of turn, makes no code and leaves no text. Else `not over` is shown.
-fn show_end(client: &mut ScramSha256<Global>, out: &mut Shown) -> Result<(), AllocError> {
+fn show_end(client: &mut ScramSha256<Global>, out: &mut Shown) -> Result<(), Fault> {
     let made = client.hmacs();
     let is_over = matches!(client.update(ONE_ROUND), Err(ScramError::WrongState))
         && client.message().is_none()
@@ -116,8 +115,7 @@ fn show_exchange(alloc: Global, words: &mut Words<'_>, out: &mut Shown) -> Resul
     show_message(&client, out)?;
     show_outcome(client.finish(words.bytes()?), &client, out)?;
     show_text_left(&client, false, out)?;
-    show_end(&mut client, out)?;
-    Ok(())
+    show_end(&mut client, out)
 }
 
 /// `update FIRST`: the Rust crate's client gets a first text.
@@ -127,8 +125,7 @@ fn show_update(alloc: Global, words: &mut Words<'_>, out: &mut Shown) -> Result<
     let is_answered = outcome.is_ok();
     show_outcome(outcome, &client, out)?;
     show_text_left(&client, is_answered, out)?;
-    show_end(&mut client, out)?;
-    Ok(())
+    show_end(&mut client, out)
 }
 
 /// `answer FIRST`: what the Rust crate's client answers to a first text.
@@ -146,8 +143,24 @@ fn show_finish(alloc: Global, words: &mut Words<'_>, out: &mut Shown) -> Result<
     }
     show_outcome(client.finish(words.bytes()?), &client, out)?;
     show_text_left(&client, false, out)?;
-    show_end(&mut client, out)?;
-    Ok(())
+    show_end(&mut client, out)
+}
+
+/// Shows what a call comes to.
+fn show_call(
+    alloc: Global,
+    call: &str,
+    words: &mut Words<'_>,
+    out: &mut Shown,
+) -> Result<(), Fault> {
+    match call {
+        "answer" => show_answer(alloc, words, out),
+        "exchange" => show_exchange(alloc, words, out),
+        "finish" => show_finish(alloc, words, out),
+        "nonce" => out.number(is_nonce(words.text()?)),
+        "update" => show_update(alloc, words, out),
+        _ => Err(Fault::Row),
+    }
 }
 
 /// A row of an exchange.
@@ -155,14 +168,7 @@ pub fn check_scram(alloc: Global, row: &Row<'_>) -> Result<(), Fault> {
     let list = row.words(alloc)?;
     let mut words = Words::new(&list);
     let mut out = Shown::new(alloc);
-    match row.call {
-        "answer" => show_answer(alloc, &mut words, &mut out)?,
-        "exchange" => show_exchange(alloc, &mut words, &mut out)?,
-        "finish" => show_finish(alloc, &mut words, &mut out)?,
-        "nonce" => out.number(is_nonce(words.text()?))?,
-        "update" => show_update(alloc, &mut words, &mut out)?,
-        _ => return Err(Fault::Row),
-    }
+    show_call(alloc, row.call, &mut words, &mut out)?;
     words.end()?;
     same(row.right, out)
 }

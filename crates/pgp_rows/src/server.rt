@@ -22,14 +22,12 @@ where
 {
     out.word(name_of(message))?;
     message.show_parts(out)?;
-    out.word(";")?;
-    Ok(())
+    out.word(";")
 }
 
 fn show_refusal(refusal: Error, out: &mut Shown) -> Result<(), Fault> {
     out.refusal(refusal)?;
-    out.word(";")?;
-    Ok(())
+    out.word(";")
 }
 
 /// Shows what was read, and tells whether reading goes on.
@@ -57,8 +55,7 @@ where
 /// Shows the bytes that are left.
 fn show_rest(rest: &[u8], out: &mut Shown) -> Result<(), Fault> {
     out.word("rest")?;
-    out.bytes(rest)?;
-    Ok(())
+    out.bytes(rest)
 }
 
 /// By repeated `Message::parse`.

@@ -1,7 +1,7 @@
 //! Points, boxes and paths. A coordinate is told as its eight bytes.
 
 use crate::codec::Codec;
-use crate::fault::Fault;
+use crate::fault::{Fault, done};
 use crate::shown::{Shown, show_walk};
 use crate::word::{Word, Words};
 use pgp_base::Buffer;
@@ -17,7 +17,7 @@ fn coordinate(words: &mut Words<'_>) -> Result<u64, Fault> {
 fn write_point<B: Buffer>(words: &mut Words<'_>, buf: &mut B) -> Result<(), Fault> {
     let x = coordinate(words)?;
     let y = coordinate(words)?;
-    Ok(point_to_sql(x, y, buf)?)
+    done(point_to_sql(x, y, buf))
 }
 
 fn write_box<B: Buffer>(words: &mut Words<'_>, buf: &mut B) -> Result<(), Fault> {
@@ -25,7 +25,7 @@ fn write_box<B: Buffer>(words: &mut Words<'_>, buf: &mut B) -> Result<(), Fault>
     let y1 = coordinate(words)?;
     let x2 = coordinate(words)?;
     let y2 = coordinate(words)?;
-    Ok(box_to_sql(x1, y1, x2, y2, buf)?)
+    done(box_to_sql(x1, y1, x2, y2, buf))
 }
 
 /// The points of a list, two words each.
@@ -43,10 +43,10 @@ fn points(alloc: Global, list: &[Word]) -> Result<Vec<(u64, u64)>, Fault> {
 fn write_path<B: Buffer>(alloc: Global, words: &mut Words<'_>, buf: &mut B) -> Result<(), Fault> {
     let is_closed = words.word()?.is("closed");
     let points = points(alloc, words.list()?)?;
-    Ok(path_to_sql(is_closed, points.iter().copied(), buf)?)
+    done(path_to_sql(is_closed, points.iter().copied(), buf))
 }
 
-fn show_point(point: Point, out: &mut Shown) -> Result<(), AllocError> {
+fn show_point(point: Point, out: &mut Shown) -> Result<(), Fault> {
     out.bytes(&point.x().to_be_bytes())?;
     out.bytes(&point.y().to_be_bytes())
 }
@@ -54,8 +54,7 @@ fn show_point(point: Point, out: &mut Shown) -> Result<(), AllocError> {
 fn show_box(bytes: &[u8], out: &mut Shown) -> Result<(), Fault> {
     let shape = box_from_sql(bytes)?;
     show_point(shape.upper_right(), out)?;
-    show_point(shape.lower_left(), out)?;
-    Ok(())
+    show_point(shape.lower_left(), out)
 }
 
 fn show_path(bytes: &[u8], out: &mut Shown) -> Result<(), Fault> {
@@ -79,17 +78,16 @@ impl Codec for Shapes {
         buf: &mut B,
     ) -> Result<(), Fault> {
         match name {
-            "point" => write_point(words, buf)?,
-            "box" => write_box(words, buf)?,
-            "path" => write_path(alloc, words, buf)?,
-            _ => return Err(Fault::Row),
+            "point" => write_point(words, buf),
+            "box" => write_box(words, buf),
+            "path" => write_path(alloc, words, buf),
+            _ => Err(Fault::Row),
         }
-        words.end()
     }
 
     fn read(name: &str, bytes: &[u8], out: &mut Shown) -> Result<(), Fault> {
         match name {
-            "point" => Ok(show_point(point_from_sql(bytes)?, out)?),
+            "point" => show_point(point_from_sql(bytes)?, out),
             "box" => show_box(bytes, out),
             "path" => show_path(bytes, out),
             _ => Err(Fault::Row),

@@ -2,7 +2,7 @@
 
 use crate::fault::Fault;
 use pgp_base::{Error, FallibleIterator};
-use std::alloc::{AllocError, Global};
+use std::alloc::Global;
 use std::fmt::Display;
 
 /// Words that are written one behind the other.
@@ -33,21 +33,22 @@ impl Shown {
         self.alloc
     }
 
-    pub fn word(&mut self, word: &str) -> Result<(), AllocError> {
+    pub fn word(&mut self, word: &str) -> Result<(), Fault> {
         if !self.text.is_empty() {
             self.text.push(' ')?;
         }
-        self.text.push_str(word)
+        self.text.push_str(word)?;
+        Ok(())
     }
 
     /// A number, or whatever has a text.
-    pub fn number<N: Display + Drop>(&mut self, n: N) -> Result<(), AllocError> {
+    pub fn number<N: Display + Drop>(&mut self, n: N) -> Result<(), Fault> {
         let text = format!(in self.alloc; "{n}")?;
         self.word(text.as_str())
     }
 
     /// Bytes as hex digits, or none as `""`.
-    pub fn bytes(&mut self, bytes: &[u8]) -> Result<(), AllocError> {
+    pub fn bytes(&mut self, bytes: &[u8]) -> Result<(), Fault> {
         if bytes.is_empty() {
             return self.word("\"\"");
         }
@@ -56,7 +57,7 @@ impl Shown {
     }
 
     /// Bytes, or `null`.
-    pub fn nullable(&mut self, bytes: Option<&[u8]>) -> Result<(), AllocError> {
+    pub fn nullable(&mut self, bytes: Option<&[u8]>) -> Result<(), Fault> {
         match bytes {
             Some(bytes) => self.bytes(bytes),
             None => self.word("null"),
@@ -64,7 +65,7 @@ impl Shown {
     }
 
     /// A text in quotes: what isn't plain ASCII, a quote or a backslash is `\x` and two digits.
-    pub fn text(&mut self, text: &str) -> Result<(), AllocError> {
+    pub fn text(&mut self, text: &str) -> Result<(), Fault> {
         self.word("\"")?;
         for byte in text.bytes() {
             if (0x20..0x7f).contains(&byte) && byte != b'"' && byte != b'\\' {
@@ -74,11 +75,12 @@ impl Shown {
                 self.text.push_str(escape.as_str())?;
             }
         }
-        self.text.push('"')
+        self.text.push('"')?;
+        Ok(())
     }
 
     /// The name of a refusal, with the tag or the code that it carries.
-    pub fn refusal(&mut self, refusal: Error) -> Result<(), AllocError> {
+    pub fn refusal(&mut self, refusal: Error) -> Result<(), Fault> {
         self.number(refusal)?;
         match refusal {
             Error::UnknownTag(tag) => self.number(tag),
@@ -88,7 +90,7 @@ impl Shown {
     }
 
     /// A text that may have been refused.
-    pub fn text_or_refusal(&mut self, text: Result<&str, Error>) -> Result<(), AllocError> {
+    pub fn text_or_refusal(&mut self, text: Result<&str, Error>) -> Result<(), Fault> {
         match text {
             Ok(text) => self.text(text),
             Err(e) => self.refusal(e),
@@ -109,7 +111,7 @@ pub fn same(wanted: &str, came: Shown) -> Result<(), Fault> {
 const MOST: usize = 1000;
 
 /// Shows the items and the refusal that ends them, and tells how many items came.
-fn show_items<W: FallibleIterator, F: Fn(W::Item, &mut Shown) -> Result<(), AllocError>>(
+fn show_items<W: FallibleIterator, F: Fn(W::Item, &mut Shown) -> Result<(), Fault>>(
     walk: &mut W,
     show: &F,
     out: &mut Shown,
@@ -145,7 +147,7 @@ where
 /// `unsteady` where the end isn't answered again.
 pub fn show_walk<
     W: FallibleIterator + Drop,
-    F: Fn(W::Item, &mut Shown) -> Result<(), AllocError> + Drop,
+    F: Fn(W::Item, &mut Shown) -> Result<(), Fault> + Drop,
 >(mut walk: W, show: F, out: &mut Shown) -> Result<(), Fault>
 where
     W::Item: Drop,

@@ -1,7 +1,7 @@
 //! Texts and bytes.
 
 use crate::codec::Codec;
-use crate::fault::Fault;
+use crate::fault::{Fault, done};
 use crate::shown::Shown;
 use crate::word::Words;
 use pgp_base::Buffer;
@@ -22,25 +22,23 @@ impl Codec for Texts {
         buf: &mut B,
     ) -> Result<(), Fault> {
         match name {
-            "text" => text_to_sql(words.text()?, buf)?,
-            "ltree" => ltree_to_sql(words.text()?, buf)?,
-            "lquery" => lquery_to_sql(words.text()?, buf)?,
-            "ltxtquery" => ltxtquery_to_sql(words.text()?, buf)?,
-            "bytea" => bytea_to_sql(words.bytes()?, buf)?,
-            _ => return Err(Fault::Row),
+            "text" => done(text_to_sql(words.text()?, buf)),
+            "ltree" => done(ltree_to_sql(words.text()?, buf)),
+            "lquery" => done(lquery_to_sql(words.text()?, buf)),
+            "ltxtquery" => done(ltxtquery_to_sql(words.text()?, buf)),
+            "bytea" => done(bytea_to_sql(words.bytes()?, buf)),
+            _ => Err(Fault::Row),
         }
-        words.end()
     }
 
     fn read(name: &str, bytes: &[u8], out: &mut Shown) -> Result<(), Fault> {
         match name {
-            "text" => out.text(text_from_sql(bytes)?)?,
-            "ltree" => out.text(ltree_from_sql(bytes)?)?,
-            "lquery" => out.text(lquery_from_sql(bytes)?)?,
-            "ltxtquery" => out.text(ltxtquery_from_sql(bytes)?)?,
-            "bytea" => out.bytes(bytea_from_sql(bytes))?,
-            _ => return Err(Fault::Row),
+            "text" => out.text(text_from_sql(bytes)?),
+            "ltree" => out.text(ltree_from_sql(bytes)?),
+            "lquery" => out.text(lquery_from_sql(bytes)?),
+            "ltxtquery" => out.text(ltxtquery_from_sql(bytes)?),
+            "bytea" => out.bytes(bytea_from_sql(bytes)),
+            _ => Err(Fault::Row),
         }
-        Ok(())
     }
 }
