@@ -1,5 +1,6 @@
-use Rattle.std.proofs.Common.{rules, ◌≡◌, ◌≢◌, not, refl, subst, inl, inr, Some}
+use Rattle.std.proofs.Common.{rules, ◌≡◌, ◌≢◌, not, refl, ap, ◌∙◌, subst, inl, inr, Some}
 use Rattle.std.specs.Str.{IsUtf8}
+use Rattle.pgp_base.specs.declared.error.Error.{Error}
 use Rattle.pgp_base.specs.declared.error.Error.TheVariants.{OutOfMemory}
 use Rattle.pgp_frontend.specs.Payload.{cause}
 use Rattle.postgres_protocol.specs.ClientStream.{IsAdded}
@@ -48,7 +49,8 @@ pub returns-in-Err-OutOfMemory-clause-fault : goal.returns-in-Err-OutOfMemory-cl
 returns-in-Err-OutOfMemory-clause-fault g c =
     let m = asked c.in-Some.request in
     let says : Says c.in-Ok.text.now m = search rules in
+    let is : c.in-Err-OutOfMemory.field-0 ≡ OutOfMemory = search rules in
     elim c.in-Err-OutOfMemory.ensures.0 [
       | inl w ↦ (refl, inr (w.1.here, w.1.more, w.1.refused))
-      | inr h ↦ absurd (never_memory c.in-Ok.text.now m says h)
+      | inr h ↦ absurd (never_memory c.in-Ok.text.now m says (h ∙ ap (λ (e : Error). Some e) is))
     ]
