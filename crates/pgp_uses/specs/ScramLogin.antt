@@ -1,6 +1,6 @@
 -- A client that logs in with SCRAM-SHA-256: what each message of the server comes to.
 -- PostgreSQL manual, "SASL Authentication", "Message Flow": "Start-up"; RFC 5802; RFC 7677.
-use Rattle.std.specs.Prelude.{◌≡◌, ℕ, Bool, true, false, if◌then◌else◌, List, Option, Some, None, Result, Ok, Err, Contains, codes}
+use Rattle.std.specs.Prelude.{◌≡◌, ℕ, Bool, true, false, if◌then◌else◌, List, Option, Some, None, Result, Ok, Err, Contains, [], ◌∷◌, ◌++◌, codes}
 use Rattle.pgp_base.specs.Held.{Held}
 use Rattle.pgp_base.specs.Items.{MarkedItems}
 use Rattle.pgp_base.specs.declared.error.Error.{Error}
@@ -64,18 +64,38 @@ heard phase m = if_due phase (says m)
 abbrev pub Offers : List ℕ → Type 0
 Offers mechanisms = (names : List (List ℕ)) × MarkedItems TextSpelled TextRefused mechanisms names None × Contains names (codes "SCRAM-SHA-256")
 
--- What is known of a log-in that began with the exchange `start`: behind the server's signature there are two texts
--- of the server's, of which the first was answered and the second showed the signature.
-abbrev pub IsProved : Client → Client → Type 0
-IsProved start now = (first final : List ℕ) × Completes start first final now
+-- the first messages came among the second in this order, others before, between and behind them
+pub data CameAmong : List Message → List Message → Type 0 where
+  NoneWanted : {came : List Message} → CameAmong [] came
+  OneCame : {wanted came : List Message} (m : Message) → CameAmong wanted came → CameAmong (wanted ++ (m ∷ [])) (came ++ (m ∷ []))
+  OtherCame : {wanted came : List Message} (m : Message) → CameAmong wanted came → CameAmong wanted (came ++ (m ∷ []))
 
-abbrev pub Knows : Client → LoginPhase → Client → Type 0
-Knows start AwaitsOffer now = now ≡ start
-Knows start AwaitsFirst now = now ≡ start
-Knows start AwaitsFinal now = (first : List ℕ) × Answers start first now
-Knows start AwaitsOk now = IsProved start now
-Knows start Done now = IsProved start now
-Knows start Over now = Unit {0}
+-- the messages of a server that admits a client by SCRAM-SHA-256
+abbrev pub offer : List ℕ → Message
+offer mechanisms = Authentication (AuthenticationSasl mechanisms)
+
+abbrev pub first_text : List ℕ → Message
+first_text text = Authentication (AuthenticationSaslContinue text)
+
+abbrev pub final_text : List ℕ → Message
+final_text text = Authentication (AuthenticationSaslFinal text)
+
+abbrev pub welcome : Message
+welcome = Authentication AuthenticationOk
+
+-- What is known of a log-in that began with the exchange `start`, and took the messages that came: which of them brought it
+-- where it is, in their order. So behind the server's signature the two texts that complete the exchange are two that came.
+abbrev pub Knows : Client → List Message → LoginPhase → Client → Type 0
+Knows start came AwaitsOffer now = now ≡ start
+Knows start came AwaitsFirst now = (mechanisms : List ℕ) × Offers mechanisms
+    × CameAmong (offer mechanisms ∷ []) came × (now ≡ start)
+Knows start came AwaitsFinal now = (mechanisms first : List ℕ) × Offers mechanisms
+    × CameAmong (offer mechanisms ∷ first_text first ∷ []) came × Answers start first now
+Knows start came AwaitsOk now = (mechanisms first final : List ℕ) × Offers mechanisms
+    × CameAmong (offer mechanisms ∷ first_text first ∷ final_text final ∷ []) came × Completes start first final now
+Knows start came Done now = (mechanisms first final : List ℕ) × Offers mechanisms
+    × CameAmong (offer mechanisms ∷ first_text first ∷ final_text final ∷ welcome ∷ []) came × Completes start first final now
+Knows start came Over now = Unit {0}
 
 -- a log-in's phase, its exchange, and what it has to send
 pub record Shown (B : Type 0) : Type 0 where

@@ -1,10 +1,11 @@
 //! A client's core from the startup packet to the end of a log-in with SCRAM-SHA-256: it is handed a server's
 //! messages, and tells what they come to and what is to be sent. It reads and writes nothing itself.
 
-ghost use Rattle.std.specs.Prelude.{◌≡◌, [], ◌∷◌, codes, true, false, option_map, Contains, None, IfOk, IfErr};
+ghost use Rattle.std.specs.Prelude.{◌≡◌, [], ◌∷◌, ◌++◌, List, codes, true, false, option_map, Contains, None, IfOk, IfErr};
 ghost use Rattle.pgp_base.specs.Items.{MarkedItems};
 ghost use Rattle.pgp_auth.specs.ScramClient.{Client as Exchange};
 ghost use Rattle.pgp_frontend.specs.ClientMessage.{Startup};
+ghost use Rattle.pgp_message.specs.BackendMessage.{Message as BackendMessage};
 ghost use Rattle.pgp_message.specs.Items.{TextSpelled, TextRefused};
 ghost use Rattle.pgp_message.specs.Views.{view};
 ghost use Rattle.postgres_protocol.specs.ClientStream.{IsAdded, RefusesMessage};
@@ -166,7 +167,9 @@ impl<A: Memory, B: Buffer + Drop> ScramLogin<A, B> {
         ensures stepped { Steps B.held A.Lacks B.Lacks (view message.now)
             (record { phase = self.old.phase; exchange = self.old.exchange; out = self.old.out })
             (record { phase = self.new.phase; exchange = self.new.exchange; out = self.new.out }) result }
-        ensures known { (start : Exchange) → Knows start self.old.phase self.old.exchange → Knows start self.new.phase self.new.exchange }
+        ensures known { (start : Exchange) (came : List BackendMessage)
+            → Knows start came self.old.phase self.old.exchange
+            → Knows start (came ++ (view message.now ∷ [])) self.new.phase self.new.exchange }
         ensures opened { self.new.out.opened ≡ true }
     {
         self.hear(message)
