@@ -6,8 +6,9 @@ ghost use Rattle.pgp_message.specs.FrontReading.{IsFront};
 ghost use Rattle.pgp_message.specs.Stream.{BeginsWithFrame};
 ghost use Rattle.pgp_message.specs.Views.{seen};
 
+use crate::dispatch::{body_onto, plain_onto};
 use crate::frame::{Front, head};
-use crate::message::{Message, body_onto, plain_onto};
+use crate::message::Message;
 use bytes::Bytes;
 use pgp_base::{Error, Memory};
 use std::alloc::AllocError;

@@ -2,13 +2,16 @@
 #![tactic(auto)]
 
 mod body;
+mod dispatch;
 mod found;
 mod frame;
 mod frames;
 mod header;
+mod in_place;
 pub mod laws;
 mod message;
 mod parser;
+mod request;
 mod row_index;
 mod storage;
 mod tag;
@@ -24,7 +27,8 @@ pub use body::{
 pub use found::Found;
 pub use frames::read_frames;
 pub use header::Header;
-pub use message::{Message, Messages};
+pub use in_place::Messages;
+pub use message::Message;
 pub use parser::FrameParser;
 pub use row_index::RowIndex;
 pub use storage::Storage;

@@ -7,9 +7,10 @@ ghost use Rattle.pgp_message.specs.Remembered.{Fits, header_of, headers_after, m
 ghost use Rattle.pgp_message.specs.Stream.{Step, IsPartial, IsLengthFault};
 ghost use Rattle.pgp_message.specs.Views.{parsed};
 
+use crate::dispatch::{bare, body, keeps_bytes};
 use crate::found::{Found, header_behind, whole_frames};
 use crate::frame::{Front, count_of, head, header_of, room};
-use crate::message::{Message, bare, body, keeps_bytes};
+use crate::message::Message;
 use bytes::{Buf, Bytes, BytesMut};
 use pgp_base::{Error, Memory};
 use std::alloc::Allocator;

@@ -1,5 +1,5 @@
 use Rattle.std.proofs.Common.{rules, arith, ◌≡◌, ◌≤◌, refl, inl, inr}
-use Rattle.pgp_message.proofs.message.request_keeps_bytes.Goals as goal
+use Rattle.pgp_message.proofs.request.request_keeps_bytes.Goals as goal
 
 pub returns-in-Ok-eq8-default-clause-keeps : goal.returns-in-Ok-eq8-default-clause-keeps
 returns-in-Ok-eq8-default-clause-keeps c = λ _. inr (refl, _, _, c.in-Ok-eq8-default.ensures, inl c.in-Ok-eq8-default.field-0-0-test)

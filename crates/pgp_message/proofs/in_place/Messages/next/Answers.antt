@@ -2,7 +2,7 @@ use Rattle.std.proofs.Common.{rules, ap, ◌∙◌}
 use Rattle.pgp_message.specs.FrontReading.{Front, IsFront}
 use Rattle.pgp_message.specs.Reading.{body_of}
 use Rattle.pgp_message.proofs.Steps.{steps, payload_of_front}
-use Rattle.pgp_message.proofs.message.Messages.next.Goals as goal
+use Rattle.pgp_message.proofs.in_place.Messages.next.Goals as goal
 
 pub returns-clause-step : goal.returns-clause-step
 returns-clause-step c =

@@ -1,0 +1,63 @@
+//! Messages that are read in place.
+
+ghost use Rattle.std.specs.Prelude.{◌≡◌, Ok, Err, None};
+ghost use Rattle.pgp_message.specs.Stream.{Step, IsPartial, IsLengthFault};
+ghost use Rattle.pgp_message.specs.Views.{parsed};
+
+use crate::dispatch::body;
+use crate::frame::{Front, header_of};
+use crate::message::Message;
+use pgp_base::Error;
+use std::marker::Model;
+
+/// Reads the messages of a slice in place: nothing is copied, and no memory is asked for.
+#[derive(Drop)]
+pub struct Messages<'a> {
+    rest: &'a [u8],
+}
+
+impl<'a> Model for Messages<'a> {
+    ghost use Rattle.std.specs.Prelude.{ℕ, List};
+
+    ghost Value = { List ℕ };
+
+    ghost view = { λ m. m.rest.now };
+}
+
+impl<'a> Messages<'a> {
+    pub fn new(bytes: &'a [u8]) -> Messages<'a>
+        ensures { result ≡ bytes.now }
+    {
+        Messages { rest: bytes }
+    }
+
+    /// The bytes that weren't read yet.
+    pub fn rest(&self) -> &'a [u8]
+        ensures { result.now ≡ self.now }
+    {
+        self.rest
+    }
+
+    /// Takes the message at the front, as `Message::parse` does; `None` where the rest begins with none that is whole.
+    /// A frame whose body is refused is passed too.
+    ///
+    /// # Errors
+    ///
+    /// `InvalidLength` where a length below 4 is announced, with nothing passed. For the body of a frame
+    /// `UnknownTag`, `UnknownAuthentication`, `UnexpectedEof` where a part is cut short, and `NotDrained` where bytes are
+    /// left behind the last part. Never `OutOfMemory`.
+    pub fn next(&mut self) -> Result<Option<Message<&'a [u8]>>, Error>
+        ensures step { Step ⊥ self.old (parsed result) self.new }
+        ensures waits { IsPartial self.old → result ≡ Ok None }
+        ensures fault { IsLengthFault self.old → result ≡ Err Error.InvalidLength }
+    {
+        let header = header_of(self.rest);
+        let Some(front) = Front::find(header, self.rest)? else {
+            return Ok(None);
+        };
+        let payload = &self.rest[5..front.total];
+        let (_, rest) = self.rest.split_at(front.total);
+        self.rest = rest;
+        body(front.tag, payload).map(Some)
+    }
+}
