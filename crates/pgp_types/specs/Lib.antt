@@ -16,3 +16,4 @@ pub mod Hstore
 pub mod Range
 pub mod RangeReading
 pub mod RangeWriting
+pub mod RangeSteps

@@ -62,9 +62,10 @@ pub fn shapes()
 {}
 
 /// Arrays. One is read back where its dimensions have a product and that is the number of its elements.
-/// No more elements are read than there are bytes.
+/// No more dimensions are read than there are bytes, and no more elements.
 pub fn arrays()
     ensures of_array { IsSound array }
+    ensures few_dimensions { (bytes : List ℕ) (v : ArrayRead) → Reads array bytes (Ok v) → length v.dimensions.items ≤ length bytes }
     ensures few { (bytes : List ℕ) (v : ArrayRead) → Reads array bytes (Ok v) → length v.values.items ≤ length bytes }
 {}
 
