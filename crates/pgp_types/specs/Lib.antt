@@ -17,3 +17,4 @@ pub mod Range
 pub mod RangeReading
 pub mod RangeWriting
 pub mod RangeSteps
+pub mod RangeRoom
