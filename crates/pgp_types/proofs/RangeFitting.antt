@@ -1,25 +1,29 @@
 -- What the writer of a range comes to in a window, by the room that is left there.
-use Rattle.std.proofs.Common.{◌≡◌, ◌⊎◌, ℕ, ◌+◌, List, [], ◌∷◌, length, Some, None, Result, Ok, Err, MutBor, refl, sym, ap, subst, ◌∙◌, arith, inl, inr, length-append}
+use Rattle.std.proofs.Common.{◌≡◌, ℕ, ◌+◌, [], ◌∷◌, length, Some, None, Result, Ok, Err, MutBor, refl, ap, subst, ◌∙◌, arith, inl, inr, length-append}
 use Rattle.std.specs.Borrow.{GName}
 use Rattle.pgp_base.specs.declared.number.IsNull.{IsNull}
-use Rattle.pgp_base.specs.declared.error.Error.{Error}
 use Rattle.pgp_base.specs.declared.error.Error.TheVariants.{OutOfMemory, TooLarge}
 use Rattle.pgp_base.specs.declared.error.BindError.{BindError}
 use Rattle.pgp_base.specs.declared.error.BindError.TheVariants.{Serialization}
-use Rattle.pgp_base.specs.Cause.{length_cause, nullable_cause}
+use Rattle.std.specs.Prelude.{Bool, true, false, nat_le, if◌then◌else◌}
+use Rattle.pgp_base.specs.Cause.{Cause, length_cause}
 use Rattle.pgp_base.specs.Held.{Held, ◌⊕◌}
 use Rattle.pgp_base.specs.Window.{window_lacks}
 use Rattle.pgp_base.proofs.Needs.{wants_window}
 use Rattle.pgp_base.proofs.Parts.{more_bytes, more_kept}
 use Rattle.pgp_types.specs.declared.range.RangeBound.{RangeBound}
 use Rattle.pgp_types.specs.declared.range.RangeBound.TheVariants.{Inclusive, Exclusive, Unbounded}
-use Rattle.pgp_types.specs.Range.{Side, between, side_bytes, side_cause, range_bytes}
+use Rattle.pgp_types.specs.Range.{Side, side_bytes, side_cause}
 use Rattle.pgp_types.specs.RangeWriting.{side_of, LowerMade, RangeStops, RangeWritten}
 use Rattle.pgp_types.specs.RangeRoom.{LacksRange}
 
 -- no side has want of memory as its cause
+too_large : (b : Bool) → (let c : Cause = if b then None else Some TooLarge in c ≡ Some OutOfMemory) → ⊥
+too_large true e = cc
+too_large false e = cc
+
 length_no_memory : (n : ℕ) → length_cause n ≡ Some OutOfMemory → ⊥
-length_no_memory n e = search
+length_no_memory n e = too_large (nat_le n 2147483647) e
 
 side_no_memory : (s : Side) → side_cause s ≡ Some OutOfMemory → ⊥
 side_no_memory Unbounded e = cc

@@ -11,8 +11,8 @@ use Rattle.pgp_base.specs.Calls.{Adds, value_of, length_of}
 use Rattle.pgp_base.specs.Cause.{length_cause, nullable_cause, Wants, WantsMemory}
 use Rattle.pgp_base.specs.Held.{Held, ◌⊕◌, lengthened, inserted, overwritten, IsFrontOf, StaysBehind}
 use Rattle.pgp_base.specs.Wire.{uint32, nullable}
-use Rattle.pgp_base.proofs.Parts.{length-uint32, null_spelled, nothing_more, more_twice, more_bytes, more_kept}
-use Rattle.pgp_base.proofs.Needs.{nullable_least, sized_length, memory_then, if_err_map}
+use Rattle.pgp_base.proofs.Parts.{null_spelled, nothing_more, more_bytes}
+use Rattle.pgp_base.proofs.Needs.{nullable_least, sized_length, memory_then}
 use Rattle.pgp_types.specs.declared.range.RangeBound.{RangeBound}
 use Rattle.pgp_types.specs.declared.range.RangeBound.TheVariants.{Inclusive, Exclusive, Unbounded}
 use Rattle.pgp_types.specs.Range.{Side, between, lower_bits, upper_bits, side_bit, side_bytes, side_cause, range_bytes}

@@ -2,7 +2,6 @@
 use Rattle.std.specs.Prelude.{ℕ, ℤ, pos, negsuc, Bool, true, not, nat_eq, List, length, take, drop, Option, Some, None, Result, Ok, Err, nat_lt, if◌then◌else◌}
 use Rattle.pgp_base.specs.declared.error.Error.{Error}
 use Rattle.pgp_base.specs.declared.error.Error.TheVariants.{NotUtf8, InvalidKeyLength, InvalidValueLength}
-use Rattle.std.specs.Borrow.{Bor}
 use Rattle.std.specs.Int.{w64, from_be_bytes}
 use Rattle.std.specs.Str.{is_utf8}
 use Rattle.pgp_base.specs.PartReading.{◌>>=◌, byte_at, int32_at, front_at}

@@ -1,4 +1,3 @@
-use Rattle.std.proofs.Common.{◌≡◌, Result, Ok, Err, subst}
 use Rattle.pgp_types.proofs.RangeFitting.{range_lacks_at}
 use Rattle.pgp_types.proofs.laws.range_in_a_window.Goals as goal
 

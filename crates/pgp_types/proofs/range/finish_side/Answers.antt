@@ -1,4 +1,3 @@
-use Rattle.std.proofs.Common.{inl, inr}
 use Rattle.pgp_types.proofs.RangeWriteLemmas.{inclusive_put, exclusive_put, unbounded_cut}
 use Rattle.pgp_types.proofs.range.finish_side.Goals as goal
 

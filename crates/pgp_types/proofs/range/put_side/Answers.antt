@@ -1,5 +1,5 @@
 use Rattle.std.proofs.Common.{◌≡◌, ◌+◌, length, ap, ◌∙◌, arith, length-append}
-use Rattle.pgp_base.specs.Held.{Held, ◌⊕◌}
+use Rattle.pgp_base.specs.Held.{Held}
 use Rattle.pgp_base.proofs.Parts.{more_bytes}
 use Rattle.pgp_types.proofs.range.put_side.Goals as goal
 
