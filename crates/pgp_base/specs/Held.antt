@@ -1,5 +1,5 @@
 -- What a buffer holds.
-use Rattle.std.specs.Prelude.{◌≡◌, ℕ, ◌+◌, List, [], ◌++◌, length, take, drop}
+use Rattle.std.specs.Prelude.{◌≡◌, ◌⊎◌, ℕ, ◌+◌, List, [], ◌++◌, length, take, drop}
 
 -- its bytes; what stands behind them, where that is memory of the caller's; and what no call changes, as
 -- whose memory it is
@@ -23,6 +23,14 @@ h ⊕ z = lengthened h z
 -- with z over the bytes at `place`
 unfoldable pub overwritten : {Kept : Type 0} → Held Kept → ℕ → List ℕ → Held Kept
 overwritten h place z = record { bytes = take place h.bytes ++ z ++ drop (place + length z) h.bytes; behind = h.behind; kept = h.kept }
+
+-- with z put at `place`, and what stood there behind it
+unfoldable pub inserted : {Kept : Type 0} → Held Kept → ℕ → List ℕ → Held Kept
+inserted h place z = record { bytes = take place h.bytes ++ z ++ drop place h.bytes; behind = drop (length z) h.behind; kept = h.kept }
+
+-- what stands behind the bytes that are cut at len: what stood there; in memory of the caller's behind the bytes that were cut off
+abbrev pub StaysBehind : {Kept : Type 0} → ℕ → Held Kept → Held Kept → Type 0
+StaysBehind len old new = (new.behind ≡ drop len old.bytes ++ old.behind) ⊎ ((old.behind ≡ []) × (new.behind ≡ []))
 
 -- b holds the bytes of a, and more behind them
 pub record IsFrontOf {Kept : Type 0} (a b : Held Kept) : Type 0 where

@@ -1,7 +1,7 @@
 //! What writers append to.
 
-ghost use Rattle.std.specs.Prelude.{◌≡◌, ℕ, ◌+◌, ◌<◌, ◌≤◌, ◌^◌, [], length, take, OnOk, OnErr};
-ghost use Rattle.pgp_base.specs.Held.{Held, ◌⊕◌, overwritten, items_held};
+ghost use Rattle.std.specs.Prelude.{◌≡◌, ℕ, ◌+◌, ◌<◌, ◌≤◌, ◌^◌, List, [], ◌++◌, length, take, drop, OnOk, OnErr};
+ghost use Rattle.pgp_base.specs.Held.{Held, ◌⊕◌, inserted, overwritten, items_held, StaysBehind};
 
 use crate::memory::Memory;
 use bytes::{Buf, BytesMut};
@@ -59,15 +59,35 @@ pub trait Buffer {
         ensures kept { OnErr result (more.new ≡ more.old) }
         ensures lacks { OnErr result (Lacks (held self.old) (length (T.unread more.old))) };
 
-    /// Cuts what stands past `len`.
+    /// Puts all of `more` at `place`, and what stood there behind it; or changes nothing.
+    ///
+    /// # Errors
+    ///
+    /// `AllocError` where there is no memory for it.
+    fn insert(&mut self, place: usize, more: &[u8]) -> Result<(), AllocError>
+        requires { place ≤ length (held self.old).bytes }
+        ensures ok { OnOk result (held self.new ≡ inserted (held self.old) place more.now) }
+        ensures err { OnErr result (held self.new ≡ held self.old) }
+        ensures lacks { OnErr result (Lacks (held self.old) (length more.now)) };
+
+    /// Cuts what stands past `len`. In memory of the caller's it stands there still, behind the bytes.
     fn truncate(&mut self, len: usize)
         ensures bytes { (held self.new).bytes ≡ take len (held self.old).bytes }
+        ensures behind { StaysBehind len (held self.old) (held self.new) }
         ensures kept { (held self.new).kept ≡ (held self.old).kept };
 
     /// Writes over the bytes at `place`.
     fn patch(&mut self, place: usize, over: &[u8])
         requires { place + length over.now ≤ length (held self.old).bytes }
         ensures { held self.new ≡ overwritten (held self.old) place over.now };
+}
+
+// Moves the last `count` bytes to `place`, and those that stood there behind them.
+pub(crate) fn move_last(all: &mut [u8], place: usize, count: usize)
+    requires { place + count ≤ length all.old }
+    ensures { (front last : List ℕ) → all.old ≡ front ++ last → length last ≡ count → all.new ≡ take place front ++ last ++ drop place front }
+{
+    all[place..].rotate_right(count);
 }
 
 /// It lacks what its memory lacks: any growth by a byte or more may be refused.
@@ -98,6 +118,13 @@ impl<A: Memory> Buffer for BytesMut<A> {
     #[tactic(auto, unfolding(crate::specs::Held::lengthened))]
     fn append_from<T: Buf>(&mut self, more: &mut T) -> Result<(), AllocError> {
         A::append_from(self, more)
+    }
+
+    #[tactic(auto, unfolding(crate::specs::Held::lengthened, crate::specs::Held::inserted))]
+    fn insert(&mut self, place: usize, more: &[u8]) -> Result<(), AllocError> {
+        Buffer::append(self, more)?;
+        move_last(self.as_mut_slice(), place, more.len());
+        Ok(())
     }
 
     fn truncate(&mut self, len: usize) {

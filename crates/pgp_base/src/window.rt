@@ -2,7 +2,7 @@
 
 ghost use Rattle.std.specs.Prelude.{◌≡◌, ◌≤◌, [], length, take};
 
-use crate::buffer::Buffer;
+use crate::buffer::{Buffer, move_last};
 use bytes::Buf;
 use std::alloc::AllocError;
 
@@ -73,6 +73,13 @@ impl Buffer for Window<'_> {
         let end = self.len + count;
         more.copy_to_slice(&mut self.room[self.len..end]);
         self.len = end;
+        Ok(())
+    }
+
+    #[tactic(auto, unfolding(crate::specs::Held::lengthened, crate::specs::Held::inserted))]
+    fn insert(&mut self, place: usize, more: &[u8]) -> Result<(), AllocError> {
+        self.append(more)?;
+        move_last(&mut self.room[..self.len], place, more.len());
         Ok(())
     }
 

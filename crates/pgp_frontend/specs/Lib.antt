@@ -2,5 +2,6 @@ pub mod ClientMessage
 pub mod Given
 pub mod Opening
 pub mod Payload
+pub mod Putting
 pub mod Reading
 pub mod View

@@ -6,7 +6,8 @@ ghost use Rattle.std.specs.Prelude.{length};
 ghost use Rattle.pgp_base.specs.Wire.{int32, nullable};
 ghost use Rattle.pgp_base.specs.Cause.{length_cause, Wants, WantsMemory};
 ghost use Rattle.pgp_base.specs.Held.{◌⊕◌, IsFrontOf};
-ghost use Rattle.pgp_frontend.specs.Payload.{spelling, part_cause, parts_cause, joined, frame_cause, framed, WritesFrame};
+ghost use Rattle.pgp_frontend.specs.Payload.{spelling, part_cause, joined, frame_cause, framed, WritesFrame};
+ghost use Rattle.pgp_frontend.specs.Putting.{PutsParts, PartsRefused};
 ghost use Rattle.pgp_frontend.specs.View.{part_of, parts_of};
 
 use pgp_base::{Buffer, Error, finish_body, length_field, put_u8, put_u32, write_cstr};
@@ -98,9 +99,9 @@ fn put_field<B: Buffer>(field: &Field, buf: &mut B) -> Result<(), Error>
 // The hint carries the speed of short messages.
 #[inline(always)]
 fn put_each<B: Buffer>(fields: &[Field], buf: &mut B) -> Result<(), Error>
-    ensures ok { OnOk result ((parts_cause (parts_of fields.now) ≡ None) × (B.held buf.new ≡ B.held buf.old ⊕ joined (parts_of fields.now))) }
+    ensures ok { OnOk result (PutsParts (parts_of fields.now) (B.held buf.old) (B.held buf.new)) }
     ensures err { OnErr result (IsFrontOf (B.held buf.old) (B.held buf.new)) }
-    ensures cause { IfErr result (λ e. WantsMemory (Wants B.Lacks (B.held buf.old) (length (joined (parts_of fields.now)))) e ⊎ (parts_cause (parts_of fields.now) ≡ Some e)) }
+    ensures cause { IfErr result (PartsRefused (parts_of fields.now) B.Lacks (B.held buf.old)) }
 {
     for field in fields {
         put_field(field, buf)?;
@@ -112,9 +113,9 @@ fn put_each<B: Buffer>(fields: &[Field], buf: &mut B) -> Result<(), Error>
 // The hint carries the speed of short messages.
 #[inline(always)]
 fn put_later<B: Buffer>(fields: &[Field], buf: &mut B) -> Result<(), Error>
-    ensures ok { OnOk result ((parts_cause (parts_of fields.now) ≡ None) × (B.held buf.new ≡ B.held buf.old ⊕ joined (parts_of fields.now))) }
+    ensures ok { OnOk result (PutsParts (parts_of fields.now) (B.held buf.old) (B.held buf.new)) }
     ensures err { OnErr result (IsFrontOf (B.held buf.old) (B.held buf.new)) }
-    ensures cause { IfErr result (λ e. WantsMemory (Wants B.Lacks (B.held buf.old) (length (joined (parts_of fields.now)))) e ⊎ (parts_cause (parts_of fields.now) ≡ Some e)) }
+    ensures cause { IfErr result (PartsRefused (parts_of fields.now) B.Lacks (B.held buf.old)) }
 {
     let [first, rest @ ..] = fields else {
         return Ok(());
@@ -128,9 +129,9 @@ fn put_later<B: Buffer>(fields: &[Field], buf: &mut B) -> Result<(), Error>
 // The hint carries the speed of short messages.
 #[inline(always)]
 pub fn put_fields<B: Buffer>(fields: &[Field], buf: &mut B) -> Result<(), Error>
-    ensures ok { OnOk result ((parts_cause (parts_of fields.now) ≡ None) × (B.held buf.new ≡ B.held buf.old ⊕ joined (parts_of fields.now))) }
+    ensures ok { OnOk result (PutsParts (parts_of fields.now) (B.held buf.old) (B.held buf.new)) }
     ensures err { OnErr result (IsFrontOf (B.held buf.old) (B.held buf.new)) }
-    ensures cause { IfErr result (λ e. WantsMemory (Wants B.Lacks (B.held buf.old) (length (joined (parts_of fields.now)))) e ⊎ (parts_cause (parts_of fields.now) ≡ Some e)) }
+    ensures cause { IfErr result (PartsRefused (parts_of fields.now) B.Lacks (B.held buf.old)) }
 {
     let [first, rest @ ..] = fields else {
         return Ok(());

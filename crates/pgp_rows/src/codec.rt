@@ -18,11 +18,6 @@ pub trait Codec {
         buf: &mut B,
     ) -> Result<(), Fault>;
 
-    /// Whether the call writes behind its bytes, and takes that back: it needs more room than they take.
-    fn spills(_words: &[Word]) -> bool {
-        false
-    }
-
     /// Shows what the type of this name reads from all of the bytes.
     fn read(name: &str, bytes: &[u8], out: &mut Shown) -> Result<(), Fault>;
 }
@@ -141,7 +136,7 @@ fn is_read<C: Codec>(alloc: Global, name: &str, bytes: &[u8], wanted: &str) -> R
 /// The call appends the bytes, wherever it appends them.
 fn writes<C: Codec>(alloc: Global, row: &Row<'_>, name: &str, words: &[Word]) -> Result<(), Fault> {
     is_written::<C>(alloc, row, name, words)?;
-    if row.is_refusal() || C::spills(words) {
+    if row.is_refusal() {
         return Ok(());
     }
     let bytes = row.wanted_bytes(alloc)?;

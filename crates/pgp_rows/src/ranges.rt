@@ -5,7 +5,7 @@ ghost use Rattle.pgp_types.specs.RangeWriting.{KeepsBound};
 use crate::codec::Codec;
 use crate::fault::{Fault, done};
 use crate::shown::Shown;
-use crate::word::{Word, Words};
+use crate::word::Words;
 use pgp_base::{Buffer, Error, IsNull};
 use pgp_types::{Range, RangeBound, empty_range_to_sql, int4_to_sql, range_from_sql, range_to_sql};
 use std::alloc::Global;
@@ -98,11 +98,6 @@ impl Codec for Ranges {
             "empty_range" => done(empty_range_to_sql(buf)),
             _ => Err(Fault::Row),
         }
-    }
-
-    /// An upper side without a bound takes the place of its length back.
-    fn spills(words: &[Word]) -> bool {
-        words.last().is_some_and(|word| word.is("none"))
     }
 
     fn read(_name: &str, bytes: &[u8], out: &mut Shown) -> Result<(), Fault> {

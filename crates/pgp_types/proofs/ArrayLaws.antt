@@ -9,12 +9,13 @@ use Rattle.std.proofs.lemmas.Int.{to_z-of_z}
 use Rattle.pgp_base.specs.declared.error.Error.{Error}
 use Rattle.pgp_base.specs.declared.error.Error.TheVariants.{InvalidValueLength}
 use Rattle.pgp_base.specs.Cause.{first, length_cause, nullable_cause}
-use Rattle.pgp_base.specs.Wire.{uint32, oid as oid_bytes, IsBytes, nullable as nullable_bytes}
+use Rattle.pgp_base.specs.Wire.{uint32, int32, oid as oid_bytes, IsBytes, nullable as nullable_bytes}
 use Rattle.pgp_base.specs.Items.{Spellings}
 use Rattle.pgp_base.specs.Walk.{Walk}
 use Rattle.pgp_base.specs.WalkReading.{counted}
 use Rattle.pgp_base.proofs.CountedLemmas.{counted_one, not_more_items, ok}
 use Rattle.pgp_base.proofs.Causes.{either_left, either_right}
+use Rattle.pgp_base.proofs.Parts.{int32_spelled, length-uint32}
 use Rattle.pgp_types.specs.declared.array.ArrayDimension.{ArrayDimension}
 use Rattle.pgp_types.specs.Format.{IsSound}
 use Rattle.pgp_types.specs.Part.{Begins, nullable, IsWalk}
@@ -219,3 +220,19 @@ few_elements bytes v x =
     let f = x.0 in
     let some = not_more_items (λ place. (nullable InvalidValueLength).Spelled) (nullable InvalidValueLength).Refused (λ place. element_at) element_reader _ 0 f.rest v.values.items v.values.end x.5.items in
     omega (arith, some, ap (λ l. length l) f.begins.whole, length-append f.begins.front f.behind, ap (λ l. length l) f.extent.whole, length-append (flat_map dimension_bytes f.dimensions) f.rest)
+
+dimension_length : (d : ArrayDimension) → length (dimension_bytes d) ≡ 8
+dimension_length d =
+    omega (arith, length-append (int32 d.len) (int32 d.lower_bound), ap length (int32_spelled d.len), length-uint32 (cast_unsigned w32 d.len), ap length (int32_spelled d.lower_bound), length-uint32 (cast_unsigned w32 d.lower_bound))
+
+dimensions_least : (ds : List ArrayDimension) → length ds ≤ length (flat_map dimension_bytes ds)
+dimensions_least [] = omega arith
+dimensions_least (d ∷ ds) = let least = dimensions_least ds in omega (arith, least, length-append (dimension_bytes d) (flat_map dimension_bytes ds), dimension_length d)
+
+-- no more dimensions than bytes
+pub few_dimensions : (bytes : List ℕ) (v : ArrayRead) → ArrayReads bytes (Ok v) → length v.dimensions.items ≤ length bytes
+few_dimensions bytes v x =
+    let f = x.0 in
+    let least = dimensions_least f.dimensions in
+    let same : length v.dimensions.items ≡ length f.dimensions = ap (λ (w : Walk ArrayDimension). length w.items) x.4 in
+    omega (arith, same, least, ap (λ l. length l) f.begins.whole, length-append f.begins.front f.behind, ap (λ l. length l) f.extent.whole, length-append (flat_map dimension_bytes f.dimensions) f.rest)

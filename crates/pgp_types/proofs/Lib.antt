@@ -14,3 +14,4 @@ pub mod PathLemmas
 pub mod HstoreLemmas
 pub mod RangeLemmas
 pub mod RangeWriteLemmas
+pub mod RangeFitting

@@ -1,4 +1,4 @@
--- Reading the parts of an array from the left, as the code does it.
+-- Private: reading the parts of an array from the left, as the code does it.
 use Rattle.std.specs.Prelude.{ℕ, ℤ, ◌*◌, List, Option, Result, Ok, nat_le}
 use Rattle.std.specs.Int.{w32, from_be_bytes, cast_signed}
 use Rattle.pgp_base.specs.declared.error.Error.{Error}

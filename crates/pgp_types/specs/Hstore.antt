@@ -10,8 +10,7 @@ use Rattle.pgp_base.specs.Cause.{Cause, either, first, length_cause, nullable_ca
 use Rattle.pgp_base.specs.Walk.{Walk}
 use Rattle.pgp_base.specs.Wire.{uint32, nullable as nullable_bytes}
 use Rattle.pgp_types.specs.Format.{Format}
-use Rattle.pgp_types.specs.Part.{Part, Begins, IsWalk, natural, sized, nullable, only, ◌then◌, finished}
-use Rattle.pgp_types.specs.PartReading.{shown}
+use Rattle.pgp_types.specs.Part.{Part, Begins, IsWalk, natural, sized, nullable, only, ◌then◌, finished, shown}
 
 -- a key, and a value or a null
 abbrev pub Entry : Type 0

@@ -16,3 +16,5 @@ pub mod Hstore
 pub mod Range
 pub mod RangeReading
 pub mod RangeWriting
+pub mod RangeSteps
+pub mod RangeRoom

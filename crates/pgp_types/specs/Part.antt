@@ -2,6 +2,7 @@
 -- order in which what it is made of is read.
 use Rattle.std.specs.Prelude.{◌≡◌, ◌⊎◌, ℕ, negsuc, ◌<◌, List, ◌++◌, length, Option, Some, None}
 use Rattle.std.specs.Prelude.{FitsSigned}
+use Rattle.std.specs.Borrow.{Bor}
 use Rattle.std.specs.Int.{w32}
 use Rattle.pgp_base.specs.declared.error.Error.{Error}
 use Rattle.pgp_base.specs.declared.error.Error.TheVariants.{UnexpectedEof}
@@ -101,3 +102,8 @@ pub record IsWalk {V : Type 0} (item : Part V) (n : ℕ) (bytes : List ℕ) (w :
 -- a walk that hands out all of these, and ends
 abbrev pub finished : {V : Type 0} → List V → Walk V
 finished xs = record { items = xs; end = None; announced = Some (length xs) }
+
+-- the bytes that are borrowed for a value
+abbrev pub shown : Option (Bor (List ℕ)) → Option (List ℕ)
+shown None = None
+shown (Some bytes) = Some bytes.now

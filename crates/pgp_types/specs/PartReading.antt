@@ -1,8 +1,7 @@
--- Reading a part of a value from the left, as a function. What it answers is what the part's grammar says.
+-- Private: reading a part of a value from the left, as a function. What it answers is what the part's grammar says.
 use Rattle.std.specs.Prelude.{ℕ, ℤ, pos, negsuc, Bool, true, not, nat_eq, List, length, take, drop, Option, Some, None, Result, Ok, Err, nat_lt, if◌then◌else◌}
 use Rattle.pgp_base.specs.declared.error.Error.{Error}
 use Rattle.pgp_base.specs.declared.error.Error.TheVariants.{NotUtf8, InvalidKeyLength, InvalidValueLength}
-use Rattle.std.specs.Borrow.{Bor}
 use Rattle.std.specs.Int.{w64, from_be_bytes}
 use Rattle.std.specs.Str.{is_utf8}
 use Rattle.pgp_base.specs.PartReading.{◌>>=◌, byte_at, int32_at, front_at}
@@ -81,8 +80,3 @@ entry_value_at = only_at is_text_or_null NotUtf8 (nullable_at InvalidValueLength
 
 unfoldable pub entry_at : Reader (List ℕ × Option (List ℕ))
 entry_at = then_at key_at entry_value_at
-
--- the bytes that are borrowed for a value
-abbrev pub shown : Option (Bor (List ℕ)) → Option (List ℕ)
-shown None = None
-shown (Some bytes) = Some bytes.now

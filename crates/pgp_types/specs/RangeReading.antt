@@ -1,4 +1,4 @@
--- Reading a range from the left, as a function, and its values behind a view. What it answers is what its grammar says.
+-- Private: reading a range from the left, as a function, and its values behind a view. What it answers is what its grammar says.
 use Rattle.std.specs.Prelude.{ℕ, List, [], ◌∷◌, Option, Result, Ok, Err, bit_and, nat_eq, if◌then◌else◌}
 use Rattle.std.specs.Borrow.{Bor}
 use Rattle.pgp_base.specs.declared.error.Error.{Error}
@@ -7,7 +7,8 @@ use Rattle.pgp_types.specs.declared.range.RangeBound.{RangeBound}
 use Rattle.pgp_types.specs.declared.range.RangeBound.TheVariants.{Inclusive, Exclusive, Unbounded}
 use Rattle.pgp_types.specs.declared.range.Range.{Range as Seen}
 use Rattle.pgp_types.specs.declared.range.Range.TheVariants.{Empty, Nonempty}
-use Rattle.pgp_types.specs.PartReading.{Reader, and_then, then_at, nullable_at, shown}
+use Rattle.pgp_types.specs.PartReading.{Reader, and_then, then_at, nullable_at}
+use Rattle.pgp_types.specs.Part.{shown}
 use Rattle.pgp_types.specs.Range.{Side, Range, empty, between, Bits, lower_bits, upper_bits}
 
 -- the bytes that are borrowed for a side, and for a range

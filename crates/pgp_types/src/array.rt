@@ -13,7 +13,7 @@ ghost use Rattle.pgp_base.specs.Calls.{Came, SoFar, OwesValues};
 ghost use Rattle.pgp_base.specs.Wire.{IsBytes};
 ghost use Rattle.pgp_base.specs.PartReading.{Answers};
 ghost use Rattle.pgp_types.specs.Format.{Reads};
-ghost use Rattle.pgp_types.specs.PartReading.{shown};
+ghost use Rattle.pgp_types.specs.Part.{shown};
 ghost use Rattle.pgp_types.specs.ArrayReading.{head_at, product_at, each_at};
 ghost use Rattle.pgp_types.specs.Array.{array, dimension, Extent, IsDimension, has_null, dimension_bytes};
 ghost use Rattle.pgp_types.specs.ArrayWriting.{before_elements, WantsHead, DimensionsPast, Made, MadeUpTo, ArrayWritten, ArrayRefused, WritesArray};
@@ -320,7 +320,7 @@ impl<'a> FallibleIterator for ArrayValues<'a> {
     type Item = Option<&'a [u8]>;
 
     ghost use Rattle.std.specs.Prelude.{ℕ, List, Option};
-    ghost use Rattle.pgp_types.specs.PartReading.{shown};
+    ghost use Rattle.pgp_types.specs.Part.{shown};
 
     ghost Meaning = { Option (List ℕ) };
 

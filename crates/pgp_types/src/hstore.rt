@@ -13,7 +13,8 @@ ghost use Rattle.pgp_base.specs.Wire.{nullable};
 ghost use Rattle.pgp_types.specs.Format.{Reads};
 ghost use Rattle.pgp_types.specs.Given.{Whole, Stops, WritesAll, WantsValue};
 ghost use Rattle.pgp_types.specs.Hstore.{hstore, shown_entry, shown_entries};
-ghost use Rattle.pgp_types.specs.PartReading.{shown, key_at, entry_value_at, entry_at};
+ghost use Rattle.pgp_types.specs.PartReading.{key_at, entry_value_at, entry_at};
+ghost use Rattle.pgp_types.specs.Part.{shown};
 
 use crate::codec::MOST_ITEMS;
 use crate::part::{natural_at, nullable_at, sized_at};

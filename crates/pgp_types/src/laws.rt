@@ -1,7 +1,7 @@
 //! Laws on what is written and what is read: every list of bytes has one reading, a value or a refusal, and
-//! what is written for a value is read as that value.
+//! what is written for a value is read as that value. And on the room that a range takes.
 
-ghost use Rattle.std.specs.Prelude.{ℕ, ◌*◌, ◌<◌, ◌≤◌, List, length, Ok, Err};
+ghost use Rattle.std.specs.Prelude.{◌≡◌, ℕ, ◌*◌, ◌<◌, ◌≤◌, List, length, Ok, Err};
 ghost use Rattle.pgp_types.specs.Format.{IsSound, Reads};
 ghost use Rattle.pgp_types.specs.Scalar.{bool, bytea, char, int2, int4, int8, oid, lsn, float4, float8};
 ghost use Rattle.pgp_types.specs.Text.{text, ltree, lquery, ltxtquery};
@@ -13,8 +13,12 @@ ghost use Rattle.pgp_types.specs.Varbit.{varbit};
 ghost use Rattle.pgp_types.specs.Path.{path};
 ghost use Rattle.pgp_types.specs.Hstore.{hstore};
 ghost use Rattle.pgp_types.specs.Range.{range};
+ghost use Rattle.pgp_types.specs.RangeRoom.{LacksRange};
+ghost use Rattle.pgp_types.specs.RangeWriting.{OwesBound};
+ghost use Rattle.pgp_base.specs.Window.{window_held, window_lacks};
 
-use pgp_base::Error;
+use crate::{RangeBound, range_to_sql};
+use pgp_base::{BindError, Error, IsNull, Window};
 
 /// Truth values, bytes and numbers.
 pub fn scalars()
@@ -62,9 +66,10 @@ pub fn shapes()
 {}
 
 /// Arrays. One is read back where its dimensions have a product and that is the number of its elements.
-/// No more elements are read than there are bytes.
+/// No more dimensions are read than there are bytes, and no more elements.
 pub fn arrays()
     ensures of_array { IsSound array }
+    ensures few_dimensions { (bytes : List ℕ) (v : ArrayRead) → Reads array bytes (Ok v) → length v.dimensions.items ≤ length bytes }
     ensures few { (bytes : List ℕ) (v : ArrayRead) → Reads array bytes (Ok v) → length v.values.items ≤ length bytes }
 {}
 
@@ -87,3 +92,24 @@ pub fn key_value_lists()
 pub fn ranges()
     ensures { IsSound range }
 {}
+
+/// In a window the writer of a range is refused memory only where the range, as far as its closures made it, is longer than the room
+/// that is left: a window of exactly the range's size takes it.
+///
+/// # Errors
+///
+/// As `range_to_sql`.
+pub fn range_in_a_window<
+    'a,
+    E: Drop,
+    F: FnOnce(&mut Window<'a>) -> Result<RangeBound<IsNull>, E>,
+    G: FnOnce(&mut Window<'a>) -> Result<RangeBound<IsNull>, E> + Drop,
+>(lower: F, upper: G, window: &mut Window<'a>) -> Result<(), BindError<E>>
+    requires lower_callable { F.IsAlwaysCallable lower }
+    requires upper_callable { G.IsAlwaysCallable upper }
+    requires lower_owes { OwesBound window_held F.pre F.post lower }
+    requires upper_owes { OwesBound window_held G.pre G.post upper }
+    ensures { result ≡ Err (BindError.Serialization Error.OutOfMemory) → LacksRange window_held F.post G.post lower upper (window_held window.old) window_lacks }
+{
+    range_to_sql(lower, upper, window)
+}

@@ -2,7 +2,8 @@
 #![tactic(auto, using(pgp_base::proofs::Parts::held_steps))]
 
 ghost use Rattle.pgp_base.specs.PartReading.{Answers};
-ghost use Rattle.pgp_types.specs.PartReading.{natural_at, sized_at, nullable_at, shown};
+ghost use Rattle.pgp_types.specs.PartReading.{natural_at, sized_at, nullable_at};
+ghost use Rattle.pgp_types.specs.Part.{shown};
 
 use pgp_base::Error;
 use pgp_base::reading::int32_at;

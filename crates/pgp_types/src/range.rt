@@ -3,20 +3,22 @@
 //! PostgreSQL manual, "Range Types".
 #![tactic(auto, using(pgp_base::proofs::Parts::held_steps))]
 
-ghost use Rattle.std.specs.Prelude.{◌≡◌, ℕ, ◌+◌, ◌≤◌, List, [], length, drop, Some, None, OnOk, OnErr, IfOk, IfErr};
+ghost use Rattle.std.specs.Prelude.{◌≡◌, ◌⊎◌, ℕ, ◌≤◌, List, [], length, Some, None, OnOk, OnErr, IfOk, IfErr};
 ghost use Rattle.pgp_base.specs.Calls.{Adds, Appends, value_of, length_of};
-ghost use Rattle.pgp_base.specs.Cause.{nullable_cause};
-ghost use Rattle.pgp_base.specs.Held.{overwritten, IsFrontOf};
+ghost use Rattle.pgp_base.specs.Cause.{length_cause, nullable_cause, Wants, WantsMemory};
+ghost use Rattle.pgp_base.specs.Held.{Held, ◌⊕◌, inserted, IsFrontOf};
 ghost use Rattle.pgp_base.specs.PartReading.{Answers};
+ghost use Rattle.pgp_base.specs.Wire.{uint32, nullable};
 ghost use Rattle.pgp_types.specs.Format.{ReadsBy, Writes};
 ghost use Rattle.pgp_types.specs.Range.{Side, range, empty, side_bit, side_bytes, side_cause};
 ghost use Rattle.pgp_types.specs.RangeReading.{shown_side, shown_range, side_at, range_at};
-ghost use Rattle.pgp_types.specs.RangeWriting.{OwesBound, IsNullBound, SideFilled, side_of, has_bound, Stands, Makes, SideStops, WritesRange, RangeStops, RangeWritten};
+ghost use Rattle.pgp_types.specs.RangeWriting.{OwesBound, IsNullBound, side_of, cut_of, Extends, Makes, SideStops, WritesRange, RangeStops, RangeWritten};
+ghost use Rattle.pgp_types.specs.RangeSteps.{IsValueBehind, IsSideBehind};
 
 use crate::codec::append;
 use crate::part::nullable_at;
 use pgp_base::reading::byte_at;
-use pgp_base::{BindError, Buffer, Error, IsNull, length_field, patch_u32, put_u8, put_u32};
+use pgp_base::{BindError, Buffer, Error, IsNull, length_field, put_u8};
 
 // The tag of the empty range, and the bits of any other.
 const EMPTY: u8 = 1;
@@ -73,45 +75,59 @@ fn bound_by<B: Buffer, E, F: FnOnce(&mut B) -> Result<RangeBound<IsNull>, E>>(
     f(buf)
 }
 
-// Fills the length's place, at `base`, of a value that ends the buffer, or writes a null there.
-fn finish_value<B: Buffer>(buf: &mut B, base: usize, null: IsNull) -> Result<(), Error>
-    requires room { base + 4 ≤ length (B.held buf.old).bytes }
-    requires none { null ≡ IsNull.Yes → length (B.held buf.old).bytes ≡ base + 4 }
-    ensures ok { OnOk result (B.held buf.new
-        ≡ overwritten (B.held buf.old) base (length_of null (drop (base + 4) (B.held buf.old).bytes))) }
-    ensures fits { OnOk result (nullable_cause (value_of null (drop (base + 4) (B.held buf.old).bytes)) ≡ None) }
-    ensures err { OnErr result (B.held buf.new ≡ B.held buf.old) }
-    ensures cause { IfErr result (λ e. nullable_cause (value_of null (drop (base + 4) (B.held buf.old).bytes)) ≡ Some e) }
+// What stands in the length's field of a value of so many bytes, or of a null.
+fn length_of_value(null: IsNull, len: usize) -> Result<u32, Error>
+    ensures value { IfOk result (λ n. (p : List ℕ) → length p ≡ len → (uint32 n ≡ length_of null p) × (nullable_cause (value_of null p) ≡ None)) }
+    ensures cause { IfErr result (λ e. (null ≡ IsNull.No) × (length_cause len ≡ Some e)) }
 {
     match null {
-        IsNull::Yes => {
-            patch_u32(buf, base, 0xffff_ffff);
-            Ok(())
-        }
-        IsNull::No => {
-            let size = length_field(buf.len() - base - 4)?;
-            patch_u32(buf, base, size);
-            Ok(())
-        }
+        IsNull::Yes => Ok(0xffff_ffff),
+        IsNull::No => length_field(len),
     }
 }
 
-// Fills the length's place of a side that ends the buffer, or cuts it off where there is no bound.
-fn finish_side<B: Buffer>(buf: &mut B, base: usize, answer: RangeBound<IsNull>) -> Result<(), Error>
-    requires room { base + 4 ≤ length (B.held buf.old).bytes }
-    requires none { IsNullBound answer → length (B.held buf.old).bytes ≡ base + 4 }
-    ensures ok { OnOk result (SideFilled answer (B.held buf.old) base (B.held buf.new)) }
-    ensures fits { OnOk result (side_cause (side_of answer (drop (base + 4) (B.held buf.old).bytes)) ≡ None) }
+// Puts a number in four bytes at `place`.
+#[tactic(auto, unfolding(pgp_base::specs::Wire::uint32), using(pgp_base::proofs::Parts::wants_now))]
+fn insert_u32<B: Buffer>(buf: &mut B, place: usize, n: u32) -> Result<(), Error>
+    requires { place ≤ length (B.held buf.old).bytes }
+    ensures ok { OnOk result (B.held buf.new ≡ inserted (B.held buf.old) place (uint32 n)) }
     ensures err { OnErr result (B.held buf.new ≡ B.held buf.old) }
-    ensures cause { IfErr result (λ e. side_cause (side_of answer (drop (base + 4) (B.held buf.old).bytes)) ≡ Some e) }
+    ensures cause { IfErr result (WantsMemory (Wants B.Lacks (B.held buf.old) 4)) }
+{
+    let bytes = n.to_be_bytes();
+    buf.insert(place, &bytes)?;
+    Ok(())
+}
+
+// Puts its length before the value that ends the buffer from `base` on, or makes a null of no bytes.
+fn put_length<B: Buffer>(buf: &mut B, base: usize, null: IsNull) -> Result<(), Error>
+    requires { base ≤ length (B.held buf.old).bytes }
+    ensures ok { OnOk result ((a : Held B.Kept) (p : List ℕ) → IsValueBehind a p base null (B.held buf.old)
+        → (B.held buf.new ≡ a ⊕ nullable (value_of null p)) × (nullable_cause (value_of null p) ≡ None)) }
+    ensures err { OnErr result (B.held buf.new ≡ B.held buf.old) }
+    ensures cause { IfErr result (λ e. (a : Held B.Kept) (p : List ℕ) → IsValueBehind a p base null (B.held buf.old)
+        → WantsMemory (Wants B.Lacks a (length (nullable (value_of null p)))) e ⊎ (nullable_cause (value_of null p) ≡ Some e)) }
+{
+    let size = length_of_value(null, buf.len() - base)?;
+    insert_u32(buf, base, size)
+}
+
+// Puts the length before the side that ends the buffer, or cuts it off where there is no bound.
+fn finish_side<B: Buffer>(buf: &mut B, base: usize, answer: RangeBound<IsNull>) -> Result<(), Error>
+    requires { base ≤ length (B.held buf.old).bytes }
+    ensures ok { OnOk result ((a : Held B.Kept) (p : List ℕ) → IsSideBehind a p base answer (B.held buf.old)
+        → Extends (cut_of answer p) a (side_bytes (side_of answer p)) (B.held buf.new) × (side_cause (side_of answer p) ≡ None)) }
+    ensures err { OnErr result (B.held buf.new ≡ B.held buf.old) }
+    ensures cause { IfErr result (λ e. (a : Held B.Kept) (p : List ℕ) → IsSideBehind a p base answer (B.held buf.old)
+        → WantsMemory (Wants B.Lacks a (length (side_bytes (side_of answer p)))) e ⊎ (side_cause (side_of answer p) ≡ Some e)) }
 {
     match answer {
         RangeBound::Unbounded => {
             buf.truncate(base);
             Ok(())
         }
-        RangeBound::Inclusive(null) => finish_value(buf, base, null),
-        RangeBound::Exclusive(null) => finish_value(buf, base, null),
+        RangeBound::Inclusive(null) => put_length(buf, base, null),
+        RangeBound::Exclusive(null) => put_length(buf, base, null),
     }
 }
 
@@ -135,13 +151,12 @@ fn put_side<B: Buffer, E: Drop, F: FnOnce(&mut B) -> Result<RangeBound<IsNull>, 
 ) -> Result<u8, BindError<E>>
     requires callable { F.IsAlwaysCallable f }
     requires owes { OwesBound B.held F.pre F.post f }
-    ensures ok { IfOk result (λ bit. (s : Side) × Makes B.held F.post (B.held buf.old) f s × (bit ≡ side_bit (record { unbounded = unbounded; inclusive = inclusive }) s)
-        × Stands (has_bound s) (B.held buf.old) (side_bytes s) (B.held buf.new)) }
+    ensures ok { IfOk result (λ bit. (s : Side) × (n : ℕ) × Makes B.held F.post (B.held buf.old) f s n × (bit ≡ side_bit (record { unbounded = unbounded; inclusive = inclusive }) s)
+        × Extends n (B.held buf.old) (side_bytes s) (B.held buf.new)) }
     ensures err { OnErr result (IsFrontOf (B.held buf.old) (B.held buf.new)) }
     ensures cause { IfErr result (SideStops B.held F.post B.Lacks (B.held buf.old) f) }
 {
     let base = buf.len();
-    put_u32(buf, 0)?;
     match bound_by(f, buf) {
         Err(e) => Err(BindError::Conversion(e)),
         Ok(answer) => {
@@ -177,9 +192,9 @@ fn fill_range<
 }
 
 /// Appends a range between two sides, of which each closure appends the bytes of its value, or answers that it is a null
-/// or that there is no bound. The lower is called first, and the upper not at all where the lower was refused. What a
-/// closure appended for `Unbounded` is dropped, and so is the place of its length: in memory of the caller's, what stood
-/// there isn't put back.
+/// or that there is no bound. The lower is called first, and the upper not at all where the lower was refused. The length is put
+/// before what a closure appended, so that no memory is asked for but the range's own. What a closure appended for
+/// `Unbounded` is dropped: in memory of the caller's, what stood there isn't put back.
 ///
 /// # Errors
 ///

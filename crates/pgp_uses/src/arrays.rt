@@ -5,7 +5,7 @@ ghost use Rattle.std.specs.List.{AllByRecursion};
 ghost use Rattle.pgp_base.specs.Cause.{length_cause};
 ghost use Rattle.pgp_frontend.specs.Payload.{cause};
 ghost use Rattle.pgp_message.specs.Table.{column};
-ghost use Rattle.pgp_types.specs.PartReading.{shown};
+ghost use Rattle.pgp_types.specs.Part.{shown};
 ghost use Rattle.pgp_uses.specs.Arrays.{AreReadBack, BindsInt4s, IsInt4, PutsInt4s, ReadsElement, ReadsList, ReadsListColumn, ReadsWalk, binding};
 
 use crate::server::refusal;
