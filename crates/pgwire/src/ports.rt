@@ -98,6 +98,9 @@ pub trait Words: Env {
     /// No word stands at the place.
     ghost Ends: { Self → ℕ → Type 0 };
 
+    /// The word at the place is longer than so many bytes.
+    ghost Longer: { Self → ℕ → ℕ → Type 0 };
+
     /// Copies the word at the place to the start of the buffer, as `arg` does, and answers its length.
     ///
     /// # Errors
@@ -106,7 +109,8 @@ pub trait Words: Env {
     fn word_at(&self, place: usize, buffer: &mut [u8]) -> Result<usize, FillError>
         ensures bound { WritesAtMost result buffer.new }
         ensures word { IfOk result (λ n. Self.Stands self.now place (take n buffer.new)) }
-        ensures none { IfErr result (λ e. e ≡ FillError.NotPresent → Self.Ends self.now place) };
+        ensures none { IfErr result (λ e. e ≡ FillError.NotPresent → Self.Ends self.now place) }
+        ensures long { IfErr result (λ e. e ≡ FillError.TooLong → Self.Longer self.now place (length buffer.new)) };
 }
 
 /// Of its words nothing is said: any may stand anywhere.
@@ -114,6 +118,8 @@ impl<V: Env> Words for V {
     ghost Stands = { λ _ _ _. Unit {0} };
 
     ghost Ends = { λ _ _. Unit {0} };
+
+    ghost Longer = { λ _ _ _. Unit {0} };
 
     fn word_at(&self, place: usize, buffer: &mut [u8]) -> Result<usize, FillError> {
         self.arg(place, buffer)

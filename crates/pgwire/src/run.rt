@@ -4,6 +4,7 @@ ghost use Rattle.std.specs.Prelude.{◌≡◌, [], map, IfSome, IfNone, IfOk, If
 ghost use Rattle.std.specs.Io.KnownBytes.{Keeps};
 ghost use Rattle.pgwire.specs.Command.{Asks, IsOther, usage, complaint_of, Obeys, Succeeds, Stops, Runs, ObeysOwn, RunsOwn, IsSaid};
 ghost use Rattle.pgwire.specs.Asked.{asked};
+ghost use Rattle.pgwire.specs.Words.{LacksWords};
 
 use crate::backend::backend;
 use crate::client::client;
@@ -160,11 +161,11 @@ fn try_own<A: Memory, V: Words, R: Input, W: Output>(
     input: &mut R,
     output: &mut W,
 ) -> Result<Outcome, Fault>
-    ensures obeyed { IfOk result (λ outcome. ObeysOwn A.Lacks R.Fails W.Fails (V.Stands env.now) (V.Ends env.now)
+    ensures obeyed { IfOk result (λ outcome. ObeysOwn A.Lacks R.Fails W.Fails (V.Stands env.now) (V.Ends env.now) (V.Longer env.now)
         (record { input = R.remaining input.old; output = W.contents output.old })
         (record { input = R.remaining input.new; output = W.contents output.new })
         outcome.status outcome.complaint.now) }
-    ensures fault { IfErr result (λ fault. fault ≡ Fault.Memory) }
+    ensures fault { IfErr result (λ fault. (fault ≡ Fault.Memory) × LacksWords A.Lacks (V.Stands env.now) (V.Longer env.now)) }
     ensures input { IfErr result (λ _. Keeps (R.remaining input.old) (R.remaining input.new)) }
     ensures output { IfErr result (λ _. Keeps (W.contents output.old) (W.contents output.new)) }
 {
@@ -182,7 +183,7 @@ fn obey_own<A: Memory, V: Words, R: Input, W: Output>(
     input: &mut R,
     output: &mut W,
 ) -> Outcome
-    ensures { ObeysOwn A.Lacks R.Fails W.Fails (V.Stands env.now) (V.Ends env.now)
+    ensures { ObeysOwn A.Lacks R.Fails W.Fails (V.Stands env.now) (V.Ends env.now) (V.Longer env.now)
         (record { input = R.remaining input.old; output = W.contents output.old })
         (record { input = R.remaining input.new; output = W.contents output.new })
         result.status result.complaint.now }
@@ -201,7 +202,7 @@ pub fn run_own<A: Memory, V: Words, R: Input, W: Output, E: Output>(
     output: &mut W,
     errors: &mut E,
 ) -> u8
-    ensures { RunsOwn A.Lacks R.Fails W.Fails (V.Stands env.now) (V.Ends env.now) E.Fails
+    ensures { RunsOwn A.Lacks R.Fails W.Fails (V.Stands env.now) (V.Ends env.now) (V.Longer env.now) E.Fails
         (record { input = R.remaining input.old; output = W.contents output.old })
         (record { input = R.remaining input.new; output = W.contents output.new })
         (E.contents errors.old) (E.contents errors.new) result }
