@@ -10,7 +10,7 @@ use Rattle.pgwire.specs.declared.fault.Fault.TheVariants.{Memory, Read, Write}
 use Rattle.pgwire.specs.Output.{line, Writes, BackendOutput}
 use Rattle.pgwire.specs.ClientOutput.{ClientOutput, WritesAnswer}
 use Rattle.pgwire.specs.Taken.{AppendsFront}
-use Rattle.pgwire.specs.Words.{AreWords, HasOther}
+use Rattle.pgwire.specs.Words.{AreWords, HasOther, LacksWords}
 
 pub data Command : Type 0 where
   Client : Command
@@ -180,14 +180,16 @@ module _ (lacks read_failed write_failed : Type 0) where
       pub own : AreWords Stands Ends words
       pub obeyed : Obeys words before after status complaint
 
-    -- They are obeyed; or one of them isn't UTF-8; or there is no memory for them.
-    abbrev pub ObeysOwn : Streams → Streams → ℕ → List ℕ → Type 0
-    ObeysOwn before after status complaint = ObeysAll before after status complaint
-        ⊎ (HasOther Stands × IsUnread usage 2 before after status complaint)
-        ⊎ IsUnread (complaint_of Memory) 1 before after status complaint
+    -- Where a word is so long:
+    module _ (Longer : ℕ → ℕ → Type 0) where
+      -- They are obeyed; or one of them isn't UTF-8; or there is no memory for them.
+      abbrev pub ObeysOwn : Streams → Streams → ℕ → List ℕ → Type 0
+      ObeysOwn before after status complaint = ObeysAll before after status complaint
+          ⊎ (HasOther Stands × IsUnread usage 2 before after status complaint)
+          ⊎ (LacksWords lacks Stands Longer × IsUnread (complaint_of Memory) 1 before after status complaint)
 
-    -- A run on the words of the process.
-    pub record RunsOwn (said_failed : Type 0) (before after : Streams) (old new : Option (List ℕ)) (status : ℕ) : Type 0 where
-      pub complaint : List ℕ
-      pub obeyed : ObeysOwn before after status complaint
-      pub said : IsSaid said_failed old new complaint
+      -- A run on the words of the process.
+      pub record RunsOwn (said_failed : Type 0) (before after : Streams) (old new : Option (List ℕ)) (status : ℕ) : Type 0 where
+        pub complaint : List ℕ
+        pub obeyed : ObeysOwn before after status complaint
+        pub said : IsSaid said_failed old new complaint

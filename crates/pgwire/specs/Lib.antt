@@ -5,5 +5,6 @@ pub mod Request
 pub mod ClientOutput
 pub mod Sending
 pub mod Words
+pub mod Interruptions
 pub mod Command
 pub mod Asked

@@ -4,6 +4,7 @@ ghost use Rattle.std.specs.Prelude.{◌≡◌, ◌≢◌, ◌<◌, ◌++◌, len
 ghost use Rattle.std.specs.Io.KnownBytes.{IsAtEnd, Keeps};
 ghost use Rattle.std.specs.List.{flat_map};
 ghost use Rattle.pgp_message.specs.Views.{seen, view};
+ghost use Rattle.pgwire.specs.Interruptions.{GivesUp};
 ghost use Rattle.pgwire.specs.Output.{line, name_of, line_of, last_line, BackendOutput, ListsPiece, Writes};
 ghost use Rattle.pgwire.specs.Command.{Backend, Caused, IsCut};
 
@@ -40,7 +41,7 @@ pub fn backend<A: Memory, R: Input, W: Output>(
     ensures cut { IfErr result (λ fault. fault ≡ Fault.Write → IsCut Backend
         (record { input = R.remaining input.old; output = W.contents output.old })
         (record { input = R.remaining input.new; output = W.contents output.new })) }
-    ensures cause { IfErr result (Caused A.Lacks R.Fails W.Fails) }
+    ensures cause { IfErr result (Caused A.Lacks R.Fails (GivesUp W.Fails W.Interrupted)) }
 {
     let text = listing(alloc, input)?;
     put(text.as_bytes(), output)?;

@@ -6,6 +6,7 @@ ghost use Rattle.std.specs.List.{slice_split};
 ghost use Rattle.hex.specs.Hex.{encode_lower};
 ghost use Rattle.pgp_frontend.specs.Reading.{IsNamed};
 ghost use Rattle.postgres_protocol.specs.ClientStream.{AddsMessage};
+ghost use Rattle.pgwire.specs.Interruptions.{GivesUp};
 ghost use Rattle.pgwire.specs.ClientOutput.{ClientOutput, WritesAnswer, told};
 ghost use Rattle.pgwire.specs.Command.{Caused, Client, IsCut, LacksFor};
 ghost use Rattle.pgwire.specs.Output.{line};
@@ -60,7 +61,7 @@ pub fn client<A: Memory, R: Input, W: Output>(
     ensures cut { IfErr result (λ fault. fault ≡ Fault.Write → IsCut Client
         (record { input = R.remaining input.old; output = W.contents output.old })
         (record { input = R.remaining input.new; output = W.contents output.new })) }
-    ensures cause { IfErr result (Caused A.Lacks R.Fails W.Fails) }
+    ensures cause { IfErr result (Caused A.Lacks R.Fails (GivesUp W.Fails W.Interrupted)) }
 {
     let script = read_rest(alloc, input)?;
     let answer = answer_to(alloc, script.as_slice())?;

@@ -2,6 +2,7 @@
 
 ghost use Rattle.std.specs.Prelude.{◌≡◌, ◌≢◌, ◌<◌, ◌≤◌, length, take, IfErr, IfOk, OnErr, OnOk, string_bytes};
 ghost use Rattle.std.specs.Io.KnownBytes.{Appends, Keeps};
+ghost use Rattle.pgwire.specs.Interruptions.{GivesUp};
 ghost use Rattle.pgwire.specs.Command.{Caused};
 ghost use Rattle.pgwire.specs.Output.{line};
 ghost use Rattle.pgwire.specs.Taken.{AppendsFront};
@@ -16,13 +17,31 @@ pub fn put<W: Output>(bytes: &[u8], output: &mut W) -> Result<(), Fault>
     ensures written { OnOk result (Appends (W.contents output.old) (W.contents output.new) bytes.now) }
     ensures front { OnErr result (AppendsFront (W.contents output.old) (W.contents output.new) bytes.now) }
     ensures fault { IfErr result (λ fault. fault ≡ Fault.Write) }
-    ensures failed { OnErr result W.Fails }
+    ensures failed { OnErr result (GivesUp W.Fails W.Interrupted) }
+    ensures passed { OnOk result (W.Passed output.new) }
 {
     write(bytes, output)?;
-    match output.pass_on() {
-        Ok(()) => Ok(()),
-        Err(_) => Err(Fault::Write),
+    flush(output)
+}
+
+/// Flushes the writer. A flush that was interrupted is tried again.
+fn flush<W: Output>(output: &mut W) -> Result<(), Fault>
+    ensures kept { Keeps (W.contents output.old) (W.contents output.new) }
+    ensures passed { OnOk result (W.Passed output.new) }
+    ensures fault { IfErr result (λ fault. fault ≡ Fault.Write) }
+    ensures failed { OnErr result (GivesUp W.Fails W.Interrupted) }
+{
+    // Bounded, since each function has to end, and a writer may be interrupted for ever.
+    'tries: for _ in 0..u64::MAX {
+        match output.pass_on() {
+            Ok(()) => return Ok(()),
+            Err(e) => match e.kind() {
+                ErrorKind::Interrupted => {}
+                _ => return Err(Fault::Write),
+            },
+        }
     }
+    Err(Fault::Write)
 }
 
 /// Writes the bytes.
@@ -30,7 +49,7 @@ fn write<W: Output>(bytes: &[u8], output: &mut W) -> Result<(), Fault>
     ensures written { OnOk result (Appends (W.contents output.old) (W.contents output.new) bytes.now) }
     ensures front { OnErr result (AppendsFront (W.contents output.old) (W.contents output.new) bytes.now) }
     ensures fault { IfErr result (λ fault. fault ≡ Fault.Write) }
-    ensures failed { OnErr result W.Fails }
+    ensures failed { OnErr result (GivesUp W.Fails W.Interrupted) }
 {
     let mut rest = bytes;
     'rest: while !rest.is_empty() {
@@ -48,17 +67,17 @@ fn write_some<W: Output>(bytes: &[u8], output: &mut W) -> Result<usize, Fault>
     ensures written { IfOk result (λ n. Appends (W.contents output.old) (W.contents output.new) (take n bytes.now)) }
     ensures none { OnErr result (Keeps (W.contents output.old) (W.contents output.new)) }
     ensures fault { IfErr result (λ fault. fault ≡ Fault.Write) }
-    ensures failed { OnErr result W.Fails }
+    ensures failed { OnErr result (GivesUp W.Fails W.Interrupted) }
 {
+    // Bounded, since each function has to end, and a writer may be interrupted for ever.
     'tries: for _ in 0..u64::MAX {
         match output.write_some(bytes) {
             Ok(0) => return Err(Fault::Write),
             Ok(n) => return Ok(n),
-            Err(e) => {
-                if e.kind() != ErrorKind::Interrupted {
-                    return Err(Fault::Write);
-                }
-            }
+            Err(e) => match e.kind() {
+                ErrorKind::Interrupted => {}
+                _ => return Err(Fault::Write),
+            },
         }
     }
     Err(Fault::Write)
@@ -70,7 +89,7 @@ pub fn print<A: Memory, W: Output>(mut text: String<A>, output: &mut W) -> Resul
     ensures status { IfOk result (λ status. status ≡ 0) }
     ensures quiet { IfErr result (λ fault. fault ≢ Fault.Write → Keeps (W.contents output.old) (W.contents output.new)) }
     ensures front { OnErr result (AppendsFront (W.contents output.old) (W.contents output.new) (line (string_bytes text))) }
-    ensures cause { IfErr result (Caused A.Lacks ⊥ W.Fails) }
+    ensures cause { IfErr result (Caused A.Lacks ⊥ (GivesUp W.Fails W.Interrupted)) }
 {
     A::push_char(&mut text, '\n')?;
     put(text.as_bytes(), output)?;

@@ -2,8 +2,10 @@
 
 ghost use Rattle.std.specs.Prelude.{◌≡◌, [], map, IfSome, IfNone, IfOk, IfErr};
 ghost use Rattle.std.specs.Io.KnownBytes.{Keeps};
+ghost use Rattle.pgwire.specs.Interruptions.{GivesUp};
 ghost use Rattle.pgwire.specs.Command.{Asks, IsOther, usage, complaint_of, Obeys, Succeeds, Stops, Runs, ObeysOwn, RunsOwn, IsSaid};
 ghost use Rattle.pgwire.specs.Asked.{asked};
+ghost use Rattle.pgwire.specs.Words.{LacksWords};
 
 use crate::backend::backend;
 use crate::client::client;
@@ -87,7 +89,7 @@ fn perform<A: Memory, R: Input, W: Output>(
         (record { input = R.remaining input.old; output = W.contents output.old })
         (record { input = R.remaining input.new; output = W.contents output.new })
         status []) }
-    ensures fault { IfErr result (λ fault. Stops A.Lacks R.Fails W.Fails (asked command.entry)
+    ensures fault { IfErr result (λ fault. Stops A.Lacks R.Fails (GivesUp W.Fails W.Interrupted) (asked command.entry)
         (record { input = R.remaining input.old; output = W.contents output.old })
         (record { input = R.remaining input.new; output = W.contents output.new })
         fault) }
@@ -108,7 +110,7 @@ pub fn obey<A: Memory, R: Input, W: Output>(
     input: &mut R,
     output: &mut W,
 ) -> Outcome
-    ensures { Obeys A.Lacks R.Fails W.Fails (map (λ word. word.now) words.now)
+    ensures { Obeys A.Lacks R.Fails (GivesUp W.Fails W.Interrupted) (map (λ word. word.now) words.now)
         (record { input = R.remaining input.old; output = W.contents output.old })
         (record { input = R.remaining input.new; output = W.contents output.new })
         result.status result.complaint.now }
@@ -128,7 +130,7 @@ pub fn obey<A: Memory, R: Input, W: Output>(
 /// Says on `errors` what is to be said there, or as much of it as it takes where it fails, and answers the status.
 fn tell<E: Output>(outcome: Outcome, errors: &mut E) -> u8
     ensures status { result ≡ outcome.status }
-    ensures told { IsSaid E.Fails (E.contents errors.old) (E.contents errors.new) outcome.complaint.now }
+    ensures told { IsSaid (GivesUp E.Fails E.Interrupted) (E.contents errors.old) (E.contents errors.new) outcome.complaint.now }
 {
     let _ = put(outcome.complaint.as_bytes(), errors);
     outcome.status
@@ -144,7 +146,7 @@ pub fn run<A: Memory, R: Input, W: Output, E: Output>(
     output: &mut W,
     errors: &mut E,
 ) -> u8
-    ensures { Runs A.Lacks R.Fails W.Fails E.Fails (map (λ word. word.now) words.now)
+    ensures { Runs A.Lacks R.Fails (GivesUp W.Fails W.Interrupted) (GivesUp E.Fails E.Interrupted) (map (λ word. word.now) words.now)
         (record { input = R.remaining input.old; output = W.contents output.old })
         (record { input = R.remaining input.new; output = W.contents output.new })
         (E.contents errors.old) (E.contents errors.new) result }
@@ -160,11 +162,11 @@ fn try_own<A: Memory, V: Words, R: Input, W: Output>(
     input: &mut R,
     output: &mut W,
 ) -> Result<Outcome, Fault>
-    ensures obeyed { IfOk result (λ outcome. ObeysOwn A.Lacks R.Fails W.Fails (V.Stands env.now) (V.Ends env.now)
+    ensures obeyed { IfOk result (λ outcome. ObeysOwn A.Lacks R.Fails (GivesUp W.Fails W.Interrupted) (V.Stands env.now) (V.Ends env.now) (V.Longer env.now)
         (record { input = R.remaining input.old; output = W.contents output.old })
         (record { input = R.remaining input.new; output = W.contents output.new })
         outcome.status outcome.complaint.now) }
-    ensures fault { IfErr result (λ fault. fault ≡ Fault.Memory) }
+    ensures fault { IfErr result (λ fault. (fault ≡ Fault.Memory) × LacksWords A.Lacks (V.Stands env.now) (V.Longer env.now)) }
     ensures input { IfErr result (λ _. Keeps (R.remaining input.old) (R.remaining input.new)) }
     ensures output { IfErr result (λ _. Keeps (W.contents output.old) (W.contents output.new)) }
 {
@@ -182,7 +184,7 @@ fn obey_own<A: Memory, V: Words, R: Input, W: Output>(
     input: &mut R,
     output: &mut W,
 ) -> Outcome
-    ensures { ObeysOwn A.Lacks R.Fails W.Fails (V.Stands env.now) (V.Ends env.now)
+    ensures { ObeysOwn A.Lacks R.Fails (GivesUp W.Fails W.Interrupted) (V.Stands env.now) (V.Ends env.now) (V.Longer env.now)
         (record { input = R.remaining input.old; output = W.contents output.old })
         (record { input = R.remaining input.new; output = W.contents output.new })
         result.status result.complaint.now }
@@ -201,7 +203,7 @@ pub fn run_own<A: Memory, V: Words, R: Input, W: Output, E: Output>(
     output: &mut W,
     errors: &mut E,
 ) -> u8
-    ensures { RunsOwn A.Lacks R.Fails W.Fails (V.Stands env.now) (V.Ends env.now) E.Fails
+    ensures { RunsOwn A.Lacks R.Fails (GivesUp W.Fails W.Interrupted) (V.Stands env.now) (V.Ends env.now) (V.Longer env.now) (GivesUp E.Fails E.Interrupted)
         (record { input = R.remaining input.old; output = W.contents output.old })
         (record { input = R.remaining input.new; output = W.contents output.new })
         (E.contents errors.old) (E.contents errors.new) result }

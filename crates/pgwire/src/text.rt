@@ -4,6 +4,7 @@ ghost use Rattle.std.specs.Prelude.{◌≡◌, ◌≢◌, ℕ, List, IfOk, IfErr
 ghost use Rattle.std.specs.Io.KnownBytes.{Appends, Keeps};
 ghost use Rattle.pgp_auth.specs.Lexer.{Identifier};
 ghost use Rattle.pgp_auth.specs.Verifier.{verifier, verifier_text};
+ghost use Rattle.pgwire.specs.Interruptions.{GivesUp};
 ghost use Rattle.pgwire.specs.Output.{line};
 ghost use Rattle.pgwire.specs.Command.{Caused, IsEscapedLiteral};
 ghost use Rattle.pgwire.specs.Taken.{AppendsFront};
@@ -29,7 +30,7 @@ pub fn verifier<A: Memory, W: Output>(
     ensures quiet { IfErr result (λ fault. fault ≢ Fault.Write → Keeps (W.contents output.old) (W.contents output.new)) }
     ensures cut { IfErr result (λ fault. fault ≡ Fault.Write → AppendsFront (W.contents output.old) (W.contents output.new)
         (line (verifier_text (verifier password.now salt 4096)))) }
-    ensures cause { IfErr result (Caused A.Lacks ⊥ W.Fails) }
+    ensures cause { IfErr result (Caused A.Lacks ⊥ (GivesUp W.Fails W.Interrupted)) }
 {
     match password::scram_sha_256_salt(alloc, password.as_bytes(), salt, &NoPrep) {
         Ok(text) => print(text, output),
@@ -49,7 +50,7 @@ pub fn escape_literal<A: Memory, W: Output>(
     ensures quiet { IfErr result (λ fault. fault ≢ Fault.Write → Keeps (W.contents output.old) (W.contents output.new)) }
     ensures cut { IfErr result (λ fault. fault ≡ Fault.Write → ((literal : List ℕ) × IsEscapedLiteral text.now literal
         × AppendsFront (W.contents output.old) (W.contents output.new) (line literal))) }
-    ensures cause { IfErr result (Caused A.Lacks ⊥ W.Fails) }
+    ensures cause { IfErr result (Caused A.Lacks ⊥ (GivesUp W.Fails W.Interrupted)) }
 {
     match escape::escape_literal(alloc, text) {
         Ok(literal) => print(literal, output),
@@ -69,7 +70,7 @@ pub fn escape_identifier<A: Memory, W: Output>(
     ensures quiet { IfErr result (λ fault. fault ≢ Fault.Write → Keeps (W.contents output.old) (W.contents output.new)) }
     ensures cut { IfErr result (λ fault. fault ≡ Fault.Write → ((identifier : List ℕ) × Identifier identifier text.now
         × AppendsFront (W.contents output.old) (W.contents output.new) (line identifier))) }
-    ensures cause { IfErr result (Caused A.Lacks ⊥ W.Fails) }
+    ensures cause { IfErr result (Caused A.Lacks ⊥ (GivesUp W.Fails W.Interrupted)) }
 {
     match escape::escape_identifier(alloc, text) {
         Ok(identifier) => print(identifier, output),
