@@ -27,6 +27,3 @@ pub use writing::{
     finish_body, length_field, patch_u16, patch_u32, put_u8, put_u16, put_u32, put_value,
     write_body, write_counted, write_cstr, write_nullable,
 };
-
-#[cfg(test)]
-mod tests;

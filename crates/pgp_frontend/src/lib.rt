@@ -16,6 +16,3 @@ pub use copy::{CopyData, copy_done, copy_fail};
 pub use extended::{bind, close, describe, execute, flush, parse, sync};
 pub use simple::{query, terminate};
 pub use startup::{cancel_request, ssl_request, startup_message};
-
-#[cfg(test)]
-mod tests;

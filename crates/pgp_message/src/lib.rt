@@ -44,6 +44,3 @@ pub use walk::{
     ColumnFormats, DataRowRanges, ErrorField, ErrorFields, Field, Fields, Parameters,
     SaslMechanisms,
 };
-
-#[cfg(test)]
-mod tests;

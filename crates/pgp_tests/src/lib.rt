@@ -1,4 +1,4 @@
-//! Tests that cross crates, and those in which each allocation is refused in turn.
+//! Tests of public calls, those that cross crates, and those in which each allocation is refused in turn.
 #![tactic(auto)]
 
 #[cfg(test)]
@@ -7,6 +7,8 @@ mod ample;
 mod auth;
 #[cfg(test)]
 mod bound_values;
+#[cfg(test)]
+mod calls;
 #[cfg(test)]
 mod frontend;
 #[cfg(test)]

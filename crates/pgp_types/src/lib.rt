@@ -42,8 +42,3 @@ pub use time::{
     date_from_sql, date_to_sql, time_from_sql, time_to_sql, timestamp_from_sql, timestamp_to_sql,
 };
 pub use varbit::{Varbit, varbit_from_sql, varbit_to_sql};
-
-#[cfg(test)]
-mod array_tests;
-#[cfg(test)]
-mod range_tests;

@@ -12,7 +12,5 @@ pub mod scram_login;
 pub mod server;
 pub mod session;
 pub mod streams;
-#[cfg(test)]
-mod tests;
 pub mod values;
 pub mod writing;

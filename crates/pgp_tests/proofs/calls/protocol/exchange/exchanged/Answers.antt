@@ -1,6 +1,6 @@
 use Rattle.std.proofs.Common.{ap}
 use Rattle.pgp_auth.specs.ScramClient.{Client}
-use Rattle.postgres_protocol.proofs.tests.exchange.exchanged.Goals as goal
+use Rattle.pgp_tests.proofs.calls.protocol.exchange.exchanged.Goals as goal
 
 pub sasl_exchange-answer-requires : goal.sasl_exchange-answer-requires
 sasl_exchange-answer-requires g c = (_, ap (λ (k : Client). k.state) c.in-Ok.ensures.ok)

@@ -1,11 +1,11 @@
 //! Each call of a client's stream. Expected bytes are from the message formats of the PostgreSQL manual.
 #![tactic(auto, using(pgp_base::proofs::Parts::held_steps))]
 
-use crate::message::frontend::CopyData;
-use crate::session::ClientStream;
-use crate::{BindError, Error, IsNull};
 use bytes::BytesMut;
 use pgp_base::{Buffer, put_u32};
+use postgres_protocol::message::frontend::CopyData;
+use postgres_protocol::session::ClientStream;
+use postgres_protocol::{BindError, Error, IsNull};
 use std::test::Fail;
 
 /// A startup packet with no parameters.

@@ -3,11 +3,11 @@
 #![tactic(auto, using(pgp_base::proofs::Parts::held_steps))]
 
 use super::ROW;
-use crate::laws::{Step, bind_array, row_int4};
-use crate::types::ArrayDimension;
-use crate::{BindError, Error};
 use bytes::BytesMut;
 use pgp_message::Message;
+use postgres_protocol::laws::{Step, bind_array, row_int4};
+use postgres_protocol::types::ArrayDimension;
+use postgres_protocol::{BindError, Error};
 use std::alloc::{AllocError, Global};
 use std::test::Fail;
 

@@ -5,10 +5,10 @@ mod exchange;
 mod streams;
 mod values;
 
-use crate::session::{ClientStream, StreamParser, parse_stream};
 use bytes::BytesMut;
 use pgp_base::Error;
 use pgp_message::Message;
+use postgres_protocol::session::{ClientStream, StreamParser, parse_stream};
 use std::test::Fail;
 
 /// A frame that is refused, and a message.

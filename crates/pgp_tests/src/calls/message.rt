@@ -1,9 +1,9 @@
 //! What no row of `pgp_rows` says of a server's messages: parsers that go on, what they remember, and what a message keeps.
 //! Expected bytes are from the message formats of the PostgreSQL manual.
 
-use crate::{DataRowBody, FrameParser, Header, Message, Messages, Storage, read_frames};
 use bytes::{Bytes, BytesMut};
 use pgp_base::{Error, FallibleIterator};
+use pgp_message::{DataRowBody, FrameParser, Header, Message, Messages, Storage, read_frames};
 use std::alloc::Global;
 use std::process::Abort;
 use std::test::Fail;

@@ -1,8 +1,8 @@
 //! A message with a body of its own, cut in two. Its bytes are from the message formats of the PostgreSQL manual.
 
-use crate::message::backend::Message;
-use crate::session::parse_stream;
-use crate::{Error, FallibleIterator};
+use postgres_protocol::message::backend::Message;
+use postgres_protocol::session::parse_stream;
+use postgres_protocol::{Error, FallibleIterator};
 use std::test::Fail;
 
 /// An AuthenticationSASL with one mechanism.

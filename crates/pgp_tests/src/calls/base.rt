@@ -3,11 +3,11 @@
 ghost use Rattle.pgp_base.specs.Calls.{Keeps};
 ghost use Rattle.pgp_base.specs.Held.{items_held};
 
-use crate::{
+use bytes::BytesMut;
+use pgp_base::{
     BindError, Buffer, Error, IsNull, Window, i16_from_usize, i32_from_usize, put_u8,
     u16_from_usize, write_body, write_counted, write_cstr, write_nullable,
 };
-use bytes::BytesMut;
 use std::test::Fail;
 
 // `?` makes a writer's own refusal from an `Error`.
@@ -28,7 +28,7 @@ fn lengths_past_their_fields_are_refused(rt: HostRuntime) {
 }
 
 #[test]
-#[tactic(auto, using(crate::proofs::Parts::held_steps))]
+#[tactic(auto, using(pgp_base::proofs::Parts::held_steps))]
 fn parts_stand_behind_a_length_or_a_count(rt: HostRuntime) {
     let mut buf = BytesMut::new(rt.alloc());
     assert_eq!(rt; write_cstr(b"a", &mut buf), Ok(()));
@@ -55,7 +55,7 @@ fn parts_stand_behind_a_length_or_a_count(rt: HostRuntime) {
 }
 
 #[test]
-#[tactic(auto, using(crate::proofs::Parts::held_steps))]
+#[tactic(auto, using(pgp_base::proofs::Parts::held_steps))]
 fn a_refusal_restores_the_buffer(rt: HostRuntime) {
     let mut buf = BytesMut::new(rt.alloc());
     assert_eq!(rt; write_cstr(b"x", &mut buf), Ok(()));
@@ -106,7 +106,7 @@ fn refusals_are_told_by_name(rt: HostRuntime) -> Result<(), Fail> {
 }
 
 #[test]
-#[tactic(auto, using(crate::proofs::Parts::held_steps))]
+#[tactic(auto, using(pgp_base::proofs::Parts::held_steps))]
 fn the_item_past_the_count_is_not_serialized(rt: HostRuntime) {
     for (items, written, bytes) in [(65_535u32, true, 65_537usize), (65_536, false, 0)] {
         let mut buf = BytesMut::new(rt.alloc());

@@ -4,21 +4,21 @@
 ghost use Rattle.std.specs.Prelude.{ℕ, ◌+◌, ◌%◌, ◌^◌, Some};
 ghost use Rattle.rand_core.specs.Steps.{stream_of, steps_u32};
 
-use crate::arrays::{ArrayError, bind_int4s, list_of};
-use crate::client::{Client, Event, Phase, StepError};
-use crate::columns::{NamesError, column_names};
-use crate::filter::{FilterError, pass};
-use crate::login::{begin, equals, respond, set_password};
-use crate::recorder::record;
-use crate::rows::{ColumnError, int4_column, text_column};
-use crate::scram_login::{LoginEvent, LoginFault, LoginPhase, ScramLogin};
-use crate::server::answer;
-use crate::session::{AskError, ask_named, one_query};
-use crate::streams::{completed, frame_count, front_row};
-use crate::values::{bind_int4, parameter, value_of};
-use crate::writing::{ask, ask_in_place};
 use bytes::BytesMut;
 use pgp_base::Window;
+use pgp_uses::arrays::{ArrayError, bind_int4s, list_of};
+use pgp_uses::client::{Client, Event, Phase, StepError};
+use pgp_uses::columns::{NamesError, column_names};
+use pgp_uses::filter::{FilterError, pass};
+use pgp_uses::login::{begin, equals, respond, set_password};
+use pgp_uses::recorder::record;
+use pgp_uses::rows::{ColumnError, int4_column, text_column};
+use pgp_uses::scram_login::{LoginEvent, LoginFault, LoginPhase, ScramLogin};
+use pgp_uses::server::answer;
+use pgp_uses::session::{AskError, ask_named, one_query};
+use pgp_uses::streams::{completed, frame_count, front_row};
+use pgp_uses::values::{bind_int4, parameter, value_of};
+use pgp_uses::writing::{ask, ask_in_place};
 use postgres_protocol::authentication::sasl::{
     ChannelBinding, NoPrep, ScramError, ScramSha256, is_nonce,
 };

@@ -5,9 +5,9 @@
 ghost use Rattle.pgp_base.specs.Calls.{KeepsValue};
 ghost use Rattle.pgp_base.specs.Held.{items_held};
 
-use crate::{bind, parse, sync};
 use bytes::BytesMut;
 use pgp_base::{BindError, Error, IsNull, put_u32};
+use pgp_frontend::{bind, parse, sync};
 
 #[test]
 fn a_parse_of_too_many_types_is_refused(rt: HostRuntime) {

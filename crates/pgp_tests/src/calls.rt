@@ -1,0 +1,10 @@
+//! What no row of `pgp_rows` says of each crate's public calls. They stand here and not in those crates, since a crate with
+//! tests is proved once with them and once without.
+
+mod arrays;
+mod base;
+mod frontend;
+mod message;
+mod protocol;
+mod ranges;
+mod uses;
