@@ -4,12 +4,17 @@
 mod cuts;
 mod data;
 mod fault;
+mod lengths;
 mod names;
 mod parts;
 mod reading;
+mod scram;
+mod server;
 mod session;
+mod shown;
 mod sum;
 mod tally;
+mod walks;
 mod ways;
 
 use fault::Fault;
@@ -26,8 +31,12 @@ fn print_part(rt: &impl Print, part: Result<String, Fault>) -> io::Result<()> {
 }
 
 fn main(rt: HostRuntime) -> io::Result<()> {
+    let rows = fs::read_to_string(&rt, "lengths.rows")?;
+    print_part(&rt, lengths::run(rt.alloc(), &rows))?;
     let stream = fs::read_to_string(&rt, "stream.hex")?;
     print_part(&rt, cuts::run(rt.alloc(), &stream))?;
     let session = fs::read_to_string(&rt, "session.hex")?;
-    print_part(&rt, session::run(rt.alloc(), &session))
+    print_part(&rt, session::run(rt.alloc(), &session))?;
+    let keys = fs::read_to_string(&rt, "keys.hex")?;
+    print_part(&rt, scram::run(rt.alloc(), &keys))
 }
