@@ -6,9 +6,12 @@ use pgp_auth::authentication::md5_hash;
 use pgp_auth::authentication::sasl::NoPrep;
 use pgp_auth::escape::{escape_identifier, escape_literal};
 use pgp_auth::password::{md5, scram_sha_256_salt};
-use pgp_base::Error;
-use pgp_frontend::{CopyData, query};
+use pgp_base::{BindError, Buffer, Error, IsNull};
+use pgp_frontend::{CopyData, bind, query, startup_message};
 use pgp_message::Message;
+use pgp_types::text_to_sql;
+use postgres_protocol::laws::row_int4;
+use postgres_protocol::session::StreamParser;
 use std::alloc::{AllocError, Global};
 use std::test::Fail;
 
@@ -26,6 +29,22 @@ fn joined(
     }
     text.push_str(close)?;
     Ok(text)
+}
+
+// The same of bytes.
+fn joined_bytes(
+    alloc: Global,
+    open: &[u8],
+    piece: &[u8],
+    count: u32,
+    close: &[u8],
+) -> Result<Vec<u8>, AllocError> {
+    let mut bytes = Vec::from_slice(alloc, open)?;
+    for _ in 0..count {
+        bytes.extend_from_slice(piece)?;
+    }
+    bytes.extend_from_slice(close)?;
+    Ok(bytes)
 }
 
 // How a piece of a text stands in a string constant and in an identifier.
@@ -149,5 +168,116 @@ fn a_long_literal_is_sent(rt: HostRuntime) -> Result<(), Fail> {
     assert!(rt;
         buf.as_slice().strip_prefix(b"Q\0\x01\x86\xae".as_slice()) == Some(sent.as_bytes())
     );
+    Ok(())
+}
+
+// The value is the text itself.
+#[test]
+fn a_long_text_is_a_value(rt: HostRuntime) -> Result<(), Fail> {
+    let text = joined(rt.alloc(), "", "0123456789", 10_000, "")?;
+    let mut buf = BytesMut::new(rt.alloc());
+    text_to_sql(&text, &mut buf)?;
+    assert!(rt; buf.as_slice() == text.as_bytes());
+    Ok(())
+}
+
+// How many of the columns are the number 42.
+fn columns_of_42(alloc: Global, buf: &mut BytesMut) -> Result<usize, Error> {
+    let Some(Message::DataRow(row)) = Message::parse(buf)? else {
+        return Ok(0);
+    };
+    let values = row_int4(alloc, &row)?;
+    Ok(
+        values
+            .iter()
+            .filter(|value| **value == Some(Ok(42)))
+            .count(),
+    )
+}
+
+// A row of 1,000 numbers, in a frame of 8,007 bytes.
+#[test]
+fn a_long_row_has_numbers(rt: HostRuntime) -> Result<(), Fail> {
+    let mut buf = BytesMut::new(rt.alloc());
+    buf.extend_from_slice(b"D\0\0\x1f\x46\x03\xe8")?;
+    for _ in 0..1000 {
+        buf.extend_from_slice(b"\0\0\0\x04\0\0\0\x2a")?;
+    }
+    assert_eq!(rt; columns_of_42(rt.alloc(), &mut buf), Ok(1000));
+    assert!(rt; buf.is_empty());
+    Ok(())
+}
+
+fn feed(parser: &mut StreamParser, piece: &[u8]) -> Result<(), Error> {
+    if parser.failed() {
+        return Err(Error::OutOfMemory);
+    }
+    parser.feed(piece)
+}
+
+// How long the last result's piece of a copy is.
+fn last_copied(parser: &StreamParser) -> usize {
+    match parser.results().last() {
+        Some(Ok(Message::CopyData(body))) => body.data().len(),
+        _ => 0,
+    }
+}
+
+// A frame of a megabyte, cut in its middle, comes behind 2,000 results that nobody took.
+#[test]
+fn a_megabyte_is_fed(rt: HostRuntime) -> Result<(), Fail> {
+    let mut parser = StreamParser::new(rt.alloc());
+    for _ in 0..2000 {
+        feed(&mut parser, b"1\0\0\0\x04")?;
+    }
+    let front = joined(rt.alloc(), "d\0\x0f\x42\x44", "0123456789", 50_000, "")?;
+    let back = joined(rt.alloc(), "", "0123456789", 50_000, "1\0\0\0\x04")?;
+    feed(&mut parser, front.as_bytes())?;
+    assert_eq!(rt; parser.results().len(), 2000);
+    assert_eq!(rt; parser.rest().len(), 500_005);
+    let (last, more) = back.as_bytes().split_at(500_000);
+    feed(&mut parser, last)?;
+    assert_eq!(rt; last_copied(&parser), 1_000_000);
+    feed(&mut parser, more)?;
+    assert_eq!(rt; parser.results().len(), 2002);
+    assert_eq!(rt; parser.headers(), 2002);
+    assert!(rt; parser.rest().is_empty());
+    Ok(())
+}
+
+fn bind_names<B: Buffer>(names: &[&str], buf: &mut B) -> Result<(), BindError<Error>> {
+    bind(
+        "",
+        "",
+        None::<i16>,
+        names,
+        |name: &&str, buf: &mut B| -> Result<IsNull, Error> {
+            text_to_sql(name, buf)?;
+            Ok(IsNull::No)
+        },
+        None::<i16>,
+        buf,
+    )
+}
+
+// 10,000 names, as values of a message and as parameters of a startup packet.
+#[test]
+fn a_long_list_of_names_is_sent(rt: HostRuntime) -> Result<(), Fail> {
+    let mut names = Vec::new(rt.alloc());
+    let mut parameters = Vec::new(rt.alloc());
+    for _ in 0..10_000 {
+        names.push("name")?;
+        parameters.push(("name", "of"))?;
+    }
+    let mut buf = BytesMut::new(rt.alloc());
+    assert!(rt; bind_names(names.as_slice(), &mut buf).is_ok());
+    let open = b"B\0\x01\x38\x8c\0\0\0\0\x27\x10";
+    let sent = joined_bytes(rt.alloc(), open, b"\0\0\0\x04name", 10_000, b"\0\0")?;
+    assert!(rt; buf.as_slice() == sent.as_slice());
+    let mut packet = BytesMut::new(rt.alloc());
+    startup_message(parameters.as_slice().iter().copied(), &mut packet)?;
+    let open = b"\0\x01\x38\x89\0\x03\0\0";
+    let sent = joined_bytes(rt.alloc(), open, b"name\0of\0", 10_000, b"\0")?;
+    assert!(rt; packet.as_slice() == sent.as_slice());
     Ok(())
 }

@@ -13,7 +13,7 @@ use pgp_base::{Error, Memory};
 use pgp_test_alloc::Refusing;
 use rand_core::SeedableRng;
 use rand_pcg::Pcg32;
-use std::alloc::Allocator;
+use std::alloc::{Allocator, Global};
 use std::test::Fail;
 
 const SALT: [u8; 16] = [1, 2, 3, 4, 5, 6, 7, 8, 9, 10, 11, 12, 13, 14, 15, 16];
@@ -161,12 +161,23 @@ fn number<T, A: Allocator>(outcome: &Result<T, ScramError<A>>) -> u8 {
     }
 }
 
-// The numbers of `update`'s refusal and of `finish`'s, and the HMACs that were made.
+// The numbers of `update`'s refusal and of `finish`'s, and the HMACs that were made. There is a text to send behind an
+// `update` that isn't refused alone.
 fn end_of<A: Allocator + Copy>(alloc: A, course: Course) -> Result<(u8, u8, u64), ScramError<A>> {
     let mut client = begun(alloc, course.is_drawn)?;
     let first = server_first(alloc, &client)?;
     let updated = number(&client.update(&first));
+    if client.message().is_some() != (updated == 0) {
+        return Err(ScramError::WrongState);
+    }
     let finished = number(&client.finish(course.server_final));
+    let over = (
+        number(&client.update(&first)),
+        number(&client.finish(b"v=")),
+    );
+    if client.message().is_some() || over != (2, 2) {
+        return Err(ScramError::WrongState);
+    }
     Ok((updated, finished, client.hmacs()))
 }
 
@@ -267,4 +278,64 @@ fn nonces_are_drawn_anew(rt: HostRuntime) -> Result<(), Fail> {
     assert_eq!(rt; other.message().unwrap_or(b"").len(), 32);
     assert!(rt; one.message() != other.message());
     Ok(())
+}
+
+// A client with a mapping for which there is no memory, and the password `é`.
+fn unmapped<A: Allocator + Copy>(
+    alloc: A,
+    password: &[u8],
+) -> Result<ScramSha256<A>, ScramError<A>> {
+    let nonce = String::from_str(alloc, "9IZ2O01zb9IgiIZ1WJ/zgpJB")?;
+    if !is_nonce(&nonce) {
+        return Err(ScramError::WrongState);
+    }
+    ScramSha256::with_nonce(
+        alloc,
+        password,
+        ChannelBinding::unsupported(),
+        nonce,
+        &NoMemory,
+    )
+}
+
+#[test]
+fn a_client_tells_of_a_mapping_without_memory(rt: HostRuntime) {
+    assert_eq!(rt; number(&unmapped(rt.alloc(), b"\xc3\xa9")), 1);
+    assert_eq!(rt; number(&unmapped(rt.alloc(), b"secret")), 0);
+}
+
+// The number of the refusal of this last text, where no request of memory is granted behind the first text.
+fn refusal_of_last<'a>(
+    heap: &'a Refusing<Global>,
+    text: &[u8],
+) -> Result<u8, ScramError<&'a Refusing<Global>>> {
+    let mut client = begun(heap, false)?;
+    let first = server_first(heap, &client)?;
+    client.update(&first)?;
+    heap.until_refusal.set(1);
+    Ok(number(&client.finish(text)))
+}
+
+// A text of the length of a signature is compared in no memory of its own.
+#[test]
+fn a_signature_is_compared_without_memory(rt: HostRuntime) {
+    let texts = [
+        (
+            b"v=U+ppxD5XUKtradnv8e2MkeupiA8FU87Sg8CXzXHDAzw=".as_slice(),
+            12,
+        ),
+        (b"v=AAAA".as_slice(), 12),
+        (b"v=A".as_slice(), 10),
+        (b"v=AA==,x".as_slice(), 6),
+        (b"\xff".as_slice(), 3),
+        (b"".as_slice(), 4),
+    ];
+    for (text, answer) in texts {
+        let heap = Refusing::new(rt.alloc(), 0);
+        match refusal_of_last(&heap, text) {
+            Ok(told) => assert_eq!(rt; told, answer),
+            Err(e) => assert_eq!(rt; e.number(), 0),
+        }
+        assert_eq!(rt; heap.until_refusal.get(), 1);
+    }
 }

@@ -18,6 +18,8 @@ mod message;
 #[cfg(test)]
 mod pieces;
 #[cfg(test)]
+mod serializers;
+#[cfg(test)]
 mod session;
 #[cfg(test)]
 mod types;

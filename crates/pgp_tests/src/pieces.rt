@@ -1,11 +1,12 @@
 //! A longer stream of a server, cut in many ways, and with each allocation refused in turn. Its bytes are from the
 //! message formats of the PostgreSQL manual.
 
-use pgp_base::Error;
+use pgp_base::{Error, Memory};
 use pgp_message::{Message, Storage};
 use pgp_test_alloc::Refusing;
 use postgres_protocol::session::{StreamParser, parse_stream};
-use std::alloc::Global;
+use std::alloc::{AllocError, Global};
+use std::process::Abort;
 use std::test::Fail;
 
 /// AuthenticationSASL, RowDescription, DataRow, ErrorResponse, a ReadyForQuery with a byte too many,
@@ -87,47 +88,84 @@ fn taken_after_each_byte(rt: HostRuntime) -> Result<(), Fail> {
     Ok(())
 }
 
-/// A parser that is refused memory has failed, and its results are the stream's first.
-#[test]
-fn pieces_with_each_allocation_refused(rt: HostRuntime) -> Result<(), Fail> {
-    let (front, back) = HOSTILE.split_at(60);
+/// Feeds two pieces to a parser. The marks of what is read go onto the list, behind each piece where the results are taken.
+fn read_two<A: Memory>(
+    parser: &mut StreamParser<A>,
+    pieces: [&[u8]; 2],
+    is_taken: bool,
+    marks: &mut Vec<u8>,
+) -> Result<(), Error> {
+    let mut answer = Ok(());
+    for piece in pieces {
+        if answer.is_ok() && !parser.failed() {
+            answer = parser.feed(piece);
+        }
+        if is_taken && answer.is_ok() {
+            for read in &parser.take() {
+                marks.push(mark(read)).map_err(AllocError::from)?;
+            }
+        }
+    }
+    for read in parser.results() {
+        marks.push(mark(read)).map_err(AllocError::from)?;
+    }
+    answer
+}
+
+/// How often a parser of these two pieces was refused memory before it had all. One that is refused has failed, and what it
+/// read until then are the stream's first results.
+fn refusals_of_parser(
+    rt: &impl Abort,
+    alloc: Global,
+    pieces: [&[u8]; 2],
+    is_taken: bool,
+) -> Result<u64, Error> {
     let mut refusals = 0u64;
     for number in 1..1000u64 {
-        let heap = Refusing::new(rt.alloc(), 0);
+        let heap = Refusing::new(alloc, 0);
         let mut parser: StreamParser<&Refusing<Global>> = StreamParser::new(&heap);
+        let mut marks = Vec::new(alloc);
         heap.until_refusal.set(number);
-        let mut answer = parser.feed(front);
-        if answer.is_ok() && !parser.failed() {
-            answer = parser.feed(back);
-        }
-        assert!(rt; are_first(parser.results()));
-        if answer.is_err() {
-            assert_eq!(rt; answer, Err(Error::OutOfMemory));
-            assert!(rt; parser.failed());
-            refusals = refusals.saturating_add(1);
-        } else {
-            assert!(rt; !parser.failed());
-            assert_eq!(rt; parser.results().len(), MARKS.len());
+        let answer = read_two(&mut parser, pieces, is_taken, &mut marks);
+        assert!(rt; MARKS.starts_with(marks.as_slice()));
+        assert_eq!(rt; parser.failed(), answer.is_err());
+        if answer.is_ok() {
+            assert_eq!(rt; marks.as_slice(), MARKS);
+            assert!(rt; parser.stopped());
             assert_eq!(rt; parser.rest(), b"Z\0\0\0\x03".as_slice());
+            assert_eq!(rt; parser.headers(), 7);
+        } else {
+            assert_eq!(rt; answer, Err(Error::OutOfMemory));
+            refusals = refusals.saturating_add(1);
         }
         if heap.until_refusal.get() != 0 {
             break;
         }
     }
-    assert!(rt; refusals > 0);
+    Ok(refusals)
+}
+
+/// The stream in two pieces, cut at each place.
+#[test]
+fn pieces_with_each_allocation_refused(rt: HostRuntime) -> Result<(), Fail> {
+    for cut in 0..102usize {
+        let (front, back) = HOSTILE.split_at(cut);
+        for is_taken in [false, true] {
+            let refusals = refusals_of_parser(&rt, rt.alloc(), [front, back], is_taken)?;
+            assert!(rt; refusals > 2, "{cut} {is_taken}: {refusals}");
+        }
+    }
     Ok(())
 }
 
-#[test]
-fn parse_stream_with_each_allocation_refused(rt: HostRuntime) -> Result<(), Fail> {
-    let (front, back) = HOSTILE.split_at(60);
+/// How often `parse_stream` was refused memory before it had all.
+fn refusals_of_stream(rt: &impl Abort, alloc: Global, pieces: [&[u8]; 2]) -> u64 {
     let mut refusals = 0u64;
     for number in 1..1000u64 {
-        let heap = Refusing::new(rt.alloc(), number);
-        match parse_stream(&heap, &[front, back]) {
+        let heap = Refusing::new(alloc, number);
+        match parse_stream(&heap, &pieces) {
             Ok(parsed) => {
-                assert_eq!(rt; parsed.results().len(), MARKS.len());
-                assert!(rt; are_first(parsed.results()));
+                assert!(rt; are_all(parsed.results()));
                 assert!(rt; parsed.stopped());
                 assert_eq!(rt; parsed.rest(), b"Z\0\0\0\x03".as_slice());
             }
@@ -140,6 +178,14 @@ fn parse_stream_with_each_allocation_refused(rt: HostRuntime) -> Result<(), Fail
             break;
         }
     }
-    assert!(rt; refusals > 0);
-    Ok(())
+    refusals
+}
+
+#[test]
+fn parse_stream_with_each_allocation_refused(rt: HostRuntime) {
+    for cut in 0..102usize {
+        let (front, back) = HOSTILE.split_at(cut);
+        let refusals = refusals_of_stream(&rt, rt.alloc(), [front, back]);
+        assert!(rt; refusals > 2, "{cut}: {refusals}");
+    }
 }

@@ -100,6 +100,8 @@ fn call<B: Buffer>(number: usize, stream: &mut ClientStream<B>) -> Result<(), Er
 #[test]
 fn requests_with_each_allocation_refused(rt: HostRuntime) -> Result<(), Fail> {
     for request in 0..REQUESTS {
+        let mut ample = ClientStream::new(rt.alloc());
+        assert_eq!(rt; begin(request, &mut ample), Ok(()), "request {request}");
         let mut refusals = 0u64;
         for number in 1..100u64 {
             let heap = Refusing::new(rt.alloc(), 0);
@@ -115,6 +117,7 @@ fn requests_with_each_allocation_refused(rt: HostRuntime) -> Result<(), Fail> {
             assert!(rt; !stream.is_open());
             assert_eq!(rt; begin(request, &mut stream), Ok(()), "request {request}");
             assert_eq!(rt; stream.is_open(), request >= 2);
+            assert_eq!(rt; stream.bytes(), ample.bytes(), "request {request}");
             refusals = number;
         }
         assert!(rt; refusals > 0, "request {request}");
@@ -126,6 +129,9 @@ fn requests_with_each_allocation_refused(rt: HostRuntime) -> Result<(), Fail> {
 #[test]
 fn calls_with_each_allocation_refused(rt: HostRuntime) -> Result<(), Fail> {
     for what in 0..CALLS {
+        let mut ample = ClientStream::new(rt.alloc());
+        assert_eq!(rt; begin(3, &mut ample), Ok(()));
+        assert_eq!(rt; call(what, &mut ample), Ok(()), "call {what}");
         let mut refusals = 0u64;
         for number in 1..100u64 {
             let heap = Refusing::new(rt.alloc(), 0);
@@ -142,9 +148,50 @@ fn calls_with_each_allocation_refused(rt: HostRuntime) -> Result<(), Fail> {
             assert_eq!(rt; stream.bytes(), STARTUP.as_slice(), "call {what}");
             assert!(rt; stream.is_open());
             assert_eq!(rt; call(what, &mut stream), Ok(()), "call {what}");
+            assert_eq!(rt; stream.bytes(), ample.bytes(), "call {what}");
             refusals = number;
         }
         assert!(rt; refusals > 0, "call {what}");
     }
+    Ok(())
+}
+
+/// A session: a startup packet with a user, a query, a Sync and a Terminate, after the manual's message formats.
+const SESSION: &[u8] =
+    b"\0\0\0\x14\0\x03\0\0user\0alice\0\0Q\0\0\0\x0dSELECT 1\0S\0\0\0\x04X\0\0\0\x04";
+
+/// Makes a call of that session.
+fn say<B: Buffer>(step: usize, stream: &mut ClientStream<B>) -> Result<(), Error> {
+    match step {
+        0 => begin(2, stream),
+        1 => call(6, stream),
+        2 => call(7, stream),
+        _ => call(8, stream),
+    }
+}
+
+/// Where each call that is refused memory is made again, the session's bytes are the same.
+#[test]
+fn a_session_with_each_allocation_refused(rt: HostRuntime) -> Result<(), Fail> {
+    let mut refusals = 0u64;
+    for number in 1..100u64 {
+        let heap = Refusing::new(rt.alloc(), number);
+        let mut stream: ClientStream<BytesMut<&Refusing<Global>>> = ClientStream::new(&heap);
+        let mut again = 0u64;
+        for step in 0..4usize {
+            if say(step, &mut stream).is_err() {
+                again = again.saturating_add(1);
+                assert_eq!(rt; say(step, &mut stream), Ok(()));
+            }
+        }
+        assert_eq!(rt; stream.bytes(), SESSION);
+        if heap.until_refusal.get() != 0 {
+            assert_eq!(rt; again, 0);
+            break;
+        }
+        assert_eq!(rt; again, 1);
+        refusals = number;
+    }
+    assert!(rt; refusals > 1, "{refusals}");
     Ok(())
 }

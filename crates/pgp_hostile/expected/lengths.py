@@ -1,0 +1,195 @@
+"""Makes data/lengths.rows: `python3 expected/lengths.py > data/lengths.rows`, in crates/pgp_hostile.
+
+Written from the manual's "Message Formats" and from what PostgreSQL's `array_send`, `hstore_send`, `path_send`, `range_send` and
+`varbit_send` write, and not from the code of this repository. Which refusal comes for what is the table of refusals in the
+repository's README: a length or count that is cut is UnexpectedEof, one that can't be has a name of its own, and bytes that are
+left behind a list are NotDrained.
+"""
+
+from streams import Parts, Refused
+
+HEAD = """# Bodies and values in which a length or a count is replaced: by the least and the greatest of its field, 0, 1, -1, the bytes that
+# are left behind it, and one more. How a row is written: README.md. Made by `python3 expected/lengths.py`.
+"""
+
+
+def hexed(data):
+    if data is None:
+        return "null"
+    return data.hex() or '""'
+
+
+def walk(announced, count, data, item, at=0):
+    """What a list shows: the count, the items, its end."""
+    parts, items, end = Parts(data), [], "end"
+    parts.at = at
+    try:
+        for _ in range(count):
+            items.append(item(parts))
+        parts.end()
+    except Refused as refusal:
+        end = refusal.name
+    return " ".join([str(announced), "["] + items + ["]", end]), end, len(items)
+
+
+def length(parts, refusal):
+    """A value behind its length, which may be negative: then it is null."""
+    size = parts.number(4, True)
+    if size < 0:
+        return None
+    if size > parts.left():
+        raise Refused(refusal)
+    return parts.take(size)
+
+
+def place(parts):
+    value = length(parts, "UnexpectedEof")
+    return "null" if value is None else f"{parts.at - len(value)}..{parts.at}"
+
+
+def column(parts):
+    name = parts.string()
+    parts.take(6)
+    oid = parts.number(4, False)
+    parts.take(8)
+    return f"{hexed(name)} {oid}"
+
+
+def utf8(data):
+    try:
+        data.decode("utf-8")
+    except UnicodeDecodeError:
+        raise Refused("NotUtf8")
+    return data
+
+
+def pair(parts):
+    size = parts.number(4, True)
+    if size < 0 or size > parts.left():
+        raise Refused("InvalidKeyLength")
+    key = utf8(parts.take(size))
+    value = length(parts, "InvalidValueLength")
+    if value is not None:
+        utf8(value)
+    return f"{hexed(key)} {hexed(value)}"
+
+
+def row(data):
+    parts = Parts(data)
+    count = parts.number(2, False)
+    shown, end, items = walk(count, count, parts.rest(), place)
+    return f"{shown} {items if end == 'end' else end}"
+
+
+def columns(data):
+    parts = Parts(data)
+    count = parts.number(2, False)
+    return walk(count, count, parts.rest(), column)[0]
+
+
+def array(data):
+    parts = Parts(data)
+    dimensions = parts.number(4, True)
+    if dimensions < 0:
+        raise Refused("InvalidCount")
+    parts.take(8)
+    start, elements, product = parts.at, 0, 1
+    for _ in range(dimensions):
+        size = parts.number(4, True)
+        if size < 0:
+            raise Refused("InvalidDimension")
+        parts.take(4)
+        product *= size
+        if product > 2**31 - 1:
+            raise Refused("TooManyElements")
+        elements = product
+    sizes = data[start:parts.at]
+    shown = walk(dimensions, dimensions, sizes, lambda p: f"{p.number(4, True)} {p.number(4, True)}")[0]
+    return shown + " " + walk(elements, elements, parts.rest(), lambda p: hexed(length(p, "InvalidValueLength")))[0]
+
+
+def hstore(data):
+    parts = Parts(data)
+    count = parts.number(4, True)
+    if count < 0:
+        raise Refused("InvalidCount")
+    return walk(count, count, parts.rest(), pair)[0]
+
+
+def path(data):
+    parts = Parts(data)
+    closed = "closed" if parts.number(1, False) else "open"
+    count = parts.number(4, True)
+    if count < 0:
+        raise Refused("InvalidCount")
+    return closed + " " + walk(count, count, parts.rest(), lambda p: f"{p.take(8).hex()} {p.take(8).hex()}")[0]
+
+
+def varbit(data):
+    parts = Parts(data)
+    bits = parts.number(4, True)
+    if bits < 0:
+        raise Refused("InvalidBitLength")
+    if parts.left() != (bits + 7) // 8:
+        raise Refused("InvalidSize")
+    return f"{bits} {hexed(parts.rest())}"
+
+
+def bounds(data):
+    parts = Parts(data)
+    tag = parts.number(1, False)
+    sides = []
+    for infinite, inclusive in [(8, 2), (16, 4)]:
+        if tag & infinite:
+            sides.append("none")
+        else:
+            value = length(parts, "InvalidValueLength")
+            sides.append(f"{'in' if tag & inclusive else 'ex'} {hexed(value)}")
+    parts.end()
+    return " ".join(sides)
+
+
+# A call, its bytes, and where its lengths and counts stand: behind each their size in bytes.
+CASES = [
+    (row, "0003 00000001 61 ffffffff 00000000", {0: 2, 2: 4, 7: 4, 11: 4}),
+    (columns, "0001 6100 00000000 0000 00000017 0004 ffffffff 0000", {0: 2}),
+    (array, "00000001 00000000 00000017 7fffffff 00000001", {0: 4, 12: 4}),
+    (array, "00000002 00000001 0000000a 00000001 0000000a 00000002 00000000 ffffffff 00000005 68656c6c6f",
+     {0: 4, 12: 4, 20: 4, 28: 4, 32: 4}),
+    (array, "00000001 00000001 00000017 00000002 00000001 00000004 00000005 ffffffff", {0: 4, 12: 4, 20: 4, 28: 4}),
+    (array, "00000003 00000000 00000017 00010000 00000001 00008000 00000001 00000000 00000001", {0: 4, 12: 4, 20: 4, 28: 4}),
+    (hstore, "00000002 00000001 61 00000001 62 00000001 63 ffffffff", {0: 4, 4: 4, 9: 4, 14: 4, 19: 4}),
+    (hstore, "00000002 00000005 68656c6c6f 00000005 776f726c64 00000004 686f6c61 ffffffff",
+     {0: 4, 4: 4, 13: 4, 22: 4, 30: 4}),
+    (path, "01 00000001 " + "00" * 16, {1: 4}),
+    (path, "00 00000002 " + "3ff0000000000000" * 4, {1: 4}),
+    (varbit, "0000000c 2b0f", {0: 4}),
+    (bounds, "02 00000004 00000001 00000004 00000005", {1: 4, 9: 4}),
+]
+NAMES = {bounds: "range"}
+
+
+def changes(size, left):
+    """The bytes that replace a field of this size, without those that come twice."""
+    values = {4: [-2**31, 2**31 - 1, 0, 1, -1, left, left + 1], 2: [0, 65535, 32767, 32768, 1, -1, left, left + 1]}[size]
+    return list(dict.fromkeys((value % 256**size).to_bytes(size, "big") for value in values))
+
+
+def shown(call, data):
+    try:
+        return call(data)
+    except Refused as refusal:
+        return refusal.name
+
+
+if __name__ == "__main__":
+    print(HEAD, end="")
+    for call, digits, fields in CASES:
+        data = bytes.fromhex(digits)
+        name = NAMES.get(call, call.__name__)
+        print(f"\n# {name} {digits}")
+        print(f"{name} {data.hex()} = {shown(call, data)}")
+        for at, size in fields.items():
+            for new in changes(size, len(data) - at - size):
+                changed = data[:at] + new + data[at + size:]
+                print(f"{name} {changed.hex()} = {shown(call, changed)}")

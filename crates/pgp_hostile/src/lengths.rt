@@ -1,0 +1,235 @@
+//! Values and bodies whose lengths and counts are false.
+
+use crate::data::{append, is_data};
+use crate::fault::Fault;
+use crate::shown::Shown;
+use crate::walks::show_walk;
+use pgp_message::{DataRowBody, Field, Message, Messages, RowDescriptionBody};
+use pgp_types::{
+    Array, ArrayDimension, Path, Point, Range, RangeBound, array_from_sql, hstore_from_sql,
+    path_from_sql, range_from_sql, varbit_from_sql,
+};
+use std::alloc::Global;
+use std::ops;
+
+fn show_place(place: Option<ops::Range<usize>>, out: &mut Shown) -> Result<(), Fault> {
+    match place {
+        Some(place) => {
+            let text = format!(in out.alloc(); "{}..{}", place.start, place.end)?;
+            out.word(text.as_str())
+        }
+        None => out.word("null"),
+    }
+}
+
+fn show_row(body: &DataRowBody<&[u8]>, out: &mut Shown) -> Result<(), Fault> {
+    show_walk(
+        body.ranges(),
+        body.ranges(),
+        |place: Option<ops::Range<usize>>, out: &mut Shown| show_place(place, out),
+        body.buffer().len(),
+        out,
+    )?;
+    match body.index(out.alloc()) {
+        Ok(index) => out.number(index.len()),
+        Err(e) => out.number(e),
+    }
+}
+
+fn show_column(column: Field<'_>, out: &mut Shown) -> Result<(), Fault> {
+    out.nullable(Some(column.name().as_bytes()))?;
+    out.number(column.type_oid())
+}
+
+fn show_columns(
+    body: &RowDescriptionBody<&[u8]>,
+    most: usize,
+    out: &mut Shown,
+) -> Result<(), Fault> {
+    show_walk(
+        body.fields(),
+        body.fields(),
+        |column: Field<'_>, out: &mut Shown| show_column(column, out),
+        most,
+        out,
+    )
+}
+
+/// A body behind its tag and length.
+fn show_body(tag: u8, body: &[u8], out: &mut Shown) -> Result<(), Fault> {
+    let len = u32::try_from(body.len().saturating_add(4)).map_err(|_| Fault::Data)?;
+    let mut frame = Vec::from_slice(out.alloc(), &[tag])?;
+    frame.extend_from_slice(&len.to_be_bytes())?;
+    frame.extend_from_slice(body)?;
+    match Messages::new(frame.as_slice()).next() {
+        Ok(Some(Message::DataRow(row))) => show_row(&row, out),
+        Ok(Some(Message::RowDescription(columns))) => show_columns(&columns, body.len(), out),
+        other => {
+            drop(other);
+            Err(Fault::Data)
+        }
+    }
+}
+
+fn show_dimension(dimension: ArrayDimension, out: &mut Shown) -> Result<(), Fault> {
+    out.number(dimension.len)?;
+    out.number(dimension.lower_bound)
+}
+
+fn show_array(array: Array<'_>, most: usize, out: &mut Shown) -> Result<(), Fault> {
+    show_walk(
+        array.dimensions(),
+        array.dimensions(),
+        |dimension: ArrayDimension, out: &mut Shown| show_dimension(dimension, out),
+        most,
+        out,
+    )?;
+    show_walk(
+        array.values(),
+        array.values(),
+        |value: Option<&[u8]>, out: &mut Shown| out.nullable(value),
+        most,
+        out,
+    )
+}
+
+fn show_pair(pair: (&str, Option<&str>), out: &mut Shown) -> Result<(), Fault> {
+    let (key, value) = pair;
+    out.nullable(Some(key.as_bytes()))?;
+    match value {
+        Some(value) => out.nullable(Some(value.as_bytes())),
+        None => out.nullable(None),
+    }
+}
+
+fn show_point(point: Point, out: &mut Shown) -> Result<(), Fault> {
+    out.nullable(Some(&point.x().to_be_bytes()))?;
+    out.nullable(Some(&point.y().to_be_bytes()))
+}
+
+fn show_path(path: Path<'_>, most: usize, out: &mut Shown) -> Result<(), Fault> {
+    out.word(if path.closed() { "closed" } else { "open" })?;
+    show_walk(
+        path.points(),
+        path.points(),
+        |point: Point, out: &mut Shown| show_point(point, out),
+        most,
+        out,
+    )
+}
+
+fn show_side(side: RangeBound<Option<&[u8]>>, out: &mut Shown) -> Result<(), Fault> {
+    match side {
+        RangeBound::Inclusive(bytes) => {
+            out.word("in")?;
+            out.nullable(bytes)
+        }
+        RangeBound::Exclusive(bytes) => {
+            out.word("ex")?;
+            out.nullable(bytes)
+        }
+        RangeBound::Unbounded => out.word("none"),
+    }
+}
+
+fn show_range(range: Range<'_>, out: &mut Shown) -> Result<(), Fault> {
+    match range {
+        Range::Empty => out.word("empty"),
+        Range::Nonempty(lower, upper) => {
+            show_side(lower, out)?;
+            show_side(upper, out)
+        }
+    }
+}
+
+/// What a range is read as.
+fn read_range(bytes: &[u8], out: &mut Shown) -> Result<(), Fault> {
+    match range_from_sql(bytes) {
+        Ok(range) => show_range(range, out),
+        Err(e) => out.number(e),
+    }
+}
+
+fn read_varbit(bytes: &[u8], out: &mut Shown) -> Result<(), Fault> {
+    match varbit_from_sql(bytes) {
+        Ok(bits) => {
+            out.number(bits.len())?;
+            out.nullable(Some(bits.bytes()))
+        }
+        Err(e) => out.number(e),
+    }
+}
+
+fn read_path(bytes: &[u8], out: &mut Shown) -> Result<(), Fault> {
+    match path_from_sql(bytes) {
+        Ok(path) => show_path(path, bytes.len(), out),
+        Err(e) => out.number(e),
+    }
+}
+
+fn read_array(bytes: &[u8], out: &mut Shown) -> Result<(), Fault> {
+    match array_from_sql(bytes) {
+        Ok(array) => show_array(array, bytes.len(), out),
+        Err(e) => out.number(e),
+    }
+}
+
+fn read_hstore(bytes: &[u8], out: &mut Shown) -> Result<(), Fault> {
+    match (hstore_from_sql(bytes), hstore_from_sql(bytes)) {
+        (Ok(pairs), Ok(again)) => show_walk(
+            pairs,
+            again,
+            |pair: (&str, Option<&str>), out: &mut Shown| show_pair(pair, out),
+            bytes.len(),
+            out,
+        ),
+        (Err(e), _) | (_, Err(e)) => out.number(e),
+    }
+}
+
+/// Reads the bytes as the call of this name does.
+fn read(call: &str, bytes: &[u8], out: &mut Shown) -> Result<(), Fault> {
+    match call {
+        "row" => show_body(b'D', bytes, out),
+        "columns" => show_body(b'T', bytes, out),
+        "array" => read_array(bytes, out),
+        "hstore" => read_hstore(bytes, out),
+        "path" => read_path(bytes, out),
+        "range" => read_range(bytes, out),
+        "varbit" => read_varbit(bytes, out),
+        _ => Err(Fault::Data),
+    }
+}
+
+/// What a row comes to, where that isn't what it says.
+fn difference(alloc: Global, row: &str) -> Result<Option<Shown>, Fault> {
+    let (left, right) = row.split_once(" = ").ok_or(Fault::Data)?;
+    let (call, digits) = left.split_once(' ').ok_or(Fault::Data)?;
+    let mut bytes = Vec::new(alloc);
+    append(alloc, digits, &mut bytes)?;
+    let mut out = Shown::new(alloc);
+    read(call, bytes.as_slice(), &mut out)?;
+    match out.as_str() == right {
+        true => Ok(None),
+        false => Ok(Some(out)),
+    }
+}
+
+/// Runs the rows of this text, and tells those that aren't right.
+pub fn run(alloc: Global, text: &str) -> Result<String, Fault> {
+    let mut out = String::new(alloc);
+    let mut rows = 0u64;
+    for row in text.lines() {
+        if !is_data(row) {
+            continue;
+        }
+        rows = rows.saturating_add(1);
+        if let Some(came) = difference(alloc, row)? {
+            let line = format!(in alloc; "{row}\n    came to: {}\n", came.as_str())?;
+            out.push_str(line.as_str())?;
+        }
+    }
+    let last = format!(in alloc; "lengths.rows: {rows} rows\n")?;
+    out.push_str(last.as_str())?;
+    Ok(out)
+}

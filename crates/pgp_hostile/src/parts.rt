@@ -1,0 +1,198 @@
+//! What the bodies of a server's messages hold, part by part.
+
+use crate::sum::{Sum, add_walk};
+use bytes::Bytes;
+use pgp_base::Error;
+use pgp_message::{
+    ColumnFormats, DataRowRanges, ErrorField, ErrorFields, Field, Fields, Message, Parameters,
+    RowIndex, SaslMechanisms,
+};
+use std::ops::Range;
+
+/// A message whose parts can be added to a sum, wherever it keeps them.
+pub trait Parts {
+    fn add_parts(&self, sum: &mut Sum);
+}
+
+fn add_place(place: Option<Range<usize>>, sum: &mut Sum) {
+    match place {
+        Some(place) => {
+            sum.plain(&place.start.to_be_bytes());
+            sum.plain(&place.end.to_be_bytes());
+        }
+        None => sum.plain(&usize::MAX.to_be_bytes()),
+    }
+}
+
+/// The values that a row's table has, and one place behind its last.
+fn add_values(index: &RowIndex<'_>, sum: &mut Sum) {
+    sum.plain(&index.len().to_be_bytes());
+    for i in 0..index.len() {
+        if let Some(value) = index.value(i) {
+            sum.nullable(value);
+        }
+    }
+    sum.plain(&[u8::from(index.value(index.len()).is_some())]);
+}
+
+/// The places of a row's values, its bytes, and the values by its table, or why there is no table.
+fn add_row(
+    ranges: DataRowRanges<'_>,
+    buffer: &[u8],
+    index: Result<RowIndex<'_>, Error>,
+    sum: &mut Sum,
+) {
+    add_walk(
+        ranges,
+        |place: Option<Range<usize>>, sum: &mut Sum| add_place(place, sum),
+        sum,
+    );
+    sum.bytes(buffer);
+    match index {
+        Ok(index) => add_values(&index, sum),
+        Err(e) => sum.part_refused(e),
+    }
+}
+
+fn add_column(column: Field<'_>, sum: &mut Sum) {
+    sum.bytes(column.name().as_bytes());
+    sum.plain(&column.table_oid().to_be_bytes());
+    sum.plain(&column.column_id().to_be_bytes());
+    sum.plain(&column.type_oid().to_be_bytes());
+    sum.plain(&column.type_size().to_be_bytes());
+    sum.plain(&column.type_modifier().to_be_bytes());
+    sum.plain(&column.format().to_be_bytes());
+}
+
+fn add_columns(columns: Fields<'_>, sum: &mut Sum) {
+    add_walk(
+        columns,
+        |column: Field<'_>, sum: &mut Sum| add_column(column, sum),
+        sum,
+    );
+}
+
+/// A field of an error: its letter, its text, and the bytes of that.
+fn add_field(field: ErrorField<'_>, sum: &mut Sum) {
+    sum.plain(&[field.type_()]);
+    sum.text(field.value());
+    sum.bytes(field.value_bytes());
+}
+
+fn add_fields(fields: ErrorFields<'_>, sum: &mut Sum) {
+    add_walk(
+        fields,
+        |field: ErrorField<'_>, sum: &mut Sum| add_field(field, sum),
+        sum,
+    );
+}
+
+fn add_mechanisms(mechanisms: SaslMechanisms<'_>, sum: &mut Sum) {
+    add_walk(
+        mechanisms,
+        |name: &str, sum: &mut Sum| sum.bytes(name.as_bytes()),
+        sum,
+    );
+}
+
+fn add_types(types: Parameters<'_>, sum: &mut Sum) {
+    add_walk(
+        types,
+        |oid: u32, sum: &mut Sum| sum.plain(&oid.to_be_bytes()),
+        sum,
+    );
+}
+
+fn add_copy(format: u8, columns: ColumnFormats<'_>, sum: &mut Sum) {
+    sum.plain(&[format]);
+    add_walk(
+        columns,
+        |format: u16, sum: &mut Sum| sum.plain(&format.to_be_bytes()),
+        sum,
+    );
+}
+
+/// The parts of a message of a log-in, or of one of another kind.
+macro_rules! login_parts {
+    ($message:ident, $sum:ident, $others:ident) => {
+        match $message {
+            Message::AuthenticationGssContinue(body) => $sum.bytes(body.data()),
+            Message::AuthenticationMd5Password(body) => $sum.plain(&body.salt()),
+            Message::AuthenticationSasl(body) => add_mechanisms(body.mechanisms(), $sum),
+            Message::AuthenticationSaslContinue(body) => $sum.bytes(body.data()),
+            Message::AuthenticationSaslFinal(body) => $sum.bytes(body.data()),
+            Message::BackendKeyData(body) => {
+                $sum.plain(&body.process_id().to_be_bytes());
+                $sum.plain(&body.secret_key().to_be_bytes());
+            }
+            other => $others(other, $sum),
+        }
+    };
+}
+
+/// The parts of a message of a query, or of one of another kind.
+macro_rules! query_parts {
+    ($message:ident, $sum:ident, $others:ident) => {
+        match $message {
+            Message::CommandComplete(body) => $sum.text(body.tag()),
+            Message::DataRow(body) => {
+                add_row(body.ranges(), body.buffer(), body.index($sum.alloc()), $sum);
+            }
+            Message::ParameterDescription(body) => add_types(body.parameters(), $sum),
+            Message::RowDescription(body) => add_columns(body.fields(), $sum),
+            Message::ReadyForQuery(body) => $sum.plain(&[body.status()]),
+            other => $others(other, $sum),
+        }
+    };
+}
+
+/// The parts of any other message.
+macro_rules! other_parts {
+    ($message:ident, $sum:ident) => {
+        match $message {
+            Message::CopyData(body) => $sum.bytes(body.data()),
+            Message::CopyInResponse(body) => add_copy(body.format(), body.column_formats(), $sum),
+            Message::CopyOutResponse(body) => add_copy(body.format(), body.column_formats(), $sum),
+            Message::ErrorResponse(body) => add_fields(body.fields(), $sum),
+            Message::NoticeResponse(body) => add_fields(body.fields(), $sum),
+            Message::NotificationResponse(body) => {
+                $sum.plain(&body.process_id().to_be_bytes());
+                $sum.text(body.channel());
+                $sum.text(body.message());
+            }
+            Message::ParameterStatus(body) => {
+                $sum.text(body.name());
+                $sum.text(body.value());
+            }
+            _ => {}
+        }
+    };
+}
+
+fn other_of_shared(message: &Message<Bytes>, sum: &mut Sum) {
+    other_parts!(message, sum)
+}
+
+fn query_of_shared(message: &Message<Bytes>, sum: &mut Sum) {
+    query_parts!(message, sum, other_of_shared)
+}
+
+impl Parts for Message<Bytes> {
+    fn add_parts(&self, sum: &mut Sum) {
+        login_parts!(self, sum, query_of_shared)
+    }
+}
+
+fn other_in_place(message: &Message<&[u8]>, sum: &mut Sum) {
+    other_parts!(message, sum)
+}
+
+fn query_in_place(message: &Message<&[u8]>, sum: &mut Sum) {
+    query_parts!(message, sum, other_in_place)
+}
+
+impl Parts for Message<&[u8]> {
+    fn add_parts(&self, sum: &mut Sum) {
+        login_parts!(self, sum, query_in_place)
+    }
+}

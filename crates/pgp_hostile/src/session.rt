@@ -1,0 +1,161 @@
+//! A whole session of a server, with each byte replaced.
+
+use crate::data::Frames;
+use crate::fault::Fault;
+use crate::reading::{Entry, Reading};
+use crate::sum::Sum;
+use crate::tally::Tally;
+use crate::ways::{Way, read, read_in_place};
+use std::alloc::Global;
+
+/// What the changes of one frame came to.
+#[derive(Drop)]
+struct Changes {
+    alloc: Global,
+    /// What the changed frame was read as, where all others were read as before.
+    alone: Tally,
+    /// What was read from the changed frame on, where others changed too.
+    more: Tally,
+    /// How often the frames in front weren't read as before, or the ways of reading differed. It has to be 0.
+    wrong: u64,
+    streams: u64,
+    sum: Sum,
+}
+
+impl Changes {
+    fn new(alloc: Global) -> Changes {
+        Changes {
+            alloc,
+            alone: Tally::new(alloc),
+            more: Tally::new(alloc),
+            wrong: 0,
+            streams: 0,
+            sum: Sum::new(alloc),
+        }
+    }
+
+    fn add(&mut self, is_alone: bool, entry: &Entry) -> Result<(), Fault> {
+        let label = entry.label(self.alloc)?;
+        if is_alone {
+            self.alone.add(label.as_str())
+        } else {
+            self.more.add(label.as_str())
+        }
+    }
+
+    /// Adds what came in the place of the frame of this number and behind it.
+    fn add_reading(&mut self, at: usize, before: &Reading, came: &Reading) -> Result<(), Fault> {
+        self.streams = self.streams.saturating_add(1);
+        self.sum.plain(&came.value().to_be_bytes());
+        if !is_front_same(at, before, came) {
+            self.wrong = self.wrong.saturating_add(1);
+        }
+        let is_alone = is_back_same(at.saturating_add(1), before, came);
+        let most = if is_alone { 1 } else { usize::MAX };
+        for entry in came.entries.iter().skip(at).take(most) {
+            self.add(is_alone, entry)?;
+        }
+        match is_alone {
+            true => Ok(()),
+            false if came.is_stopped => self.more.add("stopped"),
+            false => self.more.add("waits"),
+        }
+    }
+}
+
+/// Whether so many results in front are the same.
+fn is_front_same(count: usize, before: &Reading, came: &Reading) -> bool {
+    came.entries.len() >= count
+        && before
+            .entries
+            .iter()
+            .zip(&came.entries)
+            .take(count)
+            .all(|(one, other)| one.is_same(other))
+}
+
+/// Whether the results from this one on are the same, and nothing is left.
+fn is_back_same(at: usize, before: &Reading, came: &Reading) -> bool {
+    came.entries.len() == before.entries.len()
+        && !came.is_stopped
+        && came.rest == 0
+        && before
+            .entries
+            .iter()
+            .zip(&came.entries)
+            .skip(at)
+            .all(|(one, other)| one.is_same(other))
+}
+
+/// Reads the bytes, in place and as a stream.
+fn add_stream(
+    at: usize,
+    before: &Reading,
+    bytes: &[u8],
+    changes: &mut Changes,
+) -> Result<(), Fault> {
+    let in_place = read_in_place(changes.alloc, bytes)?;
+    let (came, _) = read(changes.alloc, Way::Whole, &[bytes])?;
+    if in_place.value() != came.value() {
+        changes.wrong = changes.wrong.saturating_add(1);
+    }
+    changes.add_reading(at, before, &came)
+}
+
+/// Replaces the byte at this place by each value in turn.
+fn replace(
+    place: usize,
+    at: usize,
+    before: &Reading,
+    bytes: &mut Vec<u8>,
+    changes: &mut Changes,
+) -> Result<(), Fault> {
+    let Some(old) = bytes.get(place).copied() else {
+        return Err(Fault::Data);
+    };
+    for new in [0, 1, 127, 128, 255, old.wrapping_add(1)] {
+        if let Some(byte) = bytes.get_mut(place) {
+            *byte = new;
+        }
+        add_stream(at, before, bytes.as_slice(), changes)?;
+    }
+    if let Some(byte) = bytes.get_mut(place) {
+        *byte = old;
+    }
+    Ok(())
+}
+
+/// What the changes of one frame came to, as a line.
+fn line(at: usize, changes: &Changes, before: &Reading) -> Result<String, Fault> {
+    let alloc = changes.alloc;
+    let name = match before.entries.get(at) {
+        Some(entry) => entry.label(alloc)?,
+        None => return Err(Fault::Data),
+    };
+    let alone = changes.alone.text()?;
+    let more = changes.more.text()?;
+    let streams = changes.streams;
+    let wrong = changes.wrong;
+    let sum = changes.sum.value();
+    let number = at.saturating_add(1);
+    Ok(format!(in alloc;
+        "{number} {name}: {streams} streams, {wrong} wrong, {sum:016x}\n  alone: {alone}\n  more: {more}\n"
+    )?)
+}
+
+/// Reads the session of this text with each byte replaced.
+pub fn run(alloc: Global, text: &str) -> Result<String, Fault> {
+    let mut frames = Frames::parse(alloc, text)?;
+    let before = read_in_place(alloc, frames.bytes.as_slice())?;
+    let mut out = String::new(alloc);
+    let mut start = 0usize;
+    for (at, end) in frames.ends.iter().enumerate() {
+        let mut changes = Changes::new(alloc);
+        for place in start..*end {
+            replace(place, at, &before, &mut frames.bytes, &mut changes)?;
+        }
+        out.push_str(line(at, &changes, &before)?.as_str())?;
+        start = *end;
+    }
+    Ok(out)
+}

@@ -1,0 +1,149 @@
+//! One number for all that was read, so that any change of it shows.
+
+use pgp_base::{Error, FallibleIterator};
+use std::alloc::Global;
+
+/// The FNV-1a digest, of 64 bits, of what was added, and the first refusal among it.
+#[derive(Clone, Copy)]
+pub struct Sum {
+    alloc: Global,
+    value: u64,
+    flaw: Option<Error>,
+}
+
+impl Sum {
+    pub fn new(alloc: Global) -> Sum {
+        Sum {
+            alloc,
+            value: 0xcbf2_9ce4_8422_2325,
+            flaw: None,
+        }
+    }
+
+    /// Where a row's table is kept while it is read.
+    pub fn alloc(&self) -> Global {
+        self.alloc
+    }
+
+    pub fn value(&self) -> u64 {
+        self.value
+    }
+
+    /// The first refusal of an accessor or a walk.
+    pub fn flaw(&self) -> Option<Error> {
+        self.flaw
+    }
+
+    /// Adds the bytes of a number.
+    pub fn plain(&mut self, bytes: &[u8]) {
+        for byte in bytes {
+            self.value = (self.value ^ u64::from(*byte)).wrapping_mul(0x100_0000_01b3);
+        }
+    }
+
+    /// Adds bytes, behind how many they are.
+    pub fn bytes(&mut self, bytes: &[u8]) {
+        self.plain(&bytes.len().to_be_bytes());
+        self.plain(bytes);
+    }
+
+    /// Adds a refusal: its number, and the tag or the code that it carries.
+    pub fn refusal(&mut self, refusal: Error) {
+        self.plain(&[refusal.number()]);
+        match refusal {
+            Error::UnknownTag(tag) => self.plain(&[tag]),
+            Error::UnknownAuthentication(code) => self.plain(&code.to_be_bytes()),
+            _ => {}
+        }
+    }
+
+    /// Adds a refusal of a part, which is remembered where it is the first.
+    pub fn part_refused(&mut self, refusal: Error) {
+        self.refusal(refusal);
+        if self.flaw.is_none() {
+            self.flaw = Some(refusal);
+        }
+    }
+
+    /// Adds a text, or why it is none.
+    pub fn text(&mut self, text: Result<&str, Error>) {
+        match text {
+            Ok(text) => self.bytes(text.as_bytes()),
+            Err(e) => self.part_refused(e),
+        }
+    }
+
+    /// Adds bytes, or that they are null.
+    pub fn nullable(&mut self, bytes: Option<&[u8]>) {
+        match bytes {
+            Some(bytes) => self.bytes(bytes),
+            None => self.plain(&usize::MAX.to_be_bytes()),
+        }
+    }
+}
+
+/// More items than any list here has.
+const MOST: usize = 1000;
+
+/// Adds the items of a walk and its end. Each has a byte before it: 1 for an item, 0 for the end, 2 for a refusal.
+fn add_items<W: FallibleIterator, F: Fn(W::Item, &mut Sum)>(walk: &mut W, add: &F, sum: &mut Sum)
+    requires { F.IsAlwaysCallable add.now }
+{
+    for _ in 0..MOST {
+        match walk.next() {
+            Ok(Some(item)) => {
+                sum.plain(&[1]);
+                add(item, sum);
+            }
+            Ok(None) => {
+                sum.plain(&[0]);
+                return;
+            }
+            Err(e) => {
+                sum.plain(&[2]);
+                sum.part_refused(e);
+                return;
+            }
+        }
+    }
+}
+
+/// Adds what a walk answers at its end.
+fn add_end<W: FallibleIterator>(walk: &mut W, sum: &mut Sum)
+where
+    W::Item: Drop,
+{
+    match walk.next() {
+        Ok(Some(_)) => sum.plain(&[1]),
+        Ok(None) => sum.plain(&[0]),
+        Err(e) => {
+            sum.plain(&[2]);
+            sum.refusal(e);
+        }
+    }
+}
+
+/// Adds how many items a walk announces.
+fn add_announced<W: FallibleIterator>(walk: &W, sum: &mut Sum) {
+    let (least, most) = walk.size_hint();
+    sum.plain(&least.to_be_bytes());
+    sum.plain(&most.unwrap_or(usize::MAX).to_be_bytes());
+}
+
+/// Adds a walk: what it announces, its items, and its end, which is asked for three times more.
+pub fn add_walk<W: FallibleIterator + Drop, F: Fn(W::Item, &mut Sum) + Drop>(
+    mut walk: W,
+    add: F,
+    sum: &mut Sum,
+)
+where
+    W::Item: Drop,
+    requires { F.IsAlwaysCallable add }
+{
+    add_announced(&walk, sum);
+    add_items(&mut walk, &add, sum);
+    for _ in 0..3 {
+        add_end(&mut walk, sum);
+    }
+    add_announced(&walk, sum);
+}

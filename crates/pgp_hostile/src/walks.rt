@@ -1,0 +1,97 @@
+//! A walk over a list whose lengths may be false: it ends, stays at its end, and asks for no memory by what is announced.
+
+use crate::fault::Fault;
+use crate::shown::Shown;
+use linked_list_allocator::LocalHeap;
+use pgp_base::{Error, FallibleIterator};
+use pgp_test_alloc::Refusing;
+use std::alloc::Global;
+
+/// More requests of memory than any list here makes.
+const MANY: u64 = 1_000_000;
+
+/// How many bytes a list may take here. None has more than ten items.
+const HEAP: usize = 4096;
+
+/// Shows the items, and how the walk ends: `many` where more come than there are bytes.
+fn show_items<W: FallibleIterator, F: Fn(W::Item, &mut Shown) -> Result<(), Fault>>(
+    walk: &mut W,
+    show: &F,
+    most: usize,
+    out: &mut Shown,
+) -> Result<(u64, Option<Error>), Fault>
+    requires { F.IsAlwaysCallable show.now }
+{
+    let mut came = 0u64;
+    for _ in 0..most.saturating_add(1) {
+        match walk.next() {
+            Ok(Some(item)) => show(item, out)?,
+            Ok(None) => return Ok((came, None)),
+            Err(e) => return Ok((came, Some(e))),
+        }
+        came = came.saturating_add(1);
+    }
+    out.word("many")?;
+    Ok((came, None))
+}
+
+/// Whether the walk answers this end, and announces no more.
+fn is_at_end<W: FallibleIterator>(walk: &mut W, end: Option<Error>) -> bool
+where
+    W::Item: Drop,
+{
+    let is_same = match walk.next() {
+        Ok(Some(_)) => false,
+        Ok(None) => end.is_none(),
+        Err(e) => end == Some(e),
+    };
+    is_same && walk.size_hint().0 == 0
+}
+
+/// Whether `collect` comes to the same in little memory, and asks for it no more often than items come.
+fn is_modest<W: FallibleIterator + Drop>(
+    alloc: Global,
+    walk: W,
+    came: u64,
+    end: Option<Error>,
+) -> Result<bool, Fault>
+where
+    W::Item: Drop,
+{
+    let heap = LocalHeap::new(alloc, HEAP)?;
+    let counted = Refusing::new(&heap, MANY);
+    let is_same = match walk.collect(&counted) {
+        Ok(list) => end.is_none() && list.len() as u64 == came,
+        Err(e) => end == Some(e),
+    };
+    Ok(is_same && MANY.saturating_sub(came) <= counted.until_refusal.get())
+}
+
+/// Shows a walk over so many bytes: what it announces, its items, and its end. `unsteady` stands behind it where it doesn't stay
+/// at its end, and `greedy` where `collect` asks for more memory than the items need. The second walk is the same.
+pub fn show_walk<
+    W: FallibleIterator + Drop,
+    F: Fn(W::Item, &mut Shown) -> Result<(), Fault> + Drop,
+>(mut walk: W, again: W, show: F, most: usize, out: &mut Shown) -> Result<(), Fault>
+where
+    W::Item: Drop,
+    requires { F.IsAlwaysCallable show }
+{
+    out.number(walk.size_hint().0)?;
+    out.word("[")?;
+    let (came, end) = show_items(&mut walk, &show, most, out)?;
+    out.word("]")?;
+    match end {
+        None => out.word("end")?,
+        Some(e) => out.number(e)?,
+    }
+    for _ in 0..3 {
+        if !is_at_end(&mut walk, end) {
+            out.word("unsteady")?;
+        }
+    }
+    if !is_modest(out.alloc(), again, came, end)? {
+        out.word("greedy")?;
+    }
+    Ok(())
+}

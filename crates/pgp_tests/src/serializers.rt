@@ -1,0 +1,157 @@
+//! Serializers that refuse, and writers that are refused memory: which of the two is told.
+#![tactic(auto, using(pgp_base::proofs::Parts::held_steps))]
+
+ghost use Rattle.pgp_base.specs.Calls.{KeepsValue};
+ghost use Rattle.pgp_base.specs.Held.{items_held};
+
+use bytes::BytesMut;
+use pgp_base::{BindError, Buffer, Error, IsNull};
+use pgp_frontend::bind;
+use pgp_test_alloc::Refusing;
+use pgp_types::{ArrayDimension, RangeBound, array_to_sql, range_to_sql};
+use std::alloc::Global;
+use std::test::Fail;
+
+// A message that stands in the buffer already.
+const SYNC: &[u8] = b"S\0\0\0\x04";
+
+// What the serializers here answer where they are refused memory.
+const OWN: u8 = 77;
+
+// The values of a message, of which the serializer refuses the k-th, behind the bytes that it has appended.
+#[test]
+fn bind_with_each_value_refused(rt: HostRuntime) -> Result<(), Fail> {
+    for k in 1..6u32 {
+        let mut buf = BytesMut::new(rt.alloc());
+        buf.append(SYNC)?;
+        let mut calls = 0u32;
+        let answer = bind(
+            "portal",
+            "statement",
+            Some(1i16),
+            1..6u32,
+            |n: u32, buf: &mut BytesMut| -> Result<IsNull, u32>
+                ensures { KeepsValue result (items_held buf.entry.now.items) (items_held buf.exit.now.items) }
+            {
+                calls = calls.saturating_add(1);
+                if buf.append(b"abc").is_err() || n == k {
+                    return Err(n);
+                }
+                Ok(IsNull::No)
+            },
+            Some(1i16),
+            &mut buf,
+        );
+        assert!(rt; matches!(&answer, Err(BindError::Conversion(e)) if *e == k));
+        assert_eq!(rt; calls, k);
+        assert_eq!(rt; buf.as_slice(), SYNC);
+    }
+    Ok(())
+}
+
+// Appends twenty bytes, or answers its own number.
+fn put_own<B: Buffer>(buf: &mut B) -> Result<IsNull, u8>
+    ensures { KeepsValue result (B.held buf.old) (B.held buf.new) }
+{
+    match buf.append(b"0123456789abcdefghij") {
+        Ok(()) => Ok(IsNull::No),
+        Err(_) => Err(OWN),
+    }
+}
+
+fn bind_own<B: Buffer>(buf: &mut B) -> Result<(), BindError<u8>> {
+    bind(
+        "",
+        "s",
+        Some(1i16),
+        1..6u32,
+        |_: u32, buf: &mut B| -> Result<IsNull, u8> { put_own(buf) },
+        Some(1i16),
+        buf,
+    )
+}
+
+fn array_own<B: Buffer>(buf: &mut B) -> Result<(), BindError<u8>> {
+    array_to_sql(
+        Some(ArrayDimension {
+            len: 5,
+            lower_bound: 1,
+        }),
+        23,
+        1..6u32,
+        |_: u32, buf: &mut B| -> Result<IsNull, u8> { put_own(buf) },
+        buf,
+    )
+}
+
+fn range_own<B: Buffer>(buf: &mut B) -> Result<(), BindError<u8>> {
+    range_to_sql(
+        |buf: &mut B| -> Result<RangeBound<IsNull>, u8> {
+            match buf.append(b"0123456789abcdefghij") {
+                Ok(()) => Ok(RangeBound::Inclusive(IsNull::No)),
+                Err(_) => Err(OWN),
+            }
+        },
+        |buf: &mut B| -> Result<RangeBound<IsNull>, u8> {
+            match buf.append(b"0123456789abcdefghij") {
+                Ok(()) => Ok(RangeBound::Exclusive(IsNull::No)),
+                Err(_) => Err(OWN),
+            }
+        },
+        buf,
+    )
+}
+
+// Whose growth was refused.
+#[derive(Debug, Clone, Copy, PartialEq)]
+enum Told {
+    Nobody,
+    Serializer,
+    Writer,
+    Other,
+}
+
+fn teller(answer: Result<(), BindError<u8>>) -> Told {
+    match answer {
+        Ok(()) => Told::Nobody,
+        Err(BindError::Conversion(e)) if e == OWN => Told::Serializer,
+        Err(BindError::Serialization(Error::OutOfMemory)) => Told::Writer,
+        Err(_) => Told::Other,
+    }
+}
+
+fn write_own<B: Buffer>(writer: u32, buf: &mut B) -> Told {
+    match writer {
+        0 => teller(bind_own(buf)),
+        1 => teller(array_own(buf)),
+        _ => teller(range_own(buf)),
+    }
+}
+
+// The serializer's want of memory is told as its own refusal, the writer's as a serialization. Buffers of many lengths have
+// each growth come at their end, so that both are met.
+#[test]
+fn a_serializer_without_memory_is_told_apart(rt: HostRuntime) -> Result<(), Fail> {
+    for writer in 0..3u32 {
+        let mut by_serializer = 0u32;
+        let mut by_writer = 0u32;
+        for room in 5..200usize {
+            let heap = Refusing::new(rt.alloc(), 0);
+            let mut buf: BytesMut<&Refusing<Global>> = BytesMut::with_capacity(&heap, room)?;
+            buf.extend_from_slice(SYNC)?;
+            heap.until_refusal.set(1);
+            match write_own(writer, &mut buf) {
+                Told::Nobody => assert!(rt; heap.until_refusal.get() != 0),
+                Told::Serializer => by_serializer = by_serializer.saturating_add(1),
+                Told::Writer => by_writer = by_writer.saturating_add(1),
+                Told::Other => panic!(rt; "writer {writer}, room {room}"),
+            }
+            if heap.until_refusal.get() == 0 {
+                assert_eq!(rt; buf.as_slice(), SYNC);
+            }
+        }
+        assert!(rt; by_serializer > 5, "writer {writer}: {by_serializer}");
+        assert!(rt; by_writer > 5, "writer {writer}: {by_writer}");
+    }
+    Ok(())
+}
