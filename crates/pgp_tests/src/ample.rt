@@ -231,14 +231,13 @@ fn a_megabyte_is_fed(rt: HostRuntime) -> Result<(), Fail> {
         feed(&mut parser, b"1\0\0\0\x04")?;
     }
     let front = joined(rt.alloc(), "d\0\x0f\x42\x44", "0123456789", 50_000, "")?;
-    let back = joined(rt.alloc(), "", "0123456789", 50_000, "1\0\0\0\x04")?;
+    let back = joined(rt.alloc(), "", "0123456789", 50_000, "")?;
     feed(&mut parser, front.as_bytes())?;
     assert_eq!(rt; parser.results().len(), 2000);
     assert_eq!(rt; parser.rest().len(), 500_005);
-    let (last, more) = back.as_bytes().split_at(500_000);
-    feed(&mut parser, last)?;
+    feed(&mut parser, back.as_bytes())?;
     assert_eq!(rt; last_copied(&parser), 1_000_000);
-    feed(&mut parser, more)?;
+    feed(&mut parser, b"1\0\0\0\x04")?;
     assert_eq!(rt; parser.results().len(), 2002);
     assert_eq!(rt; parser.headers(), 2002);
     assert!(rt; parser.rest().is_empty());

@@ -90,7 +90,10 @@ fn long_stream(alloc: Global) -> Result<Vec<u8>, AllocError> {
     let mut draws = Draws(1);
     let mut out = Vec::new(alloc);
     let mut len = MOST;
-    while out.len() < LONG {
+    for _ in 0..LONG {
+        if out.len() >= LONG {
+            break;
+        }
         let Some(data) = block.get(..len) else {
             return Ok(out);
         };
@@ -155,7 +158,10 @@ fn add_in_pieces(
 ) -> Result<(), Error> {
     let mut draws = Draws(2);
     let mut rest = bytes;
-    while !rest.is_empty() {
+    for _ in 0..bytes.len() {
+        if rest.is_empty() {
+            break;
+        }
         let len = draws.below(5000).saturating_add(1).min(rest.len());
         let (piece, more) = rest.split_at(len);
         feed(parser, piece)?;
