@@ -10,6 +10,7 @@ use Rattle.std.proofs.lemmas.Grind.{flat_map-append}
 use Rattle.pgp_base.specs.declared.error.Error.{Error}
 use Rattle.pgp_message.specs.BackendMessage.{Message}
 use Rattle.postgres_protocol.specs.ServerStream.{Reading, HasRead}
+use Rattle.postgres_protocol.proofs.Readings.{has_read_more}
 use Rattle.pgwire.specs.Output.{BackendOutput, ListsPiece, line_of, last_line}
 
 -- one result more, of those that view sees
@@ -39,7 +40,7 @@ lists_more old now next a c piece lines more so_far consumed one = record {
   came = so_far.came ++ piece;
   taken = so_far.taken ++ one.results;
   consumed = Consumes-trans old now next so_far.came piece so_far.consumed consumed;
-  read = one.taken.reads (so_far.came ++ piece) so_far.taken (one.fed.reads so_far.came so_far.taken so_far.read);
+  read = one.taken.reads (so_far.came ++ piece) so_far.taken (has_read_more _ _ _ one.fed so_far.came so_far.taken so_far.read);
   sound = ap (λ (r : Reading). r.failed) one.taken.kept ∙ one.fed.sound;
   none = ap (λ (r : Reading). r.results) one.taken.kept;
   text = one.text ∙ ap (λ l. l ++ flat_map line_of one.results) so_far.text ∙ sym (flat_map-append line_of so_far.taken one.results);

@@ -15,7 +15,7 @@ use Rattle.pgp_message.specs.Stream.{frame_bytes, Frames, IsEnding, BackendRun}
 use Rattle.pgp_message.proofs.Fronts.{fault_stays}
 use Rattle.pgp_message.proofs.Headers.{fits_grows, fits_itself, header_of_long, header_stays}
 use Rattle.pgp_message.proofs.Runs.{frames_join}
-use Rattle.postgres_protocol.specs.ServerStream.{Reading, GoesOn, Fails, Takes, TakesAll, Moves, TakesPart, ready}
+use Rattle.postgres_protocol.specs.ServerStream.{Reading, GoesOn, Fails, Takes, TakesAll, Moves, TakesPart, kept_or_piece}
 
 -- where a length fault stopped it a header stands there
 pub stopped_long : (stopped : Bool) (rest : List ℕ) → IsEnding stopped rest → stopped ≡ true → 5 ≤ length rest
@@ -43,7 +43,7 @@ frames_chained a b c first second p q =
 
 -- ---- a frame that was cut
 
--- A frame is completed from the front of a piece, of which some is left. What was read so far is told.
+-- A frame is completed from the front of a piece, of which some is left. What was read so far is used stopped.
 pub record Completing (old piece left now : List ℕ) (before mid : List (Result Message Error)) (m n : Memory) : Type 0 where
   pub done : List ℕ
   pub whole : piece ≡ done ++ left
@@ -143,58 +143,58 @@ pub completing_by : (old piece left after now grown : List ℕ) (before mid : Li
 completing_by old piece left after now grown before mid m n k c is rest =
     completing_more old piece left (take k left) after now grown before mid m n c (sym (take-append-drop k left) ∙ ap (λ l. take k left ++ l) (sym rest)) is
 
-pub part_read : (old piece left after now new : List ℕ) (before mid read : List (Result Message Error)) (m n o : Memory) (told : ℕ × Bool) → Completing old piece left now before mid m n → TakesPart now new left mid read n o told
-    → after ≡ drop told.0 left → Completing old piece after new before read m o
-part_read old piece left after now new before mid read m n o told c part is =
-    completing_reads old piece after (now ++ take told.0 left) new before mid read m n o told.1 (completing_by old piece left after now _ before mid m n told.0 c refl is) part.all
+pub part_read : (old piece left after now new : List ℕ) (before mid read : List (Result Message Error)) (m n o : Memory) (used : ℕ) (stopped : Bool) → Completing old piece left now before mid m n → TakesPart now new left mid read n o used stopped
+    → after ≡ drop used left → Completing old piece after new before read m o
+part_read old piece left after now new before mid read m n o used stopped c part is =
+    completing_reads old piece after (now ++ take used left) new before mid read m n o stopped (completing_by old piece left after now _ before mid m n used c refl is) part.all
 
-pub part_ends : (old piece left after now new : List ℕ) (before mid read : List (Result Message Error)) (m n o : Memory) (told : ℕ × Bool) → Completing old piece left now before mid m n → TakesPart now new left mid read n o told
-    → after ≡ drop told.0 left → after ≡ [] → told.1 ≡ false → TakesAll (old ++ piece) new before read m o false
-part_ends old piece left after now new before mid read m n o told c part is none goes =
+pub part_ends : (old piece left after now new : List ℕ) (before mid read : List (Result Message Error)) (m n o : Memory) (used : ℕ) (stopped : Bool) → Completing old piece left now before mid m n → TakesPart now new left mid read n o used stopped
+    → after ≡ drop used left → after ≡ [] → stopped ≡ false → TakesAll (old ++ piece) new before read m o false
+part_ends old piece left after now new before mid read m n o used stopped c part is none goes =
     subst (λ b. TakesAll (old ++ piece) new before read m o b) goes
-    (completing_ends old piece after (now ++ take told.0 left) new before mid read m n o told.1 (completing_by old piece left after now _ before mid m n told.0 c refl is) none part.all)
+    (completing_ends old piece after (now ++ take used left) new before mid read m n o stopped (completing_by old piece left after now _ before mid m n used c refl is) none part.all)
 
-pub part_stops : (old piece left after now new kept : List ℕ) (before mid read : List (Result Message Error)) (m n o : Memory) (told : ℕ × Bool) → Completing old piece left now before mid m n → TakesPart now new left mid read n o told
-    → after ≡ drop told.0 left → told.1 ≡ true → kept ≡ new ++ after → TakesAll (old ++ piece) kept before read m o true
-part_stops old piece left after now new kept before mid read m n o told c part is stops behind =
-    completing_stops old piece after (now ++ take told.0 left) new kept before mid read m n o told.1 (completing_by old piece left after now _ before mid m n told.0 c refl is) stops part.all behind
+pub part_stops : (old piece left after now new kept : List ℕ) (before mid read : List (Result Message Error)) (m n o : Memory) (used : ℕ) (stopped : Bool) → Completing old piece left now before mid m n → TakesPart now new left mid read n o used stopped
+    → after ≡ drop used left → stopped ≡ true → kept ≡ new ++ after → TakesAll (old ++ piece) kept before read m o true
+part_stops old piece left after now new kept before mid read m n o used stopped c part is stops behind =
+    completing_stops old piece after (now ++ take used left) new kept before mid read m n o stopped (completing_by old piece left after now _ before mid m n used c refl is) stops part.all behind
 
 pub part_fails : (old piece left now : List ℕ) (before mid read : List (Result Message Error)) (m n : Memory) → Completing old piece left now before mid m n → TakesSome (now ++ left) mid read → TakesSome (old ++ piece) before read
 part_fails old piece left now before mid read m n c some =
     completing_some old piece [] (now ++ left) before mid read m n (completing_more old piece left left [] now (now ++ left) before mid m n c (sym (append-nil left)) refl) some
 
 -- a part goes on only behind a frame that was completed
-pub part_shorter : (now grown left behind after new : List ℕ) (mid read : List (Result Message Error)) (n o : Memory) (k : ℕ) (told : ℕ × Bool) → Moves now grown left k → behind ≡ drop k left → TakesPart grown new behind mid read n o told
-    → after ≡ drop told.0 behind → 0 < length after → length after < length left
-part_shorter [] grown left behind after new mid read n o k told moves is part rest more =
+pub part_shorter : (now grown left behind after new : List ℕ) (mid read : List (Result Message Error)) (n o : Memory) (k : ℕ) (used : ℕ) (stopped : Bool) → Moves now grown left k → behind ≡ drop k left → TakesPart grown new behind mid read n o used stopped
+    → after ≡ drop used behind → 0 < length after → length after < length left
+part_shorter [] grown left behind after new mid read n o k used stopped moves is part rest more =
     let none : k ≡ 0 = moves.none refl in
     let empty : grown ≡ [] = moves.grown ∙ ap (λ j. take j left) none in
-    absurd (omega (arith, more, ap length rest, length-drop told.0 behind, part.last empty))
-part_shorter (b ∷ now) grown left behind after new mid read n o k told moves is part rest more =
-    omega (arith, more, ap length rest, length-drop told.0 behind, ap length is, length-drop k left, moves.some (omega arith) (omega (arith, more, ap length rest, length-drop told.0 behind, ap length is, length-drop k left)))
+    absurd (omega (arith, more, ap length rest, length-drop used behind, part.last empty))
+part_shorter (b ∷ now) grown left behind after new mid read n o k used stopped moves is part rest more =
+    omega (arith, more, ap length rest, length-drop used behind, ap length is, length-drop k left, moves.some (omega arith) (omega (arith, more, ap length rest, length-drop used behind, ap length is, length-drop k left)))
 
 -- ---- what is read next
 
-pub ready_kept : (old piece : List ℕ) → 0 < length old → ready old piece ≡ old
-ready_kept [] piece h = absurd (omega (arith, h))
-ready_kept (b ∷ old) piece h = refl
+pub next_kept : (old piece : List ℕ) → 0 < length old → kept_or_piece old piece ≡ old
+next_kept [] piece h = absurd (omega (arith, h))
+next_kept (b ∷ old) piece h = refl
 
-pub ready_piece : (old piece : List ℕ) → length old ≡ 0 → ready old piece ≡ piece
-ready_piece [] piece h = refl
-ready_piece (b ∷ old) piece h = absurd (omega (arith, h))
+pub next_piece : (old piece : List ℕ) → length old ≡ 0 → kept_or_piece old piece ≡ piece
+next_piece [] piece h = refl
+next_piece (b ∷ old) piece h = absurd (omega (arith, h))
 
 -- what is remembered of no bytes fits all
-pub fits_ready : (m : Memory) (old piece : List ℕ) → Fits m old → Fits m (ready old piece)
-fits_ready m [] piece fits = fits_grows m [] piece fits
-fits_ready m (b ∷ old) piece fits = fits
+pub fits_next : (m : Memory) (old piece : List ℕ) → Fits m old → Fits m (kept_or_piece old piece)
+fits_next m [] piece fits = fits_grows m [] piece fits
+fits_next m (b ∷ old) piece fits = fits
 
-pub some_of_ready : (old piece : List ℕ) (before after : List (Result Message Error)) → TakesSome (ready old piece) before after → TakesSome (old ++ piece) before after
-some_of_ready [] piece before after some = some
-some_of_ready (b ∷ old) piece before after some = record { more = some.more; grown = some.grown; left = some.left ++ piece; frames = frames_behind (b ∷ old) some.left piece some.more some.frames }
+pub some_of_next : (old piece : List ℕ) (before after : List (Result Message Error)) → TakesSome (kept_or_piece old piece) before after → TakesSome (old ++ piece) before after
+some_of_next [] piece before after some = some
+some_of_next (b ∷ old) piece before after some = record { more = some.more; grown = some.grown; left = some.left ++ piece; frames = frames_behind (b ∷ old) some.left piece some.more some.frames }
 
 -- the frames of what is kept were taken, and no byte of the piece
 pub part_of_kept : (old new piece : List ℕ) (before after : List (Result Message Error)) (m n : Memory) (stopped : Bool) → 0 < length old → TakesAll old new before after m n stopped
-    → TakesPart old new piece before after m n (0, stopped)
+    → TakesPart old new piece before after m n 0 stopped
 part_of_kept old new piece before after m n stopped some all = record {
   most = omega arith;
   all = subst (λ l. TakesAll l new before after m n stopped) (sym (append-nil old)) all;
@@ -204,7 +204,7 @@ part_of_kept old new piece before after m n stopped some all = record {
 
 -- those of the whole piece were taken
 pub part_of_piece : (old new piece : List ℕ) (before after : List (Result Message Error)) (m n : Memory) (stopped : Bool) → length old ≡ 0 → TakesAll piece new before after m n stopped
-    → TakesPart old new piece before after m n (length piece, stopped)
+    → TakesPart old new piece before after m n (length piece) stopped
 part_of_piece [] new piece before after m n stopped none all = record {
   most = omega arith;
   all = subst (λ l. TakesAll l new before after m n stopped) (sym (take-length piece)) all;
@@ -257,16 +257,15 @@ goes_on piece left old after m n stops sound waits count header all join =
       sound = sound;
       more = more;
       grown = all.takes.grown;
-      reads = λ bytes taken h.
+      reads = λ bytes taken run.
           let first = taken ++ old.results in
           let both : first ++ more ≡ taken ++ after = append_assoc taken old.results more ∙ ap (λ l. taken ++ l) (sym all.takes.grown) in
-          let run : BackendRun (bytes ++ piece) (first ++ more) stops left = join bytes piece old.rest left first more stops (subst (λ b. BackendRun bytes first b old.rest) waits h.run) (record { run = all.takes.frames; ending = all.ending }) in
-          let len : length (first ++ more) ≡ length first + length more = length-append first more in
-          let counts = all.takes.counted (length first) (sym count ∙ h.headers ∙ ap (headers_read (length first)) (sym header)) in
-          record {
-            run = subst (λ l. BackendRun (bytes ++ piece) l stops left) both run;
-            headers = counts ∙ ap (λ k. headers_read k n.header) (sym len ∙ ap length both) ∙ ap (headers_read (length (taken ++ after))) all.header;
-          };
+          subst (λ l. BackendRun (bytes ++ piece) l stops left) both
+          (join bytes piece old.rest left first more stops (subst (λ b. BackendRun bytes first b old.rest) waits run) (record { run = all.takes.frames; ending = all.ending }));
+      counts = λ taken h.
+          let before = taken + length old.results in
+          let sum : before + length more ≡ taken + length after = omega (arith, ap length all.takes.grown, length-append old.results more) in
+          all.takes.counted before (sym count ∙ h ∙ ap (headers_read before) (sym header)) ∙ ap (λ k. headers_read k n.header) sum ∙ ap (headers_read (taken + length after)) all.header;
     }
 
 -- a piece came behind a length fault
@@ -279,11 +278,9 @@ stays_stopped piece rest old sound stopped long is stays = record {
   grown = sym (append-nil old.results);
   reads = λ bytes taken h.
       let all = taken ++ old.results in
-      let run : BackendRun (bytes ++ piece) all true (old.rest ++ piece) = stays bytes piece old.rest all (subst (λ b. BackendRun bytes all b old.rest) stopped h.run) in
-      record {
-        run = subst (λ b. BackendRun (bytes ++ piece) all b rest) (sym stopped) (subst (λ l. BackendRun (bytes ++ piece) all true l) (sym is) run);
-        headers = h.headers ∙ ap (headers_read (length all)) (sym (ap header_of is ∙ header_of_more old.rest piece long));
-      };
+      let run : BackendRun (bytes ++ piece) all true (old.rest ++ piece) = stays bytes piece old.rest all (subst (λ b. BackendRun bytes all b old.rest) stopped h) in
+      subst (λ b. BackendRun (bytes ++ piece) all b rest) (sym stopped) (subst (λ l. BackendRun (bytes ++ piece) all true l) (sym is) run);
+  counts = λ taken h. h ∙ ap (headers_read (taken + length old.results)) (sym (ap header_of is ∙ header_of_more old.rest piece long));
 }
 
 -- the piece couldn't be kept
@@ -294,7 +291,7 @@ fails_at_once piece old new failed same grow = record {
   failed = failed;
   more = [];
   grown = same ∙ sym (append-nil old.results);
-  reads = λ bytes taken h all stopped rest run. subst (λ l. (others : List (Result Message Error)) × (all ≡ l ++ others)) (ap (λ l. taken ++ l) (sym same)) (grow bytes piece (taken ++ old.results) all old.stopped stopped old.rest rest h.run run);
+  reads = λ bytes taken h all stopped rest run. subst (λ l. (others : List (Result Message Error)) × (all ≡ l ++ others)) (ap (λ l. taken ++ l) (sym same)) (grow bytes piece (taken ++ old.results) all old.stopped stopped old.rest rest h run);
 }
 
 -- memory was refused behind some frames
@@ -309,7 +306,7 @@ fails_behind piece old new failed some join stand = record {
   reads = λ bytes taken h all stopped rest run.
       let first = taken ++ old.results in
       let both : first ++ some.more ≡ taken ++ new.results = append_assoc taken old.results some.more ∙ ap (λ l. taken ++ l) (sym some.grown) in
-      let frames : Frames (bytes ++ piece) (first ++ some.more) some.left = join bytes piece old.rest some.left first some.more h.run.run some.frames in
+      let frames : Frames (bytes ++ piece) (first ++ some.more) some.left = join bytes piece old.rest some.left first some.more h.run some.frames in
       let whole : BackendRun ((bytes ++ piece) ++ []) all stopped rest = subst (λ l. BackendRun l all stopped rest) (sym (append-nil (bytes ++ piece))) run in
       subst (λ l. (others : List (Result Message Error)) × (all ≡ l ++ others)) both (stand (bytes ++ piece) [] (first ++ some.more) all stopped some.left rest frames whole);
 }

@@ -37,14 +37,15 @@ pub record GoesOn (piece : List ℕ) (old new : Reading) : Type 0 where
   pub sound : new.failed ≡ false
   pub more : List (Result Message Error)
   pub grown : new.results ≡ old.results ++ more
-  pub reads : (bytes : List ℕ) (taken : List (Result Message Error)) → HasRead bytes taken old → HasRead (bytes ++ piece) taken new
+  pub reads : (bytes : List ℕ) (taken : List (Result Message Error)) → BackendRun bytes (taken ++ old.results) old.stopped old.rest → BackendRun (bytes ++ piece) (taken ++ new.results) new.stopped new.rest
+  pub counts : (taken : ℕ) → old.headers ≡ headers_read (taken + length old.results) (header_of old.rest) → new.headers ≡ headers_read (taken + length new.results) (header_of new.rest)
 
 -- A piece came, and memory was refused: the results are the first of the stream's, as far as it was read.
 pub record Fails (piece : List ℕ) (old new : Reading) : Type 0 where
   pub failed : new.failed ≡ true
   pub more : List (Result Message Error)
   pub grown : new.results ≡ old.results ++ more
-  pub reads : (bytes : List ℕ) (taken : List (Result Message Error)) → HasRead bytes taken old → AreFirst (bytes ++ piece) (taken ++ new.results)
+  pub reads : (bytes : List ℕ) (taken : List (Result Message Error)) → BackendRun bytes (taken ++ old.results) old.stopped old.rest → AreFirst (bytes ++ piece) (taken ++ new.results)
 
 -- What feeding a piece comes to. `lacks` says that memory was refused.
 abbrev pub Feeds : List ℕ → Type 0 → Reading → Reading → Result (Unit {0}) Error → Type 0
@@ -57,10 +58,12 @@ pub record HandsOut (results : List (Result Message Error)) (old new : Reading) 
   pub kept : new ≡ record old { results = [] }
   pub reads : (bytes : List ℕ) (taken : List (Result Message Error)) → HasRead bytes taken old → HasRead bytes (taken ++ results) new
 
--- While it hasn't failed it remembers the header of its rest; where it was stopped there is one.
-pub record IsSound (memory : Memory) (failed stopped : Bool) (rest : List ℕ) : Type 0 where
+-- While it hasn't failed it remembers the header of its rest; where it was stopped there is one. It has failed only where memory was
+-- refused, as `lacks` says.
+pub record IsSound (lacks : Type 0) (memory : Memory) (failed stopped : Bool) (rest : List ℕ) : Type 0 where
   pub header : failed ≡ false → memory.header ≡ header_of rest
   pub fault : failed ≡ false → stopped ≡ true → 5 ≤ length rest
+  pub cause : failed ≡ true → lacks
 
 -- One call takes all frames.
 
@@ -86,13 +89,13 @@ pub record Moves (old new piece : List ℕ) (moved : ℕ) : Type 0 where
   pub some : 0 < length old → 0 < length piece → 0 < moved
 
 -- what is read next: what is kept, or the piece where nothing is kept
-abbrev pub ready : List ℕ → List ℕ → List ℕ
-ready [] piece = piece
-ready (byte ∷ kept) piece = byte ∷ kept
+abbrev pub kept_or_piece : List ℕ → List ℕ → List ℕ
+kept_or_piece [] piece = piece
+kept_or_piece (byte ∷ kept) piece = byte ∷ kept
 
--- All frames were taken of what was kept and of the first bytes of the piece, so many as are told: all where nothing was kept, else none.
-pub record TakesPart (old new piece : List ℕ) (before after : List (Result Message Error)) (m n : Memory) (told : ℕ × Bool) : Type 0 where
-  pub most : told.0 ≤ length piece
-  pub all : TakesAll (old ++ take told.0 piece) new before after m n told.1
-  pub last : old ≡ [] → told.0 ≡ length piece
-  pub kept : 0 < length old → told.0 ≡ 0
+-- All frames were taken of what was kept and of the first bytes of the piece, so many as were used: all where nothing was kept, else none.
+pub record TakesPart (old new piece : List ℕ) (before after : List (Result Message Error)) (m n : Memory) (used : ℕ) (stopped : Bool) : Type 0 where
+  pub most : used ≤ length piece
+  pub all : TakesAll (old ++ take used piece) new before after m n stopped
+  pub last : old ≡ [] → used ≡ length piece
+  pub kept : 0 < length old → used ≡ 0

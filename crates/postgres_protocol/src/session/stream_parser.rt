@@ -1,11 +1,11 @@
 //! A server's stream, read as it comes.
 
-ghost use Rattle.std.specs.Prelude.{◌≡◌, ◌≤◌, ◌++◌, [], length, take, drop, map, false, IfOk, IfErr, OnOk, OnErr};
+ghost use Rattle.std.specs.Prelude.{◌≡◌, ◌≤◌, ◌++◌, [], length, take, drop, map, true, false, IfOk, IfErr, OnOk, OnErr};
 ghost use Rattle.pgp_base.specs.Cause.{WantsMemory};
 ghost use Rattle.pgp_message.specs.Found.{TakesSome};
 ghost use Rattle.pgp_message.specs.Remembered.{Fits};
 ghost use Rattle.pgp_message.specs.Views.{seen};
-ghost use Rattle.postgres_protocol.specs.ServerStream.{HasRead, Feeds, HandsOut, TakesAll, Moves, TakesPart, ready};
+ghost use Rattle.postgres_protocol.specs.ServerStream.{HasRead, Feeds, HandsOut, TakesAll, Moves, TakesPart, kept_or_piece};
 
 use super::parsed::Parsed;
 use bytes::Bytes;
@@ -18,7 +18,7 @@ use std::mem;
 /// Reads a server's stream piece by piece. It keeps the results until they are taken, and of the bytes
 /// only those of a frame that isn't whole.
 #[derive(Drop)]
-pub struct StreamParser<A: Allocator = Global> {
+pub struct StreamParser<A: Memory = Global> {
     frames: FrameParser,
     rest: Vec<u8, A>,
     results: Vec<Result<Message<Bytes<A>>, Error>, A>,
@@ -26,7 +26,7 @@ pub struct StreamParser<A: Allocator = Global> {
     failed: bool,
 }
 
-impl<A: Allocator> Model for StreamParser<A> {
+impl<A: Memory> Model for StreamParser<A> {
     ghost use Rattle.std.specs.Prelude.{map};
     ghost use Rattle.pgp_message.specs.Views.{seen};
     ghost use Rattle.postgres_protocol.specs.ServerStream.{Reading};
@@ -42,7 +42,7 @@ impl<A: Allocator> Model for StreamParser<A> {
       failed = p.failed;
     } };
 
-    ghost invariant = { λ p. IsSound p.frames p.failed p.stopped p.rest.items };
+    ghost invariant = { λ p. IsSound A.Lacks p.frames p.failed p.stopped p.rest.items };
 }
 
 impl<A: Memory> StreamParser<A> {
@@ -98,7 +98,8 @@ impl<A: Memory> StreamParser<A> {
 
     /// Whether memory was refused.
     pub fn failed(&self) -> bool
-        ensures { result ≡ self.now.failed }
+        ensures is { result ≡ self.now.failed }
+        ensures lacks { result ≡ true → A.Lacks }
     {
         self.failed
     }
@@ -171,9 +172,9 @@ fn take_frames<A: Memory>(
     laws::no_frame();
     let mut left = piece;
     'parts: loop {
-        let moved = complete(frames, rest, left)?;
+        let moved = complete_frame(frames, rest, left)?;
         let (_, behind) = left.split_at(moved);
-        let (used, stopped) = take_part(frames, rest, results, behind)?;
+        let Progress { used, stopped } = take_whole(frames, rest, results, behind)?;
         let (_, after) = behind.split_at(used);
         if stopped {
             A::extend(rest, after)?;
@@ -187,7 +188,7 @@ fn take_frames<A: Memory>(
 }
 
 /// Moves what the frame that is kept lacks off the piece, and answers how many bytes those are: none where nothing is kept.
-fn complete<A: Memory>(
+fn complete_frame<A: Memory>(
     frames: &FrameParser,
     rest: &mut Vec<u8, A>,
     piece: &[u8],
@@ -201,40 +202,54 @@ fn complete<A: Memory>(
     }
     let missing = frames.missing(rest.len());
     let moved = missing.min(piece.len());
-    keep(rest, &piece[..moved], missing - moved)?;
+    keep_partial(rest, &piece[..moved], missing - moved)?;
     Ok(moved)
 }
 
+/// How far a piece was read.
+struct Progress {
+    /// How many bytes of it were used: none or all.
+    used: usize,
+    /// Whether a length fault ended the frames.
+    stopped: bool,
+}
+
 /// Takes all frames that are whole in what is kept. Where nothing is kept it takes those of the piece, and keeps the bytes
-/// behind them. It answers how many bytes of the piece it used, none or all, and whether a length fault ended the frames.
+/// behind them.
 // One function for both, so that what reads the frames is called from here alone, and LLVM inlines it.
-fn take_part<A: Memory>(
+fn take_whole<A: Memory>(
     frames: &mut FrameParser,
     rest: &mut Vec<u8, A>,
     results: &mut Vec<Result<Message<Bytes<A>>, Error>, A>,
     piece: &[u8],
-) -> Result<(usize, bool), Error>
+) -> Result<Progress, Error>
     requires { Fits frames.old rest.old.items }
-    ensures ok { IfOk result (TakesPart rest.old.items rest.new.items piece.now
-        (map seen results.old.items) (map seen results.new.items) frames.old frames.new) }
+    ensures ok { IfOk result (λ to. TakesPart rest.old.items rest.new.items piece.now
+        (map seen results.old.items) (map seen results.new.items) frames.old frames.new to.used to.stopped) }
     ensures some { OnErr result (TakesSome (rest.old.items ++ piece.now) (map seen results.old.items) (map seen results.new.items)) }
     ensures err { IfErr result (WantsMemory A.Lacks) }
 {
-    let found = frames.find_all(ready(rest, piece));
+    let found = frames.find_all(kept_or_piece(rest, piece));
     let kept = !rest.is_empty();
-    let whole = share(rest, piece, found.len)?;
+    let whole = share_front(rest, piece, found.len)?;
     read_frames(&whole, found.count, results)?;
     if kept {
-        return Ok((0, found.stopped));
+        return Ok(Progress {
+            used: 0,
+            stopped: found.stopped,
+        });
     }
     let (_, cut) = piece.split_at(found.len);
-    keep(rest, cut, frames.missing(cut.len()))?;
-    Ok((piece.len(), found.stopped))
+    keep_partial(rest, cut, frames.missing(cut.len()))?;
+    Ok(Progress {
+        used: piece.len(),
+        stopped: found.stopped,
+    })
 }
 
 /// What is read next: what is kept, or the piece where nothing is kept.
-fn ready<'a, A: Allocator>(rest: &'a Vec<u8, A>, piece: &'a [u8]) -> &'a [u8]
-    ensures { result.now ≡ ready rest.now.items piece.now }
+fn kept_or_piece<'a, A: Allocator>(rest: &'a Vec<u8, A>, piece: &'a [u8]) -> &'a [u8]
+    ensures { result.now ≡ kept_or_piece rest.now.items piece.now }
 {
     if rest.is_empty() {
         return piece;
@@ -243,9 +258,9 @@ fn ready<'a, A: Allocator>(rest: &'a Vec<u8, A>, piece: &'a [u8]) -> &'a [u8]
 }
 
 /// Shares the first bytes of what is read next: those that are kept are taken off, those of a piece are copied.
-fn share<A: Memory>(rest: &mut Vec<u8, A>, piece: &[u8], len: usize) -> Result<Bytes<A>, AllocError>
-    requires { len ≤ length (ready rest.old.items piece.now) }
-    ensures front { IfOk result (λ whole. whole ≡ take len (ready rest.old.items piece.now)) }
+fn share_front<A: Memory>(rest: &mut Vec<u8, A>, piece: &[u8], len: usize) -> Result<Bytes<A>, AllocError>
+    requires { len ≤ length (kept_or_piece rest.old.items piece.now) }
+    ensures front { IfOk result (λ whole. whole ≡ take len (kept_or_piece rest.old.items piece.now)) }
     ensures rest { OnOk result (rest.new.items ≡ drop len rest.old.items) }
     ensures err { OnErr result (rest.new.items ≡ rest.old.items) }
     ensures lacks { OnErr result A.Lacks }
@@ -265,7 +280,7 @@ fn share<A: Memory>(rest: &mut Vec<u8, A>, piece: &[u8], len: usize) -> Result<B
 }
 
 /// Keeps bytes of a frame behind which so many more are missing, with room for those.
-fn keep<A: Memory>(rest: &mut Vec<u8, A>, cut: &[u8], missing: usize) -> Result<(), AllocError>
+fn keep_partial<A: Memory>(rest: &mut Vec<u8, A>, cut: &[u8], missing: usize) -> Result<(), AllocError>
     ensures ok { OnOk result (rest.new.items ≡ rest.old.items ++ cut.now) }
     ensures err { OnErr result (rest.new.items ≡ rest.old.items) }
     ensures lacks { OnErr result A.Lacks }

@@ -2,6 +2,7 @@ use Rattle.std.proofs.Common.{ℕ, List, [], sym, subst, take, get_or, Bor}
 use Rattle.std.specs.List.{flat_map}
 use Rattle.postgres_protocol.specs.ServerStream.{HasRead, GoesOn}
 use Rattle.postgres_protocol.proofs.Pieces.{piece_more}
+use Rattle.postgres_protocol.proofs.Readings.{has_read_more}
 use Rattle.postgres_protocol.proofs.session.parsed.parse_stream.Goals as goal
 
 pub loop-piece-preserved : goal.loop-piece-preserved
@@ -12,5 +13,5 @@ loop-piece-preserved g c =
     let on : GoesOn (get_or c.args.pieces.now i none).now c.loop-piece.parser c.feed.new.self = c.in_ok-feed.ensures in
     record {
       sound = on.sound;
-      read = subst (λ l. HasRead l [] c.feed.new.self) (sym joined) (on.reads (flat_map (λ piece. piece.now) (take i c.args.pieces.now)) [] c.loop-piece.invariant.read);
+      read = subst (λ l. HasRead l [] c.feed.new.self) (sym joined) (has_read_more _ _ _ on (flat_map (λ piece. piece.now) (take i c.args.pieces.now)) [] c.loop-piece.invariant.read);
     }

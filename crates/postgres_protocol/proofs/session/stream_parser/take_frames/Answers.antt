@@ -23,12 +23,12 @@ returns-in_err-used-clause-some g c =
     let left = c.parts.left.now in
     let behind = c.split_at.result.1.now in
     let now = c.parts.rest.items in
-    let grown = c.complete.new.rest.items in
+    let grown = c.complete_frame.new.rest.items in
     let before = map seen c.args.results.now.items in
     let mid = map seen c.parts.results.items in
     let moves : Moves now grown left c.in_ok-moved.moved = search rules in
     let moved : Completing old piece behind grown before mid c.args.frames.now c.parts.frames = completing_by old piece left behind now grown before mid c.args.frames.now c.parts.frames c.in_ok-moved.moved c.parts.invariant moves.grown c.split_at.ensures.back in
-    let read = map seen c.take_part.new.results.items in
+    let read = map seen c.take_whole.new.results.items in
     let some : TakesSome (grown ++ behind) mid read = search rules in
     let all : TakesSome (old ++ piece) before read = part_fails old piece behind grown before mid read c.args.frames.now c.parts.frames moved some in
     search rules
@@ -40,17 +40,17 @@ returns-in_err-extend-clause-some g c =
     let left = c.parts.left.now in
     let behind = c.split_at.result.1.now in
     let now = c.parts.rest.items in
-    let grown = c.complete.new.rest.items in
+    let grown = c.complete_frame.new.rest.items in
     let before = map seen c.args.results.now.items in
     let mid = map seen c.parts.results.items in
     let moves : Moves now grown left c.in_ok-moved.moved = search rules in
     let moved : Completing old piece behind grown before mid c.args.frames.now c.parts.frames = completing_by old piece left behind now grown before mid c.args.frames.now c.parts.frames c.in_ok-moved.moved c.parts.invariant moves.grown c.split_at.ensures.back in
-    let read = map seen c.take_part.new.results.items in
-    let new = c.take_part.new.rest.items in
+    let read = map seen c.take_whole.new.results.items in
+    let new = c.take_whole.new.rest.items in
     let after = c.split_at-in-parts.result.1.now in
-    let part : TakesPart grown new behind mid read c.parts.frames c.take_part.new.frames (c.in_ok-used.used, c.in_ok-used.stopped) = search rules in
-    let some : TakesSome (old ++ piece) before read = completing_fails old piece after new before read read c.args.frames.now c.take_part.new.frames
-    (part_read old piece behind after grown new before mid read c.args.frames.now c.parts.frames c.take_part.new.frames _ moved part c.split_at-in-parts.ensures.back) refl in
+    let part : TakesPart grown new behind mid read c.parts.frames c.take_whole.new.frames c.in_ok-used.field-0.used c.in_ok-used.field-0.stopped = search rules in
+    let some : TakesSome (old ++ piece) before read = completing_fails old piece after new before read read c.args.frames.now c.take_whole.new.frames
+    (part_read old piece behind after grown new before mid read c.args.frames.now c.parts.frames c.take_whole.new.frames _ _ moved part c.split_at-in-parts.ensures.back) refl in
     search rules
 
 pub returns-then-stopped-clause-ok : goal.returns-then-stopped-clause-ok
@@ -60,17 +60,17 @@ returns-then-stopped-clause-ok g c =
     let left = c.parts.left.now in
     let behind = c.split_at.result.1.now in
     let now = c.parts.rest.items in
-    let grown = c.complete.new.rest.items in
+    let grown = c.complete_frame.new.rest.items in
     let before = map seen c.args.results.now.items in
     let mid = map seen c.parts.results.items in
     let moves : Moves now grown left c.in_ok-moved.moved = search rules in
     let moved : Completing old piece behind grown before mid c.args.frames.now c.parts.frames = completing_by old piece left behind now grown before mid c.args.frames.now c.parts.frames c.in_ok-moved.moved c.parts.invariant moves.grown c.split_at.ensures.back in
-    let read = map seen c.take_part.new.results.items in
-    let new = c.take_part.new.rest.items in
+    let read = map seen c.take_whole.new.results.items in
+    let new = c.take_whole.new.rest.items in
     let after = c.split_at-in-parts.result.1.now in
-    let part : TakesPart grown new behind mid read c.parts.frames c.take_part.new.frames (c.in_ok-used.used, c.in_ok-used.stopped) = search rules in
+    let part : TakesPart grown new behind mid read c.parts.frames c.take_whole.new.frames c.in_ok-used.field-0.used c.in_ok-used.field-0.stopped = search rules in
     let kept : c.extend.new.list.items ≡ new ++ after = search rules in
-    part_stops old piece behind after grown new c.extend.new.list.items before mid read c.args.frames.now c.parts.frames c.take_part.new.frames (c.in_ok-used.used, c.in_ok-used.stopped) moved part c.split_at-in-parts.ensures.back c.if-stopped.true kept
+    part_stops old piece behind after grown new c.extend.new.list.items before mid read c.args.frames.now c.parts.frames c.take_whole.new.frames c.in_ok-used.field-0.used c.in_ok-used.field-0.stopped moved part c.split_at-in-parts.ensures.back c.if-stopped.true kept
 
 pub returns-then-is_empty-clause-ok : goal.returns-then-is_empty-clause-ok
 returns-then-is_empty-clause-ok g c =
@@ -79,17 +79,17 @@ returns-then-is_empty-clause-ok g c =
     let left = c.parts.left.now in
     let behind = c.split_at.result.1.now in
     let now = c.parts.rest.items in
-    let grown = c.complete.new.rest.items in
+    let grown = c.complete_frame.new.rest.items in
     let before = map seen c.args.results.now.items in
     let mid = map seen c.parts.results.items in
     let moves : Moves now grown left c.in_ok-moved.moved = search rules in
     let moved : Completing old piece behind grown before mid c.args.frames.now c.parts.frames = completing_by old piece left behind now grown before mid c.args.frames.now c.parts.frames c.in_ok-moved.moved c.parts.invariant moves.grown c.split_at.ensures.back in
-    let read = map seen c.take_part.new.results.items in
-    let new = c.take_part.new.rest.items in
+    let read = map seen c.take_whole.new.results.items in
+    let new = c.take_whole.new.rest.items in
     let after = c.split_at-in-parts.result.1.now in
-    let part : TakesPart grown new behind mid read c.parts.frames c.take_part.new.frames (c.in_ok-used.used, c.in_ok-used.stopped) = search rules in
+    let part : TakesPart grown new behind mid read c.parts.frames c.take_whole.new.frames c.in_ok-used.field-0.used c.in_ok-used.field-0.stopped = search rules in
     let empty : length after ≡ 0 = search rules in
-    part_ends old piece behind after grown new before mid read c.args.frames.now c.parts.frames c.take_part.new.frames (c.in_ok-used.used, c.in_ok-used.stopped) moved part c.split_at-in-parts.ensures.back (nil_from_length after empty) c.if-stopped.false
+    part_ends old piece behind after grown new before mid read c.args.frames.now c.parts.frames c.take_whole.new.frames c.in_ok-used.field-0.used c.in_ok-used.field-0.stopped moved part c.split_at-in-parts.ensures.back (nil_from_length after empty) c.if-stopped.false
 
 pub parts-preserved : goal.parts-preserved
 parts-preserved g c =
@@ -98,28 +98,28 @@ parts-preserved g c =
     let left = c.parts.left.now in
     let behind = c.split_at.result.1.now in
     let now = c.parts.rest.items in
-    let grown = c.complete.new.rest.items in
+    let grown = c.complete_frame.new.rest.items in
     let before = map seen c.args.results.now.items in
     let mid = map seen c.parts.results.items in
     let moves : Moves now grown left c.in_ok-moved.moved = search rules in
     let moved : Completing old piece behind grown before mid c.args.frames.now c.parts.frames = completing_by old piece left behind now grown before mid c.args.frames.now c.parts.frames c.in_ok-moved.moved c.parts.invariant moves.grown c.split_at.ensures.back in
-    let read = map seen c.take_part.new.results.items in
-    let new = c.take_part.new.rest.items in
+    let read = map seen c.take_whole.new.results.items in
+    let new = c.take_whole.new.rest.items in
     let after = c.split_at-in-parts.result.1.now in
-    let part : TakesPart grown new behind mid read c.parts.frames c.take_part.new.frames (c.in_ok-used.used, c.in_ok-used.stopped) = search rules in
-    part_read old piece behind after grown new before mid read c.args.frames.now c.parts.frames c.take_part.new.frames (c.in_ok-used.used, c.in_ok-used.stopped) moved part c.split_at-in-parts.ensures.back
+    let part : TakesPart grown new behind mid read c.parts.frames c.take_whole.new.frames c.in_ok-used.field-0.used c.in_ok-used.field-0.stopped = search rules in
+    part_read old piece behind after grown new before mid read c.args.frames.now c.parts.frames c.take_whole.new.frames c.in_ok-used.field-0.used c.in_ok-used.field-0.stopped moved part c.split_at-in-parts.ensures.back
 
 pub parts-smaller : goal.parts-smaller
 parts-smaller g c =
     let left = c.parts.left.now in
     let behind = c.split_at.result.1.now in
     let now = c.parts.rest.items in
-    let grown = c.complete.new.rest.items in
+    let grown = c.complete_frame.new.rest.items in
     let mid = map seen c.parts.results.items in
     let moves : Moves now grown left c.in_ok-moved.moved = search rules in
-    let read = map seen c.take_part.new.results.items in
-    let new = c.take_part.new.rest.items in
+    let read = map seen c.take_whole.new.results.items in
+    let new = c.take_whole.new.rest.items in
     let after = c.split_at-in-parts.result.1.now in
-    let part : TakesPart grown new behind mid read c.parts.frames c.take_part.new.frames (c.in_ok-used.used, c.in_ok-used.stopped) = search rules in
+    let part : TakesPart grown new behind mid read c.parts.frames c.take_whole.new.frames c.in_ok-used.field-0.used c.in_ok-used.field-0.stopped = search rules in
     let more : 0 < length after = search rules in
-    part_shorter now grown left behind after new mid read c.parts.frames c.take_part.new.frames c.in_ok-moved.moved (c.in_ok-used.used, c.in_ok-used.stopped) moves c.split_at.ensures.back part c.split_at-in-parts.ensures.back more
+    part_shorter now grown left behind after new mid read c.parts.frames c.take_whole.new.frames c.in_ok-moved.moved c.in_ok-used.field-0.used c.in_ok-used.field-0.stopped moves c.split_at.ensures.back part c.split_at-in-parts.ensures.back more

@@ -50,4 +50,5 @@ invariant_of-self-in-Ok g c =
     record {
       header = λ sound. all.header;
       fault = λ sound stops. stopped_long c.in-Ok.stopped c.take_frames.new.rest.items all.ending stops;
+      cause = c.self.invariant.cause;
     }
