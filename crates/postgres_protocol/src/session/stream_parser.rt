@@ -258,7 +258,11 @@ fn kept_or_piece<'a, A: Allocator>(rest: &'a Vec<u8, A>, piece: &'a [u8]) -> &'a
 }
 
 /// Shares the first bytes of what is read next: those that are kept are taken off, those of a piece are copied.
-fn share_front<A: Memory>(rest: &mut Vec<u8, A>, piece: &[u8], len: usize) -> Result<Bytes<A>, AllocError>
+fn share_front<A: Memory>(
+    rest: &mut Vec<u8, A>,
+    piece: &[u8],
+    len: usize,
+) -> Result<Bytes<A>, AllocError>
     requires { len ≤ length (kept_or_piece rest.old.items piece.now) }
     ensures front { IfOk result (λ whole. whole ≡ take len (kept_or_piece rest.old.items piece.now)) }
     ensures rest { OnOk result (rest.new.items ≡ drop len rest.old.items) }
@@ -280,7 +284,11 @@ fn share_front<A: Memory>(rest: &mut Vec<u8, A>, piece: &[u8], len: usize) -> Re
 }
 
 /// Keeps bytes of a frame behind which so many more are missing, with room for those.
-fn keep_partial<A: Memory>(rest: &mut Vec<u8, A>, cut: &[u8], missing: usize) -> Result<(), AllocError>
+fn keep_partial<A: Memory>(
+    rest: &mut Vec<u8, A>,
+    cut: &[u8],
+    missing: usize,
+) -> Result<(), AllocError>
     ensures ok { OnOk result (rest.new.items ≡ rest.old.items ++ cut.now) }
     ensures err { OnErr result (rest.new.items ≡ rest.old.items) }
     ensures lacks { OnErr result A.Lacks }
