@@ -104,7 +104,7 @@ fn add_stream(
     changes.add_reading(at, before, &came)
 }
 
-/// Replaces the byte at this place by each value in turn. The stream is cut behind it.
+/// Replaces the byte at this place by each value in turn. The stream is cut before it.
 fn replace(
     place: usize,
     at: usize,
@@ -119,8 +119,7 @@ fn replace(
         if let Some(byte) = bytes.get_mut(place) {
             *byte = new;
         }
-        let cut = place.saturating_add(1);
-        add_stream(at, cut, before, bytes.as_slice(), changes)?;
+        add_stream(at, place, before, bytes.as_slice(), changes)?;
     }
     if let Some(byte) = bytes.get_mut(place) {
         *byte = old;
