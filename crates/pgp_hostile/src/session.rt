@@ -87,22 +87,24 @@ fn is_back_same(at: usize, before: &Reading, came: &Reading) -> bool {
             .all(|(one, other)| one.is_same(other))
 }
 
-/// Reads the bytes, in place and as a stream.
+/// Reads the bytes, in place and as a stream of two pieces.
 fn add_stream(
     at: usize,
+    cut: usize,
     before: &Reading,
     bytes: &[u8],
     changes: &mut Changes,
 ) -> Result<(), Fault> {
     let in_place = read_in_place(changes.alloc, bytes)?;
-    let (came, _) = read(changes.alloc, Way::Whole, &[bytes])?;
+    let (front, back) = bytes.split_at_checked(cut).ok_or(Fault::Data)?;
+    let (came, _) = read(changes.alloc, Way::Whole, &[front, back])?;
     if in_place.value() != came.value() {
         changes.wrong = changes.wrong.saturating_add(1);
     }
     changes.add_reading(at, before, &came)
 }
 
-/// Replaces the byte at this place by each value in turn.
+/// Replaces the byte at this place by each value in turn. The stream is cut before it.
 fn replace(
     place: usize,
     at: usize,
@@ -117,7 +119,7 @@ fn replace(
         if let Some(byte) = bytes.get_mut(place) {
             *byte = new;
         }
-        add_stream(at, before, bytes.as_slice(), changes)?;
+        add_stream(at, place, before, bytes.as_slice(), changes)?;
     }
     if let Some(byte) = bytes.get_mut(place) {
         *byte = old;
