@@ -9,7 +9,7 @@ use Rattle.std.specs.Result.{IsErr, IsErrAnd}
 use Rattle.pgp_base.specs.Wire.{uint16, uint32, int16, int32, nullable, counted}
 use Rattle.pgp_base.specs.Cause.{Cause, length_cause, Wants, Writes}
 use Rattle.pgp_base.specs.Held.{Held, ◌⊕◌, lengthened, overwritten, Leaves, IsFrontOf}
-use Rattle.pgp_base.specs.Calls.{value_of, length_of, null_of, Keeps, KeepsValue, Adds, Puts, Runs, ValueRefused, Appends, BodyRefused, NullableRefused}
+use Rattle.pgp_base.specs.Calls.{value_of, length_of, null_of, Keeps, KeepsValue, Adds, Puts, Runs, ValueRefused, once, Appends, BodyRefused, NullableRefused}
 use Rattle.pgp_base.specs.declared.error.Error.{Error}
 use Rattle.pgp_base.specs.declared.error.Error.TheVariants.{OutOfMemory}
 use Rattle.pgp_base.specs.declared.error.BindError.TheVariants.{Serialization}
@@ -253,10 +253,7 @@ value_refused {K = K} held step lacks here b f x u e null p q n s c h put =
 -- the same of a value that is made once
 pub nullable_refused : {F E B K : Type 0} (held : B → Held K) (post : F → MutBor B → Result IsNull E → MutBor B → Type 0) (lacks : Held K → ℕ → Type 0) (old b : Held K) (f : F) (e : Error) (null : IsNull) (p q : List ℕ)
     → null ≡ No → q ≡ p → length_cause (length q) ≡ Some e → b ≡ old ⊕ uint32 0 → Appends held post b f (Ok null) p → NullableRefused held post lacks f old (Serialization e)
-nullable_refused {K = K} held post lacks old b f e null p q n s c h put =
-    let put' : Appends held post b f (Ok No) p = subst (λ (n : IsNull). Appends held post b f (Ok n) p) n put in
-    let put'' : Appends held post (old ⊕ uint32 0) f (Ok No) p = subst (λ (b : Held K). Appends held post b f (Ok No) p) h put' in
-    inr (p, put'', subst (λ (q : List ℕ). length_cause (length q) ≡ Some e) s c)
+nullable_refused held post lacks old b f e null p q n s c h put = value_refused held (once post) lacks old b f tt f e null p q n s c h put
 
 -- a body whose bytes pass the length's field is refused
 pub body_refused : {F E B K : Type 0} (held : B → Held K) (post : F → MutBor B → Result (Unit {0}) E → MutBor B → Type 0) (lacks : Held K → ℕ → Type 0) (old b : Held K) (f : F) (e : Error) (p : List ℕ) (n : ℕ)

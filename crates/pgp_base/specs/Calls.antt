@@ -48,15 +48,6 @@ Adds (Err e) p old new = (new.bytes ≡ old.bytes ++ p) × (new.kept ≡ old.kep
 
 -- What a call of a closure did. `here` is what the buffer held at the call.
 
-module _ {F X E B K : Type 0} (held : B → Held K) (post : F → MutBor B → Result X E → MutBor B → Type 0) where
-  -- a call of f answered r and put p behind that
-  pub record Appends (here : Held K) (f : F) (r : Result X E) (p : List ℕ) : Type 0 where
-    pub before : MutBor B
-    pub after : MutBor B
-    pub called : post f before r after
-    pub stood : held before.now ≡ here
-    pub appended : Adds r p here (held after.now)
-
 module _ {F T X E B K : Type 0} (held : B → Held K) (step : F → T → MutBor B → Result X E → MutBor B → F → Type 0) where
   -- a call of f at x answered r, put p behind that, and left f'
   pub record Puts (here : Held K) (f : F) (x : T) (r : Result X E) (p : List ℕ) (f' : F) : Type 0 where
@@ -65,6 +56,15 @@ module _ {F T X E B K : Type 0} (held : B → Held K) (step : F → T → MutBor
     pub called : step f x before r after f'
     pub stood : held before.now ≡ here
     pub appended : Adds r p here (held after.now)
+
+-- a closure that is called once, with no item: as one that is called at tt
+abbrev pub once : {F B R : Type 0} → (F → B → R → B → Type 0) → F → Unit {0} → B → R → B → F → Type 0
+once post f x b r b' f' = post f b r b'
+
+module _ {F X E B K : Type 0} (held : B → Held K) (post : F → MutBor B → Result X E → MutBor B → Type 0) where
+  -- its call answered r and put p behind `here`
+  abbrev pub Appends : Held K → F → Result X E → List ℕ → Type 0
+  Appends here f r p = Puts held (once post) here f tt r p f
 
 -- what a serializer's answer makes of the bytes that it appended
 abbrev pub value_of : IsNull → List ℕ → Option (List ℕ)
@@ -145,17 +145,12 @@ module _ {F E B K : Type 0} (held : B → Held K) (post : F → MutBor B → Res
 
 module _ {F E B K : Type 0} (held : B → Held K) (post : F → MutBor B → Result IsNull E → MutBor B → Type 0) where
   -- the value that f made behind the place of its length
-  pub record WritesValue (f : F) (old new : Held K) : Type 0 where
-    pub null : IsNull
-    pub bytes : List ℕ
-    pub put : Appends held post (old ⊕ uint32 0) f (Ok null) bytes
-    pub fits : nullable_cause (value_of null bytes) ≡ None
-    pub appended : new ≡ old ⊕ nullable (value_of null bytes)
+  abbrev pub WritesValue : F → Held K → Held K → Type 0
+  WritesValue f old new = (v : Option (List ℕ)) × Gives held (once post) old f tt v f × (new ≡ old ⊕ nullable v)
 
   -- why it was refused
   abbrev pub NullableRefused : (Held K → ℕ → Type 0) → F → Held K → BindError E → Type 0
-  NullableRefused lacks f old (Conversion e) = (p : List ℕ) × Appends held post (old ⊕ uint32 0) f (Err e) p
-  NullableRefused lacks f old (Serialization e) = WantsMemory (Wants lacks old 4) e ⊎ ((p : List ℕ) × Appends held post (old ⊕ uint32 0) f (Ok No) p × (length_cause (length p) ≡ Some e))
+  NullableRefused lacks f old e = ValueRefused held (once post) lacks old f tt e f
 
 module _ {F T E B K : Type 0} (held : B → Held K) (step : F → T → MutBor B → Result (Unit {0}) E → MutBor B → F → Type 0) {U S : Type 0} (into_iter_gives : U → S → Type 0) (next_gives : S → Option T → S → Type 0) where
   -- the items that came, each written behind the place of the count and the items before it, which left `last`

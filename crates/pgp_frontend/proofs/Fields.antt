@@ -1,10 +1,10 @@
 -- A front of the fields, and the field behind it.
 use Rattle.std.proofs.Common.{◌≡◌, ℕ, ◌+◌, ◌-◌, ◌<◌, List, [], ◌∷◌, ◌++◌, length, map, take, drop, Some, None, sym, ap, ◌∙◌, get_or, refl, arith, ◌≤◌, ◌⊎◌, inl, inr, length-append}
 use Rattle.std.proofs.lemmas.List.{take_more, map-append, take-append-drop, drop_more, take_all}
-use Rattle.pgp_base.proofs.Causes.{first_more, first_here}
+use Rattle.pgp_base.proofs.Causes.{first_more, first_here, first-append, either_first}
 use Rattle.pgp_base.proofs.Parts.{more_parts, nothing_more, more_twice}
 use Rattle.pgp_base.specs.Held.{Held, ◌⊕◌}
-use Rattle.pgp_base.specs.Cause.{first, either, Wants, WantsMemory}
+use Rattle.pgp_base.specs.Cause.{Cause, first, either, Wants, WantsMemory}
 use Rattle.std.proofs.lemmas.List.Concat.{flat_map-append}
 use Rattle.pgp_base.proofs.Parts.{wants_more}
 use Rattle.pgp_base.proofs.Needs.{memory_then}
@@ -19,6 +19,19 @@ cause_more ps p h k = ap first (map-append part_cause ps (p ∷ [])) ∙ first_m
 
 pub cause_here : (ps : List Part) (p : Part) (qs : List Part) (e : Error) → parts_cause ps ≡ None → part_cause p ≡ Some e → parts_cause (ps ++ p ∷ qs) ≡ Some e
 cause_here ps p qs e h k = ap first (map-append part_cause ps (p ∷ qs)) ∙ first_here (map part_cause ps) (part_cause p) (map part_cause qs) e h k
+
+none_of_last : (c d : Cause) → either c (either d None) ≡ None → d ≡ None
+none_of_last None None h = refl
+none_of_last None (Some e) h = absurd cc
+none_of_last (Some e) d h = absurd cc
+
+-- a cause of the first parts is one of all
+pub cause_front : (ps qs : List Part) (e : Error) → parts_cause ps ≡ Some e → parts_cause (ps ++ qs) ≡ Some e
+cause_front ps qs e h = ap first (map-append part_cause ps qs) ∙ (first-append (map part_cause ps) (map part_cause qs) ∙ either_first (parts_cause ps) (parts_cause qs) e h)
+
+-- where none of them has a cause the last has none
+pub last_none : (ps : List Part) (p : Part) → parts_cause (ps ++ p ∷ []) ≡ None → part_cause p ≡ None
+last_none ps p h = none_of_last (parts_cause ps) (part_cause p) (sym (ap first (map-append part_cause ps (p ∷ [])) ∙ first-append (map part_cause ps) (part_cause p ∷ [])) ∙ h)
 
 -- the parts of one field more
 fields_more : (fields : List Field) (i : ℕ) (d : Field) → i < length fields → parts_of (take (i + 1) fields) ≡ parts_of (take i fields) ++ part_of (get_or fields i d) ∷ []

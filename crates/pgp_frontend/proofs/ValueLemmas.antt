@@ -16,8 +16,9 @@ use Rattle.pgp_base.specs.declared.error.Error.TheVariants.{TooLarge}
 use Rattle.pgp_base.specs.declared.error.BindError.{BindError}
 use Rattle.pgp_base.specs.declared.error.BindError.TheVariants.{Conversion, Serialization}
 use Rattle.pgp_base.specs.declared.number.IsNull.{IsNull}
-use Rattle.pgp_frontend.specs.Given.{Serves, ValuesRefused}
+use Rattle.pgp_frontend.specs.Given.{Serves}
 use Rattle.pgp_frontend.specs.Payload.{part_cause, Values}
+use Rattle.pgp_frontend.specs.Putting.{ValuesRefused}
 
 module _ {F T E B K : Type 0} (held : B → Held K) (step : F → T → MutBor B → Result IsNull E → MutBor B → F → Type 0) where
   -- each value that was made fits its field
@@ -55,20 +56,20 @@ module _ {F T E B K : Type 0} (held : B → Held K) (step : F → T → MutBor B
   value_stops xs x vs at u b (Serialization e) came runs few h r =
       let n = Runs-length (Gives held step) nullable here f xs vs at runs in
       let few' : length vs < 65535 = omega (arith, n) in
+      let made = Runs-fit held step here f xs vs at runs in
+      let none = values_fit vs (omega arith) made in
       elim r [
         | inl memory ↦
             let runs' : Runs (Gives held step) nullable here f xs vs u = subst (λ (t : F). Runs (Gives held step) nullable here f xs vs t) (sym memory.1) runs in
-            inl (
-              memory.0.0,
-              inr (
-                record { xs = xs; next = Some x; came = came; vs = vs; made = runs'; none = values_fit vs (omega arith) (Runs-fit held step here f xs vs at runs) },
-                counted_wants nullable vs None old b 4 (h ∙ ap (λ k. k ⊕ flat_map nullable vs) at_count) (omega (arith, int32_length (negsuc 0))) memory.0.1,
-              ),
+            inr (
+              vs ++ None ∷ [],
+              record { xs = xs; x = x; came = came; before = vs; none = none; value = None; are = refl; made = inl (runs', refl) },
+              inl (memory.0.0, counted_wants nullable vs None old b 4 (h ∙ ap (λ k. k ⊕ flat_map nullable vs) at_count) (omega (arith, int32_length (negsuc 0))) memory.0.1),
             )
         | inr long ↦ inr (
           vs ++ Some long.0 ∷ [],
-          record { xs = xs; x = x; came = came; before = vs; value = Some long.0; are = refl; made = inr (few, (long.0, (at, runs, Puts-at _ _ (ap (λ b. b ⊕ uint32 0) h) long.1), refl)) },
-          values_long vs (Some long.0) e few' (Runs-fit held step here f xs vs at runs) long.2,
+          record { xs = xs; x = x; came = came; before = vs; none = none; value = Some long.0; are = refl; made = inr (few, (long.0, (at, runs, Puts-at _ _ (ap (λ b. b ⊕ uint32 0) h) long.1), refl)) },
+          inr (values_long vs (Some long.0) e few' made long.2),
         )
       ]
 
@@ -78,8 +79,9 @@ module _ {F T E B K : Type 0} (held : B → Held K) (step : F → T → MutBor B
   count_stops xs x vs at came runs n =
       let k = Runs-length (Gives held step) nullable here f xs vs at runs in
       let full : length vs ≡ 65535 = sym k ∙ n in
+      let made = Runs-fit held step here f xs vs at runs in
       inr (
         vs ++ None ∷ [],
-        record { xs = xs; x = x; came = came; before = vs; value = None; are = refl; made = inl (n, runs) },
-        values_past vs None full (Runs-fit held step here f xs vs at runs),
+        record { xs = xs; x = x; came = came; before = vs; none = values_fit vs (omega arith) made; value = None; are = refl; made = inl (runs, refl) },
+        inr (values_past vs None full made),
       )

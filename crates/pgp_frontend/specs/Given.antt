@@ -1,22 +1,20 @@
 -- What the writers over iterators come to. What an iterator gave is one relation: `given xs None` says that it
--- gave xs and ended, `given xs (Some x)` that it gave xs and then x.
-use Rattle.std.specs.Prelude.{◌≡◌, ◌⊎◌, ℕ, ℤ, List, [], ◌∷◌, ◌++◌, map, Option, Some, None, Result, Ok, Err}
-use Rattle.pgp_base.specs.declared.error.Error.{Error}
-use Rattle.std.specs.Borrow.{Bor}
-use Rattle.pgp_frontend.specs.ClientMessage.{ClientMessage, Bind, Parse, Startup}
-use Rattle.pgp_frontend.specs.Payload.{Part, Int32, Text, Int16s, Oids, Values, Pairs, part_cause, parts_cause, joined, cause, bytes_of, IsInRange}
-use Rattle.std.specs.Prelude.{pos, ◌<◌, length}
+-- gave xs and ended, `given xs (Some x)` that it gave xs and then x. The trace of a call is the message of what came so
+-- far: a refused call was refused for the first cause of its trace, or for want of the memory that this message needs.
+use Rattle.std.specs.Prelude.{◌≡◌, ◌⊎◌, ◌<◌, ℕ, ℤ, List, [], ◌∷◌, ◌++◌, length, map, Option, Some, None, option_to_list, Result, Ok, Err}
 use Rattle.std.specs.List.{flat_map}
-use Rattle.std.specs.Prelude.{option_to_list}
-use Rattle.pgp_base.specs.Wire.{uint16, uint32, nullable, counted}
-use Rattle.pgp_base.specs.Calls.{Puts, Gives, Runs, SoFar}
-use Rattle.pgp_base.specs.Cause.{Wants}
-use Rattle.pgp_base.specs.declared.error.Error.TheVariants.{OutOfMemory}
+use Rattle.std.specs.Borrow.{Bor}
+use Rattle.pgp_base.specs.Wire.{uint16, uint32, nullable}
+use Rattle.pgp_base.specs.Calls.{Puts, Gives, Runs}
+use Rattle.pgp_base.specs.Cause.{Wants, WantsMemory}
 use Rattle.pgp_base.specs.Held.{Held, ◌⊕◌, Leaves}
+use Rattle.pgp_base.specs.declared.error.Error.{Error}
 use Rattle.pgp_base.specs.declared.number.IsNull.{IsNull}
 use Rattle.pgp_base.specs.declared.number.IsNull.TheVariants.{No}
 use Rattle.pgp_base.specs.declared.error.BindError.{BindError}
 use Rattle.pgp_base.specs.declared.error.BindError.TheVariants.{Conversion, Serialization}
+use Rattle.pgp_frontend.specs.ClientMessage.{ClientMessage, Bind, Parse, Startup}
+use Rattle.pgp_frontend.specs.Payload.{Part, Text, Int16s, Oids, Values, Pairs, parts, part_cause, parts_cause, joined, cause, bytes_of, IsInRange}
 use denote.Ref.{MutBor}
 
 -- The message of all that the iterators gave, which `Whole` tells, stands behind what the buffer held, and
@@ -28,45 +26,42 @@ pub record Appended {K : Type 0} (Whole : ClientMessage → Type 0) (old new : H
   pub none : cause message ≡ None
   pub appended : new ≡ old ⊕ bytes_of message
 
--- `Reached` are the parts of what the iterators gave up to a refusal; `Wanted` is what is said of a want of memory.
-module _ (Whole : ClientMessage → Type 0) (Reached : List Part → Type 0) (Wanted : Type 0) where
-  -- why the call was refused: for want of memory, for the first cause of the parts that it reached, or
-  -- for the cause of the whole message
-  abbrev pub Refused : Error → Type 0
-  Refused e = ((e ≡ OutOfMemory) × Wanted) ⊎ (((ps : List Part) × Reached ps × (parts_cause ps ≡ Some e)) ⊎ ((m : ClientMessage) × Whole m × (cause m ≡ Some e)))
+-- `SoFar` tells the message of what came so far.
+module _ (Whole SoFar : ClientMessage → Type 0) where
+  -- Why the call was refused: for want of memory that the message so far needs, or for the first cause of its parts;
+  -- or all came, no part has a cause, and the length of the whole has.
+  abbrev pub Refused : {K : Type 0} → (Held K → ℕ → Type 0) → Held K → Error → Type 0
+  Refused lacks old e = ((m : ClientMessage) × SoFar m × (WantsMemory (Wants lacks old (length (bytes_of m))) e ⊎ (parts_cause (parts m) ≡ Some e)))
+      ⊎ ((m : ClientMessage) × Whole m × (parts_cause (parts m) ≡ None) × (cause m ≡ Some e))
 
   -- It appends the message of all items; or it leaves the bytes, and is refused.
-  abbrev pub WritesGiven : {K : Type 0} → Held K → Held K → Result (Unit {0}) Error → Type 0
-  WritesGiven old new (Ok done) = Appended Whole old new
-  WritesGiven old new (Err e) = Refused e × Leaves old new
+  abbrev pub WritesGiven : {K : Type 0} → (Held K → ℕ → Type 0) → Held K → Held K → Result (Unit {0}) Error → Type 0
+  WritesGiven lacks old new (Ok done) = Appended Whole old new
+  WritesGiven lacks old new (Err e) = Refused lacks old e × Leaves old new
 
--- The first items that came, up to the one at which the call was refused: those before it make a part with no cause.
-pub record Begun {A : Type 0} (given : List A → Option A → Type 0) (part : List A → Part) (xs : List A) : Type 0 where
+-- The items that came so far: those before the last have no cause, as their part tells, and it is one that came next, if
+-- any did.
+pub record CameUpTo {A : Type 0} (given : List A → Option A → Type 0) (part : List A → Part) (xs : List A) : Type 0 where
   pub before : List A
-  pub last : A
-  pub came : given before (Some last)
+  pub next : Option A
+  pub came : given before next
   pub none : part_cause (part before) ≡ None
-  pub are : xs ≡ before ++ last ∷ []
+  pub are : xs ≡ before ++ option_to_list next
 
--- A growth was refused that the message of the items so far needs: all that came by then, as `Message` tells.
-abbrev pub WantsMessage : {K : Type 0} → (ClientMessage → Type 0) → (Held K → ℕ → Type 0) → Held K → Type 0
-WantsMessage Message lacks old = (m : ClientMessage) × Message m × Wants lacks old (length (bytes_of m))
+-- none was asked for, or these came so far
+abbrev pub Arrived : {A : Type 0} → (List A → Option A → Type 0) → (List A → Part) → List A → Type 0
+Arrived given part xs = (xs ≡ []) ⊎ CameUpTo given part xs
 
 -- `parse` of these texts and of the types that were given
 module _ (name query : List ℕ) (types : List ℕ → Option ℕ → Type 0) where
   abbrev pub ParseWhole : ClientMessage → Type 0
   ParseWhole m = (ts : List ℕ) × types ts None × (m ≡ Parse name query ts)
 
-  abbrev pub ParseReached : List Part → Type 0
-  ParseReached ps = (ps ≡ Text name ∷ Text query ∷ [])
-      ⊎ ((ts : List ℕ) × Begun types Oids ts × (ps ≡ Text name ∷ Text query ∷ Oids ts ∷ []))
-
-  -- the message of the types that came so far
   abbrev pub ParseSoFar : ClientMessage → Type 0
-  ParseSoFar m = (ts : List ℕ) × SoFar types ts × (m ≡ Parse name query ts)
+  ParseSoFar m = (ts : List ℕ) × Arrived types Oids ts × (m ≡ Parse name query ts)
 
   abbrev pub WritesParse : {K : Type 0} → (Held K → ℕ → Type 0) → Held K → Held K → Result (Unit {0}) Error → Type 0
-  WritesParse lacks old new result = WritesGiven ParseWhole ParseReached (WantsMessage ParseSoFar lacks old) old new result
+  WritesParse lacks old new result = WritesGiven ParseWhole ParseSoFar lacks old new result
 
 -- the bytes of a name and a value
 abbrev pub shown : Bor (List ℕ) × Bor (List ℕ) → List ℕ × List ℕ
@@ -81,15 +76,11 @@ module _ (parameters : List (Bor (List ℕ) × Bor (List ℕ)) → Option (Bor (
   abbrev pub StartupWhole : ClientMessage → Type 0
   StartupWhole m = (xs : List (Bor (List ℕ) × Bor (List ℕ))) × parameters xs None × (m ≡ Startup (map shown xs))
 
-  abbrev pub StartupReached : List Part → Type 0
-  StartupReached ps = (xs : List (Bor (List ℕ) × Bor (List ℕ))) × Begun parameters shown_pairs xs × (ps ≡ Int32 (pos 196608) ∷ shown_pairs xs ∷ [])
-
-  -- the message of the names and values that came so far
   abbrev pub StartupSoFar : ClientMessage → Type 0
-  StartupSoFar m = (xs : List (Bor (List ℕ) × Bor (List ℕ))) × SoFar parameters xs × (m ≡ Startup (map shown xs))
+  StartupSoFar m = (xs : List (Bor (List ℕ) × Bor (List ℕ))) × Arrived parameters shown_pairs xs × (m ≡ Startup (map shown xs))
 
   abbrev pub WritesStartup : {K : Type 0} → (Held K → ℕ → Type 0) → Held K → Held K → Result (Unit {0}) Error → Type 0
-  WritesStartup lacks old new result = WritesGiven StartupWhole StartupReached (WantsMessage StartupSoFar lacks old) old new result
+  WritesStartup lacks old new result = WritesGiven StartupWhole StartupSoFar lacks old new result
 
 -- a call of a serializer: the item, its answer, and the bytes that it put behind the place of the value's length
 pub record Call (T E : Type 0) : Type 0 where
@@ -115,16 +106,17 @@ module _ {T E K : Type 0} (given : List T → Option T → Type 0) (serves : Hel
     pub came : given xs None
     pub made : serves here xs vs None
 
-  -- Values up to the one at which the call was refused: the item came past the count's field, and the
-  -- serializer wasn't called at it (any value stands for it), or its bytes pass the length's field.
-  pub record ValuesBegun (vs : List (Option (List ℕ))) : Type 0 where
+  -- The values so far, up to the item x: the serializer made those before it. It wasn't called at x, for whose value a
+  -- null stands; or it put these bytes, and the call was refused for them.
+  pub record ValuesUpTo (vs : List (Option (List ℕ))) : Type 0 where
     pub xs : List T
     pub x : T
     pub came : given xs (Some x)
     pub before : List (Option (List ℕ))
+    pub none : part_cause (Values before) ≡ None
     pub value : Option (List ℕ)
     pub are : vs ≡ before ++ value ∷ []
-    pub made : ((length xs ≡ 65535) × serves here xs before None)
+    pub made : (serves here xs before None × (value ≡ None))
         ⊎ ((length xs < 65535) × ((bytes : List ℕ) × serves here xs before (Some (record { item = x; answer = Ok No; bytes = bytes })) × (value ≡ Some bytes)))
 
   -- the serializer refused with e
@@ -137,28 +129,6 @@ module _ {T E K : Type 0} (given : List T → Option T → Type 0) (serves : Hel
     pub bytes : List ℕ
     pub made : serves here xs before (Some (record { item = x; answer = Err e; bytes = bytes }))
 
-  -- the serializer made values of the first items, or of all, and these values have no cause
-  pub record MakesFirst : Type 0 where
-    pub xs : List T
-    pub next : Option T
-    pub came : given xs next
-    pub vs : List (Option (List ℕ))
-    pub made : serves here xs vs None
-    pub none : part_cause (Values vs) ≡ None
-
-  -- those values; and where one item more came, a null for it, whose length is all that a refused growth can have been for
-  abbrev pub values_so_far : MakesFirst → List (Option (List ℕ))
-  values_so_far first = first.vs ++ map (λ x. None) (option_to_list first.next)
-
-  -- Behind `old` the count or a value's length didn't fit: the serializer wasn't called, or it was at the first items.
-  abbrev pub ValuesWant : (Held K → ℕ → Type 0) → Held K → Type 0
-  ValuesWant lacks old = (serves here [] [] None × Wants lacks old 2) ⊎ ((first : MakesFirst) × Wants lacks old (length (counted nullable (values_so_far first))))
-
-  -- why the values were refused
-  abbrev pub ValuesRefused : (Held K → ℕ → Type 0) → Held K → BindError E → Type 0
-  ValuesRefused lacks old (Conversion e) = Converts e
-  ValuesRefused lacks old (Serialization e) = ((e ≡ OutOfMemory) × ValuesWant lacks old) ⊎ ((vs : List (Option (List ℕ))) × ValuesBegun vs × (part_cause (Values vs) ≡ Some e))
-
 -- what the buffer holds before the first value of a `bind`: zeros stand where the length and the count of values are to come
 abbrev pub before_values : {K : Type 0} → Held K → List ℕ → List ℕ → List ℤ → Held K
 before_values old portal statement formats = old ⊕ 66 ∷ [] ⊕ uint32 0 ⊕ joined (Text portal ∷ Text statement ∷ Int16s formats ∷ []) ⊕ uint16 0
@@ -166,45 +136,40 @@ before_values old portal statement formats = old ⊕ 66 ∷ [] ⊕ uint32 0 ⊕ 
 -- `bind` of these texts, and of the formats and items that were given
 module _ {T E K : Type 0} (portal statement : List ℕ) (formats : List ℤ → Option ℤ → Type 0) (values : List T → Option T → Type 0)
     (serves : Held K → List T → List (Option (List ℕ)) → Option (Call T E) → Type 0) (result_formats : List ℤ → Option ℤ → Type 0) (old : Held K) where
+  -- the serializer made vs of all items, behind these formats
+  abbrev pub AllServed : List ℤ → List (Option (List ℕ)) → Type 0
+  AllServed fs vs = Served values serves (before_values old portal statement fs) vs
+
   abbrev pub BindWhole : ClientMessage → Type 0
   BindWhole m = (fs : List ℤ) × formats fs None
-      × ((vs : List (Option (List ℕ))) × Served values serves (before_values old portal statement fs) vs
+      × ((vs : List (Option (List ℕ))) × AllServed fs vs
       × ((rs : List ℤ) × result_formats rs None × (m ≡ Bind portal statement fs vs rs)))
 
-  -- the serializer wasn't called
-  abbrev pub IsNotCalled : Type 0
-  IsNotCalled = serves old [] [] None
-
-  -- behind a part before the values the serializer wasn't called
-  abbrev pub BindReached : List Part → Type 0
-  BindReached ps = (IsNotCalled × (ps ≡ Text portal ∷ Text statement ∷ []))
-      ⊎ ((IsNotCalled × ((fs : List ℤ) × Begun formats Int16s fs × (ps ≡ Text portal ∷ Text statement ∷ Int16s fs ∷ [])))
-      ⊎ (((fs : List ℤ) × formats fs None
-      × ((vs : List (Option (List ℕ))) × ValuesBegun values serves (before_values old portal statement fs) vs
-      × (ps ≡ Text portal ∷ Text statement ∷ Int16s fs ∷ Values vs ∷ [])))
-      ⊎ ((fs : List ℤ) × formats fs None
-      × ((vs : List (Option (List ℕ))) × Served values serves (before_values old portal statement fs) vs
-      × ((rs : List ℤ) × Begun result_formats Int16s rs × (ps ≡ Text portal ∷ Text statement ∷ Int16s fs ∷ Values vs ∷ Int16s rs ∷ []))))))
-
-  -- the parts before the values have no cause
+  -- the parts before the values came whole, and have no cause
   abbrev pub ComesToValues : List ℤ → Type 0
   ComesToValues fs = formats fs None × (parts_cause (Text portal ∷ Text statement ∷ Int16s fs ∷ []) ≡ None)
 
-  -- the serializer refused with e
-  abbrev pub BindConverts : E → Type 0
-  BindConverts e = (fs : List ℤ) × ComesToValues fs × Converts values serves (before_values old portal statement fs) e
+  -- formats so far, and the serializer wasn't called
+  abbrev pub FormatsCame : ClientMessage → Type 0
+  FormatsCame m = serves old [] [] None × ((fs : List ℤ) × Arrived formats Int16s fs × (m ≡ Bind portal statement fs [] []))
 
-  -- A growth was refused that the message of what came so far needs: of formats, and the serializer wasn't called;
-  -- or of all formats, the values that the serializer made of the first items, and result formats.
-  abbrev pub BindWants : (Held K → ℕ → Type 0) → Type 0
-  BindWants lacks = (IsNotCalled × ((fs : List ℤ) × SoFar formats fs × Wants lacks old (length (bytes_of (Bind portal statement fs [] [])))))
-      ⊎ ((fs : List ℤ) × ComesToValues fs × ((first : MakesFirst values serves (before_values old portal statement fs)) × ((rs : List ℤ) × SoFar result_formats rs
-      × Wants lacks old (length (bytes_of (Bind portal statement fs (values_so_far values serves (before_values old portal statement fs) first) rs))))))
+  -- all formats, and values so far
+  abbrev pub ValuesCame : ClientMessage → Type 0
+  ValuesCame m = (fs : List ℤ) × ComesToValues fs × ((vs : List (Option (List ℕ))) × ValuesUpTo values serves (before_values old portal statement fs) vs × (m ≡ Bind portal statement fs vs []))
+
+  -- all values too, which have no cause, and formats of results so far
+  abbrev pub ResultsCame : ClientMessage → Type 0
+  ResultsCame m = (fs : List ℤ) × ComesToValues fs
+      × ((vs : List (Option (List ℕ))) × AllServed fs vs × (part_cause (Values vs) ≡ None)
+      × ((rs : List ℤ) × Arrived result_formats Int16s rs × (m ≡ Bind portal statement fs vs rs)))
+
+  abbrev pub BindSoFar : ClientMessage → Type 0
+  BindSoFar m = FormatsCame m ⊎ (ValuesCame m ⊎ ResultsCame m)
 
   -- why the call was refused: by the serializer, or as any writer
   abbrev pub BindRefused : (Held K → ℕ → Type 0) → BindError E → Type 0
-  BindRefused lacks (Conversion e) = BindConverts e
-  BindRefused lacks (Serialization e) = Refused BindWhole BindReached (BindWants lacks) e
+  BindRefused lacks (Conversion e) = (fs : List ℤ) × ComesToValues fs × Converts values serves (before_values old portal statement fs) e
+  BindRefused lacks (Serialization e) = Refused BindWhole BindSoFar lacks old e
 
   abbrev pub WritesBind : (Held K → ℕ → Type 0) → Held K → Result (Unit {0}) (BindError E) → Type 0
   WritesBind lacks new (Ok done) = Appended BindWhole old new

@@ -1,16 +1,16 @@
 //! The extended query protocol.
 #![tactic(auto, using(pgp_base::proofs::Parts::held_steps))]
 
-ghost use Rattle.std.specs.Prelude.{◌≡◌, ℕ, ℤ, ◌⊎◌, List, [], ◌∷◌, ◌++◌, length, Option, Some, None, OnOk, OnErr, IfErr, All, FitsSigned};
+ghost use Rattle.std.specs.Prelude.{◌≡◌, ℤ, List, [], ◌∷◌, None, OnOk, OnErr, IfErr, All, FitsSigned};
 ghost use Rattle.std.specs.Int.{w16};
 ghost use Rattle.std.specs.Iterator.{IsFiniteIterable};
 ghost use Rattle.pgp_base.specs.Wire.{uint32};
-ghost use Rattle.pgp_base.specs.Cause.{Wants};
 ghost use Rattle.pgp_base.specs.Held.{◌⊕◌, IsFrontOf};
-ghost use Rattle.pgp_base.specs.Calls.{Came, SoFar, OwesValues};
-ghost use Rattle.pgp_frontend.specs.Given.{Begun, Appended, Refused, WantsMessage, ParseWhole, ParseReached, ParseSoFar, WritesParse, Serves, BindWhole, BindRefused, WritesBind};
+ghost use Rattle.pgp_base.specs.Calls.{Came, OwesValues};
+ghost use Rattle.pgp_frontend.specs.Given.{Appended, Refused, ParseWhole, ParseSoFar, WritesParse, Serves, BindWhole, BindRefused, WritesBind};
 ghost use Rattle.pgp_frontend.specs.ClientMessage.{Bind, Close, Describe, Execute, Flush, Sync};
-ghost use Rattle.pgp_frontend.specs.Payload.{Text, Int16s, joined, bytes_of, parts_cause, WritesMessage};
+ghost use Rattle.pgp_frontend.specs.Payload.{Text, Int16s, joined, parts_cause, WritesMessage};
+ghost use Rattle.pgp_frontend.specs.Putting.{HeadRefused};
 
 use crate::counted::{put_int16s, put_oids};
 use crate::field::{Field, message, put_fields, room};
@@ -103,8 +103,8 @@ where
     ensures err { OnErr result (IsFrontOf (B.held buf.old) (B.held buf.new)) }
     ensures cause { IfErr result (Refused
         (ParseWhole name.now query.now (Came I.into_iter_gives I.IntoIter.next_gives param_types))
-        (ParseReached name.now query.now (Came I.into_iter_gives I.IntoIter.next_gives param_types))
-        (WantsMessage (ParseSoFar name.now query.now (Came I.into_iter_gives I.IntoIter.next_gives param_types)) B.Lacks (B.held buf.old))) }
+        (ParseSoFar name.now query.now (Came I.into_iter_gives I.IntoIter.next_gives param_types))
+        B.Lacks (B.held buf.old)) }
 {
     let texts = [Field::Text(name.as_bytes()), Field::Text(query.as_bytes())];
     buf.reserve(room(&texts) + 1)?;
@@ -162,9 +162,7 @@ where
         × (parts_cause (Text portal.now ∷ Text statement.now ∷ Int16s fs ∷ []) ≡ None)
         × (B.held buf.new ≡ B.held buf.old ⊕ 66 ∷ [] ⊕ uint32 0 ⊕ joined (Text portal.now ∷ Text statement.now ∷ Int16s fs ∷ []))) }
     ensures err { OnErr result (IsFrontOf (B.held buf.old) (B.held buf.new)) }
-    ensures cause { IfErr result (λ e. ((e ≡ Error.OutOfMemory) × ((fs : List ℤ) × SoFar (Came I.into_iter_gives I.IntoIter.next_gives formats) fs × Wants B.Lacks (B.held buf.old) (length (bytes_of (Bind portal.now statement.now fs [] [])))))
-        ⊎ ((parts_cause (Text portal.now ∷ Text statement.now ∷ []) ≡ Some e)
-        ⊎ ((fs : List ℤ) × Begun (Came I.into_iter_gives I.IntoIter.next_gives formats) Int16s fs × (parts_cause (Text portal.now ∷ Text statement.now ∷ Int16s fs ∷ []) ≡ Some e)))) }
+    ensures cause { IfErr result (HeadRefused portal.now statement.now (Came I.into_iter_gives I.IntoIter.next_gives formats) B.Lacks (B.held buf.old)) }
 {
     let texts = [
         Field::Text(portal.as_bytes()),

@@ -95,7 +95,7 @@ fn put_field<B: Buffer>(field: &Field, buf: &mut B) -> Result<(), Error>
     }
 }
 
-// `put_fields` in a loop.
+// The fields, in a loop.
 // The hint carries the speed of short messages.
 #[inline(always)]
 fn put_each<B: Buffer>(fields: &[Field], buf: &mut B) -> Result<(), Error>
@@ -109,21 +109,6 @@ fn put_each<B: Buffer>(fields: &[Field], buf: &mut B) -> Result<(), Error>
     Ok(())
 }
 
-// `put_fields` of what stands behind the first field.
-// The hint carries the speed of short messages.
-#[inline(always)]
-fn put_later<B: Buffer>(fields: &[Field], buf: &mut B) -> Result<(), Error>
-    ensures ok { OnOk result (PutsParts (parts_of fields.now) (B.held buf.old) (B.held buf.new)) }
-    ensures err { OnErr result (IsFrontOf (B.held buf.old) (B.held buf.new)) }
-    ensures cause { IfErr result (PartsRefused (parts_of fields.now) B.Lacks (B.held buf.old)) }
-{
-    let [first, rest @ ..] = fields else {
-        return Ok(());
-    };
-    put_field(first, buf)?;
-    put_each(rest, buf)
-}
-
 /// Appends the fields. A refusal leaves what stood there as a front. The first two stand ahead of the loop, so that a
 /// message of at most three fields that are known when it is compiled keeps no loop, and none of them in memory.
 // The hint carries the speed of short messages.
@@ -133,11 +118,15 @@ pub fn put_fields<B: Buffer>(fields: &[Field], buf: &mut B) -> Result<(), Error>
     ensures err { OnErr result (IsFrontOf (B.held buf.old) (B.held buf.new)) }
     ensures cause { IfErr result (PartsRefused (parts_of fields.now) B.Lacks (B.held buf.old)) }
 {
-    let [first, rest @ ..] = fields else {
+    let [first, later @ ..] = fields else {
         return Ok(());
     };
     put_field(first, buf)?;
-    put_later(rest, buf)
+    let [second, rest @ ..] = later else {
+        return Ok(());
+    };
+    put_field(second, buf)?;
+    put_each(rest, buf)
 }
 
 // The hint carries the speed of short messages.

@@ -1,15 +1,15 @@
 //! The packets that open a connection. They have no tag: a code stands behind their length.
 #![tactic(auto, using(pgp_base::proofs::Parts::held_steps))]
 
-ghost use Rattle.std.specs.Prelude.{◌≡◌, ℕ, List, ◌++◌, length, ◌⊎◌, Some, None, OnOk, OnErr, IfErr};
+ghost use Rattle.std.specs.Prelude.{◌≡◌, ℕ, List, None, OnOk, OnErr, IfErr};
 ghost use Rattle.std.specs.Borrow.{Bor};
 ghost use Rattle.std.specs.Iterator.{IsFiniteIterable};
 ghost use Rattle.pgp_base.specs.Held.{◌⊕◌, IsFrontOf};
-ghost use Rattle.pgp_base.specs.Cause.{Wants};
-ghost use Rattle.pgp_base.specs.Calls.{Came, SoFar};
+ghost use Rattle.pgp_base.specs.Calls.{Came};
 ghost use Rattle.pgp_frontend.specs.ClientMessage.{CancelRequest, SslRequest};
-ghost use Rattle.pgp_frontend.specs.Given.{Begun, Appended, Refused, WantsMessage, WritesStartup, StartupWhole, StartupReached, StartupSoFar, shown_pairs};
+ghost use Rattle.pgp_frontend.specs.Given.{Appended, Refused, WritesStartup, StartupWhole, StartupSoFar, shown_pairs};
 ghost use Rattle.pgp_frontend.specs.Payload.{spelling, part_cause, WritesMessage};
+ghost use Rattle.pgp_frontend.specs.Putting.{ItemsRefused};
 
 use crate::field::{Field, packet, put_int32};
 use pgp_base::{Buffer, Error, finish_body, put_u8, put_u32, write_cstr};
@@ -60,8 +60,7 @@ where
     ensures ok { OnOk result ((xs : List (Bor (List ℕ) × Bor (List ℕ))) × Came I.into_iter_gives I.IntoIter.next_gives parameters xs None
         × (part_cause (shown_pairs xs) ≡ None) × (B.held buf.new ≡ B.held buf.old ⊕ spelling (shown_pairs xs))) }
     ensures err { OnErr result (IsFrontOf (B.held buf.old) (B.held buf.new)) }
-    ensures cause { IfErr result (λ e. ((e ≡ Error.OutOfMemory) × ((xs : List (Bor (List ℕ) × Bor (List ℕ))) × SoFar (Came I.into_iter_gives I.IntoIter.next_gives parameters) xs × Wants B.Lacks (B.held buf.old) (length (spelling (shown_pairs xs)))))
-        ⊎ ((xs : List (Bor (List ℕ) × Bor (List ℕ))) × Begun (Came I.into_iter_gives I.IntoIter.next_gives parameters) shown_pairs xs × (part_cause (shown_pairs xs) ≡ Some e))) }
+    ensures cause { IfErr result (ItemsRefused (Came I.into_iter_gives I.IntoIter.next_gives parameters) shown_pairs B.Lacks (B.held buf.old)) }
 {
     for (name, value) in parameters {
         write_cstr(name.as_bytes(), buf)?;
@@ -84,8 +83,8 @@ where
     ensures err { OnErr result (IsFrontOf (B.held buf.old) (B.held buf.new)) }
     ensures cause { IfErr result (Refused
         (StartupWhole (Came I.into_iter_gives I.IntoIter.next_gives parameters))
-        (StartupReached (Came I.into_iter_gives I.IntoIter.next_gives parameters))
-        (WantsMessage (StartupSoFar (Came I.into_iter_gives I.IntoIter.next_gives parameters)) B.Lacks (B.held buf.old))) }
+        (StartupSoFar (Came I.into_iter_gives I.IntoIter.next_gives parameters))
+        B.Lacks (B.held buf.old)) }
 {
     let base = buf.len();
     put_u32(buf, 0)?;

@@ -6,8 +6,9 @@ ghost use Rattle.std.specs.Iterator.{IsFiniteIterable};
 ghost use Rattle.pgp_base.specs.Wire.{uint16, counted, nullable};
 ghost use Rattle.pgp_base.specs.Held.{◌⊕◌, IsFrontOf};
 ghost use Rattle.pgp_base.specs.Calls.{Came, OwesValues};
-ghost use Rattle.pgp_frontend.specs.Given.{Serves, Served, ValuesRefused};
+ghost use Rattle.pgp_frontend.specs.Given.{Serves, Served};
 ghost use Rattle.pgp_frontend.specs.Payload.{Values, part_cause};
+ghost use Rattle.pgp_frontend.specs.Putting.{ValuesRefused};
 
 use pgp_base::{BindError, Buffer, Error, IsNull, patch_u16, put_u16, put_value};
 

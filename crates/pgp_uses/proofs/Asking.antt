@@ -4,7 +4,7 @@ use Rattle.std.specs.List.{flat_map, AllByRecursion}
 use Rattle.std.specs.Option.{option_to_list}
 use Rattle.std.proofs.lemmas.List.{append-nil}
 use Rattle.std.proofs.lemmas.Grind.{flat_map-append}
-use Rattle.pgp_base.specs.Calls.{value_of, SoFar}
+use Rattle.pgp_base.specs.Calls.{value_of}
 use Rattle.pgp_base.proofs.Needs.{sized_wants}
 use Rattle.pgp_base.proofs.Parts.{more_bytes}
 use Rattle.pgp_base.specs.Held.{Held, ◌⊕◌, lengthened}
@@ -14,14 +14,15 @@ use Rattle.pgp_base.specs.declared.error.BindError.{BindError}
 use Rattle.pgp_base.specs.declared.error.BindError.TheVariants.{Conversion, Serialization}
 use Rattle.pgp_base.specs.declared.number.IsNull.{IsNull}
 use Rattle.pgp_frontend.specs.ClientMessage.{ClientMessage, Parse}
-use Rattle.pgp_frontend.specs.Payload.{Text, bytes_of, part_cause, parts_cause, cause}
-use Rattle.pgp_base.specs.Cause.{Cause, Wants, either}
+use Rattle.pgp_frontend.specs.Payload.{Oids, bytes_of, parts, parts_cause, cause}
+use Rattle.pgp_base.proofs.Causes.{either_first}
+use Rattle.pgp_base.specs.Cause.{Wants}
 use Rattle.std.specs.Result.{IsErrAnd}
 use Rattle.postgres_protocol.specs.OneValue.{PutsOne, OneWants}
 use Rattle.postgres_protocol.proofs.BindLemmas.{names_first, one_whole, one_refused, null_wants, value_wants}
 use Rattle.pgp_uses.specs.declared.session.AskError.{AskError}
 use Rattle.pgp_uses.specs.declared.session.AskError.TheVariants.{Binding}
-use Rattle.pgp_frontend.specs.Given.{Serves, before_values, BindWhole, BindRefused, Refused, ParseWhole, ParseReached, ParseSoFar, WantsMessage}
+use Rattle.pgp_frontend.specs.Given.{Arrived, Serves, before_values, BindWhole, BindRefused, Refused, ParseWhole, ParseSoFar}
 use Rattle.pgp_types.specs.Scalar.{int4}
 use Rattle.postgres_protocol.specs.ClientRun.{ClientRun, kinds_of, is_startup}
 use Rattle.postgres_protocol.specs.ClientStream.{Sent, IsAdded, IsLeft, Adds, RefusesMessage}
@@ -89,33 +90,23 @@ module _ {B K : Type 0} (held : B → Held K) where
 -- ---- the refusal of `parse` without types
 
 module _ (name sql : List ℕ) (types : List ℕ → Option ℕ → Type 0) (all_types : (xs : List ℕ) → types xs None → xs ≡ []) (some_types : (xs : List ℕ) (x : ℕ) → types xs (Some x) → ⊥) {K : Type 0} (lacks : Held K → ℕ → Type 0) (old : Held K) where
-  texts_cause : (e : Error) → parts_cause (Text name ∷ Text sql ∷ []) ≡ Some e → cause (Parse name sql []) ≡ Some e
-  texts_cause e h =
-      let by_cause : (c d k : Cause) → either c (either d None) ≡ Some e → either (either c (either d (either None None))) k ≡ Some e = λ c d k. elim c as (λ c. either c (either d None) ≡ Some e → either (either c (either d (either None None))) k ≡ Some e) [
-        | None ↦ elim d as (λ d. either d None ≡ Some e → either (either d (either None None)) k ≡ Some e) [
-          | None ↦ λ h. absurd cc
-          | Some x ↦ λ h. h
-        ]
-        | Some x ↦ λ h. h
-      ] in
-      by_cause (part_cause (Text name)) (part_cause (Text sql)) _ h
-
   -- no type came so far
   asked_none : (before : List ℕ) (next : Option ℕ) (ts : List ℕ) → types before next → ts ≡ before ++ option_to_list next → ts ≡ []
   asked_none before None ts came are = are ∙ (append-nil before ∙ all_types before came)
   asked_none before (Some x) ts came are = absurd (some_types before x came)
 
-  none_so_far : (ts : List ℕ) → SoFar types ts → ts ≡ []
+  none_so_far : (ts : List ℕ) → Arrived types Oids ts → ts ≡ []
   none_so_far ts (inl none) = none
-  none_so_far ts (inr asked) = asked_none asked.before asked.next ts asked.came asked.are
+  none_so_far ts (inr came) = asked_none came.before came.next ts came.came came.are
 
-  pub parse_refused : (e : Error) → Refused (ParseWhole name sql types) (ParseReached name sql types) (WantsMessage (ParseSoFar name sql types) lacks old) e → RefusesMessage (Parse name sql []) lacks old e
-  parse_refused e (inl memory) =
-      let w = memory.1 in
-      inl (memory.0, subst (λ (m : ClientMessage). Wants lacks old (length (bytes_of m))) (w.1.2 ∙ ap (λ ts. Parse name sql ts) (none_so_far w.1.0 w.1.1)) w.2)
-  parse_refused e (inr (inl (ps, inl texts, c))) = inr (texts_cause e (ap parts_cause (sym texts) ∙ c))
-  parse_refused e (inr (inl (ps, inr (ts, begun, are), c))) = absurd (some_types begun.before begun.last begun.came)
-  parse_refused e (inr (inr (m, whole, c))) = inr (ap cause (sym (whole.2 ∙ ap (λ ts. Parse name sql ts) (all_types whole.0 whole.1))) ∙ c)
+  pub parse_refused : (e : Error) → Refused (ParseWhole name sql types) (ParseSoFar name sql types) lacks old e → RefusesMessage (Parse name sql []) lacks old e
+  parse_refused e (inl (m, so_far, why)) =
+      let is : m ≡ Parse name sql [] = so_far.2 ∙ ap (λ ts. Parse name sql ts) (none_so_far so_far.0 so_far.1) in
+      elim why [
+        | inl memory ↦ inl (memory.0, subst (λ (m : ClientMessage). Wants lacks old (length (bytes_of m))) is memory.1)
+        | inr c ↦ inr (either_first (parts_cause (parts (Parse name sql []))) _ e (ap (λ (m : ClientMessage). parts_cause (parts m)) (sym is) ∙ c))
+      ]
+  parse_refused e (inr (m, whole, none, c)) = inr (ap cause (sym (whole.2 ∙ ap (λ ts. Parse name sql ts) (all_types whole.0 whole.1))) ∙ c)
 
 -- ---- the binding
 

@@ -12,14 +12,15 @@ use Rattle.std.specs.Option.{option_to_list}
 use Rattle.pgp_base.specs.Wire.{uint16, uint32, int16, nullable, counted}
 use Rattle.pgp_base.specs.Cause.{Cause, Wants, either, first}
 use Rattle.pgp_base.specs.Held.{Held, ◌⊕◌}
-use Rattle.pgp_base.specs.Calls.{value_of, Puts, Gives, Runs, SoFar}
+use Rattle.pgp_base.specs.Calls.{value_of, Puts, Gives, Runs}
 use Rattle.pgp_base.proofs.Causes.{either_first, first-append}
 use Rattle.pgp_base.proofs.Needs.{flat_more, counted_length, nullable_least, sized_wants, counted_wants}
 use Rattle.pgp_base.proofs.Parts.{nothing_more, wants_more}
+use Rattle.pgp_frontend.proofs.Fields.{cause_front}
 use Rattle.pgp_frontend.proofs.Needs.{int32_length, bind_length, joined_more, framed_wants}
 use Rattle.pgp_frontend.specs.ClientMessage.{ClientMessage, Bind}
 use Rattle.pgp_frontend.specs.Payload.{Part, Text, Int16s, Values, part_cause, parts, parts_cause, joined, bytes_of, cause}
-use Rattle.pgp_frontend.specs.Given.{Serves, before_values, BindWhole, BindReached, BindRefused, BindWants as WantsBind, WritesBind}
+use Rattle.pgp_frontend.specs.Given.{Arrived, Serves, before_values, BindWhole, BindSoFar, BindRefused, WritesBind}
 use Rattle.pgp_types.specs.declared.array.ArrayDimension.{ArrayDimension}
 use Rattle.pgp_types.specs.Array.{array_bytes, array_cause}
 use Rattle.postgres_protocol.specs.declared.laws.array.Step.{Step}
@@ -33,11 +34,7 @@ use Rattle.postgres_protocol.proofs.StepLemmas.{same_more}
 only_one : (vs : List (Option (List ℕ))) (v w : Option (List ℕ)) → vs ≡ [] → v ≡ w → vs ++ v ∷ [] ≡ w ∷ []
 only_one vs v w e f = rw (e, f) refl
 
--- a cause of the first parts is one of all
-front_cause : (ps qs : List Part) (e : Error) → parts_cause ps ≡ Some e → parts_cause (ps ++ qs) ≡ Some e
-front_cause ps qs e h = ap first (map-append part_cause ps qs) ∙ (first-append (map part_cause ps) (map part_cause qs) ∙ either_first (parts_cause ps) (parts_cause qs) e h)
-
--- and one of the message
+-- a cause of the parts is one of the message
 parts_first : (m : ClientMessage) (e : Error) → parts_cause (parts m) ≡ Some e → cause m ≡ Some e
 parts_first m e h = either_first (parts_cause (parts m)) _ e h
 
@@ -51,7 +48,11 @@ module _ (to : Target) where
 
   -- a cause of the names is one of the message
   pub names_first : (v : Option (List ℕ)) (e : Error) → names_cause to ≡ Some e → cause (one_bound to v) ≡ Some e
-  names_first v e h = parts_first (one_bound to v) e (front_cause (Text to.portal ∷ Text to.statement ∷ []) (Int16s (pos 1 ∷ []) ∷ Values (v ∷ []) ∷ Int16s to.results ∷ []) e h)
+  names_first v e h = parts_first (one_bound to v) e (cause_front (Text to.portal ∷ Text to.statement ∷ []) (Int16s (pos 1 ∷ []) ∷ Values (v ∷ []) ∷ Int16s to.results ∷ []) e h)
+
+  -- what stands behind them has none
+  names_last : (c d : Cause) → either c (either d (either None (either None (either None None)))) ≡ either c (either d None)
+  names_last c d = refl
 
   -- the one format has none
   format_last : (c d : Cause) → either c (either d (either None None)) ≡ either c (either d None)
@@ -60,10 +61,24 @@ module _ (to : Target) where
   names_alone : (fs : List ℤ) → fs ≡ pos 1 ∷ [] → parts_cause (Text to.portal ∷ Text to.statement ∷ Int16s fs ∷ []) ≡ names_cause to
   names_alone fs e = rw e (format_last (part_cause (Text to.portal)) (part_cause (Text to.statement)))
 
-  parts_are : (fs : List ℤ) (vs : List (Option (List ℕ))) (v : Option (List ℕ)) (ps : List Part) (e : Error) → ps ≡ up_to fs vs → fs ≡ pos 1 ∷ [] → vs ≡ v ∷ [] → parts_cause ps ≡ Some e → cause (one_bound to v) ≡ Some e
-  parts_are fs vs v ps e is f w c =
-      parts_first (one_bound to v) e
-      (front_cause (up_to (pos 1 ∷ []) (v ∷ [])) (Int16s to.results ∷ []) e (ap (λ gs. parts_cause (up_to gs (v ∷ []))) (sym f) ∙ ap (λ ws. parts_cause (up_to fs ws)) (sym w) ∙ ap parts_cause (sym is) ∙ c))
+  -- no result's format came
+  no_results : (c d k : Cause) → either c (either d (either None (either k None))) ≡ either c (either d (either None (either k (either None None))))
+  no_results c d k = refl
+
+  parts_are : (fs : List ℤ) (vs : List (Option (List ℕ))) (v : Option (List ℕ)) (e : Error) → fs ≡ pos 1 ∷ [] → vs ≡ v ∷ [] → parts_cause (parts (Bind to.portal to.statement fs vs [])) ≡ Some e → cause (one_bound to v) ≡ Some e
+  parts_are fs vs v e f w c =
+      let one = ap (λ gs. parts_cause (parts (Bind to.portal to.statement gs (v ∷ []) []))) (sym f) ∙ (ap (λ ws. parts_cause (parts (Bind to.portal to.statement fs ws []))) (sym w) ∙ c) in
+      let up = no_results (part_cause (Text to.portal)) (part_cause (Text to.statement)) (part_cause (Values (v ∷ []))) ∙ one in
+      parts_first (one_bound to v) e (cause_front (up_to (pos 1 ∷ []) (v ∷ [])) (Int16s to.results ∷ []) e up)
+
+  -- behind the formats that came so far, none or all, only the names have a cause
+  formats_alone : (fs : List ℤ) → (fs ≡ []) ⊎ (fs ≡ pos 1 ∷ []) → parts_cause (parts (Bind to.portal to.statement fs [] [])) ≡ names_cause to
+  formats_alone fs (inl e) = rw e (names_last (part_cause (Text to.portal)) (part_cause (Text to.statement)))
+  formats_alone fs (inr e) = rw e (names_last (part_cause (Text to.portal)) (part_cause (Text to.statement)))
+
+  -- and a null has none
+  null_alone : (fs : List ℤ) (vs : List (Option (List ℕ))) → fs ≡ pos 1 ∷ [] → vs ≡ None ∷ [] → parts_cause (parts (Bind to.portal to.statement fs vs [])) ≡ names_cause to
+  null_alone fs vs e f = rw (e, f) (names_last (part_cause (Text to.portal)) (part_cause (Text to.statement)))
 
 -- ---- growths that the message of one value needs
 
@@ -76,10 +91,13 @@ asked_all : {A : Type 0} (given : List A → Option A → Type 0) (all : List A)
 asked_all given all ends goes before None xs came are = are ∙ (append-nil before ∙ ends before came)
 asked_all given all ends goes before (Some x) xs came are = are ∙ goes before x came
 
-none_or_all : (given : List ℤ → Option ℤ → Type 0) (all : List ℤ) → ((xs : List ℤ) → given xs None → xs ≡ all) → ((xs : List ℤ) (x : ℤ) → given xs (Some x) → xs ++ x ∷ [] ≡ all)
-    → (xs : List ℤ) → SoFar given xs → length (counted int16 xs) ≤ length (counted int16 all)
-none_or_all given all ends goes xs (inl none) = let n = ap (λ l. length (counted int16 l)) none in omega (arith, n, counted_length int16 [], counted_length int16 all)
-none_or_all given all ends goes xs (inr asked) = let n = ap (λ l. length (counted int16 l)) (asked_all given all ends goes asked.before asked.next xs asked.came asked.are) in omega (arith, n)
+none_or_all : (given : List ℤ → Option ℤ → Type 0) (all : List ℤ) → ((xs : List ℤ) → given xs None → xs ≡ all) → ((xs : List ℤ) (x : ℤ) → given xs (Some x) → xs ++ x ∷ [] ≡ all) → (xs : List ℤ) → Arrived given Int16s xs → (xs ≡ []) ⊎ (xs ≡ all)
+none_or_all given all ends goes xs (inl none) = inl none
+none_or_all given all ends goes xs (inr came) = inr (asked_all given all ends goes came.before came.next xs came.came came.are)
+
+few : (xs all : List ℤ) → (xs ≡ []) ⊎ (xs ≡ all) → length (counted int16 xs) ≤ length (counted int16 all)
+few xs all (inl none) = let n = ap (λ l. length (counted int16 l)) none in omega (arith, n, counted_length int16 [], counted_length int16 all)
+few xs all (inr same) = let n = ap (λ l. length (counted int16 l)) same in omega (arith, n)
 
 module _ (to : Target) where
   -- the part before the values
@@ -176,74 +194,92 @@ module _ {F E B K : Type 0} (held : B → Held K) (step : F → ℕ → MutBor B
       let v = one_value w.0 served.xs w.2.0 fs (all_values served.xs served.came) served.made in
       (v.0, v.1, w.2.2.2 ∙ same_bind to w.0 w.2.0 (value_of v.0 v.1) w.2.2.0 fs v.2 (all_results w.2.2.0 w.2.2.1), v.3)
 
-  reached : (ps : List Part) (e : Error) → BindReached to.portal to.statement formats values (Serves held step f last) results old ps → parts_cause ps ≡ Some e
-      → NamesRefused held step to f last old e ⊎ OneTooLong held step to f last old e
-  reached ps e (inl texts) c = inl (texts.0, ap parts_cause (sym texts.1) ∙ c)
-  reached ps e (inr (inl begun)) c =
-      let b = begun.1.1 in
-      let fs : begun.1.0 ≡ pos 1 ∷ [] = b.are ∙ some_formats b.before b.last b.came in
-      inl (begun.0, sym (names_alone to begun.1.0 fs) ∙ (ap parts_cause (sym begun.1.2) ∙ c))
-  reached ps e (inr (inr (inl begun))) c =
-      let fs = all_formats begun.0 begun.1 in
-      let b = begun.2.1 in
+  -- the formats, and the formats of results, that came so far: none or all
+  few_formats : (fs : List ℤ) → Arrived formats Int16s fs → (fs ≡ []) ⊎ (fs ≡ pos 1 ∷ [])
+  few_formats fs so_far = none_or_all formats (pos 1 ∷ []) all_formats some_formats fs so_far
+
+  few_results : (rs : List ℤ) → Arrived results Int16s rs → (rs ≡ []) ⊎ (rs ≡ to.results)
+  few_results rs so_far = none_or_all results to.results all_results some_results rs so_far
+
+  abbrev Came : ClientMessage → Type 0
+  Came m = BindSoFar to.portal to.statement formats values (Serves held step f last) results old m
+
+  -- a growth that the message so far needs
+  one_wants : (m : ClientMessage) → Came m → Wants lacks old (length (bytes_of m)) → OneWants held step to f last old lacks
+  one_wants m (inl k) w =
+      let fs = k.1.0 in
+      inl (k.0, head_wants to fs (few fs (pos 1 ∷ []) (few_formats fs k.1.1)) (subst (λ (m : ClientMessage). Wants lacks old (length (bytes_of m))) k.1.2 w))
+  one_wants m (inr (inl k)) w =
+      let fs = all_formats k.0 k.1.0 in
+      let counts = ap (λ l. length (counted int16 l)) fs in
+      let b = k.2.1 in
       let come = some_values b.xs b.x b.came in
+      let none = few [] to.results (inl refl) in
+      let wanted = subst (λ (m : ClientMessage). Wants lacks old (length (bytes_of m))) k.2.2 w in
       elim b.made [
-        | inl full ↦ absurd (let n : 65535 ≡ 0 = sym full.0 ∙ ap (λ l. length l) come.0 in omega (arith, n))
-        | inr long ↦
-            let bytes = long.1.0 in
-            let at = long.1.1 in
-            let made = none_made (before begun.0) b.xs b.before at.0 come.0 at.1 in
+        | inl waits ↦
+            let made = none_made (before k.0) b.xs b.before last come.0 waits.0 in
+            inl (made.0, bind_wants to k.0 k.2.0 None [] counts (b.are ∙ only_one b.before b.value None made.1 waits.1) none wanted)
+        | inr put ↦
+            let bytes = put.1.0 in
+            let at = put.1.1 in
+            let made = none_made (before k.0) b.xs b.before at.0 come.0 at.1 in
+            inr (No, bytes, one_put k.0 b.xs b.x b.before at.0 (Ok No) bytes fs come at.1 at.2, bind_wants to k.0 k.2.0 (Some bytes) [] counts (b.are ∙ only_one b.before b.value (Some bytes) made.1 put.1.2) none wanted)
+      ]
+  one_wants m (inr (inr k)) w =
+      let fs = all_formats k.0 k.1.0 in
+      let v = one_value k.0 k.2.1.xs k.2.0 fs (all_values k.2.1.xs k.2.1.came) k.2.1.made in
+      let rs = k.2.3 in
+      inr (v.0, v.1, v.3, bind_wants to k.0 k.2.0 (value_of v.0 v.1) rs.0 (ap (λ l. length (counted int16 l)) fs) v.2 (few rs.0 to.results (few_results rs.0 rs.1)) (subst (λ (m : ClientMessage). Wants lacks old (length (bytes_of m))) rs.2 w))
+
+  -- a cause of its parts
+  one_caused : (m : ClientMessage) (e : Error) → Came m → parts_cause (parts m) ≡ Some e → NamesRefused held step to f last old e ⊎ OneTooLong held step to f last old e
+  one_caused m e (inl k) c = inl (k.0, sym (formats_alone to k.1.0 (few_formats k.1.0 k.1.1)) ∙ (ap (λ (m : ClientMessage). parts_cause (parts m)) (sym k.1.2) ∙ c))
+  one_caused m e (inr (inl k)) c =
+      let fs = all_formats k.0 k.1.0 in
+      let b = k.2.1 in
+      let come = some_values b.xs b.x b.came in
+      let c' = ap (λ (m : ClientMessage). parts_cause (parts m)) (sym k.2.2) ∙ c in
+      elim b.made [
+        | inl waits ↦
+            let made = none_made (before k.0) b.xs b.before last come.0 waits.0 in
+            inl (made.0, sym (null_alone to k.0 k.2.0 fs (b.are ∙ only_one b.before b.value None made.1 waits.1)) ∙ c')
+        | inr put ↦
+            let bytes = put.1.0 in
+            let at = put.1.1 in
+            let made = none_made (before k.0) b.xs b.before at.0 come.0 at.1 in
             inr (record {
               null = No;
               bytes = bytes;
-              put = one_put begun.0 b.xs b.x b.before at.0 (Ok No) bytes fs come at.1 at.2;
-              some = parts_are to begun.0 begun.2.0 (Some bytes) ps e begun.2.2 fs (b.are ∙ only_one b.before b.value (Some bytes) made.1 long.1.2) c;
+              put = one_put k.0 b.xs b.x b.before at.0 (Ok No) bytes fs come at.1 at.2;
+              some = parts_are to k.0 k.2.0 (Some bytes) e fs (b.are ∙ only_one b.before b.value (Some bytes) made.1 put.1.2) c';
             })
       ]
-  reached ps e (inr (inr (inr begun))) c =
-      let fs = all_formats begun.0 begun.1 in
-      let served = begun.2.1 in
-      let v = one_value begun.0 served.xs begun.2.0 fs (all_values served.xs served.came) served.made in
-      let b = begun.2.2.1 in
-      let rs : begun.2.2.0 ≡ to.results = b.are ∙ some_results b.before b.last b.came in
-      let m = same_bind to begun.0 begun.2.0 (value_of v.0 v.1) begun.2.2.0 fs v.2 rs in
-      inr (record { null = v.0; bytes = v.1; put = v.3; some = parts_first (one_bound to (value_of v.0 v.1)) e (ap (λ (m : ClientMessage). parts_cause (parts m)) (sym m) ∙ (ap parts_cause (sym begun.2.2.2) ∙ c)) })
-
-  -- the formats, and the formats of results, that came so far: none or all
-  few_formats : (fs : List ℤ) → SoFar formats fs → length (counted int16 fs) ≤ length (counted int16 (pos 1 ∷ []))
-  few_formats fs so_far = none_or_all formats (pos 1 ∷ []) all_formats some_formats fs so_far
-
-  few_results : (rs : List ℤ) → SoFar results rs → length (counted int16 rs) ≤ length (counted int16 to.results)
-  few_results rs so_far = none_or_all results to.results all_results some_results rs so_far
-
-  -- behind the place of the value's length there was room for what came before
-  first_wants : (fs : List ℤ) (xs : List ℕ) (next : Option ℕ) (vs : List (Option (List ℕ))) (rs : List ℤ) → fs ≡ pos 1 ∷ [] → values xs next → Runs (Gives held step) nullable (before fs) f xs vs last → length (counted int16 rs) ≤ length (counted int16 to.results)
-      → Wants lacks old (length (bytes_of (Bind to.portal to.statement fs (vs ++ map (λ x. None) (option_to_list next)) rs))) → OneWants held step to f last old lacks
-  first_wants fs xs None vs rs is came runs few w =
-      let v = one_value fs xs vs is (all_values xs came) runs in
-      inr (v.0, v.1, v.3, bind_wants to fs (vs ++ []) (value_of v.0 v.1) rs (ap (λ l. length (counted int16 l)) is) (append-nil vs ∙ v.2) few w)
-  first_wants fs xs (Some x) vs rs is came runs few w =
-      let made = none_made (before fs) xs vs last (some_values xs x came).0 runs in
-      inl (made.0, bind_wants to fs (vs ++ None ∷ []) None rs (ap (λ l. length (counted int16 l)) is) (ap (λ (vs : List (Option (List ℕ))). vs ++ None ∷ []) made.1) few w)
-
-  one_wants : WantsBind to.portal to.statement formats values (Serves held step f last) results old lacks → OneWants held step to f last old lacks
-  one_wants (inl head) =
-      let few = few_formats head.1.0 head.1.1 in
-      inl (head.0, head_wants to head.1.0 few head.1.2)
-  one_wants (inr behind) =
-      let first = behind.2.0 in
-      first_wants behind.0 first.xs first.next first.vs behind.2.1.0 (all_formats behind.0 behind.1.0) first.came first.made (few_results behind.2.1.0 behind.2.1.1) behind.2.1.2
+  one_caused m e (inr (inr k)) c =
+      let fs = all_formats k.0 k.1.0 in
+      let v = one_value k.0 k.2.1.xs k.2.0 fs (all_values k.2.1.xs k.2.1.came) k.2.1.made in
+      let rs = k.2.3 in
+      let c' = ap (λ (m : ClientMessage). parts_cause (parts m)) (sym rs.2) ∙ c in
+      inr (record {
+        null = v.0;
+        bytes = v.1;
+        put = v.3;
+        some = elim few_results rs.0 rs.1 [
+          | inl none ↦ parts_are to k.0 k.2.0 (value_of v.0 v.1) e fs v.2 (ap (λ rs. parts_cause (parts (Bind to.portal to.statement k.0 k.2.0 rs))) (sym none) ∙ c')
+          | inr all ↦ parts_first (one_bound to (value_of v.0 v.1)) e (ap (λ (m : ClientMessage). parts_cause (parts m)) (sym (same_bind to k.0 k.2.0 (value_of v.0 v.1) rs.0 fs v.2 all)) ∙ c')
+        ];
+      })
 
   pub one_refused : (e : BindError E) → BindRefused to.portal to.statement formats values (Serves held step f last) results old lacks e → OneRefused held step to f last old lacks e
   one_refused (Conversion e) w =
       let fs = all_formats w.0 w.1.0 in
       let v = w.2 in
       (v.bytes, one_put w.0 v.xs v.x v.before v.made.0 (Err e) v.bytes fs (some_values v.xs v.x v.came) v.made.1 v.made.2, sym (names_alone to w.0 fs) ∙ w.1.1)
-  one_refused (Serialization e) (inl memory) = inl (memory.0, one_wants memory.1)
-  one_refused (Serialization e) (inr (inl ps)) = inr (reached ps.0 e ps.1 ps.2)
-  one_refused (Serialization e) (inr (inr m)) =
+  one_refused (Serialization e) (inl (m, so_far, inl memory)) = inl (memory.0, one_wants m so_far memory.1)
+  one_refused (Serialization e) (inl (m, so_far, inr c)) = inr (one_caused m e so_far c)
+  one_refused (Serialization e) (inr m) =
       let k = one_whole m.0 m.1 in
-      inr (inr (record { null = k.0; bytes = k.1; put = k.3; some = subst (λ (m : ClientMessage). cause m ≡ Some e) k.2 m.2 }))
+      inr (inr (record { null = k.0; bytes = k.1; put = k.3; some = subst (λ (m : ClientMessage). cause m ≡ Some e) k.2 m.3 }))
 
   pub one_binds : (r : Result (Unit {0}) (BindError E)) (new : Held K) → WritesBind to.portal to.statement formats values (Serves held step f last) results old lacks new r → OneBinds held step to f last old lacks new r
   one_binds (Ok done) new w =

@@ -8,13 +8,13 @@ use Rattle.std.proofs.Math.Seq.{take-length}
 use Rattle.std.specs.Option.{option_to_list}
 use Rattle.std.proofs.lemmas.Iterator.{YieldsList}
 use Rattle.std.proofs.lemmas.Iterator.Consumers.{YieldsList-so_far, YieldsList-turn, YieldsList-end}
-use Rattle.pgp_base.specs.Calls.{Came, SoFar}
+use Rattle.pgp_base.specs.Calls.{Came}
 use Rattle.pgp_base.specs.Cause.{Cause, Wants, either, first}
 use Rattle.pgp_base.specs.Held.{Held}
 use Rattle.pgp_base.specs.declared.error.Error.{Error}
 use Rattle.pgp_frontend.specs.ClientMessage.{Startup}
-use Rattle.pgp_frontend.specs.Given.{shown, shown_pairs}
-use Rattle.pgp_frontend.specs.Payload.{Int32, pair, pair_cause, parts_cause, bytes_of, cause}
+use Rattle.pgp_frontend.specs.Given.{Arrived, shown, shown_pairs}
+use Rattle.pgp_frontend.specs.Payload.{Part, Int32, pair, pair_cause, parts_cause, bytes_of, cause}
 use Rattle.pgp_base.proofs.Parts.{wants_more}
 use Rattle.pgp_frontend.proofs.Needs.{startup_length}
 
@@ -42,9 +42,9 @@ module _ {S X U : Type 0} (into_iter_gives : U → S → Type 0) (steps : S → 
   asked_front before None came are = (length all, are ∙ (append-nil before ∙ (came_all steps came.iterator all (roads came.iterator came.from) before came.left came.came ∙ sym (take-length all))))
   asked_front before (Some x) came are = (length before + 1, are ∙ came_front steps came.iterator all (roads came.iterator came.from) before x came.left came.came)
 
-  pub came_so_far : SoFar (Came into_iter_gives steps source) xs → (k : ℕ) × (xs ≡ take k all)
-  came_so_far (inl none) = (0, none)
-  came_so_far (inr asked) = asked_front asked.before asked.next asked.came asked.are
+  pub came_so_far : (part : List X → Part) → Arrived (Came into_iter_gives steps source) part xs → (k : ℕ) × (xs ≡ take k all)
+  came_so_far part (inl none) = (0, none)
+  came_so_far part (inr asked) = asked_front asked.before asked.next asked.came asked.are
 
 -- ---- the packet of the first pairs is no longer than that of all
 

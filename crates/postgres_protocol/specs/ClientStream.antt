@@ -4,7 +4,7 @@ use Rattle.pgp_base.specs.Cause.{Wants, WantsMemory}
 use Rattle.pgp_base.specs.Held.{Held, ◌⊕◌, Leaves}
 use Rattle.pgp_base.specs.declared.error.Error.{Error}
 use Rattle.pgp_frontend.specs.ClientMessage.{ClientMessage, PasswordKind}
-use Rattle.pgp_frontend.specs.Given.{Refused, WantsMessage}
+use Rattle.pgp_frontend.specs.Given.{Refused}
 use Rattle.pgp_frontend.specs.Payload.{Part, bytes_of, cause, IsInRange}
 use Rattle.postgres_protocol.specs.ClientRun.{ClientRun, kinds_of, is_startup, is_opened}
 
@@ -44,10 +44,9 @@ RefusesMessage m lacks old e = WantsMemory (Wants lacks old (length (bytes_of m)
 abbrev pub AddsMessage : {B Kept : Type 0} → (B → Held Kept) → ClientMessage → (Held Kept → ℕ → Type 0) → Sent B → Sent B → Result (Unit {0}) Error → Type 0
 AddsMessage held m lacks old new result = Adds held (λ n. n ≡ m) (RefusesMessage m lacks (held old.buf)) old new result
 
--- The call adds the message of all that iterators gave, which `Whole` tells. `Reached` are the parts of what
--- they gave up to a refusal, and `SoFar` the messages of what they gave up to a want of memory.
-abbrev pub AddsGiven : {B Kept : Type 0} → (B → Held Kept) → (ClientMessage → Type 0) → (List Part → Type 0) → (ClientMessage → Type 0) → (Held Kept → ℕ → Type 0) → Sent B → Sent B → Result (Unit {0}) Error → Type 0
-AddsGiven held Whole Reached SoFar lacks old new result = Adds held Whole (Refused Whole Reached (WantsMessage SoFar lacks (held old.buf))) old new result
+-- The call adds the message of all that iterators gave, which `Whole` tells; `SoFar` tells that of what came so far.
+abbrev pub AddsGiven : {B Kept : Type 0} → (B → Held Kept) → (Whole SoFar : ClientMessage → Type 0) → (Held Kept → ℕ → Type 0) → Sent B → Sent B → Result (Unit {0}) Error → Type 0
+AddsGiven held Whole SoFar lacks old new result = Adds held Whole (Refused Whole SoFar lacks (held old.buf)) old new result
 
 -- a server reads these bytes so, and a startup packet is among what it reads where the stream was opened
 pub record IsRead (kinds : List PasswordKind) (messages : List ClientMessage) (bytes : List ℕ) (opened : Bool) : Type 0 where

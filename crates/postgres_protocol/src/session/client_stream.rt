@@ -6,7 +6,7 @@ ghost use Rattle.pgp_base.specs.Cause.{Wants};
 ghost use Rattle.std.specs.Iterator.{IsFiniteIterable};
 ghost use Rattle.pgp_base.specs.Calls.{Came, OwesValues};
 ghost use Rattle.pgp_frontend.specs.ClientMessage.{ClientMessage, PasswordKind, CancelRequest, Close, CopyData as DataMessage, CopyDone, CopyFail, Describe, Execute, Flush, PasswordMessage, Query, SaslInitialResponse, SaslResponse, SslRequest, Startup, Sync, Terminate};
-ghost use Rattle.pgp_frontend.specs.Given.{BindWhole, BindRefused, ParseWhole, ParseReached, ParseSoFar, Serves, shown};
+ghost use Rattle.pgp_frontend.specs.Given.{BindWhole, BindRefused, ParseWhole, ParseSoFar, Serves, shown};
 ghost use Rattle.pgp_frontend.specs.Payload.{bytes_of};
 ghost use Rattle.pgp_frontend.specs.Reading.{IsNamed};
 ghost use Rattle.postgres_protocol.specs.ClientRun.{ClientRun, is_opened};
@@ -305,7 +305,6 @@ impl<B: Buffer> ClientStream<B> {
         requires types_end { IsFiniteIterable I.into_iter_gives I.IntoIter.can_next I.IntoIter.remaining param_types }
         ensures { AddsGiven B.held
             (ParseWhole name.now query.now (Came I.into_iter_gives I.IntoIter.next_gives param_types))
-            (ParseReached name.now query.now (Came I.into_iter_gives I.IntoIter.next_gives param_types))
             (ParseSoFar name.now query.now (Came I.into_iter_gives I.IntoIter.next_gives param_types))
             B.Lacks self.old self.new result }
     {

@@ -1,4 +1,4 @@
-use Rattle.std.proofs.Common.{arith, ◌≡◌, None, subst, ◌∙◌}
+use Rattle.std.proofs.Common.{arith, refl, ◌≡◌, None, subst, ◌∙◌}
 use Rattle.pgp_base.specs.Cause.{nullable_cause}
 use Rattle.pgp_base.specs.Calls.{value_of}
 use Rattle.pgp_base.proofs.Parts.{sized4, rest4, none_sized, none_ok, valued, nullable_refused, Appends-at, front_twice, front_refused}
@@ -29,13 +29,17 @@ pub returns-in_default-clause-ok : goal.returns-in_default-clause-ok
 returns-in_default-clause-ok g c =
     let k = c.in-Ok.ensures in
     let r = rest4 _ k.0 _ _ _ c.in_ok-put_u32.ensures.ok k.2 c.len-base.ensures.value in
-    record {
-      null = c.in-Ok.null;
-      bytes = k.0;
-      put = Appends-at _ _ c.in_ok-put_u32.ensures.ok k.1;
-      fits = subst (λ p. nullable_cause (value_of c.in-Ok.null p) ≡ None) r c.in_default.ensures.fits;
-      appended = valued c.in-Ok.null _ _ _ _ _ _ c.in_ok-put_u32.ensures.ok k.2 c.len-base.ensures.value (none_ok k.0 c.in-Ok.null k.3) c.in_default.ensures.ok;
-    }
+    (
+      value_of c.in-Ok.null k.0,
+      record {
+        null = c.in-Ok.null;
+        bytes = k.0;
+        put = Appends-at _ _ c.in_ok-put_u32.ensures.ok k.1;
+        value = refl;
+        fits = subst (λ p. nullable_cause (value_of c.in-Ok.null p) ≡ None) r c.in_default.ensures.fits;
+      },
+      valued c.in-Ok.null _ _ _ _ _ _ c.in_ok-put_u32.ensures.ok k.2 c.len-base.ensures.value (none_ok k.0 c.in-Ok.null k.3) c.in_default.ensures.ok,
+    )
 
 pub returns-in-Err-clause-err : goal.returns-in-Err-clause-err
 returns-in-Err-clause-err g c = front_refused _ _ _ _ _ c.in_ok-put_u32.ensures.ok c.in-Err.ensures.2

@@ -5,8 +5,8 @@ use Rattle.pgp_base.specs.Cause.{Wants, WantsMemory}
 use Rattle.pgp_base.proofs.Parts.{if_err_at, nothing_more, wants_here, wants_more, wants_same, wants_then}
 use Rattle.pgp_base.proofs.Needs.{counted_length}
 use Rattle.pgp_frontend.proofs.Needs.{framed_length, bind_length, joined_more, framed_wants}
-use Rattle.pgp_frontend.specs.Payload.{Text, Int16s, joined, framed, parts_cause}
-use Rattle.pgp_frontend.proofs.Fields.{cause_more, cause_here}
+use Rattle.pgp_frontend.specs.Payload.{Text, Int16s, Values, joined, framed, parts_cause}
+use Rattle.pgp_frontend.proofs.Fields.{cause_more, cause_here, cause_front}
 use Rattle.pgp_frontend.proofs.Texts.{two_texts, part_more}
 use Rattle.pgp_frontend.proofs.extended.fill_formats.Goals as goal
 
@@ -18,23 +18,31 @@ returns-in_err-put_fields-clause-cause g c =
           let texts = Text c.args.portal.now ∷ Text c.args.statement.now ∷ [] in
           let wanted = two_texts (λ ps. WantsMemory (Wants g.B.Buffer.Lacks (g.B.Buffer.held c.put_u32.new.buf) (length (joined ps))) c.in_err-put_fields.field-0.0) _ c.args.portal.now _ c.args.statement.now c.as_bytes.ensures.value c.as_bytes-2.ensures.value memory in
           let place = c.in_ok-put_u32.ensures.ok ∙ ap (λ held. held ⊕ uint32 0) (c.in_ok-put_u8.ensures.ok ∙ ap (λ held. held ⊕ 66 ∷ []) c.in_ok-reserve.ensures.same) in
-          inl (wanted.0, ([], inl refl, framed_wants 66 [] (g.B.Buffer.held c.args.buf.now) _ _ _ (place ∙ sym (nothing_more (g.B.Buffer.held c.args.buf.now ⊕ 66 ∷ [] ⊕ uint32 0))) (omega (arith, bind_length c.args.portal.now c.args.statement.now [] [] [], joined_more texts (Int16s []), counted_length int16 [], counted_length nullable [])) wanted.1))
-      | inr refused ↦ inr (inl (two_texts (λ ps. parts_cause ps ≡ Some c.in_err-put_fields.field-0.0) _ c.args.portal.now _ c.args.statement.now c.as_bytes.ensures.value c.as_bytes-2.ensures.value refused))
+          ([], inl refl, inl (wanted.0, framed_wants 66 [] (g.B.Buffer.held c.args.buf.now) _ _ _ (place ∙ sym (nothing_more (g.B.Buffer.held c.args.buf.now ⊕ 66 ∷ [] ⊕ uint32 0))) (omega (arith, bind_length c.args.portal.now c.args.statement.now [] [] [], joined_more texts (Int16s []), counted_length int16 [], counted_length nullable [])) wanted.1))
+      | inr refused ↦ (
+        [],
+        inl refl,
+        inr (cause_front (Text c.args.portal.now ∷ Text c.args.statement.now ∷ []) (Int16s [] ∷ Values [] ∷ Int16s [] ∷ []) _ (two_texts (λ ps. parts_cause ps ≡ Some c.in_err-put_fields.field-0.0) _ c.args.portal.now _ c.args.statement.now c.as_bytes.ensures.value c.as_bytes-2.ensures.value refused)),
+      )
     ])
 
 pub returns-in_err-put_int16s-clause-cause : goal.returns-in_err-put_int16s-clause-cause
 returns-in_err-put_int16s-clause-cause g c =
     let none = two_texts (λ ps. parts_cause ps ≡ None) _ c.args.portal.now _ c.args.statement.now c.as_bytes.ensures.value c.as_bytes-2.ensures.value c.in_ok-put_fields.ensures.ok.0 in
     if_err_at _ _ _ c.from_residual-in_err-put_int16s.ensures.1
-    (elim c.in_err-put_int16s.ensures.cause [
-      | inl memory ↦
-          let texts = Text c.args.portal.now ∷ Text c.args.statement.now ∷ [] in
-          let place = c.in_ok-put_u32.ensures.ok ∙ ap (λ held. held ⊕ uint32 0) (c.in_ok-put_u8.ensures.ok ∙ ap (λ held. held ⊕ 66 ∷ []) c.in_ok-reserve.ensures.same) in
-          let held = two_texts (λ ps. g.B.Buffer.held c.put_fields.new.buf ≡ g.B.Buffer.held c.put_u32.new.buf ⊕ joined ps) _ c.args.portal.now _ c.args.statement.now c.as_bytes.ensures.value c.as_bytes-2.ensures.value c.in_ok-put_fields.ensures.ok.1 in
-          let m = memory.1 in
-          inl (memory.0, (m.0, m.1, framed_wants 66 texts (g.B.Buffer.held c.args.buf.now) _ _ _ (held ∙ ap (λ held. held ⊕ joined texts) place) (omega (arith, bind_length c.args.portal.now c.args.statement.now m.0 [] [], joined_more texts (Int16s m.0))) m.2))
-      | inr past ↦ inr (inr (past.0, past.1, cause_here (Text c.args.portal.now ∷ Text c.args.statement.now ∷ []) (Int16s past.0) [] _ none past.2))
-    ])
+    (let k = c.in_err-put_int16s.ensures.cause in
+    let texts = Text c.args.portal.now ∷ Text c.args.statement.now ∷ [] in
+    (
+      k.0,
+      k.1,
+      elim k.2 [
+        | inl memory ↦
+            let place = c.in_ok-put_u32.ensures.ok ∙ ap (λ held. held ⊕ uint32 0) (c.in_ok-put_u8.ensures.ok ∙ ap (λ held. held ⊕ 66 ∷ []) c.in_ok-reserve.ensures.same) in
+            let held = two_texts (λ ps. g.B.Buffer.held c.put_fields.new.buf ≡ g.B.Buffer.held c.put_u32.new.buf ⊕ joined ps) _ c.args.portal.now _ c.args.statement.now c.as_bytes.ensures.value c.as_bytes-2.ensures.value c.in_ok-put_fields.ensures.ok.1 in
+            inl (memory.0, framed_wants 66 texts (g.B.Buffer.held c.args.buf.now) _ _ _ (held ∙ ap (λ held. held ⊕ joined texts) place) (omega (arith, bind_length c.args.portal.now c.args.statement.now k.0 [] [], joined_more texts (Int16s k.0))) memory.1)
+        | inr past ↦ inr (cause_here texts (Int16s k.0) (Values [] ∷ Int16s [] ∷ []) _ none past)
+      ],
+    ))
 
 pub returns-clause-ok : goal.returns-clause-ok
 returns-clause-ok g c =
@@ -52,14 +60,14 @@ returns-in_err-reserve-clause-cause g c =
     let texts = Text c.args.portal.now ∷ Text c.args.statement.now ∷ [] in
     let fits = two_texts (λ ps. c.room.result ≤ length (framed None (joined ps))) _ c.args.portal.now _ c.args.statement.now c.as_bytes.ensures.value c.as_bytes-2.ensures.value c.room.ensures.needed in
     if_err_at _ _ _ c.from_residual.ensures.1
-    (inl (refl, ([], inl refl, wants_here (g.B.Buffer.held c.args.buf.now) _ _ c.in_err-reserve.ensures.lacks (omega (arith, fits, framed_length (joined texts), bind_length c.args.portal.now c.args.statement.now [] [] [], joined_more texts (Int16s []), counted_length int16 [], counted_length nullable [])))))
+    ([], inl refl, inl (refl, wants_here (g.B.Buffer.held c.args.buf.now) _ _ c.in_err-reserve.ensures.lacks (omega (arith, fits, framed_length (joined texts), bind_length c.args.portal.now c.args.statement.now [] [] [], joined_more texts (Int16s []), counted_length int16 [], counted_length nullable []))))
 
 pub returns-in_err-put_u8-clause-cause : goal.returns-in_err-put_u8-clause-cause
 returns-in_err-put_u8-clause-cause g c =
     let texts = Text c.args.portal.now ∷ Text c.args.statement.now ∷ [] in
     let memory = c.in_err-put_u8.ensures.cause in
     if_err_at _ _ _ c.from_residual-in_err-put_u8.ensures.1
-    (inl (memory.0, ([], inl refl, wants_same _ _ _ c.in_ok-reserve.ensures.same (wants_more _ 1 _ (omega (arith, bind_length c.args.portal.now c.args.statement.now [] [] [], joined_more texts (Int16s []), counted_length int16 [], counted_length nullable [])) memory.1))))
+    ([], inl refl, inl (memory.0, wants_same _ _ _ c.in_ok-reserve.ensures.same (wants_more _ 1 _ (omega (arith, bind_length c.args.portal.now c.args.statement.now [] [] [], joined_more texts (Int16s []), counted_length int16 [], counted_length nullable [])) memory.1)))
 
 pub returns-in_err-put_u32-clause-cause : goal.returns-in_err-put_u32-clause-cause
 returns-in_err-put_u32-clause-cause g c =
@@ -67,4 +75,4 @@ returns-in_err-put_u32-clause-cause g c =
     let memory = c.in_err-put_u32.ensures.cause in
     let stands = c.in_ok-put_u8.ensures.ok ∙ ap (λ held. held ⊕ 66 ∷ []) c.in_ok-reserve.ensures.same in
     if_err_at _ _ _ c.from_residual-in_err-put_u32.ensures.1
-    (inl (memory.0, ([], inl refl, wants_then (g.B.Buffer.held c.args.buf.now) _ (66 ∷ []) 4 _ stands (omega (arith, bind_length c.args.portal.now c.args.statement.now [] [] [], joined_more texts (Int16s []), counted_length int16 [], counted_length nullable [])) memory.1)))
+    ([], inl refl, inl (memory.0, wants_then (g.B.Buffer.held c.args.buf.now) _ (66 ∷ []) 4 _ stands (omega (arith, bind_length c.args.portal.now c.args.statement.now [] [] [], joined_more texts (Int16s []), counted_length int16 [], counted_length nullable [])) memory.1))

@@ -7,7 +7,7 @@ use Rattle.pgp_base.proofs.Needs.{counted_length}
 use Rattle.pgp_frontend.proofs.Needs.{framed_length, parse_length, framed_wants}
 use Rattle.pgp_frontend.specs.ClientMessage.{Parse}
 use Rattle.pgp_frontend.specs.Payload.{Text, Oids, joined, framed, parts_cause}
-use Rattle.pgp_frontend.proofs.Fields.{cause_more, cause_here}
+use Rattle.pgp_frontend.proofs.Fields.{cause_more, cause_here, cause_front}
 use Rattle.pgp_frontend.proofs.Frames.{frame_room, frame_done, frame_fits, frame_passes, tagged}
 use Rattle.pgp_frontend.proofs.Texts.{two_texts, part_more}
 use Rattle.pgp_frontend.proofs.extended.fill_parse.Goals as goal
@@ -20,23 +20,31 @@ returns-in_err-put_fields-clause-cause g c =
           let texts = Text c.args.name.now ∷ Text c.args.query.now ∷ [] in
           let wanted = two_texts (λ ps. WantsMemory (Wants g.B.Buffer.Lacks (g.B.Buffer.held c.put_u32.new.buf) (length (joined ps))) c.in_err-put_fields.field-0.0) _ c.args.name.now _ c.args.query.now c.as_bytes.ensures.value c.as_bytes-2.ensures.value memory in
           let place = c.in_ok-put_u32.ensures.ok ∙ ap (λ held. held ⊕ uint32 0) (c.in_ok-put_u8.ensures.ok ∙ ap (λ held. held ⊕ 80 ∷ []) c.in_ok-reserve.ensures.same) in
-          inl (wanted.0, (Parse c.args.name.now c.args.query.now [], ([], inl refl, refl), framed_wants 80 [] (g.B.Buffer.held c.args.buf.now) _ _ _ (place ∙ sym (nothing_more (g.B.Buffer.held c.args.buf.now ⊕ 80 ∷ [] ⊕ uint32 0))) (omega (arith, parse_length c.args.name.now c.args.query.now [], counted_length oid [])) wanted.1))
-      | inr refused ↦ inr (inl (_, inl refl, two_texts (λ ps. parts_cause ps ≡ Some c.in_err-put_fields.field-0.0) _ c.args.name.now _ c.args.query.now c.as_bytes.ensures.value c.as_bytes-2.ensures.value refused))
+          inl (Parse c.args.name.now c.args.query.now [], ([], inl refl, refl), inl (wanted.0, framed_wants 80 [] (g.B.Buffer.held c.args.buf.now) _ _ _ (place ∙ sym (nothing_more (g.B.Buffer.held c.args.buf.now ⊕ 80 ∷ [] ⊕ uint32 0))) (omega (arith, parse_length c.args.name.now c.args.query.now [], counted_length oid [])) wanted.1))
+      | inr refused ↦ inl (
+        Parse c.args.name.now c.args.query.now [],
+        ([], inl refl, refl),
+        inr (cause_front (Text c.args.name.now ∷ Text c.args.query.now ∷ []) (Oids [] ∷ []) _ (two_texts (λ ps. parts_cause ps ≡ Some c.in_err-put_fields.field-0.0) _ c.args.name.now _ c.args.query.now c.as_bytes.ensures.value c.as_bytes-2.ensures.value refused)),
+      )
     ])
 
 pub returns-in_err-put_oids-clause-cause : goal.returns-in_err-put_oids-clause-cause
 returns-in_err-put_oids-clause-cause g c =
     let none = two_texts (λ ps. parts_cause ps ≡ None) _ c.args.name.now _ c.args.query.now c.as_bytes.ensures.value c.as_bytes-2.ensures.value c.in_ok-put_fields.ensures.ok.0 in
     if_err_at _ _ _ c.from_residual-in_err-put_oids.ensures.1
-    (elim c.in_err-put_oids.ensures.cause [
-      | inl memory ↦
-          let texts = Text c.args.name.now ∷ Text c.args.query.now ∷ [] in
-          let place = c.in_ok-put_u32.ensures.ok ∙ ap (λ held. held ⊕ uint32 0) (c.in_ok-put_u8.ensures.ok ∙ ap (λ held. held ⊕ 80 ∷ []) c.in_ok-reserve.ensures.same) in
-          let held = two_texts (λ ps. g.B.Buffer.held c.put_fields.new.buf ≡ g.B.Buffer.held c.put_u32.new.buf ⊕ joined ps) _ c.args.name.now _ c.args.query.now c.as_bytes.ensures.value c.as_bytes-2.ensures.value c.in_ok-put_fields.ensures.ok.1 in
-          let m = memory.1 in
-          inl (memory.0, (Parse c.args.name.now c.args.query.now m.0, (m.0, m.1, refl), framed_wants 80 texts (g.B.Buffer.held c.args.buf.now) _ _ _ (held ∙ ap (λ held. held ⊕ joined texts) place) (omega (arith, parse_length c.args.name.now c.args.query.now m.0)) m.2))
-      | inr past ↦ inr (inl (_, inr (past.0, past.1, refl), cause_here (Text c.args.name.now ∷ Text c.args.query.now ∷ []) (Oids past.0) [] _ none past.2))
-    ])
+    (let k = c.in_err-put_oids.ensures.cause in
+    let texts = Text c.args.name.now ∷ Text c.args.query.now ∷ [] in
+    inl (
+      Parse c.args.name.now c.args.query.now k.0,
+      (k.0, k.1, refl),
+      elim k.2 [
+        | inl memory ↦
+            let place = c.in_ok-put_u32.ensures.ok ∙ ap (λ held. held ⊕ uint32 0) (c.in_ok-put_u8.ensures.ok ∙ ap (λ held. held ⊕ 80 ∷ []) c.in_ok-reserve.ensures.same) in
+            let held = two_texts (λ ps. g.B.Buffer.held c.put_fields.new.buf ≡ g.B.Buffer.held c.put_u32.new.buf ⊕ joined ps) _ c.args.name.now _ c.args.query.now c.as_bytes.ensures.value c.as_bytes-2.ensures.value c.in_ok-put_fields.ensures.ok.1 in
+            inl (memory.0, framed_wants 80 texts (g.B.Buffer.held c.args.buf.now) _ _ _ (held ∙ ap (λ held. held ⊕ joined texts) place) (omega (arith, parse_length c.args.name.now c.args.query.now k.0)) memory.1)
+        | inr past ↦ inr (cause_here texts (Oids k.0) [] _ none past)
+      ],
+    ))
 
 pub finish_body-requires : goal.finish_body-requires
 finish_body-requires g c =
@@ -53,7 +61,7 @@ returns-in_err-finish_body-clause-cause g c =
     let all = part_more texts (Oids k.0) _ _ _ held k.4 in
     let clean = cause_more texts (Oids k.0) none k.3 in
     if_err_at _ _ _ c.from_residual-in_err-finish_body.ensures.1
-    (inr (inr (Parse c.args.name.now c.args.query.now k.0, (k.0, k.1, refl), frame_passes (texts ++ Oids k.0 ∷ []) (g.B.Buffer.held c.put_u8.new.buf) _ _ _ c.in_ok-put_u32.ensures.ok all c.len-base.ensures.value _ clean c.in_err-finish_body.ensures.cause)))
+    (inr (Parse c.args.name.now c.args.query.now k.0, (k.0, k.1, refl), clean, frame_passes (texts ++ Oids k.0 ∷ []) (g.B.Buffer.held c.put_u8.new.buf) _ _ _ c.in_ok-put_u32.ensures.ok all c.len-base.ensures.value _ clean c.in_err-finish_body.ensures.cause))
 
 pub returns-clause-ok : goal.returns-clause-ok
 returns-clause-ok g c =
@@ -77,14 +85,14 @@ returns-in_err-reserve-clause-cause g c =
     let texts = Text c.args.name.now ∷ Text c.args.query.now ∷ [] in
     let fits = two_texts (λ ps. c.room.result ≤ length (framed None (joined ps))) _ c.args.name.now _ c.args.query.now c.as_bytes.ensures.value c.as_bytes-2.ensures.value c.room.ensures.needed in
     if_err_at _ _ _ c.from_residual.ensures.1
-    (inl (refl, (Parse c.args.name.now c.args.query.now [], ([], inl refl, refl), wants_here (g.B.Buffer.held c.args.buf.now) _ _ c.in_err-reserve.ensures.lacks (omega (arith, fits, framed_length (joined texts), parse_length c.args.name.now c.args.query.now [], counted_length oid [])))))
+    (inl (Parse c.args.name.now c.args.query.now [], ([], inl refl, refl), inl (refl, wants_here (g.B.Buffer.held c.args.buf.now) _ _ c.in_err-reserve.ensures.lacks (omega (arith, fits, framed_length (joined texts), parse_length c.args.name.now c.args.query.now [], counted_length oid [])))))
 
 pub returns-in_err-put_u8-clause-cause : goal.returns-in_err-put_u8-clause-cause
 returns-in_err-put_u8-clause-cause g c =
     let texts = Text c.args.name.now ∷ Text c.args.query.now ∷ [] in
     let memory = c.in_err-put_u8.ensures.cause in
     if_err_at _ _ _ c.from_residual-in_err-put_u8.ensures.1
-    (inl (memory.0, (Parse c.args.name.now c.args.query.now [], ([], inl refl, refl), wants_same _ _ _ c.in_ok-reserve.ensures.same (wants_more _ 1 _ (omega (arith, parse_length c.args.name.now c.args.query.now [], counted_length oid [])) memory.1))))
+    (inl (Parse c.args.name.now c.args.query.now [], ([], inl refl, refl), inl (memory.0, wants_same _ _ _ c.in_ok-reserve.ensures.same (wants_more _ 1 _ (omega (arith, parse_length c.args.name.now c.args.query.now [], counted_length oid [])) memory.1))))
 
 pub returns-in_err-put_u32-clause-cause : goal.returns-in_err-put_u32-clause-cause
 returns-in_err-put_u32-clause-cause g c =
@@ -92,4 +100,4 @@ returns-in_err-put_u32-clause-cause g c =
     let memory = c.in_err-put_u32.ensures.cause in
     let stands = c.in_ok-put_u8.ensures.ok ∙ ap (λ held. held ⊕ 80 ∷ []) c.in_ok-reserve.ensures.same in
     if_err_at _ _ _ c.from_residual-in_err-put_u32.ensures.1
-    (inl (memory.0, (Parse c.args.name.now c.args.query.now [], ([], inl refl, refl), wants_then (g.B.Buffer.held c.args.buf.now) _ (80 ∷ []) 4 _ stands (omega (arith, parse_length c.args.name.now c.args.query.now [], counted_length oid [])) memory.1)))
+    (inl (Parse c.args.name.now c.args.query.now [], ([], inl refl, refl), inl (memory.0, wants_then (g.B.Buffer.held c.args.buf.now) _ (80 ∷ []) 4 _ stands (omega (arith, parse_length c.args.name.now c.args.query.now [], counted_length oid [])) memory.1)))

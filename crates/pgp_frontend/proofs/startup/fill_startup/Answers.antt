@@ -16,12 +16,19 @@ use Rattle.pgp_frontend.proofs.startup.fill_startup.Goals as goal
 pub returns-in_err-put_pairs-clause-cause : goal.returns-in_err-put_pairs-clause-cause
 returns-in_err-put_pairs-clause-cause g c =
     if_err_at _ _ _ c.from_residual-in_err-put_pairs.ensures.1
-    (elim c.in_err-put_pairs.ensures.cause [
-      | inl memory ↦
-          let m = memory.1 in
-          inl (memory.0, (Startup (map shown m.0), (m.0, m.1, refl), wants_then (g.B.Buffer.held c.args.buf.now) _ (uint32 0) _ _ c.in_ok-put_u32.ensures.ok (omega (arith, startup_length (map shown m.0), length-uint32 0)) (wants_then _ _ (int32 (pos 196608)) _ (4 + length (spelling (Pairs (map shown m.0)))) c.in_ok-put_int32.ensures.ok (omega (arith, int32_length (pos 196608))) m.2)))
-      | inr refused ↦ inr (inl (_, (refused.0, refused.1, refl), cause_here (Int32 (pos 196608) ∷ []) (Pairs (map shown refused.0)) [] _ refl refused.2))
-    ])
+    (let k = c.in_err-put_pairs.ensures.cause in
+    inl (
+      Startup (map shown k.0),
+      (k.0, k.1, refl),
+      elim k.2 [
+        | inl memory ↦ inl (
+          memory.0,
+          wants_then (g.B.Buffer.held c.args.buf.now) _ (uint32 0) _ _ c.in_ok-put_u32.ensures.ok (omega (arith, startup_length (map shown k.0), length-uint32 0))
+          (wants_then _ _ (int32 (pos 196608)) _ (4 + length (spelling (Pairs (map shown k.0)))) c.in_ok-put_int32.ensures.ok (omega (arith, int32_length (pos 196608))) memory.1),
+        )
+        | inr refused ↦ inr (cause_here (Int32 (pos 196608) ∷ []) (Pairs (map shown k.0)) [] _ refl refused)
+      ],
+    ))
 
 pub finish_body-requires : goal.finish_body-requires
 finish_body-requires g c =
@@ -35,7 +42,7 @@ returns-in_err-finish_body-clause-cause g c =
     let all = part_more (Int32 (pos 196608) ∷ []) (Pairs (map shown k.0)) _ _ _ (first_part (Int32 (pos 196608)) _ _ c.in_ok-put_int32.ensures.ok) k.3 in
     let clean = cause_more (Int32 (pos 196608) ∷ []) (Pairs (map shown k.0)) refl k.2 in
     if_err_at _ _ _ c.from_residual-in_err-finish_body.ensures.1
-    (inr (inr (Startup (map shown k.0), (k.0, k.1, refl), frame_passes (Int32 (pos 196608) ∷ Pairs (map shown k.0) ∷ []) (g.B.Buffer.held c.args.buf.now) _ _ _ c.in_ok-put_u32.ensures.ok all c.len-base.ensures.value _ clean c.in_err-finish_body.ensures.cause)))
+    (inr (Startup (map shown k.0), (k.0, k.1, refl), clean, frame_passes (Int32 (pos 196608) ∷ Pairs (map shown k.0) ∷ []) (g.B.Buffer.held c.args.buf.now) _ _ _ c.in_ok-put_u32.ensures.ok all c.len-base.ensures.value _ clean c.in_err-finish_body.ensures.cause))
 
 pub returns-clause-ok : goal.returns-clause-ok
 returns-clause-ok g c =
@@ -55,10 +62,10 @@ returns-clause-ok g c =
 pub returns-in_err-put_u32-clause-cause : goal.returns-in_err-put_u32-clause-cause
 returns-in_err-put_u32-clause-cause g c =
     let memory = c.in_err-put_u32.ensures.cause in
-    if_err_at _ _ _ c.from_residual.ensures.1 (inl (memory.0, (Startup [], ([], inl refl, refl), wants_more _ 4 _ (omega (arith, startup_length [])) memory.1)))
+    if_err_at _ _ _ c.from_residual.ensures.1 (inl (Startup [], ([], inl refl, refl), inl (memory.0, wants_more _ 4 _ (omega (arith, startup_length [])) memory.1)))
 
 pub returns-in_err-put_int32-clause-cause : goal.returns-in_err-put_int32-clause-cause
 returns-in_err-put_int32-clause-cause g c =
     let memory = c.in_err-put_int32.ensures.cause in
     if_err_at _ _ _ c.from_residual-in_err-put_int32.ensures.1
-    (inl (memory.0, (Startup [], ([], inl refl, refl), wants_then (g.B.Buffer.held c.args.buf.now) _ (uint32 0) _ _ c.in_ok-put_u32.ensures.ok (omega (arith, startup_length [], length-uint32 0, int32_length (pos 196608))) memory.1)))
+    (inl (Startup [], ([], inl refl, refl), inl (memory.0, wants_then (g.B.Buffer.held c.args.buf.now) _ (uint32 0) _ _ c.in_ok-put_u32.ensures.ok (omega (arith, startup_length [], length-uint32 0, int32_length (pos 196608))) memory.1)))

@@ -1,4 +1,4 @@
-use Rattle.std.proofs.Common.{◌≡◌, ◌∷◌, [], ◌+◌, length, map, take, Some, sym, ap, subst, ◌∙◌, inl, inr}
+use Rattle.std.proofs.Common.{◌≡◌, ◌∷◌, [], length, map, Some, sym, ap, subst, ◌∙◌, inl, inr}
 use Rattle.std.specs.Prelude.{pos}
 use Rattle.std.proofs.iter.Yields.{copies, fronts}
 use Rattle.std.proofs.lemmas.Iterator.{YieldsList, YieldsList-from_slice}
@@ -6,11 +6,11 @@ use Rattle.std.proofs.lemmas.Iterator.Consumers.{YieldsList-from_copied}
 use Rattle.pgp_frontend.specs.ClientMessage.{Startup}
 use Rattle.pgp_frontend.specs.Given.{shown, shown_pairs}
 use Rattle.pgp_base.specs.Cause.{Wants}
-use Rattle.pgp_frontend.specs.Payload.{Int32, parts_cause, bytes_of, cause}
+use Rattle.pgp_frontend.specs.Payload.{Int32, parts, parts_cause, bytes_of, cause}
 use Rattle.pgp_frontend.specs.Reading.{IsNamed}
 use Rattle.postgres_protocol.specs.ClientRun.{IsStartup, is_startup}
 use Rattle.postgres_protocol.proofs.Additions.{same_phase, first_added, first_stays, left, still}
-use Rattle.postgres_protocol.proofs.StartupPairs.{came_all, came_front, came_so_far, startup_wants, front_refused}
+use Rattle.postgres_protocol.proofs.StartupPairs.{came_all, came_so_far, startup_wants, front_refused}
 use Rattle.postgres_protocol.proofs.session.client_stream.ClientStream.startup_message.Goals as goal
 
 pub returns-in-Ok : goal.returns-in-Ok
@@ -40,21 +40,17 @@ returns-in-Err g c =
     let road : YieldsList (copies fronts) (λ x. x) c.copied.result all = YieldsList-from_copied (YieldsList-from_slice all cc) in
     rw (← c.self.view_is) (
       elim c.in-Err.ensures.0 [
-        | inl memory ↦
-            (let wants = memory.1 in
-            let xs = wants.1.0 in
-            let so_far = came_so_far _ (copies fronts) c.copied.result all (λ s from. subst (λ s. YieldsList (copies fronts) (λ x. x) s all) (sym from) road) xs wants.1.1 in
-            inl (memory.0, startup_wants all xs (g.B.Buffer.held c.self.inside.buf) so_far (subst (λ m. Wants g.B.Buffer.Lacks (g.B.Buffer.held c.self.inside.buf) (length (bytes_of m))) wants.1.2 wants.2)))
-        | inr (inl r) ↦
-            (let begun = r.1.1 in
-            let came = begun.came in
-            let front = came_front (copies fronts) came.iterator all (subst (λ s. YieldsList (copies fronts) (λ x. x) s all) (sym came.from) road) begun.before begun.last came.left came.came in
-            let h : parts_cause (Int32 (pos 196608) ∷ shown_pairs (take (length begun.before + 1) all) ∷ []) ≡ Some e = ap (λ l. parts_cause (Int32 (pos 196608) ∷ shown_pairs l ∷ [])) (sym front ∙ sym begun.are) ∙ ap parts_cause (sym r.1.2) ∙ r.2 in
-            inr (front_refused all (length begun.before + 1) e h))
-        | inr (inr r) ↦
+        | inl k ↦
+            (let so_far = k.1 in
+            let front = came_so_far _ (copies fronts) c.copied.result all (λ s from. subst (λ s. YieldsList (copies fronts) (λ x. x) s all) (sym from) road) so_far.0 shown_pairs so_far.1 in
+            elim k.2 [
+              | inl memory ↦ inl (memory.0, startup_wants all so_far.0 (g.B.Buffer.held c.self.inside.buf) front (subst (λ m. Wants g.B.Buffer.Lacks (g.B.Buffer.held c.self.inside.buf) (length (bytes_of m))) so_far.2 memory.1))
+              | inr cause ↦ inr (front_refused all front.0 e (ap (λ l. parts_cause (Int32 (pos 196608) ∷ shown_pairs l ∷ [])) (sym front.1) ∙ (ap (λ m. parts_cause (parts m)) (sym so_far.2) ∙ cause)))
+            ])
+        | inr r ↦
             (let came = r.1.1 in
             let xs = came_all (copies fronts) came.iterator all (subst (λ s. YieldsList (copies fronts) (λ x. x) s all) (sym came.from) road) r.1.0 came.left came.came in
-            inr (ap (λ l. cause (Startup (map shown l))) (sym xs) ∙ ap cause (sym r.1.2) ∙ r.2))
+            inr (ap (λ l. cause (Startup (map shown l))) (sym xs) ∙ ap cause (sym r.1.2) ∙ r.3))
       ],
       left g.B.Buffer.held c.self.inside.buf c.startup_message.new.buf c.self.inside.opened c.self.invariant c.in-Err.ensures.1,
     )
