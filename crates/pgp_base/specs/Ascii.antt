@@ -1,4 +1,4 @@
--- Bytes that are below 128, at places.
+-- Private: bytes that are below 128, at places.
 use Rattle.std.specs.Prelude.{ℕ, ◌≤◌, ◌<◌, List, slice_index}
 
 -- those from a place up to another are

@@ -1,4 +1,4 @@
--- The walk of which a `Counted` is the rest.
+-- Private: the walk of which a `Counted` is the rest.
 use Rattle.std.specs.Prelude.{◌≡◌, ℕ, List, ◌++◌, length, Option, Some, None, Result, Ok, Err}
 use Rattle.std.specs.Borrow.{Bor}
 use Rattle.pgp_base.specs.declared.error.Error.{Error}

@@ -1,4 +1,4 @@
--- Reading a part from the left, as a function: the part and the bytes after it, unless it is cut short.
+-- Private: reading a part from the left, as a function: the part and the bytes after it, unless it is cut short.
 use Rattle.std.specs.Prelude.{◌≡◌, ℕ, ℤ, zero, suc, List, [], ◌∷◌, length, take, drop, Option, Some, None, Result, Ok, Err, nat_lt, if◌then◌else◌}
 use Rattle.std.specs.Int.{w16, w32, from_be_bytes, cast_signed}
 use Rattle.std.specs.Str.{is_utf8}

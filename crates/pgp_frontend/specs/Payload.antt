@@ -55,6 +55,7 @@ part_cause (Pairs ps) = first (map pair_cause ps)
 
 -- the numbers are in their fields' ranges
 abbrev pub InRange : Part → Type 0
+InRange (Byte n) = n < 256
 InRange (Int32 z) = FitsSigned w32 z
 InRange (Int16s zs) = All (FitsSigned w16) zs
 InRange (Oids ns) = All (λ n. n < 2 ^ 32) ns

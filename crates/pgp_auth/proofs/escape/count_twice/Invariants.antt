@@ -4,7 +4,7 @@ use Rattle.pgp_auth.specs.Doubling.{is_doubled}
 use Rattle.pgp_auth.proofs.escape.count_twice.Given as goal
 
 abbrev pub invariant-pieces : goal.invariant-pieces
-invariant-pieces l = l.count + count_by (is_doubled l.quote l.slashes) l.rest ≡ count_by (is_doubled l.quote l.slashes) l.bytes
+invariant-pieces l = l.count + count_by (is_doubled l.form.quote l.form.slashes) l.rest ≡ count_by (is_doubled l.form.quote l.form.slashes) l.bytes
 
 abbrev pub decreases-pieces : goal.decreases-pieces
 decreases-pieces l = length l.rest

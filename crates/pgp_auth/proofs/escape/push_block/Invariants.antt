@@ -6,4 +6,4 @@ abbrev pub invariant-bytes : goal.invariant-bytes
 invariant-bytes g l =
     (length l.room ≡ 384)
     × (l.len ≤ 2 * l.i)
-    × (take l.len l.room ≡ doubled l.quote l.slashes (take l.i l.block))
+    × (take l.len l.room ≡ doubled l.form.quote l.form.slashes (take l.i l.block))

@@ -8,7 +8,7 @@ use denote.Text.{Utf8}
 abbrev pub invariant-runs : goal.invariant-runs
 invariant-runs g l = record {
   text : shadow (Utf8 l.rest);
-  written : string_bytes l.out ++ doubled l.quote l.slashes l.rest ≡ string_bytes l.fn.out ++ doubled l.quote l.slashes l.input;
+  written : string_bytes l.out ++ doubled l.form.quote l.form.slashes l.rest ≡ string_bytes l.fn.out ++ doubled l.form.quote l.form.slashes l.input;
 }
 
 abbrev pub decreases-runs : goal.decreases-runs
