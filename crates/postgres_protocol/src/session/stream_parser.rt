@@ -5,7 +5,8 @@ ghost use Rattle.pgp_base.specs.Cause.{WantsMemory};
 ghost use Rattle.pgp_message.specs.Found.{TakesSome};
 ghost use Rattle.pgp_message.specs.Remembered.{Fits};
 ghost use Rattle.pgp_message.specs.Views.{seen};
-ghost use Rattle.postgres_protocol.specs.ServerStream.{HasRead, Feeds, HandsOut, TakesAll, Moves, TakesPart, kept_or_piece};
+ghost use Rattle.postgres_protocol.specs.ServerStream.{HasRead, Feeds, HandsOut};
+ghost use Rattle.postgres_protocol.specs.ServerSteps.{TakesAll, Moves, TakesPart, kept_or_piece};
 
 use super::parsed::Parsed;
 use bytes::Bytes;
@@ -30,7 +31,7 @@ impl<A: Memory> Model for StreamParser<A> {
     ghost use Rattle.std.specs.Prelude.{map};
     ghost use Rattle.pgp_message.specs.Views.{seen};
     ghost use Rattle.postgres_protocol.specs.ServerStream.{Reading};
-    ghost use Rattle.postgres_protocol.specs.ServerStream.{IsSound};
+    ghost use Rattle.postgres_protocol.specs.ServerSteps.{IsSound};
 
     ghost Value = { Reading };
 
