@@ -74,6 +74,7 @@ fn lines_of<A: Memory, R: Input>(
 {
     let mut parser = StreamParser::new(alloc);
     let mut text = String::new(alloc);
+    // Bounded, since each function has to end, and a reader may give pieces or be interrupted for ever.
     for _ in 0..u64::MAX {
         match input.read_some(piece) {
             Ok(0) => {
