@@ -1,4 +1,4 @@
--- The code's requests as messages, and what a part of a line adds to a startup packet.
+-- Private: the code's requests as messages, and what a part of a line adds to a startup packet.
 use Rattle.std.specs.Prelude.{◌≡◌, ◌≢◌, ◌⊎◌, ℕ, Bool, true, false, List, [], ◌∷◌, ◌++◌, map}
 use Rattle.pgp_frontend.specs.ClientMessage.{ClientMessage, Query, PasswordMessage, Startup, SslRequest, Sync, Terminate}
 use Rattle.pgp_frontend.specs.Given.{shown}

@@ -1,4 +1,4 @@
--- What sending the lines of a script comes to.
+-- Private: what sending the lines of a script comes to, one by one. `ClientOutput` says what a whole script comes to.
 use Rattle.std.specs.Prelude.{◌≡◌, ◌≢◌, ◌⊎◌, ℕ, ◌+◌, Bool, true, false, List, [], ◌∷◌, ◌++◌, length, Option, Some, None}
 use Rattle.std.specs.Borrow.{Bor}
 use Rattle.std.specs.List.{slice_split}

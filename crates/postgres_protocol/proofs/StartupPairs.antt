@@ -67,7 +67,7 @@ startup_wants all xs old so_far w =
 
 -- ---- the first cause of the first pairs is that of the packet
 
-either_more : (c a b : Cause) (e : Error) → (a ≡ Some e → b ≡ Some e) → either c a ≡ Some e → either c b ≡ Some e
+pub either_more : (c a b : Cause) (e : Error) → (a ≡ Some e → b ≡ Some e) → either c a ≡ Some e → either c b ≡ Some e
 either_more (Some d) a b e more h = h
 either_more None a b e more h = more h
 

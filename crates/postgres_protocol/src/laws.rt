@@ -9,10 +9,14 @@ ghost use Rattle.postgres_protocol.specs.ClientRun.{ClientRun, MayCome, is_opene
 mod array;
 mod row;
 mod sasl;
+mod window;
 
 pub use array::{Step, bind_array, bind_one, bound_arrays_read_back};
 pub use row::row_int4;
 pub use sasl::{SaslRefusal, sasl_exchange};
+pub use window::{
+    arrays_that_fit_are_bound, piece_in_a_window, statement_in_a_window, what_fits_is_added,
+};
 
 /// A server that is told the kinds reads the bytes in one way.
 pub fn one_reading()
