@@ -4,8 +4,9 @@ use Rattle.std.specs.Prelude.{◌≡◌, ◌⊎◌, ℕ, ℤ, List, [], ◌∷�
 use Rattle.pgp_base.specs.declared.error.Error.{Error}
 use Rattle.std.specs.Borrow.{Bor}
 use Rattle.pgp_frontend.specs.ClientMessage.{ClientMessage, Bind, Parse, Startup}
-use Rattle.pgp_frontend.specs.Payload.{Part, Int32, Text, Int16s, Oids, Values, Pairs, part_cause, parts_cause, joined, cause, bytes_of, IsInRange}
-use Rattle.std.specs.Prelude.{pos, ◌<◌, length}
+use Rattle.pgp_frontend.specs.declared.startup.ProtocolVersion.{ProtocolVersion}
+use Rattle.pgp_frontend.specs.Payload.{Part, Int32, Text, Int16s, Oids, Values, Pairs, version_code, part_cause, parts_cause, joined, cause, bytes_of, IsInRange}
+use Rattle.std.specs.Prelude.{◌<◌, length}
 use Rattle.std.specs.List.{flat_map}
 use Rattle.std.specs.Prelude.{option_to_list}
 use Rattle.pgp_base.specs.Wire.{uint16, uint32, nullable, counted}
@@ -76,17 +77,17 @@ shown x = (x.0.now, x.1.now)
 abbrev pub shown_pairs : List (Bor (List ℕ) × Bor (List ℕ)) → Part
 shown_pairs xs = Pairs (map shown xs)
 
--- `startup_message` of the names and values that were given
-module _ (parameters : List (Bor (List ℕ) × Bor (List ℕ)) → Option (Bor (List ℕ) × Bor (List ℕ)) → Type 0) where
+-- `startup_message_version` of this version, and of the names and values that were given
+module _ (version : ProtocolVersion) (parameters : List (Bor (List ℕ) × Bor (List ℕ)) → Option (Bor (List ℕ) × Bor (List ℕ)) → Type 0) where
   abbrev pub StartupWhole : ClientMessage → Type 0
-  StartupWhole m = (xs : List (Bor (List ℕ) × Bor (List ℕ))) × parameters xs None × (m ≡ Startup (map shown xs))
+  StartupWhole m = (xs : List (Bor (List ℕ) × Bor (List ℕ))) × parameters xs None × (m ≡ Startup version (map shown xs))
 
   abbrev pub StartupReached : List Part → Type 0
-  StartupReached ps = (xs : List (Bor (List ℕ) × Bor (List ℕ))) × Begun parameters shown_pairs xs × (ps ≡ Int32 (pos 196608) ∷ shown_pairs xs ∷ [])
+  StartupReached ps = (xs : List (Bor (List ℕ) × Bor (List ℕ))) × Begun parameters shown_pairs xs × (ps ≡ Int32 (version_code version) ∷ shown_pairs xs ∷ [])
 
   -- the message of the names and values that came so far
   abbrev pub StartupSoFar : ClientMessage → Type 0
-  StartupSoFar m = (xs : List (Bor (List ℕ) × Bor (List ℕ))) × SoFar parameters xs × (m ≡ Startup (map shown xs))
+  StartupSoFar m = (xs : List (Bor (List ℕ) × Bor (List ℕ))) × SoFar parameters xs × (m ≡ Startup version (map shown xs))
 
   abbrev pub WritesStartup : {K : Type 0} → (Held K → ℕ → Type 0) → Held K → Held K → Result (Unit {0}) Error → Type 0
   WritesStartup lacks old new result = WritesGiven StartupWhole StartupReached (WantsMessage StartupSoFar lacks old) old new result
