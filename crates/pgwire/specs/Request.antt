@@ -12,7 +12,7 @@ asked variants.Sync = Sync
 asked variants.Terminate = Terminate
 asked (variants.Query text) = Query text.now
 asked (variants.Password text) = PasswordMessage text.now
-asked (variants.Startup list) = Startup (map shown list.items)
+asked (variants.Startup version list) = Startup version (map shown list.items)
 
 -- the part was added if it isn't empty; or it is no name and value
 abbrev pub AddsPart : List ℕ → List (List ℕ × List ℕ) → List (List ℕ × List ℕ) → Bool → Type 0

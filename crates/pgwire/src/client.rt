@@ -183,7 +183,7 @@ fn send_line<A: Memory, B: Buffer>(
 fn opens<A: Allocator>(request: &Request<'_, A>) -> bool
     ensures { result ≡ is_opening (asked request.now) }
 {
-    matches!(request, Request::Ssl | Request::Startup(_))
+    matches!(request, Request::Ssl | Request::Startup(..))
 }
 
 /// Sends the message that is asked for.
@@ -197,7 +197,9 @@ fn send<A: Allocator, B: Buffer>(
 {
     match request {
         Request::Ssl => stream.ssl_request(),
-        Request::Startup(list) => stream.startup_message(list.as_slice()),
+        Request::Startup(version, list) => {
+            stream.startup_message_version(*version, list.as_slice())
+        }
         Request::Query(text) => stream.query(text),
         Request::Password(text) => stream.password_message(text.as_bytes()),
         Request::Sync => stream.sync(),

@@ -4,6 +4,7 @@
 ghost use Rattle.std.specs.Prelude.{◌≡◌, ℕ, List, [], ◌∷◌, ◌++◌, None};
 ghost use Rattle.pgp_frontend.specs.ClientMessage.{ClientMessage, PasswordKind, Startup};
 ghost use Rattle.pgp_frontend.specs.Payload.{bytes_of, cause, IsInRange};
+ghost use Rattle.pgp_frontend.specs.declared.startup.ProtocolVersion.{ProtocolVersion};
 ghost use Rattle.postgres_protocol.specs.ClientRun.{ClientRun, MayCome, is_opened, kinds_of};
 
 mod array;
@@ -45,8 +46,8 @@ pub fn one_phase()
 
 /// No server reads a startup packet with an empty name, as it is written with the value `x`.
 pub fn no_empty_name()
-    ensures { (kinds : List PasswordKind) (messages : List ClientMessage) →
-        ClientRun kinds messages (bytes_of (Startup (([], 120 ∷ []) ∷ []))) → ⊥ }
+    ensures { (version : ProtocolVersion) (kinds : List PasswordKind) (messages : List ClientMessage) →
+        ClientRun kinds messages (bytes_of (Startup version (([], 120 ∷ []) ∷ []))) → ⊥ }
 {}
 
 /// Later bytes change nothing that was read.
