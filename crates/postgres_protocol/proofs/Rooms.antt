@@ -267,17 +267,17 @@ module _ (ds : List ArrayDimension) (type : ℕ) where
     wanted us less w = omega (arith, wants_window old _ w, binding_longer us vs less)
 
     -- the step that refuses stands at an element
-    at : (step : Step) (more : List Step) (us ws : List (Option (List ℕ))) (e : Error) → Give (step ∷ more) ws → RefusesAt (λ bytes. BindWants ds type window_lacks old (us ++ Some bytes ∷ [])) step e
+    step_at : (step : Step) (more : List Step) (us ws : List (Option (List ℕ))) (e : Error) → Give (step ∷ more) ws → RefusesAt (λ bytes. BindWants ds type window_lacks old (us ++ Some bytes ∷ [])) step e
         → (e ≡ OutOfMemory) × ((v : Option (List ℕ)) × (others : List (Option (List ℕ))) × (ws ≡ v ∷ others) × BindWants ds type window_lacks old (us ++ v ∷ []))
-    at (Append b) more us [] e g r = let h : Some (Some b.items) ∷ map gives more ≡ [] = g in absurd cc
-    at (Append b) more us (w ∷ ws) e g r =
+    step_at (Append b) more us [] e g r = let h : Some (Some b.items) ∷ map gives more ≡ [] = g in absurd cc
+    step_at (Append b) more us (w ∷ ws) e g r =
         let h : Some (Some b.items) ∷ map gives more ≡ Some w ∷ map (λ v. Some v) ws = g in
         let one : Some (Some b.items) ≡ Some w = cc in
         let is : Some b.items ≡ w = cc in
         (r.0, (Some b.items, ws, ap (λ w. w ∷ ws) (sym is), r.1))
-    at Null more us ws e g r = absurd r
-    at (Refuse d) more us [] e g r = let h : None ∷ map gives more ≡ [] = g in absurd cc
-    at (Refuse d) more us (w ∷ ws) e g r =
+    step_at Null more us ws e g r = absurd r
+    step_at (Refuse d) more us [] e g r = let h : None ∷ map gives more ≡ [] = g in absurd cc
+    step_at (Refuse d) more us (w ∷ ws) e g r =
         let h : None ∷ map gives more ≡ Some w ∷ map (λ v. Some v) ws = g in
         let none : None ≡ Some w = cc in
         absurd cc
@@ -285,7 +285,7 @@ module _ (ds : List ArrayDimension) (type : ℕ) where
     at_step : (e : Error) → StepRefuses ds type steps (BindWants ds type window_lacks old) e → (e ≡ OutOfMemory) × LacksRoom old m
     at_step e s =
         let k = front_given s.before (s.step ∷ s.more) s.vs vs s.give (subst (λ l. Give l vs) s.are give) in
-        let a = at s.step s.more s.vs k.0 e k.2 s.refuses in
+        let a = step_at s.step s.more s.vs k.0 e k.2 s.refuses in
         let whole : length (flat_map nullable vs) ≡ length (flat_map nullable s.vs) + length (flat_map nullable (a.1.0 ∷ a.1.1)) = ap (λ l. length (flat_map nullable l)) (k.1 ∙ ap (λ l. s.vs ++ l) a.1.2) ∙ front_length s.vs (a.1.0 ∷ a.1.1) in
         (a.0, wanted (s.vs ++ a.1.0 ∷ []) (omega (arith, whole, flat_more nullable s.vs a.1.0, length-append (nullable a.1.0) (flat_map nullable a.1.1))) a.1.3)
 
