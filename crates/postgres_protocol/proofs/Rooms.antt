@@ -1,16 +1,15 @@
 -- What a call comes to in a window, by the room that is left there.
 use Rattle.std.proofs.Common.{◌≡◌, ◌⊎◌, ℕ, ◌+◌, ◌*◌, ◌≤◌, Bool, true, false, List, [], ◌∷◌, ◌++◌, map, take, length, Option, Some, None, Result, Ok, Err, refl, sym, ap, subst, ◌∙◌, arith, inl, inr, length-append}
-use Rattle.std.specs.Prelude.{IfErr, nat_le, ◌==◌, if◌then◌else◌, pos}
+use Rattle.std.specs.Prelude.{nat_le, ◌==◌, if◌then◌else◌, pos}
 use Rattle.std.specs.List.{flat_map, list_any}
 use Rattle.std.specs.Borrow.{GName}
 use Rattle.std.specs.Option.{option_to_list}
-use Rattle.std.specs.Result.{IsOk, IsErr}
 use Rattle.std.proofs.lemmas.Bool.{leb-true, cases_Bool}
 use Rattle.std.proofs.lemmas.List.{map-append}
 use Rattle.std.proofs.lemmas.List.Concat.{flat_map-append}
 use Rattle.pgp_base.specs.Calls.{SoFar}
 use Rattle.pgp_base.specs.Wire.{nullable, counted, oid}
-use Rattle.pgp_base.specs.Cause.{Cause, either, first, text_cause, length_cause, count_cause, nullable_cause, counted_cause, Wants, WantsMemory}
+use Rattle.pgp_base.specs.Cause.{Cause, either, first, text_cause, length_cause, count_cause, nullable_cause, Wants}
 use Rattle.pgp_base.specs.Held.{Held, ◌⊕◌}
 use Rattle.pgp_base.specs.Window.{window_held, window_lacks}
 use Rattle.pgp_base.specs.declared.window.Window.{Window}
@@ -23,7 +22,7 @@ use Rattle.pgp_base.proofs.Fitting.{too_long}
 use Rattle.pgp_base.proofs.Needs.{wants_window, sized_length, flat_more, counted_length, nullable_least}
 use Rattle.pgp_base.proofs.Parts.{length-uint32, wants_more}
 use Rattle.pgp_frontend.specs.ClientMessage.{ClientMessage, Parse}
-use Rattle.pgp_frontend.specs.Payload.{Part, Byte, Int32, Text, Int16s, Oids, Values, Sized, Rest, Pairs, pair_cause, part_cause, parts, parts_cause, bytes_of, cause}
+use Rattle.pgp_frontend.specs.Payload.{Part, Byte, Int32, Text, Int16s, Oids, Values, Sized, Rest, Pairs, pair_cause, part_cause, parts, joined, parts_cause, bytes_of, cause}
 use Rattle.pgp_frontend.specs.Given.{Begun, ParseWhole, ParseReached, ParseSoFar}
 use Rattle.pgp_frontend.proofs.Needs.{parse_length, bind_length}
 use Rattle.pgp_types.specs.declared.array.ArrayDimension.{ArrayDimension}
@@ -83,35 +82,35 @@ never_part (Rest z) h = never_none h
 never_part (Pairs ps) h = never_first pair_cause (λ p. never_either (text_cause p.0) (text_cause p.1) (never_text p.0) (never_text p.1)) ps h
 
 never_memory : (m : ClientMessage) → cause m ≡ Some OutOfMemory → ⊥
-never_memory m h = never_either (parts_cause (parts m)) (length_cause _) (never_first part_cause never_part (parts m)) (never_length _) h
+never_memory m h = never_either (parts_cause (parts m)) (length_cause (length (joined (parts m)) + 4)) (never_first part_cause never_part (parts m)) (never_length (length (joined (parts m)) + 4)) h
 
 -- ---- one message
 
 same_refusal : {E : Type 0} (d e : E) → (let r : Result (Unit {0}) E = Err d in let s : Result (Unit {0}) E = Err e in r ≡ s) → d ≡ e
 same_refusal d e h = cc
 
-no_refusal : {E : Type 0} (e : E) → (let r : Result (Unit {0}) E = Ok tt in let s : Result (Unit {0}) E = Err e in r ≡ s) → ⊥
-no_refusal e h = cc
+no_refusal : {E : Type 0} (done : Unit {0}) (e : E) → (let r : Result (Unit {0}) E = Ok done in let s : Result (Unit {0}) E = Err e in r ≡ s) → ⊥
+no_refusal done e h = cc
 
 -- what stands in a window behind a message is within the caller's memory
 never_longer : (m : ClientMessage) (old new : Window) → window_held new ≡ window_held old ⊕ bytes_of m → LacksRoom (window_held old) m → ⊥
-never_longer m old new grown long = no_refusal OutOfMemory (too_long (bytes_of m) None old new (Ok tt) (refl, grown) refl long)
+never_longer m old new grown long = no_refusal tt OutOfMemory (too_long (bytes_of m) None old new (Ok tt) (refl, grown) refl long)
 
 module _ (m : ClientMessage) (old new : Sent Window) where
-  added_by_room : {E : Type 0} (wants : E) (n : ClientMessage) → n ≡ m → IsAdded window_held n old new → GoesByRoom m wants old new (Ok tt)
-  added_by_room wants n is added =
+  added_by_room : {E : Type 0} (done : Unit {0}) (wants : E) (n : ClientMessage) → n ≡ m → IsAdded window_held n old new → GoesByRoom m wants old new (Ok done)
+  added_by_room done wants n is added =
       let here : IsAdded window_held m old new = subst (λ k. IsAdded window_held k old new) is added in
       record {
         fits = λ none room. (refl, here);
         longer = λ none long. absurd (never_longer m old.buf new.buf here.appended long);
-        only = λ h. absurd (no_refusal wants h);
+        only = λ h. absurd (no_refusal done wants h);
       }
 
   never_fits : Wants window_lacks (window_held old.buf) (length (bytes_of m)) → HasRoom (window_held old.buf) m → ⊥
   never_fits wants room = let long = wants_window (window_held old.buf) _ wants in omega (arith, long, room)
 
   pub message_by_room : (r : Result (Unit {0}) Error) → AddsMessage window_held m window_lacks old new r → GoesByRoom m OutOfMemory old new r
-  message_by_room (Ok done) a = added_by_room OutOfMemory a.0 a.1 a.2
+  message_by_room (Ok done) a = added_by_room done OutOfMemory a.0 a.1 a.2
   message_by_room (Err e) a = record {
     fits = λ none room. elim a.0 [
       | inl memory ↦ absurd (never_fits memory.1 room)
@@ -129,7 +128,7 @@ module _ (m : ClientMessage) (old new : Sent Window) where
 
   pub piece_by_room : {T : Type 0} (piece : T) (r : Result (Unit {0}) T)
       → Adds window_held (λ n. n ≡ m) (λ back. (back ≡ piece) × Wants window_lacks (window_held old.buf) (length (bytes_of m))) old new r → GoesByRoom m piece old new r
-  piece_by_room piece (Ok done) a = added_by_room piece a.0 a.1 a.2
+  piece_by_room {T} piece (Ok done) a = added_by_room done piece a.0 a.1 a.2
   piece_by_room {T} piece (Err back) a = record {
     fits = λ none room. absurd (never_fits a.0.1 room);
     longer = λ none long. ap (λ (e : T). Err e) a.0.0;
@@ -137,6 +136,13 @@ module _ (m : ClientMessage) (old new : Sent Window) where
   }
 
 -- ---- a statement with a list of types
+
+last_cause : (c : Cause) (e : Error) → either c None ≡ Some e → c ≡ Some e
+last_cause (Some d) e h = h
+last_cause None e h = cc
+
+never_some : (e : Error) → (let c : Cause = None in c ≡ Some e) → ⊥
+never_some e h = cc
 
 -- a count past its field stays past it
 large_alone : (b : Bool) (e : Error) → (let c : Cause = if b then None else Some TooLarge in c ≡ Some e) → Some TooLarge ≡ Some e
@@ -161,7 +167,7 @@ module _ (name query : List ℕ) (all : List ℕ) where
   parse_longer ts few = omega (arith, few, parse_length name query ts, parse_length name query all, counted_length oid ts, counted_length oid all, oids_length ts, oids_length all)
 
   message_cause : (c d a b : Cause) (e : Error) → (a ≡ Some e → b ≡ Some e) → either c (either d (either a None)) ≡ Some e → either c (either d (either b None)) ≡ Some e
-  message_cause c d a b e more h = either_more c _ _ e (λ i. either_more d _ _ e (λ j. either_first b None e (more (last a e j))) i) h
+  message_cause c d a b e more h = either_more c (either d (either a None)) (either d (either b None)) e (λ i. either_more d (either a None) (either b None) e (λ j. either_first b None e (more (last_cause a e j))) i) h
 
   -- a cause of the parts is one of the message
   parts_first : (e : Error) → parts_cause (Text name ∷ Text query ∷ Oids all ∷ []) ≡ Some e → cause (Parse name query all) ≡ Some e
@@ -181,7 +187,9 @@ module _ (name query : List ℕ) (all : List ℕ) where
     few xs (inr asked) = asked_few asked.before asked.next xs asked.came asked.are
 
     reached : (ps : List Part) (e : Error) → ParseReached name query types ps → parts_cause ps ≡ Some e → cause (Parse name query all) ≡ Some e
-    reached ps e (inl texts) c = parts_first e (either_more (text_cause name) _ _ e (λ i. either_more (text_cause query) _ _ e (λ j. absurd (let k : None ≡ Some e = j in cc)) i) (ap parts_cause (sym texts) ∙ c))
+    reached ps e (inl texts) c =
+        let counts = either (count_cause (length all)) None in
+        parts_first e (either_more (text_cause name) (either (text_cause query) None) (either (text_cause query) counts) e (λ i. either_more (text_cause query) None counts e (λ j. absurd (never_some e j)) i) (ap parts_cause (sym texts) ∙ c))
     reached ps e (inr begun) c =
         let b = begun.1 in
         let less : length begun.0 ≤ length all = omega (arith, ap length b.are, front_few b.before b.last b.came) in
@@ -207,28 +215,36 @@ module _ (name query : List ℕ) (all : List ℕ) where
 -- the elements of the first steps are the first elements
 front_given : (before rest : List Step) (us vs : List (Option (List ℕ))) → Give before us → Give (before ++ rest) vs → (ws : List (Option (List ℕ))) × (vs ≡ us ++ ws) × Give rest ws
 front_given [] rest [] vs g h = (vs, refl, h)
-front_given [] rest (u ∷ us) vs g h = absurd cc
-front_given (s ∷ before) rest [] vs g h = absurd cc
-front_given (s ∷ before) rest (u ∷ us) [] g h = absurd cc
+front_given [] rest (u ∷ us) vs g h = let e : [] ≡ Some u ∷ map (λ v. Some v) us = g in absurd cc
+front_given (s ∷ before) rest [] vs g h = let e : gives s ∷ map gives before ≡ [] = g in absurd cc
+front_given (s ∷ before) rest (u ∷ us) [] g h = let e : gives s ∷ map gives (before ++ rest) ≡ [] = h in absurd cc
 front_given (s ∷ before) rest (u ∷ us) (v ∷ vs) g h =
+    let e : gives s ∷ map gives before ≡ Some u ∷ map (λ v. Some v) us = g in
+    let f : gives s ∷ map gives (before ++ rest) ≡ Some v ∷ map (λ v. Some v) vs = h in
     let one : gives s ≡ Some u = cc in
     let two : gives s ≡ Some v = cc in
+    let fore : map gives before ≡ map (λ v. Some v) us = cc in
+    let all : map gives (before ++ rest) ≡ map (λ v. Some v) vs = cc in
     let same : Some v ≡ Some u = sym two ∙ one in
     let is : v ≡ u = cc in
-    let fore : Give before us = cc in
-    let all : Give (before ++ rest) vs = cc in
     let k = front_given before rest us vs fore all in
-    (k.0, rw (is, k.1) refl, k.2)
+    (k.0, ap (λ x. x ∷ vs) is ∙ ap (λ l. u ∷ l) k.1, k.2)
 
 given_once : (us vs : List (Option (List ℕ))) → map (λ (v : Option (List ℕ)). Some v) us ≡ map (λ v. Some v) vs → us ≡ vs
 given_once [] [] h = refl
-given_once [] (v ∷ vs) h = absurd cc
-given_once (u ∷ us) [] h = absurd cc
+given_once [] (v ∷ vs) h = let e : [] ≡ Some v ∷ map (λ v. Some v) vs = h in absurd cc
+given_once (u ∷ us) [] h = let e : Some u ∷ map (λ v. Some v) us ≡ [] = h in absurd cc
 given_once (u ∷ us) (v ∷ vs) h =
+    let e : Some u ∷ map (λ v. Some v) us ≡ Some v ∷ map (λ v. Some v) vs = h in
     let here : Some u ≡ Some v = cc in
     let is : u ≡ v = cc in
-    let more : map (λ (v : Option (List ℕ)). Some v) us ≡ map (λ v. Some v) vs = cc in
-    rw (is, given_once us vs more) refl
+    let more : map (λ v. Some v) us ≡ map (λ v. Some v) vs = cc in
+    ap (λ x. x ∷ us) is ∙ ap (λ l. v ∷ l) (given_once us vs more)
+
+-- a null in the place of a step that comes next
+one_null : (s : Step) (more : List Step) → (let nulls : List (Option (List ℕ)) = map (λ step. None) (take 1 (s ∷ more)) in nulls ≡ None ∷ [])
+one_null s [] = refl
+one_null s (t ∷ more) = refl
 
 front_length : (us ws : List (Option (List ℕ))) → length (flat_map nullable (us ++ ws)) ≡ length (flat_map nullable us) + length (flat_map nullable ws)
 front_length us ws = ap length (flat_map-append nullable us ws) ∙ length-append (flat_map nullable us) (flat_map nullable ws)
@@ -251,26 +267,35 @@ module _ (ds : List ArrayDimension) (type : ℕ) where
     wanted us less w = omega (arith, wants_window old _ w, binding_longer us vs less)
 
     -- the step that refuses stands at an element
-    at : (step : Step) (more : List Step) (us ws : List (Option (List ℕ))) (e : Error) → Give (step ∷ more) ws → RefusesAt (λ bytes. BindWants ds type window_lacks old (us ++ Some bytes ∷ [])) step e
+    step_at : (step : Step) (more : List Step) (us ws : List (Option (List ℕ))) (e : Error) → Give (step ∷ more) ws → RefusesAt (λ bytes. BindWants ds type window_lacks old (us ++ Some bytes ∷ [])) step e
         → (e ≡ OutOfMemory) × ((v : Option (List ℕ)) × (others : List (Option (List ℕ))) × (ws ≡ v ∷ others) × BindWants ds type window_lacks old (us ++ v ∷ []))
-    at (Append b) more us [] e g r = absurd cc
-    at (Append b) more us (w ∷ ws) e g r = let one : Some (Some b.items) ≡ Some w = cc in let is : w ≡ Some b.items = cc in (r.0, (Some b.items, ws, ap (λ w. w ∷ ws) is, r.1))
-    at Null more us ws e g r = absurd r
-    at (Refuse d) more us [] e g r = absurd cc
-    at (Refuse d) more us (w ∷ ws) e g r = absurd cc
+    step_at (Append b) more us [] e g r = let h : Some (Some b.items) ∷ map gives more ≡ [] = g in absurd cc
+    step_at (Append b) more us (w ∷ ws) e g r =
+        let h : Some (Some b.items) ∷ map gives more ≡ Some w ∷ map (λ v. Some v) ws = g in
+        let one : Some (Some b.items) ≡ Some w = cc in
+        let is : Some b.items ≡ w = cc in
+        (r.0, (Some b.items, ws, ap (λ w. w ∷ ws) (sym is), r.1))
+    step_at Null more us ws e g r = absurd r
+    step_at (Refuse d) more us [] e g r = let h : None ∷ map gives more ≡ [] = g in absurd cc
+    step_at (Refuse d) more us (w ∷ ws) e g r =
+        let h : None ∷ map gives more ≡ Some w ∷ map (λ v. Some v) ws = g in
+        let none : None ≡ Some w = cc in
+        absurd cc
 
     at_step : (e : Error) → StepRefuses ds type steps (BindWants ds type window_lacks old) e → (e ≡ OutOfMemory) × LacksRoom old m
     at_step e s =
         let k = front_given s.before (s.step ∷ s.more) s.vs vs s.give (subst (λ l. Give l vs) s.are give) in
-        let a = at s.step s.more s.vs k.0 e k.2 s.refuses in
+        let a = step_at s.step s.more s.vs k.0 e k.2 s.refuses in
         let whole : length (flat_map nullable vs) ≡ length (flat_map nullable s.vs) + length (flat_map nullable (a.1.0 ∷ a.1.1)) = ap (λ l. length (flat_map nullable l)) (k.1 ∙ ap (λ l. s.vs ++ l) a.1.2) ∙ front_length s.vs (a.1.0 ∷ a.1.1) in
         (a.0, wanted (s.vs ++ a.1.0 ∷ []) (omega (arith, whole, flat_more nullable s.vs a.1.0, length-append (nullable a.1.0) (flat_map nullable a.1.1))) a.1.3)
 
     -- the place of an element's length is no longer than the element
     next_least : (more : List Step) (us ws : List (Option (List ℕ))) → Give more ws → length (flat_map nullable (us ++ map (λ step. None) (take 1 more))) ≤ length (flat_map nullable (us ++ ws))
     next_least [] us ws g = omega (arith, front_length us ws, front_length us [])
-    next_least (s ∷ more) us [] g = absurd cc
-    next_least (s ∷ more) us (w ∷ ws) g = omega (arith, flat_more nullable us None, front_length us (w ∷ ws), length-append (nullable w) (flat_map nullable ws), nullable_least w, null_length)
+    next_least (s ∷ more) us [] g = let h : gives s ∷ map gives more ≡ [] = g in absurd cc
+    next_least (s ∷ more) us (w ∷ ws) g =
+        let one = ap (λ l. length (flat_map nullable (us ++ l))) (one_null s more) in
+        omega (arith, one, flat_more nullable us None, front_length us (w ∷ ws), length-append (nullable w) (flat_map nullable ws), nullable_least w, null_length)
 
     at_elements : ElementsWant ds type steps (BindWants ds type window_lacks old) → LacksRoom old m
     at_elements w =

@@ -1,5 +1,5 @@
 -- Which messages fit in the room that a window on the caller's memory has left, and what a call comes to by that.
-use Rattle.std.specs.Prelude.{◌≡◌, ℕ, ◌+◌, ◌≤◌, List, length, Option, None, Result, Err, IfErr}
+use Rattle.std.specs.Prelude.{◌≡◌, ℕ, ◌+◌, ◌≤◌, length, None, Result, Err, IfErr}
 use Rattle.std.specs.Borrow.{GName}
 use Rattle.std.specs.Result.{IsOk, IsErr}
 use Rattle.pgp_base.specs.Held.{Held, ◌⊕◌}

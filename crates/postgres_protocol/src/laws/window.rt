@@ -2,6 +2,7 @@
 
 ghost use Rattle.std.specs.Prelude.{◌≡◌, ℕ, List, Option, None, Result, true};
 ghost use Rattle.pgp_base.specs.Window.{window_held, window_lacks};
+ghost use Rattle.pgp_base.specs.declared.error.BindError.{BindError};
 ghost use Rattle.pgp_base.specs.declared.window.Window.{Window};
 ghost use Rattle.pgp_frontend.specs.ClientMessage.{ClientMessage, CopyData as DataMessage, Parse};
 ghost use Rattle.pgp_frontend.specs.Payload.{cause};
@@ -59,7 +60,7 @@ pub fn statement_in_a_window<'a>(
 
 /// Steps that all give an element are bound by the room for the message of their array.
 pub fn arrays_that_fit_are_bound()
-    ensures { (dimensions : List ArrayDimension) (element_type : ℕ) (steps : List Step) (vs : List (Option (List ℕ))) (old new : Window) (result : _)
+    ensures { (dimensions : List ArrayDimension) (element_type : ℕ) (steps : List Step) (vs : List (Option (List ℕ))) (old new : Window) (result : Result (Unit {0}) (BindError (BindError Error)))
         → BindsArray dimensions element_type steps window_lacks (window_held old) (window_held new) result
         → Give steps vs → array_cause (array_of dimensions element_type vs) ≡ None → cause (binding dimensions element_type vs) ≡ None
         → BindsByRoom (binding dimensions element_type vs) (window_held old) (window_held new) result }
