@@ -1,7 +1,7 @@
 //! The packets that open a connection. They have no tag: a code stands behind their length.
 #![tactic(auto, using(pgp_base::proofs::Parts::held_steps))]
 
-ghost use Rattle.std.specs.Prelude.{◌≡◌, ℕ, List, None, OnOk, OnErr, IfErr};
+ghost use Rattle.std.specs.Prelude.{◌≡◌, ℕ, List, length, None, OnOk, OnErr, IfErr};
 ghost use Rattle.std.specs.Borrow.{Bor};
 ghost use Rattle.std.specs.Iterator.{IsFiniteIterable};
 ghost use Rattle.pgp_base.specs.Held.{◌⊕◌, IsFrontOf};
