@@ -264,7 +264,7 @@ module _ {F E B K : Type 0} (held : B → Held K) (step : F → ℕ → MutBor B
         null = v.0;
         bytes = v.1;
         put = v.3;
-        some = elim few_results rs.0 rs.1 [
+        some = elim (few_results rs.0 rs.1) [
           | inl none ↦ parts_are to k.0 k.2.0 (value_of v.0 v.1) e fs v.2 (ap (λ rs. parts_cause (parts (Bind to.portal to.statement k.0 k.2.0 rs))) (sym none) ∙ c')
           | inr all ↦ parts_first (one_bound to (value_of v.0 v.1)) e (ap (λ (m : ClientMessage). parts_cause (parts m)) (sym (same_bind to k.0 k.2.0 (value_of v.0 v.1) rs.0 fs v.2 all)) ∙ c')
         ];

@@ -7,14 +7,13 @@ use Rattle.std.specs.Option.{option_to_list}
 use Rattle.std.proofs.lemmas.Bool.{leb-true, cases_Bool}
 use Rattle.std.proofs.lemmas.List.{map-append}
 use Rattle.std.proofs.lemmas.List.Concat.{flat_map-append}
-use Rattle.pgp_base.specs.Calls.{SoFar}
 use Rattle.pgp_base.specs.Wire.{nullable, counted, oid}
 use Rattle.pgp_base.specs.Cause.{Cause, either, first, text_cause, length_cause, count_cause, nullable_cause, Wants}
 use Rattle.pgp_base.specs.Held.{Held, ◌⊕◌}
 use Rattle.pgp_base.specs.Window.{window_held, window_lacks}
 use Rattle.pgp_base.specs.declared.window.Window.{Window}
 use Rattle.pgp_base.specs.declared.error.Error.{Error}
-use Rattle.pgp_base.specs.declared.error.Error.TheVariants.{OutOfMemory, EmbeddedNull, TooLarge}
+use Rattle.pgp_base.specs.declared.error.Error.TheVariants.{OutOfMemory, EmbeddedNull, InvalidSize, TooLarge}
 use Rattle.pgp_base.specs.declared.error.BindError.{BindError}
 use Rattle.pgp_base.specs.declared.error.BindError.TheVariants.{Conversion, Serialization}
 use Rattle.pgp_base.proofs.Causes.{count_fits, either_left, either_right, either_none, either_first, first-append}
@@ -22,8 +21,8 @@ use Rattle.pgp_base.proofs.Fitting.{too_long}
 use Rattle.pgp_base.proofs.Needs.{wants_window, sized_length, flat_more, counted_length, nullable_least}
 use Rattle.pgp_base.proofs.Parts.{length-uint32, wants_more}
 use Rattle.pgp_frontend.specs.ClientMessage.{ClientMessage, Parse}
-use Rattle.pgp_frontend.specs.Payload.{Part, Byte, Int32, Text, Int16s, Oids, Values, Sized, Rest, Pairs, pair_cause, part_cause, parts, joined, parts_cause, bytes_of, cause}
-use Rattle.pgp_frontend.specs.Given.{Begun, ParseWhole, ParseReached, ParseSoFar}
+use Rattle.pgp_frontend.specs.Payload.{Part, Byte, Int32, Text, Int16s, Oids, Values, Sized, Rest, Key, Pairs, pair_cause, part_cause, parts, joined, parts_cause, bytes_of, cause}
+use Rattle.pgp_frontend.specs.Given.{Arrived, ParseWhole, ParseSoFar}
 use Rattle.pgp_frontend.proofs.Needs.{parse_length, bind_length}
 use Rattle.pgp_types.specs.declared.array.ArrayDimension.{ArrayDimension}
 use Rattle.pgp_types.specs.Array.{array_bytes, array_cause}
@@ -48,6 +47,11 @@ never_null false h = cc
 never_large : (b : Bool) → (let c : Cause = if b then None else Some TooLarge in c ≡ Some OutOfMemory) → ⊥
 never_large true h = cc
 never_large false h = cc
+
+never_size : (b d : Bool) → (let c : Cause = if b then (if d then None else Some InvalidSize) else Some InvalidSize in c ≡ Some OutOfMemory) → ⊥
+never_size true true h = cc
+never_size true false h = cc
+never_size false d h = cc
 
 never_either : (c d : Cause) → (c ≡ Some OutOfMemory → ⊥) → (d ≡ Some OutOfMemory → ⊥) → either c d ≡ Some OutOfMemory → ⊥
 never_either (Some e) d p q h = p h
@@ -79,6 +83,7 @@ never_part (Oids ns) h = never_count (length ns) h
 never_part (Values vs) h = never_either (first (map nullable_cause (take 65535 vs))) (count_cause (length vs)) (never_first nullable_cause never_value (take 65535 vs)) (never_count (length vs)) h
 never_part (Sized z) h = never_length (length z) h
 never_part (Rest z) h = never_none h
+never_part (Key z) h = never_size (nat_le 4 (length z)) (nat_le (length z) 256) h
 never_part (Pairs ps) h = never_first pair_cause (λ p. never_either (text_cause p.0) (text_cause p.1) (never_text p.0) (never_text p.1)) ps h
 
 never_memory : (m : ClientMessage) → cause m ≡ Some OutOfMemory → ⊥
@@ -182,30 +187,29 @@ module _ (name query : List ℕ) (all : List ℕ) where
     asked_few before None xs came are = omega (arith, ap length are, ap length (all_types before came), length-append before [])
     asked_few before (Some x) xs came are = omega (arith, ap length are, front_few before x came)
 
-    few : (xs : List ℕ) → SoFar types xs → length xs ≤ length all
+    few : (xs : List ℕ) → Arrived types Oids xs → length xs ≤ length all
     few xs (inl none) = omega (arith, ap length none)
-    few xs (inr asked) = asked_few asked.before asked.next xs asked.came asked.are
+    few xs (inr came) = asked_few came.before came.next xs came.came came.are
 
-    reached : (ps : List Part) (e : Error) → ParseReached name query types ps → parts_cause ps ≡ Some e → cause (Parse name query all) ≡ Some e
-    reached ps e (inl texts) c =
-        let counts = either (count_cause (length all)) None in
-        parts_first e (either_more (text_cause name) (either (text_cause query) None) (either (text_cause query) counts) e (λ i. either_more (text_cause query) None counts e (λ j. absurd (never_some e j)) i) (ap parts_cause (sym texts) ∙ c))
-    reached ps e (inr begun) c =
-        let b = begun.1 in
-        let less : length begun.0 ≤ length all = omega (arith, ap length b.are, front_few b.before b.last b.came) in
-        parts_first e (message_cause (text_cause name) (text_cause query) (count_cause (length begun.0)) (count_cause (length all)) e (count_more (length begun.0) (length all) e less) (ap parts_cause (sym begun.2) ∙ c))
+    -- a cause of those that came so far is one of all
+    so_far_cause : (m : ClientMessage) (e : Error) → ParseSoFar name query types m → parts_cause (parts m) ≡ Some e → cause (Parse name query all) ≡ Some e
+    so_far_cause m e s c =
+        parts_first e (message_cause (text_cause name) (text_cause query) (count_cause (length s.0)) (count_cause (length all)) e (count_more (length s.0) (length all) e (few s.0 s.1)) (ap (λ (m : ClientMessage). parts_cause (parts m)) (sym s.2) ∙ c))
 
     pub parse_adds : {B K : Type 0} (held : B → Held K) (lacks : Held K → ℕ → Type 0) (old new : Sent B) (r : Result (Unit {0}) Error)
-        → AddsGiven held (ParseWhole name query types) (ParseReached name query types) (ParseSoFar name query types) lacks old new r → AddsMessage held (Parse name query all) lacks old new r
+        → AddsGiven held (ParseWhole name query types) (ParseSoFar name query types) lacks old new r → AddsMessage held (Parse name query all) lacks old new r
     parse_adds held lacks old new (Ok done) a = (a.0, a.1.2 ∙ ap (λ ts. Parse name query ts) (all_types a.1.0 a.1.1), a.2)
     parse_adds held lacks old new (Err e) a = (
       elim a.0 [
-        | inl memory ↦
-            let so_far = memory.1.1 in
-            let size : length (bytes_of memory.1.0) ≡ length (bytes_of (Parse name query so_far.0)) = ap (λ m. length (bytes_of m)) so_far.2 in
-            inl (memory.0, wants_more (held old.buf) _ _ (omega (arith, size, parse_longer so_far.0 (few so_far.0 so_far.1))) memory.1.2)
-        | inr (inl r) ↦ inr (reached r.0 e r.1 r.2)
-        | inr (inr r) ↦ inr (ap (λ ts. cause (Parse name query ts)) (sym (all_types r.1.0 r.1.1)) ∙ (ap cause (sym r.1.2) ∙ r.2))
+        | inl k ↦
+            let so_far = k.1 in
+            elim k.2 [
+              | inl memory ↦
+                  let size : length (bytes_of k.0) ≡ length (bytes_of (Parse name query so_far.0)) = ap (λ m. length (bytes_of m)) so_far.2 in
+                  inl (memory.0, wants_more (held old.buf) _ _ (omega (arith, size, parse_longer so_far.0 (few so_far.0 so_far.1))) memory.1)
+              | inr c ↦ inr (so_far_cause k.0 e so_far c)
+            ]
+        | inr r ↦ inr (ap (λ ts. cause (Parse name query ts)) (sym (all_types r.1.0 r.1.1)) ∙ (ap cause (sym r.1.2) ∙ r.3))
       ],
       a.1,
     )
