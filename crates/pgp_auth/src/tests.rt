@@ -133,6 +133,8 @@ struct ToX {
 impl SaslPrep for ToX {
     ghost mapping = { λ _ _. Some (120 ∷ []) };
 
+    ghost Lacks = { ⊥ };
+
     fn prepare<A: Memory>(&self, alloc: A, _text: &str) -> Result<Option<String<A>>, Error> {
         self.asked.set(self.asked.get().saturating_add(1));
         Ok(Some(A::text_of(alloc, "x")?))

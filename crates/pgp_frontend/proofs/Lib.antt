@@ -2,6 +2,7 @@ pub mod BindLemmas
 pub mod Fields
 pub mod Fitting
 pub mod Frames
+pub mod Keys
 pub mod Needs
 pub mod PairLemmas
 pub mod Shapes

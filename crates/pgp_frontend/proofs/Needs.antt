@@ -1,6 +1,7 @@
 -- How many bytes messages take, and growths that were refused on the way.
-use Rattle.std.proofs.Common.{◌≡◌, ◌⊎◌, ℕ, ℤ, ◌+◌, ◌≤◌, List, [], ◌∷◌, ◌++◌, length, Option, Some, None, ap, ◌∙◌, arith, length-append, true, false}
-use Rattle.std.specs.Prelude.{pos}
+use Rattle.std.proofs.Common.{◌≡◌, ◌⊎◌, ℕ, ℤ, ◌+◌, ◌≤◌, List, [], ◌∷◌, ◌++◌, length, Option, Some, None, ap, ◌∙◌, arith, length-append, true, false, rules}
+use Rattle.std.specs.Prelude.{FitsSigned}
+use Rattle.std.specs.Int.{w32}
 use Rattle.std.proofs.lemmas.List.{append-nil}
 use Rattle.pgp_base.specs.Wire.{uint32, int16, int32, oid, nullable, counted}
 use Rattle.pgp_base.specs.Cause.{Wants}
@@ -8,7 +9,9 @@ use Rattle.pgp_base.specs.Held.{Held, ◌⊕◌}
 use Rattle.pgp_base.proofs.Needs.{flat_more}
 use Rattle.pgp_base.proofs.Parts.{length-uint16, length-uint32, int16_spelled, int32_spelled, wants_then, more_twice}
 use Rattle.pgp_frontend.specs.ClientMessage.{Bind, Parse, Startup}
-use Rattle.pgp_frontend.specs.Payload.{Part, Int32, Text, Int16s, Oids, Values, Pairs, spelling, joined, framed, bytes_of}
+use Rattle.pgp_frontend.specs.Payload.{Part, Int32, Text, Int16s, Oids, Values, Pairs, version_code, spelling, joined, framed, bytes_of}
+use Rattle.pgp_frontend.specs.declared.startup.ProtocolVersion.{ProtocolVersion}
+use Rattle.pgp_frontend.specs.declared.startup.ProtocolVersion.TheVariants.{V3_0, V3_2}
 
 -- Lengths.
 
@@ -38,12 +41,16 @@ bind_length portal statement fs vs rs =
     let t = tagged_length 66 (joined (Text portal ∷ Text statement ∷ Int16s fs ∷ Values vs ∷ Int16s rs ∷ [])) in
     omega (arith, t, e, f)
 
-pub startup_length : (ps : List (List ℕ × List ℕ)) → length (bytes_of (Startup ps)) ≡ 8 + length (spelling (Pairs ps))
-startup_length ps =
-    let e = joined_more (Int32 (pos 196608) ∷ []) (Pairs ps) in
-    let t = framed_length (joined (Int32 (pos 196608) ∷ Pairs ps ∷ [])) in
-    let i : length (joined (Int32 (pos 196608) ∷ [])) ≡ 4 = ap length (append-nil (int32 (pos 196608))) ∙ int32_length (pos 196608) in
+pub startup_length : (v : ProtocolVersion) (ps : List (List ℕ × List ℕ)) → length (bytes_of (Startup v ps)) ≡ 8 + length (spelling (Pairs ps))
+startup_length v ps =
+    let e = joined_more (Int32 (version_code v) ∷ []) (Pairs ps) in
+    let t = framed_length (joined (Int32 (version_code v) ∷ Pairs ps ∷ [])) in
+    let i : length (joined (Int32 (version_code v) ∷ [])) ≡ 4 = ap length (append-nil (int32 (version_code v))) ∙ int32_length (version_code v) in
     omega (arith, t, e, i)
+
+pub version_fits : (v : ProtocolVersion) → FitsSigned w32 (version_code v)
+version_fits V3_0 = search rules
+version_fits V3_2 = search rules
 
 -- Refusals.
 

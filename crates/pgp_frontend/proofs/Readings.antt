@@ -6,10 +6,12 @@ use Rattle.std.proofs.lemmas.List.{append-nil}
 use Rattle.pgp_base.specs.Wire.{int32, uint32, frame}
 use Rattle.pgp_base.specs.Cause.{length_cause}
 use Rattle.pgp_base.proofs.Causes.{either_left, either_right, fits_of}
-use Rattle.pgp_base.proofs.Prefixes.{fronts, uint32_begins}
+use Rattle.pgp_base.proofs.Prefixes.{fronts, uint32_begins, int32_begins}
 use Rattle.pgp_frontend.specs.ClientMessage.{ClientMessage, Bind, Close, CopyData, CopyDone, CopyFail, Describe, Execute, Flush, Parse, PasswordMessage, Query, SaslInitialResponse, SaslResponse, Sync, Terminate, Startup, CancelRequest, SslRequest, PasswordKind, Password, Initial, Response}
-use Rattle.pgp_frontend.specs.Payload.{Part, Byte, Int32, Text, Int16s, Oids, Values, Sized, Rest, Pairs, spelling, joined, parts, payload, tag_of, kind_of, framed, bytes_of, part_cause, parts_cause, EachInRange}
+use Rattle.pgp_frontend.specs.Payload.{Part, Byte, Int32, Text, Int16s, Oids, Values, Sized, Rest, Key, Pairs, version_code, spelling, joined, parts, payload, tag_of, kind_of, framed, bytes_of, part_cause, parts_cause, EachInRange}
 use Rattle.pgp_frontend.specs.Reading.{Shape, AByte, AnInt32, AText, SomeInt16s, SomeOids, SomeValues, ASized, AllBytes, shape, HasNames, HasSpelling, IsNamed, IsSpelled}
+use Rattle.pgp_frontend.specs.declared.startup.ProtocolVersion.{ProtocolVersion}
+use Rattle.pgp_frontend.specs.declared.startup.ProtocolVersion.TheVariants.{V3_0, V3_2}
 use Rattle.pgp_frontend.proofs.Shapes.{part_begins}
 
 abbrev pub EachHasSpelling : List Part → Type 0
@@ -41,7 +43,7 @@ each_named (SaslInitialResponse a b) n = (tt, (tt, tt))
 each_named (SaslResponse a) n = (tt, tt)
 each_named Sync n = tt
 each_named Terminate n = tt
-each_named (Startup ps) n = (tt, (n, tt))
+each_named (Startup v ps) n = (tt, (n, tt))
 each_named (CancelRequest a b) n = (tt, (tt, (tt, tt)))
 each_named SslRequest n = (tt, tt)
 
@@ -51,16 +53,22 @@ spelled_parts m h = each_spelled (parts m) (either_left (parts_cause (parts m)) 
 length_fits : (m : ClientMessage) → IsSpelled m → length (payload m) + 4 < 2 ^ 32
 length_fits m h = omega (arith, fits_of (length (payload m) + 4) (either_right (parts_cause (parts m)) (length_cause (length (payload m) + 4)) h.none))
 
--- all bytes that are left are only taken by the last part
+abbrev pub IsNoKey : Part → Type 0
+IsNoKey (Key z) = ⊥
+IsNoKey _ = Unit {0}
+
+-- all bytes that are left are only taken by the last part, and not as a key
 abbrev pub TakesAllLast : List Part → Type 0
 TakesAllLast [] = Unit {0}
-TakesAllLast (p ∷ []) = Unit {0}
+TakesAllLast (p ∷ []) = IsNoKey p
 TakesAllLast (p ∷ q ∷ ps) = (shape p ≢ AllBytes) × TakesAllLast (q ∷ ps)
 
-last_read : (p q : Part) → shape p ≡ shape q → HasSpelling p → HasSpelling q → spelling p ++ [] ≡ spelling q ++ [] → p ≡ q
-last_read (Rest m) (Rest n) s h k e = ap Rest (sym (append-nil m) ∙ (e ∙ append-nil n))
-last_read (Rest m) _ s h k e = cc
-last_read p q s h k e = (part_begins p q [] [] s (λ z. cc) h k e).0
+last_read : (p q : Part) → shape p ≡ shape q → IsNoKey p → IsNoKey q → HasSpelling p → HasSpelling q → spelling p ++ [] ≡ spelling q ++ [] → p ≡ q
+last_read (Rest m) (Rest n) s a b h k e = ap Rest (sym (append-nil m) ∙ (e ∙ append-nil n))
+last_read (Rest m) (Key n) s a b h k e = absurd b
+last_read (Rest m) _ s a b h k e = cc
+last_read (Key m) _ s a b h k e = absurd a
+last_read p q s a b h k e = (part_begins p q [] [] s (λ z. cc) h k e).0
 
 heads : (a b : Shape) (s t : List Shape) → a ∷ s ≡ b ∷ t → a ≡ b
 heads a b s t e = cc
@@ -71,16 +79,16 @@ tails a b s t e = cc
 cons : (p q : Part) (ps qs : List Part) → p ≡ q → ps ≡ qs → p ∷ ps ≡ q ∷ qs
 cons p q ps qs e f = rw (e, f) refl
 
-pub parts_read : (ps qs : List Part) → map shape ps ≡ map shape qs → TakesAllLast ps → EachHasSpelling ps → EachHasSpelling qs → joined ps ≡ joined qs → ps ≡ qs
-parts_read [] [] s r h k e = refl
-parts_read [] (q ∷ qs) s r h k e = cc
-parts_read (p ∷ ps) [] s r h k e = cc
-parts_read (p ∷ []) (q ∷ []) s r h k e = cons p q [] [] (last_read p q (heads (shape p) (shape q) [] [] s) h.0 k.0 e) refl
-parts_read (p ∷ []) (q ∷ q2 ∷ qs) s r h k e = cc
-parts_read (p ∷ p2 ∷ ps) (q ∷ []) s r h k e = cc
-parts_read (p ∷ p2 ∷ ps) (q ∷ q2 ∷ qs) s r h k e =
-    let t = part_begins p q (joined (p2 ∷ ps)) (joined (q2 ∷ qs)) (heads (shape p) (shape q) (map shape (p2 ∷ ps)) (map shape (q2 ∷ qs)) s) r.0 h.0 k.0 e in
-    cons p q (p2 ∷ ps) (q2 ∷ qs) t.0 (parts_read (p2 ∷ ps) (q2 ∷ qs) (tails (shape p) (shape q) (map shape (p2 ∷ ps)) (map shape (q2 ∷ qs)) s) r.1 h.1 k.1 t.1)
+pub parts_read : (ps qs : List Part) → map shape ps ≡ map shape qs → TakesAllLast ps → TakesAllLast qs → EachHasSpelling ps → EachHasSpelling qs → joined ps ≡ joined qs → ps ≡ qs
+parts_read [] [] s r t h k e = refl
+parts_read [] (q ∷ qs) s r t h k e = cc
+parts_read (p ∷ ps) [] s r t h k e = cc
+parts_read (p ∷ []) (q ∷ []) s r t h k e = cons p q [] [] (last_read p q (heads (shape p) (shape q) [] [] s) r t h.0 k.0 e) refl
+parts_read (p ∷ []) (q ∷ q2 ∷ qs) s r t h k e = cc
+parts_read (p ∷ p2 ∷ ps) (q ∷ []) s r t h k e = cc
+parts_read (p ∷ p2 ∷ ps) (q ∷ q2 ∷ qs) s r t h k e =
+    let both = part_begins p q (joined (p2 ∷ ps)) (joined (q2 ∷ qs)) (heads (shape p) (shape q) (map shape (p2 ∷ ps)) (map shape (q2 ∷ qs)) s) r.0 h.0 k.0 e in
+    cons p q (p2 ∷ ps) (q2 ∷ qs) both.0 (parts_read (p2 ∷ ps) (q2 ∷ qs) (tails (shape p) (shape q) (map shape (p2 ∷ ps)) (map shape (q2 ∷ qs)) s) r.1 t.1 h.1 k.1 both.1)
 
 -- The shapes that a tag and a kind stand for, and the message of such parts.
 
@@ -159,35 +167,35 @@ message_of (Some tag) (Some Response) ps = SaslResponse (text_of (part_at 0 ps))
 
 shapes_known : (m : ClientMessage) → tag_of m ≢ None → map shape (parts m) ≡ shapes_of (tag_of m) (kind_of m)
 unfolding shapes_of plain_shapes
-shapes_known (Startup ps) t = absurd (t refl)
+shapes_known (Startup v ps) t = absurd (t refl)
 shapes_known (CancelRequest a b) t = absurd (t refl)
 shapes_known SslRequest t = absurd (t refl)
 shapes_known _ t = refl
 
 message_known : (m : ClientMessage) → tag_of m ≢ None → message_of (tag_of m) (kind_of m) (parts m) ≡ m
 unfolding message_of plain_message part_at text_of byte_of int32_of int16s_of oids_of values_of
-message_known (Startup ps) t = absurd (t refl)
+message_known (Startup v ps) t = absurd (t refl)
 message_known (CancelRequest a b) t = absurd (t refl)
 message_known SslRequest t = absurd (t refl)
 message_known _ t = refl
 
-all_last : (m : ClientMessage) → TakesAllLast (parts m)
-all_last (Bind a b c d e) = (λ z. cc, (λ z. cc, (λ z. cc, (λ z. cc, tt))))
-all_last (Close a b) = (λ z. cc, tt)
-all_last (Describe a b) = (λ z. cc, tt)
-all_last (Execute a b) = (λ z. cc, tt)
-all_last (Parse a b c) = (λ z. cc, (λ z. cc, tt))
-all_last (SaslInitialResponse a b) = (λ z. cc, tt)
-all_last (Startup ps) = (λ z. cc, tt)
-all_last (CancelRequest a b) = (λ z. cc, (λ z. cc, tt))
-all_last _ = tt
+all_last : (m : ClientMessage) → tag_of m ≢ None → TakesAllLast (parts m)
+all_last (Bind a b c d e) t = (λ z. cc, (λ z. cc, (λ z. cc, (λ z. cc, tt))))
+all_last (Close a b) t = (λ z. cc, tt)
+all_last (Describe a b) t = (λ z. cc, tt)
+all_last (Execute a b) t = (λ z. cc, tt)
+all_last (Parse a b c) t = (λ z. cc, (λ z. cc, tt))
+all_last (SaslInitialResponse a b) t = (λ z. cc, tt)
+all_last (Startup v ps) t = absurd (t refl)
+all_last (CancelRequest a b) t = absurd (t refl)
+all_last _ t = tt
 
 -- the payload determines the message, under its tag and its kind
 pub payload_read : (m n : ClientMessage) → tag_of m ≢ None → tag_of m ≡ tag_of n → kind_of m ≡ kind_of n → IsSpelled m → IsSpelled n → payload m ≡ payload n → m ≡ n
 payload_read m n t e f h k p =
     let u : tag_of n ≢ None = λ z. t (e ∙ z) in
     let s = shapes_known m t ∙ (ap (λ tag. shapes_of tag (kind_of m)) e ∙ (ap (λ kind. shapes_of (tag_of n) kind) f ∙ sym (shapes_known n u))) in
-    let q = parts_read (parts m) (parts n) s (all_last m) (spelled_parts m h) (spelled_parts n k) p in
+    let q = parts_read (parts m) (parts n) s (all_last m t) (all_last n u) (spelled_parts m h) (spelled_parts n k) p in
     sym (message_known m t) ∙ (ap (λ tag. message_of tag (kind_of m) (parts m)) e ∙ (ap (λ kind. message_of (tag_of n) kind (parts m)) f ∙ (ap (λ ps. message_of (tag_of n) (kind_of n) ps) q ∙ message_known n u)))
 
 -- the length and the body of two packets
@@ -227,32 +235,52 @@ frame_read m n x y t u f h k e =
 fourth : (a b x y : List ℕ) → a ++ x ≡ b ++ y → slice_index (a ++ x) 3 ≡ slice_index (b ++ y) 3
 fourth a b x y e = ap (λ bytes. slice_index bytes 3) e
 
-startup_cancel : (x y : List ℕ) → int32 (pos 196608) ++ x ≡ int32 (pos 80877102) ++ y → ⊥
+two_versions : (x y : List ℕ) → int32 (pos 196608) ++ x ≡ int32 (pos 196610) ++ y → ⊥
 unfolding int32
-startup_cancel x y e = let h : 0 ≡ 46 = fourth (int32 (pos 196608)) (int32 (pos 80877102)) x y e in omega (arith, h)
+two_versions x y e = let h : 0 ≡ 2 = fourth (int32 (pos 196608)) (int32 (pos 196610)) x y e in omega (arith, h)
 
-startup_ssl : (x y : List ℕ) → int32 (pos 196608) ++ x ≡ int32 (pos 80877103) ++ y → ⊥
+startup_cancel : (v : ProtocolVersion) (x y : List ℕ) → int32 (version_code v) ++ x ≡ int32 (pos 80877102) ++ y → ⊥
 unfolding int32
-startup_ssl x y e = let h : 0 ≡ 47 = fourth (int32 (pos 196608)) (int32 (pos 80877103)) x y e in omega (arith, h)
+startup_cancel V3_0 x y e = let h : 0 ≡ 46 = fourth (int32 (pos 196608)) (int32 (pos 80877102)) x y e in omega (arith, h)
+startup_cancel V3_2 x y e = let h : 2 ≡ 46 = fourth (int32 (pos 196610)) (int32 (pos 80877102)) x y e in omega (arith, h)
+
+startup_ssl : (v : ProtocolVersion) (x y : List ℕ) → int32 (version_code v) ++ x ≡ int32 (pos 80877103) ++ y → ⊥
+unfolding int32
+startup_ssl V3_0 x y e = let h : 0 ≡ 47 = fourth (int32 (pos 196608)) (int32 (pos 80877103)) x y e in omega (arith, h)
+startup_ssl V3_2 x y e = let h : 2 ≡ 47 = fourth (int32 (pos 196610)) (int32 (pos 80877103)) x y e in omega (arith, h)
 
 cancel_ssl : (x y : List ℕ) → int32 (pos 80877102) ++ x ≡ int32 (pos 80877103) ++ y → ⊥
 unfolding int32
 cancel_ssl x y e = let h : 46 ≡ 47 = fourth (int32 (pos 80877102)) (int32 (pos 80877103)) x y e in omega (arith, h)
 
+-- the pairs behind one version's code
+same_version : (v : ProtocolVersion) (ps qs : List (List ℕ × List ℕ)) → IsSpelled (Startup v ps) → IsSpelled (Startup v qs) → payload (Startup v ps) ≡ payload (Startup v qs) → Startup v ps ≡ Startup v qs
+unfolding part_at pairs_of
+same_version v ps qs h k e =
+    let r = parts_read (parts (Startup v ps)) (parts (Startup v qs)) refl (λ z. cc, tt) (λ z. cc, tt) (spelled_parts (Startup v ps) h) (spelled_parts (Startup v qs) k) e in
+    ap (λ l. Startup v (pairs_of (part_at 1 l))) r
+
+-- the key is what is left, however long it is
+same_cancel : (a c : ℤ) (b d : List ℕ) → IsSpelled (CancelRequest a b) → IsSpelled (CancelRequest c d) → payload (CancelRequest a b) ≡ payload (CancelRequest c d) → CancelRequest a b ≡ CancelRequest c d
+same_cancel a c b d h k e =
+    let behind = (int32_begins (pos 80877102) (pos 80877102) _ _ h.in_range.0 k.in_range.0 e).1 in
+    let both = int32_begins a c _ _ h.in_range.1.0 k.in_range.1.0 behind in
+    let key : b ≡ d = sym (append-nil b) ∙ (both.1 ∙ append-nil d) in
+    ap (λ n. CancelRequest n b) both.0 ∙ ap (λ z. CancelRequest c z) key
+
 opening_payload : (m n : ClientMessage) → tag_of m ≡ None → tag_of n ≡ None → IsSpelled m → IsSpelled n → payload m ≡ payload n → m ≡ n
 unfolding part_at pairs_of int32_of
-opening_payload (Startup ps) (Startup qs) t u h k e =
-    let r = parts_read (parts (Startup ps)) (parts (Startup qs)) refl (all_last (Startup ps)) (spelled_parts (Startup ps) h) (spelled_parts (Startup qs) k) e in
-    ap (λ l. Startup (pairs_of (part_at 1 l))) r
-opening_payload (CancelRequest a b) (CancelRequest c d) t u h k e =
-    let r = parts_read (parts (CancelRequest a b)) (parts (CancelRequest c d)) refl (all_last (CancelRequest a b)) (spelled_parts (CancelRequest a b) h) (spelled_parts (CancelRequest c d) k) e in
-    ap (λ l. CancelRequest (int32_of (part_at 1 l)) (int32_of (part_at 2 l))) r
+opening_payload (Startup V3_0 ps) (Startup V3_0 qs) t u h k e = same_version V3_0 ps qs h k e
+opening_payload (Startup V3_2 ps) (Startup V3_2 qs) t u h k e = same_version V3_2 ps qs h k e
+opening_payload (Startup V3_0 ps) (Startup V3_2 qs) t u h k e = absurd (two_versions _ _ e)
+opening_payload (Startup V3_2 ps) (Startup V3_0 qs) t u h k e = absurd (two_versions _ _ (sym e))
+opening_payload (CancelRequest a b) (CancelRequest c d) t u h k e = same_cancel a c b d h k e
 opening_payload SslRequest SslRequest t u h k e = refl
-opening_payload (Startup ps) (CancelRequest c d) t u h k e = absurd (startup_cancel _ _ e)
-opening_payload (Startup ps) SslRequest t u h k e = absurd (startup_ssl _ _ e)
-opening_payload (CancelRequest a b) (Startup qs) t u h k e = absurd (startup_cancel _ _ (sym e))
+opening_payload (Startup v ps) (CancelRequest c d) t u h k e = absurd (startup_cancel v _ _ e)
+opening_payload (Startup v ps) SslRequest t u h k e = absurd (startup_ssl v _ _ e)
+opening_payload (CancelRequest a b) (Startup v qs) t u h k e = absurd (startup_cancel v _ _ (sym e))
 opening_payload (CancelRequest a b) SslRequest t u h k e = absurd (cancel_ssl _ _ e)
-opening_payload SslRequest (Startup qs) t u h k e = absurd (startup_ssl _ _ (sym e))
+opening_payload SslRequest (Startup v qs) t u h k e = absurd (startup_ssl v _ _ (sym e))
 opening_payload SslRequest (CancelRequest c d) t u h k e = absurd (cancel_ssl _ _ (sym e))
 opening_payload _ _ t u h k e = cc
 

@@ -8,7 +8,7 @@ use Rattle.pgp_base.specs.Wire.{int16, oid, text, nullable}
 use Rattle.pgp_base.specs.Cause.{text_cause, count_cause, nullable_cause, first}
 use Rattle.pgp_base.proofs.Causes.{either_left, either_right, counts_of}
 use Rattle.pgp_base.proofs.Prefixes.{int16_begins, int32_begins, uint32_begins, text_begins, nullable_begins, counted_begins}
-use Rattle.pgp_frontend.specs.Payload.{Part, Byte, Int32, Text, Int16s, Oids, Values, Sized, Rest, Pairs, spelling, part_cause, pair, pair_cause}
+use Rattle.pgp_frontend.specs.Payload.{Part, Byte, Int32, Text, Int16s, Oids, Values, Sized, Rest, Key, Pairs, spelling, part_cause, pair, pair_cause}
 use Rattle.pgp_frontend.specs.Reading.{AllBytes, shape, HasSpelling}
 
 -- each of what has no first cause has none
@@ -65,7 +65,8 @@ part_begins (Int16s m) (Int16s n) x y s r h k e = let t = counted_begins (FitsSi
 part_begins (Oids m) (Oids n) x y s r h k e = let t = counted_begins (λ n. n < 2 ^ 32) oid uint32_begins m n x y (h.in_range, h.none) (k.in_range, k.none) e in (ap Oids t.0, t.1)
 part_begins (Values m) (Values n) x y s r h k e = let t = counted_begins (λ v. nullable_cause v ≡ None) nullable nullable_begins m n x y (values_none m h.none) (values_none n k.none) e in (ap Values t.0, t.1)
 part_begins (Sized m) (Sized n) x y s r h k e = let t = nullable_begins (Some m) (Some n) x y h.none k.none e in (ap Sized cc, t.1)
-part_begins (Rest m) (Rest n) x y s r h k e = absurd (r refl)
+part_begins (Rest m) _ x y s r h k e = absurd (r refl)
+part_begins (Key m) _ x y s r h k e = absurd (r refl)
 part_begins (Pairs m) (Pairs n) x y s r h k e =
     let t = pairs_begin m n x y h.none k.none h.named k.named (sym (append_assoc (flat_map pair m) (0 ∷ []) x) ∙ (e ∙ append_assoc (flat_map pair n) (0 ∷ []) y)) in
     (ap Pairs t.0, t.1)

@@ -1,6 +1,7 @@
 -- The messages of a client.
 -- PostgreSQL manual, "Message Formats".
 use Rattle.std.specs.Prelude.{ℕ, ℤ, List, Option}
+use Rattle.pgp_frontend.specs.declared.startup.ProtocolVersion.{ProtocolVersion}
 
 -- A text is its bytes without the 0 byte behind it, a value its bytes, or none for a null.
 pub data ClientMessage : Type 0 where
@@ -21,8 +22,8 @@ pub data ClientMessage : Type 0 where
   Sync : ClientMessage
   Terminate : ClientMessage
   -- the opening packets
-  Startup : (parameters : List (List ℕ × List ℕ)) → ClientMessage
-  CancelRequest : (process_id secret_key : ℤ) → ClientMessage
+  Startup : (version : ProtocolVersion) (parameters : List (List ℕ × List ℕ)) → ClientMessage
+  CancelRequest : (process_id : ℤ) (secret_key : List ℕ) → ClientMessage
   SslRequest : ClientMessage
 
 -- The three messages of tag `p` aren't told apart by their bytes: the server knows which it expects.

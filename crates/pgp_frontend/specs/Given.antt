@@ -14,6 +14,7 @@ use Rattle.pgp_base.specs.declared.number.IsNull.TheVariants.{No}
 use Rattle.pgp_base.specs.declared.error.BindError.{BindError}
 use Rattle.pgp_base.specs.declared.error.BindError.TheVariants.{Conversion, Serialization}
 use Rattle.pgp_frontend.specs.ClientMessage.{ClientMessage, Bind, Parse, Startup}
+use Rattle.pgp_frontend.specs.declared.startup.ProtocolVersion.{ProtocolVersion}
 use Rattle.pgp_frontend.specs.Payload.{Part, Text, Int16s, Oids, Values, Pairs, parts, part_cause, parts_cause, joined, cause, bytes_of, IsInRange}
 use denote.Ref.{MutBor}
 
@@ -71,13 +72,13 @@ shown x = (x.0.now, x.1.now)
 abbrev pub shown_pairs : List (Bor (List ℕ) × Bor (List ℕ)) → Part
 shown_pairs xs = Pairs (map shown xs)
 
--- `startup_message` of the names and values that were given
-module _ (parameters : List (Bor (List ℕ) × Bor (List ℕ)) → Option (Bor (List ℕ) × Bor (List ℕ)) → Type 0) where
+-- `startup_message_version` of this version, and of the names and values that were given
+module _ (version : ProtocolVersion) (parameters : List (Bor (List ℕ) × Bor (List ℕ)) → Option (Bor (List ℕ) × Bor (List ℕ)) → Type 0) where
   abbrev pub StartupWhole : ClientMessage → Type 0
-  StartupWhole m = (xs : List (Bor (List ℕ) × Bor (List ℕ))) × parameters xs None × (m ≡ Startup (map shown xs))
+  StartupWhole m = (xs : List (Bor (List ℕ) × Bor (List ℕ))) × parameters xs None × (m ≡ Startup version (map shown xs))
 
   abbrev pub StartupSoFar : ClientMessage → Type 0
-  StartupSoFar m = (xs : List (Bor (List ℕ) × Bor (List ℕ))) × Arrived parameters shown_pairs xs × (m ≡ Startup (map shown xs))
+  StartupSoFar m = (xs : List (Bor (List ℕ) × Bor (List ℕ))) × Arrived parameters shown_pairs xs × (m ≡ Startup version (map shown xs))
 
   abbrev pub WritesStartup : {K : Type 0} → (Held K → ℕ → Type 0) → Held K → Held K → Result (Unit {0}) Error → Type 0
   WritesStartup lacks old new result = WritesGiven StartupWhole StartupSoFar lacks old new result

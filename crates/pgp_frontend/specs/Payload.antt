@@ -1,12 +1,15 @@
 -- What each message of a client is made of, and why it has no spelling.
 -- PostgreSQL manual, "Message Formats".
-use Rattle.std.specs.Prelude.{ℕ, ◌+◌, ◌^◌, ◌<◌, ℤ, pos, List, [], ◌∷◌, ◌++◌, length, map, Option, Some, None, Result, FitsSigned, All}
+use Rattle.std.specs.Prelude.{ℕ, ◌+◌, ◌^◌, ◌<◌, ℤ, pos, List, [], ◌∷◌, ◌++◌, length, map, Option, Some, None, Result, FitsSigned, All, nat_le, if◌then◌else◌}
 use Rattle.std.specs.List.{flat_map}
 use Rattle.std.specs.Int.{w16, w32}
 use Rattle.pgp_base.specs.Wire.{int16, int32, uint32, oid, text, counted, nullable, frame}
 use Rattle.pgp_base.specs.Cause.{Cause, either, first, text_cause, length_cause, count_cause, nullable_cause, counted_cause, Writes}
 use Rattle.pgp_base.specs.Held.{Held}
 use Rattle.pgp_base.specs.declared.error.Error.{Error}
+use Rattle.pgp_base.specs.declared.error.Error.TheVariants.{InvalidSize}
+use Rattle.pgp_frontend.specs.declared.startup.ProtocolVersion.{ProtocolVersion}
+use Rattle.pgp_frontend.specs.declared.startup.ProtocolVersion.TheVariants.{V3_0, V3_2}
 use Rattle.pgp_frontend.specs.ClientMessage.{ClientMessage, Bind, Close, CopyData, CopyDone, CopyFail, Describe, Execute, Flush, Parse, PasswordMessage, Query, SaslInitialResponse, SaslResponse, Sync, Terminate, Startup, CancelRequest, SslRequest, PasswordKind, Password, Initial, Response}
 
 -- The parts of messages.
@@ -22,6 +25,8 @@ pub data Part : Type 0 where
   Sized : List ℕ → Part
   -- all bytes that are left
   Rest : List ℕ → Part
+  -- the same, of a cancel request's key
+  Key : List ℕ → Part
   -- names and values, and a 0 byte behind them
   Pairs : List (List ℕ × List ℕ) → Part
 
@@ -37,10 +42,15 @@ spelling (Oids ns) = counted oid ns
 spelling (Values vs) = counted nullable vs
 spelling (Sized z) = nullable (Some z)
 spelling (Rest z) = z
+spelling (Key z) = z
 spelling (Pairs ps) = flat_map pair ps ++ 0 ∷ []
 
 abbrev pub pair_cause : List ℕ × List ℕ → Cause
 pair_cause p = either (text_cause p.0) (text_cause p.1)
+
+-- a key has 4 to 256 bytes, by this project's profile of protocol 3.2
+abbrev pub key_cause : ℕ → Cause
+key_cause n = if nat_le 4 n then (if nat_le n 256 then None else Some InvalidSize) else Some InvalidSize
 
 abbrev pub part_cause : Part → Cause
 part_cause (Byte n) = None
@@ -51,6 +61,7 @@ part_cause (Oids ns) = count_cause (length ns)
 part_cause (Values vs) = counted_cause nullable_cause vs
 part_cause (Sized z) = length_cause (length z)
 part_cause (Rest z) = None
+part_cause (Key z) = key_cause (length z)
 part_cause (Pairs ps) = first (map pair_cause ps)
 
 -- the numbers are in their fields' ranges
@@ -83,7 +94,7 @@ tag_of (SaslInitialResponse mechanism response) = Some 112
 tag_of (SaslResponse response) = Some 112
 tag_of Sync = Some 83
 tag_of Terminate = Some 88
-tag_of (Startup parameters) = None
+tag_of (Startup version parameters) = None
 tag_of (CancelRequest process_id secret_key) = None
 tag_of SslRequest = None
 
@@ -93,6 +104,11 @@ kind_of (PasswordMessage password) = Some Password
 kind_of (SaslInitialResponse mechanism response) = Some Initial
 kind_of (SaslResponse response) = Some Response
 kind_of _ = None
+
+-- the number of a version of the protocol; that of 3.2 is this project's profile
+abbrev pub version_code : ProtocolVersion → ℤ
+version_code V3_0 = pos 196608
+version_code V3_2 = pos 196610
 
 abbrev pub parts : ClientMessage → List Part
 parts (Bind portal statement formats values result_formats) = Text portal ∷ Text statement ∷ Int16s formats ∷ Values values ∷ Int16s result_formats ∷ []
@@ -110,9 +126,9 @@ parts (SaslInitialResponse mechanism response) = Text mechanism ∷ Sized respon
 parts (SaslResponse response) = Rest response ∷ []
 parts Sync = []
 parts Terminate = []
--- the codes: version 3.0, and what stands in the place of a version
-parts (Startup parameters) = Int32 (pos 196608) ∷ Pairs parameters ∷ []
-parts (CancelRequest process_id secret_key) = Int32 (pos 80877102) ∷ Int32 process_id ∷ Int32 secret_key ∷ []
+-- the codes: a version's number, and what stands in the place of one
+parts (Startup version parameters) = Int32 (version_code version) ∷ Pairs parameters ∷ []
+parts (CancelRequest process_id secret_key) = Int32 (pos 80877102) ∷ Int32 process_id ∷ Key secret_key ∷ []
 parts SslRequest = Int32 (pos 80877103) ∷ []
 
 -- these parts, one after another

@@ -1,7 +1,7 @@
 -- What a server that knows only the grammar makes of parts and payloads.
 use Rattle.std.specs.Prelude.{◌≡◌, ◌≢◌, [], None, All}
 use Rattle.pgp_frontend.specs.ClientMessage.{ClientMessage, Startup}
-use Rattle.pgp_frontend.specs.Payload.{Part, Byte, Int32, Text, Int16s, Oids, Values, Sized, Rest, Pairs, InRange, IsInRange, part_cause, cause}
+use Rattle.pgp_frontend.specs.Payload.{Part, Byte, Int32, Text, Int16s, Oids, Values, Sized, Rest, Key, Pairs, InRange, IsInRange, part_cause, cause}
 
 -- which part of the grammar it is, without what it holds
 pub data Shape : Type 0 where
@@ -24,6 +24,7 @@ shape (Oids ns) = SomeOids
 shape (Values vs) = SomeValues
 shape (Sized z) = ASized
 shape (Rest z) = AllBytes
+shape (Key z) = AllBytes
 shape (Pairs ps) = SomePairs
 
 -- in the grammar a name isn't empty, since a 0 byte ends the pairs
@@ -38,7 +39,7 @@ pub record HasSpelling (p : Part) : Type 0 where
   pub named : HasNames p
 
 abbrev pub IsNamed : ClientMessage → Type 0
-IsNamed (Startup parameters) = All (λ p. p.0 ≢ []) parameters
+IsNamed (Startup version parameters) = All (λ p. p.0 ≢ []) parameters
 IsNamed _ = Unit {0}
 
 -- the message has a spelling that the grammar reads

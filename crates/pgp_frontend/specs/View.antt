@@ -2,7 +2,7 @@
 use Rattle.std.specs.Prelude.{List, map}
 use Rattle.pgp_frontend.specs.declared.field.Field.{Field}
 use Rattle.pgp_frontend.specs.declared.field.Field.TheVariants as field
-use Rattle.pgp_frontend.specs.Payload.{Part, Byte, Int32, Text, Sized, Rest}
+use Rattle.pgp_frontend.specs.Payload.{Part, Byte, Int32, Text, Sized, Rest, Key}
 
 abbrev pub part_of : Field → Part
 part_of (field.Byte n) = Byte n
@@ -10,6 +10,7 @@ part_of (field.Int32 z) = Int32 z
 part_of (field.Text z) = Text z.now
 part_of (field.Sized z) = Sized z.now
 part_of (field.Rest z) = Rest z.now
+part_of (field.Key z) = Key z.now
 
 abbrev pub parts_of : List Field → List Part
 parts_of fields = map part_of fields

@@ -6,11 +6,17 @@ ghost use Rattle.std.specs.Prelude.{length};
 ghost use Rattle.pgp_base.specs.Wire.{int32, nullable};
 ghost use Rattle.pgp_base.specs.Cause.{length_cause, Wants, WantsMemory};
 ghost use Rattle.pgp_base.specs.Held.{◌⊕◌, IsFrontOf};
-ghost use Rattle.pgp_frontend.specs.Payload.{spelling, part_cause, joined, frame_cause, framed, WritesFrame};
+ghost use Rattle.pgp_frontend.specs.Payload.{spelling, key_cause, part_cause, joined, frame_cause, framed, WritesFrame};
 ghost use Rattle.pgp_frontend.specs.Putting.{PutsParts, PartsRefused};
 ghost use Rattle.pgp_frontend.specs.View.{part_of, parts_of};
 
 use pgp_base::{Buffer, Error, finish_body, length_field, put_u8, put_u32, write_cstr};
+
+/// The fewest bytes of a cancel request's key.
+const MIN_KEY: usize = 4;
+
+/// The most bytes of one.
+const MAX_KEY: usize = 256;
 
 /// A part of a message.
 #[derive(Clone, Copy)]
@@ -22,6 +28,8 @@ pub enum Field<'a> {
     Sized(&'a [u8]),
     /// All bytes that are left.
     Rest(&'a [u8]),
+    /// The same, of a cancel request's key.
+    Key(&'a [u8]),
 }
 
 // How much room the field takes, or less where that passes every number.
@@ -35,7 +43,7 @@ fn taken(field: &Field) -> usize
         Field::Int32(_) => 4,
         Field::Text(bytes) => bytes.len().saturating_add(1),
         Field::Sized(bytes) => bytes.len().saturating_add(4),
-        Field::Rest(bytes) => bytes.len(),
+        Field::Rest(bytes) | Field::Key(bytes) => bytes.len(),
     }
 }
 
@@ -81,6 +89,20 @@ fn put_sized<B: Buffer>(bytes: &[u8], buf: &mut B) -> Result<(), Error>
 // The hint carries the speed of short messages.
 #[inline(always)]
 #[tactic(auto, using(pgp_base::proofs::Parts::wants_now))]
+fn put_key<B: Buffer>(bytes: &[u8], buf: &mut B) -> Result<(), Error>
+    ensures ok { OnOk result ((key_cause (length bytes.now) ≡ None) × (B.held buf.new ≡ B.held buf.old ⊕ bytes.now)) }
+    ensures err { OnErr result (IsFrontOf (B.held buf.old) (B.held buf.new)) }
+    ensures cause { IfErr result (λ e. WantsMemory (Wants B.Lacks (B.held buf.old) (length bytes.now)) e ⊎ (key_cause (length bytes.now) ≡ Some e)) }
+{
+    if bytes.len() < MIN_KEY || bytes.len() > MAX_KEY {
+        return Err(Error::InvalidSize);
+    }
+    Ok(buf.append(bytes)?)
+}
+
+// The hint carries the speed of short messages.
+#[inline(always)]
+#[tactic(auto, using(pgp_base::proofs::Parts::wants_now))]
 fn put_field<B: Buffer>(field: &Field, buf: &mut B) -> Result<(), Error>
     ensures ok { OnOk result ((part_cause (part_of field.now) ≡ None) × (B.held buf.new ≡ B.held buf.old ⊕ spelling (part_of field.now))) }
     ensures err { OnErr result (IsFrontOf (B.held buf.old) (B.held buf.new)) }
@@ -92,6 +114,7 @@ fn put_field<B: Buffer>(field: &Field, buf: &mut B) -> Result<(), Error>
         Field::Text(bytes) => write_cstr(bytes, buf),
         Field::Sized(bytes) => put_sized(bytes, buf),
         Field::Rest(bytes) => Ok(buf.append(bytes)?),
+        Field::Key(bytes) => put_key(bytes, buf),
     }
 }
 

@@ -15,4 +15,7 @@ pub use authentication::{password_message, sasl_initial_response, sasl_response}
 pub use copy::{CopyData, copy_done, copy_fail};
 pub use extended::{bind, close, describe, execute, flush, parse, sync};
 pub use simple::{query, terminate};
-pub use startup::{cancel_request, ssl_request, startup_message};
+pub use startup::{
+    ProtocolVersion, cancel_request, cancel_request_key, ssl_request, startup_message,
+    startup_message_version,
+};

@@ -1,14 +1,16 @@
 //! The packets that open a connection. They have no tag: a code stands behind their length.
 #![tactic(auto, using(pgp_base::proofs::Parts::held_steps))]
 
-ghost use Rattle.std.specs.Prelude.{◌≡◌, ℕ, List, None, OnOk, OnErr, IfErr};
+ghost use Rattle.std.specs.Prelude.{◌≡◌, ℕ, List, length, None, OnOk, OnErr, IfErr};
 ghost use Rattle.std.specs.Borrow.{Bor};
 ghost use Rattle.std.specs.Iterator.{IsFiniteIterable};
 ghost use Rattle.pgp_base.specs.Held.{◌⊕◌, IsFrontOf};
+ghost use Rattle.pgp_base.specs.Cause.{Wants, WantsMemory};
+ghost use Rattle.pgp_base.specs.Wire.{int32};
 ghost use Rattle.pgp_base.specs.Calls.{Came};
 ghost use Rattle.pgp_frontend.specs.ClientMessage.{CancelRequest, SslRequest};
 ghost use Rattle.pgp_frontend.specs.Given.{Appended, Refused, WritesStartup, StartupWhole, StartupSoFar, shown_pairs};
-ghost use Rattle.pgp_frontend.specs.Payload.{spelling, part_cause, WritesMessage};
+ghost use Rattle.pgp_frontend.specs.Payload.{spelling, part_cause, version_code, WritesMessage};
 ghost use Rattle.pgp_frontend.specs.Putting.{ItemsRefused};
 
 use crate::field::{Field, packet, put_int32};
@@ -16,9 +18,21 @@ use pgp_base::{Buffer, Error, finish_body, put_u8, put_u32, write_cstr};
 
 const VERSION_3_0: i32 = 196_608;
 
+const VERSION_3_2: i32 = 196_610;
+
 const CANCEL_REQUEST: i32 = 80_877_102;
 
 const SSL_REQUEST: i32 = 80_877_103;
+
+/// A version of the protocol that a startup packet asks for. 3.2 is this project's profile of protocol 3.2; nothing is claimed
+/// of a server's 3.2.
+#[derive(Debug, Clone, Copy, PartialEq, Eq)]
+pub enum ProtocolVersion {
+    /// Number 196608.
+    V3_0,
+    /// Number 196610.
+    V3_2,
+}
 
 /// Asks for the end of what another session runs, by the numbers of its BackendKeyData.
 ///
@@ -26,13 +40,29 @@ const SSL_REQUEST: i32 = 80_877_103;
 ///
 /// `OutOfMemory` where a growth was refused. The buffer keeps its bytes.
 pub fn cancel_request<B: Buffer>(process_id: i32, secret_key: i32, buf: &mut B) -> Result<(), Error>
-    ensures { WritesMessage (CancelRequest process_id secret_key) B.Lacks (B.held buf.old) (B.held buf.new) result }
+    ensures { WritesMessage (CancelRequest process_id (int32 secret_key)) B.Lacks (B.held buf.old) (B.held buf.new) result }
+{
+    cancel_request_key(process_id, &secret_key.to_be_bytes(), buf)
+}
+
+/// Asks for the end of what another session runs, by the number and the key of its BackendKeyData. Keys that haven't four
+/// bytes belong to this project's profile of protocol 3.2; nothing is claimed of a server's 3.2.
+///
+/// # Errors
+///
+/// `InvalidSize` unless the key has 4 to 256 bytes, and `OutOfMemory` where a growth was refused. The buffer keeps its bytes.
+pub fn cancel_request_key<B: Buffer>(
+    process_id: i32,
+    secret_key: &[u8],
+    buf: &mut B,
+) -> Result<(), Error>
+    ensures { WritesMessage (CancelRequest process_id secret_key.now) B.Lacks (B.held buf.old) (B.held buf.new) result }
 {
     packet(
         &[
             Field::Int32(CANCEL_REQUEST),
             Field::Int32(process_id),
-            Field::Int32(secret_key),
+            Field::Key(secret_key),
         ],
         buf,
     )
@@ -69,8 +99,21 @@ where
     put_u8(buf, 0)
 }
 
+// The version's number.
+fn put_version<B: Buffer>(version: ProtocolVersion, buf: &mut B) -> Result<(), Error>
+    ensures ok { OnOk result (B.held buf.new ≡ B.held buf.old ⊕ int32 (version_code version)) }
+    ensures err { OnErr result (B.held buf.new ≡ B.held buf.old) }
+    ensures cause { IfErr result (WantsMemory (Wants B.Lacks (B.held buf.old) (length (int32 (version_code version))))) }
+{
+    match version {
+        ProtocolVersion::V3_0 => put_int32(VERSION_3_0, buf),
+        ProtocolVersion::V3_2 => put_int32(VERSION_3_2, buf),
+    }
+}
+
 // The packet. A refusal leaves what stood there as a front.
 fn fill_startup<'a, B: Buffer, I: IntoIterator<Item = (&'a str, &'a str)> + Drop>(
+    version: ProtocolVersion,
     parameters: I,
     buf: &mut B,
 ) -> Result<(), Error>
@@ -78,17 +121,17 @@ where
     I::IntoIter: Drop,
     requires { IsFiniteIterable I.into_iter_gives I.IntoIter.can_next I.IntoIter.remaining parameters }
     ensures ok { OnOk result (Appended
-        (StartupWhole (Came I.into_iter_gives I.IntoIter.next_gives parameters))
+        (StartupWhole version (Came I.into_iter_gives I.IntoIter.next_gives parameters))
         (B.held buf.old) (B.held buf.new)) }
     ensures err { OnErr result (IsFrontOf (B.held buf.old) (B.held buf.new)) }
     ensures cause { IfErr result (Refused
-        (StartupWhole (Came I.into_iter_gives I.IntoIter.next_gives parameters))
-        (StartupSoFar (Came I.into_iter_gives I.IntoIter.next_gives parameters))
+        (StartupWhole version (Came I.into_iter_gives I.IntoIter.next_gives parameters))
+        (StartupSoFar version (Came I.into_iter_gives I.IntoIter.next_gives parameters))
         B.Lacks (B.held buf.old)) }
 {
     let base = buf.len();
     put_u32(buf, 0)?;
-    put_int32(VERSION_3_0, buf)?;
+    put_version(version, buf)?;
     put_pairs(parameters, buf)?;
     finish_body(buf, base)?;
     Ok(())
@@ -108,12 +151,38 @@ pub fn startup_message<'a, B: Buffer, I: IntoIterator<Item = (&'a str, &'a str)>
 where
     I::IntoIter: Drop,
     requires { IsFiniteIterable I.into_iter_gives I.IntoIter.can_next I.IntoIter.remaining parameters }
-    ensures { WritesStartup
+    ensures { WritesStartup ProtocolVersion.V3_0
+        (Came I.into_iter_gives I.IntoIter.next_gives parameters)
+        B.Lacks (B.held buf.old) (B.held buf.new) result }
+{
+    startup_message_version(ProtocolVersion::V3_0, parameters, buf)
+}
+
+/// Opens a session of this version with these names and values, among them `user`. A server reads no
+/// name that is empty, but one is written as any other.
+///
+/// # Errors
+///
+/// `EmbeddedNull` where a name or a value has a 0 byte, `TooLarge` where the message passes the greatest `i32`, and
+/// `OutOfMemory` where a growth was refused. The buffer keeps its bytes.
+pub fn startup_message_version<
+    'a,
+    B: Buffer,
+    I: IntoIterator<Item = (&'a str, &'a str)> + Drop,
+>(
+    version: ProtocolVersion,
+    parameters: I,
+    buf: &mut B,
+) -> Result<(), Error>
+where
+    I::IntoIter: Drop,
+    requires { IsFiniteIterable I.into_iter_gives I.IntoIter.can_next I.IntoIter.remaining parameters }
+    ensures { WritesStartup version
         (Came I.into_iter_gives I.IntoIter.next_gives parameters)
         B.Lacks (B.held buf.old) (B.held buf.new) result }
 {
     let start = buf.len();
-    match fill_startup(parameters, buf) {
+    match fill_startup(version, parameters, buf) {
         Ok(()) => Ok(()),
         Err(e) => {
             buf.truncate(start);

@@ -8,7 +8,8 @@ use Rattle.std.proofs.lemmas.List.Concat.{flat_map-cons}
 use Rattle.pgp_base.specs.Wire.{IsBytes}
 use Rattle.pgp_base.specs.declared.error.Error.{Error}
 use Rattle.pgp_message.specs.BackendMessage.{Message}
-use Rattle.pgp_message.specs.Found.{Found, FindsFrames, FindsAll, AreFrames, TakesOnto, TakesEach, TakesSome}
+use Rattle.pgp_message.specs.Found.{Found, FindsFrames, FindsAll, AreFrames, TakesEach, TakesSome}
+use Rattle.pgp_message.specs.FrameSteps.{TakesOnto}
 use Rattle.pgp_message.specs.FrontReading.{Front, IsFront, announced, front_frame}
 use Rattle.pgp_message.specs.Reading.{body_of}
 use Rattle.pgp_message.specs.Remembered.{Memory, header_of, count_of}

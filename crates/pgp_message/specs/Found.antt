@@ -1,10 +1,10 @@
 -- Whole frames that are found at the front of bytes, and then read where they stand.
-use Rattle.std.specs.Prelude.{◌≡◌, ℕ, ◌+◌, ◌-◌, ◌^◌, ◌<◌, ◌≤◌, min, Bool, List, ◌∷◌, [], ◌++◌, length, take, drop, Result}
+use Rattle.std.specs.Prelude.{◌≡◌, ℕ, ◌+◌, ◌-◌, ◌^◌, ◌<◌, ◌≤◌, min, Bool, List, [], ◌++◌, length, take, drop, Result}
 use Rattle.std.specs.List.{flat_map, AllByRecursion}
 use Rattle.pgp_base.specs.declared.error.Error.{Error}
 use Rattle.pgp_message.specs.BackendMessage.{Message}
 use Rattle.pgp_message.specs.Remembered.{Memory, header_of, count_of}
-use Rattle.pgp_message.specs.Stream.{Frame, frame_bytes, IsFrame, IsEnding, Frames, TakesFrame}
+use Rattle.pgp_message.specs.Stream.{Frame, frame_bytes, IsFrame, IsEnding, Frames}
 
 -- How many bytes whole frames take, how many they are, and whether a length fault stands behind them.
 pub record Found : Type 0 where
@@ -33,12 +33,6 @@ pub record FindsAll (bytes : List ℕ) (old new : Memory) (found : Found) : Type
   pub read : ℕ
   pub one_each : count_of old.header + read ≡ found.count + count_of new.header
   pub counted : old.headers < 2 ^ 64 → new.headers ≡ min (old.headers + read) (2 ^ 64 - 1)
-
--- a frame was read, and its result joined the list
-pub record TakesOnto (old new : List ℕ) (before after : List (Result Message Error)) : Type 0 where
-  pub result : Result Message Error
-  pub takes : TakesFrame old result new
-  pub grown : after ≡ before ++ result ∷ []
 
 -- so many frames were all of the bytes, and their results joined the list
 pub record TakesEach (bytes : List ℕ) (n : ℕ) (before after : List (Result Message Error)) : Type 0 where

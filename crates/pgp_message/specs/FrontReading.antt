@@ -1,4 +1,4 @@
--- The front of the bytes as the code reads it. What stands there in the grammar's terms is `Stream`.
+-- Private: the front of the bytes as the code reads it. What stands there in the grammar's terms is `Stream`.
 use Rattle.std.specs.Prelude.{◌≡◌, ℕ, ◌≤◌, List, ◌++◌, length, take, drop, Option, Some, None, Result, Ok, Err}
 use Rattle.std.specs.Int.{w32, from_be_bytes}
 use Rattle.pgp_base.specs.declared.error.Error.{Error}

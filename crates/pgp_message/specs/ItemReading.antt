@@ -1,4 +1,4 @@
--- Reading an item from the left, as the code does it. What it answers is what the item's grammar says.
+-- Private: reading an item from the left, as the code does it. What it answers is what the item's grammar says.
 use Rattle.std.specs.Prelude.{ℕ, ℤ, pos, negsuc, ◌+◌, List, [], ◌∷◌, length, drop, Option, Some, None, Result, Ok, Err, nat_lt, if◌then◌else◌}
 use Rattle.std.specs.declared.ops.Range.{Range}
 use Rattle.pgp_base.specs.declared.error.Error.{Error}

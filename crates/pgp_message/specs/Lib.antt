@@ -10,3 +10,4 @@ pub mod Views
 pub mod Reading
 pub mod ItemReading
 pub mod FrontReading
+pub mod FrameSteps

@@ -1,4 +1,4 @@
--- Reading a body from the left, as the code does it. What it answers is the one result that `Body` allows.
+-- Private: reading a body from the left, as the code does it. What it answers is the one result that `Body` allows.
 use Rattle.std.specs.Prelude.{ℕ, List, [], ◌∷◌, Result, Ok, Err, ◌==◌, if◌then◌else◌}
 use Rattle.std.specs.Int.{w32, cast_signed}
 use Rattle.pgp_base.specs.declared.error.Error.{Error}

@@ -1,7 +1,8 @@
 //! How whole frames are read where they stand in shared bytes.
 
 ghost use Rattle.std.specs.Prelude.{◌≡◌, ◌<◌, ◌≤◌, drop, length, map, IfOk, OnOk, OnErr, vec_len, vec_capacity};
-ghost use Rattle.pgp_message.specs.Found.{AreFrames, TakesOnto, TakesEach, TakesSome};
+ghost use Rattle.pgp_message.specs.Found.{AreFrames, TakesEach, TakesSome};
+ghost use Rattle.pgp_message.specs.FrameSteps.{TakesOnto};
 ghost use Rattle.pgp_message.specs.FrontReading.{IsFront};
 ghost use Rattle.pgp_message.specs.Stream.{BeginsWithFrame};
 ghost use Rattle.pgp_message.specs.Views.{seen};

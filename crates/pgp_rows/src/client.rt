@@ -7,9 +7,9 @@ use crate::shown::Shown;
 use crate::word::{Word, Words};
 use pgp_base::{Buffer, Error, IsNull};
 use pgp_frontend::{
-    CopyData, bind, cancel_request, close, copy_done, copy_fail, describe, execute, flush, parse,
-    password_message, query, sasl_initial_response, sasl_response, ssl_request, startup_message,
-    sync, terminate,
+    CopyData, ProtocolVersion, bind, cancel_request, cancel_request_key, close, copy_done,
+    copy_fail, describe, execute, flush, parse, password_message, query, sasl_initial_response,
+    sasl_response, ssl_request, startup_message, startup_message_version, sync, terminate,
 };
 use std::alloc::{AllocError, Global};
 use std::num::ParseIntError;
@@ -47,6 +47,32 @@ fn write_startup<B: Buffer>(
 ) -> Result<(), Fault> {
     let parameters = parameters(alloc, words.list()?)?;
     done(startup_message(parameters.iter().copied(), buf))
+}
+
+/// The version of a word, as `3.2`.
+fn version(words: &mut Words<'_>) -> Result<ProtocolVersion, Fault> {
+    let word = words.word()?;
+    if word.is("3.0") {
+        Ok(ProtocolVersion::V3_0)
+    } else if word.is("3.2") {
+        Ok(ProtocolVersion::V3_2)
+    } else {
+        Err(Fault::Row)
+    }
+}
+
+fn write_startup_version<B: Buffer>(
+    alloc: Global,
+    words: &mut Words<'_>,
+    buf: &mut B,
+) -> Result<(), Fault> {
+    let version = version(words)?;
+    let parameters = parameters(alloc, words.list()?)?;
+    done(startup_message_version(
+        version,
+        parameters.iter().copied(),
+        buf,
+    ))
 }
 
 fn write_parse<B: Buffer>(alloc: Global, words: &mut Words<'_>, buf: &mut B) -> Result<(), Fault> {
@@ -116,6 +142,11 @@ fn write_cancel<B: Buffer>(words: &mut Words<'_>, buf: &mut B) -> Result<(), Fau
     done(cancel_request(process_id, words.number()?, buf))
 }
 
+fn write_cancel_key<B: Buffer>(words: &mut Words<'_>, buf: &mut B) -> Result<(), Fault> {
+    let process_id = words.number()?;
+    done(cancel_request_key(process_id, words.bytes()?, buf))
+}
+
 fn write_sasl<B: Buffer>(words: &mut Words<'_>, buf: &mut B) -> Result<(), Fault> {
     let mechanism = words.text()?;
     done(sasl_initial_response(mechanism, words.bytes()?, buf))
@@ -148,10 +179,12 @@ fn write_login<B: Buffer>(
 ) -> Result<(), Fault> {
     match name {
         "cancel_request" => write_cancel(words, buf),
+        "cancel_request_key" => write_cancel_key(words, buf),
         "password_message" => done(password_message(words.bytes()?, buf)),
         "sasl_initial_response" => write_sasl(words, buf),
         "sasl_response" => done(sasl_response(words.bytes()?, buf)),
         "startup_message" => write_startup(alloc, words, buf),
+        "startup_message_version" => write_startup_version(alloc, words, buf),
         _ => write_query(alloc, name, words, buf),
     }
 }

@@ -24,6 +24,8 @@ struct ToX;
 impl SaslPrep for ToX {
     ghost mapping = { λ _ _. Some (120 ∷ []) };
 
+    ghost Lacks = { ⊥ };
+
     fn prepare<A: Memory>(&self, alloc: A, _text: &str) -> Result<Option<String<A>>, Error> {
         Ok(Some(A::text_of(alloc, "x")?))
     }
@@ -34,6 +36,8 @@ struct NoMemory;
 
 impl SaslPrep for NoMemory {
     ghost mapping = { λ _ _. Some (120 ∷ []) };
+
+    ghost Lacks = { ⊥ };
 
     fn prepare<A: Memory>(&self, alloc: A, _text: &str) -> Result<Option<String<A>>, Error> {
         A::text_with_capacity(alloc, usize::MAX)?;

@@ -8,8 +8,9 @@ use pgp_base::{
     write_nullable,
 };
 use pgp_frontend::{
-    CopyData, bind, cancel_request, close, copy_done, copy_fail, describe, execute, flush, parse,
-    password_message, query, sasl_initial_response, sasl_response, ssl_request, startup_message,
+    CopyData, ProtocolVersion, bind, cancel_request, cancel_request_key, close, copy_done,
+    copy_fail, describe, execute, flush, parse, password_message, query, sasl_initial_response,
+    sasl_response, ssl_request, startup_message, startup_message_version,
     sync, terminate,
 };
 use pgp_test_alloc::Refusing;
@@ -18,7 +19,7 @@ use std::test::Fail;
 
 const SYNC: &[u8; 5] = b"S\0\0\0\x04";
 
-const WRITERS: u32 = 22;
+const WRITERS: u32 = 24;
 
 // The refusal of a writer over closures; the closures here only run out of memory.
 fn plain(answer: Result<(), BindError<Error>>) -> Result<(), Error> {
@@ -82,6 +83,8 @@ fn write<B: Buffer>(number: u32, buf: &mut B) -> Result<(), Error> {
         15 => sync(buf),
         16 => terminate(buf),
         17 => copy_data(buf),
+        22 => startup_message_version(ProtocolVersion::V3_2, Some(("user", "alice")), buf),
+        23 => cancel_request_key(1, b"a longer key", buf),
         18 => write_cstr(b"text", buf),
         19 => plain(write_body(buf, |buf: &mut B| put_u8(buf, b'a'))),
         20 => plain(write_nullable(

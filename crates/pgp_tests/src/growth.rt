@@ -66,8 +66,8 @@ fn parser_that_is_not_taken_from_grows(rt: HostRuntime) -> Result<(), Fail> {
 /// How many bytes the long stream has at least.
 const LONG: usize = 10_000_000;
 
-/// The heap of its parser: a frame whose message isn't taken yet, room for the next one, a piece, and gaps between them.
-const LONG_HEAP: usize = 98_304;
+/// The heap of its parser: a frame whose message isn't taken yet, what came of the next one, a piece, and gaps between them.
+const LONG_HEAP: usize = 65_536;
 
 /// The longest piece of a copy. With its tag and length it is a frame of 32 KiB.
 const MOST: usize = 32_763;
@@ -173,7 +173,7 @@ fn add_in_pieces(
     Ok(())
 }
 
-/// Ten megabytes of frames of up to 32 KiB, over a heap of 96 KiB: the same comes as from all of it in place.
+/// Ten megabytes of frames of up to 32 KiB, over a heap of 64 KiB: the same comes as from all of it in place.
 #[test]
 fn a_long_stream_in_little_memory(rt: HostRuntime) -> Result<(), Fail> {
     let bytes = long_stream(rt.alloc())?;

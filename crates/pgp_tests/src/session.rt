@@ -3,7 +3,7 @@
 
 use bytes::BytesMut;
 use pgp_base::{BindError, Buffer, Error, IsNull, put_u32};
-use pgp_frontend::CopyData;
+use pgp_frontend::{CopyData, ProtocolVersion};
 use pgp_test_alloc::Refusing;
 use postgres_protocol::session::ClientStream;
 use std::alloc::Global;
@@ -13,7 +13,7 @@ use std::test::Fail;
 const STARTUP: &[u8; 9] = b"\0\0\0\x09\0\x03\0\0\0";
 
 /// Calls that come before a session.
-const REQUESTS: usize = 4;
+const REQUESTS: usize = 6;
 
 /// Calls that come in a session.
 const CALLS: usize = 15;
@@ -68,7 +68,9 @@ fn begin<B: Buffer>(number: usize, stream: &mut ClientStream<B>) -> Result<(), E
         0 => stream.ssl_request(),
         1 => stream.cancel_request(1, 2),
         2 => stream.startup_message(&[("user", "alice")]),
-        _ => stream.startup_message(&[]),
+        3 => stream.startup_message(&[]),
+        4 => stream.startup_message_version(ProtocolVersion::V3_2, &[("user", "alice")]),
+        _ => stream.cancel_request_key(1, b"\x01\x02\x03\x04\x05"),
     }
 }
 
@@ -116,7 +118,7 @@ fn requests_with_each_allocation_refused(rt: HostRuntime) -> Result<(), Fail> {
             assert!(rt; stream.bytes().is_empty());
             assert!(rt; !stream.is_open());
             assert_eq!(rt; begin(request, &mut stream), Ok(()), "request {request}");
-            assert_eq!(rt; stream.is_open(), request >= 2);
+            assert_eq!(rt; stream.is_open(), (2..5).contains(&request));
             assert_eq!(rt; stream.bytes(), ample.bytes(), "request {request}");
             refusals = number;
         }

@@ -11,7 +11,8 @@ use Rattle.pgp_base.specs.declared.error.Error.{Error}
 use Rattle.pgp_message.specs.BackendMessage.{Message}
 use Rattle.postgres_protocol.specs.ServerStream.{Reading, HasRead}
 use Rattle.postgres_protocol.proofs.Readings.{has_read_more}
-use Rattle.pgwire.specs.Output.{BackendOutput, ListsPiece, line_of, last_line}
+use Rattle.pgwire.specs.Output.{BackendOutput, line_of, last_line}
+use Rattle.pgwire.specs.Listing.{ListsPiece}
 
 -- one result more, of those that view sees
 pub one_line : {X : Type 0} (view : X → Result Message Error) (xs : List X) (i : ℕ) (d : X) → i < length xs

@@ -34,7 +34,7 @@ never_frame : (ps : List Part) → (parts_cause ps ≡ Some OutOfMemory → ⊥)
 never_frame ps p h = never_either (parts_cause ps) (length_cause (length (joined ps) + 4)) p (never_large (nat_le (length (joined ps) + 4) 2147483647)) h
 
 pub never_memory : (text : List ℕ) (m : ClientMessage) → Says text m → cause m ≡ Some OutOfMemory → ⊥
-never_memory text (Startup ps) says h = never_frame (parts (Startup ps)) (never_either (first (map pair_cause ps)) None (never_pairs ps) never_none) h
+never_memory text (Startup v ps) says h = never_frame (parts (Startup v ps)) (never_either (first (map pair_cause ps)) None (never_pairs ps) never_none) h
 never_memory text SslRequest says h = never_frame (parts SslRequest) never_none h
 never_memory text Sync says h = never_frame (parts Sync) never_none h
 never_memory text Terminate says h = never_frame (parts Terminate) never_none h

@@ -1,10 +1,12 @@
 -- A script has one output: each line says one thing, and one line is the first that is refused. A stream has
 -- one listing.
-use Rattle.std.proofs.Common.{◌≡◌, ℕ, ◌+◌, Bool, true, List, [], ◌∷◌, ◌++◌, length, Contains, Some, None, refl, sym, ap, subst, ◌∙◌, arith, inl, inr, length-append}
+use Rattle.std.proofs.Common.{◌≡◌, ℕ, ◌+◌, Bool, true, List, [], ◌∷◌, ◌++◌, length, get_or, Contains, Some, None, refl, sym, ap, subst, ◌∙◌, arith, inl, inr, length-append}
 use Rattle.std.specs.Prelude.{codes, decimal}
 use Rattle.std.specs.List.{AllByRecursion, flat_map, slice_split}
 use Rattle.std.specs.Str.{IsUtf8}
 use Rattle.hex.specs.Hex.{encode_lower}
+use Rattle.pgp_frontend.specs.declared.startup.ProtocolVersion.{ProtocolVersion}
+use Rattle.pgp_frontend.specs.declared.startup.ProtocolVersion.TheVariants.{V3_0, V3_2}
 use Rattle.pgp_frontend.specs.ClientMessage.{ClientMessage, Query, PasswordMessage, Startup, SslRequest, CancelRequest, Sync, Terminate}
 use Rattle.pgp_frontend.specs.Payload.{cause}
 use Rattle.pgp_frontend.specs.Reading.{IsSpelled}
@@ -15,7 +17,7 @@ use Rattle.pgwire.specs.declared.client.LineFault.{LineFault}
 use Rattle.pgwire.specs.declared.client.LineFault.TheVariants.{NotUtf8, WrongWords, WrongPhase, Refused}
 use Rattle.pgwire.specs.ClientOutput.{Ask, ClientOutput, IsFaulty, IsRefused, IsSent, Sends, told}
 use Rattle.pgwire.specs.Output.{line, line_of, last_line, BackendOutput}
-use Rattle.pgwire.specs.Script.{ArePairs, HasWord, IsPair, Says, is_newline, is_space}
+use Rattle.pgwire.specs.Script.{ArePairs, HasWord, IsPair, Says, is_newline, is_space, version_word}
 use Rattle.pgwire.proofs.ScriptLemmas.{free_by, one_cut, one_word}
 
 -- ---- a line says one thing
@@ -26,8 +28,12 @@ first_word Sync = codes "sync"
 first_word Terminate = codes "terminate"
 first_word (Query z) = codes "query"
 first_word (PasswordMessage z) = codes "password"
-first_word (Startup ps) = codes "startup"
+first_word (Startup v ps) = version_word v
 first_word _ = []
+
+version_free : (v : ProtocolVersion) → Contains (version_word v) 32 → ⊥
+version_free V3_0 = free_by 32 (codes "startup") refl
+version_free V3_2 = free_by 32 (codes "startup32") refl
 
 word_free : (m : ClientMessage) → Contains (first_word m) 32 → ⊥
 word_free SslRequest = free_by 32 (codes "ssl") refl
@@ -35,7 +41,7 @@ word_free Sync = free_by 32 (codes "sync") refl
 word_free Terminate = free_by 32 (codes "terminate") refl
 word_free (Query z) = free_by 32 (codes "query") refl
 word_free (PasswordMessage z) = free_by 32 (codes "password") refl
-word_free (Startup ps) = free_by 32 (codes "startup") refl
+word_free (Startup v ps) = version_free v
 word_free _ = λ h. omega (arith, h.1)
 
 has_word : (text : List ℕ) (m : ClientMessage) → Says text m → (rest : List ℕ) × HasWord (first_word m) text rest
@@ -44,7 +50,7 @@ has_word text Sync says = ([], inl (says, refl))
 has_word text Terminate says = ([], inl (says, refl))
 has_word text (Query z) says = (z, says)
 has_word text (PasswordMessage z) says = (z, says)
-has_word text (Startup ps) says = (says.0, says.1)
+has_word text (Startup v ps) says = (says.0, says.1)
 has_word text _ says = absurd says
 
 same_word : (text : List ℕ) (m n : ClientMessage) → Says text m → Says text n → length (first_word m) ≡ length (first_word n)
@@ -70,7 +76,8 @@ one_ssl text Sync a b = let e : 3 ≡ 4 = same_word text SslRequest Sync a b in 
 one_ssl text Terminate a b = let e : 3 ≡ 9 = same_word text SslRequest Terminate a b in absurd (omega (arith, e))
 one_ssl text (Query y) a b = let e : 3 ≡ 5 = same_word text SslRequest (Query y) a b in absurd (omega (arith, e))
 one_ssl text (PasswordMessage y) a b = let e : 3 ≡ 8 = same_word text SslRequest (PasswordMessage y) a b in absurd (omega (arith, e))
-one_ssl text (Startup qs) a b = let e : 3 ≡ 7 = same_word text SslRequest (Startup qs) a b in absurd (omega (arith, e))
+one_ssl text (Startup V3_0 qs) a b = let e : 3 ≡ 7 = same_word text SslRequest (Startup V3_0 qs) a b in absurd (omega (arith, e))
+one_ssl text (Startup V3_2 qs) a b = let e : 3 ≡ 9 = same_word text SslRequest (Startup V3_2 qs) a b in absurd (omega (arith, e))
 one_ssl text _ a b = absurd b
 
 one_sync : (text : List ℕ) (n : ClientMessage) → Says text Sync → Says text n → Sync ≡ n
@@ -79,7 +86,8 @@ one_sync text Sync a b = refl
 one_sync text Terminate a b = let e : 4 ≡ 9 = same_word text Sync Terminate a b in absurd (omega (arith, e))
 one_sync text (Query y) a b = let e : 4 ≡ 5 = same_word text Sync (Query y) a b in absurd (omega (arith, e))
 one_sync text (PasswordMessage y) a b = let e : 4 ≡ 8 = same_word text Sync (PasswordMessage y) a b in absurd (omega (arith, e))
-one_sync text (Startup qs) a b = let e : 4 ≡ 7 = same_word text Sync (Startup qs) a b in absurd (omega (arith, e))
+one_sync text (Startup V3_0 qs) a b = let e : 4 ≡ 7 = same_word text Sync (Startup V3_0 qs) a b in absurd (omega (arith, e))
+one_sync text (Startup V3_2 qs) a b = let e : 4 ≡ 9 = same_word text Sync (Startup V3_2 qs) a b in absurd (omega (arith, e))
 one_sync text _ a b = absurd b
 
 one_terminate : (text : List ℕ) (n : ClientMessage) → Says text Terminate → Says text n → Terminate ≡ n
@@ -88,7 +96,8 @@ one_terminate text Sync a b = let e : 9 ≡ 4 = same_word text Terminate Sync a 
 one_terminate text Terminate a b = refl
 one_terminate text (Query y) a b = let e : 9 ≡ 5 = same_word text Terminate (Query y) a b in absurd (omega (arith, e))
 one_terminate text (PasswordMessage y) a b = let e : 9 ≡ 8 = same_word text Terminate (PasswordMessage y) a b in absurd (omega (arith, e))
-one_terminate text (Startup qs) a b = let e : 9 ≡ 7 = same_word text Terminate (Startup qs) a b in absurd (omega (arith, e))
+one_terminate text (Startup V3_0 qs) a b = let e : 9 ≡ 7 = same_word text Terminate (Startup V3_0 qs) a b in absurd (omega (arith, e))
+one_terminate text (Startup V3_2 qs) a b = let e : 116 ≡ 115 = ap (λ l. get_or l 0 0) (one_word (codes "terminate") (codes "startup32") text [] b.0 (inl (a, refl)) b.1 (free_by 32 (codes "terminate") refl) (version_free V3_2)).0 in absurd (omega (arith, e))
 one_terminate text _ a b = absurd b
 
 one_query : (text : List ℕ) (z : List ℕ) (n : ClientMessage) → Says text (Query z) → Says text n → (Query z) ≡ n
@@ -97,7 +106,8 @@ one_query text z Sync a b = let e : 5 ≡ 4 = same_word text (Query z) Sync a b 
 one_query text z Terminate a b = let e : 5 ≡ 9 = same_word text (Query z) Terminate a b in absurd (omega (arith, e))
 one_query text z (Query y) a b = ap Query (one_word (codes "query") (codes "query") text z y a b (free_by 32 (codes "query") refl) (free_by 32 (codes "query") refl)).1
 one_query text z (PasswordMessage y) a b = let e : 5 ≡ 8 = same_word text (Query z) (PasswordMessage y) a b in absurd (omega (arith, e))
-one_query text z (Startup qs) a b = let e : 5 ≡ 7 = same_word text (Query z) (Startup qs) a b in absurd (omega (arith, e))
+one_query text z (Startup V3_0 qs) a b = let e : 5 ≡ 7 = same_word text (Query z) (Startup V3_0 qs) a b in absurd (omega (arith, e))
+one_query text z (Startup V3_2 qs) a b = let e : 5 ≡ 9 = same_word text (Query z) (Startup V3_2 qs) a b in absurd (omega (arith, e))
 one_query text z _ a b = absurd b
 
 one_password : (text : List ℕ) (z : List ℕ) (n : ClientMessage) → Says text (PasswordMessage z) → Says text n → (PasswordMessage z) ≡ n
@@ -106,19 +116,22 @@ one_password text z Sync a b = let e : 8 ≡ 4 = same_word text (PasswordMessage
 one_password text z Terminate a b = let e : 8 ≡ 9 = same_word text (PasswordMessage z) Terminate a b in absurd (omega (arith, e))
 one_password text z (Query y) a b = let e : 8 ≡ 5 = same_word text (PasswordMessage z) (Query y) a b in absurd (omega (arith, e))
 one_password text z (PasswordMessage y) a b = ap PasswordMessage (one_word (codes "password") (codes "password") text z y a b (free_by 32 (codes "password") refl) (free_by 32 (codes "password") refl)).1
-one_password text z (Startup qs) a b = let e : 8 ≡ 7 = same_word text (PasswordMessage z) (Startup qs) a b in absurd (omega (arith, e))
+one_password text z (Startup V3_0 qs) a b = let e : 8 ≡ 7 = same_word text (PasswordMessage z) (Startup V3_0 qs) a b in absurd (omega (arith, e))
+one_password text z (Startup V3_2 qs) a b = let e : 8 ≡ 9 = same_word text (PasswordMessage z) (Startup V3_2 qs) a b in absurd (omega (arith, e))
 one_password text z _ a b = absurd b
 
-one_startup : (text : List ℕ) (ps : List (List ℕ × List ℕ)) (n : ClientMessage) → Says text (Startup ps) → Says text n → (Startup ps) ≡ n
-one_startup text ps SslRequest a b = let e : 7 ≡ 3 = same_word text (Startup ps) SslRequest a b in absurd (omega (arith, e))
-one_startup text ps Sync a b = let e : 7 ≡ 4 = same_word text (Startup ps) Sync a b in absurd (omega (arith, e))
-one_startup text ps Terminate a b = let e : 7 ≡ 9 = same_word text (Startup ps) Terminate a b in absurd (omega (arith, e))
-one_startup text ps (Query y) a b = let e : 7 ≡ 5 = same_word text (Startup ps) (Query y) a b in absurd (omega (arith, e))
-one_startup text ps (PasswordMessage y) a b = let e : 7 ≡ 8 = same_word text (Startup ps) (PasswordMessage y) a b in absurd (omega (arith, e))
-one_startup text ps (Startup qs) a b =
-    let rests = (one_word (codes "startup") (codes "startup") text a.0 b.0 a.1 b.1 (free_by 32 (codes "startup") refl) (free_by 32 (codes "startup") refl)).1 in
-    ap Startup (pairs_one (slice_split is_space b.0) ps qs (subst (λ r. ArePairs (slice_split is_space r) ps) rests a.2) b.2)
-one_startup text ps _ a b = absurd b
+-- the words of the two versions aren't of one length
+one_version : (text rest other : List ℕ) (v w : ProtocolVersion) → HasWord (version_word v) text rest → HasWord (version_word w) text other → v ≡ w
+one_version text rest other V3_0 V3_0 a b = refl
+one_version text rest other V3_0 V3_2 a b = let e : 7 ≡ 9 = ap length (one_word (codes "startup") (codes "startup32") text rest other a b (version_free V3_0) (version_free V3_2)).0 in absurd (omega (arith, e))
+one_version text rest other V3_2 V3_0 a b = let e : 9 ≡ 7 = ap length (one_word (codes "startup32") (codes "startup") text rest other a b (version_free V3_2) (version_free V3_0)).0 in absurd (omega (arith, e))
+one_version text rest other V3_2 V3_2 a b = refl
+
+one_startup : (text : List ℕ) (v w : ProtocolVersion) (ps qs : List (List ℕ × List ℕ)) → Says text (Startup v ps) → Says text (Startup w qs) → Startup v ps ≡ Startup w qs
+one_startup text v w ps qs a b =
+    let rests = (one_word (version_word v) (version_word w) text a.0 b.0 a.1 b.1 (version_free v) (version_free w)).1 in
+    let pairs = pairs_one (slice_split is_space b.0) ps qs (subst (λ r. ArePairs (slice_split is_space r) ps) rests a.2) b.2 in
+    ap (λ x. Startup x ps) (one_version text a.0 b.0 v w a.1 b.1) ∙ ap (λ xs. Startup w xs) pairs
 
 pub says_one : (text : List ℕ) (m n : ClientMessage) → Says text m → Says text n → m ≡ n
 says_one text SslRequest n a b = one_ssl text n a b
@@ -126,7 +139,13 @@ says_one text Sync n a b = one_sync text n a b
 says_one text Terminate n a b = one_terminate text n a b
 says_one text (Query z) n a b = one_query text z n a b
 says_one text (PasswordMessage z) n a b = one_password text z n a b
-says_one text (Startup ps) n a b = one_startup text ps n a b
+says_one text (Startup v ps) SslRequest a b = sym (one_ssl text (Startup v ps) b a)
+says_one text (Startup v ps) Sync a b = sym (one_sync text (Startup v ps) b a)
+says_one text (Startup v ps) Terminate a b = sym (one_terminate text (Startup v ps) b a)
+says_one text (Startup v ps) (Query y) a b = sym (one_query text y (Startup v ps) b a)
+says_one text (Startup v ps) (PasswordMessage y) a b = sym (one_password text y (Startup v ps) b a)
+says_one text (Startup v ps) (Startup w qs) a b = one_startup text v w ps qs a b
+says_one text (Startup v ps) _ a b = absurd b
 says_one text _ n a b = absurd a
 
 word_some : (k : ℕ) (word : List ℕ) → length word ≡ k + 1 → (rest : List ℕ) → HasWord word [] rest → ⊥
@@ -140,7 +159,8 @@ says_some Sync says = let e : 0 ≡ 4 = ap length says in omega (arith, e)
 says_some Terminate says = let e : 0 ≡ 9 = ap length says in omega (arith, e)
 says_some (Query z) says = word_some 4 (codes "query") refl z says
 says_some (PasswordMessage z) says = word_some 7 (codes "password") refl z says
-says_some (Startup ps) says = word_some 6 (codes "startup") refl says.0 says.1
+says_some (Startup V3_0 ps) says = word_some 6 (codes "startup") refl says.0 says.1
+says_some (Startup V3_2 ps) says = word_some 8 (codes "startup32") refl says.0 says.1
 says_some _ says = says
 
 -- ---- lines ask for one list of messages
@@ -171,7 +191,7 @@ ask_parts ((x ∷ t) ∷ before) rest messages (m, more, is, u, s, tail) =
 -- ---- each message of a run may come
 
 startup_opens : (m : ClientMessage) (messages : List ClientMessage) → IsStartup m → is_opened (m ∷ messages) ≡ true
-startup_opens (Startup ps) messages s = refl
+startup_opens (Startup v ps) messages s = refl
 startup_opens _ messages s = absurd s
 
 request_opens : (m : ClientMessage) (messages : List ClientMessage) → IsRequest m → is_opened (m ∷ messages) ≡ is_opened messages

@@ -1,6 +1,7 @@
 -- Where a line and its parts are cut.
 use Rattle.std.proofs.Common.{◌≡◌, ◌≢◌, ℕ, zero, suc, ◌+◌, ◌-◌, ◌<◌, Bool, true, false, List, [], ◌∷◌, ◌++◌, length, take, drop, get_or, take-append-drop, Contains, refl, sym, ap, subst, ◌∙◌, arith, inl, inr}
 use Rattle.std.specs.Prelude.{◌==◌, codes}
+use Rattle.pgp_frontend.specs.declared.startup.ProtocolVersion.TheVariants.{V3_0, V3_2}
 use Rattle.pgp_frontend.specs.ClientMessage.{ClientMessage, Query, PasswordMessage, Startup, SslRequest, Sync, Terminate}
 use Rattle.std.specs.List.{list_any, slice_split}
 use Rattle.std.proofs.lemmas.Bool.{eq-eqb, or_left, or_right}
@@ -97,15 +98,19 @@ no_space_in_password = free_by 32 (codes "password") refl
 no_space_in_startup : Contains (codes "startup") 32 → ⊥
 no_space_in_startup = free_by 32 (codes "startup") refl
 
+no_space_in_startup32 : Contains (codes "startup32") 32 → ⊥
+no_space_in_startup32 = free_by 32 (codes "startup32") refl
+
 -- a line that is none of the words alone, and begins with none of the others, says nothing
-pub never_said : (line word rest : List ℕ) → HasWord word line rest → (Contains word 32 → ⊥) → line ≢ codes "ssl" → line ≢ codes "sync" → line ≢ codes "terminate" → word ≢ codes "query" → word ≢ codes "password" → word ≢ codes "startup" → (m : ClientMessage) → Says line m → ⊥
-never_said line word rest has first a b d q p s SslRequest says = a says
-never_said line word rest has first a b d q p s Sync says = b says
-never_said line word rest has first a b d q p s Terminate says = d says
-never_said line word rest has first a b d q p s (Query z) says = q (one_word word (codes "query") line rest z has says first no_space_in_query).0
-never_said line word rest has first a b d q p s (PasswordMessage z) says = p (one_word word (codes "password") line rest z has says first no_space_in_password).0
-never_said line word rest has first a b d q p s (Startup ps) says = s (one_word word (codes "startup") line rest says.0 has says.1 first no_space_in_startup).0
-never_said line word rest has first a b d q p s _ says = says
+pub never_said : (line word rest : List ℕ) → HasWord word line rest → (Contains word 32 → ⊥) → line ≢ codes "ssl" → line ≢ codes "sync" → line ≢ codes "terminate" → word ≢ codes "query" → word ≢ codes "password" → word ≢ codes "startup" → word ≢ codes "startup32" → (m : ClientMessage) → Says line m → ⊥
+never_said line word rest has first a b d q p s t SslRequest says = a says
+never_said line word rest has first a b d q p s t Sync says = b says
+never_said line word rest has first a b d q p s t Terminate says = d says
+never_said line word rest has first a b d q p s t (Query z) says = q (one_word word (codes "query") line rest z has says first no_space_in_query).0
+never_said line word rest has first a b d q p s t (PasswordMessage z) says = p (one_word word (codes "password") line rest z has says first no_space_in_password).0
+never_said line word rest has first a b d q p s t (Startup V3_0 ps) says = s (one_word word (codes "startup") line rest says.0 has says.1 first no_space_in_startup).0
+never_said line word rest has first a b d q p s t (Startup V3_2 ps) says = t (one_word word (codes "startup32") line rest says.0 has says.1 first no_space_in_startup32).0
+never_said line word rest has first a b d q p s t _ says = says
 
 -- ---- the first line
 

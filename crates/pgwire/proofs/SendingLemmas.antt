@@ -56,7 +56,7 @@ pairs_named ([] ∷ parts) ps a = pairs_named parts ps a
 pairs_named ((b ∷ x) ∷ parts) ps (p, more, is, one, rest) = subst (AllByRecursion (λ p. p.0 ≢ [])) (sym is) (one.some, pairs_named parts more rest)
 
 pub names_it : (text : List ℕ) (m : ClientMessage) → Says text m → IsNamed m
-names_it text (Startup ps) says = All-from_recursion (λ p. p.0 ≢ []) ps (pairs_named (slice_split is_space says.0) ps says.2)
+names_it text (Startup v ps) says = All-from_recursion (λ p. p.0 ≢ []) ps (pairs_named (slice_split is_space says.0) ps says.2)
 names_it text SslRequest says = tt
 names_it text Sync says = tt
 names_it text Terminate says = tt
@@ -65,7 +65,7 @@ names_it text (PasswordMessage z) says = tt
 names_it text _ says = absurd says
 
 pub comes_now : (text : List ℕ) (m : ClientMessage) (o : Bool) → Says text m → o ≡ not (is_opening m) → MayCome m o
-comes_now text (Startup ps) o says e = subst (MayCome (Startup ps)) (sym e) (inl tt, names_it text (Startup ps) says)
+comes_now text (Startup v ps) o says e = subst (MayCome (Startup v ps)) (sym e) (inl tt, names_it text (Startup v ps) says)
 comes_now text SslRequest o says e = subst (MayCome SslRequest) (sym e) (inr tt, tt)
 comes_now text Sync o says e = subst (MayCome Sync) (sym e) (λ none. cc)
 comes_now text Terminate o says e = subst (MayCome Terminate) (sym e) (λ none. cc)
@@ -74,7 +74,7 @@ comes_now text (PasswordMessage z) o says e = subst (MayCome (PasswordMessage z)
 comes_now text _ o says e = absurd says
 
 pub comes_not : (text : List ℕ) (m : ClientMessage) (o : Bool) → Says text m → o ≡ is_opening m → MayCome m o → ⊥
-comes_not text (Startup ps) o says e may = (subst (MayCome (Startup ps)) e may) refl
+comes_not text (Startup v ps) o says e may = (subst (MayCome (Startup v ps)) e may) refl
 comes_not text SslRequest o says e may = (subst (MayCome SslRequest) e may) refl
 comes_not text Sync o says e may = elim (subst (MayCome Sync) e may).0 [ inl s ↦ s | inr r ↦ r ]
 comes_not text Terminate o says e may = elim (subst (MayCome Terminate) e may).0 [ inl s ↦ s | inr r ↦ r ]

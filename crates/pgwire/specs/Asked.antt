@@ -1,4 +1,4 @@
--- The code's commands as what they ask for.
+-- Private: the code's commands as those of `Command`.
 use Rattle.pgwire.specs.declared.run as code
 use Rattle.pgwire.specs.declared.run.Command.TheVariants as variants
 use Rattle.pgwire.specs.Command.{Command, Client, Backend, Verifier, EscapeLiteral, EscapeIdentifier}

@@ -1,8 +1,7 @@
 -- What the program writes for a script.
-use Rattle.std.specs.Prelude.{◌≡◌, ◌≢◌, ◌⊎◌, ℕ, ◌+◌, Bool, List, [], ◌∷◌, ◌++◌, length, Option, Some, codes, decimal}
+use Rattle.std.specs.Prelude.{◌≡◌, ◌≢◌, ◌⊎◌, ℕ, ◌+◌, Bool, List, [], ◌∷◌, ◌++◌, length, Some, codes, decimal}
 use Rattle.std.specs.List.{slice_split}
 use Rattle.std.specs.Str.{IsUtf8}
-use Rattle.std.specs.Io.KnownBytes.{Appends}
 use Rattle.hex.specs.Hex.{encode_lower}
 use Rattle.pgp_base.specs.Error.{number_of}
 use Rattle.pgp_frontend.specs.ClientMessage.{ClientMessage, PasswordKind}
@@ -64,9 +63,3 @@ pub record IsRefused (lines : List (List ℕ)) (output : List ℕ) (status : ℕ
 -- What is written for a script, which is cut into lines at each newline, and the status.
 abbrev pub ClientOutput : List ℕ → List ℕ → ℕ → Type 0
 ClientOutput script output status = IsSent (slice_split is_newline script) output status ⊎ IsRefused (slice_split is_newline script) output status
-
--- the output for a script is what a writer grew by
-pub record WritesAnswer (script : List ℕ) (old new : Option (List ℕ)) (status : ℕ) : Type 0 where
-  pub output : List ℕ
-  pub meant : ClientOutput script output status
-  pub written : Appends old new output

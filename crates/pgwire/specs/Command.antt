@@ -7,8 +7,8 @@ use Rattle.pgp_auth.specs.Verifier.{verifier, verifier_text}
 use Rattle.pgp_base.specs.Held.{Held}
 use Rattle.pgwire.specs.declared.fault.Fault.{Fault}
 use Rattle.pgwire.specs.declared.fault.Fault.TheVariants.{Memory, Read, Write}
-use Rattle.pgwire.specs.Output.{line, Writes, BackendOutput}
-use Rattle.pgwire.specs.ClientOutput.{ClientOutput, WritesAnswer}
+use Rattle.pgwire.specs.Output.{line, BackendOutput}
+use Rattle.pgwire.specs.ClientOutput.{ClientOutput}
 use Rattle.pgwire.specs.Taken.{AppendsFront}
 use Rattle.pgwire.specs.Words.{AreWords, HasOther, LacksWords}
 
@@ -54,30 +54,44 @@ pub record Streams : Type 0 where
   pub input : Option (List ℕ)
   pub output : Option (List ℕ)
 
--- all input was read, and exactly the listing of it was written
-pub record IsListed (before after : Streams) (status : ℕ) (complaint : List ℕ) : Type 0 where
-  pub read : IsAtEnd after.input
-  pub written : IfSome before.input (λ bytes. Writes bytes before.output after.output status)
-  pub fine : status ≡ 0
-  pub silent : complaint ≡ []
-
--- all of a script was read, and exactly what it comes to was written
-pub record IsAnswered (before after : Streams) (status : ℕ) (complaint : List ℕ) : Type 0 where
-  pub read : IsAtEnd after.input
-  pub written : IfSome before.input (λ script. WritesAnswer script before.output after.output status)
-  pub silent : complaint ≡ []
-
--- this line was written, and nothing was read
-pub record Prints (before after : Streams) (text : List ℕ) (status : ℕ) (complaint : List ℕ) : Type 0 where
-  pub input : Keeps before.input after.input
-  pub written : Appends before.output after.output (line text)
-  pub fine : status ≡ 0
-  pub silent : complaint ≡ []
-
 -- a string constant that is read as z under either setting of standard_conforming_strings, and is plain
 -- exactly where z has no backslash
 abbrev pub IsEscapedLiteral : List ℕ → List ℕ → Type 0
 IsEscapedLiteral z text = Literal true text z × Literal false text z × (IsPlain text ↔ (¬ Contains z backslash))
+
+-- What a command reads: all input; what prints reads nothing.
+abbrev pub Reads : Command → Streams → Streams → Type 0
+Reads Client before after = IsAtEnd after.input
+Reads Backend before after = IsAtEnd after.input
+Reads command before after = Keeps before.input after.input
+
+-- What a command makes of its input, and the status.
+abbrev pub Makes : Command → Streams → List ℕ → ℕ → Type 0
+Makes Client before bytes status = IfSome before.input (λ script. ClientOutput script bytes status)
+Makes Backend before bytes status = IfSome before.input (λ input. BackendOutput input bytes status)
+Makes (Verifier password salt) before bytes status = (bytes ≡ line (verifier_text (verifier password salt 4096))) × (status ≡ 0)
+Makes (EscapeLiteral z) before bytes status = ((text : List ℕ) × IsEscapedLiteral z text × (bytes ≡ line text)) × (status ≡ 0)
+Makes (EscapeIdentifier z) before bytes status = ((text : List ℕ) × Identifier text z × (bytes ≡ line text)) × (status ≡ 0)
+
+-- All of what the command makes was written, and nothing else.
+pub record IsWritten (command : Command) (before after : Streams) (status : ℕ) : Type 0 where
+  pub bytes : List ℕ
+  pub meant : Makes command before bytes status
+  pub written : Appends before.output after.output bytes
+
+-- What a command does to the streams, with the status and what is to be said on standard error, unless it meets a fault: it reads
+-- what it is to read, writes what it makes, and has nothing to say.
+pub record Succeeds (command : Command) (before after : Streams) (status : ℕ) (complaint : List ℕ) : Type 0 where
+  pub read : Reads command before after
+  pub output : IsWritten command before after status
+  pub silent : complaint ≡ []
+
+-- Writing failed: a front of what the command makes was written, and nothing else.
+pub record IsCut (command : Command) (before after : Streams) : Type 0 where
+  pub bytes : List ℕ
+  pub status : ℕ
+  pub meant : Makes command before bytes status
+  pub taken : AppendsFront before.output after.output bytes
 
 -- Which faults a command can meet: what prints reads nothing.
 abbrev pub Meets : Command → Fault → Type 0
@@ -90,32 +104,6 @@ abbrev pub MayRead : Command → Streams → Streams → Type 0
 MayRead Client before after = ⊤
 MayRead Backend before after = ⊤
 MayRead command before after = Keeps before.input after.input
-
--- What a command is to write.
-abbrev pub Makes : Command → Streams → List ℕ → Type 0
-Makes Client before bytes = IfSome before.input (λ script. (status : ℕ) × ClientOutput script bytes status)
-Makes Backend before bytes = IfSome before.input (λ input. BackendOutput input bytes 0)
-Makes (Verifier password salt) before bytes = bytes ≡ line (verifier_text (verifier password salt 4096))
-Makes (EscapeLiteral z) before bytes = (text : List ℕ) × IsEscapedLiteral z text × (bytes ≡ line text)
-Makes (EscapeIdentifier z) before bytes = (text : List ℕ) × Identifier text z × (bytes ≡ line text)
-
--- Writing failed: a front of what was to be written was taken, and nothing else.
-pub record IsCut (command : Command) (before after : Streams) : Type 0 where
-  pub bytes : List ℕ
-  pub meant : Makes command before bytes
-  pub taken : AppendsFront before.output after.output bytes
-
--- What a command does to the streams, with the status and what is to be said on standard error, unless
--- it meets a fault.
-abbrev pub Succeeds : Command → Streams → Streams → ℕ → List ℕ → Type 0
-Succeeds Client before after status complaint = IsAnswered before after status complaint
-Succeeds Backend before after status complaint = IsListed before after status complaint
-Succeeds (Verifier password salt) before after status complaint =
-    Prints before after (verifier_text (verifier password salt 4096)) status complaint
-Succeeds (EscapeLiteral z) before after status complaint =
-    (text : List ℕ) × IsEscapedLiteral z text × Prints before after text status complaint
-Succeeds (EscapeIdentifier z) before after status complaint =
-    (text : List ℕ) × Identifier text z × Prints before after text status complaint
 
 -- the words ask for nothing that there is
 abbrev pub IsOther : List (List ℕ) → Type 0

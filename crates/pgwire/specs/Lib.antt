@@ -1,5 +1,6 @@
 pub mod Taken
 pub mod Output
+pub mod Listing
 pub mod Script
 pub mod Request
 pub mod ClientOutput

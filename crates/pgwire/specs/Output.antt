@@ -1,12 +1,10 @@
 -- What the program writes for a stream of backend messages.
-use Rattle.std.specs.Prelude.{◌≡◌, ℕ, Bool, true, false, Option, List, [], ◌∷◌, ◌++◌, length, Result, Ok, Err, codes, decimal}
+use Rattle.std.specs.Prelude.{◌≡◌, ℕ, Bool, true, false, List, [], ◌∷◌, ◌++◌, length, Result, Ok, Err, codes, decimal}
 use Rattle.std.specs.List.{flat_map}
-use Rattle.std.specs.Io.KnownBytes.{Appends}
 use Rattle.pgp_base.specs.Error.{number_of}
 use Rattle.pgp_base.specs.declared.error.Error.{Error}
 use Rattle.pgp_message.specs.BackendMessage.{AuthenticationOk, AuthenticationKerberosV5, AuthenticationCleartextPassword, AuthenticationMd5Password, AuthenticationScmCredential, AuthenticationGss, AuthenticationGssContinue, AuthenticationSspi, AuthenticationSasl, AuthenticationSaslContinue, AuthenticationSaslFinal, Message, ParseComplete, BindComplete, CloseComplete, NotificationResponse, CommandComplete, DataRow, ErrorResponse, CopyInResponse, CopyOutResponse, EmptyQueryResponse, BackendKeyData, NoticeResponse, Authentication, ParameterStatus, RowDescription, ReadyForQuery, CopyDone, CopyData, NoData, PortalSuspended, ParameterDescription}
 use Rattle.pgp_message.specs.Stream.{BackendRun}
-use Rattle.postgres_protocol.specs.ServerStream.{Reading, GoesOn, HandsOut}
 
 -- the name of a message
 abbrev pub name_of : Message → List ℕ
@@ -64,17 +62,3 @@ pub record BackendOutput (input output : List ℕ) (status : ℕ) : Type 0 where
   pub run : BackendRun input results stopped rest
   pub text : output ≡ flat_map line_of results ++ last_line stopped (length rest)
   pub fine : status ≡ 0
-
--- the output for an input is what a writer grew by
-pub record Writes (input : List ℕ) (old new : Option (List ℕ)) (status : ℕ) : Type 0 where
-  pub output : List ℕ
-  pub meant : BackendOutput input output status
-  pub written : Appends old new output
-
--- A piece was fed to the parser, its results were taken, and their lines added.
-pub record ListsPiece (piece : List ℕ) (old new : Reading) (lines more : List ℕ) : Type 0 where
-  pub between : Reading
-  pub fed : GoesOn piece old between
-  pub results : List (Result Message Error)
-  pub taken : HandsOut results between new
-  pub text : more ≡ lines ++ flat_map line_of results

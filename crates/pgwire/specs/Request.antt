@@ -1,4 +1,4 @@
--- The code's requests as messages, and what a part of a line adds to a startup packet.
+-- Private: the code's requests as messages, and what a part of a line adds to a startup packet.
 use Rattle.std.specs.Prelude.{◌≡◌, ◌≢◌, ◌⊎◌, ℕ, Bool, true, false, List, [], ◌∷◌, ◌++◌, map}
 use Rattle.pgp_frontend.specs.ClientMessage.{ClientMessage, Query, PasswordMessage, Startup, SslRequest, Sync, Terminate}
 use Rattle.pgp_frontend.specs.Given.{shown}
@@ -12,7 +12,7 @@ asked variants.Sync = Sync
 asked variants.Terminate = Terminate
 asked (variants.Query text) = Query text.now
 asked (variants.Password text) = PasswordMessage text.now
-asked (variants.Startup list) = Startup (map shown list.items)
+asked (variants.Startup version list) = Startup version (map shown list.items)
 
 -- the part was added if it isn't empty; or it is no name and value
 abbrev pub AddsPart : List ℕ → List (List ℕ × List ℕ) → List (List ℕ × List ℕ) → Bool → Type 0

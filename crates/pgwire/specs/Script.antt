@@ -1,6 +1,8 @@
 -- What a line of a script asks for.
 use Rattle.std.specs.Prelude.{◌≡◌, ◌≢◌, ◌⊎◌, ℕ, ◌==◌, Bool, List, [], ◌∷◌, ◌++◌, Contains, codes}
 use Rattle.std.specs.List.{slice_split}
+use Rattle.pgp_frontend.specs.declared.startup.ProtocolVersion.{ProtocolVersion}
+use Rattle.pgp_frontend.specs.declared.startup.ProtocolVersion.TheVariants.{V3_0, V3_2}
 use Rattle.pgp_frontend.specs.ClientMessage.{ClientMessage, Query, PasswordMessage, Startup, SslRequest, Sync, Terminate}
 
 abbrev pub is_space : ℕ → Bool
@@ -25,6 +27,11 @@ ArePairs [] ps = ps ≡ []
 ArePairs ([] ∷ parts) ps = ArePairs parts ps
 ArePairs ((b ∷ part) ∷ parts) ps = (p : List ℕ × List ℕ) × (more : List (List ℕ × List ℕ)) × (ps ≡ p ∷ more) × IsPair (b ∷ part) p × ArePairs parts more
 
+-- the word that asks for a startup packet of this version
+abbrev pub version_word : ProtocolVersion → List ℕ
+version_word V3_0 = codes "startup"
+version_word V3_2 = codes "startup32"
+
 -- the line asks for the message
 abbrev pub Says : List ℕ → ClientMessage → Type 0
 Says line SslRequest = line ≡ codes "ssl"
@@ -32,5 +39,5 @@ Says line Sync = line ≡ codes "sync"
 Says line Terminate = line ≡ codes "terminate"
 Says line (Query z) = HasWord (codes "query") line z
 Says line (PasswordMessage z) = HasWord (codes "password") line z
-Says line (Startup ps) = (rest : List ℕ) × HasWord (codes "startup") line rest × ArePairs (slice_split is_space rest) ps
+Says line (Startup version ps) = (rest : List ℕ) × HasWord (version_word version) line rest × ArePairs (slice_split is_space rest) ps
 Says line _ = ⊥

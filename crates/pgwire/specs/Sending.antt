@@ -1,4 +1,4 @@
--- What sending the lines of a script comes to.
+-- Private: what sending the lines of a script comes to, one by one. `ClientOutput` says what a whole script comes to.
 use Rattle.std.specs.Prelude.{◌≡◌, ◌≢◌, ◌⊎◌, ℕ, ◌+◌, Bool, true, false, List, [], ◌∷◌, ◌++◌, length, Option, Some, None}
 use Rattle.std.specs.Borrow.{Bor}
 use Rattle.std.specs.List.{slice_split}
@@ -23,7 +23,7 @@ size_left rest = option_map_or (λ bytes. length bytes.now + 1) rest 0
 -- a script's line that has to come before the session is open
 abbrev pub is_opening : ClientMessage → Bool
 is_opening SslRequest = true
-is_opening (Startup parameters) = true
+is_opening (Startup version parameters) = true
 is_opening _ = false
 
 module _ {B Kept : Type 0} (held : B → Held Kept) where

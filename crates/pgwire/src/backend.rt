@@ -5,8 +5,9 @@ ghost use Rattle.std.specs.Io.KnownBytes.{IsAtEnd, Keeps};
 ghost use Rattle.std.specs.List.{flat_map};
 ghost use Rattle.pgp_message.specs.Views.{seen, view};
 ghost use Rattle.pgwire.specs.Interruptions.{GivesUp};
-ghost use Rattle.pgwire.specs.Output.{line, name_of, line_of, last_line, BackendOutput, ListsPiece, Writes};
-ghost use Rattle.pgwire.specs.Command.{Backend, Caused, IsCut};
+ghost use Rattle.pgwire.specs.Output.{line, name_of, line_of, last_line, BackendOutput};
+ghost use Rattle.pgwire.specs.Listing.{ListsPiece};
+ghost use Rattle.pgwire.specs.Command.{Backend, Caused, IsCut, IsWritten};
 
 use crate::fault::Fault;
 use crate::ports::{Input, Output};
@@ -34,8 +35,9 @@ pub fn backend<A: Memory, R: Input, W: Output>(
     output: &mut W,
 ) -> Result<u8, Fault>
     ensures read { OnOk result (IsAtEnd (R.remaining input.new)) }
-    ensures written { IfOk result (λ status. IfSome (R.remaining input.old)
-        (λ bytes. Writes bytes (W.contents output.old) (W.contents output.new) status)) }
+    ensures written { IfOk result (IsWritten Backend
+        (record { input = R.remaining input.old; output = W.contents output.old })
+        (record { input = R.remaining input.new; output = W.contents output.new })) }
     ensures status { IfOk result (λ status. status ≡ 0) }
     ensures quiet { IfErr result (λ fault. fault ≢ Fault.Write → Keeps (W.contents output.old) (W.contents output.new)) }
     ensures cut { IfErr result (λ fault. fault ≡ Fault.Write → IsCut Backend
@@ -72,6 +74,7 @@ fn lines_of<A: Memory, R: Input>(
 {
     let mut parser = StreamParser::new(alloc);
     let mut text = String::new(alloc);
+    // Bounded, since each function has to end, and a reader may give pieces or be interrupted for ever.
     for _ in 0..u64::MAX {
         match input.read_some(piece) {
             Ok(0) => {

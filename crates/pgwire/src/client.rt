@@ -1,14 +1,14 @@
 //! The bytes of a script's messages.
 
-ghost use Rattle.std.specs.Prelude.{◌≡◌, ◌≢◌, not, [], ◌∷◌, ◌++◌, ◌+◌, length, IfOk, IfErr, OnOk, IfSome, string_bytes, codes, decimal};
+ghost use Rattle.std.specs.Prelude.{◌≡◌, ◌≢◌, not, [], ◌∷◌, ◌++◌, ◌+◌, length, IfOk, IfErr, OnOk, string_bytes, codes, decimal};
 ghost use Rattle.std.specs.Io.KnownBytes.{IsAtEnd, Keeps};
 ghost use Rattle.std.specs.List.{slice_split};
 ghost use Rattle.hex.specs.Hex.{encode_lower};
 ghost use Rattle.pgp_frontend.specs.Reading.{IsNamed};
 ghost use Rattle.postgres_protocol.specs.ClientStream.{AddsMessage};
 ghost use Rattle.pgwire.specs.Interruptions.{GivesUp};
-ghost use Rattle.pgwire.specs.ClientOutput.{ClientOutput, WritesAnswer, told};
-ghost use Rattle.pgwire.specs.Command.{Caused, Client, IsCut, LacksFor};
+ghost use Rattle.pgwire.specs.ClientOutput.{ClientOutput, told};
+ghost use Rattle.pgwire.specs.Command.{Caused, Client, IsCut, IsWritten, LacksFor};
 ghost use Rattle.pgwire.specs.Output.{line};
 ghost use Rattle.pgwire.specs.Request.{asked};
 ghost use Rattle.pgwire.specs.Script.{is_newline};
@@ -55,8 +55,9 @@ pub fn client<A: Memory, R: Input, W: Output>(
     output: &mut W,
 ) -> Result<u8, Fault>
     ensures read { OnOk result (IsAtEnd (R.remaining input.new)) }
-    ensures written { IfOk result (λ status. IfSome (R.remaining input.old)
-        (λ bytes. WritesAnswer bytes (W.contents output.old) (W.contents output.new) status)) }
+    ensures written { IfOk result (IsWritten Client
+        (record { input = R.remaining input.old; output = W.contents output.old })
+        (record { input = R.remaining input.new; output = W.contents output.new })) }
     ensures quiet { IfErr result (λ fault. fault ≢ Fault.Write → Keeps (W.contents output.old) (W.contents output.new)) }
     ensures cut { IfErr result (λ fault. fault ≡ Fault.Write → IsCut Client
         (record { input = R.remaining input.old; output = W.contents output.old })
@@ -182,7 +183,7 @@ fn send_line<A: Memory, B: Buffer>(
 fn opens<A: Allocator>(request: &Request<'_, A>) -> bool
     ensures { result ≡ is_opening (asked request.now) }
 {
-    matches!(request, Request::Ssl | Request::Startup(_))
+    matches!(request, Request::Ssl | Request::Startup(..))
 }
 
 /// Sends the message that is asked for.
@@ -196,7 +197,9 @@ fn send<A: Allocator, B: Buffer>(
 {
     match request {
         Request::Ssl => stream.ssl_request(),
-        Request::Startup(list) => stream.startup_message(list.as_slice()),
+        Request::Startup(version, list) => {
+            stream.startup_message_version(*version, list.as_slice())
+        }
         Request::Query(text) => stream.query(text),
         Request::Password(text) => stream.password_message(text.as_bytes()),
         Request::Sync => stream.sync(),

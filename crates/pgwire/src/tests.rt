@@ -422,14 +422,19 @@ fn engine_writes_nothing_with_each_allocation_refused(rt: HostRuntime) {
         let mut input: &[u8] = frames;
         let mut output = Vec::new(rt.alloc());
         let answer = backend(&heap, &mut input, &mut output);
-        if heap.until_refusal.get() != 0 {
+        let refused = heap.until_refusal.get() == 0;
+        // room that is asked for ahead may be refused and passed over
+        if answer.is_ok() || !refused {
             assert_eq!(rt; answer, Ok(0));
             assert_eq!(rt; output.as_slice(), lines.as_bytes());
+        } else {
+            assert_eq!(rt; answer, Err(Fault::Memory));
+            assert!(rt; output.is_empty());
+            refusals = number;
+        }
+        if !refused {
             break;
         }
-        assert_eq!(rt; answer, Err(Fault::Memory));
-        assert!(rt; output.is_empty());
-        refusals = number;
     }
     assert!(rt; refusals > 2, "{refusals}");
 }

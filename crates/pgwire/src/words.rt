@@ -26,6 +26,7 @@ pub fn texts<A: Memory, V: Words>(
     ensures lacks { OnErr result (LacksWords A.Lacks (V.Stands env.now) (V.Longer env.now)) }
 {
     let mut texts = Vec::new(alloc);
+    // Bounded, since each function has to end, and an environment may have a word at each place.
     'places: for place in 1..usize::MAX {
         let Some(bytes) = word(alloc, env, place)? else {
             return Ok(Some(texts));

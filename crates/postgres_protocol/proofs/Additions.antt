@@ -114,7 +114,7 @@ module _ {B K : Type 0} (held : B → Held K) (a b : B) (o : Bool) (inv : Reads 
   first_stays = stays held a b o inv m true opened (earlier m o e (inl s, n)) in_range none grown
 
 -- the numbers as they were given
-pub same_numbers : {B K : Type 0} (held : B → Held K) (lacks : Held K → ℕ → Type 0) (old new : Sent B) (r : Result (Unit {0}) Error) {x y p q : ℤ} → x ≡ y → p ≡ q
+pub same_numbers : {B K : Type 0} (held : B → Held K) (lacks : Held K → ℕ → Type 0) (old new : Sent B) (r : Result (Unit {0}) Error) {x y : ℤ} {p q : List ℕ} → x ≡ y → p ≡ q
     → AddsMessage held (CancelRequest x p) lacks old new r → AddsMessage held (CancelRequest y q) lacks old new r
 same_numbers held lacks old new r {y = y} {p = p} e f h =
     subst (λ z. AddsMessage held (CancelRequest y z) lacks old new r) f (subst (λ z. AddsMessage held (CancelRequest z p) lacks old new r) e h)

@@ -9,6 +9,8 @@ use Rattle.std.proofs.lemmas.List.Elements.{recursion_from_All}
 use Rattle.pgp_base.specs.Wire.{uint32, int32}
 use Rattle.pgp_frontend.specs.ClientMessage.{ClientMessage, PasswordMessage, SaslInitialResponse, SaslResponse, Startup, CancelRequest, SslRequest, PasswordKind}
 use Rattle.pgp_frontend.specs.Opening.{Opening}
+use Rattle.pgp_frontend.specs.declared.startup.ProtocolVersion.{ProtocolVersion}
+use Rattle.pgp_frontend.specs.declared.startup.ProtocolVersion.TheVariants.{V3_0, V3_2}
 use Rattle.pgp_frontend.specs.Payload.{tag_of, kind_of, framed, payload, bytes_of, cause, IsInRange}
 use Rattle.pgp_frontend.specs.Reading.{IsSpelled, IsNamed}
 use Rattle.pgp_frontend.proofs.Readings.{frame_read, opening_read}
@@ -71,14 +73,14 @@ tagged_front (x ∷ l) (y ∷ m) others c tl tm sl sm k e =
     (rest.0, cons x y l rest.0 m both.0 rest.1)
 
 opening : (m : ClientMessage) → IsStartup m ⊎ IsRequest m → (tag_of m ≡ None) × (kind_of m ≡ None)
-opening (Startup parameters) o = (refl, refl)
+opening (Startup version parameters) o = (refl, refl)
 opening (CancelRequest process_id secret_key) o = (refl, refl)
 opening SslRequest o = (refl, refl)
 opening _ (inl o) = absurd o
 opening _ (inr o) = absurd o
 
 not_both : (m : ClientMessage) → IsStartup m → IsRequest m → ⊥
-not_both (Startup parameters) s r = r
+not_both (Startup version parameters) s r = r
 not_both _ s r = s
 
 one_of : (m : ClientMessage) (messages : List ClientMessage) → AreInOrder (m ∷ messages) → IsStartup m ⊎ IsRequest m
@@ -141,7 +143,7 @@ pushed : {X A : Type 0} (f : X → List A) (xs : List X) (x : X) → flat_map f 
 pushed f xs x = flat_map-append f xs (x ∷ []) ∙ ap (λ l. flat_map f xs ++ l) (flat_map-cons f x [] ∙ append-nil (f x))
 
 startup_opens : (m : ClientMessage) (messages : List ClientMessage) → IsStartup m → is_opened (m ∷ messages) ≡ true
-startup_opens (Startup parameters) messages s = refl
+startup_opens (Startup version parameters) messages s = refl
 startup_opens _ messages s = absurd s
 
 request_opens : (m : ClientMessage) (messages : List ClientMessage) → IsRequest m → is_opened (m ∷ messages) ≡ is_opened messages
@@ -170,7 +172,7 @@ opened_more [] m = go (is_startup m)
 opened_more (x ∷ l) m = one_of_two (is_startup x) (is_opened (l ++ m ∷ [])) (is_startup m) (is_opened l) (opened_more l m)
 
 tagged_named : (m : ClientMessage) → IsTagged m → IsNamed m
-tagged_named (Startup parameters) t = absurd (t refl)
+tagged_named (Startup version parameters) t = absurd (t refl)
 tagged_named (CancelRequest a b) t = tt
 tagged_named _ t = tt
 
@@ -214,11 +216,11 @@ one_phase kinds others l m b p q = same_phase l m p.order q.order p.spelled q.sp
 -- ---- a startup packet with an empty name
 
 -- the name is empty, and so is its value but for one byte
-abbrev pub nameless : List ℕ
-nameless = bytes_of (Startup (([], 120 ∷ []) ∷ []))
+abbrev pub nameless : ProtocolVersion → List ℕ
+nameless version = bytes_of (Startup version (([], 120 ∷ []) ∷ []))
 
-zero_cause : (c : ℕ) (cs v : List ℕ) (ps : List (List ℕ × List ℕ)) → c ≡ 0 → cause (Startup ((c ∷ cs, v) ∷ ps)) ≡ None → ⊥
-zero_cause c cs v ps e h = let k : cause (Startup ((0 ∷ cs, v) ∷ ps)) ≡ None = subst (λ x. cause (Startup ((x ∷ cs, v) ∷ ps)) ≡ None) e h in cc
+zero_cause : (w : ProtocolVersion) (c : ℕ) (cs v : List ℕ) (ps : List (List ℕ × List ℕ)) → c ≡ 0 → cause (Startup w ((c ∷ cs, v) ∷ ps)) ≡ None → ⊥
+zero_cause w c cs v ps e h = let k : cause (Startup w ((0 ∷ cs, v) ∷ ps)) ≡ None = subst (λ x. cause (Startup w ((x ∷ cs, v) ∷ ps)) ≡ None) e h in cc
 
 no_names : (v : List ℕ) (ps : List (List ℕ × List ℕ)) → All (λ p. p.0 ≢ []) (([], v) ∷ ps) → ⊥
 no_names v ps h = (recursion_from_All (λ (p : List ℕ × List ℕ). p.0 ≢ []) (([], v) ∷ ps) h).0 refl
@@ -226,19 +228,21 @@ no_names v ps h = (recursion_from_All (λ (p : List ℕ × List ℕ). p.0 ≢ []
 byte_of : (k : ℕ) (x y : List ℕ) → x ≡ y → slice_index x k ≡ slice_index y k
 byte_of k x y e = ap (λ l. slice_index l k) e
 
-not_first : (m : ClientMessage) (rest : List ℕ) → IsStartup m ⊎ IsRequest m → IsSpelled m → nameless ≡ bytes_of m ++ rest → ⊥
+not_first : (version : ProtocolVersion) (m : ClientMessage) (rest : List ℕ) → IsStartup m ⊎ IsRequest m → IsSpelled m → nameless version ≡ bytes_of m ++ rest → ⊥
 unfolding uint32 int32
-not_first (Startup []) rest o s e = let h : 12 ≡ 9 = byte_of 3 nameless (bytes_of (Startup []) ++ rest) e in omega (arith, h)
-not_first (Startup (([], v) ∷ ps)) rest o s e = no_names v ps s.named
-not_first (Startup ((c ∷ cs, v) ∷ ps)) rest o s e = let h : 0 ≡ c = byte_of 8 nameless (bytes_of (Startup ((c ∷ cs, v) ∷ ps)) ++ rest) e in zero_cause c cs v ps (sym h) s.none
-not_first (CancelRequest a b) rest o s e = let h : 0 ≡ 46 = byte_of 7 nameless (bytes_of (CancelRequest a b) ++ rest) e in omega (arith, h)
-not_first SslRequest rest o s e = let h : 0 ≡ 47 = byte_of 7 nameless (bytes_of SslRequest ++ rest) e in omega (arith, h)
-not_first _ rest (inl o) s e = absurd o
-not_first _ rest (inr o) s e = absurd o
+not_first version (Startup w []) rest o s e = let h : 12 ≡ 9 = byte_of 3 (nameless version) (bytes_of (Startup w []) ++ rest) e in omega (arith, h)
+not_first version (Startup w (([], v) ∷ ps)) rest o s e = no_names v ps s.named
+not_first version (Startup w ((c ∷ cs, v) ∷ ps)) rest o s e = let h : 0 ≡ c = byte_of 8 (nameless version) (bytes_of (Startup w ((c ∷ cs, v) ∷ ps)) ++ rest) e in zero_cause w c cs v ps (sym h) s.none
+not_first V3_0 (CancelRequest a b) rest o s e = let h : 0 ≡ 46 = byte_of 7 (nameless V3_0) (bytes_of (CancelRequest a b) ++ rest) e in omega (arith, h)
+not_first V3_2 (CancelRequest a b) rest o s e = let h : 2 ≡ 46 = byte_of 7 (nameless V3_2) (bytes_of (CancelRequest a b) ++ rest) e in omega (arith, h)
+not_first V3_0 SslRequest rest o s e = let h : 0 ≡ 47 = byte_of 7 (nameless V3_0) (bytes_of SslRequest ++ rest) e in omega (arith, h)
+not_first V3_2 SslRequest rest o s e = let h : 2 ≡ 47 = byte_of 7 (nameless V3_2) (bytes_of SslRequest ++ rest) e in omega (arith, h)
+not_first version _ rest (inl o) s e = absurd o
+not_first version _ rest (inr o) s e = absurd o
 
-pub no_run : (kinds : List PasswordKind) (l : List ClientMessage) → ClientRun kinds l nameless → ⊥
-no_run kinds [] run = has_bytes (Startup (([], 120 ∷ []) ∷ [])) [] (rw (append-nil nameless) run.whole)
-no_run kinds (m ∷ l) run = not_first m (flat_map bytes_of l) (one_of m l run.order) run.spelled.0 (run.whole ∙ flat_map-cons bytes_of m l)
+pub no_run : (version : ProtocolVersion) (kinds : List PasswordKind) (l : List ClientMessage) → ClientRun kinds l (nameless version) → ⊥
+no_run version kinds [] run = has_bytes (Startup version (([], 120 ∷ []) ∷ [])) [] (rw (append-nil (nameless version)) run.whole)
+no_run version kinds (m ∷ l) run = not_first version m (flat_map bytes_of l) (one_of m l run.order) run.spelled.0 (run.whole ∙ flat_map-cons bytes_of m l)
 
 pub nothing : ClientRun [] [] []
 nothing = record { order = tt; spelled = tt; told = refl; whole = refl }

@@ -15,7 +15,8 @@ use Rattle.pgp_message.specs.Stream.{frame_bytes, Frames, IsEnding, BackendRun}
 use Rattle.pgp_message.proofs.Fronts.{fault_stays}
 use Rattle.pgp_message.proofs.Headers.{fits_grows, fits_itself, header_of_long, header_stays}
 use Rattle.pgp_message.proofs.Runs.{frames_join}
-use Rattle.postgres_protocol.specs.ServerStream.{Reading, GoesOn, Fails, Takes, TakesAll, Moves, TakesPart, kept_or_piece}
+use Rattle.postgres_protocol.specs.ServerStream.{Reading, GoesOn, Fails}
+use Rattle.postgres_protocol.specs.ServerSteps.{Takes, TakesAll, Moves, TakesPart, kept_or_piece}
 
 -- where a length fault stopped it a header stands there
 pub stopped_long : (stopped : Bool) (rest : List ℕ) → IsEnding stopped rest → stopped ≡ true → 5 ≤ length rest

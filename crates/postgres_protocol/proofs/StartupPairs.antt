@@ -1,6 +1,5 @@
 -- The pairs of a startup packet, as an iterator gave them.
 use Rattle.std.proofs.Common.{◌≡◌, ℕ, zero, suc, ◌+◌, ◌≤◌, List, [], ◌∷◌, ◌++◌, length, take, map, Option, Some, None, refl, sym, ap, ◌∙◌, Bor, inl, inr, arith, length-append}
-use Rattle.std.specs.Prelude.{pos}
 use Rattle.std.specs.List.{flat_map}
 use Rattle.std.specs.Iterator.{YieldsThen}
 use Rattle.std.proofs.lemmas.List.{take_more, append-nil}
@@ -14,7 +13,8 @@ use Rattle.pgp_base.specs.Held.{Held}
 use Rattle.pgp_base.specs.declared.error.Error.{Error}
 use Rattle.pgp_frontend.specs.ClientMessage.{Startup}
 use Rattle.pgp_frontend.specs.Given.{Arrived, shown, shown_pairs}
-use Rattle.pgp_frontend.specs.Payload.{Part, Int32, pair, pair_cause, parts_cause, bytes_of, cause}
+use Rattle.pgp_frontend.specs.declared.startup.ProtocolVersion.{ProtocolVersion}
+use Rattle.pgp_frontend.specs.Payload.{Part, Int32, version_code, pair, pair_cause, parts_cause, bytes_of, cause}
 use Rattle.pgp_base.proofs.Parts.{wants_more}
 use Rattle.pgp_frontend.proofs.Needs.{startup_length}
 
@@ -56,18 +56,18 @@ shorter_front (x ∷ xs) (suc k) =
     let more = shorter_front xs k in
     omega (arith, more, length-append (pair (shown x)) (flat_map pair (map shown (take k xs))), length-append (pair (shown x)) (flat_map pair (map shown xs)))
 
-pub startup_wants : {K : Type 0} {lacks : Held K → ℕ → Type 0} (all xs : List (Bor (List ℕ) × Bor (List ℕ))) (old : Held K) → (k : ℕ) × (xs ≡ take k all) → Wants lacks old (length (bytes_of (Startup (map shown xs))))
-    → Wants lacks old (length (bytes_of (Startup (map shown all))))
-startup_wants all xs old so_far w =
+pub startup_wants : {K : Type 0} {lacks : Held K → ℕ → Type 0} (v : ProtocolVersion) (all xs : List (Bor (List ℕ) × Bor (List ℕ))) (old : Held K) → (k : ℕ) × (xs ≡ take k all) → Wants lacks old (length (bytes_of (Startup v (map shown xs))))
+    → Wants lacks old (length (bytes_of (Startup v (map shown all))))
+startup_wants v all xs old so_far w =
     let front = ap (λ l. length (flat_map pair (map shown l))) so_far.1 in
     let less = shorter_front all so_far.0 in
-    let some = startup_length (map shown xs) in
-    let whole = startup_length (map shown all) in
+    let some = startup_length v (map shown xs) in
+    let whole = startup_length v (map shown all) in
     wants_more old _ _ (omega (arith, front, less, some, whole, length-append (flat_map pair (map shown xs)) (0 ∷ []), length-append (flat_map pair (map shown all)) (0 ∷ []))) w
 
 -- ---- the first cause of the first pairs is that of the packet
 
-either_more : (c a b : Cause) (e : Error) → (a ≡ Some e → b ≡ Some e) → either c a ≡ Some e → either c b ≡ Some e
+pub either_more : (c a b : Cause) (e : Error) → (a ≡ Some e → b ≡ Some e) → either c a ≡ Some e → either c b ≡ Some e
 either_more (Some d) a b e more h = h
 either_more None a b e more h = more h
 
@@ -84,5 +84,5 @@ first_front (x ∷ xs) (suc k) e h = either_more (pair_cause (shown x)) (first (
 refused_pairs : (c d : Cause) (e : Error) → c ≡ Some e → either (either None (either c None)) d ≡ Some e
 refused_pairs c d e h = rw h refl
 
-pub front_refused : (all : List (Bor (List ℕ) × Bor (List ℕ))) (k : ℕ) (e : Error) → parts_cause (Int32 (pos 196608) ∷ shown_pairs (take k all) ∷ []) ≡ Some e → cause (Startup (map shown all)) ≡ Some e
-front_refused all k e h = refused_pairs (first (map pair_cause (map shown all))) _ e (first_front all k e (either_left (first (map pair_cause (map shown (take k all)))) e h))
+pub front_refused : (v : ProtocolVersion) (all : List (Bor (List ℕ) × Bor (List ℕ))) (k : ℕ) (e : Error) → parts_cause (Int32 (version_code v) ∷ shown_pairs (take k all) ∷ []) ≡ Some e → cause (Startup v (map shown all)) ≡ Some e
+front_refused v all k e h = refused_pairs (first (map pair_cause (map shown all))) _ e (first_front all k e (either_left (first (map pair_cause (map shown (take k all)))) e h))

@@ -1,7 +1,9 @@
 pub mod ServerStream
+pub mod ServerSteps
 pub mod ClientRun
 pub mod ClientStream
 pub mod SaslExchange
 pub mod RowValues
 pub mod ArraySteps
 pub mod OneValue
+pub mod Rooms

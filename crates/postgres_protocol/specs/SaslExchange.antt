@@ -64,10 +64,32 @@ GivesNone memory IsOther old new refusals.Unexpected = (IsPartial old × (new �
 GivesNone memory IsOther old new (refusals.Message e) = Step memory old (Err e) new
 GivesNone memory IsOther old new (refusals.Scram e) = ⊥
 
--- Where an exchange stopped. Each side is what it was before the call and is behind it. `memory` is what a refusal of memory for the
--- exchange and the server's messages says, `lacks` that of a growth of the buffer.
+-- How far an exchange came, stage by stage. `out` is what the buffer held then, and `client` what the client was.
+module _ {Kept : Type 0} (mechanism : List ℕ) (old : Client) (out_old : Held Kept) where
+  -- the client's first text was written behind what stood in the buffer
+  pub record SentFirst (out : Held Kept) : Type 0 where
+    pub begun : Begun
+    pub due : old.state ≡ AwaitsFirst begun
+    pub sent : out ≡ out_old ⊕ bytes_of (SaslInitialResponse mechanism (first_text begun))
+
+  module _ (first_old first_new : List ℕ) where
+    -- then the server's first text was taken and answered
+    pub record GotFirst (out : Held Kept) (client : Client) : Type 0 where
+      pub behind : SentFirst out
+      pub first : List ℕ
+      pub taken : TakesFrame first_old (Ok (Authentication (AuthenticationSaslContinue first))) first_new
+      pub answers : Answers old first client
+
+    -- then the client's final text, the answer, was written
+    pub record SentFinal (out : Held Kept) (client : Client) : Type 0 where
+      pub between : Held Kept
+      pub behind : GotFirst between client
+      pub sent : out ≡ between ⊕ bytes_of (SaslResponse behind.answers.answered.final)
+
+-- Why it went no further, stage by stage. Each side is what it was before the call and is behind it. `memory` is what a refusal of memory for
+-- the exchange and the server's messages says, `lacks` that of a growth of the buffer.
 module _ {Kept : Type 0} (memory : Type 0) (lacks : Held Kept → ℕ → Type 0) (mechanism : List ℕ) (old new : Client) (first_old first_new final_old final_new : List ℕ) (out_old out_new : Held Kept) where
-  -- the client's first text wasn't written, and nothing was taken
+  -- at once: the client's first text wasn't written, and nothing was taken
   pub record FirstUnwritten (e : Error) : Type 0 where
     pub begun : Begun
     pub due : old.state ≡ AwaitsFirst begun
@@ -76,57 +98,40 @@ module _ {Kept : Type 0} (memory : Type 0) (lacks : Held Kept → ℕ → Type 0
     pub first : first_new ≡ first_old
     pub final : final_new ≡ final_old
 
-  -- the client's first text was written, and the server's first text didn't stand in its buffer
+  -- behind the client's first text: that of the server didn't stand in its buffer
   pub record FirstMissing {A : Type 0} (r : SaslRefusal A) : Type 0 where
-    pub begun : Begun
-    pub due : old.state ≡ AwaitsFirst begun
-    pub sent : out_new ≡ out_old ⊕ bytes_of (SaslInitialResponse mechanism (first_text begun))
+    pub behind : SentFirst mechanism old out_old out_new
     pub missing : GivesNone memory IsNoContinue first_old first_new r
     pub client : new ≡ old
     pub final : final_new ≡ final_old
 
-  -- the server's first text was refused
+  -- or it was refused
   pub record FirstRefused (e : Refusal) : Type 0 where
-    pub begun : Begun
-    pub due : old.state ≡ AwaitsFirst begun
-    pub sent : out_new ≡ out_old ⊕ bytes_of (SaslInitialResponse mechanism (first_text begun))
+    pub behind : SentFirst mechanism old out_old out_new
     pub first : List ℕ
-    pub first_taken : TakesFrame first_old (Ok (Authentication (AuthenticationSaslContinue first))) first_new
+    pub taken : TakesFrame first_old (Ok (Authentication (AuthenticationSaslContinue first))) first_new
     pub refused : UpdateRefused memory old first e new
     pub final : final_new ≡ final_old
 
-  -- the server's first text was answered, and the answer wasn't written
+  -- behind the server's first text: the answer wasn't written
   pub record FinalUnwritten (e : Error) : Type 0 where
-    pub begun : Begun
-    pub due : old.state ≡ AwaitsFirst begun
-    pub first : List ℕ
-    pub first_taken : TakesFrame first_old (Ok (Authentication (AuthenticationSaslContinue first))) first_new
-    pub answers : Answers old first new
-    pub refused : WritesMessage (SaslResponse answers.answered.final) lacks (out_old ⊕ bytes_of (SaslInitialResponse mechanism (first_text begun))) out_new (Err e)
+    pub between : Held Kept
+    pub behind : GotFirst mechanism old out_old first_old first_new between new
+    pub refused : WritesMessage (SaslResponse behind.answers.answered.final) lacks between out_new (Err e)
     pub final : final_new ≡ final_old
 
-  -- both of the client's texts were written, and the server's final text didn't stand in its buffer
+  -- behind the client's final text: that of the server didn't stand in its buffer
   pub record FinalMissing {A : Type 0} (r : SaslRefusal A) : Type 0 where
-    pub begun : Begun
-    pub due : old.state ≡ AwaitsFirst begun
-    pub first : List ℕ
-    pub first_taken : TakesFrame first_old (Ok (Authentication (AuthenticationSaslContinue first))) first_new
-    pub answers : Answers old first new
-    pub sent : out_new ≡ out_old ⊕ bytes_of (SaslInitialResponse mechanism (first_text begun)) ⊕ bytes_of (SaslResponse answers.answered.final)
+    pub behind : SentFinal mechanism old out_old first_old first_new out_new new
     pub missing : GivesNone memory IsNoFinal final_old final_new r
 
-  -- the server's final text was refused
+  -- or it was refused
   pub record FinalRefused (e : Refusal) : Type 0 where
-    pub begun : Begun
-    pub due : old.state ≡ AwaitsFirst begun
-    pub first : List ℕ
-    pub first_taken : TakesFrame first_old (Ok (Authentication (AuthenticationSaslContinue first))) first_new
-    pub between : Client
-    pub answers : Answers old first between
-    pub sent : out_new ≡ out_old ⊕ bytes_of (SaslInitialResponse mechanism (first_text begun)) ⊕ bytes_of (SaslResponse answers.answered.final)
+    pub client : Client
+    pub behind : SentFinal mechanism old out_old first_old first_new out_new client
     pub final : List ℕ
-    pub final_taken : TakesFrame final_old (Ok (Authentication (AuthenticationSaslFinal final))) final_new
-    pub refused : FinishRefused memory between final e new
+    pub taken : TakesFrame final_old (Ok (Authentication (AuthenticationSaslFinal final))) final_new
+    pub refused : FinishRefused memory client final e new
 
   -- Why it stopped, by the refusal.
   abbrev pub Stopped : {A : Type 0} → SaslRefusal A → Type 0

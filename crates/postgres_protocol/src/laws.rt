@@ -4,15 +4,20 @@
 ghost use Rattle.std.specs.Prelude.{◌≡◌, ℕ, List, [], ◌∷◌, ◌++◌, None};
 ghost use Rattle.pgp_frontend.specs.ClientMessage.{ClientMessage, PasswordKind, Startup};
 ghost use Rattle.pgp_frontend.specs.Payload.{bytes_of, cause, IsInRange};
+ghost use Rattle.pgp_frontend.specs.declared.startup.ProtocolVersion.{ProtocolVersion};
 ghost use Rattle.postgres_protocol.specs.ClientRun.{ClientRun, MayCome, is_opened, kinds_of};
 
 mod array;
 mod row;
 mod sasl;
+mod window;
 
 pub use array::{Step, bind_array, bind_one, bound_arrays_read_back};
 pub use row::row_int4;
 pub use sasl::{SaslRefusal, sasl_exchange};
+pub use window::{
+    arrays_that_fit_are_bound, piece_in_a_window, statement_in_a_window, what_fits_is_added,
+};
 
 /// A server that is told the kinds reads the bytes in one way.
 pub fn one_reading()
@@ -41,8 +46,8 @@ pub fn one_phase()
 
 /// No server reads a startup packet with an empty name, as it is written with the value `x`.
 pub fn no_empty_name()
-    ensures { (kinds : List PasswordKind) (messages : List ClientMessage) →
-        ClientRun kinds messages (bytes_of (Startup (([], 120 ∷ []) ∷ []))) → ⊥ }
+    ensures { (version : ProtocolVersion) (kinds : List PasswordKind) (messages : List ClientMessage) →
+        ClientRun kinds messages (bytes_of (Startup version (([], 120 ∷ []) ∷ []))) → ⊥ }
 {}
 
 /// Later bytes change nothing that was read.

@@ -1,6 +1,6 @@
 //! SASL's SCRAM-SHA-256 (RFC 5802, RFC 7677): the client, and the parts that it is made of.
 
-ghost use Rattle.std.specs.Prelude.{◌≡◌, ℕ, ◌+◌, ◌<◌, ◌^◌, ◌++◌, List, Option, None, max, option_map, unwrap_or, string_bytes, IfOk, IfErr};
+ghost use Rattle.std.specs.Prelude.{◌≡◌, ◌⊎◌, ℕ, ◌+◌, ◌<◌, ◌^◌, ◌++◌, List, Option, None, max, option_map, unwrap_or, string_bytes, IfOk, IfErr};
 ghost use Rattle.std.specs.Str.{IsNotAscii};
 ghost use Rattle.pgp_base.specs.Cause.{WantsMemory};
 ghost use Rattle.pgp_auth.specs.IteratedKey.{salted};
@@ -25,17 +25,20 @@ pub trait SaslPrep {
     // What a text is mapped to, if anything.
     ghost mapping: { Self → List ℕ → Option (List ℕ) };
 
+    // That memory of the mapping's own was refused: what comes from nowhere but such a refusal.
+    ghost Lacks: { Type 0 };
+
     /// The text that is used in the place of `text`, or `None` where `text` is used as it is. `text` isn't
     /// ASCII.
     ///
     /// # Errors
     ///
-    /// `OutOfMemory` where memory for the text is refused, and nothing else: a text that can't be mapped is
-    /// `None`.
+    /// `OutOfMemory` where memory for the text, or the mapping's own, is refused, and nothing else: a text that
+    /// can't be mapped is `None`.
     fn prepare<A: Memory>(&self, alloc: A, text: &str) -> Result<Option<String<A>>, Error>
         requires not_ascii { IsNotAscii text.now }
         ensures ok { IfOk result (λ o. option_map string_bytes o ≡ mapping self.now text.now) }
-        ensures memory { IfErr result (WantsMemory A.Lacks) };
+        ensures memory { IfErr result (WantsMemory (A.Lacks ⊎ Lacks)) };
 }
 
 /// No mapping: each password is used as it is.
@@ -44,6 +47,8 @@ pub struct NoPrep;
 
 impl SaslPrep for NoPrep {
     ghost mapping = { λ _ _. None };
+
+    ghost Lacks = { ⊥ };
 
     fn prepare<A: Memory>(&self, _alloc: A, _text: &str) -> Result<Option<String<A>>, Error> {
         Ok(None)
@@ -58,7 +63,7 @@ pub(crate) fn mapped<A: Memory, P: SaslPrep>(
     prep: &P,
 ) -> Result<Option<String<A>>, Error>
     ensures ok { IfOk result (λ o. unwrap_or (option_map string_bytes o) password.now ≡ prepared (P.mapping prep.now) password.now) }
-    ensures memory { IfErr result (WantsMemory A.Lacks) }
+    ensures memory { IfErr result (WantsMemory (A.Lacks ⊎ P.Lacks)) }
 {
     if password.is_ascii() {
         return Ok(None);

@@ -3,6 +3,7 @@
 ghost use Rattle.std.specs.Prelude.{◌≡◌, List, true, false, [], length, map};
 ghost use Rattle.pgp_base.specs.Held.{items_held};
 ghost use Rattle.pgp_base.specs.Cause.{Wants};
+ghost use Rattle.pgp_base.specs.Wire.{int32};
 ghost use Rattle.std.specs.Iterator.{IsFiniteIterable};
 ghost use Rattle.pgp_base.specs.Calls.{Came, OwesValues};
 ghost use Rattle.pgp_frontend.specs.ClientMessage.{ClientMessage, PasswordKind, CancelRequest, Close, CopyData as DataMessage, CopyDone, CopyFail, Describe, Execute, Flush, PasswordMessage, Query, SaslInitialResponse, SaslResponse, SslRequest, Startup, Sync, Terminate};
@@ -15,7 +16,7 @@ ghost use Rattle.postgres_protocol.specs.ClientStream.{Adds, AddsGiven, AddsMess
 use bytes::{Buf, BytesMut};
 use pgp_base::{BindError, Buffer, Error, IsNull, Oid};
 use pgp_frontend as frontend;
-use pgp_frontend::CopyData;
+use pgp_frontend::{CopyData, ProtocolVersion};
 use std::alloc::{Allocator, Global};
 use std::marker::Model;
 
@@ -93,9 +94,21 @@ impl<B: Buffer> ClientStream<B> {
     /// `OutOfMemory` where a growth was refused. The stream stays as it is.
     pub fn cancel_request(&mut self, process_id: i32, secret_key: i32) -> Result<(), Error>
         requires { self.old.opened ≡ false }
-        ensures { AddsMessage B.held (CancelRequest process_id secret_key) B.Lacks self.old self.new result }
+        ensures { AddsMessage B.held (CancelRequest process_id (int32 secret_key)) B.Lacks self.old self.new result }
     {
         frontend::cancel_request(process_id, secret_key, &mut self.buf)
+    }
+
+    /// The same by a key of any length of this project's profile of protocol 3.2; nothing is claimed of a server's 3.2.
+    ///
+    /// # Errors
+    ///
+    /// `InvalidSize` unless the key has 4 to 256 bytes, and `OutOfMemory` where a growth was refused. The stream stays as it is.
+    pub fn cancel_request_key(&mut self, process_id: i32, secret_key: &[u8]) -> Result<(), Error>
+        requires { self.old.opened ≡ false }
+        ensures { AddsMessage B.held (CancelRequest process_id secret_key.now) B.Lacks self.old self.new result }
+    {
+        frontend::cancel_request_key(process_id, secret_key, &mut self.buf)
     }
 
     /// Opens a session of version 3.0 with these names and values, among them `user`. No name is empty.
@@ -106,10 +119,32 @@ impl<B: Buffer> ClientStream<B> {
     /// `OutOfMemory` where a growth was refused. The stream stays as it is.
     pub fn startup_message(&mut self, parameters: &[(&str, &str)]) -> Result<(), Error>
         requires opening { self.old.opened ≡ false }
-        requires named { IsNamed (Startup (map shown parameters.now)) }
-        ensures { AddsMessage B.held (Startup (map shown parameters.now)) B.Lacks self.old self.new result }
+        requires named { IsNamed (Startup ProtocolVersion.V3_0 (map shown parameters.now)) }
+        ensures { AddsMessage B.held (Startup ProtocolVersion.V3_0 (map shown parameters.now)) B.Lacks self.old self.new result }
     {
-        match frontend::startup_message(parameters.iter().copied(), &mut self.buf) {
+        self.startup_message_version(ProtocolVersion::V3_0, parameters)
+    }
+
+    /// Opens a session of this version with these names and values, among them `user`. No name is empty.
+    ///
+    /// # Errors
+    ///
+    /// `EmbeddedNull` where a name or a value has a 0 byte, `TooLarge` where the message passes the greatest `i32`, and
+    /// `OutOfMemory` where a growth was refused. The stream stays as it is.
+    pub fn startup_message_version(
+        &mut self,
+        version: ProtocolVersion,
+        parameters: &[(&str, &str)],
+    ) -> Result<(), Error>
+        requires opening { self.old.opened ≡ false }
+        requires named { IsNamed (Startup version (map shown parameters.now)) }
+        ensures { AddsMessage B.held (Startup version (map shown parameters.now)) B.Lacks self.old self.new result }
+    {
+        match frontend::startup_message_version(
+            version,
+            parameters.iter().copied(),
+            &mut self.buf,
+        ) {
             Ok(()) => {
                 self.opened = true;
                 Ok(())

@@ -5,7 +5,8 @@ ghost use Rattle.pgp_base.specs.Cause.{WantsMemory};
 ghost use Rattle.pgp_message.specs.Found.{TakesSome};
 ghost use Rattle.pgp_message.specs.Remembered.{Fits};
 ghost use Rattle.pgp_message.specs.Views.{seen};
-ghost use Rattle.postgres_protocol.specs.ServerStream.{HasRead, Feeds, HandsOut, TakesAll, Moves, TakesPart, kept_or_piece};
+ghost use Rattle.postgres_protocol.specs.ServerStream.{HasRead, Feeds, HandsOut};
+ghost use Rattle.postgres_protocol.specs.ServerSteps.{TakesAll, Moves, TakesPart, kept_or_piece};
 
 use super::parsed::Parsed;
 use bytes::Bytes;
@@ -30,7 +31,7 @@ impl<A: Memory> Model for StreamParser<A> {
     ghost use Rattle.std.specs.Prelude.{map};
     ghost use Rattle.pgp_message.specs.Views.{seen};
     ghost use Rattle.postgres_protocol.specs.ServerStream.{Reading};
-    ghost use Rattle.postgres_protocol.specs.ServerStream.{IsSound};
+    ghost use Rattle.postgres_protocol.specs.ServerSteps.{IsSound};
 
     ghost Value = { Reading };
 
@@ -65,9 +66,9 @@ impl<A: Memory> StreamParser<A> {
     ///
     /// # Errors
     ///
-    /// `OutOfMemory` where memory was refused for the piece, for a message, for room for a frame that isn't whole or for the
-    /// list of results. Then the parser has failed: its results stand, but nothing more can be read. A refused frame is no
-    /// error of the call: its refusal stands among the results.
+    /// `OutOfMemory` where memory was refused for the piece, for a message or for the list of results. Then the parser has
+    /// failed: its results stand, but nothing more can be read. Room for what is missing of a frame is asked for ahead, and a
+    /// refusal of that isn't told. A refused frame is no error of the call: its refusal stands among the results.
     pub fn feed(&mut self, piece: &[u8]) -> Result<(), Error>
         requires { self.old.failed ≡ false }
         ensures { Feeds piece.now A.Lacks self.old self.new result }
@@ -283,7 +284,8 @@ fn share_front<A: Memory>(
     Ok(whole)
 }
 
-/// Keeps bytes of a frame behind which so many more are missing, with room for those.
+/// Keeps bytes of a frame behind which so many more are missing, with room for those where there is memory for it. Where
+/// there is none yet, as while results wait to be taken, room is asked for again with the next bytes.
 fn keep_partial<A: Memory>(
     rest: &mut Vec<u8, A>,
     cut: &[u8],
@@ -296,6 +298,6 @@ fn keep_partial<A: Memory>(
     if cut.is_empty() {
         return Ok(());
     }
-    A::reserve(rest, cut.len().saturating_add(missing))?;
+    let _ = A::reserve(rest, cut.len().saturating_add(missing));
     A::extend(rest, cut)
 }

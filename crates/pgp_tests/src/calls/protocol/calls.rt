@@ -3,7 +3,7 @@
 
 use bytes::BytesMut;
 use pgp_base::{Buffer, put_u32};
-use postgres_protocol::message::frontend::CopyData;
+use postgres_protocol::message::frontend::{CopyData, ProtocolVersion};
 use postgres_protocol::session::ClientStream;
 use postgres_protocol::{BindError, Error, IsNull};
 use std::test::Fail;
@@ -69,7 +69,9 @@ fn begin<B: Buffer>(number: usize, stream: &mut ClientStream<B>) -> Result<(), E
         0 => stream.ssl_request(),
         1 => stream.cancel_request(1, 2),
         2 => stream.startup_message(&[("user", "alice")]),
-        _ => stream.startup_message(&[]),
+        3 => stream.startup_message(&[]),
+        4 => stream.startup_message_version(ProtocolVersion::V3_2, &[("user", "alice")]),
+        _ => stream.cancel_request_key(1, b"\x01\x02\x03\x04\x05"),
     }
 }
 
@@ -126,11 +128,16 @@ fn calls_before_a_session(rt: HostRuntime) -> Result<(), Fail> {
         ),
         (2, b"\0\0\0\x14\0\x03\0\0user\0alice\0\0".as_slice()),
         (3, STARTUP),
+        (4, b"\0\0\0\x14\0\x03\0\x02user\0alice\0\0".as_slice()),
+        (
+            5,
+            b"\0\0\0\x11\x04\xd2\x16\x2e\0\0\0\x01\x01\x02\x03\x04\x05".as_slice(),
+        ),
     ] {
         let mut stream = ClientStream::<BytesMut>::new(rt.alloc());
         assert_eq!(rt; begin(number, &mut stream), Ok(()));
         assert_eq!(rt; stream.bytes(), bytes);
-        assert_eq!(rt; stream.is_open(), number >= 2);
+        assert_eq!(rt; stream.is_open(), (2..5).contains(&number));
     }
     Ok(())
 }

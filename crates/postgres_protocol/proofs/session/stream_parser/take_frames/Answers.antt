@@ -1,7 +1,7 @@
 use Rattle.std.proofs.Common.{◌≡◌, ◌<◌, ◌++◌, length, map, rules, refl}
 use Rattle.std.proofs.lemmas.List.{nil_from_length}
 use Rattle.pgp_message.specs.Views.{seen}
-use Rattle.postgres_protocol.specs.ServerStream.{Moves, TakesPart}
+use Rattle.postgres_protocol.specs.ServerSteps.{Moves, TakesPart}
 use Rattle.pgp_message.specs.Found.{TakesSome}
 use Rattle.postgres_protocol.proofs.Pieces.{Completing, completing_none, completing_by, completing_fails, part_read, part_ends, part_stops, part_fails, part_shorter}
 use Rattle.postgres_protocol.proofs.session.stream_parser.take_frames.Goals as goal

@@ -3,7 +3,7 @@ use Rattle.std.proofs.Math.ListN.{drop_of_length-le}
 use Rattle.pgp_message.specs.Found.{Found, FindsAll, TakesEach, TakesSome}
 use Rattle.pgp_message.specs.Views.{seen}
 use Rattle.pgp_message.proofs.FindLemmas.{takes_none}
-use Rattle.postgres_protocol.specs.ServerStream.{TakesAll, kept_or_piece}
+use Rattle.postgres_protocol.specs.ServerSteps.{TakesAll, kept_or_piece}
 use Rattle.postgres_protocol.proofs.Pieces.{whole_taken, whole_some, next_kept, next_piece, some_of_next, some_of_all, part_of_kept, part_of_piece}
 use Rattle.postgres_protocol.proofs.session.stream_parser.take_whole.Goals as goal
 

@@ -1,6 +1,7 @@
 use Rattle.std.proofs.Common.{◌≡◌, ◌++◌, true, false, map, refl, rules, ap, subst, ◌∙◌}
 use Rattle.pgp_message.specs.Views.{seen}
-use Rattle.postgres_protocol.specs.ServerStream.{Reading, GoesOn, Fails, TakesAll}
+use Rattle.postgres_protocol.specs.ServerStream.{Reading, GoesOn, Fails}
+use Rattle.postgres_protocol.specs.ServerSteps.{TakesAll}
 use Rattle.pgp_message.specs.Found.{TakesSome}
 use Rattle.postgres_protocol.proofs.Pieces.{goes_on, stays_stopped, fails_at_once, fails_behind, stopped_long}
 use Rattle.postgres_protocol.proofs.session.stream_parser.StreamParser.feed.Goals as goal

@@ -1,0 +1,10 @@
+use Rattle.std.proofs.Common.{ap, ◌∙◌}
+use Rattle.std.proofs.Math.Facts.{to_z-of_z}
+use Rattle.pgp_base.specs.Wire.{int32}
+use Rattle.pgp_frontend.proofs.Keys.{number_key, same_cancel}
+use Rattle.pgp_frontend.proofs.startup.cancel_request.Goals as goal
+
+pub returns : goal.returns
+returns g c =
+    let key = number_key _ _ c.to_be_bytes.ensures ∙ ap int32 (to_z-of_z c.ranges.secret_key) in
+    same_cancel g.B.Buffer.Lacks (g.B.Buffer.held c.args.buf.now) (g.B.Buffer.held c.cancel_request_key.new.buf) c.cancel_request_key.result (to_z-of_z c.ranges.process_id) key c.cancel_request_key.ensures
