@@ -2,7 +2,6 @@
 -- PostgreSQL manual, "Message Flow" and "Messaging Overview".
 use Rattle.std.specs.Prelude.{◌≡◌, ℕ, ◌+◌, ◌<◌, ◌≤◌, ◌^◌, Bool, true, false, List, [], ◌∷◌, ◌++◌, length, Option, Some, None, Result, Ok, Err, ◌⊎◌, ◌==◌}
 use Rattle.std.specs.List.{flat_map, list_any, AllByRecursion}
-use Rattle.pgp_base.specs.PartReading.{oid_at}
 use Rattle.pgp_base.specs.Wire.{frame, uint32, IsBytes}
 use Rattle.pgp_base.specs.declared.error.Error.{Error}
 use Rattle.pgp_base.specs.declared.error.Error.TheVariants as errors
@@ -90,7 +89,7 @@ keeping_tags = 65 ∷ 67 ∷ 68 ∷ 69 ∷ 71 ∷ 72 ∷ 78 ∷ 83 ∷ 84 ∷ 10
 -- the bytes of an exchange or the names of mechanisms.
 abbrev pub KeepsBytes : ℕ → List ℕ → Type 0
 KeepsBytes tag payload = (list_any (λ t. t == tag) keeping_tags ≡ true)
-    ⊎ ((tag ≡ 82) × (code : ℕ) × (rest : List ℕ) × (oid_at payload ≡ Some (code, rest)) × ((code ≡ 8) ⊎ ((10 ≤ code) × (code ≤ 12))))
+    ⊎ ((tag ≡ 82) × (code : ℕ) × (rest : List ℕ) × (payload ≡ uint32 code ++ rest) × (code < 2 ^ 32) × ((code ≡ 8) ⊎ ((10 ≤ code) × (code ≤ 12))))
 
 -- the bytes begin with the whole frame of such a message
 pub record BeginsWithKept (bytes : List ℕ) : Type 0 where
