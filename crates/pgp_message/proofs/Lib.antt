@@ -10,6 +10,7 @@ pub mod TextLemmas
 pub mod NumberLemmas
 pub mod RangeLemmas
 pub mod TableLemmas
+pub mod ColumnLemmas
 pub mod FieldLemmas
 pub mod ErrorFieldLemmas
 pub mod Headers

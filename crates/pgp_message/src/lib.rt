@@ -30,7 +30,7 @@ pub use header::Header;
 pub use in_place::Messages;
 pub use message::Message;
 pub use parser::FrameParser;
-pub use row_index::RowIndex;
+pub use row_index::{RowColumns, RowIndex, RowPlaces};
 pub use storage::Storage;
 pub use tag::{
     AUTHENTICATION_TAG, BACKEND_KEY_DATA_TAG, BIND_COMPLETE_TAG, CLOSE_COMPLETE_TAG,

@@ -3,7 +3,7 @@
 
 use bytes::{Bytes, BytesMut};
 use pgp_base::{Error, FallibleIterator};
-use pgp_message::{DataRowBody, FrameParser, Message, Messages, read_frames};
+use pgp_message::{DataRowBody, FrameParser, Message, Messages, RowPlaces, read_frames};
 use pgp_test_alloc::Refusing;
 use std::alloc::{AllocError, Allocator, Global};
 use std::process::Abort;
@@ -336,6 +336,39 @@ fn index_with_each_allocation_refused(rt: HostRuntime) -> Result<(), Fail> {
     let heap = Refusing::new(rt.alloc(), 1);
     assert_eq!(rt; columns(&heap, cut), Err(Error::UnexpectedEof));
     assert!(rt; heap.until_refusal.get() != 0);
+    Ok(())
+}
+
+// How many columns the first message has, which has to be a row, by a table in this memory.
+fn columns_again<A: Allocator + Copy>(
+    places: &mut RowPlaces<A>,
+    bytes: &[u8],
+) -> Result<usize, Error> {
+    match Messages::new(bytes).next() {
+        Ok(Some(Message::DataRow(row))) => Ok(row.index_into(places)?.len()),
+        other => {
+            drop(other);
+            Err(Error::InvalidCount)
+        }
+    }
+}
+
+// A table that is made again asks for memory once, also where another row was refused in between.
+#[test]
+fn a_table_is_made_again_without_memory(rt: HostRuntime) -> Result<(), Fail> {
+    let two = b"\x44\0\0\0\x0e\0\x02\xff\xff\xff\xff\xff\xff\xff\xff";
+    let one = b"\x44\0\0\0\x0b\0\x01\0\0\0\x01\x7a";
+    let cut = b"\x44\0\0\0\x0a\0\x02\xff\xff\xff\xff";
+    let heap = Refusing::new(rt.alloc(), 1);
+    let mut places = RowPlaces::new(&heap);
+    assert_eq!(rt; columns_again(&mut places, two), Err(Error::OutOfMemory));
+    assert_eq!(rt; columns_again(&mut places, two), Ok(2));
+    heap.until_refusal.set(1);
+    for row in [one.as_slice(), two.as_slice()] {
+        assert_eq!(rt; columns_again(&mut places, cut), Err(Error::UnexpectedEof));
+        assert!(rt; columns_again(&mut places, row).is_ok());
+    }
+    assert_eq!(rt; heap.until_refusal.get(), 1);
     Ok(())
 }
 

@@ -1,15 +1,17 @@
 //! What a query answers.
 
 ghost use Rattle.std.specs.Prelude.{◌≡◌, ◌≤◌, length, Some, IfOk, IfErr, MatchResult};
+ghost use Rattle.std.specs.Option.{option_map};
+ghost use Rattle.std.specs.Result.{result_map_both};
 ghost use Rattle.std.specs.Str.{IsUtf8};
 ghost use Rattle.pgp_base.specs.Cause.{WantsMemory};
 ghost use Rattle.pgp_base.specs.Items.{CountedItems};
 ghost use Rattle.pgp_message.specs.Items.{RangeSpelled, RangeRefused, FieldSpelled, FieldRefused, TypeSpelled, TypeRefused};
 ghost use Rattle.pgp_message.specs.Reading.{string_of, counted_of};
-ghost use Rattle.pgp_message.specs.Table.{Tabulates};
+ghost use Rattle.pgp_message.specs.Table.{Tabulates, HasColumn};
 
 use crate::body::counted::CountedBytes;
-use crate::row_index::RowIndex;
+use crate::row_index::{RowColumns, RowIndex, RowPlaces, nth_value};
 use crate::storage::Storage;
 use crate::walk::{DataRowRanges, Fields, Parameters};
 use bytes::Bytes;
@@ -125,6 +127,32 @@ impl<A: Allocator> DataRowBody<Bytes<A>> {
         RowIndex::over(alloc, self.row.storage.as_slice(), self.row.len)
     }
 
+    /// The same table in memory that is used again for each row: once a row of as many columns has come, no more is asked for.
+    ///
+    /// # Errors
+    ///
+    /// As `index`. What the memory held is lost.
+    pub fn index_into<'t, T: Memory>(
+        &'t self,
+        places: &'t mut RowPlaces<T>,
+    ) -> Result<RowColumns<'t, 't>, Error>
+        ensures { Tabulates self.now T.Lacks result }
+    {
+        places.over(self.row.storage.as_slice(), self.row.len)
+    }
+
+    /// The bytes of column `i`, counted from 0, with no table: `Some(None)` for a null, `None` where the row has no such column.
+    /// The columns before it are walked over, and what stands behind it isn't looked at: `index` is the better way to more than one.
+    ///
+    /// # Errors
+    ///
+    /// The refusal of the walk, where it comes no further than to a column before.
+    pub fn column(&self, i: usize) -> Result<Option<Option<&[u8]>>, Error>
+        ensures { HasColumn self.now i (result_map_both (option_map (option_map (λ value. value.now))) (λ e. e) result) }
+    {
+        nth_value(self.row.storage.as_slice(), self.row.len, i)
+    }
+
     /// The same bytes, as they are shared.
     pub fn buffer_bytes(&self) -> &Bytes<A>
         ensures { result.now ≡ self.now.storage }
@@ -178,6 +206,32 @@ impl<'a> DataRowBody<&'a [u8]> {
         ensures { Tabulates self.now A.Lacks result }
     {
         RowIndex::over(alloc, self.row.storage, self.row.len)
+    }
+
+    /// The same table in memory that is used again for each row: once a row of as many columns has come, no more is asked for.
+    ///
+    /// # Errors
+    ///
+    /// As `index`. What the memory held is lost.
+    pub fn index_into<'t, A: Memory>(
+        &self,
+        places: &'t mut RowPlaces<A>,
+    ) -> Result<RowColumns<'a, 't>, Error>
+        ensures { Tabulates self.now A.Lacks result }
+    {
+        places.over(self.row.storage, self.row.len)
+    }
+
+    /// The bytes of column `i`, counted from 0, with no table: `Some(None)` for a null, `None` where the row has no such column.
+    /// The columns before it are walked over, and what stands behind it isn't looked at: `index` is the better way to more than one.
+    ///
+    /// # Errors
+    ///
+    /// The refusal of the walk, where it comes no further than to a column before.
+    pub fn column(&self, i: usize) -> Result<Option<Option<&'a [u8]>>, Error>
+        ensures { HasColumn self.now i (result_map_both (option_map (option_map (λ value. value.now))) (λ e. e) result) }
+    {
+        nth_value(self.row.storage, self.row.len, i)
     }
 }
 

@@ -3,7 +3,9 @@
 
 use bytes::{Bytes, BytesMut};
 use pgp_base::{Error, FallibleIterator};
-use pgp_message::{DataRowBody, FrameParser, Header, Message, Messages, Storage, read_frames};
+use pgp_message::{
+    DataRowBody, FrameParser, Header, Message, Messages, RowPlaces, Storage, read_frames,
+};
 use std::alloc::Global;
 use std::process::Abort;
 use std::test::Fail;
@@ -380,5 +382,47 @@ fn the_columns_at_hand_are_those_of_the_walk(rt: HostRuntime) -> Result<(), Fail
     for column in 0..3usize {
         assert_eq!(rt; ranges.next(), Ok(index.range(column)));
     }
+    Ok(())
+}
+
+/// A row of the one column `z`.
+const NARROW: &[u8] = b"\x44\0\0\0\x0b\0\x01\0\0\0\x01\x7a";
+
+/// A row of two columns, of which the second is cut short.
+const CUT: &[u8] = b"\x44\0\0\0\x0f\0\x02\0\0\0\x01\x61\0\0\0\x05";
+
+#[test]
+fn a_table_is_made_again_for_each_row(rt: HostRuntime) -> Result<(), Fail> {
+    let mut places = RowPlaces::new(rt.alloc());
+    let wide = row(rt.alloc(), ROW)?;
+    let columns = wide.index_into(&mut places)?;
+    assert_eq!(rt; columns.len(), 3);
+    assert_eq!(rt; columns.value(0), Some(Some(b"a".as_slice())));
+    assert_eq!(rt; columns.value(1), Some(None));
+    assert_eq!(rt; columns.range(2), Some(Some(13..13usize)));
+    let narrow = row(rt.alloc(), NARROW)?;
+    let columns = narrow.index_into(&mut places)?;
+    assert_eq!(rt; columns.len(), 1);
+    assert_eq!(rt; columns.value(0), Some(Some(b"z".as_slice())));
+    assert_eq!(rt; columns.value(1), None);
+    let cut = row(rt.alloc(), CUT)?;
+    assert!(rt; matches!(cut.index_into(&mut places), Err(Error::UnexpectedEof)));
+    assert_eq!(rt; wide.index_into(&mut places)?.value(1), Some(None));
+    Ok(())
+}
+
+#[test]
+fn a_column_without_a_table(rt: HostRuntime) -> Result<(), Fail> {
+    let wide = row(rt.alloc(), ROW)?;
+    assert_eq!(rt; wide.column(0), Ok(Some(Some(b"a".as_slice()))));
+    assert_eq!(rt; wide.column(1), Ok(Some(None)));
+    assert_eq!(rt; wide.column(2), Ok(Some(Some(b"".as_slice()))));
+    for past in [3usize, 4, usize::MAX] {
+        assert_eq!(rt; wide.column(past), Ok(None));
+    }
+    let cut = row(rt.alloc(), CUT)?;
+    assert_eq!(rt; cut.column(0), Ok(Some(Some(b"a".as_slice()))));
+    assert_eq!(rt; cut.column(1), Err(Error::UnexpectedEof));
+    assert_eq!(rt; cut.column(2), Err(Error::UnexpectedEof));
     Ok(())
 }

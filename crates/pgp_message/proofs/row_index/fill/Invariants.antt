@@ -1,6 +1,6 @@
 use Rattle.std.proofs.Common.{length}
 use Rattle.pgp_base.proofs.Walks.{HasCollected}
-use Rattle.pgp_message.proofs.row_index.places.Given as goal
+use Rattle.pgp_message.proofs.row_index.fill.Given as goal
 
 abbrev pub invariant-places : goal.invariant-places
 invariant-places g l = HasCollected (λ place. place) l.fn.ranges l.places.items l.ranges
