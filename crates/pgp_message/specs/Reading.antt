@@ -54,6 +54,15 @@ key_data_of payload = do
   id ← int32_at payload
   key_of id.0 id.1
 
+abbrev pub count_of : ℤ → Result ℕ Error
+count_of (pos count) = Ok count
+count_of (negsuc below) = Err InvalidCount
+
+unfoldable pub count_at : List ℕ → Result ℕ Error
+count_at bytes = do
+  count ← int32_at bytes
+  count_of count.0
+
 -- what is left are the options, unless their count is negative
 abbrev pub options_of : ℤ → ℤ → List ℕ → Result Negotiation Error
 options_of version (pos count) options = Ok (record { version = version; count = count; options = options })

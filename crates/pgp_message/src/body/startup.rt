@@ -5,7 +5,7 @@ ghost use Rattle.std.specs.Prelude.{◌≡◌, ◌≢◌, ◌≤◌, length, Som
 ghost use Rattle.pgp_base.specs.Items.{CountedItems};
 ghost use Rattle.pgp_base.specs.Wire.{int32};
 ghost use Rattle.pgp_message.specs.Items.{TextSpelled, TextRefused};
-ghost use Rattle.pgp_message.specs.Reading.{key_data_of, negotiation_of};
+ghost use Rattle.pgp_message.specs.Reading.{count_at, key_data_of, negotiation_of};
 
 use crate::storage::Storage;
 use crate::walk::ProtocolOptions;
@@ -127,10 +127,7 @@ impl<S: Storage> NegotiateProtocolVersionBody<S> {
     {
         let (version, _) = int32_at(payload.as_slice())?;
         payload.skip(4);
-        let (count, _) = int32_at(payload.as_slice())?;
-        let Ok(len) = usize::try_from(count) else {
-            return Err(Error::InvalidCount);
-        };
+        let len = count_at(payload.as_slice())?;
         payload.skip(4);
         Ok(NegotiateProtocolVersionBody {
             version,
@@ -144,6 +141,18 @@ impl<S: Storage> NegotiateProtocolVersionBody<S> {
         ensures { result ≡ self.now.version }
     {
         self.version
+    }
+}
+
+/// A count, refused where it is negative.
+#[tactic(auto, unfolding(crate::specs::Reading::count_at))]
+fn count_at(bytes: &[u8]) -> Result<usize, Error>
+    ensures { result ≡ count_at bytes.now }
+{
+    let (count, _) = int32_at(bytes)?;
+    match usize::try_from(count) {
+        Ok(n) => Ok(n),
+        Err(_) => Err(Error::InvalidCount),
     }
 }
 
