@@ -1,6 +1,6 @@
 """Makes data/lengths.rows: `python3 expected/lengths.py > data/lengths.rows`, in crates/pgp_hostile.
 
-Written from the manual's "Message Formats" and from what PostgreSQL's `array_send`, `hstore_send`, `path_send`, `range_send` and
+Written from the manual's "Message Formats" (the message `v` from this project's profile of protocol 3.2) and from what PostgreSQL's `array_send`, `hstore_send`, `path_send`, `range_send` and
 `varbit_send` write, and not from the code of this repository. Which refusal comes for what is the table of refusals in the
 repository's README: a length or count that is cut is UnexpectedEof, one that can't be has a name of its own, and bytes that are
 left behind a list are NotDrained.
@@ -87,6 +87,18 @@ def columns(data):
     return walk(count, count, parts.rest(), column)[0]
 
 
+def option(parts):
+    return hexed(utf8(parts.string()))
+
+
+def options(data):
+    parts = Parts(data)
+    version, count = parts.number(4, True), parts.number(4, True)
+    if count < 0:
+        raise Refused("InvalidCount")
+    return f"{version} {walk(count, count, parts.rest(), option)[0]}"
+
+
 def array(data):
     parts = Parts(data)
     dimensions = parts.number(4, True)
@@ -153,6 +165,7 @@ def bounds(data):
 CASES = [
     (row, "0003 00000001 61 ffffffff 00000000", {0: 2, 2: 4, 7: 4, 11: 4}),
     (columns, "0001 6100 00000000 0000 00000017 0004 ffffffff 0000", {0: 2}),
+    (options, "00030000 00000002 5f70715f2e78 00 00", {4: 4}),
     (array, "00000001 00000000 00000017 7fffffff 00000001", {0: 4, 12: 4}),
     (array, "00000002 00000001 0000000a 00000001 0000000a 00000002 00000000 ffffffff 00000005 68656c6c6f",
      {0: 4, 12: 4, 20: 4, 28: 4, 32: 4}),

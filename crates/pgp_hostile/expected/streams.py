@@ -1,7 +1,7 @@
 """What pgp_hostile has to print of its streams: `python3 expected/streams.py`, in crates/pgp_hostile.
 
-Written from the PostgreSQL manual ("Message Formats") and from README.md of this crate, and not from the code of this
-repository. A part that doesn't fit is UnexpectedEof, bytes behind the last part are NotDrained, and the frame's own length
+Written from the PostgreSQL manual ("Message Formats"; keys that haven't four bytes and the message `v` from this project's profile
+of protocol 3.2) and from README.md of this crate, and not from the code of this repository. A part that doesn't fit is UnexpectedEof, bytes behind the last part are NotDrained, and the frame's own length
 alone says where the next frame begins.
 """
 
@@ -79,6 +79,9 @@ class Parts:
             raise Refused("UnexpectedEof")
         return self.take(end + 1 - self.at)[:-1]
 
+    def most(self, count):
+        return self.take(min(count, self.left()))
+
     def rest(self):
         return self.take(self.left())
 
@@ -132,6 +135,15 @@ def value_place(parts):
     parts.take(size)
     start, end = parts.at - size, parts.at
     return lambda total: (total.size(start), total.size(end))
+
+
+def option(parts):
+    name = parts.string()
+    try:
+        name.decode("utf-8")
+    except UnicodeDecodeError:
+        raise Refused("NotUtf8")
+    return lambda total: total.bytes(name)
 
 
 def column(parts):
@@ -240,8 +252,14 @@ def read_body(tag, parts):
         text = parts.string()
         return "CommandComplete", lambda t: t.text(text)
     if tag == "K":
-        numbers = parts.take(4) + parts.take(4)
-        return "BackendKeyData", lambda t: t.plain(numbers)
+        process, key = parts.take(4), parts.take(4) + parts.most(256 - 4)
+        return "BackendKeyData", lambda t: (t.plain(process), t.bytes(key), t.plain(key) if len(key) == 4 else None)
+    if tag == "v":
+        version, count = parts.take(4), parts.number(4, True)
+        if count < 0:
+            raise Refused("InvalidCount")
+        data = parts.rest()
+        return "NegotiateProtocolVersion", lambda t: (t.plain(version), add_counted(t, count, data, option))
     if tag == "S":
         name, value = parts.string(), parts.string()
         return "ParameterStatus", lambda t: (t.text(name), t.text(value))
@@ -340,7 +358,7 @@ def show_cuts():
 def show_session():
     frames = frames_of("data/session.hex")
     before, _, _ = read_stream(b"".join(frames))
-    assert len(before) == len(frames) == 31
+    assert len(before) == len(frames) == 33
     for at, frame in enumerate(frames):
         alone, more, total, streams = [], [], Sum(), 0
         for place, old in enumerate(frame):

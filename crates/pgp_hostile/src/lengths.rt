@@ -4,7 +4,9 @@ use crate::data::{append, is_data};
 use crate::fault::Fault;
 use crate::shown::Shown;
 use crate::walks::show_walk;
-use pgp_message::{DataRowBody, Field, Message, Messages, RowDescriptionBody};
+use pgp_message::{
+    DataRowBody, Field, Message, Messages, NegotiateProtocolVersionBody, RowDescriptionBody,
+};
 use pgp_types::{
     Array, ArrayDimension, Path, Point, Range, RangeBound, array_from_sql, hstore_from_sql,
     path_from_sql, range_from_sql, varbit_from_sql,
@@ -55,6 +57,21 @@ fn show_columns(
     )
 }
 
+fn show_options(
+    body: &NegotiateProtocolVersionBody<&[u8]>,
+    most: usize,
+    out: &mut Shown,
+) -> Result<(), Fault> {
+    out.number(body.version())?;
+    show_walk(
+        body.options(),
+        body.options(),
+        |name: &str, out: &mut Shown| out.nullable(Some(name.as_bytes())),
+        most,
+        out,
+    )
+}
+
 /// A body behind its tag and length.
 fn show_body(tag: u8, body: &[u8], out: &mut Shown) -> Result<(), Fault> {
     let len = u32::try_from(body.len().saturating_add(4)).map_err(|_| Fault::Data)?;
@@ -64,6 +81,10 @@ fn show_body(tag: u8, body: &[u8], out: &mut Shown) -> Result<(), Fault> {
     match Messages::new(frame.as_slice()).next() {
         Ok(Some(Message::DataRow(row))) => show_row(&row, out),
         Ok(Some(Message::RowDescription(columns))) => show_columns(&columns, body.len(), out),
+        Ok(Some(Message::NegotiateProtocolVersion(answer))) => {
+            show_options(&answer, body.len(), out)
+        }
+        Err(e) => out.number(e),
         other => {
             drop(other);
             Err(Fault::Data)
@@ -192,6 +213,7 @@ fn read(call: &str, bytes: &[u8], out: &mut Shown) -> Result<(), Fault> {
     match call {
         "row" => show_body(b'D', bytes, out),
         "columns" => show_body(b'T', bytes, out),
+        "options" => show_body(b'v', bytes, out),
         "array" => read_array(bytes, out),
         "hstore" => read_hstore(bytes, out),
         "path" => read_path(bytes, out),

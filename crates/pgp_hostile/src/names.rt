@@ -17,6 +17,7 @@ fn name_with_body<S: Storage>(message: &Message<S>) -> &'static str {
         Message::CopyOutResponse(_) => "CopyOutResponse",
         Message::DataRow(_) => "DataRow",
         Message::ErrorResponse(_) => "ErrorResponse",
+        Message::NegotiateProtocolVersion(_) => "NegotiateProtocolVersion",
         Message::NoticeResponse(_) => "NoticeResponse",
         Message::NotificationResponse(_) => "NotificationResponse",
         Message::ParameterDescription(_) => "ParameterDescription",

@@ -5,7 +5,7 @@ use bytes::Bytes;
 use pgp_base::Error;
 use pgp_message::{
     ColumnFormats, DataRowRanges, ErrorField, ErrorFields, Field, Fields, Message, Parameters,
-    RowIndex, SaslMechanisms,
+    ProtocolOptions, RowIndex, SaslMechanisms,
 };
 use std::ops::Range;
 
@@ -95,6 +95,22 @@ fn add_mechanisms(mechanisms: SaslMechanisms<'_>, sum: &mut Sum) {
     );
 }
 
+fn add_options(options: ProtocolOptions<'_>, sum: &mut Sum) {
+    add_walk(
+        options,
+        |name: &str, sum: &mut Sum| sum.bytes(name.as_bytes()),
+        sum,
+    );
+}
+
+/// A key: its bytes, and its number, if it is one.
+fn add_key(number: Option<i32>, bytes: &[u8], sum: &mut Sum) {
+    sum.bytes(bytes);
+    if let Some(number) = number {
+        sum.plain(&number.to_be_bytes());
+    }
+}
+
 fn add_types(types: Parameters<'_>, sum: &mut Sum) {
     add_walk(
         types,
@@ -123,7 +139,11 @@ macro_rules! login_parts {
             Message::AuthenticationSaslFinal(body) => $sum.bytes(body.data()),
             Message::BackendKeyData(body) => {
                 $sum.plain(&body.process_id().to_be_bytes());
-                $sum.plain(&body.secret_key().to_be_bytes());
+                add_key(body.secret_key(), body.secret_key_bytes(), $sum);
+            }
+            Message::NegotiateProtocolVersion(body) => {
+                $sum.plain(&body.version().to_be_bytes());
+                add_options(body.options(), $sum);
             }
             other => $others(other, $sum),
         }

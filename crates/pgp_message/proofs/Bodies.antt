@@ -1,13 +1,15 @@
 -- What reading a body from the left answers is the one result that the grammar allows.
-use Rattle.std.proofs.Common.{◌≡◌, ◌≢◌, ℕ, ℤ, pos, List, [], ◌∷◌, ◌++◌, Result, Ok, Err, refl, sym, ap, subst, ◌∙◌}
+use Rattle.std.specs.Prelude.{◌≤◌, length, nat_lt, if◌then◌else◌}
+use Rattle.std.proofs.Common.{◌≡◌, ◌≢◌, ℕ, ℤ, Bool, true, false, pos, negsuc, arith, length-append, List, [], ◌∷◌, ◌++◌, Result, Ok, Err, refl, sym, ap, subst, ◌∙◌}
 use Rattle.std.proofs.lemmas.List.{append-nil}
+use Rattle.std.proofs.lemmas.Bool.{le-ltb}
 use Rattle.pgp_base.specs.declared.error.Error.{Error}
 use Rattle.pgp_base.specs.declared.error.Error.TheVariants as errors
 use Rattle.pgp_base.specs.Wire.{int32, text, HasNoZero, IsBytes}
-use Rattle.pgp_message.specs.Parts.{CountedBytes, CopyFormats}
-use Rattle.pgp_message.specs.BackendMessage.{Request, AuthenticationOk, AuthenticationKerberosV5, AuthenticationCleartextPassword, AuthenticationMd5Password, AuthenticationScmCredential, AuthenticationGss, AuthenticationGssContinue, AuthenticationSspi, AuthenticationSasl, AuthenticationSaslContinue, AuthenticationSaslFinal, Message, ParseComplete, BindComplete, CloseComplete, NotificationResponse, CommandComplete, DataRow, ErrorResponse, CopyInResponse, CopyOutResponse, EmptyQueryResponse, BackendKeyData, NoticeResponse, Authentication, ParameterStatus, RowDescription, ReadyForQuery, CopyDone, CopyData, NoData, PortalSuspended, ParameterDescription, tag_of, counted_bytes, copy_formats, payload_of, Fits, Spells, IsUnknownCode, Body}
-use Rattle.pgp_message.specs.Reading.{ended, made, byte_of, string_of, setting_of, notification_of, key_data_of, counted_of, copy_of, request_of, bare_of, body_of}
-use Rattle.pgp_message.proofs.Families.{Reads, string_again, setting_again, notification_again, key_data_again, counted_again, copy_again, byte_again, string_reads, setting_reads, setting_parts, SettingFits, notification_reads, notification_parts, NotificationFits, key_data_reads, key_parts, KeyFits, counted_reads, CountFits, copy_reads, CopyFits, byte_reads}
+use Rattle.pgp_message.specs.Parts.{KeyData, CountedBytes, Negotiation, CopyFormats}
+use Rattle.pgp_message.specs.BackendMessage.{Request, AuthenticationOk, AuthenticationKerberosV5, AuthenticationCleartextPassword, AuthenticationMd5Password, AuthenticationScmCredential, AuthenticationGss, AuthenticationGssContinue, AuthenticationSspi, AuthenticationSasl, AuthenticationSaslContinue, AuthenticationSaslFinal, Message, ParseComplete, BindComplete, CloseComplete, NotificationResponse, CommandComplete, DataRow, ErrorResponse, CopyInResponse, CopyOutResponse, EmptyQueryResponse, BackendKeyData, NegotiateProtocolVersion, NoticeResponse, Authentication, ParameterStatus, RowDescription, ReadyForQuery, CopyDone, CopyData, NoData, PortalSuspended, ParameterDescription, tag_of, counted_bytes, copy_formats, payload_of, Fits, Spells, IsUnknownCode, HasNegativeCount, Body}
+use Rattle.pgp_message.specs.Reading.{ended, made, byte_of, string_of, setting_of, notification_of, key_of, key_data_of, negotiation_of, counted_of, copy_of, request_of, bare_of, body_of}
+use Rattle.pgp_message.proofs.Families.{Reads, string_again, setting_again, notification_again, key_data_again, key_whole, negotiation_again, negative_again, NegotiationReads, negotiation_reads, counted_again, copy_again, byte_again, string_reads, setting_reads, setting_parts, SettingFits, notification_reads, notification_parts, NotificationFits, key_data_reads, key_parts, KeyFits, counted_reads, CountFits, copy_reads, CopyFits, byte_reads}
 use Rattle.pgp_message.proofs.Requests.{pick, RequestFits, after_request, made_ended, request_again, request_whole, RequestReads, request_reads, unknown_again}
 
 -- What was spelled is read again.
@@ -22,6 +24,8 @@ after (CopyOutResponse copy) more = Ok (CopyOutResponse (record copy { storage =
 after (ErrorResponse bytes) more = Ok (ErrorResponse (bytes ++ more))
 after (NoticeResponse bytes) more = Ok (NoticeResponse (bytes ++ more))
 after (CopyData bytes) more = Ok (CopyData (bytes ++ more))
+after (BackendKeyData key) more = made BackendKeyData (key_of key.process_id (key.secret_key ++ more))
+after (NegotiateProtocolVersion n) more = Ok (NegotiateProtocolVersion (record n { options = n.options ++ more }))
 after (Authentication q) more = made Authentication (after_request q more)
 after m more = ended m more
 
@@ -64,7 +68,8 @@ body_again (ErrorResponse bytes) more fits = refl
 body_again (CopyInResponse copy) more fits = ap (made CopyInResponse) (copy_again copy more fits)
 body_again (CopyOutResponse copy) more fits = ap (made CopyOutResponse) (copy_again copy more fits)
 body_again EmptyQueryResponse more fits = refl
-body_again (BackendKeyData key) more fits = ap (made BackendKeyData) (key_data_again key more fits.0 fits.1) ∙ made_ended BackendKeyData key more
+body_again (BackendKeyData key) more fits = ap (made BackendKeyData) (key_data_again key more fits.0)
+body_again (NegotiateProtocolVersion n) more fits = ap (made NegotiateProtocolVersion) (negotiation_again n more fits.0 fits.1)
 body_again (NoticeResponse bytes) more fits = refl
 body_again (Authentication q) more fits = ap (made Authentication) (request_again q more (request_fits q fits))
 body_again (ParameterStatus s) more fits = ap (made ParameterStatus) (setting_again s more fits.0 fits.1) ∙ made_ended ParameterStatus s more
@@ -83,6 +88,7 @@ abbrev pub Found : ℕ → List ℕ → Result Message Error → Type 0
 Found tag payload (Ok m) = Spells tag payload m []
 Found tag payload (Err (errors.UnknownTag unknown)) = (unknown ≡ tag) × ((m : Message) → tag_of m ≢ tag)
 Found tag payload (Err (errors.UnknownAuthentication code)) = IsUnknownCode tag payload code
+Found tag payload (Err errors.InvalidCount) = HasNegativeCount tag payload
 Found tag payload (Err errors.UnexpectedEof) = (m : Message) × (tag_of m ≡ tag)
 Found tag payload (Err errors.NotDrained) = (m : Message) × (more : List ℕ) × Spells tag payload m more
 Found tag payload (Err e) = ⊥
@@ -105,12 +111,24 @@ module _ {X : Type 0} (FitsAs : X → Type 0) (spell : X → List ℕ) (tag : �
   found_made (Err errors.NotDrained) h = (make h.0, h.1, record { tagged = tagged h.0; fits = fits h.0 h.2.fits; parts = h.2.parts ∙ ap (λ l. l ++ h.1) (parts h.0) })
   found_made (Err e) h = absurd h
 
+no_answer : Negotiation
+no_answer = record { version = pos 0; count = 0; options = [] }
+
 found_request : (tag : ℕ) (payload : List ℕ) → 0x52 ≡ tag → (r : Result Request Error) → RequestReads payload r → Found tag payload (made Authentication r)
 found_request tag payload t (Ok q) h = record { tagged = t; fits = fits_request q h.fits; parts = h.parts }
 found_request tag payload t (Err errors.UnexpectedEof) h = (Authentication AuthenticationOk, t)
 found_request tag payload t (Err errors.NotDrained) h = (Authentication h.0, h.1, record { tagged = t; fits = fits_request h.0 h.2.fits; parts = h.2.parts })
 found_request tag payload t (Err (errors.UnknownAuthentication code)) h = record { tagged = sym t; fits = h.fits; more = h.more; parts = h.parts; unknown = h.unknown }
 found_request tag payload t (Err e) h = absurd h
+
+found_negotiation : (tag : ℕ) (payload : List ℕ) → 0x76 ≡ tag → (r : Result Negotiation Error) → NegotiationReads payload r → Found tag payload (made NegotiateProtocolVersion r)
+found_negotiation tag payload t (Ok n) h = record { tagged = t; fits = h.fits; parts = h.parts }
+found_negotiation tag payload t (Err errors.UnexpectedEof) h = (NegotiateProtocolVersion no_answer, t)
+found_negotiation tag payload t (Err errors.InvalidCount) h = record { tagged = sym t; version = h.version; below = h.below; fits = h.fits; more = h.more; parts = h.parts }
+found_negotiation tag payload t (Err e) h = absurd h
+
+no_key : KeyData
+no_key = record { process_id = pos 0; secret_key = [] }
 
 no_row : CountedBytes
 no_row = record { count = 0; storage = [] }
@@ -127,17 +145,18 @@ found_body tag payload h =
     pick (Found tag payload) tag 0x45 _ _ (λ t. found_all tag payload (ErrorResponse payload) t tt refl) (λ nE.
     pick (Found tag payload) tag 0x47 _ _ (λ t. found_made CopyFits copy_formats tag payload CopyInResponse no_copy (λ x. t) (λ x f. f) (λ x. refl) (copy_of payload) (copy_reads payload h)) (λ nG.
     pick (Found tag payload) tag 0x48 _ _ (λ t. found_made CopyFits copy_formats tag payload CopyOutResponse no_copy (λ x. t) (λ x f. f) (λ x. refl) (copy_of payload) (copy_reads payload h)) (λ nH.
+    pick (Found tag payload) tag 0x4b _ _ (λ t. found_made KeyFits key_parts tag payload BackendKeyData no_key (λ x. t) (λ x f. f) (λ x. refl) (key_data_of payload) (key_data_reads payload h)) (λ nK.
     pick (Found tag payload) tag 0x4e _ _ (λ t. found_all tag payload (NoticeResponse payload) t tt refl) (λ nN.
     pick (Found tag payload) tag 0x52 _ _ (λ t. found_request tag payload t (request_of payload) (request_reads payload h)) (λ nR.
     pick (Found tag payload) tag 0x53 _ _ (λ t. found_made SettingFits setting_parts tag payload ParameterStatus (record { name = []; value = [] }) (λ x. t) (λ x f. f) (λ x. refl) (setting_of payload) (setting_reads payload)) (λ nS.
     pick (Found tag payload) tag 0x54 _ _ (λ t. found_made CountFits counted_bytes tag payload RowDescription no_row (λ x. t) (λ x f. f) (λ x. refl) (counted_of payload) (counted_reads payload h)) (λ nT.
     pick (Found tag payload) tag 0x64 _ _ (λ t. found_all tag payload (CopyData payload) t tt refl) (λ nd.
     pick (Found tag payload) tag 0x74 _ _ (λ t. found_made CountFits counted_bytes tag payload ParameterDescription no_row (λ x. t) (λ x f. f) (λ x. refl) (counted_of payload) (counted_reads payload h)) (λ nt.
+    pick (Found tag payload) tag 0x76 _ _ (λ t. found_negotiation tag payload t (negotiation_of payload) (negotiation_reads payload h)) (λ nv.
     pick (Found tag payload) tag 0x31 _ _ (λ t. found_ended tag payload ParseComplete payload t tt refl) (λ n1.
     pick (Found tag payload) tag 0x32 _ _ (λ t. found_ended tag payload BindComplete payload t tt refl) (λ n2.
     pick (Found tag payload) tag 0x33 _ _ (λ t. found_ended tag payload CloseComplete payload t tt refl) (λ n3.
     pick (Found tag payload) tag 0x49 _ _ (λ t. found_ended tag payload EmptyQueryResponse payload t tt refl) (λ nI.
-    pick (Found tag payload) tag 0x4b _ _ (λ t. found_made KeyFits key_parts tag payload BackendKeyData (record { process_id = pos 0; secret_key = pos 0 }) (λ x. t) (λ x f. f) (λ x. refl) (key_data_of payload) (key_data_reads payload h)) (λ nK.
     pick (Found tag payload) tag 0x52 _ _ (λ t. absurd (nR t)) (λ nR2.
     pick (Found tag payload) tag 0x5a _ _ (λ t. found_made (λ b. Unit {0}) (λ b. b ∷ []) tag payload ReadyForQuery 0 (λ x. t) (λ x f. f) (λ x. refl) (byte_of payload) (byte_reads payload)) (λ nZ.
     pick (Found tag payload) tag 0x63 _ _ (λ t. found_ended tag payload CopyDone payload t tt refl) (λ nc.
@@ -156,6 +175,7 @@ found_body tag payload h =
         | CopyOutResponse copy ↦ nH
         | EmptyQueryResponse ↦ nI
         | BackendKeyData key ↦ nK
+        | NegotiateProtocolVersion n ↦ nv
         | NoticeResponse bytes ↦ nN
         | Authentication q ↦ nR
         | ParameterStatus s ↦ nS
@@ -167,7 +187,7 @@ found_body tag payload h =
         | PortalSuspended ↦ ns
         | ParameterDescription row ↦ nt
       ],
-    )))))))))))))))))))))))
+    ))))))))))))))))))))))))
 
 -- The two together.
 
@@ -176,28 +196,29 @@ spelled : (tag : ℕ) (payload : List ℕ) (m : Message) (more : List ℕ) → S
 spelled tag payload m more s = ap (body_of tag) s.parts ∙ ap (λ t. body_of t (payload_of m ++ more)) (sym s.tagged) ∙ body_again m more s.fits
 
 -- a whole message is answered
-whole_is : (m : Message) → after m [] ≡ Ok m
-whole_is (DataRow row) = ap (λ (l : List ℕ). Ok (DataRow (record row { storage = l }))) (append-nil row.storage)
-whole_is (RowDescription row) = ap (λ (l : List ℕ). Ok (RowDescription (record row { storage = l }))) (append-nil row.storage)
-whole_is (ParameterDescription row) = ap (λ (l : List ℕ). Ok (ParameterDescription (record row { storage = l }))) (append-nil row.storage)
-whole_is (CopyInResponse copy) = ap (λ (l : List ℕ). Ok (CopyInResponse (record copy { storage = l }))) (append-nil copy.storage)
-whole_is (CopyOutResponse copy) = ap (λ (l : List ℕ). Ok (CopyOutResponse (record copy { storage = l }))) (append-nil copy.storage)
-whole_is (ErrorResponse bytes) = ap (λ (l : List ℕ). Ok (ErrorResponse l)) (append-nil bytes)
-whole_is (NoticeResponse bytes) = ap (λ (l : List ℕ). Ok (NoticeResponse l)) (append-nil bytes)
-whole_is (CopyData bytes) = ap (λ (l : List ℕ). Ok (CopyData l)) (append-nil bytes)
-whole_is (Authentication q) = ap (made Authentication) (request_whole q)
-whole_is ParseComplete = refl
-whole_is BindComplete = refl
-whole_is CloseComplete = refl
-whole_is (NotificationResponse n) = refl
-whole_is (CommandComplete tag) = refl
-whole_is EmptyQueryResponse = refl
-whole_is (BackendKeyData key) = refl
-whole_is (ParameterStatus s) = refl
-whole_is (ReadyForQuery status) = refl
-whole_is CopyDone = refl
-whole_is NoData = refl
-whole_is PortalSuspended = refl
+whole_is : (m : Message) → Fits m → after m [] ≡ Ok m
+whole_is (DataRow row) fits = ap (λ (l : List ℕ). Ok (DataRow (record row { storage = l }))) (append-nil row.storage)
+whole_is (RowDescription row) fits = ap (λ (l : List ℕ). Ok (RowDescription (record row { storage = l }))) (append-nil row.storage)
+whole_is (ParameterDescription row) fits = ap (λ (l : List ℕ). Ok (ParameterDescription (record row { storage = l }))) (append-nil row.storage)
+whole_is (CopyInResponse copy) fits = ap (λ (l : List ℕ). Ok (CopyInResponse (record copy { storage = l }))) (append-nil copy.storage)
+whole_is (CopyOutResponse copy) fits = ap (λ (l : List ℕ). Ok (CopyOutResponse (record copy { storage = l }))) (append-nil copy.storage)
+whole_is (ErrorResponse bytes) fits = ap (λ (l : List ℕ). Ok (ErrorResponse l)) (append-nil bytes)
+whole_is (NoticeResponse bytes) fits = ap (λ (l : List ℕ). Ok (NoticeResponse l)) (append-nil bytes)
+whole_is (CopyData bytes) fits = ap (λ (l : List ℕ). Ok (CopyData l)) (append-nil bytes)
+whole_is (Authentication q) fits = ap (made Authentication) (request_whole q)
+whole_is ParseComplete fits = refl
+whole_is BindComplete fits = refl
+whole_is CloseComplete fits = refl
+whole_is (NotificationResponse n) fits = refl
+whole_is (CommandComplete tag) fits = refl
+whole_is EmptyQueryResponse fits = refl
+whole_is (BackendKeyData key) fits = ap (made BackendKeyData) (key_whole key fits.1 fits.2)
+whole_is (NegotiateProtocolVersion n) fits = ap (λ (l : List ℕ). Ok (NegotiateProtocolVersion (record n { options = l }))) (append-nil n.options)
+whole_is (ParameterStatus s) fits = refl
+whole_is (ReadyForQuery status) fits = refl
+whole_is CopyDone fits = refl
+whole_is NoData fits = refl
+whole_is PortalSuspended fits = refl
 
 -- behind a message comes nothing, or too much
 Drains : Result Message Error → Type 0
@@ -214,22 +235,33 @@ request_drains (AuthenticationSaslFinal bytes) more = tt
 request_drains q [] = tt
 request_drains q (b ∷ more) = tt
 
-drains : (m : Message) (more : List ℕ) → Drains (after m more)
+key_drains : (id : ℤ) (key : List ℕ) → 4 ≤ length key → Drains (made BackendKeyData (key_of id key))
 unfolding Drains
-drains (DataRow row) more = tt
-drains (RowDescription row) more = tt
-drains (ParameterDescription row) more = tt
-drains (CopyInResponse copy) more = tt
-drains (CopyOutResponse copy) more = tt
-drains (ErrorResponse bytes) more = tt
-drains (NoticeResponse bytes) more = tt
-drains (CopyData bytes) more = tt
-drains (Authentication q) more = request_drains q more
-drains m [] = tt
-drains m (b ∷ more) = tt
+key_drains id key least = go (nat_lt (length key) 4) (nat_lt 256 (length key)) (le-ltb _ _ least)
+  where
+    go : (few many : Bool) → few ≡ false → Drains (made BackendKeyData (if few then Err errors.UnexpectedEof else if many then Err errors.NotDrained else Ok (record { process_id = id; secret_key = key })))
+    go true many e = cc
+    go false true e = tt
+    go false false e = tt
+
+drains : (m : Message) (more : List ℕ) → Fits m → Drains (after m more)
+unfolding Drains
+drains (DataRow row) more fits = tt
+drains (RowDescription row) more fits = tt
+drains (ParameterDescription row) more fits = tt
+drains (CopyInResponse copy) more fits = tt
+drains (CopyOutResponse copy) more fits = tt
+drains (ErrorResponse bytes) more fits = tt
+drains (NoticeResponse bytes) more fits = tt
+drains (CopyData bytes) more fits = tt
+drains (BackendKeyData key) more fits = key_drains key.process_id (key.secret_key ++ more) (omega (arith, fits.1, length-append key.secret_key more))
+drains (NegotiateProtocolVersion n) more fits = tt
+drains (Authentication q) more fits = request_drains q more
+drains m [] fits = tt
+drains m (b ∷ more) fits = tt
 
 not_drains : (tag : ℕ) (payload : List ℕ) (e : Error) (m : Message) (more : List ℕ) → body_of tag payload ≡ Err e → Spells tag payload m more → Drains (Err e)
-not_drains tag payload e m more is s = subst Drains (sym (spelled tag payload m more s) ∙ is) (drains m more)
+not_drains tag payload e m more is s = subst Drains (sym (spelled tag payload m more s) ∙ is) (drains m more s.fits)
 
 opened : (payload : List ℕ) → body_of 0x52 payload ≡ made Authentication (request_of payload)
 unfolding body_of
@@ -240,8 +272,18 @@ unknown_answer : (tag : ℕ) (payload : List ℕ) (code : ℤ) → IsUnknownCode
 unknown_answer tag payload code u =
     ap (body_of tag) u.parts ∙ ap (λ t. body_of t (int32 code ++ u.more)) u.tagged ∙ opened (int32 code ++ u.more) ∙ ap (made Authentication) (unknown_again code u.more u.fits u.unknown)
 
+negotiated : (payload : List ℕ) → body_of 0x76 payload ≡ made NegotiateProtocolVersion (negotiation_of payload)
+unfolding body_of
+negotiated payload = refl
+
+-- so is a negative count
+negative_answer : (tag : ℕ) (payload : List ℕ) → HasNegativeCount tag payload → body_of tag payload ≡ Err errors.InvalidCount
+negative_answer tag payload u =
+    let bytes = int32 u.version ++ int32 (negsuc u.below) ++ u.more in
+    ap (body_of tag) u.parts ∙ ap (λ t. body_of t bytes) u.tagged ∙ negotiated bytes ∙ ap (made NegotiateProtocolVersion) (negative_again u.version u.below u.more u.fits.0 u.fits.1)
+
 whole_answer : (tag : ℕ) (payload : List ℕ) (m : Message) → Spells tag payload m [] → body_of tag payload ≡ Ok m
-whole_answer tag payload m s = spelled tag payload m [] s ∙ whole_is m
+whole_answer tag payload m s = spelled tag payload m [] s ∙ whole_is m s.fits
 
 -- what was found is all that the grammar asks
 only_found : (tag : ℕ) (payload : List ℕ) (r : Result Message Error) → body_of tag payload ≡ r → Found tag payload r → Body tag payload r
@@ -249,8 +291,9 @@ unfolding Drains
 only_found tag payload (Ok m) e f = f
 only_found tag payload (Err (errors.UnknownTag unknown)) e f = f
 only_found tag payload (Err (errors.UnknownAuthentication code)) e f = f
+only_found tag payload (Err errors.InvalidCount) e f = f
 only_found tag payload (Err errors.UnexpectedEof) e f =
-    (f, λ m more s. not_drains tag payload errors.UnexpectedEof m more e s, λ code u. let g = unknown_answer tag payload code u in cc)
+    (f, λ m more s. not_drains tag payload errors.UnexpectedEof m more e s, λ code u. let g = unknown_answer tag payload code u in cc, λ u. let g = negative_answer tag payload u in cc)
 only_found tag payload (Err errors.NotDrained) e f = (f, λ m s. let g = whole_answer tag payload m s in cc)
 only_found tag payload (Err e) g f = absurd f
 
@@ -262,6 +305,7 @@ unknown_is : (tag : ℕ) (payload : List ℕ) (r : Result Message Error) → ((m
 unknown_is tag payload (Ok m) none f = absurd (none m f.tagged)
 unknown_is tag payload (Err (errors.UnknownTag unknown)) none f = ap (λ u. Err (errors.UnknownTag u)) f.0
 unknown_is tag payload (Err (errors.UnknownAuthentication code)) none f = absurd (none (Authentication AuthenticationOk) (sym f.tagged))
+unknown_is tag payload (Err errors.InvalidCount) none f = absurd (none (NegotiateProtocolVersion no_answer) (sym f.tagged))
 unknown_is tag payload (Err errors.UnexpectedEof) none f = absurd (none f.0 f.1)
 unknown_is tag payload (Err errors.NotDrained) none f = absurd (none f.0 f.2.tagged)
 unknown_is tag payload (Err e) none f = absurd f
@@ -271,6 +315,7 @@ short_is : (tag : ℕ) (payload : List ℕ) (r : Result Message Error) → Body 
 short_is tag payload (Ok m) short f = absurd (short.1 m [] f)
 short_is tag payload (Err (errors.UnknownTag unknown)) short f = absurd (f.1 short.0.0 short.0.1)
 short_is tag payload (Err (errors.UnknownAuthentication code)) short f = absurd (short.2 code f)
+short_is tag payload (Err errors.InvalidCount) short f = absurd (short.3 f)
 short_is tag payload (Err errors.UnexpectedEof) short f = refl
 short_is tag payload (Err errors.NotDrained) short f = absurd (short.1 f.0 f.1 f.2)
 short_is tag payload (Err e) short f = absurd f
@@ -286,7 +331,8 @@ pub one_body : (tag : ℕ) (payload : List ℕ) (r : Result Message Error) → I
 one_body tag payload (Ok m) h b = whole_answer tag payload m b
 one_body tag payload (Err (errors.UnknownTag unknown)) h b = unknown_is tag payload (body_of tag payload) b.1 (found_body tag payload h) ∙ ap (λ u. Err (errors.UnknownTag u)) (sym b.0)
 one_body tag payload (Err (errors.UnknownAuthentication code)) h b = unknown_answer tag payload code b
+one_body tag payload (Err errors.InvalidCount) h b = negative_answer tag payload b
 one_body tag payload (Err errors.UnexpectedEof) h b = short_is tag payload (body_of tag payload) b (found_body tag payload h)
 one_body tag payload (Err errors.NotDrained) h b =
-    long_is tag payload (body_of tag payload) b.1 (subst Drains (sym (spelled tag payload b.0.0 b.0.1 b.0.2)) (drains b.0.0 b.0.1)) (found_body tag payload h)
+    long_is tag payload (body_of tag payload) b.1 (subst Drains (sym (spelled tag payload b.0.0 b.0.1 b.0.2)) (drains b.0.0 b.0.1 b.0.2.fits)) (found_body tag payload h)
 one_body tag payload (Err e) h b = absurd b

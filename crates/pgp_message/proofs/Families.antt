@@ -1,23 +1,25 @@
 -- The families of bodies: what was spelled is read again, and what is read was spelled so.
-use Rattle.std.proofs.Common.{◌≡◌, ℕ, ℤ, suc, ◌<◌, ◌^◌, List, [], ◌∷◌, ◌++◌, length, Option, Some, None, Result, Ok, Err, refl, sym, ap, ◌∙◌, append_assoc, arith, FitsSigned}
+use Rattle.std.proofs.Common.{◌≡◌, ℕ, ℤ, Bool, true, false, pos, negsuc, suc, ◌<◌, ◌≤◌, ◌^◌, List, [], ◌∷◌, ◌++◌, length, Option, Some, None, Result, Ok, Err, refl, sym, ap, ◌∙◌, append_assoc, arith, FitsSigned}
 use Rattle.std.specs.Int.{w16, w32, from_be_bytes, cast_signed}
-use Rattle.std.proofs.lemmas.List.{append-nil, length-take}
+use Rattle.std.specs.Prelude.{nat_lt, if◌then◌else◌, take, drop}
+use Rattle.std.proofs.lemmas.List.{append-nil, length-take, take-append-drop}
+use Rattle.std.proofs.lemmas.Bool.{ltb-false, ltb-true, le-ltb}
 use Rattle.pgp_base.specs.declared.error.Error.{Error}
 use Rattle.pgp_base.specs.declared.error.Error.TheVariants as errors
 use Rattle.pgp_base.specs.Wire.{int32, uint16, uint32, oid, text, HasNoZero, IsBytes}
 use Rattle.pgp_base.specs.PartReading.{◌>>=◌, front_at, uint16_at, oid_at, int32_at, string_at}
 use Rattle.pgp_base.proofs.Strings.{string_takes, string_front, string_whole}
 use Rattle.pgp_base.proofs.PartLemmas.{front_takes, front_again, TakesNumber, number_takes, number_again, oid_number, int32_number, uint16_number}
-use Rattle.pgp_message.specs.Parts.{Notification, KeyData, Setting, CountedBytes, CopyFormats}
+use Rattle.pgp_message.specs.Parts.{Notification, KeyData, Setting, CountedBytes, Negotiation, CopyFormats}
 use Rattle.pgp_message.specs.BackendMessage.{counted_bytes, copy_formats}
-use Rattle.pgp_message.specs.Reading.{ended, byte_of, string_of, setting_of, notification_of, key_data_of, counted_of, copy_of, salt_of}
+use Rattle.pgp_message.specs.Reading.{ended, byte_of, string_of, setting_of, notification_of, key_of, key_data_of, options_of, negotiation_of, counted_of, copy_of, salt_of}
 
 -- Numbers at the front.
 
 int32_again : (n : ℤ) (rest : List ℕ) → FitsSigned w32 n → int32_at (int32 n ++ rest) ≡ Some (n, rest)
 int32_again = number_again 4 (FitsSigned w32) int32 (λ l. cast_signed w32 (from_be_bytes w32 l)) int32_number
 
-int32_takes : (bytes : List ℕ) (x : ℤ × List ℕ) → IsBytes bytes → int32_at bytes ≡ Some x → TakesNumber (FitsSigned w32) int32 bytes x.0 x.1
+pub int32_takes : (bytes : List ℕ) (x : ℤ × List ℕ) → IsBytes bytes → int32_at bytes ≡ Some x → TakesNumber (FitsSigned w32) int32 bytes x.0 x.1
 int32_takes = number_takes 4 (FitsSigned w32) int32 (λ l. cast_signed w32 (from_be_bytes w32 l)) int32_number
 
 pub code_again : (n : ℕ) (rest : List ℕ) → n < 2 ^ 32 → oid_at (uint32 n ++ rest) ≡ Some (n, rest)
@@ -51,10 +53,31 @@ notification_again n more id channel message =
     append_assoc (int32 n.process_id ++ text n.channel) (text n.message) more ∙ append_assoc (int32 n.process_id) (text n.channel) (text n.message ++ more) in
     ap notification_of whole ∙ rw (int32_again n.process_id (text n.channel ++ (text n.message ++ more)) id, string_front n.channel (text n.message ++ more) channel, string_front n.message more message) refl
 
-pub key_data_again : (k : KeyData) (more : List ℕ) → FitsSigned w32 k.process_id → FitsSigned w32 k.secret_key → key_data_of ((int32 k.process_id ++ int32 k.secret_key) ++ more) ≡ ended k more
+pub key_data_again : (k : KeyData) (more : List ℕ) → FitsSigned w32 k.process_id → key_data_of ((int32 k.process_id ++ k.secret_key) ++ more) ≡ key_of k.process_id (k.secret_key ++ more)
 unfolding key_data_of
-key_data_again k more id key =
-    ap key_data_of (append_assoc (int32 k.process_id) (int32 k.secret_key) more) ∙ rw (int32_again k.process_id (int32 k.secret_key ++ more) id, int32_again k.secret_key more key) refl
+key_data_again k more id =
+    ap key_data_of (append_assoc (int32 k.process_id) k.secret_key more) ∙ rw (int32_again k.process_id (k.secret_key ++ more) id) refl
+
+-- a key of such a length is taken whole
+pub key_whole : (k : KeyData) → 4 ≤ length k.secret_key → length k.secret_key ≤ 256 → key_of k.process_id (k.secret_key ++ []) ≡ Ok k
+key_whole k least most =
+    let few : nat_lt (length k.secret_key) 4 ≡ false = le-ltb _ _ least in
+    let many : nat_lt 256 (length k.secret_key) ≡ false = le-ltb _ _ most in
+    ap (key_of k.process_id) (append-nil k.secret_key) ∙ rw (few, many) refl
+
+-- the parts of an answer about versions but for the options, and what is left
+version_parts : (version count : ℤ) (options more : List ℕ) → (int32 version ++ int32 count ++ options) ++ more ≡ int32 version ++ (int32 count ++ (options ++ more))
+version_parts version count options more = append_assoc (int32 version ++ int32 count) options more ∙ append_assoc (int32 version) (int32 count) (options ++ more)
+
+pub negotiation_again : (n : Negotiation) (more : List ℕ) → FitsSigned w32 n.version → FitsSigned w32 (pos n.count) → negotiation_of ((int32 n.version ++ int32 (pos n.count) ++ n.options) ++ more) ≡ Ok (record n { options = n.options ++ more })
+unfolding negotiation_of
+negotiation_again n more version count =
+    ap negotiation_of (version_parts n.version (pos n.count) n.options more) ∙ rw (int32_again n.version (int32 (pos n.count) ++ (n.options ++ more)) version, int32_again (pos n.count) (n.options ++ more) count) refl
+
+pub negative_again : (version : ℤ) (below : ℕ) (more : List ℕ) → FitsSigned w32 version → FitsSigned w32 (negsuc below) → negotiation_of (int32 version ++ int32 (negsuc below) ++ more) ≡ Err errors.InvalidCount
+unfolding negotiation_of
+negative_again version below more fits negative =
+    ap negotiation_of (append_assoc (int32 version) (int32 (negsuc below)) more) ∙ rw (int32_again version (int32 (negsuc below) ++ more) fits, int32_again (negsuc below) more negative) refl
 
 pub counted_again : (c : CountedBytes) (more : List ℕ) → c.count < 2 ^ 16 → counted_of (counted_bytes c ++ more) ≡ Ok (record c { storage = c.storage ++ more })
 unfolding counted_of
@@ -147,20 +170,70 @@ notification_reads payload h =
     reads_ended NotificationFits notification_parts payload (record { process_id = id.0; channel = channel.0; message = message.0 }) message.1 (a.fits, b.no_zero, d.no_zero) whole)))
 
 abbrev pub KeyFits : KeyData → Type 0
-KeyFits k = FitsSigned w32 k.process_id × FitsSigned w32 k.secret_key
+KeyFits k = FitsSigned w32 k.process_id × (4 ≤ length k.secret_key) × (length k.secret_key ≤ 256)
 
 abbrev pub key_parts : KeyData → List ℕ
-key_parts k = int32 k.process_id ++ int32 k.secret_key
+key_parts k = int32 k.process_id ++ k.secret_key
+
+-- by its length a key is too short, too long or whole
+key_reads : (payload : List ℕ) (id : ℤ) (key : List ℕ) → FitsSigned w32 id → payload ≡ int32 id ++ key → Reads KeyFits key_parts payload (key_of id key)
+key_reads payload id key fits parts = go (nat_lt (length key) 4) (nat_lt 256 (length key)) refl refl
+  where
+    go : (few many : Bool) → nat_lt (length key) 4 ≡ few → nat_lt 256 (length key) ≡ many → Reads KeyFits key_parts payload (if few then Err errors.UnexpectedEof else if many then Err errors.NotDrained else Ok (record { process_id = id; secret_key = key }))
+    go true many e f = tt
+    go false true e f =
+        let len : length (take 256 key) ≡ 256 = omega (arith, length-take 256 key, ltb-true _ _ f) in
+        (record { process_id = id; secret_key = take 256 key }, drop 256 key, record {
+          fits = (fits, omega (arith, len), omega (arith, len));
+          parts = parts ∙ ap (λ l. int32 id ++ l) (sym (take-append-drop 256 key)) ∙ sym (append_assoc (int32 id) (take 256 key) (drop 256 key));
+        })
+    go false false e f = record { fits = (fits, ltb-false _ _ e, ltb-false _ _ f); parts = parts ∙ sym (append-nil (int32 id ++ key)) }
 
 pub key_data_reads : (payload : List ℕ) → IsBytes payload → Reads KeyFits key_parts payload (key_data_of payload)
 unfolding key_data_of
 key_data_reads payload h =
     reads_then KeyFits key_parts payload (int32_at payload) _ (λ id i.
-    reads_then KeyFits key_parts payload (int32_at id.1) _ (λ key j.
     let a = int32_takes payload id h i in
-    let b = int32_takes id.1 key a.tail j in
-    reads_ended KeyFits key_parts payload (record { process_id = id.0; secret_key = key.0 }) key.1 (a.fits, b.fits)
-    (a.parts ∙ ap (λ l. int32 id.0 ++ l) b.parts ∙ sym (append_assoc (int32 id.0) (int32 key.0) key.1))))
+    key_reads payload id.0 id.1 a.fits a.parts)
+
+-- An answer about versions has a cause of its own.
+
+abbrev pub NegotiationFits : Negotiation → Type 0
+NegotiationFits n = FitsSigned w32 n.version × FitsSigned w32 (pos n.count)
+
+abbrev pub negotiation_parts : Negotiation → List ℕ
+negotiation_parts n = int32 n.version ++ int32 (pos n.count) ++ n.options
+
+-- a version, and a count below zero
+pub record IsNegative (payload : List ℕ) : Type 0 where
+  pub version : ℤ
+  pub below : ℕ
+  pub fits : FitsSigned w32 version × FitsSigned w32 (negsuc below)
+  pub more : List ℕ
+  pub parts : payload ≡ int32 version ++ int32 (negsuc below) ++ more
+
+abbrev pub NegotiationReads : List ℕ → Result Negotiation Error → Type 0
+NegotiationReads payload (Ok n) = Holds NegotiationFits negotiation_parts payload n []
+NegotiationReads payload (Err errors.UnexpectedEof) = Unit {0}
+NegotiationReads payload (Err errors.InvalidCount) = IsNegative payload
+NegotiationReads payload (Err e) = ⊥
+
+negotiation_then : {A : Type 0} (payload : List ℕ) (part : Option A) (f : A → Result Negotiation Error) → ((x : A) → part ≡ Some x → NegotiationReads payload (f x)) → NegotiationReads payload (part >>= f)
+negotiation_then payload None f g = tt
+negotiation_then payload (Some x) f g = g x refl
+
+options_read : (payload : List ℕ) (version count : ℤ) (options : List ℕ) → FitsSigned w32 version → FitsSigned w32 count → payload ≡ int32 version ++ int32 count ++ options → NegotiationReads payload (options_of version count options)
+options_read payload version (pos n) options fits counts parts = record { fits = (fits, counts); parts = parts ∙ sym (append-nil (int32 version ++ int32 (pos n) ++ options)) }
+options_read payload version (negsuc k) options fits counts parts = record { version = version; below = k; fits = (fits, counts); more = options; parts = parts }
+
+pub negotiation_reads : (payload : List ℕ) → IsBytes payload → NegotiationReads payload (negotiation_of payload)
+unfolding negotiation_of
+negotiation_reads payload h =
+    negotiation_then payload (int32_at payload) _ (λ version i.
+    negotiation_then payload (int32_at version.1) _ (λ count j.
+    let a = int32_takes payload version h i in
+    let b = int32_takes version.1 count a.tail j in
+    options_read payload version.0 count.0 count.1 a.fits b.fits (a.parts ∙ ap (λ l. int32 version.0 ++ l) b.parts ∙ sym (append_assoc (int32 version.0) (int32 count.0) count.1))))
 
 abbrev pub CountFits : CountedBytes → Type 0
 CountFits c = c.count < 2 ^ 16

@@ -2,6 +2,7 @@ pub mod TextBodies
 pub mod Cuts
 pub mod Fronts
 pub mod Families
+pub mod Keys
 pub mod Requests
 pub mod Bodies
 pub mod Steps

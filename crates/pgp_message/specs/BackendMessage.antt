@@ -1,11 +1,11 @@
 -- What the messages of a server say, how each is spelled, and what a tag and a payload mean.
--- PostgreSQL manual, "Message Formats".
-use Rattle.std.specs.Prelude.{FitsSigned, ◌≡◌, ◌≢◌, ℕ, ℤ, pos, ◌<◌, ◌^◌, List, [], ◌∷◌, ◌++◌, length, Result, Ok, Err}
+-- PostgreSQL manual, "Message Formats"; keys that haven't 4 bytes, and the answer about versions: this project's profile of protocol 3.2.
+use Rattle.std.specs.Prelude.{FitsSigned, ◌≡◌, ◌≢◌, ℕ, ℤ, pos, negsuc, ◌<◌, ◌≤◌, ◌^◌, List, [], ◌∷◌, ◌++◌, length, Result, Ok, Err}
 use Rattle.std.specs.Int.{w32}
 use Rattle.pgp_base.specs.declared.error.Error.{Error}
 use Rattle.pgp_base.specs.declared.error.Error.TheVariants as errors
 use Rattle.pgp_base.specs.Wire.{int32, uint16, text, HasNoZero}
-use Rattle.pgp_message.specs.Parts.{Notification, KeyData, Setting, CountedBytes, CopyFormats}
+use Rattle.pgp_message.specs.Parts.{Notification, KeyData, Setting, CountedBytes, Negotiation, CopyFormats}
 
 -- A request for authentication, or word that there is none to come.
 pub data Request : Type 0 where
@@ -34,6 +34,7 @@ pub data Message : Type 0 where
   CopyOutResponse : CopyFormats → Message
   EmptyQueryResponse : Message
   BackendKeyData : KeyData → Message
+  NegotiateProtocolVersion : Negotiation → Message
   NoticeResponse : (bytes : List ℕ) → Message
   Authentication : Request → Message
   ParameterStatus : Setting → Message
@@ -96,6 +97,7 @@ tag_of (CopyData bytes) = 0x64  -- d
 tag_of NoData = 0x6e  -- n
 tag_of PortalSuspended = 0x73  -- s
 tag_of (ParameterDescription row) = 0x74  -- t
+tag_of (NegotiateProtocolVersion n) = 0x76  -- v
 
 abbrev pub counted_bytes : CountedBytes → List ℕ
 counted_bytes c = uint16 c.count ++ c.storage
@@ -115,7 +117,8 @@ payload_of (ErrorResponse bytes) = bytes
 payload_of (CopyInResponse copy) = copy_formats copy
 payload_of (CopyOutResponse copy) = copy_formats copy
 payload_of EmptyQueryResponse = []
-payload_of (BackendKeyData key) = int32 key.process_id ++ int32 key.secret_key
+payload_of (BackendKeyData key) = int32 key.process_id ++ key.secret_key
+payload_of (NegotiateProtocolVersion n) = int32 n.version ++ int32 (pos n.count) ++ n.options
 payload_of (NoticeResponse bytes) = bytes
 payload_of (Authentication request) = int32 (pos (code_of request)) ++ details_of request
 payload_of (ParameterStatus setting) = text setting.name ++ text setting.value
@@ -134,7 +137,8 @@ Fits (CommandComplete tag) = HasNoZero tag
 Fits (DataRow row) = row.count < 2 ^ 16
 Fits (CopyInResponse copy) = copy.count < 2 ^ 16
 Fits (CopyOutResponse copy) = copy.count < 2 ^ 16
-Fits (BackendKeyData key) = FitsSigned w32 key.process_id × FitsSigned w32 key.secret_key
+Fits (BackendKeyData key) = FitsSigned w32 key.process_id × (4 ≤ length key.secret_key) × (length key.secret_key ≤ 256)
+Fits (NegotiateProtocolVersion n) = FitsSigned w32 n.version × FitsSigned w32 (pos n.count)
 Fits (Authentication (AuthenticationMd5Password salt)) = length salt ≡ 4
 Fits (ParameterStatus setting) = HasNoZero setting.name × HasNoZero setting.value
 Fits (RowDescription row) = row.count < 2 ^ 16
@@ -155,6 +159,15 @@ pub record IsUnknownCode (tag : ℕ) (payload : List ℕ) (code : ℤ) : Type 0 
   pub parts : payload ≡ int32 code ++ more
   pub unknown : (request : Request) → pos (code_of request) ≢ code
 
+-- the payload of an answer about versions begins with a version and a negative count
+pub record HasNegativeCount (tag : ℕ) (payload : List ℕ) : Type 0 where
+  pub tagged : tag ≡ 0x76
+  pub version : ℤ
+  pub below : ℕ
+  pub fits : FitsSigned w32 version × FitsSigned w32 (negsuc below)
+  pub more : List ℕ
+  pub parts : payload ≡ int32 version ++ int32 (negsuc below) ++ more
+
 -- The one result of a body: a message, or why there is none.
 abbrev pub Body : ℕ → List ℕ → Result Message Error → Type 0
 -- the parts of this message, and nothing else
@@ -162,11 +175,13 @@ Body tag payload (Ok m) = Spells tag payload m []
 -- no message has the tag
 Body tag payload (Err (errors.UnknownTag unknown)) = (unknown ≡ tag) × ((m : Message) → tag_of m ≢ tag)
 Body tag payload (Err (errors.UnknownAuthentication code)) = IsUnknownCode tag payload code
--- a message has the tag; the payload begins with the parts of none, nor with an unknown code
+Body tag payload (Err errors.InvalidCount) = HasNegativeCount tag payload
+-- a message has the tag; the payload begins with the parts of none, nor with an unknown code or a negative count
 Body tag payload (Err errors.UnexpectedEof) =
     ((m : Message) × (tag_of m ≡ tag))
     × ((m : Message) (more : List ℕ) → Spells tag payload m more → ⊥)
     × ((code : ℤ) → IsUnknownCode tag payload code → ⊥)
+    × (HasNegativeCount tag payload → ⊥)
 -- the payload begins with the parts of a message, and is not the parts of any
 Body tag payload (Err errors.NotDrained) =
     ((m : Message) × (more : List ℕ) × Spells tag payload m more)

@@ -8,7 +8,7 @@ use Rattle.pgp_base.specs.declared.error.Error.{Error}
 use Rattle.pgp_base.specs.declared.error.Error.TheVariants.{UnexpectedEof, NotUtf8}
 use Rattle.pgp_base.specs.Wire.{int16, int32, uint16, oid, text, HasNoZero}
 
--- Texts, of which `SaslMechanisms` is a list.
+-- Texts, of which `SaslMechanisms` and `ProtocolOptions` are lists.
 
 -- a text and the 0 that ends it
 pub record TextSpelled (place : ℕ) (x : List ℕ) (front : List ℕ) : Type 0 where

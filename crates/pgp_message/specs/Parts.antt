@@ -6,9 +6,10 @@ pub record Notification : Type 0 where
   pub channel : List ℕ
   pub message : List ℕ
 
+-- the key has 4 to 256 bytes, by this project's profile of protocol 3.2
 pub record KeyData : Type 0 where
   pub process_id : ℤ
-  pub secret_key : ℤ
+  pub secret_key : List ℕ
 
 pub record Setting : Type 0 where
   pub name : List ℕ
@@ -18,6 +19,12 @@ pub record Setting : Type 0 where
 pub record CountedBytes : Type 0 where
   pub count : ℕ
   pub storage : List ℕ
+
+-- a version's number, the count of the options, and the bytes behind it, which only a walk reads
+pub record Negotiation : Type 0 where
+  pub version : ℤ
+  pub count : ℕ
+  pub options : List ℕ
 
 -- the format of a copy as a whole, and of each column
 pub record CopyFormats : Type 0 where

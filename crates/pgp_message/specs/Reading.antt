@@ -1,11 +1,11 @@
 -- Private: reading a body from the left, as the code does it. What it answers is the one result that `Body` allows.
-use Rattle.std.specs.Prelude.{ℕ, List, [], ◌∷◌, Result, Ok, Err, ◌==◌, if◌then◌else◌}
+use Rattle.std.specs.Prelude.{ℕ, ℤ, pos, negsuc, List, [], ◌∷◌, length, Result, Ok, Err, nat_lt, ◌==◌, if◌then◌else◌}
 use Rattle.std.specs.Int.{w32, cast_signed}
 use Rattle.pgp_base.specs.declared.error.Error.{Error}
-use Rattle.pgp_base.specs.declared.error.Error.TheVariants.{UnknownTag, UnknownAuthentication, NotDrained}
+use Rattle.pgp_base.specs.declared.error.Error.TheVariants.{UnknownTag, UnknownAuthentication, UnexpectedEof, NotDrained, InvalidCount}
 use Rattle.pgp_base.specs.PartReading.{◌>>=◌, front_at, byte_at, uint16_at, oid_at, int32_at, string_at}
-use Rattle.pgp_message.specs.Parts.{Notification, KeyData, Setting, CountedBytes, CopyFormats}
-use Rattle.pgp_message.specs.BackendMessage.{Request, AuthenticationOk, AuthenticationKerberosV5, AuthenticationCleartextPassword, AuthenticationMd5Password, AuthenticationScmCredential, AuthenticationGss, AuthenticationGssContinue, AuthenticationSspi, AuthenticationSasl, AuthenticationSaslContinue, AuthenticationSaslFinal, Message, ParseComplete, BindComplete, CloseComplete, NotificationResponse, CommandComplete, DataRow, ErrorResponse, CopyInResponse, CopyOutResponse, EmptyQueryResponse, BackendKeyData, NoticeResponse, Authentication, ParameterStatus, RowDescription, ReadyForQuery, CopyDone, CopyData, NoData, PortalSuspended, ParameterDescription}
+use Rattle.pgp_message.specs.Parts.{Notification, KeyData, Setting, CountedBytes, Negotiation, CopyFormats}
+use Rattle.pgp_message.specs.BackendMessage.{Request, AuthenticationOk, AuthenticationKerberosV5, AuthenticationCleartextPassword, AuthenticationMd5Password, AuthenticationScmCredential, AuthenticationGss, AuthenticationGssContinue, AuthenticationSspi, AuthenticationSasl, AuthenticationSaslContinue, AuthenticationSaslFinal, Message, ParseComplete, BindComplete, CloseComplete, NotificationResponse, CommandComplete, DataRow, ErrorResponse, CopyInResponse, CopyOutResponse, EmptyQueryResponse, BackendKeyData, NegotiateProtocolVersion, NoticeResponse, Authentication, ParameterStatus, RowDescription, ReadyForQuery, CopyDone, CopyData, NoData, PortalSuspended, ParameterDescription}
 
 -- the value, where no byte is left
 abbrev pub ended : {A : Type 0} → A → List ℕ → Result A Error
@@ -42,11 +42,37 @@ notification_of payload = do
   message ← string_at channel.1
   ended (record { process_id = id.0; channel = channel.0; message = message.0 }) message.1
 
+-- the key is what is left
+abbrev pub key_of : ℤ → List ℕ → Result KeyData Error
+key_of id key =
+    if nat_lt (length key) 4 then Err UnexpectedEof else
+    if nat_lt 256 (length key) then Err NotDrained else
+    Ok (record { process_id = id; secret_key = key })
+
 unfoldable pub key_data_of : List ℕ → Result KeyData Error
 key_data_of payload = do
   id ← int32_at payload
-  key ← int32_at id.1
-  ended (record { process_id = id.0; secret_key = key.0 }) key.1
+  key_of id.0 id.1
+
+abbrev pub count_of : ℤ → Result ℕ Error
+count_of (pos count) = Ok count
+count_of (negsuc below) = Err InvalidCount
+
+unfoldable pub count_at : List ℕ → Result ℕ Error
+count_at bytes = do
+  count ← int32_at bytes
+  count_of count.0
+
+-- what is left are the options, unless their count is negative
+abbrev pub options_of : ℤ → ℤ → List ℕ → Result Negotiation Error
+options_of version (pos count) options = Ok (record { version = version; count = count; options = options })
+options_of version (negsuc below) options = Err InvalidCount
+
+unfoldable pub negotiation_of : List ℕ → Result Negotiation Error
+negotiation_of payload = do
+  version ← int32_at payload
+  count ← int32_at version.1
+  options_of version.0 count.0 count.1
 
 unfoldable pub counted_of : List ℕ → Result CountedBytes Error
 counted_of payload = do
@@ -104,7 +130,6 @@ bare_of tag payload =
     if tag == 0x32 then ended BindComplete payload else
     if tag == 0x33 then ended CloseComplete payload else
     if tag == 0x49 then ended EmptyQueryResponse payload else
-    if tag == 0x4b then made BackendKeyData (key_data_of payload) else
     if tag == 0x52 then made Authentication (bare_request_of payload) else
     if tag == 0x5a then made ReadyForQuery (byte_of payload) else
     if tag == 0x63 then ended CopyDone payload else
@@ -121,10 +146,12 @@ body_of tag payload =
     if tag == 0x45 then Ok (ErrorResponse payload) else
     if tag == 0x47 then made CopyInResponse (copy_of payload) else
     if tag == 0x48 then made CopyOutResponse (copy_of payload) else
+    if tag == 0x4b then made BackendKeyData (key_data_of payload) else
     if tag == 0x4e then Ok (NoticeResponse payload) else
     if tag == 0x52 then made Authentication (request_of payload) else
     if tag == 0x53 then made ParameterStatus (setting_of payload) else
     if tag == 0x54 then made RowDescription (counted_of payload) else
     if tag == 0x64 then Ok (CopyData payload) else
     if tag == 0x74 then made ParameterDescription (counted_of payload) else
+    if tag == 0x76 then made NegotiateProtocolVersion (negotiation_of payload) else
     bare_of tag payload

@@ -81,9 +81,9 @@ pub record BeginsWithFrame (bytes : List ℕ) : Type 0 where
   pub whole : bytes ≡ frame_bytes first ++ rest
   pub fits : IsFrame first
 
--- The tags of messages that keep bytes of their frames: those with texts, lists or data.
+-- The tags of messages that keep bytes of their frames: those with texts, lists, keys or data.
 abbrev pub keeping_tags : List ℕ
-keeping_tags = 65 ∷ 67 ∷ 68 ∷ 69 ∷ 71 ∷ 72 ∷ 78 ∷ 83 ∷ 84 ∷ 100 ∷ 116 ∷ []
+keeping_tags = 65 ∷ 67 ∷ 68 ∷ 69 ∷ 71 ∷ 72 ∷ 75 ∷ 78 ∷ 83 ∷ 84 ∷ 100 ∷ 116 ∷ 118 ∷ []
 
 -- A message of this tag keeps bytes of its frame. An authentication request (82, `R`) tells by its code: 8, or 10 to 12, which have
 -- the bytes of an exchange or the names of mechanisms.

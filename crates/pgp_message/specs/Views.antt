@@ -3,7 +3,7 @@ use Rattle.std.specs.Prelude.{Option, Some, None, Result, Ok, Err}
 use Rattle.pgp_base.specs.declared.error.Error.{Error}
 use Rattle.pgp_message.specs.declared.message as code
 use Rattle.pgp_message.specs.declared.message.Message.TheVariants as variants
-use Rattle.pgp_message.specs.BackendMessage.{AuthenticationOk, AuthenticationKerberosV5, AuthenticationCleartextPassword, AuthenticationMd5Password, AuthenticationScmCredential, AuthenticationGss, AuthenticationGssContinue, AuthenticationSspi, AuthenticationSasl, AuthenticationSaslContinue, AuthenticationSaslFinal, Message, ParseComplete, BindComplete, CloseComplete, NotificationResponse, CommandComplete, DataRow, ErrorResponse, CopyInResponse, CopyOutResponse, EmptyQueryResponse, BackendKeyData, NoticeResponse, Authentication, ParameterStatus, RowDescription, ReadyForQuery, CopyDone, CopyData, NoData, PortalSuspended, ParameterDescription}
+use Rattle.pgp_message.specs.BackendMessage.{AuthenticationOk, AuthenticationKerberosV5, AuthenticationCleartextPassword, AuthenticationMd5Password, AuthenticationScmCredential, AuthenticationGss, AuthenticationGssContinue, AuthenticationSspi, AuthenticationSasl, AuthenticationSaslContinue, AuthenticationSaslFinal, Message, ParseComplete, BindComplete, CloseComplete, NotificationResponse, CommandComplete, DataRow, ErrorResponse, CopyInResponse, CopyOutResponse, EmptyQueryResponse, BackendKeyData, NegotiateProtocolVersion, NoticeResponse, Authentication, ParameterStatus, RowDescription, ReadyForQuery, CopyDone, CopyData, NoData, PortalSuspended, ParameterDescription}
 
 -- a message's variant, with what its body holds
 abbrev pub view : {A : Type 0} → code.Message.Message A → Message
@@ -29,6 +29,7 @@ view (variants.CopyOutResponse copy) = CopyOutResponse copy
 view (variants.DataRow row) = DataRow row
 view variants.EmptyQueryResponse = EmptyQueryResponse
 view (variants.ErrorResponse bytes) = ErrorResponse bytes
+view (variants.NegotiateProtocolVersion n) = NegotiateProtocolVersion n
 view variants.NoData = NoData
 view (variants.NoticeResponse bytes) = NoticeResponse bytes
 view (variants.NotificationResponse n) = NotificationResponse n

@@ -7,6 +7,7 @@ mod notice;
 mod notification;
 mod query;
 mod session;
+mod startup;
 
 pub use authentication::{
     AuthenticationGssContinueBody, AuthenticationMd5PasswordBody, AuthenticationSaslBody,
@@ -16,4 +17,5 @@ pub use copy::{CopyDataBody, CopyInResponseBody, CopyOutResponseBody};
 pub use notice::{ErrorResponseBody, NoticeResponseBody};
 pub use notification::NotificationResponseBody;
 pub use query::{CommandCompleteBody, DataRowBody, ParameterDescriptionBody, RowDescriptionBody};
-pub use session::{BackendKeyDataBody, ParameterStatusBody, ReadyForQueryBody};
+pub use session::{ParameterStatusBody, ReadyForQueryBody};
+pub use startup::{BackendKeyDataBody, NegotiateProtocolVersionBody};

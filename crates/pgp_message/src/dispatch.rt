@@ -1,14 +1,14 @@
 //! What the tag of a frame tells: how its message is read, and whether it keeps bytes of its frame.
 
 ghost use Rattle.std.specs.Prelude.{◌≡◌, ◌≢◌, ◌<◌, ◌++◌, ◌∷◌, [], map, true, false, vec_len, vec_capacity};
-ghost use Rattle.pgp_message.specs.BackendMessage.{BackendKeyData, ReadyForQuery};
-ghost use Rattle.pgp_message.specs.Reading.{ended, made, bare_of, body_of, key_data_of, byte_of};
+ghost use Rattle.pgp_message.specs.BackendMessage.{ReadyForQuery};
+ghost use Rattle.pgp_message.specs.Reading.{ended, made, bare_of, body_of, byte_of};
 ghost use Rattle.pgp_message.specs.Stream.{KeepsBytes};
 ghost use Rattle.pgp_message.specs.Views.{view, seen};
 
 use crate::body::{
     BackendKeyDataBody, CommandCompleteBody, CopyDataBody, CopyInResponseBody, CopyOutResponseBody,
-    DataRowBody, ErrorResponseBody, NoticeResponseBody, NotificationResponseBody,
+    DataRowBody, ErrorResponseBody, NegotiateProtocolVersionBody, NoticeResponseBody, NotificationResponseBody,
     ParameterDescriptionBody, ParameterStatusBody, ReadyForQueryBody, RowDescriptionBody,
 };
 use crate::message::Message;
@@ -17,7 +17,8 @@ use crate::storage::Storage;
 use crate::tag::{
     AUTHENTICATION_TAG, BACKEND_KEY_DATA_TAG, BIND_COMPLETE_TAG, CLOSE_COMPLETE_TAG,
     COMMAND_COMPLETE_TAG, COPY_DATA_TAG, COPY_DONE_TAG, COPY_IN_RESPONSE_TAG,
-    COPY_OUT_RESPONSE_TAG, DATA_ROW_TAG, EMPTY_QUERY_RESPONSE_TAG, ERROR_RESPONSE_TAG, NO_DATA_TAG,
+    COPY_OUT_RESPONSE_TAG, DATA_ROW_TAG, EMPTY_QUERY_RESPONSE_TAG, ERROR_RESPONSE_TAG,
+    NEGOTIATE_PROTOCOL_VERSION_TAG, NO_DATA_TAG,
     NOTICE_RESPONSE_TAG, NOTIFICATION_RESPONSE_TAG, PARAMETER_DESCRIPTION_TAG,
     PARAMETER_STATUS_TAG, PARSE_COMPLETE_TAG, PORTAL_SUSPENDED_TAG, READY_FOR_QUERY_TAG,
     ROW_DESCRIPTION_TAG,
@@ -39,11 +40,13 @@ pub fn keeps_bytes(tag: u8, payload: &[u8]) -> bool
         | ERROR_RESPONSE_TAG
         | COPY_IN_RESPONSE_TAG
         | COPY_OUT_RESPONSE_TAG
+        | BACKEND_KEY_DATA_TAG
         | NOTICE_RESPONSE_TAG
         | PARAMETER_STATUS_TAG
         | ROW_DESCRIPTION_TAG
         | COPY_DATA_TAG
-        | PARAMETER_DESCRIPTION_TAG => true,
+        | PARAMETER_DESCRIPTION_TAG
+        | NEGOTIATE_PROTOCOL_VERSION_TAG => true,
         AUTHENTICATION_TAG => request_keeps_bytes(payload),
         _ => false,
     }
@@ -71,7 +74,6 @@ macro_rules! plain {
             BIND_COMPLETE_TAG => $ended($($list,)? $payload, Message::BindComplete),
             CLOSE_COMPLETE_TAG => $ended($($list,)? $payload, Message::CloseComplete),
             EMPTY_QUERY_RESPONSE_TAG => $ended($($list,)? $payload, Message::EmptyQueryResponse),
-            BACKEND_KEY_DATA_TAG => $told($($list,)? key_data($payload)),
             READY_FOR_QUERY_TAG => $told($($list,)? ready_for_query($payload)),
             COPY_DONE_TAG => $ended($($list,)? $payload, Message::CopyDone),
             NO_DATA_TAG => $ended($($list,)? $payload, Message::NoData),
@@ -108,12 +110,6 @@ pub fn plain_onto<S: Storage, A: Allocator>(
     plain!(tag, payload, ended_onto, told, false, list)
 }
 
-fn key_data<S: Storage>(payload: &[u8]) -> Result<Message<S>, Error>
-    ensures { seen result ≡ made BackendKeyData (key_data_of payload.now) }
-{
-    Ok(Message::BackendKeyData(BackendKeyDataBody::read(payload)?))
-}
-
 fn ready_for_query<S: Storage>(payload: &[u8]) -> Result<Message<S>, Error>
     ensures { seen result ≡ made ReadyForQuery (byte_of payload.now) }
 {
@@ -134,6 +130,7 @@ pub fn body<S: Storage>(tag: u8, payload: S) -> Result<Message<S>, Error>
         ERROR_RESPONSE_TAG => Ok(Message::ErrorResponse(ErrorResponseBody::new(payload))),
         COPY_IN_RESPONSE_TAG => Ok(Message::CopyInResponse(CopyInResponseBody::read(payload)?)),
         COPY_OUT_RESPONSE_TAG => Ok(Message::CopyOutResponse(CopyOutResponseBody::read(payload)?)),
+        BACKEND_KEY_DATA_TAG => Ok(Message::BackendKeyData(BackendKeyDataBody::read(payload)?)),
         NOTICE_RESPONSE_TAG => Ok(Message::NoticeResponse(NoticeResponseBody::new(payload))),
         AUTHENTICATION_TAG => authentication(payload),
         PARAMETER_STATUS_TAG => Ok(Message::ParameterStatus(ParameterStatusBody::read(payload)?)),
@@ -141,6 +138,9 @@ pub fn body<S: Storage>(tag: u8, payload: S) -> Result<Message<S>, Error>
         COPY_DATA_TAG => Ok(Message::CopyData(CopyDataBody::new(payload))),
         PARAMETER_DESCRIPTION_TAG => Ok(Message::ParameterDescription(
             ParameterDescriptionBody::read(payload)?,
+        )),
+        NEGOTIATE_PROTOCOL_VERSION_TAG => Ok(Message::NegotiateProtocolVersion(
+            NegotiateProtocolVersionBody::read(payload)?,
         )),
         tag => bare(tag, payload.as_slice()),
     }

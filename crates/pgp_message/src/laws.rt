@@ -50,6 +50,11 @@ pub fn one_list_of_mechanisms()
     ensures { HasOneMarkedList TextSpelled TextRefused }
 {}
 
+/// An answer about versions has one list of options.
+pub fn one_list_of_options()
+    ensures { HasOneCountedList TextSpelled TextRefused }
+{}
+
 /// Each stream is read in one way.
 pub fn one_run()
     ensures { (bytes : List ℕ) (first second : List (Result Message Error)) (stops halts : Bool) (rest left : List ℕ) →

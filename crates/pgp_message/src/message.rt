@@ -8,7 +8,7 @@ use crate::body::{
     AuthenticationGssContinueBody, AuthenticationMd5PasswordBody, AuthenticationSaslBody,
     AuthenticationSaslContinueBody, AuthenticationSaslFinalBody, BackendKeyDataBody,
     CommandCompleteBody, CopyDataBody, CopyInResponseBody, CopyOutResponseBody, DataRowBody,
-    ErrorResponseBody, NoticeResponseBody, NotificationResponseBody, ParameterDescriptionBody,
+    ErrorResponseBody, NegotiateProtocolVersionBody, NoticeResponseBody, NotificationResponseBody, ParameterDescriptionBody,
     ParameterStatusBody, ReadyForQueryBody, RowDescriptionBody,
 };
 use crate::parser::FrameParser;
@@ -43,7 +43,7 @@ pub enum Message<S: Storage = Bytes> {
     /// The server asks for an SSPI exchange.
     AuthenticationSspi,
     /// What a later request to cancel has to show.
-    BackendKeyData(BackendKeyDataBody),
+    BackendKeyData(BackendKeyDataBody<S>),
     /// A portal was bound.
     BindComplete,
     /// A statement or a portal was closed.
@@ -64,6 +64,8 @@ pub enum Message<S: Storage = Bytes> {
     EmptyQueryResponse,
     /// An error.
     ErrorResponse(ErrorResponseBody<S>),
+    /// The version that the server speaks, and the options that it doesn't know, in this project's profile of protocol 3.2.
+    NegotiateProtocolVersion(NegotiateProtocolVersionBody<S>),
     /// A statement that gives no rows was described.
     NoData,
     /// A notice.
@@ -92,7 +94,8 @@ impl<A: Memory> Message<Bytes<A>> {
     /// # Errors
     ///
     /// The frame is removed for `UnknownTag`, `UnknownAuthentication`, `UnexpectedEof` where a part of the body is cut
-    /// short, and `NotDrained` where bytes are left behind the last part. The bytes stay as they are for
+    /// short, `InvalidCount` where the options of a `NegotiateProtocolVersion` are fewer than none, and `NotDrained` where bytes
+    /// are left behind the last part. The bytes stay as they are for
     /// `InvalidLength`, where a length below 4 is announced, and for `OutOfMemory`.
     pub fn parse(buf: &mut BytesMut<A>) -> Result<Option<Message<Bytes<A>>>, Error>
         ensures step { Step A.Lacks buf.old.items (parsed result) buf.new.items }

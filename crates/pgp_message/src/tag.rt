@@ -39,6 +39,9 @@ pub const EMPTY_QUERY_RESPONSE_TAG: u8 = b'I';
 /// What a later request to cancel has to show.
 pub const BACKEND_KEY_DATA_TAG: u8 = b'K';
 
+/// The version that the server speaks, in this project's profile of protocol 3.2; nothing is claimed of a server's 3.2.
+pub const NEGOTIATE_PROTOCOL_VERSION_TAG: u8 = b'v';
+
 /// A statement that gives no rows was described.
 pub const NO_DATA_TAG: u8 = b'n';
 

@@ -5,6 +5,7 @@ mod data_row_ranges;
 mod error_fields;
 mod fields;
 mod parameters;
+mod protocol_options;
 mod sasl_mechanisms;
 
 pub use column_formats::ColumnFormats;
@@ -12,4 +13,5 @@ pub use data_row_ranges::DataRowRanges;
 pub use error_fields::{ErrorField, ErrorFields};
 pub use fields::{Field, Fields};
 pub use parameters::Parameters;
+pub use protocol_options::ProtocolOptions;
 pub use sasl_mechanisms::SaslMechanisms;

@@ -6,7 +6,7 @@ use bytes::Bytes;
 use pgp_base::Error;
 use pgp_message::{
     ColumnFormats, DataRowRanges, ErrorField, ErrorFields, Field, Fields, Message, Parameters,
-    RowIndex, SaslMechanisms,
+    ProtocolOptions, RowIndex, SaslMechanisms,
 };
 use std::ops::Range;
 
@@ -100,6 +100,19 @@ fn show_mechanisms(mechanisms: SaslMechanisms<'_>, out: &mut Shown) -> Result<()
     )
 }
 
+fn show_options(options: ProtocolOptions<'_>, out: &mut Shown) -> Result<(), Fault> {
+    show_walk(options, |name: &str, out: &mut Shown| out.text(name), out)
+}
+
+/// A key: its number, and its bytes.
+fn show_key(number: Option<i32>, bytes: &[u8], out: &mut Shown) -> Result<(), Fault> {
+    match number {
+        Some(number) => out.number(number)?,
+        None => out.word("none")?,
+    }
+    out.bytes(bytes)
+}
+
 fn show_types(types: Parameters<'_>, out: &mut Shown) -> Result<(), Fault> {
     show_walk(types, |oid: u32, out: &mut Shown| out.number(oid), out)
 }
@@ -133,7 +146,11 @@ macro_rules! login_parts {
             Message::AuthenticationSaslFinal(body) => $out.bytes(body.data()),
             Message::BackendKeyData(body) => {
                 $out.number(body.process_id())?;
-                $out.number(body.secret_key())
+                show_key(body.secret_key(), body.secret_key_bytes(), $out)
+            }
+            Message::NegotiateProtocolVersion(body) => {
+                $out.number(body.version())?;
+                show_options(body.options(), $out)
             }
             other => $others(other, $out),
         }

@@ -88,10 +88,9 @@ fn is_message<A: Allocator + Copy>(buf: &mut BytesMut<A>) -> Result<bool, Error>
 // A message that keeps no bytes of its frame asks for no memory, and neither does a frame of no message.
 #[test]
 fn bare_frames_ask_for_no_memory(rt: HostRuntime) -> Result<(), Fail> {
-    let frames: [(&[u8], Result<bool, Error>); 9] = [
+    let frames: [(&[u8], Result<bool, Error>); 8] = [
         (b"\x31\0\0\0\x04", Ok(true)),
         (b"\x5a\0\0\0\x05I", Ok(true)),
-        (b"\x4b\0\0\0\x0c\0\0\0\x01\0\0\0\x02", Ok(true)),
         (b"\x52\0\0\0\x08\0\0\0\0", Ok(true)),
         (b"\x52\0\0\0\x0c\0\0\0\x05\x01\x02\x03\x04", Ok(true)),
         (b"\x5a\0\0\0\x06I\0", Err(Error::NotDrained)),

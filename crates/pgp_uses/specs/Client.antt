@@ -1,9 +1,10 @@
 -- What a server's messages make of a client that logs in without a password and asks one query.
 -- PostgreSQL manual, "Message Flow": "Start-up", "Simple Query", "Asynchronous Operations".
-use Rattle.std.specs.Prelude.{◌≡◌, ℕ, List, Option, Some, None, Result, Ok, Err}
+use Rattle.std.specs.Prelude.{◌≡◌, ℕ, ℤ, pos, List, Option, Some, None, Result, Ok, Err, if◌then◌else◌}
+use Rattle.std.specs.Int.Signed.{lt_z}
 use Rattle.pgp_base.specs.Held.{Held}
 use Rattle.pgp_frontend.specs.ClientMessage.{ClientMessage, Query, Terminate}
-use Rattle.pgp_message.specs.BackendMessage.{Message, Authentication, AuthenticationOk, BackendKeyData, CommandComplete, DataRow, EmptyQueryResponse, ErrorResponse, NoticeResponse, NotificationResponse, ParameterStatus, ReadyForQuery, RowDescription}
+use Rattle.pgp_message.specs.BackendMessage.{Message, Authentication, AuthenticationOk, BackendKeyData, CommandComplete, DataRow, EmptyQueryResponse, ErrorResponse, NegotiateProtocolVersion, NoticeResponse, NotificationResponse, ParameterStatus, ReadyForQuery, RowDescription}
 use Rattle.postgres_protocol.specs.ClientStream.{Sent, IsAdded, IsLeft, RefusesMessage}
 use Rattle.pgp_uses.specs.declared.client.Phase.{Phase}
 use Rattle.pgp_uses.specs.declared.client.Phase.TheVariants.{LoggingIn, Starting, Querying, Over}
@@ -12,11 +13,16 @@ use Rattle.pgp_uses.specs.declared.client.Event.TheVariants.{Noted, Admitted, As
 use Rattle.pgp_uses.specs.declared.client.StepError.{StepError}
 use Rattle.pgp_uses.specs.declared.client.StepError.TheVariants.{Unexpected, Unsent}
 
+-- the version that the server speaks: the client goes on with 3.0 or above, as this project's profile of protocol 3.2 has it
+abbrev pub at_version : ℤ → Option Event
+at_version version = if lt_z version (pos 196608) then None else Some Noted
+
 -- the answers to a startup packet
 abbrev pub at_login : Message → Option Event
 at_login (Authentication AuthenticationOk) = Some Admitted
 at_login (ErrorResponse bytes) = Some Refused
 at_login (NoticeResponse bytes) = Some Noted
+at_login (NegotiateProtocolVersion n) = at_version n.version
 at_login m = None
 
 -- what comes between the log-in and the first query

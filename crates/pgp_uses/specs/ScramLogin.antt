@@ -30,7 +30,7 @@ pub data Said : Type 0 where
   Final : (text : List ℕ) → Said
   Welcome : Said
 
--- and by which message
+-- and by which message; an answer about versions (`v`) says nothing here, so that the log-in stops at it
 abbrev pub says : Message → Option Said
 says (NoticeResponse fields) = Some Notice
 says (ErrorResponse fields) = Some Failure

@@ -6,13 +6,16 @@ ghost use Rattle.pgp_frontend.specs.ClientMessage.{Startup};
 ghost use Rattle.pgp_frontend.specs.declared.startup.ProtocolVersion.TheVariants.{V3_0};
 ghost use Rattle.pgp_message.specs.Views.{view};
 ghost use Rattle.postgres_protocol.specs.ClientStream.{IsAdded, RefusesMessage};
-ghost use Rattle.pgp_uses.specs.Client.{Steps, at_login, at_start, at_query, event_of};
+ghost use Rattle.pgp_uses.specs.Client.{Steps, at_login, at_version, at_start, at_query, event_of};
 
 use pgp_base::Buffer;
 use pgp_message::Storage;
 use postgres_protocol::Error;
 use postgres_protocol::message::backend::Message;
 use postgres_protocol::session::ClientStream;
+
+/// The number of version 3.0.
+const VERSION_3_0: i32 = 196_608;
 
 /// How far a session is.
 #[derive(Debug, Clone, Copy, PartialEq, Eq)]
@@ -150,7 +153,19 @@ fn told_at_login<S: Storage>(message: &Message<S>) -> Option<Event>
         Message::AuthenticationOk => Some(Event::Admitted),
         Message::ErrorResponse(_) => Some(Event::Refused),
         Message::NoticeResponse(_) => Some(Event::Noted),
+        Message::NegotiateProtocolVersion(answer) => told_of_version(answer.version()),
         _ => None,
+    }
+}
+
+/// What the version that the server speaks tells: the session goes on with 3.0 or above.
+fn told_of_version(version: i32) -> Option<Event>
+    ensures { result ≡ at_version version }
+{
+    if version < VERSION_3_0 {
+        None
+    } else {
+        Some(Event::Noted)
     }
 }
 

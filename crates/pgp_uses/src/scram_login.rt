@@ -300,7 +300,7 @@ fn heard_in<'m, S: SaslStorage>(phase: LoginPhase, message: &'m Message<S>) -> O
     }
 }
 
-/// What the message says.
+/// What the message says. An answer about versions says nothing here: the log-in stops at it.
 fn said_by<'m, S: SaslStorage>(message: &'m Message<S>) -> Option<Heard<'m, S>>
     ensures { option_map seen result ≡ says (view message.now) }
 {

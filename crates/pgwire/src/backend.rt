@@ -189,6 +189,7 @@ fn name_of<S: Storage>(message: &Message<S>) -> &'static str
         Message::DataRow(_) => "DataRow",
         Message::EmptyQueryResponse => "EmptyQueryResponse",
         Message::ErrorResponse(_) => "ErrorResponse",
+        Message::NegotiateProtocolVersion(_) => "NegotiateProtocolVersion",
         Message::NoData => "NoData",
         Message::NoticeResponse(_) => "NoticeResponse",
         Message::NotificationResponse(_) => "NotificationResponse",

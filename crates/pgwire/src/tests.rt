@@ -107,6 +107,10 @@ const FRAMES: [(&[u8], &str); 31] = [
         b"t\x00\x00\x00\x0a\x00\x01\x00\x00\x00\x17",
         "ParameterDescription",
     ),
+    (
+        b"v\x00\x00\x00\x13\x00\x03\x00\x00\x00\x00\x00\x01_pq_.x\x00",
+        "NegotiateProtocolVersion",
+    ),
 ];
 
 fn listed(alloc: Global, mut input: &[u8]) -> Result<Vec<u8>, Fault> {

@@ -2,60 +2,14 @@
 
 ghost use Rattle.std.specs.Prelude.{◌≡◌, MatchResult};
 ghost use Rattle.std.specs.Str.{IsUtf8};
-ghost use Rattle.pgp_message.specs.Reading.{byte_of, key_data_of, setting_of};
+ghost use Rattle.pgp_message.specs.Reading.{byte_of, setting_of};
 
 use crate::storage::Storage;
 use bytes::Bytes;
-use pgp_base::reading::{byte_at, int32_at, string_at};
+use pgp_base::reading::{byte_at, string_at};
 use pgp_base::{Error, text};
 use std::alloc::Allocator;
 use std::marker::Model;
-
-/// What a later request to cancel has to show.
-#[derive(Drop)]
-pub struct BackendKeyDataBody {
-    process_id: i32,
-    secret_key: i32,
-}
-
-impl Model for BackendKeyDataBody {
-    ghost use Rattle.pgp_message.specs.Parts.{KeyData};
-
-    ghost Value = { KeyData };
-
-    ghost view = { λ body. record { process_id = body.process_id; secret_key = body.secret_key } };
-}
-
-impl BackendKeyDataBody {
-    #[tactic(auto, unfolding(crate::specs::Reading::key_data_of))]
-    pub(crate) fn read(payload: &[u8]) -> Result<Self, Error>
-        ensures { result ≡ key_data_of payload.now }
-    {
-        let (process_id, rest) = int32_at(payload)?;
-        let (secret_key, rest) = int32_at(rest)?;
-        if !rest.is_empty() {
-            return Err(Error::NotDrained);
-        }
-        Ok(BackendKeyDataBody {
-            process_id,
-            secret_key,
-        })
-    }
-
-    /// The process that serves the session.
-    pub fn process_id(&self) -> i32
-        ensures { result ≡ self.now.process_id }
-    {
-        self.process_id
-    }
-
-    /// The secret that a request to cancel shows.
-    pub fn secret_key(&self) -> i32
-        ensures { result ≡ self.now.secret_key }
-    {
-        self.secret_key
-    }
-}
 
 /// The server is ready for the next query.
 #[derive(Drop)]

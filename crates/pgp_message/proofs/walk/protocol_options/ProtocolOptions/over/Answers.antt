@@ -1,0 +1,17 @@
+use Rattle.std.proofs.Common.{arith}
+use Rattle.pgp_base.specs.Wire.{IsBytes}
+use Rattle.pgp_base.proofs.CountedLemmas.{counted_whole, counted_few}
+use Rattle.pgp_message.specs.Items.{TextSpelled, TextRefused}
+use Rattle.pgp_base.specs.PartReading.{text_at}
+use Rattle.pgp_message.proofs.TextLemmas.{text_reader}
+use Rattle.pgp_message.proofs.walk.protocol_options.ProtocolOptions.over.Goals as goal
+
+pub returns-clause-items : goal.returns-clause-items
+returns-clause-items c =
+    let each : IsBytes c.args.buf.now = λ i. omega (arith, c.type_inv.buf i) in
+    rw c.new.ensures (counted_whole TextSpelled TextRefused (λ place. text_at) text_reader c.args.count c.args.buf.now each)
+
+pub returns-clause-few : goal.returns-clause-few
+returns-clause-few c =
+    let each : IsBytes c.args.buf.now = λ i. omega (arith, c.type_inv.buf i) in
+    rw c.new.ensures (counted_few TextSpelled TextRefused (λ place. text_at) text_reader c.args.count c.args.buf.now each)
