@@ -10,6 +10,7 @@ use pgp_auth::authentication::sasl::{
 use pgp_auth::escape::{escape_identifier, escape_literal};
 use pgp_auth::password::{md5, scram_sha_256, scram_sha_256_salt};
 use pgp_base::{Error, Memory};
+use pgp_saslprep::SaslPrepRfc4013;
 use pgp_test_alloc::Refusing;
 use rand_core::SeedableRng;
 use rand_pcg::Pcg32;
@@ -53,6 +54,7 @@ enum Call {
     Md5Hash,
     Verifier,
     MappedVerifier,
+    PreparedVerifier,
     DrawnVerifier,
 }
 
@@ -64,6 +66,9 @@ fn text_of<A: Allocator + Copy>(alloc: A, call: Call) -> Result<String<A>, Error
         Call::Md5Hash => md5_hash(alloc, b"md5_user", b"password", [0x2a, 0x3d, 0x8f, 0xe0]),
         Call::Verifier => scram_sha_256_salt(alloc, b"secret", SALT, &NoPrep),
         Call::MappedVerifier => scram_sha_256_salt(alloc, b"\xc3\xa9", SALT, &ToX),
+        Call::PreparedVerifier => {
+            scram_sha_256_salt(alloc, b"\xc3\xa9", SALT, &SaslPrepRfc4013)
+        }
         Call::DrawnVerifier => scram_sha_256(
             alloc,
             b"secret",
@@ -73,7 +78,7 @@ fn text_of<A: Allocator + Copy>(alloc: A, call: Call) -> Result<String<A>, Error
     }
 }
 
-// Each call asks for memory as often as is said here: once for its text, and the mapping for its own.
+// Each call asks for memory as often as is said here: once for its text, and a mapping for its own, SASLprep twice.
 #[test]
 fn texts_with_each_allocation_refused(rt: HostRuntime) -> Result<(), Fail> {
     let calls = [
@@ -83,6 +88,7 @@ fn texts_with_each_allocation_refused(rt: HostRuntime) -> Result<(), Fail> {
         (Call::Md5Hash, 1),
         (Call::Verifier, 1),
         (Call::MappedVerifier, 2),
+        (Call::PreparedVerifier, 3),
         (Call::DrawnVerifier, 1),
     ];
     for (call, asked) in calls {
