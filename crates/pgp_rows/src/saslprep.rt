@@ -20,7 +20,7 @@ struct Counts {
 
 /// `prepare TEXT`: the prepared text, or `refused`.
 fn show_prepared(alloc: Global, words: &mut Words<'_>, out: &mut Shown) -> Result<(), Fault> {
-    match saslprep(alloc, words.text()?, &UnicodeNfkc)? {
+    match saslprep(alloc, words.text()?, &UnicodeNfkc::new(alloc))? {
         Some(text) => out.text(text.as_str()),
         None => out.word("refused"),
     }
@@ -29,7 +29,7 @@ fn show_prepared(alloc: Global, words: &mut Words<'_>, out: &mut Shown) -> Resul
 /// `verifier PASSWORD SALT`: the verifier of the prepared password.
 fn show_verifier(alloc: Global, words: &mut Words<'_>, out: &mut Shown) -> Result<(), Fault> {
     let password = words.bytes()?;
-    let verifier = scram_sha_256_salt(alloc, password, words.block()?, &SaslPrepRfc4013)?;
+    let verifier = scram_sha_256_salt(alloc, password, words.block()?, &SaslPrepRfc4013::new(alloc))?;
     out.text(verifier.as_str())
 }
 
@@ -51,12 +51,13 @@ fn show_counts(alloc: Global, out: &mut Shown) -> Result<(), Fault> {
         nothing: 0,
         refused: 0,
     };
+    let form = UnicodeNfkc::new(alloc);
     let mut text = String::new(alloc);
     for code in 0..0x11_0000u32 {
         if let Some(c) = char::from_u32(code) {
             text.clear();
             text.push(c)?;
-            let prepared = saslprep(alloc, text.as_str(), &UnicodeNfkc)?;
+            let prepared = saslprep(alloc, text.as_str(), &form)?;
             count(text.as_str(), prepared.as_deref(), &mut counts);
         }
     }
@@ -75,7 +76,7 @@ fn show_call(
 ) -> Result<(), Fault> {
     match call {
         "each_character" => show_counts(alloc, out),
-        "exchange" => show_exchange(alloc, words, &SaslPrepRfc4013, out),
+        "exchange" => show_exchange(alloc, words, &SaslPrepRfc4013::new(alloc), out),
         "prepare" => show_prepared(alloc, words, out),
         "verifier" => show_verifier(alloc, words, out),
         _ => Err(Fault::Row),

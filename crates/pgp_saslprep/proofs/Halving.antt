@@ -43,7 +43,7 @@ ends_from n (r ∷ rs) (suc k) d up lt =
     omega arith
 
 -- no range has what is below them
-below : (n : ℕ) (rs : List Range) (c : ℕ) → ranges_rise n rs ≡ true → c < n → in_table rs c ≡ false
+pub below : (n : ℕ) (rs : List Range) (c : ℕ) → ranges_rise n rs ≡ true → c < n → in_table rs c ≡ false
 below n [] c up low = none c
 below n (r ∷ rs) c up low =
     let p = parts n r rs up in

@@ -5,9 +5,7 @@ ghost use Rattle.pgp_saslprep.specs.SaslPrep.{has, begins, ends, is_prohibited, 
 ghost use Rattle.pgp_saslprep.specs.Table.{in_table, IsRising};
 
 use crate::mapping::lists;
-use crate::tables::{
-    A_1, C_1_2, C_2_1, C_2_2, C_3, C_4, C_5, C_6, C_7, C_8, C_9, D_1, D_2,
-};
+use crate::tables;
 
 // Whether the table lists a character of the text.
 fn has_any(table: &[(u32, u32)], text: &str) -> bool
@@ -49,29 +47,31 @@ fn ends_with(table: &[(u32, u32)], text: &str) -> bool
 fn has_prohibited(text: &str) -> bool
     ensures { result ≡ is_prohibited (chars text.now) }
 {
-    has_any(&C_1_2, text)
-        || has_any(&C_2_1, text)
-        || has_any(&C_2_2, text)
-        || has_any(&C_3, text)
-        || has_any(&C_4, text)
-        || has_any(&C_5, text)
-        || has_any(&C_6, text)
-        || has_any(&C_7, text)
-        || has_any(&C_8, text)
-        || has_any(&C_9, text)
+    has_any(tables::c_1_2_ranges(), text)
+        || has_any(tables::c_2_1_ranges(), text)
+        || has_any(tables::c_2_2_ranges(), text)
+        || has_any(tables::c_3_ranges(), text)
+        || has_any(tables::c_4_ranges(), text)
+        || has_any(tables::c_5_ranges(), text)
+        || has_any(tables::c_6_ranges(), text)
+        || has_any(tables::c_7_ranges(), text)
+        || has_any(tables::c_8_ranges(), text)
+        || has_any(tables::c_9_ranges(), text)
 }
 
 // Whether the text goes one way, by section 6 of RFC 3454.
 fn goes_one_way(text: &str) -> bool
     ensures { result ≡ is_one_way (chars text.now) }
 {
-    !has_any(&D_1, text)
-        || (!has_any(&D_2, text) && begins_with(&D_1, text) && ends_with(&D_1, text))
+    !has_any(tables::d_1_ranges(), text)
+        || (!has_any(tables::d_2_ranges(), text)
+            && begins_with(tables::d_1_ranges(), text)
+            && ends_with(tables::d_1_ranges(), text))
 }
 
 // Whether a mapped and normalized text is refused.
 pub(crate) fn refuses(text: &str) -> bool
     ensures { result ≡ is_refused (chars text.now) }
 {
-    has_prohibited(text) || !goes_one_way(text) || has_any(&A_1, text)
+    has_prohibited(text) || !goes_one_way(text) || has_any(tables::a_1_ranges(), text)
 }

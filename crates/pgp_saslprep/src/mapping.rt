@@ -1,10 +1,10 @@
 //! Tables looked up, and the first step of RFC 4013: what is mapped to a space or to nothing.
 
-ghost use Rattle.std.specs.Prelude.{◌≡◌, ◌++◌, chars, string_bytes, encode_utf8_all, IfOk, OnOk, OnErr};
-ghost use Rattle.pgp_saslprep.specs.SaslPrep.{mapped_char, mapped_text};
+ghost use Rattle.std.specs.Prelude.{◌≡◌, [], ◌∷◌, ◌++◌, chars, string_bytes, encode_utf8_all, IfOk, OnOk, OnErr};
+ghost use Rattle.pgp_saslprep.specs.SaslPrep.{mapped_text};
 ghost use Rattle.pgp_saslprep.specs.Table.{in_table, IsRising};
 
-use crate::tables::{B_1, C_1_2};
+use crate::tables::{b_1_ranges, c_1_2_ranges};
 use pgp_base::Memory;
 use std::alloc::AllocError;
 
@@ -30,15 +30,16 @@ pub(crate) fn lists(table: &[(u32, u32)], c: char) -> bool
     false
 }
 
+#[tactic(auto, using(crate::proofs::Mapped::as_space, crate::proofs::Mapped::as_nothing, crate::proofs::Mapped::as_itself))]
 // Appends what the character is mapped to. U+200B, which both tables list, is a space.
 fn push_mapped<A: Memory>(out: &mut String<A>, c: char) -> Result<(), AllocError>
-    ensures ok { OnOk result (string_bytes out.new ≡ string_bytes out.old ++ encode_utf8_all (mapped_char c)) }
+    ensures ok { OnOk result (string_bytes out.new ≡ string_bytes out.old ++ encode_utf8_all (mapped_text (c ∷ []))) }
     ensures lacks { OnErr result A.Lacks }
 {
-    if lists(&C_1_2, c) {
+    if lists(c_1_2_ranges(), c) {
         return A::push_char(out, ' ');
     }
-    if lists(&B_1, c) {
+    if lists(b_1_ranges(), c) {
         return Ok(());
     }
     A::push_char(out, c)

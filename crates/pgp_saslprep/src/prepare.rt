@@ -1,6 +1,6 @@
 //! The whole of RFC 4013, over the normal forms of the toolchain's `unicode_normalization`.
 
-ghost use Rattle.std.specs.Prelude.{◌≡◌, ◌⊎◌, List, Option, ℕ, chars, string_bytes, encode_utf8_all, option_map, IfOk, IfErr, OnErr, Unit};
+ghost use Rattle.std.specs.Prelude.{◌≡◌, ◌⊎◌, List, Option, ℕ, chars, string_bytes, encode_utf8_all, option_map, IfOk, IfErr, OnErr};
 ghost use Rattle.pgp_base.specs.Cause.{WantsMemory};
 ghost use Rattle.pgp_saslprep.specs.SaslPrep.{prepared_bytes};
 ghost use Rattle.unicode_normalization.specs.Forms.{nfkc};
@@ -28,14 +28,22 @@ pub trait Nfkc {
 }
 
 /// The normal form KC of Unicode 18, in memory of the global allocator. Of its refusals nothing is said.
-#[derive(Debug, Clone, Copy)]
-pub struct UnicodeNfkc;
+#[derive(Clone, Copy)]
+pub struct UnicodeNfkc {
+    alloc: Global,
+}
+
+impl UnicodeNfkc {
+    pub fn new(alloc: Global) -> UnicodeNfkc {
+        UnicodeNfkc { alloc }
+    }
+}
 
 impl Nfkc for UnicodeNfkc {
     ghost Lacks = { Unit {0} };
 
     fn nfkc(&self, text: &str) -> Result<String, AllocError> {
-        to_nfkc(Global, text)
+        to_nfkc(self.alloc, text)
     }
 }
 
@@ -66,15 +74,33 @@ pub fn saslprep<A: Memory, N: Nfkc>(
 ///
 /// The order of the steps is the RFC's, and that of the Rust crate `stringprep`: a server of PostgreSQL looks for what
 /// it refuses before it normalizes, and refuses a text of which the mapping leaves nothing.
-#[derive(Debug, Clone, Copy)]
-pub struct SaslPrepRfc4013;
+#[derive(Clone, Copy)]
+pub struct SaslPrepRfc4013<N: Nfkc = UnicodeNfkc> {
+    form: N,
+}
 
-impl SaslPrep for SaslPrepRfc4013 {
+impl SaslPrepRfc4013 {
+    /// The mapping, over the normal form of `UnicodeNfkc`.
+    pub fn new(alloc: Global) -> SaslPrepRfc4013 {
+        SaslPrepRfc4013 {
+            form: UnicodeNfkc::new(alloc),
+        }
+    }
+}
+
+impl<N: Nfkc> SaslPrepRfc4013<N> {
+    /// The mapping, over another normal form of the caller's.
+    pub fn over(form: N) -> SaslPrepRfc4013<N> {
+        SaslPrepRfc4013 { form }
+    }
+}
+
+impl<N: Nfkc> SaslPrep for SaslPrepRfc4013<N> {
     ghost mapping = { λ _ text. prepared_bytes text };
 
-    ghost Lacks = { Unit {0} };
+    ghost Lacks = { N.Lacks };
 
     fn prepare<A: Memory>(&self, alloc: A, text: &str) -> Result<Option<String<A>>, Error> {
-        saslprep(alloc, text, &UnicodeNfkc)
+        saslprep(alloc, text, &self.form)
     }
 }

@@ -1,9 +1,12 @@
 //! The tables of RFC 3454, appendices A to D, as inclusive ranges of code points, in order.
 // Written by scripts/saslprep_tables from Python's `stringprep`. Do not edit.
 
-/// A.1: what Unicode 3.2 doesn't assign.
+ghost use Rattle.std.specs.Prelude.{◌≡◌};
+ghost use Rattle.pgp_saslprep.specs.Table.{IsRising};
+ghost use Rattle.pgp_saslprep.specs.Tables.{a_1, b_1, c_1_2, c_2_1, c_2_2, c_3, c_4, c_5, c_6, c_7, c_8, c_9, d_1, d_2};
+
 #[rattlefmt::skip]
-pub(crate) static A_1: [(u32, u32); 396] = [
+static A_1: [(u32, u32); 396] = [
     (0x0221, 0x0221), (0x0234, 0x024F), (0x02AE, 0x02AF), (0x02EF, 0x02FF), (0x0350, 0x035F),
     (0x0370, 0x0373), (0x0376, 0x0379), (0x037B, 0x037D), (0x037F, 0x0383), (0x038B, 0x038B),
     (0x038D, 0x038D), (0x03A2, 0x03A2), (0x03CF, 0x03CF), (0x03F7, 0x03FF), (0x0487, 0x0487),
@@ -88,43 +91,91 @@ pub(crate) static A_1: [(u32, u32); 396] = [
     (0xE0002, 0xE001F), (0xE0080, 0xEFFFD),
 ];
 
-/// B.1: what is commonly mapped to nothing.
+/// A.1: what Unicode 3.2 doesn't assign.
+#[tactic(auto, unfolding(crate::specs::Table::ranges_rise, crate::specs::Tables::a_1))]
+pub(crate) fn a_1_ranges() -> &'static [(u32, u32)]
+    ensures table { result.now ≡ a_1 }
+    ensures rising { IsRising result.now }
+{
+    &A_1
+}
+
 #[rattlefmt::skip]
-pub(crate) static B_1: [(u32, u32); 8] = [
+static B_1: [(u32, u32); 8] = [
     (0x00AD, 0x00AD), (0x034F, 0x034F), (0x1806, 0x1806), (0x180B, 0x180D), (0x200B, 0x200D),
     (0x2060, 0x2060), (0xFE00, 0xFE0F), (0xFEFF, 0xFEFF),
 ];
 
-/// C.1.2: spaces past ASCII.
+/// B.1: what is commonly mapped to nothing.
+#[tactic(auto, unfolding(crate::specs::Table::ranges_rise, crate::specs::Tables::b_1))]
+pub(crate) fn b_1_ranges() -> &'static [(u32, u32)]
+    ensures table { result.now ≡ b_1 }
+    ensures rising { IsRising result.now }
+{
+    &B_1
+}
+
 #[rattlefmt::skip]
-pub(crate) static C_1_2: [(u32, u32); 6] = [
+static C_1_2: [(u32, u32); 6] = [
     (0x00A0, 0x00A0), (0x1680, 0x1680), (0x2000, 0x200B), (0x202F, 0x202F), (0x205F, 0x205F),
     (0x3000, 0x3000),
 ];
 
-/// C.2.1: control characters of ASCII.
+/// C.1.2: spaces past ASCII.
+#[tactic(auto, unfolding(crate::specs::Table::ranges_rise, crate::specs::Tables::c_1_2))]
+pub(crate) fn c_1_2_ranges() -> &'static [(u32, u32)]
+    ensures table { result.now ≡ c_1_2 }
+    ensures rising { IsRising result.now }
+{
+    &C_1_2
+}
+
 #[rattlefmt::skip]
-pub(crate) static C_2_1: [(u32, u32); 2] = [
+static C_2_1: [(u32, u32); 2] = [
     (0x0000, 0x001F), (0x007F, 0x007F),
 ];
 
-/// C.2.2: control characters past ASCII.
+/// C.2.1: control characters of ASCII.
+#[tactic(auto, unfolding(crate::specs::Table::ranges_rise, crate::specs::Tables::c_2_1))]
+pub(crate) fn c_2_1_ranges() -> &'static [(u32, u32)]
+    ensures table { result.now ≡ c_2_1 }
+    ensures rising { IsRising result.now }
+{
+    &C_2_1
+}
+
 #[rattlefmt::skip]
-pub(crate) static C_2_2: [(u32, u32); 11] = [
+static C_2_2: [(u32, u32); 11] = [
     (0x0080, 0x009F), (0x06DD, 0x06DD), (0x070F, 0x070F), (0x180E, 0x180E), (0x200C, 0x200D),
     (0x2028, 0x2029), (0x2060, 0x2063), (0x206A, 0x206F), (0xFEFF, 0xFEFF), (0xFFF9, 0xFFFC),
     (0x1D173, 0x1D17A),
 ];
 
-/// C.3: private use.
+/// C.2.2: control characters past ASCII.
+#[tactic(auto, unfolding(crate::specs::Table::ranges_rise, crate::specs::Tables::c_2_2))]
+pub(crate) fn c_2_2_ranges() -> &'static [(u32, u32)]
+    ensures table { result.now ≡ c_2_2 }
+    ensures rising { IsRising result.now }
+{
+    &C_2_2
+}
+
 #[rattlefmt::skip]
-pub(crate) static C_3: [(u32, u32); 3] = [
+static C_3: [(u32, u32); 3] = [
     (0xE000, 0xF8FF), (0xF0000, 0xFFFFD), (0x100000, 0x10FFFD),
 ];
 
-/// C.4: code points that are no characters.
+/// C.3: private use.
+#[tactic(auto, unfolding(crate::specs::Table::ranges_rise, crate::specs::Tables::c_3))]
+pub(crate) fn c_3_ranges() -> &'static [(u32, u32)]
+    ensures table { result.now ≡ c_3 }
+    ensures rising { IsRising result.now }
+{
+    &C_3
+}
+
 #[rattlefmt::skip]
-pub(crate) static C_4: [(u32, u32); 18] = [
+static C_4: [(u32, u32); 18] = [
     (0xFDD0, 0xFDEF), (0xFFFE, 0xFFFF), (0x1FFFE, 0x1FFFF), (0x2FFFE, 0x2FFFF), (0x3FFFE, 0x3FFFF),
     (0x4FFFE, 0x4FFFF), (0x5FFFE, 0x5FFFF), (0x6FFFE, 0x6FFFF), (0x7FFFE, 0x7FFFF),
     (0x8FFFE, 0x8FFFF), (0x9FFFE, 0x9FFFF), (0xAFFFE, 0xAFFFF), (0xBFFFE, 0xBFFFF),
@@ -132,30 +183,78 @@ pub(crate) static C_4: [(u32, u32); 18] = [
     (0x10FFFE, 0x10FFFF),
 ];
 
+/// C.4: code points that are no characters.
+#[tactic(auto, unfolding(crate::specs::Table::ranges_rise, crate::specs::Tables::c_4))]
+pub(crate) fn c_4_ranges() -> &'static [(u32, u32)]
+    ensures table { result.now ≡ c_4 }
+    ensures rising { IsRising result.now }
+{
+    &C_4
+}
+
+static C_5: [(u32, u32); 1] = [(0xD800, 0xDFFF)];
+
 /// C.5: surrogates.
-pub(crate) static C_5: [(u32, u32); 1] = [(0xD800, 0xDFFF)];
+#[tactic(auto, unfolding(crate::specs::Table::ranges_rise, crate::specs::Tables::c_5))]
+pub(crate) fn c_5_ranges() -> &'static [(u32, u32)]
+    ensures table { result.now ≡ c_5 }
+    ensures rising { IsRising result.now }
+{
+    &C_5
+}
+
+static C_6: [(u32, u32); 1] = [(0xFFF9, 0xFFFD)];
 
 /// C.6: what has no place in plain text.
-pub(crate) static C_6: [(u32, u32); 1] = [(0xFFF9, 0xFFFD)];
+#[tactic(auto, unfolding(crate::specs::Table::ranges_rise, crate::specs::Tables::c_6))]
+pub(crate) fn c_6_ranges() -> &'static [(u32, u32)]
+    ensures table { result.now ≡ c_6 }
+    ensures rising { IsRising result.now }
+{
+    &C_6
+}
+
+static C_7: [(u32, u32); 1] = [(0x2FF0, 0x2FFB)];
 
 /// C.7: what has no place in a canonical representation.
-pub(crate) static C_7: [(u32, u32); 1] = [(0x2FF0, 0x2FFB)];
+#[tactic(auto, unfolding(crate::specs::Table::ranges_rise, crate::specs::Tables::c_7))]
+pub(crate) fn c_7_ranges() -> &'static [(u32, u32)]
+    ensures table { result.now ≡ c_7 }
+    ensures rising { IsRising result.now }
+{
+    &C_7
+}
 
-/// C.8: what changes how text is shown, or is deprecated.
 #[rattlefmt::skip]
-pub(crate) static C_8: [(u32, u32); 4] = [
+static C_8: [(u32, u32); 4] = [
     (0x0340, 0x0341), (0x200E, 0x200F), (0x202A, 0x202E), (0x206A, 0x206F),
 ];
 
-/// C.9: tags.
+/// C.8: what changes how text is shown, or is deprecated.
+#[tactic(auto, unfolding(crate::specs::Table::ranges_rise, crate::specs::Tables::c_8))]
+pub(crate) fn c_8_ranges() -> &'static [(u32, u32)]
+    ensures table { result.now ≡ c_8 }
+    ensures rising { IsRising result.now }
+{
+    &C_8
+}
+
 #[rattlefmt::skip]
-pub(crate) static C_9: [(u32, u32); 2] = [
+static C_9: [(u32, u32); 2] = [
     (0xE0001, 0xE0001), (0xE0020, 0xE007F),
 ];
 
-/// D.1: what is written from right to left.
+/// C.9: tags.
+#[tactic(auto, unfolding(crate::specs::Table::ranges_rise, crate::specs::Tables::c_9))]
+pub(crate) fn c_9_ranges() -> &'static [(u32, u32)]
+    ensures table { result.now ≡ c_9 }
+    ensures rising { IsRising result.now }
+{
+    &C_9
+}
+
 #[rattlefmt::skip]
-pub(crate) static D_1: [(u32, u32); 34] = [
+static D_1: [(u32, u32); 34] = [
     (0x05BE, 0x05BE), (0x05C0, 0x05C0), (0x05C3, 0x05C3), (0x05D0, 0x05EA), (0x05F0, 0x05F4),
     (0x061B, 0x061B), (0x061F, 0x061F), (0x0621, 0x063A), (0x0640, 0x064A), (0x066D, 0x066F),
     (0x0671, 0x06D5), (0x06DD, 0x06DD), (0x06E5, 0x06E6), (0x06FA, 0x06FE), (0x0700, 0x070D),
@@ -165,9 +264,17 @@ pub(crate) static D_1: [(u32, u32); 34] = [
     (0xFD92, 0xFDC7), (0xFDF0, 0xFDFC), (0xFE70, 0xFE74), (0xFE76, 0xFEFC),
 ];
 
-/// D.2: what is written from left to right.
+/// D.1: what is written from right to left.
+#[tactic(auto, unfolding(crate::specs::Table::ranges_rise, crate::specs::Tables::d_1))]
+pub(crate) fn d_1_ranges() -> &'static [(u32, u32)]
+    ensures table { result.now ≡ d_1 }
+    ensures rising { IsRising result.now }
+{
+    &D_1
+}
+
 #[rattlefmt::skip]
-pub(crate) static D_2: [(u32, u32); 360] = [
+static D_2: [(u32, u32); 360] = [
     (0x0041, 0x005A), (0x0061, 0x007A), (0x00AA, 0x00AA), (0x00B5, 0x00B5), (0x00BA, 0x00BA),
     (0x00C0, 0x00D6), (0x00D8, 0x00F6), (0x00F8, 0x0220), (0x0222, 0x0233), (0x0250, 0x02AD),
     (0x02B0, 0x02B8), (0x02BB, 0x02C1), (0x02D0, 0x02D1), (0x02E0, 0x02E4), (0x02EE, 0x02EE),
@@ -243,3 +350,12 @@ pub(crate) static D_2: [(u32, u32); 360] = [
     (0x1D54A, 0x1D550), (0x1D552, 0x1D6A3), (0x1D6A8, 0x1D7C9), (0x20000, 0x2A6D6),
     (0x2F800, 0x2FA1D), (0xF0000, 0xFFFFD), (0x100000, 0x10FFFD),
 ];
+
+/// D.2: what is written from left to right.
+#[tactic(auto, unfolding(crate::specs::Table::ranges_rise, crate::specs::Tables::d_2))]
+pub(crate) fn d_2_ranges() -> &'static [(u32, u32)]
+    ensures table { result.now ≡ d_2 }
+    ensures rising { IsRising result.now }
+{
+    &D_2
+}

@@ -1,7 +1,5 @@
 //! What no row can say: that a normal form's want of memory is told, and what is normalized.
 
-ghost use Rattle.std.specs.Prelude.{Unit};
-
 use crate::{Nfkc, saslprep};
 use pgp_base::Error;
 use std::alloc::AllocError;

@@ -58,7 +58,11 @@ enum Call {
     DrawnVerifier,
 }
 
-fn text_of<A: Allocator + Copy>(alloc: A, call: Call) -> Result<String<A>, Error> {
+fn text_of<A: Allocator + Copy>(
+    alloc: A,
+    prep: &SaslPrepRfc4013,
+    call: Call,
+) -> Result<String<A>, Error> {
     match call {
         Call::Literal => escape_literal(alloc, "a'b\\c"),
         Call::Identifier => escape_identifier(alloc, "a\"b\\c"),
@@ -67,7 +71,7 @@ fn text_of<A: Allocator + Copy>(alloc: A, call: Call) -> Result<String<A>, Error
         Call::Verifier => scram_sha_256_salt(alloc, b"secret", SALT, &NoPrep),
         Call::MappedVerifier => scram_sha_256_salt(alloc, b"\xc3\xa9", SALT, &ToX),
         Call::PreparedVerifier => {
-            scram_sha_256_salt(alloc, b"\xc3\xa9", SALT, &SaslPrepRfc4013)
+            scram_sha_256_salt(alloc, b"\xc3\xa9", SALT, prep)
         }
         Call::DrawnVerifier => scram_sha_256(
             alloc,
@@ -91,12 +95,13 @@ fn texts_with_each_allocation_refused(rt: HostRuntime) -> Result<(), Fail> {
         (Call::PreparedVerifier, 3),
         (Call::DrawnVerifier, 1),
     ];
+    let prep = SaslPrepRfc4013::new(rt.alloc());
     for (call, asked) in calls {
-        let ample = text_of(rt.alloc(), call)?;
+        let ample = text_of(rt.alloc(), &prep, call)?;
         let mut refusals = 0u64;
         for number in 1..100u64 {
             let heap = Refusing::new(rt.alloc(), number);
-            match text_of(&heap, call) {
+            match text_of(&heap, &prep, call) {
                 Ok(text) => {
                     assert_eq!(rt; text.as_str(), ample.as_str());
                     assert!(rt; heap.until_refusal.get() != 0);

@@ -1,6 +1,6 @@
 //! A log-in with SCRAM-SHA-256, a verifier, and texts in an SQL command.
 
-ghost use Rattle.std.specs.Prelude.{◌≡◌, ◌⊎◌, Unit, string_bytes, IfOk, IfErr, OnOk, OnErr};
+ghost use Rattle.std.specs.Prelude.{◌≡◌, ◌⊎◌, string_bytes, IfOk, IfErr, OnOk, OnErr};
 ghost use Rattle.rand_core.specs.Stream.{fill_bytes};
 ghost use Rattle.pgp_base.specs.Cause.{WantsMemory};
 ghost use Rattle.pgp_base.specs.Held.{Leaves};
@@ -97,6 +97,7 @@ pub fn begin<A: Memory, R: Rng, B: Buffer>(
 pub fn begin_prepared<A: Memory, R: Rng, B: Buffer>(
     alloc: A,
     password: &[u8],
+    prep: &SaslPrepRfc4013,
     rng: &mut R,
     out: &mut B,
 ) -> Result<ScramSha256<A>, LoginError<A>>
@@ -108,7 +109,7 @@ pub fn begin_prepared<A: Memory, R: Rng, B: Buffer>(
         IfErr result (BeginRefused (initial (client_first Unsupported nonce)) (A.Lacks ⊎ Unit {0}) B.Lacks (B.held out.old)) }
     ensures drawn { R.stream rng.new ≡ (drawn_chars 24 (R.stream rng.old)).1 }
 {
-    begin_with(alloc, password, &SaslPrepRfc4013, rng, out)
+    begin_with(alloc, password, prep, rng, out)
 }
 
 /// Answers the server's first text (`AuthenticationSaslContinue`): the client's final text is sent. A server that
