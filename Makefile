@@ -1,9 +1,10 @@
 # The two commands of a newcomer: `make run` lists a sample stream in about a minute, `make test` is the gate.
 # `make program` proves and builds the program, which `make run` and `./pgwire` run from then on.
 # `make edits`, before a release, tries every wrong body by itself, `make edits CRATES=pgp_base` those of one crate.
+# `make live` tries SASLprep with a PostgreSQL server of this machine, which it starts and stops.
 # `make bench` times the works of crates/pgp_bench, `make bench WORKS=write` those whose names begin so.
 
-.PHONY: run program test edits bench
+.PHONY: run program test edits bench live
 
 run:
 	@scripts/sample
@@ -25,3 +26,7 @@ bench:
 	cd crates/pgp_bench && rt run -- check
 	@printf 'nanoseconds for each unit:\n'
 	@./crates/pgp_bench/out/pgp_bench $(WORKS)
+
+live:
+	cd crates/pgp_rows && rt run >/dev/null 2>&1 || [ -x out/pgp_rows ]
+	@scripts/live_saslprep

@@ -13,6 +13,7 @@ mod numbers;
 mod passwords;
 mod ranges;
 mod row;
+mod saslprep;
 mod scram;
 mod server;
 mod shapes;
@@ -24,6 +25,7 @@ use codec::{check_value, check_writer};
 use fault::Fault;
 use passwords::check_password;
 use row::Row;
+use saslprep::check_saslprep;
 use scram::check_scram;
 use server::check_server;
 use std::alloc::Global;
@@ -46,9 +48,10 @@ enum Family {
     Server,
     Passwords,
     Scram,
+    Saslprep,
 }
 
-const FILES: [(&str, Family); 14] = [
+const FILES: [(&str, Family); 15] = [
     ("client.rows", Family::Client),
     ("integers.rows", Family::Integers),
     ("times.rows", Family::Times),
@@ -63,6 +66,7 @@ const FILES: [(&str, Family); 14] = [
     ("escapes.rows", Family::Passwords),
     ("passwords.rows", Family::Passwords),
     ("scram.rows", Family::Scram),
+    ("saslprep.rows", Family::Saslprep),
 ];
 
 /// Makes the call of a row.
@@ -81,6 +85,7 @@ fn check(alloc: Global, family: Family, row: &Row<'_>) -> Result<(), Fault> {
         Family::Server => check_server(alloc, row),
         Family::Passwords => check_password(alloc, row),
         Family::Scram => check_scram(alloc, row),
+        Family::Saslprep => check_saslprep(alloc, row),
     }
 }
 

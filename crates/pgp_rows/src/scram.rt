@@ -4,7 +4,9 @@ use crate::fault::Fault;
 use crate::row::Row;
 use crate::shown::{Shown, same};
 use crate::word::Words;
-use pgp_auth::authentication::sasl::{ChannelBinding, NoPrep, ScramError, ScramSha256, is_nonce};
+use pgp_auth::authentication::sasl::{
+    ChannelBinding, NoPrep, SaslPrep, ScramError, ScramSha256, is_nonce,
+};
 use std::alloc::Global;
 
 /// The nonce of the exchange that the Rust crate's tests have; its password is `foobar`.
@@ -14,18 +16,19 @@ const NONCE: &str = "9IZ2O01zb9IgiIZ1WJ/zgpJB";
 const ONE_ROUND: &[u8] =
     b"r=9IZ2O01zb9IgiIZ1WJ/zgpJBjx/oIRLs02gGSHcw1KEty3eY,s=fs3IXBy7U7+IvVjZ,i=1";
 
-/// A client with this nonce.
-fn client_of(
+/// A client with this nonce, and with this mapping of its password.
+fn client_of<P: SaslPrep>(
     alloc: Global,
     password: &[u8],
     binding: ChannelBinding<Global>,
     nonce: &str,
+    prep: &P,
 ) -> Result<ScramSha256<Global>, Fault> {
     let nonce = String::from_str(alloc, nonce)?;
     if !is_nonce(&nonce) {
         return Err(Fault::Row);
     }
-    ScramSha256::with_nonce(alloc, password, binding, nonce, &NoPrep).map_err(|_| Fault::Memory)
+    ScramSha256::with_nonce(alloc, password, binding, nonce, prep).map_err(|_| Fault::Memory)
 }
 
 /// A channel binding: `unsupported`, `unrequested`, or the hash of the server's certificate.
@@ -106,10 +109,15 @@ fn show_end(client: &mut ScramSha256<Global>, out: &mut Shown) -> Result<(), Fau
 }
 
 /// `exchange PASSWORD BINDING NONCE FIRST FINAL`: the client's texts, and how it ends.
-fn show_exchange(alloc: Global, words: &mut Words<'_>, out: &mut Shown) -> Result<(), Fault> {
+pub fn show_exchange<P: SaslPrep>(
+    alloc: Global,
+    words: &mut Words<'_>,
+    prep: &P,
+    out: &mut Shown,
+) -> Result<(), Fault> {
     let password = words.bytes()?;
     let binding = binding_of(alloc, words)?;
-    let mut client = client_of(alloc, password, binding, words.text()?)?;
+    let mut client = client_of(alloc, password, binding, words.text()?, prep)?;
     show_message(&client, out)?;
     show_outcome(client.update(words.bytes()?), &client, out)?;
     show_message(&client, out)?;
@@ -118,9 +126,20 @@ fn show_exchange(alloc: Global, words: &mut Words<'_>, out: &mut Shown) -> Resul
     show_end(&mut client, out)
 }
 
+/// The client of the Rust crate's tests.
+fn known_client(alloc: Global) -> Result<ScramSha256<Global>, Fault> {
+    client_of(
+        alloc,
+        b"foobar",
+        ChannelBinding::unsupported(),
+        NONCE,
+        &NoPrep,
+    )
+}
+
 /// `update FIRST`: the Rust crate's client gets a first text.
 fn show_update(alloc: Global, words: &mut Words<'_>, out: &mut Shown) -> Result<(), Fault> {
-    let mut client = client_of(alloc, b"foobar", ChannelBinding::unsupported(), NONCE)?;
+    let mut client = known_client(alloc)?;
     let outcome = client.update(words.bytes()?);
     let is_answered = outcome.is_ok();
     show_outcome(outcome, &client, out)?;
@@ -130,14 +149,14 @@ fn show_update(alloc: Global, words: &mut Words<'_>, out: &mut Shown) -> Result<
 
 /// `answer FIRST`: what the Rust crate's client answers to a first text.
 fn show_answer(alloc: Global, words: &mut Words<'_>, out: &mut Shown) -> Result<(), Fault> {
-    let mut client = client_of(alloc, b"foobar", ChannelBinding::unsupported(), NONCE)?;
+    let mut client = known_client(alloc)?;
     show_outcome(client.update(words.bytes()?), &client, out)?;
     show_message(&client, out)
 }
 
 /// `finish FINAL`: the Rust crate's client gets a last text behind a first one with one round.
 fn show_finish(alloc: Global, words: &mut Words<'_>, out: &mut Shown) -> Result<(), Fault> {
-    let mut client = client_of(alloc, b"foobar", ChannelBinding::unsupported(), NONCE)?;
+    let mut client = known_client(alloc)?;
     if client.update(ONE_ROUND).is_err() {
         return Err(Fault::Row);
     }
@@ -155,7 +174,7 @@ fn show_call(
 ) -> Result<(), Fault> {
     match call {
         "answer" => show_answer(alloc, words, out),
-        "exchange" => show_exchange(alloc, words, out),
+        "exchange" => show_exchange(alloc, words, &NoPrep, out),
         "finish" => show_finish(alloc, words, out),
         "nonce" => out.number(is_nonce(words.text()?)),
         "update" => show_update(alloc, words, out),

@@ -10,6 +10,7 @@ use pgp_auth::authentication::sasl::{
 use pgp_auth::escape::{escape_identifier, escape_literal};
 use pgp_auth::password::{md5, scram_sha_256, scram_sha_256_salt};
 use pgp_base::{Error, Memory};
+use pgp_saslprep::SaslPrepRfc4013;
 use pgp_test_alloc::Refusing;
 use rand_core::SeedableRng;
 use rand_pcg::Pcg32;
@@ -53,10 +54,15 @@ enum Call {
     Md5Hash,
     Verifier,
     MappedVerifier,
+    PreparedVerifier,
     DrawnVerifier,
 }
 
-fn text_of<A: Allocator + Copy>(alloc: A, call: Call) -> Result<String<A>, Error> {
+fn text_of<A: Allocator + Copy>(
+    alloc: A,
+    prep: &SaslPrepRfc4013,
+    call: Call,
+) -> Result<String<A>, Error> {
     match call {
         Call::Literal => escape_literal(alloc, "a'b\\c"),
         Call::Identifier => escape_identifier(alloc, "a\"b\\c"),
@@ -64,6 +70,9 @@ fn text_of<A: Allocator + Copy>(alloc: A, call: Call) -> Result<String<A>, Error
         Call::Md5Hash => md5_hash(alloc, b"md5_user", b"password", [0x2a, 0x3d, 0x8f, 0xe0]),
         Call::Verifier => scram_sha_256_salt(alloc, b"secret", SALT, &NoPrep),
         Call::MappedVerifier => scram_sha_256_salt(alloc, b"\xc3\xa9", SALT, &ToX),
+        Call::PreparedVerifier => {
+            scram_sha_256_salt(alloc, b"\xc3\xa9", SALT, prep)
+        }
         Call::DrawnVerifier => scram_sha_256(
             alloc,
             b"secret",
@@ -73,7 +82,7 @@ fn text_of<A: Allocator + Copy>(alloc: A, call: Call) -> Result<String<A>, Error
     }
 }
 
-// Each call asks for memory as often as is said here: once for its text, and the mapping for its own.
+// Each call asks for memory as often as is said here: once for its text, and a mapping for its own, SASLprep twice.
 #[test]
 fn texts_with_each_allocation_refused(rt: HostRuntime) -> Result<(), Fail> {
     let calls = [
@@ -83,14 +92,16 @@ fn texts_with_each_allocation_refused(rt: HostRuntime) -> Result<(), Fail> {
         (Call::Md5Hash, 1),
         (Call::Verifier, 1),
         (Call::MappedVerifier, 2),
+        (Call::PreparedVerifier, 3),
         (Call::DrawnVerifier, 1),
     ];
+    let prep = SaslPrepRfc4013::new(rt.alloc());
     for (call, asked) in calls {
-        let ample = text_of(rt.alloc(), call)?;
+        let ample = text_of(rt.alloc(), &prep, call)?;
         let mut refusals = 0u64;
         for number in 1..100u64 {
             let heap = Refusing::new(rt.alloc(), number);
-            match text_of(&heap, call) {
+            match text_of(&heap, &prep, call) {
                 Ok(text) => {
                     assert_eq!(rt; text.as_str(), ample.as_str());
                     assert!(rt; heap.until_refusal.get() != 0);

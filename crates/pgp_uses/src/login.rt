@@ -1,19 +1,22 @@
 //! A log-in with SCRAM-SHA-256, a verifier, and texts in an SQL command.
 
-ghost use Rattle.std.specs.Prelude.{◌≡◌, string_bytes, IfOk, IfErr, OnOk, OnErr};
+ghost use Rattle.std.specs.Prelude.{◌≡◌, ◌⊎◌, string_bytes, IfOk, IfErr, OnOk, OnErr};
 ghost use Rattle.rand_core.specs.Stream.{fill_bytes};
 ghost use Rattle.pgp_base.specs.Cause.{WantsMemory};
 ghost use Rattle.pgp_base.specs.Held.{Leaves};
 ghost use Rattle.pgp_auth.specs.Nonce.{drawn_chars};
+ghost use Rattle.pgp_auth.specs.Prepared.{prepared};
 ghost use Rattle.pgp_auth.specs.ScramClient.{Answers, fresh};
 ghost use Rattle.pgp_auth.specs.ScramText.{Unsupported, client_first};
 ghost use Rattle.pgp_auth.specs.Verifier.{verifier, verifier_text};
 ghost use Rattle.pgp_frontend.specs.ClientMessage.{SaslResponse};
+ghost use Rattle.pgp_saslprep.specs.SaslPrep.{prepared_bytes};
 ghost use Rattle.pgp_uses.specs.Login.{Sends, BeginRefused, RespondRefused, IsSetPassword, IsComparison, initial, unmapped};
 
 use pgp_base::{Buffer, Memory};
+use pgp_saslprep::SaslPrepRfc4013;
 use postgres_protocol::authentication::sasl::{
-    ChannelBinding, NoPrep, SCRAM_SHA_256, ScramError, ScramSha256,
+    ChannelBinding, NoPrep, SCRAM_SHA_256, SaslPrep, ScramError, ScramSha256,
 };
 use postgres_protocol::escape::{escape_identifier, escape_literal};
 use postgres_protocol::message::frontend;
@@ -32,8 +35,38 @@ pub enum LoginError<A: Allocator = Global> {
     Over,
 }
 
+// Begins a log-in with a password that is mapped so.
+fn begin_with<A: Memory, P: SaslPrep, R: Rng, B: Buffer>(
+    alloc: A,
+    password: &[u8],
+    prep: &P,
+    rng: &mut R,
+    out: &mut B,
+) -> Result<ScramSha256<A>, LoginError<A>>
+    ensures client { let nonce = (drawn_chars 24 (R.stream rng.old)).0 in
+        IfOk result (λ client. client ≡ fresh (prepared (P.mapping prep.now) password.now) Unsupported nonce) }
+    ensures sent { IfOk result (λ client. Sends initial client (B.held out.old) (B.held out.new)) }
+    ensures kept { OnErr result (Leaves (B.held out.old) (B.held out.new)) }
+    ensures refused { let nonce = (drawn_chars 24 (R.stream rng.old)).0 in
+        IfErr result (BeginRefused (initial (client_first Unsupported nonce)) (A.Lacks ⊎ P.Lacks) B.Lacks (B.held out.old)) }
+    ensures drawn { R.stream rng.new ≡ (drawn_chars 24 (R.stream rng.old)).1 }
+{
+    let binding = ChannelBinding::unsupported();
+    let client = match ScramSha256::new(alloc, password, binding, prep, rng) {
+        Ok(client) => client,
+        Err(e) => return Err(LoginError::Scram(e)),
+    };
+    let Some(first) = client.message() else {
+        return Err(LoginError::Over);
+    };
+    match frontend::sasl_initial_response(SCRAM_SHA_256, first, out) {
+        Ok(()) => Ok(client),
+        Err(e) => Err(LoginError::Message(e)),
+    }
+}
+
 /// Begins a log-in, where a server offers SCRAM-SHA-256: the client's first text is sent, with a nonce that the
-/// generator draws.
+/// generator draws. The password is used as it is, which is right where it is ASCII.
 ///
 /// # Errors
 ///
@@ -52,23 +85,31 @@ pub fn begin<A: Memory, R: Rng, B: Buffer>(
         IfErr result (BeginRefused (initial (client_first Unsupported nonce)) A.Lacks B.Lacks (B.held out.old)) }
     ensures drawn { R.stream rng.new ≡ (drawn_chars 24 (R.stream rng.old)).1 }
 {
-    let client = match ScramSha256::new(
-        alloc,
-        password,
-        ChannelBinding::unsupported(),
-        &NoPrep,
-        rng,
-    ) {
-        Ok(client) => client,
-        Err(e) => return Err(LoginError::Scram(e)),
-    };
-    let Some(first) = client.message() else {
-        return Err(LoginError::Over);
-    };
-    match frontend::sasl_initial_response(SCRAM_SHA_256, first, out) {
-        Ok(()) => Ok(client),
-        Err(e) => Err(LoginError::Message(e)),
-    }
+    begin_with(alloc, password, &NoPrep, rng, out)
+}
+
+/// Begins a log-in as `begin` does, of any password: SASLprep prepares it, as the server did when the password was set.
+///
+/// # Errors
+///
+/// `Scram` of `OutOfMemory` where memory for the exchange, or for the normal form, is refused, and `Message` where the
+/// buffer's growth is.
+pub fn begin_prepared<A: Memory, R: Rng, B: Buffer>(
+    alloc: A,
+    password: &[u8],
+    prep: &SaslPrepRfc4013,
+    rng: &mut R,
+    out: &mut B,
+) -> Result<ScramSha256<A>, LoginError<A>>
+    ensures client { let nonce = (drawn_chars 24 (R.stream rng.old)).0 in
+        IfOk result (λ client. client ≡ fresh (prepared prepared_bytes password.now) Unsupported nonce) }
+    ensures sent { IfOk result (λ client. Sends initial client (B.held out.old) (B.held out.new)) }
+    ensures kept { OnErr result (Leaves (B.held out.old) (B.held out.new)) }
+    ensures refused { let nonce = (drawn_chars 24 (R.stream rng.old)).0 in
+        IfErr result (BeginRefused (initial (client_first Unsupported nonce)) (A.Lacks ⊎ Unit {0}) B.Lacks (B.held out.old)) }
+    ensures drawn { R.stream rng.new ≡ (drawn_chars 24 (R.stream rng.old)).1 }
+{
+    begin_with(alloc, password, prep, rng, out)
 }
 
 /// Answers the server's first text (`AuthenticationSaslContinue`): the client's final text is sent. A server that

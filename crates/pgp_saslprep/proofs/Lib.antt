@@ -1,0 +1,4 @@
+pub mod Ascii
+pub mod Ends
+pub mod Halving
+pub mod Mapped

@@ -1,0 +1,16 @@
+use Rattle.std.proofs.Common.{◌≡◌, string_bytes, encode_utf8_all, chars, ◌∙◌, ap, sym, map-id}
+use Rattle.std.proofs.lemmas.Grind.{flat_map-append}
+use Rattle.std.proofs.lemmas.Iterator.{YieldsList-from_chars}
+use Rattle.std.proofs.lemmas.Iterator.Consumers.{YieldsList-end}
+use Rattle.std.proofs.lemmas.Str.{encodes-append}
+use Rattle.pgp_saslprep.specs.SaslPrep.{mapped_text}
+use Rattle.pgp_saslprep.proofs.mapping.map_text.Goals as goal
+
+pub loop-c-preserved : goal.loop-c-preserved
+loop-c-preserved g c =
+    rw (flat_map-append, encodes-append, ← c.loop-c.invariant) c.in_ok-push_mapped.ensures.ok
+
+pub returns-clause-ok : goal.returns-clause-ok
+returns-clause-ok g c =
+    let done = YieldsList-end (YieldsList-from_chars c.args.text.now c.utf8.text cc) c.loop-c.yielded _ c.loop-c.yielded_by _ _ c.in-None.is c.next.ensures.steps in
+    c.loop-c.invariant ∙ ap (λ cs. encode_utf8_all (mapped_text cs)) (sym (map-id c.loop-c.yielded) ∙ done.0)

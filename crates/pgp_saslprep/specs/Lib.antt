@@ -1,0 +1,3 @@
+pub mod SaslPrep
+pub mod Table
+pub mod Tables

@@ -1,0 +1,106 @@
+//! The whole of RFC 4013, over the normal forms of the toolchain's `unicode_normalization`.
+
+ghost use Rattle.std.specs.Prelude.{◌≡◌, ◌⊎◌, List, Option, ℕ, chars, string_bytes, encode_utf8_all, option_map, IfOk, IfErr, OnErr};
+ghost use Rattle.pgp_base.specs.Cause.{WantsMemory};
+ghost use Rattle.pgp_saslprep.specs.SaslPrep.{prepared_bytes};
+ghost use Rattle.unicode_normalization.specs.Forms.{nfkc};
+
+use crate::check::refuses;
+use crate::mapping::map_text;
+use pgp_auth::authentication::sasl::SaslPrep;
+use pgp_base::{Error, Memory};
+use std::alloc::{AllocError, Global};
+use unicode_normalization::to_nfkc;
+
+/// What brings a text into the normal form KC. Its memory isn't the caller's: so it tells of its own refusals.
+pub trait Nfkc {
+    /// Memory for a normal form was refused.
+    ghost Lacks: { Type 0 };
+
+    /// The text in the normal form KC.
+    ///
+    /// # Errors
+    ///
+    /// `AllocError` where memory for it is refused.
+    fn nfkc(&self, text: &str) -> Result<String, AllocError>
+        ensures ok { IfOk result (λ t. string_bytes t ≡ encode_utf8_all (nfkc (chars text.now))) }
+        ensures lacks { OnErr result Lacks };
+}
+
+/// The normal form KC of Unicode 18, in memory of the global allocator. Of its refusals nothing is said.
+#[derive(Clone, Copy)]
+pub struct UnicodeNfkc {
+    alloc: Global,
+}
+
+impl UnicodeNfkc {
+    pub fn new(alloc: Global) -> UnicodeNfkc {
+        UnicodeNfkc { alloc }
+    }
+}
+
+impl Nfkc for UnicodeNfkc {
+    ghost Lacks = { Unit {0} };
+
+    fn nfkc(&self, text: &str) -> Result<String, AllocError> {
+        to_nfkc(self.alloc, text)
+    }
+}
+
+/// A text as RFC 4013 prepares it, or `None` where it refuses the text: spaces past ASCII become spaces, what is
+/// commonly mapped to nothing goes, the normal form KC follows; and the outcome is refused where it has a prohibited
+/// character, goes both ways, or has a code point that Unicode 3.2 doesn't assign, as stored strings may not.
+///
+/// # Errors
+///
+/// `OutOfMemory` where memory for the text, or for its normal form, is refused.
+pub fn saslprep<A: Memory, N: Nfkc>(
+    alloc: A,
+    text: &str,
+    form: &N,
+) -> Result<Option<String<A>>, Error>
+    ensures ok { IfOk result (λ o. option_map string_bytes o ≡ prepared_bytes text.now) }
+    ensures memory { IfErr result (WantsMemory (A.Lacks ⊎ N.Lacks)) }
+{
+    let mapped = map_text(alloc, text)?;
+    let normal = form.nfkc(&mapped)?;
+    if refuses(&normal) {
+        return Ok(None);
+    }
+    Ok(Some(A::text_of(alloc, &normal)?))
+}
+
+/// SASLprep: the mapping of RFC 4013. A password that it refuses is used as it is, as the server does.
+///
+/// The order of the steps is the RFC's, and that of the Rust crate `stringprep`: a server of PostgreSQL looks for what
+/// it refuses before it normalizes, and refuses a text of which the mapping leaves nothing.
+#[derive(Clone, Copy)]
+pub struct SaslPrepRfc4013<N: Nfkc = UnicodeNfkc> {
+    form: N,
+}
+
+impl SaslPrepRfc4013 {
+    /// The mapping, over the normal form of `UnicodeNfkc`.
+    pub fn new(alloc: Global) -> SaslPrepRfc4013 {
+        SaslPrepRfc4013 {
+            form: UnicodeNfkc::new(alloc),
+        }
+    }
+}
+
+impl<N: Nfkc> SaslPrepRfc4013<N> {
+    /// The mapping, over another normal form of the caller's.
+    pub fn over(form: N) -> SaslPrepRfc4013<N> {
+        SaslPrepRfc4013 { form }
+    }
+}
+
+impl<N: Nfkc> SaslPrep for SaslPrepRfc4013<N> {
+    ghost mapping = { λ _ text. prepared_bytes text };
+
+    ghost Lacks = { N.Lacks };
+
+    fn prepare<A: Memory>(&self, alloc: A, text: &str) -> Result<Option<String<A>>, Error> {
+        saslprep(alloc, text, &self.form)
+    }
+}
