@@ -44,6 +44,7 @@ fn ends_with(table: &[(u32, u32)], text: &str) -> bool
 }
 
 // Whether the text has a character of section 2.3 of RFC 4013.
+#[tactic(auto, unfolding(crate::specs::SaslPrep::is_prohibited))]
 fn has_prohibited(text: &str) -> bool
     ensures { result ≡ is_prohibited (chars text.now) }
 {
@@ -60,6 +61,7 @@ fn has_prohibited(text: &str) -> bool
 }
 
 // Whether the text goes one way, by section 6 of RFC 3454.
+#[tactic(auto, unfolding(crate::specs::SaslPrep::is_one_way))]
 fn goes_one_way(text: &str) -> bool
     ensures { result ≡ is_one_way (chars text.now) }
 {
@@ -70,6 +72,7 @@ fn goes_one_way(text: &str) -> bool
 }
 
 // Whether a mapped and normalized text is refused.
+#[tactic(auto, unfolding(crate::specs::SaslPrep::is_refused))]
 pub(crate) fn refuses(text: &str) -> bool
     ensures { result ≡ is_refused (chars text.now) }
 {
