@@ -43,10 +43,15 @@ text_stays [] low = refl
 text_stays (c ∷ text) low =
     rw (char_stays c (All-head (λ c. c < 128) c text low), text_stays text (All-tail (λ c. c < 128) c text low)) refl
 
+-- Unicode 3.2 assigns all of it
+all_assigned : (text : List ℕ) → All (λ c. c < 128) text → has a_1 text ≡ false
+unfolding ranges_rise a_1
+all_assigned text low = has_none a_1 text refl low
+
 -- nothing changes ASCII, but it may be refused
 text_prepared : (text : List ℕ) → All (λ c. c < 128) text → prepared_text text ≡ cond (is_refused text) None (Some text)
 unfolding prepared_text
-text_prepared text low = rw (text_stays text low, normalize-ascii Nfkc text low) refl
+text_prepared text low = rw (text_stays text low, all_assigned text low, normalize-ascii Nfkc text low) refl
 
 bytes_prepared : (text : List ℕ) → IsAscii text → prepared_bytes text ≡ cond (is_refused text) None (Some text)
 bytes_prepared text low =
@@ -78,10 +83,6 @@ module _ (text : List ℕ) (low : All (λ c. c < 128) text) where
   unfolding is_one_way ranges_rise d_1
   goes_one_way = or_left _ _ (not_from_false _ (has_none d_1 text refl low))
 
-  is_assigned : has a_1 text ≡ false
-  unfolding ranges_rise a_1
-  is_assigned = has_none a_1 text refl low
-
   is_allowed : has c_2_1 text ≡ false → is_prohibited text ≡ false
   unfolding is_prohibited ranges_rise c_1_2 c_2_2 c_3 c_4 c_5 c_6 c_7 c_8 c_9
   is_allowed no_controls =
@@ -103,7 +104,7 @@ unfolding is_refused
 plain_passes text plain =
     let low = All-weaker IsPlain (λ c. c < 128) below_128 text plain in
     let controls : has c_2_1 text ≡ false = list_any_none (in_table c_2_1) text (All-weaker IsPlain (λ c. in_table c_2_1 c ≡ false) no_control text plain) in
-    rw (is_allowed text low controls, goes_one_way text low, is_assigned text low) refl
+    rw (is_allowed text low controls, goes_one_way text low, all_assigned text low) refl
 
 pub plain_stays : (text : List ℕ) → All IsPlain text → prepared_bytes text ≡ Some text
 plain_stays text plain =

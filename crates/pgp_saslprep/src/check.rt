@@ -3,6 +3,7 @@
 ghost use Rattle.std.specs.Prelude.{◌≡◌, chars};
 ghost use Rattle.pgp_saslprep.specs.SaslPrep.{has, begins, ends, is_prohibited, is_one_way, is_refused};
 ghost use Rattle.pgp_saslprep.specs.Table.{in_table, IsRising};
+ghost use Rattle.pgp_saslprep.specs.Tables.{a_1};
 
 use crate::mapping::lists;
 use crate::tables;
@@ -71,10 +72,17 @@ fn goes_one_way(text: &str) -> bool
             && ends_with(tables::d_1_ranges(), text))
 }
 
+// Whether the text has a code point that Unicode 3.2 doesn't assign.
+pub(crate) fn has_unassigned(text: &str) -> bool
+    ensures { result ≡ has a_1 (chars text.now) }
+{
+    has_any(tables::a_1_ranges(), text)
+}
+
 // Whether a mapped and normalized text is refused.
 #[tactic(auto, unfolding(crate::specs::SaslPrep::is_refused))]
 pub(crate) fn refuses(text: &str) -> bool
     ensures { result ≡ is_refused (chars text.now) }
 {
-    has_prohibited(text) || !goes_one_way(text) || has_any(tables::a_1_ranges(), text)
+    has_prohibited(text) || !goes_one_way(text) || has_unassigned(text)
 }

@@ -5,7 +5,7 @@ ghost use Rattle.pgp_base.specs.Cause.{WantsMemory};
 ghost use Rattle.pgp_saslprep.specs.SaslPrep.{prepared_bytes};
 ghost use Rattle.unicode_normalization.specs.Forms.{nfkc};
 
-use crate::check::refuses;
+use crate::check::{has_unassigned, refuses};
 use crate::mapping::map_text;
 use pgp_auth::authentication::sasl::SaslPrep;
 use pgp_base::{Error, Memory};
@@ -49,7 +49,8 @@ impl Nfkc for UnicodeNfkc {
 
 /// A text as RFC 4013 prepares it, or `None` where it refuses the text: spaces past ASCII become spaces, what is
 /// commonly mapped to nothing goes, the normal form KC follows; and the outcome is refused where it has a prohibited
-/// character, goes both ways, or has a code point that Unicode 3.2 doesn't assign, as stored strings may not.
+/// character, goes both ways, or has a code point that Unicode 3.2 doesn't assign, as stored strings may not. Such a code
+/// point is refused before the normal form too, as a server does: a later Unicode may have a form for it.
 ///
 /// # Errors
 ///
@@ -63,6 +64,9 @@ pub fn saslprep<A: Memory, N: Nfkc>(
     ensures memory { IfErr result (WantsMemory (A.Lacks ⊎ N.Lacks)) }
 {
     let mapped = map_text(alloc, text)?;
+    if has_unassigned(&mapped) {
+        return Ok(None);
+    }
     let normal = form.nfkc(&mapped)?;
     if refuses(&normal) {
         return Ok(None);
@@ -72,8 +76,9 @@ pub fn saslprep<A: Memory, N: Nfkc>(
 
 /// SASLprep: the mapping of RFC 4013. A password that it refuses is used as it is, as the server does.
 ///
-/// The order of the steps is the RFC's, and that of the Rust crate `stringprep`: a server of PostgreSQL looks for what
-/// it refuses before it normalizes, and refuses a text of which the mapping leaves nothing.
+/// The order of the steps is the RFC's, and that of the Rust crate `stringprep`, which normalizes by a later Unicode before it
+/// looks for what 3.2 doesn't assign. A server of PostgreSQL looks for all that it refuses before it normalizes, and refuses a
+/// text of which the mapping leaves nothing.
 #[derive(Clone, Copy)]
 pub struct SaslPrepRfc4013<N: Nfkc = UnicodeNfkc> {
     form: N,
