@@ -10,8 +10,7 @@ use pgp_base::{
 use pgp_frontend::{
     CopyData, ProtocolVersion, bind, cancel_request, cancel_request_key, close, copy_done,
     copy_fail, describe, execute, flush, parse, password_message, query, sasl_initial_response,
-    sasl_response, ssl_request, startup_message, startup_message_version,
-    sync, terminate,
+    sasl_response, ssl_request, startup_message, startup_message_version, sync, terminate,
 };
 use pgp_test_alloc::Refusing;
 use std::alloc::{AllocError, Allocator, Global};
