@@ -165,11 +165,7 @@ where
 ///
 /// `EmbeddedNull` where a name or a value has a 0 byte, `TooLarge` where the message passes the greatest `i32`, and
 /// `OutOfMemory` where a growth was refused. The buffer keeps its bytes.
-pub fn startup_message_version<
-    'a,
-    B: Buffer,
-    I: IntoIterator<Item = (&'a str, &'a str)> + Drop,
->(
+pub fn startup_message_version<'a, B: Buffer, I: IntoIterator<Item = (&'a str, &'a str)> + Drop>(
     version: ProtocolVersion,
     parameters: I,
     buf: &mut B,

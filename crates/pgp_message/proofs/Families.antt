@@ -182,11 +182,14 @@ key_reads payload id key fits parts = go (nat_lt (length key) 4) (nat_lt 256 (le
     go : (few many : Bool) → nat_lt (length key) 4 ≡ few → nat_lt 256 (length key) ≡ many → Reads KeyFits key_parts payload (if few then Err errors.UnexpectedEof else if many then Err errors.NotDrained else Ok (record { process_id = id; secret_key = key }))
     go true many e f = tt
     go false true e f =
-        let len : length (take 256 key) ≡ 256 = omega (arith, length-take 256 key, ltb-true _ _ f) in
-        (record { process_id = id; secret_key = take 256 key }, drop 256 key, record {
-          fits = (fits, omega (arith, len), omega (arith, len));
-          parts = parts ∙ ap (λ l. int32 id ++ l) (sym (take-append-drop 256 key)) ∙ sym (append_assoc (int32 id) (take 256 key) (drop 256 key));
-        })
+        let len : length (take 256 key) ≡ 256 = omega (arith, length-take 256 key, ltb-true _ _ f) in (
+          record { process_id = id; secret_key = take 256 key },
+          drop 256 key,
+          record {
+            fits = (fits, omega (arith, len), omega (arith, len));
+            parts = parts ∙ ap (λ l. int32 id ++ l) (sym (take-append-drop 256 key)) ∙ sym (append_assoc (int32 id) (take 256 key) (drop 256 key));
+          },
+        )
     go false false e f = record { fits = (fits, ltb-false _ _ e, ltb-false _ _ f); parts = parts ∙ sym (append-nil (int32 id ++ key)) }
 
 pub key_data_reads : (payload : List ℕ) → IsBytes payload → Reads KeyFits key_parts payload (key_data_of payload)

@@ -8,8 +8,9 @@ ghost use Rattle.pgp_message.specs.Views.{view, seen};
 
 use crate::body::{
     BackendKeyDataBody, CommandCompleteBody, CopyDataBody, CopyInResponseBody, CopyOutResponseBody,
-    DataRowBody, ErrorResponseBody, NegotiateProtocolVersionBody, NoticeResponseBody, NotificationResponseBody,
-    ParameterDescriptionBody, ParameterStatusBody, ReadyForQueryBody, RowDescriptionBody,
+    DataRowBody, ErrorResponseBody, NegotiateProtocolVersionBody, NoticeResponseBody,
+    NotificationResponseBody, ParameterDescriptionBody, ParameterStatusBody, ReadyForQueryBody,
+    RowDescriptionBody,
 };
 use crate::message::Message;
 use crate::request::{authentication, bare_authentication, request_keeps_bytes};
@@ -18,10 +19,9 @@ use crate::tag::{
     AUTHENTICATION_TAG, BACKEND_KEY_DATA_TAG, BIND_COMPLETE_TAG, CLOSE_COMPLETE_TAG,
     COMMAND_COMPLETE_TAG, COPY_DATA_TAG, COPY_DONE_TAG, COPY_IN_RESPONSE_TAG,
     COPY_OUT_RESPONSE_TAG, DATA_ROW_TAG, EMPTY_QUERY_RESPONSE_TAG, ERROR_RESPONSE_TAG,
-    NEGOTIATE_PROTOCOL_VERSION_TAG, NO_DATA_TAG,
-    NOTICE_RESPONSE_TAG, NOTIFICATION_RESPONSE_TAG, PARAMETER_DESCRIPTION_TAG,
-    PARAMETER_STATUS_TAG, PARSE_COMPLETE_TAG, PORTAL_SUSPENDED_TAG, READY_FOR_QUERY_TAG,
-    ROW_DESCRIPTION_TAG,
+    NEGOTIATE_PROTOCOL_VERSION_TAG, NO_DATA_TAG, NOTICE_RESPONSE_TAG, NOTIFICATION_RESPONSE_TAG,
+    PARAMETER_DESCRIPTION_TAG, PARAMETER_STATUS_TAG, PARSE_COMPLETE_TAG, PORTAL_SUSPENDED_TAG,
+    READY_FOR_QUERY_TAG, ROW_DESCRIPTION_TAG,
 };
 use pgp_base::Error;
 use std::alloc::Allocator;

@@ -8,8 +8,8 @@ use crate::body::{
     AuthenticationGssContinueBody, AuthenticationMd5PasswordBody, AuthenticationSaslBody,
     AuthenticationSaslContinueBody, AuthenticationSaslFinalBody, BackendKeyDataBody,
     CommandCompleteBody, CopyDataBody, CopyInResponseBody, CopyOutResponseBody, DataRowBody,
-    ErrorResponseBody, NegotiateProtocolVersionBody, NoticeResponseBody, NotificationResponseBody, ParameterDescriptionBody,
-    ParameterStatusBody, ReadyForQueryBody, RowDescriptionBody,
+    ErrorResponseBody, NegotiateProtocolVersionBody, NoticeResponseBody, NotificationResponseBody,
+    ParameterDescriptionBody, ParameterStatusBody, ReadyForQueryBody, RowDescriptionBody,
 };
 use crate::parser::FrameParser;
 use crate::storage::Storage;

@@ -68,11 +68,7 @@ fn write_startup_version<B: Buffer>(
 ) -> Result<(), Fault> {
     let version = version(words)?;
     let parameters = parameters(alloc, words.list()?)?;
-    done(startup_message_version(
-        version,
-        parameters.iter().copied(),
-        buf,
-    ))
+    done(startup_message_version(version, parameters.iter().copied(), buf))
 }
 
 fn write_parse<B: Buffer>(alloc: Global, words: &mut Words<'_>, buf: &mut B) -> Result<(), Fault> {
