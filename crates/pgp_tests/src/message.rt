@@ -112,6 +112,36 @@ fn bare_frames_ask_for_no_memory(rt: HostRuntime) -> Result<(), Fail> {
     Ok(())
 }
 
+// A key and an answer about versions keep bytes of their frames: a refused frame stays, and is taken once memory is there.
+#[test]
+fn keys_and_versions_with_each_allocation_refused(rt: HostRuntime) -> Result<(), Fail> {
+    let frames: [&[u8]; 3] = [
+        b"\x4b\0\0\0\x0c\0\0\0\x01\0\0\0\x02",
+        b"\x4b\0\0\0\x0d\0\0\0\x01\x01\x02\x03\x04\x05",
+        b"\x76\0\0\0\x13\0\x03\0\0\0\0\0\x01_pq_.x\0",
+    ];
+    for frame in frames {
+        let mut refusals = 0u64;
+        for number in 1..100u64 {
+            let heap = Refusing::new(rt.alloc(), 0);
+            let mut buf = buffer(&heap, frame)?;
+            heap.until_refusal.set(number);
+            let answer = is_message(&mut buf);
+            if heap.until_refusal.get() != 0 {
+                assert_eq!(rt; answer, Ok(true));
+                assert!(rt; buf.is_empty());
+                break;
+            }
+            assert_eq!(rt; answer, Err(Error::OutOfMemory));
+            assert_eq!(rt; buf.as_slice(), frame);
+            assert_eq!(rt; is_message(&mut buf), Ok(true));
+            refusals = number;
+        }
+        assert!(rt; refusals > 0);
+    }
+    Ok(())
+}
+
 /// Reads the whole frames of the bytes onto a list.
 fn read_found<A: Allocator + Copy>(
     alloc: A,
@@ -194,6 +224,7 @@ fn collected<A: Allocator + Copy>(alloc: A, message: &Message) -> Result<usize, 
         Message::RowDescription(body) => Ok(body.fields().collect(alloc)?.len()),
         Message::ErrorResponse(body) => Ok(body.fields().collect(alloc)?.len()),
         Message::AuthenticationSasl(body) => Ok(body.mechanisms().collect(alloc)?.len()),
+        Message::NegotiateProtocolVersion(body) => Ok(body.options().collect(alloc)?.len()),
         _ => Err(Error::UnknownTag(0)),
     }
 }
@@ -214,7 +245,7 @@ fn refusals_of(rt: &impl Abort, alloc: Global, message: &Message, len: usize) ->
     refusals
 }
 
-const LISTS: [(&[u8], usize); 6] = [
+const LISTS: [(&[u8], usize); 7] = [
     (b"\x47\0\0\0\x11\0\0\x05\0\x01\0\x01\0\x01\0\x01\0\x01", 5),
     (
         b"\x74\0\0\0\x1a\0\x05\0\0\0\x17\0\0\0\x17\0\0\0\x17\0\0\0\x17\0\0\0\x17",
@@ -230,6 +261,7 @@ const LISTS: [(&[u8], usize); 6] = [
     ),
     (b"\x45\0\0\0\x14Sa\0Cb\0Mc\0Dd\0He\0\0", 5),
     (b"\x52\0\0\0\x13\0\0\0\x0aa\0b\0c\0d\0e\0\0", 5),
+    (b"\x76\0\0\0\x16\0\x03\0\0\0\0\0\x05a\0b\0c\0d\0e\0", 5),
 ];
 
 #[test]

@@ -400,6 +400,33 @@ fn a_client_asks_one_query(rt: HostRuntime) -> Result<(), Fail> {
     Ok(())
 }
 
+/// With an answer about versions a client goes on where that is 3.0 or above, before its log-in alone.
+#[test]
+fn a_client_hears_of_a_version(rt: HostRuntime) -> Result<(), Fail> {
+    let stream = ClientStream::<BytesMut>::new(rt.alloc());
+    let mut client = Client::open("alice", "SELECT 1", stream)?;
+    for (version, told) in [
+        (b"v\0\0\0\x0c\0\x03\0\0\0\0\0\0", Ok(Event::Noted)),
+        (b"v\0\0\0\x0c\0\x03\0\x02\0\0\0\0", Ok(Event::Noted)),
+        (
+            b"v\0\0\0\x0c\0\x02\xff\xff\0\0\0\0",
+            Err(StepError::Unexpected),
+        ),
+        (
+            b"v\0\0\0\x0c\xff\xff\xff\xff\0\0\0\0",
+            Err(StepError::Unexpected),
+        ),
+    ] {
+        assert_eq!(rt; taken(version.as_slice(), &mut client), Some(told));
+        assert_eq!(rt; client.phase, Phase::LoggingIn);
+    }
+    let login = b"R\0\0\0\x08\0\0\0\0";
+    assert_eq!(rt; taken(login, &mut client), Some(Ok(Event::Admitted)));
+    let late = b"v\0\0\0\x0c\0\x03\0\0\0\0\0\0";
+    assert_eq!(rt; taken(late, &mut client), Some(Err(StepError::Unexpected)));
+    Ok(())
+}
+
 #[test]
 fn a_client_is_refused(rt: HostRuntime) -> Result<(), Fail> {
     let stream = ClientStream::<BytesMut>::new(rt.alloc());
