@@ -99,11 +99,7 @@ fn count_twice(form: Form, bytes: &[u8]) -> usize
 
 // Appends a block with each byte that is written twice standing twice. Every byte is put down twice, and the
 // second goes over the first where it is written once: so no branch depends on the text.
-fn push_block<A: Memory>(
-    out: &mut Vec<u8, A>,
-    block: &[u8],
-    form: Form,
-) -> Result<(), Error>
+fn push_block<A: Memory>(out: &mut Vec<u8, A>, block: &[u8], form: Form) -> Result<(), Error>
     requires { length block.now ≤ BLOCK_LEN }
     ensures ok { OnOk result (out.new.items ≡ out.old.items ++ doubled form.quote form.slashes block.now) }
     ensures memory { IfErr result (WantsMemory A.Lacks) }
@@ -122,11 +118,7 @@ fn push_block<A: Memory>(
 
 // Appends the input like `push_doubled`, byte by byte in blocks: the faster way where many bytes are
 // written twice.
-fn push_blocks<A: Memory>(
-    out: &mut Vec<u8, A>,
-    input: &[u8],
-    form: Form,
-) -> Result<(), Error>
+fn push_blocks<A: Memory>(out: &mut Vec<u8, A>, input: &[u8], form: Form) -> Result<(), Error>
     ensures ok { OnOk result (out.new.items ≡ out.old.items ++ doubled form.quote form.slashes input.now) }
     ensures memory { IfErr result (WantsMemory A.Lacks) }
 {
@@ -140,11 +132,7 @@ fn push_blocks<A: Memory>(
 }
 
 // The text with the input behind it as `push_doubled` appends it, by blocks.
-fn with_blocks<A: Memory>(
-    out: String<A>,
-    input: &str,
-    form: Form,
-) -> Result<String<A>, Error>
+fn with_blocks<A: Memory>(out: String<A>, input: &str, form: Form) -> Result<String<A>, Error>
     requires { form.quote < 128 }
     ensures ok { IfOk result (λ t. string_bytes t ≡ string_bytes out ++ doubled form.quote form.slashes input.now) }
     ensures memory { IfErr result (WantsMemory A.Lacks) }
@@ -158,11 +146,7 @@ fn with_blocks<A: Memory>(
 }
 
 // Appends the input with each quote written twice, and each backslash too where the form says so.
-fn push_doubled<A: Memory>(
-    out: &mut String<A>,
-    input: &str,
-    form: Form,
-) -> Result<(), Error>
+fn push_doubled<A: Memory>(out: &mut String<A>, input: &str, form: Form) -> Result<(), Error>
     requires { form.quote < 128 }
     ensures ok { OnOk result (string_bytes out.new ≡ string_bytes out.old ++ doubled form.quote form.slashes input.now) }
     ensures memory { IfErr result (WantsMemory A.Lacks) }
@@ -178,11 +162,7 @@ fn push_doubled<A: Memory>(
 }
 
 // The input in this form; the room is asked for once.
-fn quoted<A: Memory>(
-    alloc: A,
-    input: &str,
-    form: Form,
-) -> Result<String<A>, Error>
+fn quoted<A: Memory>(alloc: A, input: &str, form: Form) -> Result<String<A>, Error>
     requires { form.quote < 128 }
     ensures ok { IfOk result (λ t. string_bytes t ≡ form.front.now ++ form.quote ∷ (doubled form.quote form.slashes input.now ++ form.quote ∷ [])) }
     ensures memory { IfErr result (WantsMemory A.Lacks) }

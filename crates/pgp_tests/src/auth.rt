@@ -70,9 +70,7 @@ fn text_of<A: Allocator + Copy>(
         Call::Md5Hash => md5_hash(alloc, b"md5_user", b"password", [0x2a, 0x3d, 0x8f, 0xe0]),
         Call::Verifier => scram_sha_256_salt(alloc, b"secret", SALT, &NoPrep),
         Call::MappedVerifier => scram_sha_256_salt(alloc, b"\xc3\xa9", SALT, &ToX),
-        Call::PreparedVerifier => {
-            scram_sha_256_salt(alloc, b"\xc3\xa9", SALT, prep)
-        }
+        Call::PreparedVerifier => { scram_sha_256_salt(alloc, b"\xc3\xa9", SALT, prep) }
         Call::DrawnVerifier => scram_sha_256(
             alloc,
             b"secret",

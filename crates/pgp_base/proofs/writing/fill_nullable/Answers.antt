@@ -28,8 +28,7 @@ returns-in-Err-finish_value-clause-cause g c =
 pub returns-in_default-clause-ok : goal.returns-in_default-clause-ok
 returns-in_default-clause-ok g c =
     let k = c.in-Ok.ensures in
-    let r = rest4 _ k.0 _ _ _ c.in_ok-put_u32.ensures.ok k.2 c.len-base.ensures.value in
-    (
+    let r = rest4 _ k.0 _ _ _ c.in_ok-put_u32.ensures.ok k.2 c.len-base.ensures.value in (
       value_of c.in-Ok.null k.0,
       record {
         null = c.in-Ok.null;

@@ -28,12 +28,11 @@ returns-clause-ok g c =
     (c.loop-item.yielded, search rules, i.1, count_fits _ (omega arith), counted_up int16 c.loop-item.yielded _ _ _ _ _ i.2 c.len-base.ensures.value i.0 c.patch_u16.ensures)
 
 pub returns-then-count-clause-cause : goal.returns-then-count-clause-cause
-returns-then-count-clause-cause g c =
-    (
-      c.loop-item.yielded ++ c.in-Some.item ∷ [],
-      inr (record { before = c.loop-item.yielded; next = Some c.in-Some.item; came = search rules; none = count_fits (length c.loop-item.yielded) (omega arith); are = refl }),
-      inr (count_past (length (c.loop-item.yielded ++ c.in-Some.item ∷ [])) (omega (arith, length-append c.loop-item.yielded (c.in-Some.item ∷ [])))),
-    )
+returns-then-count-clause-cause g c = (
+  c.loop-item.yielded ++ c.in-Some.item ∷ [],
+  inr (record { before = c.loop-item.yielded; next = Some c.in-Some.item; came = search rules; none = count_fits (length c.loop-item.yielded) (omega arith); are = refl }),
+  inr (count_past (length (c.loop-item.yielded ++ c.in-Some.item ∷ [])) (omega (arith, length-append c.loop-item.yielded (c.in-Some.item ∷ [])))),
+)
 
 pub returns-in_err-put_u16-clause-cause : goal.returns-in_err-put_u16-clause-cause
 returns-in_err-put_u16-clause-cause g c =

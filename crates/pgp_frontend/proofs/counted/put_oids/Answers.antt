@@ -17,12 +17,11 @@ returns-clause-ok g c =
     (c.loop-item.yielded, search rules, i.1, count_fits _ (omega arith), counted_up oid c.loop-item.yielded _ _ _ _ _ i.2 c.len-base.ensures.value i.0 c.patch_u16.ensures)
 
 pub returns-then-count-clause-cause : goal.returns-then-count-clause-cause
-returns-then-count-clause-cause g c =
-    (
-      c.loop-item.yielded ++ c.in-Some.item ∷ [],
-      inr (record { before = c.loop-item.yielded; next = Some c.in-Some.item; came = search rules; none = count_fits (length c.loop-item.yielded) (omega arith); are = refl }),
-      inr (count_past (length (c.loop-item.yielded ++ c.in-Some.item ∷ [])) (omega (arith, length-append c.loop-item.yielded (c.in-Some.item ∷ [])))),
-    )
+returns-then-count-clause-cause g c = (
+  c.loop-item.yielded ++ c.in-Some.item ∷ [],
+  inr (record { before = c.loop-item.yielded; next = Some c.in-Some.item; came = search rules; none = count_fits (length c.loop-item.yielded) (omega arith); are = refl }),
+  inr (count_past (length (c.loop-item.yielded ++ c.in-Some.item ∷ [])) (omega (arith, length-append c.loop-item.yielded (c.in-Some.item ∷ [])))),
+)
 
 pub loop-item-preserved : goal.loop-item-preserved
 loop-item-preserved g c =

@@ -31,8 +31,7 @@ returns-in_err-put_int16s-clause-cause g c =
     let none = two_texts (λ ps. parts_cause ps ≡ None) _ c.args.portal.now _ c.args.statement.now c.as_bytes.ensures.value c.as_bytes-2.ensures.value c.in_ok-put_fields.ensures.ok.0 in
     if_err_at _ _ _ c.from_residual-in_err-put_int16s.ensures.1
     (let k = c.in_err-put_int16s.ensures.cause in
-    let texts = Text c.args.portal.now ∷ Text c.args.statement.now ∷ [] in
-    (
+    let texts = Text c.args.portal.now ∷ Text c.args.statement.now ∷ [] in (
       k.0,
       k.1,
       elim k.2 [

@@ -23,7 +23,7 @@ returns-in_err-put_pairs-clause-cause g c =
         | inl memory ↦ inl (
           memory.0,
           wants_then (g.B.Buffer.held c.args.buf.now) _ (uint32 0) _ _ c.in_ok-put_u32.ensures.ok (omega (arith, startup_length c.args.version (map shown k.0), length-uint32 0))
-          (wants_then _ _ (int32 (version_code c.args.version)) _ (4 + length (spelling (Pairs (map shown k.0)))) c.in_ok-put_version.ensures.ok (omega (arith, int32_length (version_code c.args.version))) memory.1),
+              (wants_then _ _ (int32 (version_code c.args.version)) _ (4 + length (spelling (Pairs (map shown k.0)))) c.in_ok-put_version.ensures.ok (omega (arith, int32_length (version_code c.args.version))) memory.1),
         )
         | inr refused ↦ inr (cause_here (Int32 (version_code c.args.version) ∷ []) (Pairs (map shown k.0)) [] _ refl refused)
       ],
