@@ -36,7 +36,7 @@ impl Env for Words {
     }
 }
 
-const FRAMES: [(&[u8], &str); 31] = [
+const FRAMES: [(&[u8], &str); 32] = [
     (b"1\x00\x00\x00\x04", "ParseComplete"),
     (b"2\x00\x00\x00\x04", "BindComplete"),
     (b"3\x00\x00\x00\x04", "CloseComplete"),
@@ -140,7 +140,7 @@ fn engine_reads_all_and_lists_each_frame(rt: HostRuntime) -> Result<(), Fail> {
 }
 
 #[test]
-fn engine_writes_all_31_names(rt: HostRuntime) -> Result<(), Fail> {
+fn engine_writes_all_32_names(rt: HostRuntime) -> Result<(), Fail> {
     let mut input = Vec::new(rt.alloc());
     let mut names = String::new(rt.alloc());
     for (frame, name) in FRAMES {
