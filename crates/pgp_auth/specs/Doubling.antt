@@ -1,4 +1,4 @@
--- A text with its quotes, and perhaps its backslashes, written twice.
+-- Private: a text with its quotes, and perhaps its backslashes, written twice.
 use Rattle.std.specs.Prelude.{ℕ, ◌==◌, ◌||◌, Bool, true, false, if◌then◌else◌, List, [], ◌∷◌}
 use Rattle.std.specs.List.{flat_map}
 use Rattle.pgp_auth.specs.Lexer.{backslash}

@@ -1,4 +1,4 @@
--- What contracts see of the private types of a reading.
+-- Private: what contracts see of the private types of a reading.
 use Rattle.std.specs.Prelude.{ℕ, Bool}
 use Rattle.pgp_auth.specs.declared.scram.reading.Alphabet.{Alphabet}
 use Rattle.pgp_auth.specs.declared.scram.reading.Alphabet.TheVariants as alphabet

@@ -1,4 +1,4 @@
--- The code's states as those of the definitions.
+-- Private: the code's states as those of the definitions.
 use Rattle.std.specs.Prelude.{ℕ}
 use Rattle.pgp_auth.specs.declared.scram.state.Start.{Start}
 use Rattle.pgp_auth.specs.declared.scram.state.Signed.{Signed}

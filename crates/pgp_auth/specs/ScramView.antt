@@ -1,4 +1,4 @@
--- What contracts see of the types of the exchange.
+-- Private: what contracts see of the types of the exchange.
 use Rattle.pgp_auth.specs.declared.scram.binding.Inner.{Inner}
 use Rattle.pgp_auth.specs.declared.scram.binding.Inner.TheVariants as inner
 use Rattle.pgp_auth.specs.ScramText.{Binding, Unsupported, Unrequested, TlsServerEndPoint}
