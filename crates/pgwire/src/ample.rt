@@ -78,13 +78,7 @@ fn a_line_of_a_thousand_names_is_sent(rt: HostRuntime) -> Result<(), Fail> {
 
 #[test]
 fn a_line_behind_two_thousand_is_refused(rt: HostRuntime) -> Result<(), Fail> {
-    let script = joined(
-        rt.alloc(),
-        "startup\n",
-        "sync\n",
-        1999,
-        "hello\nquery x\n",
-    )?;
+    let script = joined(rt.alloc(), "startup\n", "sync\n", 1999, "hello\nquery x\n")?;
     assert!(rt; answers(rt.alloc(), &script, "line 2001: wrong words\n", 1));
     Ok(())
 }

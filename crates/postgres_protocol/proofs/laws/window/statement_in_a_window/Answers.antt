@@ -19,7 +19,7 @@ returns c =
     let source = c.copied.result in
     let road : YieldsList (copies fronts) (λ x. x) source all = YieldsList-from_copied (YieldsList-from_slice all cc) in
     let adds = parse_adds c.args.name.now c.args.query.now all (Came FromItself (copies fronts) source)
-        (λ xs k. all_same FromItself (copies fronts) source all (λ it from. subst (λ s. YieldsList (copies fronts) (λ x. x) s all) (sym from) road) xs k)
-        (λ xs x k. some_same FromItself (copies fronts) source all (λ it from. subst (λ s. YieldsList (copies fronts) (λ x. x) s all) (sym from) road) xs x k)
-        window_held window_lacks _ _ c.parse.result c.parse.ensures in
+    (λ xs k. all_same FromItself (copies fronts) source all (λ it from. subst (λ s. YieldsList (copies fronts) (λ x. x) s all) (sym from) road) xs k)
+    (λ xs x k. some_same FromItself (copies fronts) source all (λ it from. subst (λ s. YieldsList (copies fronts) (λ x. x) s all) (sym from) road) xs x k)
+    window_held window_lacks _ _ c.parse.result c.parse.ensures in
     record { adds = adds; room = message_by_room (Parse c.args.name.now c.args.query.now all) _ _ c.parse.result adds }
