@@ -1,5 +1,5 @@
 -- What reading a body from the left answers is the one result that the grammar allows.
-use Rattle.std.specs.Prelude.{◌≤◌, length, nat_lt, if◌then◌else◌}
+use Rattle.std.specs.Prelude.{◌≤◌, ◌<◌, length, nat_lt, if◌then◌else◌}
 use Rattle.std.proofs.Common.{◌≡◌, ◌≢◌, ℕ, ℤ, Bool, true, false, pos, negsuc, arith, length-append, List, [], ◌∷◌, ◌++◌, Result, Ok, Err, refl, sym, ap, subst, ◌∙◌}
 use Rattle.std.proofs.lemmas.List.{append-nil}
 use Rattle.std.proofs.lemmas.Bool.{le-ltb}
@@ -10,6 +10,7 @@ use Rattle.pgp_message.specs.Parts.{KeyData, CountedBytes, Negotiation, CopyForm
 use Rattle.pgp_message.specs.BackendMessage.{Request, AuthenticationOk, AuthenticationKerberosV5, AuthenticationCleartextPassword, AuthenticationMd5Password, AuthenticationScmCredential, AuthenticationGss, AuthenticationGssContinue, AuthenticationSspi, AuthenticationSasl, AuthenticationSaslContinue, AuthenticationSaslFinal, Message, ParseComplete, BindComplete, CloseComplete, NotificationResponse, CommandComplete, DataRow, ErrorResponse, CopyInResponse, CopyOutResponse, EmptyQueryResponse, BackendKeyData, NegotiateProtocolVersion, NoticeResponse, Authentication, ParameterStatus, RowDescription, ReadyForQuery, CopyDone, CopyData, NoData, PortalSuspended, ParameterDescription, tag_of, counted_bytes, copy_formats, payload_of, Fits, Spells, IsUnknownCode, HasNegativeCount, Body}
 use Rattle.pgp_message.specs.Reading.{ended, made, byte_of, string_of, setting_of, notification_of, key_of, key_data_of, negotiation_of, counted_of, copy_of, request_of, bare_of, body_of}
 use Rattle.pgp_message.proofs.Families.{Reads, string_again, setting_again, notification_again, key_data_again, key_whole, negotiation_again, negative_again, NegotiationReads, negotiation_reads, counted_again, copy_again, byte_again, string_reads, setting_reads, setting_parts, SettingFits, notification_reads, notification_parts, NotificationFits, key_data_reads, key_parts, KeyFits, counted_reads, CountFits, copy_reads, CopyFits, byte_reads}
+use Rattle.pgp_message.proofs.Keys.{key_cut, negotiation_cut}
 use Rattle.pgp_message.proofs.Requests.{pick, RequestFits, after_request, made_ended, request_again, request_whole, RequestReads, request_reads, unknown_again}
 
 -- What was spelled is read again.
@@ -299,6 +300,17 @@ only_found tag payload (Err e) g f = absurd f
 
 pub body_is : (tag : ℕ) (payload : List ℕ) → IsBytes payload → Body tag payload (body_of tag payload)
 body_is tag payload h = only_found tag payload (body_of tag payload) refl (found_body tag payload h)
+
+key_read : (payload : List ℕ) → body_of 0x4b payload ≡ made BackendKeyData (key_data_of payload)
+unfolding body_of
+key_read payload = refl
+
+-- too few bytes for a key, or for the numbers of an answer about versions
+pub cut_key : (payload : List ℕ) → IsBytes payload → length payload < 8 → Body 0x4b payload (Err errors.UnexpectedEof)
+cut_key payload h short = subst (Body 0x4b payload) (key_read payload ∙ ap (made BackendKeyData) (key_cut payload short)) (body_is 0x4b payload h)
+
+pub cut_version : (payload : List ℕ) → IsBytes payload → length payload < 8 → Body 0x76 payload (Err errors.UnexpectedEof)
+cut_version payload h short = subst (Body 0x76 payload) (negotiated payload ∙ ap (made NegotiateProtocolVersion) (negotiation_cut payload short)) (body_is 0x76 payload h)
 
 -- where no message has the tag, that is the answer
 unknown_is : (tag : ℕ) (payload : List ℕ) (r : Result Message Error) → ((m : Message) → tag_of m ≢ tag) → Found tag payload r → r ≡ Err (errors.UnknownTag tag)

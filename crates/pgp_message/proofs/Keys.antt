@@ -1,7 +1,9 @@
 -- A key as a number, and an answer about versions.
-use Rattle.std.proofs.Common.{◌≡◌, ℕ, ℤ, pos, negsuc, ◌<◌, ◌≤◌, List, [], ◌∷◌, ◌++◌, length, take, drop, Option, Some, None, Result, Ok, Err, to_z, of_z, refl, sym, ap, ◌∙◌, arith}
+use Rattle.std.proofs.Common.{◌≡◌, ℕ, ℤ, pos, negsuc, ◌<◌, ◌≤◌, List, [], ◌∷◌, ◌++◌, length, take, drop, Option, Some, None, Result, Ok, Err, to_z, of_z, refl, sym, ap, ◌∙◌, arith, true, length-append}
 use Rattle.std.specs.Int.{w32, from_be_bytes, cast_signed}
 use Rattle.std.proofs.lemmas.List.{append-nil, drop_at, length-take}
+use Rattle.std.proofs.lemmas.Bool.{lt-ltb}
+use Rattle.std.specs.Prelude.{nat_lt}
 use Rattle.std.proofs.lemmas.Int.{to_z-of_z}
 use Rattle.pgp_base.specs.Wire.{int32, IsBytes}
 use Rattle.pgp_base.specs.PartReading.{◌>>=◌, int32_at}
@@ -9,7 +11,7 @@ use Rattle.pgp_base.proofs.PartLemmas.{front_takes}
 use Rattle.pgp_base.specs.declared.error.Error.{Error}
 use Rattle.pgp_base.specs.declared.error.Error.TheVariants.{UnexpectedEof, InvalidCount}
 use Rattle.pgp_message.specs.Parts.{Negotiation}
-use Rattle.pgp_message.specs.Reading.{count_of, count_at, options_of, negotiation_of}
+use Rattle.pgp_message.specs.Reading.{key_of, key_data_of, count_of, count_at, options_of, negotiation_of}
 use Rattle.pgp_message.proofs.Families.{int32_takes}
 
 nothing : (rest : List ℕ) → length rest < 1 → rest ≡ []
@@ -68,3 +70,30 @@ counted_room bytes n h = go (int32_at bytes) (λ x read. (front_takes 4 (λ l. c
     go : (part : Option (ℤ × List ℕ)) → ((x : ℤ × List ℕ) → part ≡ Some x → 4 ≤ length bytes) → Ok n ≡ (part >>= λ c. count_of c.0) → 4 ≤ length bytes
     go None room h = cc
     go (Some x) room h = room x refl
+
+-- ---- what is cut short
+
+number_cut : (bytes : List ℕ) → length bytes < 4 → int32_at bytes ≡ None
+number_cut bytes short = rw (lt-ltb (length bytes) 4 short) refl
+
+-- what is left behind a number
+left_short : (bytes : List ℕ) (x : ℤ × List ℕ) → int32_at bytes ≡ Some x → length bytes < 8 → length x.1 < 4
+left_short bytes x read short =
+    let a = front_takes 4 (λ l. cast_signed w32 (from_be_bytes w32 l)) bytes x read in
+    omega (arith, a.0, short, ap length a.2, length-append (take 4 bytes) x.1, length-take 4 bytes)
+
+pub key_cut : (payload : List ℕ) → length payload < 8 → key_data_of payload ≡ Err UnexpectedEof
+unfolding key_data_of
+key_cut payload short = go (int32_at payload) (λ x read. lt-ltb (length x.1) 4 (left_short payload x read short))
+  where
+    go : (part : Option (ℤ × List ℕ)) → ((x : ℤ × List ℕ) → part ≡ Some x → nat_lt (length x.1) 4 ≡ true) → (part >>= λ id. key_of id.0 id.1) ≡ Err UnexpectedEof
+    go None few = refl
+    go (Some x) few = rw (few x refl) refl
+
+pub negotiation_cut : (payload : List ℕ) → length payload < 8 → negotiation_of payload ≡ Err UnexpectedEof
+unfolding negotiation_of
+negotiation_cut payload short = go (int32_at payload) (λ x read. number_cut x.1 (left_short payload x read short))
+  where
+    go : (part : Option (ℤ × List ℕ)) → ((x : ℤ × List ℕ) → part ≡ Some x → int32_at x.1 ≡ None) → (part >>= λ v. int32_at v.1 >>= λ c. options_of v.0 c.0 c.1) ≡ Err UnexpectedEof
+    go None few = refl
+    go (Some x) few = rw (few x refl) refl

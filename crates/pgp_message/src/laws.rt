@@ -1,7 +1,8 @@
 //! Laws of bodies, of the lists inside them, and of streams of backend messages.
 
-ghost use Rattle.std.specs.Prelude.{◌≡◌, ◌<◌, ◌≤◌, ℕ, Bool, true, false, List, [], ◌∷◌, ◌++◌, length, Some, None, Result};
+ghost use Rattle.std.specs.Prelude.{◌≡◌, ◌<◌, ◌≤◌, ℕ, Bool, true, false, List, [], ◌∷◌, ◌++◌, length, Some, None, Result, Err};
 ghost use Rattle.pgp_base.specs.declared.error.Error.{Error};
+ghost use Rattle.pgp_base.specs.declared.error.Error.TheVariants.{UnexpectedEof};
 ghost use Rattle.pgp_base.specs.Wire.{IsBytes};
 ghost use Rattle.pgp_base.specs.OneList.{HasOneCountedList, HasOneMarkedList};
 ghost use Rattle.pgp_message.specs.BackendMessage.{Message, Body};
@@ -18,6 +19,12 @@ pub fn one_body()
 /// A body has a result.
 pub fn some_body()
     ensures { (tag : ℕ) (payload : List ℕ) → IsBytes payload → (r : Result Message Error) × Body tag payload r }
+{}
+
+/// A key of fewer than 4 bytes, and an answer about versions whose numbers are cut, end too early.
+pub fn cut_numbers_end_early()
+    ensures keys { (payload : List ℕ) → IsBytes payload → length payload < 8 → Body 75 payload (Err UnexpectedEof) }
+    ensures versions { (payload : List ℕ) → IsBytes payload → length payload < 8 → Body 118 payload (Err UnexpectedEof) }
 {}
 
 /// The columns of a copy have one list of formats.
