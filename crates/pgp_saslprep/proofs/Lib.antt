@@ -2,3 +2,4 @@ pub mod Ascii
 pub mod Ends
 pub mod Halving
 pub mod Mapped
+pub mod Steps

@@ -1,4 +1,5 @@
-//! The last steps of RFC 4013: which texts are refused.
+//! The last steps of RFC 4013: which texts are refused. An ordinary password is looked for in every table, so that nothing is
+//! gained by `||` in the place of `|`.
 
 ghost use Rattle.std.specs.Prelude.{◌≡◌, chars};
 ghost use Rattle.pgp_saslprep.specs.SaslPrep.{has, begins, ends, is_prohibited, is_one_way, is_refused};
@@ -44,34 +45,37 @@ fn ends_with(table: &[(u32, u32)], text: &str) -> bool
 }
 
 // Whether the text has a character of section 2.3 of RFC 4013.
+#[tactic(auto, unfolding(crate::specs::SaslPrep::is_prohibited))]
 fn has_prohibited(text: &str) -> bool
     ensures { result ≡ is_prohibited (chars text.now) }
 {
     has_any(tables::c_1_2_ranges(), text)
-        || has_any(tables::c_2_1_ranges(), text)
-        || has_any(tables::c_2_2_ranges(), text)
-        || has_any(tables::c_3_ranges(), text)
-        || has_any(tables::c_4_ranges(), text)
-        || has_any(tables::c_5_ranges(), text)
-        || has_any(tables::c_6_ranges(), text)
-        || has_any(tables::c_7_ranges(), text)
-        || has_any(tables::c_8_ranges(), text)
-        || has_any(tables::c_9_ranges(), text)
+        | has_any(tables::c_2_1_ranges(), text)
+        | has_any(tables::c_2_2_ranges(), text)
+        | has_any(tables::c_3_ranges(), text)
+        | has_any(tables::c_4_ranges(), text)
+        | has_any(tables::c_5_ranges(), text)
+        | has_any(tables::c_6_ranges(), text)
+        | has_any(tables::c_7_ranges(), text)
+        | has_any(tables::c_8_ranges(), text)
+        | has_any(tables::c_9_ranges(), text)
 }
 
 // Whether the text goes one way, by section 6 of RFC 3454.
+#[tactic(auto, unfolding(crate::specs::SaslPrep::is_one_way))]
 fn goes_one_way(text: &str) -> bool
     ensures { result ≡ is_one_way (chars text.now) }
 {
     !has_any(tables::d_1_ranges(), text)
-        || (!has_any(tables::d_2_ranges(), text)
-            && begins_with(tables::d_1_ranges(), text)
-            && ends_with(tables::d_1_ranges(), text))
+        | (!has_any(tables::d_2_ranges(), text)
+            & begins_with(tables::d_1_ranges(), text)
+            & ends_with(tables::d_1_ranges(), text))
 }
 
 // Whether a mapped and normalized text is refused.
+#[tactic(auto, unfolding(crate::specs::SaslPrep::is_refused))]
 pub(crate) fn refuses(text: &str) -> bool
     ensures { result ≡ is_refused (chars text.now) }
 {
-    has_prohibited(text) || !goes_one_way(text) || has_any(tables::a_1_ranges(), text)
+    has_prohibited(text) | !goes_one_way(text) | has_any(tables::a_1_ranges(), text)
 }
