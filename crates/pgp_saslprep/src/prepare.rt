@@ -1,8 +1,8 @@
 //! The whole of RFC 4013, over the normal forms of the toolchain's `unicode_normalization`.
 
-ghost use Rattle.std.specs.Prelude.{◌≡◌, ◌⊎◌, List, Option, ℕ, chars, string_bytes, encode_utf8_all, option_map, IfOk, IfErr, OnErr};
+ghost use Rattle.std.specs.Prelude.{◌≡◌, ◌⊎◌, List, Option, ℕ, chars, string_bytes, encode_utf8_all, option_map, Some, None, if◌then◌else◌, IfOk, IfErr, OnErr};
 ghost use Rattle.pgp_base.specs.Cause.{WantsMemory};
-ghost use Rattle.pgp_saslprep.specs.SaslPrep.{prepared_bytes};
+ghost use Rattle.pgp_saslprep.specs.SaslPrep.{is_refused, prepared_bytes};
 ghost use Rattle.unicode_normalization.specs.Forms.{nfkc};
 
 use crate::check::refuses;
@@ -47,6 +47,17 @@ impl Nfkc for UnicodeNfkc {
     }
 }
 
+// A copy of the mapped and normalized text, unless it is refused.
+fn unless_refused<A: Memory>(alloc: A, normal: &str) -> Result<Option<String<A>>, AllocError>
+    ensures ok { IfOk result (λ o. option_map string_bytes o ≡ (if is_refused (chars normal.now) then None else Some normal.now)) }
+    ensures lacks { OnErr result A.Lacks }
+{
+    if refuses(normal) {
+        return Ok(None);
+    }
+    Ok(Some(A::text_of(alloc, normal)?))
+}
+
 /// A text as RFC 4013 prepares it, or `None` where it refuses the text: spaces past ASCII become spaces, what is
 /// commonly mapped to nothing goes, the normal form KC follows; and the outcome is refused where it has a prohibited
 /// character, goes both ways, or has a code point that Unicode 3.2 doesn't assign, as stored strings may not.
@@ -64,10 +75,7 @@ pub fn saslprep<A: Memory, N: Nfkc>(
 {
     let mapped = map_text(alloc, text)?;
     let normal = form.nfkc(&mapped)?;
-    if refuses(&normal) {
-        return Ok(None);
-    }
-    Ok(Some(A::text_of(alloc, &normal)?))
+    Ok(unless_refused(alloc, &normal)?)
 }
 
 /// SASLprep: the mapping of RFC 4013. A password that it refuses is used as it is, as the server does.
