@@ -29,7 +29,12 @@ fn show_prepared(alloc: Global, words: &mut Words<'_>, out: &mut Shown) -> Resul
 /// `verifier PASSWORD SALT`: the verifier of the prepared password.
 fn show_verifier(alloc: Global, words: &mut Words<'_>, out: &mut Shown) -> Result<(), Fault> {
     let password = words.bytes()?;
-    let verifier = scram_sha_256_salt(alloc, password, words.block()?, &SaslPrepRfc4013::new(alloc))?;
+    let verifier = scram_sha_256_salt(
+        alloc,
+        password,
+        words.block()?,
+        &SaslPrepRfc4013::new(alloc),
+    )?;
     out.text(verifier.as_str())
 }
 
