@@ -14,7 +14,7 @@ ghost use Rattle.pgp_types.specs.Path.{path};
 ghost use Rattle.pgp_types.specs.Hstore.{hstore};
 ghost use Rattle.pgp_types.specs.Range.{range};
 ghost use Rattle.pgp_types.specs.RangeRoom.{LacksRange};
-ghost use Rattle.pgp_types.specs.RangeWriting.{OwesBound};
+ghost use Rattle.pgp_types.specs.RangeWriting.{OwesBound, RangeWritten};
 ghost use Rattle.pgp_base.specs.Window.{window_held, window_lacks};
 
 use crate::{RangeBound, range_to_sql};
@@ -109,7 +109,8 @@ pub fn range_in_a_window<
     requires upper_callable { G.IsAlwaysCallable upper }
     requires lower_owes { OwesBound window_held F.pre F.post lower }
     requires upper_owes { OwesBound window_held G.pre G.post upper }
-    ensures { result ≡ Err (BindError.Serialization Error.OutOfMemory) → LacksRange window_held F.post G.post lower upper (window_held window.old) window_lacks }
+    ensures written { RangeWritten window_held F.post G.post lower upper (window_held window.old) window_lacks (window_held window.new) result }
+    ensures room { result ≡ Err (BindError.Serialization Error.OutOfMemory) → LacksRange window_held F.post G.post lower upper (window_held window.old) window_lacks }
 {
     range_to_sql(lower, upper, window)
 }
