@@ -137,21 +137,22 @@ def value_place(parts):
     return lambda total: (total.size(start), total.size(end))
 
 
-def option(parts):
+def text(parts):
     name = parts.string()
     try:
         name.decode("utf-8")
     except UnicodeDecodeError:
         raise Refused("NotUtf8")
+    return name
+
+
+def option(parts):
+    name = text(parts)
     return lambda total: total.bytes(name)
 
 
 def column(parts):
-    name = parts.string()
-    try:
-        name.decode("utf-8")
-    except UnicodeDecodeError:
-        raise Refused("NotUtf8")
+    name = text(parts)
     numbers = parts.take(4 + 2 + 4 + 2 + 4 + 2)
     return lambda total: (total.bytes(name), total.plain(numbers))
 

@@ -83,7 +83,7 @@ fn line(alloc: Global, way: Way, bytes: &[u8]) -> Result<String, Fault> {
 }
 
 /// Reads the stream of this text in every cutting, each way.
-pub fn run(alloc: Global, text: &str) -> Result<String, Fault> {
+pub(crate) fn run(alloc: Global, text: &str) -> Result<String, Fault> {
     let frames = Frames::parse(alloc, text)?;
     let mut out = String::new(alloc);
     for way in Way::ALL {

@@ -5,19 +5,19 @@ use std::alloc::{AllocError, Global};
 
 /// Frames, one behind the other.
 #[derive(Drop)]
-pub struct Frames {
-    pub bytes: Vec<u8>,
+pub(crate) struct Frames {
+    pub(crate) bytes: Vec<u8>,
     /// Where each frame ends.
-    pub ends: Vec<usize>,
+    pub(crate) ends: Vec<usize>,
 }
 
 /// Whether a line is data: it is neither empty nor a comment.
-pub fn is_data(line: &str) -> bool {
+pub(crate) fn is_data(line: &str) -> bool {
     !line.is_empty() && !line.starts_with('#')
 }
 
 /// Appends the bytes of a line: hex digits, with spaces between them.
-pub fn append(alloc: Global, line: &str, bytes: &mut Vec<u8>) -> Result<(), Fault> {
+pub(crate) fn append(alloc: Global, line: &str, bytes: &mut Vec<u8>) -> Result<(), Fault> {
     for word in line.split_ascii_whitespace() {
         match hex::decode(alloc, word) {
             Ok(word) => bytes.extend_from_slice(word.as_slice())?,
@@ -29,7 +29,7 @@ pub fn append(alloc: Global, line: &str, bytes: &mut Vec<u8>) -> Result<(), Faul
 
 impl Frames {
     /// The frames of a text, one a line.
-    pub fn parse(alloc: Global, text: &str) -> Result<Frames, Fault> {
+    pub(crate) fn parse(alloc: Global, text: &str) -> Result<Frames, Fault> {
         let mut bytes = Vec::new(alloc);
         let mut ends = Vec::new(alloc);
         for line in text.lines() {

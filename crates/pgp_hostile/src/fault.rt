@@ -5,7 +5,7 @@ use std::alloc::AllocError;
 
 /// Why a run stopped.
 #[derive(Drop)]
-pub enum Fault {
+pub(crate) enum Fault {
     /// The data is not written as README.md says.
     Data,
     /// No memory was left.

@@ -238,7 +238,7 @@ fn difference(alloc: Global, row: &str) -> Result<Option<Shown>, Fault> {
 }
 
 /// Runs the rows of this text, and tells those that aren't right.
-pub fn run(alloc: Global, text: &str) -> Result<String, Fault> {
+pub(crate) fn run(alloc: Global, text: &str) -> Result<String, Fault> {
     let mut out = String::new(alloc);
     let mut rows = 0u64;
     for row in text.lines() {

@@ -29,7 +29,7 @@ fn name_with_body<S: Storage>(message: &Message<S>) -> &'static str {
 }
 
 /// The name of a message.
-pub fn name_of<S: Storage>(message: &Message<S>) -> &'static str {
+pub(crate) fn name_of<S: Storage>(message: &Message<S>) -> &'static str {
     match message {
         Message::AuthenticationCleartextPassword => "AuthenticationCleartextPassword",
         Message::AuthenticationGss => "AuthenticationGss",

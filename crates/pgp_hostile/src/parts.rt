@@ -10,7 +10,7 @@ use pgp_message::{
 use std::ops::Range;
 
 /// A message whose parts can be added to a sum, wherever it keeps them.
-pub trait Parts {
+pub(crate) trait Parts {
     fn add_parts(&self, sum: &mut Sum);
 }
 

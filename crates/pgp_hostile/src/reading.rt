@@ -18,14 +18,14 @@ enum Kind {
 
 /// A result, and the sum of all that it holds.
 #[derive(Clone, Copy)]
-pub struct Entry {
+pub(crate) struct Entry {
     kind: Kind,
     sum: u64,
 }
 
 impl Entry {
     /// The message's name and what is wrong inside, or the refusal.
-    pub fn label(&self, alloc: Global) -> Result<String, AllocError> {
+    pub(crate) fn label(&self, alloc: Global) -> Result<String, AllocError> {
         match self.kind {
             Kind::Message(name, None) => String::from_str(alloc, name),
             Kind::Message(name, Some(e)) => format!(in alloc; "{name} with {e}"),
@@ -34,24 +34,24 @@ impl Entry {
     }
 
     /// Whether all that is held is the same, by its sum.
-    pub fn is_same(&self, other: &Entry) -> bool {
+    pub(crate) fn is_same(&self, other: &Entry) -> bool {
         self.sum == other.sum
     }
 }
 
 /// What was read of a stream.
 #[derive(Drop)]
-pub struct Reading {
+pub(crate) struct Reading {
     alloc: Global,
-    pub entries: Vec<Entry>,
-    pub is_stopped: bool,
+    pub(crate) entries: Vec<Entry>,
+    pub(crate) is_stopped: bool,
     /// How many bytes are left.
-    pub rest: usize,
+    pub(crate) rest: usize,
     sum: Sum,
 }
 
 impl Reading {
-    pub fn new(alloc: Global) -> Reading {
+    pub(crate) fn new(alloc: Global) -> Reading {
         Reading {
             alloc,
             entries: Vec::new(alloc),
@@ -61,7 +61,7 @@ impl Reading {
         }
     }
 
-    pub fn alloc(&self) -> Global {
+    pub(crate) fn alloc(&self) -> Global {
         self.alloc
     }
 
@@ -73,7 +73,7 @@ impl Reading {
         Ok(())
     }
 
-    pub fn add_message<S: Storage>(&mut self, message: &Message<S>) -> Result<(), Fault>
+    pub(crate) fn add_message<S: Storage>(&mut self, message: &Message<S>) -> Result<(), Fault>
     where
         Message<S>: Parts,
     {
@@ -84,14 +84,14 @@ impl Reading {
         self.add(Kind::Message(name, sum.flaw()), sum.value())
     }
 
-    pub fn add_refusal(&mut self, refusal: Error) -> Result<(), Fault> {
+    pub(crate) fn add_refusal(&mut self, refusal: Error) -> Result<(), Fault> {
         let mut sum = Sum::new(self.alloc);
         sum.refusal(refusal);
         self.add(Kind::Refused(refusal), sum.value())
     }
 
     /// Adds what was read, and tells whether reading goes on. A length fault is no result: it stops the stream.
-    pub fn add_step<S: Storage>(
+    pub(crate) fn add_step<S: Storage>(
         &mut self,
         read: Result<Option<Message<S>>, Error>,
     ) -> Result<bool, Fault>
@@ -117,19 +117,19 @@ impl Reading {
     }
 
     /// Adds what is left behind the results.
-    pub fn end(&mut self, rest: &[u8]) {
+    pub(crate) fn end(&mut self, rest: &[u8]) {
         self.rest = rest.len();
         self.sum.plain(&[u8::from(self.is_stopped)]);
         self.sum.bytes(rest);
     }
 
     /// The sum of all of it.
-    pub fn value(&self) -> u64 {
+    pub(crate) fn value(&self) -> u64 {
         self.sum.value()
     }
 
     /// The results by name, with a space between two, and whether a length fault stopped it.
-    pub fn label(&self) -> Result<String, Fault> {
+    pub(crate) fn label(&self) -> Result<String, Fault> {
         let mut text = String::new(self.alloc);
         for entry in &self.entries {
             text.push_str(entry.label(self.alloc)?.as_str())?;

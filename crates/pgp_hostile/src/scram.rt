@@ -237,7 +237,7 @@ fn keys_of(alloc: Global, text: &str) -> Result<Server, Fault> {
 }
 
 /// Runs the exchange of the server that holds the keys of this text.
-pub fn run(alloc: Global, keys: &str) -> Result<String, Fault> {
+pub(crate) fn run(alloc: Global, keys: &str) -> Result<String, Fault> {
     let server = keys_of(alloc, keys)?;
     let answer = server.answer(alloc, SENT)?;
     let exchange = Exchange {

@@ -7,7 +7,7 @@ use std::alloc::{AllocError, Global};
 
 /// What the server keeps of a password.
 #[derive(Clone, Copy)]
-pub struct Server {
+pub(crate) struct Server {
     stored_key: [u8; 32],
     server_key: [u8; 32],
 }
@@ -15,10 +15,10 @@ pub struct Server {
 /// The texts of an exchange that are signed: the client's first without its header, the server's first, and the client's
 /// last without its proof.
 #[derive(Clone, Copy)]
-pub struct Texts<'a> {
-    pub bare: &'a str,
-    pub first: &'a str,
-    pub last: &'a str,
+pub(crate) struct Texts<'a> {
+    pub(crate) bare: &'a str,
+    pub(crate) first: &'a str,
+    pub(crate) last: &'a str,
 }
 
 /// A block that has each byte of the key, and of the zeros behind it, changed by this one.
@@ -47,7 +47,7 @@ fn code(key: &[u8; 32], texts: Texts<'_>) -> [u8; 32] {
 }
 
 impl Server {
-    pub fn new(stored_key: [u8; 32], server_key: [u8; 32]) -> Server {
+    pub(crate) fn new(stored_key: [u8; 32], server_key: [u8; 32]) -> Server {
         Server {
             stored_key,
             server_key,
@@ -65,7 +65,7 @@ impl Server {
     }
 
     /// Whether the server that sent this first text takes the client's last one.
-    pub fn accepts(
+    pub(crate) fn accepts(
         &self,
         alloc: Global,
         bare: &str,
@@ -93,7 +93,7 @@ impl Server {
     }
 
     /// The server's last text.
-    pub fn answer(&self, alloc: Global, texts: Texts<'_>) -> Result<String, AllocError> {
+    pub(crate) fn answer(&self, alloc: Global, texts: Texts<'_>) -> Result<String, AllocError> {
         let mut text = String::from_str(alloc, "v=")?;
         STANDARD.encode_string(code(&self.server_key, texts).as_slice(), &mut text)?;
         Ok(text)

@@ -146,7 +146,7 @@ fn line(at: usize, changes: &Changes, before: &Reading) -> Result<String, Fault>
 }
 
 /// Reads the session of this text with each byte replaced.
-pub fn run(alloc: Global, text: &str) -> Result<String, Fault> {
+pub(crate) fn run(alloc: Global, text: &str) -> Result<String, Fault> {
     let mut frames = Frames::parse(alloc, text)?;
     let before = read_in_place(alloc, frames.bytes.as_slice())?;
     let mut out = String::new(alloc);

@@ -6,28 +6,28 @@ use std::fmt::Display;
 
 /// Words that are written one behind the other.
 #[derive(Drop)]
-pub struct Shown {
+pub(crate) struct Shown {
     alloc: Global,
     text: String,
 }
 
 impl Shown {
-    pub fn new(alloc: Global) -> Shown {
+    pub(crate) fn new(alloc: Global) -> Shown {
         Shown {
             alloc,
             text: String::new(alloc),
         }
     }
 
-    pub fn alloc(&self) -> Global {
+    pub(crate) fn alloc(&self) -> Global {
         self.alloc
     }
 
-    pub fn as_str(&self) -> &str {
+    pub(crate) fn as_str(&self) -> &str {
         self.text.as_str()
     }
 
-    pub fn word(&mut self, word: &str) -> Result<(), Fault> {
+    pub(crate) fn word(&mut self, word: &str) -> Result<(), Fault> {
         if !self.text.is_empty() {
             self.text.push(' ')?;
         }
@@ -36,13 +36,13 @@ impl Shown {
     }
 
     /// A number, or whatever has a text.
-    pub fn number<N: Display + Drop>(&mut self, n: N) -> Result<(), Fault> {
+    pub(crate) fn number<N: Display + Drop>(&mut self, n: N) -> Result<(), Fault> {
         let text = format!(in self.alloc; "{n}")?;
         self.word(text.as_str())
     }
 
     /// Bytes as hex digits, or none as `""`, or `null`.
-    pub fn nullable(&mut self, bytes: Option<&[u8]>) -> Result<(), Fault> {
+    pub(crate) fn nullable(&mut self, bytes: Option<&[u8]>) -> Result<(), Fault> {
         match bytes {
             None => self.word("null"),
             Some([]) => self.word("\"\""),

@@ -5,14 +5,14 @@ use std::alloc::Global;
 
 /// The FNV-1a digest, of 64 bits, of what was added, and the first refusal among it.
 #[derive(Clone, Copy)]
-pub struct Sum {
+pub(crate) struct Sum {
     alloc: Global,
     value: u64,
     flaw: Option<Error>,
 }
 
 impl Sum {
-    pub fn new(alloc: Global) -> Sum {
+    pub(crate) fn new(alloc: Global) -> Sum {
         Sum {
             alloc,
             value: 0xcbf2_9ce4_8422_2325,
@@ -21,34 +21,34 @@ impl Sum {
     }
 
     /// Where a row's table is kept while it is read.
-    pub fn alloc(&self) -> Global {
+    pub(crate) fn alloc(&self) -> Global {
         self.alloc
     }
 
-    pub fn value(&self) -> u64 {
+    pub(crate) fn value(&self) -> u64 {
         self.value
     }
 
     /// The first refusal of an accessor or a walk.
-    pub fn flaw(&self) -> Option<Error> {
+    pub(crate) fn flaw(&self) -> Option<Error> {
         self.flaw
     }
 
     /// Adds the bytes of a number.
-    pub fn plain(&mut self, bytes: &[u8]) {
+    pub(crate) fn plain(&mut self, bytes: &[u8]) {
         for byte in bytes {
             self.value = (self.value ^ u64::from(*byte)).wrapping_mul(0x100_0000_01b3);
         }
     }
 
     /// Adds bytes, behind how many they are.
-    pub fn bytes(&mut self, bytes: &[u8]) {
+    pub(crate) fn bytes(&mut self, bytes: &[u8]) {
         self.plain(&bytes.len().to_be_bytes());
         self.plain(bytes);
     }
 
     /// Adds a refusal: its number, and the tag or the code that it carries.
-    pub fn refusal(&mut self, refusal: Error) {
+    pub(crate) fn refusal(&mut self, refusal: Error) {
         self.plain(&[refusal.number()]);
         match refusal {
             Error::UnknownTag(tag) => self.plain(&[tag]),
@@ -58,7 +58,7 @@ impl Sum {
     }
 
     /// Adds a refusal of a part, which is remembered where it is the first.
-    pub fn part_refused(&mut self, refusal: Error) {
+    pub(crate) fn part_refused(&mut self, refusal: Error) {
         self.refusal(refusal);
         if self.flaw.is_none() {
             self.flaw = Some(refusal);
@@ -66,7 +66,7 @@ impl Sum {
     }
 
     /// Adds a text, or why it is none.
-    pub fn text(&mut self, text: Result<&str, Error>) {
+    pub(crate) fn text(&mut self, text: Result<&str, Error>) {
         match text {
             Ok(text) => self.bytes(text.as_bytes()),
             Err(e) => self.part_refused(e),
@@ -74,7 +74,7 @@ impl Sum {
     }
 
     /// Adds bytes, or that they are null.
-    pub fn nullable(&mut self, bytes: Option<&[u8]>) {
+    pub(crate) fn nullable(&mut self, bytes: Option<&[u8]>) {
         match bytes {
             Some(bytes) => self.bytes(bytes),
             None => self.plain(&usize::MAX.to_be_bytes()),
@@ -131,7 +131,7 @@ fn add_announced<W: FallibleIterator>(walk: &W, sum: &mut Sum) {
 }
 
 /// Adds a walk: what it announces, its items, and its end, which is asked for three times more.
-pub fn add_walk<W: FallibleIterator + Drop, F: Fn(W::Item, &mut Sum) + Drop>(
+pub(crate) fn add_walk<W: FallibleIterator + Drop, F: Fn(W::Item, &mut Sum) + Drop>(
     mut walk: W,
     add: F,
     sum: &mut Sum,

@@ -12,13 +12,13 @@ struct Count {
 
 /// How often each name came, in the order in which they came first.
 #[derive(Drop)]
-pub struct Tally {
+pub(crate) struct Tally {
     alloc: Global,
     counts: Vec<Count>,
 }
 
 impl Tally {
-    pub fn new(alloc: Global) -> Tally {
+    pub(crate) fn new(alloc: Global) -> Tally {
         Tally {
             alloc,
             counts: Vec::new(alloc),
@@ -26,7 +26,7 @@ impl Tally {
     }
 
     /// The name came once more.
-    pub fn add(&mut self, name: &str) -> Result<(), Fault> {
+    pub(crate) fn add(&mut self, name: &str) -> Result<(), Fault> {
         for known in &mut self.counts {
             if known.name.as_str() == name {
                 known.count = known.count.saturating_add(1);
@@ -42,7 +42,7 @@ impl Tally {
     }
 
     /// The names and how often each came, with a comma between two.
-    pub fn text(&self) -> Result<String, Fault> {
+    pub(crate) fn text(&self) -> Result<String, Fault> {
         let mut text = String::new(self.alloc);
         for known in &self.counts {
             if !text.is_empty() {

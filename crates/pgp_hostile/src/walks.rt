@@ -69,7 +69,7 @@ where
 
 /// Shows a walk over so many bytes: what it announces, its items, and its end. `unsteady` stands behind it where it doesn't stay
 /// at its end, and `greedy` where `collect` asks for more memory than the items need. The second walk is the same.
-pub fn show_walk<
+pub(crate) fn show_walk<
     W: FallibleIterator + Drop,
     F: Fn(W::Item, &mut Shown) -> Result<(), Fault> + Drop,
 >(mut walk: W, again: W, show: F, most: usize, out: &mut Shown) -> Result<(), Fault>

@@ -14,7 +14,7 @@ const MOST: usize = 1000;
 
 /// A way to read a stream that comes in pieces.
 #[derive(Clone, Copy)]
-pub enum Way {
+pub(crate) enum Way {
     /// `parse_stream`.
     Whole,
     /// A `StreamParser` whose results stay.
@@ -28,7 +28,7 @@ pub enum Way {
 }
 
 impl Way {
-    pub const ALL: [Way; 5] = [
+    pub(crate) const ALL: [Way; 5] = [
         Way::Whole,
         Way::Fed,
         Way::Taken,
@@ -36,7 +36,7 @@ impl Way {
         Way::Remembered,
     ];
 
-    pub fn name(self) -> &'static str {
+    pub(crate) fn name(self) -> &'static str {
         match self {
             Way::Whole => "parse_stream",
             Way::Fed => "StreamParser",
@@ -151,7 +151,11 @@ fn remembered(pieces: &[&[u8]], out: &mut Reading) -> Result<u64, Fault> {
 }
 
 /// Reads the pieces this way, and tells how many headers were read, where that is counted.
-pub fn read(alloc: Global, way: Way, pieces: &[&[u8]]) -> Result<(Reading, Option<u64>), Fault> {
+pub(crate) fn read(
+    alloc: Global,
+    way: Way,
+    pieces: &[&[u8]],
+) -> Result<(Reading, Option<u64>), Fault> {
     let mut out = Reading::new(alloc);
     let headers = match way {
         Way::Whole => {
@@ -170,7 +174,7 @@ pub fn read(alloc: Global, way: Way, pieces: &[&[u8]]) -> Result<(Reading, Optio
 }
 
 /// Reads the bytes in place, by `Messages`.
-pub fn read_in_place(alloc: Global, bytes: &[u8]) -> Result<Reading, Fault> {
+pub(crate) fn read_in_place(alloc: Global, bytes: &[u8]) -> Result<Reading, Fault> {
     let mut out = Reading::new(alloc);
     let mut messages = Messages::new(bytes);
     for _ in 0..MOST {
