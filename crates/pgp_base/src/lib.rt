@@ -19,7 +19,9 @@ pub use buffer::Buffer;
 pub use counted::Counted;
 pub use error::{BindError, Error};
 pub use memory::Memory;
-pub use number::{IsNull, Lsn, Oid, i16_from_usize, i32_from_usize, u16_from_usize};
+pub use number::{
+    IsNull, Lsn, MAX_KEY_LEN, MIN_KEY_LEN, Oid, i16_from_usize, i32_from_usize, u16_from_usize,
+};
 pub use texts::text;
 pub use walk::FallibleIterator;
 pub use window::Window;

@@ -10,6 +10,12 @@ pub type Oid = u32;
 /// A place in the write-ahead log.
 pub type Lsn = u64;
 
+/// The fewest bytes of a key that a request to cancel shows.
+pub const MIN_KEY_LEN: usize = 4;
+
+/// The most bytes of such a key.
+pub const MAX_KEY_LEN: usize = 256;
+
 /// Whether a value that a serializer was asked for is null.
 #[derive(Debug, Clone, Copy, PartialEq, Eq)]
 pub enum IsNull {

@@ -10,13 +10,9 @@ ghost use Rattle.pgp_frontend.specs.Payload.{spelling, key_cause, part_cause, jo
 ghost use Rattle.pgp_frontend.specs.Putting.{PutsParts, PartsRefused};
 ghost use Rattle.pgp_frontend.specs.View.{part_of, parts_of};
 
-use pgp_base::{Buffer, Error, finish_body, length_field, put_u8, put_u32, write_cstr};
-
-/// The fewest bytes of a cancel request's key.
-const MIN_KEY: usize = 4;
-
-/// The most bytes of one.
-const MAX_KEY: usize = 256;
+use pgp_base::{
+    Buffer, Error, MAX_KEY_LEN, MIN_KEY_LEN, finish_body, length_field, put_u8, put_u32, write_cstr,
+};
 
 /// A part of a message.
 #[derive(Clone, Copy)]
@@ -94,7 +90,7 @@ fn put_key<B: Buffer>(bytes: &[u8], buf: &mut B) -> Result<(), Error>
     ensures err { OnErr result (IsFrontOf (B.held buf.old) (B.held buf.new)) }
     ensures cause { IfErr result (λ e. WantsMemory (Wants B.Lacks (B.held buf.old) (length bytes.now)) e ⊎ (key_cause (length bytes.now) ≡ Some e)) }
 {
-    if bytes.len() < MIN_KEY || bytes.len() > MAX_KEY {
+    if bytes.len() < MIN_KEY_LEN || bytes.len() > MAX_KEY_LEN {
         return Err(Error::InvalidSize);
     }
     Ok(buf.append(bytes)?)

@@ -182,11 +182,7 @@ def add_mechanisms(total, data):
     parts, items, end = Parts(data), [], None
     try:
         while True:
-            name = parts.string()
-            try:
-                name.decode("utf-8")
-            except UnicodeDecodeError:
-                raise Refused("NotUtf8")
+            name = text(parts)
             if not name:
                 parts.end()
                 break

@@ -1,55 +1,50 @@
-//! What the tag of a frame tells: how its message is read, and whether it keeps bytes of its frame.
+//! What the tag of a frame tells: how its message is read.
 
-ghost use Rattle.std.specs.Prelude.{◌≡◌, ◌≢◌, ◌<◌, ◌++◌, ◌∷◌, [], map, true, false, vec_len, vec_capacity};
+ghost use Rattle.std.specs.Prelude.{◌≡◌, ◌≢◌, ◌<◌, ◌++◌, ◌∷◌, [], map, vec_len, vec_capacity};
 ghost use Rattle.pgp_message.specs.BackendMessage.{ReadyForQuery};
 ghost use Rattle.pgp_message.specs.Reading.{ended, made, bare_of, body_of, byte_of};
-ghost use Rattle.pgp_message.specs.Stream.{KeepsBytes};
 ghost use Rattle.pgp_message.specs.Views.{view, seen};
 
-use crate::body::{
-    BackendKeyDataBody, CommandCompleteBody, CopyDataBody, CopyInResponseBody, CopyOutResponseBody,
-    DataRowBody, ErrorResponseBody, NegotiateProtocolVersionBody, NoticeResponseBody,
-    NotificationResponseBody, ParameterDescriptionBody, ParameterStatusBody, ReadyForQueryBody,
-    RowDescriptionBody,
-};
+use crate::body::ReadyForQueryBody;
+use crate::kept::Kept;
 use crate::message::Message;
-use crate::request::{authentication, bare_authentication, request_keeps_bytes};
+use crate::request::bare_authentication;
 use crate::storage::Storage;
 use crate::tag::{
-    AUTHENTICATION_TAG, BACKEND_KEY_DATA_TAG, BIND_COMPLETE_TAG, CLOSE_COMPLETE_TAG,
-    COMMAND_COMPLETE_TAG, COPY_DATA_TAG, COPY_DONE_TAG, COPY_IN_RESPONSE_TAG,
-    COPY_OUT_RESPONSE_TAG, DATA_ROW_TAG, EMPTY_QUERY_RESPONSE_TAG, ERROR_RESPONSE_TAG,
-    NEGOTIATE_PROTOCOL_VERSION_TAG, NO_DATA_TAG, NOTICE_RESPONSE_TAG, NOTIFICATION_RESPONSE_TAG,
-    PARAMETER_DESCRIPTION_TAG, PARAMETER_STATUS_TAG, PARSE_COMPLETE_TAG, PORTAL_SUSPENDED_TAG,
-    READY_FOR_QUERY_TAG, ROW_DESCRIPTION_TAG,
+    AUTHENTICATION_TAG, BIND_COMPLETE_TAG, CLOSE_COMPLETE_TAG, COPY_DONE_TAG,
+    EMPTY_QUERY_RESPONSE_TAG, NO_DATA_TAG, PARSE_COMPLETE_TAG, PORTAL_SUSPENDED_TAG,
+    READY_FOR_QUERY_TAG,
 };
 use pgp_base::Error;
 use std::alloc::Allocator;
 use std::convert::identity;
 
-/// Whether a message of this tag keeps bytes of its frame.
-#[tactic(auto, unfolding(crate::specs::Reading::body_of, crate::specs::Reading::bare_of))]
-pub fn keeps_bytes(tag: u8, payload: &[u8]) -> bool
-    ensures bare { result ≡ false → body_of tag payload.now ≡ bare_of tag payload.now }
-    ensures keeps { result ≡ true → KeepsBytes tag payload.now }
+/// The message of a frame.
+pub fn body<S: Storage>(tag: u8, payload: S) -> Result<Message<S>, Error>
+    ensures { seen result ≡ body_of tag (S.bytes payload) }
 {
-    match tag {
-        NOTIFICATION_RESPONSE_TAG
-        | COMMAND_COMPLETE_TAG
-        | DATA_ROW_TAG
-        | ERROR_RESPONSE_TAG
-        | COPY_IN_RESPONSE_TAG
-        | COPY_OUT_RESPONSE_TAG
-        | BACKEND_KEY_DATA_TAG
-        | NOTICE_RESPONSE_TAG
-        | PARAMETER_STATUS_TAG
-        | ROW_DESCRIPTION_TAG
-        | COPY_DATA_TAG
-        | PARAMETER_DESCRIPTION_TAG
-        | NEGOTIATE_PROTOCOL_VERSION_TAG => true,
-        AUTHENTICATION_TAG => request_keeps_bytes(payload),
-        _ => false,
+    match Kept::of(tag, payload.as_slice()) {
+        Some(kept) => kept.read(payload),
+        None => bare(tag, payload.as_slice()),
     }
+}
+
+/// What is told of a frame of which nothing is kept, where it is no authentication request: one call for each tag.
+/// A call of its own stores what it tells at once, where answers that meet behind a `match` go through memory.
+macro_rules! plain {
+    ($tag:ident, $payload:ident, $ended:ident, $told:ident $(, $list:ident)?) => {
+        match $tag {
+            PARSE_COMPLETE_TAG => $ended($($list,)? $payload, Message::ParseComplete),
+            BIND_COMPLETE_TAG => $ended($($list,)? $payload, Message::BindComplete),
+            CLOSE_COMPLETE_TAG => $ended($($list,)? $payload, Message::CloseComplete),
+            EMPTY_QUERY_RESPONSE_TAG => $ended($($list,)? $payload, Message::EmptyQueryResponse),
+            READY_FOR_QUERY_TAG => $told($($list,)? ready_for_query($payload)),
+            COPY_DONE_TAG => $ended($($list,)? $payload, Message::CopyDone),
+            NO_DATA_TAG => $ended($($list,)? $payload, Message::NoData),
+            PORTAL_SUSPENDED_TAG => $ended($($list,)? $payload, Message::PortalSuspended),
+            _ => $told($($list,)? Err(Error::UnknownTag($tag))),
+        }
+    };
 }
 
 /// The message of a frame of which nothing is kept.
@@ -65,25 +60,6 @@ pub fn bare<S: Storage>(tag: u8, payload: &[u8]) -> Result<Message<S>, Error>
     plain(tag, payload)
 }
 
-/// What is told of a frame of which nothing is kept, where it is no authentication request: one call for each tag.
-/// A call of its own stores what it tells at once, where answers that meet behind a `match` go through memory.
-macro_rules! plain {
-    ($tag:ident, $payload:ident, $ended:ident, $told:ident, $other:expr $(, $list:ident)?) => {
-        match $tag {
-            PARSE_COMPLETE_TAG => $ended($($list,)? $payload, Message::ParseComplete),
-            BIND_COMPLETE_TAG => $ended($($list,)? $payload, Message::BindComplete),
-            CLOSE_COMPLETE_TAG => $ended($($list,)? $payload, Message::CloseComplete),
-            EMPTY_QUERY_RESPONSE_TAG => $ended($($list,)? $payload, Message::EmptyQueryResponse),
-            READY_FOR_QUERY_TAG => $told($($list,)? ready_for_query($payload)),
-            COPY_DONE_TAG => $ended($($list,)? $payload, Message::CopyDone),
-            NO_DATA_TAG => $ended($($list,)? $payload, Message::NoData),
-            PORTAL_SUSPENDED_TAG => $ended($($list,)? $payload, Message::PortalSuspended),
-            _ => $other,
-        }
-    };
-}
-
-/// The message of a frame of which nothing is kept, where it is no authentication request.
 // The hint carries the speed of messages without parts: else the answer goes through memory.
 #[inline(always)]
 #[tactic(auto, unfolding(crate::specs::Reading::bare_of))]
@@ -91,85 +67,30 @@ fn plain<S: Storage>(tag: u8, payload: &[u8]) -> Result<Message<S>, Error>
     requires { tag ≢ 82 }
     ensures { seen result ≡ bare_of tag payload.now }
 {
-    plain!(tag, payload, ended, identity, Err(Error::UnknownTag(tag)))
+    plain!(tag, payload, ended, identity)
 }
 
-/// Adds the message of a frame, or its refusal, to a list that has room for it, where the tag alone tells that it keeps no
-/// bytes of its frame; else it answers false and leaves the list.
-#[tactic(auto, unfolding(crate::specs::Reading::body_of, crate::specs::Reading::bare_of))]
-pub fn plain_onto<S: Storage, A: Allocator>(
+/// Adds the message of a frame of which nothing is kept, or its refusal, to a list that has room for it.
+#[tactic(auto, unfolding(crate::specs::Reading::bare_of))]
+pub fn bare_onto<S: Storage, A: Allocator>(
     list: &mut Vec<Result<Message<S>, Error>, A>,
     tag: u8,
     payload: &[u8],
-) -> bool
+)
     requires { vec_len list.old < vec_capacity list.old }
-    ensures joined { result ≡ true → map seen list.new.items ≡ map seen list.old.items ++ body_of tag payload.now ∷ [] }
-    ensures same { result ≡ false → (list.new.items ≡ list.old.items) × (vec_len list.new ≡ vec_len list.old) }
+    ensures joined { map seen list.new.items ≡ map seen list.old.items ++ bare_of tag payload.now ∷ [] }
     ensures room { vec_capacity list.new ≡ vec_capacity list.old }
 {
-    plain!(tag, payload, ended_onto, told, false, list)
+    if tag == AUTHENTICATION_TAG {
+        return put(list, bare_authentication(payload));
+    }
+    plain!(tag, payload, ended_onto, put, list)
 }
 
 fn ready_for_query<S: Storage>(payload: &[u8]) -> Result<Message<S>, Error>
     ensures { seen result ≡ made ReadyForQuery (byte_of payload.now) }
 {
     Ok(Message::ReadyForQuery(ReadyForQueryBody::read(payload)?))
-}
-
-/// The message of a frame.
-#[tactic(auto, unfolding(crate::specs::Reading::body_of))]
-pub fn body<S: Storage>(tag: u8, payload: S) -> Result<Message<S>, Error>
-    ensures { seen result ≡ body_of tag (S.bytes payload) }
-{
-    match tag {
-        NOTIFICATION_RESPONSE_TAG => Ok(Message::NotificationResponse(
-            NotificationResponseBody::read(payload)?,
-        )),
-        COMMAND_COMPLETE_TAG => Ok(Message::CommandComplete(CommandCompleteBody::read(payload)?)),
-        DATA_ROW_TAG => Ok(Message::DataRow(DataRowBody::read(payload)?)),
-        ERROR_RESPONSE_TAG => Ok(Message::ErrorResponse(ErrorResponseBody::new(payload))),
-        COPY_IN_RESPONSE_TAG => Ok(Message::CopyInResponse(CopyInResponseBody::read(payload)?)),
-        COPY_OUT_RESPONSE_TAG => Ok(Message::CopyOutResponse(CopyOutResponseBody::read(payload)?)),
-        BACKEND_KEY_DATA_TAG => Ok(Message::BackendKeyData(BackendKeyDataBody::read(payload)?)),
-        NOTICE_RESPONSE_TAG => Ok(Message::NoticeResponse(NoticeResponseBody::new(payload))),
-        AUTHENTICATION_TAG => authentication(payload),
-        PARAMETER_STATUS_TAG => Ok(Message::ParameterStatus(ParameterStatusBody::read(payload)?)),
-        ROW_DESCRIPTION_TAG => Ok(Message::RowDescription(RowDescriptionBody::read(payload)?)),
-        COPY_DATA_TAG => Ok(Message::CopyData(CopyDataBody::new(payload))),
-        PARAMETER_DESCRIPTION_TAG => Ok(Message::ParameterDescription(
-            ParameterDescriptionBody::read(payload)?,
-        )),
-        NEGOTIATE_PROTOCOL_VERSION_TAG => Ok(Message::NegotiateProtocolVersion(
-            NegotiateProtocolVersionBody::read(payload)?,
-        )),
-        tag => bare(tag, payload.as_slice()),
-    }
-}
-
-/// Adds that message, or its refusal, to a list that has room for it.
-// The kinds that come by the thousand have calls of their own, as in `plain!`.
-#[tactic(auto, unfolding(crate::specs::Reading::body_of))]
-pub fn body_onto<S: Storage, A: Allocator>(
-    list: &mut Vec<Result<Message<S>, Error>, A>,
-    tag: u8,
-    payload: S,
-)
-    requires { vec_len list.old < vec_capacity list.old }
-    ensures joined { map seen list.new.items ≡ map seen list.old.items ++ body_of tag (S.bytes payload) ∷ [] }
-    ensures room { vec_capacity list.new ≡ vec_capacity list.old }
-{
-    match tag {
-        COMMAND_COMPLETE_TAG => match CommandCompleteBody::read(payload) {
-            Ok(body) => put(list, Ok(Message::CommandComplete(body))),
-            Err(e) => put(list, Err(e)),
-        },
-        DATA_ROW_TAG => match DataRowBody::read(payload) {
-            Ok(body) => put(list, Ok(Message::DataRow(body))),
-            Err(e) => put(list, Err(e)),
-        },
-        COPY_DATA_TAG => put(list, Ok(Message::CopyData(CopyDataBody::new(payload)))),
-        tag => put(list, body(tag, payload)),
-    }
 }
 
 /// A message without parts, unless bytes are left.
@@ -184,42 +105,26 @@ pub fn ended<S: Storage>(payload: &[u8], message: Message<S>) -> Result<Message<
     Ok(message)
 }
 
-/// Adds a message without parts to a list that has room for it, or its refusal where bytes are left, and answers true.
+/// Adds a message without parts to a list that has room for it, or its refusal where bytes are left.
 #[inline(always)]
 fn ended_onto<S: Storage, A: Allocator>(
     list: &mut Vec<Result<Message<S>, Error>, A>,
     payload: &[u8],
     message: Message<S>,
-) -> bool
+)
     requires { vec_len list.old < vec_capacity list.old }
-    ensures told { result ≡ true }
     ensures joined { map seen list.new.items ≡ map seen list.old.items ++ ended (view message) payload.now ∷ [] }
     ensures room { vec_capacity list.new ≡ vec_capacity list.old }
 {
     if !payload.is_empty() {
-        return told(list, Err(Error::NotDrained));
+        return put(list, Err(Error::NotDrained));
     }
-    told(list, Ok(message))
-}
-
-/// Adds what was read to a list that has room for it, and answers true: it is told.
-#[inline(always)]
-fn told<S: Storage, A: Allocator>(
-    list: &mut Vec<Result<Message<S>, Error>, A>,
-    read: Result<Message<S>, Error>,
-) -> bool
-    requires { vec_len list.old < vec_capacity list.old }
-    ensures told { result ≡ true }
-    ensures joined { map seen list.new.items ≡ map seen list.old.items ++ seen read ∷ [] }
-    ensures room { vec_capacity list.new ≡ vec_capacity list.old }
-{
-    put(list, read);
-    true
+    put(list, Ok(message));
 }
 
 /// Adds what was read to a list that has room for it.
 #[inline(always)]
-fn put<S: Storage, A: Allocator>(
+pub fn put<S: Storage, A: Allocator>(
     list: &mut Vec<Result<Message<S>, Error>, A>,
     read: Result<Message<S>, Error>,
 )

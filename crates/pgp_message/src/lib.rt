@@ -8,6 +8,7 @@ mod frame;
 mod frames;
 mod header;
 mod in_place;
+mod kept;
 pub mod laws;
 mod message;
 mod parser;

@@ -1,6 +1,6 @@
 //! Any column of a row by its number: by a table of its own, by one that is made again for each row, or by the walk alone.
 
-ghost use Rattle.std.specs.Prelude.{◌≡◌, ◌≤◌, ℕ, length, Option, Result, IfOk, IfErr, OnOk};
+ghost use Rattle.std.specs.Prelude.{◌≡◌, ◌≤◌, ℕ, [], length, Option, Result, IfOk, IfErr, OnOk};
 ghost use Rattle.std.specs.List.{slice_get, slice_range, AllByRecursion};
 ghost use Rattle.std.specs.Option.{option_map};
 ghost use Rattle.std.specs.Result.{result_map_both};
@@ -81,7 +81,9 @@ pub struct RowPlaces<A: Allocator = Global> {
 
 impl<A: Memory> RowPlaces<A> {
     /// Takes no memory yet.
-    pub fn new(alloc: A) -> RowPlaces<A> {
+    pub fn new(alloc: A) -> RowPlaces<A>
+        ensures { result.places.items ≡ [] }
+    {
         RowPlaces {
             places: Vec::new(alloc),
         }

@@ -34,7 +34,10 @@ pub struct UnicodeNfkc {
 }
 
 impl UnicodeNfkc {
-    pub fn new(alloc: Global) -> UnicodeNfkc {
+    /// The normal form, which takes its memory from here.
+    pub fn new(alloc: Global) -> UnicodeNfkc
+        ensures { result.alloc ≡ alloc }
+    {
         UnicodeNfkc { alloc }
     }
 }
@@ -86,7 +89,9 @@ pub struct SaslPrepRfc4013<N: Nfkc = UnicodeNfkc> {
 
 impl SaslPrepRfc4013 {
     /// The mapping, over the normal form of `UnicodeNfkc`.
-    pub fn new(alloc: Global) -> SaslPrepRfc4013 {
+    pub fn new(alloc: Global) -> SaslPrepRfc4013
+        ensures { result.form.alloc ≡ alloc }
+    {
         SaslPrepRfc4013 {
             form: UnicodeNfkc::new(alloc),
         }
@@ -95,7 +100,9 @@ impl SaslPrepRfc4013 {
 
 impl<N: Nfkc> SaslPrepRfc4013<N> {
     /// The mapping, over another normal form of the caller's.
-    pub fn over(form: N) -> SaslPrepRfc4013<N> {
+    pub fn over(form: N) -> SaslPrepRfc4013<N>
+        ensures { result.form ≡ form }
+    {
         SaslPrepRfc4013 { form }
     }
 }

@@ -35,7 +35,7 @@ only_one : (vs : List (Option (List ℕ))) (v w : Option (List ℕ)) → vs ≡ 
 only_one vs v w e f = rw (e, f) refl
 
 -- a cause of the parts is one of the message
-parts_first : (m : ClientMessage) (e : Error) → parts_cause (parts m) ≡ Some e → cause m ≡ Some e
+pub parts_first : (m : ClientMessage) (e : Error) → parts_cause (parts m) ≡ Some e → cause m ≡ Some e
 parts_first m e h = either_first (parts_cause (parts m)) _ e h
 
 module _ (to : Target) where

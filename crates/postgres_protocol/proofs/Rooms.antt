@@ -31,7 +31,7 @@ use Rattle.postgres_protocol.specs.declared.laws.array.Step.TheVariants.{Append,
 use Rattle.postgres_protocol.specs.ArraySteps.{gives, Give, RefusesAt, array_of, binding, StepRefuses, ElementsWant, HasCause, IsTooLong, BindWants, BindRefused, BindsArray}
 use Rattle.postgres_protocol.specs.ClientStream.{Sent, IsAdded, Adds, AddsMessage, AddsGiven}
 use Rattle.postgres_protocol.specs.Rooms.{HasRoom, LacksRoom, GoesByRoom, IsWant, BindsByRoom}
-use Rattle.postgres_protocol.proofs.BindLemmas.{null_length}
+use Rattle.postgres_protocol.proofs.BindLemmas.{null_length, parts_first}
 use Rattle.postgres_protocol.proofs.StepLemmas.{array_length}
 use Rattle.postgres_protocol.proofs.StartupPairs.{either_more}
 
@@ -174,10 +174,6 @@ module _ (name query : List ℕ) (all : List ℕ) where
   message_cause : (c d a b : Cause) (e : Error) → (a ≡ Some e → b ≡ Some e) → either c (either d (either a None)) ≡ Some e → either c (either d (either b None)) ≡ Some e
   message_cause c d a b e more h = either_more c (either d (either a None)) (either d (either b None)) e (λ i. either_more d (either a None) (either b None) e (λ j. either_first b None e (more (last_cause a e j))) i) h
 
-  -- a cause of the parts is one of the message
-  parts_first : (e : Error) → parts_cause (Text name ∷ Text query ∷ Oids all ∷ []) ≡ Some e → cause (Parse name query all) ≡ Some e
-  parts_first e h = either_first (parts_cause (parts (Parse name query all))) _ e h
-
   module _ (types : List ℕ → Option ℕ → Type 0) (all_types : (xs : List ℕ) → types xs None → xs ≡ all) (some_types : (xs : List ℕ) (x : ℕ) → types xs (Some x) → (more : List ℕ) × (all ≡ xs ++ x ∷ more)) where
     -- those that came so far are no more than all
     front_few : (xs : List ℕ) (x : ℕ) → types xs (Some x) → length (xs ++ x ∷ []) ≤ length all
@@ -194,7 +190,7 @@ module _ (name query : List ℕ) (all : List ℕ) where
     -- a cause of those that came so far is one of all
     so_far_cause : (m : ClientMessage) (e : Error) → ParseSoFar name query types m → parts_cause (parts m) ≡ Some e → cause (Parse name query all) ≡ Some e
     so_far_cause m e s c =
-        parts_first e (message_cause (text_cause name) (text_cause query) (count_cause (length s.0)) (count_cause (length all)) e (count_more (length s.0) (length all) e (few s.0 s.1)) (ap (λ (m : ClientMessage). parts_cause (parts m)) (sym s.2) ∙ c))
+        parts_first (Parse name query all) e (message_cause (text_cause name) (text_cause query) (count_cause (length s.0)) (count_cause (length all)) e (count_more (length s.0) (length all) e (few s.0 s.1)) (ap (λ (m : ClientMessage). parts_cause (parts m)) (sym s.2) ∙ c))
 
     pub parse_adds : {B K : Type 0} (held : B → Held K) (lacks : Held K → ℕ → Type 0) (old new : Sent B) (r : Result (Unit {0}) Error)
         → AddsGiven held (ParseWhole name query types) (ParseSoFar name query types) lacks old new r → AddsMessage held (Parse name query all) lacks old new r

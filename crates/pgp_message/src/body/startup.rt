@@ -10,16 +10,10 @@ ghost use Rattle.pgp_message.specs.Reading.{count_at, key_data_of, negotiation_o
 use crate::storage::Storage;
 use crate::walk::ProtocolOptions;
 use bytes::Bytes;
-use pgp_base::Error;
 use pgp_base::reading::int32_at;
+use pgp_base::{Error, MAX_KEY_LEN, MIN_KEY_LEN};
 use std::alloc::Allocator;
 use std::marker::Model;
-
-/// The fewest bytes of a key.
-const MIN_KEY: usize = 4;
-
-/// The most bytes of a key.
-const MAX_KEY: usize = 256;
 
 /// What a later request to cancel has to show.
 #[derive(Drop)]
@@ -42,10 +36,10 @@ impl<S: Storage> BackendKeyDataBody<S> {
         ensures { result ≡ key_data_of (S.bytes payload) }
     {
         let (process_id, key) = int32_at(payload.as_slice())?;
-        if key.len() < MIN_KEY {
+        if key.len() < MIN_KEY_LEN {
             return Err(Error::UnexpectedEof);
         }
-        if key.len() > MAX_KEY {
+        if key.len() > MAX_KEY_LEN {
             return Err(Error::NotDrained);
         }
         payload.skip(4);

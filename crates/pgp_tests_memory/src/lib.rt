@@ -1,0 +1,21 @@
+//! Tests in which each allocation is refused in turn, or memory is small.
+#![tactic(auto)]
+
+#[cfg(test)]
+mod auth;
+#[cfg(test)]
+mod bound_values;
+#[cfg(test)]
+mod frontend;
+#[cfg(test)]
+mod growth;
+#[cfg(test)]
+mod message;
+#[cfg(test)]
+mod pieces;
+#[cfg(test)]
+mod serializers;
+#[cfg(test)]
+mod session;
+#[cfg(test)]
+mod types;
