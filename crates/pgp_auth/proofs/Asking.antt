@@ -6,7 +6,7 @@ use Rattle.std.specs.Str.{is_utf8, IsUtf8, IsAscii, IsNotAscii}
 use Rattle.std.proofs.lemmas.Bool.{cases_Bool}
 use Rattle.std.proofs.lemmas.Bool.Decides.{nat_tests}
 use Rattle.std.proofs.lemmas.Str.{is_utf8-from_IsUtf8, IsUtf8-from_is_utf8}
-use Rattle.pgp_auth.specs.Prepared.{prepared}
+use Rattle.pgp_auth.specs.Prepared.{is_asked, prepared}
 
 low_byte : (b : ℕ) → b < 128 → nat_lt 127 b ≡ false
 low_byte b low = grind (arith, nat_tests)
@@ -45,3 +45,6 @@ pub asked : (mapping : List ℕ → Option (List ℕ)) (p text : List ℕ) (o : 
 unfolding prepared
 asked mapping p text o high same is_text answer =
     rw (answer, same, some_high p high.0 high.1, is_utf8-from_IsUtf8 p is_text) refl
+
+pub is_told : (p : List ℕ) → IsNotAscii p → IsUtf8 p → is_asked p ≡ true
+is_told p high is_text = rw (some_high p high.0 high.1, is_utf8-from_IsUtf8 p is_text) refl

@@ -7,7 +7,7 @@ ghost use Rattle.std.specs.Prelude.{◌≡◌, ◌++◌, ◌⊎◌, string_bytes
 ghost use Rattle.rand_core.specs.Stream.{fill_bytes};
 ghost use Rattle.pgp_base.specs.Cause.{WantsMemory};
 ghost use Rattle.pgp_auth.specs.Md5Text.{md5_verifier};
-ghost use Rattle.pgp_auth.specs.Prepared.{prepared};
+ghost use Rattle.pgp_auth.specs.Prepared.{MappingLacks, prepared};
 ghost use Rattle.pgp_auth.specs.Verifier.{verifier, verifier_text};
 
 use crate::authentication::sasl::{SaslPrep, hi, mapped};
@@ -41,7 +41,7 @@ pub fn scram_sha_256<A: Memory, P: SaslPrep, R: Rng>(
     ensures ok { let salt = (fill_bytes 16 (R.stream rng.old)).0 in
         IfOk result (λ t. string_bytes t ≡ verifier_text (verifier (prepared (P.mapping prep.now) password.now) salt 4096)) }
     ensures drawn { R.stream rng.new ≡ (fill_bytes 16 (R.stream rng.old)).1 }
-    ensures memory { IfErr result (WantsMemory (A.Lacks ⊎ P.Lacks)) }
+    ensures memory { IfErr result (WantsMemory (A.Lacks ⊎ MappingLacks P.Lacks password.now)) }
 {
     let mut salt = [0; SALT_LEN];
     rng.fill_bytes(&mut salt);
@@ -61,7 +61,7 @@ pub fn scram_sha_256_salt<A: Memory, P: SaslPrep>(
     prep: &P,
 ) -> Result<String<A>, Error>
     ensures ok { IfOk result (λ t. string_bytes t ≡ verifier_text (verifier (prepared (P.mapping prep.now) password.now) salt 4096)) }
-    ensures memory { IfErr result (WantsMemory (A.Lacks ⊎ P.Lacks)) }
+    ensures memory { IfErr result (WantsMemory (A.Lacks ⊎ MappingLacks P.Lacks password.now)) }
 {
     match mapped(alloc, password, prep)? {
         Some(text) => prepared_verifier(alloc, text.as_bytes(), &salt),

@@ -5,7 +5,7 @@ ghost use Rattle.rand_core.specs.Stream.{fill_bytes};
 ghost use Rattle.pgp_base.specs.Cause.{WantsMemory};
 ghost use Rattle.pgp_base.specs.Held.{Leaves};
 ghost use Rattle.pgp_auth.specs.Nonce.{drawn_chars};
-ghost use Rattle.pgp_auth.specs.Prepared.{prepared};
+ghost use Rattle.pgp_auth.specs.Prepared.{MappingLacks, prepared};
 ghost use Rattle.pgp_auth.specs.ScramClient.{Answers, fresh};
 ghost use Rattle.pgp_auth.specs.ScramText.{Unsupported, client_first};
 ghost use Rattle.pgp_auth.specs.Verifier.{verifier, verifier_text};
@@ -48,7 +48,7 @@ fn begin_with<A: Memory, P: SaslPrep, R: Rng, B: Buffer>(
     ensures sent { IfOk result (λ client. Sends initial client (B.held out.old) (B.held out.new)) }
     ensures kept { OnErr result (Leaves (B.held out.old) (B.held out.new)) }
     ensures refused { let nonce = (drawn_chars 24 (R.stream rng.old)).0 in
-        IfErr result (BeginRefused (initial (client_first Unsupported nonce)) (A.Lacks ⊎ P.Lacks) B.Lacks (B.held out.old)) }
+        IfErr result (BeginRefused (initial (client_first Unsupported nonce)) (A.Lacks ⊎ MappingLacks P.Lacks password.now) B.Lacks (B.held out.old)) }
     ensures drawn { R.stream rng.new ≡ (drawn_chars 24 (R.stream rng.old)).1 }
 {
     let binding = ChannelBinding::unsupported();

@@ -1,11 +1,11 @@
 //! SASL's SCRAM-SHA-256 (RFC 5802, RFC 7677): the client, and the parts that it is made of.
 
-ghost use Rattle.std.specs.Prelude.{◌≡◌, ◌⊎◌, ℕ, ◌+◌, ◌<◌, ◌^◌, ◌++◌, List, Option, None, max, option_map, unwrap_or, string_bytes, IfOk, IfErr};
+ghost use Rattle.std.specs.Prelude.{◌≡◌, ◌⊎◌, ℕ, ◌+◌, ◌<◌, ◌^◌, ◌++◌, List, Option, None, max, true, option_map, unwrap_or, string_bytes, IfOk, IfErr};
 ghost use Rattle.std.specs.Str.{IsNotAscii};
 ghost use Rattle.pgp_base.specs.Cause.{WantsMemory};
 ghost use Rattle.pgp_auth.specs.IteratedKey.{salted};
 ghost use Rattle.pgp_auth.specs.MacBlocks.{code_of};
-ghost use Rattle.pgp_auth.specs.Prepared.{prepared};
+ghost use Rattle.pgp_auth.specs.Prepared.{is_asked, prepared};
 
 use crate::hmac::MacKey;
 use crate::lanes::xor_into;
@@ -56,14 +56,14 @@ impl SaslPrep for NoPrep {
 }
 
 // What the mapping puts in the place of the password, if it is asked and has anything.
-#[tactic(auto, using(crate::proofs::Asking::ascii, crate::proofs::Asking::not_text, crate::proofs::Asking::asked))]
+#[tactic(auto, using(crate::proofs::Asking::ascii, crate::proofs::Asking::not_text, crate::proofs::Asking::asked, crate::proofs::Asking::is_told))]
 pub(crate) fn mapped<A: Memory, P: SaslPrep>(
     alloc: A,
     password: &[u8],
     prep: &P,
 ) -> Result<Option<String<A>>, Error>
     ensures ok { IfOk result (λ o. unwrap_or (option_map string_bytes o) password.now ≡ prepared (P.mapping prep.now) password.now) }
-    ensures memory { IfErr result (WantsMemory (A.Lacks ⊎ P.Lacks)) }
+    ensures memory { IfErr result (WantsMemory ((is_asked password.now ≡ true) × (A.Lacks ⊎ P.Lacks))) }
 {
     if password.is_ascii() {
         return Ok(None);

@@ -3,7 +3,7 @@
 ghost use Rattle.std.specs.Prelude.{◌≡◌, ◌+◌, ◌≤◌, ◌⊎◌, List, string_bytes, IfOk, IfErr, OnOk};
 ghost use Rattle.std.specs.Option.{option_copied};
 ghost use Rattle.pgp_auth.specs.Nonce.{drawn_chars};
-ghost use Rattle.pgp_auth.specs.Prepared.{prepared};
+ghost use Rattle.pgp_auth.specs.Prepared.{MappingLacks, prepared};
 ghost use Rattle.pgp_auth.specs.ScramText.{IsNonce};
 ghost use Rattle.pgp_auth.specs.ScramClient.{fresh, message_of, Answers, UpdateRefused, Finished, FinishRefused};
 ghost use Rattle.pgp_auth.specs.ScramErrorView.{refusal};
@@ -65,7 +65,7 @@ impl<A: Memory> ScramSha256<A> {
             IfOk result (λ client. client ≡ fresh (prepared (P.mapping prep.now) password.now) channel_binding nonce) }
         ensures nonce { IsNonce (drawn_chars 24 (R.stream rng.old)).0 }
         ensures drawn { R.stream rng.new ≡ (drawn_chars 24 (R.stream rng.old)).1 }
-        ensures memory { IfErr result (λ e. (e ≡ OutOfMemory) × (A.Lacks ⊎ P.Lacks)) }
+        ensures memory { IfErr result (λ e. (e ≡ OutOfMemory) × (A.Lacks ⊎ MappingLacks P.Lacks password.now)) }
     {
         let drawn = draw_nonce(rng);
         let nonce = A::list_of(alloc, &drawn)?;
@@ -86,7 +86,7 @@ impl<A: Memory> ScramSha256<A> {
     ) -> Result<ScramSha256<A>, ScramError<A>>
         requires { IsNonce (string_bytes nonce) }
         ensures ok { IfOk result (λ client. client ≡ fresh (prepared (P.mapping prep.now) password.now) channel_binding (string_bytes nonce)) }
-        ensures memory { IfErr result (λ e. (e ≡ OutOfMemory) × (A.Lacks ⊎ P.Lacks)) }
+        ensures memory { IfErr result (λ e. (e ≡ OutOfMemory) × (A.Lacks ⊎ MappingLacks P.Lacks password.now)) }
     {
         begin(alloc, password, channel_binding, nonce.into_bytes(), prep)
     }
@@ -184,7 +184,7 @@ fn owned_password<A: Memory, P: SaslPrep>(
     prep: &P,
 ) -> Result<Vec<u8, A>, ScramError<A>>
     ensures ok { IfOk result (λ v. v.items ≡ prepared (P.mapping prep.now) password.now) }
-    ensures memory { IfErr result (λ e. (e ≡ OutOfMemory) × (A.Lacks ⊎ P.Lacks)) }
+    ensures memory { IfErr result (λ e. (e ≡ OutOfMemory) × (A.Lacks ⊎ MappingLacks P.Lacks password.now)) }
 {
     match mapped(alloc, password, prep) {
         Ok(Some(text)) => Ok(text.into_bytes()),
@@ -202,7 +202,7 @@ fn begin<A: Memory, P: SaslPrep>(
     prep: &P,
 ) -> Result<ScramSha256<A>, ScramError<A>>
     ensures ok { IfOk result (λ client. client ≡ fresh (prepared (P.mapping prep.now) password.now) binding nonce.items) }
-    ensures memory { IfErr result (λ e. (e ≡ OutOfMemory) × (A.Lacks ⊎ P.Lacks)) }
+    ensures memory { IfErr result (λ e. (e ≡ OutOfMemory) × (A.Lacks ⊎ MappingLacks P.Lacks password.now)) }
 {
     let password = owned_password(alloc, password, prep)?;
     let first_text = client_first_text(alloc, &binding, &nonce)?;
