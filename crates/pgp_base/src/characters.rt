@@ -1,10 +1,13 @@
 //! Bytes as characters of UTF-8, one after the other.
 
-ghost use Rattle.std.specs.Prelude.{◌↔◌, ◌<◌, length, slice_index, IsTrue, IsUtf8, MatchOption};
+ghost use Rattle.std.specs.Prelude.{◌↔◌, ◌<◌, ◌≤◌, length, slice_index, IsTrue, IsUtf8, MatchOption};
 ghost use Rattle.std.specs.Str.{StartsWithNoChar};
 ghost use Rattle.pgp_base.specs.Characters.{Follows, AreTwo, AreThree, AreFour, BeginsText};
 
 use crate::ascii::ascii_front;
+
+// Fewer bytes aren't worth a look.
+const SHORT_LEN: usize = 8;
 
 // The byte goes on with a character.
 #[inline(always)]
@@ -56,8 +59,49 @@ fn ascii_len(bytes: &[u8]) -> usize
     requires ascii { slice_index bytes.now 0 < 128 }
     ensures { BeginsText bytes.now result }
 {
+    if bytes.len() < SHORT_LEN {
+        return 1;
+    }
     let len = ascii_front(bytes);
     if len == 0 { 1 } else { len }
+}
+
+// The length of the character at the front, by its first byte: two.
+#[inline(always)]
+fn two_len(bytes: &[u8]) -> Option<usize>
+    requires low { 128 ≤ slice_index bytes.now 0 }
+    requires high { slice_index bytes.now 0 < 224 }
+    ensures { MatchOption result (StartsWithNoChar bytes.now) (λ n. BeginsText bytes.now n) }
+{
+    match bytes {
+        [a, b, ..] if are_two(*a, *b) => Some(2),
+        _ => None,
+    }
+}
+
+// The same: three.
+#[inline(always)]
+fn three_len(bytes: &[u8]) -> Option<usize>
+    requires low { 224 ≤ slice_index bytes.now 0 }
+    requires high { slice_index bytes.now 0 < 240 }
+    ensures { MatchOption result (StartsWithNoChar bytes.now) (λ n. BeginsText bytes.now n) }
+{
+    match bytes {
+        [a, b, c, ..] if are_three(*a, *b, *c) => Some(3),
+        _ => None,
+    }
+}
+
+// The same: four.
+#[inline(always)]
+fn four_len(bytes: &[u8]) -> Option<usize>
+    requires { 240 ≤ slice_index bytes.now 0 }
+    ensures { MatchOption result (StartsWithNoChar bytes.now) (λ n. BeginsText bytes.now n) }
+{
+    match bytes {
+        [a, b, c, d, ..] if are_four(*a, *b, *c, *d) => Some(4),
+        _ => None,
+    }
 }
 
 // The length of some text at the front: of ASCII, as far as one look shows, or of one character.
@@ -66,12 +110,15 @@ fn front_len(bytes: &[u8]) -> Option<usize>
     requires { 0 < length bytes.now }
     ensures { MatchOption result (StartsWithNoChar bytes.now) (λ n. BeginsText bytes.now n) }
 {
-    match bytes {
-        [a, ..] if *a < 0x80 => Some(ascii_len(bytes)),
-        [a, b, ..] if are_two(*a, *b) => Some(2),
-        [a, b, c, ..] if are_three(*a, *b, *c) => Some(3),
-        [a, b, c, d, ..] if are_four(*a, *b, *c, *d) => Some(4),
-        _ => None,
+    let first = bytes[0];
+    if first < 0x80 {
+        Some(ascii_len(bytes))
+    } else if first < 0xE0 {
+        two_len(bytes)
+    } else if first < 0xF0 {
+        three_len(bytes)
+    } else {
+        four_len(bytes)
     }
 }
 

@@ -9,7 +9,10 @@ use crate::error::Error;
 use simdutf8::is_utf8;
 use std::str;
 
-// Whether the bytes are text, 64 at a time: it costs as much where few are left or most are ASCII.
+// From this length on a text of which much isn't ASCII is read by lanes: that costs as much for fewer bytes.
+const DENSE_LEN: usize = 64;
+
+// Whether the bytes are text, by lanes.
 #[inline(never)]
 fn is_dense_text(bytes: &[u8]) -> bool
     ensures { IsTrue result ↔ IsUtf8 bytes.now }
@@ -17,16 +20,15 @@ fn is_dense_text(bytes: &[u8]) -> bool
     is_utf8(bytes)
 }
 
-// Whether the bytes are text, of which one is near that is no ASCII.
+// Whether the bytes are text, of which one is near that isn't ASCII.
 #[inline(never)]
 fn is_mixed_text(bytes: &[u8]) -> bool
     ensures { IsTrue result ↔ IsUtf8 bytes.now }
 {
-    let rest = &bytes[ascii_front(bytes)..];
-    if is_dense(rest) {
-        return is_dense_text(rest);
+    if DENSE_LEN <= bytes.len() && is_dense(&bytes[ascii_front(bytes)..]) {
+        return is_dense_text(bytes);
     }
-    are_characters(rest)
+    are_characters(bytes)
 }
 
 // Whether the bytes are text, where those before `at` are ASCII.
