@@ -41,7 +41,7 @@ all_ascii bytes all i = elim (cases_lt i (length bytes)) [ inl l ↦ all i (omeg
 
 -- ASCII in front, and what follows it
 module _ (bytes : List ℕ) (at : ℕ) (within : at ≤ length bytes) (front : AreAscii bytes 0 at) where
-  front_is_text : IsUtf8 (take at bytes)
+  pub front_is_text : IsUtf8 (take at bytes)
   front_is_text = IsUtf8-from_ascii (take at bytes) (λ i. elim (cases_lt i at) [
     | inl l ↦ omega (arith, get_or-take at bytes i 0 l, front i (omega arith) l)
     | inr g ↦ omega (arith, get_or_past (take at bytes) i 0 (omega (arith, length-take at bytes)))

@@ -16,5 +16,6 @@ pub mod Spellings
 pub mod CountedWalks
 pub mod AsciiLemmas
 pub mod ZeroLemmas
+pub mod CharacterLemmas
 pub mod Needs
 pub mod Fitting

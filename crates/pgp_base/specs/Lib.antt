@@ -14,3 +14,4 @@ pub mod WalkReading
 pub mod CountedRest
 pub mod CountedWalk
 pub mod Ascii
+pub mod Characters

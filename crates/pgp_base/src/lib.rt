@@ -2,7 +2,9 @@
 //! parts that readers take, and walks that may fail.
 #![tactic(auto)]
 
+mod ascii;
 mod buffer;
+mod characters;
 mod counted;
 mod error;
 pub mod laws;

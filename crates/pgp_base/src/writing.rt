@@ -13,7 +13,7 @@ ghost use Rattle.pgp_base.specs.Calls.{Adds, KeepsFront, KeepsFronts, OwesValue,
 use crate::buffer::Buffer;
 use crate::error::{BindError, Error};
 use crate::number::IsNull;
-use memchr::memchr;
+use crate::zero::stray_zero;
 
 /// Appends a byte.
 ///
@@ -92,11 +92,10 @@ pub fn patch_u32<B: Buffer>(buf: &mut B, place: usize, n: u32)
 pub fn write_cstr<B: Buffer>(bytes: &[u8], buf: &mut B) -> Result<(), Error>
     ensures { Writes (text bytes.now) (text_cause bytes.now) B.Lacks (B.held buf.old) (B.held buf.new) result }
 {
-    if memchr(0, bytes).is_some() {
+    if stray_zero(bytes).is_some() {
         return Err(Error::EmbeddedNull);
     }
     let base = buf.len();
-    buf.reserve(bytes.len() + 1)?;
     buf.append(bytes)?;
     match buf.append(&[0]) {
         Ok(()) => Ok(()),

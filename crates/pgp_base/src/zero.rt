@@ -1,6 +1,6 @@
 //! The byte 0 that ends a string, which mostly is near.
 
-ghost use Rattle.std.specs.Prelude.{◌+◌, ◌≤◌, length};
+ghost use Rattle.std.specs.Prelude.{◌+◌, ◌≤◌, ◌<◌, length};
 ghost use Rattle.memchr.specs.Find.{IsFirst, IsFirstByte, Passes, is_byte};
 
 use memchr::memchr;
@@ -48,28 +48,90 @@ fn zero_in_8(bytes: &[u8], at: usize) -> Option<usize>
     Some(at + zeros.trailing_zeros() as usize)
 }
 
-// The place of the first 0. Where fewer than 32 bytes are left, two looks that may overlap cover them.
+// The first 0 among the 4 bytes at `at`.
+#[inline(always)]
+fn zero_in_4(bytes: &[u8], at: usize) -> Option<usize>
+    requires { at + 4 ≤ length bytes.now }
+    ensures { IsFirst (Passes (is_byte 0) bytes.now) at (at + 4) result }
+{
+    let lanes = u8x4::from_slice(&bytes[at..]);
+    let zeros = lanes.simd_eq(u8x4::splat(0)).to_bitmask();
+    if zeros == 0 {
+        return None;
+    }
+    Some(at + zeros.trailing_zeros() as usize)
+}
+
+// The first 0 of fewer than 4 bytes.
+#[inline(always)]
+fn zero_in_few(bytes: &[u8]) -> Option<usize>
+    requires { length bytes.now < 4 }
+    ensures { IsFirstByte (is_byte 0) bytes.now result }
+{
+    match bytes {
+        [0, ..] => Some(0),
+        [_, 0, ..] => Some(1),
+        [_, _, 0, ..] => Some(2),
+        _ => None,
+    }
+}
+
+// The place of the first 0, which is near. Where fewer than 32 bytes are left, two looks that may overlap cover them.
 #[inline]
 pub(crate) fn first_zero(bytes: &[u8]) -> Option<usize>
     ensures { IsFirstByte (is_byte 0) bytes.now result }
 {
-    let len = bytes.len();
-    if 32 <= len {
+    if 32 <= bytes.len() {
         match zero_in_32(bytes, 0) {
             Some(at) => Some(at),
             None => memchr(0, bytes),
         }
-    } else if 16 <= len {
-        match zero_in_16(bytes, 0) {
+    } else {
+        zero_in_short(bytes)
+    }
+}
+
+// The same, where none is expected: two looks cover up to 64 bytes.
+#[inline]
+pub(crate) fn stray_zero(bytes: &[u8]) -> Option<usize>
+    ensures { IsFirstByte (is_byte 0) bytes.now result }
+{
+    let len = bytes.len();
+    if len < 32 {
+        zero_in_short(bytes)
+    } else if len <= 64 {
+        match zero_in_32(bytes, 0) {
             Some(at) => Some(at),
-            None => zero_in_16(bytes, len - 16),
+            None => zero_in_32(bytes, len - 32),
         }
-    } else if 8 <= len {
+    } else {
+        memchr(0, bytes)
+    }
+}
+
+// The place of the first 0 of fewer than 32 bytes.
+#[inline(always)]
+fn zero_in_short(bytes: &[u8]) -> Option<usize>
+    requires { length bytes.now < 32 }
+    ensures { IsFirstByte (is_byte 0) bytes.now result }
+{
+    let len = bytes.len();
+    if len < 4 {
+        zero_in_few(bytes)
+    } else if len < 8 {
+        match zero_in_4(bytes, 0) {
+            Some(at) => Some(at),
+            None => zero_in_4(bytes, len - 4),
+        }
+    } else if len < 16 {
         match zero_in_8(bytes, 0) {
             Some(at) => Some(at),
             None => zero_in_8(bytes, len - 8),
         }
     } else {
-        memchr(0, bytes)
+        match zero_in_16(bytes, 0) {
+            Some(at) => Some(at),
+            None => zero_in_16(bytes, len - 16),
+        }
     }
 }

@@ -38,7 +38,13 @@ fn unit(work: Work) -> &'static [u8] {
         Work::Bare => BARE,
         Work::Tiny | Work::TinyInPlace | Work::TinyCopied | Work::FeedTiny => TINY,
         Work::Kept => KEPT,
-        Work::Row | Work::RowInPlace | Work::RowCopied | Work::FeedRow => ROW,
+        Work::Row
+        | Work::RowInPlace
+        | Work::RowIndexed
+        | Work::RowPlaced
+        | Work::RowColumn
+        | Work::RowCopied
+        | Work::FeedRow => ROW,
         Work::Fields => FIELDS,
         _ => b"",
     }

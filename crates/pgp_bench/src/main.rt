@@ -5,6 +5,7 @@
 //! a server's stream out of a slice, which stdin holds.
 #![tactic(auto)]
 
+mod columns;
 mod escapes;
 mod input;
 mod keys;

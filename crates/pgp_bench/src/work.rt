@@ -1,5 +1,6 @@
 //! The works, by name.
 
+use crate::columns::{by_index, by_places, last};
 use crate::escapes::{identifiers, literals};
 use crate::input::Input;
 use crate::keys::keys;
@@ -27,6 +28,12 @@ pub(crate) enum Work {
     TinyInPlace,
     /// The row, read in place, and its ranges walked.
     RowInPlace,
+    /// The row, read in place, and its columns by a table of its own.
+    RowIndexed,
+    /// The same, by a table in memory that is used again.
+    RowPlaced,
+    /// The row, read in place, and its last column alone.
+    RowColumn,
     /// The three of `Tiny`, copied into a buffer, and parsed.
     TinyCopied,
     /// The row, copied into a buffer, parsed, and its ranges walked.
@@ -76,7 +83,7 @@ pub(crate) enum Work {
 }
 
 impl Work {
-    pub(crate) const ALL: [Work; 30] = [
+    pub(crate) const ALL: [Work; 33] = [
         Work::Bare,
         Work::Tiny,
         Work::Kept,
@@ -84,6 +91,9 @@ impl Work {
         Work::Fields,
         Work::TinyInPlace,
         Work::RowInPlace,
+        Work::RowIndexed,
+        Work::RowPlaced,
+        Work::RowColumn,
         Work::TinyCopied,
         Work::RowCopied,
         Work::FeedTiny,
@@ -119,6 +129,9 @@ impl Work {
             Work::Fields => "read_fields",
             Work::TinyInPlace => "place_tiny",
             Work::RowInPlace => "place_row",
+            Work::RowIndexed => "place_row_index",
+            Work::RowPlaced => "place_row_places",
+            Work::RowColumn => "place_row_column",
             Work::TinyCopied => "copied_tiny",
             Work::RowCopied => "copied_row",
             Work::FeedTiny => "feed_tiny",
@@ -150,6 +163,7 @@ impl Work {
         match self {
             Work::Key => 8,
             Work::LiteralPlain | Work::LiteralQuotes | Work::Identifier | Work::CopyData => 50_000,
+            Work::RowInPlace | Work::RowIndexed | Work::RowPlaced | Work::RowColumn => 1_000_000,
             _ => 500_000,
         }
     }
@@ -170,6 +184,9 @@ pub(crate) fn sum_of(
     match work {
         Work::Bare | Work::Tiny | Work::Kept | Work::Row | Work::Fields => read(&mut input.stream),
         Work::TinyInPlace | Work::RowInPlace => read_in_place(input.stream.as_slice()),
+        Work::RowIndexed => by_index(alloc, input.stream.as_slice()),
+        Work::RowPlaced => by_places(alloc, input.stream.as_slice()),
+        Work::RowColumn => last(input.stream.as_slice()),
         Work::TinyCopied | Work::RowCopied => read_copied(alloc, input.stream.as_slice()),
         Work::FeedTiny | Work::FeedRow => feed(alloc, input.stream.as_slice()),
         Work::Int4 => int4s(&mut input.buf, count),

@@ -38,7 +38,33 @@ impl Codec for Texts {
             "lquery" => out.text(lquery_from_sql(bytes)?),
             "ltxtquery" => out.text(ltxtquery_from_sql(bytes)?),
             "bytea" => out.bytes(bytea_from_sql(bytes)),
+            "text_behind_ascii" => text_behind_ascii(bytes, out),
             _ => Err(Fault::Row),
         }
     }
+}
+
+/// The longest front of ASCII that is tried.
+const FRONT: usize = 70;
+
+/// The most bytes that are tried behind it.
+const MOST: usize = 16;
+
+/// Shows what the bytes come to as a text; behind each front of ASCII they have to come to as much (else `unsteady`).
+fn text_behind_ascii(bytes: &[u8], out: &mut Shown) -> Result<(), Fault> {
+    let mut room = [b'a'; FRONT + MOST];
+    let Some(place) = room.get_mut(FRONT..FRONT.saturating_add(bytes.len())) else {
+        return Err(Fault::Row);
+    };
+    place.copy_from_slice(bytes);
+    for front in 1..FRONT + 1 {
+        let at = FRONT - front;
+        let Some(part) = room.get(at..FRONT.saturating_add(bytes.len())) else {
+            return Err(Fault::Row);
+        };
+        if text_from_sql(part).is_ok() != text_from_sql(bytes).is_ok() {
+            return out.word("unsteady");
+        }
+    }
+    out.text(text_from_sql(bytes)?)
 }

@@ -1,6 +1,6 @@
 use Rattle.std.proofs.Common.{arith}
 use Rattle.pgp_base.proofs.AsciiLemmas.{ascii_of_mask, ascii_before}
-use Rattle.pgp_base.proofs.texts.ascii_in_16.Goals as goal
+use Rattle.pgp_base.proofs.ascii.ascii_in_16.Goals as goal
 
 pub returns-then-high-eq0-clause-ascii : goal.returns-then-high-eq0-clause-ascii
 returns-then-high-eq0-clause-ascii c = ascii_of_mask c.args.bytes.now 0 16 (omega arith) (omega arith) c.if-high-eq0.true
