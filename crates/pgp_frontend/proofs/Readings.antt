@@ -23,11 +23,11 @@ abbrev pub EachHasNames : List Part → Type 0
 EachHasNames [] = Unit {0}
 EachHasNames (p ∷ ps) = HasNames p × EachHasNames ps
 
-each_spelled : (ps : List Part) → parts_cause ps ≡ None → EachInRange ps → EachHasNames ps → EachHasSpelling ps
+pub each_spelled : (ps : List Part) → parts_cause ps ≡ None → EachInRange ps → EachHasNames ps → EachHasSpelling ps
 each_spelled [] c r n = tt
 each_spelled (p ∷ ps) c r n = (record { none = either_left (part_cause p) (parts_cause ps) c; in_range = r.0; named = n.0 }, each_spelled ps (either_right (part_cause p) (parts_cause ps) c) r.1 n.1)
 
-each_named : (m : ClientMessage) → IsNamed m → EachHasNames (parts m)
+pub each_named : (m : ClientMessage) → IsNamed m → EachHasNames (parts m)
 each_named (Bind a b c d e) n = (tt, (tt, (tt, (tt, (tt, tt)))))
 each_named (Close a b) n = (tt, (tt, tt))
 each_named (CopyData a) n = (tt, tt)
@@ -47,7 +47,7 @@ each_named (Startup v ps) n = (tt, (n, tt))
 each_named (CancelRequest a b) n = (tt, (tt, (tt, tt)))
 each_named SslRequest n = (tt, tt)
 
-spelled_parts : (m : ClientMessage) → IsSpelled m → EachHasSpelling (parts m)
+pub spelled_parts : (m : ClientMessage) → IsSpelled m → EachHasSpelling (parts m)
 spelled_parts m h = each_spelled (parts m) (either_left (parts_cause (parts m)) (length_cause (length (payload m) + 4)) h.none) h.in_range (each_named m h.named)
 
 length_fits : (m : ClientMessage) → IsSpelled m → length (payload m) + 4 < 2 ^ 32
@@ -199,13 +199,13 @@ payload_read m n t e f h k p =
     sym (message_known m t) ∙ (ap (λ tag. message_of tag (kind_of m) (parts m)) e ∙ (ap (λ kind. message_of (tag_of n) kind (parts m)) f ∙ (ap (λ ps. message_of (tag_of n) (kind_of n) ps) q ∙ message_known n u)))
 
 -- the length and the body of two packets
-bodies : (p q x y : List ℕ) → length p + 4 < 2 ^ 32 → length q + 4 < 2 ^ 32 → framed None p ++ x ≡ framed None q ++ y → (p ≡ q) × (x ≡ y)
+pub bodies : (p q x y : List ℕ) → length p + 4 < 2 ^ 32 → length q + 4 < 2 ^ 32 → framed None p ++ x ≡ framed None q ++ y → (p ≡ q) × (x ≡ y)
 bodies p q x y h k e =
     let e' : uint32 (length p + 4) ++ (p ++ x) ≡ uint32 (length q + 4) ++ (q ++ y) = sym (append_assoc (uint32 (length p + 4)) p x) ∙ (e ∙ append_assoc (uint32 (length q + 4)) q y) in
     let t = uint32_begins (length p + 4) (length q + 4) (p ++ x) (q ++ y) h k e' in
     fronts p q x y (omega (arith, t.0)) t.1
 
-tagged_bodies : (a b : ℕ) (p q x y : List ℕ) → length p + 4 < 2 ^ 32 → length q + 4 < 2 ^ 32 → framed (Some a) p ++ x ≡ framed (Some b) q ++ y → (a ≡ b) × (p ≡ q) × (x ≡ y)
+pub tagged_bodies : (a b : ℕ) (p q x y : List ℕ) → length p + 4 < 2 ^ 32 → length q + 4 < 2 ^ 32 → framed (Some a) p ++ x ≡ framed (Some b) q ++ y → (a ≡ b) × (p ≡ q) × (x ≡ y)
 tagged_bodies a b p q x y h k e =
     let t : a ≡ b = cc in
     let r : framed None p ++ x ≡ framed None q ++ y = cc in
@@ -217,7 +217,7 @@ pub any_frame_read : (t u : ℕ) (p q x y : List ℕ) → length_cause (length p
 any_frame_read t u p q x y h k e = tagged_bodies t u p q x y (omega (arith, fits_of (length p + 4) h)) (omega (arith, fits_of (length q + 4) k)) e
 
 -- a tag that is there
-tag_in : (t : Option ℕ) → t ≢ None → (a : ℕ) × (t ≡ Some a)
+pub tag_in : (t : Option ℕ) → t ≢ None → (a : ℕ) × (t ≡ Some a)
 tag_in None h = absurd (h refl)
 tag_in (Some a) h = (a, refl)
 
