@@ -1,5 +1,5 @@
 -- Parts of messages: what is read is spelled so, and what is spelled so is read.
-use Rattle.std.proofs.Common.{◌≡◌, ◌≢◌, ℕ, ◌<◌, ◌^◌, List, [], ◌∷◌, ◌++◌, length, Option, Some, None, Result, Ok, Err, refl, sym, ap, ◌∙◌, append_assoc, arith, map, FitsSigned}
+use Rattle.std.proofs.Common.{◌≡◌, ◌≢◌, ℕ, ◌<◌, ◌^◌, List, [], ◌∷◌, ◌++◌, length, Option, Some, None, Result, Ok, Err, refl, sym, ap, subst, ◌∙◌, append_assoc, arith, map, FitsSigned}
 use Rattle.std.specs.Prelude.{take}
 use Rattle.std.specs.Int.{w16, w32, from_be_bytes, cast_signed}
 use Rattle.std.specs.List.{flat_map, AllByRecursion}
@@ -140,7 +140,8 @@ unfolding sized_at
 content_found AByte bytes x rest h e =
     let b = bound (byte_at bytes) given (x, rest) e in
     let is = byte_found bytes (x, rest) (b.1 ∙ ap (λ (p : ℕ × List ℕ). Some p) (ok_is b.0 (x, rest) b.2)) in
-    record { spelled = record { none = refl; in_range = tt; named = tt }; whole = is }
+    let each : IsBytes (x ∷ rest) = subst IsBytes is h in
+    record { spelled = record { none = refl; in_range = omega (arith, each 0); named = tt }; whole = is }
 content_found AnInt32 bytes x rest h e =
     let f = (number_item 4 (FitsSigned w32) int32 (λ l. cast_signed w32 (from_be_bytes w32 l)) int32_number).found bytes x rest h e in
     record { spelled = record { none = refl; in_range = f.0; named = tt }; whole = f.1 }

@@ -37,7 +37,7 @@ use Rattle.pgp_server.proofs.ValueLemmas.{HasLength, value_item, chosen}
 abbrev refusal : {A : Type 0} → Error → Result A Error
 refusal e = Err e
 
-refusal_is : {A : Type 0} (d e : Error) → refusal {A} d ≡ Err e → d ≡ e
+refusal_is : {A : Type 0} (d e : Error) → refusal {A = A} d ≡ Err e → d ≡ e
 refusal_is d e h = cc
 
 no_refusal : {A : Type 0} (x : A) (e : Error) → ok x ≡ Err e → ⊥
@@ -122,7 +122,7 @@ wrong_length n rest bytes e fits whole null is =
       | inr y ↦ elim (chosen (nat_lt 2147483647 n) _ _ _ y.1) [
         | inl large ↦ record { len = n; rest = rest; fits = fits; whole = whole; wrong = inl (omega (arith, ltb-true 2147483647 n large.0), sym (refusal_is InvalidValueLength e large.1)) }
         | inr small ↦ elim (chosen (nat_lt (length rest) n) _ _ _ small.1) [
-          | inl short ↦ record { len = n; rest = rest; fits = fits; whole = whole; wrong = inr (omega (arith, ltb-false 2147483647 n small.0), ltb-true (length rest) n short.0, sym (refusal_is UnexpectedEof e short.1)) }
+          | inl short ↦ record { len = n; rest = rest; fits = fits; whole = whole; wrong = inr (omega (arith, ltb-false 2147483647 n small.0), (ltb-true (length rest) n short.0, sym (refusal_is UnexpectedEof e short.1))) }
           | inr enough ↦ absurd (no_refusal _ e enough.1)
         ]
       ]

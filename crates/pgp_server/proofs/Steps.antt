@@ -12,6 +12,7 @@ use Rattle.pgp_base.proofs.Prefixes.{fronts, uint32_begins}
 use Rattle.pgp_frontend.specs.ClientMessage.{ClientMessage, Startup, CancelRequest, SslRequest, PasswordKind}
 use Rattle.pgp_frontend.specs.Payload.{framed, payload, parts, parts_cause, tag_of, bytes_of}
 use Rattle.pgp_frontend.specs.Reading.{IsSpelled}
+use Rattle.pgp_frontend.specs.declared.startup.ProtocolVersion.TheVariants.{V3_0, V3_2}
 use Rattle.pgp_frontend.specs.ClientRun.{is_startup}
 use Rattle.pgp_server.specs.Reading.{body_of, packet_of}
 use Rattle.pgp_server.specs.Step.{Unread, IsExpected, Stands, NoneStands, place, least, BeginsWithLength, IsLengthFault, IsPartial, Takes, Refuses, IsFront}
@@ -47,7 +48,8 @@ framed_so kind false m (Some t) e x = let k : Some t ≡ None = sym e ∙ x in a
 -- an opening packet has a code
 coded : (m : ClientMessage) → tag_of m ≡ None → 4 ≤ length (payload m)
 unfolding int32
-coded (Startup ps) t = omega arith
+coded (Startup V3_0 ps) t = omega arith
+coded (Startup V3_2 ps) t = omega arith
 coded (CancelRequest a b) t = omega arith
 coded SslRequest t = omega arith
 coded _ t = absurd cc

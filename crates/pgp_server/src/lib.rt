@@ -24,5 +24,3 @@ pub use session::read_session;
 pub use types::ParamTypes;
 pub use values::Values;
 
-#[cfg(test)]
-mod tests;
