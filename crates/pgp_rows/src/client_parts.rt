@@ -52,22 +52,38 @@ fn show_bytes(call: &str, words: &[&[u8]], out: &mut Shown) -> Result<(), Fault>
 /// Shows a message with numbers or lists.
 fn show_details(message: ClientMessage<'_>, out: &mut Shown) -> Result<(), Fault> {
     match message {
-        ClientMessage::Bind(portal, statement, formats, values, results) => {
+        ClientMessage::Bind {
+            portal,
+            statement,
+            formats,
+            values,
+            result_formats,
+        } => {
             show_bytes("bind", &[portal, statement], out)?;
             show_formats(formats, out)?;
             show_values(values, out)?;
-            show_formats(results, out)
+            show_formats(result_formats, out)
         }
-        ClientMessage::Parse(name, query, types) => {
+        ClientMessage::Parse {
+            name,
+            query,
+            param_types,
+        } => {
             show_bytes("parse", &[name, query], out)?;
-            show_walk(types, |id: u32, out: &mut Shown| out.number(id), out)
+            show_walk(param_types, |id: u32, out: &mut Shown| out.number(id), out)
         }
-        ClientMessage::Execute(portal, max_rows) => {
+        ClientMessage::Execute { portal, max_rows } => {
             show_bytes("execute", &[portal], out)?;
             out.number(max_rows)
         }
-        ClientMessage::Startup(version, parameters) => show_startup(version, parameters, out),
-        ClientMessage::CancelRequest(process_id, secret_key) => {
+        ClientMessage::Startup {
+            version,
+            parameters,
+        } => show_startup(version, parameters, out),
+        ClientMessage::CancelRequest {
+            process_id,
+            secret_key,
+        } => {
             out.word("cancel_request_key")?;
             out.number(process_id)?;
             out.bytes(secret_key)
@@ -79,15 +95,18 @@ fn show_details(message: ClientMessage<'_>, out: &mut Shown) -> Result<(), Fault
 /// Shows a message.
 pub fn show_call(message: ClientMessage<'_>, out: &mut Shown) -> Result<(), Fault> {
     match message {
-        ClientMessage::Close(variant, name) => show_bytes("close", &[&[variant], name], out),
+        ClientMessage::Close { variant, name } => show_bytes("close", &[&[variant], name], out),
         ClientMessage::CopyData(bytes) => show_bytes("copy_data", &[bytes], out),
         ClientMessage::CopyDone => out.word("copy_done"),
         ClientMessage::CopyFail(reason) => show_bytes("copy_fail", &[reason], out),
-        ClientMessage::Describe(variant, name) => show_bytes("describe", &[&[variant], name], out),
+        ClientMessage::Describe { variant, name } => show_bytes("describe", &[&[variant], name], out),
         ClientMessage::Flush => out.word("flush"),
         ClientMessage::PasswordMessage(password) => show_bytes("password_message", &[password], out),
         ClientMessage::Query(query) => show_bytes("query", &[query], out),
-        ClientMessage::SaslInitialResponse(mechanism, response) => {
+        ClientMessage::SaslInitialResponse {
+            mechanism,
+            response,
+        } => {
             show_bytes("sasl_initial_response", &[mechanism, response], out)
         }
         ClientMessage::SaslResponse(response) => show_bytes("sasl_response", &[response], out),

@@ -25,7 +25,7 @@ impl Kinds<'_> {
     /// Goes on behind a message of tag `p`.
     fn pass(&mut self, message: &ClientMessage<'_>) {
         if let ClientMessage::PasswordMessage(_)
-        | ClientMessage::SaslInitialResponse(..)
+        | ClientMessage::SaslInitialResponse { .. }
         | ClientMessage::SaslResponse(_) = message
         {
             self.rest = self.rest.get(1..).unwrap_or(&[]);

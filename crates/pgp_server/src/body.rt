@@ -71,10 +71,16 @@ fn bind(payload: &[u8]) -> Result<ClientMessage<'_>, Error>
     let (statement, rest) = string_at(rest)?;
     let (formats, rest) = Formats::read(rest)?;
     let (values, rest) = Values::read(rest)?;
-    let (results, rest) = Formats::read(rest)?;
+    let (result_formats, rest) = Formats::read(rest)?;
     ended(
         rest,
-        ClientMessage::Bind(portal, statement, formats, values, results),
+        ClientMessage::Bind {
+            portal,
+            statement,
+            formats,
+            values,
+            result_formats,
+        },
     )
 }
 
@@ -84,7 +90,7 @@ fn close(payload: &[u8]) -> Result<ClientMessage<'_>, Error>
 {
     let (variant, rest) = byte_at(payload)?;
     let (name, rest) = string_at(rest)?;
-    ended(rest, ClientMessage::Close(variant, name))
+    ended(rest, ClientMessage::Close { variant, name })
 }
 
 #[tactic(auto, unfolding(crate::specs::Reading::describe_of))]
@@ -93,7 +99,7 @@ fn describe(payload: &[u8]) -> Result<ClientMessage<'_>, Error>
 {
     let (variant, rest) = byte_at(payload)?;
     let (name, rest) = string_at(rest)?;
-    ended(rest, ClientMessage::Describe(variant, name))
+    ended(rest, ClientMessage::Describe { variant, name })
 }
 
 #[tactic(auto, unfolding(crate::specs::Reading::execute_of))]
@@ -102,7 +108,7 @@ fn execute(payload: &[u8]) -> Result<ClientMessage<'_>, Error>
 {
     let (portal, rest) = string_at(payload)?;
     let (max_rows, rest) = int32_at(rest)?;
-    ended(rest, ClientMessage::Execute(portal, max_rows))
+    ended(rest, ClientMessage::Execute { portal, max_rows })
 }
 
 #[tactic(auto, unfolding(crate::specs::Reading::parse_of))]
@@ -112,7 +118,14 @@ fn parse(payload: &[u8]) -> Result<ClientMessage<'_>, Error>
     let (name, rest) = string_at(payload)?;
     let (query, rest) = string_at(rest)?;
     let (param_types, rest) = ParamTypes::read(rest)?;
-    ended(rest, ClientMessage::Parse(name, query, param_types))
+    ended(
+        rest,
+        ClientMessage::Parse {
+            name,
+            query,
+            param_types,
+        },
+    )
 }
 
 #[tactic(auto, unfolding(crate::specs::Reading::query_of))]
@@ -147,7 +160,10 @@ fn sasl_initial(payload: &[u8]) -> Result<ClientMessage<'_>, Error>
     let (response, rest) = sized_at(rest)?;
     ended(
         rest,
-        ClientMessage::SaslInitialResponse(mechanism, response),
+        ClientMessage::SaslInitialResponse {
+            mechanism,
+            response,
+        },
     )
 }
 
@@ -203,7 +219,10 @@ fn startup(version: ProtocolVersion, rest: &[u8]) -> Result<ClientMessage<'_>, E
     ensures { seen result ≡ startup_of version rest.now }
 {
     let parameters = StartupParameters::read(rest)?;
-    Ok(ClientMessage::Startup(version, parameters))
+    Ok(ClientMessage::Startup {
+        version,
+        parameters,
+    })
 }
 
 #[tactic(auto, unfolding(crate::specs::Reading::cancel_of))]
@@ -212,5 +231,8 @@ fn cancel(rest: &[u8]) -> Result<ClientMessage<'_>, Error>
 {
     let (process_id, rest) = int32_at(rest)?;
     let secret_key = key_at(rest)?;
-    Ok(ClientMessage::CancelRequest(process_id, secret_key))
+    Ok(ClientMessage::CancelRequest {
+        process_id,
+        secret_key,
+    })
 }

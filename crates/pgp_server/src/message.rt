@@ -17,33 +17,61 @@ pub enum PasswordKind {
     Response,
 }
 
-/// A message of a client, whose parts stand in the bytes that were read.
+/// A message of a client, whose parts stand in the bytes that were read. Texts are bytes without the 0 byte behind them.
+///
+/// PostgreSQL manual, "Message Formats".
 #[derive(Drop)]
 pub enum ClientMessage<'a> {
-    /// Portal, statement, the parameters' formats and values, and the formats of the results.
-    Bind(&'a [u8], &'a [u8], Formats<'a>, Values<'a>, Formats<'a>),
-    /// `S` or `P`, and a name.
-    Close(u8, &'a [u8]),
+    Bind {
+        portal: &'a [u8],
+        statement: &'a [u8],
+        formats: Formats<'a>,
+        values: Values<'a>,
+        result_formats: Formats<'a>,
+    },
+    Close {
+        /// `S` of a statement or `P` of a portal; any other byte is read too.
+        variant: u8,
+        name: &'a [u8],
+    },
     CopyData(&'a [u8]),
     CopyDone,
     CopyFail(&'a [u8]),
-    /// `S` or `P`, and a name.
-    Describe(u8, &'a [u8]),
-    /// A portal, and the greatest number of rows; 0 is no limit.
-    Execute(&'a [u8], i32),
+    Describe {
+        /// `S` of a statement or `P` of a portal; any other byte is read too.
+        variant: u8,
+        name: &'a [u8],
+    },
+    Execute {
+        portal: &'a [u8],
+        /// The greatest number of rows; 0 is no limit.
+        max_rows: i32,
+    },
     Flush,
-    /// A statement's name, its text, and the types of its parameters.
-    Parse(&'a [u8], &'a [u8], ParamTypes<'a>),
+    Parse {
+        name: &'a [u8],
+        query: &'a [u8],
+        param_types: ParamTypes<'a>,
+    },
     PasswordMessage(&'a [u8]),
     Query(&'a [u8]),
-    /// A mechanism, and the first text.
-    SaslInitialResponse(&'a [u8], &'a [u8]),
+    SaslInitialResponse {
+        mechanism: &'a [u8],
+        response: &'a [u8],
+    },
+    /// All bytes, as of a GSSResponse.
     SaslResponse(&'a [u8]),
     Sync,
     Terminate,
     /// The version that the client asks for, and its names and values.
-    Startup(ProtocolVersion, StartupParameters<'a>),
-    /// A process id and a key of 4 to 256 bytes.
-    CancelRequest(i32, &'a [u8]),
+    Startup {
+        version: ProtocolVersion,
+        parameters: StartupParameters<'a>,
+    },
+    CancelRequest {
+        process_id: i32,
+        /// 4 to 256 bytes.
+        secret_key: &'a [u8],
+    },
     SslRequest,
 }

@@ -126,7 +126,7 @@ fn is_startup(message: &ClientMessage) -> bool
     ensures { result ≡ is_startup (view message.now) }
 {
     match message {
-        ClientMessage::Startup(..) => true,
+        ClientMessage::Startup { .. } => true,
         _ => false,
     }
 }

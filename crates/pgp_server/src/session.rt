@@ -82,7 +82,7 @@ fn is_told(message: &ClientMessage) -> bool
 {
     match message {
         ClientMessage::PasswordMessage(_) => true,
-        ClientMessage::SaslInitialResponse(_, _) => true,
+        ClientMessage::SaslInitialResponse { .. } => true,
         ClientMessage::SaslResponse(_) => true,
         _ => false,
     }
