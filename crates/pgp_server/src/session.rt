@@ -1,6 +1,6 @@
 //! A whole session, read at once.
 
-ghost use Rattle.std.specs.Prelude.{◌≡◌, [], map, is_some, IfOk};
+ghost use Rattle.std.specs.Prelude.{◌≡◌, [], map, is_some, IfOk, OnErr};
 ghost use Rattle.pgp_frontend.specs.Payload.{kind_of};
 ghost use Rattle.pgp_server.specs.Reads.{ReadsSession, ReadsOn, next_kind, kinds_behind};
 ghost use Rattle.pgp_server.specs.Views.{kind_view, view};
@@ -8,20 +8,22 @@ ghost use Rattle.pgp_server.specs.Views.{kind_view, view};
 use crate::error::ClientError;
 use crate::message::{ClientMessage, PasswordKind};
 use crate::messages::ClientMessages;
-use std::alloc::{AllocError, Allocator};
+use pgp_base::Memory;
+use std::alloc::AllocError;
 
 /// The messages at the front of a client's bytes, up to where the bytes wait for more or a message is refused, and the
 /// refusal. The server is told the kinds of the messages of tag `p` in order; past the last of them it expects passwords.
 ///
 /// # Errors
 ///
-/// `AllocError`.
-pub fn read_session<'a, A: Allocator>(
+/// `AllocError` where the list wasn't given memory.
+pub fn read_session<'a, A: Memory>(
     alloc: A,
     kinds: &[PasswordKind],
     bytes: &'a [u8],
 ) -> Result<(Vec<ClientMessage<'a>, A>, Option<ClientError>), AllocError>
-    ensures { IfOk result (λ read. ReadsSession (map kind_view kinds.now) bytes.now (map view read.0.items) read.1) }
+    ensures read { IfOk result (λ read. ReadsSession (map kind_view kinds.now) bytes.now (map view read.0.items) read.1) }
+    ensures lacks { OnErr result A.Lacks }
 {
     let mut reader = ClientMessages::new(bytes);
     let mut messages = Vec::new(alloc);
@@ -30,20 +32,21 @@ pub fn read_session<'a, A: Allocator>(
 }
 
 /// Reads on, and adds what was read to the list.
-fn read_on<'a, A: Allocator>(
+fn read_on<'a, A: Memory>(
     kinds: &[PasswordKind],
     reader: &mut ClientMessages<'a>,
     messages: &mut Vec<ClientMessage<'a>, A>,
 ) -> Result<Option<ClientError>, AllocError>
     requires { messages.old.items ≡ [] }
-    ensures { IfOk result (λ end. ReadsOn (map kind_view kinds.now) reader.old (map view messages.new.items) end reader.new) }
+    ensures read { IfOk result (λ end. ReadsOn (map kind_view kinds.now) reader.old (map view messages.new.items) end reader.new) }
+    ensures lacks { OnErr result A.Lacks }
 {
     let mut rest = kinds;
     'messages: loop {
         match reader.next(next_kind(rest)) {
             Ok(Some(message)) => {
                 rest = kinds_behind(&message, rest);
-                if messages.push(message).is_err() {
+                if A::push(messages, message).is_err() {
                     return Err(AllocError);
                 }
             }
