@@ -13,7 +13,7 @@ use Rattle.pgp_base.proofs.Causes.{count_fits, counts_of, either_left, either_ri
 use Rattle.pgp_base.proofs.PartLemmas.{IsNumber, int16_number, int32_number, oid_number, uint16_number, number_takes, number_again}
 use Rattle.pgp_base.proofs.Spellings.{no_cause, without_zero}
 use Rattle.pgp_base.proofs.Strings.{string_takes, string_front, string_whole, some_is}
-use Rattle.pgp_frontend.specs.Payload.{Values, Key, key_cause, pair, pair_cause, spelling, part_cause, joined}
+use Rattle.pgp_frontend.specs.Payload.{Values, key_cause, pair, pair_cause, spelling, part_cause, joined}
 use Rattle.pgp_frontend.specs.Reading.{Shape, AByte, AnInt32, AText, SomeInt16s, SomeOids, SomeValues, ASized, AllBytes, AKey, SomePairs, HasSpelling}
 use Rattle.pgp_frontend.proofs.Readings.{EachHasSpelling}
 use Rattle.pgp_frontend.proofs.ValueLemmas.{values_fit}

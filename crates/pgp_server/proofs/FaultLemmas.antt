@@ -1,14 +1,14 @@
 -- Why a body is refused: what the code tells is what the grammar says.
-use Rattle.std.proofs.Common.{◌≡◌, ◌≢◌, ℕ, ℤ, pos, zero, suc, ◌<◌, ◌≤◌, ◌^◌, Bool, true, false, List, [], ◌∷◌, ◌++◌, length, map, Option, Some, None, Result, Ok, Err, refl, sym, ap, subst, ◌∙◌, append_assoc, arith, inl, inr, FitsSigned, length-append}
-use Rattle.std.specs.Prelude.{◌==◌, ◌⊎◌, nat_lt, if◌then◌else◌, IfSome}
+use Rattle.std.proofs.Common.{◌≡◌, ◌≢◌, ℕ, ℤ, pos, zero, suc, ◌<◌, ◌≤◌, ◌^◌, true, false, List, [], ◌∷◌, ◌++◌, length, map, Option, Some, None, Result, Ok, Err, refl, sym, ap, subst, ◌∙◌, append_assoc, arith, inl, inr, FitsSigned, length-append}
+use Rattle.std.specs.Prelude.{◌==◌, ◌⊎◌, nat_lt, IfSome}
 use Rattle.std.specs.Int.{w16, w32, from_be_bytes, cast_signed, cast_unsigned}
 use Rattle.std.specs.List.{flat_map, AllByRecursion}
 use Rattle.std.proofs.lemmas.Bool.{eqb-true, eq-eqb, ltb-true, ltb-false}
 use Rattle.std.proofs.lemmas.Int.{of_z-to_z}
 use borrow.Author.Gap.{read_sfits}
-use Rattle.pgp_base.specs.Wire.{IsBytes, HasNoZero, oid, int16, int32, uint16, uint32, text, nullable}
+use Rattle.pgp_base.specs.Wire.{IsBytes, oid, int16, int32, uint16, uint32, text, nullable}
 use Rattle.pgp_base.specs.Cause.{Cause}
-use Rattle.pgp_base.specs.PartReading.{◌>>=◌, front_at, byte_at, uint16_at, oid_at, int16_at, int32_at, string_at}
+use Rattle.pgp_base.specs.PartReading.{◌>>=◌, front_at, byte_at, uint16_at, oid_at, string_at}
 use Rattle.pgp_base.specs.WalkReading.{marked_run, read_on, drained}
 use Rattle.pgp_base.specs.declared.error.Error.{Error}
 use Rattle.pgp_base.specs.declared.error.Error.TheVariants.{UnknownTag, UnexpectedEof, NotDrained, InvalidValueLength}
@@ -20,10 +20,10 @@ use Rattle.pgp_frontend.specs.ClientMessage.{ClientMessage, Bind, Close, CopyDat
 use Rattle.pgp_frontend.specs.Payload.{Part, Int32, Key, Pairs, pair, parts, tag_of, kind_of, key_cause}
 use Rattle.pgp_frontend.specs.declared.startup.ProtocolVersion.TheVariants.{V3_0, V3_2}
 use Rattle.pgp_frontend.specs.Reading.{Shape, AByte, AnInt32, AText, SomeInt16s, SomeOids, SomeValues, ASized, AllBytes, AKey, SomePairs, shape}
-use Rattle.pgp_server.specs.Content.{Content, Contents, Then}
-use Rattle.pgp_server.specs.Faults.{IsShort, HasWrongLength, LacksSized, LacksValue, LacksItem, LacksItems, IsPair, IsCutPair, LacksEnd, Lacks, StandsFirst, Faulty}
+use Rattle.pgp_server.specs.Content.{Content, Contents}
+use Rattle.pgp_server.specs.Faults.{IsShort, HasWrongLength, LacksSized, LacksValue, LacksItems, IsCutPair, LacksEnd, Lacks, Faulty}
 use Rattle.pgp_server.specs.Reading.{items_at, items_on, with_front, counted_at, format_at, type_at, value_at, value_after, no_null, sized_at, pair_at, all_of, pairs_at, unless, key_at, content_at, contents_at, contents_on, before, ended, made, bind_of, close_of, describe_of, execute_of, parse_of, query_of, copy_fail_of, password_of, sasl_initial_of, told_of, body_of, startup_of, cancel_of, named, by_code, by_front, packet_of}
-use Rattle.pgp_server.specs.Step.{IsUnknownTag, HasFaultyBody, BlamesFrame, IsUnknownPacket, HasFaultyPacket, BlamesPacket}
+use Rattle.pgp_server.specs.Step.{BlamesFrame, BlamesPacket}
 use Rattle.pgp_server.specs.declared.error.ClientError.{ClientError}
 use Rattle.pgp_server.specs.declared.error.ClientError.TheVariants.{UnknownPacket, Reading}
 use Rattle.pgp_server.proofs.Items.{IsItem, ok, bytes_behind}
@@ -142,10 +142,13 @@ value_lacks bytes e h is =
           let t = number_takes 4 (λ n. n < 2 ^ 32) oid (λ l. from_be_bytes w32 l) oid_number bytes some.0 h some.1 in
           elim (chosen (some.0.0 == 4294967295) _ _ _ some.2) [
             | inl y ↦ absurd (no_refusal _ e y.1)
-            | inr y ↦ (inr (wrong_length some.0.0 some.0.1 bytes e t.fits t.parts y.0 some.2), λ rest same.
-                let null : uint32 some.0.0 ++ some.0.1 ≡ uint32 4294967295 ++ rest = sym t.parts ∙ same ∙ ap (λ l. l ++ rest) (sym null_spelled) in
-                let k : true ≡ false = sym (eq-eqb some.0.0 4294967295 (uint32_begins some.0.0 4294967295 some.0.1 rest t.fits (omega arith) null).0) ∙ y.0 in
-                cc)
+            | inr y ↦ (
+              inr (wrong_length some.0.0 some.0.1 bytes e t.fits t.parts y.0 some.2),
+              λ rest same.
+                  let null : uint32 some.0.0 ++ some.0.1 ≡ uint32 4294967295 ++ rest = sym t.parts ∙ same ∙ ap (λ l. l ++ rest) (sym null_spelled) in
+                  let k : true ≡ false = sym (eq-eqb some.0.0 4294967295 (uint32_begins some.0.0 4294967295 some.0.1 rest t.fits (omega arith) null).0) ∙ y.0 in
+                  cc,
+            )
           ]
     ]
 

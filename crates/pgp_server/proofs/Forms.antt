@@ -1,15 +1,15 @@
 -- Messages: what is read from a payload is the message of that payload, and each message is read from its own.
-use Rattle.std.proofs.Common.{◌≡◌, ◌≢◌, ℕ, ◌+◌, ◌<◌, ◌^◌, Bool, true, false, List, [], ◌∷◌, ◌++◌, length, Option, Some, None, Result, Ok, Err, refl, sym, ap, subst, ◌∙◌, arith, inl, inr, FitsSigned}
-use Rattle.std.specs.Prelude.{IfSome, ◌==◌, ◌⊎◌, if◌then◌else◌, pos}
+use Rattle.std.proofs.Common.{◌≡◌, ◌≢◌, ℕ, ◌+◌, ◌<◌, ◌^◌, true, List, [], ◌∷◌, ◌++◌, length, Option, Some, None, Result, Ok, Err, refl, sym, ap, subst, ◌∙◌, arith, inl, inr, FitsSigned}
+use Rattle.std.specs.Prelude.{IfSome, ◌==◌, pos}
 use Rattle.std.specs.Int.{w32, from_be_bytes, cast_signed}
 use Rattle.std.proofs.lemmas.Bool.{eqb-true}
 use Rattle.std.proofs.lemmas.List.{append-nil}
 use Rattle.pgp_base.specs.Wire.{IsBytes, oid, int32, uint32}
 use Rattle.pgp_base.specs.Cause.{length_cause}
-use Rattle.pgp_base.specs.PartReading.{◌>>=◌, oid_at}
+use Rattle.pgp_base.specs.PartReading.{oid_at}
 use Rattle.pgp_base.specs.declared.error.Error.{Error}
 use Rattle.pgp_base.specs.declared.error.Error.TheVariants.{UnknownTag}
-use Rattle.pgp_base.proofs.Causes.{length_fits, either_left, either_right, either_none}
+use Rattle.pgp_base.proofs.Causes.{length_fits, either_none}
 use Rattle.pgp_base.proofs.PartLemmas.{oid_number, number_takes, number_again}
 use Rattle.pgp_frontend.specs.ClientMessage.{ClientMessage, Bind, Close, CopyData, CopyDone, CopyFail, Describe, Execute, Flush, Parse, PasswordMessage, Query, SaslInitialResponse, SaslResponse, Sync, Terminate, Startup, CancelRequest, SslRequest, PasswordKind, Password, Initial, Response}
 use Rattle.pgp_frontend.specs.Payload.{Part, Int32, Key, Pairs, joined, parts, payload, tag_of, kind_of, part_cause, parts_cause, EachInRange}
@@ -23,7 +23,7 @@ use Rattle.pgp_server.specs.declared.error.ClientError.{ClientError}
 use Rattle.pgp_server.specs.declared.error.ClientError.TheVariants.{UnknownPacket}
 use Rattle.pgp_server.proofs.Items.{ok, ok_is}
 use Rattle.pgp_server.proofs.Contents.{contents_found, contents_again, TakesAllLast}
-use Rattle.pgp_server.proofs.ValueLemmas.{bound, chosen}
+use Rattle.pgp_server.proofs.ValueLemmas.{chosen}
 
 -- ---- what a message has, part by part
 

@@ -23,4 +23,3 @@ pub use pairs::StartupParameters;
 pub use session::read_session;
 pub use types::ParamTypes;
 pub use values::Values;
-

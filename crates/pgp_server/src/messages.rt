@@ -91,7 +91,10 @@ impl<'a> ClientMessages<'a> {
 }
 
 /// A step behind the startup packet.
-fn tagged(kind: PasswordKind, bytes: &[u8]) -> (Result<Option<ClientMessage<'_>>, ClientError>, &[u8])
+fn tagged(
+    kind: PasswordKind,
+    bytes: &[u8],
+) -> (Result<Option<ClientMessage<'_>>, ClientError>, &[u8])
     ensures { Step (kind_view kind) (record { bytes = bytes.now; opened = true }) (read result.0) (record { bytes = result.1.now; opened = true }) }
 {
     match frame(bytes) {
