@@ -1,11 +1,10 @@
 -- What `bind` wrote, or why it refused, from what its steps did.
-use Rattle.std.proofs.Common.{◌≡◌, ℕ, ℤ, ◌+◌, ◌-◌, ◌≤◌, List, [], ◌∷◌, ◌++◌, sym, Result, Option, Some, None, refl, ap, subst, inl, inr, MutBor, length, arith, length-append, ◌⊎◌}
+use Rattle.std.proofs.Common.{◌≡◌, ℕ, ℤ, ◌+◌, ◌-◌, ◌≤◌, List, [], ◌∷◌, sym, Result, Option, Some, None, refl, ap, subst, inl, inr, MutBor, length, arith, length-append}
 use Rattle.std.specs.Prelude.{FitsSigned, All}
 use Rattle.std.specs.Int.{w16}
 use Rattle.pgp_base.specs.Wire.{uint32, int16, nullable, counted}
 use Rattle.std.proofs.lemmas.List.{append-nil}
-use Rattle.pgp_base.specs.Cause.{length_cause, Wants}
-use Rattle.pgp_base.specs.declared.error.Error.TheVariants.{OutOfMemory}
+use Rattle.pgp_base.specs.Cause.{length_cause}
 use Rattle.pgp_base.proofs.Needs.{counted_length}
 use Rattle.pgp_frontend.proofs.Needs.{framed_wants, bind_length, joined_more}
 use Rattle.pgp_base.specs.Held.{Held, ◌⊕◌, overwritten}
@@ -17,7 +16,7 @@ use Rattle.pgp_base.specs.declared.error.BindError.TheVariants.{Conversion, Seri
 use Rattle.pgp_base.specs.declared.number.IsNull.{IsNull}
 use Rattle.pgp_frontend.specs.ClientMessage.{Bind}
 use Rattle.pgp_frontend.specs.Given.{Serves, Served, before_values, BindWhole, BindRefused, Appended}
-use Rattle.pgp_frontend.specs.Payload.{Part, Text, Int16s, Values, joined, bytes_of, part_cause, parts_cause}
+use Rattle.pgp_frontend.specs.Payload.{Part, Text, Int16s, Values, joined, part_cause, parts_cause}
 use Rattle.pgp_frontend.specs.Putting.{HeadRefused, ItemsRefused, ValuesRefused}
 use Rattle.pgp_frontend.proofs.Fields.{cause_more, cause_here, last_none}
 use Rattle.pgp_frontend.proofs.Frames.{frame_room, frame_done, frame_fits, frame_passes, tagged}

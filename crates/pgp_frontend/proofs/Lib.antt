@@ -1,3 +1,4 @@
+pub mod ClientRuns
 pub mod BindLemmas
 pub mod Fields
 pub mod Fitting

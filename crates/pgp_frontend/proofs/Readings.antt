@@ -9,7 +9,7 @@ use Rattle.pgp_base.proofs.Causes.{either_left, either_right, fits_of}
 use Rattle.pgp_base.proofs.Prefixes.{fronts, uint32_begins, int32_begins}
 use Rattle.pgp_frontend.specs.ClientMessage.{ClientMessage, Bind, Close, CopyData, CopyDone, CopyFail, Describe, Execute, Flush, Parse, PasswordMessage, Query, SaslInitialResponse, SaslResponse, Sync, Terminate, Startup, CancelRequest, SslRequest, PasswordKind, Password, Initial, Response}
 use Rattle.pgp_frontend.specs.Payload.{Part, Byte, Int32, Text, Int16s, Oids, Values, Sized, Rest, Key, Pairs, version_code, spelling, joined, parts, payload, tag_of, kind_of, framed, bytes_of, part_cause, parts_cause, EachInRange}
-use Rattle.pgp_frontend.specs.Reading.{Shape, AByte, AnInt32, AText, SomeInt16s, SomeOids, SomeValues, ASized, AllBytes, shape, HasNames, HasSpelling, IsNamed, IsSpelled}
+use Rattle.pgp_frontend.specs.Reading.{Shape, AByte, AnInt32, AText, SomeInt16s, SomeOids, SomeValues, ASized, AllBytes, AKey, shape, HasNames, HasSpelling, IsNamed, IsSpelled}
 use Rattle.pgp_frontend.specs.declared.startup.ProtocolVersion.{ProtocolVersion}
 use Rattle.pgp_frontend.specs.declared.startup.ProtocolVersion.TheVariants.{V3_0, V3_2}
 use Rattle.pgp_frontend.proofs.Shapes.{part_begins}
@@ -23,11 +23,11 @@ abbrev pub EachHasNames : List Part → Type 0
 EachHasNames [] = Unit {0}
 EachHasNames (p ∷ ps) = HasNames p × EachHasNames ps
 
-each_spelled : (ps : List Part) → parts_cause ps ≡ None → EachInRange ps → EachHasNames ps → EachHasSpelling ps
+pub each_spelled : (ps : List Part) → parts_cause ps ≡ None → EachInRange ps → EachHasNames ps → EachHasSpelling ps
 each_spelled [] c r n = tt
 each_spelled (p ∷ ps) c r n = (record { none = either_left (part_cause p) (parts_cause ps) c; in_range = r.0; named = n.0 }, each_spelled ps (either_right (part_cause p) (parts_cause ps) c) r.1 n.1)
 
-each_named : (m : ClientMessage) → IsNamed m → EachHasNames (parts m)
+pub each_named : (m : ClientMessage) → IsNamed m → EachHasNames (parts m)
 each_named (Bind a b c d e) n = (tt, (tt, (tt, (tt, (tt, tt)))))
 each_named (Close a b) n = (tt, (tt, tt))
 each_named (CopyData a) n = (tt, tt)
@@ -47,28 +47,24 @@ each_named (Startup v ps) n = (tt, (n, tt))
 each_named (CancelRequest a b) n = (tt, (tt, (tt, tt)))
 each_named SslRequest n = (tt, tt)
 
-spelled_parts : (m : ClientMessage) → IsSpelled m → EachHasSpelling (parts m)
+pub spelled_parts : (m : ClientMessage) → IsSpelled m → EachHasSpelling (parts m)
 spelled_parts m h = each_spelled (parts m) (either_left (parts_cause (parts m)) (length_cause (length (payload m) + 4)) h.none) h.in_range (each_named m h.named)
 
 length_fits : (m : ClientMessage) → IsSpelled m → length (payload m) + 4 < 2 ^ 32
 length_fits m h = omega (arith, fits_of (length (payload m) + 4) (either_right (parts_cause (parts m)) (length_cause (length (payload m) + 4)) h.none))
 
-abbrev pub IsNoKey : Part → Type 0
-IsNoKey (Key z) = ⊥
-IsNoKey _ = Unit {0}
-
--- all bytes that are left are only taken by the last part, and not as a key
+-- all bytes that are left are only taken by the last part
 abbrev pub TakesAllLast : List Part → Type 0
 TakesAllLast [] = Unit {0}
-TakesAllLast (p ∷ []) = IsNoKey p
-TakesAllLast (p ∷ q ∷ ps) = (shape p ≢ AllBytes) × TakesAllLast (q ∷ ps)
+TakesAllLast (p ∷ []) = Unit {0}
+TakesAllLast (p ∷ q ∷ ps) = (shape p ≢ AllBytes) × (shape p ≢ AKey) × TakesAllLast (q ∷ ps)
 
-last_read : (p q : Part) → shape p ≡ shape q → IsNoKey p → IsNoKey q → HasSpelling p → HasSpelling q → spelling p ++ [] ≡ spelling q ++ [] → p ≡ q
-last_read (Rest m) (Rest n) s a b h k e = ap Rest (sym (append-nil m) ∙ (e ∙ append-nil n))
-last_read (Rest m) (Key n) s a b h k e = absurd b
-last_read (Rest m) _ s a b h k e = cc
-last_read (Key m) _ s a b h k e = absurd a
-last_read p q s a b h k e = (part_begins p q [] [] s (λ z. cc) h k e).0
+last_read : (p q : Part) → shape p ≡ shape q → HasSpelling p → HasSpelling q → spelling p ++ [] ≡ spelling q ++ [] → p ≡ q
+last_read (Rest m) (Rest n) s h k e = ap Rest (sym (append-nil m) ∙ (e ∙ append-nil n))
+last_read (Rest m) _ s h k e = cc
+last_read (Key m) (Key n) s h k e = ap Key (sym (append-nil m) ∙ (e ∙ append-nil n))
+last_read (Key m) _ s h k e = cc
+last_read p q s h k e = (part_begins p q [] [] s (λ z. cc) (λ z. cc) h k e).0
 
 heads : (a b : Shape) (s t : List Shape) → a ∷ s ≡ b ∷ t → a ≡ b
 heads a b s t e = cc
@@ -83,12 +79,12 @@ pub parts_read : (ps qs : List Part) → map shape ps ≡ map shape qs → Takes
 parts_read [] [] s r t h k e = refl
 parts_read [] (q ∷ qs) s r t h k e = cc
 parts_read (p ∷ ps) [] s r t h k e = cc
-parts_read (p ∷ []) (q ∷ []) s r t h k e = cons p q [] [] (last_read p q (heads (shape p) (shape q) [] [] s) r t h.0 k.0 e) refl
+parts_read (p ∷ []) (q ∷ []) s r t h k e = cons p q [] [] (last_read p q (heads (shape p) (shape q) [] [] s) h.0 k.0 e) refl
 parts_read (p ∷ []) (q ∷ q2 ∷ qs) s r t h k e = cc
 parts_read (p ∷ p2 ∷ ps) (q ∷ []) s r t h k e = cc
 parts_read (p ∷ p2 ∷ ps) (q ∷ q2 ∷ qs) s r t h k e =
-    let both = part_begins p q (joined (p2 ∷ ps)) (joined (q2 ∷ qs)) (heads (shape p) (shape q) (map shape (p2 ∷ ps)) (map shape (q2 ∷ qs)) s) r.0 h.0 k.0 e in
-    cons p q (p2 ∷ ps) (q2 ∷ qs) both.0 (parts_read (p2 ∷ ps) (q2 ∷ qs) (tails (shape p) (shape q) (map shape (p2 ∷ ps)) (map shape (q2 ∷ qs)) s) r.1 t.1 h.1 k.1 both.1)
+    let both = part_begins p q (joined (p2 ∷ ps)) (joined (q2 ∷ qs)) (heads (shape p) (shape q) (map shape (p2 ∷ ps)) (map shape (q2 ∷ qs)) s) r.0 r.1 h.0 k.0 e in
+    cons p q (p2 ∷ ps) (q2 ∷ qs) both.0 (parts_read (p2 ∷ ps) (q2 ∷ qs) (tails (shape p) (shape q) (map shape (p2 ∷ ps)) (map shape (q2 ∷ qs)) s) r.2 t.2 h.1 k.1 both.1)
 
 -- The shapes that a tag and a kind stand for, and the message of such parts.
 
@@ -180,12 +176,12 @@ message_known SslRequest t = absurd (t refl)
 message_known _ t = refl
 
 all_last : (m : ClientMessage) → tag_of m ≢ None → TakesAllLast (parts m)
-all_last (Bind a b c d e) t = (λ z. cc, (λ z. cc, (λ z. cc, (λ z. cc, tt))))
-all_last (Close a b) t = (λ z. cc, tt)
-all_last (Describe a b) t = (λ z. cc, tt)
-all_last (Execute a b) t = (λ z. cc, tt)
-all_last (Parse a b c) t = (λ z. cc, (λ z. cc, tt))
-all_last (SaslInitialResponse a b) t = (λ z. cc, tt)
+all_last (Bind a b c d e) t = ((λ z. cc), (λ z. cc), ((λ z. cc), (λ z. cc), ((λ z. cc), (λ z. cc), ((λ z. cc), (λ z. cc), tt))))
+all_last (Close a b) t = ((λ z. cc), (λ z. cc), tt)
+all_last (Describe a b) t = ((λ z. cc), (λ z. cc), tt)
+all_last (Execute a b) t = ((λ z. cc), (λ z. cc), tt)
+all_last (Parse a b c) t = ((λ z. cc), (λ z. cc), ((λ z. cc), (λ z. cc), tt))
+all_last (SaslInitialResponse a b) t = ((λ z. cc), (λ z. cc), tt)
 all_last (Startup v ps) t = absurd (t refl)
 all_last (CancelRequest a b) t = absurd (t refl)
 all_last _ t = tt
@@ -199,13 +195,13 @@ payload_read m n t e f h k p =
     sym (message_known m t) ∙ (ap (λ tag. message_of tag (kind_of m) (parts m)) e ∙ (ap (λ kind. message_of (tag_of n) kind (parts m)) f ∙ (ap (λ ps. message_of (tag_of n) (kind_of n) ps) q ∙ message_known n u)))
 
 -- the length and the body of two packets
-bodies : (p q x y : List ℕ) → length p + 4 < 2 ^ 32 → length q + 4 < 2 ^ 32 → framed None p ++ x ≡ framed None q ++ y → (p ≡ q) × (x ≡ y)
+pub bodies : (p q x y : List ℕ) → length p + 4 < 2 ^ 32 → length q + 4 < 2 ^ 32 → framed None p ++ x ≡ framed None q ++ y → (p ≡ q) × (x ≡ y)
 bodies p q x y h k e =
     let e' : uint32 (length p + 4) ++ (p ++ x) ≡ uint32 (length q + 4) ++ (q ++ y) = sym (append_assoc (uint32 (length p + 4)) p x) ∙ (e ∙ append_assoc (uint32 (length q + 4)) q y) in
     let t = uint32_begins (length p + 4) (length q + 4) (p ++ x) (q ++ y) h k e' in
     fronts p q x y (omega (arith, t.0)) t.1
 
-tagged_bodies : (a b : ℕ) (p q x y : List ℕ) → length p + 4 < 2 ^ 32 → length q + 4 < 2 ^ 32 → framed (Some a) p ++ x ≡ framed (Some b) q ++ y → (a ≡ b) × (p ≡ q) × (x ≡ y)
+pub tagged_bodies : (a b : ℕ) (p q x y : List ℕ) → length p + 4 < 2 ^ 32 → length q + 4 < 2 ^ 32 → framed (Some a) p ++ x ≡ framed (Some b) q ++ y → (a ≡ b) × (p ≡ q) × (x ≡ y)
 tagged_bodies a b p q x y h k e =
     let t : a ≡ b = cc in
     let r : framed None p ++ x ≡ framed None q ++ y = cc in
@@ -217,7 +213,7 @@ pub any_frame_read : (t u : ℕ) (p q x y : List ℕ) → length_cause (length p
 any_frame_read t u p q x y h k e = tagged_bodies t u p q x y (omega (arith, fits_of (length p + 4) h)) (omega (arith, fits_of (length q + 4) k)) e
 
 -- a tag that is there
-tag_in : (t : Option ℕ) → t ≢ None → (a : ℕ) × (t ≡ Some a)
+pub tag_in : (t : Option ℕ) → t ≢ None → (a : ℕ) × (t ≡ Some a)
 tag_in None h = absurd (h refl)
 tag_in (Some a) h = (a, refl)
 
@@ -257,7 +253,7 @@ cancel_ssl x y e = let h : 46 ≡ 47 = fourth (int32 (pos 80877102)) (int32 (pos
 same_version : (v : ProtocolVersion) (ps qs : List (List ℕ × List ℕ)) → IsSpelled (Startup v ps) → IsSpelled (Startup v qs) → payload (Startup v ps) ≡ payload (Startup v qs) → Startup v ps ≡ Startup v qs
 unfolding part_at pairs_of
 same_version v ps qs h k e =
-    let r = parts_read (parts (Startup v ps)) (parts (Startup v qs)) refl (λ z. cc, tt) (λ z. cc, tt) (spelled_parts (Startup v ps) h) (spelled_parts (Startup v qs) k) e in
+    let r = parts_read (parts (Startup v ps)) (parts (Startup v qs)) refl ((λ z. cc), (λ z. cc), tt) ((λ z. cc), (λ z. cc), tt) (spelled_parts (Startup v ps) h) (spelled_parts (Startup v qs) k) e in
     ap (λ l. Startup v (pairs_of (part_at 1 l))) r
 
 -- the key is what is left, however long it is

@@ -1,4 +1,5 @@
 pub mod ClientMessage
+pub mod ClientRun
 pub mod Given
 pub mod Opening
 pub mod Payload

@@ -13,6 +13,7 @@ pub data Shape : Type 0 where
   SomeValues : Shape
   ASized : Shape
   AllBytes : Shape
+  AKey : Shape
   SomePairs : Shape
 
 abbrev pub shape : Part → Shape
@@ -24,7 +25,7 @@ shape (Oids ns) = SomeOids
 shape (Values vs) = SomeValues
 shape (Sized z) = ASized
 shape (Rest z) = AllBytes
-shape (Key z) = AllBytes
+shape (Key z) = AKey
 shape (Pairs ps) = SomePairs
 
 -- in the grammar a name isn't empty, since a 0 byte ends the pairs

@@ -10,14 +10,14 @@ ghost use Rattle.pgp_base.specs.Window.{window_held, window_lacks};
 ghost use Rattle.pgp_frontend.specs.ClientMessage.{ClientMessage, Query};
 ghost use Rattle.pgp_frontend.specs.Opening.{Opening};
 ghost use Rattle.pgp_frontend.specs.Payload.{Part, spelling, payload, tag_of, kind_of, bytes_of, cause, WritesMessage};
-ghost use Rattle.pgp_frontend.specs.Reading.{AllBytes, shape, HasSpelling, IsSpelled};
+ghost use Rattle.pgp_frontend.specs.Reading.{AllBytes, AKey, shape, HasSpelling, IsSpelled};
 
 use crate::simple::query;
 use pgp_base::{Error, Window};
 
-/// No spelling of a part, one of all bytes excepted, begins another spelling of that part.
+/// No spelling of a part, one of all bytes that are left excepted, begins another spelling of that part.
 pub fn parts_begin_no_other()
-    ensures { (p q : Part) (more rest : List ℕ) → shape p ≡ shape q → shape p ≢ AllBytes → HasSpelling p → HasSpelling q
+    ensures { (p q : Part) (more rest : List ℕ) → shape p ≡ shape q → shape p ≢ AllBytes → shape p ≢ AKey → HasSpelling p → HasSpelling q
         → spelling p ++ more ≡ spelling q ++ rest → (p ≡ q) × (more ≡ rest) }
 {}
 

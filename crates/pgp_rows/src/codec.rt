@@ -1,5 +1,6 @@
 //! Rows of writers and readers: the bytes that a call appends, and what is read from bytes.
 
+use crate::client_read::is_read_back;
 use crate::fault::Fault;
 use crate::row::Row;
 use crate::shown::{Shown, same};
@@ -144,10 +145,14 @@ fn writes<C: Codec>(alloc: Global, row: &Row<'_>, name: &str, words: &[Word]) ->
     needs_its_room::<C>(alloc, name, words, &bytes)
 }
 
-/// A row of a writer: the call appends the bytes, or is refused.
+/// A row of a client's call: it appends the bytes, which a server reads back as the call, or it is refused.
 pub fn check_writer<C: Codec>(alloc: Global, row: &Row<'_>) -> Result<(), Fault> {
     let words = row.words(alloc)?;
-    writes::<C>(alloc, row, row.call, &words)
+    writes::<C>(alloc, row, row.call, &words)?;
+    if row.is_refusal() {
+        return Ok(());
+    }
+    is_read_back(alloc, row.call, &words, &row.wanted_bytes(alloc)?)
 }
 
 /// A row of a type: `read` reads the bytes alone, `write` writes a value alone, and a type's name does both.

@@ -5,6 +5,8 @@ mod addresses;
 mod arrays;
 mod bodies;
 mod client;
+mod client_parts;
+mod client_read;
 mod codec;
 mod fault;
 mod lists;
@@ -21,6 +23,7 @@ mod shown;
 mod texts;
 mod word;
 
+use client_read::check_client_read;
 use codec::{check_value, check_writer};
 use fault::Fault;
 use passwords::check_password;
@@ -36,6 +39,7 @@ use std::{fs, io};
 #[derive(Clone, Copy)]
 enum Family {
     Client,
+    ClientRead,
     Integers,
     Times,
     Bits,
@@ -51,8 +55,9 @@ enum Family {
     Saslprep,
 }
 
-const FILES: [(&str, Family); 15] = [
+const FILES: [(&str, Family); 16] = [
     ("client.rows", Family::Client),
+    ("client_read.rows", Family::ClientRead),
     ("integers.rows", Family::Integers),
     ("times.rows", Family::Times),
     ("bits.rows", Family::Bits),
@@ -73,6 +78,7 @@ const FILES: [(&str, Family); 15] = [
 fn check(alloc: Global, family: Family, row: &Row<'_>) -> Result<(), Fault> {
     match family {
         Family::Client => check_writer::<client::Client>(alloc, row),
+        Family::ClientRead => check_client_read(alloc, row),
         Family::Integers => check_value::<numbers::Integers>(alloc, row),
         Family::Times => check_value::<numbers::Times>(alloc, row),
         Family::Bits => check_value::<numbers::Bits>(alloc, row),

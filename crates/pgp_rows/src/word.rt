@@ -1,6 +1,7 @@
 //! The words of a row.
 
 use crate::fault::Fault;
+use crate::shown::Shown;
 use std::alloc::{AllocError, Global};
 use std::str::FromStr;
 
@@ -29,6 +30,14 @@ impl Word {
     /// A text.
     pub fn text(&self) -> Result<&str, Fault> {
         str::from_utf8(self.bytes()?).map_err(|_| Fault::Row)
+    }
+
+    /// Shows it as a part of a message is shown: a text as its bytes.
+    pub fn show(&self, out: &mut Shown) -> Result<(), Fault> {
+        if self.quoted {
+            return out.bytes(self.bytes()?);
+        }
+        out.word(self.raw.as_str())
     }
 
     /// Bytes, or `null`.

@@ -24,7 +24,7 @@ use Rattle.pgp_uses.specs.declared.session.AskError.{AskError}
 use Rattle.pgp_uses.specs.declared.session.AskError.TheVariants.{Binding}
 use Rattle.pgp_frontend.specs.Given.{Arrived, Serves, before_values, BindWhole, BindRefused, Refused, ParseWhole, ParseSoFar}
 use Rattle.pgp_types.specs.Scalar.{int4}
-use Rattle.postgres_protocol.specs.ClientRun.{ClientRun, kinds_of, is_startup}
+use Rattle.pgp_frontend.specs.ClientRun.{ClientRun, kinds_of, is_startup}
 use Rattle.postgres_protocol.specs.ClientStream.{Sent, IsAdded, IsLeft, Adds, RefusesMessage}
 use Rattle.pgp_uses.specs.Asking.{AreAdded, Blames, Stops, AddsAll, NamedBinds, BindsNamed, named, named_bound}
 use Rattle.pgp_uses.specs.Values.{Serializes}

@@ -12,7 +12,7 @@ use Rattle.pgp_base.specs.declared.number.IsNull.{IsNull}
 use Rattle.pgp_frontend.specs.ClientMessage.{ClientMessage, PasswordKind, Parse, Bind, Describe, Execute, Sync}
 use Rattle.pgp_frontend.specs.Payload.{bytes_of, cause}
 use Rattle.pgp_types.specs.Scalar.{int4}
-use Rattle.postgres_protocol.specs.ClientRun.{ClientRun, kinds_of}
+use Rattle.pgp_frontend.specs.ClientRun.{ClientRun, kinds_of}
 use Rattle.postgres_protocol.specs.ClientStream.{Sent, IsAdded, IsLeft, RefusesMessage}
 use Rattle.postgres_protocol.specs.OneValue.{Target, PutsOne, OneRefused}
 use Rattle.pgp_uses.specs.declared.session.AskError.{AskError}

@@ -6,6 +6,7 @@ pub mod client;
 pub mod columns;
 pub mod filter;
 pub mod login;
+pub mod reading;
 pub mod recorder;
 pub mod rows;
 pub mod scram_login;

@@ -6,7 +6,7 @@ ghost use Rattle.pgp_base.specs.Cause.{WantsMemory};
 ghost use Rattle.pgp_frontend.specs.ClientMessage.{Query, Startup, Terminate};
 ghost use Rattle.pgp_frontend.specs.declared.startup.ProtocolVersion.TheVariants.{V3_0};
 ghost use Rattle.pgp_frontend.specs.Payload.{cause};
-ghost use Rattle.postgres_protocol.specs.ClientRun.{ClientRun};
+ghost use Rattle.pgp_frontend.specs.ClientRun.{ClientRun};
 ghost use Rattle.pgp_uses.specs.Asking.{AddsAll, BindsNamed, question};
 
 use crate::values::put_int4;

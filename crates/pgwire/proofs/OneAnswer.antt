@@ -11,8 +11,8 @@ use Rattle.pgp_frontend.specs.ClientMessage.{ClientMessage, Query, PasswordMessa
 use Rattle.pgp_frontend.specs.Payload.{cause}
 use Rattle.pgp_frontend.specs.Reading.{IsSpelled}
 use Rattle.pgp_message.proofs.Runs.{runs_one}
-use Rattle.postgres_protocol.specs.ClientRun.{AreInOrder, IsStartup, IsRequest, IsTagged, MayCome, is_opened}
-use Rattle.postgres_protocol.proofs.ClientRuns.{runs_bytes}
+use Rattle.pgp_frontend.specs.ClientRun.{AreInOrder, IsStartup, IsRequest, IsTagged, MayCome, is_opened}
+use Rattle.pgp_frontend.proofs.ClientRuns.{runs_bytes}
 use Rattle.pgwire.specs.declared.client.LineFault.{LineFault}
 use Rattle.pgwire.specs.declared.client.LineFault.TheVariants.{NotUtf8, WrongWords, WrongPhase, Refused}
 use Rattle.pgwire.specs.ClientOutput.{Ask, ClientOutput, IsFaulty, IsRefused, IsSent, Sends, told}

@@ -7,9 +7,9 @@ use Rattle.std.specs.Str.{IsUtf8}
 use Rattle.pgp_base.specs.Held.{Held}
 use Rattle.pgp_frontend.specs.ClientMessage.{ClientMessage, Startup, SslRequest, Sync, Terminate, Query, PasswordMessage}
 use Rattle.pgp_frontend.specs.Reading.{IsNamed}
-use Rattle.postgres_protocol.specs.ClientRun.{MayCome, kinds_of, is_startup}
+use Rattle.pgp_frontend.specs.ClientRun.{MayCome, kinds_of, is_startup}
 use Rattle.postgres_protocol.specs.ClientStream.{Sent}
-use Rattle.postgres_protocol.proofs.ClientRuns.{opened_more}
+use Rattle.pgp_frontend.proofs.ClientRuns.{opened_more}
 use Rattle.pgwire.specs.ClientOutput.{Ask}
 use Rattle.pgwire.specs.Script.{ArePairs, Says, is_space}
 use Rattle.pgwire.specs.Sending.{is_opening, SendsLine, HasSent}

@@ -6,7 +6,7 @@ use Rattle.hex.specs.Hex.{encode_lower}
 use Rattle.pgp_base.specs.Error.{number_of}
 use Rattle.pgp_frontend.specs.ClientMessage.{ClientMessage, PasswordKind}
 use Rattle.pgp_frontend.specs.Payload.{cause}
-use Rattle.postgres_protocol.specs.ClientRun.{ClientRun, MayCome, is_opened}
+use Rattle.pgp_frontend.specs.ClientRun.{ClientRun, MayCome, is_opened}
 use Rattle.pgwire.specs.declared.client.LineFault.{LineFault}
 use Rattle.pgwire.specs.declared.client.LineFault.TheVariants.{NotUtf8, WrongWords, WrongPhase, Refused}
 use Rattle.pgwire.specs.Output.{line}

@@ -6,7 +6,7 @@ use Rattle.std.specs.Option.{option_map_or}
 use Rattle.std.specs.Str.{IsUtf8}
 use Rattle.pgp_base.specs.Held.{Held}
 use Rattle.pgp_frontend.specs.ClientMessage.{ClientMessage, Startup, SslRequest}
-use Rattle.postgres_protocol.specs.ClientRun.{MayCome, is_opened}
+use Rattle.pgp_frontend.specs.ClientRun.{MayCome, is_opened}
 use Rattle.postgres_protocol.specs.ClientStream.{Sent, IsAdded}
 use Rattle.pgwire.specs.declared.client.LineFault.{LineFault}
 use Rattle.pgwire.specs.ClientOutput.{IsFaulty, Sends}

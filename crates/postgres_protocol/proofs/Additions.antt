@@ -6,9 +6,9 @@ use Rattle.pgp_base.specs.declared.error.Error.{Error}
 use Rattle.pgp_frontend.specs.ClientMessage.{ClientMessage, CancelRequest, PasswordKind}
 use Rattle.pgp_frontend.specs.Payload.{tag_of, bytes_of, cause, IsInRange, WritesMessage}
 use Rattle.pgp_frontend.specs.Reading.{IsNamed}
-use Rattle.postgres_protocol.specs.ClientRun.{ClientRun, IsStartup, IsRequest, MayCome, kinds_of, is_startup, is_opened}
+use Rattle.pgp_frontend.specs.ClientRun.{ClientRun, IsStartup, IsRequest, MayCome, kinds_of, is_startup, is_opened}
 use Rattle.postgres_protocol.specs.ClientStream.{Sent, IsAdded, IsLeft, AddsMessage, Reads}
-use Rattle.postgres_protocol.proofs.ClientRuns.{run_more, one_phase, opened_more, nothing}
+use Rattle.pgp_frontend.proofs.ClientRuns.{run_more, one_phase, opened_more, nothing}
 
 -- nothing was sent
 pub reads_nothing : (bytes : List ℕ) → bytes ≡ [] → Reads bytes false

@@ -1,6 +1,5 @@
 pub mod Pieces
 pub mod Readings
-pub mod ClientRuns
 pub mod Additions
 pub mod StartupPairs
 pub mod RowLemmas

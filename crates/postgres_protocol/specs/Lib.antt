@@ -1,6 +1,5 @@
 pub mod ServerStream
 pub mod ServerSteps
-pub mod ClientRun
 pub mod ClientStream
 pub mod SaslExchange
 pub mod RowValues

@@ -5,7 +5,7 @@ ghost use Rattle.std.specs.Prelude.{◌≡◌, ℕ, List, [], ◌∷◌, ◌++�
 ghost use Rattle.pgp_frontend.specs.ClientMessage.{ClientMessage, PasswordKind, Startup};
 ghost use Rattle.pgp_frontend.specs.Payload.{bytes_of, cause, IsInRange};
 ghost use Rattle.pgp_frontend.specs.declared.startup.ProtocolVersion.{ProtocolVersion};
-ghost use Rattle.postgres_protocol.specs.ClientRun.{ClientRun, MayCome, is_opened, kinds_of};
+ghost use Rattle.pgp_frontend.specs.ClientRun.{ClientRun, MayCome, is_opened, kinds_of};
 
 mod array;
 mod row;

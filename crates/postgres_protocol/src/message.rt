@@ -3,3 +3,4 @@
 pub mod frontend;
 
 pub use pgp_message as backend;
+pub use pgp_server as client;

@@ -10,7 +10,7 @@ ghost use Rattle.pgp_frontend.specs.ClientMessage.{ClientMessage, PasswordKind, 
 ghost use Rattle.pgp_frontend.specs.Given.{BindWhole, BindRefused, ParseWhole, ParseSoFar, Serves, shown};
 ghost use Rattle.pgp_frontend.specs.Payload.{bytes_of};
 ghost use Rattle.pgp_frontend.specs.Reading.{IsNamed};
-ghost use Rattle.postgres_protocol.specs.ClientRun.{ClientRun, is_opened};
+ghost use Rattle.pgp_frontend.specs.ClientRun.{ClientRun, is_opened};
 ghost use Rattle.postgres_protocol.specs.ClientStream.{Adds, AddsGiven, AddsMessage, Reads};
 
 use bytes::{Buf, BytesMut};

@@ -1,4 +1,4 @@
-use Rattle.std.proofs.Common.{rules, arith, ◌+◌, length, [], ◌∷◌, refl, inl, inr, map}
+use Rattle.std.proofs.Common.{arith, ◌+◌, length, [], ◌∷◌, refl, inl, inr, map}
 use Rattle.std.specs.Prelude.{FitsSigned}
 use Rattle.std.specs.Int.{w32}
 use Rattle.pgp_base.proofs.Parts.{if_err_at, length-uint32, wants_more, wants_then}

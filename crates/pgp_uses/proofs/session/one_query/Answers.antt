@@ -1,7 +1,7 @@
 use Rattle.std.proofs.Common.{[], ◌∷◌, codes, subst}
 use Rattle.pgp_frontend.specs.declared.startup.ProtocolVersion.TheVariants.{V3_0}
 use Rattle.pgp_frontend.specs.ClientMessage.{Startup, Query}
-use Rattle.postgres_protocol.specs.ClientRun.{ClientRun, kinds_of}
+use Rattle.pgp_frontend.specs.ClientRun.{ClientRun, kinds_of}
 use Rattle.pgp_uses.proofs.session.one_query.Goals as goal
 
 pub returns-clause-run : goal.returns-clause-run

@@ -5,7 +5,7 @@ use Rattle.pgp_frontend.specs.Payload.{tag_of, kind_of, payload}
 use Rattle.pgp_frontend.specs.Reading.{IsSpelled}
 use Rattle.pgp_types.specs.Array.{array_bytes}
 use Rattle.postgres_protocol.specs.ArraySteps.{array_of, binding}
-use Rattle.postgres_protocol.proofs.ClientRuns.{same_tag, is_told, kind_there}
+use Rattle.pgp_frontend.proofs.ClientRuns.{same_tag, is_told, kind_there}
 use Rattle.postgres_protocol.proofs.laws.array.bound_arrays_read_back.Goals as goal
 
 not_there : {A : Type 0} (o : Option A) → is_some o ≡ false → o ≡ None

@@ -1,7 +1,7 @@
 use Rattle.std.proofs.Common.{ap}
 use Rattle.std.specs.Prelude.{is_some}
 use Rattle.pgp_frontend.specs.Payload.{tag_of}
-use Rattle.postgres_protocol.specs.ClientRun.{is_startup}
+use Rattle.pgp_frontend.specs.ClientRun.{is_startup}
 use Rattle.postgres_protocol.proofs.Additions.{same_phase, later_added, later_stays, left, still}
 use Rattle.postgres_protocol.proofs.session.client_stream.ClientStream.parse.Goals as goal
 use Rattle.postgres_protocol.proofs.session.client_stream.ClientStream.parse.Goals.{in-Ok, in-Err}

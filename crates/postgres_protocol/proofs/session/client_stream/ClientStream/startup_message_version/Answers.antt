@@ -7,7 +7,7 @@ use Rattle.pgp_frontend.specs.Given.{shown, shown_pairs}
 use Rattle.pgp_base.specs.Cause.{Wants}
 use Rattle.pgp_frontend.specs.Payload.{Int32, version_code, parts, parts_cause, bytes_of, cause}
 use Rattle.pgp_frontend.specs.Reading.{IsNamed}
-use Rattle.postgres_protocol.specs.ClientRun.{IsStartup, is_startup}
+use Rattle.pgp_frontend.specs.ClientRun.{IsStartup, is_startup}
 use Rattle.postgres_protocol.proofs.Additions.{same_phase, first_added, first_stays, left, still}
 use Rattle.postgres_protocol.proofs.StartupPairs.{came_all, came_so_far, startup_wants, front_refused}
 use Rattle.postgres_protocol.proofs.session.client_stream.ClientStream.startup_message_version.Goals as goal

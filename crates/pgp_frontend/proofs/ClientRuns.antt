@@ -14,7 +14,7 @@ use Rattle.pgp_frontend.specs.declared.startup.ProtocolVersion.TheVariants.{V3_0
 use Rattle.pgp_frontend.specs.Payload.{tag_of, kind_of, framed, payload, bytes_of, cause, IsInRange}
 use Rattle.pgp_frontend.specs.Reading.{IsSpelled, IsNamed}
 use Rattle.pgp_frontend.proofs.Readings.{frame_read, opening_read}
-use Rattle.postgres_protocol.specs.ClientRun.{IsRequest, IsStartup, IsTagged, AreInOrder, MayCome, kinds_of, ClientRun, is_startup, is_opened}
+use Rattle.pgp_frontend.specs.ClientRun.{IsRequest, IsStartup, IsTagged, AreInOrder, MayCome, kinds_of, ClientRun, is_startup, is_opened}
 
 -- ---- what the first message's bytes tell
 
@@ -24,7 +24,7 @@ framed_some None body more e = cc
 framed_some (Some t) body more e = cc
 
 -- a message has bytes
-has_bytes : (m : ClientMessage) (more : List ℕ) → bytes_of m ++ more ≡ [] → ⊥
+pub has_bytes : (m : ClientMessage) (more : List ℕ) → bytes_of m ++ more ≡ [] → ⊥
 has_bytes m more e = framed_some (tag_of m) (payload m) more e
 
 pub same_tag : (a b : Option ℕ) (p q x y : List ℕ) → a ≢ None → b ≢ None → framed a p ++ x ≡ framed b q ++ y → a ≡ b

@@ -1,0 +1,118 @@
+//! What a server reads of a client: each message as the words of the call that writes it.
+
+use crate::fault::Fault;
+use crate::shown::{Shown, show_walk};
+use pgp_frontend::ProtocolVersion;
+use pgp_server::{ClientMessage, Formats, StartupParameters, Values};
+
+/// Shows formats.
+fn show_formats(formats: Formats<'_>, out: &mut Shown) -> Result<(), Fault> {
+    show_walk(formats, |format: i16, out: &mut Shown| out.number(format), out)
+}
+
+/// Shows values, each as bytes or `null`.
+fn show_values(values: Values<'_>, out: &mut Shown) -> Result<(), Fault> {
+    show_walk(
+        values,
+        |value: Option<&[u8]>, out: &mut Shown| out.nullable(value),
+        out,
+    )
+}
+
+/// Shows the version, and the names and values, two words each.
+fn show_startup(
+    version: ProtocolVersion,
+    parameters: StartupParameters<'_>,
+    out: &mut Shown,
+) -> Result<(), Fault> {
+    out.word("startup_message_version")?;
+    match version {
+        ProtocolVersion::V3_0 => out.word("3.0")?,
+        ProtocolVersion::V3_2 => out.word("3.2")?,
+    }
+    show_walk(
+        parameters,
+        |pair: (&[u8], &[u8]), out: &mut Shown| {
+            out.bytes(pair.0)?;
+            out.bytes(pair.1)
+        },
+        out,
+    )
+}
+
+/// Shows a call with these bytes as its words.
+fn show_bytes(call: &str, words: &[&[u8]], out: &mut Shown) -> Result<(), Fault> {
+    out.word(call)?;
+    for word in words {
+        out.bytes(word)?;
+    }
+    Ok(())
+}
+
+/// Shows a message with numbers or lists.
+fn show_details(message: ClientMessage<'_>, out: &mut Shown) -> Result<(), Fault> {
+    match message {
+        ClientMessage::Bind {
+            portal,
+            statement,
+            formats,
+            values,
+            result_formats,
+        } => {
+            show_bytes("bind", &[portal, statement], out)?;
+            show_formats(formats, out)?;
+            show_values(values, out)?;
+            show_formats(result_formats, out)
+        }
+        ClientMessage::Parse {
+            name,
+            query,
+            param_types,
+        } => {
+            show_bytes("parse", &[name, query], out)?;
+            show_walk(param_types, |id: u32, out: &mut Shown| out.number(id), out)
+        }
+        ClientMessage::Execute { portal, max_rows } => {
+            show_bytes("execute", &[portal], out)?;
+            out.number(max_rows)
+        }
+        ClientMessage::Startup {
+            version,
+            parameters,
+        } => show_startup(version, parameters, out),
+        ClientMessage::CancelRequest {
+            process_id,
+            secret_key,
+        } => {
+            out.word("cancel_request_key")?;
+            out.number(process_id)?;
+            out.bytes(secret_key)
+        }
+        _ => Err(Fault::Row),
+    }
+}
+
+/// Shows a message.
+pub fn show_call(message: ClientMessage<'_>, out: &mut Shown) -> Result<(), Fault> {
+    match message {
+        ClientMessage::Close { variant, name } => show_bytes("close", &[&[variant], name], out),
+        ClientMessage::CopyData(bytes) => show_bytes("copy_data", &[bytes], out),
+        ClientMessage::CopyDone => out.word("copy_done"),
+        ClientMessage::CopyFail(reason) => show_bytes("copy_fail", &[reason], out),
+        ClientMessage::Describe { variant, name } => show_bytes("describe", &[&[variant], name], out),
+        ClientMessage::Flush => out.word("flush"),
+        ClientMessage::PasswordMessage(password) => show_bytes("password_message", &[password], out),
+        ClientMessage::Query(query) => show_bytes("query", &[query], out),
+        ClientMessage::SaslInitialResponse {
+            mechanism,
+            response,
+        } => {
+            show_bytes("sasl_initial_response", &[mechanism, response], out)
+        }
+        ClientMessage::SaslResponse(response) => show_bytes("sasl_response", &[response], out),
+        ClientMessage::Sync => out.word("sync"),
+        ClientMessage::Terminate => out.word("terminate"),
+        ClientMessage::SslRequest => out.word("ssl_request"),
+        other => show_details(other, out),
+    }
+}

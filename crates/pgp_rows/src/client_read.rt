@@ -1,0 +1,252 @@
+//! What a client sends, read: whole, from each front on, and cut at each place.
+
+use crate::client_parts::show_call;
+use crate::fault::Fault;
+use crate::row::Row;
+use crate::shown::{Shown, same};
+use crate::word::{Word, Words, joined, words_of};
+use pgp_server::{ClientError, ClientMessage, ClientMessages, PasswordKind, read_session};
+use std::alloc::{AllocError, Global};
+
+/// More messages than a row has.
+const MOST: usize = 100;
+
+/// The kinds of messages of tag `p` that are still expected, in order; behind the last of them passwords are.
+#[derive(Drop)]
+struct Kinds<'k> {
+    rest: &'k [PasswordKind],
+}
+
+impl Kinds<'_> {
+    fn first(&self) -> PasswordKind {
+        self.rest.first().copied().unwrap_or(PasswordKind::Password)
+    }
+
+    /// Goes on behind a message of tag `p`.
+    fn pass(&mut self, message: &ClientMessage<'_>) {
+        if let ClientMessage::PasswordMessage(_)
+        | ClientMessage::SaslInitialResponse { .. }
+        | ClientMessage::SaslResponse(_) = message
+        {
+            self.rest = self.rest.get(1..).unwrap_or(&[]);
+        }
+    }
+}
+
+fn show_refusal(refusal: ClientError, out: &mut Shown) -> Result<(), Fault> {
+    match refusal {
+        ClientError::UnknownPacket(code) => {
+            out.word("UnknownPacket")?;
+            out.number(code)?;
+        }
+        ClientError::Reading(e) => out.refusal(e)?,
+    }
+    out.word(";")
+}
+
+/// Shows what is read, and tells whether a refusal stopped it.
+fn read_on(
+    reader: &mut ClientMessages<'_>,
+    kinds: &mut Kinds<'_>,
+    out: &mut Shown,
+) -> Result<bool, Fault> {
+    for _ in 0..MOST {
+        let left = reader.rest().len();
+        match reader.next(kinds.first()) {
+            Ok(Some(message)) => {
+                kinds.pass(&message);
+                show_call(message, out)?;
+                out.word(";")?;
+            }
+            Ok(None) => return Ok(false),
+            Err(e) => {
+                show_refusal(e, out)?;
+                if reader.rest().len() == left {
+                    return Ok(true);
+                }
+            }
+        }
+    }
+    Err(Fault::Row)
+}
+
+/// Reads the front as far as it goes, and on from there over all bytes.
+fn in_two(
+    bytes: &[u8],
+    cut: usize,
+    opened: bool,
+    kinds: &[PasswordKind],
+    out: &mut Shown,
+) -> Result<(), Fault> {
+    let mut kinds = Kinds { rest: kinds };
+    let (front, back) = bytes.split_at_checked(cut).ok_or(Fault::Row)?;
+    let mut reader = ClientMessages::resume(front, opened);
+    let is_stopped = read_on(&mut reader, &mut kinds, out)?;
+    let unread = reader.rest().len().saturating_add(back.len());
+    let at = bytes.len().saturating_sub(unread);
+    let mut reader = ClientMessages::resume(bytes.get(at..).unwrap_or(&[]), reader.is_open());
+    if !is_stopped {
+        read_on(&mut reader, &mut kinds, out)?;
+    }
+    out.word("rest")?;
+    out.bytes(reader.rest())
+}
+
+/// All at once: what `read_session` lists begins what comes step by step.
+fn at_once(
+    alloc: Global,
+    bytes: &[u8],
+    kinds: &[PasswordKind],
+    wanted: &str,
+) -> Result<(), Fault> {
+    let mut out = Shown::new(alloc);
+    let (messages, refusal) = read_session(alloc, kinds, bytes)?;
+    for message in messages {
+        show_call(message, &mut out)?;
+        out.word(";")?;
+    }
+    if let Some(e) = refusal {
+        show_refusal(e, &mut out)?;
+    }
+    if wanted.starts_with(out.as_str()) {
+        Ok(())
+    } else {
+        Err(Fault::Differs(out.into_text()))
+    }
+}
+
+/// Comes to this, however the bytes are cut.
+fn comes_to(
+    alloc: Global,
+    bytes: &[u8],
+    opened: bool,
+    kinds: &[PasswordKind],
+    wanted: &str,
+) -> Result<(), Fault> {
+    for cut in 0..=bytes.len() {
+        let mut out = Shown::new(alloc);
+        in_two(bytes, cut, opened, kinds, &mut out)?;
+        same(wanted, out)?;
+    }
+    if !opened {
+        at_once(alloc, bytes, kinds, wanted)?;
+    }
+    Ok(())
+}
+
+fn kinds_of(alloc: Global, list: &[Word]) -> Result<Vec<PasswordKind>, Fault> {
+    let mut kinds = Vec::new(alloc);
+    for word in list {
+        let kind = if word.is("password") {
+            PasswordKind::Password
+        } else if word.is("initial") {
+            PasswordKind::Initial
+        } else if word.is("response") {
+            PasswordKind::Response
+        } else {
+            return Err(Fault::Row);
+        };
+        kinds.push(kind).map_err(AllocError::from)?;
+    }
+    Ok(kinds)
+}
+
+/// A row of a client's bytes: `first` or `open`, the kinds of the messages of tag `p`, and the bytes.
+pub fn check_client_read(alloc: Global, row: &Row<'_>) -> Result<(), Fault> {
+    let all = words_of(alloc, row.left)?;
+    let mut words = Words::new(&all);
+    let phase = words.word()?;
+    let opened = phase.is("open");
+    if !opened && !phase.is("first") {
+        return Err(Fault::Row);
+    }
+    let kinds = kinds_of(alloc, words.list()?)?;
+    let bytes = joined(alloc, words.rest())?;
+    comes_to(alloc, &bytes, opened, &kinds, row.right)
+}
+
+/// The kind of the message that a call writes.
+fn kind_of(call: &str) -> PasswordKind {
+    match call {
+        "sasl_initial_response" => PasswordKind::Initial,
+        "sasl_response" => PasswordKind::Response,
+        _ => PasswordKind::Password,
+    }
+}
+
+/// Shows the words as a message's parts are shown.
+fn show_words(words: &[Word], out: &mut Shown) -> Result<(), Fault> {
+    for word in words {
+        word.show(out)?;
+    }
+    Ok(())
+}
+
+/// Shows the message of a call, and tells whether it opens a session.
+fn show_written(call: &str, words: &[Word], out: &mut Shown) -> Result<bool, Fault> {
+    match call {
+        "startup_message" => {
+            out.word("startup_message_version 3.0")?;
+            show_words(words, out)?;
+            out.word("of any")?;
+        }
+        "startup_message_version" => {
+            out.word(call)?;
+            show_words(words, out)?;
+            out.word("of any")?;
+        }
+        "cancel_request" => {
+            let mut words = Words::new(words);
+            out.word("cancel_request_key")?;
+            out.number(words.number::<i32>()?)?;
+            out.bytes(&words.number::<i32>()?.to_be_bytes())?;
+        }
+        "cancel_request_key" | "ssl_request" => {
+            out.word(call)?;
+            show_words(words, out)?;
+        }
+        _ => {
+            out.word(call)?;
+            show_words(words, out)?;
+            return Ok(true);
+        }
+    }
+    Ok(false)
+}
+
+/// Whether a startup packet has an empty name, which no server reads.
+fn has_empty_name(call: &str, words: &[Word]) -> Result<bool, Fault> {
+    let mut words = Words::new(words);
+    match call {
+        "startup_message" => {}
+        "startup_message_version" => {
+            words.word()?;
+        }
+        _ => return Ok(false),
+    }
+    for pair in words.list()?.chunks(2) {
+        if Words::new(pair).bytes()?.is_empty() {
+            return Ok(true);
+        }
+    }
+    Ok(false)
+}
+
+/// What a call wrote is read back, as this call and nothing else.
+pub fn is_read_back(
+    alloc: Global,
+    call: &str,
+    words: &[Word],
+    bytes: &[u8],
+) -> Result<(), Fault> {
+    let mut wanted = Shown::new(alloc);
+    let mut opened = false;
+    if has_empty_name(call, words)? {
+        wanted.word("NotDrained ; rest")?;
+        wanted.bytes(bytes)?;
+    } else {
+        opened = show_written(call, words, &mut wanted)?;
+        wanted.word("; rest \"\"")?;
+    }
+    comes_to(alloc, bytes, opened, &[kind_of(call)], wanted.as_str())
+}

@@ -1,0 +1,13 @@
+pub mod Items
+pub mod ValueLemmas
+pub mod Loops
+pub mod PairLemmas
+pub mod Bodies
+pub mod Contents
+pub mod Forms
+pub mod Fronts
+pub mod Steps
+pub mod Runs
+pub mod FaultLemmas
+pub mod Sessions
+pub mod Refusals

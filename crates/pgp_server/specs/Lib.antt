@@ -1,0 +1,7 @@
+pub mod Content
+pub mod Faults
+pub mod Reading
+pub mod Reads
+pub mod Step
+pub mod Views
+pub mod Whole

@@ -1,0 +1,31 @@
+//! The key of a cancel request.
+
+ghost use Rattle.std.specs.Prelude.{[]};
+ghost use Rattle.pgp_base.specs.PartReading.{Answers};
+ghost use Rattle.pgp_server.specs.Reading.{key_at};
+
+use pgp_base::Error;
+
+/// The fewest bytes of a key.
+const MIN_KEY: usize = 4;
+
+/// The most bytes of a key.
+const MAX_KEY: usize = 256;
+
+/// The key that all of the bytes are.
+///
+/// # Errors
+///
+/// `InvalidSize` unless they are 4 to 256.
+#[tactic(auto, unfolding(crate::specs::Reading::key_at))]
+pub fn key_at(bytes: &[u8]) -> Result<&[u8], Error>
+    ensures { Answers (λ x. (x.now, [])) result (key_at bytes.now) }
+{
+    if bytes.len() < MIN_KEY {
+        return Err(Error::InvalidSize);
+    }
+    if bytes.len() > MAX_KEY {
+        return Err(Error::InvalidSize);
+    }
+    Ok(bytes)
+}

@@ -1,0 +1,25 @@
+//! The server's side: what a client sends, read where it stands.
+#![tactic(auto)]
+
+mod body;
+mod ends;
+mod error;
+mod formats;
+mod frame;
+mod key;
+pub mod laws;
+mod message;
+mod messages;
+mod pairs;
+mod session;
+mod types;
+mod values;
+
+pub use error::ClientError;
+pub use formats::Formats;
+pub use message::{ClientMessage, PasswordKind};
+pub use messages::ClientMessages;
+pub use pairs::StartupParameters;
+pub use session::read_session;
+pub use types::ParamTypes;
+pub use values::Values;
