@@ -4,13 +4,7 @@ ghost use Rattle.std.specs.Prelude.{[]};
 ghost use Rattle.pgp_base.specs.PartReading.{Answers};
 ghost use Rattle.pgp_server.specs.Reading.{key_at};
 
-use pgp_base::Error;
-
-/// The fewest bytes of a key.
-const MIN_KEY: usize = 4;
-
-/// The most bytes of a key.
-const MAX_KEY: usize = 256;
+use pgp_base::{Error, MAX_KEY_LEN, MIN_KEY_LEN};
 
 /// The key that all of the bytes are.
 ///
@@ -21,10 +15,10 @@ const MAX_KEY: usize = 256;
 pub fn key_at(bytes: &[u8]) -> Result<&[u8], Error>
     ensures { Answers (λ x. (x.now, [])) result (key_at bytes.now) }
 {
-    if bytes.len() < MIN_KEY {
+    if bytes.len() < MIN_KEY_LEN {
         return Err(Error::InvalidSize);
     }
-    if bytes.len() > MAX_KEY {
+    if bytes.len() > MAX_KEY_LEN {
         return Err(Error::InvalidSize);
     }
     Ok(bytes)
