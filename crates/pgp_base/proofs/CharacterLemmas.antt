@@ -5,7 +5,7 @@ use Rattle.std.proofs.lemmas.Bool.{cases_lt, and_parts}
 use Rattle.std.proofs.lemmas.Str.{encode_ascii, IsUtf8-append, IsUtf8-encode, IsUtf8-drop, IsCharBoundary-from_take}
 use lib.Utf8.{scalar, scalars, encode, encodes, next, low_scalar, scalar_cases}
 use Rattle.pgp_base.specs.Ascii.{AreAscii}
-use Rattle.pgp_base.specs.Characters.{Follows, AreTwo, AreThree, AreFour, BeginsText}
+use Rattle.pgp_base.specs.Characters.{AreTwo, AreThree, AreFour, BeginsText}
 use Rattle.pgp_base.proofs.AsciiLemmas.{front_is_text}
 
 -- ---- how a character is spelled, by its number

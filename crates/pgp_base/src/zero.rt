@@ -110,7 +110,8 @@ pub(crate) fn stray_zero(bytes: &[u8]) -> Option<usize>
 }
 
 // The place of the first 0 of fewer than 32 bytes.
-#[inline(always)]
+// The hint keeps the callers small, so that what they answer doesn't go through memory.
+#[inline(never)]
 fn zero_in_short(bytes: &[u8]) -> Option<usize>
     requires { length bytes.now < 32 }
     ensures { IsFirstByte (is_byte 0) bytes.now result }
