@@ -7,7 +7,11 @@ use pgp_server::{ClientMessage, Formats, StartupParameters, Values};
 
 /// Shows formats.
 fn show_formats(formats: Formats<'_>, out: &mut Shown) -> Result<(), Fault> {
-    show_walk(formats, |format: i16, out: &mut Shown| out.number(format), out)
+    show_walk(
+        formats,
+        |format: i16, out: &mut Shown| out.number(format),
+        out,
+    )
 }
 
 /// Shows values, each as bytes or `null`.
@@ -99,16 +103,22 @@ pub fn show_call(message: ClientMessage<'_>, out: &mut Shown) -> Result<(), Faul
         ClientMessage::CopyData(bytes) => show_bytes("copy_data", &[bytes], out),
         ClientMessage::CopyDone => out.word("copy_done"),
         ClientMessage::CopyFail(reason) => show_bytes("copy_fail", &[reason], out),
-        ClientMessage::Describe { variant, name } => show_bytes("describe", &[&[variant], name], out),
+        ClientMessage::Describe { variant, name } => show_bytes(
+            "describe",
+            &[&[variant], name],
+            out,
+        ),
         ClientMessage::Flush => out.word("flush"),
-        ClientMessage::PasswordMessage(password) => show_bytes("password_message", &[password], out),
+        ClientMessage::PasswordMessage(password) => show_bytes(
+            "password_message",
+            &[password],
+            out,
+        ),
         ClientMessage::Query(query) => show_bytes("query", &[query], out),
         ClientMessage::SaslInitialResponse {
             mechanism,
             response,
-        } => {
-            show_bytes("sasl_initial_response", &[mechanism, response], out)
-        }
+        } => { show_bytes("sasl_initial_response", &[mechanism, response], out) }
         ClientMessage::SaslResponse(response) => show_bytes("sasl_response", &[response], out),
         ClientMessage::Sync => out.word("sync"),
         ClientMessage::Terminate => out.word("terminate"),

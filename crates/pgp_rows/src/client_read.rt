@@ -93,12 +93,7 @@ fn in_two(
 }
 
 /// All at once: what `read_session` lists begins what comes step by step.
-fn at_once(
-    alloc: Global,
-    bytes: &[u8],
-    kinds: &[PasswordKind],
-    wanted: &str,
-) -> Result<(), Fault> {
+fn at_once(alloc: Global, bytes: &[u8], kinds: &[PasswordKind], wanted: &str) -> Result<(), Fault> {
     let mut out = Shown::new(alloc);
     let (messages, refusal) = read_session(alloc, kinds, bytes)?;
     for message in messages {
@@ -233,12 +228,7 @@ fn has_empty_name(call: &str, words: &[Word]) -> Result<bool, Fault> {
 }
 
 /// What a call wrote is read back, as this call and nothing else.
-pub fn is_read_back(
-    alloc: Global,
-    call: &str,
-    words: &[Word],
-    bytes: &[u8],
-) -> Result<(), Fault> {
+pub fn is_read_back(alloc: Global, call: &str, words: &[Word], bytes: &[u8]) -> Result<(), Fault> {
     let mut wanted = Shown::new(alloc);
     let mut opened = false;
     if has_empty_name(call, words)? {

@@ -307,7 +307,7 @@ packet_found bytes m h short e =
     let t = number_takes 4 (λ n. n < 2 ^ 32) oid (λ l. from_be_bytes w32 l) oid_number bytes b.0 h b.1 in
     code_found bytes b.0.0 b.0.1 m t.tail short t.parts b.2
 
-coded : (code : ℕ) (rest : List ℕ) (bytes : List ℕ) (r : Result ClientMessage ClientError) → code < 2 ^ 32 → bytes ≡ oid code ++ rest → by_code code rest ≡ r → packet_of bytes ≡ r
+pub coded : (code : ℕ) (rest : List ℕ) (bytes : List ℕ) (r : Result ClientMessage ClientError) → code < 2 ^ 32 → bytes ≡ oid code ++ rest → by_code code rest ≡ r → packet_of bytes ≡ r
 unfolding packet_of
 coded code rest bytes r small whole is =
     ap (λ l. by_front (oid_at l)) whole

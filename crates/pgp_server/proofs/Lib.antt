@@ -11,3 +11,6 @@ pub mod Runs
 pub mod FaultLemmas
 pub mod Sessions
 pub mod Refusals
+pub mod OneFault
+pub mod OneStep
+pub mod Pieces

@@ -38,7 +38,7 @@ pair_found bytes x e =
     let less : length v.0.1 < length bytes = omega (arith, string_falls bytes n.0 n.1, string_falls n.0.1 v.0 v.1) in
     subst (λ (y : (List ℕ × List ℕ) × List ℕ). PairStands bytes y.0 y.1) (ok_is (both n.0.0 v.0.0 v.0.1) x v.2) (record { name = name.no_zero; value = value.no_zero; whole = all; falls = less })
 
-pair_again : (p : List ℕ × List ℕ) (rest : List ℕ) → HasNoZero p.0 → HasNoZero p.1 → pair_at (pair p ++ rest) ≡ Ok (p, rest)
+pub pair_again : (p : List ℕ × List ℕ) (rest : List ℕ) → HasNoZero p.0 → HasNoZero p.1 → pair_at (pair p ++ rest) ≡ Ok (p, rest)
 unfolding pair_at
 pair_again (name, value) rest h k =
     let split : pair (name, value) ++ rest ≡ text name ++ (text value ++ rest) = append_assoc (text name) (text value) rest in
@@ -95,7 +95,7 @@ run_found (suc k) (suc b ∷ bytes) ps e =
       whole = one.whole ∙ ap (λ l. pair on.0.0 ++ l) more.whole ∙ sym (append_assoc (pair on.0.0) (flat_map pair (marked_run pair_at k on.0.1).0) (0 ∷ []));
     })
 
-marked_by : (name : List ℕ) (more : List ℕ) → HasNoZero name → name ≢ [] → is_marked (name ++ more) ≡ false
+pub marked_by : (name : List ℕ) (more : List ℕ) → HasNoZero name → name ≢ [] → is_marked (name ++ more) ≡ false
 marked_by [] more h n = absurd (n refl)
 marked_by (zero ∷ name) more h n = absurd (h.0 refl)
 marked_by (suc b ∷ name) more h n = refl

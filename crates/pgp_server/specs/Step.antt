@@ -157,6 +157,12 @@ Step kind old (Ok (Some m)) new = Takes kind old m new
 Step kind old (Ok None) new = IsPartial old.opened old.bytes × (new ≡ old)
 Step kind old (Err e) new = Refuses kind old e new
 
+-- The same step, which also hands out the bytes of the message that it takes.
+abbrev pub TakesWithBytes : PasswordKind → Unread → Result (Option (ClientMessage × List ℕ)) ClientError → Unread → Type 0
+TakesWithBytes kind old (Ok (Some x)) new = Step kind old (Ok (Some x.0)) new × (x.1 ≡ bytes_of x.0)
+TakesWithBytes kind old (Ok None) new = Step kind old (Ok None) new
+TakesWithBytes kind old (Err e) new = Step kind old (Err e) new
+
 -- What stands at the front, by its length alone: a tag and a payload, and what follows.
 pub record IsFront (tag : Option ℕ) (payload rest bytes : List ℕ) : Type 0 where
   pub whole : bytes ≡ framed tag payload ++ rest

@@ -1,5 +1,6 @@
 -- The code's messages and kinds as those of the grammar.
-use Rattle.std.specs.Prelude.{Option, Some, None, Result, Ok, Err}
+use Rattle.std.specs.Prelude.{ℕ, List, Option, Some, None, Result, Ok, Err}
+use Rattle.std.specs.Borrow.{Bor}
 use Rattle.pgp_base.specs.declared.error.Error.{Error}
 use Rattle.pgp_server.specs.declared.error.ClientError.{ClientError}
 use Rattle.pgp_server.specs.declared.message.ClientMessage as code
@@ -48,3 +49,9 @@ abbrev pub read : Result (Option code.ClientMessage) ClientError → Result (Opt
 read (Ok None) = Ok None
 read (Ok (Some m)) = Ok (Some (view m))
 read (Err e) = Err e
+
+-- the answer of `next_with_bytes`
+abbrev pub read_with_bytes : Result (Option (code.ClientMessage × Bor (List ℕ))) ClientError → Result (Option (ClientMessage × List ℕ)) ClientError
+read_with_bytes (Ok None) = Ok None
+read_with_bytes (Ok (Some x)) = Ok (Some (view x.0, x.1.now))
+read_with_bytes (Err e) = Err e

@@ -1,11 +1,14 @@
 //! Laws of what a server reads.
 
 ghost use Rattle.std.specs.Prelude.{◌≡◌, ◌||◌, ℕ, Bool, false, List, ◌++◌, Option, Some, None, Result, Ok, Err, IsErr};
+ghost use Rattle.pgp_base.specs.declared.error.Error.{Error};
+ghost use Rattle.pgp_frontend.specs.Reading.{Shape};
+ghost use Rattle.pgp_server.specs.Faults.{Faulty};
 ghost use Rattle.pgp_server.specs.declared.error.ClientError.{ClientError as Refusal};
 ghost use Rattle.pgp_frontend.specs.ClientMessage.{ClientMessage as Message, PasswordKind as Kind};
 ghost use Rattle.pgp_frontend.specs.ClientRun.{ClientRun, is_startup};
 ghost use Rattle.pgp_server.specs.Step.{IsPartial, Stands, Step, Unread};
-ghost use Rattle.pgp_server.specs.Reads.{Reads, ReadsSession, IsAllRead};
+ghost use Rattle.pgp_server.specs.Reads.{HasRead, Reads, ReadsSession, IsAllRead};
 
 /// A message that stands at the front is read, and no other answer is given.
 pub fn what_stands_is_read()
@@ -44,4 +47,23 @@ pub fn refusals_stay()
 pub fn what_is_partial_waits()
     ensures { (kind : Kind) (opened : Bool) (bytes : List ℕ) (result : Result (Option Message) Refusal) (new : Unread) →
         IsPartial opened bytes → Step kind (record { bytes = bytes; opened = opened }) result new → result ≡ Ok None }
+{}
+
+/// Bytes that aren't the parts of given shapes have one first fault.
+pub fn one_first_fault()
+    ensures { (shapes : List Shape) (bytes : List ℕ) (d e : Error) → Faulty shapes bytes d → Faulty shapes bytes e → d ≡ e }
+{}
+
+/// A step has one answer: what is read or why nothing is, and what is left.
+pub fn one_answer()
+    ensures { (kind : Kind) (old new other : Unread) (result another : Result (Option Message) Refusal) →
+        Step kind old result new → Step kind old another other → (result ≡ another) × (new ≡ other) }
+{}
+
+/// However a client's bytes are cut: who has read these messages of a front, and goes on with what is left of it and the
+/// bytes that come, has read what the bytes as a whole give.
+pub fn pieces_are_read_as_one()
+    ensures { (kinds rest : List Kind) (old here new : Unread) (more : List ℕ) (messages others : List Message) (end : Result (Option Message) Refusal) →
+        HasRead kinds old messages rest here → Reads rest (record { bytes = here.bytes ++ more; opened = here.opened }) others end new →
+        Reads kinds (record { bytes = old.bytes ++ more; opened = old.opened }) (messages ++ others) end new }
 {}

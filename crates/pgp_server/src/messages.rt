@@ -2,8 +2,8 @@
 
 ghost use Rattle.std.specs.Prelude.{◌≡◌, true, false};
 ghost use Rattle.pgp_frontend.specs.ClientMessage.{PasswordKind as Kind};
-ghost use Rattle.pgp_server.specs.Step.{Step};
-ghost use Rattle.pgp_server.specs.Views.{kind_view, read, view};
+ghost use Rattle.pgp_server.specs.Step.{Step, TakesWithBytes};
+ghost use Rattle.pgp_server.specs.Views.{kind_view, read, read_with_bytes, view};
 ghost use Rattle.pgp_frontend.specs.ClientRun.{is_startup};
 
 use crate::body::{body, packet};
@@ -87,6 +87,28 @@ impl<'a> ClientMessages<'a> {
         self.rest = rest;
         self.opened = opened;
         read
+    }
+
+    /// As `next`, with the bytes of the message beside it: who passes a message on unchanged writes these.
+    ///
+    /// # Errors
+    ///
+    /// As `next`.
+    pub fn next_with_bytes(
+        &mut self,
+        kind: PasswordKind,
+    ) -> Result<Option<(ClientMessage<'a>, &'a [u8])>, ClientError>
+        ensures { TakesWithBytes (kind_view kind) self.old (read_with_bytes result) self.new }
+    {
+        let before = self.rest;
+        match self.next(kind) {
+            Ok(Some(message)) => {
+                let (bytes, _) = before.split_at(before.len() - self.rest.len());
+                Ok(Some((message, bytes)))
+            }
+            Ok(None) => Ok(None),
+            Err(e) => Err(e),
+        }
     }
 }
 
