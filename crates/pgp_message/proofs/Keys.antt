@@ -1,5 +1,5 @@
 -- A key as a number, and an answer about versions.
-use Rattle.std.proofs.Common.{◌≡◌, ℕ, ℤ, pos, negsuc, ◌<◌, ◌≤◌, List, [], ◌∷◌, ◌++◌, length, take, drop, Option, Some, None, Result, Ok, Err, to_z, of_z, refl, sym, ap, ◌∙◌, arith, true, length-append}
+use Rattle.std.proofs.Common.{◌≡◌, ℕ, ℤ, pos, negsuc, ◌<◌, ◌≤◌, List, [], ◌∷◌, ◌++◌, length, take, drop, Option, Some, None, Ok, Err, to_z, of_z, refl, sym, ap, ◌∙◌, arith, true, length-append}
 use Rattle.std.specs.Int.{w32, from_be_bytes, cast_signed}
 use Rattle.std.proofs.lemmas.List.{append-nil, drop_at, length-take}
 use Rattle.std.proofs.lemmas.Bool.{lt-ltb}
@@ -10,7 +10,6 @@ use Rattle.pgp_base.specs.PartReading.{◌>>=◌, int32_at}
 use Rattle.pgp_base.proofs.PartLemmas.{front_takes}
 use Rattle.pgp_base.specs.declared.error.Error.{Error}
 use Rattle.pgp_base.specs.declared.error.Error.TheVariants.{UnexpectedEof, InvalidCount}
-use Rattle.pgp_message.specs.Parts.{Negotiation}
 use Rattle.pgp_message.specs.Reading.{key_of, key_data_of, count_of, count_at, options_of, negotiation_of}
 use Rattle.pgp_message.proofs.Families.{int32_takes}
 

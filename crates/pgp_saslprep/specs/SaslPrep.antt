@@ -1,5 +1,5 @@
 -- The preparation of a password: RFC 4013, over the tables of RFC 3454. Texts are lists of code points.
-use Rattle.std.specs.Prelude.{ℕ, Bool, true, false, not, ◌&&◌, ◌||◌, List, [], ◌∷◌, flat_map, Option, Some, None, option_map, chars, encode_utf8_all, if◌then◌else◌}
+use Rattle.std.specs.Prelude.{ℕ, Bool, false, not, ◌&&◌, ◌||◌, List, [], ◌∷◌, flat_map, Option, Some, None, option_map, chars, encode_utf8_all, if◌then◌else◌}
 use Rattle.std.specs.List.{list_any}
 use Rattle.unicode_normalization.specs.Forms.{nfkc}
 use Rattle.pgp_saslprep.specs.Table.{Range, in_table}

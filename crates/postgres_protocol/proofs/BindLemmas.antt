@@ -2,7 +2,7 @@
 use Rattle.std.proofs.Common.{◌≡◌, ℕ, ◌+◌, ◌≤◌, ℤ, pos, negsuc, List, [], ◌∷◌, ◌++◌, length, take, Option, Some, None, Result, Ok, Err, MutBor, refl, sym, ap, subst, ◌∙◌, inl, inr, arith}
 use Rattle.std.specs.Prelude.{map, ◌⊎◌}
 use Rattle.std.specs.List.{flat_map}
-use Rattle.std.proofs.lemmas.List.{map-append, append-nil}
+use Rattle.std.proofs.lemmas.List.{append-nil}
 use Rattle.pgp_base.specs.declared.error.Error.{Error}
 use Rattle.pgp_base.specs.declared.error.BindError.{BindError}
 use Rattle.pgp_base.specs.declared.error.BindError.TheVariants.{Conversion, Serialization}
@@ -10,10 +10,10 @@ use Rattle.pgp_base.specs.declared.number.IsNull.{IsNull}
 use Rattle.pgp_base.specs.declared.number.IsNull.TheVariants.{No}
 use Rattle.std.specs.Option.{option_to_list}
 use Rattle.pgp_base.specs.Wire.{uint16, uint32, int16, nullable, counted}
-use Rattle.pgp_base.specs.Cause.{Cause, Wants, either, first}
+use Rattle.pgp_base.specs.Cause.{Cause, Wants, either}
 use Rattle.pgp_base.specs.Held.{Held, ◌⊕◌}
 use Rattle.pgp_base.specs.Calls.{value_of, Puts, Gives, Runs}
-use Rattle.pgp_base.proofs.Causes.{either_first, first-append}
+use Rattle.pgp_base.proofs.Causes.{either_first}
 use Rattle.pgp_base.proofs.Needs.{flat_more, counted_length, nullable_least, sized_wants, counted_wants}
 use Rattle.pgp_base.proofs.Parts.{nothing_more, wants_more}
 use Rattle.pgp_frontend.proofs.Fields.{cause_front}

@@ -1,5 +1,5 @@
 -- Where an exchange of SCRAM-SHA-256 stopped, by what its calls told.
-use Rattle.std.proofs.Common.{◌≡◌, ℕ, List, [], Option, Some, None, Result, Ok, Err, refl, sym, ap, subst, ◌∙◌, inl, inr}
+use Rattle.std.proofs.Common.{◌≡◌, ℕ, List, [], Option, Some, None, Result, Ok, Err, refl, ap, subst, ◌∙◌, inl, inr}
 use Rattle.std.specs.Prelude.{IfErr}
 use Rattle.std.specs.Result.{IsErrAnd}
 use Rattle.pgp_base.proofs.Parts.{if_err_at}
@@ -11,7 +11,7 @@ use Rattle.pgp_frontend.specs.ClientMessage.{SaslInitialResponse, SaslResponse}
 use Rattle.pgp_frontend.specs.Payload.{bytes_of, WritesMessage}
 use Rattle.pgp_message.specs.BackendMessage.{Authentication, AuthenticationSaslContinue, AuthenticationSaslFinal}
 use Rattle.pgp_message.specs.Stream.{TakesFrame}
-use Rattle.postgres_protocol.specs.SaslExchange.{GivesNone, IsNoContinue, IsNoFinal, SentFirst, GotFirst, SentFinal, FirstUnwritten, FirstMissing, FirstRefused, FinalUnwritten, FinalMissing, FinalRefused, Stopped}
+use Rattle.postgres_protocol.specs.SaslExchange.{GivesNone, IsNoContinue, IsNoFinal, SentFirst, GotFirst, SentFinal, FirstUnwritten, FirstRefused, FinalUnwritten, FinalRefused, Stopped}
 use Rattle.postgres_protocol.specs.declared.laws.sasl.SaslRefusal.{SaslRefusal}
 use Rattle.postgres_protocol.specs.declared.laws.sasl.SaslRefusal.TheVariants as refusals
 

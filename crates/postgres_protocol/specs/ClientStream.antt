@@ -5,7 +5,7 @@ use Rattle.pgp_base.specs.Held.{Held, ◌⊕◌, Leaves}
 use Rattle.pgp_base.specs.declared.error.Error.{Error}
 use Rattle.pgp_frontend.specs.ClientMessage.{ClientMessage, PasswordKind}
 use Rattle.pgp_frontend.specs.Given.{Refused}
-use Rattle.pgp_frontend.specs.Payload.{Part, bytes_of, cause, IsInRange}
+use Rattle.pgp_frontend.specs.Payload.{bytes_of, cause, IsInRange}
 use Rattle.pgp_frontend.specs.ClientRun.{ClientRun, kinds_of, is_startup, is_opened}
 
 -- What a stream shows: its buffer, and whether a startup packet was written.

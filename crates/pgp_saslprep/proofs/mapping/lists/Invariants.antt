@@ -1,4 +1,4 @@
-use Rattle.std.proofs.Common.{◌≡◌, ℕ, ◌-◌, ◌<◌, ◌≤◌, length, drop, get_or}
+use Rattle.std.proofs.Common.{◌≡◌, ◌-◌, ◌<◌, ◌≤◌, length, drop, get_or}
 use Rattle.pgp_saslprep.specs.Table.{Range, in_table}
 use Rattle.pgp_saslprep.proofs.mapping.lists.Given as goal
 

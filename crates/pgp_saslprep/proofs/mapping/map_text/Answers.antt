@@ -1,4 +1,4 @@
-use Rattle.std.proofs.Common.{◌≡◌, string_bytes, encode_utf8_all, chars, ◌∙◌, ap, sym, map-id}
+use Rattle.std.proofs.Common.{encode_utf8_all, ◌∙◌, ap, sym, map-id}
 use Rattle.std.proofs.lemmas.Grind.{flat_map-append}
 use Rattle.std.proofs.lemmas.Iterator.{YieldsList-from_chars}
 use Rattle.std.proofs.lemmas.Iterator.Consumers.{YieldsList-end}

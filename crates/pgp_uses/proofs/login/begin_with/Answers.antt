@@ -1,4 +1,4 @@
-use Rattle.std.proofs.Common.{rules, ◌≡◌, ℕ, List, Some, Option, ap, subst, sym, ◌∙◌}
+use Rattle.std.proofs.Common.{◌≡◌, ℕ, List, Some, Option, ap, subst, sym, ◌∙◌}
 use Rattle.pgp_auth.specs.Nonce.{drawn_chars}
 use Rattle.pgp_auth.specs.ScramClient.{Client, message_of}
 use Rattle.pgp_auth.specs.ScramText.{Binding, Unsupported, client_first}

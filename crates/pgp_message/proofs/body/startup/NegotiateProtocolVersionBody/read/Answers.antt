@@ -1,4 +1,4 @@
-use Rattle.std.proofs.Common.{rules, arith, ◌≡◌, ◌≤◌, ◌∙◌, length, drop, Some, Ok, Err, to_z, of_z, w32, ap, sym}
+use Rattle.std.proofs.Common.{rules, ◌≡◌, ◌∙◌, drop, Some, Ok, Err, to_z, of_z, w32}
 use Rattle.pgp_base.specs.PartReading.{int32_at}
 use Rattle.pgp_message.specs.Reading.{count_at}
 use Rattle.pgp_message.proofs.Keys.{negotiated, miscounted, counted_room}
