@@ -50,8 +50,5 @@ pub begins : (old : List ℕ) (f : Front) → IsFront f old → KeepsBytes f.tag
 begins old f front keeps = record { first = front_frame f old; rest = drop f.total old; whole = front.whole; fits = front.fits; keeps = keeps }
 
 -- what stands behind the header, as it is sliced
-abbrev pub sent : List ℕ → ℕ → List ℕ
-sent bytes total = take (total - 5) (drop 5 bytes)
-
-pub payload_of_front : (bytes old : List ℕ) (t : ℕ) → 5 ≤ t → bytes ≡ old → sent bytes t ≡ drop 5 (take t old)
+pub payload_of_front : (bytes old : List ℕ) (t : ℕ) → 5 ≤ t → bytes ≡ old → take (t - 5) (drop 5 bytes) ≡ drop 5 (take t old)
 payload_of_front bytes old t least same = ap (λ l. take (t - 5) (drop 5 l)) same ∙ sym (drop-take_less old 5 t least)

@@ -4,8 +4,6 @@ use Rattle.std.specs.Int.{w32, cast_signed}
 use Rattle.pgp_base.specs.declared.error.Error.{Error}
 use Rattle.pgp_base.specs.declared.error.Error.TheVariants.{UnknownTag, UnknownAuthentication, UnexpectedEof, NotDrained, InvalidCount}
 use Rattle.pgp_base.specs.PartReading.{◌>>=◌, front_at, byte_at, uint16_at, oid_at, int32_at, string_at}
-use Rattle.pgp_message.specs.declared.kept.Kept.{Kept}
-use Rattle.pgp_message.specs.declared.kept.Kept.TheVariants as kinds
 use Rattle.pgp_message.specs.Parts.{Notification, KeyData, Setting, CountedBytes, Negotiation, CopyFormats}
 use Rattle.pgp_message.specs.BackendMessage.{Request, AuthenticationOk, AuthenticationKerberosV5, AuthenticationCleartextPassword, AuthenticationMd5Password, AuthenticationScmCredential, AuthenticationGss, AuthenticationGssContinue, AuthenticationSspi, AuthenticationSasl, AuthenticationSaslContinue, AuthenticationSaslFinal, Message, ParseComplete, BindComplete, CloseComplete, NotificationResponse, CommandComplete, DataRow, ErrorResponse, CopyInResponse, CopyOutResponse, EmptyQueryResponse, BackendKeyData, NegotiateProtocolVersion, NoticeResponse, Authentication, ParameterStatus, RowDescription, ReadyForQuery, CopyDone, CopyData, NoData, PortalSuspended, ParameterDescription}
 
@@ -157,20 +155,3 @@ body_of tag payload =
     if tag == 0x74 then made ParameterDescription (counted_of payload) else
     if tag == 0x76 then made NegotiateProtocolVersion (negotiation_of payload) else
     bare_of tag payload
-
--- what follows the tag of each that may keep bytes
-unfoldable pub kept_of : Kept → List ℕ → Result Message Error
-kept_of kinds.Authentication payload = made Authentication (request_of payload)
-kept_of kinds.BackendKeyData payload = made BackendKeyData (key_data_of payload)
-kept_of kinds.CommandComplete payload = made CommandComplete (string_of payload)
-kept_of kinds.CopyData payload = Ok (CopyData payload)
-kept_of kinds.CopyInResponse payload = made CopyInResponse (copy_of payload)
-kept_of kinds.CopyOutResponse payload = made CopyOutResponse (copy_of payload)
-kept_of kinds.DataRow payload = made DataRow (counted_of payload)
-kept_of kinds.ErrorResponse payload = Ok (ErrorResponse payload)
-kept_of kinds.NegotiateProtocolVersion payload = made NegotiateProtocolVersion (negotiation_of payload)
-kept_of kinds.NoticeResponse payload = Ok (NoticeResponse payload)
-kept_of kinds.NotificationResponse payload = made NotificationResponse (notification_of payload)
-kept_of kinds.ParameterDescription payload = made ParameterDescription (counted_of payload)
-kept_of kinds.ParameterStatus payload = made ParameterStatus (setting_of payload)
-kept_of kinds.RowDescription payload = made RowDescription (counted_of payload)

@@ -7,9 +7,8 @@ ghost use Rattle.pgp_message.specs.FrontReading.{IsFront};
 ghost use Rattle.pgp_message.specs.Stream.{BeginsWithFrame};
 ghost use Rattle.pgp_message.specs.Views.{seen};
 
-use crate::dispatch::bare_onto;
+use crate::dispatch::{body_onto, plain_onto};
 use crate::frame::{Front, head};
-use crate::kept::Kept;
 use crate::message::Message;
 use bytes::Bytes;
 use pgp_base::{Error, Memory};
@@ -60,12 +59,11 @@ fn read_onto<A: Memory>(
     let front = whole_front(here);
     let end = at + front.total;
     let payload = &here[5..front.total];
-    let Some(kept) = Kept::of(front.tag, payload) else {
-        bare_onto(results, front.tag, payload);
+    if plain_onto(results, front.tag, payload) {
         return Ok(end);
-    };
+    }
     let payload = A::slice_shared(bytes, at + 5, end)?;
-    kept.read_onto(results, payload);
+    body_onto(results, front.tag, payload);
     Ok(end)
 }
 

@@ -8,7 +8,6 @@ mod frame;
 mod frames;
 mod header;
 mod in_place;
-mod kept;
 pub mod laws;
 mod message;
 mod parser;

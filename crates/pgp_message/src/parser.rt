@@ -7,10 +7,9 @@ ghost use Rattle.pgp_message.specs.Remembered.{Fits, header_of, headers_after, m
 ghost use Rattle.pgp_message.specs.Stream.{Step, IsPartial, IsLengthFault};
 ghost use Rattle.pgp_message.specs.Views.{parsed};
 
-use crate::dispatch::bare;
+use crate::dispatch::{bare, body, keeps_bytes};
 use crate::found::{Found, header_behind, whole_frames};
 use crate::frame::{Front, count_of, head, header_of, room};
-use crate::kept::Kept;
 use crate::message::Message;
 use bytes::{Buf, Bytes, BytesMut};
 use pgp_base::{Error, Memory};
@@ -84,18 +83,18 @@ impl FrameParser {
             return Ok(None);
         };
         let payload = &buf.as_slice()[5..front.total];
-        let Some(kept) = Kept::of(front.tag, payload) else {
+        if !keeps_bytes(front.tag, payload) {
             let answer = bare(front.tag, payload);
             buf.advance(front.total);
             self.header = None;
             return answer.map(Some);
-        };
+        }
         let Ok(mut payload) = A::freeze_to(buf, front.total) else {
             return Err(Error::OutOfMemory);
         };
         self.header = None;
         payload.advance(5);
-        kept.read(payload).map(Some)
+        body(front.tag, payload).map(Some)
     }
 
     /// How many bytes are missing to the header or to the frame at the front, of which so many are there: at least one,
