@@ -76,22 +76,33 @@ fn zero_in_few(bytes: &[u8]) -> Option<usize>
     }
 }
 
-// The place of the first 0, which is near. Where fewer than 32 bytes are left, two looks that may overlap cover them.
+// The place of the first 0. Where fewer than 32 bytes are left, two looks that may overlap cover them.
 #[inline]
 pub(crate) fn first_zero(bytes: &[u8]) -> Option<usize>
     ensures { IsFirstByte (is_byte 0) bytes.now result }
 {
-    if 32 <= bytes.len() {
+    let len = bytes.len();
+    if 32 <= len {
         match zero_in_32(bytes, 0) {
             Some(at) => Some(at),
             None => memchr(0, bytes),
         }
+    } else if 16 <= len {
+        match zero_in_16(bytes, 0) {
+            Some(at) => Some(at),
+            None => zero_in_16(bytes, len - 16),
+        }
+    } else if 8 <= len {
+        match zero_in_8(bytes, 0) {
+            Some(at) => Some(at),
+            None => zero_in_8(bytes, len - 8),
+        }
     } else {
-        zero_in_short(bytes)
+        memchr(0, bytes)
     }
 }
 
-// The same, where none is expected: two looks cover up to 64 bytes.
+// The same, where none is expected, as in what is written: two looks cover up to 64 bytes.
 #[inline]
 pub(crate) fn stray_zero(bytes: &[u8]) -> Option<usize>
     ensures { IsFirstByte (is_byte 0) bytes.now result }
@@ -110,29 +121,28 @@ pub(crate) fn stray_zero(bytes: &[u8]) -> Option<usize>
 }
 
 // The place of the first 0 of fewer than 32 bytes.
-// The hint keeps the callers small, so that what they answer doesn't go through memory.
-#[inline(never)]
+#[inline(always)]
 fn zero_in_short(bytes: &[u8]) -> Option<usize>
     requires { length bytes.now < 32 }
     ensures { IsFirstByte (is_byte 0) bytes.now result }
 {
-    let len = bytes.len();
-    if len < 4 {
+    let size = bytes.len();
+    if size < 4 {
         zero_in_few(bytes)
-    } else if len < 8 {
+    } else if size < 8 {
         match zero_in_4(bytes, 0) {
             Some(at) => Some(at),
-            None => zero_in_4(bytes, len - 4),
+            None => zero_in_4(bytes, size - 4),
         }
-    } else if len < 16 {
+    } else if size < 16 {
         match zero_in_8(bytes, 0) {
             Some(at) => Some(at),
-            None => zero_in_8(bytes, len - 8),
+            None => zero_in_8(bytes, size - 8),
         }
     } else {
         match zero_in_16(bytes, 0) {
             Some(at) => Some(at),
-            None => zero_in_16(bytes, len - 16),
+            None => zero_in_16(bytes, size - 16),
         }
     }
 }
