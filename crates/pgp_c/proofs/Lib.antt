@@ -1,0 +1,6 @@
+mod Columns
+mod Extensions
+mod Fronts
+mod Lists
+mod Openings
+mod Sending

@@ -1,0 +1,8 @@
+use Rattle.std.proofs.Common.{rules, refl, true}
+use Rattle.pgp_frontend.specs.ClientMessage.{Execute}
+use Rattle.pgp_c.proofs.Extensions.{extends}
+use Rattle.pgp_c.proofs.stream.pgp_stream_execute.Goals as goal
+
+pub returns-clause-added : goal.returns-clause-added
+returns-clause-added c z =
+    extends (Execute c.args.portal.now c.args.max_rows) c.args.stream.now _ c.pgp_execute-code.new.out _ c.pgp_execute-code.new.written _ _ refl (search rules) (c.pgp_execute-code.ensures.sent z) (search rules) (search rules) (search rules) true (search rules) refl (λ e. absurd cc)
