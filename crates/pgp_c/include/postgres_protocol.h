@@ -146,8 +146,25 @@ static inline size_t pgp_cancel_request_size(size_t key_len) { return 12 + key_l
    all other messages behind it. Then a server that knows only the grammar reads the stream in one way. */
 struct pgp_stream { uint8_t *room; size_t room_len; size_t len; bool is_open; };
 pgp_status pgp_stream_ssl_request(struct pgp_stream *stream);
+pgp_status pgp_stream_cancel_request(struct pgp_stream *stream, int32_t process_id, const uint8_t *secret_key, size_t key_len);
+pgp_status pgp_stream_startup(struct pgp_stream *stream, int32_t version, const struct pgp_pair *parameters, size_t count);
+pgp_status pgp_stream_password_message(struct pgp_stream *stream, const uint8_t *password, size_t len);
+pgp_status pgp_stream_sasl_initial_response(struct pgp_stream *stream, const uint8_t *mechanism, size_t mechanism_len,
+                                            const uint8_t *response, size_t len);
+pgp_status pgp_stream_sasl_response(struct pgp_stream *stream, const uint8_t *response, size_t len);
 pgp_status pgp_stream_query(struct pgp_stream *stream, const uint8_t *text, size_t len);
+pgp_status pgp_stream_parse(struct pgp_stream *stream, const uint8_t *name, size_t name_len, const uint8_t *query, size_t query_len,
+                            const uint32_t *types, size_t type_count);
+pgp_status pgp_stream_bind(struct pgp_stream *stream, const uint8_t *portal, size_t portal_len, const uint8_t *statement, size_t statement_len,
+                           const int16_t *formats, size_t format_count, const struct pgp_value *values, size_t value_count,
+                           const int16_t *result_formats, size_t result_format_count);
+pgp_status pgp_stream_describe(struct pgp_stream *stream, uint8_t variant, const uint8_t *name, size_t len);
+pgp_status pgp_stream_execute(struct pgp_stream *stream, const uint8_t *portal, size_t len, int32_t max_rows);
+pgp_status pgp_stream_close(struct pgp_stream *stream, uint8_t variant, const uint8_t *name, size_t len);
+pgp_status pgp_stream_flush(struct pgp_stream *stream);
 pgp_status pgp_stream_sync(struct pgp_stream *stream);
+pgp_status pgp_stream_copy_done(struct pgp_stream *stream);
+pgp_status pgp_stream_copy_fail(struct pgp_stream *stream, const uint8_t *reason, size_t len);
 pgp_status pgp_stream_terminate(struct pgp_stream *stream);
 
 /* ---- the messages of a server ---- */

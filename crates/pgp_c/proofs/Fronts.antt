@@ -108,7 +108,7 @@ shows bytes new (BackendKeyData key) frame is t =
     let e = alone bytes new t.first t.whole frame is (BackendKeyData key) t.body.parts in
     (refl, last bytes new t.first t.whole (int32 key.process_id) key.secret_key 9 frame is e (ap (λ n. 5 + n) (sym (int32_number.len key.process_id))))
 shows bytes new (NegotiateProtocolVersion n) frame is t =
-    let e = alone bytes new t.first t.whole frame is (NegotiateProtocolVersion n) t.body.parts ∙ sym (append_assoc (int32 n.version) (int32 (pos n.count)) n.options) in
+    let e = alone bytes new t.first t.whole frame is (NegotiateProtocolVersion n) t.body.parts in
     let at : 13 ≡ 5 + length (int32 n.version ++ int32 (pos n.count)) = omega (arith, length-append (int32 n.version) (int32 (pos n.count)), int32_number.len n.version, int32_number.len (pos n.count)) in
     (refl, last bytes new t.first t.whole (int32 n.version ++ int32 (pos n.count)) n.options 13 frame is e at)
 shows bytes new (ReadyForQuery status) frame is t = refl
@@ -149,7 +149,7 @@ rest_is bytes new (Err errors.OutOfMemory) s = absurd s.1
 rest_is bytes new (Err e) s = left bytes new e s
 
 -- the parts that are told
-pub parts_told : List ℕ → ℕ → Result (Option Message) Error → PgpParts
+abbrev pub parts_told : List ℕ → ℕ → Result (Option Message) Error → PgpParts
 parts_told bytes frame (Ok (Some m)) = place m bytes frame
 parts_told bytes frame r = no_parts
 

@@ -1,4 +1,6 @@
+mod Binding
 mod Columns
+mod Copies
 mod Extensions
 mod Fronts
 mod Lists

@@ -4,7 +4,9 @@ use Rattle.std.specs.Prelude.{if◌then◌else◌}
 use Rattle.std.specs.Borrow.{GName}
 use Rattle.std.specs.List.{flat_map, list_all}
 use Rattle.std.specs.Option.{option_to_list}
-use Rattle.std.specs.Str.{is_utf8}
+use Rattle.std.specs.Str.{IsUtf8, is_utf8}
+use Rattle.std.proofs.lemmas.Bool.{cases_Bool}
+use Rattle.std.proofs.lemmas.Str.{IsUtf8-from_is_utf8, is_utf8-from_IsUtf8}
 use Rattle.std.proofs.lemmas.List.{append-nil, map-append}
 use Rattle.std.proofs.lemmas.List.Concat.{flat_map-append}
 use Rattle.pgp_base.specs.Cause.{Cause, either, first, Wants, WantsMemory}
@@ -20,6 +22,21 @@ use Rattle.pgp_frontend.specs.declared.startup.ProtocolVersion.{ProtocolVersion}
 use Rattle.pgp_frontend.proofs.Needs.{startup_length}
 use Rattle.pgp_c.specs.declared.opening.PgpPair.{PgpPair}
 use Rattle.pgp_c.specs.Opening.{is_text, pair_of, shown_pair, shown_text}
+
+not_text : (bytes : List ℕ) → ¬ IsUtf8 bytes → is_utf8 bytes ≡ false
+not_text bytes h = elim (cases_Bool (is_utf8 bytes)) [ inl t ↦ absurd (h (IsUtf8-from_is_utf8 bytes t)) | inr f ↦ f ]
+
+pub yes : (bytes : List ℕ) → IsUtf8 bytes → true ≡ is_utf8 bytes
+yes bytes h = sym (is_utf8-from_IsUtf8 bytes h)
+
+pub no : (bytes : List ℕ) → ¬ IsUtf8 bytes → false ≡ is_utf8 bytes
+no bytes h = sym (not_text bytes h)
+
+pub shown_some : (bytes t : List ℕ) → t ≡ bytes → IsUtf8 bytes → t ≡ shown_text bytes
+shown_some bytes t is h = rw (is_utf8-from_IsUtf8 bytes h) is
+
+pub shown_none : (bytes t : List ℕ) → t ≡ [] → ¬ IsUtf8 bytes → t ≡ shown_text bytes
+shown_none bytes t is h = rw (not_text bytes h) is
 
 -- what is UTF-8 is shown as it is
 both : (a b : Bool) → (a && b) ≡ true → (a ≡ true) × (b ≡ true)

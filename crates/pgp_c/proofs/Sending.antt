@@ -51,7 +51,8 @@ refuses texts m n is w old name new e code told why code_is none = subst (λ k. 
     | inl memory ↦
         let long = wants_window (window_held w) _ memory.1 in
         let room : (window_held w).kept.1 ≡ length old = ap (λ (h : Held (GName × ℕ)). h.kept.1) new in
-        inl (code_is ∙ ap number_of memory.0, omega (arith, long, room))
+        let none : length (window_held w).bytes ≡ 0 = ap (λ (h : Held (GName × ℕ)). length h.bytes) new in
+        inl (code_is ∙ ap number_of memory.0, omega (arith, long, room, none))
     | inr some ↦ inr (inr (e, some, code_is))
   ];
 })
@@ -75,6 +76,10 @@ lacked p q is w old name new e code told why code_is none = subst (λ k. Lacks k
   | inl memory ↦
       let long = wants_window (window_held w) _ memory.1 in
       let room : (window_held w).kept.1 ≡ length old = ap (λ (h : Held (GName × ℕ)). h.kept.1) new in
-      record { length_is = none; code_is = code_is ∙ ap number_of memory.0; longer = omega (arith, long, room) }
+      let empty : length (window_held w).bytes ≡ 0 = ap (λ (h : Held (GName × ℕ)). length h.bytes) new in
+      record { length_is = none; code_is = code_is ∙ ap number_of memory.0; longer = omega (arith, long, room, empty) }
   | inr some ↦ absurd (no_cause e some)
 ])
+
+pub sent_same : (m n : ClientMessage) → n ≡ m → (old new : List ℕ) (told : ℕ) → Sent n old new told → Sent m old new told
+sent_same m n is old new told sent = subst (λ k. Sent k old new told) is sent

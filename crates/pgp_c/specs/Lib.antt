@@ -1,3 +1,4 @@
+pub mod Copying
 pub mod Front
 pub mod Lists
 pub mod Opening

@@ -2,6 +2,7 @@
 
 ghost use Rattle.std.specs.Prelude.{◌≡◌, ◌≢◌, ◌⊎◌, List, map, false};
 ghost use Rattle.std.specs.List.{list_all};
+ghost use Rattle.std.specs.Str.{is_utf8};
 ghost use Rattle.pgp_frontend.specs.ClientMessage.{Startup};
 ghost use Rattle.pgp_frontend.specs.Payload.{version_code};
 ghost use Rattle.pgp_frontend.specs.declared.startup.ProtocolVersion.{ProtocolVersion as Version};
@@ -88,7 +89,17 @@ fn are_texts(parameters: &[PgpPair<'_>]) -> bool
 fn text(pair: &PgpPair<'_>) -> bool
     ensures { result ≡ is_text pair.now }
 {
-    str::from_utf8(pair.name).is_ok() && str::from_utf8(pair.value).is_ok()
+    utf8(pair.name) && utf8(pair.value)
+}
+
+/// The bytes are UTF-8.
+fn utf8(bytes: &[u8]) -> bool
+    ensures { result ≡ is_utf8 bytes.now }
+{
+    match str::from_utf8(bytes) {
+        Ok(_) => true,
+        Err(_) => false,
+    }
 }
 
 /// The name and the value as texts; an empty text for what is none.

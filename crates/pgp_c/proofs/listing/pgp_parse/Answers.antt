@@ -1,4 +1,4 @@
-use Rattle.std.proofs.Common.{rules, ◌≡◌, ◌∷◌, [], Result, Err, Unit, refl, false, ap, sym, subst, ◌∙◌}
+use Rattle.std.proofs.Common.{rules, ◌≡◌, ◌∷◌, [], Result, Err, refl, false, ap, sym, subst, ◌∙◌}
 use Rattle.std.proofs.iter.Yields.{copies, fronts}
 use Rattle.std.proofs.lemmas.Iterator.{YieldsList, YieldsList-from_slice}
 use Rattle.std.proofs.lemmas.Iterator.Consumers.{YieldsList-from_copied}
@@ -26,8 +26,8 @@ returns-in-Ok-parse-clause-sent c z =
 abbrev FromItself : {S : Type 0} → S → S → Type 0
 FromItself source it = it ≡ source
 
-pub returns-in-Err-parse-clause-refused : goal.returns-in-Err-parse-clause-refused
-returns-in-Err-parse-clause-refused c z =
+pub returns-in-Err-clause-refused : goal.returns-in-Err-clause-refused
+returns-in-Err-clause-refused c z =
     let all = c.args.types.now in
     let source = c.copied.result in
     let road : YieldsList (copies fronts) (λ x. x) source all = YieldsList-from_copied (YieldsList-from_slice all cc) in
@@ -37,4 +37,4 @@ returns-in-Err-parse-clause-refused c z =
     (λ xs x k. some_same FromItself (copies fronts) source all (λ it from. subst (λ s. YieldsList (copies fronts) (λ x. x) s all) (sym from) road) xs x k)
     window_held window_lacks shown shown (Err c.in-Err.e) (c.in-Err.ensures.0, record { left = record { bytes = refl; kept = refl }; opened = refl }) in
     refuses (c.args.name.now ∷ c.args.query.now ∷ []) (Parse c.args.name.now c.args.query.now all) (Parse c.in-Ok.name.now c.in-Ok-from_utf8.query.now all) (search rules)
-    c.new-window.result c.args.out.now _ c.new-window.ensures c.in-Err.e _ _ adds.0 c.refused.ensures.code c.refused.ensures.told
+    c.new-window.result c.args.out.now _ c.new-window.ensures c.in-Err.e _ _ adds.0 c.refused-in-Err.ensures.code c.refused-in-Err.ensures.told
