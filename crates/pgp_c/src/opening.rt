@@ -1,6 +1,6 @@
 //! The startup packet.
 
-ghost use Rattle.std.specs.Prelude.{◌≡◌, ◌≢◌, ◌⊎◌, List, map, false};
+ghost use Rattle.std.specs.Prelude.{◌≡◌, ◌≢◌, ◌⊎◌, List, map, true, false};
 ghost use Rattle.std.specs.List.{list_all};
 ghost use Rattle.std.specs.Str.{is_utf8};
 ghost use Rattle.pgp_frontend.specs.ClientMessage.{Startup};
@@ -31,6 +31,7 @@ pub extern "C" fn pgp_startup(
     written: &mut usize,
 ) -> u32
     ensures sent { result ≡ 0 → (v : Version) × (version_code v ≡ version) × Sent (Startup v (map pair_of parameters.now)) out.old out.new written.new }
+    ensures named { result ≡ 0 → list_all is_named parameters.now ≡ true }
     ensures refused { result ≢ 0 → (written.new ≡ 0) × WhyStartup version parameters.now out.old result }
 {
     match version {
@@ -48,6 +49,7 @@ fn open(
     written: &mut usize,
 ) -> u32
     ensures sent { result ≡ 0 → Sent (Startup version (map pair_of parameters.now)) out.old out.new written.new }
+    ensures named { result ≡ 0 → list_all is_named parameters.now ≡ true }
     ensures refused { result ≢ 0 → (written.new ≡ 0) × WhyPairs version parameters.now out.old result }
 {
     if !are_named(parameters) {

@@ -1,11 +1,15 @@
 //! What a client sends, as one stream in memory of the caller's: a call whose phase it isn't is refused.
 
 ghost use Rattle.std.specs.Prelude.{◌≡◌, ◌≢◌, true, false, map};
-ghost use Rattle.pgp_frontend.specs.ClientMessage.{Bind, CancelRequest, Close, CopyDone, CopyFail, Describe, Execute, Flush, Parse, PasswordMessage, Query, SaslInitialResponse, SaslResponse, SslRequest, Sync, Terminate};
+ghost use Rattle.pgp_frontend.specs.ClientMessage.{Bind, CancelRequest, Close, CopyDone, CopyFail, Describe, Execute, Flush, Parse, PasswordMessage, Query, SaslInitialResponse, SaslResponse, SslRequest, Startup, Sync, Terminate};
+ghost use Rattle.pgp_frontend.specs.Payload.{version_code};
+ghost use Rattle.pgp_frontend.specs.declared.startup.ProtocolVersion.{ProtocolVersion as Version};
 ghost use Rattle.pgp_c.specs.Lists.{value_of};
+ghost use Rattle.pgp_c.specs.Opening.{pair_of};
 ghost use Rattle.pgp_c.specs.Streams.{Extends, Keeps};
 
 use crate::listing::{PgpValue, pgp_bind, pgp_parse};
+use crate::opening::{PgpPair, pgp_startup};
 use crate::writing::{pgp_cancel_request, pgp_close, pgp_copy_done, pgp_copy_fail, pgp_describe, pgp_execute, pgp_flush, pgp_password_message, pgp_query, pgp_sasl_initial_response, pgp_sasl_response, pgp_ssl_request, pgp_sync, pgp_terminate};
 
 /// The answer where a message may not come: no startup packet was written, or one was.
@@ -59,6 +63,33 @@ pub extern "C" fn pgp_stream_cancel_request(stream: &mut PgpStream<'_>, process_
     let mut added = 0;
     let code = pgp_cancel_request(process_id, secret_key, &mut stream.room[len..], &mut added);
     stream.len = len.saturating_add(added);
+    code
+}
+
+/// Opens a session of this version with these names and values.
+#[unsafe(no_mangle)]
+pub extern "C" fn pgp_stream_startup(
+    stream: &mut PgpStream<'_>,
+    version: i32,
+    parameters: &[PgpPair<'_>],
+) -> u32
+    ensures added { result ≡ 0 → (v : Version) × (version_code v ≡ version) × Extends (Startup v (map pair_of parameters.now)) stream.old stream.new }
+    ensures phase { stream.old.is_open ≢ false → result ≡ 32 }
+    ensures kept { result ≢ 0 → Keeps stream.old stream.new }
+{
+    let len = stream.len;
+    if stream.is_open != false {
+        return WRONG_PHASE;
+    }
+    if len > stream.room.len() {
+        return NO_ROOM;
+    }
+    let mut added = 0;
+    let code = pgp_startup(version, parameters, &mut stream.room[len..], &mut added);
+    stream.len = len.saturating_add(added);
+    if code == 0 {
+        stream.is_open = true;
+    }
     code
 }
 

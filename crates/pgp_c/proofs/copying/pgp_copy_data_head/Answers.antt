@@ -8,4 +8,4 @@ returns-in-Ok-clause-sent c z =
 
 pub returns-in-Err-clause-refused : goal.returns-in-Err-clause-refused
 returns-in-Err-clause-refused c z =
-    head_lacks c.args.len c.new-window.result c.args.out.now _ c.new-window.ensures c.in-Err.e _ _ c.in-Err.ensures.cause c.refused.ensures.code c.refused.ensures.told
+    head_lacks c.args.len c.new-window.result c.args.out.now _ c.new-window.ensures c.in-Err.e _ _ c.in-Err.ensures.cause c.refused-in-Err.ensures.code c.refused-in-Err.ensures.told
