@@ -8,7 +8,7 @@
 
 static void *work(void *failed)
 {
-    static const uint8_t row[] = "D\0\0\0\x10\0\2\0\0\0\1a\xff\xff\xff\xff";
+    static const uint8_t row[] = "D\0\0\0\x0f\0\2\0\0\0\1a\xff\xff\xff\xff";
     uint8_t out[64];
     int i;
     for (i = 0; i < TIMES; i++) {

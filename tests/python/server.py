@@ -16,6 +16,8 @@ def scram_server(listening, password, seen):
 
     def take():
         tag = file.read(1)
+        if not tag:
+            return tag, b''
         return tag, file.read(int.from_bytes(file.read(4), 'big') - 4)
     file.read(int.from_bytes(file.read(4), 'big') - 4)
     connection.sendall(frame(b'R', b'\0\0\0\x0aSCRAM-SHA-256\0\0'))
