@@ -14,7 +14,8 @@ use Rattle.pgp_message.specs.Stream.{Frame, frame_bytes, TakesFrame, Step}
 use Rattle.pgp_c.specs.declared.front.PgpMessage.{PgpMessage}
 use Rattle.pgp_c.specs.declared.front.PgpParts.{PgpParts}
 use Rattle.pgp_c.specs.Front.{Told, code_of as code_told, kind_told, ShowsAll}
-use Rattle.pgp_c.specs.Parts.{Shows, no_parts, place, stands, first_of, second_of}
+use Rattle.pgp_c.specs.Parts.{Shows, no_parts, stands}
+use Rattle.pgp_c.specs.Places.{place, first_of, second_of}
 
 module _ (bytes new : List ℕ) (f : Frame) (whole : bytes ≡ frame_bytes f ++ new) where
   abbrev head : List ℕ

@@ -1,4 +1,3 @@
-mod Binding
 mod Columns
 mod Copies
 mod Extensions

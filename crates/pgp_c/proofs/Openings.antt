@@ -1,6 +1,5 @@
 -- The packet of the names and values that C hands over.
 use Rattle.std.proofs.Common.{◌≡◌, ◌⊎◌, ℕ, ◌≤◌, ◌&&◌, Bool, true, false, List, [], ◌∷◌, ◌++◌, map, length, Option, Some, None, Bor, refl, sym, ap, subst, ◌∙◌, inl, inr, arith, length-append, append_assoc}
-use Rattle.std.specs.Prelude.{if◌then◌else◌}
 use denote.Param.Members.{Mut}
 use Rattle.std.specs.Borrow.{GName}
 use Rattle.std.specs.Fn.{Called}
@@ -21,9 +20,9 @@ use Rattle.pgp_base.specs.Window.{window_lacks}
 use Rattle.pgp_base.specs.declared.error.Error.{Error}
 use Rattle.pgp_base.proofs.Causes.{either_first, first-append}
 use Rattle.pgp_base.proofs.Parts.{wants_more}
-use Rattle.pgp_frontend.specs.ClientMessage.{ClientMessage, Startup}
+use Rattle.pgp_frontend.specs.ClientMessage.{Startup}
 use Rattle.pgp_frontend.specs.Given.{Arrived, StartupWhole, StartupSoFar, Refused, shown, shown_pairs}
-use Rattle.pgp_frontend.specs.Payload.{Int32, Pairs, version_code, pair, pair_cause, parts, parts_cause, bytes_of, cause}
+use Rattle.pgp_frontend.specs.Payload.{Int32, version_code, pair, pair_cause, parts, parts_cause, bytes_of, cause}
 use Rattle.pgp_frontend.specs.declared.startup.ProtocolVersion.{ProtocolVersion}
 use Rattle.pgp_frontend.proofs.Needs.{startup_length}
 use Rattle.postgres_protocol.proofs.StepLemmas.{all_given, some_given}

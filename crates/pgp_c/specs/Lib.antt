@@ -3,6 +3,7 @@ pub mod Front
 pub mod Lists
 pub mod Opening
 pub mod Parts
+pub mod Places
 pub mod Rows
 pub mod Sending
 pub mod Streams

@@ -1,5 +1,5 @@
 -- The names and values of a startup packet, as C hands them over.
-use Rattle.std.specs.Prelude.{◌≡◌, ◌≢◌, ◌⊎◌, ℕ, ℤ, ◌&&◌, Bool, true, false, nat_lt, List, [], length, map, if◌then◌else◌}
+use Rattle.std.specs.Prelude.{◌≡◌, ◌≢◌, ◌⊎◌, ℕ, ℤ, ◌&&◌, Bool, false, nat_lt, List, [], length, map, if◌then◌else◌}
 use Rattle.std.specs.List.{list_all}
 use Rattle.std.specs.Str.{is_utf8}
 use Rattle.pgp_frontend.specs.ClientMessage.{Startup}

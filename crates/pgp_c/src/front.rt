@@ -4,7 +4,8 @@ ghost use Rattle.std.specs.Prelude.{◌≡◌, ◌≢◌, ◌≤◌, ℕ, ◌-�
 ghost use Rattle.pgp_base.specs.PartReading.{string_at};
 ghost use Rattle.pgp_message.specs.Views.{view};
 ghost use Rattle.pgp_c.specs.Front.{Told};
-ghost use Rattle.pgp_c.specs.Parts.{kind_of, no_parts, part, place, first_of, second_of};
+ghost use Rattle.pgp_c.specs.Parts.{kind_of, no_parts, part};
+ghost use Rattle.pgp_c.specs.Places.{place, first_of, second_of};
 
 use pgp_base::FallibleIterator;
 use pgp_base::reading::string_at;

@@ -1,4 +1,4 @@
-use Rattle.std.proofs.Common.{rules, refl, sym, ap, subst, ◌∙◌, map, true, false}
+use Rattle.std.proofs.Common.{rules, refl, ◌∙◌, map, true, false}
 use Rattle.std.proofs.Math.Facts.{to_z-of_z}
 use Rattle.pgp_frontend.specs.ClientMessage.{Startup}
 use Rattle.pgp_c.specs.Opening.{pair_of}
