@@ -22,9 +22,10 @@ use Rattle.pgp_c.proofs.Sending.{wrote}
 message : (len : ℕ) → len ≤ 2147483643 → (bytes : List ℕ) → length bytes ≡ len → (cause (CopyData bytes) ≡ None) × (bytes_of (CopyData bytes) ≡ copy_head len ++ bytes)
 message len few bytes size =
     let whole : bytes ++ [] ≡ bytes = append-nil bytes in
-    let count = ap (λ l. length l) whole in
-    (length_fits (length (bytes ++ []) + 4) (omega (arith, few, size, count)),
-      ap (λ l. frame 100 l) whole ∙ ap (λ n. 100 ∷ (uint32 (n + 4) ++ bytes)) size)
+    let count = ap (λ l. length l) whole in (
+      length_fits (length (bytes ++ []) + 4) (omega (arith, few, size, count)),
+      ap (λ l. frame 100 l) whole ∙ ap (λ n. 100 ∷ (uint32 (n + 4) ++ bytes)) size,
+    )
 
 pub head_sent : (len size : ℕ) → size ≡ len + 4 → len ≤ 2147483643 → (w v : Window) (old : List ℕ) (name : GName) → window_held w ≡ record { bytes = []; behind = old; kept = (name, length old) }
     → window_held v ≡ window_held w ⊕ (100 ∷ uint32 size) → (x : List ℕ) → (name ≡ v.room.ghost_name → x ≡ v.room.now) → (told : ℕ) → told ≡ length (take v.len v.room.now) → SentHead len old x told

@@ -10,7 +10,11 @@ ghost use Rattle.pgp_c.specs.Streams.{Extends, Keeps};
 
 use crate::listing::{PgpValue, pgp_bind, pgp_parse};
 use crate::opening::{PgpPair, pgp_startup};
-use crate::writing::{pgp_cancel_request, pgp_close, pgp_copy_done, pgp_copy_fail, pgp_describe, pgp_execute, pgp_flush, pgp_password_message, pgp_query, pgp_sasl_initial_response, pgp_sasl_response, pgp_ssl_request, pgp_sync, pgp_terminate};
+use crate::writing::{
+    pgp_cancel_request, pgp_close, pgp_copy_done, pgp_copy_fail, pgp_describe, pgp_execute,
+    pgp_flush, pgp_password_message, pgp_query, pgp_sasl_initial_response, pgp_sasl_response,
+    pgp_ssl_request, pgp_sync, pgp_terminate,
+};
 
 /// The answer where a message may not come: no startup packet was written, or one was.
 const WRONG_PHASE: u32 = 32;
@@ -48,7 +52,11 @@ pub extern "C" fn pgp_stream_ssl_request(stream: &mut PgpStream<'_>) -> u32
 
 /// Asks for the end of what another session runs, by the number and the key of its BackendKeyData.
 #[unsafe(no_mangle)]
-pub extern "C" fn pgp_stream_cancel_request(stream: &mut PgpStream<'_>, process_id: i32, secret_key: &[u8]) -> u32
+pub extern "C" fn pgp_stream_cancel_request(
+    stream: &mut PgpStream<'_>,
+    process_id: i32,
+    secret_key: &[u8],
+) -> u32
     ensures added { result ≡ 0 → Extends (CancelRequest process_id secret_key.now) stream.old stream.new }
     ensures phase { stream.old.is_open ≢ false → result ≡ 32 }
     ensures kept { result ≢ 0 → Keeps stream.old stream.new }
@@ -115,7 +123,11 @@ pub extern "C" fn pgp_stream_password_message(stream: &mut PgpStream<'_>, passwo
 
 /// The choice of a SASL mechanism, and the first text of its exchange.
 #[unsafe(no_mangle)]
-pub extern "C" fn pgp_stream_sasl_initial_response(stream: &mut PgpStream<'_>, mechanism: &[u8], response: &[u8]) -> u32
+pub extern "C" fn pgp_stream_sasl_initial_response(
+    stream: &mut PgpStream<'_>,
+    mechanism: &[u8],
+    response: &[u8],
+) -> u32
     ensures added { result ≡ 0 → Extends (SaslInitialResponse mechanism.now response.now) stream.old stream.new }
     ensures phase { stream.old.is_open ≢ true → result ≡ 32 }
     ensures kept { result ≢ 0 → Keeps stream.old stream.new }
@@ -175,7 +187,12 @@ pub extern "C" fn pgp_stream_query(stream: &mut PgpStream<'_>, text: &[u8]) -> u
 
 /// Prepares a statement of this name, with the types of its first parameters.
 #[unsafe(no_mangle)]
-pub extern "C" fn pgp_stream_parse(stream: &mut PgpStream<'_>, name: &[u8], query: &[u8], types: &[u32]) -> u32
+pub extern "C" fn pgp_stream_parse(
+    stream: &mut PgpStream<'_>,
+    name: &[u8],
+    query: &[u8],
+    types: &[u32],
+) -> u32
     ensures added { result ≡ 0 → Extends (Parse name.now query.now types.now) stream.old stream.new }
     ensures phase { stream.old.is_open ≢ true → result ≡ 32 }
     ensures kept { result ≢ 0 → Keeps stream.old stream.new }
@@ -195,7 +212,14 @@ pub extern "C" fn pgp_stream_parse(stream: &mut PgpStream<'_>, name: &[u8], quer
 
 /// Binds values to a statement's parameters, and makes a portal of it.
 #[unsafe(no_mangle)]
-pub extern "C" fn pgp_stream_bind(stream: &mut PgpStream<'_>, portal: &[u8], statement: &[u8], formats: &[i16], values: &[PgpValue<'_>], result_formats: &[i16]) -> u32
+pub extern "C" fn pgp_stream_bind(
+    stream: &mut PgpStream<'_>,
+    portal: &[u8],
+    statement: &[u8],
+    formats: &[i16],
+    values: &[PgpValue<'_>],
+    result_formats: &[i16],
+) -> u32
     ensures added { result ≡ 0 → Extends (Bind portal.now statement.now formats.now (map value_of values.now) result_formats.now) stream.old stream.new }
     ensures phase { stream.old.is_open ≢ true → result ≡ 32 }
     ensures kept { result ≢ 0 → Keeps stream.old stream.new }
@@ -208,7 +232,15 @@ pub extern "C" fn pgp_stream_bind(stream: &mut PgpStream<'_>, portal: &[u8], sta
         return NO_ROOM;
     }
     let mut added = 0;
-    let code = pgp_bind(portal, statement, formats, values, result_formats, &mut stream.room[len..], &mut added);
+    let code = pgp_bind(
+        portal,
+        statement,
+        formats,
+        values,
+        result_formats,
+        &mut stream.room[len..],
+        &mut added,
+    );
     stream.len = len.saturating_add(added);
     code
 }
@@ -235,7 +267,11 @@ pub extern "C" fn pgp_stream_describe(stream: &mut PgpStream<'_>, variant: u8, n
 
 /// Runs a portal, for at most so many rows; 0 is no limit.
 #[unsafe(no_mangle)]
-pub extern "C" fn pgp_stream_execute(stream: &mut PgpStream<'_>, portal: &[u8], max_rows: i32) -> u32
+pub extern "C" fn pgp_stream_execute(
+    stream: &mut PgpStream<'_>,
+    portal: &[u8],
+    max_rows: i32,
+) -> u32
     ensures added { result ≡ 0 → Extends (Execute portal.now max_rows) stream.old stream.new }
     ensures phase { stream.old.is_open ≢ true → result ≡ 32 }
     ensures kept { result ≢ 0 → Keeps stream.old stream.new }
