@@ -2,9 +2,11 @@
 # `make program` proves and builds the program, which `make run` and `./pgwire` run from then on.
 # `make edits`, before a release, tries every wrong body by itself, `make edits CRATES=pgp_base` those of one crate.
 # `make live` tries SASLprep with a PostgreSQL server of this machine, which it starts and stops.
+# `make library` proves and builds the library for C (docs/C.md), `make install PREFIX=..` puts it and the program there, and
+# `make check-c` tries it from C, C++ and Python.
 # `make bench` times the works of crates/pgp_bench, `make bench WORKS=write` those whose names begin so.
 
-.PHONY: run program test edits bench live
+.PHONY: run program test edits bench live library install check-c
 
 run:
 	@scripts/sample
@@ -30,3 +32,13 @@ bench:
 live:
 	cd crates/pgp_rows && rt run >/dev/null 2>&1 || [ -x out/pgp_rows ]
 	@scripts/live_saslprep
+
+library:
+	@scripts/library build
+
+install:
+	@[ -n "$(PREFIX)" ] || { echo "make: say where to: make install PREFIX=.." >&2; exit 1; }
+	@scripts/library install "$(PREFIX)"
+
+check-c:
+	@scripts/check_c

@@ -1,0 +1,259 @@
+/*
+ * postgres_protocol.h: the byte level of a PostgreSQL client, proved.
+ *
+ * Writers of a client's messages, a reader of a server's messages, the binary format of values. Link libpgp_c.a; it calls nothing
+ * but memcpy, memmove, memset and memcmp of the C library, takes no memory, keeps nothing between two calls and has no global
+ * state. (Passwords and escapes are in postgres_protocol_auth.h, libpgp_c_auth.a.)
+ *
+ * Each call works on memory that the caller owns and lends for the time of the call. Any number of threads may call at once, as
+ * long as no two of them are handed the same memory to write.
+ *
+ * STATUS   A call answers PGP_OK, or a positive number that says why it did nothing. 1 to 20 are the refusals of the core and never
+ *          change their meaning. PGP_MORE and PGP_DONE are no errors: they tell where reading stops.
+ *
+ * WRITERS  take `out`, `room` (how many bytes may be written there) and `written`. On PGP_OK exactly one message stands in
+ *          out[0 .. *written) and the rest of the room is as it was. On any other answer *written is 0, and what out[0 .. room)
+ *          holds is not promised (the front of the message may stand there); nothing outside it is touched. So
+ *              len += n    and    send(fd, buf, len)
+ *          are right after any answer, but that a message is missing. To write several messages, pass buf + len and size - len.
+ *
+ *          HOW MUCH ROOM? Where the room is too small a writer answers PGP_NO_ROOM: grow it (doubling serves) and call again. The
+ *          pgp_*_size functions tell beforehand how many bytes a message takes, with no call into the library.
+ *
+ * TEXTS    are a pointer and a length, with no 0 byte behind them, and UTF-8. A text with a 0 byte is refused (PGP_E_EMBEDDED_NULL):
+ *          no name, query or value can change how a server cuts the stream.
+ *
+ * POINTERS Where a length is 0 the pointer is not read. The proof speaks of pointers that are not NULL; NULL with the length 0 is
+ *          tested and serves.
+ *
+ * C99 or later, C++98 or later with <stdint.h>. Sizes and offsets of the structs are checked where the library is built.
+ */
+#ifndef POSTGRES_PROTOCOL_H
+#define POSTGRES_PROTOCOL_H
+
+#include <stdbool.h>
+#include <stddef.h>
+#include <stdint.h>
+#include <string.h>
+
+#ifdef __cplusplus
+extern "C" {
+#endif
+
+#define PGP_VERSION_MAJOR 0
+#define PGP_VERSION_MINOR 1
+
+/* ---- what a call answers ---- */
+
+typedef uint32_t pgp_status;
+
+enum {
+    PGP_OK = 0,
+    PGP_NO_ROOM = 1,                    /* the room is too small (the core's OutOfMemory)                */
+    PGP_E_EMBEDDED_NULL = 2,            /* a text has a 0 byte                                           */
+    PGP_E_TOO_LARGE = 3,                /* a count or a length passes its field                          */
+    PGP_E_INVALID_LENGTH = 4,           /* a frame announces a length below 4: the stream can't go on    */
+    PGP_E_UNKNOWN_TAG = 5,              /* no message of a server has the tag                            */
+    PGP_E_UNKNOWN_AUTHENTICATION = 6,   /* no authentication request has the code                        */
+    PGP_E_UNEXPECTED_EOF = 7,           /* a part is cut short                                           */
+    PGP_E_NOT_DRAINED = 8,              /* bytes stand behind a complete body, list or value             */
+    PGP_E_NOT_UTF8 = 9,                 /* a text isn't UTF-8                                            */
+    PGP_E_INVALID_SIZE = 10,            /* a value has the wrong number of bytes                         */
+    /* 11 to 20: refusals of values, in the order of the core */
+    PGP_E_WRONG_PHASE = 32,             /* pgp_stream_*: the message may not come here                   */
+    PGP_E_EMPTY_NAME = 33,              /* a parameter of a startup packet has no name                   */
+    PGP_E_VERSION = 34,                 /* a startup packet of another version than 3.0 and 3.2          */
+    PGP_MORE = 100,                     /* bytes are missing: read more, and call again                  */
+    PGP_DONE = 101                      /* the walk is at its end                                        */
+};
+
+/* ---- writers: one message each ---- */
+
+#define PGP_OUT uint8_t *out, size_t room, size_t *written
+
+/* The packets that open a connection. */
+struct pgp_pair { const uint8_t *name; size_t name_len; const uint8_t *value; size_t value_len; };
+/* Names and values, among them `user`. 3.2 is a profile of this project's own; nothing is claimed of a server's 3.2. */
+enum { PGP_VERSION_3_0 = 196608, PGP_VERSION_3_2 = 196610 };
+pgp_status pgp_startup(int32_t version, const struct pgp_pair *parameters, size_t count, PGP_OUT);
+pgp_status pgp_ssl_request(PGP_OUT);               /* the server answers with one byte, which is no message */
+/* By the number and the key of a BACKEND_KEY_DATA: 4 bytes, or 4 to 256 in 3.2; else PGP_E_INVALID_SIZE. */
+pgp_status pgp_cancel_request(int32_t process_id, const uint8_t *secret_key, size_t key_len, PGP_OUT);
+
+/* Authentication. */
+pgp_status pgp_password_message(const uint8_t *password, size_t len, PGP_OUT);
+pgp_status pgp_sasl_initial_response(const uint8_t *mechanism, size_t mechanism_len,
+                                     const uint8_t *response, size_t len, PGP_OUT);
+pgp_status pgp_sasl_response(const uint8_t *response, size_t len, PGP_OUT);
+
+/* Simple queries, and the end. */
+pgp_status pgp_query(const uint8_t *text, size_t len, PGP_OUT);
+pgp_status pgp_terminate(PGP_OUT);
+
+/* Extended queries. `variant` is 'S' for a statement and 'P' for a portal. max_rows 0: no limit. */
+pgp_status pgp_parse(const uint8_t *name, size_t name_len, const uint8_t *query, size_t query_len,
+                     const uint32_t *types, size_t type_count, PGP_OUT);
+pgp_status pgp_describe(uint8_t variant, const uint8_t *name, size_t len, PGP_OUT);
+pgp_status pgp_execute(const uint8_t *portal, size_t len, int32_t max_rows, PGP_OUT);
+pgp_status pgp_close(uint8_t variant, const uint8_t *name, size_t len, PGP_OUT);
+pgp_status pgp_sync(PGP_OUT);
+pgp_status pgp_flush(PGP_OUT);
+
+/* A value of a bind: its bytes in the format that its place asks for (0 text, 1 binary), or a null, whose bytes aren't read.
+   pgp_value makes one of a pointer and a length; a NULL pointer makes a null. */
+struct pgp_value { const uint8_t *bytes; size_t bytes_len; bool is_null; };
+static inline struct pgp_value pgp_value(const void *bytes, size_t len)
+{
+    struct pgp_value v;
+    v.bytes = bytes ? (const uint8_t *)bytes : (const uint8_t *)"";
+    v.bytes_len = bytes ? len : 0;
+    v.is_null = !bytes;
+    return v;
+}
+/* Formats: none (all text), one (for all), or one for each. */
+pgp_status pgp_bind(const uint8_t *portal, size_t portal_len, const uint8_t *statement, size_t statement_len,
+                    const int16_t *formats, size_t format_count,
+                    const struct pgp_value *values, size_t value_count,
+                    const int16_t *result_formats, size_t result_format_count, PGP_OUT);
+
+/* Copies. The data go as they are: pgp_copy_data_head writes the 5 bytes before `len` bytes of data, which need not be copied. */
+pgp_status pgp_copy_data_head(size_t len, PGP_OUT);
+pgp_status pgp_copy_done(PGP_OUT);
+pgp_status pgp_copy_fail(const uint8_t *reason, size_t len, PGP_OUT);
+
+/* How many bytes a message takes. The sums don't wrap while the parts are memory of one process. */
+static inline size_t pgp_query_size(size_t len) { return 6 + len; }
+static inline size_t pgp_execute_size(size_t portal_len) { return 10 + portal_len; }
+static inline size_t pgp_describe_size(size_t name_len) { return 7 + name_len; }
+static inline size_t pgp_parse_size(size_t name_len, size_t query_len, size_t type_count)
+{
+    return 9 + name_len + query_len + 4 * type_count;
+}
+static inline size_t pgp_bind_size(size_t portal_len, size_t statement_len, size_t format_count,
+                                   const struct pgp_value *values, size_t value_count, size_t result_format_count)
+{
+    size_t i, size = 13 + portal_len + statement_len + 2 * format_count + 4 * value_count + 2 * result_format_count;
+    for (i = 0; i < value_count; i++) size += values[i].is_null ? 0 : values[i].bytes_len;
+    return size;
+}
+enum { PGP_SYNC_SIZE = 5, PGP_FLUSH_SIZE = 5, PGP_TERMINATE_SIZE = 5, PGP_SSL_REQUEST_SIZE = 8, PGP_COPY_DATA_HEAD_SIZE = 5 };
+static inline size_t pgp_cancel_request_size(size_t key_len) { return 12 + key_len; }
+
+/* ---- a client's stream: writers that know the phase ---- */
+
+/* The caller makes one, with len 0 and is_open false, over memory of his own; after a send he sets len to 0 (or moves the rest to the
+   front) and leaves `is_open`. A message that may not come is refused with PGP_E_WRONG_PHASE: requests come before the startup packet,
+   all other messages behind it. Then a server that knows only the grammar reads the stream in one way. */
+struct pgp_stream { uint8_t *room; size_t room_len; size_t len; bool is_open; };
+pgp_status pgp_stream_ssl_request(struct pgp_stream *stream);
+pgp_status pgp_stream_cancel_request(struct pgp_stream *stream, int32_t process_id, const uint8_t *secret_key, size_t key_len);
+pgp_status pgp_stream_startup(struct pgp_stream *stream, int32_t version, const struct pgp_pair *parameters, size_t count);
+pgp_status pgp_stream_password_message(struct pgp_stream *stream, const uint8_t *password, size_t len);
+pgp_status pgp_stream_sasl_initial_response(struct pgp_stream *stream, const uint8_t *mechanism, size_t mechanism_len,
+                                            const uint8_t *response, size_t len);
+pgp_status pgp_stream_sasl_response(struct pgp_stream *stream, const uint8_t *response, size_t len);
+pgp_status pgp_stream_query(struct pgp_stream *stream, const uint8_t *text, size_t len);
+pgp_status pgp_stream_parse(struct pgp_stream *stream, const uint8_t *name, size_t name_len, const uint8_t *query, size_t query_len,
+                            const uint32_t *types, size_t type_count);
+pgp_status pgp_stream_bind(struct pgp_stream *stream, const uint8_t *portal, size_t portal_len, const uint8_t *statement, size_t statement_len,
+                           const int16_t *formats, size_t format_count, const struct pgp_value *values, size_t value_count,
+                           const int16_t *result_formats, size_t result_format_count);
+pgp_status pgp_stream_describe(struct pgp_stream *stream, uint8_t variant, const uint8_t *name, size_t len);
+pgp_status pgp_stream_execute(struct pgp_stream *stream, const uint8_t *portal, size_t len, int32_t max_rows);
+pgp_status pgp_stream_close(struct pgp_stream *stream, uint8_t variant, const uint8_t *name, size_t len);
+pgp_status pgp_stream_flush(struct pgp_stream *stream);
+pgp_status pgp_stream_sync(struct pgp_stream *stream);
+pgp_status pgp_stream_copy_done(struct pgp_stream *stream);
+pgp_status pgp_stream_copy_fail(struct pgp_stream *stream, const uint8_t *reason, size_t len);
+pgp_status pgp_stream_terminate(struct pgp_stream *stream);
+
+/* ---- the messages of a server ---- */
+
+enum pgp_kind {
+    PGP_NONE = 0, PGP_AUTHENTICATION_CLEARTEXT_PASSWORD = 1, PGP_AUTHENTICATION_GSS = 2, PGP_AUTHENTICATION_GSS_CONTINUE = 3,
+    PGP_AUTHENTICATION_KERBEROS_V5 = 4, PGP_AUTHENTICATION_MD5_PASSWORD = 5, PGP_AUTHENTICATION_OK = 6,
+    PGP_AUTHENTICATION_SASL = 7, PGP_AUTHENTICATION_SASL_CONTINUE = 8, PGP_AUTHENTICATION_SASL_FINAL = 9,
+    PGP_AUTHENTICATION_SCM_CREDENTIAL = 10, PGP_AUTHENTICATION_SSPI = 11, PGP_BACKEND_KEY_DATA = 12, PGP_BIND_COMPLETE = 13,
+    PGP_CLOSE_COMPLETE = 14, PGP_COMMAND_COMPLETE = 15, PGP_COPY_DATA = 16, PGP_COPY_DONE = 17, PGP_COPY_IN_RESPONSE = 18,
+    PGP_COPY_OUT_RESPONSE = 19, PGP_DATA_ROW = 20, PGP_EMPTY_QUERY_RESPONSE = 21, PGP_ERROR_RESPONSE = 22, PGP_NO_DATA = 23,
+    PGP_NOTICE_RESPONSE = 24, PGP_NOTIFICATION_RESPONSE = 25, PGP_PARAMETER_DESCRIPTION = 26, PGP_PARAMETER_STATUS = 27,
+    PGP_PARSE_COMPLETE = 28, PGP_PORTAL_SUSPENDED = 29, PGP_READY_FOR_QUERY = 30, PGP_ROW_DESCRIPTION = 31,
+    PGP_NEGOTIATE_PROTOCOL_VERSION = 32
+};
+
+/* Some of the bytes that a call was handed: `len` of them, from bytes[at] on. */
+struct pgp_part { size_t at, len; };
+
+/* The parts of a message, by its kind; what a kind doesn't have is 0.
+     COMMAND_COMPLETE                             first: the command's tag
+     ERROR_RESPONSE, NOTICE_RESPONSE              first: the fields
+     COPY_DATA                                    first: the data
+     AUTHENTICATION_SASL                          first: the mechanisms
+     .._SASL_CONTINUE, _SASL_FINAL, _GSS_CONTINUE first: the server's text
+     .._MD5_PASSWORD                              first: the salt, 4 bytes
+     PARAMETER_STATUS                             first: the name      second: the value
+     NOTIFICATION_RESPONSE                        first: the channel   second: the payload   number: the process
+     DATA_ROW                                     first: the values    count: how many
+     ROW_DESCRIPTION, PARAMETER_DESCRIPTION       first: the columns or types    count: how many
+     COPY_IN_RESPONSE, COPY_OUT_RESPONSE          first: the columns' formats    count: how many   byte: the whole copy's
+     BACKEND_KEY_DATA                             first: the secret key    number: the process
+     NEGOTIATE_PROTOCOL_VERSION                   first: the options   count: how many   number: the version
+     READY_FOR_QUERY                              byte: 'I', 'T' or 'E'                                                      */
+struct pgp_parts { struct pgp_part first, second; size_t count; int32_t number; uint8_t byte; };
+
+struct pgp_message {
+    size_t frame;             /* how many bytes the frame takes: go on at bytes + frame. 0 for PGP_MORE and PGP_E_INVALID_LENGTH */
+    struct pgp_parts parts;
+    uint8_t kind;             /* enum pgp_kind; PGP_NONE unless the answer is PGP_OK                                             */
+    uint8_t tag;              /* the frame's first byte; 0 where frame is 0                                                      */
+};
+
+/* The message at the front of the bytes, read in place: nothing is copied. Answers
+     PGP_OK                    a message: kind, parts, and the frame's length
+     PGP_MORE                  no whole frame stands there: read more behind these bytes
+     PGP_E_INVALID_LENGTH      the stream can't be read on
+     5, 6, 7, 8                the frame is whole, and its body is refused: it may be passed over (frame)               */
+pgp_status pgp_front(const uint8_t *bytes, size_t len, struct pgp_message *message);
+
+/* A walk over the items of a list, in three numbers of the caller's. Begin with pgp_walk. */
+struct pgp_cursor { size_t at, end, left; };
+static inline struct pgp_cursor pgp_walk(const struct pgp_message *message)
+{
+    struct pgp_cursor c;
+    c.at = message->parts.first.at;
+    c.end = c.at + message->parts.first.len;
+    c.left = message->parts.count;
+    return c;
+}
+
+/* The next value of a row: bytes[start .. end), or a null. PGP_DONE behind the last; a refusal (7: the value is cut short, 8: bytes
+   stand behind the last one) is answered again at each later call. Both leave the cursor and the column as they are. */
+struct pgp_column { size_t start, end; bool is_null; };
+pgp_status pgp_row_next(const uint8_t *bytes, size_t len, struct pgp_cursor *cursor, struct pgp_column *column);
+
+/* ---- values in the binary format ---- */
+
+/* A text, a bytea and a uuid are their bytes as they stand (a uuid 16 of them), and need no call.
+   Floating-point numbers cross as their bits; pgp_float4_bits and so on turn them. A get leaves *value as it is where it is refused. */
+pgp_status pgp_put_bool(bool value, PGP_OUT);          pgp_status pgp_get_bool(const uint8_t *bytes, size_t len, bool *value);
+pgp_status pgp_put_int2(int16_t value, PGP_OUT);       pgp_status pgp_get_int2(const uint8_t *bytes, size_t len, int16_t *value);
+pgp_status pgp_put_int4(int32_t value, PGP_OUT);       pgp_status pgp_get_int4(const uint8_t *bytes, size_t len, int32_t *value);
+pgp_status pgp_put_int8(int64_t value, PGP_OUT);       pgp_status pgp_get_int8(const uint8_t *bytes, size_t len, int64_t *value);
+pgp_status pgp_put_oid(uint32_t value, PGP_OUT);       pgp_status pgp_get_oid(const uint8_t *bytes, size_t len, uint32_t *value);
+pgp_status pgp_put_lsn(uint64_t value, PGP_OUT);       pgp_status pgp_get_lsn(const uint8_t *bytes, size_t len, uint64_t *value);
+/* microseconds, and days, since 2000-01-01 */
+pgp_status pgp_put_timestamp(int64_t value, PGP_OUT);  pgp_status pgp_get_timestamp(const uint8_t *bytes, size_t len, int64_t *value);
+pgp_status pgp_put_time(int64_t value, PGP_OUT);       pgp_status pgp_get_time(const uint8_t *bytes, size_t len, int64_t *value);   /* since midnight */
+pgp_status pgp_put_date(int32_t value, PGP_OUT);       pgp_status pgp_get_date(const uint8_t *bytes, size_t len, int32_t *value);
+pgp_status pgp_put_float4(uint32_t bits, PGP_OUT);     pgp_status pgp_get_float4(const uint8_t *bytes, size_t len, uint32_t *bits);
+pgp_status pgp_put_float8(uint64_t bits, PGP_OUT);     pgp_status pgp_get_float8(const uint8_t *bytes, size_t len, uint64_t *bits);
+
+static inline uint64_t pgp_float8_bits(double value) { uint64_t bits; memcpy(&bits, &value, sizeof bits); return bits; }
+static inline double pgp_float8_of(uint64_t bits) { double value; memcpy(&value, &bits, sizeof value); return value; }
+static inline uint32_t pgp_float4_bits(float value) { uint32_t bits; memcpy(&bits, &value, sizeof bits); return bits; }
+static inline float pgp_float4_of(uint32_t bits) { float value; memcpy(&value, &bits, sizeof value); return value; }
+
+#ifdef __cplusplus
+}
+#endif
+#endif

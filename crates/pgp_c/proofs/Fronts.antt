@@ -1,0 +1,175 @@
+-- The parts of a message stand where they are told to.
+use Rattle.std.proofs.Common.{◌≡◌, ℕ, pos, ◌+◌, ◌-◌, ◌≤◌, List, [], ◌∷◌, ◌++◌, length, take, drop, Option, Some, None, Result, Ok, Err, refl, sym, ap, ◌∙◌, subst, arith}
+use Rattle.std.specs.Prelude.{◌≢◌}
+use Rattle.std.proofs.Math.Seq.{take-append_seam, drop-append_seam}
+use Rattle.std.proofs.lemmas.List.{length-append, append_assoc, append-nil}
+use Rattle.pgp_base.specs.Wire.{uint16, uint32, int32, text, HasNoZero}
+use Rattle.pgp_base.specs.PartReading.{string_at}
+use Rattle.pgp_base.specs.declared.error.Error.{Error}
+use Rattle.pgp_base.specs.declared.error.Error.TheVariants as errors
+use Rattle.pgp_base.proofs.PartLemmas.{int32_number, uint16_number}
+use Rattle.pgp_base.proofs.Strings.{string_front}
+use Rattle.pgp_message.specs.BackendMessage.{AuthenticationOk, AuthenticationKerberosV5, AuthenticationCleartextPassword, AuthenticationMd5Password, AuthenticationScmCredential, AuthenticationGss, AuthenticationGssContinue, AuthenticationSspi, AuthenticationSasl, AuthenticationSaslContinue, AuthenticationSaslFinal, Message, NegotiateProtocolVersion, NotificationResponse, CommandComplete, DataRow, ErrorResponse, CopyInResponse, CopyOutResponse, BackendKeyData, NoticeResponse, Authentication, ParameterStatus, RowDescription, ReadyForQuery, CopyData, ParameterDescription, payload_of}
+use Rattle.pgp_message.specs.Stream.{Frame, frame_bytes, TakesFrame, Step}
+use Rattle.pgp_c.specs.declared.front.PgpMessage.{PgpMessage}
+use Rattle.pgp_c.specs.declared.front.PgpParts.{PgpParts}
+use Rattle.pgp_c.specs.Front.{Told, code_of as code_told, kind_told, ShowsAll}
+use Rattle.pgp_c.specs.Parts.{Shows, no_parts, stands}
+use Rattle.pgp_c.specs.Places.{place, first_of, second_of}
+
+module _ (bytes new : List ℕ) (f : Frame) (whole : bytes ≡ frame_bytes f ++ new) where
+  abbrev head : List ℕ
+  head = f.tag ∷ uint32 (length f.payload + 4)
+
+  head_length : length head ≡ 5
+  unfolding uint32
+  head_length = refl
+
+  -- what stands behind the header and the front of the payload
+  behind : (front rest : List ℕ) (n : ℕ) → f.payload ≡ front ++ rest → n ≡ 5 + length front → drop n bytes ≡ rest ++ new
+  behind front rest n pay at =
+      let e : bytes ≡ (head ++ front) ++ (rest ++ new) =
+      whole ∙ ap (λ p. (head ++ p) ++ new) pay ∙ ap (λ x. x ++ new) (sym (append_assoc head front rest)) ∙ append_assoc (head ++ front) rest new in
+      let count : n ≡ length (head ++ front) = omega (arith, at, head_length, length-append head front) in
+      ap (λ i. drop i bytes) count ∙ ap (λ l. drop (length (head ++ front)) l) e ∙ drop-append_seam (head ++ front) (rest ++ new)
+
+  sits : (front mid back : List ℕ) (n k : ℕ) → f.payload ≡ front ++ (mid ++ back) → n ≡ 5 + length front → k ≡ length mid → take k (drop n bytes) ≡ mid
+  sits front mid back n k pay at len =
+      let e = behind front (mid ++ back) n pay at ∙ append_assoc mid back new in
+      ap (λ i. take i (drop n bytes)) len ∙ ap (λ l. take (length mid) l) e ∙ take-append_seam mid (back ++ new)
+
+  -- how long the frame is
+  frame_length : (frame : ℕ) → frame ≡ length bytes - length new → frame ≡ 5 + length f.payload
+  frame_length frame is = omega (arith, is, ap length whole, length-append (head ++ f.payload) new, length-append head f.payload, head_length)
+
+  -- what ends the payload
+  last : (front rest : List ℕ) (n frame : ℕ) → frame ≡ length bytes - length new → f.payload ≡ front ++ rest → n ≡ 5 + length front → take (frame - n) (drop n bytes) ≡ rest
+  last front rest n frame is pay at =
+      sits front rest [] n (frame - n) (pay ∙ ap (λ l. front ++ l) (sym (append-nil rest))) at (omega (arith, frame_length frame is, at, ap length pay, length-append front rest))
+
+  module _ (front a b : List ℕ) (at frame : ℕ) (is : frame ≡ length bytes - length new) (pay : f.payload ≡ front ++ (text a ++ text b)) (none : HasNoZero a) (place_is : at ≡ 5 + length front) where
+    read : string_at (drop at bytes) ≡ Some (a, text b ++ new)
+    read = ap string_at (behind front (text a ++ text b) at pay place_is ∙ append_assoc (text a) (text b) new) ∙ string_front a (text b ++ new) none
+
+    first_stands : stands bytes (first_of at (string_at (drop at bytes))) ≡ a
+    first_stands =
+        ap (λ s. stands bytes (first_of at s)) read
+        ∙ sits front a (0 ∷ text b) at (length a) (pay ∙ ap (λ l. front ++ l) (append_assoc a (0 ∷ []) (text b))) place_is refl
+
+    lengths : length bytes ≡ 5 + length front + length a + 1 + length b + 1 + length new
+    lengths = omega (arith, ap length whole, length-append (head ++ f.payload) new, length-append head f.payload, head_length, ap length pay, length-append front (text a ++ text b), length-append (text a) (text b), length-append a (0 ∷ []), length-append b (0 ∷ []))
+
+    second_at : length bytes - length (text b ++ new) ≡ 5 + length (front ++ text a)
+    second_at = omega (arith, lengths, length-append (text b) new, length-append b (0 ∷ []), length-append front (text a), length-append a (0 ∷ []))
+
+    second_len : frame - 1 - (length bytes - length (text b ++ new)) ≡ length b
+    second_len = omega (arith, is, lengths, length-append (text b) new, length-append b (0 ∷ []))
+
+    second_stands : stands bytes (second_of (length bytes) frame (string_at (drop at bytes))) ≡ b
+    second_stands =
+        ap (λ s. stands bytes (second_of (length bytes) frame s)) read
+        ∙ sits (front ++ text a) b (0 ∷ []) _ _ (pay ∙ sym (append_assoc front (text a) (text b))) second_at second_len
+
+  module _ (frame : ℕ) (is : frame ≡ length bytes - length new) where
+    -- the payload is the parts, with nothing behind them
+    alone : (m : Message) → f.payload ≡ payload_of m ++ [] → f.payload ≡ payload_of m
+    alone m e = e ∙ append-nil (payload_of m)
+
+    -- what stands behind the code of a request
+    detail : (code : ℕ) (b : List ℕ) → f.payload ≡ (int32 (pos code) ++ b) ++ [] → take (frame - 9) (drop 9 bytes) ≡ b
+    detail code b e = last (int32 (pos code)) b 9 frame is (e ∙ append-nil (int32 (pos code) ++ b)) (ap (λ n. 5 + n) (sym (int32_number.len (pos code))))
+
+    storage : (count : ℕ) (b : List ℕ) → f.payload ≡ (uint16 count ++ b) ++ [] → take (frame - 7) (drop 7 bytes) ≡ b
+    storage count b e = last (uint16 count) b 7 frame is (e ∙ append-nil (uint16 count ++ b)) (ap (λ n. 5 + n) (sym (uint16_number.len count)))
+
+    formats : (format count : ℕ) (b : List ℕ) → f.payload ≡ (format ∷ uint16 count ++ b) ++ [] → take (frame - 8) (drop 8 bytes) ≡ b
+    unfolding uint16
+    formats format count b e = last (format ∷ uint16 count) b 8 frame is (e ∙ append-nil (format ∷ uint16 count ++ b)) refl
+
+-- the parts of a message that was taken stand where `place` says
+shows : (bytes new : List ℕ) (m : Message) (frame : ℕ) → frame ≡ length bytes - length new → TakesFrame bytes (Ok m) new → Shows bytes m (place m bytes frame)
+shows bytes new (CommandComplete tag) frame is t =
+    let e = alone bytes new t.first t.whole frame is (CommandComplete tag) t.body.parts in
+    (refl, sits bytes new t.first t.whole [] tag (0 ∷ []) 5 (frame - 6) e refl (omega (arith, frame_length bytes new t.first t.whole frame is, ap length e, length-append tag (0 ∷ []))))
+shows bytes new (ErrorResponse b) frame is t = (refl, last bytes new t.first t.whole [] b 5 frame is (t.body.parts ∙ append-nil b) refl)
+shows bytes new (NoticeResponse b) frame is t = (refl, last bytes new t.first t.whole [] b 5 frame is (t.body.parts ∙ append-nil b) refl)
+shows bytes new (CopyData b) frame is t = (refl, last bytes new t.first t.whole [] b 5 frame is (t.body.parts ∙ append-nil b) refl)
+shows bytes new (Authentication (AuthenticationGssContinue b)) frame is t = (refl, detail bytes new t.first t.whole frame is 8 b t.body.parts)
+shows bytes new (Authentication (AuthenticationSasl b)) frame is t = (refl, detail bytes new t.first t.whole frame is 10 b t.body.parts)
+shows bytes new (Authentication (AuthenticationSaslContinue b)) frame is t = (refl, detail bytes new t.first t.whole frame is 11 b t.body.parts)
+shows bytes new (Authentication (AuthenticationSaslFinal b)) frame is t = (refl, detail bytes new t.first t.whole frame is 12 b t.body.parts)
+shows bytes new (Authentication (AuthenticationMd5Password salt)) frame is t =
+    (refl, sits bytes new t.first t.whole (int32 (pos 5)) salt [] 9 4 (t.body.parts ∙ append_assoc (int32 (pos 5)) salt []) (ap (λ n. 5 + n) (sym (int32_number.len (pos 5)))) (sym t.body.fits))
+shows bytes new (DataRow row) frame is t = (refl, storage bytes new t.first t.whole frame is row.count row.storage t.body.parts)
+shows bytes new (RowDescription row) frame is t = (refl, storage bytes new t.first t.whole frame is row.count row.storage t.body.parts)
+shows bytes new (ParameterDescription row) frame is t = (refl, storage bytes new t.first t.whole frame is row.count row.storage t.body.parts)
+shows bytes new (CopyInResponse copy) frame is t = (refl, formats bytes new t.first t.whole frame is copy.format copy.count copy.storage t.body.parts)
+shows bytes new (CopyOutResponse copy) frame is t = (refl, formats bytes new t.first t.whole frame is copy.format copy.count copy.storage t.body.parts)
+shows bytes new (BackendKeyData key) frame is t =
+    let e = alone bytes new t.first t.whole frame is (BackendKeyData key) t.body.parts in
+    (refl, last bytes new t.first t.whole (int32 key.process_id) key.secret_key 9 frame is e (ap (λ n. 5 + n) (sym (int32_number.len key.process_id))))
+shows bytes new (NegotiateProtocolVersion n) frame is t =
+    let e = alone bytes new t.first t.whole frame is (NegotiateProtocolVersion n) t.body.parts in
+    let at : 13 ≡ 5 + length (int32 n.version ++ int32 (pos n.count)) = omega (arith, length-append (int32 n.version) (int32 (pos n.count)), int32_number.len n.version, int32_number.len (pos n.count)) in
+    (refl, last bytes new t.first t.whole (int32 n.version ++ int32 (pos n.count)) n.options 13 frame is e at)
+shows bytes new (ReadyForQuery status) frame is t = refl
+shows bytes new (ParameterStatus s) frame is t =
+    let e = alone bytes new t.first t.whole frame is (ParameterStatus s) t.body.parts in
+    (refl, first_stands bytes new t.first t.whole [] s.name s.value 5 frame is e t.body.fits.0 refl, second_stands bytes new t.first t.whole [] s.name s.value 5 frame is e t.body.fits.0 refl)
+shows bytes new (NotificationResponse n) frame is t =
+    let e = alone bytes new t.first t.whole frame is (NotificationResponse n) t.body.parts ∙ append_assoc (int32 n.process_id) (text n.channel) (text n.message) in
+    let at : 9 ≡ 5 + length (int32 n.process_id) = ap (λ n. 5 + n) (sym (int32_number.len n.process_id)) in
+    (refl, first_stands bytes new t.first t.whole (int32 n.process_id) n.channel n.message 9 frame is e t.body.fits.1 at, second_stands bytes new t.first t.whole (int32 n.process_id) n.channel n.message 9 frame is e t.body.fits.1 at)
+shows bytes new (Authentication AuthenticationOk) frame is t = refl
+shows bytes new (Authentication AuthenticationKerberosV5) frame is t = refl
+shows bytes new (Authentication AuthenticationCleartextPassword) frame is t = refl
+shows bytes new (Authentication AuthenticationScmCredential) frame is t = refl
+shows bytes new (Authentication AuthenticationGss) frame is t = refl
+shows bytes new (Authentication AuthenticationSspi) frame is t = refl
+shows bytes new m frame is t = refl
+
+-- what is left is what stands behind the frame
+left : (bytes new : List ℕ) → (e : Error) → TakesFrame bytes (Err e) new → drop (length bytes - length new) bytes ≡ new
+left bytes new e t =
+    let count : length bytes - length new ≡ length (frame_bytes t.first) = omega (arith, ap length t.whole, length-append (frame_bytes t.first) new) in
+    ap (λ i. drop i bytes) count ∙ ap (λ l. drop (length (frame_bytes t.first)) l) t.whole ∙ drop-append_seam (frame_bytes t.first) new
+
+left_of : (bytes new : List ℕ) → (m : Message) → TakesFrame bytes (Ok m) new → drop (length bytes - length new) bytes ≡ new
+left_of bytes new m t =
+    let count : length bytes - length new ≡ length (frame_bytes t.first) = omega (arith, ap length t.whole, length-append (frame_bytes t.first) new) in
+    ap (λ i. drop i bytes) count ∙ ap (λ l. drop (length (frame_bytes t.first)) l) t.whole ∙ drop-append_seam (frame_bytes t.first) new
+
+none_left : (bytes new : List ℕ) → new ≡ bytes → drop (length bytes - length new) bytes ≡ new
+none_left bytes new e = let none : length bytes - length new ≡ 0 = omega (arith, ap length e) in ap (λ i. drop i bytes) none ∙ sym e
+
+rest_is : (bytes new : List ℕ) (r : Result (Option Message) Error) → Step ⊥ bytes r new → drop (length bytes - length new) bytes ≡ new
+rest_is bytes new (Ok None) s = none_left bytes new s.1
+rest_is bytes new (Ok (Some m)) s = left_of bytes new m s
+rest_is bytes new (Err errors.InvalidLength) s = none_left bytes new s.1
+rest_is bytes new (Err errors.OutOfMemory) s = absurd s.1
+rest_is bytes new (Err e) s = left bytes new e s
+
+-- the parts that are told
+abbrev pub parts_told : List ℕ → ℕ → Result (Option Message) Error → PgpParts
+parts_told bytes frame (Ok (Some m)) = place m bytes frame
+parts_told bytes frame r = no_parts
+
+shows_all : (bytes new : List ℕ) (r : Result (Option Message) Error) (p : PgpMessage) → p.frame ≡ length bytes - length new → Step ⊥ bytes r new → p.parts ≡ parts_told bytes p.frame r → ShowsAll bytes r p
+shows_all bytes new (Ok None) p is s at = at
+shows_all bytes new (Ok (Some m)) p is s at = subst (λ (q : _). Shows bytes m q) (sym at) (shows bytes new m p.frame is s)
+shows_all bytes new (Err e) p is s at = at
+
+pub told : (bytes new : List ℕ) (r : Result (Option Message) Error) (p : PgpMessage) (code : ℕ) → p.frame ≡ length bytes - length new → Step ⊥ bytes r new → code ≡ code_told r → p.kind ≡ kind_told r
+    → p.parts ≡ parts_told bytes p.frame r → (p.frame ≢ 0 → p.frame ≤ length bytes → (rest : List ℕ) × (bytes ≡ p.tag ∷ rest)) → (p.frame ≡ 0 → p.tag ≡ 0) → Told bytes p code
+told bytes new r p code is s code_is kind_is at tag none =
+    let within : p.frame ≤ length bytes = omega (arith, is) in
+    record {
+      result = r;
+      step = subst (λ l. Step ⊥ bytes r l) (sym (ap (λ i. drop i bytes) is ∙ rest_is bytes new r s)) s;
+      within = within;
+      code_is = code_is;
+      kind_is = kind_is;
+      shows = shows_all bytes new r p is s at;
+      tag_is = λ some. tag some within;
+      no_tag = none;
+    }

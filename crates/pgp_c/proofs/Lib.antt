@@ -1,0 +1,7 @@
+mod Columns
+mod Copies
+mod Extensions
+mod Fronts
+mod Lists
+mod Openings
+mod Sending

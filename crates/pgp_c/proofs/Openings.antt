@@ -1,0 +1,138 @@
+-- The packet of the names and values that C hands over.
+use Rattle.std.proofs.Common.{◌≡◌, ◌⊎◌, ℕ, ◌≤◌, ◌&&◌, Bool, true, false, List, [], ◌∷◌, ◌++◌, map, length, Option, Some, None, Bor, refl, sym, ap, subst, ◌∙◌, inl, inr, arith, length-append, append_assoc}
+use denote.Param.Members.{Mut}
+use Rattle.std.specs.Borrow.{GName}
+use Rattle.std.specs.Fn.{Called}
+use Rattle.std.specs.Iterator.Adapters.{map_source, map_callee}
+use Rattle.std.specs.declared.iter.Map.{Map}
+use Rattle.std.proofs.lemmas.Iterator.{maps, YieldsList, YieldsList-from_map_by}
+use Rattle.std.specs.List.{flat_map, list_all}
+use Rattle.std.specs.Option.{option_to_list}
+use Rattle.std.specs.Str.{IsUtf8, is_utf8}
+use Rattle.std.proofs.lemmas.Bool.{cases_Bool}
+use Rattle.std.proofs.lemmas.Str.{IsUtf8-from_is_utf8, is_utf8-from_IsUtf8}
+use Rattle.std.proofs.lemmas.List.{append-nil, map-append}
+use Rattle.std.proofs.lemmas.List.Concat.{flat_map-append}
+use Rattle.pgp_base.specs.Calls.{Came}
+use Rattle.pgp_base.specs.Cause.{Cause, either, first, Wants, WantsMemory}
+use Rattle.pgp_base.specs.Held.{Held}
+use Rattle.pgp_base.specs.Window.{window_lacks}
+use Rattle.pgp_base.specs.declared.error.Error.{Error}
+use Rattle.pgp_base.proofs.Causes.{either_first, first-append}
+use Rattle.pgp_base.proofs.Parts.{wants_more}
+use Rattle.pgp_frontend.specs.ClientMessage.{Startup}
+use Rattle.pgp_frontend.specs.Given.{Arrived, StartupWhole, StartupSoFar, Refused, shown, shown_pairs}
+use Rattle.pgp_frontend.specs.Payload.{Int32, version_code, pair, pair_cause, parts, parts_cause, bytes_of, cause}
+use Rattle.pgp_frontend.specs.declared.startup.ProtocolVersion.{ProtocolVersion}
+use Rattle.pgp_frontend.proofs.Needs.{startup_length}
+use Rattle.postgres_protocol.proofs.StepLemmas.{all_given, some_given}
+use Rattle.pgp_c.specs.declared.opening.PgpPair.{PgpPair}
+use Rattle.pgp_c.specs.Opening.{is_text, pair_of, shown_pair, shown_text}
+
+not_text : (bytes : List ℕ) → ¬ IsUtf8 bytes → is_utf8 bytes ≡ false
+not_text bytes h = elim (cases_Bool (is_utf8 bytes)) [ inl t ↦ absurd (h (IsUtf8-from_is_utf8 bytes t)) | inr f ↦ f ]
+
+pub yes : (bytes : List ℕ) → IsUtf8 bytes → true ≡ is_utf8 bytes
+yes bytes h = sym (is_utf8-from_IsUtf8 bytes h)
+
+pub no : (bytes : List ℕ) → ¬ IsUtf8 bytes → false ≡ is_utf8 bytes
+no bytes h = sym (not_text bytes h)
+
+pub shown_some : (bytes t : List ℕ) → t ≡ bytes → IsUtf8 bytes → t ≡ shown_text bytes
+shown_some bytes t is h = rw (is_utf8-from_IsUtf8 bytes h) is
+
+pub shown_none : (bytes t : List ℕ) → t ≡ [] → ¬ IsUtf8 bytes → t ≡ shown_text bytes
+shown_none bytes t is h = rw (not_text bytes h) is
+
+-- what is UTF-8 is shown as it is
+both : (a b : Bool) → (a && b) ≡ true → (a ≡ true) × (b ≡ true)
+both true b h = (refl, h)
+both false b h = let e : false ≡ true = h in absurd cc
+
+text_shown : (bytes : List ℕ) → is_utf8 bytes ≡ true → shown_text bytes ≡ bytes
+text_shown bytes h = rw h refl
+
+pub all_shown : (ps : List PgpPair) → list_all is_text ps ≡ true → map shown_pair ps ≡ map pair_of ps
+all_shown [] h = refl
+all_shown (p ∷ ps) h =
+    let k = both (is_text p) (list_all is_text ps) h in
+    let t = both (is_utf8 p.name.now) (is_utf8 p.value.now) k.0 in
+    rw (text_shown p.name.now t.0, text_shown p.value.now t.1, all_shown ps k.1) refl
+
+last_cause : (c : Cause) (e : Error) → either c None ≡ Some e → c ≡ Some e
+last_cause (Some d) e h = h
+last_cause None e h = cc
+
+refused_pairs : (c d : Cause) (e : Error) → c ≡ Some e → either (either None (either c None)) d ≡ Some e
+refused_pairs c d e h = rw h refl
+
+module _ (v : ProtocolVersion) (all : List (List ℕ × List ℕ)) where
+  module _ (xs : List (Bor (List ℕ) × Bor (List ℕ))) (more : List (List ℕ × List ℕ)) (is : all ≡ map shown xs ++ more) where
+    -- the packet of the first pairs is no longer
+    longer : length (bytes_of (Startup v (map shown xs))) ≤ length (bytes_of (Startup v all))
+    longer =
+        let e : flat_map pair all ≡ flat_map pair (map shown xs) ++ flat_map pair more = ap (λ l. flat_map pair l) is ∙ flat_map-append pair (map shown xs) more in
+        omega (arith, startup_length v (map shown xs), startup_length v all, ap length e, length-append (flat_map pair (map shown xs)) (flat_map pair more), length-append (flat_map pair (map shown xs)) (0 ∷ []), length-append (flat_map pair all) (0 ∷ []))
+
+    -- a cause of theirs is that of the packet
+    caused : (e : Error) → parts_cause (Int32 (version_code v) ∷ shown_pairs xs ∷ []) ≡ Some e → cause (Startup v all) ≡ Some e
+    caused e h =
+        let one : first (map pair_cause (map shown xs)) ≡ Some e = last_cause (first (map pair_cause (map shown xs))) e h in
+        let whole : first (map pair_cause all) ≡ Some e =
+        ap (λ l. first (map pair_cause l)) is ∙ ap first (map-append pair_cause (map shown xs) more) ∙ first-append (map pair_cause (map shown xs)) (map pair_cause more) ∙ either_first (first (map pair_cause (map shown xs))) (first (map pair_cause more)) e one in
+        refused_pairs (first (map pair_cause all)) _ e whole
+
+  module _ (given : List (Bor (List ℕ) × Bor (List ℕ)) → Option (Bor (List ℕ) × Bor (List ℕ)) → Type 0) (given_all : (xs : List (Bor (List ℕ) × Bor (List ℕ))) → given xs None → map shown xs ≡ all)
+      (given_some : (xs : List (Bor (List ℕ) × Bor (List ℕ))) (x : Bor (List ℕ) × Bor (List ℕ)) → given xs (Some x) → (more : List (List ℕ × List ℕ)) × (all ≡ map shown xs ++ shown x ∷ more)) where
+    asked : (xs before : List (Bor (List ℕ) × Bor (List ℕ))) (next : Option (Bor (List ℕ) × Bor (List ℕ))) → given before next → xs ≡ before ++ option_to_list next → (more : List (List ℕ × List ℕ)) × (all ≡ map shown xs ++ more)
+    asked xs before None came are =
+        let e : map shown xs ≡ all = ap (λ l. map shown l) (are ∙ append-nil before) ∙ given_all before came in
+        ([], sym (append-nil (map shown xs) ∙ e))
+    asked xs before (Some x) came are =
+        let k = given_some before x came in
+        (k.0, k.1 ∙ sym (ap (λ l. map shown l ++ k.0) are ∙ ap (λ l. l ++ k.0) (map-append shown before (x ∷ [])) ∙ append_assoc (map shown before) (shown x ∷ []) k.0))
+
+    arrived : (xs : List (Bor (List ℕ) × Bor (List ℕ))) → Arrived given shown_pairs xs → (more : List (List ℕ × List ℕ)) × (all ≡ map shown xs ++ more)
+    arrived xs (inl none) = (all, sym (ap (λ l. map shown l ++ all) none))
+    arrived xs (inr a) = asked xs a.before a.next a.came a.are
+
+    pub startup_refused : (old : Held (GName × ℕ)) (e : Error) → Refused (StartupWhole v given) (StartupSoFar v given) window_lacks old e → WantsMemory (Wants window_lacks old (length (bytes_of (Startup v all)))) e ⊎ (cause (Startup v all) ≡ Some e)
+    startup_refused old e (inl k) =
+        let xs = k.1.0 in
+        let f = arrived xs k.1.1 in
+        elim k.2 [
+          | inl memory ↦ inl (memory.0, wants_more old _ _ (let size = ap (λ m. length (bytes_of m)) k.1.2 in let long = longer xs f.0 f.1 in omega (arith, size, long)) memory.1)
+          | inr c ↦ inr (caused xs f.0 f.1 e (ap (λ m. parts_cause (parts m)) (sym k.1.2) ∙ c))
+        ]
+    startup_refused old e (inr r) = inr (ap (λ l. cause (Startup v l)) (sym (given_all r.1.0 r.1.1)) ∙ ap cause (sym r.1.2) ∙ r.3)
+
+-- an iterator is made of itself
+abbrev FromItself : {S : Type 0} → S → S → Type 0
+FromItself source it = it ≡ source
+
+pub pair_is : (r : Bor (List ℕ) × Bor (List ℕ)) (p : PgpPair) → r.0.now ≡ shown_text p.name.now → r.1.now ≡ shown_text p.value.now → shown r ≡ shown_pair p
+pair_is r p e f = rw (e, f) refl
+
+-- the texts that a closure makes of the names and values
+module _ {S F : Type 0} (steps : S → Option (Bor PgpPair) → S → Type 0) (g : Mut F (Bor PgpPair × Unit {0}) (Bor (List ℕ) × Bor (List ℕ))) (source : Map S F) where
+  module _ (all : List PgpPair) (road : YieldsList steps (λ (x : Bor PgpPair). x.now) (map_source source) all) (f : F) (callee : map_callee source ≡ f)
+      (called : (x : Bor PgpPair) (r : Bor (List ℕ) × Bor (List ℕ)) (q : F) → Called g f (x, tt) r q → (q ≡ f) × (shown r ≡ shown_pair x.now)) where
+    roads : (it : Map S F) → FromItself source it → YieldsList (maps steps g) shown it (map shown_pair all)
+    roads it from = subst (λ s. YieldsList (maps steps g) shown s (map shown_pair all)) (sym from) (YieldsList-from_map_by g shown shown_pair road callee called)
+
+    all_pairs : (xs : List (Bor (List ℕ) × Bor (List ℕ))) → Came FromItself (maps steps g) source xs None → map shown xs ≡ map shown_pair all
+    all_pairs xs k = all_given FromItself (maps steps g) source shown (map shown_pair all) roads xs k
+
+    some_pairs : (xs : List (Bor (List ℕ) × Bor (List ℕ))) (x : Bor (List ℕ) × Bor (List ℕ)) → Came FromItself (maps steps g) source xs (Some x) → (more : List (List ℕ × List ℕ)) × (map shown_pair all ≡ map shown xs ++ shown x ∷ more)
+    some_pairs xs x k = some_given FromItself (maps steps g) source shown (map shown_pair all) roads xs x k
+
+  pub pairs_given : (xs : List (Bor (List ℕ) × Bor (List ℕ))) → Came FromItself (maps steps g) source xs None → (all : List PgpPair) → YieldsList steps (λ (x : Bor PgpPair). x.now) (map_source source) all → (f : F) → map_callee source ≡ f
+      → ((x : Bor PgpPair) (r : Bor (List ℕ) × Bor (List ℕ)) (q : F) → Called g f (x, tt) r q → (q ≡ f) × (shown r ≡ shown_pair x.now)) → map shown xs ≡ map shown_pair all
+  pairs_given xs k all road f callee called = all_pairs all road f callee called xs k
+
+  pub pairs_refused : (v : ProtocolVersion) (old : Held (GName × ℕ)) (e : Error) → Refused (StartupWhole v (Came FromItself (maps steps g) source)) (StartupSoFar v (Came FromItself (maps steps g) source)) window_lacks old e
+      → (all : List PgpPair) → YieldsList steps (λ (x : Bor PgpPair). x.now) (map_source source) all → (f : F) → map_callee source ≡ f
+      → ((x : Bor PgpPair) (r : Bor (List ℕ) × Bor (List ℕ)) (q : F) → Called g f (x, tt) r q → (q ≡ f) × (shown r ≡ shown_pair x.now))
+      → WantsMemory (Wants window_lacks old (length (bytes_of (Startup v (map shown_pair all))))) e ⊎ (cause (Startup v (map shown_pair all)) ≡ Some e)
+  pairs_refused v old e r all road f callee called =
+      startup_refused v (map shown_pair all) (Came FromItself (maps steps g) source) (all_pairs all road f callee called) (some_pairs all road f callee called) old e r

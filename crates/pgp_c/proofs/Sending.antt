@@ -1,0 +1,85 @@
+-- The memory of a caller of a writer.
+use Rattle.std.proofs.Common.{◌≡◌, ◌⊎◌, ℕ, ◌≤◌, List, [], length, take, None, Some, Result, Ok, Err, refl, ap, subst, ◌∙◌, inl, inr, arith}
+use Rattle.std.specs.Borrow.{GName}
+use Rattle.std.proofs.lemmas.Bool.{cases_lt}
+use Rattle.pgp_base.specs.Cause.{Cause, Wants, WantsMemory}
+use Rattle.pgp_base.specs.Error.{number_of}
+use Rattle.pgp_base.specs.Held.{Held, ◌⊕◌}
+use Rattle.pgp_base.specs.Window.{window_held, window_lacks}
+use Rattle.pgp_base.specs.declared.error.Error.{Error}
+use Rattle.pgp_base.specs.declared.error.Error.TheVariants.{OutOfMemory}
+use Rattle.pgp_base.specs.declared.window.Window.{Window}
+use Rattle.pgp_base.proofs.Fitting.{too_long}
+use Rattle.pgp_base.proofs.Needs.{wants_window}
+use Rattle.pgp_base.proofs.Windows.{window_size, window_written}
+use Rattle.pgp_frontend.specs.ClientMessage.{ClientMessage}
+use Rattle.pgp_frontend.specs.Payload.{bytes_of, cause, IsInRange}
+use Rattle.pgp_c.specs.Sending.{Sent, NotSent}
+use Rattle.pgp_c.specs.Values.{Wrote, Lacks}
+
+never : (let r : Result (Unit {0}) Error = Ok tt in let s : Result (Unit {0}) Error = Err OutOfMemory in r ≡ s) → ⊥
+never h = cc
+
+-- what stands in a window is within the memory
+within : (z : List ℕ) (w v : Window) (old : List ℕ) (name : GName) → window_held w ≡ record { bytes = []; behind = old; kept = (name, length old) } → window_held v ≡ window_held w ⊕ z → length z ≤ length old
+within z w v old name new wrote = elim (cases_lt (length old) (length z)) [
+  | inr fits ↦ fits
+  | inl long ↦
+      let room : (window_held w).kept.1 ≡ length old = ap (λ (h : Held (GName × ℕ)). h.kept.1) new in
+      let none : length (window_held w).bytes ≡ 0 = ap (λ (h : Held (GName × ℕ)). length h.bytes) new in
+      absurd (never (too_long z None w v (Ok tt) (refl, wrote) refl (omega (arith, room, none, long))))
+]
+
+-- `w` is the window as it was made on memory that held `old`, `v` as the writer of m left it, `x` what the memory holds at last
+pub sends : (m n : ClientMessage) → n ≡ m → (w v : Window) (old : List ℕ) (name : GName) → window_held w ≡ record { bytes = []; behind = old; kept = (name, length old) }
+    → IsInRange n → cause n ≡ None → window_held v ≡ window_held w ⊕ bytes_of n
+    → (x : List ℕ) → (name ≡ v.room.ghost_name → x ≡ v.room.now) → (told : ℕ) → told ≡ length (take v.len v.room.now) → Sent m old x told
+sends m n is w v old name new range none wrote x at_last told told_is = subst (λ k. Sent k old x told) is (record {
+  in_range = range;
+  none = none;
+  length_is = told_is ∙ window_size w v old (bytes_of n) name (length old) new wrote;
+  fits = within (bytes_of n) w v old name new wrote;
+  stands = window_written w v old (bytes_of n) name (length old) new wrote x at_last;
+})
+
+-- the core's refusal, as its number
+pub refuses : (texts : List (List ℕ)) (m n : ClientMessage) → n ≡ m → (w : Window) (old : List ℕ) (name : GName) → window_held w ≡ record { bytes = []; behind = old; kept = (name, length old) }
+    → (e : Error) (code told : ℕ) → WantsMemory (Wants window_lacks (window_held w) (length (bytes_of n))) e ⊎ (cause n ≡ Some e) → code ≡ number_of e → told ≡ 0 → NotSent texts m old told code
+refuses texts m n is w old name new e code told why code_is none = subst (λ k. NotSent texts k old told code) is (record {
+  length_is = none;
+  why = elim why [
+    | inl memory ↦
+        let long = wants_window (window_held w) _ memory.1 in
+        let room : (window_held w).kept.1 ≡ length old = ap (λ (h : Held (GName × ℕ)). h.kept.1) new in
+        let none : length (window_held w).bytes ≡ 0 = ap (λ (h : Held (GName × ℕ)). length h.bytes) new in
+        inl (code_is ∙ ap number_of memory.0, omega (arith, long, room, none))
+    | inr some ↦ inr (inr (e, some, code_is))
+  ];
+})
+
+-- the same for the spelling of a value
+pub wrote : (p q : List ℕ) → q ≡ p → (w v : Window) (old : List ℕ) (name : GName) → window_held w ≡ record { bytes = []; behind = old; kept = (name, length old) }
+    → window_held v ≡ window_held w ⊕ q → (x : List ℕ) → (name ≡ v.room.ghost_name → x ≡ v.room.now) → (told : ℕ) → told ≡ length (take v.len v.room.now) → Wrote p old x told
+wrote p q is w v old name new put x at_last told told_is = subst (λ k. Wrote k old x told) is (record {
+  length_is = told_is ∙ window_size w v old q name (length old) new put;
+  fits = within q w v old name new put;
+  stands = window_written w v old q name (length old) new put x at_last;
+})
+
+-- a value that has no cause is refused for its length alone
+no_cause : (e : Error) → (let c : Cause = None in c ≡ Some e) → ⊥
+no_cause e h = cc
+
+pub lacked : (p q : List ℕ) → q ≡ p → (w : Window) (old : List ℕ) (name : GName) → window_held w ≡ record { bytes = []; behind = old; kept = (name, length old) }
+    → (e : Error) (code told : ℕ) → WantsMemory (Wants window_lacks (window_held w) (length q)) e ⊎ (let c : Cause = None in c ≡ Some e) → code ≡ number_of e → told ≡ 0 → Lacks p old told code
+lacked p q is w old name new e code told why code_is none = subst (λ k. Lacks k old told code) is (elim why [
+  | inl memory ↦
+      let long = wants_window (window_held w) _ memory.1 in
+      let room : (window_held w).kept.1 ≡ length old = ap (λ (h : Held (GName × ℕ)). h.kept.1) new in
+      let empty : length (window_held w).bytes ≡ 0 = ap (λ (h : Held (GName × ℕ)). length h.bytes) new in
+      record { length_is = none; code_is = code_is ∙ ap number_of memory.0; longer = omega (arith, long, room, empty) }
+  | inr some ↦ absurd (no_cause e some)
+])
+
+pub sent_same : (m n : ClientMessage) → n ≡ m → (old new : List ℕ) (told : ℕ) → Sent n old new told → Sent m old new told
+sent_same m n is old new told sent = subst (λ k. Sent k old new told) is sent

@@ -1,0 +1,12 @@
+use Rattle.std.proofs.Common.{rules, refl}
+use Rattle.pgp_types.specs.Scalar.{float8}
+use Rattle.pgp_c.proofs.Sending.{wrote, lacked}
+use Rattle.pgp_c.proofs.value.pgp_put_float8.Goals as goal
+
+pub returns-in-Ok-clause-wrote : goal.returns-in-Ok-clause-wrote
+returns-in-Ok-clause-wrote c z =
+    wrote (float8.written c.args.value) _ refl c.new-window.result c.float8_to_sql.new.buf c.args.out.now _ c.new-window.ensures c.in-Ok.ensures.1 _ (search rules) _ c.sent.ensures.told
+
+pub returns-in-Err-clause-lacks : goal.returns-in-Err-clause-lacks
+returns-in-Err-clause-lacks c z =
+    lacked (float8.written c.args.value) _ refl c.new-window.result c.args.out.now _ c.new-window.ensures c.in-Err.e _ _ c.in-Err.ensures.0 c.refused.ensures.code c.refused.ensures.told

@@ -1,0 +1,10 @@
+pub mod Copying
+pub mod Front
+pub mod Lists
+pub mod Opening
+pub mod Parts
+pub mod Places
+pub mod Rows
+pub mod Sending
+pub mod Streams
+pub mod Values

@@ -1,0 +1,30 @@
+-- What a writer of one message into memory of the caller's comes to.
+use Rattle.std.specs.Prelude.{◌≡◌, ◌⊎◌, ℕ, ◌<◌, ◌≤◌, List, [], ◌∷◌, ◌++◌, length, drop, Some, None}
+use Rattle.std.specs.Str.{IsUtf8}
+use Rattle.pgp_base.specs.Error.{number_of}
+use Rattle.pgp_base.specs.declared.error.Error.{Error}
+use Rattle.pgp_frontend.specs.ClientMessage.{ClientMessage}
+use Rattle.pgp_frontend.specs.Payload.{bytes_of, cause, IsInRange}
+
+-- The message has a spelling that fits, stands at the front of the memory, and its length is told; behind it the memory is as it was.
+pub record Sent (m : ClientMessage) (old new : List ℕ) (told : ℕ) : Type 0 where
+  pub in_range : IsInRange m
+  pub none : cause m ≡ None
+  pub length_is : told ≡ length (bytes_of m)
+  pub fits : length (bytes_of m) ≤ length old
+  pub stands : new ≡ bytes_of m ++ drop (length (bytes_of m)) old
+
+-- one of them isn't text
+abbrev pub NoText : List (List ℕ) → Type 0
+NoText [] = ⊥
+NoText (text ∷ texts) = (¬ IsUtf8 text) ⊎ NoText texts
+
+-- Why nothing is to be sent: the message is longer than the memory; or a text isn't UTF-8; or the message has a cause, whose number is
+-- answered.
+abbrev pub Why : List (List ℕ) → ClientMessage → List ℕ → ℕ → Type 0
+Why texts m old code = ((code ≡ 1) × (length old < length (bytes_of m))) ⊎ (((code ≡ 9) × NoText texts) ⊎ ((e : Error) × (cause m ≡ Some e) × (code ≡ number_of e)))
+
+-- Nothing is to be sent.
+pub record NotSent (texts : List (List ℕ)) (m : ClientMessage) (old : List ℕ) (told code : ℕ) : Type 0 where
+  pub length_is : told ≡ 0
+  pub why : Why texts m old code

@@ -1,0 +1,269 @@
+//! The messages of a server, read where they stand.
+
+ghost use Rattle.std.specs.Prelude.{◌≡◌, ◌≢◌, ◌≤◌, ℕ, ◌-◌, List, ◌∷◌, length, drop};
+ghost use Rattle.pgp_base.specs.PartReading.{string_at};
+ghost use Rattle.pgp_message.specs.Views.{view};
+ghost use Rattle.pgp_c.specs.Front.{Told};
+ghost use Rattle.pgp_c.specs.Parts.{kind_of, no_parts, part};
+ghost use Rattle.pgp_c.specs.Places.{place, first_of, second_of};
+
+use pgp_base::FallibleIterator;
+use pgp_base::reading::string_at;
+use pgp_message::{Message, Messages};
+
+/// The answer where bytes are missing to a whole frame.
+const MORE: u32 = 100;
+
+/// Some of the bytes that a call was handed: so many, from a place on.
+#[repr(C)]
+#[derive(Clone, Copy)]
+pub struct PgpPart {
+    pub at: usize,
+    pub len: usize,
+}
+
+/// What stands at the front of a stream.
+#[repr(C)]
+#[derive(Clone, Copy)]
+pub struct PgpMessage {
+    /// How many bytes the frame takes; 0 where it isn't whole, or announces too short a length.
+    pub frame: usize,
+    /// The parts of the message.
+    pub parts: PgpParts,
+    /// The number of the message's kind; 0 where there is none.
+    pub kind: u8,
+    /// The frame's tag; 0 where `frame` is.
+    pub tag: u8,
+}
+
+/// The parts of a message, as far as its kind has them; else they are 0.
+#[repr(C)]
+#[derive(Clone, Copy)]
+pub struct PgpParts {
+    pub first: PgpPart,
+    pub second: PgpPart,
+    pub count: usize,
+    pub number: i32,
+    pub byte: u8,
+}
+
+/// The message at the front of the bytes.
+#[unsafe(no_mangle)]
+pub extern "C" fn pgp_front(bytes: &[u8], message: &mut PgpMessage) -> u32
+    ensures { Told bytes.now message.new result }
+{
+    let mut messages = Messages::new(bytes);
+    let answer = messages.next();
+    let frame = bytes.len() - messages.rest().len();
+    match answer {
+        Ok(None) => told(frame, 0, none(), MORE, bytes, message),
+        Ok(Some(kept)) => told(
+            frame,
+            kind(&kept),
+            parts(&kept, bytes, frame),
+            0,
+            bytes,
+            message,
+        ),
+        Err(e) => told(frame, 0, none(), u32::from(e.number()), bytes, message),
+    }
+}
+
+/// Tells what stands at the front.
+fn told(
+    frame: usize,
+    kind: u8,
+    parts: PgpParts,
+    code: u32,
+    bytes: &[u8],
+    message: &mut PgpMessage,
+) -> u32
+    ensures code { result ≡ code }
+    ensures frame { message.new.frame ≡ frame }
+    ensures kind { message.new.kind ≡ kind }
+    ensures parts { message.new.parts ≡ parts }
+    ensures tag { frame ≢ 0 → frame ≤ length bytes.now → (rest : List ℕ) × (bytes.now ≡ message.new.tag ∷ rest) }
+    ensures untagged { frame ≡ 0 → message.new.tag ≡ 0 }
+{
+    let tag = match bytes.first() {
+        Some(tag) if frame > 0 => *tag,
+        _ => 0,
+    };
+    *message = PgpMessage {
+        frame,
+        parts,
+        kind,
+        tag,
+    };
+    code
+}
+
+/// No parts.
+fn none() -> PgpParts
+    ensures { result ≡ no_parts }
+{
+    PgpParts {
+        first: PgpPart { at: 0, len: 0 },
+        second: PgpPart { at: 0, len: 0 },
+        count: 0,
+        number: 0,
+        byte: 0,
+    }
+}
+
+/// The number of a message's kind, from 1, in the order of the variants.
+fn kind(message: &Message<&[u8]>) -> u8
+    ensures { result ≡ kind_of (view message.now) }
+{
+    match message {
+        Message::AuthenticationCleartextPassword => 1,
+        Message::AuthenticationGss => 2,
+        Message::AuthenticationGssContinue(_) => 3,
+        Message::AuthenticationKerberosV5 => 4,
+        Message::AuthenticationMd5Password(_) => 5,
+        Message::AuthenticationOk => 6,
+        Message::AuthenticationSasl(_) => 7,
+        Message::AuthenticationSaslContinue(_) => 8,
+        Message::AuthenticationSaslFinal(_) => 9,
+        Message::AuthenticationScmCredential => 10,
+        Message::AuthenticationSspi => 11,
+        Message::BackendKeyData(_) => 12,
+        Message::BindComplete => 13,
+        Message::CloseComplete => 14,
+        Message::CommandComplete(_) => 15,
+        Message::CopyData(_) => 16,
+        Message::CopyDone => 17,
+        Message::CopyInResponse(_) => 18,
+        Message::CopyOutResponse(_) => 19,
+        Message::DataRow(_) => 20,
+        Message::EmptyQueryResponse => 21,
+        Message::ErrorResponse(_) => 22,
+        Message::NoData => 23,
+        Message::NoticeResponse(_) => 24,
+        Message::NotificationResponse(_) => 25,
+        Message::ParameterDescription(_) => 26,
+        Message::ParameterStatus(_) => 27,
+        Message::ParseComplete => 28,
+        Message::PortalSuspended => 29,
+        Message::ReadyForQuery(_) => 30,
+        Message::RowDescription(_) => 31,
+        Message::NegotiateProtocolVersion(_) => 32,
+    }
+}
+
+/// Where the parts of a message stand in its frame, which takes so many of the bytes.
+fn parts(message: &Message<&[u8]>, bytes: &[u8], frame: usize) -> PgpParts
+    ensures { result ≡ place (view message.now) bytes.now frame }
+{
+    match message {
+        Message::CommandComplete(_) => one(5, frame.saturating_sub(6)),
+        Message::ErrorResponse(_) | Message::NoticeResponse(_) | Message::CopyData(_) => {
+            one(5, frame.saturating_sub(5))
+        }
+        Message::AuthenticationGssContinue(_)
+        | Message::AuthenticationSasl(_)
+        | Message::AuthenticationSaslContinue(_)
+        | Message::AuthenticationSaslFinal(_) => one(9, frame.saturating_sub(9)),
+        Message::AuthenticationMd5Password(_) => one(9, 4),
+        Message::DataRow(row) => counted(row.ranges().size_hint().0, frame),
+        Message::RowDescription(row) => counted(row.fields().size_hint().0, frame),
+        Message::ParameterDescription(row) => counted(row.parameters().size_hint().0, frame),
+        Message::CopyInResponse(copy) => copied(
+            copy.format(),
+            copy.column_formats().size_hint().0,
+            frame,
+        ),
+        Message::CopyOutResponse(copy) => copied(
+            copy.format(),
+            copy.column_formats().size_hint().0,
+            frame,
+        ),
+        Message::BackendKeyData(key) => PgpParts {
+            number: key.process_id(),
+            ..one(9, frame.saturating_sub(9))
+        },
+        Message::NegotiateProtocolVersion(answer) => PgpParts {
+            number: answer.version(),
+            count: answer.options().size_hint().0,
+            ..one(13, frame.saturating_sub(13))
+        },
+        Message::ReadyForQuery(ready) => PgpParts {
+            byte: ready.status(),
+            ..none()
+        },
+        Message::ParameterStatus(_) => {
+            let (first, second) = two(5, bytes, frame);
+            PgpParts {
+                first,
+                second,
+                ..none()
+            }
+        }
+        Message::NotificationResponse(n) => {
+            let (first, second) = two(9, bytes, frame);
+            PgpParts {
+                first,
+                second,
+                number: n.process_id(),
+                ..none()
+            }
+        }
+        _ => none(),
+    }
+}
+
+/// One part.
+fn one(at: usize, len: usize) -> PgpParts
+    ensures { result ≡ record no_parts { first = part at len } }
+{
+    PgpParts {
+        first: PgpPart { at, len },
+        ..none()
+    }
+}
+
+/// A count, and what stands behind it.
+fn counted(count: usize, frame: usize) -> PgpParts
+    ensures { result ≡ record no_parts { first = part 7 (frame - 7); count = count } }
+{
+    PgpParts {
+        first: PgpPart {
+            at: 7,
+            len: frame.saturating_sub(7),
+        },
+        count,
+        ..none()
+    }
+}
+
+/// A format, a count, and what stands behind it.
+fn copied(byte: u8, count: usize, frame: usize) -> PgpParts
+    ensures { result ≡ record no_parts { first = part 8 (frame - 8); count = count; byte = byte } }
+{
+    PgpParts {
+        first: PgpPart {
+            at: 8,
+            len: frame.saturating_sub(8),
+        },
+        count,
+        byte,
+        ..none()
+    }
+}
+
+/// The places of two texts, of which the first begins at this place, and the second ends before the frame's last byte.
+fn two(at: usize, bytes: &[u8], frame: usize) -> (PgpPart, PgpPart)
+    ensures first { result.0 ≡ first_of at (string_at (drop at bytes.now)) }
+    ensures second { result.1 ≡ second_of (length bytes.now) frame (string_at (drop at bytes.now)) }
+{
+    let Ok((string, more)) = string_at(bytes.get(at..).unwrap_or(&[])) else {
+        return (PgpPart { at: 0, len: 0 }, PgpPart { at: 0, len: 0 });
+    };
+    let second = bytes.len().saturating_sub(more.len());
+    let len = frame.saturating_sub(1).saturating_sub(second);
+    let first = PgpPart {
+        at,
+        len: string.len(),
+    };
+    (first, PgpPart { at: second, len })
+}

@@ -1,0 +1,94 @@
+//! The messages with lists in them: of types, and of values.
+
+ghost use Rattle.std.specs.Prelude.{◌≡◌, ◌≢◌, ◌∷◌, [], map};
+ghost use Rattle.pgp_base.specs.Held.{◌⊕◌};
+ghost use Rattle.pgp_frontend.specs.ClientMessage.{Bind, Parse};
+ghost use Rattle.pgp_c.specs.Sending.{Sent, NotSent};
+ghost use Rattle.pgp_c.specs.Lists.{value_of, Puts};
+
+use crate::status::{refused, sent};
+use pgp_base::{BindError, Buffer, Error, IsNull, Window};
+use std::str;
+
+/// A value of a `bind`, in the format that its place asks for. The bytes of a null aren't read.
+#[repr(C)]
+#[derive(Clone, Copy)]
+pub struct PgpValue<'a> {
+    pub bytes: &'a [u8],
+    pub is_null: bool,
+}
+
+/// Prepares a statement of this name. The identifiers are the types of the first parameters; 0 leaves one to the server.
+#[unsafe(no_mangle)]
+pub extern "C" fn pgp_parse(
+    name: &[u8],
+    query: &[u8],
+    types: &[u32],
+    out: &mut [u8],
+    written: &mut usize,
+) -> u32
+    ensures sent { result ≡ 0 → Sent (Parse name.now query.now types.now) out.old out.new written.new }
+    ensures refused { result ≢ 0 → NotSent (name.now ∷ query.now ∷ []) (Parse name.now query.now types.now) out.old written.new result }
+{
+    let Ok(name) = str::from_utf8(name) else {
+        return refused(Error::NotUtf8, written);
+    };
+    let Ok(query) = str::from_utf8(query) else {
+        return refused(Error::NotUtf8, written);
+    };
+    let mut window = Window::new(out);
+    match pgp_frontend::parse(name, query, types.iter().copied(), &mut window) {
+        Ok(()) => sent(&window, written),
+        Err(e) => refused(e, written),
+    }
+}
+
+/// Binds values to a statement's parameters, and makes a portal of it.
+#[unsafe(no_mangle)]
+pub extern "C" fn pgp_bind(
+    portal: &[u8],
+    statement: &[u8],
+    formats: &[i16],
+    values: &[PgpValue<'_>],
+    result_formats: &[i16],
+    out: &mut [u8],
+    written: &mut usize,
+) -> u32
+    ensures sent { result ≡ 0 → Sent (Bind portal.now statement.now formats.now (map value_of values.now) result_formats.now) out.old out.new written.new }
+    ensures refused { result ≢ 0 → written.new ≡ 0 }
+{
+    let Ok(portal) = str::from_utf8(portal) else {
+        return refused(Error::NotUtf8, written);
+    };
+    let Ok(statement) = str::from_utf8(statement) else {
+        return refused(Error::NotUtf8, written);
+    };
+    let mut window = Window::new(out);
+    let answer = pgp_frontend::bind(
+        portal,
+        statement,
+        formats.iter().copied(),
+        values.iter(),
+        |value: &PgpValue<'_>, buf: &mut Window<'_>| put(value, buf),
+        result_formats.iter().copied(),
+        &mut window,
+    );
+    match answer {
+        Ok(()) => sent(&window, written),
+        Err(BindError::Conversion(e)) => refused(e, written),
+        Err(BindError::Serialization(e)) => refused(e, written),
+    }
+}
+
+/// Appends the bytes of a value that is no null.
+fn put<B: Buffer>(value: &PgpValue<'_>, buf: &mut B) -> Result<IsNull, Error>
+    ensures { Puts value.now B.Lacks (B.held buf.old) (B.held buf.new) result }
+{
+    if value.is_null {
+        return Ok(IsNull::Yes);
+    }
+    match buf.append(value.bytes) {
+        Ok(()) => Ok(IsNull::No),
+        Err(e) => Err(Error::from(e)),
+    }
+}

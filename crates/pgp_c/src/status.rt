@@ -1,0 +1,52 @@
+//! What a call answers, and the number of bytes that it wrote.
+
+ghost use Rattle.std.specs.Prelude.{◌≡◌, ◌≢◌, length};
+ghost use Rattle.pgp_base.specs.Error.{number_of};
+ghost use Rattle.pgp_base.specs.Window.{window_held};
+
+use pgp_base::{Buffer, Error, Window};
+
+/// The message stands at the front of the window.
+pub fn sent(window: &Window<'_>, written: &mut usize) -> u32
+    ensures zero { result ≡ 0 }
+    ensures told { written.new ≡ length (window_held window.now).bytes }
+{
+    *written = window.len();
+    0
+}
+
+/// Nothing is to be sent.
+pub fn refused(e: Error, written: &mut usize) -> u32
+    ensures code { result ≡ number_of e }
+    ensures some { result ≢ 0 }
+    ensures told { written.new ≡ 0 }
+{
+    *written = 0;
+    u32::from(e.number())
+}
+
+/// Nothing was read.
+pub fn failed(e: Error) -> u32
+    ensures code { result ≡ number_of e }
+    ensures some { result ≢ 0 }
+{
+    u32::from(e.number())
+}
+
+/// A name is empty, which no server reads.
+pub fn nameless(written: &mut usize) -> u32
+    ensures code { result ≡ 33 }
+    ensures told { written.new ≡ 0 }
+{
+    *written = 0;
+    33
+}
+
+/// A startup packet of another version.
+pub fn no_version(written: &mut usize) -> u32
+    ensures code { result ≡ 34 }
+    ensures told { written.new ≡ 0 }
+{
+    *written = 0;
+    34
+}

@@ -1,0 +1,410 @@
+//! What a client sends, as one stream in memory of the caller's: a call whose phase it isn't is refused.
+
+ghost use Rattle.std.specs.Prelude.{◌≡◌, ◌≢◌, true, false, map};
+ghost use Rattle.pgp_frontend.specs.ClientMessage.{Bind, CancelRequest, Close, CopyDone, CopyFail, Describe, Execute, Flush, Parse, PasswordMessage, Query, SaslInitialResponse, SaslResponse, SslRequest, Startup, Sync, Terminate};
+ghost use Rattle.pgp_frontend.specs.Payload.{version_code};
+ghost use Rattle.pgp_frontend.specs.declared.startup.ProtocolVersion.{ProtocolVersion as Version};
+ghost use Rattle.pgp_c.specs.Lists.{value_of};
+ghost use Rattle.pgp_c.specs.Opening.{pair_of};
+ghost use Rattle.pgp_c.specs.Streams.{Extends, Keeps};
+
+use crate::listing::{PgpValue, pgp_bind, pgp_parse};
+use crate::opening::{PgpPair, pgp_startup};
+use crate::writing::{
+    pgp_cancel_request, pgp_close, pgp_copy_done, pgp_copy_fail, pgp_describe, pgp_execute,
+    pgp_flush, pgp_password_message, pgp_query, pgp_sasl_initial_response, pgp_sasl_response,
+    pgp_ssl_request, pgp_sync, pgp_terminate,
+};
+
+/// The answer where a message may not come: no startup packet was written, or one was.
+const WRONG_PHASE: u32 = 32;
+
+/// The answer where there is no room.
+const NO_ROOM: u32 = 1;
+
+/// Memory of the caller's, how much of it is to be sent, and whether a startup packet was written.
+#[repr(C)]
+pub struct PgpStream<'a> {
+    pub room: &'a mut [u8],
+    pub len: usize,
+    pub is_open: bool,
+}
+
+/// Asks for an encrypted session.
+#[unsafe(no_mangle)]
+pub extern "C" fn pgp_stream_ssl_request(stream: &mut PgpStream<'_>) -> u32
+    ensures added { result ≡ 0 → Extends SslRequest stream.old stream.new }
+    ensures phase { stream.old.is_open ≢ false → result ≡ 32 }
+    ensures kept { result ≢ 0 → Keeps stream.old stream.new }
+{
+    let len = stream.len;
+    if stream.is_open != false {
+        return WRONG_PHASE;
+    }
+    if len > stream.room.len() {
+        return NO_ROOM;
+    }
+    let mut added = 0;
+    let code = pgp_ssl_request(&mut stream.room[len..], &mut added);
+    stream.len = len.saturating_add(added);
+    code
+}
+
+/// Asks for the end of what another session runs, by the number and the key of its BackendKeyData.
+#[unsafe(no_mangle)]
+pub extern "C" fn pgp_stream_cancel_request(
+    stream: &mut PgpStream<'_>,
+    process_id: i32,
+    secret_key: &[u8],
+) -> u32
+    ensures added { result ≡ 0 → Extends (CancelRequest process_id secret_key.now) stream.old stream.new }
+    ensures phase { stream.old.is_open ≢ false → result ≡ 32 }
+    ensures kept { result ≢ 0 → Keeps stream.old stream.new }
+{
+    let len = stream.len;
+    if stream.is_open != false {
+        return WRONG_PHASE;
+    }
+    if len > stream.room.len() {
+        return NO_ROOM;
+    }
+    let mut added = 0;
+    let code = pgp_cancel_request(process_id, secret_key, &mut stream.room[len..], &mut added);
+    stream.len = len.saturating_add(added);
+    code
+}
+
+/// Opens a session of this version with these names and values.
+#[unsafe(no_mangle)]
+pub extern "C" fn pgp_stream_startup(
+    stream: &mut PgpStream<'_>,
+    version: i32,
+    parameters: &[PgpPair<'_>],
+) -> u32
+    ensures added { result ≡ 0 → (v : Version) × (version_code v ≡ version) × Extends (Startup v (map pair_of parameters.now)) stream.old stream.new }
+    ensures phase { stream.old.is_open ≢ false → result ≡ 32 }
+    ensures kept { result ≢ 0 → Keeps stream.old stream.new }
+{
+    let len = stream.len;
+    if stream.is_open != false {
+        return WRONG_PHASE;
+    }
+    if len > stream.room.len() {
+        return NO_ROOM;
+    }
+    let mut added = 0;
+    let code = pgp_startup(version, parameters, &mut stream.room[len..], &mut added);
+    stream.len = len.saturating_add(added);
+    if code == 0 {
+        stream.is_open = true;
+    }
+    code
+}
+
+/// A password, or the answer to an MD5 request.
+#[unsafe(no_mangle)]
+pub extern "C" fn pgp_stream_password_message(stream: &mut PgpStream<'_>, password: &[u8]) -> u32
+    ensures added { result ≡ 0 → Extends (PasswordMessage password.now) stream.old stream.new }
+    ensures phase { stream.old.is_open ≢ true → result ≡ 32 }
+    ensures kept { result ≢ 0 → Keeps stream.old stream.new }
+{
+    let len = stream.len;
+    if stream.is_open != true {
+        return WRONG_PHASE;
+    }
+    if len > stream.room.len() {
+        return NO_ROOM;
+    }
+    let mut added = 0;
+    let code = pgp_password_message(password, &mut stream.room[len..], &mut added);
+    stream.len = len.saturating_add(added);
+    code
+}
+
+/// The choice of a SASL mechanism, and the first text of its exchange.
+#[unsafe(no_mangle)]
+pub extern "C" fn pgp_stream_sasl_initial_response(
+    stream: &mut PgpStream<'_>,
+    mechanism: &[u8],
+    response: &[u8],
+) -> u32
+    ensures added { result ≡ 0 → Extends (SaslInitialResponse mechanism.now response.now) stream.old stream.new }
+    ensures phase { stream.old.is_open ≢ true → result ≡ 32 }
+    ensures kept { result ≢ 0 → Keeps stream.old stream.new }
+{
+    let len = stream.len;
+    if stream.is_open != true {
+        return WRONG_PHASE;
+    }
+    if len > stream.room.len() {
+        return NO_ROOM;
+    }
+    let mut added = 0;
+    let code = pgp_sasl_initial_response(mechanism, response, &mut stream.room[len..], &mut added);
+    stream.len = len.saturating_add(added);
+    code
+}
+
+/// A later text of a SASL exchange.
+#[unsafe(no_mangle)]
+pub extern "C" fn pgp_stream_sasl_response(stream: &mut PgpStream<'_>, response: &[u8]) -> u32
+    ensures added { result ≡ 0 → Extends (SaslResponse response.now) stream.old stream.new }
+    ensures phase { stream.old.is_open ≢ true → result ≡ 32 }
+    ensures kept { result ≢ 0 → Keeps stream.old stream.new }
+{
+    let len = stream.len;
+    if stream.is_open != true {
+        return WRONG_PHASE;
+    }
+    if len > stream.room.len() {
+        return NO_ROOM;
+    }
+    let mut added = 0;
+    let code = pgp_sasl_response(response, &mut stream.room[len..], &mut added);
+    stream.len = len.saturating_add(added);
+    code
+}
+
+/// A query of any number of statements.
+#[unsafe(no_mangle)]
+pub extern "C" fn pgp_stream_query(stream: &mut PgpStream<'_>, text: &[u8]) -> u32
+    ensures added { result ≡ 0 → Extends (Query text.now) stream.old stream.new }
+    ensures phase { stream.old.is_open ≢ true → result ≡ 32 }
+    ensures kept { result ≢ 0 → Keeps stream.old stream.new }
+{
+    let len = stream.len;
+    if stream.is_open != true {
+        return WRONG_PHASE;
+    }
+    if len > stream.room.len() {
+        return NO_ROOM;
+    }
+    let mut added = 0;
+    let code = pgp_query(text, &mut stream.room[len..], &mut added);
+    stream.len = len.saturating_add(added);
+    code
+}
+
+/// Prepares a statement of this name, with the types of its first parameters.
+#[unsafe(no_mangle)]
+pub extern "C" fn pgp_stream_parse(
+    stream: &mut PgpStream<'_>,
+    name: &[u8],
+    query: &[u8],
+    types: &[u32],
+) -> u32
+    ensures added { result ≡ 0 → Extends (Parse name.now query.now types.now) stream.old stream.new }
+    ensures phase { stream.old.is_open ≢ true → result ≡ 32 }
+    ensures kept { result ≢ 0 → Keeps stream.old stream.new }
+{
+    let len = stream.len;
+    if stream.is_open != true {
+        return WRONG_PHASE;
+    }
+    if len > stream.room.len() {
+        return NO_ROOM;
+    }
+    let mut added = 0;
+    let code = pgp_parse(name, query, types, &mut stream.room[len..], &mut added);
+    stream.len = len.saturating_add(added);
+    code
+}
+
+/// Binds values to a statement's parameters, and makes a portal of it.
+#[unsafe(no_mangle)]
+pub extern "C" fn pgp_stream_bind(
+    stream: &mut PgpStream<'_>,
+    portal: &[u8],
+    statement: &[u8],
+    formats: &[i16],
+    values: &[PgpValue<'_>],
+    result_formats: &[i16],
+) -> u32
+    ensures added { result ≡ 0 → Extends (Bind portal.now statement.now formats.now (map value_of values.now) result_formats.now) stream.old stream.new }
+    ensures phase { stream.old.is_open ≢ true → result ≡ 32 }
+    ensures kept { result ≢ 0 → Keeps stream.old stream.new }
+{
+    let len = stream.len;
+    if stream.is_open != true {
+        return WRONG_PHASE;
+    }
+    if len > stream.room.len() {
+        return NO_ROOM;
+    }
+    let mut added = 0;
+    let code = pgp_bind(
+        portal,
+        statement,
+        formats,
+        values,
+        result_formats,
+        &mut stream.room[len..],
+        &mut added,
+    );
+    stream.len = len.saturating_add(added);
+    code
+}
+
+/// Asks what a statement (`S`) or a portal (`P`) gives.
+#[unsafe(no_mangle)]
+pub extern "C" fn pgp_stream_describe(stream: &mut PgpStream<'_>, variant: u8, name: &[u8]) -> u32
+    ensures added { result ≡ 0 → Extends (Describe variant name.now) stream.old stream.new }
+    ensures phase { stream.old.is_open ≢ true → result ≡ 32 }
+    ensures kept { result ≢ 0 → Keeps stream.old stream.new }
+{
+    let len = stream.len;
+    if stream.is_open != true {
+        return WRONG_PHASE;
+    }
+    if len > stream.room.len() {
+        return NO_ROOM;
+    }
+    let mut added = 0;
+    let code = pgp_describe(variant, name, &mut stream.room[len..], &mut added);
+    stream.len = len.saturating_add(added);
+    code
+}
+
+/// Runs a portal, for at most so many rows; 0 is no limit.
+#[unsafe(no_mangle)]
+pub extern "C" fn pgp_stream_execute(
+    stream: &mut PgpStream<'_>,
+    portal: &[u8],
+    max_rows: i32,
+) -> u32
+    ensures added { result ≡ 0 → Extends (Execute portal.now max_rows) stream.old stream.new }
+    ensures phase { stream.old.is_open ≢ true → result ≡ 32 }
+    ensures kept { result ≢ 0 → Keeps stream.old stream.new }
+{
+    let len = stream.len;
+    if stream.is_open != true {
+        return WRONG_PHASE;
+    }
+    if len > stream.room.len() {
+        return NO_ROOM;
+    }
+    let mut added = 0;
+    let code = pgp_execute(portal, max_rows, &mut stream.room[len..], &mut added);
+    stream.len = len.saturating_add(added);
+    code
+}
+
+/// Closes a statement (`S`) or a portal (`P`).
+#[unsafe(no_mangle)]
+pub extern "C" fn pgp_stream_close(stream: &mut PgpStream<'_>, variant: u8, name: &[u8]) -> u32
+    ensures added { result ≡ 0 → Extends (Close variant name.now) stream.old stream.new }
+    ensures phase { stream.old.is_open ≢ true → result ≡ 32 }
+    ensures kept { result ≢ 0 → Keeps stream.old stream.new }
+{
+    let len = stream.len;
+    if stream.is_open != true {
+        return WRONG_PHASE;
+    }
+    if len > stream.room.len() {
+        return NO_ROOM;
+    }
+    let mut added = 0;
+    let code = pgp_close(variant, name, &mut stream.room[len..], &mut added);
+    stream.len = len.saturating_add(added);
+    code
+}
+
+/// Asks for what the server holds back.
+#[unsafe(no_mangle)]
+pub extern "C" fn pgp_stream_flush(stream: &mut PgpStream<'_>) -> u32
+    ensures added { result ≡ 0 → Extends Flush stream.old stream.new }
+    ensures phase { stream.old.is_open ≢ true → result ≡ 32 }
+    ensures kept { result ≢ 0 → Keeps stream.old stream.new }
+{
+    let len = stream.len;
+    if stream.is_open != true {
+        return WRONG_PHASE;
+    }
+    if len > stream.room.len() {
+        return NO_ROOM;
+    }
+    let mut added = 0;
+    let code = pgp_flush(&mut stream.room[len..], &mut added);
+    stream.len = len.saturating_add(added);
+    code
+}
+
+/// Ends a series of extended queries.
+#[unsafe(no_mangle)]
+pub extern "C" fn pgp_stream_sync(stream: &mut PgpStream<'_>) -> u32
+    ensures added { result ≡ 0 → Extends Sync stream.old stream.new }
+    ensures phase { stream.old.is_open ≢ true → result ≡ 32 }
+    ensures kept { result ≢ 0 → Keeps stream.old stream.new }
+{
+    let len = stream.len;
+    if stream.is_open != true {
+        return WRONG_PHASE;
+    }
+    if len > stream.room.len() {
+        return NO_ROOM;
+    }
+    let mut added = 0;
+    let code = pgp_sync(&mut stream.room[len..], &mut added);
+    stream.len = len.saturating_add(added);
+    code
+}
+
+/// The end of the data of a copy.
+#[unsafe(no_mangle)]
+pub extern "C" fn pgp_stream_copy_done(stream: &mut PgpStream<'_>) -> u32
+    ensures added { result ≡ 0 → Extends CopyDone stream.old stream.new }
+    ensures phase { stream.old.is_open ≢ true → result ≡ 32 }
+    ensures kept { result ≢ 0 → Keeps stream.old stream.new }
+{
+    let len = stream.len;
+    if stream.is_open != true {
+        return WRONG_PHASE;
+    }
+    if len > stream.room.len() {
+        return NO_ROOM;
+    }
+    let mut added = 0;
+    let code = pgp_copy_done(&mut stream.room[len..], &mut added);
+    stream.len = len.saturating_add(added);
+    code
+}
+
+/// Gives a copy up, with a text for the server's report.
+#[unsafe(no_mangle)]
+pub extern "C" fn pgp_stream_copy_fail(stream: &mut PgpStream<'_>, reason: &[u8]) -> u32
+    ensures added { result ≡ 0 → Extends (CopyFail reason.now) stream.old stream.new }
+    ensures phase { stream.old.is_open ≢ true → result ≡ 32 }
+    ensures kept { result ≢ 0 → Keeps stream.old stream.new }
+{
+    let len = stream.len;
+    if stream.is_open != true {
+        return WRONG_PHASE;
+    }
+    if len > stream.room.len() {
+        return NO_ROOM;
+    }
+    let mut added = 0;
+    let code = pgp_copy_fail(reason, &mut stream.room[len..], &mut added);
+    stream.len = len.saturating_add(added);
+    code
+}
+
+/// The end of the session.
+#[unsafe(no_mangle)]
+pub extern "C" fn pgp_stream_terminate(stream: &mut PgpStream<'_>) -> u32
+    ensures added { result ≡ 0 → Extends Terminate stream.old stream.new }
+    ensures phase { stream.old.is_open ≢ true → result ≡ 32 }
+    ensures kept { result ≢ 0 → Keeps stream.old stream.new }
+{
+    let len = stream.len;
+    if stream.is_open != true {
+        return WRONG_PHASE;
+    }
+    if len > stream.room.len() {
+        return NO_ROOM;
+    }
+    let mut added = 0;
+    let code = pgp_terminate(&mut stream.room[len..], &mut added);
+    stream.len = len.saturating_add(added);
+    code
+}

@@ -1,0 +1,102 @@
+-- An exchange of SCRAM-SHA-256 whose steps keep nothing.
+use Rattle.std.specs.Prelude.{◌≡◌, ◌≢◌, ◌⊎◌, ℕ, ◌+◌, ◌<◌, List, length, Some}
+use Rattle.std.specs.Str.{IsUtf8}
+use Rattle.pgp_auth.specs.ScramText.{IsNonce, client_first, Binding, Unsupported, Unrequested, TlsServerEndPoint}
+use Rattle.pgp_auth.specs.ScramRefusal.{Refusal, OutOfMemory, UnexpectedCharacter, Trailing}
+use Rattle.pgp_auth.specs.ScramErrorView.{number_of}
+use Rattle.pgp_auth.specs.ScramClient.{Client, fresh, message_of, Answers, UpdateRefused, Completes, FinishRefused}
+
+-- this is the channel binding of the number and the bytes that C hands over
+abbrev pub Names : ℕ → List ℕ → Binding → Type 0
+Names kind certificate b = ((kind ≡ 0) × (b ≡ Unsupported)) ⊎ (((kind ≡ 1) × (b ≡ Unrequested)) ⊎ ((kind ≡ 2) × (b ≡ TlsServerEndPoint certificate)))
+
+-- the number is that of no channel binding
+abbrev pub NamesNone : ℕ → Type 0
+NamesNone kind = (kind ≢ 0) × (kind ≢ 1) × (kind ≢ 2)
+
+-- a refusal's number: want of memory is 1 as everywhere, the others follow 64
+abbrev pub code_of : Refusal → ℕ
+code_of OutOfMemory = 1
+code_of e = 64 + number_of e
+
+-- the place in the server's text that a refusal tells; 0 where it tells none
+abbrev pub place_of : Refusal → ℕ
+place_of (UnexpectedCharacter at) = at
+place_of (Trailing at) = at
+place_of e = 0
+
+-- What C hands over each time: the prepared password, the channel binding and the nonce.
+pub record Start : Type 0 where
+  pub password : List ℕ
+  pub kind : ℕ
+  pub certificate : List ℕ
+  pub nonce : List ℕ
+
+-- a client that begins so
+pub record Begins (s : Start) (client : Client) : Type 0 where
+  pub binding : Binding
+  pub named : Names s.kind s.certificate binding
+  pub is : client ≡ fresh s.password binding s.nonce
+
+-- a text with which a client that begins so begins the exchange
+pub record FirstText (s : Start) (text : List ℕ) : Type 0 where
+  pub binding : Binding
+  pub named : Names s.kind s.certificate binding
+  pub is : text ≡ client_first binding s.nonce
+
+-- why no client begins so: the nonce isn't text or no nonce, or the number names no binding, or memory was refused
+abbrev pub BeginRefused : Start → ℕ → Type 0
+BeginRefused s code = ((code ≡ 80) × ((¬ IsUtf8 s.nonce) ⊎ (¬ IsNonce s.nonce))) ⊎ (((code ≡ 81) × NamesNone s.kind) ⊎ (code ≡ 1))
+
+-- The text is what a client that began so answers to the server's first text: a server that holds the verifier accepts it (`Answers`).
+pub record AnswersIn (s : Start) (server_first text : List ℕ) : Type 0 where
+  pub start : Client
+  pub begins : Begins s start
+  pub client : Client
+  pub answers : Answers start server_first client
+  pub text_is : message_of client.state ≡ Some text
+
+-- `update` refuses the server's first text, and this is the refusal's number and place
+pub record FirstRefused (s : Start) (server_first : List ℕ) (code place : ℕ) : Type 0 where
+  pub start : Client
+  pub begins : Begins s start
+  pub after : Client
+  pub refusal : Refusal
+  pub refused : UpdateRefused (Unit {0}) start server_first refusal after
+  pub code_is : code ≡ code_of refusal
+  pub place_is : place ≡ place_of refusal
+
+-- why there is no client behind the server's first text
+abbrev pub NotAnswered : Start → List ℕ → ℕ → ℕ → Type 0
+NotAnswered s server_first code place = (BeginRefused s code × (place ≡ 0)) ⊎ FirstRefused s server_first code place
+
+-- a client that began so and answered the server's first text
+pub record HasAnswered (s : Start) (server_first : List ℕ) (client : Client) : Type 0 where
+  pub start : Client
+  pub begins : Begins s start
+  pub answers : Answers start server_first client
+
+-- the answer is longer than the caller's memory
+pub record NoRoom (s : Start) (server_first old : List ℕ) (code place : ℕ) : Type 0 where
+  pub text : List ℕ
+  pub answers : AnswersIn s server_first text
+  pub longer : length old < length text
+  pub code_is : code ≡ 1
+  pub place_is : place ≡ 0
+
+-- The client that began so takes both of the server's texts: the second shows the signature of the password's verifier (`Completes`).
+pub record Verified (s : Start) (server_first server_final : List ℕ) : Type 0 where
+  pub start : Client
+  pub begins : Begins s start
+  pub client : Client
+  pub completes : Completes start server_first server_final client
+
+-- `finish` refuses the server's final text, and this is the refusal's number and place
+pub record FinalRefused (s : Start) (server_first server_final : List ℕ) (code place : ℕ) : Type 0 where
+  pub between : Client
+  pub answered : HasAnswered s server_first between
+  pub after : Client
+  pub refusal : Refusal
+  pub refused : FinishRefused (Unit {0}) between server_final refusal after
+  pub code_is : code ≡ code_of refusal
+  pub place_is : place ≡ place_of refusal

@@ -1,0 +1,30 @@
+//! Handing bytes to a caller's memory.
+
+ghost use Rattle.std.specs.Prelude.{◌≡◌, ◌≢◌, ◌<◌, ◌++◌, length, drop};
+ghost use Rattle.pgp_base.specs.Error.{number_of};
+
+use pgp_base::Error;
+
+/// Copies the bytes to the front of the memory, and tells their number; or there is no room.
+pub fn deliver(bytes: &[u8], out: &mut [u8], written: &mut usize) -> u32
+    ensures told { result ≡ 0 → written.new ≡ length bytes.now }
+    ensures stands { result ≡ 0 → out.new ≡ bytes.now ++ drop (length bytes.now) out.old }
+    ensures refused { result ≢ 0 → (result ≡ 1) × (length out.old < length bytes.now) × (written.new ≡ 0) × (out.new ≡ out.old) }
+{
+    if out.len() < bytes.len() {
+        return refused(Error::OutOfMemory, written);
+    }
+    *written = bytes.len();
+    out[..bytes.len()].copy_from_slice(bytes);
+    0
+}
+
+/// Nothing was made.
+pub fn refused(e: Error, written: &mut usize) -> u32
+    ensures code { result ≡ number_of e }
+    ensures some { result ≢ 0 }
+    ensures told { written.new ≡ 0 }
+{
+    *written = 0;
+    u32::from(e.number())
+}

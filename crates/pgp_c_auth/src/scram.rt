@@ -1,0 +1,220 @@
+//! The client of SCRAM-SHA-256 with nothing kept between its steps: the caller holds the nonce and the server's first text, and
+//! hands them over again.
+
+ghost use Rattle.std.specs.Prelude.{◌≡◌, ◌≢◌, ◌⊎◌, ◌<◌, List, ℕ, length, take, [], None, IfOk, IfErr, OnOk};
+ghost use Rattle.pgp_auth.specs.Prepared.{prepared};
+ghost use Rattle.pgp_auth.specs.ScramErrorView.{refusal};
+ghost use Rattle.pgp_c_auth.specs.Scram.{code_of, place_of, Names, NamesNone, Begins, BeginRefused, FirstText, AnswersIn, HasAnswered, NotAnswered, NoRoom, Verified, FinalRefused};
+
+use crate::deliver::deliver;
+use pgp_auth::authentication::sasl::{ChannelBinding, NoPrep, ScramError, ScramSha256, is_nonce};
+use std::alloc::Global;
+use std::str;
+
+/// The number before an exchange's first refusal.
+const SCRAM: u32 = 64;
+
+/// The answer where the caller's nonce is none: no character, or one that is a comma or isn't printable ASCII.
+const BAD_NONCE: u32 = 80;
+
+/// The answer where a number names no channel binding.
+const BAD_BINDING: u32 = 81;
+
+/// The answer where there is no memory or no room.
+const NO_ROOM: u32 = 1;
+
+/// The number of a refused step: want of memory as everywhere, the others behind 64.
+fn number(e: &ScramError<Global>) -> u32
+    ensures code { result ≡ code_of (refusal e.now) }
+    ensures some { result ≢ 0 }
+{
+    match e {
+        ScramError::OutOfMemory => NO_ROOM,
+        ScramError::WrongState => SCRAM + 2,
+        ScramError::NotUtf8 => SCRAM + 3,
+        ScramError::UnexpectedEnd => SCRAM + 4,
+        ScramError::UnexpectedCharacter(_) => SCRAM + 5,
+        ScramError::Trailing(_) => SCRAM + 6,
+        ScramError::InvalidNumber => SCRAM + 7,
+        ScramError::InvalidNonce => SCRAM + 8,
+        ScramError::TooManyIterations => SCRAM + 9,
+        ScramError::InvalidBase64 => SCRAM + 10,
+        ScramError::Server(_) => SCRAM + 11,
+        ScramError::Verification => SCRAM + 12,
+    }
+}
+
+/// The place in the server's text that a refusal tells; 0 where it tells none.
+fn place(e: &ScramError<Global>) -> usize
+    ensures { result ≡ place_of (refusal e.now) }
+{
+    match e {
+        ScramError::UnexpectedCharacter(at) => *at,
+        ScramError::Trailing(at) => *at,
+        ScramError::OutOfMemory
+        | ScramError::WrongState
+        | ScramError::NotUtf8
+        | ScramError::UnexpectedEnd
+        | ScramError::InvalidNumber
+        | ScramError::InvalidNonce
+        | ScramError::TooManyIterations
+        | ScramError::InvalidBase64
+        | ScramError::Server(_)
+        | ScramError::Verification => 0,
+    }
+}
+
+/// The channel binding of this number: 0 none, 1 none that was asked for, 2 `tls-server-end-point` with these bytes.
+fn binding(alloc: Global, kind: u8, certificate: &[u8]) -> Result<ChannelBinding<Global>, u32>
+    ensures ok { IfOk result (λ b. Names kind certificate.now b) }
+    ensures err { IfErr result (λ code. (code ≢ 0) × (((code ≡ 81) × NamesNone kind) ⊎ (code ≡ 1))) }
+{
+    if kind == 0 {
+        return Ok(ChannelBinding::unsupported());
+    }
+    if kind == 1 {
+        return Ok(ChannelBinding::unrequested());
+    }
+    if kind != 2 {
+        return Err(BAD_BINDING);
+    }
+    match Vec::from_slice(alloc, certificate) {
+        Ok(data) => Ok(ChannelBinding::tls_server_end_point(data)),
+        Err(_) => Err(NO_ROOM),
+    }
+}
+
+/// A client that has begun with this nonce.
+fn begun(
+    alloc: Global,
+    password: &[u8],
+    kind: u8,
+    certificate: &[u8],
+    nonce: &[u8],
+) -> Result<ScramSha256<Global>, u32>
+    ensures ok { IfOk result (λ client. Begins (record { password = prepared (λ _. None) password.now; kind = kind; certificate = certificate.now; nonce = nonce.now }) client) }
+    ensures err { IfErr result (λ code. (code ≢ 0) × BeginRefused (record { password = prepared (λ _. None) password.now; kind = kind; certificate = certificate.now; nonce = nonce.now }) code) }
+{
+    let Ok(text) = str::from_utf8(nonce) else {
+        return Err(BAD_NONCE);
+    };
+    if !is_nonce(text) {
+        return Err(BAD_NONCE);
+    }
+    let Ok(text) = String::from_str(alloc, text) else {
+        return Err(NO_ROOM);
+    };
+    match binding(alloc, kind, certificate) {
+        Ok(binding) => match ScramSha256::with_nonce(alloc, password, binding, text, &NoPrep) {
+            Ok(client) => Ok(client),
+            Err(_) => Err(NO_ROOM),
+        },
+        Err(code) => Err(code),
+    }
+}
+
+/// A client that has begun with this nonce, and answered the server's first text.
+fn answered(
+    alloc: Global,
+    password: &[u8],
+    kind: u8,
+    certificate: &[u8],
+    nonce: &[u8],
+    server_first: &[u8],
+    at: &mut usize,
+) -> Result<ScramSha256<Global>, u32>
+    ensures ok { IfOk result (λ client. HasAnswered (record { password = prepared (λ _. None) password.now; kind = kind; certificate = certificate.now; nonce = nonce.now }) server_first.now client) }
+    ensures no_place { OnOk result (at.new ≡ 0) }
+    ensures err { IfErr result (λ code. (code ≢ 0) × NotAnswered (record { password = prepared (λ _. None) password.now; kind = kind; certificate = certificate.now; nonce = nonce.now }) server_first.now code at.new) }
+{
+    *at = 0;
+    match begun(alloc, password, kind, certificate, nonce) {
+        Ok(mut client) => match client.update(server_first) {
+            Ok(()) => Ok(client),
+            Err(e) => {
+                *at = place(&e);
+                Err(number(&e))
+            }
+        },
+        Err(code) => Err(code),
+    }
+}
+
+/// The first text of an exchange with this nonce.
+#[unsafe(no_mangle)]
+pub extern "C" fn pgp_scram_first(
+    alloc: Global,
+    kind: u8,
+    certificate: &[u8],
+    nonce: &[u8],
+    out: &mut [u8],
+    written: &mut usize,
+) -> u32
+    ensures sent { result ≡ 0 → FirstText (record { password = []; kind = kind; certificate = certificate.now; nonce = nonce.now }) (take written.new out.new) }
+    ensures refused { result ≢ 0 → (written.new ≡ 0) × (out.new ≡ out.old) }
+    ensures why { result ≢ 0 → BeginRefused (record { password = []; kind = kind; certificate = certificate.now; nonce = nonce.now }) result }
+{
+    *written = 0;
+    match begun(alloc, &[], kind, certificate, nonce) {
+        Ok(client) => match client.message() {
+            Some(text) => deliver(text, out, written),
+            None => NO_ROOM,
+        },
+        Err(code) => code,
+    }
+}
+
+/// The final text: the answer to the server's first. `at` is the place in it that a refusal tells.
+#[unsafe(no_mangle)]
+pub extern "C" fn pgp_scram_final(
+    alloc: Global,
+    password: &[u8],
+    kind: u8,
+    certificate: &[u8],
+    nonce: &[u8],
+    server_first: &[u8],
+    out: &mut [u8],
+    written: &mut usize,
+    at: &mut usize,
+) -> u32
+    ensures sent { result ≡ 0 → AnswersIn (record { password = prepared (λ _. None) password.now; kind = kind; certificate = certificate.now; nonce = nonce.now }) server_first.now (take written.new out.new) }
+    ensures refused { result ≢ 0 → (written.new ≡ 0) × (out.new ≡ out.old) }
+    ensures why { result ≢ 0 → NotAnswered (record { password = prepared (λ _. None) password.now; kind = kind; certificate = certificate.now; nonce = nonce.now }) server_first.now result at.new ⊎ NoRoom (record { password = prepared (λ _. None) password.now; kind = kind; certificate = certificate.now; nonce = nonce.now }) server_first.now out.old result at.new }
+{
+    *written = 0;
+    match answered(alloc, password, kind, certificate, nonce, server_first, at) {
+        Ok(client) => match client.message() {
+            Some(text) => deliver(text, out, written),
+            None => unreachable!(),
+        },
+        Err(code) => code,
+    }
+}
+
+/// Whether the server's final text shows its signature: 0 where it does. `at` is the place, in the text that was refused, that a
+/// refusal tells.
+#[unsafe(no_mangle)]
+pub extern "C" fn pgp_scram_verify(
+    alloc: Global,
+    password: &[u8],
+    kind: u8,
+    certificate: &[u8],
+    nonce: &[u8],
+    server_first: &[u8],
+    server_final: &[u8],
+    at: &mut usize,
+) -> u32
+    ensures verified { result ≡ 0 → Verified (record { password = prepared (λ _. None) password.now; kind = kind; certificate = certificate.now; nonce = nonce.now }) server_first.now server_final.now }
+    ensures why { result ≢ 0 → NotAnswered (record { password = prepared (λ _. None) password.now; kind = kind; certificate = certificate.now; nonce = nonce.now }) server_first.now result at.new ⊎ FinalRefused (record { password = prepared (λ _. None) password.now; kind = kind; certificate = certificate.now; nonce = nonce.now }) server_first.now server_final.now result at.new }
+{
+    match answered(alloc, password, kind, certificate, nonce, server_first, at) {
+        Ok(mut client) => match client.finish(server_final) {
+            Ok(()) => 0,
+            Err(e) => {
+                *at = place(&e);
+                number(&e)
+            }
+        },
+        Err(code) => code,
+    }
+}

@@ -1,0 +1,71 @@
+"""run_programs.py FOLDER: runs the three programs of docs/C.md, each against bytes of this file's own, worked by hand after the manual."""
+import os
+import socket
+import subprocess
+import sys
+import threading
+
+sys.path.insert(0, os.path.join(os.path.dirname(os.path.abspath(__file__)), '..', 'python'))
+from server import frame, scram_server  # noqa: E402
+
+folder = sys.argv[1]
+failed = 0
+
+
+def same(what, got, want):
+    global failed
+    if got != want:
+        failed += 1
+        print('FAIL %s: %r, not %r' % (what, got, want))
+
+
+def program(name, *arguments, data=b''):
+    run = subprocess.run([os.path.join(folder, name + '_program'), *arguments], input=data, capture_output=True, timeout=60)
+    return run.returncode, run.stdout, run.stderr
+
+
+def serving(work, *arguments):
+    listening = socket.create_server(('127.0.0.1', 0))
+    thread = threading.Thread(target=work, args=(listening, *arguments), daemon=True)
+    thread.start()
+    return str(listening.getsockname()[1]), thread
+
+
+def trusts(listening, seen):
+    """A server that asks for no password, and sends each message a byte at a time."""
+    connection = listening.accept()[0]
+    file = connection.makefile('rb')
+
+    def say(data):
+        for byte in data:
+            connection.sendall(bytes([byte]))
+    seen.append(file.read(int.from_bytes(file.read(4), 'big') - 4))
+    say(frame(b'R', b'\0\0\0\0') + frame(b'K', b'\0\0\0\1\0\0\0\2') + frame(b'Z', b'I'))
+    seen.append(file.read(14))
+    say(frame(b'T', b'\0\0') + frame(b'D', b'\0\2\0\0\0\5hello\xff\xff\xff\xff') + frame(b'D', b'\0\1\0\0\0\0') + frame(b'C', b'SELECT 2\0') + frame(b'Z', b'I'))
+    seen.append(file.read(5))
+
+
+seen = []
+port, thread = serving(trusts, seen)
+same('client', program('client', port, 'alice', 'SELECT 1'), (0, b'hello\tNULL\n\n', b''))
+thread.join(10)
+same('what the client sent', seen, [b'\0\3\0\0user\0alice\0\0', b'Q\0\0\0\x0dSELECT 1\0', b'X\0\0\0\4'])
+
+row, notice, ready = frame(b'D', b'\0\1\0\0\0\1a'), frame(b'N', b'SNOTICE\0\0'), frame(b'Z', b'I')
+same('proxy', program('proxy', data=row + notice + row + frame(b'W', b'') + ready), (0, row + row + ready, b'2 rows, 1 notices dropped, 1 refused, 0 bytes left\n'))
+same('proxy, cut', program('proxy', data=row + row[:3]), (1, row, b'1 rows, 0 notices dropped, 0 refused, 3 bytes left\n'))
+same('proxy, length fault', program('proxy', data=row + b'Z\0\0\0\3')[:2], (1, row))
+
+seen = []
+port, thread = serving(scram_server, b'secret', seen)
+same('login', program('login', port, 'alice', 'secret'), (0, b'logged in\n', b''))
+thread.join(10)
+same('the server accepted', seen[0], True)
+seen = []
+port, thread = serving(scram_server, b'secret', seen)
+same('login, another password', program('login', port, 'alice', 'guessed')[:2], (1, b''))
+thread.join(10)
+same('the server refused', seen[0], False)
+print('programs: %d failed' % failed)
+sys.exit(failed != 0)

@@ -1,0 +1,46 @@
+"""A server for tests: it logs one client in with SCRAM, and answers each series of extended queries with a row."""
+import base64
+import hashlib
+import hmac
+import os
+
+
+def frame(tag, payload):
+    return tag + (len(payload) + 4).to_bytes(4, 'big') + payload
+
+
+def scram_server(listening, password, seen):
+    """A server: SCRAM after RFC 5802 by python3's hashlib and hmac, and a row for each statement."""
+    connection = listening.accept()[0]
+    file = connection.makefile('rb')
+
+    def take():
+        tag = file.read(1)
+        if not tag:
+            return tag, b''
+        return tag, file.read(int.from_bytes(file.read(4), 'big') - 4)
+    file.read(int.from_bytes(file.read(4), 'big') - 4)
+    connection.sendall(frame(b'R', b'\0\0\0\x0aSCRAM-SHA-256\0\0'))
+    client_first = take()[1].split(b'\0', 1)[1][4:].split(b',', 2)[2]
+    salt, nonce = os.urandom(16), client_first.split(b'r=')[1] + b'xyz'
+    server_first = b'r=' + nonce + b',s=' + base64.b64encode(salt) + b',i=4096'
+    connection.sendall(frame(b'R', b'\0\0\0\x0b' + server_first))
+    final = take()[1]
+    bare, proof = final.rsplit(b',p=', 1)
+    key = hashlib.pbkdf2_hmac('sha256', password, salt, 4096)
+    mac = lambda k, m: hmac.new(k, m, 'sha256').digest()
+    stored, said = hashlib.sha256(mac(key, b'Client Key')).digest(), b','.join((client_first, server_first, bare))
+    shown = bytes(a ^ b for a, b in zip(mac(stored, said), base64.b64decode(proof)))
+    seen.append(hashlib.sha256(shown).digest() == stored)
+    if not seen[-1]:
+        connection.sendall(frame(b'E', b'SFATAL\0C28P01\0Mpassword authentication failed\0\0'))
+        return
+    signature = base64.b64encode(mac(mac(key, b'Server Key'), said))
+    connection.sendall(frame(b'R', b'\0\0\0\x0cv=' + signature) + frame(b'R', b'\0\0\0\0') + frame(b'Z', b'I'))
+    while True:
+        tag, payload = take()
+        seen.append((tag, payload))
+        if tag in (b'X', b''):
+            return
+        if tag == b'S':
+            connection.sendall(frame(b'1', b'') + frame(b'2', b'') + frame(b'D', b'\0\2\0\0\0\5hello\xff\xff\xff\xff') + frame(b'C', b'SELECT 1\0') + frame(b'Z', b'I'))
