@@ -11,7 +11,6 @@ use pgp_uses::client::{Client, Event, Phase, StepError};
 use pgp_uses::columns::{NamesError, column_names};
 use pgp_uses::filter::{FilterError, pass};
 use pgp_uses::login::{begin, equals, respond, set_password};
-use pgp_uses::reading::front_query;
 use pgp_uses::recorder::record;
 use pgp_uses::rows::{ColumnError, int4_column, text_column};
 use pgp_uses::scram_login::{LoginEvent, LoginFault, LoginPhase, ScramLogin};
@@ -154,17 +153,6 @@ fn columns_of_a_row(rt: HostRuntime) -> Result<(), Fail> {
     assert_eq!(rt; value_of::<&str, _>(&index, 2), Ok(None));
     assert_eq!(rt; value_of::<i32, _>(&index, 3), Err(ColumnError::NoColumn));
     assert!(rt; front_row(rest).is_none());
-    Ok(())
-}
-
-#[test]
-fn a_query_is_read_in_place(rt: HostRuntime) -> Result<(), Fail> {
-    let Some((text, rest)) = front_query(QUERY) else {
-        return Err(Error::UnexpectedEof.into());
-    };
-    assert_eq!(rt; text, b"SELECT 1".as_slice());
-    assert!(rt; front_query(rest).is_none());
-    assert!(rt; front_query(&QUERY[..13]).is_none());
     Ok(())
 }
 
