@@ -46,6 +46,8 @@ impl<'a> Messages<'a> {
     /// `InvalidLength` where a length below 4 is announced, with nothing passed. For the body of a frame
     /// `UnknownTag`, `UnknownAuthentication`, `UnexpectedEof` where a part is cut short, and `NotDrained` where bytes are
     /// left behind the last part. Never `OutOfMemory`.
+    // The hint carries the speed of messages without parts: else the answer goes through memory.
+    #[inline(always)]
     pub fn next(&mut self) -> Result<Option<Message<&'a [u8]>>, Error>
         ensures step { Step ⊥ self.old (parsed result) self.new }
         ensures waits { IsPartial self.old → result ≡ Ok None }
