@@ -9,8 +9,8 @@ use Rattle.std.proofs.lemmas.List.{length-append, append_assoc, length-take}
 use Rattle.pgp_frontend.specs.ClientMessage.{ClientMessage, PasswordKind, Startup}
 use Rattle.pgp_frontend.specs.declared.startup.ProtocolVersion.{ProtocolVersion}
 use Rattle.pgp_frontend.specs.Payload.{bytes_of}
-use Rattle.postgres_protocol.specs.ClientRun.{ClientRun, MayCome, kinds_of, is_startup, is_opened}
-use Rattle.postgres_protocol.proofs.ClientRuns.{run_more}
+use Rattle.pgp_frontend.specs.ClientRun.{ClientRun, MayCome, kinds_of, is_startup, is_opened}
+use Rattle.pgp_frontend.proofs.ClientRuns.{run_more}
 use Rattle.pgp_c.specs.declared.opening.PgpPair.{PgpPair}
 use Rattle.pgp_c.specs.declared.stream.PgpStream.{PgpStream}
 use Rattle.pgp_c.specs.Opening.{is_named, pair_of}
