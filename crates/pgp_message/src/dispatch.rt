@@ -145,6 +145,8 @@ fn ready_for_query<S: Storage>(payload: &[u8]) -> Result<Message<S>, Error>
 }
 
 /// The message of a frame.
+// The hint carries the speed of messages without parts, as above: it has more than one caller.
+#[inline(always)]
 #[tactic(auto, unfolding(crate::specs::Reading::body_of))]
 pub fn body<S: Storage>(tag: u8, payload: S) -> Result<Message<S>, Error>
     ensures { seen result ≡ body_of tag (S.bytes payload) }
