@@ -1,6 +1,6 @@
 //! Any column of a row by its number: by a table of its own, by one that is made again for each row, or by the walk alone.
 
-ghost use Rattle.std.specs.Prelude.{◌≡◌, ◌≤◌, ℕ, [], length, Option, Result, IfOk, IfErr, OnOk};
+ghost use Rattle.std.specs.Prelude.{◌≡◌, ◌≤◌, ◌<◌, ℕ, [], length, vec_len, vec_capacity, Option, Result, IfOk, IfErr, OnOk};
 ghost use Rattle.std.specs.List.{slice_get, slice_range, AllByRecursion};
 ghost use Rattle.std.specs.Option.{option_map};
 ghost use Rattle.std.specs.Result.{result_map_both};
@@ -221,6 +221,23 @@ fn places<A: Memory>(
     Ok(places)
 }
 
+/// Room for a place more, and for so many behind it as were announced, as far as a short row goes.
+#[cold]
+#[inline(never)]
+fn grow<A: Memory>(
+    places: &mut Vec<Option<Range<usize>>, A>,
+    announced: usize,
+) -> Result<(), Error>
+    ensures items { places.new.items ≡ places.old.items }
+    ensures ok { OnOk result (vec_len places.new < vec_capacity places.new) }
+    ensures err { IfErr result (λ e. (e ≡ Error.OutOfMemory) × A.Lacks) }
+{
+    if A::reserve(places, 1 + announced.min(SHORT_ROW)).is_err() {
+        return Err(Error::OutOfMemory);
+    }
+    Ok(())
+}
+
 /// The places of a whole row, in the place of what stood there. The table takes memory once a column has come, and grows as
 /// they come.
 fn fill<A: Memory>(
@@ -232,15 +249,10 @@ fn fill<A: Memory>(
 {
     places.clear();
     'places: while let Some(place) = ranges.next()? {
-        if places.is_empty() {
-            let more = ranges.size_hint().0.min(SHORT_ROW);
-            if A::reserve(places, more.saturating_add(1)).is_err() {
-                return Err(Error::OutOfMemory);
-            }
+        if places.len() == places.capacity() {
+            grow(places, ranges.size_hint().0)?;
         }
-        if A::push(places, place).is_err() {
-            return Err(Error::OutOfMemory);
-        }
+        places.push_reserved(place);
     }
     Ok(())
 }
