@@ -64,24 +64,33 @@ module _ (name query : List ℕ) (types : List ℕ → Option ℕ → Type 0) wh
   abbrev pub WritesParse : {K : Type 0} → (Held K → ℕ → Type 0) → Held K → Held K → Result (Unit {0}) Error → Type 0
   WritesParse lacks old new result = WritesGiven ParseWhole ParseSoFar lacks old new result
 
--- the bytes of a name and a value
-abbrev pub shown : Bor (List ℕ) × Bor (List ℕ) → List ℕ × List ℕ
-shown x = (x.0.now, x.1.now)
+-- the bytes of a name and a value, where `show` tells the bytes of a text
+abbrev pub shown_by : {T : Type 0} → (T → List ℕ) → T × T → List ℕ × List ℕ
+shown_by show x = (show x.0, show x.1)
 
 -- the part of such names and values
+abbrev pub pairs_by : {T : Type 0} → (T → List ℕ) → List (T × T) → Part
+pairs_by show xs = Pairs (map (shown_by show) xs)
+
+-- the same of lent texts
+abbrev pub shown : Bor (List ℕ) × Bor (List ℕ) → List ℕ × List ℕ
+shown x = shown_by (λ text. text.now) x
+
 abbrev pub shown_pairs : List (Bor (List ℕ) × Bor (List ℕ)) → Part
 shown_pairs xs = Pairs (map shown xs)
 
--- `startup_message_version` of this version, and of the names and values that were given
-module _ (version : ProtocolVersion) (parameters : List (Bor (List ℕ) × Bor (List ℕ)) → Option (Bor (List ℕ) × Bor (List ℕ)) → Type 0) where
+-- the startup packet of this version, and of the names and values that were given
+module _ {T : Type 0} (show : T → List ℕ) (version : ProtocolVersion) (parameters : List (T × T) → Option (T × T) → Type 0) where
   abbrev pub StartupWhole : ClientMessage → Type 0
-  StartupWhole m = (xs : List (Bor (List ℕ) × Bor (List ℕ))) × parameters xs None × (m ≡ Startup version (map shown xs))
+  StartupWhole m = (xs : List (T × T)) × parameters xs None × (m ≡ Startup version (map (shown_by show) xs))
 
   abbrev pub StartupSoFar : ClientMessage → Type 0
-  StartupSoFar m = (xs : List (Bor (List ℕ) × Bor (List ℕ))) × Arrived parameters shown_pairs xs × (m ≡ Startup version (map shown xs))
+  StartupSoFar m = (xs : List (T × T)) × Arrived parameters (pairs_by show) xs × (m ≡ Startup version (map (shown_by show) xs))
 
+-- `startup_message_version` of this version, and of the texts that were given
+module _ (version : ProtocolVersion) (parameters : List (Bor (List ℕ) × Bor (List ℕ)) → Option (Bor (List ℕ) × Bor (List ℕ)) → Type 0) where
   abbrev pub WritesStartup : {K : Type 0} → (Held K → ℕ → Type 0) → Held K → Held K → Result (Unit {0}) Error → Type 0
-  WritesStartup lacks old new result = WritesGiven StartupWhole StartupSoFar lacks old new result
+  WritesStartup lacks old new result = WritesGiven (StartupWhole (λ text. text.now) version parameters) (StartupSoFar (λ text. text.now) version parameters) lacks old new result
 
 -- a call of a serializer: the item, its answer, and the bytes that it put behind the place of the value's length
 pub record Call (T E : Type 0) : Type 0 where

@@ -5,6 +5,7 @@ ghost use Rattle.pgp_frontend.specs.ClientMessage.{PasswordMessage, SaslInitialR
 ghost use Rattle.pgp_frontend.specs.Payload.{WritesMessage};
 
 use crate::field::{Field, message};
+use crate::over_bytes;
 use pgp_base::{Buffer, Error};
 
 /// A password, or the text of its digest.
@@ -32,11 +33,7 @@ pub fn sasl_initial_response<B: Buffer>(
 ) -> Result<(), Error>
     ensures { WritesMessage (SaslInitialResponse mechanism.now «data».now) B.Lacks (B.held buf.old) (B.held buf.new) result }
 {
-    message(
-        b'p',
-        &[Field::Text(mechanism.as_bytes()), Field::Sized(data)],
-        buf,
-    )
+    over_bytes::sasl_initial_response(mechanism.as_bytes(), data, buf)
 }
 
 /// A later message of a SASL exchange.

@@ -8,7 +8,8 @@ ghost use Rattle.pgp_base.specs.Held.{◌⊕◌, Leaves, IsFrontOf};
 ghost use Rattle.pgp_frontend.specs.ClientMessage.{CopyData as DataMessage, CopyDone, CopyFail};
 ghost use Rattle.pgp_frontend.specs.Payload.{cause, bytes_of, WritesMessage};
 
-use crate::field::{Field, message};
+use crate::field::message;
+use crate::over_bytes;
 use bytes::Buf;
 use pgp_base::{Buffer, Error, put_u8, put_u32};
 use std::marker::Model;
@@ -103,5 +104,5 @@ pub fn copy_done<B: Buffer>(buf: &mut B) -> Result<(), Error>
 pub fn copy_fail<B: Buffer>(reason: &str, buf: &mut B) -> Result<(), Error>
     ensures { WritesMessage (CopyFail reason.now) B.Lacks (B.held buf.old) (B.held buf.new) result }
 {
-    message(b'f', &[Field::Text(reason.as_bytes())], buf)
+    over_bytes::copy_fail(reason.as_bytes(), buf)
 }

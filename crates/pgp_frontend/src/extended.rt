@@ -14,6 +14,7 @@ ghost use Rattle.pgp_frontend.specs.Putting.{HeadRefused};
 
 use crate::counted::{put_int16s, put_oids};
 use crate::field::{Field, message, put_fields, room};
+use crate::over_bytes;
 use crate::values::put_values;
 use pgp_base::{BindError, Buffer, Error, IsNull, Oid, finish_body, put_u8, put_u32};
 
@@ -26,11 +27,7 @@ use pgp_base::{BindError, Buffer, Error, IsNull, Oid, finish_body, put_u8, put_u
 pub fn close<B: Buffer>(variant: u8, name: &str, buf: &mut B) -> Result<(), Error>
     ensures { WritesMessage (Close variant name.now) B.Lacks (B.held buf.old) (B.held buf.new) result }
 {
-    message(
-        b'C',
-        &[Field::Byte(variant), Field::Text(name.as_bytes())],
-        buf,
-    )
+    over_bytes::close(variant, name.as_bytes(), buf)
 }
 
 /// Asks what a statement (`S`) or a portal (`P`) gives. The variant may be any byte.
@@ -42,11 +39,7 @@ pub fn close<B: Buffer>(variant: u8, name: &str, buf: &mut B) -> Result<(), Erro
 pub fn describe<B: Buffer>(variant: u8, name: &str, buf: &mut B) -> Result<(), Error>
     ensures { WritesMessage (Describe variant name.now) B.Lacks (B.held buf.old) (B.held buf.new) result }
 {
-    message(
-        b'D',
-        &[Field::Byte(variant), Field::Text(name.as_bytes())],
-        buf,
-    )
+    over_bytes::describe(variant, name.as_bytes(), buf)
 }
 
 /// Runs a portal, for at most so many rows; 0 is no limit.
@@ -58,11 +51,7 @@ pub fn describe<B: Buffer>(variant: u8, name: &str, buf: &mut B) -> Result<(), E
 pub fn execute<B: Buffer>(portal: &str, max_rows: i32, buf: &mut B) -> Result<(), Error>
     ensures { WritesMessage (Execute portal.now max_rows) B.Lacks (B.held buf.old) (B.held buf.new) result }
 {
-    message(
-        b'E',
-        &[Field::Text(portal.as_bytes()), Field::Int32(max_rows)],
-        buf,
-    )
+    over_bytes::execute(portal.as_bytes(), max_rows, buf)
 }
 
 /// Asks for what the server holds back.
@@ -87,10 +76,10 @@ pub fn sync<B: Buffer>(buf: &mut B) -> Result<(), Error>
     message(b'S', &[], buf)
 }
 
-// The message. A refusal leaves what the buffer held as a front.
-fn fill_parse<B: Buffer, I: IntoIterator<Item = Oid> + Drop>(
-    name: &str,
-    query: &str,
+/// The message of a `parse`. A refusal leaves what the buffer held as a front.
+pub fn fill_parse<B: Buffer, I: IntoIterator<Item = Oid> + Drop>(
+    name: &[u8],
+    query: &[u8],
     param_types: I,
     buf: &mut B,
 ) -> Result<(), Error>
@@ -106,7 +95,7 @@ where
         (ParseSoFar name.now query.now (Came I.into_iter_gives I.IntoIter.next_gives param_types))
         B.Lacks (B.held buf.old)) }
 {
-    let texts = [Field::Text(name.as_bytes()), Field::Text(query.as_bytes())];
+    let texts = [Field::Text(name), Field::Text(query)];
     buf.reserve(room(&texts) + 1)?;
     put_u8(buf, b'P')?;
     let base = buf.len();
@@ -138,20 +127,13 @@ where
         (Came I.into_iter_gives I.IntoIter.next_gives param_types)
         B.Lacks (B.held buf.old) (B.held buf.new) result }
 {
-    let start = buf.len();
-    match fill_parse(name, query, param_types, buf) {
-        Ok(()) => Ok(()),
-        Err(e) => {
-            buf.truncate(start);
-            Err(e)
-        }
-    }
+    over_bytes::parse(name.as_bytes(), query.as_bytes(), param_types, buf)
 }
 
 // The message up to the values. A refusal leaves what the buffer held as a front.
 fn fill_formats<B: Buffer, I: IntoIterator<Item = i16> + Drop>(
-    portal: &str,
-    statement: &str,
+    portal: &[u8],
+    statement: &[u8],
     formats: I,
     buf: &mut B,
 ) -> Result<(), Error>
@@ -164,10 +146,7 @@ where
     ensures err { OnErr result (IsFrontOf (B.held buf.old) (B.held buf.new)) }
     ensures cause { IfErr result (HeadRefused portal.now statement.now (Came I.into_iter_gives I.IntoIter.next_gives formats) B.Lacks (B.held buf.old)) }
 {
-    let texts = [
-        Field::Text(portal.as_bytes()),
-        Field::Text(statement.as_bytes()),
-    ];
+    let texts = [Field::Text(portal), Field::Text(statement)];
     buf.reserve(room(&texts) + 1)?;
     put_u8(buf, b'B')?;
     put_u32(buf, 0)?;
@@ -176,8 +155,8 @@ where
     Ok(())
 }
 
-// The message. A refusal leaves what the buffer held as a front.
-fn fill_bind<
+/// The message of a `bind`. A refusal leaves what the buffer held as a front.
+pub fn fill_bind<
     B: Buffer,
     T: Drop,
     E: Drop,
@@ -186,8 +165,8 @@ fn fill_bind<
     F: FnMut(T, &mut B) -> Result<IsNull, E>,
     K: IntoIterator<Item = i16> + Drop,
 >(
-    portal: &str,
-    statement: &str,
+    portal: &[u8],
+    statement: &[u8],
     formats: I,
     values: J,
     serializer: &mut F,
@@ -249,7 +228,7 @@ pub fn bind<
     statement: &str,
     formats: I,
     values: J,
-    mut serializer: F,
+    serializer: F,
     result_formats: K,
     buf: &mut B,
 ) -> Result<(), BindError<E>>
@@ -269,20 +248,13 @@ where
         (Came K.into_iter_gives K.IntoIter.next_gives result_formats)
         (B.held buf.old) B.Lacks (B.held buf.new) result }
 {
-    let start = buf.len();
-    match fill_bind(
-        portal,
-        statement,
+    over_bytes::bind(
+        portal.as_bytes(),
+        statement.as_bytes(),
         formats,
         values,
-        &mut serializer,
+        serializer,
         result_formats,
         buf,
-    ) {
-        Ok(()) => Ok(()),
-        Err(e) => {
-            buf.truncate(start);
-            Err(e)
-        }
-    }
+    )
 }

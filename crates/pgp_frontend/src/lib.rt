@@ -7,8 +7,10 @@ mod counted;
 mod extended;
 mod field;
 pub mod laws;
+pub mod over_bytes;
 mod simple;
 mod startup;
+mod text;
 mod values;
 
 pub use authentication::{password_message, sasl_initial_response, sasl_response};

@@ -4,7 +4,8 @@
 ghost use Rattle.pgp_frontend.specs.ClientMessage.{Query, Terminate};
 ghost use Rattle.pgp_frontend.specs.Payload.{WritesMessage};
 
-use crate::field::{Field, message};
+use crate::field::message;
+use crate::over_bytes;
 use pgp_base::{Buffer, Error};
 
 /// A query of any number of statements.
@@ -16,7 +17,7 @@ use pgp_base::{Buffer, Error};
 pub fn query<B: Buffer>(query: &str, buf: &mut B) -> Result<(), Error>
     ensures { WritesMessage (Query query.now) B.Lacks (B.held buf.old) (B.held buf.new) result }
 {
-    message(b'Q', &[Field::Text(query.as_bytes())], buf)
+    over_bytes::query(query.as_bytes(), buf)
 }
 
 /// The end of the session.

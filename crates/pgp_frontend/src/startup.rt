@@ -2,18 +2,18 @@
 #![tactic(auto, using(pgp_base::proofs::Parts::held_steps))]
 
 ghost use Rattle.std.specs.Prelude.{◌≡◌, ℕ, List, length, None, OnOk, OnErr, IfErr};
-ghost use Rattle.std.specs.Borrow.{Bor};
 ghost use Rattle.std.specs.Iterator.{IsFiniteIterable};
 ghost use Rattle.pgp_base.specs.Held.{◌⊕◌, IsFrontOf};
 ghost use Rattle.pgp_base.specs.Cause.{Wants, WantsMemory};
 ghost use Rattle.pgp_base.specs.Wire.{int32};
 ghost use Rattle.pgp_base.specs.Calls.{Came};
 ghost use Rattle.pgp_frontend.specs.ClientMessage.{CancelRequest, SslRequest};
-ghost use Rattle.pgp_frontend.specs.Given.{Appended, Refused, WritesStartup, StartupWhole, StartupSoFar, shown_pairs};
+ghost use Rattle.pgp_frontend.specs.Given.{Appended, Refused, WritesGiven, WritesStartup, StartupWhole, StartupSoFar, pairs_by};
 ghost use Rattle.pgp_frontend.specs.Payload.{spelling, part_cause, version_code, WritesMessage};
 ghost use Rattle.pgp_frontend.specs.Putting.{ItemsRefused};
 
 use crate::field::{Field, packet, put_int32};
+use crate::text::Text;
 use pgp_base::{Buffer, Error, finish_body, put_u8, put_u32, write_cstr};
 
 const VERSION_3_0: i32 = 196_608;
@@ -80,21 +80,21 @@ pub fn ssl_request<B: Buffer>(buf: &mut B) -> Result<(), Error>
 }
 
 // The names and values, and a 0 byte. A refusal leaves what stood there as a front.
-fn put_pairs<'a, B: Buffer, I: IntoIterator<Item = (&'a str, &'a str)> + Drop>(
+fn put_pairs<B: Buffer, T: Text + Copy, I: IntoIterator<Item = (T, T)> + Drop>(
     parameters: I,
     buf: &mut B,
 ) -> Result<(), Error>
 where
     I::IntoIter: Drop,
     requires { IsFiniteIterable I.into_iter_gives I.IntoIter.can_next I.IntoIter.remaining parameters }
-    ensures ok { OnOk result ((xs : List (Bor (List ℕ) × Bor (List ℕ))) × Came I.into_iter_gives I.IntoIter.next_gives parameters xs None
-        × (part_cause (shown_pairs xs) ≡ None) × (B.held buf.new ≡ B.held buf.old ⊕ spelling (shown_pairs xs))) }
+    ensures ok { OnOk result ((xs : List (T × T)) × Came I.into_iter_gives I.IntoIter.next_gives parameters xs None
+        × (part_cause (pairs_by T.shown xs) ≡ None) × (B.held buf.new ≡ B.held buf.old ⊕ spelling (pairs_by T.shown xs))) }
     ensures err { OnErr result (IsFrontOf (B.held buf.old) (B.held buf.new)) }
-    ensures cause { IfErr result (ItemsRefused (Came I.into_iter_gives I.IntoIter.next_gives parameters) shown_pairs B.Lacks (B.held buf.old)) }
+    ensures cause { IfErr result (ItemsRefused (Came I.into_iter_gives I.IntoIter.next_gives parameters) (pairs_by T.shown) B.Lacks (B.held buf.old)) }
 {
     for (name, value) in parameters {
-        write_cstr(name.as_bytes(), buf)?;
-        write_cstr(value.as_bytes(), buf)?;
+        write_cstr(name.bytes(), buf)?;
+        write_cstr(value.bytes(), buf)?;
     }
     put_u8(buf, 0)
 }
@@ -112,7 +112,7 @@ fn put_version<B: Buffer>(version: ProtocolVersion, buf: &mut B) -> Result<(), E
 }
 
 // The packet. A refusal leaves what stood there as a front.
-fn fill_startup<'a, B: Buffer, I: IntoIterator<Item = (&'a str, &'a str)> + Drop>(
+fn fill_startup<B: Buffer, T: Text + Copy, I: IntoIterator<Item = (T, T)> + Drop>(
     version: ProtocolVersion,
     parameters: I,
     buf: &mut B,
@@ -121,12 +121,12 @@ where
     I::IntoIter: Drop,
     requires { IsFiniteIterable I.into_iter_gives I.IntoIter.can_next I.IntoIter.remaining parameters }
     ensures ok { OnOk result (Appended
-        (StartupWhole version (Came I.into_iter_gives I.IntoIter.next_gives parameters))
+        (StartupWhole T.shown version (Came I.into_iter_gives I.IntoIter.next_gives parameters))
         (B.held buf.old) (B.held buf.new)) }
     ensures err { OnErr result (IsFrontOf (B.held buf.old) (B.held buf.new)) }
     ensures cause { IfErr result (Refused
-        (StartupWhole version (Came I.into_iter_gives I.IntoIter.next_gives parameters))
-        (StartupSoFar version (Came I.into_iter_gives I.IntoIter.next_gives parameters))
+        (StartupWhole T.shown version (Came I.into_iter_gives I.IntoIter.next_gives parameters))
+        (StartupSoFar T.shown version (Came I.into_iter_gives I.IntoIter.next_gives parameters))
         B.Lacks (B.held buf.old)) }
 {
     let base = buf.len();
@@ -135,6 +135,32 @@ where
     put_pairs(parameters, buf)?;
     finish_body(buf, base)?;
     Ok(())
+}
+
+/// Appends the packet that opens a session, of texts of either kind.
+// The hint carries the speed of short messages.
+#[inline(always)]
+pub fn open<B: Buffer, T: Text + Copy, I: IntoIterator<Item = (T, T)> + Drop>(
+    version: ProtocolVersion,
+    parameters: I,
+    buf: &mut B,
+) -> Result<(), Error>
+where
+    I::IntoIter: Drop,
+    requires { IsFiniteIterable I.into_iter_gives I.IntoIter.can_next I.IntoIter.remaining parameters }
+    ensures { WritesGiven
+        (StartupWhole T.shown version (Came I.into_iter_gives I.IntoIter.next_gives parameters))
+        (StartupSoFar T.shown version (Came I.into_iter_gives I.IntoIter.next_gives parameters))
+        B.Lacks (B.held buf.old) (B.held buf.new) result }
+{
+    let start = buf.len();
+    match fill_startup(version, parameters, buf) {
+        Ok(()) => Ok(()),
+        Err(e) => {
+            buf.truncate(start);
+            Err(e)
+        }
+    }
 }
 
 /// Opens a session of version 3.0 with these names and values, among them `user`. A server reads no
@@ -177,12 +203,5 @@ where
         (Came I.into_iter_gives I.IntoIter.next_gives parameters)
         B.Lacks (B.held buf.old) (B.held buf.new) result }
 {
-    let start = buf.len();
-    match fill_startup(version, parameters, buf) {
-        Ok(()) => Ok(()),
-        Err(e) => {
-            buf.truncate(start);
-            Err(e)
-        }
-    }
+    open(version, parameters, buf)
 }

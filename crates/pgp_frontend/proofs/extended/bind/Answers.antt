@@ -1,6 +1,4 @@
-use Rattle.pgp_base.proofs.Parts.{cut_back}
 use Rattle.pgp_frontend.proofs.extended.bind.Goals as goal
 
 pub returns : goal.returns
-returns g c =
-    (c.fill_bind.new.serializer, (c.in-Err.ensures.cause, cut_back _ _ _ c.len-start.result c.in-Err.ensures.err c.len-start.ensures.value c.truncate.ensures.bytes c.truncate.ensures.kept))
+returns g c = rw (c.as_bytes.ensures.value, c.as_bytes-2.ensures.value) at c.bind.ensures

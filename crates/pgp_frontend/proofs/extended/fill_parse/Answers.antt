@@ -1,15 +1,14 @@
-use Rattle.std.proofs.Common.{arith, ◌≤◌, length, sym, ◌≡◌, [], ◌∷◌, ◌++◌, Some, None, refl, inl, inr, ap, ◌∙◌}
+use Rattle.std.proofs.Common.{arith, sym, [], ◌∷◌, ◌++◌, refl, inl, inr, ap, ◌∙◌}
 use Rattle.pgp_base.specs.Held.{◌⊕◌}
 use Rattle.pgp_base.specs.Wire.{uint32, oid}
-use Rattle.pgp_base.specs.Cause.{Wants, WantsMemory}
 use Rattle.pgp_base.proofs.Parts.{if_err_at, nothing_more, wants_here, wants_more, wants_same, wants_then}
 use Rattle.pgp_base.proofs.Needs.{counted_length}
 use Rattle.pgp_frontend.proofs.Needs.{framed_length, parse_length, framed_wants}
 use Rattle.pgp_frontend.specs.ClientMessage.{Parse}
-use Rattle.pgp_frontend.specs.Payload.{Text, Oids, joined, framed, parts_cause}
+use Rattle.pgp_frontend.specs.Payload.{Text, Oids, joined}
 use Rattle.pgp_frontend.proofs.Fields.{cause_more, cause_here, cause_front}
 use Rattle.pgp_frontend.proofs.Frames.{frame_room, frame_done, frame_fits, frame_passes, tagged}
-use Rattle.pgp_frontend.proofs.Texts.{two_texts, part_more}
+use Rattle.pgp_frontend.proofs.Texts.{part_more}
 use Rattle.pgp_frontend.proofs.extended.fill_parse.Goals as goal
 
 pub returns-in_err-put_fields-clause-cause : goal.returns-in_err-put_fields-clause-cause
@@ -18,19 +17,18 @@ returns-in_err-put_fields-clause-cause g c =
     (elim c.in_err-put_fields.ensures.cause [
       | inl memory ↦
           let texts = Text c.args.name.now ∷ Text c.args.query.now ∷ [] in
-          let wanted = two_texts (λ ps. WantsMemory (Wants g.B.Buffer.Lacks (g.B.Buffer.held c.put_u32.new.buf) (length (joined ps))) c.in_err-put_fields.field-0.0) _ c.args.name.now _ c.args.query.now c.as_bytes.ensures.value c.as_bytes-2.ensures.value memory in
           let place = c.in_ok-put_u32.ensures.ok ∙ ap (λ held. held ⊕ uint32 0) (c.in_ok-put_u8.ensures.ok ∙ ap (λ held. held ⊕ 80 ∷ []) c.in_ok-reserve.ensures.same) in
-          inl (Parse c.args.name.now c.args.query.now [], ([], inl refl, refl), inl (wanted.0, framed_wants 80 [] (g.B.Buffer.held c.args.buf.now) _ _ _ (place ∙ sym (nothing_more (g.B.Buffer.held c.args.buf.now ⊕ 80 ∷ [] ⊕ uint32 0))) (omega (arith, parse_length c.args.name.now c.args.query.now [], counted_length oid [])) wanted.1))
+          inl (Parse c.args.name.now c.args.query.now [], ([], inl refl, refl), inl (memory.0, framed_wants 80 [] (g.B.Buffer.held c.args.buf.now) _ _ _ (place ∙ sym (nothing_more (g.B.Buffer.held c.args.buf.now ⊕ 80 ∷ [] ⊕ uint32 0))) (omega (arith, parse_length c.args.name.now c.args.query.now [], counted_length oid [])) memory.1))
       | inr refused ↦ inl (
         Parse c.args.name.now c.args.query.now [],
         ([], inl refl, refl),
-        inr (cause_front (Text c.args.name.now ∷ Text c.args.query.now ∷ []) (Oids [] ∷ []) _ (two_texts (λ ps. parts_cause ps ≡ Some c.in_err-put_fields.field-0.0) _ c.args.name.now _ c.args.query.now c.as_bytes.ensures.value c.as_bytes-2.ensures.value refused)),
+        inr (cause_front (Text c.args.name.now ∷ Text c.args.query.now ∷ []) (Oids [] ∷ []) _ refused),
       )
     ])
 
 pub returns-in_err-put_oids-clause-cause : goal.returns-in_err-put_oids-clause-cause
 returns-in_err-put_oids-clause-cause g c =
-    let none = two_texts (λ ps. parts_cause ps ≡ None) _ c.args.name.now _ c.args.query.now c.as_bytes.ensures.value c.as_bytes-2.ensures.value c.in_ok-put_fields.ensures.ok.0 in
+    let none = c.in_ok-put_fields.ensures.ok.0 in
     if_err_at _ _ _ c.from_residual-in_err-put_oids.ensures.1
     (let k = c.in_err-put_oids.ensures.cause in
     let texts = Text c.args.name.now ∷ Text c.args.query.now ∷ [] in
@@ -40,7 +38,7 @@ returns-in_err-put_oids-clause-cause g c =
       elim k.2 [
         | inl memory ↦
             let place = c.in_ok-put_u32.ensures.ok ∙ ap (λ held. held ⊕ uint32 0) (c.in_ok-put_u8.ensures.ok ∙ ap (λ held. held ⊕ 80 ∷ []) c.in_ok-reserve.ensures.same) in
-            let held = two_texts (λ ps. g.B.Buffer.held c.put_fields.new.buf ≡ g.B.Buffer.held c.put_u32.new.buf ⊕ joined ps) _ c.args.name.now _ c.args.query.now c.as_bytes.ensures.value c.as_bytes-2.ensures.value c.in_ok-put_fields.ensures.ok.1 in
+            let held = c.in_ok-put_fields.ensures.ok.1 in
             inl (memory.0, framed_wants 80 texts (g.B.Buffer.held c.args.buf.now) _ _ _ (held ∙ ap (λ held. held ⊕ joined texts) place) (omega (arith, parse_length c.args.name.now c.args.query.now k.0)) memory.1)
         | inr past ↦ inr (cause_here texts (Oids k.0) [] _ none past)
       ],
@@ -49,15 +47,15 @@ returns-in_err-put_oids-clause-cause g c =
 pub finish_body-requires : goal.finish_body-requires
 finish_body-requires g c =
     let k = c.in_ok-put_oids.ensures.ok in
-    let held = part_more (Text c.as_bytes.result.now ∷ Text c.as_bytes-2.result.now ∷ []) (Oids k.0) _ _ _ c.in_ok-put_fields.ensures.ok.1 k.4 in
-    frame_room (Text c.as_bytes.result.now ∷ Text c.as_bytes-2.result.now ∷ Oids k.0 ∷ []) (g.B.Buffer.held c.put_u8.new.buf) _ _ _ c.in_ok-put_u32.ensures.ok held c.len-base.ensures.value
+    let held = part_more (Text c.args.name.now ∷ Text c.args.query.now ∷ []) (Oids k.0) _ _ _ c.in_ok-put_fields.ensures.ok.1 k.4 in
+    frame_room (Text c.args.name.now ∷ Text c.args.query.now ∷ Oids k.0 ∷ []) (g.B.Buffer.held c.put_u8.new.buf) _ _ _ c.in_ok-put_u32.ensures.ok held c.len-base.ensures.value
 
 pub returns-in_err-finish_body-clause-cause : goal.returns-in_err-finish_body-clause-cause
 returns-in_err-finish_body-clause-cause g c =
     let k = c.in_ok-put_oids.ensures.ok in
     let texts = Text c.args.name.now ∷ Text c.args.query.now ∷ [] in
-    let none = two_texts (λ ps. parts_cause ps ≡ None) _ c.args.name.now _ c.args.query.now c.as_bytes.ensures.value c.as_bytes-2.ensures.value c.in_ok-put_fields.ensures.ok.0 in
-    let held = two_texts (λ ps. g.B.Buffer.held c.put_fields.new.buf ≡ g.B.Buffer.held c.put_u32.new.buf ⊕ joined ps) _ c.args.name.now _ c.args.query.now c.as_bytes.ensures.value c.as_bytes-2.ensures.value c.in_ok-put_fields.ensures.ok.1 in
+    let none = c.in_ok-put_fields.ensures.ok.0 in
+    let held = c.in_ok-put_fields.ensures.ok.1 in
     let all = part_more texts (Oids k.0) _ _ _ held k.4 in
     let clean = cause_more texts (Oids k.0) none k.3 in
     if_err_at _ _ _ c.from_residual-in_err-finish_body.ensures.1
@@ -67,8 +65,8 @@ pub returns-clause-ok : goal.returns-clause-ok
 returns-clause-ok g c =
     let k = c.in_ok-put_oids.ensures.ok in
     let texts = Text c.args.name.now ∷ Text c.args.query.now ∷ [] in
-    let none = two_texts (λ ps. parts_cause ps ≡ None) _ c.args.name.now _ c.args.query.now c.as_bytes.ensures.value c.as_bytes-2.ensures.value c.in_ok-put_fields.ensures.ok.0 in
-    let held = two_texts (λ ps. g.B.Buffer.held c.put_fields.new.buf ≡ g.B.Buffer.held c.put_u32.new.buf ⊕ joined ps) _ c.args.name.now _ c.args.query.now c.as_bytes.ensures.value c.as_bytes-2.ensures.value c.in_ok-put_fields.ensures.ok.1 in
+    let none = c.in_ok-put_fields.ensures.ok.0 in
+    let held = c.in_ok-put_fields.ensures.ok.1 in
     let all = part_more texts (Oids k.0) _ _ _ held k.4 in
     let clean = cause_more texts (Oids k.0) none k.3 in
     let w = c.in_ok-finish_body.ensures in
@@ -83,7 +81,7 @@ returns-clause-ok g c =
 pub returns-in_err-reserve-clause-cause : goal.returns-in_err-reserve-clause-cause
 returns-in_err-reserve-clause-cause g c =
     let texts = Text c.args.name.now ∷ Text c.args.query.now ∷ [] in
-    let fits = two_texts (λ ps. c.room.result ≤ length (framed None (joined ps))) _ c.args.name.now _ c.args.query.now c.as_bytes.ensures.value c.as_bytes-2.ensures.value c.room.ensures.needed in
+    let fits = c.room.ensures.needed in
     if_err_at _ _ _ c.from_residual.ensures.1
     (inl (Parse c.args.name.now c.args.query.now [], ([], inl refl, refl), inl (refl, wants_here (g.B.Buffer.held c.args.buf.now) _ _ c.in_err-reserve.ensures.lacks (omega (arith, fits, framed_length (joined texts), parse_length c.args.name.now c.args.query.now [], counted_length oid [])))))
 

@@ -5,7 +5,7 @@ use Rattle.pgp_base.proofs.Parts.{if_err_at, length-uint32, wants_more, wants_th
 use Rattle.pgp_base.specs.Wire.{uint32, int32}
 use Rattle.pgp_frontend.proofs.Needs.{int32_length, startup_length, version_fits}
 use Rattle.pgp_frontend.specs.ClientMessage.{Startup}
-use Rattle.pgp_frontend.specs.Given.{shown}
+use Rattle.pgp_frontend.specs.Given.{shown_by}
 use Rattle.pgp_frontend.specs.Payload.{Int32, Pairs, version_code, spelling}
 use Rattle.pgp_frontend.proofs.Fields.{cause_more, cause_here}
 use Rattle.pgp_frontend.proofs.Frames.{frame_room, frame_done, frame_fits, frame_passes}
@@ -17,45 +17,45 @@ returns-in_err-put_pairs-clause-cause g c =
     if_err_at _ _ _ c.from_residual-in_err-put_pairs.ensures.1
     (let k = c.in_err-put_pairs.ensures.cause in
     inl (
-      Startup c.args.version (map shown k.0),
+      Startup c.args.version (map (shown_by g.T.Text.shown) k.0),
       (k.0, k.1, refl),
       elim k.2 [
         | inl memory ↦ inl (
           memory.0,
-          wants_then (g.B.Buffer.held c.args.buf.now) _ (uint32 0) _ _ c.in_ok-put_u32.ensures.ok (omega (arith, startup_length c.args.version (map shown k.0), length-uint32 0))
-              (wants_then _ _ (int32 (version_code c.args.version)) _ (4 + length (spelling (Pairs (map shown k.0)))) c.in_ok-put_version.ensures.ok (omega (arith, int32_length (version_code c.args.version))) memory.1),
+          wants_then (g.B.Buffer.held c.args.buf.now) _ (uint32 0) _ _ c.in_ok-put_u32.ensures.ok (omega (arith, startup_length c.args.version (map (shown_by g.T.Text.shown) k.0), length-uint32 0))
+              (wants_then _ _ (int32 (version_code c.args.version)) _ (4 + length (spelling (Pairs (map (shown_by g.T.Text.shown) k.0)))) c.in_ok-put_version.ensures.ok (omega (arith, int32_length (version_code c.args.version))) memory.1),
         )
-        | inr refused ↦ inr (cause_here (Int32 (version_code c.args.version) ∷ []) (Pairs (map shown k.0)) [] _ refl refused)
+        | inr refused ↦ inr (cause_here (Int32 (version_code c.args.version) ∷ []) (Pairs (map (shown_by g.T.Text.shown) k.0)) [] _ refl refused)
       ],
     ))
 
 pub finish_body-requires : goal.finish_body-requires
 finish_body-requires g c =
     let k = c.in_ok-put_pairs.ensures.ok in
-    let all = part_more (Int32 (version_code c.args.version) ∷ []) (Pairs (map shown k.0)) _ _ _ (first_part (Int32 (version_code c.args.version)) _ _ c.in_ok-put_version.ensures.ok) k.3 in
-    frame_room (Int32 (version_code c.args.version) ∷ Pairs (map shown k.0) ∷ []) (g.B.Buffer.held c.args.buf.now) _ _ _ c.in_ok-put_u32.ensures.ok all c.len-base.ensures.value
+    let all = part_more (Int32 (version_code c.args.version) ∷ []) (Pairs (map (shown_by g.T.Text.shown) k.0)) _ _ _ (first_part (Int32 (version_code c.args.version)) _ _ c.in_ok-put_version.ensures.ok) k.3 in
+    frame_room (Int32 (version_code c.args.version) ∷ Pairs (map (shown_by g.T.Text.shown) k.0) ∷ []) (g.B.Buffer.held c.args.buf.now) _ _ _ c.in_ok-put_u32.ensures.ok all c.len-base.ensures.value
 
 pub returns-in_err-finish_body-clause-cause : goal.returns-in_err-finish_body-clause-cause
 returns-in_err-finish_body-clause-cause g c =
     let k = c.in_ok-put_pairs.ensures.ok in
-    let all = part_more (Int32 (version_code c.args.version) ∷ []) (Pairs (map shown k.0)) _ _ _ (first_part (Int32 (version_code c.args.version)) _ _ c.in_ok-put_version.ensures.ok) k.3 in
-    let clean = cause_more (Int32 (version_code c.args.version) ∷ []) (Pairs (map shown k.0)) refl k.2 in
+    let all = part_more (Int32 (version_code c.args.version) ∷ []) (Pairs (map (shown_by g.T.Text.shown) k.0)) _ _ _ (first_part (Int32 (version_code c.args.version)) _ _ c.in_ok-put_version.ensures.ok) k.3 in
+    let clean = cause_more (Int32 (version_code c.args.version) ∷ []) (Pairs (map (shown_by g.T.Text.shown) k.0)) refl k.2 in
     if_err_at _ _ _ c.from_residual-in_err-finish_body.ensures.1
-    (inr (Startup c.args.version (map shown k.0), (k.0, k.1, refl), clean, frame_passes (Int32 (version_code c.args.version) ∷ Pairs (map shown k.0) ∷ []) (g.B.Buffer.held c.args.buf.now) _ _ _ c.in_ok-put_u32.ensures.ok all c.len-base.ensures.value _ clean c.in_err-finish_body.ensures.cause))
+    (inr (Startup c.args.version (map (shown_by g.T.Text.shown) k.0), (k.0, k.1, refl), clean, frame_passes (Int32 (version_code c.args.version) ∷ Pairs (map (shown_by g.T.Text.shown) k.0) ∷ []) (g.B.Buffer.held c.args.buf.now) _ _ _ c.in_ok-put_u32.ensures.ok all c.len-base.ensures.value _ clean c.in_err-finish_body.ensures.cause))
 
 pub returns-clause-ok : goal.returns-clause-ok
 returns-clause-ok g c =
     let k = c.in_ok-put_pairs.ensures.ok in
-    let all = part_more (Int32 (version_code c.args.version) ∷ []) (Pairs (map shown k.0)) _ _ _ (first_part (Int32 (version_code c.args.version)) _ _ c.in_ok-put_version.ensures.ok) k.3 in
-    let clean = cause_more (Int32 (version_code c.args.version) ∷ []) (Pairs (map shown k.0)) refl k.2 in
+    let all = part_more (Int32 (version_code c.args.version) ∷ []) (Pairs (map (shown_by g.T.Text.shown) k.0)) _ _ _ (first_part (Int32 (version_code c.args.version)) _ _ c.in_ok-put_version.ensures.ok) k.3 in
+    let clean = cause_more (Int32 (version_code c.args.version) ∷ []) (Pairs (map (shown_by g.T.Text.shown) k.0)) refl k.2 in
     let w = c.in_ok-finish_body.ensures in
     let version : FitsSigned w32 (version_code c.args.version) = version_fits c.args.version in
     record {
-      message = Startup c.args.version (map shown k.0);
+      message = Startup c.args.version (map (shown_by g.T.Text.shown) k.0);
       whole = (k.0, k.1, refl);
       in_range = (version, (tt, tt));
-      none = frame_fits (Int32 (version_code c.args.version) ∷ Pairs (map shown k.0) ∷ []) (g.B.Buffer.held c.args.buf.now) _ _ _ c.in_ok-put_u32.ensures.ok all c.len-base.ensures.value clean w.fits;
-      appended = frame_done (Int32 (version_code c.args.version) ∷ Pairs (map shown k.0) ∷ []) (g.B.Buffer.held c.args.buf.now) _ _ _ c.in_ok-put_u32.ensures.ok all c.len-base.ensures.value _ w.ok;
+      none = frame_fits (Int32 (version_code c.args.version) ∷ Pairs (map (shown_by g.T.Text.shown) k.0) ∷ []) (g.B.Buffer.held c.args.buf.now) _ _ _ c.in_ok-put_u32.ensures.ok all c.len-base.ensures.value clean w.fits;
+      appended = frame_done (Int32 (version_code c.args.version) ∷ Pairs (map (shown_by g.T.Text.shown) k.0) ∷ []) (g.B.Buffer.held c.args.buf.now) _ _ _ c.in_ok-put_u32.ensures.ok all c.len-base.ensures.value _ w.ok;
     }
 
 pub returns-in_err-put_u32-clause-cause : goal.returns-in_err-put_u32-clause-cause

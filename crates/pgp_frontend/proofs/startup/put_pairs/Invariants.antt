@@ -1,11 +1,11 @@
 use Rattle.std.proofs.Common.{◌≡◌, None, map}
 use Rattle.std.specs.List.{flat_map}
 use Rattle.pgp_base.specs.Held.{◌⊕◌}
-use Rattle.pgp_frontend.specs.Given.{shown}
+use Rattle.pgp_frontend.specs.Given.{shown_by}
 use Rattle.pgp_frontend.specs.Payload.{Pairs, pair, part_cause}
 use Rattle.pgp_frontend.proofs.startup.put_pairs.Given as goal
 
 abbrev pub invariant-loop-name : goal.invariant-loop-name
 invariant-loop-name g l =
-    (part_cause (Pairs (map shown l.yielded)) ≡ None)
-    × (g.B.Buffer.held l.buf ≡ g.B.Buffer.held l.fn.buf ⊕ flat_map pair (map shown l.yielded))
+    (part_cause (Pairs (map (shown_by g.T.Text.shown) l.yielded)) ≡ None)
+    × (g.B.Buffer.held l.buf ≡ g.B.Buffer.held l.fn.buf ⊕ flat_map pair (map (shown_by g.T.Text.shown) l.yielded))

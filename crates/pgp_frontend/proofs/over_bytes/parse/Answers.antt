@@ -1,5 +1,5 @@
 use Rattle.pgp_base.proofs.Parts.{cut_back}
-use Rattle.pgp_frontend.proofs.extended.parse.Goals as goal
+use Rattle.pgp_frontend.proofs.over_bytes.parse.Goals as goal
 
 pub returns-in-Err : goal.returns-in-Err
 returns-in-Err g c =
