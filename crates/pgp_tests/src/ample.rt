@@ -1,6 +1,7 @@
 //! Large values with ample memory: none is refused for its size.
 #![tactic(auto, using(pgp_base::proofs::Parts::held_steps))]
 
+use crate::checks::{holds, same};
 use bytes::BytesMut;
 use pgp_auth::authentication::md5_hash;
 use pgp_auth::authentication::sasl::NoPrep;
@@ -95,8 +96,8 @@ fn long_texts_are_escaped(rt: HostRuntime) -> Result<(), Fail> {
             let text = joined(rt.alloc(), "", escape.piece, count, "")?;
             let literal = joined(rt.alloc(), escape.open, escape.in_literal, count, "'")?;
             let identifier = joined(rt.alloc(), "\"", escape.in_identifier, count, "\"")?;
-            assert!(rt; escape_literal(rt.alloc(), &text)? == literal);
-            assert!(rt; escape_identifier(rt.alloc(), &text)? == identifier);
+            holds(&rt, escape_literal(rt.alloc(), &text)? == literal);
+            holds(&rt, escape_identifier(rt.alloc(), &text)? == identifier);
         }
     }
     Ok(())
@@ -109,23 +110,26 @@ fn long_passwords_have_verifiers(rt: HostRuntime) -> Result<(), Fail> {
     let password = joined(rt.alloc(), "", "p", 100_000, "")?;
     let name = joined(rt.alloc(), "", "u", 100_000, "")?;
     let salt = [1, 2, 3, 4, 5, 6, 7, 8, 9, 10, 11, 12, 13, 14, 15, 16];
-    assert_eq!(rt;
+    same(
+        &rt,
         scram_sha_256_salt(rt.alloc(), short.as_bytes(), salt, &NoPrep)?.as_str(),
-        "SCRAM-SHA-256$4096:AQIDBAUGBwgJCgsMDQ4PEA==$MqHTeIBAypAlamHflntsk3zPy83+iYEDYEVin3aoA0I=:7QXhJ4hzUp9xadcB9Htgr/vq1ByQLTHpg7TSvQUfst8="
+        "SCRAM-SHA-256$4096:AQIDBAUGBwgJCgsMDQ4PEA==$MqHTeIBAypAlamHflntsk3zPy83+iYEDYEVin3aoA0I=:7QXhJ4hzUp9xadcB9Htgr/vq1ByQLTHpg7TSvQUfst8=",
     );
-    assert_eq!(rt;
+    same(
+        &rt,
         md5(rt.alloc(), password.as_bytes(), &name)?.as_str(),
-        "md553bd144500396c93c81d33cd009a3acd"
+        "md553bd144500396c93c81d33cd009a3acd",
     );
-    assert_eq!(rt;
+    same(
+        &rt,
         md5_hash(
             rt.alloc(),
             name.as_bytes(),
             password.as_bytes(),
-            [1, 2, 3, 4]
+            [1, 2, 3, 4],
         )?
         .as_str(),
-        "md56c6ea7c94ba1b5d4ec344a8c55f0595e"
+        "md56c6ea7c94ba1b5d4ec344a8c55f0595e",
     );
     Ok(())
 }
@@ -148,11 +152,11 @@ fn a_megabyte_is_copied(rt: HostRuntime) -> Result<(), Fail> {
     let data = joined(rt.alloc(), "", "0123456789", 100_000, "")?;
     let mut buf = BytesMut::new(rt.alloc());
     let piece = CopyData::new(data.as_bytes())?;
-    assert!(rt; piece.write(&mut buf).is_ok());
-    assert_eq!(rt; buf.len(), 1_000_005);
-    assert!(rt; buf.as_slice().starts_with(b"d\0\x0f\x42\x44"));
-    assert_eq!(rt; brings(&mut buf, data.as_bytes()), Ok(true));
-    assert!(rt; buf.is_empty());
+    holds(&rt, piece.write(&mut buf).is_ok());
+    same(&rt, buf.len(), 1_000_005);
+    holds(&rt, buf.as_slice().starts_with(b"d\0\x0f\x42\x44"));
+    same(&rt, brings(&mut buf, data.as_bytes()), Ok(true));
+    holds(&rt, buf.is_empty());
     Ok(())
 }
 
@@ -165,8 +169,9 @@ fn a_long_literal_is_sent(rt: HostRuntime) -> Result<(), Fail> {
     let mut buf = BytesMut::new(rt.alloc());
     query(&sql, &mut buf)?;
     let sent = joined(rt.alloc(), "SELECT '", "a", 100_000, "'\0")?;
-    assert!(rt;
-        buf.as_slice().strip_prefix(b"Q\0\x01\x86\xae".as_slice()) == Some(sent.as_bytes())
+    holds(
+        &rt,
+        buf.as_slice().strip_prefix(b"Q\0\x01\x86\xae".as_slice()) == Some(sent.as_bytes()),
     );
     Ok(())
 }
@@ -177,7 +182,7 @@ fn a_long_text_is_a_value(rt: HostRuntime) -> Result<(), Fail> {
     let text = joined(rt.alloc(), "", "0123456789", 10_000, "")?;
     let mut buf = BytesMut::new(rt.alloc());
     text_to_sql(&text, &mut buf)?;
-    assert!(rt; buf.as_slice() == text.as_bytes());
+    holds(&rt, buf.as_slice() == text.as_bytes());
     Ok(())
 }
 
@@ -203,8 +208,8 @@ fn a_long_row_has_numbers(rt: HostRuntime) -> Result<(), Fail> {
     for _ in 0..1000 {
         buf.extend_from_slice(b"\0\0\0\x04\0\0\0\x2a")?;
     }
-    assert_eq!(rt; columns_of_42(rt.alloc(), &mut buf), Ok(1000));
-    assert!(rt; buf.is_empty());
+    same(&rt, columns_of_42(rt.alloc(), &mut buf), Ok(1000));
+    holds(&rt, buf.is_empty());
     Ok(())
 }
 
@@ -233,14 +238,14 @@ fn a_megabyte_is_fed(rt: HostRuntime) -> Result<(), Fail> {
     let front = joined(rt.alloc(), "d\0\x0f\x42\x44", "0123456789", 50_000, "")?;
     let back = joined(rt.alloc(), "", "0123456789", 50_000, "")?;
     feed(&mut parser, front.as_bytes())?;
-    assert_eq!(rt; parser.results().len(), 2000);
-    assert_eq!(rt; parser.rest().len(), 500_005);
+    same(&rt, parser.results().len(), 2000);
+    same(&rt, parser.rest().len(), 500_005);
     feed(&mut parser, back.as_bytes())?;
-    assert_eq!(rt; last_copied(&parser), 1_000_000);
+    same(&rt, last_copied(&parser), 1_000_000);
     feed(&mut parser, b"1\0\0\0\x04")?;
-    assert_eq!(rt; parser.results().len(), 2002);
-    assert_eq!(rt; parser.headers(), 2002);
-    assert!(rt; parser.rest().is_empty());
+    same(&rt, parser.results().len(), 2002);
+    same(&rt, parser.headers(), 2002);
+    holds(&rt, parser.rest().is_empty());
     Ok(())
 }
 
@@ -269,14 +274,14 @@ fn a_long_list_of_names_is_sent(rt: HostRuntime) -> Result<(), Fail> {
         parameters.push(("name", "of"))?;
     }
     let mut buf = BytesMut::new(rt.alloc());
-    assert!(rt; bind_names(names.as_slice(), &mut buf).is_ok());
+    holds(&rt, bind_names(names.as_slice(), &mut buf).is_ok());
     let open = b"B\0\x01\x38\x8c\0\0\0\0\x27\x10";
     let sent = joined_bytes(rt.alloc(), open, b"\0\0\0\x04name", 10_000, b"\0\0")?;
-    assert!(rt; buf.as_slice() == sent.as_slice());
+    holds(&rt, buf.as_slice() == sent.as_slice());
     let mut packet = BytesMut::new(rt.alloc());
     startup_message(parameters.as_slice().iter().copied(), &mut packet)?;
     let open = b"\0\x01\x38\x89\0\x03\0\0";
     let sent = joined_bytes(rt.alloc(), open, b"name\0of\0", 10_000, b"\0")?;
-    assert!(rt; packet.as_slice() == sent.as_slice());
+    holds(&rt, packet.as_slice() == sent.as_slice());
     Ok(())
 }

@@ -4,6 +4,7 @@
 ghost use Rattle.pgp_base.specs.Calls.{KeepsValue};
 ghost use Rattle.pgp_base.specs.Held.{items_held};
 
+use crate::checks::{holds, same};
 use bytes::BytesMut;
 use pgp_base::{BindError, Buffer, IsNull};
 use pgp_frontend::bind;
@@ -44,10 +45,11 @@ fn a_number_and_a_null_are_bound(rt: HostRuntime) {
         Some(1i16),
         &mut buf,
     );
-    assert!(rt; matches!(answer, Ok(())));
-    assert_eq!(rt;
+    holds(&rt, matches!(answer, Ok(())));
+    same(
+        &rt,
         buf.as_slice(),
-        b"B\0\0\0\x1d\0s\0\0\x01\0\x01\0\x02\0\0\0\x04\0\0\0\x05\xff\xff\xff\xff\0\x01\0\x01".as_slice()
+        b"B\0\0\0\x1d\0s\0\0\x01\0\x01\0\x02\0\0\0\x04\0\0\0\x05\xff\xff\xff\xff\0\x01\0\x01".as_slice(),
     );
 }
 
@@ -90,10 +92,11 @@ fn bind_array(elements: [Element; 2], buf: &mut BytesMut) -> Result<(), BindErro
 fn an_array_is_bound(rt: HostRuntime) {
     let mut buf = BytesMut::new(rt.alloc());
     let answer = bind_array([Element::Number(5), Element::Null], &mut buf);
-    assert!(rt; matches!(answer, Ok(())));
-    assert_eq!(rt;
+    holds(&rt, matches!(answer, Ok(())));
+    same(
+        &rt,
         buf.as_slice(),
-        b"B\0\0\0\x32\0\0\0\x01\0\x01\0\x01\0\0\0\x20\0\0\0\x01\0\0\0\x01\0\0\0\x17\0\0\0\x02\0\0\0\x01\0\0\0\x04\0\0\0\x05\xff\xff\xff\xff\0\0".as_slice()
+        b"B\0\0\0\x32\0\0\0\x01\0\x01\0\x01\0\0\0\x20\0\0\0\x01\0\0\0\x01\0\0\0\x17\0\0\0\x02\0\0\0\x01\0\0\0\x04\0\0\0\x05\xff\xff\xff\xff\0\0".as_slice(),
     );
 }
 
@@ -103,7 +106,10 @@ fn an_array_that_is_refused_is_not_bound(rt: HostRuntime) -> Result<(), Fail> {
     let mut buf = BytesMut::new(rt.alloc());
     buf.append(b"S\0\0\0\x04")?;
     let answer = bind_array([Element::Number(5), Element::Refuse], &mut buf);
-    assert!(rt; matches!(answer, Err(BindError::Conversion(BindError::Conversion(2)))));
-    assert_eq!(rt; buf.as_slice(), b"S\0\0\0\x04".as_slice());
+    holds(
+        &rt,
+        matches!(answer, Err(BindError::Conversion(BindError::Conversion(2)))),
+    );
+    same(&rt, buf.as_slice(), b"S\0\0\0\x04".as_slice());
     Ok(())
 }

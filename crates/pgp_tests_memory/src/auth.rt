@@ -3,6 +3,7 @@
 
 ghost use Rattle.std.specs.Prelude.{Some, [], ◌∷◌};
 
+use crate::checks::{holds, holds_at, same, same_at};
 use pgp_auth::authentication::md5_hash;
 use pgp_auth::authentication::sasl::{
     ChannelBinding, NoPrep, SaslPrep, ScramError, ScramSha256, is_nonce,
@@ -101,17 +102,17 @@ fn texts_with_each_allocation_refused(rt: HostRuntime) -> Result<(), Fail> {
             let heap = Refusing::new(rt.alloc(), number);
             match text_of(&heap, &prep, call) {
                 Ok(text) => {
-                    assert_eq!(rt; text.as_str(), ample.as_str());
-                    assert!(rt; heap.until_refusal.get() != 0);
+                    same(&rt, text.as_str(), ample.as_str());
+                    holds(&rt, heap.until_refusal.get() != 0);
                 }
-                Err(e) => assert_eq!(rt; e, Error::OutOfMemory),
+                Err(e) => same(&rt, e, Error::OutOfMemory),
             }
             if heap.until_refusal.get() != 0 {
                 break;
             }
             refusals = number;
         }
-        assert_eq!(rt; refusals, asked, "{call:?}");
+        same_at(&rt, call, refusals, asked);
     }
     Ok(())
 }
@@ -119,10 +120,10 @@ fn texts_with_each_allocation_refused(rt: HostRuntime) -> Result<(), Fail> {
 #[test]
 fn a_mapping_without_memory_is_told(rt: HostRuntime) -> Result<(), Fail> {
     let told = scram_sha_256_salt(rt.alloc(), b"\xc3\xa9", SALT, &NoMemory);
-    assert!(rt; matches!(&told, Err(Error::OutOfMemory)));
+    holds(&rt, matches!(&told, Err(Error::OutOfMemory)));
     let not_asked = scram_sha_256_salt(rt.alloc(), b"secret", SALT, &NoMemory)?;
     let raw = scram_sha_256_salt(rt.alloc(), b"secret", SALT, &NoPrep)?;
-    assert_eq!(rt; not_asked.as_str(), raw.as_str());
+    same(&rt, not_asked.as_str(), raw.as_str());
     Ok(())
 }
 
@@ -216,20 +217,20 @@ fn exchanges_with_each_allocation_refused(rt: HostRuntime) -> Result<(), Fail> {
                 Ok((0, finished, hmacs)) => {
                     let is_refused = heap.until_refusal.get() == 0;
                     let end = if is_refused { (0, 1, 3) } else { ample };
-                    assert_eq!(rt; (0, finished, hmacs), end, "{number}");
+                    same_at(&rt, number, (0, finished, hmacs), end);
                 }
                 Ok((updated, finished, hmacs)) => {
-                    assert_eq!(rt; (updated, finished), (1, 2), "{number}");
-                    assert!(rt; hmacs == 0 || hmacs == 3, "{number}");
+                    same_at(&rt, number, (updated, finished), (1, 2));
+                    holds_at(&rt, number, hmacs == 0 || hmacs == 3);
                 }
-                Err(e) => assert_eq!(rt; e.number(), 1, "{number}"),
+                Err(e) => same_at(&rt, number, e.number(), 1),
             }
             if heap.until_refusal.get() != 0 {
                 break;
             }
             refusals = number;
         }
-        assert!(rt; 10 <= refusals, "{refusals}");
+        holds_at(&rt, refusals, 10 <= refusals);
     }
     Ok(())
 }
@@ -251,19 +252,20 @@ fn long_texts_are_escaped(rt: HostRuntime) -> Result<(), Fail> {
         }
         let literal = escape_literal(alloc, &text)?;
         let front = if unit.contains('\\') { 4 } else { 2 };
-        assert_eq!(rt; literal.len(), literal_len * 20_000 + front, "{unit}");
+        same_at(&rt, unit, literal.len(), literal_len * 20_000 + front);
         let identifier = escape_identifier(alloc, &text)?;
-        assert_eq!(rt; identifier.len(), identifier_len * 20_000 + 2, "{unit}");
+        same_at(&rt, unit, identifier.len(), identifier_len * 20_000 + 2);
     }
     let name =
         "abcdefghij0123456789abcdefghij0123456789abcdefghij0123456789abcdefghij0123456789abcdefghij0123456789";
-    assert_eq!(rt; name.len(), 100);
+    same(&rt, name.len(), 100);
     let identifier = escape_identifier(alloc, name)?;
-    assert!(rt;
+    holds(
+        &rt,
         identifier
             .strip_prefix('"')
             .and_then(|rest| rest.strip_suffix('"'))
-            == Some(name)
+            == Some(name),
     );
     Ok(())
 }
@@ -287,9 +289,9 @@ fn nonces_are_drawn_anew(rt: HostRuntime) -> Result<(), Fail> {
         &NoPrep,
         &mut rng,
     )?;
-    assert_eq!(rt; one.message().unwrap_or(b"").len(), 32);
-    assert_eq!(rt; other.message().unwrap_or(b"").len(), 32);
-    assert!(rt; one.message() != other.message());
+    same(&rt, one.message().unwrap_or(b"").len(), 32);
+    same(&rt, other.message().unwrap_or(b"").len(), 32);
+    holds(&rt, one.message() != other.message());
     Ok(())
 }
 
@@ -313,8 +315,8 @@ fn unmapped<A: Allocator + Copy>(
 
 #[test]
 fn a_client_tells_of_a_mapping_without_memory(rt: HostRuntime) {
-    assert_eq!(rt; number(&unmapped(rt.alloc(), b"\xc3\xa9")), 1);
-    assert_eq!(rt; number(&unmapped(rt.alloc(), b"secret")), 0);
+    same(&rt, number(&unmapped(rt.alloc(), b"\xc3\xa9")), 1);
+    same(&rt, number(&unmapped(rt.alloc(), b"secret")), 0);
 }
 
 // The number of the refusal of this last text, where no request of memory is granted behind the first text.
@@ -346,9 +348,9 @@ fn a_signature_is_compared_without_memory(rt: HostRuntime) {
     for (text, answer) in texts {
         let heap = Refusing::new(rt.alloc(), 0);
         match refusal_of_last(&heap, text) {
-            Ok(told) => assert_eq!(rt; told, answer),
-            Err(e) => assert_eq!(rt; e.number(), 0),
+            Ok(told) => same(&rt, told, answer),
+            Err(e) => same(&rt, e.number(), 0),
         }
-        assert_eq!(rt; heap.until_refusal.get(), 1);
+        same(&rt, heap.until_refusal.get(), 1);
     }
 }

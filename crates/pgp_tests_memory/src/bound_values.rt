@@ -1,6 +1,7 @@
 //! Values in messages, with each allocation refused in turn.
 #![tactic(auto, using(pgp_base::proofs::Parts::held_steps))]
 
+use crate::checks::{holds, same};
 use bytes::BytesMut;
 use pgp_base::{BindError, Error};
 use pgp_message::Message;
@@ -49,14 +50,14 @@ fn bind_array_with_each_allocation_refused(rt: HostRuntime) -> Result<(), Fail> 
         heap.until_refusal.set(number);
         let answer = plain(bind_array(&[PAIR], 17, &steps, &mut buf));
         if heap.until_refusal.get() != 0 {
-            assert_eq!(rt; answer, Ok(()));
+            same(&rt, answer, Ok(()));
             break;
         }
-        assert_eq!(rt; answer, Err(Error::OutOfMemory));
-        assert_eq!(rt; buf.as_slice(), SYNC.as_slice());
+        same(&rt, answer, Err(Error::OutOfMemory));
+        same(&rt, buf.as_slice(), SYNC.as_slice());
         refusals = number;
     }
-    assert!(rt; refusals > 0);
+    holds(&rt, refusals > 0);
     Ok(())
 }
 
@@ -85,12 +86,12 @@ fn row_int4_with_each_allocation_refused(rt: HostRuntime) -> Result<(), Fail> {
         let heap = Refusing::new(rt.alloc(), number);
         let answer = good_values(&heap, rt.alloc());
         if heap.until_refusal.get() != 0 {
-            assert_eq!(rt; answer, Ok(3));
+            same(&rt, answer, Ok(3));
             break;
         }
-        assert_eq!(rt; answer, Err(Error::OutOfMemory));
+        same(&rt, answer, Err(Error::OutOfMemory));
         refusals = number;
     }
-    assert!(rt; refusals > 0);
+    holds(&rt, refusals > 0);
     Ok(())
 }

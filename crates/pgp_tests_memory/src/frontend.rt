@@ -2,6 +2,7 @@
 //! holds a message and has no room left.
 #![tactic(auto, using(pgp_base::proofs::Parts::held_steps))]
 
+use crate::checks::{holds, holds_at, same, same_at};
 use bytes::BytesMut;
 use pgp_base::{
     BindError, Buffer, Error, IsNull, put_u8, put_u32, write_body, write_counted, write_cstr,
@@ -108,7 +109,7 @@ fn full<A: Allocator + Copy>(alloc: A) -> Result<BytesMut<A>, AllocError> {
 fn writers_with_each_allocation_refused(rt: HostRuntime) -> Result<(), Fail> {
     for writer in 0..WRITERS {
         let mut ample = full(rt.alloc())?;
-        assert_eq!(rt; write(writer, &mut ample), Ok(()), "writer {writer}");
+        same_at(&rt, writer, write(writer, &mut ample), Ok(()));
         let mut refusals = 0u64;
         for number in 1..1000u64 {
             let heap = Refusing::new(rt.alloc(), 0);
@@ -116,18 +117,15 @@ fn writers_with_each_allocation_refused(rt: HostRuntime) -> Result<(), Fail> {
             heap.until_refusal.set(number);
             let answer = write(writer, &mut buf);
             if heap.until_refusal.get() != 0 {
-                assert_eq!(rt; answer, Ok(()), "writer {writer}");
-                assert_eq!(rt; buf.as_slice(), ample.as_slice(), "writer {writer}");
+                same_at(&rt, writer, answer, Ok(()));
+                same_at(&rt, writer, buf.as_slice(), ample.as_slice());
                 break;
             }
-            assert_eq!(rt; answer, Err(Error::OutOfMemory), "writer {writer}");
-            assert_eq!(rt; buf.as_slice(), SYNC.as_slice(), "writer {writer}");
+            same_at(&rt, writer, answer, Err(Error::OutOfMemory));
+            same_at(&rt, writer, buf.as_slice(), SYNC.as_slice());
             refusals = number;
         }
-        assert!(rt;
-            refusals >= 1 && refusals < 100,
-            "writer {writer}: {refusals}"
-        );
+        holds_at(&rt, writer, refusals >= 1 && refusals < 100);
     }
     Ok(())
 }
@@ -138,18 +136,18 @@ fn a_refused_piece_is_written_later(rt: HostRuntime) -> Result<(), Fail> {
     let heap = Refusing::new(rt.alloc(), 0);
     let mut buf: BytesMut<&Refusing<Global>> = full(&heap)?;
     match CopyData::new(b"ab".as_slice()) {
-        Err(_) => assert!(rt; false),
+        Err(_) => holds(&rt, false),
         Ok(piece) => {
             heap.until_refusal.set(1);
             match piece.write(&mut buf) {
-                Ok(()) => assert!(rt; false),
+                Ok(()) => holds(&rt, false),
                 Err(piece) => {
-                    assert_eq!(rt; buf.as_slice(), SYNC.as_slice());
-                    assert!(rt; piece.write(&mut buf).is_ok());
+                    same(&rt, buf.as_slice(), SYNC.as_slice());
+                    holds(&rt, piece.write(&mut buf).is_ok());
                 }
             }
         }
     }
-    assert_eq!(rt; buf.as_slice(), b"S\0\0\0\x04d\0\0\0\x06ab".as_slice());
+    same(&rt, buf.as_slice(), b"S\0\0\0\x04d\0\0\0\x06ab".as_slice());
     Ok(())
 }

@@ -1,5 +1,6 @@
 //! A parser of a long stream, over a heap that is much smaller than the stream.
 
+use crate::checks::{holds, holds_at, same};
 use bytes::Bytes;
 use linked_list_allocator::LocalHeap;
 use pgp_base::Error;
@@ -36,13 +37,13 @@ fn parser_that_is_taken_from_does_not_grow(rt: HostRuntime) -> Result<(), Fail> 
     for held in &mut most {
         for _ in 0..1000 {
             feed(&mut parser, PIECE)?;
-            assert_eq!(rt; parser.take().len(), 2);
-            assert_eq!(rt; parser.rest(), FRONT.as_slice());
+            same(&rt, parser.take().len(), 2);
+            same(&rt, parser.rest(), FRONT.as_slice());
             *held = heap.used().max(*held);
         }
     }
-    assert_eq!(rt; parser.headers(), 8001);
-    assert!(rt; most[3] <= most[1], "{} {}", most[1], most[3]);
+    same(&rt, parser.headers(), 8001);
+    holds_at(&rt, most[1], most[3] <= most[1]);
     Ok(())
 }
 
@@ -58,8 +59,8 @@ fn parser_that_is_not_taken_from_grows(rt: HostRuntime) -> Result<(), Fail> {
             answer = feed(&mut parser, PIECE);
         }
     }
-    assert_eq!(rt; answer, Err(Error::OutOfMemory));
-    assert!(rt; parser.failed());
+    same(&rt, answer, Err(Error::OutOfMemory));
+    holds(&rt, parser.failed());
     Ok(())
 }
 
@@ -182,16 +183,17 @@ fn a_long_stream_in_little_memory(rt: HostRuntime) -> Result<(), Fail> {
         bytes: 0,
     };
     let mut pieces = whole;
-    assert_eq!(rt; add_in_place(bytes.as_slice(), &mut whole), Ok(0));
+    same(&rt, add_in_place(bytes.as_slice(), &mut whole), Ok(0));
     let heap = LocalHeap::new(rt.alloc(), LONG_HEAP)?;
     let mut parser = StreamParser::new(&heap);
-    assert_eq!(rt;
+    same(
+        &rt,
         add_in_pieces(&mut parser, bytes.as_slice(), &mut pieces),
-        Ok(())
+        Ok(()),
     );
-    assert!(rt; parser.rest().is_empty());
-    assert_eq!(rt; parser.headers(), pieces.results);
-    assert_eq!(rt; pieces, whole);
-    assert!(rt; whole.results > 1000);
+    holds(&rt, parser.rest().is_empty());
+    same(&rt, parser.headers(), pieces.results);
+    same(&rt, pieces, whole);
+    holds(&rt, whole.results > 1000);
     Ok(())
 }

@@ -1,6 +1,7 @@
 //! Messages of a server and the walks over their bodies, with each allocation refused in turn.
 #![tactic(auto, using(pgp_base::proofs::Parts::held_steps))]
 
+use crate::checks::{holds, same};
 use bytes::{Bytes, BytesMut};
 use pgp_base::{Error, FallibleIterator};
 use pgp_message::{DataRowBody, FrameParser, Message, Messages, RowPlaces, read_frames};
@@ -41,16 +42,16 @@ fn parse_with_each_allocation_refused(rt: HostRuntime) -> Result<(), Fail> {
         heap.until_refusal.set(number);
         let answer = is_copy_of(&mut buf, b"ab");
         if heap.until_refusal.get() != 0 {
-            assert_eq!(rt; answer, Ok(Some(true)));
-            assert!(rt; buf.is_empty());
+            same(&rt, answer, Ok(Some(true)));
+            holds(&rt, buf.is_empty());
             break;
         }
-        assert_eq!(rt; answer, Err(Error::OutOfMemory));
-        assert_eq!(rt; buf.as_slice(), frame);
-        assert_eq!(rt; is_copy_of(&mut buf, b"ab"), Ok(Some(true)));
+        same(&rt, answer, Err(Error::OutOfMemory));
+        same(&rt, buf.as_slice(), frame);
+        same(&rt, is_copy_of(&mut buf, b"ab"), Ok(Some(true)));
         refusals = number;
     }
-    assert!(rt; refusals > 0);
+    holds(&rt, refusals > 0);
     Ok(())
 }
 
@@ -63,14 +64,14 @@ fn unfinished_frame_with_each_allocation_refused(rt: HostRuntime) -> Result<(), 
         let heap = Refusing::new(rt.alloc(), 0);
         let mut buf = buffer(&heap, front)?;
         heap.until_refusal.set(number);
-        assert_eq!(rt; is_copy_of(&mut buf, b""), Ok(None));
-        assert_eq!(rt; buf.as_slice(), front);
+        same(&rt, is_copy_of(&mut buf, b""), Ok(None));
+        same(&rt, buf.as_slice(), front);
         if heap.until_refusal.get() != 0 {
             break;
         }
         refusals = number;
     }
-    assert!(rt; refusals > 0);
+    holds(&rt, refusals > 0);
     Ok(())
 }
 
@@ -105,9 +106,9 @@ fn bare_frames_ask_for_no_memory(rt: HostRuntime) -> Result<(), Fail> {
         let heap = Refusing::new(rt.alloc(), 0);
         let mut buf = buffer(&heap, bytes)?;
         heap.until_refusal.set(1);
-        assert_eq!(rt; is_message(&mut buf), answer);
-        assert!(rt; buf.is_empty());
-        assert!(rt; heap.until_refusal.get() != 0);
+        same(&rt, is_message(&mut buf), answer);
+        holds(&rt, buf.is_empty());
+        holds(&rt, heap.until_refusal.get() != 0);
     }
     Ok(())
 }
@@ -128,16 +129,16 @@ fn keys_and_versions_with_each_allocation_refused(rt: HostRuntime) -> Result<(),
             heap.until_refusal.set(number);
             let answer = is_message(&mut buf);
             if heap.until_refusal.get() != 0 {
-                assert_eq!(rt; answer, Ok(true));
-                assert!(rt; buf.is_empty());
+                same(&rt, answer, Ok(true));
+                holds(&rt, buf.is_empty());
                 break;
             }
-            assert_eq!(rt; answer, Err(Error::OutOfMemory));
-            assert_eq!(rt; buf.as_slice(), frame);
-            assert_eq!(rt; is_message(&mut buf), Ok(true));
+            same(&rt, answer, Err(Error::OutOfMemory));
+            same(&rt, buf.as_slice(), frame);
+            same(&rt, is_message(&mut buf), Ok(true));
             refusals = number;
         }
-        assert!(rt; refusals > 0);
+        holds(&rt, refusals > 0);
     }
     Ok(())
 }
@@ -174,14 +175,14 @@ fn read_frames_with_each_allocation_refused(rt: HostRuntime) -> Result<(), Fail>
         let heap = Refusing::new(rt.alloc(), number);
         let mut list = Vec::new(&heap);
         let read = read_found(&heap, frames, &mut list);
-        assert_eq!(rt; ends_of_a(list.as_slice()), list.len());
+        same(&rt, ends_of_a(list.as_slice()), list.len());
         if read.is_ok() {
-            assert_eq!(rt; list.len(), 3);
+            same(&rt, list.len(), 3);
             break;
         }
         refusals = number;
     }
-    assert!(rt; refusals > 1);
+    holds(&rt, refusals > 1);
     Ok(())
 }
 
@@ -210,8 +211,8 @@ fn clone_with_each_allocation_refused(rt: HostRuntime) -> Result<(), Fail> {
     let heap = Refusing::new(rt.alloc(), 0);
     let row = row(&heap, frame)?;
     heap.until_refusal.set(1);
-    assert_eq!(rt; cloned(&row, &frame[7..]), Ok(true));
-    assert!(rt; heap.until_refusal.get() != 0);
+    same(&rt, cloned(&row, &frame[7..]), Ok(true));
+    holds(&rt, heap.until_refusal.get() != 0);
     Ok(())
 }
 
@@ -236,10 +237,10 @@ fn refusals_of(rt: &impl Abort, alloc: Global, message: &Message, len: usize) ->
         let heap = Refusing::new(alloc, number);
         let answer = collected(&heap, message);
         if heap.until_refusal.get() != 0 {
-            assert_eq!(rt; answer, Ok(len));
+            same(rt, answer, Ok(len));
             break;
         }
-        assert_eq!(rt; answer, Err(Error::OutOfMemory));
+        same(rt, answer, Err(Error::OutOfMemory));
         refusals = number;
     }
     refusals
@@ -273,7 +274,7 @@ fn collect_with_each_allocation_refused(rt: HostRuntime) -> Result<(), Fail> {
         };
         let refusals = refusals_of(&rt, rt.alloc(), &message, len);
         drop(message);
-        assert!(rt; refusals > 0);
+        holds(&rt, refusals > 0);
     }
     Ok(())
 }
@@ -309,20 +310,21 @@ fn parser_with_each_allocation_refused(rt: HostRuntime) -> Result<(), Fail> {
         heap.until_refusal.set(number);
         let answer = is_next_copy_of(&mut parser, &mut buf, b"ab");
         if heap.until_refusal.get() != 0 {
-            assert_eq!(rt; answer, Ok(Some(true)));
-            assert!(rt; buf.is_empty());
+            same(&rt, answer, Ok(Some(true)));
+            holds(&rt, buf.is_empty());
             break;
         }
-        assert_eq!(rt; answer, Err(Error::OutOfMemory));
-        assert_eq!(rt; buf.as_slice(), frame);
-        assert_eq!(rt;
+        same(&rt, answer, Err(Error::OutOfMemory));
+        same(&rt, buf.as_slice(), frame);
+        same(
+            &rt,
             is_next_copy_of(&mut parser, &mut buf, b"ab"),
-            Ok(Some(true))
+            Ok(Some(true)),
         );
-        assert_eq!(rt; parser.headers(), 1);
+        same(&rt, parser.headers(), 1);
         refusals = number;
     }
-    assert!(rt; refusals > 0);
+    holds(&rt, refusals > 0);
     Ok(())
 }
 
@@ -344,10 +346,10 @@ fn refusals_of_table(rt: &impl Abort, alloc: Global, row: &[u8], len: usize) -> 
         let heap = Refusing::new(alloc, number);
         let answer = columns(&heap, row);
         if heap.until_refusal.get() != 0 {
-            assert_eq!(rt; answer, Ok(len));
+            same(rt, answer, Ok(len));
             break;
         }
-        assert_eq!(rt; answer, Err(Error::OutOfMemory));
+        same(rt, answer, Err(Error::OutOfMemory));
         refusals = number;
     }
     refusals
@@ -358,15 +360,16 @@ fn refusals_of_table(rt: &impl Abort, alloc: Global, row: &[u8], len: usize) -> 
 fn index_with_each_allocation_refused(rt: HostRuntime) -> Result<(), Fail> {
     let five =
         b"\x44\0\0\0\x1a\0\x05\xff\xff\xff\xff\xff\xff\xff\xff\xff\xff\xff\xff\xff\xff\xff\xff\xff\xff\xff\xff";
-    assert_eq!(rt; refusals_of_table(&rt, rt.alloc(), five, 5), 1);
-    assert_eq!(rt;
+    same(&rt, refusals_of_table(&rt, rt.alloc(), five, 5), 1);
+    same(
+        &rt,
         refusals_of_table(&rt, rt.alloc(), b"\x44\0\0\0\x06\0\0", 0),
-        0
+        0,
     );
     let cut = b"\x44\0\0\0\x0a\xff\xff\0\0\0\x05";
     let heap = Refusing::new(rt.alloc(), 1);
-    assert_eq!(rt; columns(&heap, cut), Err(Error::UnexpectedEof));
-    assert!(rt; heap.until_refusal.get() != 0);
+    same(&rt, columns(&heap, cut), Err(Error::UnexpectedEof));
+    holds(&rt, heap.until_refusal.get() != 0);
     Ok(())
 }
 
@@ -392,14 +395,22 @@ fn a_table_is_made_again_without_memory(rt: HostRuntime) -> Result<(), Fail> {
     let cut = b"\x44\0\0\0\x0a\0\x02\xff\xff\xff\xff";
     let heap = Refusing::new(rt.alloc(), 1);
     let mut places = RowPlaces::new(&heap);
-    assert_eq!(rt; columns_again(&mut places, two), Err(Error::OutOfMemory));
-    assert_eq!(rt; columns_again(&mut places, two), Ok(2));
+    same(
+        &rt,
+        columns_again(&mut places, two),
+        Err(Error::OutOfMemory),
+    );
+    same(&rt, columns_again(&mut places, two), Ok(2));
     heap.until_refusal.set(1);
     for row in [one.as_slice(), two.as_slice()] {
-        assert_eq!(rt; columns_again(&mut places, cut), Err(Error::UnexpectedEof));
-        assert!(rt; columns_again(&mut places, row).is_ok());
+        same(
+            &rt,
+            columns_again(&mut places, cut),
+            Err(Error::UnexpectedEof),
+        );
+        holds(&rt, columns_again(&mut places, row).is_ok());
     }
-    assert_eq!(rt; heap.until_refusal.get(), 1);
+    same(&rt, heap.until_refusal.get(), 1);
     Ok(())
 }
 
@@ -420,14 +431,14 @@ fn a_long_frame_is_read(rt: HostRuntime) -> Result<(), Fail> {
     let mut buf = long(rt.alloc(), b"\x64\0\x20\0\x04", 2_097_152, 7)?;
     match Message::parse(&mut buf) {
         Ok(Some(Message::CopyData(body))) => {
-            assert_eq!(rt; body.data().len(), 2_097_152);
+            same(&rt, body.data().len(), 2_097_152);
         }
         other => {
             drop(other);
             panic!(rt; "no copy")
         }
     }
-    assert!(rt; buf.is_empty());
+    holds(&rt, buf.is_empty());
     Ok(())
 }
 
@@ -446,10 +457,10 @@ fn row_and_copy(buf: &mut BytesMut) -> Result<(usize, usize), Error> {
 #[test]
 fn a_long_row_is_copied(rt: HostRuntime) -> Result<(), Fail> {
     let mut short = long(rt.alloc(), b"\x44\0\0\x01\x32\0\x01\0\0\x01\x28", 296, 7)?;
-    assert_eq!(rt; row_and_copy(&mut short), Ok((300, 300)));
+    same(&rt, row_and_copy(&mut short), Ok((300, 300)));
     let front = b"\x44\0\x10\0\x06\0\x01\0\x0f\xff\xfc";
     let mut row = long(rt.alloc(), front, 1_048_572, 7)?;
-    assert_eq!(rt; row_and_copy(&mut row), Ok((1_048_576, 1_048_576)));
+    same(&rt, row_and_copy(&mut row), Ok((1_048_576, 1_048_576)));
     Ok(())
 }
 
@@ -457,12 +468,12 @@ fn a_long_row_is_copied(rt: HostRuntime) -> Result<(), Fail> {
 #[test]
 fn a_long_list_is_collected(rt: HostRuntime) -> Result<(), Fail> {
     let mut buf = long(rt.alloc(), b"\x44\0\x03\xa9\x86\xea\x60", 240_000, 0xff)?;
-    assert_eq!(rt; columns(rt.alloc(), buf.as_slice()), Ok(60_000));
+    same(&rt, columns(rt.alloc(), buf.as_slice()), Ok(60_000));
     let Some(message) = Message::parse(&mut buf)? else {
         panic!(rt; "no message");
     };
     let items = collected(rt.alloc(), &message);
     drop(message);
-    assert_eq!(rt; items, Ok(60_000));
+    same(&rt, items, Ok(60_000));
     Ok(())
 }

@@ -1,6 +1,7 @@
 //! A longer stream of a server, cut in many ways, and with each allocation refused in turn. Its bytes are from the
 //! message formats of the PostgreSQL manual.
 
+use crate::checks::{holds, holds_at, same};
 use pgp_base::{Error, Memory};
 use pgp_message::{Message, Storage};
 use pgp_test_alloc::Refusing;
@@ -57,11 +58,11 @@ fn every_cutting_into_three(rt: HostRuntime) -> Result<(), Fail> {
             let (middle, last) = back.split_at(more.min(back.len()));
             let mut parser = StreamParser::new(rt.alloc());
             feed(&mut parser, &[front, middle, last])?;
-            assert!(rt; are_all(parser.results()));
-            assert!(rt; parser.stopped());
-            assert!(rt; !parser.failed());
-            assert_eq!(rt; parser.headers(), 7);
-            assert_eq!(rt; parser.rest(), b"Z\0\0\0\x03".as_slice());
+            holds(&rt, are_all(parser.results()));
+            holds(&rt, parser.stopped());
+            holds(&rt, !parser.failed());
+            same(&rt, parser.headers(), 7);
+            same(&rt, parser.rest(), b"Z\0\0\0\x03".as_slice());
         }
     }
     Ok(())
@@ -77,14 +78,14 @@ fn taken_after_each_byte(rt: HostRuntime) -> Result<(), Fail> {
         for read in &parser.take() {
             marks.push(mark(read))?;
         }
-        assert!(rt; parser.results().is_empty());
+        holds(&rt, parser.results().is_empty());
     }
-    assert_eq!(rt; marks.as_slice(), MARKS);
-    assert_eq!(rt; parser.headers(), 7);
-    assert!(rt; parser.stopped());
+    same(&rt, marks.as_slice(), MARKS);
+    same(&rt, parser.headers(), 7);
+    holds(&rt, parser.stopped());
     feed(&mut parser, &[b"1\0\0\0\x04"])?;
-    assert!(rt; parser.take().is_empty());
-    assert_eq!(rt; parser.rest(), b"Z\0\0\0\x031\0\0\0\x04".as_slice());
+    holds(&rt, parser.take().is_empty());
+    same(&rt, parser.rest(), b"Z\0\0\0\x031\0\0\0\x04".as_slice());
     Ok(())
 }
 
@@ -127,15 +128,15 @@ fn refusals_of_parser(
         let mut marks = Vec::new(alloc);
         heap.until_refusal.set(number);
         let answer = read_two(&mut parser, pieces, is_taken, &mut marks);
-        assert!(rt; MARKS.starts_with(marks.as_slice()));
-        assert_eq!(rt; parser.failed(), answer.is_err());
+        holds(rt, MARKS.starts_with(marks.as_slice()));
+        same(rt, parser.failed(), answer.is_err());
         if answer.is_ok() {
-            assert_eq!(rt; marks.as_slice(), MARKS);
-            assert!(rt; parser.stopped());
-            assert_eq!(rt; parser.rest(), b"Z\0\0\0\x03".as_slice());
-            assert_eq!(rt; parser.headers(), 7);
+            same(rt, marks.as_slice(), MARKS);
+            holds(rt, parser.stopped());
+            same(rt, parser.rest(), b"Z\0\0\0\x03".as_slice());
+            same(rt, parser.headers(), 7);
         } else {
-            assert_eq!(rt; answer, Err(Error::OutOfMemory));
+            same(rt, answer, Err(Error::OutOfMemory));
             refusals = refusals.saturating_add(1);
         }
         if heap.until_refusal.get() != 0 {
@@ -152,7 +153,7 @@ fn pieces_with_each_allocation_refused(rt: HostRuntime) -> Result<(), Fail> {
         let (front, back) = HOSTILE.split_at(cut);
         for is_taken in [false, true] {
             let refusals = refusals_of_parser(&rt, rt.alloc(), [front, back], is_taken)?;
-            assert!(rt; refusals > 2, "{cut} {is_taken}: {refusals}");
+            holds_at(&rt, cut, refusals > 2);
         }
     }
     Ok(())
@@ -165,12 +166,12 @@ fn refusals_of_stream(rt: &impl Abort, alloc: Global, pieces: [&[u8]; 2]) -> u64
         let heap = Refusing::new(alloc, number);
         match parse_stream(&heap, &pieces) {
             Ok(parsed) => {
-                assert!(rt; are_all(parsed.results()));
-                assert!(rt; parsed.stopped());
-                assert_eq!(rt; parsed.rest(), b"Z\0\0\0\x03".as_slice());
+                holds(rt, are_all(parsed.results()));
+                holds(rt, parsed.stopped());
+                same(rt, parsed.rest(), b"Z\0\0\0\x03".as_slice());
             }
             Err(e) => {
-                assert_eq!(rt; e, Error::OutOfMemory);
+                same(rt, e, Error::OutOfMemory);
                 refusals = refusals.saturating_add(1);
             }
         }
@@ -186,6 +187,6 @@ fn parse_stream_with_each_allocation_refused(rt: HostRuntime) {
     for cut in 0..102usize {
         let (front, back) = HOSTILE.split_at(cut);
         let refusals = refusals_of_stream(&rt, rt.alloc(), [front, back]);
-        assert!(rt; refusals > 2, "{cut}: {refusals}");
+        holds_at(&rt, cut, refusals > 2);
     }
 }

@@ -4,6 +4,7 @@
 ghost use Rattle.pgp_base.specs.Calls.{KeepsValue};
 ghost use Rattle.pgp_base.specs.Held.{items_held};
 
+use crate::checks::{holds, holds_at, same};
 use bytes::BytesMut;
 use pgp_base::{BindError, Buffer, Error, IsNull};
 use pgp_frontend::bind;
@@ -42,9 +43,12 @@ fn bind_with_each_value_refused(rt: HostRuntime) -> Result<(), Fail> {
             Some(1i16),
             &mut buf,
         );
-        assert!(rt; matches!(&answer, Err(BindError::Conversion(e)) if *e == k));
-        assert_eq!(rt; calls, k);
-        assert_eq!(rt; buf.as_slice(), SYNC);
+        holds(
+            &rt,
+            matches!(&answer, Err(BindError::Conversion(e)) if *e == k),
+        );
+        same(&rt, calls, k);
+        same(&rt, buf.as_slice(), SYNC);
     }
     Ok(())
 }
@@ -141,17 +145,17 @@ fn a_serializer_without_memory_is_told_apart(rt: HostRuntime) -> Result<(), Fail
             buf.extend_from_slice(SYNC)?;
             heap.until_refusal.set(1);
             match write_own(writer, &mut buf) {
-                Told::Nobody => assert!(rt; heap.until_refusal.get() != 0),
+                Told::Nobody => holds(&rt, heap.until_refusal.get() != 0),
                 Told::Serializer => by_serializer = by_serializer.saturating_add(1),
                 Told::Writer => by_writer = by_writer.saturating_add(1),
                 Told::Other => panic!(rt; "writer {writer}, room {room}"),
             }
             if heap.until_refusal.get() == 0 {
-                assert_eq!(rt; buf.as_slice(), SYNC);
+                same(&rt, buf.as_slice(), SYNC);
             }
         }
-        assert!(rt; by_serializer > 5, "writer {writer}: {by_serializer}");
-        assert!(rt; by_writer > 5, "writer {writer}: {by_writer}");
+        holds_at(&rt, writer, by_serializer > 5);
+        holds_at(&rt, writer, by_writer > 5);
     }
     Ok(())
 }

@@ -1,6 +1,7 @@
 //! A client's stream, with each allocation refused in turn.
 #![tactic(auto, using(pgp_base::proofs::Parts::held_steps))]
 
+use crate::checks::{holds, holds_at, same, same_at};
 use bytes::BytesMut;
 use pgp_base::{BindError, Buffer, Error, IsNull, put_u32};
 use pgp_frontend::{CopyData, ProtocolVersion};
@@ -103,7 +104,7 @@ fn call<B: Buffer>(number: usize, stream: &mut ClientStream<B>) -> Result<(), Er
 fn requests_with_each_allocation_refused(rt: HostRuntime) -> Result<(), Fail> {
     for request in 0..REQUESTS {
         let mut ample = ClientStream::new(rt.alloc());
-        assert_eq!(rt; begin(request, &mut ample), Ok(()), "request {request}");
+        same_at(&rt, request, begin(request, &mut ample), Ok(()));
         let mut refusals = 0u64;
         for number in 1..100u64 {
             let heap = Refusing::new(rt.alloc(), 0);
@@ -111,18 +112,18 @@ fn requests_with_each_allocation_refused(rt: HostRuntime) -> Result<(), Fail> {
             heap.until_refusal.set(number);
             let answer = begin(request, &mut stream);
             if heap.until_refusal.get() != 0 {
-                assert_eq!(rt; answer, Ok(()), "request {request}");
+                same_at(&rt, request, answer, Ok(()));
                 break;
             }
-            assert_eq!(rt; answer, Err(Error::OutOfMemory), "request {request}");
-            assert!(rt; stream.bytes().is_empty());
-            assert!(rt; !stream.is_open());
-            assert_eq!(rt; begin(request, &mut stream), Ok(()), "request {request}");
-            assert_eq!(rt; stream.is_open(), (2..5).contains(&request));
-            assert_eq!(rt; stream.bytes(), ample.bytes(), "request {request}");
+            same_at(&rt, request, answer, Err(Error::OutOfMemory));
+            holds(&rt, stream.bytes().is_empty());
+            holds(&rt, !stream.is_open());
+            same_at(&rt, request, begin(request, &mut stream), Ok(()));
+            same(&rt, stream.is_open(), (2..5).contains(&request));
+            same_at(&rt, request, stream.bytes(), ample.bytes());
             refusals = number;
         }
-        assert!(rt; refusals > 0, "request {request}");
+        holds_at(&rt, request, refusals > 0);
     }
     Ok(())
 }
@@ -132,28 +133,28 @@ fn requests_with_each_allocation_refused(rt: HostRuntime) -> Result<(), Fail> {
 fn calls_with_each_allocation_refused(rt: HostRuntime) -> Result<(), Fail> {
     for what in 0..CALLS {
         let mut ample = ClientStream::new(rt.alloc());
-        assert_eq!(rt; begin(3, &mut ample), Ok(()));
-        assert_eq!(rt; call(what, &mut ample), Ok(()), "call {what}");
+        same(&rt, begin(3, &mut ample), Ok(()));
+        same_at(&rt, what, call(what, &mut ample), Ok(()));
         let mut refusals = 0u64;
         for number in 1..100u64 {
             let heap = Refusing::new(rt.alloc(), 0);
             let buf: BytesMut<&Refusing<Global>> = BytesMut::with_capacity(&heap, STARTUP.len())?;
             let mut stream = ClientStream::over(buf);
-            assert_eq!(rt; begin(3, &mut stream), Ok(()));
+            same(&rt, begin(3, &mut stream), Ok(()));
             heap.until_refusal.set(number);
             let answer = call(what, &mut stream);
             if heap.until_refusal.get() != 0 {
-                assert_eq!(rt; answer, Ok(()), "call {what}");
+                same_at(&rt, what, answer, Ok(()));
                 break;
             }
-            assert_eq!(rt; answer, Err(Error::OutOfMemory), "call {what}");
-            assert_eq!(rt; stream.bytes(), STARTUP.as_slice(), "call {what}");
-            assert!(rt; stream.is_open());
-            assert_eq!(rt; call(what, &mut stream), Ok(()), "call {what}");
-            assert_eq!(rt; stream.bytes(), ample.bytes(), "call {what}");
+            same_at(&rt, what, answer, Err(Error::OutOfMemory));
+            same_at(&rt, what, stream.bytes(), STARTUP.as_slice());
+            holds(&rt, stream.is_open());
+            same_at(&rt, what, call(what, &mut stream), Ok(()));
+            same_at(&rt, what, stream.bytes(), ample.bytes());
             refusals = number;
         }
-        assert!(rt; refusals > 0, "call {what}");
+        holds_at(&rt, what, refusals > 0);
     }
     Ok(())
 }
@@ -183,17 +184,17 @@ fn a_session_with_each_allocation_refused(rt: HostRuntime) -> Result<(), Fail> {
         for step in 0..4usize {
             if say(step, &mut stream).is_err() {
                 again = again.saturating_add(1);
-                assert_eq!(rt; say(step, &mut stream), Ok(()));
+                same(&rt, say(step, &mut stream), Ok(()));
             }
         }
-        assert_eq!(rt; stream.bytes(), SESSION);
+        same(&rt, stream.bytes(), SESSION);
         if heap.until_refusal.get() != 0 {
-            assert_eq!(rt; again, 0);
+            same(&rt, again, 0);
             break;
         }
-        assert_eq!(rt; again, 1);
+        same(&rt, again, 1);
         refusals = number;
     }
-    assert!(rt; refusals > 1, "{refusals}");
+    holds_at(&rt, refusals, refusals > 1);
     Ok(())
 }

@@ -1,6 +1,7 @@
 //! The writers of values, with each allocation refused in turn.
 #![tactic(auto, using(pgp_base::proofs::Parts::held_steps))]
 
+use crate::checks::{holds, holds_at, same};
 use bytes::BytesMut;
 use pgp_base::{BindError, Buffer, Error, FallibleIterator, IsNull};
 use pgp_test_alloc::Refusing;
@@ -149,17 +150,17 @@ fn writers_with_each_allocation_refused(rt: HostRuntime) -> Result<(), Fail> {
                 heap.until_refusal.set(request);
                 let answer = write(number, &mut buf);
                 if heap.until_refusal.get() != 0 {
-                    assert_eq!(rt; answer, Ok(()));
+                    same(&rt, answer, Ok(()));
                     let appended = buf.as_slice().strip_prefix(held.as_slice());
-                    assert!(rt; appended == Some(*bytes), "writer {number}");
+                    holds_at(&rt, number, appended == Some(*bytes));
                     break;
                 }
-                assert_eq!(rt; answer, Err(Error::OutOfMemory));
-                assert_eq!(rt; buf.as_slice(), held.as_slice());
+                same(&rt, answer, Err(Error::OutOfMemory));
+                same(&rt, buf.as_slice(), held.as_slice());
                 refusals = refusals.saturating_add(1);
             }
         }
-        assert!(rt; refusals > 0, "writer {number} met no refusal");
+        holds_at(&rt, number, refusals > 0);
     }
     Ok(())
 }
@@ -171,9 +172,9 @@ fn collect_reserves_nothing_by_the_count(rt: HostRuntime) -> Result<(), Fail> {
     for number in 1..10u64 {
         let heap = Refusing::new(rt.alloc(), number);
         let answer = array.values().collect(&heap);
-        assert!(rt; matches!(answer, Err(Error::UnexpectedEof)));
+        holds(&rt, matches!(answer, Err(Error::UnexpectedEof)));
         drop(answer);
-        assert!(rt; heap.until_refusal.get() != 0);
+        holds(&rt, heap.until_refusal.get() != 0);
     }
     Ok(())
 }
@@ -206,12 +207,12 @@ fn collect_with_each_allocation_refused(rt: HostRuntime) {
             let heap = Refusing::new(rt.alloc(), number);
             let answer = collected(&heap, walk);
             if heap.until_refusal.get() != 0 {
-                assert_eq!(rt; answer, Ok(5));
+                same(&rt, answer, Ok(5));
                 break;
             }
-            assert_eq!(rt; answer, Err(Error::OutOfMemory));
+            same(&rt, answer, Err(Error::OutOfMemory));
             refusals = number;
         }
-        assert!(rt; refusals > 0, "walk {walk} met no refusal");
+        holds_at(&rt, walk, refusals > 0);
     }
 }

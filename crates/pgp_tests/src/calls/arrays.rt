@@ -4,6 +4,7 @@
 ghost use Rattle.pgp_base.specs.Calls.{KeepsValue};
 ghost use Rattle.pgp_base.specs.Held.{items_held};
 
+use crate::checks::{holds, same};
 use bytes::BytesMut;
 use pgp_base::{BindError, Buffer, Error, FallibleIterator, IsNull};
 use pgp_types::{ArrayDimension, array_from_sql, array_to_sql};
@@ -14,7 +15,7 @@ use std::test::Fail;
 fn elements_that_do_not_come_are_not_collected(rt: HostRuntime) -> Result<(), Fail> {
     let array = array_from_sql(b"\0\0\0\x01\0\0\0\0\0\0\0\x17\x7f\xff\xff\xff\0\0\0\x01")?;
     let all = array.values().collect(rt.alloc());
-    assert!(rt; matches!(all, Err(Error::UnexpectedEof)));
+    holds(&rt, matches!(all, Err(Error::UnexpectedEof)));
     Ok(())
 }
 
@@ -43,9 +44,12 @@ fn a_serializer_refuses(rt: HostRuntime) -> Result<(), Fail> {
             },
             &mut buf,
         );
-        assert!(rt; matches!(&answer, Err(BindError::Conversion(e)) if *e == k));
-        assert_eq!(rt; calls, k);
-        assert_eq!(rt; buf.as_slice(), b"S\0\0\0\x04".as_slice());
+        holds(
+            &rt,
+            matches!(&answer, Err(BindError::Conversion(e)) if *e == k),
+        );
+        same(&rt, calls, k);
+        same(&rt, buf.as_slice(), b"S\0\0\0\x04".as_slice());
     }
     Ok(())
 }

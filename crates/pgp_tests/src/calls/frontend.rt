@@ -5,6 +5,7 @@
 ghost use Rattle.pgp_base.specs.Calls.{KeepsValue};
 ghost use Rattle.pgp_base.specs.Held.{items_held};
 
+use crate::checks::{holds, same};
 use bytes::BytesMut;
 use pgp_base::{BindError, Error, IsNull, put_u32};
 use pgp_frontend::{bind, over_bytes, parse, sync};
@@ -13,11 +14,15 @@ use std::test::Fail;
 #[test]
 fn a_parse_of_too_many_types_is_refused(rt: HostRuntime) {
     let mut buf = BytesMut::new(rt.alloc());
-    assert_eq!(rt; sync(&mut buf), Ok(()));
-    assert_eq!(rt; parse("", "", 0..65_536u32, &mut buf), Err(Error::TooLarge));
-    assert_eq!(rt; buf.as_slice(), b"S\0\0\0\x04".as_slice());
-    assert_eq!(rt; parse("", "", 0..65_535u32, &mut buf), Ok(()));
-    assert_eq!(rt; buf.len(), 5 + 5 + 2 + 2 + 4 * 65_535);
+    same(&rt, sync(&mut buf), Ok(()));
+    same(
+        &rt,
+        parse("", "", 0..65_536u32, &mut buf),
+        Err(Error::TooLarge),
+    );
+    same(&rt, buf.as_slice(), b"S\0\0\0\x04".as_slice());
+    same(&rt, parse("", "", 0..65_535u32, &mut buf), Ok(()));
+    same(&rt, buf.len(), 5 + 5 + 2 + 2 + 4 * 65_535);
 }
 
 // In LATIN1 `é` is the byte E9, and `ñ` F1: what isn't UTF-8 is written as it stands.
@@ -65,7 +70,7 @@ fn texts_of_another_encoding(rt: HostRuntime) -> Result<(), Fail> {
 #[test]
 fn a_serializer_refuses(rt: HostRuntime) {
     let mut buf = BytesMut::new(rt.alloc());
-    assert_eq!(rt; sync(&mut buf), Ok(()));
+    same(&rt, sync(&mut buf), Ok(()));
     let answer = bind(
         "",
         "",
@@ -80,15 +85,15 @@ fn a_serializer_refuses(rt: HostRuntime) {
         None::<i16>,
         &mut buf,
     );
-    assert!(rt; matches!(&answer, Err(BindError::Conversion(7))));
-    assert_eq!(rt; buf.as_slice(), b"S\0\0\0\x04".as_slice());
+    holds(&rt, matches!(&answer, Err(BindError::Conversion(7))));
+    same(&rt, buf.as_slice(), b"S\0\0\0\x04".as_slice());
 }
 
 // A closure with a state says what it owes: the bytes before it stay, and a null appends nothing.
 #[test]
 fn bind_refuses_the_value_past_its_count_unserialized(rt: HostRuntime) {
     let mut buf = BytesMut::new(rt.alloc());
-    assert_eq!(rt; sync(&mut buf), Ok(()));
+    same(&rt, sync(&mut buf), Ok(()));
     let mut calls = 0u32;
     let answer = bind(
         "",
@@ -109,9 +114,12 @@ fn bind_refuses_the_value_past_its_count_unserialized(rt: HostRuntime) {
         None::<i16>,
         &mut buf,
     );
-    assert!(rt; matches!(&answer, Err(BindError::Serialization(Error::TooLarge))));
-    assert_eq!(rt; calls, 65_535);
-    assert_eq!(rt; buf.as_slice(), b"S\0\0\0\x04".as_slice());
+    holds(
+        &rt,
+        matches!(&answer, Err(BindError::Serialization(Error::TooLarge))),
+    );
+    same(&rt, calls, 65_535);
+    same(&rt, buf.as_slice(), b"S\0\0\0\x04".as_slice());
 }
 
 // Binds these texts with so many formats, and no values.
@@ -135,19 +143,25 @@ fn bind_formats(
 #[test]
 fn bind_refuses_the_first_cause(rt: HostRuntime) {
     let mut buf = BytesMut::new(rt.alloc());
-    assert_eq!(rt; sync(&mut buf), Ok(()));
+    same(&rt, sync(&mut buf), Ok(()));
     for (portal, statement, formats, refusal) in [
         ("", "", 65_536u32, Error::TooLarge),
         ("a\0b", "", 65_536, Error::EmbeddedNull),
         ("", "a\0b", 65_536, Error::EmbeddedNull),
     ] {
         let answer = bind_formats(portal, statement, formats, &mut buf);
-        assert!(rt; matches!(&answer, Err(BindError::Serialization(e)) if *e == refusal));
-        assert_eq!(rt; buf.as_slice(), b"S\0\0\0\x04".as_slice());
+        holds(
+            &rt,
+            matches!(&answer, Err(BindError::Serialization(e)) if *e == refusal),
+        );
+        same(&rt, buf.as_slice(), b"S\0\0\0\x04".as_slice());
     }
-    assert!(rt; matches!(&bind_formats("", "", 65_535, &mut buf), Ok(())));
-    assert_eq!(rt; buf.len(), 5 + 131_083);
-    assert_eq!(rt; &buf.as_slice()[5..10], b"B\0\x02\0\x0a".as_slice());
+    holds(
+        &rt,
+        matches!(&bind_formats("", "", 65_535, &mut buf), Ok(())),
+    );
+    same(&rt, buf.len(), 5 + 131_083);
+    same(&rt, &buf.as_slice()[5..10], b"B\0\x02\0\x0a".as_slice());
 }
 
 #[test]
@@ -170,8 +184,11 @@ fn bind_asks_for_no_value_behind_a_bad_name(rt: HostRuntime) {
             None::<i16>,
             &mut buf,
         );
-        assert!(rt; matches!(&answer, Err(BindError::Serialization(Error::EmbeddedNull))));
-        assert_eq!(rt; calls, 0);
-        assert_eq!(rt; buf.len(), 0);
+        holds(
+            &rt,
+            matches!(&answer, Err(BindError::Serialization(Error::EmbeddedNull))),
+        );
+        same(&rt, calls, 0);
+        same(&rt, buf.len(), 0);
     }
 }

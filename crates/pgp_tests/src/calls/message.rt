@@ -1,6 +1,7 @@
 //! What no row of `pgp_rows` says of a server's messages: parsers that go on, what they remember, and what a message keeps.
 //! Expected bytes are from the message formats of the PostgreSQL manual.
 
+use crate::checks::{holds, same};
 use bytes::{Bytes, BytesMut};
 use pgp_base::{Error, FallibleIterator};
 use pgp_message::{
@@ -58,7 +59,7 @@ fn tells(
     came: Result<Option<&'static str>, Error>,
     wanted: Result<Option<&'static str>, Error>,
 ) {
-    assert_eq!(rt; came, wanted);
+    same(rt, came, wanted);
 }
 
 /// The variants that these tests tell apart.
@@ -76,14 +77,20 @@ const ROW: &[u8] = b"\x44\0\0\0\x13\0\x03\0\0\0\x01\x61\xff\xff\xff\xff\0\0\0\0"
 
 #[test]
 fn header_reads_a_signed_length(rt: HostRuntime) -> Result<(), Fail> {
-    assert!(rt; matches!(Header::parse(b"\x44\0\0\0"), Ok(None)));
-    assert!(rt; matches!(Header::parse(b"\x44\x80\0\0\0"), Err(Error::InvalidLength)));
-    assert!(rt; matches!(Header::parse(b"\x44\0\0\0\x03"), Err(Error::InvalidLength)));
+    holds(&rt, matches!(Header::parse(b"\x44\0\0\0"), Ok(None)));
+    holds(
+        &rt,
+        matches!(Header::parse(b"\x44\x80\0\0\0"), Err(Error::InvalidLength)),
+    );
+    holds(
+        &rt,
+        matches!(Header::parse(b"\x44\0\0\0\x03"), Err(Error::InvalidLength)),
+    );
     let Ok(Some(header)) = Header::parse(b"\x44\0\0\0\x13\0") else {
         panic!(rt; "no header");
     };
-    assert_eq!(rt; header.tag(), 0x44);
-    assert_eq!(rt; header.len(), 19);
+    same(&rt, header.tag(), 0x44);
+    same(&rt, header.len(), 19);
     Ok(())
 }
 
@@ -91,8 +98,8 @@ fn header_reads_a_signed_length(rt: HostRuntime) -> Result<(), Fail> {
 fn a_row_is_cloned(rt: HostRuntime) -> Result<(), Fail> {
     let first = row(rt.alloc(), ROW)?;
     for row in [first.clone()?, first] {
-        assert_eq!(rt; row.buffer(), &ROW[7..]);
-        assert_eq!(rt; row.buffer_bytes().as_slice(), row.buffer());
+        same(&rt, row.buffer(), &ROW[7..]);
+        same(&rt, row.buffer_bytes().as_slice(), row.buffer());
     }
     Ok(())
 }
@@ -101,12 +108,16 @@ fn a_row_is_cloned(rt: HostRuntime) -> Result<(), Fail> {
 fn the_places_of_a_row_are_collected(rt: HostRuntime) -> Result<(), Fail> {
     let whole = row(rt.alloc(), ROW)?;
     let places = whole.ranges().collect(rt.alloc())?;
-    assert_eq!(rt;
+    same(
+        &rt,
         places.as_slice(),
-        [Some(4..5), None, Some(13..13)].as_slice()
+        [Some(4..5), None, Some(13..13)].as_slice(),
     );
     let cut = row(rt.alloc(), b"\x44\0\0\0\x0a\0\x01\0\0\0\x05")?;
-    assert!(rt; matches!(cut.ranges().collect(rt.alloc()), Err(Error::UnexpectedEof)));
+    holds(
+        &rt,
+        matches!(cut.ranges().collect(rt.alloc()), Err(Error::UnexpectedEof)),
+    );
     Ok(())
 }
 
@@ -115,7 +126,7 @@ fn the_bytes_of_a_copy_are_handed_over(rt: HostRuntime) -> Result<(), Fail> {
     let mut buf = buffer(rt.alloc(), b"\x64\0\0\0\x06ab")?;
     match Message::parse(&mut buf) {
         Ok(Some(Message::CopyData(body))) => {
-            assert_eq!(rt; body.into_bytes().as_slice(), b"ab".as_slice());
+            same(&rt, body.into_bytes().as_slice(), b"ab".as_slice());
         }
         other => {
             drop(other);
@@ -183,13 +194,14 @@ fn a_parser_reads_the_same_however_the_bytes_are_cut(rt: HostRuntime) -> Result<
     let results = [Err(Error::NotDrained), Ok(Some("ParseComplete"))];
     for cuts in 0..2048u32 {
         let read = read_in_pieces(rt.alloc(), REFUSED_THEN_READ, cuts, &results);
-        assert_eq!(rt; read, Ok((2, 0, 2)));
+        same(&rt, read, Ok((2, 0, 2)));
     }
     let fault: &[u8] = b"\x5a\0\0\0\x03\x31\0\0\0\x04";
     for cuts in 0..512u32 {
-        assert_eq!(rt;
+        same(
+            &rt,
             read_in_pieces(rt.alloc(), fault, cuts, &results),
-            Ok((0, 10, 1))
+            Ok((0, 10, 1)),
         );
     }
     Ok(())
@@ -201,12 +213,17 @@ fn the_header_of_a_long_frame_is_read_once(rt: HostRuntime) -> Result<(), Fail> 
     for first in 0..20u32 {
         for second in 0..20u32 {
             let cuts = (1 << first) | (1 << second);
-            assert_eq!(rt; read_in_pieces(rt.alloc(), ROW, cuts, &row), Ok((1, 0, 1)));
+            same(
+                &rt,
+                read_in_pieces(rt.alloc(), ROW, cuts, &row),
+                Ok((1, 0, 1)),
+            );
         }
     }
-    assert_eq!(rt;
+    same(
+        &rt,
         read_in_pieces(rt.alloc(), ROW, u32::MAX, &row),
-        Ok((1, 0, 1))
+        Ok((1, 0, 1)),
     );
     Ok(())
 }
@@ -227,27 +244,29 @@ const FOUR_AND_A_CUT_ROW: &[u8] =
 fn whole_frames_are_found(rt: HostRuntime) -> Result<(), Fail> {
     let mut parser = FrameParser::new();
     let found = parser.find_all(FOUR_AND_A_CUT_ROW);
-    assert_eq!(rt; (found.len, found.count, found.stopped), (28, 4, false));
-    assert_eq!(rt; (parser.headers(), parser.missing(6)), (5, 14));
+    same(&rt, (found.len, found.count, found.stopped), (28, 4, false));
+    same(&rt, (parser.headers(), parser.missing(6)), (5, 14));
     Ok(())
 }
 
 #[test]
 fn a_remembered_header_is_not_counted_again(rt: HostRuntime) -> Result<(), Fail> {
     let mut parser = FrameParser::new();
-    assert_eq!(rt; parser.missing(0), 5);
+    same(&rt, parser.missing(0), 5);
     let found = parser.find_all(b"\x44\0\0");
-    assert_eq!(rt;
+    same(
+        &rt,
         (found.len, found.count, parser.headers(), parser.missing(3)),
-        (0, 0, 0, 2)
+        (0, 0, 0, 2),
     );
     let found = parser.find_all(&ROW[..5]);
-    assert_eq!(rt;
+    same(
+        &rt,
         (found.len, found.count, parser.headers(), parser.missing(5)),
-        (0, 0, 1, 15)
+        (0, 0, 1, 15),
     );
     let found = parser.find_all(ROW);
-    assert_eq!(rt; (found.len, found.count, parser.headers()), (20, 1, 1));
+    same(&rt, (found.len, found.count, parser.headers()), (20, 1, 1));
     Ok(())
 }
 
@@ -255,10 +274,10 @@ fn a_remembered_header_is_not_counted_again(rt: HostRuntime) -> Result<(), Fail>
 fn a_long_frame_is_asked_for_in_parts(rt: HostRuntime) -> Result<(), Fail> {
     let mut parser = FrameParser::new();
     let found = parser.find_all(b"\x64\0\x0f\x42\x40");
-    assert_eq!(rt; (found.len, found.count, found.stopped), (0, 0, false));
-    assert_eq!(rt; parser.missing(5), 65536);
-    assert_eq!(rt; parser.missing(1_000_000), 1);
-    assert_eq!(rt; parser.missing(1_000_001), 1);
+    same(&rt, (found.len, found.count, found.stopped), (0, 0, false));
+    same(&rt, parser.missing(5), 65536);
+    same(&rt, parser.missing(1_000_000), 1);
+    same(&rt, parser.missing(1_000_001), 1);
     Ok(())
 }
 
@@ -266,8 +285,8 @@ fn a_long_frame_is_asked_for_in_parts(rt: HostRuntime) -> Result<(), Fail> {
 fn a_length_fault_ends_what_is_found(rt: HostRuntime) -> Result<(), Fail> {
     let mut parser = FrameParser::new();
     let found = parser.find_all(b"\x31\0\0\0\x04\x31\0\0\0\x03\x31\0\0\0\x04");
-    assert_eq!(rt; (found.len, found.count, found.stopped), (5, 1, true));
-    assert_eq!(rt; parser.headers(), 2);
+    same(&rt, (found.len, found.count, found.stopped), (5, 1, true));
+    same(&rt, parser.headers(), 2);
     Ok(())
 }
 
@@ -284,11 +303,11 @@ fn read_found(alloc: Global, bytes: &[u8]) -> Result<Vec<Read<Bytes>>, Error> {
 #[test]
 fn found_frames_are_read_onto_a_list(rt: HostRuntime) -> Result<(), Fail> {
     let list = read_found(rt.alloc(), FOUR_AND_A_CUT_ROW)?;
-    assert_eq!(rt; told(list.as_slice(), 0), Some(Err(Error::NotDrained)));
-    assert_eq!(rt; told(list.as_slice(), 1), Some(Ok("ParseComplete")));
-    assert_eq!(rt; told(list.as_slice(), 2), Some(Ok("CommandComplete")));
-    assert_eq!(rt; told(list.as_slice(), 3), Some(Ok("AuthenticationOk")));
-    assert_eq!(rt; told(list.as_slice(), 4), None);
+    same(&rt, told(list.as_slice(), 0), Some(Err(Error::NotDrained)));
+    same(&rt, told(list.as_slice(), 1), Some(Ok("ParseComplete")));
+    same(&rt, told(list.as_slice(), 2), Some(Ok("CommandComplete")));
+    same(&rt, told(list.as_slice(), 3), Some(Ok("AuthenticationOk")));
+    same(&rt, told(list.as_slice(), 4), None);
     Ok(())
 }
 
@@ -321,11 +340,15 @@ fn repeated_parse_reads_the_same_at_every_place(rt: HostRuntime) -> Result<(), F
     let results = [Err(Error::NotDrained), Ok(Some("ParseComplete"))];
     for place in 0..12usize {
         let read = parse_in_two(rt.alloc(), REFUSED_THEN_READ, place, &results);
-        assert_eq!(rt; read, Ok((2, 0)));
+        same(&rt, read, Ok((2, 0)));
     }
     let fault: &[u8] = b"\x5a\0\0\0\x03\x31\0\0\0\x04";
     let results = [Err(Error::InvalidLength)];
-    assert_eq!(rt; parse_in_two(rt.alloc(), fault, 5, &results), Ok((1, 10)));
+    same(
+        &rt,
+        parse_in_two(rt.alloc(), fault, 5, &results),
+        Ok((1, 10)),
+    );
     Ok(())
 }
 
@@ -339,9 +362,9 @@ fn a_message_is_kept_while_the_reader_goes_on(rt: HostRuntime) -> Result<(), Fai
             panic!(rt; "no bytes of a copy");
         }
     };
-    assert_eq!(rt; messages.rest().len(), 5);
+    same(&rt, messages.rest().len(), 5);
     tells(&rt, named(messages.next()), Ok(Some("ParseComplete")));
-    assert_eq!(rt; data, b"ab".as_slice());
+    same(&rt, data, b"ab".as_slice());
     Ok(())
 }
 
@@ -349,7 +372,7 @@ fn a_message_is_kept_while_the_reader_goes_on(rt: HostRuntime) -> Result<(), Fai
 fn any_column_of_a_row_is_at_hand(rt: HostRuntime) -> Result<(), Fail> {
     let row = row(rt.alloc(), ROW)?;
     let index = row.index(rt.alloc())?;
-    assert_eq!(rt; index.len(), 3);
+    same(&rt, index.len(), 3);
     let values = [Some(b"a".as_slice()), None, Some(b"".as_slice())];
     let places = [Some(4..5usize), None, Some(13..13usize)];
     for order in [
@@ -362,14 +385,14 @@ fn any_column_of_a_row_is_at_hand(rt: HostRuntime) -> Result<(), Fail> {
     ] {
         for column in order {
             if column < 3 {
-                assert_eq!(rt; index.value(column), Some(values[column]));
-                assert_eq!(rt; index.range(column).as_ref(), Some(&places[column]));
+                same(&rt, index.value(column), Some(values[column]));
+                same(&rt, index.range(column).as_ref(), Some(&places[column]));
             }
         }
     }
     for past in [3usize, 4, usize::MAX] {
-        assert_eq!(rt; index.value(past), None);
-        assert_eq!(rt; index.range(past), None);
+        same(&rt, index.value(past), None);
+        same(&rt, index.range(past), None);
     }
     Ok(())
 }
@@ -380,7 +403,7 @@ fn the_columns_at_hand_are_those_of_the_walk(rt: HostRuntime) -> Result<(), Fail
     let index = row.index(rt.alloc())?;
     let mut ranges = row.ranges();
     for column in 0..3usize {
-        assert_eq!(rt; ranges.next(), Ok(index.range(column)));
+        same(&rt, ranges.next(), Ok(index.range(column)));
     }
     Ok(())
 }
@@ -396,33 +419,36 @@ fn a_table_is_made_again_for_each_row(rt: HostRuntime) -> Result<(), Fail> {
     let mut places = RowPlaces::new(rt.alloc());
     let wide = row(rt.alloc(), ROW)?;
     let columns = wide.index_into(&mut places)?;
-    assert_eq!(rt; columns.len(), 3);
-    assert_eq!(rt; columns.value(0), Some(Some(b"a".as_slice())));
-    assert_eq!(rt; columns.value(1), Some(None));
-    assert_eq!(rt; columns.range(2), Some(Some(13..13usize)));
+    same(&rt, columns.len(), 3);
+    same(&rt, columns.value(0), Some(Some(b"a".as_slice())));
+    same(&rt, columns.value(1), Some(None));
+    same(&rt, columns.range(2), Some(Some(13..13usize)));
     let narrow = row(rt.alloc(), NARROW)?;
     let columns = narrow.index_into(&mut places)?;
-    assert_eq!(rt; columns.len(), 1);
-    assert_eq!(rt; columns.value(0), Some(Some(b"z".as_slice())));
-    assert_eq!(rt; columns.value(1), None);
+    same(&rt, columns.len(), 1);
+    same(&rt, columns.value(0), Some(Some(b"z".as_slice())));
+    same(&rt, columns.value(1), None);
     let cut = row(rt.alloc(), CUT)?;
-    assert!(rt; matches!(cut.index_into(&mut places), Err(Error::UnexpectedEof)));
-    assert_eq!(rt; wide.index_into(&mut places)?.value(1), Some(None));
+    holds(
+        &rt,
+        matches!(cut.index_into(&mut places), Err(Error::UnexpectedEof)),
+    );
+    same(&rt, wide.index_into(&mut places)?.value(1), Some(None));
     Ok(())
 }
 
 #[test]
 fn a_column_without_a_table(rt: HostRuntime) -> Result<(), Fail> {
     let wide = row(rt.alloc(), ROW)?;
-    assert_eq!(rt; wide.column(0), Ok(Some(Some(b"a".as_slice()))));
-    assert_eq!(rt; wide.column(1), Ok(Some(None)));
-    assert_eq!(rt; wide.column(2), Ok(Some(Some(b"".as_slice()))));
+    same(&rt, wide.column(0), Ok(Some(Some(b"a".as_slice()))));
+    same(&rt, wide.column(1), Ok(Some(None)));
+    same(&rt, wide.column(2), Ok(Some(Some(b"".as_slice()))));
     for past in [3usize, 4, usize::MAX] {
-        assert_eq!(rt; wide.column(past), Ok(None));
+        same(&rt, wide.column(past), Ok(None));
     }
     let cut = row(rt.alloc(), CUT)?;
-    assert_eq!(rt; cut.column(0), Ok(Some(Some(b"a".as_slice()))));
-    assert_eq!(rt; cut.column(1), Err(Error::UnexpectedEof));
-    assert_eq!(rt; cut.column(2), Err(Error::UnexpectedEof));
+    same(&rt, cut.column(0), Ok(Some(Some(b"a".as_slice()))));
+    same(&rt, cut.column(1), Err(Error::UnexpectedEof));
+    same(&rt, cut.column(2), Err(Error::UnexpectedEof));
     Ok(())
 }

@@ -5,6 +5,7 @@ mod exchange;
 mod streams;
 mod values;
 
+use crate::checks::{holds, same};
 use bytes::BytesMut;
 use pgp_base::Error;
 use pgp_message::Message;
@@ -49,9 +50,9 @@ fn any_cutting(rt: HostRuntime) -> Result<(), Fail> {
         let parsed = parse_stream(rt.alloc(), &[front, back])?;
         let mut found = Vec::new(rt.alloc());
         numbers(parsed.results(), &mut found)?;
-        assert_eq!(rt; found.as_slice(), [8u8, 0].as_slice());
-        assert!(rt; !parsed.stopped());
-        assert!(rt; parsed.rest().is_empty());
+        same(&rt, found.as_slice(), [8u8, 0].as_slice());
+        holds(&rt, !parsed.stopped());
+        holds(&rt, parsed.rest().is_empty());
     }
     Ok(())
 }
@@ -60,10 +61,10 @@ fn any_cutting(rt: HostRuntime) -> Result<(), Fail> {
 fn what_comes_behind_a_fault_is_kept(rt: HostRuntime) -> Result<(), Fail> {
     let mut parser = StreamParser::new(rt.alloc());
     feed_each(&mut parser, &FAULT)?;
-    assert!(rt; parser.results().is_empty());
-    assert!(rt; parser.stopped());
-    assert_eq!(rt; parser.rest(), FAULT.as_slice());
-    assert_eq!(rt; parser.headers(), 1);
+    holds(&rt, parser.results().is_empty());
+    holds(&rt, parser.stopped());
+    same(&rt, parser.rest(), FAULT.as_slice());
+    same(&rt, parser.headers(), 1);
     Ok(())
 }
 
@@ -71,13 +72,13 @@ fn what_comes_behind_a_fault_is_kept(rt: HostRuntime) -> Result<(), Fail> {
 fn a_header_is_read_once(rt: HostRuntime) -> Result<(), Fail> {
     let mut parser = StreamParser::new(rt.alloc());
     feed_each(&mut parser, &ROW)?;
-    assert_eq!(rt; parser.headers(), 1);
-    assert_eq!(rt; parser.take().len(), 1);
-    assert!(rt; parser.results().is_empty());
+    same(&rt, parser.headers(), 1);
+    same(&rt, parser.take().len(), 1);
+    holds(&rt, parser.results().is_empty());
     feed_each(&mut parser, &ROW)?;
-    assert_eq!(rt; parser.headers(), 2);
-    assert_eq!(rt; parser.take().len(), 1);
-    assert!(rt; !parser.failed());
+    same(&rt, parser.headers(), 2);
+    same(&rt, parser.take().len(), 1);
+    holds(&rt, !parser.failed());
     Ok(())
 }
 
@@ -86,14 +87,15 @@ fn a_session(rt: HostRuntime) -> Result<(), Fail> {
     let mut stream = ClientStream::<BytesMut>::new(rt.alloc());
     stream.ssl_request()?;
     stream.startup_message(&[("user", "alice")])?;
-    assert!(rt; stream.is_open());
-    assert_eq!(rt; stream.query("a\0b"), Err(Error::EmbeddedNull));
+    holds(&rt, stream.is_open());
+    same(&rt, stream.query("a\0b"), Err(Error::EmbeddedNull));
     stream.query("SELECT 1")?;
     stream.sync()?;
     stream.terminate()?;
-    assert_eq!(rt;
+    same(
+        &rt,
         stream.bytes(),
-        b"\x00\x00\x00\x08\x04\xd2\x16\x2f\x00\x00\x00\x14\x00\x03\x00\x00user\x00alice\x00\x00Q\x00\x00\x00\x0dSELECT 1\x00S\x00\x00\x00\x04X\x00\x00\x00\x04".as_slice()
+        b"\x00\x00\x00\x08\x04\xd2\x16\x2f\x00\x00\x00\x14\x00\x03\x00\x00user\x00alice\x00\x00Q\x00\x00\x00\x0dSELECT 1\x00S\x00\x00\x00\x04X\x00\x00\x00\x04".as_slice(),
     );
     Ok(())
 }

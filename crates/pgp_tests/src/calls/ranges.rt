@@ -4,6 +4,7 @@
 ghost use Rattle.pgp_base.specs.Held.{items_held};
 ghost use Rattle.pgp_types.specs.RangeWriting.{KeepsBound};
 
+use crate::checks::{holds, same};
 use bytes::BytesMut;
 use pgp_base::{BindError, Buffer, Error, IsNull};
 use pgp_types::{RangeBound, int4_to_sql, range_to_sql};
@@ -28,8 +29,8 @@ fn no_bound_has_no_bytes(rt: HostRuntime) {
         },
         &mut buf,
     );
-    assert!(rt; answer.is_ok());
-    assert_eq!(rt; buf.as_slice(), b"\x0c\0\0\0\x04\0\0\0\x05".as_slice());
+    holds(&rt, answer.is_ok());
+    same(&rt, buf.as_slice(), b"\x0c\0\0\0\x04\0\0\0\x05".as_slice());
 }
 
 // The refusal of a side is answered, and the bytes before the range stay.
@@ -49,8 +50,11 @@ fn is_refused_by(rt: &impl Abort, lower: bool, upper: bool, want: u8, buf: &mut 
         },
         buf,
     );
-    assert!(rt; matches!(answer, Err(BindError::Conversion(e)) if e == want));
-    assert_eq!(rt; buf.as_slice(), SYNC);
+    holds(
+        rt,
+        matches!(answer, Err(BindError::Conversion(e)) if e == want),
+    );
+    same(rt, buf.as_slice(), SYNC);
 }
 
 #[test]
@@ -77,7 +81,7 @@ fn the_upper_side_is_not_asked_behind_a_refusal(rt: HostRuntime) {
         },
         &mut buf,
     );
-    assert!(rt; matches!(answer, Err(BindError::Conversion(1))));
-    assert_eq!(rt; calls, 0);
-    assert!(rt; buf.is_empty());
+    holds(&rt, matches!(answer, Err(BindError::Conversion(1))));
+    same(&rt, calls, 0);
+    holds(&rt, buf.is_empty());
 }

@@ -4,6 +4,7 @@
 ghost use Rattle.std.specs.Prelude.{ℕ, ◌+◌, ◌%◌, ◌^◌, Some};
 ghost use Rattle.rand_core.specs.Steps.{stream_of, steps_u32};
 
+use crate::checks::{holds, same};
 use bytes::BytesMut;
 use pgp_base::Window;
 use pgp_uses::arrays::{ArrayError, bind_int4s, list_of};
@@ -41,35 +42,42 @@ const ROW: &[u8; 31] =
 #[test]
 fn a_query_is_appended(rt: HostRuntime) -> Result<(), Fail> {
     let mut buf = BytesMut::new(rt.alloc());
-    assert_eq!(rt; ask("SELECT 1", &mut buf), Ok(()));
-    assert_eq!(rt; ask("a\0b", &mut buf), Err(Error::EmbeddedNull));
-    assert_eq!(rt; buf.as_slice(), QUERY.as_slice());
+    same(&rt, ask("SELECT 1", &mut buf), Ok(()));
+    same(&rt, ask("a\0b", &mut buf), Err(Error::EmbeddedNull));
+    same(&rt, buf.as_slice(), QUERY.as_slice());
     Ok(())
 }
 
 #[test]
 fn a_query_is_written_in_place(rt: HostRuntime) -> Result<(), Fail> {
     let mut room = [0xffu8; 16];
-    assert_eq!(rt; ask_in_place("SELECT 1", &mut room), Ok(14));
-    assert_eq!(rt;
+    same(&rt, ask_in_place("SELECT 1", &mut room), Ok(14));
+    same(
+        &rt,
         room.as_slice(),
-        b"Q\x00\x00\x00\x0dSELECT 1\x00\xff\xff".as_slice()
+        b"Q\x00\x00\x00\x0dSELECT 1\x00\xff\xff".as_slice(),
     );
     let mut short = [0xffu8; 13];
-    assert_eq!(rt;
+    same(
+        &rt,
         ask_in_place("SELECT 1", &mut short),
-        Err(Error::OutOfMemory)
+        Err(Error::OutOfMemory),
     );
-    assert_eq!(rt; ask_in_place("a\0b", &mut room), Err(Error::EmbeddedNull));
+    same(
+        &rt,
+        ask_in_place("a\0b", &mut room),
+        Err(Error::EmbeddedNull),
+    );
     Ok(())
 }
 
 #[test]
 fn a_session_of_one_query(rt: HostRuntime) -> Result<(), Fail> {
     let stream = one_query(rt.alloc(), "alice", "SELECT 1")?;
-    assert_eq!(rt;
+    same(
+        &rt,
         stream.bytes(),
-        b"\x00\x00\x00\x14\x00\x03\x00\x00user\x00alice\x00\x00Q\x00\x00\x00\x0dSELECT 1\x00X\x00\x00\x00\x04".as_slice()
+        b"\x00\x00\x00\x14\x00\x03\x00\x00user\x00alice\x00\x00Q\x00\x00\x00\x0dSELECT 1\x00X\x00\x00\x00\x04".as_slice(),
     );
     Ok(())
 }
@@ -78,10 +86,11 @@ fn a_session_of_one_query(rt: HostRuntime) -> Result<(), Fail> {
 fn a_named_statement_is_asked(rt: HostRuntime) -> Result<(), Fail> {
     let mut stream = ClientStream::<BytesMut>::new(rt.alloc());
     stream.startup_message(&[("user", "app")])?;
-    assert_eq!(rt; ask_named("s", "select $1", -2, &mut stream), Ok(()));
-    assert_eq!(rt;
+    same(&rt, ask_named("s", "select $1", -2, &mut stream), Ok(()));
+    same(
+        &rt,
         stream.bytes(),
-        b"\x00\x00\x00\x12\x00\x03\x00\x00user\x00app\x00\x00P\x00\x00\x00\x12s\x00select $1\x00\x00\x00B\x00\x00\x00\x19\x00s\x00\x00\x01\x00\x01\x00\x01\x00\x00\x00\x04\xff\xff\xff\xfe\x00\x01\x00\x01D\x00\x00\x00\x06P\x00E\x00\x00\x00\x09\x00\x00\x00\x00\x00S\x00\x00\x00\x04".as_slice()
+        b"\x00\x00\x00\x12\x00\x03\x00\x00user\x00app\x00\x00P\x00\x00\x00\x12s\x00select $1\x00\x00\x00B\x00\x00\x00\x19\x00s\x00\x00\x01\x00\x01\x00\x01\x00\x00\x00\x04\xff\xff\xff\xfe\x00\x01\x00\x01D\x00\x00\x00\x06P\x00E\x00\x00\x00\x09\x00\x00\x00\x00\x00S\x00\x00\x00\x04".as_slice(),
     );
     Ok(())
 }
@@ -90,13 +99,15 @@ fn a_named_statement_is_asked(rt: HostRuntime) -> Result<(), Fail> {
 fn a_refused_statement_is_not_asked(rt: HostRuntime) -> Result<(), Fail> {
     let mut stream = ClientStream::<BytesMut>::new(rt.alloc());
     stream.startup_message(&[("user", "app")])?;
-    assert_eq!(rt;
+    same(
+        &rt,
         ask_named("s", "a\0b", 7, &mut stream),
-        Err(AskError::Message(Error::EmbeddedNull))
+        Err(AskError::Message(Error::EmbeddedNull)),
     );
-    assert_eq!(rt;
+    same(
+        &rt,
         stream.bytes(),
-        b"\x00\x00\x00\x12\x00\x03\x00\x00user\x00app\x00\x00".as_slice()
+        b"\x00\x00\x00\x12\x00\x03\x00\x00user\x00app\x00\x00".as_slice(),
     );
     Ok(())
 }
@@ -107,13 +118,15 @@ fn a_binding_without_room_is_refused(rt: HostRuntime) -> Result<(), Fail> {
     let mut room = [0u8; 56];
     let mut stream = ClientStream::over(Window::new(&mut room));
     stream.startup_message(&[("user", "app")])?;
-    assert_eq!(rt;
+    same(
+        &rt,
         ask_named("s", "select $1", -2, &mut stream),
-        Err(AskError::Binding(BindError::Conversion(Error::OutOfMemory)))
+        Err(AskError::Binding(BindError::Conversion(Error::OutOfMemory))),
     );
-    assert_eq!(rt;
+    same(
+        &rt,
         stream.bytes(),
-        b"\x00\x00\x00\x12\x00\x03\x00\x00user\x00app\x00\x00P\x00\x00\x00\x12s\x00select $1\x00\x00\x00".as_slice()
+        b"\x00\x00\x00\x12\x00\x03\x00\x00user\x00app\x00\x00P\x00\x00\x00\x12s\x00select $1\x00\x00\x00".as_slice(),
     );
     Ok(())
 }
@@ -122,13 +135,21 @@ fn a_binding_without_room_is_refused(rt: HostRuntime) -> Result<(), Fail> {
 fn pieces_complete_frames(rt: HostRuntime) -> Result<(), Fail> {
     let mut parser = StreamParser::new(rt.alloc());
     let (front, back) = ROW.split_at(27);
-    assert_eq!(rt; completed(front, &mut parser).map(|got| got.len()), Ok(1));
+    same(
+        &rt,
+        completed(front, &mut parser).map(|got| got.len()),
+        Ok(1),
+    );
     if parser.failed() {
         return Err(Error::OutOfMemory.into());
     }
-    assert_eq!(rt; completed(back, &mut parser).map(|got| got.len()), Ok(1));
-    assert_eq!(rt; frame_count(rt.alloc(), &[front, back]), Ok(2));
-    assert_eq!(rt; frame_count(rt.alloc(), &[front]), Ok(1));
+    same(
+        &rt,
+        completed(back, &mut parser).map(|got| got.len()),
+        Ok(1),
+    );
+    same(&rt, frame_count(rt.alloc(), &[front, back]), Ok(2));
+    same(&rt, frame_count(rt.alloc(), &[front]), Ok(1));
     Ok(())
 }
 
@@ -137,22 +158,27 @@ fn columns_of_a_row(rt: HostRuntime) -> Result<(), Fail> {
     let Some((row, rest)) = front_row(ROW) else {
         return Err(Error::UnexpectedEof.into());
     };
-    assert_eq!(rt; rest, b"Z\x00\x00\x00\x05I".as_slice());
+    same(&rt, rest, b"Z\x00\x00\x00\x05I".as_slice());
     let index = row.index(rt.alloc())?;
-    assert_eq!(rt; int4_column(&index, 0), Ok(Some(7)));
-    assert_eq!(rt; text_column(&index, 1), Ok(Some("ab")));
-    assert_eq!(rt;
+    same(&rt, int4_column(&index, 0), Ok(Some(7)));
+    same(&rt, text_column(&index, 1), Ok(Some("ab")));
+    same(
+        &rt,
         int4_column(&index, 1),
-        Err(ColumnError::Value(Error::UnexpectedEof))
+        Err(ColumnError::Value(Error::UnexpectedEof)),
     );
-    assert_eq!(rt; int4_column(&index, 2), Ok(None));
-    assert_eq!(rt; text_column(&index, 2), Ok(None));
-    assert_eq!(rt; text_column(&index, 3), Err(ColumnError::NoColumn));
-    assert_eq!(rt; value_of::<i32, _>(&index, 0), Ok(Some(7)));
-    assert_eq!(rt; value_of::<&str, _>(&index, 1), Ok(Some("ab")));
-    assert_eq!(rt; value_of::<&str, _>(&index, 2), Ok(None));
-    assert_eq!(rt; value_of::<i32, _>(&index, 3), Err(ColumnError::NoColumn));
-    assert!(rt; front_row(rest).is_none());
+    same(&rt, int4_column(&index, 2), Ok(None));
+    same(&rt, text_column(&index, 2), Ok(None));
+    same(&rt, text_column(&index, 3), Err(ColumnError::NoColumn));
+    same(&rt, value_of::<i32, _>(&index, 0), Ok(Some(7)));
+    same(&rt, value_of::<&str, _>(&index, 1), Ok(Some("ab")));
+    same(&rt, value_of::<&str, _>(&index, 2), Ok(None));
+    same(
+        &rt,
+        value_of::<i32, _>(&index, 3),
+        Err(ColumnError::NoColumn),
+    );
+    holds(&rt, front_row(rest).is_none());
     Ok(())
 }
 
@@ -163,15 +189,18 @@ const DESCRIBED: &[u8] =
 #[test]
 fn columns_have_names(rt: HostRuntime) -> Result<(), Fail> {
     match column_names(rt.alloc(), DESCRIBED) {
-        Ok(names) => assert_eq!(rt; names.as_slice(), ["id", "name"].as_slice()),
-        Err(e) => assert_eq!(rt; e, NamesError::NoDescription),
+        Ok(names) => same(&rt, names.as_slice(), ["id", "name"].as_slice()),
+        Err(e) => same(&rt, e, NamesError::NoDescription),
     }
     let none = column_names(rt.alloc(), &DESCRIBED[..29]);
-    assert!(rt; matches!(&none, Err(NamesError::NoDescription)));
+    holds(&rt, matches!(&none, Err(NamesError::NoDescription)));
     // The second column announces more than there is.
     let short = b"T\0\0\0\x1b\0\x02id\0\0\0\x40\0\0\x01\0\0\0\x17\0\x04\xff\xff\xff\xff\0\0";
     let cut = column_names(rt.alloc(), short);
-    assert!(rt; matches!(&cut, Err(NamesError::Refused(Error::UnexpectedEof))));
+    holds(
+        &rt,
+        matches!(&cut, Err(NamesError::Refused(Error::UnexpectedEof))),
+    );
     Ok(())
 }
 
@@ -187,10 +216,11 @@ fn parameters_of_a_statement(rt: HostRuntime) -> Result<(), Fail> {
         Some(1i16),
         &mut buf,
     );
-    assert!(rt; bound.is_ok());
-    assert_eq!(rt;
+    holds(&rt, bound.is_ok());
+    same(
+        &rt,
         buf.as_slice(),
-        b"B\x00\x00\x00\x1d\x00s\x00\x00\x01\x00\x01\x00\x02\x00\x00\x00\x04\x00\x00\x00\x05\xff\xff\xff\xff\x00\x01\x00\x01".as_slice()
+        b"B\x00\x00\x00\x1d\x00s\x00\x00\x01\x00\x01\x00\x02\x00\x00\x00\x04\x00\x00\x00\x05\xff\xff\xff\xff\x00\x01\x00\x01".as_slice(),
     );
     Ok(())
 }
@@ -199,11 +229,12 @@ fn parameters_of_a_statement(rt: HostRuntime) -> Result<(), Fail> {
 #[test]
 fn one_value_is_bound(rt: HostRuntime) -> Result<(), Fail> {
     let mut buf = BytesMut::new(rt.alloc());
-    assert!(rt; bind_int4(Some(5), &mut buf).is_ok());
-    assert!(rt; bind_int4(None, &mut buf).is_ok());
-    assert_eq!(rt;
+    holds(&rt, bind_int4(Some(5), &mut buf).is_ok());
+    holds(&rt, bind_int4(None, &mut buf).is_ok());
+    same(
+        &rt,
         buf.as_slice(),
-        b"B\x00\x00\x00\x16\x00\x00\x00\x01\x00\x01\x00\x01\x00\x00\x00\x04\x00\x00\x00\x05\x00\x00B\x00\x00\x00\x12\x00\x00\x00\x01\x00\x01\x00\x01\xff\xff\xff\xff\x00\x00".as_slice()
+        b"B\x00\x00\x00\x16\x00\x00\x00\x01\x00\x01\x00\x01\x00\x00\x00\x04\x00\x00\x00\x05\x00\x00B\x00\x00\x00\x12\x00\x00\x00\x01\x00\x01\x00\x01\xff\xff\xff\xff\x00\x00".as_slice(),
     );
     Ok(())
 }
@@ -211,43 +242,46 @@ fn one_value_is_bound(rt: HostRuntime) -> Result<(), Fail> {
 #[test]
 fn frames_are_recorded(rt: HostRuntime) -> Result<(), Fail> {
     let all = record(rt.alloc(), ROW)?;
-    assert_eq!(rt; all.places.as_slice(), [0..25usize, 25..31].as_slice());
-    assert_eq!(rt; (all.rest, all.stopped), (31, false));
+    same(&rt, all.places.as_slice(), [0..25usize, 25..31].as_slice());
+    same(&rt, (all.rest, all.stopped), (31, false));
     let cut = record(rt.alloc(), &ROW[..30])?;
-    assert_eq!(rt; cut.places.as_slice(), [0..25usize].as_slice());
-    assert_eq!(rt; (cut.rest, cut.stopped), (25, false));
+    same(&rt, cut.places.as_slice(), [0..25usize].as_slice());
+    same(&rt, (cut.rest, cut.stopped), (25, false));
     let fault = record(rt.alloc(), b"?\x00\x00\x00\x041\x00\x00\x00\x03")?;
-    assert_eq!(rt; fault.places.as_slice(), [0..5usize].as_slice());
-    assert_eq!(rt; (fault.rest, fault.stopped), (5, true));
+    same(&rt, fault.places.as_slice(), [0..5usize].as_slice());
+    same(&rt, (fault.rest, fault.stopped), (5, true));
     Ok(())
 }
 
 #[test]
 fn frames_are_passed_up_to_a_limit(rt: HostRuntime) -> Result<(), Fail> {
     let mut out = BytesMut::new(rt.alloc());
-    assert_eq!(rt; pass(13, QUERY, &mut out), Ok(Some(14)));
-    assert_eq!(rt; pass(13, &QUERY[..13], &mut out), Ok(None));
-    assert_eq!(rt; pass(12, &QUERY[..4], &mut out), Ok(None));
-    assert_eq!(rt;
+    same(&rt, pass(13, QUERY, &mut out), Ok(Some(14)));
+    same(&rt, pass(13, &QUERY[..13], &mut out), Ok(None));
+    same(&rt, pass(12, &QUERY[..4], &mut out), Ok(None));
+    same(
+        &rt,
         pass(12, &QUERY[..5], &mut out),
-        Err(FilterError::PastLimit)
+        Err(FilterError::PastLimit),
     );
-    assert_eq!(rt;
+    same(
+        &rt,
         pass(12, b"Q\x00\x00\x00\x03", &mut out),
-        Err(FilterError::InvalidLength)
+        Err(FilterError::InvalidLength),
     );
-    assert_eq!(rt; out.as_slice(), QUERY.as_slice());
+    same(&rt, out.as_slice(), QUERY.as_slice());
     Ok(())
 }
 
 #[test]
 fn answers_are_frames(rt: HostRuntime) -> Result<(), Fail> {
     let mut buf = BytesMut::new(rt.alloc());
-    assert_eq!(rt; answer(b'1', b"", &mut buf), Ok(()));
-    assert_eq!(rt; answer(b'Z', b"I", &mut buf), Ok(()));
-    assert_eq!(rt;
+    same(&rt, answer(b'1', b"", &mut buf), Ok(()));
+    same(&rt, answer(b'Z', b"I", &mut buf), Ok(()));
+    same(
+        &rt,
         buf.as_slice(),
-        b"1\x00\x00\x00\x04Z\x00\x00\x00\x05I".as_slice()
+        b"1\x00\x00\x00\x04Z\x00\x00\x00\x05I".as_slice(),
     );
     Ok(())
 }
@@ -274,15 +308,17 @@ fn a_challenge_is_answered(rt: HostRuntime) -> Result<(), Fail> {
         &mut client,
         &mut out,
     );
-    assert!(rt; answered.is_ok());
-    assert_eq!(rt;
+    holds(&rt, answered.is_ok());
+    same(
+        &rt,
         out.as_slice(),
-        b"p\x00\x00\x00\x6cc=biws,r=9IZ2O01zb9IgiIZ1WJ/zgpJBjx/oIRLs02gGSHcw1KEty3eY,p=AmNKosjJzS31NTlQYNs5BTeQjdHdk7lOflDo5re2an8=".as_slice()
+        b"p\x00\x00\x00\x6cc=biws,r=9IZ2O01zb9IgiIZ1WJ/zgpJBjx/oIRLs02gGSHcw1KEty3eY,p=AmNKosjJzS31NTlQYNs5BTeQjdHdk7lOflDo5re2an8=".as_slice(),
     );
-    assert!(rt;
+    holds(
+        &rt,
         client
             .finish(b"v=U+ppxD5XUKtradnv8e2MkeupiA8FU87Sg8CXzXHDAzw=")
-            .is_ok()
+            .is_ok(),
     );
     Ok(())
 }
@@ -292,12 +328,13 @@ fn a_challenge_is_answered(rt: HostRuntime) -> Result<(), Fail> {
 fn a_login_begins(rt: HostRuntime) -> Result<(), Fail> {
     let mut out = BytesMut::new(rt.alloc());
     let client = begin(rt.alloc(), b"foobar", &mut Counting(0), &mut out)?;
-    assert_eq!(rt;
+    same(
+        &rt,
         out.as_slice().get(..31),
-        Some(b"p\x00\x00\x00\x36SCRAM-SHA-256\x00\x00\x00\x00\x20n,,n=,r=".as_slice())
+        Some(b"p\x00\x00\x00\x36SCRAM-SHA-256\x00\x00\x00\x00\x20n,,n=,r=".as_slice()),
     );
-    assert_eq!(rt; out.len(), 55);
-    assert_eq!(rt; client.message(), out.as_slice().get(23..));
+    same(&rt, out.len(), 55);
+    same(&rt, client.message(), out.as_slice().get(23..));
     Ok(())
 }
 
@@ -310,12 +347,13 @@ fn commands_hold_what_they_are_told(rt: HostRuntime) -> Result<(), Fail> {
         b"secret",
         &mut Counting(0xfffe_fdfd),
     )?;
-    assert_eq!(rt;
+    same(
+        &rt,
         command.as_str(),
-        "ALTER USER \"o\"\"reilly\" PASSWORD 'SCRAM-SHA-256$4096:AQIDBAUGBwgJCgsMDQ4PEA==$8rrDg00OqaiWXJ7p+sCgHEIaBSHY89ZJl3mfIsf32oY=:05L1f+yZbiN8O0AnO40Og85NNRhvzTS57naKRWCcsIA='"
+        "ALTER USER \"o\"\"reilly\" PASSWORD 'SCRAM-SHA-256$4096:AQIDBAUGBwgJCgsMDQ4PEA==$8rrDg00OqaiWXJ7p+sCgHEIaBSHY89ZJl3mfIsf32oY=:05L1f+yZbiN8O0AnO40Og85NNRhvzTS57naKRWCcsIA='",
     );
     let part = equals(rt.alloc(), "name", "O'Reilly")?;
-    assert_eq!(rt; part.as_str(), "\"name\" = 'O''Reilly'");
+    same(&rt, part.as_str(), "\"name\" = 'O''Reilly'");
     Ok(())
 }
 
@@ -379,23 +417,36 @@ fn a_client_asks_one_query(rt: HostRuntime) -> Result<(), Fail> {
     let stream = ClientStream::<BytesMut>::new(rt.alloc());
     let mut client = Client::open("alice", "SELECT 1", stream)?;
     let login = b"R\x00\x00\x00\x08\x00\x00\x00\x00";
-    assert_eq!(rt; taken(READY, &mut client), Some(Err(StepError::Unexpected)));
-    assert_eq!(rt; taken(login, &mut client), Some(Ok(Event::Admitted)));
-    assert_eq!(rt; taken(login, &mut client), Some(Err(StepError::Unexpected)));
+    same(
+        &rt,
+        taken(READY, &mut client),
+        Some(Err(StepError::Unexpected)),
+    );
+    same(&rt, taken(login, &mut client), Some(Ok(Event::Admitted)));
+    same(
+        &rt,
+        taken(login, &mut client),
+        Some(Err(StepError::Unexpected)),
+    );
     let setting = b"S\x00\x00\x00\x08a\x00b\x00";
-    assert_eq!(rt; taken(setting, &mut client), Some(Ok(Event::Noted)));
-    assert_eq!(rt; taken(READY, &mut client), Some(Ok(Event::Asked)));
-    assert_eq!(rt; taken(ROW, &mut client), Some(Ok(Event::Row)));
+    same(&rt, taken(setting, &mut client), Some(Ok(Event::Noted)));
+    same(&rt, taken(READY, &mut client), Some(Ok(Event::Asked)));
+    same(&rt, taken(ROW, &mut client), Some(Ok(Event::Row)));
     let complete = b"C\x00\x00\x00\x0dSELECT 1\x00";
-    assert_eq!(rt; taken(complete, &mut client), Some(Ok(Event::Noted)));
+    same(&rt, taken(complete, &mut client), Some(Ok(Event::Noted)));
     let error = b"E\x00\x00\x00\x05\x00";
-    assert_eq!(rt; taken(error, &mut client), Some(Ok(Event::Failed)));
-    assert_eq!(rt; client.phase, Phase::Querying);
-    assert_eq!(rt; taken(READY, &mut client), Some(Ok(Event::Ended)));
-    assert_eq!(rt; taken(ROW, &mut client), Some(Err(StepError::Unexpected)));
-    assert_eq!(rt;
+    same(&rt, taken(error, &mut client), Some(Ok(Event::Failed)));
+    same(&rt, client.phase, Phase::Querying);
+    same(&rt, taken(READY, &mut client), Some(Ok(Event::Ended)));
+    same(
+        &rt,
+        taken(ROW, &mut client),
+        Some(Err(StepError::Unexpected)),
+    );
+    same(
+        &rt,
         client.out.bytes(),
-        b"\x00\x00\x00\x14\x00\x03\x00\x00user\x00alice\x00\x00Q\x00\x00\x00\x0dSELECT 1\x00X\x00\x00\x00\x04".as_slice()
+        b"\x00\x00\x00\x14\x00\x03\x00\x00user\x00alice\x00\x00Q\x00\x00\x00\x0dSELECT 1\x00X\x00\x00\x00\x04".as_slice(),
     );
     Ok(())
 }
@@ -417,13 +468,17 @@ fn a_client_hears_of_a_version(rt: HostRuntime) -> Result<(), Fail> {
             Err(StepError::Unexpected),
         ),
     ] {
-        assert_eq!(rt; taken(version.as_slice(), &mut client), Some(told));
-        assert_eq!(rt; client.phase, Phase::LoggingIn);
+        same(&rt, taken(version.as_slice(), &mut client), Some(told));
+        same(&rt, client.phase, Phase::LoggingIn);
     }
     let login = b"R\0\0\0\x08\0\0\0\0";
-    assert_eq!(rt; taken(login, &mut client), Some(Ok(Event::Admitted)));
+    same(&rt, taken(login, &mut client), Some(Ok(Event::Admitted)));
     let late = b"v\0\0\0\x0c\0\x03\0\0\0\0\0\0";
-    assert_eq!(rt; taken(late, &mut client), Some(Err(StepError::Unexpected)));
+    same(
+        &rt,
+        taken(late, &mut client),
+        Some(Err(StepError::Unexpected)),
+    );
     Ok(())
 }
 
@@ -431,20 +486,23 @@ fn a_client_hears_of_a_version(rt: HostRuntime) -> Result<(), Fail> {
 fn a_client_is_refused(rt: HostRuntime) -> Result<(), Fail> {
     let stream = ClientStream::<BytesMut>::new(rt.alloc());
     let mut client = Client::open("alice", "a\0b", stream)?;
-    assert_eq!(rt;
+    same(
+        &rt,
         taken(b"R\x00\x00\x00\x08\x00\x00\x00\x00", &mut client),
-        Some(Ok(Event::Admitted))
+        Some(Ok(Event::Admitted)),
     );
-    assert_eq!(rt;
+    same(
+        &rt,
         taken(READY, &mut client),
-        Some(Err(StepError::Unsent(Error::EmbeddedNull)))
+        Some(Err(StepError::Unsent(Error::EmbeddedNull))),
     );
-    assert_eq!(rt; client.phase, Phase::Starting);
-    assert_eq!(rt;
+    same(&rt, client.phase, Phase::Starting);
+    same(
+        &rt,
         taken(b"E\x00\x00\x00\x05\x00", &mut client),
-        Some(Ok(Event::Refused))
+        Some(Ok(Event::Refused)),
     );
-    assert_eq!(rt; client.phase, Phase::Over);
+    same(&rt, client.phase, Phase::Over);
     Ok(())
 }
 
@@ -466,15 +524,24 @@ fn arrays_are_lists(rt: HostRuntime) -> Result<(), Fail> {
     let Ok(Some(list)) = list_of::<i32, _, _>(rt.alloc(), &index, 0) else {
         return Err(Error::UnexpectedEof.into());
     };
-    assert_eq!(rt; list.as_slice(), [Some(7), None].as_slice());
-    assert_eq!(rt; size_of(rt.alloc(), &index, 1), Err(ArrayError::Dimensions));
-    assert_eq!(rt; size_of(rt.alloc(), &index, 2), Ok(Some(0)));
-    assert_eq!(rt; size_of(rt.alloc(), &index, 3), Ok(None));
-    assert_eq!(rt;
-        size_of(rt.alloc(), &index, 4),
-        Err(ArrayError::Value(Error::UnexpectedEof))
+    same(&rt, list.as_slice(), [Some(7), None].as_slice());
+    same(
+        &rt,
+        size_of(rt.alloc(), &index, 1),
+        Err(ArrayError::Dimensions),
     );
-    assert_eq!(rt; size_of(rt.alloc(), &index, 5), Err(ArrayError::NoColumn));
+    same(&rt, size_of(rt.alloc(), &index, 2), Ok(Some(0)));
+    same(&rt, size_of(rt.alloc(), &index, 3), Ok(None));
+    same(
+        &rt,
+        size_of(rt.alloc(), &index, 4),
+        Err(ArrayError::Value(Error::UnexpectedEof)),
+    );
+    same(
+        &rt,
+        size_of(rt.alloc(), &index, 5),
+        Err(ArrayError::NoColumn),
+    );
     Ok(())
 }
 
@@ -494,10 +561,11 @@ fn size_of(
 #[test]
 fn an_array_is_bound(rt: HostRuntime) -> Result<(), Fail> {
     let mut buf = BytesMut::new(rt.alloc());
-    assert!(rt; bind_int4s(&[Some(7), None], &mut buf).is_ok());
-    assert_eq!(rt;
+    holds(&rt, bind_int4s(&[Some(7), None], &mut buf).is_ok());
+    same(
+        &rt,
         buf.as_slice(),
-        b"B\x00\x00\x00\x32\x00\x00\x00\x01\x00\x01\x00\x01\x00\x00\x00\x20\x00\x00\x00\x01\x00\x00\x00\x01\x00\x00\x00\x17\x00\x00\x00\x02\x00\x00\x00\x01\x00\x00\x00\x04\x00\x00\x00\x07\xff\xff\xff\xff\x00\x00".as_slice()
+        b"B\x00\x00\x00\x32\x00\x00\x00\x01\x00\x01\x00\x01\x00\x00\x00\x20\x00\x00\x00\x01\x00\x00\x00\x01\x00\x00\x00\x17\x00\x00\x00\x02\x00\x00\x00\x01\x00\x00\x00\x04\x00\x00\x00\x07\xff\xff\xff\xff\x00\x00".as_slice(),
     );
     Ok(())
 }
@@ -548,39 +616,59 @@ fn heard(
 #[test]
 fn a_password_is_proved(rt: HostRuntime) -> Result<(), Fail> {
     let mut login = opened(&rt)?;
-    assert!(rt;
+    holds(
+        &rt,
         matches!(
             heard(WELCOME, &mut login),
             Some(Err(LoginFault::Unexpected))
-        )
+        ),
     );
-    assert!(rt; matches!(heard(OFFER, &mut login), Some(Ok(LoginEvent::Began))));
-    assert!(rt;
+    holds(
+        &rt,
+        matches!(heard(OFFER, &mut login), Some(Ok(LoginEvent::Began))),
+    );
+    holds(
+        &rt,
         matches!(
             heard(WELCOME, &mut login),
             Some(Err(LoginFault::Unexpected))
-        )
+        ),
     );
-    assert!(rt; matches!(heard(OFFER, &mut login), Some(Err(LoginFault::Unexpected))));
-    assert!(rt; matches!(heard(CHALLENGE, &mut login), Some(Ok(LoginEvent::Replied))));
-    assert!(rt;
+    holds(
+        &rt,
+        matches!(heard(OFFER, &mut login), Some(Err(LoginFault::Unexpected))),
+    );
+    holds(
+        &rt,
+        matches!(heard(CHALLENGE, &mut login), Some(Ok(LoginEvent::Replied))),
+    );
+    holds(
+        &rt,
         matches!(
             heard(WELCOME, &mut login),
             Some(Err(LoginFault::Unexpected))
-        )
+        ),
     );
-    assert!(rt; matches!(heard(OUTCOME, &mut login), Some(Ok(LoginEvent::Verified))));
-    assert!(rt;
+    holds(
+        &rt,
+        matches!(heard(OUTCOME, &mut login), Some(Ok(LoginEvent::Verified))),
+    );
+    holds(
+        &rt,
         matches!(
             heard(OUTCOME, &mut login),
             Some(Err(LoginFault::Unexpected))
-        )
+        ),
     );
-    assert!(rt; matches!(heard(WELCOME, &mut login), Some(Ok(LoginEvent::Admitted))));
-    assert_eq!(rt; login.phase, LoginPhase::Done);
-    assert_eq!(rt;
+    holds(
+        &rt,
+        matches!(heard(WELCOME, &mut login), Some(Ok(LoginEvent::Admitted))),
+    );
+    same(&rt, login.phase, LoginPhase::Done);
+    same(
+        &rt,
         login.out.bytes(),
-        b"\x00\x00\x00\x14\x00\x03\x00\x00user\x00alice\x00\x00p\x00\x00\x00\x36SCRAM-SHA-256\x00\x00\x00\x00\x20n,,n=,r=9IZ2O01zb9IgiIZ1WJ/zgpJBp\x00\x00\x00\x6cc=biws,r=9IZ2O01zb9IgiIZ1WJ/zgpJBjx/oIRLs02gGSHcw1KEty3eY,p=AmNKosjJzS31NTlQYNs5BTeQjdHdk7lOflDo5re2an8=".as_slice()
+        b"\x00\x00\x00\x14\x00\x03\x00\x00user\x00alice\x00\x00p\x00\x00\x00\x36SCRAM-SHA-256\x00\x00\x00\x00\x20n,,n=,r=9IZ2O01zb9IgiIZ1WJ/zgpJBp\x00\x00\x00\x6cc=biws,r=9IZ2O01zb9IgiIZ1WJ/zgpJBjx/oIRLs02gGSHcw1KEty3eY,p=AmNKosjJzS31NTlQYNs5BTeQjdHdk7lOflDo5re2an8=".as_slice(),
     );
     Ok(())
 }
@@ -611,18 +699,18 @@ fn heard_whole(
 fn a_password_is_proved_to_frames(rt: HostRuntime) -> Result<(), Fail> {
     let mut login = opened(&rt)?;
     let began = heard_whole(&rt, OFFER, &mut login)?;
-    assert!(rt; matches!(began, Some(Ok(LoginEvent::Began))));
+    holds(&rt, matches!(began, Some(Ok(LoginEvent::Began))));
     drop(began);
     let replied = heard_whole(&rt, CHALLENGE, &mut login)?;
-    assert!(rt; matches!(replied, Some(Ok(LoginEvent::Replied))));
+    holds(&rt, matches!(replied, Some(Ok(LoginEvent::Replied))));
     drop(replied);
     let verified = heard_whole(&rt, OUTCOME, &mut login)?;
-    assert!(rt; matches!(verified, Some(Ok(LoginEvent::Verified))));
+    holds(&rt, matches!(verified, Some(Ok(LoginEvent::Verified))));
     drop(verified);
     let admitted = heard_whole(&rt, WELCOME, &mut login)?;
-    assert!(rt; matches!(admitted, Some(Ok(LoginEvent::Admitted))));
+    holds(&rt, matches!(admitted, Some(Ok(LoginEvent::Admitted))));
     drop(admitted);
-    assert_eq!(rt; login.phase, LoginPhase::Done);
+    same(&rt, login.phase, LoginPhase::Done);
     Ok(())
 }
 
@@ -630,45 +718,62 @@ fn a_password_is_proved_to_frames(rt: HostRuntime) -> Result<(), Fail> {
 fn a_log_in_is_refused(rt: HostRuntime) -> Result<(), Fail> {
     let mut login = opened(&rt)?;
     let plus = b"R\x00\x00\x00\x1c\x00\x00\x00\x0aSCRAM-SHA-256-PLUS\x00\x00";
-    assert!(rt; matches!(heard(plus, &mut login), Some(Err(LoginFault::NotOffered))));
+    holds(
+        &rt,
+        matches!(heard(plus, &mut login), Some(Err(LoginFault::NotOffered))),
+    );
     let endless = b"R\x00\x00\x00\x16\x00\x00\x00\x0aSCRAM-SHA-256\x00";
-    assert!(rt;
+    holds(
+        &rt,
         matches!(
             heard(endless, &mut login),
             Some(Err(LoginFault::NotOffered))
-        )
+        ),
     );
-    assert!(rt;
+    holds(
+        &rt,
         matches!(
             heard(CHALLENGE, &mut login),
             Some(Err(LoginFault::Unexpected))
-        )
+        ),
     );
-    assert!(rt; matches!(heard(OFFER, &mut login), Some(Ok(LoginEvent::Began))));
-    assert!(rt;
+    holds(
+        &rt,
+        matches!(heard(OFFER, &mut login), Some(Ok(LoginEvent::Began))),
+    );
+    holds(
+        &rt,
         matches!(
             heard(OUTCOME, &mut login),
             Some(Err(LoginFault::Unexpected))
-        )
+        ),
     );
-    assert!(rt; matches!(heard(CHALLENGE, &mut login), Some(Ok(LoginEvent::Replied))));
+    holds(
+        &rt,
+        matches!(heard(CHALLENGE, &mut login), Some(Ok(LoginEvent::Replied))),
+    );
     let other = b"R\x00\x00\x00\x36\x00\x00\x00\x0cv=V+ppxD5XUKtradnv8e2MkeupiA8FU87Sg8CXzXHDAzw=";
-    assert!(rt;
+    holds(
+        &rt,
         matches!(
             heard(other, &mut login),
             Some(Err(LoginFault::Scram(ScramError::Verification)))
-        )
+        ),
     );
-    assert!(rt;
+    holds(
+        &rt,
         matches!(
             heard(WELCOME, &mut login),
             Some(Err(LoginFault::Unexpected))
-        )
+        ),
     );
-    assert_eq!(rt; login.phase, LoginPhase::Over);
+    same(&rt, login.phase, LoginPhase::Over);
     let mut failed = opened(&rt)?;
     let error = b"E\x00\x00\x00\x05\x00";
-    assert!(rt; matches!(heard(error, &mut failed), Some(Ok(LoginEvent::Refused))));
-    assert_eq!(rt; failed.phase, LoginPhase::Over);
+    holds(
+        &rt,
+        matches!(heard(error, &mut failed), Some(Ok(LoginEvent::Refused))),
+    );
+    same(&rt, failed.phase, LoginPhase::Over);
     Ok(())
 }

@@ -1,6 +1,7 @@
 //! Each call of a client's stream. Expected bytes are from the message formats of the PostgreSQL manual.
 #![tactic(auto, using(pgp_base::proofs::Parts::held_steps))]
 
+use crate::checks::{holds, same, same_at};
 use bytes::BytesMut;
 use pgp_base::{Buffer, put_u32};
 use postgres_protocol::message::frontend::{CopyData, ProtocolVersion};
@@ -135,9 +136,9 @@ fn calls_before_a_session(rt: HostRuntime) -> Result<(), Fail> {
         ),
     ] {
         let mut stream = ClientStream::<BytesMut>::new(rt.alloc());
-        assert_eq!(rt; begin(number, &mut stream), Ok(()));
-        assert_eq!(rt; stream.bytes(), bytes);
-        assert_eq!(rt; stream.is_open(), (2..5).contains(&number));
+        same(&rt, begin(number, &mut stream), Ok(()));
+        same(&rt, stream.bytes(), bytes);
+        same(&rt, stream.is_open(), (2..5).contains(&number));
     }
     Ok(())
 }
@@ -168,11 +169,11 @@ fn calls_in_a_session(rt: HostRuntime) -> Result<(), Fail> {
         (14, b"p\0\0\0\x06ab".as_slice()),
     ] {
         let mut stream = ClientStream::<BytesMut>::new(rt.alloc());
-        assert_eq!(rt; begin(3, &mut stream), Ok(()));
-        assert_eq!(rt; call(number, &mut stream), Ok(()), "call {number}");
-        assert_eq!(rt; stream.bytes().get(..9), Some(STARTUP));
-        assert_eq!(rt; stream.bytes().get(9..), Some(bytes), "call {number}");
-        assert!(rt; stream.is_open());
+        same(&rt, begin(3, &mut stream), Ok(()));
+        same_at(&rt, number, call(number, &mut stream), Ok(()));
+        same(&rt, stream.bytes().get(..9), Some(STARTUP));
+        same_at(&rt, number, stream.bytes().get(9..), Some(bytes));
+        holds(&rt, stream.is_open());
     }
     Ok(())
 }
@@ -182,11 +183,11 @@ fn calls_in_a_session(rt: HostRuntime) -> Result<(), Fail> {
 fn refused_startup_packets(rt: HostRuntime) -> Result<(), Fail> {
     let mut stream = ClientStream::<BytesMut>::new(rt.alloc());
     let answer = stream.startup_message(&[("user", "al\0ice")]);
-    assert_eq!(rt; answer, Err(Error::EmbeddedNull));
-    assert!(rt; stream.bytes().is_empty());
-    assert!(rt; !stream.is_open());
-    assert_eq!(rt; begin(3, &mut stream), Ok(()));
-    assert!(rt; stream.is_open());
+    same(&rt, answer, Err(Error::EmbeddedNull));
+    holds(&rt, stream.bytes().is_empty());
+    holds(&rt, !stream.is_open());
+    same(&rt, begin(3, &mut stream), Ok(()));
+    holds(&rt, stream.is_open());
     Ok(())
 }
 
@@ -194,7 +195,7 @@ fn refused_startup_packets(rt: HostRuntime) -> Result<(), Fail> {
 #[test]
 fn refused_calls_in_a_session(rt: HostRuntime) -> Result<(), Fail> {
     let mut stream = ClientStream::<BytesMut>::new(rt.alloc());
-    assert_eq!(rt; begin(3, &mut stream), Ok(()));
+    same(&rt, begin(3, &mut stream), Ok(()));
     for (number, e) in [
         (0usize, Error::EmbeddedNull),
         (1, Error::EmbeddedNull),
@@ -207,9 +208,9 @@ fn refused_calls_in_a_session(rt: HostRuntime) -> Result<(), Fail> {
         (8, Error::TooLarge),
         (9, Error::InvalidSize),
     ] {
-        assert_eq!(rt; refused(number, &mut stream), Err(e), "call {number}");
-        assert_eq!(rt; stream.bytes(), STARTUP, "call {number}");
-        assert!(rt; stream.is_open());
+        same_at(&rt, number, refused(number, &mut stream), Err(e));
+        same_at(&rt, number, stream.bytes(), STARTUP);
+        holds(&rt, stream.is_open());
     }
     Ok(())
 }

@@ -1,6 +1,7 @@
 //! An exchange of SCRAM-SHA-256 whose texts pass through messages. The texts are those of the Rust crate's
 //! own test, the frames from the message formats of the PostgreSQL manual.
 
+use crate::checks::{holds, same};
 use bytes::BytesMut;
 use postgres_protocol::authentication::sasl::{ChannelBinding, NoPrep, ScramSha256, is_nonce};
 use postgres_protocol::laws::sasl_exchange;
@@ -45,9 +46,15 @@ fn exchanged<A: Allocator + Copy>(
 #[test]
 fn texts_of_an_exchange_pass_through_messages(rt: HostRuntime) -> Result<(), Fail> {
     let mut out = BytesMut::new(rt.alloc());
-    assert!(rt; exchanged(rt.alloc(), SERVER_FIRST, SERVER_FINAL, &mut out)?);
-    assert_eq!(rt; out.as_slice(), CLIENT);
+    holds(
+        &rt,
+        exchanged(rt.alloc(), SERVER_FIRST, SERVER_FINAL, &mut out)?,
+    );
+    same(&rt, out.as_slice(), CLIENT);
     let mut out = BytesMut::new(rt.alloc());
-    assert!(rt; !exchanged(rt.alloc(), SERVER_FINAL, SERVER_FIRST, &mut out)?);
+    holds(
+        &rt,
+        !exchanged(rt.alloc(), SERVER_FINAL, SERVER_FIRST, &mut out)?,
+    );
     Ok(())
 }

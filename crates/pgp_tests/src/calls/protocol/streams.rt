@@ -1,5 +1,6 @@
 //! A message with a body of its own, cut in two. Its bytes are from the message formats of the PostgreSQL manual.
 
+use crate::checks::{holds, same};
 use postgres_protocol::message::backend::Message;
 use postgres_protocol::session::parse_stream;
 use postgres_protocol::{Error, FallibleIterator};
@@ -21,10 +22,14 @@ fn bodies_that_were_cut(rt: HostRuntime) -> Result<(), Fail> {
     for cut in 0..25usize {
         let (front, back) = SASL.split_at(cut);
         let parsed = parse_stream(rt.alloc(), &[front, back])?;
-        assert_eq!(rt; parsed.results().len(), 1);
-        assert_eq!(rt; mechanism_of(parsed.results()), Ok(Some("SCRAM-SHA-256")));
-        assert!(rt; !parsed.stopped());
-        assert!(rt; parsed.rest().is_empty());
+        same(&rt, parsed.results().len(), 1);
+        same(
+            &rt,
+            mechanism_of(parsed.results()),
+            Ok(Some("SCRAM-SHA-256")),
+        );
+        holds(&rt, !parsed.stopped());
+        holds(&rt, parsed.rest().is_empty());
     }
     Ok(())
 }

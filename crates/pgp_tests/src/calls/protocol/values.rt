@@ -3,6 +3,7 @@
 #![tactic(auto, using(pgp_base::proofs::Parts::held_steps))]
 
 use super::ROW;
+use crate::checks::{holds, same};
 use bytes::BytesMut;
 use pgp_message::Message;
 use postgres_protocol::laws::{Step, bind_array, row_int4};
@@ -35,10 +36,11 @@ fn an_array_is_bound(rt: HostRuntime) -> Result<(), Fail> {
     let steps = five_and(rt.alloc(), Step::Null)?;
     let mut buf = BytesMut::new(rt.alloc());
     buf.extend_from_slice(SYNC)?;
-    assert_eq!(rt; bind_array(&[PAIR], 23, &steps, &mut buf), Ok(()));
-    assert_eq!(rt;
+    same(&rt, bind_array(&[PAIR], 23, &steps, &mut buf), Ok(()));
+    same(
+        &rt,
         buf.as_slice(),
-        b"S\0\0\0\x04B\0\0\0\x32\0\0\0\x01\0\x01\0\x01\0\0\0\x20\0\0\0\x01\0\0\0\x01\0\0\0\x17\0\0\0\x02\0\0\0\x01\0\0\0\x04\0\0\0\x05\xff\xff\xff\xff\0\0".as_slice()
+        b"S\0\0\0\x04B\0\0\0\x32\0\0\0\x01\0\x01\0\x01\0\0\0\x20\0\0\0\x01\0\0\0\x01\0\0\0\x17\0\0\0\x02\0\0\0\x01\0\0\0\x04\0\0\0\x05\xff\xff\xff\xff\0\0".as_slice(),
     );
     Ok(())
 }
@@ -46,17 +48,19 @@ fn an_array_is_bound(rt: HostRuntime) -> Result<(), Fail> {
 #[test]
 fn arrays_without_nulls(rt: HostRuntime) -> Result<(), Fail> {
     let mut buf = BytesMut::new(rt.alloc());
-    assert_eq!(rt; bind_array(&[], 23, &[], &mut buf), Ok(()));
-    assert_eq!(rt;
+    same(&rt, bind_array(&[], 23, &[], &mut buf), Ok(()));
+    same(
+        &rt,
         buf.as_slice(),
-        b"B\0\0\0\x1e\0\0\0\x01\0\x01\0\x01\0\0\0\x0c\0\0\0\0\0\0\0\0\0\0\0\x17\0\0".as_slice()
+        b"B\0\0\0\x1e\0\0\0\x01\0\x01\0\x01\0\0\0\x0c\0\0\0\0\0\0\0\0\0\0\0\x17\0\0".as_slice(),
     );
     let steps = five_and(rt.alloc(), Step::Append(Vec::new(rt.alloc())))?;
     let mut buf = BytesMut::new(rt.alloc());
-    assert_eq!(rt; bind_array(&[PAIR], 17, &steps, &mut buf), Ok(()));
-    assert_eq!(rt;
+    same(&rt, bind_array(&[PAIR], 17, &steps, &mut buf), Ok(()));
+    same(
+        &rt,
         buf.as_slice(),
-        b"B\0\0\0\x32\0\0\0\x01\0\x01\0\x01\0\0\0\x20\0\0\0\x01\0\0\0\0\0\0\0\x11\0\0\0\x02\0\0\0\x01\0\0\0\x04\0\0\0\x05\0\0\0\0\0\0".as_slice()
+        b"B\0\0\0\x32\0\0\0\x01\0\x01\0\x01\0\0\0\x20\0\0\0\x01\0\0\0\0\0\0\0\x11\0\0\0\x02\0\0\0\x01\0\0\0\x04\0\0\0\x05\0\0\0\0\0\0".as_slice(),
     );
     Ok(())
 }
@@ -66,11 +70,12 @@ fn a_step_refuses(rt: HostRuntime) -> Result<(), Fail> {
     let steps = five_and(rt.alloc(), Step::Refuse(Error::InvalidSize))?;
     let mut buf = BytesMut::new(rt.alloc());
     buf.extend_from_slice(SYNC)?;
-    assert_eq!(rt;
+    same(
+        &rt,
         bind_array(&[PAIR], 23, &steps, &mut buf),
-        Err(BindError::Conversion(BindError::Conversion(Error::InvalidSize)))
+        Err(BindError::Conversion(BindError::Conversion(Error::InvalidSize))),
     );
-    assert_eq!(rt; buf.as_slice(), SYNC);
+    same(&rt, buf.as_slice(), SYNC);
     Ok(())
 }
 
@@ -86,36 +91,38 @@ fn read_row(alloc: Global, frame: &[u8]) -> Result<Vec<Option<Result<i32, Error>
 
 #[test]
 fn rows_of_numbers(rt: HostRuntime) -> Result<(), Fail> {
-    assert_eq!(rt;
+    same(
+        &rt,
         read_row(rt.alloc(), &ROW)?.as_slice(),
         [
             Some(Err(Error::UnexpectedEof)),
             None,
-            Some(Err(Error::UnexpectedEof))
+            Some(Err(Error::UnexpectedEof)),
         ]
-        .as_slice()
+        .as_slice(),
     );
     let row =
         b"D\0\0\0\x23\0\x04\0\0\0\x04\0\0\0\x05\xff\xff\xff\xff\0\0\0\x04\xff\xff\xff\xfe\0\0\0\x05\0\0\0\0\0";
-    assert_eq!(rt;
+    same(
+        &rt,
         read_row(rt.alloc(), row)?.as_slice(),
         [
             Some(Ok(5)),
             None,
             Some(Ok(-2)),
-            Some(Err(Error::NotDrained))
+            Some(Err(Error::NotDrained)),
         ]
-        .as_slice()
+        .as_slice(),
     );
-    assert!(rt; read_row(rt.alloc(), b"D\0\0\0\x06\0\0")?.is_empty());
+    holds(&rt, read_row(rt.alloc(), b"D\0\0\0\x06\0\0")?.is_empty());
     Ok(())
 }
 
 #[test]
 fn rows_that_do_not_end_well(rt: HostRuntime) -> Result<(), Fail> {
     let cut = b"D\0\0\0\x0c\0\x01\0\0\0\x04\0\0";
-    assert_eq!(rt; read_row(rt.alloc(), cut), Err(Error::UnexpectedEof));
+    same(&rt, read_row(rt.alloc(), cut), Err(Error::UnexpectedEof));
     let long = b"D\0\0\0\x07\0\0\0";
-    assert_eq!(rt; read_row(rt.alloc(), long), Err(Error::NotDrained));
+    same(&rt, read_row(rt.alloc(), long), Err(Error::NotDrained));
     Ok(())
 }
