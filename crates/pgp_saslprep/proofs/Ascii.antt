@@ -1,5 +1,5 @@
 -- Texts of ASCII are prepared as they are, or refused.
-use Rattle.std.proofs.Common.{◌≡◌, ℕ, zero, suc, ◌<◌, ◌≤◌, true, false, cond, List, [], ◌∷◌, refl, ap, ◌∙◌, arith, encode_utf8_all, inl, inr}
+use Rattle.std.proofs.Common.{◌≡◌, ℕ, ◌<◌, ◌≤◌, true, false, cond, List, [], ◌∷◌, refl, ap, ◌∙◌, arith, encode_utf8_all, inl, inr}
 use Rattle.std.specs.Prelude.{Some, None, option_map, unwrap_or, All}
 use Rattle.std.specs.Str.{IsAscii}
 use Rattle.std.proofs.lemmas.Bool.{cases_Bool, or_left, or_from, not_from_false, and_right, and_left, lt-leb}

@@ -1,5 +1,5 @@
 -- What was read, and a piece more.
-use Rattle.std.proofs.Common.{ℕ, ◌+◌, List, ◌++◌, length, length-append, Result, sym, ap, ◌∙◌}
+use Rattle.std.proofs.Common.{ℕ, List, ◌++◌, length, length-append, Result, sym, ap, ◌∙◌}
 use Rattle.pgp_base.specs.declared.error.Error.{Error}
 use Rattle.pgp_message.specs.BackendMessage.{Message}
 use Rattle.pgp_message.specs.Remembered.{header_of, headers_read}
