@@ -76,8 +76,8 @@ pub fn sync<B: Buffer>(buf: &mut B) -> Result<(), Error>
     message(b'S', &[], buf)
 }
 
-/// The message of a `parse`. A refusal leaves what the buffer held as a front.
-pub fn fill_parse<B: Buffer, I: IntoIterator<Item = Oid> + Drop>(
+// The message of a `parse`. A refusal leaves what the buffer held as a front.
+pub(crate) fn fill_parse<B: Buffer, I: IntoIterator<Item = Oid> + Drop>(
     name: &[u8],
     query: &[u8],
     param_types: I,
@@ -155,8 +155,8 @@ where
     Ok(())
 }
 
-/// The message of a `bind`. A refusal leaves what the buffer held as a front.
-pub fn fill_bind<
+// The message of a `bind`. A refusal leaves what the buffer held as a front.
+pub(crate) fn fill_bind<
     B: Buffer,
     T: Drop,
     E: Drop,

@@ -137,10 +137,10 @@ where
     Ok(())
 }
 
-/// Appends the packet that opens a session, of texts of either kind.
+// The packet that opens a session, of texts of either kind.
 // The hint carries the speed of short messages.
 #[inline(always)]
-pub fn open<B: Buffer, T: Text + Copy, I: IntoIterator<Item = (T, T)> + Drop>(
+pub(crate) fn open<B: Buffer, T: Text + Copy, I: IntoIterator<Item = (T, T)> + Drop>(
     version: ProtocolVersion,
     parameters: I,
     buf: &mut B,

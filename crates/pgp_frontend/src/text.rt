@@ -3,7 +3,7 @@
 ghost use Rattle.std.specs.Prelude.{◌≡◌, ℕ, List};
 
 /// A text, of characters or of any bytes.
-pub trait Text {
+pub(crate) trait Text {
     /// Its bytes.
     ghost shown: { Self → List ℕ };
 
