@@ -224,10 +224,7 @@ fn places<A: Memory>(
 /// Room for a place more, and for so many behind it as were announced, as far as a short row goes.
 #[cold]
 #[inline(never)]
-fn grow<A: Memory>(
-    places: &mut Vec<Option<Range<usize>>, A>,
-    announced: usize,
-) -> Result<(), Error>
+fn grow<A: Memory>(places: &mut Vec<Option<Range<usize>>, A>, announced: usize) -> Result<(), Error>
     ensures items { places.new.items ≡ places.old.items }
     ensures ok { OnOk result (vec_len places.new < vec_capacity places.new) }
     ensures err { IfErr result (λ e. (e ≡ Error.OutOfMemory) × A.Lacks) }

@@ -33,30 +33,40 @@ fn texts_of_another_encoding(rt: HostRuntime) -> Result<(), Fail> {
     same(&rt, buf.as_slice(), b"Q\0\0\0\x07S\xe9\0".as_slice());
     buf.clear();
     over_bytes::parse(b"\xf1", b"\xe9", Some(23u32), &mut buf)?;
-    same(&rt, buf.as_slice(),
-        b"P\0\0\0\x0e\xf1\0\xe9\0\0\x01\0\0\0\x17".as_slice()
+    same(
+        &rt,
+        buf.as_slice(),
+        b"P\0\0\0\x0e\xf1\0\xe9\0\0\x01\0\0\0\x17".as_slice(),
     );
     buf.clear();
     over_bytes::close(b'S', b"\xf1", &mut buf)?;
     over_bytes::describe(b'P', b"\xe9", &mut buf)?;
     over_bytes::execute(b"\xe9", 0, &mut buf)?;
-    same(&rt, buf.as_slice(),
-        b"C\0\0\0\x07S\xf1\0D\0\0\0\x07P\xe9\0E\0\0\0\x0a\xe9\0\0\0\0\0".as_slice()
+    same(
+        &rt,
+        buf.as_slice(),
+        b"C\0\0\0\x07S\xf1\0D\0\0\0\x07P\xe9\0E\0\0\0\x0a\xe9\0\0\0\0\0".as_slice(),
     );
     buf.clear();
     let user = [(b"user".as_slice(), b"Ren\xe9".as_slice())];
     over_bytes::startup_message(user, &mut buf)?;
-    same(&rt, buf.as_slice(),
-        b"\0\0\0\x13\0\x03\0\0user\0Ren\xe9\0\0".as_slice()
+    same(
+        &rt,
+        buf.as_slice(),
+        b"\0\0\0\x13\0\x03\0\0user\0Ren\xe9\0\0".as_slice(),
     );
     buf.clear();
     over_bytes::copy_fail(b"no \xe9", &mut buf)?;
     over_bytes::sasl_initial_response(b"\xe9", b"n", &mut buf)?;
-    same(&rt, buf.as_slice(),
-        b"f\0\0\0\x09no \xe9\0p\0\0\0\x0b\xe9\0\0\0\0\x01n".as_slice()
+    same(
+        &rt,
+        buf.as_slice(),
+        b"f\0\0\0\x09no \xe9\0p\0\0\0\x0b\xe9\0\0\0\0\x01n".as_slice(),
     );
-    same(&rt, over_bytes::query(b"\xe9\0", &mut buf),
-        Err(Error::EmbeddedNull)
+    same(
+        &rt,
+        over_bytes::query(b"\xe9\0", &mut buf),
+        Err(Error::EmbeddedNull),
     );
     Ok(())
 }
