@@ -5,7 +5,9 @@ use crate::fault::Fault;
 use crate::row::Row;
 use crate::shown::{Shown, same};
 use crate::word::{Word, Words, joined, words_of};
-use pgp_server::{ClientError, ClientMessage, ClientMessages, PasswordKind, read_session};
+use bytes::BytesMut;
+use pgp_base::{Error, Window};
+use pgp_server::{ClientError, ClientMessage, ClientMessages, PasswordKind, forward, read_session};
 use std::alloc::{AllocError, Global};
 
 /// More messages than a row has.
@@ -44,16 +46,35 @@ fn show_refusal(refusal: ClientError, out: &mut Shown) -> Result<(), Fault> {
     out.word(";")
 }
 
-/// Shows what is read, and tells whether a refusal stopped it.
+/// The message, written again, is the bytes that stood there; in memory that is a byte short it is refused.
+fn is_forwarded(alloc: Global, message: &ClientMessage<'_>, stood: &[u8]) -> Result<(), Fault> {
+    let mut buf = BytesMut::new(alloc);
+    forward(message, &mut buf)?;
+    let mut wanted = Shown::new(alloc);
+    wanted.bytes(stood)?;
+    let mut came = Shown::new(alloc);
+    came.bytes(buf.as_slice())?;
+    let mut room = vec![in alloc; 0u8; stood.len().saturating_sub(1)]?;
+    let mut window = Window::new(&mut room);
+    match forward(message, &mut window) {
+        Err(Error::OutOfMemory) => {}
+        _ => came.word("in too little memory")?,
+    }
+    same(wanted.as_str(), came)
+}
+
+/// Shows what is read, and tells whether a refusal stopped it. Each message is forwarded, too.
 fn read_on(
+    alloc: Global,
     reader: &mut ClientMessages<'_>,
     kinds: &mut Kinds<'_>,
     out: &mut Shown,
 ) -> Result<bool, Fault> {
     for _ in 0..MOST {
         let left = reader.rest().len();
-        match reader.next(kinds.first()) {
-            Ok(Some(message)) => {
+        match reader.next_with_bytes(kinds.first()) {
+            Ok(Some((message, stood))) => {
+                is_forwarded(alloc, &message, stood)?;
                 kinds.pass(&message);
                 show_call(message, out)?;
                 out.word(";")?;
@@ -72,6 +93,7 @@ fn read_on(
 
 /// Reads the front as far as it goes, and on from there over all bytes.
 fn in_two(
+    alloc: Global,
     bytes: &[u8],
     cut: usize,
     opened: bool,
@@ -81,12 +103,12 @@ fn in_two(
     let mut kinds = Kinds { rest: kinds };
     let (front, back) = bytes.split_at_checked(cut).ok_or(Fault::Row)?;
     let mut reader = ClientMessages::resume(front, opened);
-    let is_stopped = read_on(&mut reader, &mut kinds, out)?;
+    let is_stopped = read_on(alloc, &mut reader, &mut kinds, out)?;
     let unread = reader.rest().len().saturating_add(back.len());
     let at = bytes.len().saturating_sub(unread);
     let mut reader = ClientMessages::resume(bytes.get(at..).unwrap_or(&[]), reader.is_open());
     if !is_stopped {
-        read_on(&mut reader, &mut kinds, out)?;
+        read_on(alloc, &mut reader, &mut kinds, out)?;
     }
     out.word("rest")?;
     out.bytes(reader.rest())
@@ -120,7 +142,7 @@ fn comes_to(
 ) -> Result<(), Fault> {
     for cut in 0..=bytes.len() {
         let mut out = Shown::new(alloc);
-        in_two(bytes, cut, opened, kinds, &mut out)?;
+        in_two(alloc, bytes, cut, opened, kinds, &mut out)?;
         same(wanted, out)?;
     }
     if !opened {

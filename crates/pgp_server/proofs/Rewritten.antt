@@ -1,13 +1,15 @@
 -- Parts that are written as the bytes that stand for them: the same frame comes of it.
-use Rattle.std.proofs.Common.{◌≡◌, ℕ, ℤ, ◌+◌, List, [], ◌∷◌, ◌++◌, length, Option, Some, None, Result, refl, sym, ap, subst, ◌∙◌, append_assoc}
+use Rattle.std.proofs.Common.{◌≡◌, ℕ, ℤ, ◌+◌, List, [], ◌∷◌, ◌++◌, length, Option, Some, None, Result, Ok, Err, refl, sym, ap, subst, ◌∙◌, append_assoc, inl, inr}
 use Rattle.pgp_base.specs.Held.{Held}
 use Rattle.pgp_base.specs.Cause.{Writes, either, length_cause}
 use Rattle.pgp_base.specs.declared.error.Error.{Error}
-use Rattle.pgp_frontend.specs.ClientMessage.{Bind, Parse, Startup}
-use Rattle.pgp_frontend.specs.Payload.{Part, Rest, Text, Int16s, Oids, Values, Pairs, Int32, spelling, part_cause, parts_cause, joined, framed, version_code, WritesFrame, WritesMessage}
+use Rattle.pgp_frontend.specs.ClientMessage.{ClientMessage, Bind, Parse, Startup, PasswordKind}
+use Rattle.pgp_frontend.specs.Payload.{Part, Rest, Text, Int16s, Oids, Values, Pairs, Int32, spelling, part_cause, parts_cause, joined, framed, version_code, WritesFrame, WritesMessage, bytes_of, cause}
 use Rattle.pgp_frontend.specs.Reading.{HasSpelling}
 use Rattle.pgp_frontend.specs.declared.startup.ProtocolVersion.{ProtocolVersion}
 use Rattle.pgp_frontend.proofs.Needs.{version_fits}
+use Rattle.pgp_server.specs.Forwards.{Appends, Forwards}
+use Rattle.pgp_server.specs.Step.{Step, Unread}
 
 -- two lists of parts with the same bytes and the same cause
 record Same (ps qs : List Part) : Type 0 where
@@ -61,3 +63,11 @@ module _ {K : Type 0} (lacks : Held K → ℕ → Type 0) (old new : Held K) (re
   writes_startup version bytes ps h e w =
       let all = same_part (Int32 (version_code version)) _ _ (same_bytes (Pairs ps) bytes [] [] h e same_none) in
       ((version_fits version, (tt, tt)), same_frame None _ _ all w)
+
+module _ {K : Type 0} (lacks : Held K → ℕ → Type 0) (m : ClientMessage) (old new : Held K) where
+  written_appends : (result : Result (Unit {0}) Error) → cause m ≡ None → WritesMessage m lacks old new result → Appends lacks (bytes_of m) old new result
+  written_appends (Ok done) none w = w.1.1
+  written_appends (Err e) none w = (elim w.1.0 [ | inl memory ↦ memory | inr c ↦ let k : Some e ≡ None = sym c ∙ none in cc ], w.1.1)
+
+  pub read_forwards : (kind : PasswordKind) (before after : Unread) (result : Result (Unit {0}) Error) → Step kind before (Ok (Some m)) after → WritesMessage m lacks old new result → Forwards lacks before.bytes after.bytes old new result
+  read_forwards kind before after result step w = record { stood = bytes_of m; whole = step.stands.whole; appends = written_appends result step.stands.spelled.none w }

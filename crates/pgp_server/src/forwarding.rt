@@ -1,8 +1,8 @@
 //! A message that was read, written again.
 
-ghost use Rattle.std.specs.Prelude.{◌≡◌};
+ghost use Rattle.std.specs.Prelude.{◌≡◌, [], ◌∷◌, Some};
 ghost use Rattle.pgp_frontend.specs.ClientMessage.{Bind, Parse, Startup};
-ghost use Rattle.pgp_frontend.specs.Payload.{version_code, WritesMessage};
+ghost use Rattle.pgp_frontend.specs.Payload.{Byte, Text, version_code, WritesFrame, WritesMessage};
 ghost use Rattle.pgp_server.specs.Views.{view};
 
 use crate::body::{VERSION_3_0, VERSION_3_2};
@@ -37,19 +37,11 @@ pub fn forward<B: Buffer>(message: &ClientMessage<'_>, buf: &mut B) -> Result<()
             values,
             result_formats,
         } => bind(portal, statement, formats, values, result_formats, buf),
-        ClientMessage::Close { variant, name } => tagged(
-            b'C',
-            &[Field::Byte(*variant), Field::Text(name)],
-            buf,
-        ),
+        ClientMessage::Close { variant, name } => named(b'C', *variant, name, buf),
         ClientMessage::CopyData(bytes) => tagged(b'd', &[Field::Rest(bytes)], buf),
         ClientMessage::CopyDone => copy_done(buf),
         ClientMessage::CopyFail(reason) => tagged(b'f', &[Field::Text(reason)], buf),
-        ClientMessage::Describe { variant, name } => tagged(
-            b'D',
-            &[Field::Byte(*variant), Field::Text(name)],
-            buf,
-        ),
+        ClientMessage::Describe { variant, name } => named(b'D', *variant, name, buf),
         ClientMessage::Execute { portal, max_rows } => {
             tagged(b'E', &[Field::Text(portal), Field::Int32(*max_rows)], buf)
         }
@@ -107,6 +99,13 @@ fn bind<'a, B: Buffer>(
         ],
         buf,
     )
+}
+
+/// A variant and a name.
+fn named<B: Buffer>(tag: u8, variant: u8, name: &[u8], buf: &mut B) -> Result<(), Error>
+    ensures { WritesFrame (Some tag) (Byte variant ∷ Text name.now ∷ []) B.Lacks (B.held buf.old) (B.held buf.new) result }
+{
+    tagged(tag, &[Field::Byte(variant), Field::Text(name)], buf)
 }
 
 fn parse<'a, B: Buffer>(
