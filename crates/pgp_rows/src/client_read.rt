@@ -63,18 +63,43 @@ fn is_forwarded(alloc: Global, message: &ClientMessage<'_>, stood: &[u8]) -> Res
     same(wanted.as_str(), came)
 }
 
-/// Shows what is read, and tells whether a refusal stopped it. Each message is forwarded, too.
-fn read_on(
+/// Each message that is read is forwarded.
+fn forwards(
     alloc: Global,
+    bytes: &[u8],
+    opened: bool,
+    kinds: &[PasswordKind],
+) -> Result<(), Fault> {
+    let mut kinds = Kinds { rest: kinds };
+    let mut reader = ClientMessages::resume(bytes, opened);
+    for _ in 0..MOST {
+        let left = reader.rest().len();
+        match reader.next_with_bytes(kinds.first()) {
+            Ok(Some((message, stood))) => {
+                is_forwarded(alloc, &message, stood)?;
+                kinds.pass(&message);
+            }
+            Ok(None) => return Ok(()),
+            Err(_) => {
+                if reader.rest().len() == left {
+                    return Ok(());
+                }
+            }
+        }
+    }
+    Err(Fault::Row)
+}
+
+/// Shows what is read, and tells whether a refusal stopped it.
+fn read_on(
     reader: &mut ClientMessages<'_>,
     kinds: &mut Kinds<'_>,
     out: &mut Shown,
 ) -> Result<bool, Fault> {
     for _ in 0..MOST {
         let left = reader.rest().len();
-        match reader.next_with_bytes(kinds.first()) {
-            Ok(Some((message, stood))) => {
-                is_forwarded(alloc, &message, stood)?;
+        match reader.next(kinds.first()) {
+            Ok(Some(message)) => {
                 kinds.pass(&message);
                 show_call(message, out)?;
                 out.word(";")?;
@@ -93,7 +118,6 @@ fn read_on(
 
 /// Reads the front as far as it goes, and on from there over all bytes.
 fn in_two(
-    alloc: Global,
     bytes: &[u8],
     cut: usize,
     opened: bool,
@@ -103,12 +127,12 @@ fn in_two(
     let mut kinds = Kinds { rest: kinds };
     let (front, back) = bytes.split_at_checked(cut).ok_or(Fault::Row)?;
     let mut reader = ClientMessages::resume(front, opened);
-    let is_stopped = read_on(alloc, &mut reader, &mut kinds, out)?;
+    let is_stopped = read_on(&mut reader, &mut kinds, out)?;
     let unread = reader.rest().len().saturating_add(back.len());
     let at = bytes.len().saturating_sub(unread);
     let mut reader = ClientMessages::resume(bytes.get(at..).unwrap_or(&[]), reader.is_open());
     if !is_stopped {
-        read_on(alloc, &mut reader, &mut kinds, out)?;
+        read_on(&mut reader, &mut kinds, out)?;
     }
     out.word("rest")?;
     out.bytes(reader.rest())
@@ -132,7 +156,7 @@ fn at_once(alloc: Global, bytes: &[u8], kinds: &[PasswordKind], wanted: &str) ->
     }
 }
 
-/// Comes to this, however the bytes are cut.
+/// Comes to this, however the bytes are cut, and each message is forwarded.
 fn comes_to(
     alloc: Global,
     bytes: &[u8],
@@ -142,13 +166,13 @@ fn comes_to(
 ) -> Result<(), Fault> {
     for cut in 0..=bytes.len() {
         let mut out = Shown::new(alloc);
-        in_two(alloc, bytes, cut, opened, kinds, &mut out)?;
+        in_two(bytes, cut, opened, kinds, &mut out)?;
         same(wanted, out)?;
     }
     if !opened {
         at_once(alloc, bytes, kinds, wanted)?;
     }
-    Ok(())
+    forwards(alloc, bytes, opened, kinds)
 }
 
 fn kinds_of(alloc: Global, list: &[Word]) -> Result<Vec<PasswordKind>, Fault> {

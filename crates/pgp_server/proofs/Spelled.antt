@@ -11,11 +11,10 @@ use Rattle.pgp_base.proofs.PartLemmas.{uint16_number, number_again}
 use Rattle.pgp_frontend.specs.Payload.{Pairs, spelling}
 use Rattle.pgp_frontend.specs.Reading.{Shape, HasSpelling}
 use Rattle.pgp_server.specs.Content.{Content, part}
-use Rattle.pgp_server.specs.Reading.{content_at, counted_at, items_at, items_on}
+use Rattle.pgp_server.specs.Reading.{content_at, counted_at, items_at, items_on, pair_at, Left, AreLeft, items_of}
 use Rattle.pgp_base.specs.WalkReading.{marked, marked_run}
 use Rattle.pgp_base.specs.Walk.{Walk}
-use Rattle.pgp_server.specs.Reading.{pair_at}
-use Rattle.pgp_server.specs.Whole.{Left, AreLeft, items_of, plain}
+use Rattle.pgp_server.specs.Whole.{plain}
 use Rattle.pgp_server.proofs.Contents.{content_found, pairs_none, pairs_named}
 use Rattle.pgp_server.proofs.Items.{ok_is, with_front_ok}
 use Rattle.pgp_server.proofs.PairLemmas.{PairsStand, run_found, run_is}

@@ -5,8 +5,8 @@ ghost use Rattle.pgp_base.specs.declared.error.Error.{Error as Refusal};
 ghost use Rattle.pgp_base.specs.PartReading.{Answers};
 ghost use Rattle.pgp_base.specs.Walk.{TakesFront, hint_of};
 ghost use Rattle.pgp_base.specs.Wire.{IsBytes};
-ghost use Rattle.pgp_server.specs.Reading.{counted_at};
-ghost use Rattle.pgp_server.specs.Whole.{AreLeft, items_of, whole};
+ghost use Rattle.pgp_server.specs.Reading.{counted_at, AreLeft, items_of};
+ghost use Rattle.pgp_server.specs.Whole.{whole};
 
 use pgp_base::Error;
 use std::marker::Model;
@@ -38,7 +38,7 @@ pub struct Listed<'a> {
 
 impl<'a> Model for Listed<'a> {
     ghost use Rattle.std.specs.Prelude.{◌<◌, ◌^◌};
-    ghost use Rattle.pgp_server.specs.Whole.{Left};
+    ghost use Rattle.pgp_server.specs.Reading.{Left};
 
     ghost Value = { Left };
 

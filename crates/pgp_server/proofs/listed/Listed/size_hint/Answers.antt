@@ -1,5 +1,5 @@
 use Rattle.std.proofs.Common.{◌≡◌, ℕ, Some, ap, length}
-use Rattle.pgp_server.specs.Whole.{items_of}
+use Rattle.pgp_server.specs.Reading.{items_of}
 use Rattle.pgp_server.proofs.Spelled.{left_count}
 use Rattle.pgp_server.proofs.listed.Listed.size_hint.Goals as goal
 
