@@ -5,7 +5,7 @@ mod authentication;
 mod copy;
 mod counted;
 mod extended;
-mod field;
+pub mod field;
 pub mod laws;
 pub mod over_bytes;
 mod simple;

@@ -5,7 +5,9 @@ use crate::fault::Fault;
 use crate::row::Row;
 use crate::shown::{Shown, same};
 use crate::word::{Word, Words, joined, words_of};
-use pgp_server::{ClientError, ClientMessage, ClientMessages, PasswordKind, read_session};
+use bytes::BytesMut;
+use pgp_base::{Error, Window};
+use pgp_server::{ClientError, ClientMessage, ClientMessages, PasswordKind, forward, read_session};
 use std::alloc::{AllocError, Global};
 
 /// More messages than a row has.
@@ -42,6 +44,50 @@ fn show_refusal(refusal: ClientError, out: &mut Shown) -> Result<(), Fault> {
         ClientError::Reading(e) => out.refusal(e)?,
     }
     out.word(";")
+}
+
+/// The message, written again, is the bytes that stood there; in memory that is a byte short it is refused.
+fn is_forwarded(alloc: Global, message: &ClientMessage<'_>, stood: &[u8]) -> Result<(), Fault> {
+    let mut buf = BytesMut::new(alloc);
+    forward(message, &mut buf)?;
+    let mut wanted = Shown::new(alloc);
+    wanted.bytes(stood)?;
+    let mut came = Shown::new(alloc);
+    came.bytes(buf.as_slice())?;
+    let mut room = vec![in alloc; 0u8; stood.len().saturating_sub(1)]?;
+    let mut window = Window::new(&mut room);
+    match forward(message, &mut window) {
+        Err(Error::OutOfMemory) => {}
+        _ => came.word("in too little memory")?,
+    }
+    same(wanted.as_str(), came)
+}
+
+/// Each message that is read is forwarded.
+fn forwards(
+    alloc: Global,
+    bytes: &[u8],
+    opened: bool,
+    kinds: &[PasswordKind],
+) -> Result<(), Fault> {
+    let mut kinds = Kinds { rest: kinds };
+    let mut reader = ClientMessages::resume(bytes, opened);
+    for _ in 0..MOST {
+        let left = reader.rest().len();
+        match reader.next_with_bytes(kinds.first()) {
+            Ok(Some((message, stood))) => {
+                is_forwarded(alloc, &message, stood)?;
+                kinds.pass(&message);
+            }
+            Ok(None) => return Ok(()),
+            Err(_) => {
+                if reader.rest().len() == left {
+                    return Ok(());
+                }
+            }
+        }
+    }
+    Err(Fault::Row)
 }
 
 /// Shows what is read, and tells whether a refusal stopped it.
@@ -110,7 +156,7 @@ fn at_once(alloc: Global, bytes: &[u8], kinds: &[PasswordKind], wanted: &str) ->
     }
 }
 
-/// Comes to this, however the bytes are cut.
+/// Comes to this, however the bytes are cut, and each message is forwarded.
 fn comes_to(
     alloc: Global,
     bytes: &[u8],
@@ -126,7 +172,7 @@ fn comes_to(
     if !opened {
         at_once(alloc, bytes, kinds, wanted)?;
     }
-    Ok(())
+    forwards(alloc, bytes, opened, kinds)
 }
 
 fn kinds_of(alloc: Global, list: &[Word]) -> Result<Vec<PasswordKind>, Fault> {

@@ -82,12 +82,12 @@ values_have vs h =
 
 -- ---- pairs
 
-pairs_none : (ps : List (List ℕ × List ℕ)) → AllByRecursion IsPair ps → first (map pair_cause ps) ≡ None
+pub pairs_none : (ps : List (List ℕ × List ℕ)) → AllByRecursion IsPair ps → first (map pair_cause ps) ≡ None
 pairs_none [] h = refl
 pairs_none (p ∷ ps) h =
     either_none (pair_cause p) (first (map pair_cause ps)) (either_none (text_cause p.0) (text_cause p.1) (no_cause p.0 h.0.0) (no_cause p.1 h.0.1)) (pairs_none ps h.1)
 
-pairs_named : (ps : List (List ℕ × List ℕ)) → AllByRecursion IsPair ps → AllByRecursion (λ p. p.0 ≢ []) ps
+pub pairs_named : (ps : List (List ℕ × List ℕ)) → AllByRecursion IsPair ps → AllByRecursion (λ p. p.0 ≢ []) ps
 pairs_named [] h = tt
 pairs_named (p ∷ ps) h = (h.0.2, pairs_named ps h.1)
 

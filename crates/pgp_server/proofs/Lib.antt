@@ -11,6 +11,8 @@ pub mod Runs
 pub mod FaultLemmas
 pub mod Sessions
 pub mod Refusals
+pub mod Spelled
+pub mod Rewritten
 pub mod OneFault
 pub mod OneStep
 pub mod Pieces

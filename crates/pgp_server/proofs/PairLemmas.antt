@@ -73,7 +73,7 @@ drained_found : (bytes : List ℕ) (ps : List (List ℕ × List ℕ)) → draine
 drained_found [] ps e = (refl, ap (λ (p : List _ × Option Error). p.0) (sym e))
 drained_found (b ∷ bytes) ps e = let h : Some NotDrained ≡ None = ap (λ (p : List (List ℕ × List ℕ) × Option Error). p.1) e in absurd cc
 
-run_is : (x : List (List ℕ × List ℕ) × Option Error) → x.1 ≡ None → x ≡ run x.0
+pub run_is : (x : List (List ℕ × List ℕ) × Option Error) → x.1 ≡ None → x ≡ run x.0
 run_is (xs, end) e = ap (λ d. (xs, d)) e
 
 pub run_found : (k : ℕ) (bytes : List ℕ) (ps : List (List ℕ × List ℕ)) → marked_run pair_at k bytes ≡ run ps → PairsStand bytes ps

@@ -1,5 +1,6 @@
 pub mod Content
 pub mod Faults
+pub mod Forwards
 pub mod Reading
 pub mod Reads
 pub mod Step

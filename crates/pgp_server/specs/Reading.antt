@@ -1,5 +1,5 @@
 -- Private: reading a message from the left, as the code does it. What stands there in the grammar's terms is `Step`.
-use Rattle.std.specs.Prelude.{ℕ, ℤ, zero, suc, List, [], ◌∷◌, length, take, drop, Option, Some, None, Result, Ok, Err, nat_lt, ◌==◌, if◌then◌else◌}
+use Rattle.std.specs.Prelude.{◌≡◌, ℕ, ℤ, zero, suc, List, [], ◌∷◌, length, take, drop, Option, Some, None, Result, Ok, Err, nat_lt, ◌==◌, if◌then◌else◌}
 use Rattle.pgp_base.specs.declared.error.Error.{Error}
 use Rattle.pgp_base.specs.declared.error.Error.TheVariants.{UnknownTag, UnexpectedEof, NotDrained, InvalidValueLength}
 use Rattle.std.specs.Int.{w32, cast_signed}
@@ -54,6 +54,24 @@ items_on go (Err e) = Err e
 abbrev pub items_at : {V : Type 0} → (List ℕ → Result (V × List ℕ) Error) → ℕ → List ℕ → Result (List V × List ℕ) Error
 items_at read zero bytes = Ok ([], bytes)
 items_at read (suc n) bytes = items_on (items_at read n) (read bytes)
+
+-- what is left of a counted list: so many items, in these bytes
+pub record Left : Type 0 where
+  pub bytes : List ℕ
+  pub count : ℕ
+
+-- the items that were read
+abbrev pub got : {V : Type 0} → Result (List V × List ℕ) Error → List V
+got (Ok x) = x.0
+got (Err e) = []
+
+-- the items that are left
+abbrev pub items_of : {V : Type 0} → (List ℕ → Result (V × List ℕ) Error) → Left → List V
+items_of read left = got (items_at read left.count left.bytes)
+
+-- they stand there, and nothing behind them
+abbrev pub AreLeft : {V : Type 0} → (List ℕ → Result (V × List ℕ) Error) → Left → Type 0
+AreLeft read left = items_at read left.count left.bytes ≡ Ok (items_of read left, [])
 
 -- a count, and so many items
 unfoldable pub counted_at : {V : Type 0} → (List ℕ → Result (V × List ℕ) Error) → List ℕ → Result (List V × List ℕ) Error

@@ -167,9 +167,11 @@ fn sasl_initial(payload: &[u8]) -> Result<ClientMessage<'_>, Error>
     )
 }
 
-const VERSION_3_0: u32 = 196_608;
+/// The code of a startup packet of version 3.0.
+pub const VERSION_3_0: u32 = 196_608;
 
-const VERSION_3_2: u32 = 196_610;
+/// The code of one of version 3.2.
+pub const VERSION_3_2: u32 = 196_610;
 
 const CANCEL_REQUEST: u32 = 80_877_102;
 

@@ -2,13 +2,18 @@
 
 ghost use Rattle.std.specs.Prelude.{◌≡◌, ◌||◌, ℕ, Bool, false, List, ◌++◌, Option, Some, None, Result, Ok, Err, IsErr};
 ghost use Rattle.pgp_base.specs.declared.error.Error.{Error};
+ghost use Rattle.pgp_base.specs.Held.{Held};
+ghost use Rattle.pgp_frontend.specs.Payload.{WritesMessage};
 ghost use Rattle.pgp_frontend.specs.Reading.{Shape};
+ghost use Rattle.pgp_server.specs.Forwards.{Forwards};
 ghost use Rattle.pgp_server.specs.Faults.{Faulty};
 ghost use Rattle.pgp_server.specs.declared.error.ClientError.{ClientError as Refusal};
 ghost use Rattle.pgp_frontend.specs.ClientMessage.{ClientMessage as Message, PasswordKind as Kind};
 ghost use Rattle.pgp_frontend.specs.ClientRun.{ClientRun, is_startup};
 ghost use Rattle.pgp_server.specs.Step.{IsPartial, Stands, Step, Unread};
 ghost use Rattle.pgp_server.specs.Reads.{HasRead, Reads, ReadsSession, IsAllRead};
+
+use pgp_base::Buffer;
 
 /// A message that stands at the front is read, and no other answer is given.
 pub fn what_stands_is_read()
@@ -66,4 +71,11 @@ pub fn pieces_are_read_as_one()
     ensures { (kinds rest : List Kind) (old here new : Unread) (more : List ℕ) (messages others : List Message) (end : Result (Option Message) Refusal) →
         HasRead kinds old messages rest here → Reads rest (record { bytes = here.bytes ++ more; opened = here.opened }) others end new →
         Reads kinds (record { bytes = old.bytes ++ more; opened = old.opened }) (messages ++ others) end new }
+{}
+
+/// What a proxy writes for a message that it read are the bytes that stood there, and want of the memory that these need is
+/// the one refusal.
+pub fn what_was_read_is_forwarded<B: Buffer>()
+    ensures { (kind : Kind) (before after : Unread) (m : Message) (old new : Held B.Kept) (result : Result (Unit {0}) Error) →
+        Step kind before (Ok (Some m)) after → WritesMessage m B.Lacks old new result → Forwards B.Lacks before.bytes after.bytes old new result }
 {}
