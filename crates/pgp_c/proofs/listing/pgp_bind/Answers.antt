@@ -1,20 +1,24 @@
-use Rattle.std.proofs.Common.{rules, map, ap, sym, subst, ◌∙◌, Bor}
+use Rattle.std.proofs.Common.{rules, ◌≡◌, map, refl, ap, sym, subst, ◌∙◌, Bor}
 use Rattle.std.proofs.iter.Yields.{copies, fronts}
 use Rattle.std.proofs.lemmas.Iterator.{YieldsList, YieldsList-from_slice}
 use Rattle.std.proofs.lemmas.Iterator.Consumers.{YieldsList-from_copied}
+use Rattle.pgp_base.specs.Calls.{Came}
 use Rattle.pgp_base.specs.Window.{window_held, window_lacks}
 use Rattle.pgp_frontend.specs.ClientMessage.{Bind}
+use Rattle.postgres_protocol.proofs.StepLemmas.{all_given, some_given, all_same as same_given, some_same}
+use Rattle.pgp_c.specs.declared.listing.PgpValue.{PgpValue}
 use Rattle.pgp_c.specs.Lists.{value_of}
+use Rattle.pgp_c.proofs.BindRefusals.{bind_refused, value_refused}
 use Rattle.pgp_c.proofs.Lists.{keeps, all_made, all_came, all_same, fused, same_bind}
-use Rattle.pgp_c.proofs.Sending.{sends}
+use Rattle.pgp_c.proofs.Sending.{sends, refuses}
 use Rattle.pgp_c.proofs.listing.pgp_bind.Goals as goal
 
 pub bind-answer-requires-clause-owes : goal.bind-answer-requires-clause-owes
 bind-answer-requires-clause-owes c = λ f f' x b b' r p s. keeps x.now window_lacks (window_held b.now) (window_held b'.now) r (search rules)
 
-pub returns-in-Ok-answer-clause-sent : goal.returns-in-Ok-answer-clause-sent
-returns-in-Ok-answer-clause-sent c z =
-    let e = c.in-Ok-answer.ensures.1 in
+pub returns-in-Ok-clause-sent : goal.returns-in-Ok-clause-sent
+returns-in-Ok-clause-sent c z =
+    let e = c.in-Ok.ensures.1 in
     let w = e.whole in
     let formats : YieldsList (copies fronts) (λ x. x) c.copied.result c.args.formats.now = YieldsList-from_copied (YieldsList-from_slice c.args.formats.now cc) in
     let results : YieldsList (copies fronts) (λ x. x) c.copied-2.result c.args.result_formats.now = YieldsList-from_copied (YieldsList-from_slice c.args.result_formats.now cc) in
@@ -28,5 +32,15 @@ returns-in-Ok-answer-clause-sent c z =
     let r = w.2.2.1 in
     let rs = all_same (copies fronts) r.iterator c.args.result_formats.now (subst (λ s. YieldsList (copies fronts) (λ x. x) s c.args.result_formats.now) (sym r.from) results) w.2.2.0 r.left r.came in
     sends (Bind c.args.portal.now c.args.statement.now c.args.formats.now (map value_of c.args.values.now) c.args.result_formats.now) e.message
-    (w.2.2.2 ∙ same_bind c.in-Ok.portal.now c.in-Ok-from_utf8.statement.now w.0 c.args.formats.now w.2.0 (map value_of c.args.values.now) w.2.2.0 c.args.result_formats.now fs vs rs ∙ search rules)
+    (w.2.2.2 ∙ same_bind c.args.portal.now c.args.statement.now w.0 c.args.formats.now w.2.0 (map value_of c.args.values.now) w.2.2.0 c.args.result_formats.now fs vs rs)
     c.new-window.result c.bind-answer.new.buf c.args.out.now _ c.new-window.ensures e.in_range e.none e.appended _ (search rules) _ c.sent.ensures.told
+
+-- an iterator is made of itself
+abbrev FromItself : {S : Type 0} → S → S → Type 0
+FromItself source it = it ≡ source
+
+pub returns-in-Serialization-clause-refused : goal.returns-in-Serialization-clause-refused
+returns-in-Serialization-clause-refused c z = ?
+
+pub returns-in-Conversion-clause-refused : goal.returns-in-Conversion-clause-refused
+returns-in-Conversion-clause-refused c z = ?
