@@ -1,5 +1,5 @@
 -- Why a `bind` of the lists that C hands over is refused: its message is too long for the memory, or has this cause.
-use Rattle.std.proofs.Common.{◌≡◌, ◌⊎◌, ℕ, ◌+◌, ◌-◌, ◌*◌, ◌<◌, ◌≤◌, ℤ, true, false, List, [], ◌∷◌, ◌++◌, length, take, map, Option, Some, None, Result, Ok, Err, Bor, MutBor, refl, sym, ap, subst, ◌∙◌, inl, inr, arith, length-append}
+use Rattle.std.proofs.Common.{◌≡◌, ◌⊎◌, ℕ, suc, ◌+◌, ◌-◌, ◌*◌, ◌<◌, ◌≤◌, ℤ, true, false, List, [], ◌∷◌, ◌++◌, length, take, map, Option, Some, None, Result, Ok, Err, Bor, MutBor, refl, sym, ap, subst, ◌∙◌, inl, inr, arith, length-append}
 use Rattle.std.specs.List.{flat_map}
 use Rattle.std.specs.Option.{option_to_list}
 use Rattle.std.proofs.lemmas.Bool.{cases_lt}
@@ -26,7 +26,7 @@ use Rattle.postgres_protocol.proofs.BindLemmas.{null_length, parts_first}
 use Rattle.postgres_protocol.proofs.Rooms.{count_more}
 use Rattle.postgres_protocol.proofs.StartupPairs.{either_more}
 use Rattle.pgp_c.specs.declared.listing.PgpValue.{PgpValue}
-use Rattle.pgp_c.specs.Lists.{value_of, Puts}
+use Rattle.pgp_c.specs.Lists.{error_of, value_of, Puts}
 use Rattle.pgp_c.proofs.Lists.{one, all_made, fused, same_bind}
 
 last_cause : (c : Cause) (e : Error) → either c None ≡ Some e → c ≡ Some e
@@ -91,10 +91,10 @@ module _ (us : List (Option (List ℕ))) (u v : Option (List ℕ)) (more : List 
       known (inl nothing) = absurd (no_cause e (ap nullable_cause (sym nothing) ∙ own))
       known (inr is) = ap nullable_cause (sym is) ∙ own
 
-      front : (k : ℕ) → 65535 ≡ length us + (1 + k) → take 65535 (us ++ v ∷ more) ≡ us ++ v ∷ take k more
-      front k size = ap (λ n. take n (us ++ v ∷ more)) size ∙ take-append-add us (v ∷ more) (1 + k)
+      front : (k : ℕ) → 65535 ≡ length us + suc k → take 65535 (us ++ v ∷ more) ≡ us ++ v ∷ take k more
+      front k size = ap (λ n. take n (us ++ v ∷ more)) size ∙ take-append-add us (v ∷ more) (suc k)
 
-      here : (k : ℕ) → 65535 ≡ length us + (1 + k) → counted_cause nullable_cause (us ++ v ∷ more) ≡ Some e
+      here : (k : ℕ) → 65535 ≡ length us + suc k → counted_cause nullable_cause (us ++ v ∷ more) ≡ Some e
       here k size =
           let one : first (map nullable_cause (us ++ v ∷ take k more)) ≡ Some e = ap first (map-append nullable_cause us (v ∷ take k more)) ∙ first_here (map nullable_cause us) (nullable_cause v) (map nullable_cause (take k more)) e us_clean (known same) in
           either_first (first (map nullable_cause (take 65535 (us ++ v ∷ more)))) (count_cause (length (us ++ v ∷ more))) e (ap (λ l. first (map nullable_cause l)) (front k size) ∙ one)
@@ -127,8 +127,26 @@ module _ (p s : List ℕ) (fs : List ℤ) (ws : List (Option (List ℕ))) (rs : 
   longer : (gs : List ℤ) (vs : List (Option (List ℕ))) (ts : List ℤ) → length gs ≤ length fs → length (flat_map nullable vs) ≤ length (flat_map nullable ws) → length ts ≤ length rs → length (bytes_of (Bind p s gs vs ts)) ≤ length (bytes_of m)
   longer gs vs ts g v t =
       let texts = Text p ∷ Text s ∷ [] in
-      omega (arith, g, v, t, bind_length p s gs vs ts, bind_length p s fs ws rs, joined_more texts (Int16s gs), joined_more texts (Int16s fs), counted_length int16 gs, counted_length int16 fs, counted_length int16 ts, counted_length int16 rs,
-        counted_length nullable vs, counted_length nullable ws, int16s_length gs, int16s_length fs, int16s_length ts, int16s_length rs)
+      omega (
+        arith,
+        g,
+        v,
+        t,
+        bind_length p s gs vs ts,
+        bind_length p s fs ws rs,
+        joined_more texts (Int16s gs),
+        joined_more texts (Int16s fs),
+        counted_length int16 gs,
+        counted_length int16 fs,
+        counted_length int16 ts,
+        counted_length int16 rs,
+        counted_length nullable vs,
+        counted_length nullable ws,
+        int16s_length gs,
+        int16s_length fs,
+        int16s_length ts,
+        int16s_length rs,
+      )
 
   -- a cause of the formats, of the values, or of the formats of results
   abbrev joins : Cause → Cause → Cause → Cause
@@ -211,7 +229,7 @@ module _ {F B K : Type 0} (held : B → Held K) (step : F → Bor PgpValue → M
       | inl waits ↦ (inl waits.1, values_are (start gs) b.xs b.x b.before last b.came waits.0)
       | inr put ↦
           let at = put.1.1 in
-          (inr (put.1.2 ∙ one held step lacks puts (start gs ⊕ flat_map nullable b.before) at.0 b.x No put.1.0 last (Some put.1.0) refl at.2), values_are (start gs) b.xs b.x b.before at.0 b.came at.1)
+          (inr (put.1.2 ∙ one held step lacks puts (start gs ⊕ flat_map nullable b.before ⊕ uint32 0) at.0 b.x No put.1.0 last (Some put.1.0) refl at.2), values_are (start gs) b.xs b.x b.before at.0 b.came at.1)
     ]
 
     so_far_few : length (flat_map nullable vs) ≤ length (flat_map nullable ws)
@@ -250,17 +268,12 @@ module _ {F B K : Type 0} (held : B → Held K) (step : F → Bor PgpValue → M
   abbrev Refuses : Error → Type 0
   Refuses e = WantsMemory (Wants lacks old (length (bytes_of whole_message))) e ⊎ (cause whole_message ≡ Some e)
 
-  pub bind_refused : (e : Error) → BindRefused p s formats values (Serves held step f last) results old lacks (Serialization e) → Refuses e
-  bind_refused e (inl (m, so_far, inl memory)) = inl (memory.0, wants_more old _ _ (begins m so_far).0 memory.1)
-  bind_refused e (inl (m, so_far, inr c)) = inr ((begins m so_far).1 e c)
-  bind_refused e (inr r) = inr (ap cause (sym (whole_is r.0 r.1)) ∙ r.3)
-
   -- a value that isn't null has its bytes
   has_bytes : (v : PgpValue) → v.is_null ≡ false → value_of v ≡ Some v.bytes.now
   has_bytes v h = rw h refl
 
-  pub value_refused : (e : Error) → BindRefused p s formats values (Serves held step f last) results old lacks (Conversion e) → Refuses e
-  value_refused e w =
+  pub bind_refused : (e : BindError Error) → BindRefused p s formats values (Serves held step f last) results old lacks e → Refuses (error_of e)
+  bind_refused (Conversion e) w =
       let v = w.2 in
       let put = v.made.2 in
       let did = puts v.made.0 last v.x put.before put.after (Err e) put.called in
@@ -268,3 +281,6 @@ module _ {F B K : Type 0} (held : B → Held K) (step : F → Bor PgpValue → M
       let are = k.1 ∙ ap (λ y. v.before ++ y ∷ k.0) (has_bytes v.x.now did.0) in
       let stood = put.stood ∙ ap (λ gs. start gs ⊕ flat_map nullable v.before ⊕ uint32 0) (all_formats w.0 w.1.0) in
       inl (did.1.0, value_wants p s fs ws rs lacks old (held put.before.now) v.before v.x.now.bytes.now k.0 are stood did.1.1)
+  bind_refused (Serialization e) (inl (m, so_far, inl memory)) = inl (memory.0, wants_more old _ _ (begins m so_far).0 memory.1)
+  bind_refused (Serialization e) (inl (m, so_far, inr c)) = inr ((begins m so_far).1 e c)
+  bind_refused (Serialization e) (inr r) = inr (ap cause (sym (whole_is r.0 r.1)) ∙ r.3)

@@ -4,7 +4,7 @@ ghost use Rattle.std.specs.Prelude.{◌≡◌, ◌≢◌, map};
 ghost use Rattle.pgp_base.specs.Held.{◌⊕◌};
 ghost use Rattle.pgp_frontend.specs.ClientMessage.{Bind, Parse};
 ghost use Rattle.pgp_c.specs.Sending.{Sent, NotSent};
-ghost use Rattle.pgp_c.specs.Lists.{value_of, Puts};
+ghost use Rattle.pgp_c.specs.Lists.{error_of, value_of, Puts};
 
 use crate::status::{refused, sent};
 use pgp_base::{BindError, Buffer, Error, IsNull, Window};
@@ -63,8 +63,17 @@ pub extern "C" fn pgp_bind(
     );
     match answer {
         Ok(()) => sent(&window, written),
-        Err(BindError::Conversion(e)) => refused(e, written),
-        Err(BindError::Serialization(e)) => refused(e, written),
+        Err(e) => refused(error_of(e), written),
+    }
+}
+
+/// The refusal, whether the serializer's or the writer's.
+fn error_of(e: BindError<Error>) -> Error
+    ensures { result ≡ error_of e }
+{
+    match e {
+        BindError::Conversion(e) => e,
+        BindError::Serialization(e) => e,
     }
 }
 

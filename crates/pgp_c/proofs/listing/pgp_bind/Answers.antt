@@ -3,12 +3,13 @@ use Rattle.std.proofs.iter.Yields.{copies, fronts}
 use Rattle.std.proofs.lemmas.Iterator.{YieldsList, YieldsList-from_slice}
 use Rattle.std.proofs.lemmas.Iterator.Consumers.{YieldsList-from_copied}
 use Rattle.pgp_base.specs.Calls.{Came}
+use Rattle.pgp_base.specs.Error.{number_of}
 use Rattle.pgp_base.specs.Window.{window_held, window_lacks}
 use Rattle.pgp_frontend.specs.ClientMessage.{Bind}
 use Rattle.postgres_protocol.proofs.StepLemmas.{all_given, some_given, all_same as same_given, some_same}
 use Rattle.pgp_c.specs.declared.listing.PgpValue.{PgpValue}
-use Rattle.pgp_c.specs.Lists.{value_of}
-use Rattle.pgp_c.proofs.BindRefusals.{bind_refused, value_refused}
+use Rattle.pgp_c.specs.Lists.{error_of, value_of}
+use Rattle.pgp_c.proofs.BindRefusals.{bind_refused}
 use Rattle.pgp_c.proofs.Lists.{keeps, all_made, all_came, all_same, fused, same_bind}
 use Rattle.pgp_c.proofs.Sending.{sends, refuses}
 use Rattle.pgp_c.proofs.listing.pgp_bind.Goals as goal
@@ -39,8 +40,20 @@ returns-in-Ok-clause-sent c z =
 abbrev FromItself : {S : Type 0} → S → S → Type 0
 FromItself source it = it ≡ source
 
-pub returns-in-Serialization-clause-refused : goal.returns-in-Serialization-clause-refused
-returns-in-Serialization-clause-refused c z = ?
-
-pub returns-in-Conversion-clause-refused : goal.returns-in-Conversion-clause-refused
-returns-in-Conversion-clause-refused c z = ?
+pub returns-in-Err-clause-refused : goal.returns-in-Err-clause-refused
+returns-in-Err-clause-refused c z =
+    let formats : YieldsList (copies fronts) (λ x. x) c.copied.result c.args.formats.now = YieldsList-from_copied (YieldsList-from_slice c.args.formats.now cc) in
+    let results : YieldsList (copies fronts) (λ x. x) c.copied-2.result c.args.result_formats.now = YieldsList-from_copied (YieldsList-from_slice c.args.result_formats.now cc) in
+    let values = YieldsList-from_slice c.args.values.now cc in
+    let format_road : (it : _) → FromItself c.copied.result it → YieldsList (copies fronts) (λ x. x) it c.args.formats.now = λ it from. subst (λ s. YieldsList (copies fronts) (λ x. x) s c.args.formats.now) (sym from) formats in
+    let result_road : (it : _) → FromItself c.copied-2.result it → YieldsList (copies fronts) (λ x. x) it c.args.result_formats.now = λ it from. subst (λ s. YieldsList (copies fronts) (λ x. x) s c.args.result_formats.now) (sym from) results in
+    let value_road : (it : _) → FromItself c.iter-2.result it → YieldsList fronts (λ (x : Bor PgpValue). x.now) it c.args.values.now = λ it from. subst (λ s. YieldsList fronts (λ (x : Bor PgpValue). x.now) s c.args.values.now) (sym from) values in
+    let w = c.in-Err.ensures in
+    let why = bind_refused window_held _ window_lacks (λ u u' x b b' r t. search rules) c.args.portal.now c.args.statement.now c.args.formats.now c.args.values.now c.args.result_formats.now
+    (Came FromItself (copies fronts) c.copied.result) (Came FromItself fronts c.iter-2.result) (Came FromItself (copies fronts) c.copied-2.result)
+    (λ xs k. same_given FromItself (copies fronts) c.copied.result c.args.formats.now format_road xs k) (λ xs x k. some_same FromItself (copies fronts) c.copied.result c.args.formats.now format_road xs x k)
+    (λ xs k. all_given FromItself fronts c.iter-2.result (λ (x : Bor PgpValue). x.now) c.args.values.now value_road xs k) (λ xs x k. some_given FromItself fronts c.iter-2.result (λ (x : Bor PgpValue). x.now) c.args.values.now value_road xs x k)
+    (λ xs k. same_given FromItself (copies fronts) c.copied-2.result c.args.result_formats.now result_road xs k) (λ xs x k. some_same FromItself (copies fronts) c.copied-2.result c.args.result_formats.now result_road xs x k)
+    _ w.0 _ c.in-Err.e w.1.0 in
+    let m = Bind c.args.portal.now c.args.statement.now c.args.formats.now (map value_of c.args.values.now) c.args.result_formats.now in
+    refuses m m refl c.new-window.result c.args.out.now _ c.new-window.ensures (error_of c.in-Err.e) _ _ why (c.refused.ensures.code ∙ ap number_of c.error_of.ensures) c.refused.ensures.told

@@ -24,5 +24,5 @@ returns-in-Err-clause-refused c z =
     let road = YieldsList-at c.map-pairs.ensures.source (YieldsList-from_slice all cc) in
     let why = pairs_refused fronts _ c.map-pairs.result c.args.version (window_held c.new-window.result) c.in-Err.e c.in-Err.ensures.0 all road _ c.map-pairs.ensures.closure (λ x r q k. (search rules, pair_is r x.now (search rules) (search rules))) in
     let refused = refuses (Startup c.args.version (map pair_of all)) (Startup c.args.version (map pair_of all)) refl
-    c.new-window.result c.args.out.now _ c.new-window.ensures c.in-Err.e _ _ why c.refused-in-Err.ensures.code c.refused-in-Err.ensures.told in
-    (c.refused-in-Err.ensures.told, inr refused.why)
+    c.new-window.result c.args.out.now _ c.new-window.ensures c.in-Err.e _ _ why c.refused.ensures.code c.refused.ensures.told in
+    (c.refused.ensures.told, inr refused.why)
