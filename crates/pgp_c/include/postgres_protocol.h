@@ -20,8 +20,8 @@
  *          HOW MUCH ROOM? Where the room is too small a writer answers PGP_NO_ROOM: grow it (doubling serves) and call again. The
  *          pgp_*_size functions tell beforehand how many bytes a message takes, with no call into the library.
  *
- * TEXTS    are a pointer and a length, with no 0 byte behind them, and UTF-8. A text with a 0 byte is refused (PGP_E_EMBEDDED_NULL):
- *          no name, query or value can change how a server cuts the stream.
+ * TEXTS    are a pointer and a length, with no 0 byte behind them, in the session's encoding: any bytes serve. A text with a 0 byte is
+ *          refused (PGP_E_EMBEDDED_NULL): no name, query or value can change how a server cuts the stream.
  *
  * POINTERS Where a length is 0 the pointer is not read. The proof speaks of pointers that are not NULL; NULL with the length 0 is
  *          tested and serves.

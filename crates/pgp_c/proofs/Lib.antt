@@ -5,3 +5,4 @@ mod Fronts
 mod Lists
 mod Openings
 mod Sending
+mod BindRefusals

@@ -37,7 +37,7 @@ fused (x ∷ xs) = ap (λ l. value_of x.now ∷ l) (fused xs)
 
 module _ {F B K : Type 0} (held : B → Held K) (step : F → Bor PgpValue → MutBor B → Result IsNull Error → MutBor B → F → Type 0) (lacks : Held K → ℕ → Type 0)
     (puts : (f f' : F) (x : Bor PgpValue) (b b' : MutBor B) (r : Result IsNull Error) → step f x b r b' f' → Puts x.now lacks (held b.now) (held b'.now) r) where
-  one : (here : Held K) (f : F) (x : Bor PgpValue) (null : IsNull) (bytes : List ℕ) (u : F) (v : Option (List ℕ)) → v ≡ value_made null bytes → Put held step here f x (Ok null) bytes u → v ≡ value_of x.now
+  pub one : (here : Held K) (f : F) (x : Bor PgpValue) (null : IsNull) (bytes : List ℕ) (u : F) (v : Option (List ℕ)) → v ≡ value_made null bytes → Put held step here f x (Ok null) bytes u → v ≡ value_of x.now
   one here f x null bytes u v is m =
       made x.now lacks null bytes here (held m.after.now) v is
       (subst (λ (h : Held K). Puts x.now lacks h (held m.after.now) (Ok null)) m.stood (puts f u x m.before m.after (Ok null) m.called)) m.appended

@@ -1,16 +1,13 @@
 -- The packet of the names and values that C hands over.
-use Rattle.std.proofs.Common.{◌≡◌, ◌⊎◌, ℕ, ◌≤◌, ◌&&◌, Bool, true, false, List, [], ◌∷◌, ◌++◌, map, length, Option, Some, None, Bor, refl, sym, ap, subst, ◌∙◌, inl, inr, arith, length-append, append_assoc}
+use Rattle.std.proofs.Common.{◌≡◌, ◌⊎◌, ℕ, ◌≤◌, List, [], ◌∷◌, ◌++◌, map, length, Option, Some, None, Bor, refl, sym, ap, subst, ◌∙◌, inl, inr, arith, length-append, append_assoc}
 use denote.Param.Members.{Mut}
 use Rattle.std.specs.Borrow.{GName}
 use Rattle.std.specs.Fn.{Called}
 use Rattle.std.specs.Iterator.Adapters.{map_source, map_callee}
 use Rattle.std.specs.declared.iter.Map.{Map}
 use Rattle.std.proofs.lemmas.Iterator.{maps, YieldsList, YieldsList-from_map_by}
-use Rattle.std.specs.List.{flat_map, list_all}
+use Rattle.std.specs.List.{flat_map}
 use Rattle.std.specs.Option.{option_to_list}
-use Rattle.std.specs.Str.{IsUtf8, is_utf8}
-use Rattle.std.proofs.lemmas.Bool.{cases_Bool}
-use Rattle.std.proofs.lemmas.Str.{IsUtf8-from_is_utf8, is_utf8-from_IsUtf8}
 use Rattle.std.proofs.lemmas.List.{append-nil, map-append}
 use Rattle.std.proofs.lemmas.List.Concat.{flat_map-append}
 use Rattle.pgp_base.specs.Calls.{Came}
@@ -27,37 +24,7 @@ use Rattle.pgp_frontend.specs.declared.startup.ProtocolVersion.{ProtocolVersion}
 use Rattle.pgp_frontend.proofs.Needs.{startup_length}
 use Rattle.postgres_protocol.proofs.StepLemmas.{all_given, some_given}
 use Rattle.pgp_c.specs.declared.opening.PgpPair.{PgpPair}
-use Rattle.pgp_c.specs.Opening.{is_text, pair_of, shown_pair, shown_text}
-
-not_text : (bytes : List ℕ) → ¬ IsUtf8 bytes → is_utf8 bytes ≡ false
-not_text bytes h = elim (cases_Bool (is_utf8 bytes)) [ inl t ↦ absurd (h (IsUtf8-from_is_utf8 bytes t)) | inr f ↦ f ]
-
-pub yes : (bytes : List ℕ) → IsUtf8 bytes → true ≡ is_utf8 bytes
-yes bytes h = sym (is_utf8-from_IsUtf8 bytes h)
-
-pub no : (bytes : List ℕ) → ¬ IsUtf8 bytes → false ≡ is_utf8 bytes
-no bytes h = sym (not_text bytes h)
-
-pub shown_some : (bytes t : List ℕ) → t ≡ bytes → IsUtf8 bytes → t ≡ shown_text bytes
-shown_some bytes t is h = rw (is_utf8-from_IsUtf8 bytes h) is
-
-pub shown_none : (bytes t : List ℕ) → t ≡ [] → ¬ IsUtf8 bytes → t ≡ shown_text bytes
-shown_none bytes t is h = rw (not_text bytes h) is
-
--- what is UTF-8 is shown as it is
-both : (a b : Bool) → (a && b) ≡ true → (a ≡ true) × (b ≡ true)
-both true b h = (refl, h)
-both false b h = let e : false ≡ true = h in absurd cc
-
-text_shown : (bytes : List ℕ) → is_utf8 bytes ≡ true → shown_text bytes ≡ bytes
-text_shown bytes h = rw h refl
-
-pub all_shown : (ps : List PgpPair) → list_all is_text ps ≡ true → map shown_pair ps ≡ map pair_of ps
-all_shown [] h = refl
-all_shown (p ∷ ps) h =
-    let k = both (is_text p) (list_all is_text ps) h in
-    let t = both (is_utf8 p.name.now) (is_utf8 p.value.now) k.0 in
-    rw (text_shown p.name.now t.0, text_shown p.value.now t.1, all_shown ps k.1) refl
+use Rattle.pgp_c.specs.Opening.{pair_of}
 
 last_cause : (c : Cause) (e : Error) → either c None ≡ Some e → c ≡ Some e
 last_cause (Some d) e h = h
@@ -96,7 +63,7 @@ module _ (v : ProtocolVersion) (all : List (List ℕ × List ℕ)) where
     arrived xs (inl none) = (all, sym (ap (λ l. map shown l ++ all) none))
     arrived xs (inr a) = asked xs a.before a.next a.came a.are
 
-    pub startup_refused : (old : Held (GName × ℕ)) (e : Error) → Refused (StartupWhole v given) (StartupSoFar v given) window_lacks old e → WantsMemory (Wants window_lacks old (length (bytes_of (Startup v all)))) e ⊎ (cause (Startup v all) ≡ Some e)
+    pub startup_refused : (old : Held (GName × ℕ)) (e : Error) → Refused (StartupWhole (λ text. text.now) v given) (StartupSoFar (λ text. text.now) v given) window_lacks old e → WantsMemory (Wants window_lacks old (length (bytes_of (Startup v all)))) e ⊎ (cause (Startup v all) ≡ Some e)
     startup_refused old e (inl k) =
         let xs = k.1.0 in
         let f = arrived xs k.1.1 in
@@ -110,29 +77,29 @@ module _ (v : ProtocolVersion) (all : List (List ℕ × List ℕ)) where
 abbrev FromItself : {S : Type 0} → S → S → Type 0
 FromItself source it = it ≡ source
 
-pub pair_is : (r : Bor (List ℕ) × Bor (List ℕ)) (p : PgpPair) → r.0.now ≡ shown_text p.name.now → r.1.now ≡ shown_text p.value.now → shown r ≡ shown_pair p
+pub pair_is : (r : Bor (List ℕ) × Bor (List ℕ)) (p : PgpPair) → r.0.now ≡ p.name.now → r.1.now ≡ p.value.now → shown r ≡ pair_of p
 pair_is r p e f = rw (e, f) refl
 
 -- the texts that a closure makes of the names and values
 module _ {S F : Type 0} (steps : S → Option (Bor PgpPair) → S → Type 0) (g : Mut F (Bor PgpPair × Unit {0}) (Bor (List ℕ) × Bor (List ℕ))) (source : Map S F) where
   module _ (all : List PgpPair) (road : YieldsList steps (λ (x : Bor PgpPair). x.now) (map_source source) all) (f : F) (callee : map_callee source ≡ f)
-      (called : (x : Bor PgpPair) (r : Bor (List ℕ) × Bor (List ℕ)) (q : F) → Called g f (x, tt) r q → (q ≡ f) × (shown r ≡ shown_pair x.now)) where
-    roads : (it : Map S F) → FromItself source it → YieldsList (maps steps g) shown it (map shown_pair all)
-    roads it from = subst (λ s. YieldsList (maps steps g) shown s (map shown_pair all)) (sym from) (YieldsList-from_map_by g shown shown_pair road callee called)
+      (called : (x : Bor PgpPair) (r : Bor (List ℕ) × Bor (List ℕ)) (q : F) → Called g f (x, tt) r q → (q ≡ f) × (shown r ≡ pair_of x.now)) where
+    roads : (it : Map S F) → FromItself source it → YieldsList (maps steps g) shown it (map pair_of all)
+    roads it from = subst (λ s. YieldsList (maps steps g) shown s (map pair_of all)) (sym from) (YieldsList-from_map_by g shown pair_of road callee called)
 
-    all_pairs : (xs : List (Bor (List ℕ) × Bor (List ℕ))) → Came FromItself (maps steps g) source xs None → map shown xs ≡ map shown_pair all
-    all_pairs xs k = all_given FromItself (maps steps g) source shown (map shown_pair all) roads xs k
+    all_pairs : (xs : List (Bor (List ℕ) × Bor (List ℕ))) → Came FromItself (maps steps g) source xs None → map shown xs ≡ map pair_of all
+    all_pairs xs k = all_given FromItself (maps steps g) source shown (map pair_of all) roads xs k
 
-    some_pairs : (xs : List (Bor (List ℕ) × Bor (List ℕ))) (x : Bor (List ℕ) × Bor (List ℕ)) → Came FromItself (maps steps g) source xs (Some x) → (more : List (List ℕ × List ℕ)) × (map shown_pair all ≡ map shown xs ++ shown x ∷ more)
-    some_pairs xs x k = some_given FromItself (maps steps g) source shown (map shown_pair all) roads xs x k
+    some_pairs : (xs : List (Bor (List ℕ) × Bor (List ℕ))) (x : Bor (List ℕ) × Bor (List ℕ)) → Came FromItself (maps steps g) source xs (Some x) → (more : List (List ℕ × List ℕ)) × (map pair_of all ≡ map shown xs ++ shown x ∷ more)
+    some_pairs xs x k = some_given FromItself (maps steps g) source shown (map pair_of all) roads xs x k
 
   pub pairs_given : (xs : List (Bor (List ℕ) × Bor (List ℕ))) → Came FromItself (maps steps g) source xs None → (all : List PgpPair) → YieldsList steps (λ (x : Bor PgpPair). x.now) (map_source source) all → (f : F) → map_callee source ≡ f
-      → ((x : Bor PgpPair) (r : Bor (List ℕ) × Bor (List ℕ)) (q : F) → Called g f (x, tt) r q → (q ≡ f) × (shown r ≡ shown_pair x.now)) → map shown xs ≡ map shown_pair all
+      → ((x : Bor PgpPair) (r : Bor (List ℕ) × Bor (List ℕ)) (q : F) → Called g f (x, tt) r q → (q ≡ f) × (shown r ≡ pair_of x.now)) → map shown xs ≡ map pair_of all
   pairs_given xs k all road f callee called = all_pairs all road f callee called xs k
 
-  pub pairs_refused : (v : ProtocolVersion) (old : Held (GName × ℕ)) (e : Error) → Refused (StartupWhole v (Came FromItself (maps steps g) source)) (StartupSoFar v (Came FromItself (maps steps g) source)) window_lacks old e
+  pub pairs_refused : (v : ProtocolVersion) (old : Held (GName × ℕ)) (e : Error) → Refused (StartupWhole (λ text. text.now) v (Came FromItself (maps steps g) source)) (StartupSoFar (λ text. text.now) v (Came FromItself (maps steps g) source)) window_lacks old e
       → (all : List PgpPair) → YieldsList steps (λ (x : Bor PgpPair). x.now) (map_source source) all → (f : F) → map_callee source ≡ f
-      → ((x : Bor PgpPair) (r : Bor (List ℕ) × Bor (List ℕ)) (q : F) → Called g f (x, tt) r q → (q ≡ f) × (shown r ≡ shown_pair x.now))
-      → WantsMemory (Wants window_lacks old (length (bytes_of (Startup v (map shown_pair all))))) e ⊎ (cause (Startup v (map shown_pair all)) ≡ Some e)
+      → ((x : Bor PgpPair) (r : Bor (List ℕ) × Bor (List ℕ)) (q : F) → Called g f (x, tt) r q → (q ≡ f) × (shown r ≡ pair_of x.now))
+      → WantsMemory (Wants window_lacks old (length (bytes_of (Startup v (map pair_of all))))) e ⊎ (cause (Startup v (map pair_of all)) ≡ Some e)
   pairs_refused v old e r all road f callee called =
-      startup_refused v (map shown_pair all) (Came FromItself (maps steps g) source) (all_pairs all road f callee called) (some_pairs all road f callee called) old e r
+      startup_refused v (map pair_of all) (Came FromItself (maps steps g) source) (all_pairs all road f callee called) (some_pairs all road f callee called) old e r

@@ -1,19 +1,22 @@
 -- The memory of a caller of a writer.
-use Rattle.std.proofs.Common.{◌≡◌, ◌⊎◌, ℕ, ◌≤◌, List, [], length, take, None, Some, Result, Ok, Err, refl, ap, subst, ◌∙◌, inl, inr, arith}
+use Rattle.std.proofs.Common.{◌≡◌, ◌⊎◌, ℕ, ◌≤◌, List, [], length, take, None, Some, Result, Ok, Err, refl, sym, ap, subst, ◌∙◌, inl, inr, arith}
 use Rattle.std.specs.Borrow.{GName}
+use Rattle.std.specs.Prelude.{◌≢◌}
 use Rattle.std.proofs.lemmas.Bool.{cases_lt}
 use Rattle.pgp_base.specs.Cause.{Cause, Wants, WantsMemory}
-use Rattle.pgp_base.specs.Error.{number_of}
+use Rattle.pgp_base.specs.Error.{number_of, plain}
 use Rattle.pgp_base.specs.Held.{Held, ◌⊕◌}
 use Rattle.pgp_base.specs.Window.{window_held, window_lacks}
 use Rattle.pgp_base.specs.declared.error.Error.{Error}
-use Rattle.pgp_base.specs.declared.error.Error.TheVariants.{OutOfMemory}
+use Rattle.pgp_base.specs.declared.error.Error.TheVariants.{OutOfMemory, UnknownTag, UnknownAuthentication}
 use Rattle.pgp_base.specs.declared.window.Window.{Window}
+use Rattle.pgp_base.proofs.Errors.{same_number}
 use Rattle.pgp_base.proofs.Fitting.{too_long}
 use Rattle.pgp_base.proofs.Needs.{wants_window}
 use Rattle.pgp_base.proofs.Windows.{window_size, window_written}
 use Rattle.pgp_frontend.specs.ClientMessage.{ClientMessage}
 use Rattle.pgp_frontend.specs.Payload.{bytes_of, cause, IsInRange}
+use Rattle.postgres_protocol.proofs.Rooms.{never_memory}
 use Rattle.pgp_c.specs.Sending.{Sent, NotSent}
 use Rattle.pgp_c.specs.Values.{Wrote, Lacks}
 
@@ -42,10 +45,19 @@ sends m n is w v old name new range none wrote x at_last told told_is = subst (�
   stands = window_written w v old (bytes_of n) name (length old) new wrote x at_last;
 })
 
+-- 1 is the number of want of memory alone, which no message has as its cause
+is_memory : (e : Error) → plain e ≡ plain OutOfMemory → e ≡ OutOfMemory
+is_memory (UnknownTag tag) h = cc
+is_memory (UnknownAuthentication code) h = cc
+is_memory e h = h
+
+pub not_room : (m : ClientMessage) (e : Error) (code : ℕ) → cause m ≡ Some e → code ≡ number_of e → code ≢ 1
+not_room m e code some code_is one = never_memory m (some ∙ ap (λ (e : Error). Some e) (is_memory e (same_number e OutOfMemory (sym code_is ∙ one))))
+
 -- the core's refusal, as its number
-pub refuses : (texts : List (List ℕ)) (m n : ClientMessage) → n ≡ m → (w : Window) (old : List ℕ) (name : GName) → window_held w ≡ record { bytes = []; behind = old; kept = (name, length old) }
-    → (e : Error) (code told : ℕ) → WantsMemory (Wants window_lacks (window_held w) (length (bytes_of n))) e ⊎ (cause n ≡ Some e) → code ≡ number_of e → told ≡ 0 → NotSent texts m old told code
-refuses texts m n is w old name new e code told why code_is none = subst (λ k. NotSent texts k old told code) is (record {
+pub refuses : (m n : ClientMessage) → n ≡ m → (w : Window) (old : List ℕ) (name : GName) → window_held w ≡ record { bytes = []; behind = old; kept = (name, length old) }
+    → (e : Error) (code told : ℕ) → WantsMemory (Wants window_lacks (window_held w) (length (bytes_of n))) e ⊎ (cause n ≡ Some e) → code ≡ number_of e → told ≡ 0 → NotSent m old told code
+refuses m n is w old name new e code told why code_is none = subst (λ k. NotSent k old told code) is (record {
   length_is = none;
   why = elim why [
     | inl memory ↦
@@ -53,7 +65,7 @@ refuses texts m n is w old name new e code told why code_is none = subst (λ k. 
         let room : (window_held w).kept.1 ≡ length old = ap (λ (h : Held (GName × ℕ)). h.kept.1) new in
         let none : length (window_held w).bytes ≡ 0 = ap (λ (h : Held (GName × ℕ)). length h.bytes) new in
         inl (code_is ∙ ap number_of memory.0, omega (arith, long, room, none))
-    | inr some ↦ inr (inr (e, some, code_is))
+    | inr some ↦ inr (not_room n e code some code_is, (e, some, code_is))
   ];
 })
 

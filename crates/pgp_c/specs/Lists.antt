@@ -3,6 +3,8 @@ use Rattle.std.specs.Prelude.{◌≡◌, ℕ, true, false, List, length, Option,
 use Rattle.pgp_base.specs.Cause.{WantsMemory}
 use Rattle.pgp_base.specs.Held.{Held, ◌⊕◌}
 use Rattle.pgp_base.specs.declared.error.Error.{Error}
+use Rattle.pgp_base.specs.declared.error.BindError.{BindError}
+use Rattle.pgp_base.specs.declared.error.BindError.TheVariants.{Conversion, Serialization}
 use Rattle.pgp_base.specs.declared.number.IsNull.{IsNull}
 use Rattle.pgp_base.specs.declared.number.IsNull.TheVariants.{Yes, No}
 use Rattle.pgp_c.specs.declared.listing.PgpValue.{PgpValue}
@@ -16,3 +18,8 @@ abbrev pub Puts : {K : Type 0} → PgpValue → (Held K → ℕ → Type 0) → 
 Puts v lacks old new (Ok Yes) = (v.is_null ≡ true) × (new ≡ old)
 Puts v lacks old new (Ok No) = (v.is_null ≡ false) × (new ≡ old ⊕ v.bytes.now)
 Puts v lacks old new (Err e) = (v.is_null ≡ false) × WantsMemory (lacks old (length v.bytes.now)) e × (new ≡ old)
+
+-- the refusal, whether the serializer's or the writer's
+abbrev pub error_of : BindError Error → Error
+error_of (Conversion e) = e
+error_of (Serialization e) = e

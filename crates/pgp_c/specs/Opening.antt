@@ -1,7 +1,6 @@
 -- The names and values of a startup packet, as C hands them over.
-use Rattle.std.specs.Prelude.{◌≡◌, ◌≢◌, ◌⊎◌, ℕ, ℤ, ◌&&◌, Bool, false, nat_lt, List, [], length, map, if◌then◌else◌}
+use Rattle.std.specs.Prelude.{◌≡◌, ◌≢◌, ◌⊎◌, ℕ, ℤ, Bool, false, nat_lt, List, length, map}
 use Rattle.std.specs.List.{list_all}
-use Rattle.std.specs.Str.{is_utf8}
 use Rattle.pgp_frontend.specs.ClientMessage.{Startup}
 use Rattle.pgp_frontend.specs.Payload.{version_code}
 use Rattle.pgp_frontend.specs.declared.startup.ProtocolVersion.{ProtocolVersion}
@@ -15,21 +14,9 @@ pair_of p = (p.name.now, p.value.now)
 abbrev pub is_named : PgpPair → Bool
 is_named p = nat_lt 0 (length p.name.now)
 
--- the name and the value are UTF-8
-abbrev pub is_text : PgpPair → Bool
-is_text p = is_utf8 p.name.now && is_utf8 p.value.now
-
--- the bytes where they are UTF-8; else none
-abbrev pub shown_text : List ℕ → List ℕ
-shown_text bytes = if is_utf8 bytes then bytes else []
-
-abbrev pub shown_pair : PgpPair → List ℕ × List ℕ
-shown_pair p = (shown_text p.name.now, shown_text p.value.now)
-
--- Why no packet of this version is to be sent: a name is empty; a name or a value isn't UTF-8; the packet is longer than the memory, or
--- has a cause (`Why`).
+-- Why no packet of this version is to be sent: a name is empty; or the packet is longer than the memory, or has a cause (`Why`).
 abbrev pub WhyPairs : ProtocolVersion → List PgpPair → List ℕ → ℕ → Type 0
-WhyPairs version pairs old code = ((code ≡ 33) × (list_all is_named pairs ≡ false)) ⊎ (((code ≡ 9) × (list_all is_text pairs ≡ false)) ⊎ Why [] (Startup version (map pair_of pairs)) old code)
+WhyPairs version pairs old code = ((code ≡ 33) × (list_all is_named pairs ≡ false)) ⊎ Why (Startup version (map pair_of pairs)) old code
 
 -- the same, or the number is that of no version
 abbrev pub WhyStartup : ℤ → List PgpPair → List ℕ → ℕ → Type 0

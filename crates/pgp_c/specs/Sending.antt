@@ -1,6 +1,5 @@
 -- What a writer of one message into memory of the caller's comes to.
-use Rattle.std.specs.Prelude.{◌≡◌, ◌⊎◌, ℕ, ◌<◌, ◌≤◌, List, [], ◌∷◌, ◌++◌, length, drop, Some, None}
-use Rattle.std.specs.Str.{IsUtf8}
+use Rattle.std.specs.Prelude.{◌≡◌, ◌≢◌, ◌⊎◌, ℕ, ◌<◌, ◌≤◌, List, ◌++◌, length, drop, Some, None}
 use Rattle.pgp_base.specs.Error.{number_of}
 use Rattle.pgp_base.specs.declared.error.Error.{Error}
 use Rattle.pgp_frontend.specs.ClientMessage.{ClientMessage}
@@ -14,17 +13,12 @@ pub record Sent (m : ClientMessage) (old new : List ℕ) (told : ℕ) : Type 0 w
   pub fits : length (bytes_of m) ≤ length old
   pub stands : new ≡ bytes_of m ++ drop (length (bytes_of m)) old
 
--- one of them isn't text
-abbrev pub NoText : List (List ℕ) → Type 0
-NoText [] = ⊥
-NoText (text ∷ texts) = (¬ IsUtf8 text) ⊎ NoText texts
-
--- Why nothing is to be sent: the message is longer than the memory; or a text isn't UTF-8; or the message has a cause, whose number is
--- answered.
-abbrev pub Why : List (List ℕ) → ClientMessage → List ℕ → ℕ → Type 0
-Why texts m old code = ((code ≡ 1) × (length old < length (bytes_of m))) ⊎ (((code ≡ 9) × NoText texts) ⊎ ((e : Error) × (cause m ≡ Some e) × (code ≡ number_of e)))
+-- Why nothing is to be sent: the message is longer than the memory; or it has a cause, whose number is answered, and which isn't want of
+-- room. So 1 is answered only where the message is longer, and of a message without a cause exactly there.
+abbrev pub Why : ClientMessage → List ℕ → ℕ → Type 0
+Why m old code = ((code ≡ 1) × (length old < length (bytes_of m))) ⊎ ((code ≢ 1) × ((e : Error) × (cause m ≡ Some e) × (code ≡ number_of e)))
 
 -- Nothing is to be sent.
-pub record NotSent (texts : List (List ℕ)) (m : ClientMessage) (old : List ℕ) (told code : ℕ) : Type 0 where
+pub record NotSent (m : ClientMessage) (old : List ℕ) (told code : ℕ) : Type 0 where
   pub length_is : told ≡ 0
-  pub why : Why texts m old code
+  pub why : Why m old code

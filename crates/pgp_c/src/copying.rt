@@ -1,7 +1,7 @@
 //! The data of a copy: whole, or the head alone, so that the data need not be copied.
 #![tactic(auto, using(pgp_base::proofs::Parts::held_steps))]
 
-ghost use Rattle.std.specs.Prelude.{◌≡◌, ◌≢◌, ◌∷◌, [], OnOk, IfErr};
+ghost use Rattle.std.specs.Prelude.{◌≡◌, ◌≢◌, ◌∷◌, OnOk, IfErr};
 ghost use Rattle.pgp_base.specs.Cause.{Wants, WantsMemory};
 ghost use Rattle.pgp_base.specs.Held.{◌⊕◌};
 ghost use Rattle.pgp_base.specs.Wire.{uint32};
@@ -20,7 +20,7 @@ const MOST: usize = 2_147_483_643;
 #[unsafe(no_mangle)]
 pub extern "C" fn pgp_copy_data(bytes: &[u8], out: &mut [u8], written: &mut usize) -> u32
     ensures sent { result ≡ 0 → Sent (DataMessage bytes.now) out.old out.new written.new }
-    ensures refused { result ≢ 0 → NotSent [] (DataMessage bytes.now) out.old written.new result }
+    ensures refused { result ≢ 0 → NotSent (DataMessage bytes.now) out.old written.new result }
 {
     let piece = match CopyData::new(bytes) {
         Ok(piece) => piece,

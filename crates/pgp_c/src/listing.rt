@@ -1,14 +1,14 @@
 //! The messages with lists in them: of types, and of values.
 
-ghost use Rattle.std.specs.Prelude.{◌≡◌, ◌≢◌, ◌∷◌, [], map};
+ghost use Rattle.std.specs.Prelude.{◌≡◌, ◌≢◌, map};
 ghost use Rattle.pgp_base.specs.Held.{◌⊕◌};
 ghost use Rattle.pgp_frontend.specs.ClientMessage.{Bind, Parse};
 ghost use Rattle.pgp_c.specs.Sending.{Sent, NotSent};
-ghost use Rattle.pgp_c.specs.Lists.{value_of, Puts};
+ghost use Rattle.pgp_c.specs.Lists.{error_of, value_of, Puts};
 
 use crate::status::{refused, sent};
 use pgp_base::{BindError, Buffer, Error, IsNull, Window};
-use std::str;
+use pgp_frontend::over_bytes;
 
 /// A value of a `bind`, in the format that its place asks for. The bytes of a null aren't read.
 #[repr(C)]
@@ -28,16 +28,10 @@ pub extern "C" fn pgp_parse(
     written: &mut usize,
 ) -> u32
     ensures sent { result ≡ 0 → Sent (Parse name.now query.now types.now) out.old out.new written.new }
-    ensures refused { result ≢ 0 → NotSent (name.now ∷ query.now ∷ []) (Parse name.now query.now types.now) out.old written.new result }
+    ensures refused { result ≢ 0 → NotSent (Parse name.now query.now types.now) out.old written.new result }
 {
-    let Ok(name) = str::from_utf8(name) else {
-        return refused(Error::NotUtf8, written);
-    };
-    let Ok(query) = str::from_utf8(query) else {
-        return refused(Error::NotUtf8, written);
-    };
     let mut window = Window::new(out);
-    match pgp_frontend::parse(name, query, types.iter().copied(), &mut window) {
+    match over_bytes::parse(name, query, types.iter().copied(), &mut window) {
         Ok(()) => sent(&window, written),
         Err(e) => refused(e, written),
     }
@@ -55,16 +49,10 @@ pub extern "C" fn pgp_bind(
     written: &mut usize,
 ) -> u32
     ensures sent { result ≡ 0 → Sent (Bind portal.now statement.now formats.now (map value_of values.now) result_formats.now) out.old out.new written.new }
-    ensures refused { result ≢ 0 → written.new ≡ 0 }
+    ensures refused { result ≢ 0 → NotSent (Bind portal.now statement.now formats.now (map value_of values.now) result_formats.now) out.old written.new result }
 {
-    let Ok(portal) = str::from_utf8(portal) else {
-        return refused(Error::NotUtf8, written);
-    };
-    let Ok(statement) = str::from_utf8(statement) else {
-        return refused(Error::NotUtf8, written);
-    };
     let mut window = Window::new(out);
-    let answer = pgp_frontend::bind(
+    let answer = over_bytes::bind(
         portal,
         statement,
         formats.iter().copied(),
@@ -75,8 +63,17 @@ pub extern "C" fn pgp_bind(
     );
     match answer {
         Ok(()) => sent(&window, written),
-        Err(BindError::Conversion(e)) => refused(e, written),
-        Err(BindError::Serialization(e)) => refused(e, written),
+        Err(e) => refused(error_of(e), written),
+    }
+}
+
+/// The refusal, whether the serializer's or the writer's.
+fn error_of(e: BindError<Error>) -> Error
+    ensures { result ≡ error_of e }
+{
+    match e {
+        BindError::Conversion(e) => e,
+        BindError::Serialization(e) => e,
     }
 }
 

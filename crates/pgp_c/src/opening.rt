@@ -2,17 +2,15 @@
 
 ghost use Rattle.std.specs.Prelude.{◌≡◌, ◌≢◌, ◌⊎◌, List, map, true, false};
 ghost use Rattle.std.specs.List.{list_all};
-ghost use Rattle.std.specs.Str.{is_utf8};
 ghost use Rattle.pgp_frontend.specs.ClientMessage.{Startup};
 ghost use Rattle.pgp_frontend.specs.Payload.{version_code};
 ghost use Rattle.pgp_frontend.specs.declared.startup.ProtocolVersion.{ProtocolVersion as Version};
 ghost use Rattle.pgp_c.specs.Sending.{Sent};
-ghost use Rattle.pgp_c.specs.Opening.{is_named, is_text, pair_of, shown_pair, shown_text, WhyPairs, WhyStartup};
+ghost use Rattle.pgp_c.specs.Opening.{is_named, pair_of, WhyPairs, WhyStartup};
 
 use crate::status::{nameless, no_version, refused, sent};
-use pgp_base::{Error, Window};
-use pgp_frontend::ProtocolVersion;
-use std::str;
+use pgp_base::Window;
+use pgp_frontend::{ProtocolVersion, over_bytes};
 
 /// A name and a value of a startup packet.
 #[repr(C)]
@@ -55,12 +53,9 @@ fn open(
     if !are_named(parameters) {
         return nameless(written);
     }
-    if !are_texts(parameters) {
-        return refused(Error::NotUtf8, written);
-    }
     let mut window = Window::new(out);
     let pairs = parameters.iter().map(|pair| texts(pair));
-    match pgp_frontend::startup_message_version(version, pairs, &mut window) {
+    match over_bytes::startup_message_version(version, pairs, &mut window) {
         Ok(()) => sent(&window, written),
         Err(e) => refused(e, written),
     }
@@ -80,44 +75,10 @@ fn named(pair: &PgpPair<'_>) -> bool
     !pair.name.is_empty()
 }
 
-/// All names and values are UTF-8.
-fn are_texts(parameters: &[PgpPair<'_>]) -> bool
-    ensures { result ≡ list_all is_text parameters.now }
+/// The name and the value.
+fn texts<'a>(pair: &PgpPair<'a>) -> (&'a [u8], &'a [u8])
+    ensures name { result.0.now ≡ pair.now.name.now }
+    ensures value { result.1.now ≡ pair.now.value.now }
 {
-    parameters.iter().all(|pair| text(pair))
-}
-
-/// The name and the value are UTF-8.
-fn text(pair: &PgpPair<'_>) -> bool
-    ensures { result ≡ is_text pair.now }
-{
-    utf8(pair.name) && utf8(pair.value)
-}
-
-/// The bytes are UTF-8.
-fn utf8(bytes: &[u8]) -> bool
-    ensures { result ≡ is_utf8 bytes.now }
-{
-    match str::from_utf8(bytes) {
-        Ok(_) => true,
-        Err(_) => false,
-    }
-}
-
-/// The name and the value as texts; an empty text for what is none.
-fn texts<'a>(pair: &PgpPair<'a>) -> (&'a str, &'a str)
-    ensures name { result.0.now ≡ (shown_pair pair.now).0 }
-    ensures value { result.1.now ≡ (shown_pair pair.now).1 }
-{
-    (shown(pair.name), shown(pair.value))
-}
-
-/// The bytes as a text; an empty one where they are none.
-fn shown(bytes: &[u8]) -> &str
-    ensures { result.now ≡ shown_text bytes.now }
-{
-    match str::from_utf8(bytes) {
-        Ok(text) => text,
-        Err(_) => "",
-    }
+    (pair.name, pair.value)
 }

@@ -1,24 +1,21 @@
 //! The messages whose parts are texts, bytes and numbers, each at the front of memory of the caller's.
 
-ghost use Rattle.std.specs.Prelude.{◌≡◌, ◌≢◌, ◌∷◌, []};
+ghost use Rattle.std.specs.Prelude.{◌≡◌, ◌≢◌};
 ghost use Rattle.pgp_frontend.specs.ClientMessage.{CancelRequest, Close, CopyDone, CopyFail, Describe, Execute, Flush, PasswordMessage, Query, SaslInitialResponse, SaslResponse, SslRequest, Sync, Terminate};
 ghost use Rattle.pgp_c.specs.Sending.{Sent, NotSent};
 
 use crate::status::{refused, sent};
-use pgp_base::{Error, Window};
-use std::str;
+use pgp_base::Window;
+use pgp_frontend::over_bytes;
 
 /// A query of any number of statements.
 #[unsafe(no_mangle)]
 pub extern "C" fn pgp_query(text: &[u8], out: &mut [u8], written: &mut usize) -> u32
     ensures sent { result ≡ 0 → Sent (Query text.now) out.old out.new written.new }
-    ensures refused { result ≢ 0 → NotSent (text.now ∷ []) (Query text.now) out.old written.new result }
+    ensures refused { result ≢ 0 → NotSent (Query text.now) out.old written.new result }
 {
-    let Ok(text) = str::from_utf8(text) else {
-        return refused(Error::NotUtf8, written);
-    };
     let mut window = Window::new(out);
-    match pgp_frontend::query(text, &mut window) {
+    match over_bytes::query(text, &mut window) {
         Ok(()) => sent(&window, written),
         Err(e) => refused(e, written),
     }
@@ -28,7 +25,7 @@ pub extern "C" fn pgp_query(text: &[u8], out: &mut [u8], written: &mut usize) ->
 #[unsafe(no_mangle)]
 pub extern "C" fn pgp_terminate(out: &mut [u8], written: &mut usize) -> u32
     ensures sent { result ≡ 0 → Sent Terminate out.old out.new written.new }
-    ensures refused { result ≢ 0 → NotSent [] Terminate out.old written.new result }
+    ensures refused { result ≢ 0 → NotSent Terminate out.old written.new result }
 {
     let mut window = Window::new(out);
     match pgp_frontend::terminate(&mut window) {
@@ -41,13 +38,10 @@ pub extern "C" fn pgp_terminate(out: &mut [u8], written: &mut usize) -> u32
 #[unsafe(no_mangle)]
 pub extern "C" fn pgp_close(variant: u8, name: &[u8], out: &mut [u8], written: &mut usize) -> u32
     ensures sent { result ≡ 0 → Sent (Close variant name.now) out.old out.new written.new }
-    ensures refused { result ≢ 0 → NotSent (name.now ∷ []) (Close variant name.now) out.old written.new result }
+    ensures refused { result ≢ 0 → NotSent (Close variant name.now) out.old written.new result }
 {
-    let Ok(name) = str::from_utf8(name) else {
-        return refused(Error::NotUtf8, written);
-    };
     let mut window = Window::new(out);
-    match pgp_frontend::close(variant, name, &mut window) {
+    match over_bytes::close(variant, name, &mut window) {
         Ok(()) => sent(&window, written),
         Err(e) => refused(e, written),
     }
@@ -57,13 +51,10 @@ pub extern "C" fn pgp_close(variant: u8, name: &[u8], out: &mut [u8], written: &
 #[unsafe(no_mangle)]
 pub extern "C" fn pgp_describe(variant: u8, name: &[u8], out: &mut [u8], written: &mut usize) -> u32
     ensures sent { result ≡ 0 → Sent (Describe variant name.now) out.old out.new written.new }
-    ensures refused { result ≢ 0 → NotSent (name.now ∷ []) (Describe variant name.now) out.old written.new result }
+    ensures refused { result ≢ 0 → NotSent (Describe variant name.now) out.old written.new result }
 {
-    let Ok(name) = str::from_utf8(name) else {
-        return refused(Error::NotUtf8, written);
-    };
     let mut window = Window::new(out);
-    match pgp_frontend::describe(variant, name, &mut window) {
+    match over_bytes::describe(variant, name, &mut window) {
         Ok(()) => sent(&window, written),
         Err(e) => refused(e, written),
     }
@@ -78,13 +69,10 @@ pub extern "C" fn pgp_execute(
     written: &mut usize,
 ) -> u32
     ensures sent { result ≡ 0 → Sent (Execute portal.now max_rows) out.old out.new written.new }
-    ensures refused { result ≢ 0 → NotSent (portal.now ∷ []) (Execute portal.now max_rows) out.old written.new result }
+    ensures refused { result ≢ 0 → NotSent (Execute portal.now max_rows) out.old written.new result }
 {
-    let Ok(portal) = str::from_utf8(portal) else {
-        return refused(Error::NotUtf8, written);
-    };
     let mut window = Window::new(out);
-    match pgp_frontend::execute(portal, max_rows, &mut window) {
+    match over_bytes::execute(portal, max_rows, &mut window) {
         Ok(()) => sent(&window, written),
         Err(e) => refused(e, written),
     }
@@ -94,7 +82,7 @@ pub extern "C" fn pgp_execute(
 #[unsafe(no_mangle)]
 pub extern "C" fn pgp_sync(out: &mut [u8], written: &mut usize) -> u32
     ensures sent { result ≡ 0 → Sent Sync out.old out.new written.new }
-    ensures refused { result ≢ 0 → NotSent [] Sync out.old written.new result }
+    ensures refused { result ≢ 0 → NotSent Sync out.old written.new result }
 {
     let mut window = Window::new(out);
     match pgp_frontend::sync(&mut window) {
@@ -107,7 +95,7 @@ pub extern "C" fn pgp_sync(out: &mut [u8], written: &mut usize) -> u32
 #[unsafe(no_mangle)]
 pub extern "C" fn pgp_flush(out: &mut [u8], written: &mut usize) -> u32
     ensures sent { result ≡ 0 → Sent Flush out.old out.new written.new }
-    ensures refused { result ≢ 0 → NotSent [] Flush out.old written.new result }
+    ensures refused { result ≢ 0 → NotSent Flush out.old written.new result }
 {
     let mut window = Window::new(out);
     match pgp_frontend::flush(&mut window) {
@@ -120,7 +108,7 @@ pub extern "C" fn pgp_flush(out: &mut [u8], written: &mut usize) -> u32
 #[unsafe(no_mangle)]
 pub extern "C" fn pgp_copy_done(out: &mut [u8], written: &mut usize) -> u32
     ensures sent { result ≡ 0 → Sent CopyDone out.old out.new written.new }
-    ensures refused { result ≢ 0 → NotSent [] CopyDone out.old written.new result }
+    ensures refused { result ≢ 0 → NotSent CopyDone out.old written.new result }
 {
     let mut window = Window::new(out);
     match pgp_frontend::copy_done(&mut window) {
@@ -133,13 +121,10 @@ pub extern "C" fn pgp_copy_done(out: &mut [u8], written: &mut usize) -> u32
 #[unsafe(no_mangle)]
 pub extern "C" fn pgp_copy_fail(reason: &[u8], out: &mut [u8], written: &mut usize) -> u32
     ensures sent { result ≡ 0 → Sent (CopyFail reason.now) out.old out.new written.new }
-    ensures refused { result ≢ 0 → NotSent (reason.now ∷ []) (CopyFail reason.now) out.old written.new result }
+    ensures refused { result ≢ 0 → NotSent (CopyFail reason.now) out.old written.new result }
 {
-    let Ok(reason) = str::from_utf8(reason) else {
-        return refused(Error::NotUtf8, written);
-    };
     let mut window = Window::new(out);
-    match pgp_frontend::copy_fail(reason, &mut window) {
+    match over_bytes::copy_fail(reason, &mut window) {
         Ok(()) => sent(&window, written),
         Err(e) => refused(e, written),
     }
@@ -149,7 +134,7 @@ pub extern "C" fn pgp_copy_fail(reason: &[u8], out: &mut [u8], written: &mut usi
 #[unsafe(no_mangle)]
 pub extern "C" fn pgp_ssl_request(out: &mut [u8], written: &mut usize) -> u32
     ensures sent { result ≡ 0 → Sent SslRequest out.old out.new written.new }
-    ensures refused { result ≢ 0 → NotSent [] SslRequest out.old written.new result }
+    ensures refused { result ≢ 0 → NotSent SslRequest out.old written.new result }
 {
     let mut window = Window::new(out);
     match pgp_frontend::ssl_request(&mut window) {
@@ -167,7 +152,7 @@ pub extern "C" fn pgp_cancel_request(
     written: &mut usize,
 ) -> u32
     ensures sent { result ≡ 0 → Sent (CancelRequest process_id secret_key.now) out.old out.new written.new }
-    ensures refused { result ≢ 0 → NotSent [] (CancelRequest process_id secret_key.now) out.old written.new result }
+    ensures refused { result ≢ 0 → NotSent (CancelRequest process_id secret_key.now) out.old written.new result }
 {
     let mut window = Window::new(out);
     match pgp_frontend::cancel_request_key(process_id, secret_key, &mut window) {
@@ -180,7 +165,7 @@ pub extern "C" fn pgp_cancel_request(
 #[unsafe(no_mangle)]
 pub extern "C" fn pgp_password_message(password: &[u8], out: &mut [u8], written: &mut usize) -> u32
     ensures sent { result ≡ 0 → Sent (PasswordMessage password.now) out.old out.new written.new }
-    ensures refused { result ≢ 0 → NotSent [] (PasswordMessage password.now) out.old written.new result }
+    ensures refused { result ≢ 0 → NotSent (PasswordMessage password.now) out.old written.new result }
 {
     let mut window = Window::new(out);
     match pgp_frontend::password_message(password, &mut window) {
@@ -198,13 +183,10 @@ pub extern "C" fn pgp_sasl_initial_response(
     written: &mut usize,
 ) -> u32
     ensures sent { result ≡ 0 → Sent (SaslInitialResponse mechanism.now response.now) out.old out.new written.new }
-    ensures refused { result ≢ 0 → NotSent (mechanism.now ∷ []) (SaslInitialResponse mechanism.now response.now) out.old written.new result }
+    ensures refused { result ≢ 0 → NotSent (SaslInitialResponse mechanism.now response.now) out.old written.new result }
 {
-    let Ok(mechanism) = str::from_utf8(mechanism) else {
-        return refused(Error::NotUtf8, written);
-    };
     let mut window = Window::new(out);
-    match pgp_frontend::sasl_initial_response(mechanism, response, &mut window) {
+    match over_bytes::sasl_initial_response(mechanism, response, &mut window) {
         Ok(()) => sent(&window, written),
         Err(e) => refused(e, written),
     }
@@ -214,7 +196,7 @@ pub extern "C" fn pgp_sasl_initial_response(
 #[unsafe(no_mangle)]
 pub extern "C" fn pgp_sasl_response(response: &[u8], out: &mut [u8], written: &mut usize) -> u32
     ensures sent { result ≡ 0 → Sent (SaslResponse response.now) out.old out.new written.new }
-    ensures refused { result ≢ 0 → NotSent [] (SaslResponse response.now) out.old written.new result }
+    ensures refused { result ≢ 0 → NotSent (SaslResponse response.now) out.old written.new result }
 {
     let mut window = Window::new(out);
     match pgp_frontend::sasl_response(response, &mut window) {

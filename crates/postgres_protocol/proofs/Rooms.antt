@@ -86,7 +86,7 @@ never_part (Rest z) h = never_none h
 never_part (Key z) h = never_size (nat_le 4 (length z)) (nat_le (length z) 256) h
 never_part (Pairs ps) h = never_first pair_cause (λ p. never_either (text_cause p.0) (text_cause p.1) (never_text p.0) (never_text p.1)) ps h
 
-never_memory : (m : ClientMessage) → cause m ≡ Some OutOfMemory → ⊥
+pub never_memory : (m : ClientMessage) → cause m ≡ Some OutOfMemory → ⊥
 never_memory m h = never_either (parts_cause (parts m)) (length_cause (length (joined (parts m)) + 4)) (never_first part_cause never_part (parts m)) (never_length (length (joined (parts m)) + 4)) h
 
 -- ---- one message
@@ -157,7 +157,7 @@ large_alone false e h = h
 large_at : (b : Bool) → b ≡ false → (let c : Cause = if b then None else Some TooLarge in c ≡ Some TooLarge)
 large_at b h = rw h refl
 
-count_more : (n m : ℕ) (e : Error) → n ≤ m → count_cause n ≡ Some e → count_cause m ≡ Some e
+pub count_more : (n m : ℕ) (e : Error) → n ≤ m → count_cause n ≡ Some e → count_cause m ≡ Some e
 count_more n m e few h = elim (cases_Bool (nat_le m 65535)) [
   | inl t ↦ let k : None ≡ Some e = sym (count_fits n (omega (arith, few, leb-true m 65535 t))) ∙ h in absurd cc
   | inr f ↦ large_at (nat_le m 65535) f ∙ large_alone (nat_le n 65535) e h

@@ -1,4 +1,4 @@
-use Rattle.std.proofs.Common.{rules, ◌≡◌, ◌∷◌, [], Err, refl, false, ap, sym, subst, ◌∙◌}
+use Rattle.std.proofs.Common.{rules, ◌≡◌, Err, refl, false, ap, sym, subst, ◌∙◌}
 use Rattle.std.proofs.iter.Yields.{copies, fronts}
 use Rattle.std.proofs.lemmas.Iterator.{YieldsList, YieldsList-from_slice}
 use Rattle.std.proofs.lemmas.Iterator.Consumers.{YieldsList-from_copied}
@@ -13,13 +13,13 @@ use Rattle.postgres_protocol.proofs.StepLemmas.{all_same as all_given, some_same
 use Rattle.pgp_c.proofs.Sending.{sends, refuses}
 use Rattle.pgp_c.proofs.listing.pgp_parse.Goals as goal
 
-pub returns-in-Ok-parse-clause-sent : goal.returns-in-Ok-parse-clause-sent
-returns-in-Ok-parse-clause-sent c z =
-    let e = c.in-Ok-parse.ensures in
+pub returns-in-Ok-clause-sent : goal.returns-in-Ok-clause-sent
+returns-in-Ok-clause-sent c z =
+    let e = c.in-Ok.ensures in
     let types : YieldsList (copies fronts) (λ x. x) c.copied.result c.args.types.now = YieldsList-from_copied (YieldsList-from_slice c.args.types.now cc) in
     let f = e.whole.1 in
     let ts = all_same (copies fronts) f.iterator c.args.types.now (subst (λ s. YieldsList (copies fronts) (λ x. x) s c.args.types.now) (sym f.from) types) e.whole.0 f.left f.came in
-    sends (Parse c.args.name.now c.args.query.now c.args.types.now) e.message (e.whole.2 ∙ ap (λ l. Parse c.in-Ok.name.now c.in-Ok-from_utf8.query.now l) ts ∙ search rules)
+    sends (Parse c.args.name.now c.args.query.now c.args.types.now) e.message (e.whole.2 ∙ ap (λ l. Parse c.args.name.now c.args.query.now l) ts)
     c.new-window.result c.parse.new.buf c.args.out.now _ c.new-window.ensures e.in_range e.none e.appended _ (search rules) _ c.sent.ensures.told
 
 -- an iterator is made of itself
@@ -32,9 +32,9 @@ returns-in-Err-clause-refused c z =
     let source = c.copied.result in
     let road : YieldsList (copies fronts) (λ x. x) source all = YieldsList-from_copied (YieldsList-from_slice all cc) in
     let shown : Shown Window = record { buf = c.new-window.result; opened = false } in
-    let adds = parse_adds c.in-Ok.name.now c.in-Ok-from_utf8.query.now all (Came FromItself (copies fronts) source)
+    let adds = parse_adds c.args.name.now c.args.query.now all (Came FromItself (copies fronts) source)
     (λ xs k. all_given FromItself (copies fronts) source all (λ it from. subst (λ s. YieldsList (copies fronts) (λ x. x) s all) (sym from) road) xs k)
     (λ xs x k. some_same FromItself (copies fronts) source all (λ it from. subst (λ s. YieldsList (copies fronts) (λ x. x) s all) (sym from) road) xs x k)
     window_held window_lacks shown shown (Err c.in-Err.e) (c.in-Err.ensures.0, record { left = record { bytes = refl; kept = refl }; opened = refl }) in
-    refuses (c.args.name.now ∷ c.args.query.now ∷ []) (Parse c.args.name.now c.args.query.now all) (Parse c.in-Ok.name.now c.in-Ok-from_utf8.query.now all) (search rules)
-    c.new-window.result c.args.out.now _ c.new-window.ensures c.in-Err.e _ _ adds.0 c.refused-in-Err.ensures.code c.refused-in-Err.ensures.told
+    refuses (Parse c.args.name.now c.args.query.now all) (Parse c.args.name.now c.args.query.now all) refl
+    c.new-window.result c.args.out.now _ c.new-window.ensures c.in-Err.e _ _ adds.0 c.refused.ensures.code c.refused.ensures.told

@@ -1,4 +1,4 @@
-use Rattle.std.proofs.Common.{rules, [], refl}
+use Rattle.std.proofs.Common.{rules, refl}
 use Rattle.pgp_frontend.specs.ClientMessage.{SaslResponse}
 use Rattle.pgp_c.proofs.Sending.{sends, refuses}
 use Rattle.pgp_c.proofs.writing.pgp_sasl_response.Goals as goal
@@ -9,4 +9,4 @@ returns-in-Ok-clause-sent c z =
 
 pub returns-in-Err-clause-refused : goal.returns-in-Err-clause-refused
 returns-in-Err-clause-refused c z =
-    refuses [] (SaslResponse c.args.response.now) (SaslResponse c.args.response.now) refl c.new-window.result c.args.out.now _ c.new-window.ensures c.in-Err.e _ _ c.in-Err.ensures.1.0 c.refused.ensures.code c.refused.ensures.told
+    refuses (SaslResponse c.args.response.now) (SaslResponse c.args.response.now) refl c.new-window.result c.args.out.now _ c.new-window.ensures c.in-Err.e _ _ c.in-Err.ensures.1.0 c.refused.ensures.code c.refused.ensures.told
