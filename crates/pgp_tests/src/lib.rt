@@ -6,6 +6,4 @@ mod ample;
 #[cfg(test)]
 mod calls;
 #[cfg(test)]
-mod checks;
-#[cfg(test)]
 mod values;

@@ -6,8 +6,6 @@ mod auth;
 #[cfg(test)]
 mod bound_values;
 #[cfg(test)]
-mod checks;
-#[cfg(test)]
 mod frontend;
 #[cfg(test)]
 mod growth;
