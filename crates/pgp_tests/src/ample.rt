@@ -1,6 +1,7 @@
 //! Large values with ample memory: none is refused for its size.
 #![tactic(auto, using(pgp_base::proofs::Parts::held_steps))]
 
+use crate::checks::{holds, same};
 use bytes::BytesMut;
 use pgp_auth::authentication::md5_hash;
 use pgp_auth::authentication::sasl::NoPrep;
@@ -9,7 +10,6 @@ use pgp_auth::password::{md5, scram_sha_256_salt};
 use pgp_base::{BindError, Buffer, Error, IsNull};
 use pgp_frontend::{CopyData, bind, query, startup_message};
 use pgp_message::Message;
-use pgp_test_alloc::checks::{holds, same};
 use pgp_types::text_to_sql;
 use postgres_protocol::laws::row_int4;
 use postgres_protocol::session::StreamParser;

@@ -6,4 +6,6 @@ mod ample;
 #[cfg(test)]
 mod calls;
 #[cfg(test)]
+mod checks;
+#[cfg(test)]
 mod values;

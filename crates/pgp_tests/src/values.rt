@@ -4,10 +4,10 @@
 ghost use Rattle.pgp_base.specs.Calls.{KeepsValue};
 ghost use Rattle.pgp_base.specs.Held.{items_held};
 
+use crate::checks::{holds, same};
 use bytes::BytesMut;
 use pgp_base::{BindError, Buffer, IsNull};
 use pgp_frontend::bind;
-use pgp_test_alloc::checks::{holds, same};
 use pgp_types::{ArrayDimension, array_to_sql, int4_to_sql};
 use std::test::Fail;
 

@@ -3,6 +3,7 @@
 
 ghost use Rattle.std.specs.Prelude.{Some, [], ◌∷◌};
 
+use crate::checks::{holds, holds_at, same, same_at};
 use pgp_auth::authentication::md5_hash;
 use pgp_auth::authentication::sasl::{
     ChannelBinding, NoPrep, SaslPrep, ScramError, ScramSha256, is_nonce,
@@ -12,7 +13,6 @@ use pgp_auth::password::{md5, scram_sha_256, scram_sha_256_salt};
 use pgp_base::{Error, Memory};
 use pgp_saslprep::SaslPrepRfc4013;
 use pgp_test_alloc::Refusing;
-use pgp_test_alloc::checks::{holds, holds_at, same, same_at};
 use rand_core::SeedableRng;
 use rand_pcg::Pcg32;
 use std::alloc::{Allocator, Global};

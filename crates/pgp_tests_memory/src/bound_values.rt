@@ -1,11 +1,11 @@
 //! Values in messages, with each allocation refused in turn.
 #![tactic(auto, using(pgp_base::proofs::Parts::held_steps))]
 
+use crate::checks::{holds, same};
 use bytes::BytesMut;
 use pgp_base::{BindError, Error};
 use pgp_message::Message;
 use pgp_test_alloc::Refusing;
-use pgp_test_alloc::checks::{holds, same};
 use pgp_types::ArrayDimension;
 use postgres_protocol::laws::{Step, bind_array, row_int4};
 use std::alloc::{AllocError, Allocator, Global};

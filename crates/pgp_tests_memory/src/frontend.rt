@@ -2,6 +2,7 @@
 //! holds a message and has no room left.
 #![tactic(auto, using(pgp_base::proofs::Parts::held_steps))]
 
+use crate::checks::{holds, holds_at, same, same_at};
 use bytes::BytesMut;
 use pgp_base::{
     BindError, Buffer, Error, IsNull, put_u8, put_u32, write_body, write_counted, write_cstr,
@@ -13,7 +14,6 @@ use pgp_frontend::{
     sasl_response, ssl_request, startup_message, startup_message_version, sync, terminate,
 };
 use pgp_test_alloc::Refusing;
-use pgp_test_alloc::checks::{holds, holds_at, same, same_at};
 use std::alloc::{AllocError, Allocator, Global};
 use std::test::Fail;
 

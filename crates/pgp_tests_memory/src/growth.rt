@@ -1,10 +1,10 @@
 //! A parser of a long stream, over a heap that is much smaller than the stream.
 
+use crate::checks::{holds, holds_at, same};
 use bytes::Bytes;
 use linked_list_allocator::LocalHeap;
 use pgp_base::Error;
 use pgp_message::{Message, Messages};
-use pgp_test_alloc::checks::{holds, holds_at, same};
 use postgres_protocol::session::StreamParser;
 use std::alloc::{AllocError, Allocator, Global};
 use std::test::Fail;

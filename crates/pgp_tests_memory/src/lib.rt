@@ -6,6 +6,8 @@ mod auth;
 #[cfg(test)]
 mod bound_values;
 #[cfg(test)]
+mod checks;
+#[cfg(test)]
 mod frontend;
 #[cfg(test)]
 mod growth;

@@ -1,11 +1,11 @@
 //! Messages of a server and the walks over their bodies, with each allocation refused in turn.
 #![tactic(auto, using(pgp_base::proofs::Parts::held_steps))]
 
+use crate::checks::{holds, same};
 use bytes::{Bytes, BytesMut};
 use pgp_base::{Error, FallibleIterator};
 use pgp_message::{DataRowBody, FrameParser, Message, Messages, RowPlaces, read_frames};
 use pgp_test_alloc::Refusing;
-use pgp_test_alloc::checks::{holds, same};
 use std::alloc::{AllocError, Allocator, Global};
 use std::process::Abort;
 use std::test::Fail;

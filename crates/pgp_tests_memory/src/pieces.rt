@@ -1,10 +1,10 @@
 //! A longer stream of a server, cut in many ways, and with each allocation refused in turn. Its bytes are from the
 //! message formats of the PostgreSQL manual.
 
+use crate::checks::{holds, holds_at, same};
 use pgp_base::{Error, Memory};
 use pgp_message::{Message, Storage};
 use pgp_test_alloc::Refusing;
-use pgp_test_alloc::checks::{holds, holds_at, same};
 use postgres_protocol::session::{StreamParser, parse_stream};
 use std::alloc::{AllocError, Global};
 use std::process::Abort;

@@ -4,11 +4,11 @@
 ghost use Rattle.pgp_base.specs.Calls.{KeepsValue};
 ghost use Rattle.pgp_base.specs.Held.{items_held};
 
+use crate::checks::{holds, holds_at, same};
 use bytes::BytesMut;
 use pgp_base::{BindError, Buffer, Error, IsNull};
 use pgp_frontend::bind;
 use pgp_test_alloc::Refusing;
-use pgp_test_alloc::checks::{holds, holds_at, same};
 use pgp_types::{ArrayDimension, RangeBound, array_to_sql, range_to_sql};
 use std::alloc::Global;
 use std::test::Fail;

@@ -1,11 +1,11 @@
 //! A client's stream, with each allocation refused in turn.
 #![tactic(auto, using(pgp_base::proofs::Parts::held_steps))]
 
+use crate::checks::{holds, holds_at, same, same_at};
 use bytes::BytesMut;
 use pgp_base::{BindError, Buffer, Error, IsNull, put_u32};
 use pgp_frontend::{CopyData, ProtocolVersion};
 use pgp_test_alloc::Refusing;
-use pgp_test_alloc::checks::{holds, holds_at, same, same_at};
 use postgres_protocol::session::ClientStream;
 use std::alloc::Global;
 use std::test::Fail;

@@ -1,10 +1,10 @@
 //! The writers of values, with each allocation refused in turn.
 #![tactic(auto, using(pgp_base::proofs::Parts::held_steps))]
 
+use crate::checks::{holds, holds_at, same};
 use bytes::BytesMut;
 use pgp_base::{BindError, Buffer, Error, FallibleIterator, IsNull};
 use pgp_test_alloc::Refusing;
-use pgp_test_alloc::checks::{holds, holds_at, same};
 use pgp_types::*;
 use std::alloc::{Allocator, Global};
 use std::net::{IpAddr, Ipv4Addr, Ipv6Addr};

@@ -4,9 +4,9 @@
 ghost use Rattle.pgp_base.specs.Calls.{KeepsValue};
 ghost use Rattle.pgp_base.specs.Held.{items_held};
 
+use crate::checks::{holds, same};
 use bytes::BytesMut;
 use pgp_base::{BindError, Buffer, Error, FallibleIterator, IsNull};
-use pgp_test_alloc::checks::{holds, same};
 use pgp_types::{ArrayDimension, array_from_sql, array_to_sql};
 use std::test::Fail;
 

@@ -3,12 +3,12 @@
 ghost use Rattle.pgp_base.specs.Calls.{Keeps};
 ghost use Rattle.pgp_base.specs.Held.{items_held};
 
+use crate::checks::{holds, same};
 use bytes::BytesMut;
 use pgp_base::{
     BindError, Buffer, Error, IsNull, Window, i16_from_usize, i32_from_usize, put_u8,
     u16_from_usize, write_body, write_counted, write_cstr, write_nullable,
 };
-use pgp_test_alloc::checks::{holds, same};
 use std::test::Fail;
 
 // `?` makes a writer's own refusal from an `Error`.

@@ -5,10 +5,10 @@
 ghost use Rattle.pgp_base.specs.Calls.{KeepsValue};
 ghost use Rattle.pgp_base.specs.Held.{items_held};
 
+use crate::checks::{holds, same};
 use bytes::BytesMut;
 use pgp_base::{BindError, Error, IsNull, put_u32};
 use pgp_frontend::{bind, over_bytes, parse, sync};
-use pgp_test_alloc::checks::{holds, same};
 use std::test::Fail;
 
 #[test]

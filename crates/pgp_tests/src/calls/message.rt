@@ -1,12 +1,12 @@
 //! What no row of `pgp_rows` says of a server's messages: parsers that go on, what they remember, and what a message keeps.
 //! Expected bytes are from the message formats of the PostgreSQL manual.
 
+use crate::checks::{holds, same};
 use bytes::{Bytes, BytesMut};
 use pgp_base::{Error, FallibleIterator};
 use pgp_message::{
     DataRowBody, FrameParser, Header, Message, Messages, RowPlaces, Storage, read_frames,
 };
-use pgp_test_alloc::checks::{holds, same};
 use std::alloc::Global;
 use std::process::Abort;
 use std::test::Fail;

@@ -5,10 +5,10 @@ mod exchange;
 mod streams;
 mod values;
 
+use crate::checks::{holds, same};
 use bytes::BytesMut;
 use pgp_base::Error;
 use pgp_message::Message;
-use pgp_test_alloc::checks::{holds, same};
 use postgres_protocol::session::{ClientStream, StreamParser, parse_stream};
 use std::test::Fail;
 

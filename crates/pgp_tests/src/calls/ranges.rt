@@ -4,9 +4,9 @@
 ghost use Rattle.pgp_base.specs.Held.{items_held};
 ghost use Rattle.pgp_types.specs.RangeWriting.{KeepsBound};
 
+use crate::checks::{holds, same};
 use bytes::BytesMut;
 use pgp_base::{BindError, Buffer, Error, IsNull};
-use pgp_test_alloc::checks::{holds, same};
 use pgp_types::{RangeBound, int4_to_sql, range_to_sql};
 use std::process::Abort;
 use std::test::Fail;

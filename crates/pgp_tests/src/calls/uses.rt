@@ -4,9 +4,9 @@
 ghost use Rattle.std.specs.Prelude.{ℕ, ◌+◌, ◌%◌, ◌^◌, Some};
 ghost use Rattle.rand_core.specs.Steps.{stream_of, steps_u32};
 
+use crate::checks::{holds, same};
 use bytes::BytesMut;
 use pgp_base::Window;
-use pgp_test_alloc::checks::{holds, same};
 use pgp_uses::arrays::{ArrayError, bind_int4s, list_of};
 use pgp_uses::client::{Client, Event, Phase, StepError};
 use pgp_uses::columns::{NamesError, column_names};

@@ -1,9 +1,9 @@
 //! Each call of a client's stream. Expected bytes are from the message formats of the PostgreSQL manual.
 #![tactic(auto, using(pgp_base::proofs::Parts::held_steps))]
 
+use crate::checks::{holds, same, same_at};
 use bytes::BytesMut;
 use pgp_base::{Buffer, put_u32};
-use pgp_test_alloc::checks::{holds, same, same_at};
 use postgres_protocol::message::frontend::{CopyData, ProtocolVersion};
 use postgres_protocol::session::ClientStream;
 use postgres_protocol::{BindError, Error, IsNull};

@@ -1,8 +1,8 @@
 //! An exchange of SCRAM-SHA-256 whose texts pass through messages. The texts are those of the Rust crate's
 //! own test, the frames from the message formats of the PostgreSQL manual.
 
+use crate::checks::{holds, same};
 use bytes::BytesMut;
-use pgp_test_alloc::checks::{holds, same};
 use postgres_protocol::authentication::sasl::{ChannelBinding, NoPrep, ScramSha256, is_nonce};
 use postgres_protocol::laws::sasl_exchange;
 use std::alloc::{Allocator, Global};

@@ -1,6 +1,6 @@
 //! A message with a body of its own, cut in two. Its bytes are from the message formats of the PostgreSQL manual.
 
-use pgp_test_alloc::checks::{holds, same};
+use crate::checks::{holds, same};
 use postgres_protocol::message::backend::Message;
 use postgres_protocol::session::parse_stream;
 use postgres_protocol::{Error, FallibleIterator};

@@ -3,9 +3,9 @@
 #![tactic(auto, using(pgp_base::proofs::Parts::held_steps))]
 
 use super::ROW;
+use crate::checks::{holds, same};
 use bytes::BytesMut;
 use pgp_message::Message;
-use pgp_test_alloc::checks::{holds, same};
 use postgres_protocol::laws::{Step, bind_array, row_int4};
 use postgres_protocol::types::ArrayDimension;
 use postgres_protocol::{BindError, Error};

@@ -1,5 +1,5 @@
-//! What a test holds to be so. Each call is proved once here; an assertion in the text of a test is proved there again, with
-//! all that stands around it. Since they stand in a crate of their own, a failure names the line of the test.
+//! What a test holds to be so. Each is proved once; an assertion in the text of a test is proved there again, with all
+//! that stands around it.
 
 use std::fmt::Debug;
 use std::process::Abort;
@@ -22,9 +22,4 @@ pub fn same_at<T: PartialEq + Debug + Drop, P: Debug + Drop>(
 /// What came is true, else the test fails.
 pub fn holds(rt: &impl Abort, came: bool) {
     assert!(rt; came);
-}
-
-/// The same, told with the place in a table.
-pub fn holds_at<P: Debug + Drop>(rt: &impl Abort, place: P, came: bool) {
-    assert!(rt; came, "{place:?}");
 }
