@@ -67,7 +67,7 @@ module _ {K : Type 0} (lacks : Held K → ℕ → Type 0) (old new : Held K) (re
 module _ {K : Type 0} (lacks : Held K → ℕ → Type 0) (m : ClientMessage) (old new : Held K) where
   written_appends : (result : Result (Unit {0}) Error) → cause m ≡ None → WritesMessage m lacks old new result → Appends lacks (bytes_of m) old new result
   written_appends (Ok done) none w = w.1.1
-  written_appends (Err e) none w = (elim w.1.0 [ | inl memory ↦ memory | inr c ↦ let k : Some e ≡ None = sym c ∙ none in cc ], w.1.1)
+  written_appends (Err e) none w = (elim w.1.0 [ inl memory ↦ memory | inr c ↦ let k : Some e ≡ None = sym c ∙ none in cc ], w.1.1)
 
   pub read_forwards : (kind : PasswordKind) (before after : Unread) (result : Result (Unit {0}) Error) → Step kind before (Ok (Some m)) after → WritesMessage m lacks old new result → Forwards lacks before.bytes after.bytes old new result
   read_forwards kind before after result step w = record { stood = bytes_of m; whole = step.stands.whole; appends = written_appends result step.stands.spelled.none w }
