@@ -7,4 +7,3 @@ mod frontend;
 mod message;
 mod protocol;
 mod ranges;
-mod uses;

@@ -1,0 +1,7 @@
+//! Tests of the callers in `pgp_uses`.
+#![tactic(auto)]
+
+#[cfg(test)]
+mod checks;
+#[cfg(test)]
+mod uses;
