@@ -1,6 +1,7 @@
 //! The proved core for C. `include/postgres_protocol.h` declares what stands here, and says how it is called.
 #![tactic(auto)]
 
+mod address;
 mod copying;
 mod front;
 mod listing;
