@@ -234,6 +234,11 @@ static inline struct pgp_cursor pgp_walk(const struct pgp_message *message)
 struct pgp_column { size_t start, end; bool is_null; };
 pgp_status pgp_row_next(const uint8_t *bytes, size_t len, struct pgp_cursor *cursor, struct pgp_column *column);
 
+/* The next type of a PARAMETER_DESCRIPTION, and the next format of a COPY_IN_RESPONSE or COPY_OUT_RESPONSE: answers as those of
+   pgp_row_next. */
+pgp_status pgp_type_next(const uint8_t *bytes, size_t len, struct pgp_cursor *cursor, uint32_t *type);
+pgp_status pgp_format_next(const uint8_t *bytes, size_t len, struct pgp_cursor *cursor, uint16_t *format);
+
 /* ---- values in the binary format ---- */
 
 /* A text and a bytea are their bytes as they stand, and need no call. So are a uuid (16 bytes) and a macaddr (6): their calls look at

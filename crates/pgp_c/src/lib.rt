@@ -5,6 +5,7 @@ mod address;
 mod copying;
 mod front;
 mod listing;
+mod number;
 mod opening;
 mod row;
 mod status;
