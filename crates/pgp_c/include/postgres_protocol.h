@@ -118,6 +118,7 @@ pgp_status pgp_bind(const uint8_t *portal, size_t portal_len, const uint8_t *sta
 
 /* Copies. The data go as they are: pgp_copy_data_head writes the 5 bytes before `len` bytes of data, which need not be copied. */
 pgp_status pgp_copy_data_head(size_t len, PGP_OUT);
+pgp_status pgp_copy_data(const uint8_t *bytes, size_t len, PGP_OUT);        /* the whole message, where a copy does no harm */
 pgp_status pgp_copy_done(PGP_OUT);
 pgp_status pgp_copy_fail(const uint8_t *reason, size_t len, PGP_OUT);
 
@@ -163,6 +164,8 @@ pgp_status pgp_stream_execute(struct pgp_stream *stream, const uint8_t *portal, 
 pgp_status pgp_stream_close(struct pgp_stream *stream, uint8_t variant, const uint8_t *name, size_t len);
 pgp_status pgp_stream_flush(struct pgp_stream *stream);
 pgp_status pgp_stream_sync(struct pgp_stream *stream);
+/* The head before `data_len` bytes of data, which need not be copied: send what is pending, then the data, and set len to 0. */
+pgp_status pgp_stream_copy_data_head(struct pgp_stream *stream, size_t data_len);
 pgp_status pgp_stream_copy_done(struct pgp_stream *stream);
 pgp_status pgp_stream_copy_fail(struct pgp_stream *stream, const uint8_t *reason, size_t len);
 pgp_status pgp_stream_terminate(struct pgp_stream *stream);
@@ -231,9 +234,15 @@ static inline struct pgp_cursor pgp_walk(const struct pgp_message *message)
 struct pgp_column { size_t start, end; bool is_null; };
 pgp_status pgp_row_next(const uint8_t *bytes, size_t len, struct pgp_cursor *cursor, struct pgp_column *column);
 
+/* The next type of a PARAMETER_DESCRIPTION, and the next format of a COPY_IN_RESPONSE or COPY_OUT_RESPONSE: answers as those of
+   pgp_row_next. */
+pgp_status pgp_type_next(const uint8_t *bytes, size_t len, struct pgp_cursor *cursor, uint32_t *type);
+pgp_status pgp_format_next(const uint8_t *bytes, size_t len, struct pgp_cursor *cursor, uint16_t *format);
+
 /* ---- values in the binary format ---- */
 
-/* A text, a bytea and a uuid are their bytes as they stand (a uuid 16 of them), and need no call.
+/* A text and a bytea are their bytes as they stand, and need no call. So are a uuid (16 bytes) and a macaddr (6): their calls look at
+   the number of bytes, and answer PGP_E_INVALID_SIZE for another.
    Floating-point numbers cross as their bits; pgp_float4_bits and so on turn them. A get leaves *value as it is where it is refused. */
 pgp_status pgp_put_bool(bool value, PGP_OUT);          pgp_status pgp_get_bool(const uint8_t *bytes, size_t len, bool *value);
 pgp_status pgp_put_int2(int16_t value, PGP_OUT);       pgp_status pgp_get_int2(const uint8_t *bytes, size_t len, int16_t *value);
@@ -241,6 +250,8 @@ pgp_status pgp_put_int4(int32_t value, PGP_OUT);       pgp_status pgp_get_int4(c
 pgp_status pgp_put_int8(int64_t value, PGP_OUT);       pgp_status pgp_get_int8(const uint8_t *bytes, size_t len, int64_t *value);
 pgp_status pgp_put_oid(uint32_t value, PGP_OUT);       pgp_status pgp_get_oid(const uint8_t *bytes, size_t len, uint32_t *value);
 pgp_status pgp_put_lsn(uint64_t value, PGP_OUT);       pgp_status pgp_get_lsn(const uint8_t *bytes, size_t len, uint64_t *value);
+pgp_status pgp_put_uuid(const uint8_t *id, size_t len, PGP_OUT);          pgp_status pgp_get_uuid(const uint8_t *bytes, size_t len);
+pgp_status pgp_put_macaddr(const uint8_t *address, size_t len, PGP_OUT);  pgp_status pgp_get_macaddr(const uint8_t *bytes, size_t len);
 /* microseconds, and days, since 2000-01-01 */
 pgp_status pgp_put_timestamp(int64_t value, PGP_OUT);  pgp_status pgp_get_timestamp(const uint8_t *bytes, size_t len, int64_t *value);
 pgp_status pgp_put_time(int64_t value, PGP_OUT);       pgp_status pgp_get_time(const uint8_t *bytes, size_t len, int64_t *value);   /* since midnight */

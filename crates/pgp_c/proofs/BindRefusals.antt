@@ -1,14 +1,14 @@
 -- Why a `bind` of the lists that C hands over is refused: its message is too long for the memory, or has this cause.
-use Rattle.std.proofs.Common.{◌≡◌, ◌⊎◌, ℕ, suc, ◌+◌, ◌-◌, ◌*◌, ◌<◌, ◌≤◌, ℤ, true, false, List, [], ◌∷◌, ◌++◌, length, take, map, Option, Some, None, Result, Ok, Err, Bor, MutBor, refl, sym, ap, subst, ◌∙◌, inl, inr, arith, length-append}
+use Rattle.std.proofs.Common.{◌≡◌, ◌⊎◌, ℕ, suc, ◌+◌, ◌-◌, ◌*◌, ◌<◌, ◌≤◌, ℤ, false, List, [], ◌∷◌, ◌++◌, length, take, map, Option, Some, None, Result, Err, Bor, MutBor, refl, sym, ap, subst, ◌∙◌, inl, inr, arith, length-append}
 use Rattle.std.specs.List.{flat_map}
 use Rattle.std.specs.Option.{option_to_list}
 use Rattle.std.proofs.lemmas.Bool.{cases_lt}
-use Rattle.std.proofs.lemmas.List.{append-nil, map-append, take_all}
+use Rattle.std.proofs.lemmas.List.{map-append, take_all}
 use Rattle.std.proofs.lemmas.List.Concat.{flat_map-append}
 use Rattle.std.proofs.Math.Seq.{take-append_seam, take-append-add}
-use Rattle.pgp_base.specs.Wire.{uint16, uint32, int16, nullable, counted}
-use Rattle.pgp_base.specs.Calls.{Puts as Put, Gives, Runs}
-use Rattle.pgp_base.specs.Cause.{Cause, either, first, text_cause, length_cause, count_cause, nullable_cause, counted_cause, Wants, WantsMemory}
+use Rattle.pgp_base.specs.Wire.{uint32, int16, nullable, counted}
+use Rattle.pgp_base.specs.Calls.{Gives, Runs}
+use Rattle.pgp_base.specs.Cause.{Cause, either, first, text_cause, count_cause, nullable_cause, counted_cause, Wants, WantsMemory}
 use Rattle.pgp_base.specs.Held.{Held, ◌⊕◌}
 use Rattle.pgp_base.specs.declared.error.Error.{Error}
 use Rattle.pgp_base.specs.declared.error.BindError.{BindError}
@@ -21,7 +21,7 @@ use Rattle.pgp_base.proofs.Parts.{wants_here, wants_more}
 use Rattle.pgp_frontend.proofs.Needs.{int16_length, bind_length, joined_more, framed_wants}
 use Rattle.pgp_frontend.specs.ClientMessage.{ClientMessage, Bind}
 use Rattle.pgp_frontend.specs.Given.{Arrived, Serves, before_values, BindWhole, BindSoFar, BindRefused, ValuesUpTo}
-use Rattle.pgp_frontend.specs.Payload.{Text, Int16s, Values, part_cause, parts, parts_cause, joined, bytes_of, cause}
+use Rattle.pgp_frontend.specs.Payload.{Text, Int16s, parts, parts_cause, joined, bytes_of, cause}
 use Rattle.postgres_protocol.proofs.BindLemmas.{null_length, parts_first}
 use Rattle.postgres_protocol.proofs.Rooms.{count_more}
 use Rattle.postgres_protocol.proofs.StartupPairs.{either_more}

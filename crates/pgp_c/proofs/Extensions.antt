@@ -5,8 +5,9 @@ use Rattle.std.specs.List.{AllByRecursion, list_all}
 use Rattle.std.proofs.lemmas.Bool.{ltb-true}
 use Rattle.std.proofs.lemmas.List.Elements.{All-from_recursion}
 use Rattle.std.proofs.Math.Seq.{take-append_seam, take-append-add}
-use Rattle.std.proofs.lemmas.List.{length-append, append_assoc, length-take}
-use Rattle.pgp_frontend.specs.ClientMessage.{ClientMessage, PasswordKind, Startup}
+use Rattle.std.proofs.lemmas.List.{append-nil, length-append, append_assoc, length-take}
+use Rattle.pgp_base.proofs.Parts.{length-uint32}
+use Rattle.pgp_frontend.specs.ClientMessage.{ClientMessage, CopyData, PasswordKind, Startup}
 use Rattle.pgp_frontend.specs.declared.startup.ProtocolVersion.{ProtocolVersion}
 use Rattle.pgp_frontend.specs.Payload.{bytes_of}
 use Rattle.pgp_frontend.specs.ClientRun.{ClientRun, MayCome, kinds_of, is_startup, is_opened}
@@ -14,31 +15,38 @@ use Rattle.pgp_frontend.proofs.ClientRuns.{run_more}
 use Rattle.pgp_c.specs.declared.opening.PgpPair.{PgpPair}
 use Rattle.pgp_c.specs.declared.stream.PgpStream.{PgpStream}
 use Rattle.pgp_c.specs.Opening.{is_named, pair_of}
+use Rattle.pgp_c.specs.Copying.{copy_head, SentHead}
 use Rattle.pgp_c.specs.Sending.{Sent}
-use Rattle.pgp_c.specs.Streams.{Extends}
+use Rattle.pgp_c.specs.Values.{Wrote}
+use Rattle.pgp_c.specs.Streams.{Extends, ExtendsByHead}
 
 min_left : (a b : ℕ) → a ≤ b → min a b ≡ a
 min_left a b le = omega (arith, le)
 
-module _ (m : ClientMessage) (old : PgpStream) (mid out post : List ℕ) (told n : ℕ) (room : MutBor (List ℕ)) (is : room.now ≡ take old.len old.room.now ++ (out ++ post)) (within : old.len ≤ length old.room.now) (sent : Sent m mid out told) (sum : n ≡ min (old.len + told) 18446744073709551615) (same : length out ≡ length old.room.now - old.len) (bound : length old.room.now < 2 ^ 63) where
+-- bytes that were written behind what was to be sent
+module _ (z : List ℕ) (old : PgpStream) (mid out post : List ℕ) (told n : ℕ) (room : MutBor (List ℕ)) (is : room.now ≡ take old.len old.room.now ++ (out ++ post)) (within : old.len ≤ length old.room.now) (wrote : Wrote z mid out told) (sum : n ≡ min (old.len + told) 18446744073709551615) (same : length out ≡ length old.room.now - old.len) (bound : length old.room.now < 2 ^ 63) where
   fits : old.len + told ≤ 18446744073709551615
-  fits = omega (arith, within, same, bound, sent.length_is, ap length sent.stands, length-append (bytes_of m) (drop (length (bytes_of m)) mid))
+  fits = omega (arith, within, same, bound, wrote.length_is, ap length wrote.stands, length-append z (drop (length z) mid))
 
   len : n ≡ old.len + told
   len = sum ∙ min_left (old.len + told) 18446744073709551615 fits
 
-  front : take told (out ++ post) ≡ bytes_of m
+  front : take told (out ++ post) ≡ z
   front =
-      ap (λ i. take i (out ++ post)) sent.length_is
-      ∙ ap (λ l. take (length (bytes_of m)) (l ++ post)) sent.stands
-      ∙ ap (λ l. take (length (bytes_of m)) l) (append_assoc (bytes_of m) (drop (length (bytes_of m)) mid) post)
-      ∙ take-append_seam (bytes_of m) (drop (length (bytes_of m)) mid ++ post)
+      ap (λ i. take i (out ++ post)) wrote.length_is
+      ∙ ap (λ l. take (length z) (l ++ post)) wrote.stands
+      ∙ ap (λ l. take (length z) l) (append_assoc z (drop (length z) mid) post)
+      ∙ take-append_seam z (drop (length z) mid ++ post)
 
-  whole : take n room.now ≡ take old.len old.room.now ++ bytes_of m
-  whole =
+  grown : take n room.now ≡ take old.len old.room.now ++ z
+  grown =
       let held = take old.len old.room.now in
       let count : n ≡ length held + told = omega (arith, len, within, length-take old.len old.room.now) in
       ap (λ i. take i room.now) count ∙ ap (λ l. take (length held + told) l) is ∙ take-append-add held (out ++ post) told ∙ ap (λ l. held ++ l) front
+
+module _ (m : ClientMessage) (old : PgpStream) (mid out post : List ℕ) (told n : ℕ) (room : MutBor (List ℕ)) (is : room.now ≡ take old.len old.room.now ++ (out ++ post)) (within : old.len ≤ length old.room.now) (sent : Sent m mid out told) (sum : n ≡ min (old.len + told) 18446744073709551615) (same : length out ≡ length old.room.now - old.len) (bound : length old.room.now < 2 ^ 63) where
+  whole : take n room.now ≡ take old.len old.room.now ++ bytes_of m
+  whole = grown (bytes_of m) old mid out post told n room is within (record { length_is = sent.length_is; fits = sent.fits; stands = sent.stands }) sum same bound
 
   module _ (o : Bool) (opened : old.is_open ≡ o) (may : MayCome m o) where
     reads : (sent_before : List ℕ) (kinds : List PasswordKind) (messages : List ClientMessage) → is_opened messages ≡ old.is_open
@@ -58,6 +66,36 @@ module _ (m : ClientMessage) (old : PgpStream) (mid out post : List ℕ) (told n
 
     pub extends : is_startup m ≡ false → (let new : PgpStream = record { room = room; len = n; is_open = old.is_open } in Extends m old new)
     extends plain = extends_to old.is_open (ap (λ (x : Bool). if x then true else old.is_open) (sym plain))
+
+-- the head of data
+module _ (size : ℕ) (old : PgpStream) (mid out post : List ℕ) (told n : ℕ) (room : MutBor (List ℕ)) (is : room.now ≡ take old.len old.room.now ++ (out ++ post)) (within : old.len ≤ length old.room.now) (sent : SentHead size mid out told) (sum : n ≡ min (old.len + told) 18446744073709551615) (same : length out ≡ length old.room.now - old.len) (bound : length old.room.now < 2 ^ 63) (opened : old.is_open ≡ true) where
+  five : length (copy_head size) ≡ 5
+  five = omega (arith, length-uint32 (size + 4))
+
+  head_grown : take n room.now ≡ take old.len old.room.now ++ copy_head size
+  head_grown =
+      grown (copy_head size) old mid out post told n room is within
+      (record { length_is = sent.length_is ∙ sym five; fits = omega (arith, sent.fits, five); stands = sent.stands ∙ ap (λ n. copy_head size ++ drop n mid) (sym five) }) sum same bound
+
+  with_data : (bytes : List ℕ) → length bytes ≡ size → take n room.now ++ bytes ≡ take old.len old.room.now ++ bytes_of (CopyData bytes)
+  with_data bytes few =
+      ap (λ l. l ++ bytes) head_grown ∙ append_assoc (take old.len old.room.now) (copy_head size) bytes ∙ ap (λ l. take old.len old.room.now ++ l) (sym (sent.message bytes few).1)
+
+  head_reads : (bytes before : List ℕ) (kinds : List PasswordKind) (messages : List ClientMessage) → length bytes ≡ size → is_opened messages ≡ old.is_open
+      → ClientRun kinds messages (before ++ take old.len old.room.now) → ClientRun kinds (messages ++ CopyData bytes ∷ []) (before ++ (take n room.now ++ bytes))
+  head_reads bytes before kinds messages few phase run =
+      subst (λ ks. ClientRun ks (messages ++ CopyData bytes ∷ []) (before ++ (take n room.now ++ bytes))) (append-nil kinds)
+      (subst (λ l. ClientRun (kinds ++ []) (messages ++ CopyData bytes ∷ []) l)
+      (append_assoc before (take old.len old.room.now) (bytes_of (CopyData bytes)) ∙ ap (λ l. before ++ l) (sym (with_data bytes few)))
+      (run_more kinds messages (CopyData bytes) (before ++ take old.len old.room.now) run (subst (λ (b : Bool). MayCome (CopyData bytes) b) (sym (phase ∙ opened)) (λ e. absurd cc)) (sent.message bytes few).0 (tt, tt)))
+
+  pub extends_by_head : (let new : PgpStream = record { room = room; len = n; is_open = old.is_open } in ExtendsByHead size old new)
+  extends_by_head = record {
+    appended = head_grown;
+    opened = refl;
+    message = λ bytes few. ((sent.message bytes few).0, with_data bytes few);
+    reads = head_reads;
+  }
 
 -- no name is empty
 named_one : (p : PgpPair) → is_named p ≡ true → (pair_of p).0 ≢ []

@@ -1,9 +1,11 @@
 //! The proved core for C. `include/postgres_protocol.h` declares what stands here, and says how it is called.
 #![tactic(auto)]
 
+mod address;
 mod copying;
 mod front;
 mod listing;
+mod number;
 mod opening;
 mod row;
 mod status;

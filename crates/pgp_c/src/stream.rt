@@ -6,8 +6,9 @@ ghost use Rattle.pgp_frontend.specs.Payload.{version_code};
 ghost use Rattle.pgp_frontend.specs.declared.startup.ProtocolVersion.{ProtocolVersion as Version};
 ghost use Rattle.pgp_c.specs.Lists.{value_of};
 ghost use Rattle.pgp_c.specs.Opening.{pair_of};
-ghost use Rattle.pgp_c.specs.Streams.{Extends, Keeps};
+ghost use Rattle.pgp_c.specs.Streams.{Extends, ExtendsByHead, Keeps};
 
+use crate::copying::pgp_copy_data_head;
 use crate::listing::{PgpValue, pgp_bind, pgp_parse};
 use crate::opening::{PgpPair, pgp_startup};
 use crate::writing::{
@@ -345,6 +346,26 @@ pub extern "C" fn pgp_stream_sync(stream: &mut PgpStream<'_>) -> u32
     }
     let mut added = 0;
     let code = pgp_sync(&mut stream.room[len..], &mut added);
+    stream.len = len.saturating_add(added);
+    code
+}
+
+/// The head of a message with so many bytes of data, which the caller sends behind what is pending.
+#[unsafe(no_mangle)]
+pub extern "C" fn pgp_stream_copy_data_head(stream: &mut PgpStream<'_>, data_len: usize) -> u32
+    ensures added { result ≡ 0 → ExtendsByHead data_len stream.old stream.new }
+    ensures phase { stream.old.is_open ≢ true → result ≡ 32 }
+    ensures kept { result ≢ 0 → Keeps stream.old stream.new }
+{
+    let len = stream.len;
+    if stream.is_open != true {
+        return WRONG_PHASE;
+    }
+    if len > stream.room.len() {
+        return NO_ROOM;
+    }
+    let mut added = 0;
+    let code = pgp_copy_data_head(data_len, &mut stream.room[len..], &mut added);
     stream.len = len.saturating_add(added);
     code
 }

@@ -7,7 +7,6 @@ ghost use Rattle.pgp_auth.specs.Lexer.{Identifier, Literal};
 use crate::deliver::{deliver, refused};
 use pgp_base::Error;
 use std::alloc::Global;
-use std::str;
 
 /// The text as a string constant, which a server reads as the text under either setting of `standard_conforming_strings`.
 #[unsafe(no_mangle)]
@@ -22,7 +21,7 @@ pub extern "C" fn pgp_escape_literal(
     ensures refused { result ≢ 0 → (written.new ≡ 0) × (out.new ≡ out.old) }
     ensures why { result ≢ 0 → (result ≡ 1) ⊎ ((result ≡ 9) × ¬ IsUtf8 text.now) }
 {
-    let Ok(text) = str::from_utf8(text) else {
+    let Ok(text) = pgp_base::text(text) else {
         return refused(Error::NotUtf8, written);
     };
     match pgp_auth::escape::escape_literal(alloc, text) {
@@ -43,7 +42,7 @@ pub extern "C" fn pgp_escape_identifier(
     ensures refused { result ≢ 0 → (written.new ≡ 0) × (out.new ≡ out.old) }
     ensures why { result ≢ 0 → (result ≡ 1) ⊎ ((result ≡ 9) × ¬ IsUtf8 text.now) }
 {
-    let Ok(text) = str::from_utf8(text) else {
+    let Ok(text) = pgp_base::text(text) else {
         return refused(Error::NotUtf8, written);
     };
     match pgp_auth::escape::escape_identifier(alloc, text) {

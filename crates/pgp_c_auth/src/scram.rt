@@ -9,7 +9,6 @@ ghost use Rattle.pgp_c_auth.specs.Scram.{code_of, place_of, Names, NamesNone, Be
 use crate::deliver::deliver;
 use pgp_auth::authentication::sasl::{ChannelBinding, NoPrep, ScramError, ScramSha256, is_nonce};
 use std::alloc::Global;
-use std::str;
 
 /// The number before an exchange's first refusal.
 const SCRAM: u32 = 64;
@@ -95,7 +94,7 @@ fn begun(
     ensures ok { IfOk result (λ client. Begins (record { password = prepared (λ _. None) password.now; kind = kind; certificate = certificate.now; nonce = nonce.now }) client) }
     ensures err { IfErr result (λ code. (code ≢ 0) × BeginRefused (record { password = prepared (λ _. None) password.now; kind = kind; certificate = certificate.now; nonce = nonce.now }) code) }
 {
-    let Ok(text) = str::from_utf8(nonce) else {
+    let Ok(text) = pgp_base::text(nonce) else {
         return Err(BAD_NONCE);
     };
     if !is_nonce(text) {

@@ -1,0 +1,67 @@
+//! Identifiers and addresses of networks in the binary format, which are bytes as they stand, or an address behind its netmask.
+
+ghost use Rattle.std.specs.Prelude.{◌≡◌, ◌≢◌, ◌⊎◌, Ok};
+ghost use Rattle.pgp_types.specs.Format.{Reads};
+ghost use Rattle.pgp_types.specs.Network.{macaddr, uuid};
+ghost use Rattle.pgp_c.specs.Values.{Wrote, Lacks, Refuses};
+
+use crate::status::{failed, refused, sent};
+use pgp_base::Window;
+
+/// Writes a `uuid`, which has 16 bytes.
+#[unsafe(no_mangle)]
+pub extern "C" fn pgp_put_uuid(id: &[u8], out: &mut [u8], written: &mut usize) -> u32
+    ensures wrote { result ≡ 0 → Reads uuid id.now (Ok id.now) × Wrote id.now out.old out.new written.new }
+    ensures refused { result ≢ 0 → (written.new ≡ 0) × (Refuses uuid id.now result ⊎ Lacks id.now out.old written.new result) }
+{
+    let id = match pgp_types::uuid_from_sql(id) {
+        Ok(id) => id,
+        Err(e) => return refused(e, written),
+    };
+    let mut window = Window::new(out);
+    match pgp_types::uuid_to_sql(id, &mut window) {
+        Ok(()) => sent(&window, written),
+        Err(e) => refused(e, written),
+    }
+}
+
+/// Whether the bytes are a `uuid`, as they stand.
+#[unsafe(no_mangle)]
+pub extern "C" fn pgp_get_uuid(bytes: &[u8]) -> u32
+    ensures read { result ≡ 0 → Reads uuid bytes.now (Ok bytes.now) }
+    ensures refused { result ≢ 0 → Refuses uuid bytes.now result }
+{
+    match pgp_types::uuid_from_sql(bytes) {
+        Ok(_) => 0,
+        Err(e) => failed(e),
+    }
+}
+
+/// Writes a `macaddr`, which has 6 bytes.
+#[unsafe(no_mangle)]
+pub extern "C" fn pgp_put_macaddr(address: &[u8], out: &mut [u8], written: &mut usize) -> u32
+    ensures wrote { result ≡ 0 → Reads macaddr address.now (Ok address.now) × Wrote address.now out.old out.new written.new }
+    ensures refused { result ≢ 0 → (written.new ≡ 0) × (Refuses macaddr address.now result ⊎ Lacks address.now out.old written.new result) }
+{
+    let address = match pgp_types::macaddr_from_sql(address) {
+        Ok(address) => address,
+        Err(e) => return refused(e, written),
+    };
+    let mut window = Window::new(out);
+    match pgp_types::macaddr_to_sql(address, &mut window) {
+        Ok(()) => sent(&window, written),
+        Err(e) => refused(e, written),
+    }
+}
+
+/// Whether the bytes are a `macaddr`, as they stand.
+#[unsafe(no_mangle)]
+pub extern "C" fn pgp_get_macaddr(bytes: &[u8]) -> u32
+    ensures read { result ≡ 0 → Reads macaddr bytes.now (Ok bytes.now) }
+    ensures refused { result ≢ 0 → Refuses macaddr bytes.now result }
+{
+    match pgp_types::macaddr_from_sql(bytes) {
+        Ok(_) => 0,
+        Err(e) => failed(e),
+    }
+}

@@ -1,0 +1,82 @@
+//! The numbers of a list, read where they stand, one after another: types of parameters, and formats of columns.
+
+ghost use Rattle.std.specs.Prelude.{◌≡◌, ◌≢◌};
+ghost use Rattle.pgp_base.specs.PartReading.{Answers};
+ghost use Rattle.pgp_message.specs.ItemReading.{format_at, type_at};
+ghost use Rattle.pgp_message.specs.Items.{FormatSpelled, FormatRefused, TypeSpelled, TypeRefused};
+ghost use Rattle.pgp_c.specs.Rows.{IsEnded, RefusesItem, Takes};
+
+use crate::row::{DONE, PgpCursor, rest_of};
+use crate::status::failed;
+use pgp_base::Error;
+use pgp_base::reading::{oid_at, uint16_at};
+
+/// The next type of a parameter description.
+#[unsafe(no_mangle)]
+pub extern "C" fn pgp_type_next(bytes: &[u8], cursor: &mut PgpCursor, value: &mut u32) -> u32
+    ensures item { result ≡ 0 → Takes TypeSpelled bytes.now cursor.old cursor.new value.new }
+    ensures done { result ≡ 101 → IsEnded bytes.now cursor.old }
+    ensures refused { result ≢ 0 → result ≢ 101 → RefusesItem TypeRefused bytes.now cursor.old result }
+    ensures left { result ≢ 0 → (cursor.new ≡ cursor.old) × (value.new ≡ value.old) }
+{
+    let at = cursor.at;
+    let rest = rest_of(bytes, at, cursor.end);
+    if cursor.left == 0 {
+        if rest.is_empty() {
+            return DONE;
+        }
+        return failed(Error::NotDrained);
+    }
+    match type_at(rest) {
+        Ok((number, more)) => {
+            cursor.at = at.saturating_add(rest.len().saturating_sub(more.len()));
+            cursor.left -= 1;
+            *value = number;
+            0
+        }
+        Err(e) => failed(e),
+    }
+}
+
+/// The type at the front.
+fn type_at(bytes: &[u8]) -> Result<(u32, &[u8]), Error>
+    ensures { Answers (λ x. (x.0, x.1.now)) result (type_at bytes.now) }
+{
+    let (number, rest) = oid_at(bytes)?;
+    Ok((number, rest))
+}
+
+/// The next format of a copy's columns.
+#[unsafe(no_mangle)]
+pub extern "C" fn pgp_format_next(bytes: &[u8], cursor: &mut PgpCursor, value: &mut u16) -> u32
+    ensures item { result ≡ 0 → Takes FormatSpelled bytes.now cursor.old cursor.new value.new }
+    ensures done { result ≡ 101 → IsEnded bytes.now cursor.old }
+    ensures refused { result ≢ 0 → result ≢ 101 → RefusesItem FormatRefused bytes.now cursor.old result }
+    ensures left { result ≢ 0 → (cursor.new ≡ cursor.old) × (value.new ≡ value.old) }
+{
+    let at = cursor.at;
+    let rest = rest_of(bytes, at, cursor.end);
+    if cursor.left == 0 {
+        if rest.is_empty() {
+            return DONE;
+        }
+        return failed(Error::NotDrained);
+    }
+    match format_at(rest) {
+        Ok((number, more)) => {
+            cursor.at = at.saturating_add(rest.len().saturating_sub(more.len()));
+            cursor.left -= 1;
+            *value = number;
+            0
+        }
+        Err(e) => failed(e),
+    }
+}
+
+/// The format at the front.
+fn format_at(bytes: &[u8]) -> Result<(u16, &[u8]), Error>
+    ensures { Answers (λ x. (x.0, x.1.now)) result (format_at bytes.now) }
+{
+    let (number, rest) = uint16_at(bytes)?;
+    Ok((number, rest))
+}
