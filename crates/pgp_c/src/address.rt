@@ -1,4 +1,4 @@
-//! Identifiers and addresses of networks in the binary format, which are bytes as they stand, or an address behind its netmask.
+//! Identifiers and hardware addresses in the binary format, which are bytes as they stand.
 
 ghost use Rattle.std.specs.Prelude.{◌≡◌, ◌≢◌, ◌⊎◌, Ok};
 ghost use Rattle.pgp_types.specs.Format.{Reads};
