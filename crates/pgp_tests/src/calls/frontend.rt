@@ -166,7 +166,8 @@ fn bind_refuses_the_first_cause(rt: HostRuntime) {
         matches!(&bind_formats("", "", 65_535, &mut buf), Ok(())),
     );
     same(&rt, buf.len(), 5 + 131_083);
-    same(&rt, &buf.as_slice()[5..10], b"B\0\x02\0\x0a".as_slice());
+    let front = b"B\0\x02\0\x0a".as_slice();
+    same(&rt, buf.as_slice().get(5..10), Some(front));
 }
 
 #[test]
