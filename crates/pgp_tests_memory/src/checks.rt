@@ -5,12 +5,12 @@ use std::fmt::Debug;
 use std::process::Abort;
 
 /// What came is what was wanted, else the test fails and shows both.
-pub fn same<T: PartialEq + Debug + Drop>(rt: &impl Abort, came: T, wanted: T) {
+pub(crate) fn same<T: PartialEq + Debug + Drop>(rt: &impl Abort, came: T, wanted: T) {
     assert_eq!(rt; came, wanted);
 }
 
 /// The same, told with the place in a table.
-pub fn same_at<T: PartialEq + Debug + Drop, P: Debug + Drop>(
+pub(crate) fn same_at<T: PartialEq + Debug + Drop, P: Debug + Drop>(
     rt: &impl Abort,
     place: P,
     came: T,
@@ -20,11 +20,11 @@ pub fn same_at<T: PartialEq + Debug + Drop, P: Debug + Drop>(
 }
 
 /// What came is true, else the test fails.
-pub fn holds(rt: &impl Abort, came: bool) {
+pub(crate) fn holds(rt: &impl Abort, came: bool) {
     assert!(rt; came);
 }
 
 /// The same, told with the place in a table.
-pub fn holds_at<P: Debug + Drop>(rt: &impl Abort, place: P, came: bool) {
+pub(crate) fn holds_at<P: Debug + Drop>(rt: &impl Abort, place: P, came: bool) {
     assert!(rt; came, "{place:?}");
 }
