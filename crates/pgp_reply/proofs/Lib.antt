@@ -1,0 +1,5 @@
+pub mod Lists
+pub mod Payloads
+pub mod ReadBack
+pub mod Streams
+pub mod Written

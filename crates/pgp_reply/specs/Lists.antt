@@ -1,0 +1,40 @@
+-- The parts of the items of lists.
+-- PostgreSQL manual, "Message Formats", the repeated parts.
+use Rattle.std.specs.Prelude.{ℕ, ℤ, negsuc, List, [], ◌∷◌, ◌++◌, Option, Some, None}
+use Rattle.std.specs.Borrow.{Bor}
+use Rattle.pgp_base.specs.Wire.{int16, int32, uint16, oid}
+use Rattle.pgp_frontend.specs.Payload.{Part, Int32, Text, Sized, Rest}
+use Rattle.pgp_message.specs.Items.{FieldPart, ErrorPart}
+
+-- the parts before a list, those of its items, and those behind it
+abbrev pub with_list : List Part → List Part → List Part → List Part
+with_list head items tail = head ++ (items ++ tail)
+
+-- the bytes of a lent value, or none for a null
+abbrev pub lent : Option (Bor (List ℕ)) → Option (List ℕ)
+lent None = None
+lent (Some bytes) = Some bytes.now
+
+-- a value of a row: -1 for a null
+abbrev pub value_parts : Option (List ℕ) → List Part
+value_parts None = Int32 (negsuc 0) ∷ []
+value_parts (Some bytes) = Sized bytes ∷ []
+
+abbrev pub text_parts : List ℕ → List Part
+text_parts z = Text z ∷ []
+
+-- the format of a column
+abbrev pub format_parts : ℕ → List Part
+format_parts n = Rest (uint16 n) ∷ []
+
+-- the type of a parameter
+abbrev pub type_parts : ℕ → List Part
+type_parts n = Rest (oid n) ∷ []
+
+-- A field of an error or a notice: a text that begins with its code. So neither has a 0 byte.
+abbrev pub field_parts : ErrorPart → List Part
+field_parts x = Text (x.code ∷ x.value) ∷ []
+
+-- a column of rows
+abbrev pub column_parts : FieldPart → List Part
+column_parts x = Text x.name ∷ Rest (oid x.table_oid) ∷ Rest (int16 x.column_id) ∷ Rest (oid x.type_oid) ∷ Rest (int16 x.type_size) ∷ Int32 x.type_modifier ∷ Rest (int16 x.format) ∷ []

@@ -1,0 +1,30 @@
+//! The messages of a server, to the byte: what `pgp_message` reads.
+#![tactic(auto)]
+
+mod copy;
+mod extended;
+mod item;
+pub mod laws;
+mod listed;
+mod login;
+mod notice;
+mod row;
+mod session;
+
+pub use copy::{copy_data, copy_done, copy_in_response, copy_out_response};
+pub use extended::{
+    bind_complete, close_complete, no_data, parameter_description, parse_complete, portal_suspended,
+};
+pub use login::{
+    authentication_cleartext_password, authentication_gss, authentication_gss_continue,
+    authentication_kerberos_v5, authentication_md5_password, authentication_ok,
+    authentication_sasl, authentication_sasl_continue, authentication_sasl_final,
+    authentication_scm_credential, authentication_sspi, backend_key_data,
+    negotiate_protocol_version,
+};
+pub use notice::{ErrorField, error_response, notice_response};
+pub use row::{Column, data_row, row_description};
+pub use session::{
+    command_complete, empty_query_response, notification_response, parameter_status,
+    ready_for_query,
+};
