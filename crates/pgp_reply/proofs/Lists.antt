@@ -1,12 +1,12 @@
 -- Parts behind parts, and a front of a list's items with the item behind it.
-use Rattle.std.proofs.Common.{◌≡◌, ◌⊎◌, ℕ, ◌+◌, ◌≤◌, ◌<◌, List, [], ◌∷◌, ◌++◌, length, map, take, drop, Option, Some, None, sym, ap, ◌∙◌, get_or, arith, inl, inr, length-append, subst}
+use Rattle.std.proofs.Common.{◌≡◌, ℕ, ◌+◌, ◌<◌, List, [], ◌∷◌, ◌++◌, length, map, take, drop, Some, None, sym, ap, ◌∙◌, get_or, arith, inl, inr, length-append, subst}
 use Rattle.std.specs.List.{flat_map}
 use Rattle.std.proofs.lemmas.List.{take_more, map-append, append-nil, take-append-drop, drop_more}
 use Rattle.std.proofs.lemmas.List.Concat.{flat_map-append}
-use Rattle.pgp_base.specs.Cause.{first, Wants, WantsMemory}
+use Rattle.pgp_base.specs.Cause.{first}
 use Rattle.pgp_base.specs.Held.{Held, ◌⊕◌}
 use Rattle.pgp_base.specs.declared.error.Error.{Error}
-use Rattle.pgp_base.proofs.Causes.{first-append, either_none, either_first, either_then}
+use Rattle.pgp_base.proofs.Causes.{first-append, either_first, either_then}
 use Rattle.pgp_base.proofs.Needs.{memory_more, memory_then}
 use Rattle.pgp_base.proofs.Parts.{more_twice}
 use Rattle.pgp_frontend.specs.Payload.{Part, spelling, part_cause, parts_cause, joined}

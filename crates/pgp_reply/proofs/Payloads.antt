@@ -7,7 +7,6 @@ use Rattle.pgp_base.specs.declared.error.Error.TheVariants.{InvalidSize}
 use Rattle.pgp_base.specs.Cause.{text_cause, length_cause}
 use Rattle.pgp_base.proofs.Causes.{either_left, either_right}
 use Rattle.pgp_base.proofs.Spellings.{without_zero}
-use Rattle.pgp_message.specs.Parts.{Notification, KeyData, Negotiation, Setting, CountedBytes, CopyFormats}
 use Rattle.pgp_message.specs.BackendMessage.{Request, Message, tag_of, payload_of, code_of, details_of, Fits, Spells, AuthenticationOk, AuthenticationKerberosV5, AuthenticationCleartextPassword, AuthenticationMd5Password, AuthenticationScmCredential, AuthenticationGss, AuthenticationGssContinue, AuthenticationSspi, AuthenticationSasl, AuthenticationSaslContinue, AuthenticationSaslFinal, ParseComplete, BindComplete, CloseComplete, NotificationResponse, CommandComplete, DataRow, ErrorResponse, CopyInResponse, CopyOutResponse, EmptyQueryResponse, BackendKeyData, NegotiateProtocolVersion, NoticeResponse, Authentication, ParameterStatus, RowDescription, ReadyForQuery, CopyDone, CopyData, NoData, PortalSuspended, ParameterDescription}
 use Rattle.pgp_frontend.specs.Payload.{joined, parts_cause, key_cause}
 use Rattle.pgp_reply.specs.Reply.{parts, cause, IsInRange}

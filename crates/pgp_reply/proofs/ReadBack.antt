@@ -1,15 +1,13 @@
 -- Lists that were written are read.
-use Rattle.std.proofs.Common.{◌≡◌, ◌≢◌, ℕ, ℤ, ◌+◌, ◌-◌, ◌<◌, ◌≤◌, ◌^◌, List, [], ◌∷◌, ◌++◌, length, map, take, drop, Option, Some, None, refl, sym, ap, ◌∙◌, append-nil, append_assoc, length-append, pos, arith, subst}
+use Rattle.std.proofs.Common.{◌≡◌, ℕ, ◌+◌, ◌-◌, ◌<◌, ◌^◌, List, [], ◌∷◌, ◌++◌, length, map, take, drop, Option, Some, None, refl, sym, ap, ◌∙◌, append-nil, append_assoc, length-append, pos, arith}
 use Rattle.std.specs.Prelude.{negsuc, suc}
-use Rattle.std.specs.Int.{w32}
 use Rattle.std.specs.List.{flat_map, concat, AllByRecursion, slice_range}
-use Rattle.std.specs.Str.{IsUtf8}
 use Rattle.std.specs.declared.ops.Range.{Range}
 use Rattle.pgp_base.specs.Items.{Spellings, CountedItems, MarkedItems, Unmarked}
 use Rattle.pgp_base.specs.Wire.{HasNoZero, int16, int32, uint32, oid, text}
 use Rattle.pgp_base.specs.declared.error.Error.{Error}
 use Rattle.pgp_frontend.specs.Payload.{Part, joined}
-use Rattle.pgp_message.specs.Items.{ErrorPart, ErrorFieldSpelled, ErrorFieldRefused, FieldPart, FieldSpelled, FieldRefused, FormatSpelled, FormatRefused, NumbersFit, RangeSpelled, RangeRefused, IsNullValue, IsValue, TextSpelled, TextRefused, TypeSpelled, TypeRefused}
+use Rattle.pgp_message.specs.Items.{ErrorPart, ErrorFieldSpelled, ErrorFieldRefused, FieldPart, FieldSpelled, FieldRefused, FormatSpelled, FormatRefused, RangeSpelled, RangeRefused, TextSpelled, TextRefused, TypeSpelled, TypeRefused}
 use Rattle.pgp_message.specs.Table.{value_at}
 use Rattle.pgp_reply.specs.Lists.{column_parts, field_parts, format_parts, text_parts, type_parts, value_parts}
 use Rattle.pgp_reply.specs.Reply.{IsRowValue, IsColumn, IsOption, IsMechanism, fields_of, names_of}

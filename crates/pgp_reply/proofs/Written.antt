@@ -1,15 +1,15 @@
 -- What the writer of a list appends is the message of its items.
-use Rattle.std.proofs.Common.{◌≡◌, ℕ, ℤ, List, [], ◌∷◌, ◌++◌, length, map, Some, None, refl, sym, ap, ◌∙◌, pos, subst}
+use Rattle.std.proofs.Common.{◌≡◌, ℕ, List, [], ◌∷◌, ◌++◌, length, map, Some, None, sym, ap, ◌∙◌, subst}
 use Rattle.std.specs.Prelude.{Result}
 use Rattle.std.specs.List.{flat_map}
 use Rattle.std.proofs.lemmas.List.{append-nil, length-map}
 use Rattle.std.proofs.lemmas.List.Folds.{flat_map-map}
-use Rattle.pgp_base.specs.Wire.{int32, uint16, frame}
-use Rattle.pgp_base.specs.Cause.{Cause, count_cause, length_cause, either, Writes}
+use Rattle.pgp_base.specs.Wire.{uint16, frame}
+use Rattle.pgp_base.specs.Cause.{Cause, count_cause, Writes}
 use Rattle.pgp_base.specs.Held.{Held}
 use Rattle.pgp_base.specs.declared.error.Error.{Error}
 use Rattle.pgp_base.proofs.Causes.{either_then}
-use Rattle.pgp_frontend.specs.Payload.{Part, Byte, Int32, Rest, joined, frame_cause, WritesFrame}
+use Rattle.pgp_frontend.specs.Payload.{Part, Byte, Rest, joined, frame_cause, WritesFrame}
 use Rattle.pgp_message.specs.BackendMessage.{Message, tag_of}
 use Rattle.pgp_reply.specs.Lists.{with_list}
 use Rattle.pgp_reply.specs.Reply.{parts, bytes_of, WritesList}

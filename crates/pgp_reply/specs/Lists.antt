@@ -1,8 +1,8 @@
 -- The parts of the items of lists.
 -- PostgreSQL manual, "Message Formats", the repeated parts.
-use Rattle.std.specs.Prelude.{ℕ, ℤ, negsuc, List, [], ◌∷◌, ◌++◌, Option, Some, None}
+use Rattle.std.specs.Prelude.{ℕ, negsuc, List, [], ◌∷◌, ◌++◌, Option, Some, None}
 use Rattle.std.specs.Borrow.{Bor}
-use Rattle.pgp_base.specs.Wire.{int16, int32, uint16, oid}
+use Rattle.pgp_base.specs.Wire.{int16, uint16, oid}
 use Rattle.pgp_frontend.specs.Payload.{Part, Int32, Text, Sized, Rest}
 use Rattle.pgp_message.specs.Items.{FieldPart, ErrorPart}
 

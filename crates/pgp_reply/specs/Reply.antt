@@ -1,6 +1,6 @@
 -- What each message of a server is made of, as its writer spells it.
 -- PostgreSQL manual, "Message Formats"; keys that haven't 4 bytes, and the answer about versions: this project's profile of protocol 3.2.
-use Rattle.std.specs.Prelude.{ℕ, ◌≡◌, ◌≢◌, ◌<◌, ◌^◌, ℤ, pos, List, [], ◌∷◌, ◌++◌, length, map, Option, Some, None, FitsSigned, Result}
+use Rattle.std.specs.Prelude.{ℕ, ◌≡◌, ◌≢◌, ◌<◌, ◌^◌, ℤ, pos, List, [], ◌∷◌, ◌++◌, length, Option, Some, None, FitsSigned, Result}
 use Rattle.std.specs.List.{flat_map}
 use Rattle.std.specs.Int.{w32}
 use Rattle.std.specs.Str.{IsUtf8}
@@ -9,10 +9,10 @@ use Rattle.pgp_base.specs.Cause.{Cause, either, Writes}
 use Rattle.pgp_base.specs.Held.{Held}
 use Rattle.pgp_base.specs.declared.error.Error.{Error}
 use Rattle.pgp_frontend.specs.Payload.{Part, Byte, Int32, Text, Rest, Key, joined, frame_cause, WritesFrame}
-use Rattle.pgp_message.specs.BackendMessage.{Request, Message, code_of, details_of, tag_of, AuthenticationMd5Password, AuthenticationSasl, ParseComplete, BindComplete, CloseComplete, NotificationResponse, CommandComplete, DataRow, ErrorResponse, CopyInResponse, CopyOutResponse, EmptyQueryResponse, BackendKeyData, NegotiateProtocolVersion, NoticeResponse, Authentication, ParameterStatus, RowDescription, ReadyForQuery, CopyDone, CopyData, NoData, PortalSuspended, ParameterDescription}
+use Rattle.pgp_message.specs.BackendMessage.{Message, code_of, details_of, tag_of, AuthenticationMd5Password, ParseComplete, BindComplete, CloseComplete, NotificationResponse, CommandComplete, DataRow, ErrorResponse, CopyInResponse, CopyOutResponse, EmptyQueryResponse, BackendKeyData, NegotiateProtocolVersion, NoticeResponse, Authentication, ParameterStatus, RowDescription, ReadyForQuery, CopyDone, CopyData, NoData, PortalSuspended, ParameterDescription}
 use Rattle.pgp_message.specs.Items.{FieldPart, ErrorPart, NumbersFit}
 use Rattle.pgp_message.specs.Parts.{CountedBytes, CopyFormats}
-use Rattle.pgp_reply.specs.Lists.{with_list, value_parts, text_parts, format_parts, type_parts, field_parts, column_parts}
+use Rattle.pgp_reply.specs.Lists.{value_parts, text_parts, format_parts, type_parts, field_parts, column_parts}
 
 -- a count, and the items as they are spelled
 abbrev pub counted_parts : CountedBytes → List Part

@@ -16,7 +16,7 @@ use std::num::ParseIntError;
 use std::str::FromStr;
 
 /// The numbers of a list.
-fn numbers<N: FromStr<Err = ParseIntError> + Drop>(
+pub fn numbers<N: FromStr<Err = ParseIntError> + Drop>(
     alloc: Global,
     list: &[Word],
 ) -> Result<Vec<N>, Fault> {
@@ -113,7 +113,7 @@ fn write_copy_data<B: Buffer>(words: &mut Words<'_>, buf: &mut B) -> Result<(), 
 }
 
 /// The byte of a one-letter text.
-fn letter(words: &mut Words<'_>) -> Result<u8, Fault> {
+pub fn letter(words: &mut Words<'_>) -> Result<u8, Fault> {
     let [letter] = words.block::<1>()?;
     Ok(letter)
 }

@@ -145,6 +145,11 @@ fn writes<C: Codec>(alloc: Global, row: &Row<'_>, name: &str, words: &[Word]) ->
     needs_its_room::<C>(alloc, name, words, &bytes)
 }
 
+/// A row of a call that only writes.
+pub fn check_written<C: Codec>(alloc: Global, row: &Row<'_>) -> Result<(), Fault> {
+    writes::<C>(alloc, row, row.call, &row.words(alloc)?)
+}
+
 /// A row of a client's call: it appends the bytes, which a server reads back as the call, or it is refused.
 pub fn check_writer<C: Codec>(alloc: Global, row: &Row<'_>) -> Result<(), Fault> {
     let words = row.words(alloc)?;

@@ -14,6 +14,7 @@ mod names;
 mod numbers;
 mod passwords;
 mod ranges;
+mod replies;
 mod row;
 mod saslprep;
 mod scram;
@@ -27,6 +28,7 @@ use client_read::check_client_read;
 use codec::{check_value, check_writer};
 use fault::Fault;
 use passwords::check_password;
+use replies::check_reply;
 use row::Row;
 use saslprep::check_saslprep;
 use scram::check_scram;
@@ -49,13 +51,14 @@ enum Family {
     Lists,
     Arrays,
     Ranges,
+    Replies,
     Server,
     Passwords,
     Scram,
     Saslprep,
 }
 
-const FILES: [(&str, Family); 16] = [
+const FILES: [(&str, Family); 17] = [
     ("client.rows", Family::Client),
     ("client_read.rows", Family::ClientRead),
     ("integers.rows", Family::Integers),
@@ -67,6 +70,7 @@ const FILES: [(&str, Family); 16] = [
     ("lists.rows", Family::Lists),
     ("arrays.rows", Family::Arrays),
     ("ranges.rows", Family::Ranges),
+    ("replies.rows", Family::Replies),
     ("server.rows", Family::Server),
     ("escapes.rows", Family::Passwords),
     ("passwords.rows", Family::Passwords),
@@ -88,6 +92,7 @@ fn check(alloc: Global, family: Family, row: &Row<'_>) -> Result<(), Fault> {
         Family::Lists => check_value::<lists::Lists>(alloc, row),
         Family::Arrays => check_value::<arrays::Arrays>(alloc, row),
         Family::Ranges => check_value::<ranges::Ranges>(alloc, row),
+        Family::Replies => check_reply(alloc, row),
         Family::Server => check_server(alloc, row),
         Family::Passwords => check_password(alloc, row),
         Family::Scram => check_scram(alloc, row),

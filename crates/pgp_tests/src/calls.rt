@@ -7,3 +7,4 @@ mod frontend;
 mod message;
 mod protocol;
 mod ranges;
+mod reply;
