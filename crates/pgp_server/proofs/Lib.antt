@@ -16,3 +16,5 @@ pub mod Rewritten
 pub mod OneFault
 pub mod OneStep
 pub mod Pieces
+pub mod WideContents
+pub mod AnyForms

@@ -1,0 +1,1 @@
+use Rattle.pgp_server.proofs.AnyForms.{other_again}
