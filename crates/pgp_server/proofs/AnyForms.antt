@@ -31,7 +31,7 @@ use Rattle.pgp_server.proofs.FaultLemmas.{no_message, made_err, ended_err, refus
 use Rattle.pgp_server.proofs.Runs.{same_kind}
 use Rattle.pgp_server.proofs.WideContents.{wide_contents_found, wide_contents_again, wide_contents_faulty}
 
-some_is : (a b : ℕ) → (let x : Option ℕ = Some a in x ≡ Some b) → a ≡ b
+pub some_is : (a b : ℕ) → (let x : Option ℕ = Some a in x ≡ Some b) → a ≡ b
 some_is a b e = cc
 
 -- the payload is the message's, and the message is well formed
@@ -39,16 +39,16 @@ pub record IsOtherPayload (o : OtherMessage) (bytes : List ℕ) : Type 0 where
   pub formed : IsWellFormed o
   pub are : bytes ≡ other_payload o
 
-made_is : {X Y : Type 0} (f : X → Y) (r : Result X Error) (y : Y) → made f r ≡ Ok y → (x : X) × (r ≡ Ok x) × (y ≡ f x)
+pub made_is : {X Y : Type 0} (f : X → Y) (r : Result X Error) (y : Y) → made f r ≡ Ok y → (x : X) × (r ≡ Ok x) × (y ≡ f x)
 made_is f (Ok x) y e = (x, refl, sym (ok_is (f x) y e))
 made_is f (Err d) y e = absurd cc
 
 -- ---- calls of functions
 
-abbrev call_shapes : List WideShape
+abbrev pub call_shapes : List WideShape
 call_shapes = AnOid ∷ Of SomeInt16s ∷ Of SomeValues ∷ AnInt16 ∷ []
 
-abbrev call : WideContents call_shapes → OtherMessage
+abbrev pub call : WideContents call_shapes → OtherMessage
 call c = FunctionCall c.first c.rest.first c.rest.rest.first c.rest.rest.rest.first
 
 call_found : (bytes : List ℕ) (o : OtherMessage) → IsBytes bytes → length bytes + 4 < 2 ^ 31 → function_call_of bytes ≡ Ok o → (other_tag o ≡ Some 70) × (other_kind o ≡ None) × IsOtherPayload o bytes
@@ -61,19 +61,19 @@ call_found bytes o h fits e =
 
 -- ---- the first message of a SASL exchange
 
-abbrev sasl_shapes : List WideShape
+abbrev pub sasl_shapes : List WideShape
 sasl_shapes = Of AText ∷ ANullable ∷ []
 
-abbrev first_message : WideContents sasl_shapes → AnyMessage
+abbrev pub first_message : WideContents sasl_shapes → AnyMessage
 first_message c = sasl_message c.first c.rest.first
 
-ours_is : (m n : ClientMessage) → Ours m ≡ Ours n → m ≡ n
+pub ours_is : (m n : ClientMessage) → Ours m ≡ Ours n → m ≡ n
 ours_is m n e = cc
 
-other_is : (o p : OtherMessage) → Other o ≡ Other p → o ≡ p
+pub other_is : (o p : OtherMessage) → Other o ≡ Other p → o ≡ p
 other_is o p e = cc
 
-not_both : (m : ClientMessage) (o : OtherMessage) → Ours m ≡ Other o → ⊥
+pub not_both : (m : ClientMessage) (o : OtherMessage) → Ours m ≡ Other o → ⊥
 not_both m o e = cc
 
 pub ours_found : (bytes : List ℕ) (m : ClientMessage) → IsBytes bytes → sasl_of bytes ≡ Ok (Ours m) → body_of Initial 112 bytes ≡ Ok m

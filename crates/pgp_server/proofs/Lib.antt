@@ -18,3 +18,5 @@ pub mod OneStep
 pub mod Pieces
 pub mod WideContents
 pub mod AnyForms
+pub mod AnyPackets
+pub mod AnySteps

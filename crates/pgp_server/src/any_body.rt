@@ -109,9 +109,7 @@ fn sasl_initial(payload: &[u8]) -> Result<AnyMessage<'_>, Error>
             mechanism,
             response,
         })),
-        None => Ok(AnyMessage::Other(
-            OtherMessage::SaslInitialWithoutResponse { mechanism },
-        )),
+        None => Ok(AnyMessage::Other(OtherMessage::SaslInitialWithoutResponse { mechanism })),
     }
 }
 
@@ -181,9 +179,7 @@ fn startup_other(minor: u16, rest: &[u8]) -> Result<OtherMessage<'_>, Error>
 }
 
 /// An opening packet of ours.
-fn ours_told(
-    packet: Result<ClientMessage<'_>, ClientError>,
-) -> Result<AnyMessage<'_>, ClientError>
+fn ours_told(packet: Result<ClientMessage<'_>, ClientError>) -> Result<AnyMessage<'_>, ClientError>
     ensures { any_told result ≡ ours_told (told packet.entry) }
 {
     match packet {

@@ -23,7 +23,9 @@ pub enum OtherMessage<'a> {
     },
     /// The first text of a SASL exchange, of a client that sends no response with the mechanism's name: -1 stands in the place
     /// of its length.
-    SaslInitialWithoutResponse { mechanism: &'a [u8] },
+    SaslInitialWithoutResponse {
+        mechanism: &'a [u8],
+    },
     /// The question whether the connection may be encrypted by GSSAPI.
     GssEncRequest,
     /// A startup packet of protocol 3 whose minor version is neither 0 nor 2. A server answers it with a
