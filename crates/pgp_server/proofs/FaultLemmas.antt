@@ -415,7 +415,7 @@ module _ (code : ℕ) (fits : code < 2 ^ 32) (a : (code == 196608) ≡ false) (b
   no_packet SslRequest ps t e = not_code code 80877103 fits d refl (head_is _ _ _ _ e)
   no_packet _ ps t e = cc
 
-signed_code : (code : ℕ) → code < 2 ^ 32 → oid code ≡ int32 (cast_signed w32 code)
+pub signed_code : (code : ℕ) → code < 2 ^ 32 → oid code ≡ int32 (cast_signed w32 code)
 signed_code code fits = sym (int32_spelled (cast_signed w32 code) ∙ ap uint32 (of_z-to_z w32 code fits))
 
 abbrev unknown : ℕ → Result ClientMessage ClientError

@@ -20,3 +20,4 @@ pub mod WideContents
 pub mod AnyForms
 pub mod AnyPackets
 pub mod AnySteps
+pub mod AnyRewritten

@@ -2,6 +2,7 @@
 #![tactic(auto)]
 
 mod any_body;
+mod any_forwarding;
 mod any_step;
 mod body;
 mod ends;
@@ -20,6 +21,7 @@ mod session;
 mod types;
 mod values;
 
+pub use any_forwarding::forward_any;
 pub use error::ClientError;
 pub use formats::Formats;
 pub use forwarding::forward;

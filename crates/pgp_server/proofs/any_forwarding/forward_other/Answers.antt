@@ -1,0 +1,12 @@
+use Rattle.std.proofs.Common.{rules, ◌≡◌, FitsSigned, to_z, of_z, subst}
+use Rattle.std.specs.Int.{w16}
+use Rattle.std.proofs.Math.Facts.{to_z-of_z}
+use Rattle.pgp_base.specs.Cause.{Writes}
+use Rattle.pgp_server.specs.OtherMessage.{FunctionCall, other_bytes, other_cause}
+use Rattle.pgp_server.proofs.any_forwarding.forward_other.Goals as goal
+
+pub returns-in-FunctionCall : goal.returns-in-FunctionCall
+returns-in-FunctionCall g c =
+    let fits : FitsSigned w16 c.in-FunctionCall.result_format = search rules in
+    let back : to_z w16 (of_z w16 c.in-FunctionCall.result_format) ≡ c.in-FunctionCall.result_format = to_z-of_z fits in
+    rw (c.in-FunctionCall.is, ← back) c.function_call.ensures
