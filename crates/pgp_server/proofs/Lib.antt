@@ -21,3 +21,4 @@ pub mod AnyForms
 pub mod AnyPackets
 pub mod AnySteps
 pub mod AnyRewritten
+pub mod AnyOneStep

@@ -12,12 +12,12 @@ use Rattle.std.proofs.lemmas.List.{append-nil}
 use Rattle.pgp_server.proofs.Steps.{left, partial_none}
 
 -- where bytes are missing, the length that stands there tells it
-record TellsMissing (opened : Bool) (len behind : ℕ) : Type 0 where
+pub record TellsMissing (opened : Bool) (len behind : ℕ) : Type 0 where
   pub enough : least opened ≤ len
   pub fits : len < 2 ^ 31
   pub missing : behind + 4 < len
 
-partial_length : (opened : Bool) (bytes : List ℕ) (len : ℕ) (b : BeginsWithLength opened bytes len) → IsPartial opened bytes → TellsMissing opened len (length b.rest)
+pub partial_length : (opened : Bool) (bytes : List ℕ) (len : ℕ) (b : BeginsWithLength opened bytes len) → IsPartial opened bytes → TellsMissing opened len (length b.rest)
 partial_length opened bytes len b (inl short) = absurd (omega (arith, short, behind_length opened bytes len b))
 partial_length opened bytes len b (inr p) =
     let same : b.front ++ (uint32 len ++ b.rest) ≡ p.begins.front ++ (uint32 p.len ++ p.begins.rest) =

@@ -10,6 +10,8 @@ ghost use Rattle.pgp_server.specs.Faults.{Faulty};
 ghost use Rattle.pgp_server.specs.declared.error.ClientError.{ClientError as Refusal};
 ghost use Rattle.pgp_frontend.specs.ClientMessage.{ClientMessage as Message, PasswordKind as Kind};
 ghost use Rattle.pgp_frontend.specs.ClientRun.{ClientRun, is_startup};
+ghost use Rattle.pgp_server.specs.AnyStep.{AnyStep};
+ghost use Rattle.pgp_server.specs.OtherMessage.{AnyMessage as Any, Ours};
 ghost use Rattle.pgp_server.specs.Step.{IsPartial, Stands, Step, Unread};
 ghost use Rattle.pgp_server.specs.Reads.{HasRead, Reads, ReadsSession, IsAllRead};
 
@@ -78,4 +80,17 @@ pub fn pieces_are_read_as_one()
 pub fn what_was_read_is_forwarded<B: Buffer>()
     ensures { (kind : Kind) (before after : Unread) (m : Message) (old new : Held B.Kept) (result : Result (Unit {0}) Error) →
         Step kind before (Ok (Some m)) after → WritesMessage m B.Lacks old new result → Forwards B.Lacks before.bytes after.bytes old new result }
+{}
+
+/// Where our messages alone are read, those that read the others too read the same: this message, and what is left is the
+/// same.
+pub fn any_reads_alike()
+    ensures { (kind : Kind) (old new other : Unread) (m : Message) (result : Result (Option Any) Refusal) →
+        Step kind old (Ok (Some m)) new → AnyStep kind old result other → (result ≡ Ok (Some (Ours m))) × (other ≡ new) }
+{}
+
+/// A step that reads the others too has one answer: what is read or why nothing is, and what is left.
+pub fn any_one_answer()
+    ensures { (kind : Kind) (old new other : Unread) (result another : Result (Option Any) Refusal) →
+        AnyStep kind old result new → AnyStep kind old another other → (result ≡ another) × (new ≡ other) }
 {}
