@@ -211,18 +211,25 @@ module _ (kind : PasswordKind) (old new here : Unread) (d e : ClientError) where
       by (inr (inr a)) (inr (inl b)) = absurd (both_phases old.opened b.phase a.phase)
       by (inr (inr a)) (inr (inr b)) = any_packets_one a b
 
--- a refusal isn't the want of more bytes
-any_never_waits : (kind : PasswordKind) (old new : Unread) (e : ClientError) → RefusesAny kind old e new → IsPartial old.opened old.bytes → ⊥
-any_never_waits kind old new e refused part =
+-- a refusal isn't the want of more bytes, whatever comes
+pub any_never_waits : (kind : PasswordKind) (old new : Unread) (e : ClientError) (more : List ℕ) → RefusesAny kind old e new → IsPartial old.opened (old.bytes ++ more) → ⊥
+any_never_waits kind old new e more refused part =
     elim refused.left [
       | inl at ↦
-          let t = partial_length old.opened old.bytes at.fault.len at.fault.begins part in
+          let t = partial_length old.opened (old.bytes ++ more) at.fault.len (more_behind old.opened old.bytes more at.fault.len at.fault.begins) part in
           elim at.fault.wrong [ inl small ↦ omega (arith, small, t.enough) | inr large ↦ omega (arith, large, t.fits) ]
       | inr other ↦ elim other [
-        | inl skips ↦ whole_frame skips.tag skips.payload new.bytes old.bytes skips.whole skips.fits (subst (λ (o : Bool). IsPartial o old.bytes) skips.phase part)
-        | inr stops ↦ whole_packet stops.payload stops.rest old.bytes stops.whole stops.fits (subst (λ (o : Bool). IsPartial o old.bytes) stops.phase part)
+        | inl skips ↦
+            whole_frame skips.tag skips.payload (new.bytes ++ more) (old.bytes ++ more) (ap (λ l. l ++ more) skips.whole ∙ append_assoc (framed (Some skips.tag) skips.payload) new.bytes more) skips.fits
+            (subst (λ (o : Bool). IsPartial o (old.bytes ++ more)) skips.phase part)
+        | inr stops ↦
+            whole_packet stops.payload (stops.rest ++ more) (old.bytes ++ more) (ap (λ l. l ++ more) stops.whole ∙ append_assoc (framed None stops.payload) stops.rest more) stops.fits
+            (subst (λ (o : Bool). IsPartial o (old.bytes ++ more)) stops.phase part)
       ]
     ]
+
+never_here : (kind : PasswordKind) (old new : Unread) (e : ClientError) → RefusesAny kind old e new → IsPartial old.opened old.bytes → ⊥
+never_here kind old new e refused part = any_never_waits kind old new e [] refused (subst (λ b. IsPartial old.opened b) (sym (append-nil old.bytes)) part)
 
 -- ---- what stands
 
@@ -304,10 +311,10 @@ any_step_one kind old new here (Ok (Some (Other o))) (Err e) h k = absurd (k.no_
 any_step_one kind old new here (Ok None) (Ok (Some (Ours m))) h k = absurd (partial_none kind old.opened old.bytes m here.bytes h.0 k.stands)
 any_step_one kind old new here (Ok None) (Ok (Some (Other o))) h k = absurd (partial_no_other kind old.opened old.bytes o here.bytes h.0 k.stands)
 any_step_one kind old new here (Ok None) (Ok None) h k = (refl, h.1 ∙ sym k.1)
-any_step_one kind old new here (Ok None) (Err e) h k = absurd (any_never_waits kind old here e k h.0)
+any_step_one kind old new here (Ok None) (Err e) h k = absurd (never_here kind old here e k h.0)
 any_step_one kind old new here (Err d) (Ok (Some (Ours m))) h k = absurd (h.none m [] here.bytes (here_again kind old.bytes old.opened m here.bytes k.stands))
 any_step_one kind old new here (Err d) (Ok (Some (Other o))) h k = absurd (h.no_other o [] here.bytes (other_here kind old.bytes old.opened o here.bytes k.stands))
-any_step_one kind old new here (Err d) (Ok None) h k = absurd (any_never_waits kind old new d h k.0)
+any_step_one kind old new here (Err d) (Ok None) h k = absurd (never_here kind old new d h k.0)
 any_step_one kind old new here (Err d) (Err e) h k =
     let one = any_refusals_one kind old new here d e h k in
     (ap any_error one.0, one.1)

@@ -22,3 +22,4 @@ pub mod AnyPackets
 pub mod AnySteps
 pub mod AnyRewritten
 pub mod AnyOneStep
+pub mod AnyRuns

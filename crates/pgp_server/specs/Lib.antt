@@ -1,4 +1,5 @@
 pub mod AnyReading
+pub mod AnyReads
 pub mod AnyStep
 pub mod AnyViews
 pub mod Content
