@@ -1,35 +1,26 @@
 -- The other messages: what is read from a payload is the message of that payload, and each message is read from its own.
-use Rattle.std.proofs.Common.{◌≡◌, ◌≢◌, ℕ, ℤ, pos, ◌+◌, ◌-◌, ◌<◌, ◌≤◌, ◌^◌, Bool, true, false, List, [], ◌∷◌, ◌++◌, length, map, Option, Some, None, Result, Ok, Err, refl, sym, ap, subst, ◌∙◌, arith, inl, inr}
-use Rattle.std.specs.Prelude.{IfSome, ◌==◌, ◌⊎◌, nat_le, is_some, if◌then◌else◌}
-use Rattle.std.specs.Int.{w32, cast_signed, cast_unsigned, from_be_bytes}
+use Rattle.std.proofs.Common.{◌≡◌, ◌≢◌, ℕ, ◌+◌, ◌<◌, ◌^◌, Bool, true, false, List, [], ◌∷◌, length, Option, Some, None, Result, Ok, Err, refl, sym, ap, subst, ◌∙◌, arith, inl, inr}
+use Rattle.std.specs.Prelude.{IfSome, ◌==◌, ◌⊎◌, if◌then◌else◌}
 use Rattle.std.specs.List.{AllByRecursion}
-use Rattle.std.proofs.lemmas.Bool.{eqb-true, eq-eqb, ne_eqb}
-use Rattle.std.proofs.lemmas.Int.{to_z_pos, of_z-to_z}
-use Rattle.pgp_base.specs.Wire.{IsBytes, oid, int32, uint32}
-use Rattle.pgp_base.specs.PartReading.{oid_at}
+use Rattle.std.proofs.lemmas.Bool.{eqb-true, ne_eqb}
+use Rattle.pgp_base.specs.Wire.{IsBytes}
 use Rattle.pgp_base.specs.declared.error.Error.{Error}
-use Rattle.pgp_base.proofs.PartLemmas.{oid_number, number_takes, number_again, number_short}
-use Rattle.pgp_base.proofs.Parts.{int32_spelled}
-use Rattle.pgp_base.proofs.Prefixes.{uint32_begins}
-use Rattle.pgp_frontend.specs.ClientMessage.{ClientMessage, Startup, CancelRequest, SslRequest, SaslInitialResponse, PasswordKind, Password, Initial, Response}
-use Rattle.pgp_frontend.specs.Payload.{Part, Int32, Pairs, Text, Sized, joined, payload, parts, tag_of, kind_of}
-use Rattle.pgp_frontend.specs.Reading.{AText, SomeInt16s, SomeValues, ASized, SomePairs, IsSpelled, shape}
-use Rattle.pgp_frontend.specs.declared.startup.ProtocolVersion.TheVariants.{V3_0, V3_2}
+use Rattle.pgp_frontend.specs.ClientMessage.{ClientMessage, SaslInitialResponse, PasswordKind, Password, Initial, Response}
+use Rattle.pgp_frontend.specs.Payload.{Text, payload, tag_of, kind_of}
+use Rattle.pgp_frontend.specs.Reading.{AText, SomeInt16s, SomeValues, ASized, IsSpelled}
 use Rattle.pgp_frontend.proofs.Readings.{spelled_parts}
 use Rattle.pgp_frontend.proofs.ClientRuns.{kind_there, is_told}
-use Rattle.pgp_server.specs.OtherMessage.{OtherMessage, FunctionCall, SaslInitialWithoutResponse, GssEncRequest, StartupOther, AnyMessage, Ours, Other, WidePart, Plain, other_tag, other_kind, other_parts, other_payload, HasOtherMinor, IsWellFormed, HasWideSpelling, Nullable, wide_joined}
-use Rattle.pgp_server.specs.WideFaults.{WideShape, Of, AnOid, AnInt16, ANullable, WideContents, wide_shape, WideFaulty}
-use Rattle.pgp_server.specs.Reading.{contents_at, made, ended, body_of, by_code, by_front, packet_of, sasl_initial_of}
-use Rattle.pgp_server.specs.AnyReading.{wide_contents_at, function_call_of, sasl_message, sasl_of, is_first_sasl, ours, other, any_body_of, other_minor, startup_other_of, other_told, ours_told, by_minor, any_by_code, any_by_front, any_packet_of}
-use Rattle.pgp_server.specs.declared.error.ClientError.{ClientError}
-use Rattle.pgp_server.specs.declared.error.ClientError.TheVariants.{Reading}
+use Rattle.pgp_server.specs.OtherMessage.{OtherMessage, FunctionCall, SaslInitialWithoutResponse, GssEncRequest, StartupOther, AnyMessage, Ours, Other, Plain, other_tag, other_kind, other_payload, IsWellFormed, HasWideSpelling, Nullable, wide_joined}
+use Rattle.pgp_server.specs.WideFaults.{WideShape, Of, AnOid, AnInt16, ANullable, WideContents}
+use Rattle.pgp_server.specs.Reading.{made, body_of, sasl_initial_of}
+use Rattle.pgp_server.specs.AnyReading.{wide_contents_at, function_call_of, sasl_message, sasl_of, is_first_sasl, ours, other, any_body_of}
 use Rattle.pgp_server.proofs.Items.{ok, ok_is}
-use Rattle.pgp_server.proofs.Contents.{contents_found, contents_again}
+use Rattle.pgp_server.proofs.Contents.{contents_again}
 use Rattle.pgp_server.proofs.ValueLemmas.{chosen}
-use Rattle.pgp_server.proofs.Forms.{body_again, coded, packet_again, code_3_0, code_3_2, cancel_code, ssl_code, small_code}
-use Rattle.pgp_server.proofs.FaultLemmas.{no_message, made_err, ended_err, refusal_is}
+use Rattle.pgp_server.proofs.Forms.{body_again}
+use Rattle.pgp_server.proofs.FaultLemmas.{no_message}
 use Rattle.pgp_server.proofs.Runs.{same_kind}
-use Rattle.pgp_server.proofs.WideContents.{wide_contents_found, wide_contents_again, wide_contents_faulty}
+use Rattle.pgp_server.proofs.WideContents.{wide_contents_found, wide_contents_again}
 
 pub some_is : (a b : ℕ) → (let x : Option ℕ = Some a in x ≡ Some b) → a ≡ b
 some_is a b e = cc

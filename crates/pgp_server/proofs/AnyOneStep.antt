@@ -1,38 +1,38 @@
 -- A step that reads the other messages too has one answer, and reads our messages as a step without them does.
 use Rattle.std.proofs.Common.{◌≡◌, ◌≢◌, ℕ, ℤ, pos, ◌+◌, ◌<◌, ◌≤◌, ◌^◌, Bool, true, false, List, [], ◌∷◌, ◌++◌, length, map, Option, Some, None, Result, Ok, Err, refl, sym, ap, subst, ◌∙◌, append_assoc, arith, inl, inr}
-use Rattle.std.specs.Prelude.{◌==◌, ◌⊎◌, ◌||◌, IfSome}
+use Rattle.std.specs.Prelude.{◌⊎◌, ◌||◌, IfSome}
 use Rattle.std.specs.Int.{w32, cast_signed, cast_unsigned}
 use Rattle.std.proofs.lemmas.Bool.{ne_eqb}
 use Rattle.std.proofs.lemmas.Int.{to_z-of_z, to_z_pos}
 use Rattle.std.proofs.lemmas.List.{append-nil}
 use mir.Facts.{Fits-of_z}
-use Rattle.pgp_base.specs.Wire.{oid, int32}
+use Rattle.pgp_base.specs.Wire.{int32}
 use Rattle.pgp_base.specs.declared.error.Error.{Error}
 use Rattle.pgp_base.specs.declared.error.Error.TheVariants.{UnknownTag}
 use Rattle.pgp_base.proofs.Parts.{int32_spelled}
-use Rattle.pgp_frontend.specs.ClientMessage.{ClientMessage, Startup, CancelRequest, SslRequest, PasswordKind, Password, Initial, Response}
+use Rattle.pgp_frontend.specs.ClientMessage.{ClientMessage, Startup, CancelRequest, SslRequest, PasswordKind}
 use Rattle.pgp_frontend.specs.ClientRun.{is_startup}
-use Rattle.pgp_frontend.specs.Payload.{Part, Int32, Pairs, parts, framed, tag_of, kind_of}
+use Rattle.pgp_frontend.specs.Payload.{Part, Int32, Pairs, parts, framed, tag_of}
 use Rattle.pgp_frontend.specs.Reading.{SomePairs, shape}
 use Rattle.pgp_frontend.specs.declared.startup.ProtocolVersion.TheVariants.{V3_0, V3_2}
 use Rattle.pgp_frontend.proofs.Readings.{bodies, tagged_bodies, tag_in}
 use Rattle.pgp_server.specs.AnyReading.{function_call_of, sasl_of, is_first_sasl, ours, other, any_body_of, other_minor, startup_other_of, other_told, ours_told, any_packet_of}
-use Rattle.pgp_server.specs.AnyStep.{OtherStands, HasFaultyOtherBody, AnyBlamesFrame, IsUnknownPacketToAll, HasFaultyOtherPacket, AnyBlamesPacket, SkipsAnyFrame, StopsAtAny, RefusesAny, AnyStep}
+use Rattle.pgp_server.specs.AnyStep.{OtherStands, AnyBlamesFrame, IsUnknownPacketToAll, HasFaultyOtherPacket, AnyBlamesPacket, SkipsAnyFrame, StopsAtAny, RefusesAny, AnyStep}
 use Rattle.pgp_server.specs.Faults.{Faulty}
 use Rattle.pgp_server.specs.OtherMessage.{OtherMessage, FunctionCall, SaslInitialWithoutResponse, GssEncRequest, StartupOther, AnyMessage, Ours, Other, WidePart, Plain, other_tag, other_kind, other_parts, other_payload, is_other_startup, HasOtherMinor}
-use Rattle.pgp_server.specs.Reading.{contents_at, made, ended, body_of, packet_of}
-use Rattle.pgp_server.specs.Step.{Unread, Stands, IsPartial, least, BeginsWithLength, HasFaultyPacket, StopsAtLength, Takes}
+use Rattle.pgp_server.specs.Reading.{made, ended, packet_of}
+use Rattle.pgp_server.specs.Step.{Unread, Stands, IsPartial, least, BeginsWithLength, StopsAtLength, Takes}
 use Rattle.pgp_server.specs.WideFaults.{wide_shape, WideFaulty}
 use Rattle.pgp_server.specs.declared.error.ClientError.{ClientError}
 use Rattle.pgp_server.specs.declared.error.ClientError.TheVariants.{Reading}
 use Rattle.pgp_server.proofs.Forms.{code_3_0, code_3_2, cancel_code, ssl_code}
 use Rattle.pgp_server.proofs.OneFault.{faulty_err}
-use Rattle.pgp_server.proofs.OneStep.{faulty_read, unknown_read, known_read, unknown_packet, two_lengths, frame_length, packet_length, code_bytes, has_code, unread_is, both_phases}
+use Rattle.pgp_server.proofs.OneStep.{faulty_read, unknown_read, known_read, unknown_packet, two_lengths, frame_length, packet_length, code_bytes, unread_is, both_phases}
 use Rattle.pgp_server.proofs.Refusals.{whole_frame, whole_packet, partial_length, more_behind}
 use Rattle.pgp_server.proofs.Runs.{stands_once}
-use Rattle.pgp_server.proofs.Steps.{left, partial_none}
+use Rattle.pgp_server.proofs.Steps.{partial_none}
 use Rattle.pgp_server.proofs.WideContents.{wide_faulty_err}
-use Rattle.pgp_server.proofs.AnyForms.{ReadsPlainly, reads_plainly, plainly, first_sasl, some_is, ours_is, other_is, not_both, call, call_shapes, first_message, sasl_shapes}
+use Rattle.pgp_server.proofs.AnyForms.{ReadsPlainly, reads_plainly, plainly, first_sasl, some_is, other_is, not_both, call, call_shapes, first_message, sasl_shapes}
 use Rattle.pgp_server.proofs.AnyPackets.{IsOurs, IsMinor, as_ours, ours_3_0, ours_3_2, ours_cancel, ours_ssl, minor_found, minor_packet, gss_packet}
 use Rattle.pgp_server.proofs.AnySteps.{partial_no_other, ours_reads, other_reads, ours_packet_reads, other_packet_reads}
 

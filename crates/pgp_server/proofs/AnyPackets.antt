@@ -1,10 +1,9 @@
 -- The other opening packets: what is read from a payload is the packet of that payload, and each packet is read from its own.
-use Rattle.std.proofs.Common.{◌≡◌, ◌≢◌, ℕ, zero, suc, ℤ, pos, ◌+◌, ◌-◌, ◌<◌, ◌≤◌, ◌^◌, Bool, true, false, List, [], ◌∷◌, ◌++◌, length, map, Option, Some, None, Result, Ok, Err, refl, sym, ap, subst, ◌∙◌, arith, inl, inr}
-use Rattle.std.specs.Prelude.{◌==◌, ◌⊎◌, nat_le, if◌then◌else◌}
+use Rattle.std.proofs.Common.{◌≡◌, ◌≢◌, ℕ, zero, suc, ℤ, pos, ◌+◌, ◌-◌, ◌<◌, ◌≤◌, ◌^◌, true, false, List, [], ◌∷◌, ◌++◌, length, Option, Some, None, Result, Ok, Err, refl, sym, ap, subst, ◌∙◌, arith, inl, inr}
+use Rattle.std.specs.Prelude.{◌==◌, ◌⊎◌, nat_le}
 use Rattle.std.specs.Int.{w32, cast_signed, cast_unsigned, from_be_bytes}
-use Rattle.std.proofs.lemmas.Bool.{eqb-true, eq-eqb, ne_eqb, leb-true, leb-false, le-leb, lt-leb}
+use Rattle.std.proofs.lemmas.Bool.{eqb-true, eq-eqb, ne_eqb, leb-false, lt-leb}
 use Rattle.std.proofs.lemmas.Int.{to_z_pos, of_z-to_z}
-use Rattle.std.proofs.lemmas.List.{append-nil}
 use Rattle.pgp_base.specs.Wire.{IsBytes, oid, int32, uint32}
 use Rattle.pgp_base.specs.PartReading.{oid_at}
 use Rattle.pgp_base.specs.declared.error.Error.{Error}
@@ -12,13 +11,12 @@ use Rattle.pgp_base.proofs.PartLemmas.{oid_number, int32_number, number_takes, n
 use Rattle.pgp_base.proofs.Parts.{int32_spelled}
 use Rattle.pgp_base.proofs.Prefixes.{fronts, uint32_begins}
 use Rattle.pgp_frontend.specs.ClientMessage.{ClientMessage, Startup, CancelRequest, SslRequest}
-use Rattle.pgp_frontend.specs.Payload.{Part, Int32, Key, Pairs, joined, payload, parts, tag_of}
-use Rattle.pgp_frontend.specs.Reading.{SomePairs, IsSpelled, HasSpelling, shape}
+use Rattle.pgp_frontend.specs.Payload.{Int32, Key, Pairs, joined, payload, tag_of}
+use Rattle.pgp_frontend.specs.Reading.{SomePairs, IsSpelled, HasSpelling}
 use Rattle.pgp_frontend.specs.declared.startup.ProtocolVersion.TheVariants.{V3_0, V3_2}
-use Rattle.pgp_server.specs.AnyStep.{IsUnknownPacketToAll, AnyBlamesPacket}
-use Rattle.pgp_server.specs.Faults.{Faulty}
-use Rattle.pgp_server.specs.Step.{IsUnknownPacket, BlamesPacket}
-use Rattle.pgp_server.specs.OtherMessage.{OtherMessage, FunctionCall, SaslInitialWithoutResponse, GssEncRequest, StartupOther, AnyMessage, Ours, Other, WidePart, Plain, other_tag, other_parts, other_payload, HasOtherMinor, IsWellFormed}
+use Rattle.pgp_server.specs.AnyStep.{AnyBlamesPacket}
+use Rattle.pgp_server.specs.Step.{BlamesPacket}
+use Rattle.pgp_server.specs.OtherMessage.{OtherMessage, GssEncRequest, StartupOther, AnyMessage, Ours, Other, WidePart, Plain, other_tag, other_parts, other_payload, HasOtherMinor, IsWellFormed}
 use Rattle.pgp_server.specs.Reading.{contents_at, made, ended, by_code, packet_of}
 use Rattle.pgp_server.specs.AnyReading.{other_minor, startup_other_of, other_told, ours_told, by_minor, any_by_code, any_by_front, any_packet_of}
 use Rattle.pgp_server.specs.declared.error.ClientError.{ClientError}
@@ -28,8 +26,7 @@ use Rattle.pgp_server.proofs.Contents.{contents_found, contents_again}
 use Rattle.pgp_server.proofs.ValueLemmas.{chosen}
 use Rattle.pgp_server.proofs.Forms.{coded, packet_again, code_3_0, code_3_2, cancel_code, ssl_code, small_code}
 use Rattle.pgp_server.proofs.FaultLemmas.{made_err, ended_err, code_blames, contents_faulty}
-use Rattle.pgp_server.proofs.OneStep.{code_bytes}
-use Rattle.pgp_server.proofs.AnyForms.{IsOtherPayload, made_is, ours_is, other_is, not_both}
+use Rattle.pgp_server.proofs.AnyForms.{IsOtherPayload, made_is}
 
 -- ---- minor versions
 

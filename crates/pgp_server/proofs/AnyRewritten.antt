@@ -1,14 +1,14 @@
 -- The other messages, written as the bytes that stand for their parts: the same frames come of it.
-use Rattle.std.proofs.Common.{◌≡◌, ℕ, ℤ, pos, ◌+◌, ◌<◌, ◌^◌, List, [], ◌∷◌, ◌++◌, length, map, Option, Some, None, Result, Ok, Err, refl, sym, ap, subst, ◌∙◌, append_assoc, arith, inl, inr}
+use Rattle.std.proofs.Common.{◌≡◌, ℕ, ℤ, pos, ◌+◌, ◌<◌, ◌^◌, List, [], ◌∷◌, ◌++◌, length, map, Option, Some, None, Result, refl, sym, ap, subst, ◌∙◌, append_assoc, arith}
 use Rattle.std.specs.Int.{w32, cast_signed}
 use Rattle.std.proofs.lemmas.Int.{to_z_pos}
-use Rattle.pgp_base.specs.Wire.{oid, int16, int32}
+use Rattle.pgp_base.specs.Wire.{int16, int32}
 use Rattle.pgp_base.specs.Held.{Held}
 use Rattle.pgp_base.specs.Cause.{Writes, either, first, length_cause}
 use Rattle.pgp_base.specs.declared.error.Error.{Error}
 use Rattle.pgp_frontend.specs.Payload.{Part, Rest, Int16s, Values, Pairs, Int32, spelling, part_cause, parts_cause, joined, framed, WritesFrame}
 use Rattle.pgp_frontend.specs.Reading.{HasSpelling}
-use Rattle.pgp_server.specs.OtherMessage.{OtherMessage, FunctionCall, StartupOther, WidePart, Plain, Oid, Int16, wide_spelling, wide_cause, wide_joined, other_bytes, other_cause}
+use Rattle.pgp_server.specs.OtherMessage.{FunctionCall, StartupOther, WidePart, Plain, Oid, Int16, wide_spelling, wide_cause, wide_joined, other_bytes, other_cause}
 use Rattle.pgp_server.proofs.FaultLemmas.{signed_code}
 
 -- parts of ours, and parts of the wider grammar with the same bytes and the same cause

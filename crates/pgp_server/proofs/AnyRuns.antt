@@ -2,7 +2,7 @@
 use Rattle.std.proofs.Common.{◌≡◌, ℕ, ◌+◌, Bool, true, false, List, [], ◌∷◌, ◌++◌, length, map, Option, Some, None, Result, Ok, Err, refl, sym, ap, subst, ◌∙◌, append_assoc, arith, inl, inr}
 use Rattle.std.specs.Prelude.{◌||◌, IsErr}
 use Rattle.std.specs.List.{flat_map, AllByRecursion}
-use Rattle.pgp_base.specs.Cause.{Cause, first, either, length_cause}
+use Rattle.pgp_base.specs.Cause.{first, length_cause}
 use Rattle.pgp_base.specs.Held.{Held}
 use Rattle.pgp_base.specs.declared.error.Error.{Error}
 use Rattle.pgp_base.proofs.Causes.{either_none, length_fits}
@@ -10,18 +10,25 @@ use Rattle.pgp_frontend.specs.ClientMessage.{ClientMessage, PasswordKind}
 use Rattle.pgp_frontend.specs.ClientRun.{ClientRun, is_startup}
 use Rattle.pgp_frontend.specs.Payload.{bytes_of}
 use Rattle.pgp_server.specs.AnyReads.{any_kinds_behind, IsAnyEnd, AnyReads, IsAllReadAsOurs}
-use Rattle.pgp_server.specs.AnyStep.{RefusesAny, AnyStep}
+use Rattle.pgp_server.specs.AnyStep.{OtherStands, RefusesAny, AnyStep}
 use Rattle.pgp_server.specs.Forwards.{Appends, Forwards}
-use Rattle.pgp_server.specs.OtherMessage.{OtherMessage, AnyMessage, Ours, Other, WidePart, Plain, Oid, Int16, Nullable, HasWideSpelling, IsWellFormed, wide_cause, other_parts, other_payload, other_bytes, other_cause, WritesAny}
+use Rattle.pgp_server.specs.OtherMessage.{OtherMessage, AnyMessage, Ours, Other, is_other_startup, WidePart, Plain, Oid, Int16, Nullable, HasWideSpelling, IsWellFormed, wide_cause, other_parts, other_payload, other_bytes, other_cause, WritesAny}
 use Rattle.pgp_server.specs.Reads.{next_kind, kinds_behind}
 use Rattle.pgp_server.specs.Step.{Unread, IsPartial, Takes}
 use Rattle.pgp_server.specs.declared.error.ClientError.{ClientError}
 use Rattle.pgp_server.proofs.Pieces.{took}
-use Rattle.pgp_server.proofs.Refusals.{partial_length, more_behind, whole_frame, whole_packet}
 use Rattle.pgp_server.proofs.Rewritten.{read_forwards}
 use Rattle.pgp_server.proofs.Runs.{RunFrom, front_stands, behind}
 use Rattle.pgp_server.proofs.Steps.{left}
 use Rattle.pgp_server.proofs.AnyOneStep.{any_takes_alike, any_step_one, any_never_waits}
+
+-- ---- what stands
+
+pub other_read : (kind : PasswordKind) (opened : Bool) (bytes rest : List ℕ) (o : OtherMessage) (r : Result (Option AnyMessage) ClientError) (new : Unread)
+    → OtherStands kind opened bytes o rest → AnyStep kind (left bytes opened) r new → (r ≡ Ok (Some (Other o))) × (new ≡ left rest (opened || is_other_startup o))
+other_read kind opened bytes rest o r new stands step =
+    let s = any_step_one kind (left bytes opened) (left rest (opened || is_other_startup o)) new (Ok (Some (Other o))) r (record { stands = stands; phase = refl }) step in
+    (sym s.0, sym s.1)
 
 -- ---- when bytes come
 

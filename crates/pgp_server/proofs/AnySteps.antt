@@ -1,29 +1,26 @@
 -- A step along the bytes that reads the other messages too, from what stood at their front.
-use Rattle.std.proofs.Common.{◌≡◌, ◌≢◌, ℕ, pos, ◌+◌, ◌<◌, ◌≤◌, ◌^◌, Bool, true, false, List, [], ◌∷◌, ◌++◌, length, map, Option, Some, None, Result, Ok, Err, refl, sym, ap, subst, ◌∙◌, append_assoc, arith, inl, inr}
-use Rattle.std.specs.Prelude.{IfSome, ◌⊎◌, ◌==◌}
-use Rattle.std.proofs.lemmas.Bool.{eqb-true}
-use Rattle.std.proofs.lemmas.List.{append-nil}
+use Rattle.std.proofs.Common.{◌≡◌, ◌≢◌, ℕ, pos, ◌+◌, ◌<◌, ◌≤◌, ◌^◌, Bool, true, false, List, [], ◌++◌, length, Some, None, Result, Ok, Err, refl, sym, ap, ◌∙◌, append_assoc, arith, inl, inr}
+use Rattle.std.specs.Prelude.{IfSome, ◌==◌}
 use Rattle.pgp_base.specs.Wire.{IsBytes, int32}
 use Rattle.pgp_base.specs.declared.error.Error.{Error}
 use Rattle.pgp_base.specs.declared.error.Error.TheVariants.{InvalidLength}
 use Rattle.pgp_frontend.specs.ClientMessage.{ClientMessage, SaslInitialResponse, SaslResponse, PasswordKind, Initial}
 use Rattle.pgp_frontend.specs.Payload.{framed, payload, tag_of, kind_of}
 use Rattle.pgp_frontend.proofs.Readings.{bodies, tagged_bodies, tag_in}
-use Rattle.pgp_server.specs.OtherMessage.{OtherMessage, FunctionCall, SaslInitialWithoutResponse, GssEncRequest, StartupOther, AnyMessage, Ours, Other, other_tag, other_kind, other_payload, other_bytes, any_is_startup}
-use Rattle.pgp_server.specs.Reading.{body_of, made}
+use Rattle.pgp_server.specs.OtherMessage.{OtherMessage, FunctionCall, SaslInitialWithoutResponse, GssEncRequest, StartupOther, AnyMessage, Ours, Other, other_tag, other_payload, any_is_startup}
+use Rattle.pgp_server.specs.Reading.{body_of}
 use Rattle.pgp_server.specs.AnyReading.{is_first_sasl, any_body_of, any_packet_of, function_call_of, sasl_of, ours, other, wide_contents_at}
-use Rattle.pgp_server.specs.Step.{Unread, Stands, NoneStands, least, BeginsWithLength, IsLengthFault, IsPartial, Takes, BlamesFrame, HasFaultyBody, IsFront}
-use Rattle.pgp_server.specs.AnyStep.{IsOtherExpected, OtherStands, NoOtherStands, TakesOther, AnyBlamesFrame, HasFaultyOtherBody, RefusesAny, AnyStep}
-use Rattle.pgp_server.specs.WideFaults.{wide_shape, WideFaulty}
+use Rattle.pgp_server.specs.Step.{Stands, least, BeginsWithLength, IsLengthFault, IsPartial, BlamesFrame, IsFront}
+use Rattle.pgp_server.specs.AnyStep.{IsOtherExpected, OtherStands, NoOtherStands, AnyBlamesFrame, RefusesAny, AnyStep}
 use Rattle.pgp_server.specs.declared.error.ClientError.{ClientError}
 use Rattle.pgp_server.specs.declared.error.ClientError.TheVariants.{Reading}
-use Rattle.pgp_server.proofs.FaultLemmas.{body_blames, made_err, refusal_is, no_refusal}
+use Rattle.pgp_server.proofs.FaultLemmas.{body_blames, made_err}
 use Rattle.pgp_server.proofs.OneStep.{two_lengths, frame_length, packet_length}
 use Rattle.pgp_server.proofs.Refusals.{whole_frame, whole_packet, more_behind}
-use Rattle.pgp_server.proofs.Steps.{left, fault_none, frame_payload, packet_payload, some_none, payload_fits, step_taken, step_opened}
+use Rattle.pgp_server.proofs.Steps.{left, fault_none, frame_payload, packet_payload, payload_fits, step_taken, step_opened}
 use Rattle.pgp_server.proofs.WideContents.{wide_contents_faulty}
-use Rattle.pgp_server.proofs.AnyForms.{ReadsPlainly, by_tag, any_ours, any_other, ours_again, other_again, first_is, some_is, call, call_shapes, first_message, sasl_shapes}
-use Rattle.pgp_server.proofs.AnyPackets.{any_packet_ours, any_packet_other, any_packet_blames, ours_packet_again, other_packet_again, gss_packet, minor_packet}
+use Rattle.pgp_server.proofs.AnyForms.{ReadsPlainly, by_tag, any_ours, any_other, ours_again, other_again, some_is, call, call_shapes, first_message, sasl_shapes}
+use Rattle.pgp_server.proofs.AnyPackets.{any_packet_ours, any_packet_other, any_packet_blames, ours_packet_again, other_packet_again}
 
 -- ---- lengths
 

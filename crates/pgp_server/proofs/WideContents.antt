@@ -1,5 +1,5 @@
 -- Parts of the wider grammar: what is read is spelled so, what is spelled so is read, and what isn't has a first fault.
-use Rattle.std.proofs.Common.{◌≡◌, ◌≢◌, ℕ, ◌<◌, ◌^◌, List, [], ◌∷◌, ◌++◌, Result, Ok, Err, refl, sym, ap, subst, ◌∙◌, FitsSigned, inl, inr}
+use Rattle.std.proofs.Common.{◌≡◌, ℕ, ◌<◌, ◌^◌, List, [], ◌∷◌, ◌++◌, Result, Ok, Err, refl, sym, ap, subst, ◌∙◌, FitsSigned, inl, inr}
 use Rattle.std.specs.Int.{w16, w32, from_be_bytes, cast_signed}
 use Rattle.std.specs.List.{AllByRecursion}
 use Rattle.pgp_base.specs.Wire.{IsBytes, int16, oid}

@@ -1,6 +1,6 @@
 -- Private: reading a message of the wider grammar from the left, as the code does it. What stands there in the grammar's terms is
 -- `AnyStep`.
-use Rattle.std.specs.Prelude.{ℕ, ◌-◌, Bool, true, false, List, [], ◌∷◌, Option, Some, None, Result, Ok, Err, nat_le, ◌==◌, if◌then◌else◌}
+use Rattle.std.specs.Prelude.{ℕ, ◌-◌, Bool, false, List, [], ◌∷◌, Option, Some, None, Result, Ok, Err, nat_le, ◌==◌, if◌then◌else◌}
 use Rattle.pgp_base.specs.declared.error.Error.{Error}
 use Rattle.pgp_base.specs.declared.error.Error.TheVariants.{UnexpectedEof}
 use Rattle.pgp_base.specs.PartReading.{◌>>=◌, oid_at, int16_at}

@@ -1,5 +1,5 @@
 -- A server that reads on and on, the other messages too, told the kinds of the messages of tag `p` in order.
-use Rattle.std.specs.Prelude.{◌≡◌, List, [], ◌∷◌, length, drop, map, Option, Some, None, option_to_list, Result, Ok, Err}
+use Rattle.std.specs.Prelude.{◌≡◌, List, [], ◌∷◌, length, drop, map, Option, Some, None, option_to_list, Result, Ok}
 use Rattle.pgp_frontend.specs.ClientMessage.{ClientMessage, PasswordKind}
 use Rattle.pgp_frontend.specs.ClientRun.{kinds_of}
 use Rattle.pgp_server.specs.AnyStep.{AnyStep}

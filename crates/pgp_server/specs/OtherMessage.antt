@@ -1,6 +1,6 @@
 -- What a client may send besides: the manual's messages that no writer here makes.
 -- PostgreSQL manual, "Message Formats".
-use Rattle.std.specs.Prelude.{◌≡◌, ◌≢◌, ℕ, ◌+◌, ◌<◌, ◌^◌, ℤ, pos, negsuc, List, [], ◌∷◌, length, map, Option, Some, None, Result, FitsSigned, Bool, true, false}
+use Rattle.std.specs.Prelude.{◌≡◌, ◌≢◌, ℕ, ◌+◌, ◌<◌, ◌^◌, ℤ, pos, List, [], ◌∷◌, length, map, Option, Some, None, Result, FitsSigned, Bool, true, false}
 use Rattle.std.specs.List.{flat_map, AllByRecursion}
 use Rattle.std.specs.Int.{w16}
 use Rattle.pgp_base.specs.Wire.{int16, oid, nullable}

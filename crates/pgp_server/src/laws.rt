@@ -10,8 +10,9 @@ ghost use Rattle.pgp_server.specs.Faults.{Faulty};
 ghost use Rattle.pgp_server.specs.declared.error.ClientError.{ClientError as Refusal};
 ghost use Rattle.pgp_frontend.specs.ClientMessage.{ClientMessage as Message, PasswordKind as Kind};
 ghost use Rattle.pgp_frontend.specs.ClientRun.{ClientRun, is_startup};
-ghost use Rattle.pgp_server.specs.AnyStep.{AnyStep};
-ghost use Rattle.pgp_server.specs.OtherMessage.{AnyMessage as Any, Ours, WritesAny};
+ghost use Rattle.pgp_server.specs.AnyStep.{AnyStep, OtherStands};
+ghost use Rattle.pgp_server.specs.OtherMessage as any;
+ghost use Rattle.pgp_server.specs.OtherMessage.{AnyMessage as Any, OtherMessage as Other, Ours, WritesAny, is_other_startup};
 ghost use Rattle.pgp_server.specs.AnyReads.{AnyReads, IsAllReadAsOurs};
 ghost use Rattle.pgp_server.specs.Step.{IsPartial, Stands, Step, Unread};
 ghost use Rattle.pgp_server.specs.Reads.{HasRead, Reads, ReadsSession, IsAllRead};
@@ -88,6 +89,13 @@ pub fn what_was_read_is_forwarded<B: Buffer>()
 pub fn any_reads_alike()
     ensures { (kind : Kind) (old new other : Unread) (m : Message) (result : Result (Option Any) Refusal) →
         Step kind old (Ok (Some m)) new → AnyStep kind old result other → (result ≡ Ok (Some (Ours m))) × (other ≡ new) }
+{}
+
+/// One of the others that stands at the front is read, and no other answer is given.
+pub fn others_that_stand_are_read()
+    ensures { (kind : Kind) (opened : Bool) (bytes rest : List ℕ) (o : Other) (result : Result (Option Any) Refusal) (new : Unread) →
+        OtherStands kind opened bytes o rest → AnyStep kind (record { bytes = bytes; opened = opened }) result new →
+        (result ≡ Ok (Some (any.Other o))) × (new ≡ record { bytes = rest; opened = opened || is_other_startup o }) }
 {}
 
 /// A step that reads the others too has one answer: what is read or why nothing is, and what is left.

@@ -1,8 +1,6 @@
-use Rattle.std.proofs.Common.{rules, ◌≡◌, FitsSigned, to_z, of_z, subst}
+use Rattle.std.proofs.Common.{rules, ◌≡◌, FitsSigned, to_z, of_z}
 use Rattle.std.specs.Int.{w16}
 use Rattle.std.proofs.Math.Facts.{to_z-of_z}
-use Rattle.pgp_base.specs.Cause.{Writes}
-use Rattle.pgp_server.specs.OtherMessage.{FunctionCall, other_bytes, other_cause}
 use Rattle.pgp_server.proofs.any_forwarding.forward_other.Goals as goal
 
 pub returns-in-FunctionCall : goal.returns-in-FunctionCall
