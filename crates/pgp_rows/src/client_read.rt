@@ -1,6 +1,7 @@
 //! What a client sends, read: whole, from each front on, and cut at each place.
 
 use crate::client_parts::show_any;
+use crate::client_steps::{Grammar, Kinds};
 use crate::fault::Fault;
 use crate::row::Row;
 use crate::shown::{Shown, same};
@@ -8,80 +9,12 @@ use crate::word::{Word, Words, joined, words_of};
 use bytes::BytesMut;
 use pgp_base::{Error, Window};
 use pgp_server::{
-    AnyMessage, ClientError, ClientMessage, ClientMessages, OtherMessage, PasswordKind,
-    forward_any, read_session,
+    AnyMessage, ClientError, ClientMessages, PasswordKind, forward_any, read_session,
 };
 use std::alloc::{AllocError, Global};
 
 /// More messages than a row has.
 const MOST: usize = 100;
-
-/// What a row's bytes are read as: the messages that the calls here write, or any.
-#[derive(Clone, Copy)]
-enum Grammar {
-    Ours,
-    Any,
-}
-
-impl Grammar {
-    /// One step, and the bytes of the message that it takes.
-    fn next<'a>(
-        self,
-        reader: &mut ClientMessages<'a>,
-        kind: PasswordKind,
-    ) -> Result<Option<(AnyMessage<'a>, &'a [u8])>, ClientError> {
-        match self {
-            Grammar::Ours => match reader.next_with_bytes(kind) {
-                Ok(Some((message, stood))) => Ok(Some((AnyMessage::Ours(message), stood))),
-                Ok(None) => Ok(None),
-                Err(e) => Err(e),
-            },
-            Grammar::Any => {
-                let before = reader.rest();
-                match reader.next_any(kind) {
-                    Ok(Some(message)) => {
-                        let taken = before.len().saturating_sub(reader.rest().len());
-                        Ok(Some((message, before.get(..taken).unwrap_or(&[]))))
-                    }
-                    Ok(None) => Ok(None),
-                    Err(e) => Err(e),
-                }
-            }
-        }
-    }
-}
-
-/// Whether a server is told the message's kind.
-fn is_told(message: &AnyMessage<'_>) -> bool {
-    match message {
-        AnyMessage::Ours(
-            ClientMessage::PasswordMessage(_)
-            | ClientMessage::SaslInitialResponse { .. }
-            | ClientMessage::SaslResponse(_),
-        ) => true,
-        AnyMessage::Other(OtherMessage::SaslInitialWithoutResponse { .. }) => true,
-        _ => false,
-    }
-}
-
-/// The kinds of messages of tag `p` that are still expected, in order; behind the last of them passwords are.
-#[derive(Drop)]
-struct Kinds<'k> {
-    rest: &'k [PasswordKind],
-}
-
-impl Kinds<'_> {
-    fn first(&self) -> PasswordKind {
-        self.rest.first().copied().unwrap_or(PasswordKind::Password)
-    }
-
-    /// Goes on behind a message of tag `p`.
-    fn pass(&mut self, message: &AnyMessage<'_>) {
-        if is_told(message) {
-            self.rest = self.rest.get(1..).unwrap_or(&[]);
-        }
-    }
-}
 
 fn show_refusal(refusal: ClientError, out: &mut Shown) -> Result<(), Fault> {
     match refusal {
@@ -119,7 +52,7 @@ fn forwards(
     opened: bool,
     kinds: &[PasswordKind],
 ) -> Result<(), Fault> {
-    let mut kinds = Kinds { rest: kinds };
+    let mut kinds = Kinds::new(kinds);
     let mut reader = ClientMessages::resume(bytes, opened);
     for _ in 0..MOST {
         let left = reader.rest().len();
@@ -175,7 +108,7 @@ fn in_two(
     kinds: &[PasswordKind],
     out: &mut Shown,
 ) -> Result<(), Fault> {
-    let mut kinds = Kinds { rest: kinds };
+    let mut kinds = Kinds::new(kinds);
     let (front, back) = bytes.split_at_checked(cut).ok_or(Fault::Row)?;
     let mut reader = ClientMessages::resume(front, opened);
     let is_stopped = read_on(grammar, &mut reader, &mut kinds, out)?;

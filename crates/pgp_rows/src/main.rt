@@ -7,6 +7,7 @@ mod bodies;
 mod client;
 mod client_parts;
 mod client_read;
+mod client_steps;
 mod codec;
 mod fault;
 mod lists;
