@@ -3,7 +3,7 @@
 use crate::fault::Fault;
 use crate::shown::{Shown, show_walk};
 use pgp_frontend::ProtocolVersion;
-use pgp_server::{ClientMessage, Formats, StartupParameters, Values};
+use pgp_server::{AnyMessage, ClientMessage, Formats, OtherMessage, StartupParameters, Values};
 
 /// Shows formats.
 fn show_formats(formats: Formats<'_>, out: &mut Shown) -> Result<(), Fault> {
@@ -34,6 +34,11 @@ fn show_startup(
         ProtocolVersion::V3_0 => out.word("3.0")?,
         ProtocolVersion::V3_2 => out.word("3.2")?,
     }
+    show_parameters(parameters, out)
+}
+
+/// Shows names and values, two words each.
+fn show_parameters(parameters: StartupParameters<'_>, out: &mut Shown) -> Result<(), Fault> {
     show_walk(
         parameters,
         |pair: (&[u8], &[u8]), out: &mut Shown| {
@@ -96,8 +101,43 @@ fn show_details(message: ClientMessage<'_>, out: &mut Shown) -> Result<(), Fault
     }
 }
 
+/// Shows a message that no call here writes, by a name of its own and its parts.
+fn show_other(message: OtherMessage<'_>, out: &mut Shown) -> Result<(), Fault> {
+    match message {
+        OtherMessage::FunctionCall {
+            function,
+            formats,
+            arguments,
+            result_format,
+        } => {
+            out.word("function_call")?;
+            out.number(function)?;
+            show_formats(formats, out)?;
+            show_values(arguments, out)?;
+            out.number(result_format)
+        }
+        OtherMessage::SaslInitialWithoutResponse { mechanism } => {
+            show_bytes("sasl_initial_without_response", &[mechanism], out)
+        }
+        OtherMessage::GssEncRequest => out.word("gssenc_request"),
+        OtherMessage::StartupOther { minor, parameters } => {
+            out.word("startup_message_minor")?;
+            out.number(minor)?;
+            show_parameters(parameters, out)
+        }
+    }
+}
+
+/// Shows any message.
+pub fn show_any(message: AnyMessage<'_>, out: &mut Shown) -> Result<(), Fault> {
+    match message {
+        AnyMessage::Ours(message) => show_call(message, out),
+        AnyMessage::Other(message) => show_other(message, out),
+    }
+}
+
 /// Shows a message.
-pub fn show_call(message: ClientMessage<'_>, out: &mut Shown) -> Result<(), Fault> {
+fn show_call(message: ClientMessage<'_>, out: &mut Shown) -> Result<(), Fault> {
     match message {
         ClientMessage::Close { variant, name } => show_bytes("close", &[&[variant], name], out),
         ClientMessage::CopyData(bytes) => show_bytes("copy_data", &[bytes], out),

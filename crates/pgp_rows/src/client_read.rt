@@ -1,39 +1,20 @@
 //! What a client sends, read: whole, from each front on, and cut at each place.
 
-use crate::client_parts::show_call;
+use crate::client_parts::show_any;
+use crate::client_steps::{Grammar, Kinds};
 use crate::fault::Fault;
 use crate::row::Row;
 use crate::shown::{Shown, same};
 use crate::word::{Word, Words, joined, words_of};
 use bytes::BytesMut;
 use pgp_base::{Error, Window};
-use pgp_server::{ClientError, ClientMessage, ClientMessages, PasswordKind, forward, read_session};
+use pgp_server::{
+    AnyMessage, ClientError, ClientMessages, PasswordKind, forward_any, read_session,
+};
 use std::alloc::{AllocError, Global};
 
 /// More messages than a row has.
 const MOST: usize = 100;
-
-/// The kinds of messages of tag `p` that are still expected, in order; behind the last of them passwords are.
-#[derive(Drop)]
-struct Kinds<'k> {
-    rest: &'k [PasswordKind],
-}
-
-impl Kinds<'_> {
-    fn first(&self) -> PasswordKind {
-        self.rest.first().copied().unwrap_or(PasswordKind::Password)
-    }
-
-    /// Goes on behind a message of tag `p`.
-    fn pass(&mut self, message: &ClientMessage<'_>) {
-        if let ClientMessage::PasswordMessage(_)
-        | ClientMessage::SaslInitialResponse { .. }
-        | ClientMessage::SaslResponse(_) = message
-        {
-            self.rest = self.rest.get(1..).unwrap_or(&[]);
-        }
-    }
-}
 
 fn show_refusal(refusal: ClientError, out: &mut Shown) -> Result<(), Fault> {
     match refusal {
@@ -47,16 +28,16 @@ fn show_refusal(refusal: ClientError, out: &mut Shown) -> Result<(), Fault> {
 }
 
 /// The message, written again, is the bytes that stood there; in memory that is a byte short it is refused.
-fn is_forwarded(alloc: Global, message: &ClientMessage<'_>, stood: &[u8]) -> Result<(), Fault> {
+fn is_forwarded(alloc: Global, message: &AnyMessage<'_>, stood: &[u8]) -> Result<(), Fault> {
     let mut buf = BytesMut::new(alloc);
-    forward(message, &mut buf)?;
+    forward_any(message, &mut buf)?;
     let mut wanted = Shown::new(alloc);
     wanted.bytes(stood)?;
     let mut came = Shown::new(alloc);
     came.bytes(buf.as_slice())?;
     let mut room = vec![in alloc; 0u8; stood.len().saturating_sub(1)]?;
     let mut window = Window::new(&mut room);
-    match forward(message, &mut window) {
+    match forward_any(message, &mut window) {
         Err(Error::OutOfMemory) => {}
         _ => came.word("in too little memory")?,
     }
@@ -66,15 +47,16 @@ fn is_forwarded(alloc: Global, message: &ClientMessage<'_>, stood: &[u8]) -> Res
 /// Each message that is read is forwarded.
 fn forwards(
     alloc: Global,
+    grammar: Grammar,
     bytes: &[u8],
     opened: bool,
     kinds: &[PasswordKind],
 ) -> Result<(), Fault> {
-    let mut kinds = Kinds { rest: kinds };
+    let mut kinds = Kinds::new(kinds);
     let mut reader = ClientMessages::resume(bytes, opened);
     for _ in 0..MOST {
         let left = reader.rest().len();
-        match reader.next_with_bytes(kinds.first()) {
+        match grammar.next(&mut reader, kinds.first()) {
             Ok(Some((message, stood))) => {
                 is_forwarded(alloc, &message, stood)?;
                 kinds.pass(&message);
@@ -92,16 +74,17 @@ fn forwards(
 
 /// Shows what is read, and tells whether a refusal stopped it.
 fn read_on(
+    grammar: Grammar,
     reader: &mut ClientMessages<'_>,
     kinds: &mut Kinds<'_>,
     out: &mut Shown,
 ) -> Result<bool, Fault> {
     for _ in 0..MOST {
         let left = reader.rest().len();
-        match reader.next(kinds.first()) {
-            Ok(Some(message)) => {
+        match grammar.next(reader, kinds.first()) {
+            Ok(Some((message, _))) => {
                 kinds.pass(&message);
-                show_call(message, out)?;
+                show_any(message, out)?;
                 out.word(";")?;
             }
             Ok(None) => return Ok(false),
@@ -118,21 +101,22 @@ fn read_on(
 
 /// Reads the front as far as it goes, and on from there over all bytes.
 fn in_two(
+    grammar: Grammar,
     bytes: &[u8],
     cut: usize,
     opened: bool,
     kinds: &[PasswordKind],
     out: &mut Shown,
 ) -> Result<(), Fault> {
-    let mut kinds = Kinds { rest: kinds };
+    let mut kinds = Kinds::new(kinds);
     let (front, back) = bytes.split_at_checked(cut).ok_or(Fault::Row)?;
     let mut reader = ClientMessages::resume(front, opened);
-    let is_stopped = read_on(&mut reader, &mut kinds, out)?;
+    let is_stopped = read_on(grammar, &mut reader, &mut kinds, out)?;
     let unread = reader.rest().len().saturating_add(back.len());
     let at = bytes.len().saturating_sub(unread);
     let mut reader = ClientMessages::resume(bytes.get(at..).unwrap_or(&[]), reader.is_open());
     if !is_stopped {
-        read_on(&mut reader, &mut kinds, out)?;
+        read_on(grammar, &mut reader, &mut kinds, out)?;
     }
     out.word("rest")?;
     out.bytes(reader.rest())
@@ -143,7 +127,7 @@ fn at_once(alloc: Global, bytes: &[u8], kinds: &[PasswordKind], wanted: &str) ->
     let mut out = Shown::new(alloc);
     let (messages, refusal) = read_session(alloc, kinds, bytes)?;
     for message in messages {
-        show_call(message, &mut out)?;
+        show_any(AnyMessage::Ours(message), &mut out)?;
         out.word(";")?;
     }
     if let Some(e) = refusal {
@@ -159,6 +143,7 @@ fn at_once(alloc: Global, bytes: &[u8], kinds: &[PasswordKind], wanted: &str) ->
 /// Comes to this, however the bytes are cut, and each message is forwarded.
 fn comes_to(
     alloc: Global,
+    grammar: Grammar,
     bytes: &[u8],
     opened: bool,
     kinds: &[PasswordKind],
@@ -166,13 +151,13 @@ fn comes_to(
 ) -> Result<(), Fault> {
     for cut in 0..=bytes.len() {
         let mut out = Shown::new(alloc);
-        in_two(bytes, cut, opened, kinds, &mut out)?;
+        in_two(grammar, bytes, cut, opened, kinds, &mut out)?;
         same(wanted, out)?;
     }
-    if !opened {
+    if let (Grammar::Ours, false) = (grammar, opened) {
         at_once(alloc, bytes, kinds, wanted)?;
     }
-    forwards(alloc, bytes, opened, kinds)
+    forwards(alloc, grammar, bytes, opened, kinds)
 }
 
 fn kinds_of(alloc: Global, list: &[Word]) -> Result<Vec<PasswordKind>, Fault> {
@@ -192,8 +177,13 @@ fn kinds_of(alloc: Global, list: &[Word]) -> Result<Vec<PasswordKind>, Fault> {
     Ok(kinds)
 }
 
-/// A row of a client's bytes: `first` or `open`, the kinds of the messages of tag `p`, and the bytes.
+/// A row of a client's bytes: `read` or `read_any`, `first` or `open`, the kinds of the messages of tag `p`, and the bytes.
 pub fn check_client_read(alloc: Global, row: &Row<'_>) -> Result<(), Fault> {
+    let grammar = match row.call {
+        "read" => Grammar::Ours,
+        "read_any" => Grammar::Any,
+        _ => return Err(Fault::Row),
+    };
     let all = words_of(alloc, row.left)?;
     let mut words = Words::new(&all);
     let phase = words.word()?;
@@ -203,7 +193,7 @@ pub fn check_client_read(alloc: Global, row: &Row<'_>) -> Result<(), Fault> {
     }
     let kinds = kinds_of(alloc, words.list()?)?;
     let bytes = joined(alloc, words.rest())?;
-    comes_to(alloc, &bytes, opened, &kinds, row.right)
+    comes_to(alloc, grammar, &bytes, opened, &kinds, row.right)
 }
 
 /// The kind of the message that a call writes.
@@ -284,5 +274,7 @@ pub fn is_read_back(alloc: Global, call: &str, words: &[Word], bytes: &[u8]) -> 
         opened = show_written(call, words, &mut wanted)?;
         wanted.word("; rest \"\"")?;
     }
-    comes_to(alloc, bytes, opened, &[kind_of(call)], wanted.as_str())
+    let kinds = [kind_of(call)];
+    comes_to(alloc, Grammar::Ours, bytes, opened, &kinds, wanted.as_str())?;
+    comes_to(alloc, Grammar::Any, bytes, opened, &kinds, wanted.as_str())
 }

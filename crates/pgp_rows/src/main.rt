@@ -7,6 +7,7 @@ mod bodies;
 mod client;
 mod client_parts;
 mod client_read;
+mod client_steps;
 mod codec;
 mod fault;
 mod lists;
@@ -58,9 +59,10 @@ enum Family {
     Saslprep,
 }
 
-const FILES: [(&str, Family); 17] = [
+const FILES: [(&str, Family); 18] = [
     ("client.rows", Family::Client),
     ("client_read.rows", Family::ClientRead),
+    ("client_replaced.rows", Family::ClientRead),
     ("integers.rows", Family::Integers),
     ("times.rows", Family::Times),
     ("bits.rows", Family::Bits),

@@ -214,7 +214,7 @@ module _ {A B : Type 0} (go : List ℕ → Result B Error) (c : Then A B) where
       (ap (λ (t : Then A B). gave t.first rest) same, is ∙ ap (λ (t : Then A B). ok t.rest) same)
   on_rest x rest (Err f) is e = absurd cc
 
-  on_ok : (r : Result (A × List ℕ) Error) → contents_on go r ≡ Ok c → (rest : List ℕ) × (r ≡ Ok (c.first, rest)) × (go rest ≡ Ok c.rest)
+  pub on_ok : (r : Result (A × List ℕ) Error) → contents_on go r ≡ Ok c → (rest : List ℕ) × (r ≡ Ok (c.first, rest)) × (go rest ≡ Ok c.rest)
   on_ok (Ok x) e = let o = on_rest x.0 x.1 (go x.1) refl e in (x.1, o.0, o.1)
   on_ok (Err f) e = absurd cc
 
@@ -222,7 +222,7 @@ pub record AllFound (shapes : List Shape) (bytes : List ℕ) (c : Contents shape
   pub spelled : EachHasSpelling (parts_of shapes c)
   pub whole : bytes ≡ joined (parts_of shapes c)
 
-ended_found : (bytes : List ℕ) (c : Unit {0}) → ended tt bytes ≡ Ok c → bytes ≡ []
+pub ended_found : (bytes : List ℕ) (c : Unit {0}) → ended tt bytes ≡ Ok c → bytes ≡ []
 ended_found [] c e = refl
 ended_found (b ∷ bytes) c e = absurd cc
 

@@ -37,10 +37,10 @@ use Rattle.pgp_server.proofs.ValueLemmas.{HasLength, value_item, chosen}
 abbrev refusal : {A : Type 0} → Error → Result A Error
 refusal e = Err e
 
-refusal_is : {A : Type 0} (d e : Error) → refusal {A = A} d ≡ Err e → d ≡ e
+pub refusal_is : {A : Type 0} (d e : Error) → refusal {A = A} d ≡ Err e → d ≡ e
 refusal_is d e h = cc
 
-no_refusal : {A : Type 0} (x : A) (e : Error) → ok x ≡ Err e → ⊥
+pub no_refusal : {A : Type 0} (x : A) (e : Error) → ok x ≡ Err e → ⊥
 no_refusal x e h = cc
 
 bind_err : {A B : Type 0} (o : Option A) (f : A → Result B Error) (e : Error) → (o >>= f) ≡ Err e → ((o ≡ None) × (e ≡ UnexpectedEof)) ⊎ ((x : A) × (o ≡ Some x) × (f x ≡ Err e))
@@ -51,14 +51,14 @@ given_err : {A : Type 0} (o : Option A) (e : Error) → (o >>= λ x. Ok x) ≡ E
 given_err None e h = (refl, sym (refusal_is UnexpectedEof e h))
 given_err (Some x) e h = absurd (no_refusal x e h)
 
-made_err : {X Y : Type 0} (f : X → Y) (r : Result X Error) (e : Error) → made f r ≡ Err e → r ≡ Err e
+pub made_err : {X Y : Type 0} (f : X → Y) (r : Result X Error) (e : Error) → made f r ≡ Err e → r ≡ Err e
 made_err f (Ok x) e h = absurd (no_refusal (f x) e h)
 made_err f (Err d) e h = ap refusal (refusal_is d e h)
 
 -- ---- numbers
 
 module _ {A : Type 0} (n : ℕ) (Fits : A → Type 0) (spell : A → List ℕ) (value : List ℕ → A) (number : IsNumber n Fits spell value) where
-  number_lacks : (bytes : List ℕ) (e : Error) → (front_at n value bytes >>= λ x. Ok x) ≡ Err e → IsShort n bytes e
+  pub number_lacks : (bytes : List ℕ) (e : Error) → (front_at n value bytes >>= λ x. Ok x) ≡ Err e → IsShort n bytes e
   number_lacks bytes e h =
       let g = given_err (front_at n value bytes) e h in
       (number_short n Fits spell value number bytes g.0, g.1)
@@ -131,7 +131,7 @@ wrong_length n rest bytes e fits whole null is =
 null_length : length (nullable None) ≡ 4
 null_length = ap length (sym null_spelled) ∙ length-uint32 4294967295
 
-value_lacks : (bytes : List ℕ) (e : Error) → IsBytes bytes → value_at bytes ≡ Err e → LacksValue bytes e
+pub value_lacks : (bytes : List ℕ) (e : Error) → IsBytes bytes → value_at bytes ≡ Err e → LacksValue bytes e
 unfolding value_at
 value_lacks bytes e h is =
     elim (bind_err (oid_at bytes) (λ len. value_after len.0 len.1) e is) [
@@ -233,7 +233,7 @@ no_byte : (bytes : List ℕ) → byte_at bytes ≡ None → length bytes < 1
 no_byte [] e = omega arith
 no_byte (b ∷ bytes) e = absurd cc
 
-content_lacks : (s : Shape) (bytes : List ℕ) (e : Error) → IsBytes bytes → content_at s bytes ≡ Err e → Lacks s bytes e
+pub content_lacks : (s : Shape) (bytes : List ℕ) (e : Error) → IsBytes bytes → content_at s bytes ≡ Err e → Lacks s bytes e
 unfolding key_at
 content_lacks AByte bytes e h is = let g = given_err (byte_at bytes) e is in (no_byte bytes g.0, g.1)
 content_lacks AnInt32 bytes e h is = number_lacks 4 (FitsSigned w32) int32 (λ l. cast_signed w32 (from_be_bytes w32 l)) int32_number bytes e is
@@ -250,11 +250,11 @@ content_lacks AllBytes bytes e h is = no_refusal _ e is
 content_lacks AKey bytes e h is = unless_err (key_cause (length bytes)) bytes e is
 content_lacks SomePairs bytes e h is = pairs_lack bytes e is
 
-ended_err : {A : Type 0} (x : A) (bytes : List ℕ) (e : Error) → ended x bytes ≡ Err e → (bytes ≢ []) × (e ≡ NotDrained)
+pub ended_err : {A : Type 0} (x : A) (bytes : List ℕ) (e : Error) → ended x bytes ≡ Err e → (bytes ≢ []) × (e ≡ NotDrained)
 ended_err x [] e is = absurd (no_refusal x e is)
 ended_err x (b ∷ bytes) e is = ((λ z. cc), sym (refusal_is NotDrained e is))
 
-before_err : {A B : Type 0} (x : A) (r : Result B Error) (e : Error) → before x r ≡ Err e → r ≡ Err e
+pub before_err : {A B : Type 0} (x : A) (r : Result B Error) (e : Error) → before x r ≡ Err e → r ≡ Err e
 before_err x (Ok y) e is = absurd cc
 before_err x (Err d) e is = ap refusal (refusal_is d e is)
 
@@ -298,7 +298,7 @@ not_here tag n is e =
     cc
 
 -- none of these tags
-record NoTag (tag : ℕ) : Type 0 where
+pub record NoTag (tag : ℕ) : Type 0 where
   pub b : (tag == 66) ≡ false
   pub c : (tag == 67) ≡ false
   pub d : (tag == 68) ≡ false
@@ -313,7 +313,7 @@ record NoTag (tag : ℕ) : Type 0 where
   pub fail : (tag == 102) ≡ false
   pub password : (tag == 112) ≡ false
 
-no_message : (tag : ℕ) → NoTag tag → (m : ClientMessage) → tag_of m ≢ Some tag
+pub no_message : (tag : ℕ) → NoTag tag → (m : ClientMessage) → tag_of m ≢ Some tag
 no_message tag n (Bind a b c d e) = not_here tag 66 n.b
 no_message tag n (Close a b) = not_here tag 67 n.c
 no_message tag n (Describe a b) = not_here tag 68 n.d
@@ -381,7 +381,7 @@ body_blames kind tag bytes e each is =
 
 -- ---- opening packets
 
-named_err : (r : Result ClientMessage Error) (e : ClientError) → named r ≡ Err e → (d : Error) × (r ≡ Err d) × (e ≡ Reading d)
+pub named_err : (r : Result ClientMessage Error) (e : ClientError) → named r ≡ Err e → (d : Error) × (r ≡ Err d) × (e ≡ Reading d)
 named_err (Ok m) e is = absurd cc
 named_err (Err d) e is = (d, refl, cc)
 
@@ -415,7 +415,7 @@ module _ (code : ℕ) (fits : code < 2 ^ 32) (a : (code == 196608) ≡ false) (b
   no_packet SslRequest ps t e = not_code code 80877103 fits d refl (head_is _ _ _ _ e)
   no_packet _ ps t e = cc
 
-signed_code : (code : ℕ) → code < 2 ^ 32 → oid code ≡ int32 (cast_signed w32 code)
+pub signed_code : (code : ℕ) → code < 2 ^ 32 → oid code ≡ int32 (cast_signed w32 code)
 signed_code code fits = sym (int32_spelled (cast_signed w32 code) ∙ ap uint32 (of_z-to_z w32 code fits))
 
 abbrev unknown : ℕ → Result ClientMessage ClientError
@@ -424,7 +424,7 @@ unknown code = Err (UnknownPacket (cast_signed w32 code))
 unknown_is : (code : ℕ) (e : ClientError) → unknown code ≡ Err e → e ≡ UnknownPacket (cast_signed w32 code)
 unknown_is code e is = cc
 
-code_blames : (payload : List ℕ) (code : ℕ) (rest : List ℕ) (e : ClientError) → IsBytes rest → code < 2 ^ 32 → payload ≡ oid code ++ rest → by_code code rest ≡ Err e → BlamesPacket payload e
+pub code_blames : (payload : List ℕ) (code : ℕ) (rest : List ℕ) (e : ClientError) → IsBytes rest → code < 2 ^ 32 → payload ≡ oid code ++ rest → by_code code rest ≡ Err e → BlamesPacket payload e
 unfolding by_code startup_of cancel_of
 code_blames payload code rest e h fits whole is =
     elim (chosen (code == 196608) _ _ _ is) [

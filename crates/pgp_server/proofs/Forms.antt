@@ -249,7 +249,7 @@ pub ssl_code : oid 80877103 ≡ int32 (pos 80877103)
 unfolding uint32 int32
 ssl_code = refl
 
-small_code : (n : ℕ) → n < 2 ^ 31 → FitsSigned w32 (pos n)
+pub small_code : (n : ℕ) → n < 2 ^ 31 → FitsSigned w32 (pos n)
 small_code n h = record { sfits = h }
 
 names : (v : ProtocolVersion) (c : Contents (SomePairs ∷ [])) → EachHasSpelling (parts_of (SomePairs ∷ []) c) → IsNamed (Startup v c.first)

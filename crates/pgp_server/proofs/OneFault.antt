@@ -47,7 +47,7 @@ module _ {V : Type 0} (Has : V → Type 0) (spell : V → List ℕ) (read : List
       ap (λ o. o >>= λ n. items_at read n.0 n.1) some ∙ items_err l.count l.items l.rest e l.have l.few (again l.rest e l.lacks)
 
 module _ {A : Type 0} (n : ℕ) (Fits : A → Type 0) (spell : A → List ℕ) (value : List ℕ → A) (number : IsNumber n Fits spell value) where
-  number_err : (bytes : List ℕ) (e : Error) → IsShort n bytes e → (front_at n value bytes >>= λ x. Ok x) ≡ Err e
+  pub number_err : (bytes : List ℕ) (e : Error) → IsShort n bytes e → (front_at n value bytes >>= λ x. Ok x) ≡ Err e
   number_err bytes e short = ap (λ o. o >>= λ x. Ok x) (short_number n Fits spell value number bytes short.0) ∙ ap refusal (sym short.1)
 
 -- ---- values
@@ -73,7 +73,7 @@ unfolding value_at
 no_length bytes e short =
     ap (λ o. o >>= λ len. value_after len.0 len.1) (short_number 4 (λ n. n < 2 ^ 32) oid (λ l. from_be_bytes w32 l) oid_number bytes short.0) ∙ ap refusal (sym short.1)
 
-value_err : (bytes : List ℕ) (e : Error) → LacksValue bytes e → value_at bytes ≡ Err e
+pub value_err : (bytes : List ℕ) (e : Error) → LacksValue bytes e → value_at bytes ≡ Err e
 value_err bytes e (inl short, none) = no_length bytes e short
 value_err bytes e (inr l, none) =
     let null : l.len ≢ 4294967295 = λ same. none l.rest (l.whole ∙ ap (λ n. uint32 n ++ l.rest) same ∙ ap (λ x. x ++ l.rest) null_spelled) in
@@ -153,7 +153,7 @@ byte_err : (bytes : List ℕ) (e : Error) → IsShort 1 bytes e → content_at A
 byte_err [] e short = ap refusal (sym short.1)
 byte_err (b ∷ bytes) e short = absurd (omega (arith, short.0))
 
-lacks_err : (s : Shape) (bytes : List ℕ) (e : Error) → Lacks s bytes e → content_at s bytes ≡ Err e
+pub lacks_err : (s : Shape) (bytes : List ℕ) (e : Error) → Lacks s bytes e → content_at s bytes ≡ Err e
 unfolding key_at
 lacks_err AByte bytes e l = byte_err bytes e l
 lacks_err AnInt32 bytes e l = number_err 4 (FitsSigned w32) int32 (λ l. cast_signed w32 (from_be_bytes w32 l)) int32_number bytes e l

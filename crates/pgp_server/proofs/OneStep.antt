@@ -36,11 +36,11 @@ some_is a b e = cc
 
 -- ---- frames
 
-ended_read : (m : ClientMessage) (bytes : List ℕ) (e : Error) → Faulty [] bytes e → ended m bytes ≡ Err e
+pub ended_read : (m : ClientMessage) (bytes : List ℕ) (e : Error) → Faulty [] bytes e → ended m bytes ≡ Err e
 ended_read m [] e f = absurd (f.0 refl)
 ended_read m (b ∷ bytes) e f = ap refusal (sym f.1)
 
-form_read : (shapes : List Shape) (make : Contents shapes → ClientMessage) (bytes : List ℕ) (e : Error) → Faulty shapes bytes e → made make (contents_at shapes bytes) ≡ Err e
+pub form_read : (shapes : List Shape) (make : Contents shapes → ClientMessage) (bytes : List ℕ) (e : Error) → Faulty shapes bytes e → made make (contents_at shapes bytes) ≡ Err e
 form_read shapes make bytes e f = ap (made make) (faulty_err shapes bytes e f)
 
 no_fault : (bytes : List ℕ) (e : Error) → Faulty (AllBytes ∷ []) bytes e → ⊥
@@ -55,7 +55,7 @@ initial_read : (kind : PasswordKind) (bytes : List ℕ) (e : Error) → Initial 
 unfolding sasl_initial_of
 initial_read kind bytes e k f = rw (← k) (form_read (AText ∷ ASized ∷ []) (λ c. SaslInitialResponse c.first c.rest.first) bytes e f)
 
-faulty_read : (kind : PasswordKind) (m : ClientMessage) (tag : ℕ) (bytes : List ℕ) (e : Error) → tag_of m ≡ Some tag → IfSome (kind_of m) (λ k. k ≡ kind) → Faulty (map shape (parts m)) bytes e → body_of kind tag bytes ≡ Err e
+pub faulty_read : (kind : PasswordKind) (m : ClientMessage) (tag : ℕ) (bytes : List ℕ) (e : Error) → tag_of m ≡ Some tag → IfSome (kind_of m) (λ k. k ≡ kind) → Faulty (map shape (parts m)) bytes e → body_of kind tag bytes ≡ Err e
 unfolding body_of bind_of close_of describe_of execute_of parse_of query_of copy_fail_of
 faulty_read kind (Bind a b c d g) tag bytes e t k f = rw (← some_is 66 tag t) (form_read (AText ∷ AText ∷ SomeInt16s ∷ SomeValues ∷ SomeInt16s ∷ []) (λ c. Bind c.first c.rest.first c.rest.rest.first c.rest.rest.rest.first c.rest.rest.rest.rest.first) bytes e f)
 faulty_read kind (Close a b) tag bytes e t k f = rw (← some_is 67 tag t) (form_read (AByte ∷ AText ∷ []) (λ c. Close c.first c.rest.first) bytes e f)
@@ -76,7 +76,7 @@ faulty_read kind (Startup v a) tag bytes e t k f = absurd cc
 faulty_read kind (CancelRequest a b) tag bytes e t k f = absurd cc
 faulty_read kind SslRequest tag bytes e t k f = absurd cc
 
-unknown_read : (kind : PasswordKind) (tag : ℕ) (bytes : List ℕ) → ((m : ClientMessage) → tag_of m ≢ Some tag) → body_of kind tag bytes ≡ Err (UnknownTag tag)
+pub unknown_read : (kind : PasswordKind) (tag : ℕ) (bytes : List ℕ) → ((m : ClientMessage) → tag_of m ≢ Some tag) → body_of kind tag bytes ≡ Err (UnknownTag tag)
 unfolding body_of
 unknown_read kind tag bytes none =
     rw (
@@ -117,7 +117,7 @@ record IsPart (code : ℤ) (others : List Part) (c : ℤ) (ps : List Part) : Typ
 parts_are : (code c : ℤ) (others ps : List Part) → Int32 c ∷ ps ≡ Int32 code ∷ others → IsPart code others c ps
 parts_are code c others ps e = record { code_is = cc; others_are = cc }
 
-known_read : (m : ClientMessage) (code : ℤ) (others : List Part) (payload rest : List ℕ) (d : Error) → tag_of m ≡ None → parts m ≡ Int32 code ∷ others → payload ≡ int32 code ++ rest → Faulty (map shape others) rest d → packet_of payload ≡ Err (Reading d)
+pub known_read : (m : ClientMessage) (code : ℤ) (others : List Part) (payload rest : List ℕ) (d : Error) → tag_of m ≡ None → parts m ≡ Int32 code ∷ others → payload ≡ int32 code ++ rest → Faulty (map shape others) rest d → packet_of payload ≡ Err (Reading d)
 unfolding by_code startup_of cancel_of
 known_read (Startup V3_0 ps) code others payload rest d t are whole f =
     let p = parts_are code (pos 196608) others _ are in
@@ -140,7 +140,7 @@ known_read _ code others payload rest d t are whole f = absurd cc
 abbrev unknown : ℤ → Result ClientMessage ClientError
 unknown code = Err (UnknownPacket code)
 
-unknown_packet : (payload : List ℕ) (e : ClientError) → IsUnknownPacket payload e → packet_of payload ≡ Err e
+pub unknown_packet : (payload : List ℕ) (e : ClientError) → IsUnknownPacket payload e → packet_of payload ≡ Err e
 unfolding by_code
 unknown_packet payload e u =
     let n : ℕ = cast_unsigned w32 u.code in
@@ -165,22 +165,22 @@ packet_read payload e (inr faulty) =
 
 -- ---- lengths
 
-two_lengths : (opened : Bool) (bytes : List ℕ) (m n : ℕ) → BeginsWithLength opened bytes m → BeginsWithLength opened bytes n → m ≡ n
+pub two_lengths : (opened : Bool) (bytes : List ℕ) (m n : ℕ) → BeginsWithLength opened bytes m → BeginsWithLength opened bytes n → m ≡ n
 two_lengths opened bytes m n b c =
     let same : b.front ++ (uint32 m ++ b.rest) ≡ c.front ++ (uint32 n ++ c.rest) = sym (append_assoc b.front (uint32 m) b.rest) ∙ sym b.parts ∙ c.parts ∙ append_assoc c.front (uint32 n) c.rest in
     let f = fronts b.front c.front (uint32 m ++ b.rest) (uint32 n ++ c.rest) (b.at ∙ sym c.at) same in
     (uint32_begins m n b.rest c.rest b.fits c.fits f.1).0
 
-frame_length : (tag : ℕ) (payload rest bytes : List ℕ) → bytes ≡ framed (Some tag) payload ++ rest → length payload + 4 < 2 ^ 31 → BeginsWithLength true bytes (length payload + 4)
+pub frame_length : (tag : ℕ) (payload rest bytes : List ℕ) → bytes ≡ framed (Some tag) payload ++ rest → length payload + 4 < 2 ^ 31 → BeginsWithLength true bytes (length payload + 4)
 frame_length tag payload rest bytes whole fits = record { front = tag ∷ []; rest = payload ++ rest; at = refl; fits = omega (arith, fits); parts = whole ∙ append_assoc (tag ∷ uint32 (length payload + 4)) payload rest }
 
-packet_length : (payload rest bytes : List ℕ) → bytes ≡ framed None payload ++ rest → length payload + 4 < 2 ^ 31 → BeginsWithLength false bytes (length payload + 4)
+pub packet_length : (payload rest bytes : List ℕ) → bytes ≡ framed None payload ++ rest → length payload + 4 < 2 ^ 31 → BeginsWithLength false bytes (length payload + 4)
 packet_length payload rest bytes whole fits = record { front = []; rest = payload ++ rest; at = refl; fits = omega (arith, fits); parts = whole ∙ append_assoc (uint32 (length payload + 4)) payload rest }
 
-code_bytes : (payload rest : List ℕ) (code : ℤ) → payload ≡ int32 code ++ rest → 4 ≤ length payload
+pub code_bytes : (payload rest : List ℕ) (code : ℤ) → payload ≡ int32 code ++ rest → 4 ≤ length payload
 code_bytes payload rest code whole = omega (arith, ap length whole, length-append (int32 code) rest, ap length (int32_spelled code), length-uint32 (cast_unsigned w32 code))
 
-has_code : (payload : List ℕ) (e : ClientError) → BlamesPacket payload e → 4 ≤ length payload
+pub has_code : (payload : List ℕ) (e : ClientError) → BlamesPacket payload e → 4 ≤ length payload
 has_code payload e (inl unknown) = code_bytes payload unknown.rest unknown.code unknown.whole
 has_code payload e (inr faulty) = code_bytes payload faulty.rest faulty.code faulty.whole
 
@@ -199,7 +199,7 @@ fault_packet old new here d e a b =
 
 -- ---- one answer
 
-unread_is : (a b : Unread) → a.bytes ≡ b.bytes → a.opened ≡ b.opened → a ≡ b
+pub unread_is : (a b : Unread) → a.bytes ≡ b.bytes → a.opened ≡ b.opened → a ≡ b
 unread_is a b e f = ap (λ x. left x a.opened) e ∙ ap (λ (o : Bool). left b.bytes o) f
 
 same_fault : (d e : Error) → refusal d ≡ refusal e → d ≡ e
@@ -211,7 +211,7 @@ refused e = Err e
 same_refusal : (d e : ClientError) → refused d ≡ refused e → d ≡ e
 same_refusal d e h = cc
 
-both_phases : (o : Bool) → o ≡ true → o ≡ false → ⊥
+pub both_phases : (o : Bool) → o ≡ true → o ≡ false → ⊥
 both_phases true e f = cc
 both_phases false e f = cc
 

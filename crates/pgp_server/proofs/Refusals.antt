@@ -12,12 +12,12 @@ use Rattle.std.proofs.lemmas.List.{append-nil}
 use Rattle.pgp_server.proofs.Steps.{left, partial_none}
 
 -- where bytes are missing, the length that stands there tells it
-record TellsMissing (opened : Bool) (len behind : ℕ) : Type 0 where
+pub record TellsMissing (opened : Bool) (len behind : ℕ) : Type 0 where
   pub enough : least opened ≤ len
   pub fits : len < 2 ^ 31
   pub missing : behind + 4 < len
 
-partial_length : (opened : Bool) (bytes : List ℕ) (len : ℕ) (b : BeginsWithLength opened bytes len) → IsPartial opened bytes → TellsMissing opened len (length b.rest)
+pub partial_length : (opened : Bool) (bytes : List ℕ) (len : ℕ) (b : BeginsWithLength opened bytes len) → IsPartial opened bytes → TellsMissing opened len (length b.rest)
 partial_length opened bytes len b (inl short) = absurd (omega (arith, short, behind_length opened bytes len b))
 partial_length opened bytes len b (inr p) =
     let same : b.front ++ (uint32 len ++ b.rest) ≡ p.begins.front ++ (uint32 p.len ++ p.begins.rest) =
@@ -26,10 +26,10 @@ partial_length opened bytes len b (inr p) =
     let g = uint32_begins len p.len b.rest p.begins.rest b.fits p.begins.fits f.1 in
     record { enough = omega (arith, g.0, p.enough); fits = omega (arith, g.0, p.fits); missing = omega (arith, g.0, ap length g.1, p.missing) }
 
-more_behind : (opened : Bool) (bytes more : List ℕ) (len : ℕ) → BeginsWithLength opened bytes len → BeginsWithLength opened (bytes ++ more) len
+pub more_behind : (opened : Bool) (bytes more : List ℕ) (len : ℕ) → BeginsWithLength opened bytes len → BeginsWithLength opened (bytes ++ more) len
 more_behind opened bytes more len b = record { front = b.front; rest = b.rest ++ more; at = b.at; fits = b.fits; parts = ap (λ l. l ++ more) b.parts ∙ append_assoc (b.front ++ uint32 len) b.rest more }
 
-whole_frame : (tag : ℕ) (payload rest bytes : List ℕ) → bytes ≡ framed (Some tag) payload ++ rest → length payload + 4 < 2 ^ 31 → IsPartial true bytes → ⊥
+pub whole_frame : (tag : ℕ) (payload rest bytes : List ℕ) → bytes ≡ framed (Some tag) payload ++ rest → length payload + 4 < 2 ^ 31 → IsPartial true bytes → ⊥
 whole_frame tag payload rest bytes whole fits part =
     let b : BeginsWithLength true bytes (length payload + 4) = record {
       front = tag ∷ [];
@@ -41,7 +41,7 @@ whole_frame tag payload rest bytes whole fits part =
     let t = partial_length true bytes (length payload + 4) b part in
     omega (arith, t.missing, length-append payload rest)
 
-whole_packet : (payload rest bytes : List ℕ) → bytes ≡ framed None payload ++ rest → length payload + 4 < 2 ^ 31 → IsPartial false bytes → ⊥
+pub whole_packet : (payload rest bytes : List ℕ) → bytes ≡ framed None payload ++ rest → length payload + 4 < 2 ^ 31 → IsPartial false bytes → ⊥
 whole_packet payload rest bytes whole fits part =
     let b : BeginsWithLength false bytes (length payload + 4) = record {
       front = [];

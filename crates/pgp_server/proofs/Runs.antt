@@ -19,13 +19,13 @@ use Rattle.pgp_server.proofs.Steps.{partial_none, left}
 
 -- ---- one message stands at the front
 
-same_kind : (kind : PasswordKind) (a b : Option PasswordKind) → is_some a ≡ is_some b → IfSome a (λ k. k ≡ kind) → IfSome b (λ k. k ≡ kind) → a ≡ b
+pub same_kind : (kind : PasswordKind) (a b : Option PasswordKind) → is_some a ≡ is_some b → IfSome a (λ k. k ≡ kind) → IfSome b (λ k. k ≡ kind) → a ≡ b
 same_kind kind None None e h k = refl
 same_kind kind None (Some y) e h k = cc
 same_kind kind (Some x) None e h k = cc
 same_kind kind (Some x) (Some y) e h k = ap (λ z. Some z) (h ∙ sym k)
 
-stands_once : (kind : PasswordKind) (opened : Bool) (bytes rest after : List ℕ) (m n : ClientMessage) → Stands kind opened bytes m rest → Stands kind opened bytes n after → (m ≡ n) × (rest ≡ after)
+pub stands_once : (kind : PasswordKind) (opened : Bool) (bytes rest after : List ℕ) (m n : ClientMessage) → Stands kind opened bytes m rest → Stands kind opened bytes n after → (m ≡ n) × (rest ≡ after)
 stands_once kind true bytes rest after m n s t =
     let both : bytes_of m ++ rest ≡ bytes_of n ++ after = sym s.whole ∙ t.whole in
     let tags = same_tag (tag_of m) (tag_of n) (payload m) (payload n) rest after s.expected.0 t.expected.0 both in
@@ -65,7 +65,7 @@ read_stays kind old new later more m r first then =
 
 -- ---- nothing stands in no bytes
 
-framed_some : (tag : Option ℕ) (body more : List ℕ) → [] ≡ framed tag body ++ more → ⊥
+pub framed_some : (tag : Option ℕ) (body more : List ℕ) → [] ≡ framed tag body ++ more → ⊥
 framed_some None body more e = omega (arith, ap length e, length-append (framed None body) more, length-append (uint32 (length body + 4)) body, length-uint32 (length body + 4))
 framed_some (Some t) body more e = cc
 
@@ -85,11 +85,11 @@ nothing_read kind opened (Err e) new step =
 
 -- ---- a session
 
-abbrev InOrder : Bool → List ClientMessage → Type 0
+abbrev pub InOrder : Bool → List ClientMessage → Type 0
 InOrder false messages = AreInOrder messages
 InOrder true messages = AllByRecursion IsTagged messages
 
-record RunFrom (opened : Bool) (kinds : List PasswordKind) (messages : List ClientMessage) (bytes : List ℕ) : Type 0 where
+pub record RunFrom (opened : Bool) (kinds : List PasswordKind) (messages : List ClientMessage) (bytes : List ℕ) : Type 0 where
   pub order : InOrder opened messages
   pub spelled : AllByRecursion IsSpelled messages
   pub told : kinds ≡ flat_map kinds_of messages
@@ -106,7 +106,7 @@ next_told : (k : Option PasswordKind) (kinds : List PasswordKind) → IfSome k (
 next_told None kinds = tt
 next_told (Some k) kinds = refl
 
-expected : (opened : Bool) (m : ClientMessage) (messages : List ClientMessage) (kinds : List PasswordKind) → InOrder opened (m ∷ messages) → kinds ≡ flat_map kinds_of (m ∷ messages) → IsExpected (next_kind kinds) opened m
+pub expected : (opened : Bool) (m : ClientMessage) (messages : List ClientMessage) (kinds : List PasswordKind) → InOrder opened (m ∷ messages) → kinds ≡ flat_map kinds_of (m ∷ messages) → IsExpected (next_kind kinds) opened m
 expected true m messages kinds o told = (o.0, subst (λ ks. IfSome (kind_of m) (λ k. k ≡ next_kind ks)) (sym told) (next_told (kind_of m) (flat_map kinds_of messages)))
 expected false m messages kinds (inl o) told = untagged m (inl o.0)
 expected false m messages kinds (inr o) told = untagged m (inr o.0)
@@ -125,10 +125,10 @@ order_behind true m messages o = o.1
 order_behind false m messages (inl o) = subst (λ (b : Bool). InOrder b messages) (sym (opens m o.0)) o.1
 order_behind false m messages (inr o) = subst (λ (b : Bool). InOrder b messages) (sym (asks m o.0)) o.1
 
-front_stands : (opened : Bool) (kinds : List PasswordKind) (m : ClientMessage) (messages : List ClientMessage) (bytes : List ℕ) → RunFrom opened kinds (m ∷ messages) bytes → Stands (next_kind kinds) opened bytes m (flat_map bytes_of messages)
+pub front_stands : (opened : Bool) (kinds : List PasswordKind) (m : ClientMessage) (messages : List ClientMessage) (bytes : List ℕ) → RunFrom opened kinds (m ∷ messages) bytes → Stands (next_kind kinds) opened bytes m (flat_map bytes_of messages)
 front_stands opened kinds m messages bytes run = record { expected = expected opened m messages kinds run.order run.told; spelled = run.spelled.0; whole = run.whole }
 
-behind : (opened : Bool) (kinds : List PasswordKind) (m : ClientMessage) (messages : List ClientMessage) (bytes : List ℕ) → RunFrom opened kinds (m ∷ messages) bytes
+pub behind : (opened : Bool) (kinds : List PasswordKind) (m : ClientMessage) (messages : List ClientMessage) (bytes : List ℕ) → RunFrom opened kinds (m ∷ messages) bytes
     → RunFrom (opened || is_startup m) (kinds_behind m kinds) messages (flat_map bytes_of messages)
 behind opened kinds m messages bytes run = record {
   order = order_behind opened m messages run.order;

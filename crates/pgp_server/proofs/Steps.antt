@@ -107,15 +107,15 @@ step_fault kind opened bytes e f = record { none = fault_none kind opened bytes 
 front_bytes : (a b : List ℕ) → IsBytes (a ++ b) → IsBytes a
 front_bytes a b h = subst IsBytes (take_at a b (length a) refl) (IsBytes-take (length a) (a ++ b) h)
 
-frame_payload : (bytes payload rest : List ℕ) (tag : ℕ) → IsBytes bytes → bytes ≡ framed (Some tag) payload ++ rest → IsBytes payload
+pub frame_payload : (bytes payload rest : List ℕ) (tag : ℕ) → IsBytes bytes → bytes ≡ framed (Some tag) payload ++ rest → IsBytes payload
 frame_payload bytes payload rest tag each whole =
     bytes_behind (framed (Some tag) payload) (tag ∷ uint32 (length payload + 4)) payload refl (front_bytes (framed (Some tag) payload) rest (subst IsBytes whole each))
 
-packet_payload : (bytes payload rest : List ℕ) → IsBytes bytes → bytes ≡ framed None payload ++ rest → IsBytes payload
+pub packet_payload : (bytes payload rest : List ℕ) → IsBytes bytes → bytes ≡ framed None payload ++ rest → IsBytes payload
 packet_payload bytes payload rest each whole =
     bytes_behind (framed None payload) (uint32 (length payload + 4)) payload refl (front_bytes (framed None payload) rest (subst IsBytes whole each))
 
-some_none : (t : ℕ) (o : Option ℕ) → o ≡ Some t → o ≢ None
+pub some_none : (t : ℕ) (o : Option ℕ) → o ≡ Some t → o ≢ None
 some_none t o e n = let k : Some t ≡ None = sym e ∙ n in cc
 
 module _ (kind : PasswordKind) (bytes body rest : List ℕ) (tag : ℕ) (each : IsBytes bytes) (front : IsFront (Some tag) body rest bytes) where

@@ -1,8 +1,14 @@
+pub mod AnyReading
+pub mod AnyReads
+pub mod AnyStep
+pub mod AnyViews
 pub mod Content
 pub mod Faults
 pub mod Forwards
+pub mod OtherMessage
 pub mod Reading
 pub mod Reads
 pub mod Step
 pub mod Views
+pub mod WideFaults
 pub mod Whole

@@ -193,8 +193,12 @@ pub fn packet(payload: &[u8]) -> Result<ClientMessage<'_>, ClientError>
 }
 
 /// What follows each code.
+///
+/// # Errors
+///
+/// `UnknownPacket` where no packet has the code; `UnexpectedEof`, `InvalidSize`, `NotDrained`.
 #[tactic(auto, unfolding(crate::specs::Reading::by_code))]
-fn by_code(code: u32, rest: &[u8]) -> Result<ClientMessage<'_>, ClientError>
+pub fn by_code(code: u32, rest: &[u8]) -> Result<ClientMessage<'_>, ClientError>
     ensures { told result ≡ by_code code rest.now }
 {
     match code {

@@ -2,14 +2,18 @@
 
 ghost use Rattle.std.specs.Prelude.{◌≡◌, true, false};
 ghost use Rattle.pgp_frontend.specs.ClientMessage.{PasswordKind as Kind};
+ghost use Rattle.pgp_server.specs.AnyStep.{AnyStep};
+ghost use Rattle.pgp_server.specs.AnyViews.{read_any};
 ghost use Rattle.pgp_server.specs.Step.{Step, TakesWithBytes};
 ghost use Rattle.pgp_server.specs.Views.{kind_view, read, read_with_bytes, view};
 ghost use Rattle.pgp_frontend.specs.ClientRun.{is_startup};
 
+use crate::any_step::{any_opening, any_tagged};
 use crate::body::{body, packet};
 use crate::error::ClientError;
 use crate::frame::{frame, packet_front};
 use crate::message::{ClientMessage, PasswordKind};
+use crate::other::AnyMessage;
 use std::marker::Model;
 
 /// Reads the messages of a client in place: nothing is copied, and no memory is asked for. Before a startup packet
@@ -89,6 +93,27 @@ impl<'a> ClientMessages<'a> {
         read
     }
 
+    /// As `next`, and reads the messages too that no writer here makes: a call of a function, the first message of a SASL exchange
+    /// that has no response, the question for GSS encryption, and a startup packet of another minor version of protocol 3.
+    ///
+    /// # Errors
+    ///
+    /// As `next`. Where the first message of a SASL exchange is expected, the length -1 is no fault; and a packet whose code is
+    /// a version of protocol 3 is refused for what follows the code alone.
+    pub fn next_any(&mut self, kind: PasswordKind) -> Result<Option<AnyMessage<'a>>, ClientError>
+        ensures { AnyStep (kind_view kind) self.old (read_any result) self.new }
+    {
+        if self.opened {
+            let (read, rest) = any_tagged(kind, self.rest);
+            self.rest = rest;
+            return read;
+        }
+        let (read, rest, is_open) = any_opening(self.rest);
+        self.rest = rest;
+        self.opened = is_open;
+        read
+    }
+
     /// As `next`, with the bytes of the message beside it: who passes a message on unchanged writes these.
     ///
     /// # Errors
@@ -147,7 +172,7 @@ fn opening(bytes: &[u8]) -> (Result<Option<ClientMessage<'_>>, ClientError>, &[u
 }
 
 /// Whether it is a startup packet.
-fn is_startup(message: &ClientMessage) -> bool
+pub fn is_startup(message: &ClientMessage) -> bool
     ensures { result ≡ is_startup (view message.now) }
 {
     match message {
