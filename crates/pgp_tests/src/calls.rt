@@ -8,3 +8,4 @@ mod message;
 mod protocol;
 mod ranges;
 mod reply;
+mod server;
