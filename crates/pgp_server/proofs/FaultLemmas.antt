@@ -40,7 +40,7 @@ refusal e = Err e
 pub refusal_is : {A : Type 0} (d e : Error) → refusal {A = A} d ≡ Err e → d ≡ e
 refusal_is d e h = cc
 
-pub no_refusal : {A : Type 0} (x : A) (e : Error) → ok x ≡ Err e → ⊥
+no_refusal : {A : Type 0} (x : A) (e : Error) → ok x ≡ Err e → ⊥
 no_refusal x e h = cc
 
 bind_err : {A B : Type 0} (o : Option A) (f : A → Result B Error) (e : Error) → (o >>= f) ≡ Err e → ((o ≡ None) × (e ≡ UnexpectedEof)) ⊎ ((x : A) × (o ≡ Some x) × (f x ≡ Err e))
@@ -381,7 +381,7 @@ body_blames kind tag bytes e each is =
 
 -- ---- opening packets
 
-pub named_err : (r : Result ClientMessage Error) (e : ClientError) → named r ≡ Err e → (d : Error) × (r ≡ Err d) × (e ≡ Reading d)
+named_err : (r : Result ClientMessage Error) (e : ClientError) → named r ≡ Err e → (d : Error) × (r ≡ Err d) × (e ≡ Reading d)
 named_err (Ok m) e is = absurd cc
 named_err (Err d) e is = (d, refl, cc)
 

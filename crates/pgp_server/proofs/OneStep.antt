@@ -36,11 +36,11 @@ some_is a b e = cc
 
 -- ---- frames
 
-pub ended_read : (m : ClientMessage) (bytes : List ℕ) (e : Error) → Faulty [] bytes e → ended m bytes ≡ Err e
+ended_read : (m : ClientMessage) (bytes : List ℕ) (e : Error) → Faulty [] bytes e → ended m bytes ≡ Err e
 ended_read m [] e f = absurd (f.0 refl)
 ended_read m (b ∷ bytes) e f = ap refusal (sym f.1)
 
-pub form_read : (shapes : List Shape) (make : Contents shapes → ClientMessage) (bytes : List ℕ) (e : Error) → Faulty shapes bytes e → made make (contents_at shapes bytes) ≡ Err e
+form_read : (shapes : List Shape) (make : Contents shapes → ClientMessage) (bytes : List ℕ) (e : Error) → Faulty shapes bytes e → made make (contents_at shapes bytes) ≡ Err e
 form_read shapes make bytes e f = ap (made make) (faulty_err shapes bytes e f)
 
 no_fault : (bytes : List ℕ) (e : Error) → Faulty (AllBytes ∷ []) bytes e → ⊥
@@ -180,7 +180,7 @@ packet_length payload rest bytes whole fits = record { front = []; rest = payloa
 pub code_bytes : (payload rest : List ℕ) (code : ℤ) → payload ≡ int32 code ++ rest → 4 ≤ length payload
 code_bytes payload rest code whole = omega (arith, ap length whole, length-append (int32 code) rest, ap length (int32_spelled code), length-uint32 (cast_unsigned w32 code))
 
-pub has_code : (payload : List ℕ) (e : ClientError) → BlamesPacket payload e → 4 ≤ length payload
+has_code : (payload : List ℕ) (e : ClientError) → BlamesPacket payload e → 4 ≤ length payload
 has_code payload e (inl unknown) = code_bytes payload unknown.rest unknown.code unknown.whole
 has_code payload e (inr faulty) = code_bytes payload faulty.rest faulty.code faulty.whole
 

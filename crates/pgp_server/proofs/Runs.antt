@@ -65,7 +65,7 @@ read_stays kind old new later more m r first then =
 
 -- ---- nothing stands in no bytes
 
-pub framed_some : (tag : Option ℕ) (body more : List ℕ) → [] ≡ framed tag body ++ more → ⊥
+framed_some : (tag : Option ℕ) (body more : List ℕ) → [] ≡ framed tag body ++ more → ⊥
 framed_some None body more e = omega (arith, ap length e, length-append (framed None body) more, length-append (uint32 (length body + 4)) body, length-uint32 (length body + 4))
 framed_some (Some t) body more e = cc
 
@@ -106,7 +106,7 @@ next_told : (k : Option PasswordKind) (kinds : List PasswordKind) → IfSome k (
 next_told None kinds = tt
 next_told (Some k) kinds = refl
 
-pub expected : (opened : Bool) (m : ClientMessage) (messages : List ClientMessage) (kinds : List PasswordKind) → InOrder opened (m ∷ messages) → kinds ≡ flat_map kinds_of (m ∷ messages) → IsExpected (next_kind kinds) opened m
+expected : (opened : Bool) (m : ClientMessage) (messages : List ClientMessage) (kinds : List PasswordKind) → InOrder opened (m ∷ messages) → kinds ≡ flat_map kinds_of (m ∷ messages) → IsExpected (next_kind kinds) opened m
 expected true m messages kinds o told = (o.0, subst (λ ks. IfSome (kind_of m) (λ k. k ≡ next_kind ks)) (sym told) (next_told (kind_of m) (flat_map kinds_of messages)))
 expected false m messages kinds (inl o) told = untagged m (inl o.0)
 expected false m messages kinds (inr o) told = untagged m (inr o.0)

@@ -115,7 +115,7 @@ pub packet_payload : (bytes payload rest : List ℕ) → IsBytes bytes → bytes
 packet_payload bytes payload rest each whole =
     bytes_behind (framed None payload) (uint32 (length payload + 4)) payload refl (front_bytes (framed None payload) rest (subst IsBytes whole each))
 
-pub some_none : (t : ℕ) (o : Option ℕ) → o ≡ Some t → o ≢ None
+some_none : (t : ℕ) (o : Option ℕ) → o ≡ Some t → o ≢ None
 some_none t o e n = let k : Some t ≡ None = sym e ∙ n in cc
 
 module _ (kind : PasswordKind) (bytes body rest : List ℕ) (tag : ℕ) (each : IsBytes bytes) (front : IsFront (Some tag) body rest bytes) where
