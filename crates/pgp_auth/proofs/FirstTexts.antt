@@ -68,7 +68,7 @@ ended-err n (b ∷ s) f h =
     let same : faults.Trailing (n - length (b ∷ s)) ≡ f = cc in
     (λ e. cc, ap refusal_of (sym same))
 
-count_of-ok : (ds : List ℕ) (i : ℕ) → count_of ds ≡ Ok i → NamesCount ds i
+pub count_of-ok : (ds : List ℕ) (i : ℕ) → count_of ds ≡ Ok i → NamesCount ds i
 unfolding count_of
 count_of-ok [] i h = cc
 count_of-ok (d ∷ ds) i h =

@@ -24,3 +24,5 @@ pub mod Runs
 pub mod ServerSide
 pub mod Steps
 pub mod VerifierText
+pub mod ServerTexts
+pub mod EndsMeet

@@ -42,7 +42,7 @@ nonce_once m n s k t i j x y =
 
 -- ---- the signature
 
-expects_once : (b : Binding) (first m w auth v auth' : List ℕ) → Expects b first m w auth → Expects b first m v auth' → auth ≡ auth'
+pub expects_once : (b : Binding) (first m w auth v auth' : List ℕ) → Expects b first m w auth → Expects b first m v auth' → (w ≡ v) × (auth ≡ auth')
 expects_once b first m w auth v auth' x y =
     let hx = rw x.header_is at x.cut.text_is in
     let hy = rw y.header_is at y.cut.text_is in
@@ -52,12 +52,12 @@ expects_once b first m w auth v auth' x y =
     let wy = rw y.header_is at y.final_is in
     let w_same : w ≡ v = wx ∙ sym wy in
     let ax = rw (bare, w_same) at x.auth_is in
-    ax ∙ sym y.auth_is
+    (w_same, ax ∙ sym y.auth_is)
 
 pub signs_once : (v : Verifier) (b : Binding) (first m x y : List ℕ) → Signs v b first m x → Signs v b first m y → x ≡ y
 signs_once v b first m x y p q =
     let auth = expects_once b first m p.front p.auth q.front q.auth p.expects q.expects in
-    rw auth at p.signature_is ∙ sym q.signature_is
+    rw auth.1 at p.signature_is ∙ sym q.signature_is
 
 -- ---- the server's final text
 

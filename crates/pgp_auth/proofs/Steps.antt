@@ -20,7 +20,7 @@ use Rattle.std.proofs.lemmas.List.Sums.{AllPass-from_list_all}
 use Rattle.pgp_auth.proofs.Grants.{granted_meets, not_granted}
 use Rattle.pgp_auth.proofs.ServerSide.{recovers, length-client_proof, proof_bytes}
 
-cuts : (b : Binding) (bare : List ℕ) → CutAfterSecondComma (gs2_header b ++ bare) (gs2_header b) bare
+pub cuts : (b : Binding) (bare : List ℕ) → CutAfterSecondComma (gs2_header b ++ bare) (gs2_header b) bare
 cuts Unrequested bare = record { one = codes "y"; two = []; one_plain = AllPass-from_list_all (λ x. not (x == comma)) (codes "y") refl; two_plain = AllPass-from_list_all (λ x. not (x == comma)) [] refl; header_is = refl; text_is = refl }
 cuts Unsupported bare = record { one = codes "n"; two = []; one_plain = AllPass-from_list_all (λ x. not (x == comma)) (codes "n") refl; two_plain = AllPass-from_list_all (λ x. not (x == comma)) [] refl; header_is = refl; text_is = refl }
 cuts (TlsServerEndPoint s) bare = record { one = codes "p=tls-server-end-point"; two = []; one_plain = AllPass-from_list_all (λ x. not (x == comma)) (codes "p=tls-server-end-point") refl; two_plain = AllPass-from_list_all (λ x. not (x == comma)) [] refl; header_is = refl; text_is = refl }

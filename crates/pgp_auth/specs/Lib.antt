@@ -11,11 +11,15 @@ pub mod Prepared
 pub mod ScramAnswer
 pub mod ScramClient
 pub mod ScramErrorView
+pub mod ScramMeeting
 pub mod ScramPartView
 pub mod ScramReading
 pub mod ScramRefusal
 pub mod ScramServer
+pub mod ScramServerView
+pub mod ScramServing
 pub mod ScramStateView
+pub mod ScramStored
 pub mod ScramText
 pub mod ScramView
 pub mod Verifier

@@ -13,8 +13,11 @@ ghost use Rattle.pgp_auth.specs.ScramServer.{Accepts, Signs};
 ghost use Rattle.pgp_auth.specs.ScramRefusal.{Refusal, OutOfMemory, InvalidBase64, Admitted, Meets, RefusesFirst, RefusesFinal, Verifies, ShowsOther};
 ghost use Rattle.pgp_auth.specs.ScramClient.{Client, Answers, first_text, signature_of, NotVerified, Serves, Completes, Over};
 ghost use Rattle.pgp_auth.specs.ScramErrorView.{refusal, number_of, plain};
+ghost use Rattle.pgp_auth.specs.ScramMeeting.{Meeting, Met, OnlyMemory};
 
-use crate::authentication::sasl::{ScramError, ScramSha256};
+use crate::authentication::sasl::{
+    ExchangeError, ScramError, ScramServer, ScramSha256, ServerError,
+};
 use pgp_base::Memory;
 
 /// What follows a string constant, unless it begins with a quote, changes neither where the constant
@@ -135,4 +138,31 @@ pub fn exchange<A: Memory>(
 {
     client.update(server_first)?;
     client.finish(server_final)
+}
+
+/// Our client against our server: where the server holds the verifier of the client's password, and takes its channel
+/// binding, both are through, unless memory is refused to one of them.
+///
+/// # Errors
+///
+/// `OutOfMemory` of either side.
+pub fn ends_meet<A: Memory>(
+    client: &mut ScramSha256<A>,
+    server: &mut ScramServer<A>,
+) -> Result<(), ExchangeError<A>>
+    requires { Meeting client.old server.old }
+    ensures ok { OnOk result (Met client.new server.new) }
+    ensures memory { IfErr result (OnlyMemory A.Lacks) }
+{
+    let Some(first) = client.message() else {
+        return Err(ExchangeError::Server(ServerError::WrongState));
+    };
+    let answer = server.first(first)?;
+    client.update(&answer)?;
+    let Some(last) = client.message() else {
+        return Err(ExchangeError::Server(ServerError::WrongState));
+    };
+    let signature = server.finish(last)?;
+    client.finish(&signature)?;
+    Ok(())
 }

@@ -9,7 +9,10 @@ ghost use Rattle.pgp_auth.specs.Prepared.{is_asked, prepared};
 
 use crate::hmac::MacKey;
 use crate::lanes::xor_into;
-pub use crate::scram::{ChannelBinding, ScramError, ScramSha256, is_nonce};
+pub use crate::scram::{
+    ChannelBinding, ChannelOffer, ExchangeError, ScramError, ScramServer, ScramSha256, ServerError,
+    StoredVerifier, VerifierError, is_nonce,
+};
 use pgp_base::{Error, Memory};
 use std::str;
 

@@ -59,7 +59,7 @@ pub(crate) fn client_first_text<A: Memory>(
 
 // The final text without its proof.
 #[tactic(auto, using(crate::proofs::HeaderText::encoded_apart))]
-fn final_front<A: Memory>(
+pub(crate) fn final_front<A: Memory>(
     alloc: A,
     binding: &ChannelBinding<A>,
     nonce: &[u8],
@@ -83,7 +83,7 @@ fn final_front<A: Memory>(
 }
 
 // The text that both sides sign.
-fn signed_text<A: Memory>(
+pub(crate) fn signed_text<A: Memory>(
     alloc: A,
     client_nonce: &[u8],
     server_first: &[u8],

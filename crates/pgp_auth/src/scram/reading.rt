@@ -81,7 +81,7 @@ impl Alphabet {
     }
 
     // The longest front of `text` in the alphabet, and the rest.
-    fn split_front(self, text: &[u8]) -> (&[u8], &[u8])
+    pub(crate) fn split_front(self, text: &[u8]) -> (&[u8], &[u8])
         ensures front { result.0.now ≡ front_of (admits self) text.now }
         ensures rest { result.1.now ≡ rest_of (admits self) text.now }
         ensures shorter { length result.1.now ≤ length text.now }
@@ -99,7 +99,7 @@ impl Alphabet {
 
 // The number that digits name.
 #[tactic(auto, unfolding(crate::specs::ScramReading::count_of, crate::specs::ScramText::number_from))]
-fn count(digits: &[u8]) -> Result<u32, Fault>
+pub(crate) fn count(digits: &[u8]) -> Result<u32, Fault>
     requires { AllPass is_digit digits.now }
     ensures { result ≡ count_of digits.now }
 {

@@ -3,6 +3,7 @@
 mod ample;
 mod played;
 mod published;
+mod served;
 mod worked;
 
 use crate::authentication::sasl::{

@@ -44,7 +44,7 @@ fn server_error<A: Memory>(alloc: A, message: &[u8]) -> Result<String<A>, ScramE
 }
 
 // The bytes that a text of at most 64 characters shows, in `room`.
-fn decode_short<'a, A: Allocator>(
+pub(crate) fn decode_short<'a, A: Allocator>(
     text: &[u8],
     room: &'a mut [u8],
 ) -> Result<&'a [u8], ScramError<A>>
@@ -70,7 +70,7 @@ fn server_signature<A: Allocator>(signed: &Signed<A>, made: &mut u64) -> [u8; 32
 }
 
 // How far two lists of 32 bytes are apart, 0 where they are the same. Each byte is looked at.
-fn difference(left: &[u8; 32], right: &[u8]) -> u32
+pub(crate) fn difference(left: &[u8; 32], right: &[u8]) -> u32
     requires { length right.now ≡ 32 }
     ensures { (result ≡ 0) ↔ (right.now ≡ left.now) }
 {
