@@ -6,6 +6,7 @@ pub mod Bodies
 pub mod Contents
 pub mod Forms
 pub mod Fronts
+pub mod Headers
 pub mod Steps
 pub mod Runs
 pub mod FaultLemmas
@@ -16,3 +17,4 @@ pub mod Rewritten
 pub mod OneFault
 pub mod OneStep
 pub mod Pieces
+pub mod Handing

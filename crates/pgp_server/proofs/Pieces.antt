@@ -8,7 +8,7 @@ use Rattle.pgp_server.specs.declared.error.ClientError.{ClientError}
 use Rattle.pgp_server.proofs.Steps.{left}
 
 -- what was read, with bytes behind it
-took : (kind : PasswordKind) (old new : Unread) (m : ClientMessage) (more : List ℕ) → Takes kind old m new → Takes kind (left (old.bytes ++ more) old.opened) m (left (new.bytes ++ more) new.opened)
+pub took : (kind : PasswordKind) (old new : Unread) (m : ClientMessage) (more : List ℕ) → Takes kind old m new → Takes kind (left (old.bytes ++ more) old.opened) m (left (new.bytes ++ more) new.opened)
 took kind old new m more t = record {
   stands = record {
     expected = t.stands.expected;

@@ -1,6 +1,8 @@
 pub mod Content
 pub mod Faults
 pub mod Forwards
+pub mod Holding
+pub mod Pieces
 pub mod Reading
 pub mod Reads
 pub mod Step

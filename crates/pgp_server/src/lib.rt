@@ -2,6 +2,8 @@
 #![tactic(auto)]
 
 mod body;
+mod client_frame;
+mod client_parser;
 mod ends;
 mod error;
 mod formats;
@@ -9,20 +11,26 @@ mod forwarding;
 mod frame;
 mod key;
 pub mod laws;
+mod limits;
 mod listed;
 mod message;
 mod messages;
 mod pairs;
+mod parser_error;
 mod session;
 mod types;
 mod values;
 
+pub use client_frame::ClientFrame;
+pub use client_parser::ClientParser;
 pub use error::ClientError;
 pub use formats::Formats;
 pub use forwarding::forward;
+pub use limits::Limits;
 pub use message::{ClientMessage, PasswordKind};
 pub use messages::ClientMessages;
 pub use pairs::StartupParameters;
+pub use parser_error::ParserError;
 pub use session::read_session;
 pub use types::ParamTypes;
 pub use values::Values;
