@@ -22,7 +22,7 @@ use Rattle.pgp_server.proofs.Steps.{left, payload_fits}
 
 -- ---- a step, with bytes behind it
 
-refused_behind : (kind : PasswordKind) (old new : Unread) (e : ClientError) (more : List ℕ) → Refuses kind old e new → Refuses kind (left (old.bytes ++ more) old.opened) e (left (new.bytes ++ more) new.opened)
+pub refused_behind : (kind : PasswordKind) (old new : Unread) (e : ClientError) (more : List ℕ) → Refuses kind old e new → Refuses kind (left (old.bytes ++ more) old.opened) e (left (new.bytes ++ more) new.opened)
 refused_behind kind old new e more r = record {
   none = λ m others rest s. r.none m (more ++ others) rest (record { expected = s.expected; spelled = s.spelled; whole = sym (append_assoc old.bytes more others) ∙ s.whole });
   left = elim r.left [
@@ -60,7 +60,7 @@ step_behind kind old new (Err e) more step = refused_behind kind old new e more 
 
 -- ---- a message's bytes
 
-none_left : (l : List ℕ) → length l ≡ 0 → l ≡ []
+pub none_left : (l : List ℕ) → length l ≡ 0 → l ≡ []
 none_left [] e = refl
 none_left (x ∷ l) e = absurd (omega (arith, e))
 

@@ -18,3 +18,4 @@ pub mod OneFault
 pub mod OneStep
 pub mod Pieces
 pub mod Handing
+pub mod Holdings
