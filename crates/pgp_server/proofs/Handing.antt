@@ -7,6 +7,7 @@ use Rattle.pgp_base.proofs.Parts.{length-uint32}
 use Rattle.pgp_frontend.specs.ClientMessage.{ClientMessage, PasswordKind, Password}
 use Rattle.pgp_frontend.specs.ClientRun.{is_startup}
 use Rattle.pgp_frontend.specs.Payload.{framed, payload, tag_of, bytes_of}
+use Rattle.pgp_frontend.proofs.Readings.{tagged_bodies, tag_in}
 use Rattle.pgp_server.specs.Step.{Unread, Step, Stands, Takes, Refuses, StopsAtLength, SkipsFrame, StopsAt, BeginsWithLength}
 use Rattle.pgp_server.specs.Views.{view, read}
 use Rattle.pgp_server.specs.Pieces.{IsWhole, ReadsFrame, HandsOut, step_of}
@@ -141,3 +142,64 @@ hands_out opened bytes rest frame now h = record {
       let all : Step kind (left (bytes ++ rest) opened) (step_of r) (left rest read.0) = step_behind kind (left bytes opened) (left [] read.0) r rest alone in
       subst (λ (o : Bool). Step kind (left (bytes ++ rest) opened) (step_of r) (left rest o)) (h.steps kind r read.0 alone) all;
 }
+
+-- ---- a message's bytes are read as a whole
+
+abbrev silence : Result (Option ClientMessage) ClientError
+silence = Ok None
+
+abbrev answered : ClientMessage → Result (Option ClientMessage) ClientError
+answered m = Ok (Some m)
+
+answer_none : (m : ClientMessage) → silence ≡ answered m → ⊥
+answer_none m e = cc
+
+module _ (kind : PasswordKind) (bytes : List ℕ) (tag : ℕ) (body : List ℕ) (whole : bytes ≡ framed (Some tag) body) (fits : length body + 4 < 2 ^ 31) where
+  frame_begins : BeginsWithLength true bytes (length body + 4)
+  frame_begins = record { front = tag ∷ []; rest = body; at = refl; fits = omega (arith, fits); parts = whole }
+
+  frame_size : HasSize true bytes (length bytes)
+  frame_size = record {
+    len = length body + 4;
+    begins = frame_begins;
+    enough = omega arith;
+    fits = fits;
+    all = omega (arith, ap length whole, length-append (uint32 (length body + 4)) body, length-uint32 (length body + 4));
+  }
+
+  no_bytes : (t : ℕ) (other rest : List ℕ) → length other + 4 < 2 ^ 31 → bytes ≡ framed (Some t) other ++ rest → rest ≡ []
+  no_bytes t other rest small is =
+      let meet : framed (Some tag) body ++ [] ≡ framed (Some t) other ++ rest = append-nil (framed (Some tag) body) ∙ sym whole ∙ is in
+      let same = tagged_bodies tag t body other [] rest (omega (arith, fits)) (omega (arith, small)) meet in
+      sym same.2
+
+  taken_whole : (m : ClientMessage) (new : Unread) → Takes kind (left bytes true) m new → new.bytes ≡ []
+  taken_whole m new step =
+      let t = tag_in (tag_of m) step.stands.expected.0 in
+      no_bytes t.0 (payload m) new.bytes (payload_fits m step.stands.spelled) (step.stands.whole ∙ ap (λ o. framed o (payload m) ++ new.bytes) t.1)
+
+  passed_whole : (e : ClientError) (new : Unread) → Refuses kind (left bytes true) e new → new.bytes ≡ []
+  passed_whole e new r = elim r.left [
+    | inl at ↦
+        let same = one_length true bytes at.fault.len (length body + 4) at.fault.begins frame_begins in
+        elim at.fault.wrong [ inl small ↦ absurd (omega (arith, same, small)) | inr large ↦ absurd (omega (arith, same, large, fits)) ]
+    | inr other ↦ elim other [
+      | inl skips ↦ no_bytes skips.tag skips.payload new.bytes skips.fits skips.whole
+      | inr stops ↦ let k : true ≡ false = stops.phase in absurd cc
+    ]
+  ]
+
+none_behind : (kind : PasswordKind) (opened : Bool) (bytes : List ℕ) (r : Result ClientMessage ClientError) (new : Unread) → IsWhole opened bytes → Step kind (left bytes opened) (step_of r) new → new.bytes ≡ []
+none_behind kind false bytes r new w step = ap (λ (u : Unread). u.bytes) (stands_read kind false bytes [] w.0 (step_of r) new (w.1 kind) step).1
+none_behind kind true bytes (Ok m) new w step = taken_whole kind bytes w.0 w.1 w.2 w.3 m new step
+none_behind kind true bytes (Err e) new w step = passed_whole kind bytes w.0 w.1 w.2 w.3 e new step
+
+pub frame_steps : (kind : PasswordKind) (opened : Bool) (bytes : List ℕ) (r : Result ClientMessage ClientError) (new : Unread) → IsWhole opened bytes → Step kind (left bytes opened) (step_of r) new
+    → (phase : Bool) × Step kind (left bytes opened) (step_of r) (left [] phase)
+frame_steps kind opened bytes r new w step =
+    let all : new ≡ left [] new.opened = ap (λ b. left b new.opened) (none_behind kind opened bytes r new w step) in
+    (new.opened, subst (λ (u : Unread). Step kind (left bytes opened) (step_of r) u) all step)
+
+pub frame_there : (kind : PasswordKind) (opened : Bool) (bytes : List ℕ) (new : Unread) → IsWhole opened bytes → Step kind (left bytes opened) (Ok None) new → ⊥
+frame_there kind false bytes new w step = answer_none w.0 (stands_read kind false bytes [] w.0 (Ok None) new (w.1 kind) step).0
+frame_there kind true bytes new w step = not_partial true bytes (length bytes) (frame_size kind bytes w.0 w.1 w.2 w.3) (omega arith) step.0

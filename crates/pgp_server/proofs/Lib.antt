@@ -19,3 +19,4 @@ pub mod OneStep
 pub mod Pieces
 pub mod Handing
 pub mod Holdings
+pub mod PieceRuns

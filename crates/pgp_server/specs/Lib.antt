@@ -2,6 +2,7 @@ pub mod Content
 pub mod Faults
 pub mod Forwards
 pub mod Holding
+pub mod PieceReads
 pub mod Pieces
 pub mod Reading
 pub mod Reads
