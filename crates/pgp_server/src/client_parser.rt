@@ -1,11 +1,11 @@
 //! A client's connection, read as it comes.
 
-ghost use Rattle.std.specs.Prelude.{◌≡◌, ◌++◌, ◌<◌, ◌≤◌, [], true, false, length, slice_index, if◌then◌else◌, OnErr, OnOk, ⊤};
+ghost use Rattle.std.specs.Prelude.{◌≡◌, ◌++◌, ◌<◌, ◌≤◌, [], true, false, length, slice_index, if◌then◌else◌, IfOk, IfSome, OnErr, OnOk, ⊤};
 ghost use mathlib.Core.Option.{none};
 ghost use types.Logic.{sem};
 ghost use denote.Follow.{follows_so};
 ghost use Rattle.pgp_server.specs.Step.{announced, least, place};
-ghost use Rattle.pgp_server.specs.Pieces.{Parses};
+ghost use Rattle.pgp_server.specs.Pieces.{IsWhole, Parses};
 ghost use Rattle.pgp_server.specs.Holding.{Fills, Fits, HasSize, Holds, IsWanted, Opens, Sizes, StandsInPiece, TakesOff, header, is_whole, wanted};
 ghost use Rattle.pgp_server.specs.contracts.client_parser.ClientParser.{the_row};
 
@@ -102,7 +102,8 @@ impl<A: Memory> ClientParser<A> {
         &'s mut self,
         piece: &mut &'p [u8],
     ) -> Result<Option<ClientFrame<'s>>, ParserError>
-        ensures* { sem 𝓛 (follows_so (the_row A.row A.Allocator) (the_row A.row A.Allocator) self.entry.ghost_name none (λ _ _. ⊤)
+        ensures whole { IfOk result (λ found. IfSome found (λ frame. IsWhole frame.opened frame.bytes.now)) }
+        ensures* parses { sem 𝓛 (follows_so (the_row A.row A.Allocator) (the_row A.row A.Allocator) self.entry.ghost_name none (λ _ _. ⊤)
             (λ new. Parses A.Lacks self.old piece.old.now result new piece.new.now)) }
     {
         drop_read(&mut self.held, self.read);

@@ -1,5 +1,6 @@
 use Rattle.std.proofs.Common.{◌≡◌, [], ◌++◌, List, ℕ, true, false, length, Option, Some, None, Result, Ok, Err, rules, refl, sym, ap, subst, ◌∙◌, inl, inr}
-use Rattle.pgp_server.specs.Pieces.{Waiting, IsWithin, Parses}
+use Rattle.std.specs.Prelude.{IfOk, IfSome}
+use Rattle.pgp_server.specs.Pieces.{Waiting, IsWithin, IsWhole, Parses}
 use Rattle.pgp_server.specs.Holding.{HasSize, IsWanted, IsHandedOut, Sizes, StandsInPiece, TakesOff, Holds, Opens}
 use Rattle.pgp_server.specs.declared.client_frame.ClientFrame.{ClientFrame}
 use Rattle.pgp_server.specs.declared.parser_error.ParserError.{ParserError}
@@ -19,7 +20,7 @@ returns-in_err-size g c =
     let all = size_refused g.A.Memory.Lacks limits opened held piece c.in_err-size.field-0.0 sizes in
     let is : c.from_residual.result ≡ Err c.in_err-size.field-0.0 = refused c.from_residual.result c.in_err-size.field-0.0 c.from_residual.ensures.1 in
     let told : Parses g.A.Memory.Lacks c.args.self.now piece (Err c.in_err-size.field-0.0) (waiting held opened limits) piece = subst (λ (w : Waiting). Parses g.A.Memory.Lacks w piece (Err c.in_err-size.field-0.0) (waiting held opened limits) piece) old all in
-    ((refl, (λ x. tt), subst (λ (r : Result (Option ClientFrame) ParserError). Parses g.A.Memory.Lacks c.args.self.now piece r (waiting held opened limits) piece) (sym is) told), tt)
+    ((refl, (λ x. tt), subst (λ (r : Result (Option ClientFrame) ParserError). Parses g.A.Memory.Lacks c.args.self.now piece r (waiting held opened limits) piece) (sym is) told), record { whole = subst (λ (r : Result (Option ClientFrame) ParserError). IfOk r (λ found. IfSome found (λ frame. IsWhole frame.opened frame.bytes.now))) (sym is) tt; parses = tt })
 
 pub returns-in_err-frame : goal.returns-in_err-frame
 returns-in_err-frame g c =
@@ -41,7 +42,7 @@ returns-in_err-frame g c =
     let all : Parses g.A.Memory.Lacks (waiting held opened limits) piece (Err e) (waiting held now limits) rest = rw there.0 alone in
     let is : c.from_residual-in_err-frame.result ≡ Err e = refused c.from_residual-in_err-frame.result e c.from_residual-in_err-frame.ensures.1 in
     let told : Parses g.A.Memory.Lacks c.args.self.now piece (Err e) (waiting held now limits) rest = subst (λ (w : Waiting). Parses g.A.Memory.Lacks w piece (Err e) (waiting held now limits) rest) old all in
-    ((refl, (λ x. tt), subst (λ (r : Result (Option ClientFrame) ParserError). Parses g.A.Memory.Lacks c.args.self.now piece r (waiting held now limits) rest) (sym is) told), tt)
+    ((refl, (λ x. tt), subst (λ (r : Result (Option ClientFrame) ParserError). Parses g.A.Memory.Lacks c.args.self.now piece r (waiting held now limits) rest) (sym is) told), record { whole = subst (λ (r : Result (Option ClientFrame) ParserError). IfOk r (λ found. IfSome found (λ frame. IsWhole frame.opened frame.bytes.now))) (sym is) tt; parses = tt })
 
 pub returns-then-is_in_piece : goal.returns-then-is_in_piece
 returns-then-is_in_piece g c =
@@ -61,7 +62,7 @@ returns-then-is_in_piece g c =
     let off : TakesOff opened piece (Ok frame) now rest = c.in_ok-frame.ensures in
     let alone = piece_taken g.A.Memory.Lacks limits opened piece rest frame now within off in
     let all : Parses g.A.Memory.Lacks (waiting held opened limits) piece (Ok (Some frame)) (waiting held now limits) rest = rw there.0 alone in
-    ((refl, (λ x. tt), subst (λ (w : Waiting). Parses g.A.Memory.Lacks w piece (Ok (Some frame)) (waiting held now limits) rest) old all), tt)
+    ((refl, (λ x. tt), subst (λ (w : Waiting). Parses g.A.Memory.Lacks w piece (Ok (Some frame)) (waiting held now limits) rest) old all), record { whole = all.answer.1.whole; parses = tt })
 
 pub returns-in_err-hold : goal.returns-in_err-hold
 returns-in_err-hold g c =
@@ -81,7 +82,7 @@ returns-in_err-hold g c =
     let all = hold_refused g.A.Memory.Lacks limits opened held piece sizes.0 c.in_ok-size.size new rest e cut holds in
     let is : c.from_residual-in_err-hold.result ≡ Err e = refused c.from_residual-in_err-hold.result e c.from_residual-in_err-hold.ensures.1 in
     let told : Parses g.A.Memory.Lacks c.args.self.now piece (Err e) (waiting new opened limits) rest = subst (λ (w : Waiting). Parses g.A.Memory.Lacks w piece (Err e) (waiting new opened limits) rest) old all in
-    ((refl, (λ x. tt), subst (λ (r : Result (Option ClientFrame) ParserError). Parses g.A.Memory.Lacks c.args.self.now piece r (waiting new opened limits) rest) (sym is) told), tt)
+    ((refl, (λ x. tt), subst (λ (r : Result (Option ClientFrame) ParserError). Parses g.A.Memory.Lacks c.args.self.now piece r (waiting new opened limits) rest) (sym is) told), record { whole = subst (λ (r : Result (Option ClientFrame) ParserError). IfOk r (λ found. IfSome found (λ frame. IsWhole frame.opened frame.bytes.now))) (sym is) tt; parses = tt })
 
 pub returns-then-not-branch : goal.returns-then-not-branch
 returns-then-not-branch g c =
@@ -97,7 +98,7 @@ returns-then-not-branch g c =
     let rest : List ℕ = c.hold.new.piece.now in
     let holds : Holds g.A.Memory.Lacks c.in_ok-size.size held piece (Ok false) new rest = subst (λ b. Holds g.A.Memory.Lacks c.in_ok-size.size held piece (Ok b) new rest) c.if-not-branch.true c.in_ok-hold.ensures in
     let all = hold_waits g.A.Memory.Lacks limits opened held piece sizes.0 c.in_ok-size.size new rest sizes.1 holds in
-    ((refl, (λ x. tt), subst (λ (w : Waiting). Parses g.A.Memory.Lacks w piece (Ok None) (waiting new opened limits) rest) old all), tt)
+    ((refl, (λ x. tt), subst (λ (w : Waiting). Parses g.A.Memory.Lacks w piece (Ok None) (waiting new opened limits) rest) old all), record { whole = tt; parses = tt })
 
 pub hand_out-requires : goal.hand_out-requires
 hand_out-requires g c =
@@ -149,7 +150,7 @@ returns-in_err-frame-2 g c =
     let all = held_refused g.A.Memory.Lacks limits opened held piece sizes.0 c.in_ok-size.size new rest sizes.1 holds e cut opens in
     let is : c.from_residual-in_err-frame-2.result ≡ Err e = refused c.from_residual-in_err-frame-2.result e c.from_residual-in_err-frame-2.ensures.1 in
     let told : Parses g.A.Memory.Lacks c.args.self.now piece (Err e) (waiting new opened limits) rest = subst (λ (w : Waiting). Parses g.A.Memory.Lacks w piece (Err e) (waiting new opened limits) rest) old all in
-    ((refl, (λ x. tt), subst (λ (r : Result (Option ClientFrame) ParserError). Parses g.A.Memory.Lacks c.args.self.now piece r (waiting new opened limits) rest) (sym is) told), tt)
+    ((refl, (λ x. tt), subst (λ (r : Result (Option ClientFrame) ParserError). Parses g.A.Memory.Lacks c.args.self.now piece r (waiting new opened limits) rest) (sym is) told), record { whole = subst (λ (r : Result (Option ClientFrame) ParserError). IfOk r (λ found. IfSome found (λ frame. IsWhole frame.opened frame.bytes.now))) (sym is) tt; parses = tt })
 
 pub returns : goal.returns
 returns g c =
@@ -168,4 +169,4 @@ returns g c =
     let now = c.in_ok-frame-2.opened in
     let handed : IsHandedOut opened new frame now = subst (λ l. IsHandedOut opened l frame now) c.as_slice-3.ensures.value c.in_ok-frame-2.ensures in
     let all = held_handed g.A.Memory.Lacks limits opened held piece sizes.0 c.in_ok-size.size new rest sizes.1 holds frame now handed in
-    ((refl, (λ x. tt), subst (λ (w : Waiting). Parses g.A.Memory.Lacks w piece (Ok (Some frame)) (waiting [] now limits) rest) old all), tt)
+    ((refl, (λ x. tt), subst (λ (w : Waiting). Parses g.A.Memory.Lacks w piece (Ok (Some frame)) (waiting [] now limits) rest) old all), record { whole = all.answer.1.whole; parses = tt })
