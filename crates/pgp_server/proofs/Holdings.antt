@@ -115,7 +115,7 @@ module _ (lacks : Type 0) (limits : Limits) (opened : Bool) where
     pub hold_refused : (e : ParserError) → StandsInPiece opened held piece size false → Holds lacks size held piece (Err e) new rest
         → Parses lacks (waiting held opened limits) piece (Err e) (waiting new opened limits) rest
     hold_refused e cut x =
-        rw (x.0, x.2, x.3) (record { limits = refl; answer = (x.1, within, cut, record { all = refl; none = λ empty. empty }) })
+        rw (x.0, x.2, x.3) (record { limits = refl; answer = (x.1, within, (x.4, cut), record { all = refl; none = λ empty. empty }) })
 
     pub hold_waits : IsWanted opened (held ++ piece) size → Holds lacks size held piece (Ok false) new rest → Parses lacks (waiting held opened limits) piece (Ok None) (waiting new opened limits) rest
     hold_waits h x =

@@ -87,4 +87,4 @@ TakesOff opened piece (Err e) now left = (now ≡ opened) × (left ≡ piece) ×
 abbrev pub Holds : Type 0 → Option ℕ → List ℕ → List ℕ → Result Bool ParserError → List ℕ → List ℕ → Type 0
 Holds lacks size held piece (Ok true) new left = (new ++ left ≡ held ++ piece) × ((n : ℕ) × (size ≡ Some n) × (length new ≡ n))
 Holds lacks size held piece (Ok false) new left = (new ≡ held ++ piece) × (left ≡ []) × ((n : ℕ) → size ≡ Some n → length new < n)
-Holds lacks size held piece (Err e) new left = (e ≡ OutOfMemory) × lacks × (new ≡ held) × (left ≡ piece)
+Holds lacks size held piece (Err e) new left = (e ≡ OutOfMemory) × lacks × (new ≡ held) × (left ≡ piece) × (piece ≢ [])

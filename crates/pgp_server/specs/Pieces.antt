@@ -60,9 +60,9 @@ IsWithin limits here = (len : ℕ) → IsTooLong limits here len → ⊥
 
 -- ---- a call
 
--- bytes are held already, or the piece's end cuts the message at its front
+-- Bytes came, of a message of which some are held already, or which the piece's end cuts.
 abbrev pub IsCut : Waiting → List ℕ → Type 0
-IsCut old piece = (old.bytes ≢ []) ⊎ IsPartial old.opened piece
+IsCut old piece = (piece ≢ []) × ((old.bytes ≢ []) ⊎ IsPartial old.opened piece)
 
 -- Nothing is passed, and nothing is held of a piece where nothing was held.
 pub record Stays (old : Waiting) (piece : List ℕ) (new : Waiting) (left : List ℕ) : Type 0 where

@@ -1,6 +1,6 @@
 //! A client's connection, read as it comes.
 
-ghost use Rattle.std.specs.Prelude.{◌≡◌, ◌++◌, ◌<◌, ◌≤◌, [], true, false, length, slice_index, if◌then◌else◌, IfOk, IfSome, OnErr, OnOk, ⊤};
+ghost use Rattle.std.specs.Prelude.{◌≡◌, ◌≢◌, ◌++◌, ◌<◌, ◌≤◌, [], true, false, length, slice_index, if◌then◌else◌, IfOk, IfSome, OnErr, OnOk, ⊤};
 ghost use mathlib.Core.Option.{none};
 ghost use types.Logic.{sem};
 ghost use denote.Follow.{follows_so};
@@ -310,7 +310,7 @@ fn hand_out(opened: bool, bytes: &[u8]) -> Result<(ClientFrame<'_>, bool), Parse
     }
 }
 
-/// Moves bytes of the piece behind those that are held, up to so many.
+/// Moves bytes of the piece behind those that are held, up to so many. Room is asked for where the piece has any.
 ///
 /// # Errors
 ///
@@ -320,7 +320,11 @@ fn fill<A: Memory>(held: &mut Vec<u8, A>, size: usize, piece: &mut &[u8]) -> Res
     ensures held { OnErr result (held.new.items ≡ held.old.items) }
     ensures piece { OnErr result (piece.new.now ≡ piece.old.now) }
     ensures lacks { OnErr result A.Lacks }
+    ensures some { OnErr result (piece.old.now ≢ []) }
 {
+    if piece.is_empty() {
+        return Ok(());
+    }
     let missing = size.saturating_sub(held.len());
     A::reserve(held, missing)?;
     let (front, rest) = piece.split_at(missing.min(piece.len()));
