@@ -6,6 +6,7 @@ pub mod Bodies
 pub mod Contents
 pub mod Forms
 pub mod Fronts
+pub mod Headers
 pub mod Steps
 pub mod Runs
 pub mod FaultLemmas
@@ -23,3 +24,6 @@ pub mod AnySteps
 pub mod AnyRewritten
 pub mod AnyOneStep
 pub mod AnyRuns
+pub mod Handing
+pub mod Holdings
+pub mod PieceRuns

@@ -5,10 +5,13 @@ pub mod AnyViews
 pub mod Content
 pub mod Faults
 pub mod Forwards
+pub mod Holding
 pub mod OtherMessage
+pub mod PieceReads
+pub mod Pieces
 pub mod Reading
 pub mod Reads
 pub mod Step
 pub mod Views
-pub mod WideFaults
 pub mod Whole
+pub mod WideFaults

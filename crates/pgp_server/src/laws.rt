@@ -16,8 +16,11 @@ ghost use Rattle.pgp_server.specs.OtherMessage.{AnyMessage as Any, OtherMessage 
 ghost use Rattle.pgp_server.specs.AnyReads.{AnyReads, IsAllReadAsOurs};
 ghost use Rattle.pgp_server.specs.Step.{IsPartial, Stands, Step, Unread};
 ghost use Rattle.pgp_server.specs.Reads.{HasRead, Reads, ReadsSession, IsAllRead};
+ghost use Rattle.std.specs.List.{flat_map};
+ghost use Rattle.pgp_server.specs.PieceReads.{Came, Gives, ReadsPiece, ReadsPieces, messages_of, piece_of};
+ghost use Rattle.pgp_server.specs.Pieces.{Waiting, unread};
 
-use pgp_base::Buffer;
+use pgp_base::{Buffer, Memory};
 
 /// A message that stands at the front is read, and no other answer is given.
 pub fn what_stands_is_read()
@@ -129,4 +132,21 @@ pub fn any_refusals_stay()
 pub fn any_message_is_forwarded<B: Buffer>()
     ensures { (kind : Kind) (before after : Unread) (x : Any) (old new : Held B.Kept) (result : Result (Unit {0}) Error) →
         AnyStep kind before (Ok (Some x)) after → WritesAny x B.Lacks old new result → Forwards B.Lacks before.bytes after.bytes old new result }
+{}
+
+/// What a call of a `ClientParser` gives, with the message of what it hands out, is the server's step over the bytes that are
+/// held and the piece behind them.
+pub fn calls_are_steps<A: Memory>()
+    ensures { (kind : Kind) (old new : Waiting) (piece left : List ℕ) (result : Result (Option Message) Refusal) →
+        Gives A.Lacks kind old piece result new left → Step kind (unread old piece) result (unread new left) }
+{}
+
+/// So, however a client's connection is cut into pieces: the messages that came while each was fed, and those that came of the
+/// last, with what ended them, are what the bytes as a whole give, and all that they give.
+pub fn pieces_give_the_whole<A: Memory>()
+    ensures { (kinds others rest : List Kind) (old here new : Waiting) (came : List Came) (last left : List ℕ) (messages all : List Message)
+        (end result : Result (Option Message) Refusal) (behind : Unread) →
+        ReadsPieces A.Lacks kinds old came others here → ReadsPiece A.Lacks others here last messages end rest new left →
+        Reads kinds (unread old (flat_map piece_of came ++ last)) all result behind →
+        (all ≡ flat_map messages_of came ++ messages) × (result ≡ end) × (behind ≡ unread new left) }
 {}

@@ -8,4 +8,6 @@ mod calls;
 #[cfg(test)]
 mod checks;
 #[cfg(test)]
+mod client_pieces;
+#[cfg(test)]
 mod values;

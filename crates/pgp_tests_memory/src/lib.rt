@@ -8,6 +8,8 @@ mod bound_values;
 #[cfg(test)]
 mod checks;
 #[cfg(test)]
+mod client_pieces;
+#[cfg(test)]
 mod frontend;
 #[cfg(test)]
 mod growth;

@@ -3,6 +3,7 @@ pub mod Bound
 pub mod Descriptions
 pub mod Elements
 pub mod Known
+pub mod Listed
 pub mod Lists
 pub mod Mechanisms
 pub mod Passed

@@ -1,0 +1,77 @@
+//! A client's connection where memory is refused: only a message that is cut wants any.
+
+use crate::checks::{holds, same};
+use pgp_test_alloc::Refusing;
+use postgres_protocol::session::{ClientParser, Limits, ParserError};
+use std::alloc::Allocator;
+use std::test::Fail;
+
+/// A Query and a Sync.
+const WHOLE: &[u8; 19] = b"Q\0\0\0\x0dSELECT 2\0S\0\0\0\x04";
+
+/// No message is too long.
+const UNLIMITED: Limits = Limits {
+    opening: u32::MAX,
+    tagged: u32::MAX,
+};
+
+/// What a call gives: the bytes of a message, or none.
+fn next_len<A: Allocator + Copy>(
+    parser: &mut ClientParser<A>,
+    piece: &mut &[u8],
+) -> Result<Option<usize>, ParserError> {
+    match parser.next(piece)? {
+        Some(frame) => Ok(Some(frame.bytes().len())),
+        None => Ok(None),
+    }
+}
+
+/// Whole messages are read, though the first request is refused; at a cut one it is, and the piece stays. Asked again, it goes on.
+#[test]
+fn cut_messages_alone_want_memory(rt: HostRuntime) -> Result<(), Fail> {
+    let alloc = Refusing::new(rt.alloc(), 1);
+    let mut parser = ClientParser::resume(&alloc, UNLIMITED, true);
+    let mut piece = WHOLE.as_slice();
+    same(&rt, next_len(&mut parser, &mut piece), Ok(Some(14)));
+    same(&rt, next_len(&mut parser, &mut piece), Ok(Some(5)));
+    same(&rt, next_len(&mut parser, &mut piece), Ok(None));
+    same(&rt, alloc.until_refusal.get(), 1);
+
+    let (front, back) = WHOLE.split_at(9);
+    let mut piece = front;
+    same(
+        &rt,
+        next_len(&mut parser, &mut piece),
+        Err(ParserError::OutOfMemory),
+    );
+    same(&rt, piece, front);
+    holds(&rt, parser.rest().is_empty());
+    same(&rt, next_len(&mut parser, &mut piece), Ok(None));
+    same(&rt, parser.rest(), front);
+
+    let mut piece = back;
+    same(&rt, next_len(&mut parser, &mut piece), Ok(Some(14)));
+    same(&rt, next_len(&mut parser, &mut piece), Ok(Some(5)));
+    holds(&rt, piece.is_empty());
+    Ok(())
+}
+
+/// A message past the limit is refused before any memory is asked for.
+#[test]
+fn no_memory_past_the_limit(rt: HostRuntime) -> Result<(), Fail> {
+    let alloc = Refusing::new(rt.alloc(), 1);
+    let limits = Limits {
+        opening: 10_000,
+        tagged: 100,
+    };
+    let mut parser = ClientParser::resume(&alloc, limits, true);
+    let mut piece = b"Q\0\0\0\x65SELECT".as_slice();
+    same(
+        &rt,
+        next_len(&mut parser, &mut piece),
+        Err(ParserError::TooLong(101)),
+    );
+    same(&rt, piece.len(), 11);
+    same(&rt, alloc.until_refusal.get(), 1);
+    Ok(())
+}

@@ -1,0 +1,86 @@
+//! A proxy's core: it passes a client's messages on byte for byte, and holds back those whose statement is refused. It
+//! answers the client nothing itself.
+
+ghost use Rattle.std.specs.Prelude.{◌≡◌, option_map};
+ghost use Rattle.pgp_server.specs.Views.{kind_view, view};
+ghost use Rattle.pgp_uses.specs.Proxy.{IsListed, Proxies, statement};
+ghost use Rattle.std.specs.Bool.{Decides};
+
+use pgp_base::Buffer;
+use postgres_protocol::message::client::{
+    ClientError, ClientMessage, ClientMessages, PasswordKind,
+};
+
+/// What became of a message.
+#[derive(Debug, Clone, Copy, PartialEq, Eq)]
+pub enum Passed {
+    /// The server gets its bytes.
+    Forwarded,
+    /// The server gets nothing of it: its statement is refused.
+    HeldBack,
+}
+
+/// Why nothing is passed on.
+#[derive(Debug, Clone, Copy, PartialEq, Eq)]
+pub enum ProxyError {
+    /// No message stands there.
+    NoMessage(ClientError),
+    /// The buffer's growth was refused.
+    OutOfMemory,
+}
+
+/// Passes the client's next message on to the server's buffer, unless it is a Query or a Parse with one of the refused
+/// statements; `None` where bytes of it are missing.
+///
+/// # Errors
+///
+/// `NoMessage` as `ClientMessages::next` refuses: a frame that is no message isn't passed on. `OutOfMemory`; the message is
+/// read again by the next call then.
+pub fn pass_on<B: Buffer>(
+    refused: &[&[u8]],
+    kind: PasswordKind,
+    from: &mut ClientMessages<'_>,
+    to: &mut B,
+) -> Result<Option<Passed>, ProxyError>
+    ensures { Proxies refused.now (kind_view kind) B.Lacks from.old (B.held to.old) result from.new (B.held to.new) }
+{
+    let mut messages = ClientMessages::resume(from.rest(), from.is_open());
+    match messages.next_with_bytes(kind) {
+        Ok(Some((message, bytes))) => {
+            if is_refused(refused, &message) {
+                *from = messages;
+                return Ok(Some(Passed::HeldBack));
+            }
+            if to.append(bytes).is_err() {
+                return Err(ProxyError::OutOfMemory);
+            }
+            *from = messages;
+            Ok(Some(Passed::Forwarded))
+        }
+        Ok(None) => Ok(None),
+        Err(e) => {
+            *from = messages;
+            Err(ProxyError::NoMessage(e))
+        }
+    }
+}
+
+/// Whether the message brings one of these statements.
+fn is_refused(refused: &[&[u8]], message: &ClientMessage<'_>) -> bool
+    ensures { Decides result (IsListed refused.now (statement (view message.now))) }
+{
+    match statement(message) {
+        Some(text) => refused.contains(&text),
+        None => false,
+    }
+}
+
+/// The statement that the message brings.
+fn statement<'a>(message: &ClientMessage<'a>) -> Option<&'a [u8]>
+    ensures { option_map (λ text. text.now) result ≡ statement (view message.now) }
+{
+    match message {
+        ClientMessage::Query(query) | ClientMessage::Parse { query, .. } => Some(query),
+        _ => None,
+    }
+}
