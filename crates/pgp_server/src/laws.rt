@@ -12,7 +12,7 @@ ghost use Rattle.pgp_frontend.specs.ClientMessage.{ClientMessage as Message, Pas
 ghost use Rattle.pgp_frontend.specs.ClientRun.{ClientRun, is_startup};
 ghost use Rattle.pgp_server.specs.AnyStep.{AnyStep, OtherStands};
 ghost use Rattle.pgp_server.specs.OtherMessage as any;
-ghost use Rattle.pgp_server.specs.OtherMessage.{AnyMessage as Any, OtherMessage as Other, Ours, WritesAny, is_other_startup};
+ghost use Rattle.pgp_server.specs.OtherMessage.{AnyMessage, OtherMessage as Other, Ours, WritesAny, is_other_startup};
 ghost use Rattle.pgp_server.specs.AnyReads.{AnyReads, IsAllReadAsOurs};
 ghost use Rattle.pgp_server.specs.Step.{IsPartial, Stands, Step, Unread};
 ghost use Rattle.pgp_server.specs.Reads.{HasRead, Reads, ReadsSession, IsAllRead};
@@ -90,47 +90,47 @@ pub fn what_was_read_is_forwarded<B: Buffer>()
 /// Where our messages alone are read, those that read the others too read the same: this message, and what is left is the
 /// same.
 pub fn any_reads_alike()
-    ensures { (kind : Kind) (old new other : Unread) (m : Message) (result : Result (Option Any) Refusal) →
+    ensures { (kind : Kind) (old new other : Unread) (m : Message) (result : Result (Option AnyMessage) Refusal) →
         Step kind old (Ok (Some m)) new → AnyStep kind old result other → (result ≡ Ok (Some (Ours m))) × (other ≡ new) }
 {}
 
 /// One of the others that stands at the front is read, and no other answer is given.
 pub fn others_that_stand_are_read()
-    ensures { (kind : Kind) (opened : Bool) (bytes rest : List ℕ) (o : Other) (result : Result (Option Any) Refusal) (new : Unread) →
+    ensures { (kind : Kind) (opened : Bool) (bytes rest : List ℕ) (o : Other) (result : Result (Option AnyMessage) Refusal) (new : Unread) →
         OtherStands kind opened bytes o rest → AnyStep kind (record { bytes = bytes; opened = opened }) result new →
         (result ≡ Ok (Some (any.Other o))) × (new ≡ record { bytes = rest; opened = opened || is_other_startup o }) }
 {}
 
 /// A step that reads the others too has one answer: what is read or why nothing is, and what is left.
 pub fn any_one_answer()
-    ensures { (kind : Kind) (old new other : Unread) (result another : Result (Option Any) Refusal) →
+    ensures { (kind : Kind) (old new other : Unread) (result another : Result (Option AnyMessage) Refusal) →
         AnyStep kind old result new → AnyStep kind old another other → (result ≡ another) × (new ≡ other) }
 {}
 
 /// So what a client's session is, as the grammar of our messages says, is read as exactly these messages, and then the server
 /// waits for more.
 pub fn any_reads_sessions_alike()
-    ensures { (kinds : List Kind) (messages : List Message) (all : List Any) (bytes : List ℕ) (end : Result (Option Any) Refusal) (new : Unread) →
+    ensures { (kinds : List Kind) (messages : List Message) (all : List AnyMessage) (bytes : List ℕ) (end : Result (Option AnyMessage) Refusal) (new : Unread) →
         ClientRun kinds messages bytes → AnyReads kinds (record { bytes = bytes; opened = false }) all end new → IsAllReadAsOurs messages all end new }
 {}
 
 /// What was read of any message stands when bytes come.
 pub fn any_message_stands()
-    ensures { (kind : Kind) (old new later : Unread) (more : List ℕ) (x : Any) (result : Result (Option Any) Refusal) →
+    ensures { (kind : Kind) (old new later : Unread) (more : List ℕ) (x : AnyMessage) (result : Result (Option AnyMessage) Refusal) →
         AnyStep kind old (Ok (Some x)) new → AnyStep kind (record { bytes = old.bytes ++ more; opened = old.opened }) result later →
         (result ≡ Ok (Some x)) × (later ≡ record { bytes = new.bytes ++ more; opened = new.opened }) }
 {}
 
 /// A refusal of any message stays when bytes come.
 pub fn any_refusals_stay()
-    ensures { (kind : Kind) (old new later : Unread) (e : Refusal) (more : List ℕ) (result : Result (Option Any) Refusal) →
+    ensures { (kind : Kind) (old new later : Unread) (e : Refusal) (more : List ℕ) (result : Result (Option AnyMessage) Refusal) →
         AnyStep kind old (Err e) new → AnyStep kind (record { bytes = old.bytes ++ more; opened = old.opened }) result later → IsErr result }
 {}
 
 /// What a proxy writes for any message that it read are the bytes that stood there, and want of the memory that these need is
 /// the one refusal.
 pub fn any_message_is_forwarded<B: Buffer>()
-    ensures { (kind : Kind) (before after : Unread) (x : Any) (old new : Held B.Kept) (result : Result (Unit {0}) Error) →
+    ensures { (kind : Kind) (before after : Unread) (x : AnyMessage) (old new : Held B.Kept) (result : Result (Unit {0}) Error) →
         AnyStep kind before (Ok (Some x)) after → WritesAny x B.Lacks old new result → Forwards B.Lacks before.bytes after.bytes old new result }
 {}
 
