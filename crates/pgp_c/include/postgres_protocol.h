@@ -239,6 +239,28 @@ pgp_status pgp_row_next(const uint8_t *bytes, size_t len, struct pgp_cursor *cur
 pgp_status pgp_type_next(const uint8_t *bytes, size_t len, struct pgp_cursor *cursor, uint32_t *type);
 pgp_status pgp_format_next(const uint8_t *bytes, size_t len, struct pgp_cursor *cursor, uint16_t *format);
 
+/* The next column of a ROW_DESCRIPTION. The name is some of the bytes that are handed over; a name that isn't UTF-8 is PGP_E_NOT_UTF8.
+   Answers, here and below, as those of pgp_row_next. */
+struct pgp_field {
+    struct pgp_part name;
+    uint32_t table_oid;       /* the column's table, or 0            */
+    uint32_t type_oid;
+    int32_t type_modifier;    /* or -1                               */
+    int16_t column_id;        /* the column's number there, or 0     */
+    int16_t type_size;        /* in bytes; negative where it varies  */
+    int16_t format;           /* 0 text, 1 binary                    */
+};
+pgp_status pgp_field_next(const uint8_t *bytes, size_t len, struct pgp_cursor *cursor, struct pgp_field *field);
+
+/* The next field of an ERROR_RESPONSE or a NOTICE_RESPONSE: its code is a letter ('S' severity, 'C' SQLSTATE, 'M' message ..), its value any
+   text. PGP_E_NOT_DRAINED where bytes stand behind the 0 that ends the list. */
+struct pgp_error_field { struct pgp_part value; uint8_t code; };
+pgp_status pgp_error_field_next(const uint8_t *bytes, size_t len, struct pgp_cursor *cursor, struct pgp_error_field *field);
+
+/* The next mechanism of an AUTHENTICATION_SASL, and the next option of a NEGOTIATE_PROTOCOL_VERSION, by name, in UTF-8. */
+pgp_status pgp_mechanism_next(const uint8_t *bytes, size_t len, struct pgp_cursor *cursor, struct pgp_part *name);
+pgp_status pgp_option_next(const uint8_t *bytes, size_t len, struct pgp_cursor *cursor, struct pgp_part *name);
+
 /* ---- values in the binary format ---- */
 
 /* A text and a bytea are their bytes as they stand, and need no call. So are a uuid (16 bytes) and a macaddr (6): their calls look at

@@ -1,8 +1,9 @@
-mod Columns
 mod Copies
 mod Extensions
 mod Fronts
+mod Listings
 mod Lists
 mod Openings
 mod Sending
 mod BindRefusals
+mod Walks

@@ -1,10 +1,11 @@
 pub mod Copying
 pub mod Front
+pub mod Listings
 pub mod Lists
 pub mod Opening
 pub mod Parts
 pub mod Places
-pub mod Rows
 pub mod Sending
 pub mod Streams
 pub mod Values
+pub mod Walks

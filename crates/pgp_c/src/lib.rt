@@ -3,10 +3,14 @@
 
 mod address;
 mod copying;
+mod cursor;
+mod description;
 mod front;
 mod listing;
+mod name;
 mod number;
 mod opening;
+mod report;
 mod row;
 mod status;
 mod stream;
