@@ -1,3 +1,4 @@
+mod Compound
 mod Copies
 mod Extensions
 mod Fronts

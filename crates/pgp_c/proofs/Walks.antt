@@ -3,7 +3,7 @@ use Rattle.std.proofs.Common.{◌≡◌, ◌⊎◌, ℕ, zero, suc, ◌+◌, ◌
 use Rattle.std.specs.Prelude.{◌≢◌, nat_le, if◌then◌else◌}
 use Rattle.std.proofs.lemmas.Bool.{le-leb, leb-true, cases_Bool}
 use Rattle.std.proofs.lemmas.List.{length-append, length-take, drop-take}
-use Rattle.std.proofs.Math.Seq.{drop-append_seam}
+use Rattle.std.proofs.Math.Seq.{drop-append_seam, take-length}
 use Rattle.pgp_base.specs.Grammar.{StandsAt}
 use Rattle.pgp_base.specs.Items.{Unmarked}
 use Rattle.pgp_base.specs.WalkReading.{is_marked}
@@ -14,7 +14,7 @@ pub one_fewer : (n : ℕ) → n ≢ 0 → n - 1 + 1 ≡ n
 one_fewer zero h = absurd (h refl)
 one_fewer (suc n) h = omega arith
 
-chosen : {A : Type 0} (b : Bool) (x y : A) → b ≡ true → (if b then x else y) ≡ x
+pub chosen : {A : Type 0} (b : Bool) (x y : A) → b ≡ true → (if b then x else y) ≡ x
 chosen b x y h = rw h refl
 
 left_out : {A : Type 0} (b : Bool) (x y : A) → b ≡ false → (if b then x else y) ≡ y
@@ -57,6 +57,19 @@ behind bytes at end n low high few =
     chosen (nat_le end (length bytes)) _ [] (le-leb end (length bytes) high)
     ∙ (chosen (nat_le (at + n) end) _ [] (le-leb (at + n) end (omega (arith, low, few)))
     ∙ (ap (λ l. take (end - (at + n)) l) (sym (drop-drop n at bytes)) ∙ (sym (drop-take n (end - (at + n)) (drop at bytes)) ∙ ap (λ k. drop n (take k (drop at bytes))) (sym count))))
+
+-- the bytes between two places of them, and from a place on
+pub rest_between : (bytes : List ℕ) (at end : ℕ) → at ≤ end → end ≤ length bytes → rest_of bytes at end ≡ take (end - at) (drop at bytes)
+rest_between bytes at end low high = chosen (nat_le end (length bytes)) _ [] (le-leb end (length bytes) high) ∙ chosen (nat_le at end) _ [] (le-leb at end low)
+
+pub rest_after : (front more : List ℕ) (bytes : List ℕ) (n end : ℕ) → bytes ≡ front ++ more → length front ≡ n → end ≡ length bytes → rest_of bytes n end ≡ more
+rest_after front more bytes n end whole size last =
+    let long : length bytes ≡ length front + length more = ap length whole ∙ length-append front more in
+    let low : n ≤ end = omega (arith, long, size, last) in
+    let high : end ≤ length bytes = omega (arith, last) in
+    let cut : drop n bytes ≡ more = ap (λ k. drop k bytes) (sym size) ∙ (ap (λ l. drop (length front) l) whole ∙ drop-append_seam front more) in
+    let count : end - n ≡ length more = omega (arith, last, long, size) in
+    rest_between bytes n end low high ∙ (ap (λ l. take (end - n) l) cut ∙ (ap (λ k. take k more) count ∙ take-length more))
 
 pub passes : {V : Type 0} (Spelled : ℕ → V → List ℕ → Type 0) (bytes : List ℕ) (before after : PgpCursor) (x : V) (more : List ℕ) → StandsAt Spelled before.at (rest bytes before) x more
     → length more < length (rest bytes before) → after.at ≡ before.at + (length (rest bytes before) - length more) → after.end ≡ before.end → Passes Spelled bytes before after x

@@ -1,8 +1,10 @@
+pub mod Compound
 pub mod Copying
 pub mod Front
 pub mod Listings
 pub mod Lists
 pub mod Opening
+pub mod PartPlaces
 pub mod Parts
 pub mod Places
 pub mod Sending
