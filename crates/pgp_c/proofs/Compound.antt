@@ -3,10 +3,15 @@ use Rattle.std.proofs.Common.{◌≡◌, ℕ, ℤ, negsuc, ◌+◌, ◌-◌, ◌
 use Rattle.std.specs.Prelude.{◌≢◌, min}
 use Rattle.std.specs.List.{flat_map}
 use Rattle.std.proofs.lemmas.List.{append_assoc, append-nil}
+use Rattle.std.proofs.lemmas.Bool.{cases_lt}
 use Rattle.std.proofs.Math.Seq.{drop-append_seam, take-append_seam, take-length}
 use Rattle.pgp_base.specs.Grammar.{StandsAt, IsReader}
 use Rattle.pgp_base.specs.Wire.{uint32, int32}
 use Rattle.pgp_base.proofs.Parts.{length-uint32}
+use Rattle.pgp_base.specs.Cause.{Cause, length_cause}
+use Rattle.pgp_base.specs.Error.{number_of}
+use Rattle.pgp_base.specs.declared.error.Error.{Error}
+use Rattle.pgp_base.proofs.Causes.{length_fits, length_past}
 use Rattle.pgp_base.specs.Walk.{Walk, hint_of}
 use Rattle.pgp_base.specs.declared.error.Error.TheVariants.{NotDrained, UnexpectedEof}
 use Rattle.pgp_base.proofs.PartLemmas.{int32_number, oid_number}
@@ -192,3 +197,14 @@ dimension_own bytes (inr (x, rest, b, cut)) = let e : NotDrained ≡ UnexpectedE
 
 pub dimension_reader : IsReader (λ place. dimension.Spelled) dimension.Refused (λ place. dimension_at)
 dimension_reader = part_reader (then_part (fixed_is int32_spelling) (fixed_is int32_spelling)) (λ x front s. omega (arith, ap length s.whole, length-append s.first s.second, ap length s.one.1, int32_number.len x.0)) dimension_own
+
+-- a length that passes its field, and the number of that refusal
+abbrev code_of : Cause → ℕ
+code_of None = 0
+code_of (Some e) = number_of e
+
+pub too_long : (n : ℕ) (e : Error) → length_cause n ≡ Some e → (number_of e ≡ 3) × (2147483647 < n)
+too_long n e is = elim (cases_lt 2147483647 n) [
+  | inl long ↦ (ap code_of (sym is ∙ length_past n (omega (arith, long))), long)
+  | inr few ↦ absurd (let none : length_cause n ≡ None = length_fits n (omega (arith, few)) in let e = sym none ∙ is in cc)
+]

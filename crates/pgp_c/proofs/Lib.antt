@@ -1,3 +1,4 @@
+mod Addresses
 mod Compound
 mod Copies
 mod Extensions

@@ -1,10 +1,13 @@
 -- Values of several parts, by their places among the bytes.
-use Rattle.std.specs.Prelude.{◌≡◌, ℕ, ℤ, List, take, drop, length, Option, Some, None, ◌-◌, Ok, nat_eq, if◌then◌else◌}
+use Rattle.std.specs.Prelude.{◌≡◌, ◌≢◌, ◌⊎◌, ℕ, ℤ, ◌*◌, ◌<◌, List, take, drop, length, Option, Some, None, ◌-◌, Ok, nat_eq, if◌then◌else◌}
+use Rattle.std.specs.Int.{div_ceil}
 use Rattle.std.specs.List.{flat_map}
+use Rattle.std.specs.Net.Addr.{IsIpv4Addr, IsIpv6Addr, MatchIp}
+use Rattle.std.specs.declared.net.ip_addr.IpAddr.{IpAddr}
 use Rattle.pgp_types.specs.Array.{Front, IsFlag, dimension_bytes, elements_of, int32_part}
 use Rattle.pgp_types.specs.Format.{Reads}
 use Rattle.pgp_types.specs.Hstore.{Entry, entry_count}
-use Rattle.pgp_types.specs.Network.{Inet, inet, family_number, family_of, octets}
+use Rattle.pgp_types.specs.Network.{Inet, IsInet, inet, address_size, family_number, family_of, octets}
 use Rattle.pgp_types.specs.Part.{Part, Begins, ◌then◌}
 use Rattle.pgp_types.specs.Range.{Range, Side, empty, between}
 use Rattle.pgp_types.specs.declared.range.RangeBound.TheVariants.{Inclusive, Exclusive, Unbounded}
@@ -30,6 +33,29 @@ pub record IsInetIn (bytes : List ℕ) (v : PgpInet) : Type 0 where
   pub family : v.family ≡ family_number (family_of value.addr)
   pub netmask : v.netmask ≡ value.netmask
   pub address : stands bytes v.address ≡ octets value.addr
+
+-- the octets of an address of either family
+pub record IsAddress (bytes : List ℕ) (addr : IpAddr) : Type 0 where
+  pub octets : octets addr ≡ bytes
+  pub valid : MatchIp addr IsIpv4Addr IsIpv6Addr
+  pub size : address_size (family_of addr) ≡ length bytes
+
+abbrev pub IsNoAddress : List ℕ → Type 0
+IsNoAddress bytes = (length bytes ≢ 4) × (length bytes ≢ 16)
+
+-- the inet of an address of these octets, and a netmask that has no more bits
+pub record IsInetOf (bytes : List ℕ) (netmask : ℕ) (v : Inet) : Type 0 where
+  pub is : IsInet v
+  pub address : octets v.addr ≡ bytes
+  pub same : v.netmask ≡ netmask
+
+-- why there is none, and the refusal's number
+abbrev pub IsNoInet : List ℕ → ℕ → ℕ → Type 0
+IsNoInet bytes netmask code = ((code ≡ 18) × IsNoAddress bytes) ⊎ ((code ≡ 17) × ((length bytes ≡ 4) ⊎ (length bytes ≡ 16)) × (8 * length bytes < netmask))
+
+-- why there is no bit string of so many bits in these bytes: the bytes are too few or too many, or the number passes its field
+abbrev pub IsNoVarbit : ℕ → List ℕ → ℕ → Type 0
+IsNoVarbit bits bytes code = ((code ≡ 10) × (length bytes ≢ div_ceil bits 8)) ⊎ ((code ≡ 3) × (2147483647 < bits))
 
 -- a key and a value of an hstore
 abbrev pub entry_in : List ℕ → PgpEntry → Entry
