@@ -21,7 +21,7 @@ STATUSES = {
     1: 'NoRoom', 2: 'EmbeddedNull', 3: 'TooLarge', 4: 'InvalidLength', 5: 'UnknownTag', 6: 'UnknownAuthentication', 7: 'UnexpectedEof',
     8: 'NotDrained', 9: 'NotUtf8', 10: 'InvalidSize', 11: 'InvalidCount', 12: 'InvalidKeyLength', 13: 'InvalidValueLength', 14: 'InvalidDimension',
     15: 'TooManyElements', 16: 'InvalidBitLength', 17: 'InvalidNetmask', 18: 'InvalidAddressLength', 19: 'InvalidFamily', 20: 'InvalidVersion',
-    32: 'WrongPhase', 33: 'EmptyName', 34: 'UnknownVersion',
+    32: 'WrongPhase', 33: 'EmptyName', 34: 'UnknownVersion', 35: 'UnknownKind',
     66: 'ScramWrongState', 67: 'ScramNotUtf8', 68: 'ScramUnexpectedEnd', 69: 'ScramUnexpectedCharacter', 70: 'ScramTrailing',
     71: 'ScramInvalidNumber', 72: 'ScramInvalidNonce', 73: 'ScramTooManyIterations', 74: 'ScramInvalidBase64', 75: 'ScramServer',
     76: 'ScramVerification', 80: 'BadNonce', 81: 'BadBinding',
@@ -102,6 +102,10 @@ class _Entry(Structure):
 
 class _Value(Structure):
     _fields_ = [('bytes', c_void_p), ('bytes_len', c_size_t), ('is_null', c_bool)]
+
+
+class _Side(Structure):
+    _fields_ = [('value', _Value), ('kind', c_uint8)]
 
 
 class _Pair(Structure):
@@ -474,6 +478,7 @@ _uuid, _macaddr = _writer('put_uuid', 't'), _writer('put_macaddr', 't')
 _put_inet, _put_varbit = _declare('put_inet', *_TEXT, c_uint8, *_OUT), _declare('put_varbit', c_size_t, *_TEXT, *_OUT)
 _get_inet, _get_varbit = _declare('get_inet', *_TEXT, POINTER(_Inet)), _declare('get_varbit', *_TEXT, POINTER(c_size_t))
 _get_range, _get_array = _declare('get_range', *_TEXT, POINTER(_Range)), _declare('get_array', *_TEXT, POINTER(_Array))
+_put_range, _put_empty_range = _declare('put_range', POINTER(_Side), POINTER(_Side), *_OUT), _writer('put_empty_range')
 _get_hstore = _declare('get_hstore', *_TEXT, POINTER(_Cursor))
 _IS_A = {name: _declare('get_' + name, *_TEXT) for name in ('uuid', 'macaddr')}
 
@@ -533,11 +538,23 @@ def get_varbit(data: bytes) -> Tuple[int, bytes]:
     return bits.value, data[4:]
 
 
+Side = Tuple[str, Optional[bytes]]
+_SIDES = ('none', 'in', 'ex')
+
+
 class Range(NamedTuple):
     """A range. A side is (kind, value): the kind is 'none', 'in' or 'ex', the value the bytes of its bound, or None for none and for a null.
     Both sides of the empty range are None."""
-    lower: Optional[Tuple[str, Optional[bytes]]]
-    upper: Optional[Tuple[str, Optional[bytes]]]
+    lower: Optional[Side]
+    upper: Optional[Side]
+
+
+def put_range(lower: Optional[Side], upper: Optional[Side]) -> bytes:
+    """A range between two sides, their bounds in the format of the type; the empty range where both are None."""
+    if lower is None or upper is None:
+        return _put_empty_range()
+    low, high = (_Side(_Value(*_text(value or b''), value is None), _SIDES.index(kind)) for kind, value in (lower, upper))
+    return _written(lambda *out: _put_range(byref(low), byref(high), *out))
 
 
 def get_range(data: bytes) -> Range:
@@ -546,7 +563,7 @@ def get_range(data: bytes) -> Range:
     _read(_get_range, data, r)
     if r.is_empty:
         return Range(None, None)
-    lower, upper = (('none in ex'.split()[b.kind], _column(data, b.value)) for b in (r.lower, r.upper))
+    lower, upper = ((_SIDES[b.kind], _column(data, b.value)) for b in (r.lower, r.upper))
     return Range(lower, upper)
 
 

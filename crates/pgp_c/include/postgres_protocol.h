@@ -72,6 +72,7 @@ enum {
     PGP_E_WRONG_PHASE = 32,             /* pgp_stream_*: the message may not come here                   */
     PGP_E_EMPTY_NAME = 33,              /* a parameter of a startup packet has no name                   */
     PGP_E_VERSION = 34,                 /* a startup packet of another version than 3.0 and 3.2          */
+    PGP_E_KIND = 35,                    /* the kind of a range's side is none                           */
     PGP_MORE = 100,                     /* bytes are missing: read more, and call again                  */
     PGP_DONE = 101                      /* the walk is at its end                                        */
 };
@@ -307,6 +308,11 @@ enum { PGP_UNBOUNDED = 0, PGP_INCLUSIVE = 1, PGP_EXCLUSIVE = 2 };
 struct pgp_bound { struct pgp_column value; uint8_t kind; };
 struct pgp_range { struct pgp_bound lower, upper; bool is_empty; };
 pgp_status pgp_get_range(const uint8_t *bytes, size_t len, struct pgp_range *value);
+/* To write one: each side's kind, and the value of its bound in the format of the type, which isn't read where there is no bound. A kind of
+   none of the three is PGP_E_KIND. */
+struct pgp_side { struct pgp_value value; uint8_t kind; };
+pgp_status pgp_put_range(const struct pgp_side *lower, const struct pgp_side *upper, PGP_OUT);
+pgp_status pgp_put_empty_range(PGP_OUT);
 
 /* An array: its head, and cursors for the walks over its dimensions and its elements (row by row, the last dimension the fastest).
    has_nulls is the flag of the head; the elements tell by themselves. */

@@ -6,6 +6,7 @@ mod Fronts
 mod Listings
 mod Lists
 mod Openings
+mod Putting
 mod Sending
 mod BindRefusals
 mod Walks

@@ -7,6 +7,7 @@ pub mod Opening
 pub mod PartPlaces
 pub mod Parts
 pub mod Places
+pub mod Putting
 pub mod Sending
 pub mod Streams
 pub mod Values

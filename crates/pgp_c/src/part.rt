@@ -1,14 +1,23 @@
-//! A length and so many bytes, read from the left, by their places.
+//! A length and so many bytes: read from the left, by their places, and written.
+#![tactic(auto, using(pgp_base::proofs::Parts::held_steps))]
 
-ghost use Rattle.std.specs.Prelude.{◌≡◌};
+ghost use Rattle.std.specs.Prelude.{◌≡◌, ◌⊎◌, length, Some, None, OnOk, IfErr};
+ghost use Rattle.pgp_base.specs.Cause.{Wants, WantsMemory, nullable_cause};
+ghost use Rattle.pgp_base.specs.Held.{◌⊕◌};
+ghost use Rattle.pgp_base.specs.Wire.{nullable};
+ghost use Rattle.pgp_c.specs.Lists.{value_of};
 ghost use Rattle.pgp_base.specs.PartReading.{Answers};
 ghost use Rattle.pgp_types.specs.PartReading.{nullable_at, sized_at};
 ghost use Rattle.pgp_types.specs.Part.{shown};
 ghost use Rattle.pgp_c.specs.PartPlaces.{column_before};
 
+use crate::listing::PgpValue;
 use crate::row::PgpColumn;
-use pgp_base::Error;
 use pgp_base::reading::int32_at;
+use pgp_base::{Buffer, Error, length_field, put_u32};
+
+/// The length of a null.
+const NULL: u32 = 0xffff_ffff;
 
 /// A value behind its length, or a null; refused where the length passes the end.
 #[tactic(auto, unfolding(pgp_types::specs::PartReading::nullable_at))]
@@ -57,4 +66,19 @@ pub fn column_before(value: Option<&[u8]>, end: usize) -> PgpColumn
             is_null: true,
         },
     }
+}
+
+/// Appends a value behind its length, or a null.
+#[tactic(auto, using(pgp_base::proofs::Parts::null_spelled, pgp_base::proofs::Parts::held_steps))]
+pub fn put_value<B: Buffer>(value: &PgpValue<'_>, buf: &mut B) -> Result<(), Error>
+    ensures ok { OnOk result ((nullable_cause (value_of value.now) ≡ None) × (B.held buf.new ≡ B.held buf.old ⊕ nullable (value_of value.now))) }
+    ensures cause { IfErr result (λ e. WantsMemory (Wants B.Lacks (B.held buf.old) (length (nullable (value_of value.now)))) e ⊎ (nullable_cause (value_of value.now) ≡ Some e)) }
+{
+    if value.is_null {
+        put_u32(buf, NULL)?;
+        return Ok(());
+    }
+    put_u32(buf, length_field(value.bytes.len())?)?;
+    buf.append(value.bytes)?;
+    Ok(())
 }
