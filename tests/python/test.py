@@ -108,6 +108,8 @@ def compounds():
     same('empty', pg.get_range(b'\1'), (None, None))
     refused('range', 'InvalidValueLength', lambda: pg.get_range(b'\x12\0\0\0\4\0'))
     ints = b'\0\0\0\1\0\0\0\1\0\0\0\x17\0\0\0\3\0\0\0\1\0\0\0\4\0\0\0\1\xff\xff\xff\xff\0\0\0\4\xff\xff\xff\xfd'
+    same('put array', pg.put_array(23, [b'\0\0\0\1', None, b'\xff\xff\xff\xfd']), ints)
+    same('put an array of nothing', pg.put_array(25, []), b'\0\0\0\1\0\0\0\0\0\0\0\x19\0\0\0\0\0\0\0\1')
     same('array', pg.get_array(ints), (23, [(3, 1)], [b'\0\0\0\1', None, b'\xff\xff\xff\xfd']))
     refused('array, cut', 'InvalidValueLength', lambda: pg.get_array(ints[:-1]), 32)
     refused('array, negative', 'InvalidCount', lambda: pg.get_array(b'\xff\xff\xff\xff'))

@@ -479,6 +479,7 @@ _put_inet, _put_varbit = _declare('put_inet', *_TEXT, c_uint8, *_OUT), _declare(
 _get_inet, _get_varbit = _declare('get_inet', *_TEXT, POINTER(_Inet)), _declare('get_varbit', *_TEXT, POINTER(c_size_t))
 _get_range, _get_array = _declare('get_range', *_TEXT, POINTER(_Range)), _declare('get_array', *_TEXT, POINTER(_Array))
 _put_range, _put_empty_range = _declare('put_range', POINTER(_Side), POINTER(_Side), *_OUT), _writer('put_empty_range')
+_put_array = _declare('put_array', c_uint32, POINTER(_Value), c_size_t, *_OUT)
 _get_hstore = _declare('get_hstore', *_TEXT, POINTER(_Cursor))
 _IS_A = {name: _declare('get_' + name, *_TEXT) for name in ('uuid', 'macaddr')}
 
@@ -572,6 +573,12 @@ class Array(NamedTuple):
     element_type: int
     dimensions: List[Tuple[int, int]]
     elements: List[Optional[bytes]]
+
+
+def put_array(element_type: int, elements: Sequence[Optional[bytes]]) -> bytes:
+    """An array of one dimension, whose index begins at 1; the elements are in the format of their type, and None is a null."""
+    values = (_Value * len(elements))(*(_Value(*_text(v or b''), v is None) for v in elements))
+    return _written(lambda *out: _put_array(element_type, values, len(values), *out))
 
 
 def get_array(data: bytes) -> Array:

@@ -319,6 +319,8 @@ pgp_status pgp_put_empty_range(PGP_OUT);
 struct pgp_array { struct pgp_cursor dimensions, elements; uint32_t element_type; bool has_nulls; };
 struct pgp_dimension { int32_t len, lower_bound; };
 pgp_status pgp_get_array(const uint8_t *bytes, size_t len, struct pgp_array *value);
+/* To write one: an array of one dimension, whose index begins at 1; each element in the format of its type, or a null. */
+pgp_status pgp_put_array(uint32_t element_type, const struct pgp_value *elements, size_t count, PGP_OUT);
 pgp_status pgp_dimension_next(const uint8_t *bytes, size_t len, struct pgp_cursor *cursor, struct pgp_dimension *dimension);
 pgp_status pgp_element_next(const uint8_t *bytes, size_t len, struct pgp_cursor *cursor, struct pgp_column *element);
 

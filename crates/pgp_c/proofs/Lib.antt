@@ -1,5 +1,6 @@
 mod Addresses
 mod Compound
+mod Elements
 mod Copies
 mod Extensions
 mod Fronts

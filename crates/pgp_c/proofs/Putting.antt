@@ -10,7 +10,7 @@ use Rattle.pgp_types.specs.declared.range.RangeBound.TheVariants.{Inclusive, Exc
 use Rattle.pgp_c.specs.Putting.{range_of_sides, side_of}
 use Rattle.pgp_c.specs.declared.range.PgpSide.{PgpSide}
 
-abbrev IsLarge : Cause → Type 0
+abbrev pub IsLarge : Cause → Type 0
 IsLarge c = (e : Error) → c ≡ Some e → e ≡ TooLarge
 
 abbrev error_in : Cause → Error
@@ -26,7 +26,7 @@ length_large n e is = elim (cases_lt 2147483647 n) [
   | inr few ↦ absurd (let none : length_cause n ≡ None = length_fits n (omega (arith, few)) in let e = sym none ∙ is in cc)
 ]
 
-value_large : (v : Option (List ℕ)) → IsLarge (nullable_cause v)
+pub value_large : (v : Option (List ℕ)) → IsLarge (nullable_cause v)
 value_large None e is = absurd cc
 value_large (Some v) e is = length_large (length v) e is
 
@@ -35,7 +35,7 @@ side_large Unbounded e is = absurd cc
 side_large (Inclusive v) e is = value_large v e is
 side_large (Exclusive v) e is = value_large v e is
 
-either_large : (c d : Cause) → IsLarge c → IsLarge d → IsLarge (either c d)
+pub either_large : (c d : Cause) → IsLarge c → IsLarge d → IsLarge (either c d)
 either_large None d first second e is = second e is
 either_large (Some x) d first second e is = first e is
 

@@ -1,21 +1,27 @@
-//! Arrays: their heads, and their dimensions and elements, read where they stand, one after another.
+//! Arrays: their heads, and their dimensions and elements, read where they stand, one after another; and written.
+#![tactic(auto, using(pgp_base::proofs::Parts::held_steps))]
 
-ghost use Rattle.std.specs.Prelude.{◌≡◌, ◌≢◌};
+ghost use Rattle.std.specs.Prelude.{◌≡◌, ◌≢◌, ◌⊎◌, ◌++◌, ◌≤◌, ◌<◌, length, Some, None, OnOk, IfErr};
+ghost use Rattle.std.specs.List.{list_all};
+ghost use Rattle.pgp_base.specs.Cause.{Wants, WantsMemory};
+ghost use Rattle.pgp_base.specs.Held.{◌⊕◌};
 ghost use Rattle.pgp_base.specs.PartReading.{Answers};
 ghost use Rattle.pgp_base.specs.declared.error.Error.TheVariants.{InvalidValueLength};
-ghost use Rattle.pgp_types.specs.Array.{array};
+ghost use Rattle.pgp_types.specs.Array.{IsArray, array};
 ghost use Rattle.pgp_types.specs.Part.{nullable};
 ghost use Rattle.pgp_c.specs.Compound.{IsArrayIn, dimension, value_in};
 ghost use Rattle.pgp_c.specs.PartPlaces.{dimension_at};
-ghost use Rattle.pgp_c.specs.Values.{Refuses};
+ghost use Rattle.pgp_c.specs.Putting.{IsNoList, elements_cause, elements_of, flag_in, has_value, head_of, list_of};
+ghost use Rattle.pgp_c.specs.Values.{Lacks, Refuses, Wrote};
 ghost use Rattle.pgp_c.specs.Walks.{IsEnded, RefusesItem, Takes};
 
 use crate::cursor::{Listed, PgpCursor, next_counted};
-use crate::part::{column_before, nullable_at};
+use crate::listing::PgpValue;
+use crate::part::{column_before, nullable_at, put_value};
 use crate::row::PgpColumn;
-use crate::status::failed;
+use crate::status::{failed, refused, sent};
 use pgp_base::reading::int32_at;
-use pgp_base::{Error, FallibleIterator};
+use pgp_base::{Buffer, Error, FallibleIterator, Window, length_field, put_u32};
 
 /// The head of an array, and where its dimensions and its elements stand.
 #[repr(C)]
@@ -153,4 +159,88 @@ fn dimension_at(bytes: &[u8]) -> Result<(PgpDimension, &[u8]), Error>
     let (len, rest) = int32_at(bytes)?;
     let (lower_bound, rest) = int32_at(rest)?;
     Ok((PgpDimension { len, lower_bound }, rest))
+}
+
+/// Writes an array of one dimension, whose index begins at 1.
+#[unsafe(no_mangle)]
+pub extern "C" fn pgp_put_array(
+    element_type: u32,
+    elements: &[PgpValue<'_>],
+    out: &mut [u8],
+    written: &mut usize,
+) -> u32
+    ensures wrote { result ≡ 0 → IsArray (list_of element_type elements.now) × Wrote (array.written (list_of element_type elements.now)) out.old out.new written.new }
+    ensures refused { result ≢ 0 → (written.new ≡ 0) × (IsNoList element_type elements.now result ⊎ Lacks (array.written (list_of element_type elements.now)) out.old written.new result) }
+{
+    let mut window = Window::new(out);
+    match put_list(element_type, elements, &mut window) {
+        Ok(()) => sent(&window, written),
+        Err(e) => refused(e, written),
+    }
+}
+
+/// The head, and the elements.
+fn put_list<B: Buffer>(
+    element_type: u32,
+    elements: &[PgpValue<'_>],
+    buf: &mut B,
+) -> Result<(), Error>
+    ensures ok { OnOk result ((length elements.now ≤ 2147483647) × (elements_cause elements.now ≡ None)
+        × (B.held buf.new ≡ B.held buf.old ⊕ (head_of element_type elements.now ++ elements_of elements.now))) }
+    ensures cause { IfErr result (λ e. WantsMemory (Wants B.Lacks (B.held buf.old) (length (head_of element_type elements.now ++ elements_of elements.now))) e
+        ⊎ ((e ≡ Error.TooLarge) × ((2147483647 < length elements.now) ⊎ (elements_cause elements.now ≡ Some e)))) }
+{
+    put_list_head(element_type, elements, buf)?;
+    put_elements(elements, buf)?;
+    Ok(())
+}
+
+/// How many dimensions there are, whether an element is null, the type, and the dimension.
+fn put_list_head<B: Buffer>(
+    element_type: u32,
+    elements: &[PgpValue<'_>],
+    buf: &mut B,
+) -> Result<(), Error>
+    ensures ok { OnOk result ((length elements.now ≤ 2147483647) × (B.held buf.new ≡ B.held buf.old ⊕ head_of element_type elements.now)) }
+    ensures cause { IfErr result (λ e. WantsMemory (Wants B.Lacks (B.held buf.old) 20) e ⊎ ((e ≡ Error.TooLarge) × (2147483647 < length elements.now))) }
+{
+    let count = length_field(elements.len())?;
+    put_u32(buf, 1)?;
+    put_u32(buf, flag(elements))?;
+    put_u32(buf, element_type)?;
+    put_u32(buf, count)?;
+    put_u32(buf, 1)?;
+    Ok(())
+}
+
+/// The elements, one after another.
+fn put_elements<B: Buffer>(elements: &[PgpValue<'_>], buf: &mut B) -> Result<(), Error>
+    ensures ok { OnOk result ((elements_cause elements.now ≡ None) × (B.held buf.new ≡ B.held buf.old ⊕ elements_of elements.now)) }
+    ensures cause { IfErr result (λ e. WantsMemory (Wants B.Lacks (B.held buf.old) (length (elements_of elements.now))) e ⊎ (elements_cause elements.now ≡ Some e)) }
+{
+    for value in elements {
+        put_value(value, buf)?;
+    }
+    Ok(())
+}
+
+/// Whether an element is null, as a number.
+fn flag(elements: &[PgpValue<'_>]) -> u32
+    ensures { result ≡ flag_in elements.now }
+{
+    if are_values(elements) { 0 } else { 1 }
+}
+
+/// No element is null.
+fn are_values(elements: &[PgpValue<'_>]) -> bool
+    ensures { result ≡ list_all has_value elements.now }
+{
+    elements.iter().all(|value| has_value(value))
+}
+
+/// The value is no null.
+fn has_value(value: &PgpValue<'_>) -> bool
+    ensures { result ≡ has_value value.now }
+{
+    !value.is_null
 }
