@@ -1,11 +1,9 @@
 -- The addresses that bytes are.
-use Rattle.std.proofs.Common.{◌≡◌, ℕ, ◌*◌, ◌<◌, ◌≤◌, ◌^◌, List, length, refl, ap, ◌∙◌, sym, subst}
-use Rattle.std.specs.Prelude.{slice_index}
+use Rattle.std.proofs.Common.{◌≡◌, ℕ, ◌*◌, ◌≤◌, List, length, refl, ap, ◌∙◌, sym, subst}
 use Rattle.std.specs.declared.net.ip_addr.IpAddr.{IpAddr}
 use Rattle.std.specs.declared.net.ip_addr.IpAddr.TheVariants.{V4, V6}
-use Rattle.std.specs.Net.Addr.{ipv6_segments, ipv6_octets, segments_of, octets_of, IsV6And}
+use Rattle.std.specs.Net.Addr.{ipv6_segments, segments_of, octets_of, IsV6And}
 use Rattle.pgp_base.specs.Wire.{IsBytes}
-use Rattle.pgp_types.specs.Network.{Inet, IsInet, address_size, family_of}
 use Rattle.pgp_types.proofs.InetLemmas.{octets_of-segments_of, length-segments_of, segments_below}
 use Rattle.pgp_c.specs.Compound.{IsAddress, IsInetOf}
 

@@ -1,6 +1,6 @@
 -- The parts of values stand at their places among the bytes.
-use Rattle.std.proofs.Common.{◌≡◌, ℕ, ℤ, negsuc, ◌+◌, ◌-◌, ◌*◌, ◌<◌, ◌≤◌, ◌^◌, true, false, List, [], ◌∷◌, ◌++◌, length, take, drop, Option, Some, None, Result, Ok, Err, refl, sym, ap, subst, ◌∙◌, inl, inr, arith, length-append}
-use Rattle.std.specs.Prelude.{◌≢◌, min}
+use Rattle.std.proofs.Common.{◌≡◌, ℕ, ℤ, negsuc, ◌+◌, ◌-◌, ◌*◌, ◌<◌, ◌≤◌, ◌^◌, List, [], ◌∷◌, ◌++◌, length, take, drop, Option, Some, None, Ok, refl, sym, ap, subst, ◌∙◌, inl, inr, arith, length-append}
+use Rattle.std.specs.Prelude.{min}
 use Rattle.std.specs.List.{flat_map}
 use Rattle.std.proofs.lemmas.List.{append_assoc, append-nil}
 use Rattle.std.proofs.lemmas.Bool.{cases_lt}
@@ -16,7 +16,7 @@ use Rattle.pgp_base.specs.Walk.{Walk, hint_of}
 use Rattle.pgp_base.specs.declared.error.Error.TheVariants.{NotDrained, UnexpectedEof}
 use Rattle.pgp_base.proofs.PartLemmas.{int32_number, oid_number}
 use Rattle.pgp_types.specs.declared.array.ArrayDimension.{ArrayDimension}
-use Rattle.pgp_types.specs.Array.{Front, IsFlag, dimension_bytes, elements_of, head, ArrayRead, ArrayReads}
+use Rattle.pgp_types.specs.Array.{IsFlag, dimension_bytes, head, ArrayRead, ArrayReads}
 use Rattle.pgp_types.specs.Hstore.{Entry, entry, entry_count, HstoreReads}
 use Rattle.pgp_types.specs.Part.{Begins, NullableSpelled}
 use Rattle.pgp_types.specs.Range.{Side, between, RangeReads, SideSpelled, lower_bits, upper_bits, Bits}

@@ -7,9 +7,8 @@ use Rattle.pgp_base.specs.PartReading.{text_at}
 use Rattle.pgp_base.specs.Wire.{IsBytes, text}
 use Rattle.pgp_base.specs.declared.error.Error.{Error}
 use Rattle.pgp_message.specs.ItemReading.{error_field_at, field_at, numbers_at}
-use Rattle.pgp_message.specs.Items.{ErrorPart, ErrorFieldSpelled, ErrorFieldRefused, FieldPart, FieldSpelled, FieldRefused, TextSpelled, TextRefused, numbers_of}
+use Rattle.pgp_message.specs.Items.{ErrorPart, FieldPart}
 use Rattle.pgp_message.proofs.ErrorFieldLemmas.{error_field_reader}
-use Rattle.pgp_message.proofs.FieldLemmas.{field_reader}
 use Rattle.pgp_message.proofs.TextLemmas.{text_reader}
 use Rattle.pgp_c.specs.Walks.{StandsFrom}
 use Rattle.pgp_c.proofs.Walks.{drop-drop}

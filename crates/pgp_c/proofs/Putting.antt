@@ -1,5 +1,5 @@
 -- The only cause of a value is that it is too long.
-use Rattle.std.proofs.Common.{◌≡◌, ℕ, List, length, Option, Some, None, refl, sym, ap, ◌∙◌, arith, inl, inr}
+use Rattle.std.proofs.Common.{◌≡◌, ℕ, List, length, Option, Some, None, sym, ap, ◌∙◌, arith, inl, inr}
 use Rattle.std.proofs.lemmas.Bool.{cases_lt}
 use Rattle.pgp_base.specs.Cause.{Cause, either, length_cause, nullable_cause}
 use Rattle.pgp_base.specs.declared.error.Error.{Error}

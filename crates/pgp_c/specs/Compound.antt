@@ -14,7 +14,6 @@ use Rattle.pgp_types.specs.declared.range.RangeBound.TheVariants.{Inclusive, Exc
 use Rattle.pgp_c.specs.Parts.{stands}
 use Rattle.pgp_c.specs.Walks.{rest}
 use Rattle.pgp_c.specs.declared.array.PgpArray.{PgpArray}
-use Rattle.pgp_c.specs.declared.array.PgpDimension.{PgpDimension}
 use Rattle.pgp_c.specs.declared.cursor.PgpCursor.{PgpCursor}
 use Rattle.pgp_c.specs.declared.hstore.PgpEntry.{PgpEntry}
 use Rattle.pgp_c.specs.declared.inet.PgpInet.{PgpInet}

@@ -1,5 +1,5 @@
 -- The items of lists, by their places among the bytes.
-use Rattle.std.specs.Prelude.{◌≡◌, ℕ, List, Option, Some, None, if◌then◌else◌}
+use Rattle.std.specs.Prelude.{ℕ, List, Option, Some, None, if◌then◌else◌}
 use Rattle.std.specs.declared.ops.Range.{Range}
 use Rattle.pgp_message.specs.Items.{FieldPart, ErrorPart}
 use Rattle.pgp_c.specs.Parts.{stands}

@@ -1,4 +1,4 @@
-use Rattle.std.proofs.Common.{rules, refl, sym, ap, ◌++◌, inl, inr, ◌∙◌, Some}
+use Rattle.std.proofs.Common.{rules, ap, ◌++◌, inl, inr, ◌∙◌, Some}
 use Rattle.pgp_base.specs.Error.{number_of}
 use Rattle.pgp_types.specs.Array.{array_bytes}
 use Rattle.pgp_c.specs.Putting.{elements_of, head_of, list_of}

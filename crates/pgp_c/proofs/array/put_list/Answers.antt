@@ -1,4 +1,4 @@
-use Rattle.std.proofs.Common.{◌+◌, ◌++◌, length, arith, inl, inr, length-append}
+use Rattle.std.proofs.Common.{arith, inl, inr, length-append}
 use Rattle.pgp_base.proofs.Needs.{memory_more, memory_then}
 use Rattle.pgp_base.proofs.Parts.{if_err_at}
 use Rattle.pgp_c.specs.Putting.{elements_of, head_of}

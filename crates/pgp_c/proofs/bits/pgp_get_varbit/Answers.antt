@@ -1,4 +1,3 @@
-use Rattle.std.proofs.Common.{rules, subst, sym}
 use Rattle.pgp_c.proofs.Compound.{bits_behind}
 use Rattle.pgp_c.proofs.bits.pgp_get_varbit.Goals as goal
 

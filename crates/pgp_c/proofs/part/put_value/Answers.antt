@@ -1,4 +1,4 @@
-use Rattle.std.proofs.Common.{◌≡◌, ◌+◌, length, arith, inl, refl, ap, ◌∙◌}
+use Rattle.std.proofs.Common.{◌≡◌, ◌+◌, length, arith, inl, refl}
 use Rattle.pgp_base.specs.Wire.{uint32, nullable}
 use Rattle.pgp_base.proofs.Needs.{nullable_least, sized_length}
 use Rattle.pgp_base.proofs.Parts.{if_err_at, length-uint32, wants_more, wants_now, wants_then}

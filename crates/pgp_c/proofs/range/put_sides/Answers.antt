@@ -1,9 +1,9 @@
-use Rattle.std.proofs.Common.{◌≡◌, ◌+◌, ◌∷◌, ◌++◌, [], ℕ, length, arith, inl, inr, refl, ap, ◌∙◌, length-append}
+use Rattle.std.proofs.Common.{◌∷◌, ◌++◌, [], arith, inl, inr, ap, ◌∙◌, length-append}
 use Rattle.pgp_base.specs.Held.{◌⊕◌}
 use Rattle.pgp_base.proofs.Causes.{either_first, either_then}
 use Rattle.pgp_base.proofs.Parts.{if_err_at, more_twice, wants_more, wants_then}
-use Rattle.pgp_types.specs.Range.{range_bytes, side_bytes, side_cause}
-use Rattle.pgp_c.specs.Putting.{range_of_sides, side_of}
+use Rattle.pgp_types.specs.Range.{side_bytes, side_cause}
+use Rattle.pgp_c.specs.Putting.{side_of}
 use Rattle.pgp_c.proofs.range.put_sides.Goals as goal
 
 pub returns-in_err-put_u8-clause-cause : goal.returns-in_err-put_u8-clause-cause

@@ -2,7 +2,7 @@ use Rattle.std.proofs.Common.{◌≡◌, ap, ◌∙◌, arith}
 use Rattle.pgp_base.proofs.Parts.{if_err_at}
 use Rattle.pgp_base.specs.Wire.{IsBytes}
 use Rattle.pgp_message.specs.ItemReading.{field_at}
-use Rattle.pgp_message.specs.Items.{FieldPart, FieldSpelled, FieldRefused}
+use Rattle.pgp_message.specs.Items.{FieldSpelled, FieldRefused}
 use Rattle.pgp_message.proofs.FieldLemmas.{field_reader}
 use Rattle.pgp_c.specs.Listings.{named}
 use Rattle.pgp_c.specs.Parts.{stands}

@@ -1,14 +1,10 @@
-use Rattle.std.proofs.Common.{rules, ◌≡◌, ◌<◌, ◌≤◌, ℕ, List, length, refl, ap, ◌∙◌, arith}
+use Rattle.std.proofs.Common.{arith}
 use Rattle.pgp_base.proofs.Parts.{if_err_at}
 use Rattle.pgp_base.specs.Wire.{IsBytes}
-use Rattle.pgp_types.specs.Hstore.{Entry, entry}
-use Rattle.pgp_types.specs.Part.{Begins, shown}
-use Rattle.pgp_types.specs.PartReading.{entry_at}
+use Rattle.pgp_types.specs.Hstore.{Entry}
+use Rattle.pgp_types.specs.Part.{shown}
 use Rattle.pgp_types.proofs.HstoreLemmas.{entry_item}
-use Rattle.pgp_types.proofs.WalkLemmas.{reader_of}
-use Rattle.pgp_c.specs.Compound.{value_in}
-use Rattle.pgp_c.proofs.Compound.{key_in, entry_value_in, entry_long, entry_placed}
-use Rattle.pgp_c.proofs.Listings.{reader_found, reader_shorter}
+use Rattle.pgp_c.proofs.Compound.{entry_long, entry_placed}
 use Rattle.pgp_c.proofs.hstore.EntriesListed.read.Goals as goal
 
 pub returns-in_err-key-clause-refused : goal.returns-in_err-key-clause-refused

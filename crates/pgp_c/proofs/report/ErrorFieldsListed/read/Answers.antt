@@ -1,4 +1,4 @@
-use Rattle.std.proofs.Common.{◌≡◌, ap, arith}
+use Rattle.std.proofs.Common.{ap, arith}
 use Rattle.pgp_base.proofs.Parts.{if_err_at}
 use Rattle.pgp_base.specs.Wire.{IsBytes}
 use Rattle.pgp_message.specs.ItemReading.{error_field_at}
