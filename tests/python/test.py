@@ -68,6 +68,54 @@ def readers():
     refused('a short row', 'UnexpectedEof', lambda: pg.row(next(pg.messages(b'D\0\0\0\x0b\0\1\0\0\0\2a'))), 7)
 
 
+def message(data):
+    return next(pg.messages(data))
+
+
+def lists():
+    columns = message(b'T\0\0\0\x2d\0\2a\0\0\0\0\0\0\0\0\0\0\x17\0\4\xff\xff\xff\xff\0\0' + b'\0\0\0\x40\1\0\3\0\0\4\x13\xff\xff\0\0\0\x24\0\1')
+    same('columns', pg.fields(columns), [('a', 0, 0, 23, 4, -1, 0), ('', 16385, 3, 1043, -1, 36, 1)])
+    error = message(b'E\0\0\0\x16SERROR\0M\xff\0C22012\0\0')
+    same('error', pg.error_fields(error), [('S', b'ERROR'), ('M', b'\xff'), ('C', b'22012')])
+    refused('bytes behind the 0', 'NotDrained', lambda: pg.error_fields(message(b'N\0\0\0\6\0\1')), 5)
+    same('mechanisms', pg.mechanisms(message(b'R\0\0\0\x2a\0\0\0\x0aSCRAM-SHA-256-PLUS\0SCRAM-SHA-256\0\0')), ['SCRAM-SHA-256-PLUS', 'SCRAM-SHA-256'])
+    same('options', pg.options(message(b'v\0\0\0\x14\0\3\0\2\0\0\0\2_pq_.x\0\0')), ['_pq_.x', ''])
+    refused('a name that is no UTF-8', 'NotUtf8', lambda: pg.options(message(b'v\0\0\0\x0e\0\3\0\0\0\0\0\1\xff\0')), 13)
+    same('types', pg.types(message(b't\0\0\0\x0e\0\2\0\0\0\x17\0\0\4\x12')), [23, 1042])
+    same('formats', pg.formats(message(b'G\0\0\0\x0b\1\0\2\0\1\0\0')), [1, 0])
+    same('head of data', pg.copy_data_head(6), b'd\0\0\0\x0a')
+    refused('too much data', 'TooLarge', lambda: pg.copy_data_head(2147483644))
+
+
+def compounds():
+    same('uuid', (pg.put_uuid(b'0123456789abcdef'), pg.get_uuid(b'0123456789abcdef')), (b'0123456789abcdef', b'0123456789abcdef'))
+    same('macaddr', (pg.put_macaddr(b'012345'), pg.get_macaddr(b'012345')), (b'012345', b'012345'))
+    refused('a short uuid', 'InvalidSize', lambda: pg.put_uuid(b'0'))
+    refused('a long macaddr', 'InvalidSize', lambda: pg.get_macaddr(b'0123456'))
+    for address, netmask, data in (('192.168.100.128', 25, b'\2\x19\0\4\xc0\xa8\x64\x80'), ('::1', 128, b'\3\x80\0\x10' + b'\0' * 15 + b'\1')):
+        same('put inet ' + address, pg.put_inet(address, netmask), data)
+        same('get inet ' + address, tuple(map(str, pg.get_inet(data))), (address, str(netmask)))
+    same('the whole address', pg.put_inet('127.0.0.1'), b'\2\x20\0\4\x7f\0\0\1')
+    refused('33 bits', 'InvalidNetmask', lambda: pg.put_inet('127.0.0.1', 33))
+    refused('family 4', 'InvalidFamily', lambda: pg.get_inet(b'\4\0\0\4abcd'))
+    same('varbit', (pg.put_varbit(9, b'\xb2\x80'), pg.get_varbit(b'\0\0\0\x09\xb2\x80')), (b'\0\0\0\x09\xb2\x80', (9, b'\xb2\x80')))
+    refused('bits', 'InvalidSize', lambda: pg.put_varbit(9, b'\xb2'))
+    same('put range', pg.put_range(('in', b'\0\0\0\1'), ('ex', b'\0\0\0\5')), b'\2\0\0\0\4\0\0\0\1\0\0\0\4\0\0\0\5')
+    same('put range, one side', pg.put_range(('in', b'\0\0\0\1'), ('none', None)), b'\x12\0\0\0\4\0\0\0\1')
+    same('put the empty range', pg.put_range(None, None), b'\1')
+    same('range', pg.get_range(b'\2\0\0\0\4\0\0\0\1\0\0\0\4\0\0\0\5'), (('in', b'\0\0\0\1'), ('ex', b'\0\0\0\5')))
+    same('range, one side', pg.get_range(b'\x08\0\0\0\4\0\0\0\5'), (('none', None), ('ex', b'\0\0\0\5')))
+    same('empty', pg.get_range(b'\1'), (None, None))
+    refused('range', 'InvalidValueLength', lambda: pg.get_range(b'\x12\0\0\0\4\0'))
+    ints = b'\0\0\0\1\0\0\0\1\0\0\0\x17\0\0\0\3\0\0\0\1\0\0\0\4\0\0\0\1\xff\xff\xff\xff\0\0\0\4\xff\xff\xff\xfd'
+    same('put array', pg.put_array(23, [b'\0\0\0\1', None, b'\xff\xff\xff\xfd']), ints)
+    same('put an array of nothing', pg.put_array(25, []), b'\0\0\0\1\0\0\0\0\0\0\0\x19\0\0\0\0\0\0\0\1')
+    same('array', pg.get_array(ints), (23, [(3, 1)], [b'\0\0\0\1', None, b'\xff\xff\xff\xfd']))
+    refused('array, cut', 'InvalidValueLength', lambda: pg.get_array(ints[:-1]), 32)
+    refused('array, negative', 'InvalidCount', lambda: pg.get_array(b'\xff\xff\xff\xff'))
+    same('hstore', pg.get_hstore(b'\0\0\0\2\0\0\0\4hola\xff\xff\xff\xff\0\0\0\5hello\0\0\0\5world'), {'hola': None, 'hello': 'world'})
+
+
 def values():
     for name, value, data in (('bool', True, b'\1'), ('int2', -1, b'\xff\xff'), ('int4', 5, b'\0\0\0\5'), ('int8', -2 ** 63, b'\x80' + b'\0' * 7),
                               ('oid', 2 ** 32 - 1, b'\xff' * 4), ('lsn', 2 ** 32 + 2, b'\0\0\0\1\0\0\0\2'), ('float4', 1.5, b'\x3f\xc0\0\0'),
@@ -120,7 +168,9 @@ def queries():
 
 writers()
 readers()
+lists()
 values()
+compounds()
 auth()
 queries()
 print('Python: %d passed, %d failed' % (passed, failed))

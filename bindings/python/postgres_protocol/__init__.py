@@ -1,7 +1,8 @@
 """The byte level of a PostgreSQL client, over the proved library for C (`libpostgres_protocol.so`), by ctypes.
 
-Build a client's messages (`query`, `parse`, `bind`, ..), iterate over a server's (`messages`), read rows (`row`), log in (`Scram`),
-escape texts (`escape_literal`, `escape_identifier`), and write and read values in the binary format (`put`, `get`).
+Build a client's messages (`query`, `parse`, `bind`, ..), iterate over a server's (`messages`), read what lists they have (`row`, `fields`,
+`error_fields`, ..), log in (`Scram`), escape texts (`escape_literal`, `escape_identifier`), and write and read values in the binary
+format (`put`, `get`, `put_inet`, `get_array`, ..).
 
 The library is looked for under the name that the environment's PGP_SO gives, and else where the system looks for libraries.
 """
@@ -9,15 +10,18 @@ import ctypes
 import ctypes.util
 import os
 import secrets
-from ctypes import POINTER, Structure, byref, c_bool, c_double, c_float, c_int16, c_int32, c_int64, c_size_t, c_uint8, c_uint32, c_uint64, c_void_p
-from typing import Callable, Iterable, Iterator, List, NamedTuple, Optional, Sequence, Tuple
+from ctypes import POINTER, Structure, byref, c_bool, c_double, c_float, c_int16, c_int32, c_int64, c_size_t, c_uint8, c_uint16, c_uint32, c_uint64, c_void_p
+from ipaddress import IPv4Address, IPv6Address, ip_address
+from typing import Callable, Dict, Iterable, Iterator, List, NamedTuple, Optional, Sequence, Tuple, Union
 
 LIBRARY = ctypes.CDLL(os.environ.get('PGP_SO') or ctypes.util.find_library('postgres_protocol') or 'libpostgres_protocol.so')
 
 #: What a call answers, by its number.
 STATUSES = {
     1: 'NoRoom', 2: 'EmbeddedNull', 3: 'TooLarge', 4: 'InvalidLength', 5: 'UnknownTag', 6: 'UnknownAuthentication', 7: 'UnexpectedEof',
-    8: 'NotDrained', 9: 'NotUtf8', 10: 'InvalidSize', 11: 'InvalidCount', 32: 'WrongPhase', 33: 'EmptyName', 34: 'UnknownVersion',
+    8: 'NotDrained', 9: 'NotUtf8', 10: 'InvalidSize', 11: 'InvalidCount', 12: 'InvalidKeyLength', 13: 'InvalidValueLength', 14: 'InvalidDimension',
+    15: 'TooManyElements', 16: 'InvalidBitLength', 17: 'InvalidNetmask', 18: 'InvalidAddressLength', 19: 'InvalidFamily', 20: 'InvalidVersion',
+    32: 'WrongPhase', 33: 'EmptyName', 34: 'UnknownVersion', 35: 'UnknownKind',
     66: 'ScramWrongState', 67: 'ScramNotUtf8', 68: 'ScramUnexpectedEnd', 69: 'ScramUnexpectedCharacter', 70: 'ScramTrailing',
     71: 'ScramInvalidNumber', 72: 'ScramInvalidNonce', 73: 'ScramTooManyIterations', 74: 'ScramInvalidBase64', 75: 'ScramServer',
     76: 'ScramVerification', 80: 'BadNonce', 81: 'BadBinding',
@@ -63,8 +67,45 @@ class _Column(Structure):
     _fields_ = [('start', c_size_t), ('end', c_size_t), ('is_null', c_bool)]
 
 
+class _Field(Structure):
+    _fields_ = [('name', _Part), ('table_oid', c_uint32), ('type_oid', c_uint32), ('type_modifier', c_int32), ('column_id', c_int16),
+                ('type_size', c_int16), ('format', c_int16)]
+
+
+class _ErrorField(Structure):
+    _fields_ = [('value', _Part), ('code', c_uint8)]
+
+
+class _Inet(Structure):
+    _fields_ = [('address', _Part), ('family', c_uint8), ('netmask', c_uint8)]
+
+
+class _Bound(Structure):
+    _fields_ = [('value', _Column), ('kind', c_uint8)]
+
+
+class _Range(Structure):
+    _fields_ = [('lower', _Bound), ('upper', _Bound), ('is_empty', c_bool)]
+
+
+class _Array(Structure):
+    _fields_ = [('dimensions', _Cursor), ('elements', _Cursor), ('element_type', c_uint32), ('has_nulls', c_bool)]
+
+
+class _Dimension(Structure):
+    _fields_ = [('len', c_int32), ('lower_bound', c_int32)]
+
+
+class _Entry(Structure):
+    _fields_ = [('key', _Part), ('value', _Column)]
+
+
 class _Value(Structure):
     _fields_ = [('bytes', c_void_p), ('bytes_len', c_size_t), ('is_null', c_bool)]
+
+
+class _Side(Structure):
+    _fields_ = [('value', _Value), ('kind', c_uint8)]
 
 
 class _Pair(Structure):
@@ -120,7 +161,38 @@ _parse = _declare('parse', *_TEXT, *_TEXT, POINTER(c_uint32), c_size_t, *_OUT)
 _bind = _declare('bind', *_TEXT, *_TEXT, POINTER(c_int16), c_size_t, POINTER(_Value), c_size_t, POINTER(c_int16), c_size_t, *_OUT)
 _startup = _declare('startup', c_int32, POINTER(_Pair), c_size_t, *_OUT)
 _front = _declare('front', c_void_p, c_size_t, POINTER(_Message))
-_row_next = _declare('row_next', c_void_p, c_size_t, POINTER(_Cursor), POINTER(_Column))
+_copy_data_head = _writer('copy_data_head', 'n')
+
+
+def _next(name: str, kind: type) -> Callable[..., int]:
+    """A step of a walk."""
+    return _declare(name + '_next', c_void_p, c_size_t, POINTER(_Cursor), POINTER(kind))
+
+
+_row_next, _type_next, _format_next = _next('row', _Column), _next('type', c_uint32), _next('format', c_uint16)
+_field_next, _error_field_next = _next('field', _Field), _next('error_field', _ErrorField)
+_mechanism_next, _option_next = _next('mechanism', _Part), _next('option', _Part)
+_dimension_next, _element_next, _entry_next = _next('dimension', _Dimension), _next('element', _Column), _next('entry', _Entry)
+
+
+def _walk(step: Callable[..., int], data: bytes, cursor: _Cursor, item: object) -> Iterator[None]:
+    """Fills `item` with each item of the list, up to its end; a refusal raises Refused."""
+    place = _text(data)
+    while True:
+        status = step(*place, byref(cursor), byref(item))  # type: ignore[arg-type]
+        if status == _DONE:
+            return
+        if status != _OK:
+            raise Refused(status, cursor.at)
+        yield
+
+
+def _part(data: bytes, part: _Part) -> bytes:
+    return data[part.at:part.at + part.len]
+
+
+def _column(data: bytes, column: _Column) -> Optional[bytes]:
+    return None if column.is_null else data[column.start:column.end]
 
 
 def query(text: bytes) -> bytes:
@@ -146,6 +218,11 @@ def terminate() -> bytes:
 def copy_data(data: bytes) -> bytes:
     """Data of a copy."""
     return _copy_data(data)
+
+
+def copy_data_head(length: int) -> bytes:
+    """The head before so many bytes of data, which need not be copied."""
+    return _copy_data_head(length)
 
 
 def copy_done() -> bytes:
@@ -249,17 +326,64 @@ def messages(data: bytes) -> Iterator[Message]:
         at += m.frame
 
 
+def _cursor(message: Message) -> _Cursor:
+    """A walk over the list that a message has."""
+    return _Cursor(message.first_at, message.first_at + len(message.first), message.count)
+
+
 def row(message: Message) -> List[Optional[bytes]]:
     """The values of a DataRow, of which None is a null."""
-    cursor = _Cursor(message.first_at, message.first_at + len(message.first), message.count)
-    column, values = _Column(), []
-    while True:
-        status = _row_next(*_text(message.frame), byref(cursor), byref(column))
-        if status == _DONE:
-            return values
-        if status != _OK:
-            raise Refused(status, cursor.at)
-        values.append(None if column.is_null else message.frame[column.start:column.end])
+    column = _Column()
+    return [_column(message.frame, column) for _ in _walk(_row_next, message.frame, _cursor(message), column)]
+
+
+class Field(NamedTuple):
+    """A column of a RowDescription. `table_oid` and `column_id` may be 0, `type_modifier` -1; a negative `type_size` varies; `format` is 0 for text,
+    1 for binary."""
+    name: str
+    table_oid: int
+    column_id: int
+    type_oid: int
+    type_size: int
+    type_modifier: int
+    format: int
+
+
+def fields(message: Message) -> List[Field]:
+    """The columns of a RowDescription."""
+    f = _Field()
+    return [Field(_part(message.frame, f.name).decode(), f.table_oid, f.column_id, f.type_oid, f.type_size, f.type_modifier, f.format)
+            for _ in _walk(_field_next, message.frame, _cursor(message), f)]
+
+
+def error_fields(message: Message) -> List[Tuple[str, bytes]]:
+    """The fields of an ErrorResponse or a NoticeResponse: what each is about, as a letter, and its value."""
+    field = _ErrorField()
+    return [(chr(field.code), _part(message.frame, field.value)) for _ in _walk(_error_field_next, message.frame, _cursor(message), field)]
+
+
+def mechanisms(message: Message) -> List[str]:
+    """The mechanisms that an AuthenticationSasl offers."""
+    name = _Part()
+    return [_part(message.frame, name).decode() for _ in _walk(_mechanism_next, message.frame, _cursor(message), name)]
+
+
+def options(message: Message) -> List[str]:
+    """The options that a NegotiateProtocolVersion doesn't know."""
+    name = _Part()
+    return [_part(message.frame, name).decode() for _ in _walk(_option_next, message.frame, _cursor(message), name)]
+
+
+def types(message: Message) -> List[int]:
+    """The types of a ParameterDescription."""
+    number = c_uint32()
+    return [number.value for _ in _walk(_type_next, message.frame, _cursor(message), number)]
+
+
+def formats(message: Message) -> List[int]:
+    """The formats of a CopyInResponse or a CopyOutResponse: 0 for text, 1 for binary."""
+    number = c_uint16()
+    return [number.value for _ in _walk(_format_next, message.frame, _cursor(message), number)]
 
 
 _escape_literal, _escape_identifier = _writer('escape_literal', 't'), _writer('escape_identifier', 't')
@@ -348,3 +472,129 @@ def get(name: str, data: bytes) -> object:
     if status != _OK:
         raise Refused(status)
     return _FLOATS[name].from_buffer_copy(value).value if name in _FLOATS else value.value
+
+
+_uuid, _macaddr = _writer('put_uuid', 't'), _writer('put_macaddr', 't')
+_put_inet, _put_varbit = _declare('put_inet', *_TEXT, c_uint8, *_OUT), _declare('put_varbit', c_size_t, *_TEXT, *_OUT)
+_get_inet, _get_varbit = _declare('get_inet', *_TEXT, POINTER(_Inet)), _declare('get_varbit', *_TEXT, POINTER(c_size_t))
+_get_range, _get_array = _declare('get_range', *_TEXT, POINTER(_Range)), _declare('get_array', *_TEXT, POINTER(_Array))
+_put_range, _put_empty_range = _declare('put_range', POINTER(_Side), POINTER(_Side), *_OUT), _writer('put_empty_range')
+_put_array = _declare('put_array', c_uint32, POINTER(_Value), c_size_t, *_OUT)
+_get_hstore = _declare('get_hstore', *_TEXT, POINTER(_Cursor))
+_IS_A = {name: _declare('get_' + name, *_TEXT) for name in ('uuid', 'macaddr')}
+
+Address = Union[IPv4Address, IPv6Address]
+
+
+def _read(call: Callable[..., int], data: bytes, *value: object) -> None:
+    status = call(*_text(data), *(byref(v) for v in value))  # type: ignore[arg-type]
+    if status != _OK:
+        raise Refused(status)
+
+
+def put_uuid(data: bytes) -> bytes:
+    """A uuid, which has 16 bytes."""
+    return _uuid(data)
+
+
+def get_uuid(data: bytes) -> bytes:
+    """The 16 bytes of a uuid, as they stand."""
+    _read(_IS_A['uuid'], data)
+    return data
+
+
+def put_macaddr(data: bytes) -> bytes:
+    """A macaddr, which has 6 bytes."""
+    return _macaddr(data)
+
+
+def get_macaddr(data: bytes) -> bytes:
+    """The 6 bytes of a macaddr, as they stand."""
+    _read(_IS_A['macaddr'], data)
+    return data
+
+
+def put_inet(address: Union[Address, str], netmask: Optional[int] = None) -> bytes:
+    """An inet; without a netmask all bits of the address name the network."""
+    packed = ip_address(address).packed
+    return _written(lambda *out: _put_inet(*_text(packed), 8 * len(packed) if netmask is None else netmask, *out))
+
+
+def get_inet(data: bytes) -> Tuple[Address, int]:
+    """The address of an inet or a cidr, and how many of its first bits name the network."""
+    inet = _Inet()
+    _read(_get_inet, data, inet)
+    return ip_address(_part(data, inet.address)), inet.netmask
+
+
+def put_varbit(bits: int, data: bytes) -> bytes:
+    """A bit string of so many bits, the first one highest in the first byte."""
+    return _written(lambda *out: _put_varbit(bits, *_text(data), *out))
+
+
+def get_varbit(data: bytes) -> Tuple[int, bytes]:
+    """How many bits a bit string has, and the bytes that hold them."""
+    bits = c_size_t()
+    _read(_get_varbit, data, bits)
+    return bits.value, data[4:]
+
+
+Side = Tuple[str, Optional[bytes]]
+_SIDES = ('none', 'in', 'ex')
+
+
+class Range(NamedTuple):
+    """A range. A side is (kind, value): the kind is 'none', 'in' or 'ex', the value the bytes of its bound, or None for none and for a null.
+    Both sides of the empty range are None."""
+    lower: Optional[Side]
+    upper: Optional[Side]
+
+
+def put_range(lower: Optional[Side], upper: Optional[Side]) -> bytes:
+    """A range between two sides, their bounds in the format of the type; the empty range where both are None."""
+    if lower is None or upper is None:
+        return _put_empty_range()
+    low, high = (_Side(_Value(*_text(value or b''), value is None), _SIDES.index(kind)) for kind, value in (lower, upper))
+    return _written(lambda *out: _put_range(byref(low), byref(high), *out))
+
+
+def get_range(data: bytes) -> Range:
+    """A range of any type, its bounds as the bytes of their values."""
+    r = _Range()
+    _read(_get_range, data, r)
+    if r.is_empty:
+        return Range(None, None)
+    lower, upper = ((_SIDES[b.kind], _column(data, b.value)) for b in (r.lower, r.upper))
+    return Range(lower, upper)
+
+
+class Array(NamedTuple):
+    """An array: the type of its elements, the dimensions (a length and a lower bound each), and the elements row by row, of which None is a null."""
+    element_type: int
+    dimensions: List[Tuple[int, int]]
+    elements: List[Optional[bytes]]
+
+
+def put_array(element_type: int, elements: Sequence[Optional[bytes]]) -> bytes:
+    """An array of one dimension, whose index begins at 1; the elements are in the format of their type, and None is a null."""
+    values = (_Value * len(elements))(*(_Value(*_text(v or b''), v is None) for v in elements))
+    return _written(lambda *out: _put_array(element_type, values, len(values), *out))
+
+
+def get_array(data: bytes) -> Array:
+    """An array of any type, its elements as bytes."""
+    a, dimension, element = _Array(), _Dimension(), _Column()
+    _read(_get_array, data, a)
+    return Array(a.element_type, [(dimension.len, dimension.lower_bound) for _ in _walk(_dimension_next, data, a.dimensions, dimension)],
+                 [_column(data, element) for _ in _walk(_element_next, data, a.elements, element)])
+
+
+def get_hstore(data: bytes) -> Dict[str, Optional[str]]:
+    """The keys and values of an hstore, of which None is a null."""
+    cursor, entry = _Cursor(), _Entry()
+    _read(_get_hstore, data, cursor)
+    found: Dict[str, Optional[str]] = {}
+    for _ in _walk(_entry_next, data, cursor, entry):
+        value = _column(data, entry.value)
+        found[_part(data, entry.key).decode()] = None if value is None else value.decode()
+    return found

@@ -59,10 +59,20 @@ enum {
     PGP_E_NOT_DRAINED = 8,              /* bytes stand behind a complete body, list or value             */
     PGP_E_NOT_UTF8 = 9,                 /* a text isn't UTF-8                                            */
     PGP_E_INVALID_SIZE = 10,            /* a value has the wrong number of bytes                         */
-    /* 11 to 20: refusals of values, in the order of the core */
+    PGP_E_INVALID_COUNT = 11,           /* a count is negative                                           */
+    PGP_E_INVALID_KEY_LENGTH = 12,      /* an hstore's key has a negative length, or passes the end      */
+    PGP_E_INVALID_VALUE_LENGTH = 13,    /* an element, a bound or an hstore's value passes the end       */
+    PGP_E_INVALID_DIMENSION = 14,       /* a dimension of an array has a negative length                 */
+    PGP_E_TOO_MANY_ELEMENTS = 15,       /* the product of the dimensions passes 2,147,483,647            */
+    PGP_E_INVALID_BIT_LENGTH = 16,      /* a bit string's number of bits is negative                     */
+    PGP_E_INVALID_NETMASK = 17,         /* a netmask has more bits than the address                      */
+    PGP_E_INVALID_ADDRESS_LENGTH = 18,  /* an address doesn't have the bytes of its family               */
+    PGP_E_INVALID_FAMILY = 19,          /* an address family is neither 2 nor 3                          */
+    PGP_E_INVALID_VERSION = 20,         /* a label type doesn't begin with the version 1                 */
     PGP_E_WRONG_PHASE = 32,             /* pgp_stream_*: the message may not come here                   */
     PGP_E_EMPTY_NAME = 33,              /* a parameter of a startup packet has no name                   */
     PGP_E_VERSION = 34,                 /* a startup packet of another version than 3.0 and 3.2          */
+    PGP_E_KIND = 35,                    /* the kind of a range's side is none                           */
     PGP_MORE = 100,                     /* bytes are missing: read more, and call again                  */
     PGP_DONE = 101                      /* the walk is at its end                                        */
 };
@@ -239,6 +249,28 @@ pgp_status pgp_row_next(const uint8_t *bytes, size_t len, struct pgp_cursor *cur
 pgp_status pgp_type_next(const uint8_t *bytes, size_t len, struct pgp_cursor *cursor, uint32_t *type);
 pgp_status pgp_format_next(const uint8_t *bytes, size_t len, struct pgp_cursor *cursor, uint16_t *format);
 
+/* The next column of a ROW_DESCRIPTION. The name is some of the bytes that are handed over; a name that isn't UTF-8 is PGP_E_NOT_UTF8.
+   Answers, here and below, as those of pgp_row_next. */
+struct pgp_field {
+    struct pgp_part name;
+    uint32_t table_oid;       /* the column's table, or 0            */
+    uint32_t type_oid;
+    int32_t type_modifier;    /* or -1                               */
+    int16_t column_id;        /* the column's number there, or 0     */
+    int16_t type_size;        /* in bytes; negative where it varies  */
+    int16_t format;           /* 0 text, 1 binary                    */
+};
+pgp_status pgp_field_next(const uint8_t *bytes, size_t len, struct pgp_cursor *cursor, struct pgp_field *field);
+
+/* The next field of an ERROR_RESPONSE or a NOTICE_RESPONSE: its code is a letter ('S' severity, 'C' SQLSTATE, 'M' message ..), its value any
+   text. PGP_E_NOT_DRAINED where bytes stand behind the 0 that ends the list. */
+struct pgp_error_field { struct pgp_part value; uint8_t code; };
+pgp_status pgp_error_field_next(const uint8_t *bytes, size_t len, struct pgp_cursor *cursor, struct pgp_error_field *field);
+
+/* The next mechanism of an AUTHENTICATION_SASL, and the next option of a NEGOTIATE_PROTOCOL_VERSION, by name, in UTF-8. */
+pgp_status pgp_mechanism_next(const uint8_t *bytes, size_t len, struct pgp_cursor *cursor, struct pgp_part *name);
+pgp_status pgp_option_next(const uint8_t *bytes, size_t len, struct pgp_cursor *cursor, struct pgp_part *name);
+
 /* ---- values in the binary format ---- */
 
 /* A text and a bytea are their bytes as they stand, and need no call. So are a uuid (16 bytes) and a macaddr (6): their calls look at
@@ -258,6 +290,44 @@ pgp_status pgp_put_time(int64_t value, PGP_OUT);       pgp_status pgp_get_time(c
 pgp_status pgp_put_date(int32_t value, PGP_OUT);       pgp_status pgp_get_date(const uint8_t *bytes, size_t len, int32_t *value);
 pgp_status pgp_put_float4(uint32_t bits, PGP_OUT);     pgp_status pgp_get_float4(const uint8_t *bytes, size_t len, uint32_t *bits);
 pgp_status pgp_put_float8(uint64_t bits, PGP_OUT);     pgp_status pgp_get_float8(const uint8_t *bytes, size_t len, uint64_t *bits);
+
+/* An inet or a cidr: an address of 4 or 16 bytes, and how many of its first bits name the network. PGP_E_INVALID_ADDRESS_LENGTH for another
+   number of bytes, PGP_E_INVALID_NETMASK for more bits than there are. (bytes[2] of a value is 1 for a cidr; an inet is written.) */
+enum { PGP_FAMILY_IPV4 = 2, PGP_FAMILY_IPV6 = 3 };
+struct pgp_inet { struct pgp_part address; uint8_t family; uint8_t netmask; };
+pgp_status pgp_put_inet(const uint8_t *address, size_t len, uint8_t netmask, PGP_OUT);
+pgp_status pgp_get_inet(const uint8_t *bytes, size_t len, struct pgp_inet *value);
+
+/* A bit or a varbit: how many bits, in (bits + 7) / 8 bytes, the first bit highest; else PGP_E_INVALID_SIZE. What pads the last byte is any.
+   A value's bits stand behind its first 4 bytes. */
+pgp_status pgp_put_varbit(size_t bits, const uint8_t *bytes, size_t len, PGP_OUT);
+pgp_status pgp_get_varbit(const uint8_t *bytes, size_t len, size_t *bits);
+
+/* A range of any type, by the places of its bounds' values: bytes[start .. end), in the format of the type. */
+enum { PGP_UNBOUNDED = 0, PGP_INCLUSIVE = 1, PGP_EXCLUSIVE = 2 };
+struct pgp_bound { struct pgp_column value; uint8_t kind; };
+struct pgp_range { struct pgp_bound lower, upper; bool is_empty; };
+pgp_status pgp_get_range(const uint8_t *bytes, size_t len, struct pgp_range *value);
+/* To write one: each side's kind, and the value of its bound in the format of the type, which isn't read where there is no bound. A kind of
+   none of the three is PGP_E_KIND. */
+struct pgp_side { struct pgp_value value; uint8_t kind; };
+pgp_status pgp_put_range(const struct pgp_side *lower, const struct pgp_side *upper, PGP_OUT);
+pgp_status pgp_put_empty_range(PGP_OUT);
+
+/* An array: its head, and cursors for the walks over its dimensions and its elements (row by row, the last dimension the fastest).
+   has_nulls is the flag of the head; the elements tell by themselves. */
+struct pgp_array { struct pgp_cursor dimensions, elements; uint32_t element_type; bool has_nulls; };
+struct pgp_dimension { int32_t len, lower_bound; };
+pgp_status pgp_get_array(const uint8_t *bytes, size_t len, struct pgp_array *value);
+/* To write one: an array of one dimension, whose index begins at 1; each element in the format of its type, or a null. */
+pgp_status pgp_put_array(uint32_t element_type, const struct pgp_value *elements, size_t count, PGP_OUT);
+pgp_status pgp_dimension_next(const uint8_t *bytes, size_t len, struct pgp_cursor *cursor, struct pgp_dimension *dimension);
+pgp_status pgp_element_next(const uint8_t *bytes, size_t len, struct pgp_cursor *cursor, struct pgp_column *element);
+
+/* An hstore: a cursor for the walk over its entries, each a key and a value or a null, in UTF-8. */
+struct pgp_entry { struct pgp_part key; struct pgp_column value; };
+pgp_status pgp_get_hstore(const uint8_t *bytes, size_t len, struct pgp_cursor *entries);
+pgp_status pgp_entry_next(const uint8_t *bytes, size_t len, struct pgp_cursor *cursor, struct pgp_entry *entry);
 
 static inline uint64_t pgp_float8_bits(double value) { uint64_t bits; memcpy(&bits, &value, sizeof bits); return bits; }
 static inline double pgp_float8_of(uint64_t bits) { double value; memcpy(&value, &bits, sizeof value); return value; }

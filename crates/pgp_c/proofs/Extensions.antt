@@ -1,24 +1,25 @@
 -- What a call added to a client's stream.
-use Rattle.std.proofs.Common.{◌≡◌, ℕ, ◌+◌, ◌-◌, ◌<◌, ◌≤◌, ◌^◌, Bool, true, false, List, [], ◌∷◌, ◌++◌, length, take, drop, map, refl, sym, ap, subst, ◌∙◌, arith, inl, MutBor, ◌&&◌}
+use Rattle.std.proofs.Common.{◌≡◌, ℕ, ◌+◌, ◌-◌, ◌<◌, ◌≤◌, ◌^◌, Bool, true, false, List, [], ◌∷◌, ◌++◌, length, take, drop, map, Option, Some, None, refl, sym, ap, subst, ◌∙◌, arith, inl, MutBor, ◌&&◌}
 use Rattle.std.specs.Prelude.{◌≢◌, min, if◌then◌else◌}
 use Rattle.std.specs.List.{AllByRecursion, list_all}
 use Rattle.std.proofs.lemmas.Bool.{ltb-true}
 use Rattle.std.proofs.lemmas.List.Elements.{All-from_recursion}
-use Rattle.std.proofs.Math.Seq.{take-append_seam, take-append-add}
-use Rattle.std.proofs.lemmas.List.{append-nil, length-append, append_assoc, length-take}
+use Rattle.std.proofs.Math.Seq.{take-append_seam, take-append-add, take-length}
+use Rattle.std.proofs.lemmas.List.{append-nil, length-append, append_assoc, length-drop, length-take}
 use Rattle.pgp_base.proofs.Parts.{length-uint32}
+use Rattle.pgp_base.specs.Wire.{uint32}
 use Rattle.pgp_frontend.specs.ClientMessage.{ClientMessage, CopyData, PasswordKind, Startup}
 use Rattle.pgp_frontend.specs.declared.startup.ProtocolVersion.{ProtocolVersion}
-use Rattle.pgp_frontend.specs.Payload.{bytes_of}
+use Rattle.pgp_frontend.specs.Payload.{bytes_of, framed, payload, tag_of}
 use Rattle.pgp_frontend.specs.ClientRun.{ClientRun, MayCome, kinds_of, is_startup, is_opened}
 use Rattle.pgp_frontend.proofs.ClientRuns.{run_more}
 use Rattle.pgp_c.specs.declared.opening.PgpPair.{PgpPair}
 use Rattle.pgp_c.specs.declared.stream.PgpStream.{PgpStream}
 use Rattle.pgp_c.specs.Opening.{is_named, pair_of}
-use Rattle.pgp_c.specs.Copying.{copy_head, SentHead}
-use Rattle.pgp_c.specs.Sending.{Sent}
+use Rattle.pgp_c.specs.Copying.{copy_head, SentHead, WhyNoHead}
+use Rattle.pgp_c.specs.Sending.{Sent, Why}
 use Rattle.pgp_c.specs.Values.{Wrote}
-use Rattle.pgp_c.specs.Streams.{Extends, ExtendsByHead}
+use Rattle.pgp_c.specs.Streams.{Extends, ExtendsByHead, free}
 
 min_left : (a b : ℕ) → a ≤ b → min a b ≡ a
 min_left a b le = omega (arith, le)
@@ -111,3 +112,24 @@ all_named (p ∷ ps) h = let k = both (is_named p) (list_all is_named ps) h in (
 
 pub may_open : (v : ProtocolVersion) (ps : List PgpPair) → list_all is_named ps ≡ true → MayCome (Startup v (map pair_of ps)) false
 may_open v ps h = (inl tt, All-from_recursion (λ (p : List ℕ × List ℕ). p.0 ≢ []) (map pair_of ps) (all_named ps h))
+
+-- Where more is to be sent than the memory holds, no message fits.
+framed_some : (tag : Option ℕ) (body : List ℕ) → 0 < length (framed tag body)
+framed_some None body = omega (arith, length-append (uint32 (length body + 4)) body, length-uint32 (length body + 4))
+framed_some (Some tag) body = omega arith
+
+drop_past : (n : ℕ) (xs : List ℕ) → length xs < n → length (drop n xs) ≡ 0
+drop_past n xs past = omega (arith, length-drop n xs, past)
+
+pub no_room : (m : ClientMessage) (s : PgpStream) (code : ℕ) → length s.room.now < s.len → code ≡ 1 → Why m (free s) code
+no_room m s code past one = inl (one, omega (arith, drop_past s.len s.room.now past, framed_some (tag_of m) (payload m)))
+
+pub no_room_for_head : (len : ℕ) (s : PgpStream) → length s.room.now < s.len → WhyNoHead len (free s) 1
+no_room_for_head len s past = inl (refl, omega (arith, drop_past s.len s.room.now past))
+
+-- the memory that a call was handed is what stands behind what was to be sent
+pub why_same : (m n : ClientMessage) (s : PgpStream) (out : List ℕ) (code : ℕ) → n ≡ m → out ≡ take (length s.room.now - s.len) (drop s.len s.room.now) → Why n out code → Why m (free s) code
+why_same m n s out code is part why =
+    let count : length s.room.now - s.len ≡ length (drop s.len s.room.now) = sym (length-drop s.len s.room.now) in
+    let all : out ≡ free s = part ∙ (ap (λ k. take k (drop s.len s.room.now)) count ∙ take-length (drop s.len s.room.now)) in
+    subst (λ l. Why m l code) all (subst (λ k. Why k out code) is why)

@@ -1,8 +1,13 @@
-mod Columns
+mod Addresses
+mod Compound
+mod Elements
 mod Copies
 mod Extensions
 mod Fronts
+mod Listings
 mod Lists
 mod Openings
+mod Putting
 mod Sending
 mod BindRefusals
+mod Walks

@@ -16,7 +16,10 @@ pub record SentHead (len : ℕ) (old new : List ℕ) (told : ℕ) : Type 0 where
   pub stands : new ≡ copy_head len ++ drop 5 old
   pub message : (bytes : List ℕ) → length bytes ≡ len → (cause (CopyData bytes) ≡ None) × (bytes_of (CopyData bytes) ≡ copy_head len ++ bytes)
 
--- nothing is to be sent: the memory is too short for the head, or the data are too long for one message
+-- why nothing is to be sent: the memory is too short for the head, or the data are too long for one message
+abbrev pub WhyNoHead : ℕ → List ℕ → ℕ → Type 0
+WhyNoHead len old code = ((code ≡ 1) × (length old < 5)) ⊎ ((code ≡ 3) × (2147483643 < len))
+
 pub record NoHead (len : ℕ) (old : List ℕ) (told code : ℕ) : Type 0 where
   pub length_is : told ≡ 0
-  pub why : ((code ≡ 1) × (length old < 5)) ⊎ ((code ≡ 3) × (2147483643 < len))
+  pub why : WhyNoHead len old code

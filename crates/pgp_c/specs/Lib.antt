@@ -1,10 +1,14 @@
+pub mod Compound
 pub mod Copying
 pub mod Front
+pub mod Listings
 pub mod Lists
 pub mod Opening
+pub mod PartPlaces
 pub mod Parts
 pub mod Places
-pub mod Rows
+pub mod Putting
 pub mod Sending
 pub mod Streams
 pub mod Values
+pub mod Walks

@@ -2,11 +2,21 @@
 #![tactic(auto)]
 
 mod address;
+mod array;
+mod bits;
 mod copying;
+mod cursor;
+mod description;
 mod front;
+mod hstore;
+mod inet;
 mod listing;
+mod name;
 mod number;
 mod opening;
+mod part;
+mod range;
+mod report;
 mod row;
 mod status;
 mod stream;

@@ -4,10 +4,9 @@ ghost use Rattle.std.specs.Prelude.{◌≡◌, ◌≢◌};
 ghost use Rattle.pgp_base.specs.PartReading.{Answers};
 ghost use Rattle.pgp_message.specs.ItemReading.{format_at, type_at};
 ghost use Rattle.pgp_message.specs.Items.{FormatSpelled, FormatRefused, TypeSpelled, TypeRefused};
-ghost use Rattle.pgp_c.specs.Rows.{IsEnded, RefusesItem, Takes};
+ghost use Rattle.pgp_c.specs.Walks.{IsEnded, RefusesItem, Takes};
 
-use crate::row::{DONE, PgpCursor, rest_of};
-use crate::status::failed;
+use crate::cursor::{Listed, PgpCursor, next_counted};
 use pgp_base::Error;
 use pgp_base::reading::{oid_at, uint16_at};
 
@@ -19,31 +18,7 @@ pub extern "C" fn pgp_type_next(bytes: &[u8], cursor: &mut PgpCursor, value: &mu
     ensures refused { result ≢ 0 → result ≢ 101 → RefusesItem TypeRefused bytes.now cursor.old result }
     ensures left { result ≢ 0 → (cursor.new ≡ cursor.old) × (value.new ≡ value.old) }
 {
-    let at = cursor.at;
-    let rest = rest_of(bytes, at, cursor.end);
-    if cursor.left == 0 {
-        if rest.is_empty() {
-            return DONE;
-        }
-        return failed(Error::NotDrained);
-    }
-    match type_at(rest) {
-        Ok((number, more)) => {
-            cursor.at = at.saturating_add(rest.len().saturating_sub(more.len()));
-            cursor.left -= 1;
-            *value = number;
-            0
-        }
-        Err(e) => failed(e),
-    }
-}
-
-/// The type at the front.
-fn type_at(bytes: &[u8]) -> Result<(u32, &[u8]), Error>
-    ensures { Answers (λ x. (x.0, x.1.now)) result (type_at bytes.now) }
-{
-    let (number, rest) = oid_at(bytes)?;
-    Ok((number, rest))
+    next_counted::<Types>(bytes, cursor, value)
 }
 
 /// The next format of a copy's columns.
@@ -54,23 +29,61 @@ pub extern "C" fn pgp_format_next(bytes: &[u8], cursor: &mut PgpCursor, value: &
     ensures refused { result ≢ 0 → result ≢ 101 → RefusesItem FormatRefused bytes.now cursor.old result }
     ensures left { result ≢ 0 → (cursor.new ≡ cursor.old) × (value.new ≡ value.old) }
 {
-    let at = cursor.at;
-    let rest = rest_of(bytes, at, cursor.end);
-    if cursor.left == 0 {
-        if rest.is_empty() {
-            return DONE;
-        }
-        return failed(Error::NotDrained);
+    next_counted::<Formats>(bytes, cursor, value)
+}
+
+/// The types of a statement's parameters.
+struct Types;
+
+impl Listed for Types {
+    ghost use Rattle.std.specs.Prelude.{ℕ};
+    ghost use Rattle.pgp_message.specs.Items.{TypeSpelled, TypeRefused};
+
+    type Item = u32;
+
+    ghost Meaning = { ℕ };
+
+    ghost meaning = { λ bytes value. value };
+
+    ghost Spelled = { TypeSpelled };
+
+    ghost Refused = { TypeRefused };
+
+    fn read(_at: usize, rest: &[u8]) -> Result<(u32, &[u8]), Error> {
+        let (number, more) = type_at(rest)?;
+        Ok((number, more))
     }
-    match format_at(rest) {
-        Ok((number, more)) => {
-            cursor.at = at.saturating_add(rest.len().saturating_sub(more.len()));
-            cursor.left -= 1;
-            *value = number;
-            0
-        }
-        Err(e) => failed(e),
+}
+
+/// The formats of a copy's columns.
+struct Formats;
+
+impl Listed for Formats {
+    ghost use Rattle.std.specs.Prelude.{ℕ};
+    ghost use Rattle.pgp_message.specs.Items.{FormatSpelled, FormatRefused};
+
+    type Item = u16;
+
+    ghost Meaning = { ℕ };
+
+    ghost meaning = { λ bytes value. value };
+
+    ghost Spelled = { FormatSpelled };
+
+    ghost Refused = { FormatRefused };
+
+    fn read(_at: usize, rest: &[u8]) -> Result<(u16, &[u8]), Error> {
+        let (number, more) = format_at(rest)?;
+        Ok((number, more))
     }
+}
+
+/// The type at the front.
+fn type_at(bytes: &[u8]) -> Result<(u32, &[u8]), Error>
+    ensures { Answers (λ x. (x.0, x.1.now)) result (type_at bytes.now) }
+{
+    let (number, rest) = oid_at(bytes)?;
+    Ok((number, rest))
 }
 
 /// The format at the front.

@@ -50,3 +50,12 @@ pub fn no_version(written: &mut usize) -> u32
     *written = 0;
     34
 }
+
+/// The kind of a range's side is none.
+pub fn no_kind(written: &mut usize) -> u32
+    ensures code { result ≡ 35 }
+    ensures told { written.new ≡ 0 }
+{
+    *written = 0;
+    35
+}

@@ -1,12 +1,15 @@
 //! What a client sends, as one stream in memory of the caller's: a call whose phase it isn't is refused.
+#![tactic(auto, using(crate::proofs::Extensions::no_room))]
 
-ghost use Rattle.std.specs.Prelude.{◌≡◌, ◌≢◌, true, false, map};
+ghost use Rattle.std.specs.Prelude.{◌≡◌, ◌≢◌, ◌<◌, ◌≤◌, true, false, length, map};
 ghost use Rattle.pgp_frontend.specs.ClientMessage.{Bind, CancelRequest, Close, CopyDone, CopyFail, Describe, Execute, Flush, Parse, PasswordMessage, Query, SaslInitialResponse, SaslResponse, SslRequest, Startup, Sync, Terminate};
 ghost use Rattle.pgp_frontend.specs.Payload.{version_code};
 ghost use Rattle.pgp_frontend.specs.declared.startup.ProtocolVersion.{ProtocolVersion as Version};
 ghost use Rattle.pgp_c.specs.Lists.{value_of};
-ghost use Rattle.pgp_c.specs.Opening.{pair_of};
-ghost use Rattle.pgp_c.specs.Streams.{Extends, ExtendsByHead, Keeps};
+ghost use Rattle.pgp_c.specs.Copying.{WhyNoHead};
+ghost use Rattle.pgp_c.specs.Opening.{pair_of, WhyStartup};
+ghost use Rattle.pgp_c.specs.Sending.{Why};
+ghost use Rattle.pgp_c.specs.Streams.{Extends, ExtendsByHead, Keeps, free};
 
 use crate::copying::pgp_copy_data_head;
 use crate::listing::{PgpValue, pgp_bind, pgp_parse};
@@ -36,6 +39,7 @@ pub struct PgpStream<'a> {
 pub extern "C" fn pgp_stream_ssl_request(stream: &mut PgpStream<'_>) -> u32
     ensures added { result ≡ 0 → Extends SslRequest stream.old stream.new }
     ensures phase { stream.old.is_open ≢ false → result ≡ 32 }
+    ensures why { result ≢ 0 → stream.old.is_open ≡ false → Why SslRequest (free stream.old) result }
     ensures kept { result ≢ 0 → Keeps stream.old stream.new }
 {
     let len = stream.len;
@@ -60,6 +64,7 @@ pub extern "C" fn pgp_stream_cancel_request(
 ) -> u32
     ensures added { result ≡ 0 → Extends (CancelRequest process_id secret_key.now) stream.old stream.new }
     ensures phase { stream.old.is_open ≢ false → result ≡ 32 }
+    ensures why { result ≢ 0 → stream.old.is_open ≡ false → Why (CancelRequest process_id secret_key.now) (free stream.old) result }
     ensures kept { result ≢ 0 → Keeps stream.old stream.new }
 {
     let len = stream.len;
@@ -84,6 +89,8 @@ pub extern "C" fn pgp_stream_startup(
 ) -> u32
     ensures added { result ≡ 0 → (v : Version) × (version_code v ≡ version) × Extends (Startup v (map pair_of parameters.now)) stream.old stream.new }
     ensures phase { stream.old.is_open ≢ false → result ≡ 32 }
+    ensures why { result ≢ 0 → stream.old.is_open ≡ false → stream.old.len ≤ length stream.old.room.now → WhyStartup version parameters.now (free stream.old) result }
+    ensures broken { stream.old.is_open ≡ false → length stream.old.room.now < stream.old.len → result ≡ 1 }
     ensures kept { result ≢ 0 → Keeps stream.old stream.new }
 {
     let len = stream.len;
@@ -107,6 +114,7 @@ pub extern "C" fn pgp_stream_startup(
 pub extern "C" fn pgp_stream_password_message(stream: &mut PgpStream<'_>, password: &[u8]) -> u32
     ensures added { result ≡ 0 → Extends (PasswordMessage password.now) stream.old stream.new }
     ensures phase { stream.old.is_open ≢ true → result ≡ 32 }
+    ensures why { result ≢ 0 → stream.old.is_open ≡ true → Why (PasswordMessage password.now) (free stream.old) result }
     ensures kept { result ≢ 0 → Keeps stream.old stream.new }
 {
     let len = stream.len;
@@ -131,6 +139,7 @@ pub extern "C" fn pgp_stream_sasl_initial_response(
 ) -> u32
     ensures added { result ≡ 0 → Extends (SaslInitialResponse mechanism.now response.now) stream.old stream.new }
     ensures phase { stream.old.is_open ≢ true → result ≡ 32 }
+    ensures why { result ≢ 0 → stream.old.is_open ≡ true → Why (SaslInitialResponse mechanism.now response.now) (free stream.old) result }
     ensures kept { result ≢ 0 → Keeps stream.old stream.new }
 {
     let len = stream.len;
@@ -151,6 +160,7 @@ pub extern "C" fn pgp_stream_sasl_initial_response(
 pub extern "C" fn pgp_stream_sasl_response(stream: &mut PgpStream<'_>, response: &[u8]) -> u32
     ensures added { result ≡ 0 → Extends (SaslResponse response.now) stream.old stream.new }
     ensures phase { stream.old.is_open ≢ true → result ≡ 32 }
+    ensures why { result ≢ 0 → stream.old.is_open ≡ true → Why (SaslResponse response.now) (free stream.old) result }
     ensures kept { result ≢ 0 → Keeps stream.old stream.new }
 {
     let len = stream.len;
@@ -171,6 +181,7 @@ pub extern "C" fn pgp_stream_sasl_response(stream: &mut PgpStream<'_>, response:
 pub extern "C" fn pgp_stream_query(stream: &mut PgpStream<'_>, text: &[u8]) -> u32
     ensures added { result ≡ 0 → Extends (Query text.now) stream.old stream.new }
     ensures phase { stream.old.is_open ≢ true → result ≡ 32 }
+    ensures why { result ≢ 0 → stream.old.is_open ≡ true → Why (Query text.now) (free stream.old) result }
     ensures kept { result ≢ 0 → Keeps stream.old stream.new }
 {
     let len = stream.len;
@@ -196,6 +207,7 @@ pub extern "C" fn pgp_stream_parse(
 ) -> u32
     ensures added { result ≡ 0 → Extends (Parse name.now query.now types.now) stream.old stream.new }
     ensures phase { stream.old.is_open ≢ true → result ≡ 32 }
+    ensures why { result ≢ 0 → stream.old.is_open ≡ true → Why (Parse name.now query.now types.now) (free stream.old) result }
     ensures kept { result ≢ 0 → Keeps stream.old stream.new }
 {
     let len = stream.len;
@@ -223,6 +235,7 @@ pub extern "C" fn pgp_stream_bind(
 ) -> u32
     ensures added { result ≡ 0 → Extends (Bind portal.now statement.now formats.now (map value_of values.now) result_formats.now) stream.old stream.new }
     ensures phase { stream.old.is_open ≢ true → result ≡ 32 }
+    ensures why { result ≢ 0 → stream.old.is_open ≡ true → Why (Bind portal.now statement.now formats.now (map value_of values.now) result_formats.now) (free stream.old) result }
     ensures kept { result ≢ 0 → Keeps stream.old stream.new }
 {
     let len = stream.len;
@@ -251,6 +264,7 @@ pub extern "C" fn pgp_stream_bind(
 pub extern "C" fn pgp_stream_describe(stream: &mut PgpStream<'_>, variant: u8, name: &[u8]) -> u32
     ensures added { result ≡ 0 → Extends (Describe variant name.now) stream.old stream.new }
     ensures phase { stream.old.is_open ≢ true → result ≡ 32 }
+    ensures why { result ≢ 0 → stream.old.is_open ≡ true → Why (Describe variant name.now) (free stream.old) result }
     ensures kept { result ≢ 0 → Keeps stream.old stream.new }
 {
     let len = stream.len;
@@ -275,6 +289,7 @@ pub extern "C" fn pgp_stream_execute(
 ) -> u32
     ensures added { result ≡ 0 → Extends (Execute portal.now max_rows) stream.old stream.new }
     ensures phase { stream.old.is_open ≢ true → result ≡ 32 }
+    ensures why { result ≢ 0 → stream.old.is_open ≡ true → Why (Execute portal.now max_rows) (free stream.old) result }
     ensures kept { result ≢ 0 → Keeps stream.old stream.new }
 {
     let len = stream.len;
@@ -295,6 +310,7 @@ pub extern "C" fn pgp_stream_execute(
 pub extern "C" fn pgp_stream_close(stream: &mut PgpStream<'_>, variant: u8, name: &[u8]) -> u32
     ensures added { result ≡ 0 → Extends (Close variant name.now) stream.old stream.new }
     ensures phase { stream.old.is_open ≢ true → result ≡ 32 }
+    ensures why { result ≢ 0 → stream.old.is_open ≡ true → Why (Close variant name.now) (free stream.old) result }
     ensures kept { result ≢ 0 → Keeps stream.old stream.new }
 {
     let len = stream.len;
@@ -315,6 +331,7 @@ pub extern "C" fn pgp_stream_close(stream: &mut PgpStream<'_>, variant: u8, name
 pub extern "C" fn pgp_stream_flush(stream: &mut PgpStream<'_>) -> u32
     ensures added { result ≡ 0 → Extends Flush stream.old stream.new }
     ensures phase { stream.old.is_open ≢ true → result ≡ 32 }
+    ensures why { result ≢ 0 → stream.old.is_open ≡ true → Why Flush (free stream.old) result }
     ensures kept { result ≢ 0 → Keeps stream.old stream.new }
 {
     let len = stream.len;
@@ -335,6 +352,7 @@ pub extern "C" fn pgp_stream_flush(stream: &mut PgpStream<'_>) -> u32
 pub extern "C" fn pgp_stream_sync(stream: &mut PgpStream<'_>) -> u32
     ensures added { result ≡ 0 → Extends Sync stream.old stream.new }
     ensures phase { stream.old.is_open ≢ true → result ≡ 32 }
+    ensures why { result ≢ 0 → stream.old.is_open ≡ true → Why Sync (free stream.old) result }
     ensures kept { result ≢ 0 → Keeps stream.old stream.new }
 {
     let len = stream.len;
@@ -355,6 +373,7 @@ pub extern "C" fn pgp_stream_sync(stream: &mut PgpStream<'_>) -> u32
 pub extern "C" fn pgp_stream_copy_data_head(stream: &mut PgpStream<'_>, data_len: usize) -> u32
     ensures added { result ≡ 0 → ExtendsByHead data_len stream.old stream.new }
     ensures phase { stream.old.is_open ≢ true → result ≡ 32 }
+    ensures why { result ≢ 0 → stream.old.is_open ≡ true → WhyNoHead data_len (free stream.old) result }
     ensures kept { result ≢ 0 → Keeps stream.old stream.new }
 {
     let len = stream.len;
@@ -375,6 +394,7 @@ pub extern "C" fn pgp_stream_copy_data_head(stream: &mut PgpStream<'_>, data_len
 pub extern "C" fn pgp_stream_copy_done(stream: &mut PgpStream<'_>) -> u32
     ensures added { result ≡ 0 → Extends CopyDone stream.old stream.new }
     ensures phase { stream.old.is_open ≢ true → result ≡ 32 }
+    ensures why { result ≢ 0 → stream.old.is_open ≡ true → Why CopyDone (free stream.old) result }
     ensures kept { result ≢ 0 → Keeps stream.old stream.new }
 {
     let len = stream.len;
@@ -395,6 +415,7 @@ pub extern "C" fn pgp_stream_copy_done(stream: &mut PgpStream<'_>) -> u32
 pub extern "C" fn pgp_stream_copy_fail(stream: &mut PgpStream<'_>, reason: &[u8]) -> u32
     ensures added { result ≡ 0 → Extends (CopyFail reason.now) stream.old stream.new }
     ensures phase { stream.old.is_open ≢ true → result ≡ 32 }
+    ensures why { result ≢ 0 → stream.old.is_open ≡ true → Why (CopyFail reason.now) (free stream.old) result }
     ensures kept { result ≢ 0 → Keeps stream.old stream.new }
 {
     let len = stream.len;
@@ -415,6 +436,7 @@ pub extern "C" fn pgp_stream_copy_fail(stream: &mut PgpStream<'_>, reason: &[u8]
 pub extern "C" fn pgp_stream_terminate(stream: &mut PgpStream<'_>) -> u32
     ensures added { result ≡ 0 → Extends Terminate stream.old stream.new }
     ensures phase { stream.old.is_open ≢ true → result ≡ 32 }
+    ensures why { result ≢ 0 → stream.old.is_open ≡ true → Why Terminate (free stream.old) result }
     ensures kept { result ≢ 0 → Keeps stream.old stream.new }
 {
     let len = stream.len;

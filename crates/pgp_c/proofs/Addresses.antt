@@ -1,0 +1,19 @@
+-- The addresses that bytes are.
+use Rattle.std.proofs.Common.{◌≡◌, ℕ, ◌*◌, ◌≤◌, List, length, refl, ap, ◌∙◌, sym, subst}
+use Rattle.std.specs.declared.net.ip_addr.IpAddr.{IpAddr}
+use Rattle.std.specs.declared.net.ip_addr.IpAddr.TheVariants.{V4, V6}
+use Rattle.std.specs.Net.Addr.{ipv6_segments, segments_of, octets_of, IsV6And}
+use Rattle.pgp_base.specs.Wire.{IsBytes}
+use Rattle.pgp_types.proofs.InetLemmas.{octets_of-segments_of, length-segments_of, segments_below}
+use Rattle.pgp_c.specs.Compound.{IsAddress, IsInetOf}
+
+pub is_v6 : (bytes : List ℕ) (addr : IpAddr) → length bytes ≡ 16 → IsBytes bytes → IsV6And addr (λ ip. ipv6_segments ip ≡ segments_of bytes) → IsAddress bytes addr
+is_v6 bytes (V4 ip) size each is = absurd is
+is_v6 bytes (V6 ip) size each is = record {
+  octets = ap octets_of is ∙ octets_of-segments_of 8 bytes size each;
+  valid = (ap length is ∙ length-segments_of 8 bytes size, λ k. rw is (segments_below bytes each k));
+  size = sym size;
+}
+
+pub inet_of : (bytes : List ℕ) (netmask : ℕ) (addr : IpAddr) → IsAddress bytes addr → netmask ≤ 8 * length bytes → IsInetOf bytes netmask (record { addr = addr; netmask = netmask })
+inet_of bytes netmask addr a few = record { is = (a.valid, subst (λ n. netmask ≤ 8 * n) (sym a.size) few); address = a.octets; same = refl }

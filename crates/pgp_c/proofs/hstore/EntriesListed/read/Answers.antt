@@ -1,0 +1,35 @@
+use Rattle.std.proofs.Common.{arith}
+use Rattle.pgp_base.proofs.Parts.{if_err_at}
+use Rattle.pgp_base.specs.Wire.{IsBytes}
+use Rattle.pgp_types.specs.Hstore.{Entry}
+use Rattle.pgp_types.specs.Part.{shown}
+use Rattle.pgp_types.proofs.HstoreLemmas.{entry_item}
+use Rattle.pgp_c.proofs.Compound.{entry_long, entry_placed}
+use Rattle.pgp_c.proofs.hstore.EntriesListed.read.Goals as goal
+
+pub returns-in_err-key-clause-refused : goal.returns-in_err-key-clause-refused
+returns-in_err-key-clause-refused c =
+    let each : IsBytes c.args.rest.now = λ i. omega (arith, c.type_inv.rest i) in
+    if_err_at _ _ _ c.from_residual.ensures.1 (entry_item.part.refused c.args.rest.now _ each c.in_err-key.ensures)
+
+pub overflow_add-key : goal.overflow_add-key
+overflow_add-key c =
+    let each : IsBytes c.args.rest.now = λ i. omega (arith, c.type_inv.rest i) in
+    omega (arith, c.requires, entry_long c.args.rest.now c.in_ok-key.more.now _ (entry_item.part.found c.args.rest.now _ c.in_ok-key.more.now each c.in_ok-key.ensures))
+
+pub overflow_sub-rest : goal.overflow_sub-rest
+overflow_sub-rest c =
+    let each : IsBytes c.args.rest.now = λ i. omega (arith, c.type_inv.rest i) in
+    omega (arith, entry_long c.args.rest.now c.in_ok-key.more.now _ (entry_item.part.found c.args.rest.now _ c.in_ok-key.more.now each c.in_ok-key.ensures))
+
+pub returns-clause-item : goal.returns-clause-item
+returns-clause-item c bytes from =
+    let each : IsBytes c.args.rest.now = λ i. omega (arith, c.type_inv.rest i) in
+    let x : Entry = (c.in_ok-key.key.now, shown c.in_ok-key.value) in
+    let b = entry_item.part.found c.args.rest.now x c.in_ok-key.more.now each c.in_ok-key.ensures in
+    entry_placed bytes c.args.rest.now c.in_ok-key.more.now x c.args.at _ from b c.column_before-value.ensures
+
+pub returns-clause-shorter : goal.returns-clause-shorter
+returns-clause-shorter c =
+    let each : IsBytes c.args.rest.now = λ i. omega (arith, c.type_inv.rest i) in
+    omega (arith, entry_long c.args.rest.now c.in_ok-key.more.now _ (entry_item.part.found c.args.rest.now _ c.in_ok-key.more.now each c.in_ok-key.ensures))

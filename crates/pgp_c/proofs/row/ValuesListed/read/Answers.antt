@@ -1,0 +1,23 @@
+use Rattle.std.proofs.Common.{rules, arith}
+use Rattle.pgp_base.proofs.Parts.{if_err_at}
+use Rattle.pgp_base.specs.Wire.{IsBytes}
+use Rattle.pgp_message.specs.ItemReading.{range_at}
+use Rattle.pgp_message.specs.Items.{RangeSpelled, RangeRefused}
+use Rattle.pgp_message.proofs.RangeLemmas.{range_reader}
+use Rattle.pgp_c.proofs.Listings.{reader_found, reader_shorter}
+use Rattle.pgp_c.proofs.row.ValuesListed.read.Goals as goal
+
+pub returns-in_err-range-clause-refused : goal.returns-in_err-range-clause-refused
+returns-in_err-range-clause-refused c =
+    let each : IsBytes c.args.rest.now = λ i. omega (arith, c.type_inv.rest i) in
+    if_err_at _ _ _ c.from_residual.ensures.1 (range_reader.refused c.args.at c.args.rest.now _ each c.in_err-range.ensures)
+
+pub returns-clause-item : goal.returns-clause-item
+returns-clause-item c bytes stands =
+    let each : IsBytes c.args.rest.now = λ i. omega (arith, c.type_inv.rest i) in
+    reader_found RangeSpelled RangeRefused range_at range_reader c.args.at c.args.rest.now c.in_ok-range.range _ c.in_ok-range.more.now each c.in_ok-range.ensures (search rules)
+
+pub returns-clause-shorter : goal.returns-clause-shorter
+returns-clause-shorter c =
+    let each : IsBytes c.args.rest.now = λ i. omega (arith, c.type_inv.rest i) in
+    reader_shorter RangeSpelled RangeRefused range_at range_reader c.args.at c.args.rest.now c.in_ok-range.range c.in_ok-range.more.now each c.in_ok-range.ensures

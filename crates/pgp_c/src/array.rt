@@ -1,0 +1,246 @@
+//! Arrays: their heads, and their dimensions and elements, read where they stand, one after another; and written.
+#![tactic(auto, using(pgp_base::proofs::Parts::held_steps))]
+
+ghost use Rattle.std.specs.Prelude.{◌≡◌, ◌≢◌, ◌⊎◌, ◌++◌, ◌≤◌, ◌<◌, length, Some, None, OnOk, IfErr};
+ghost use Rattle.std.specs.List.{list_all};
+ghost use Rattle.pgp_base.specs.Cause.{Wants, WantsMemory};
+ghost use Rattle.pgp_base.specs.Held.{◌⊕◌};
+ghost use Rattle.pgp_base.specs.PartReading.{Answers};
+ghost use Rattle.pgp_base.specs.declared.error.Error.TheVariants.{InvalidValueLength};
+ghost use Rattle.pgp_types.specs.Array.{IsArray, array};
+ghost use Rattle.pgp_types.specs.Part.{nullable};
+ghost use Rattle.pgp_c.specs.Compound.{IsArrayIn, dimension, value_in};
+ghost use Rattle.pgp_c.specs.PartPlaces.{dimension_at};
+ghost use Rattle.pgp_c.specs.Putting.{IsNoList, elements_cause, elements_of, flag_in, has_value, head_of, list_of};
+ghost use Rattle.pgp_c.specs.Values.{Lacks, Refuses, Wrote};
+ghost use Rattle.pgp_c.specs.Walks.{IsEnded, RefusesItem, Takes};
+
+use crate::cursor::{Listed, PgpCursor, next_counted};
+use crate::listing::PgpValue;
+use crate::part::{column_before, nullable_at, put_value};
+use crate::row::PgpColumn;
+use crate::status::{failed, refused, sent};
+use pgp_base::reading::int32_at;
+use pgp_base::{Buffer, Error, FallibleIterator, Window, length_field, put_u32};
+
+/// The head of an array, and where its dimensions and its elements stand.
+#[repr(C)]
+#[derive(Clone, Copy)]
+pub struct PgpArray {
+    pub dimensions: PgpCursor,
+    pub elements: PgpCursor,
+    pub element_type: u32,
+    /// What the flag says; a server sets it where an element is null.
+    pub has_nulls: bool,
+}
+
+/// A dimension of an array: how many elements it has, and the index of the first.
+#[repr(C)]
+#[derive(Clone, Copy)]
+pub struct PgpDimension {
+    pub len: i32,
+    pub lower_bound: i32,
+}
+
+/// Reads the head and the dimensions of an array. Its elements aren't looked at.
+#[unsafe(no_mangle)]
+pub extern "C" fn pgp_get_array(bytes: &[u8], value: &mut PgpArray) -> u32
+    ensures read { result ≡ 0 → IsArrayIn bytes.now value.new }
+    ensures refused { result ≢ 0 → Refuses array bytes.now result }
+    ensures left { result ≢ 0 → value.new ≡ value.old }
+{
+    match pgp_types::array_from_sql(bytes) {
+        Ok(array) => {
+            let count = array.dimensions().size_hint().0;
+            let behind = count.saturating_mul(8).saturating_add(12);
+            *value = PgpArray {
+                dimensions: PgpCursor {
+                    at: 12,
+                    end: behind,
+                    left: count,
+                },
+                elements: PgpCursor {
+                    at: behind,
+                    end: bytes.len(),
+                    left: array.values().size_hint().0,
+                },
+                element_type: array.element_type(),
+                has_nulls: array.has_nulls(),
+            };
+            0
+        }
+        Err(e) => failed(e),
+    }
+}
+
+/// The next dimension of an array.
+#[unsafe(no_mangle)]
+pub extern "C" fn pgp_dimension_next(
+    bytes: &[u8],
+    cursor: &mut PgpCursor,
+    item: &mut PgpDimension,
+) -> u32
+    ensures item { result ≡ 0 → Takes (λ place. dimension.Spelled) bytes.now cursor.old cursor.new (item.new.len, item.new.lower_bound) }
+    ensures done { result ≡ 101 → IsEnded bytes.now cursor.old }
+    ensures refused { result ≢ 0 → result ≢ 101 → RefusesItem dimension.Refused bytes.now cursor.old result }
+    ensures left { result ≢ 0 → (cursor.new ≡ cursor.old) × (item.new ≡ item.old) }
+{
+    next_counted::<Dimensions>(bytes, cursor, item)
+}
+
+/// The next element of an array.
+#[unsafe(no_mangle)]
+pub extern "C" fn pgp_element_next(
+    bytes: &[u8],
+    cursor: &mut PgpCursor,
+    item: &mut PgpColumn,
+) -> u32
+    ensures item { result ≡ 0 → Takes (λ place. (nullable InvalidValueLength).Spelled) bytes.now cursor.old cursor.new (value_in bytes.now item.new) }
+    ensures done { result ≡ 101 → IsEnded bytes.now cursor.old }
+    ensures refused { result ≢ 0 → result ≢ 101 → RefusesItem (nullable InvalidValueLength).Refused bytes.now cursor.old result }
+    ensures left { result ≢ 0 → (cursor.new ≡ cursor.old) × (item.new ≡ item.old) }
+{
+    next_counted::<Elements>(bytes, cursor, item)
+}
+
+/// The dimensions of an array.
+struct Dimensions;
+
+impl Listed for Dimensions {
+    ghost use Rattle.std.specs.Prelude.{ℤ};
+    ghost use Rattle.pgp_c.specs.Compound.{dimension};
+
+    type Item = PgpDimension;
+
+    ghost Meaning = { ℤ × ℤ };
+
+    ghost meaning = { λ bytes d. (d.len, d.lower_bound) };
+
+    ghost Spelled = { λ place. dimension.Spelled };
+
+    ghost Refused = { dimension.Refused };
+
+    fn read(_at: usize, rest: &[u8]) -> Result<(PgpDimension, &[u8]), Error> {
+        let (dimension, more) = dimension_at(rest)?;
+        Ok((dimension, more))
+    }
+}
+
+/// The elements of an array.
+struct Elements;
+
+impl Listed for Elements {
+    ghost use Rattle.std.specs.Prelude.{ℕ, List, Option};
+    ghost use Rattle.pgp_base.specs.declared.error.Error.TheVariants.{InvalidValueLength};
+    ghost use Rattle.pgp_types.specs.Part.{nullable};
+    ghost use Rattle.pgp_c.specs.Compound.{value_in};
+
+    type Item = PgpColumn;
+
+    ghost Meaning = { Option (List ℕ) };
+
+    ghost meaning = { λ bytes c. value_in bytes c };
+
+    ghost Spelled = { λ place. (nullable InvalidValueLength).Spelled };
+
+    ghost Refused = { (nullable InvalidValueLength).Refused };
+
+    fn read(at: usize, rest: &[u8]) -> Result<(PgpColumn, &[u8]), Error> {
+        let (value, more) = nullable_at(rest, Error::InvalidValueLength)?;
+        let column = column_before(value, at + (rest.len() - more.len()));
+        Ok((column, more))
+    }
+}
+
+/// The dimension at the front.
+fn dimension_at(bytes: &[u8]) -> Result<(PgpDimension, &[u8]), Error>
+    ensures { Answers (λ x. ((x.0.len, x.0.lower_bound), x.1.now)) result (dimension_at bytes.now) }
+{
+    let (len, rest) = int32_at(bytes)?;
+    let (lower_bound, rest) = int32_at(rest)?;
+    Ok((PgpDimension { len, lower_bound }, rest))
+}
+
+/// Writes an array of one dimension, whose index begins at 1.
+#[unsafe(no_mangle)]
+pub extern "C" fn pgp_put_array(
+    element_type: u32,
+    elements: &[PgpValue<'_>],
+    out: &mut [u8],
+    written: &mut usize,
+) -> u32
+    ensures wrote { result ≡ 0 → IsArray (list_of element_type elements.now) × Wrote (array.written (list_of element_type elements.now)) out.old out.new written.new }
+    ensures refused { result ≢ 0 → (written.new ≡ 0) × (IsNoList element_type elements.now result ⊎ Lacks (array.written (list_of element_type elements.now)) out.old written.new result) }
+{
+    let mut window = Window::new(out);
+    match put_list(element_type, elements, &mut window) {
+        Ok(()) => sent(&window, written),
+        Err(e) => refused(e, written),
+    }
+}
+
+/// The head, and the elements.
+fn put_list<B: Buffer>(
+    element_type: u32,
+    elements: &[PgpValue<'_>],
+    buf: &mut B,
+) -> Result<(), Error>
+    ensures ok { OnOk result ((length elements.now ≤ 2147483647) × (elements_cause elements.now ≡ None)
+        × (B.held buf.new ≡ B.held buf.old ⊕ (head_of element_type elements.now ++ elements_of elements.now))) }
+    ensures cause { IfErr result (λ e. WantsMemory (Wants B.Lacks (B.held buf.old) (length (head_of element_type elements.now ++ elements_of elements.now))) e
+        ⊎ ((e ≡ Error.TooLarge) × ((2147483647 < length elements.now) ⊎ (elements_cause elements.now ≡ Some e)))) }
+{
+    put_list_head(element_type, elements, buf)?;
+    put_elements(elements, buf)?;
+    Ok(())
+}
+
+/// How many dimensions there are, whether an element is null, the type, and the dimension.
+fn put_list_head<B: Buffer>(
+    element_type: u32,
+    elements: &[PgpValue<'_>],
+    buf: &mut B,
+) -> Result<(), Error>
+    ensures ok { OnOk result ((length elements.now ≤ 2147483647) × (B.held buf.new ≡ B.held buf.old ⊕ head_of element_type elements.now)) }
+    ensures cause { IfErr result (λ e. WantsMemory (Wants B.Lacks (B.held buf.old) 20) e ⊎ ((e ≡ Error.TooLarge) × (2147483647 < length elements.now))) }
+{
+    let count = length_field(elements.len())?;
+    put_u32(buf, 1)?;
+    put_u32(buf, flag(elements))?;
+    put_u32(buf, element_type)?;
+    put_u32(buf, count)?;
+    put_u32(buf, 1)?;
+    Ok(())
+}
+
+/// The elements, one after another.
+fn put_elements<B: Buffer>(elements: &[PgpValue<'_>], buf: &mut B) -> Result<(), Error>
+    ensures ok { OnOk result ((elements_cause elements.now ≡ None) × (B.held buf.new ≡ B.held buf.old ⊕ elements_of elements.now)) }
+    ensures cause { IfErr result (λ e. WantsMemory (Wants B.Lacks (B.held buf.old) (length (elements_of elements.now))) e ⊎ (elements_cause elements.now ≡ Some e)) }
+{
+    for value in elements {
+        put_value(value, buf)?;
+    }
+    Ok(())
+}
+
+/// Whether an element is null, as a number.
+fn flag(elements: &[PgpValue<'_>]) -> u32
+    ensures { result ≡ flag_in elements.now }
+{
+    if are_values(elements) { 0 } else { 1 }
+}
+
+/// No element is null.
+fn are_values(elements: &[PgpValue<'_>]) -> bool
+    ensures { result ≡ list_all has_value elements.now }
+{
+    elements.iter().all(|value| has_value(value))
+}
+
+/// The value is no null.
+fn has_value(value: &PgpValue<'_>) -> bool
+    ensures { result ≡ has_value value.now }
+{
+    !value.is_null
+}

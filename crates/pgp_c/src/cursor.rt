@@ -1,0 +1,112 @@
+//! Walks over lists that stand in the caller's bytes, by a cursor that the caller holds.
+
+ghost use Rattle.std.specs.Prelude.{◌≡◌, ◌≢◌, ◌+◌, ◌<◌, ◌^◌, ℕ, List, length, IfOk, IfErr};
+ghost use Rattle.pgp_base.specs.Grammar.{StandsAt};
+ghost use Rattle.pgp_base.specs.declared.error.Error.{Error as Refusal};
+ghost use Rattle.pgp_c.specs.Walks.{IsEnded, IsMarkedEnd, RefusesItem, RefusesMarked, StandsFrom, Takes, TakesMarked, rest_of};
+
+use crate::status::failed;
+use pgp_base::Error;
+use pgp_base::reading::is_marked;
+
+/// The answer at the end of a walk.
+const DONE: u32 = 101;
+
+/// How far a walk is: the place of the next item, the place behind the last, and how many items are to come.
+#[repr(C)]
+#[derive(Clone, Copy)]
+pub struct PgpCursor {
+    pub at: usize,
+    pub end: usize,
+    pub left: usize,
+}
+
+/// A kind of lists.
+pub trait Listed {
+    /// An item, by its places among the caller's bytes.
+    type Item: Copy;
+
+    ghost Meaning: { Type 0 };
+
+    /// What an item of these bytes says.
+    ghost meaning: { List ℕ → Self.Item → Meaning };
+
+    ghost Spelled: { ℕ → Meaning → List ℕ → Type 0 };
+
+    ghost Refused: { List ℕ → Refusal → Type 0 };
+
+    /// The item at the front of what is left, which begins at this place, and what stands behind it.
+    ///
+    /// # Errors
+    ///
+    /// Why no item stands there.
+    fn read(at: usize, rest: &[u8]) -> Result<(Self::Item, &[u8]), Error>
+        requires { at + length rest.now < 2 ^ 64 }
+        ensures item { IfOk result (λ x. (bytes : List ℕ) → StandsFrom bytes at rest.now → StandsAt Spelled at rest.now (meaning bytes x.0) x.1.now) }
+        ensures shorter { IfOk result (λ x. length x.1.now < length rest.now) }
+        ensures refused { IfErr result (λ e. Refused rest.now e) };
+}
+
+/// The next item of a list whose items are counted.
+pub fn next_counted<L: Listed>(bytes: &[u8], cursor: &mut PgpCursor, item: &mut L::Item) -> u32
+    ensures item { result ≡ 0 → Takes L.Spelled bytes.now cursor.old cursor.new (L.meaning bytes.now item.new) }
+    ensures done { result ≡ 101 → IsEnded bytes.now cursor.old }
+    ensures refused { result ≢ 0 → result ≢ 101 → RefusesItem L.Refused bytes.now cursor.old result }
+    ensures left { result ≢ 0 → (cursor.new ≡ cursor.old) × (item.new ≡ item.old) }
+{
+    let at = cursor.at;
+    let rest = rest_of(bytes, at, cursor.end);
+    if cursor.left == 0 {
+        if rest.is_empty() {
+            return DONE;
+        }
+        return failed(Error::NotDrained);
+    }
+    match L::read(at, rest) {
+        Ok((read, more)) => {
+            cursor.at = at + (rest.len() - more.len());
+            cursor.left -= 1;
+            *item = read;
+            0
+        }
+        Err(e) => failed(e),
+    }
+}
+
+/// The next item of a list that a byte 0 ends.
+pub fn next_marked<L: Listed>(bytes: &[u8], cursor: &mut PgpCursor, item: &mut L::Item) -> u32
+    ensures item { result ≡ 0 → TakesMarked L.Spelled bytes.now cursor.old cursor.new (L.meaning bytes.now item.new) }
+    ensures done { result ≡ 101 → IsMarkedEnd bytes.now cursor.old }
+    ensures refused { result ≢ 0 → result ≢ 101 → RefusesMarked L.Refused bytes.now cursor.old result }
+    ensures left { result ≢ 0 → (cursor.new ≡ cursor.old) × (item.new ≡ item.old) }
+{
+    let at = cursor.at;
+    let rest = rest_of(bytes, at, cursor.end);
+    if is_marked(rest) {
+        if rest.len() == 1 {
+            return DONE;
+        }
+        return failed(Error::NotDrained);
+    }
+    match L::read(at, rest) {
+        Ok((read, more)) => {
+            cursor.at = at + (rest.len() - more.len());
+            *item = read;
+            0
+        }
+        Err(e) => failed(e),
+    }
+}
+
+/// The bytes from a place up to another; none where they aren't places of the bytes, in this order.
+fn rest_of(bytes: &[u8], at: usize, end: usize) -> &[u8]
+    ensures value { result.now ≡ rest_of bytes.now at end }
+    ensures fits { at + length result.now < 2 ^ 64 }
+{
+    if end <= bytes.len() {
+        if at <= end {
+            return &bytes[at..end];
+        }
+    }
+    &[]
+}

@@ -1,0 +1,84 @@
+//! A length and so many bytes: read from the left, by their places, and written.
+#![tactic(auto, using(pgp_base::proofs::Parts::held_steps))]
+
+ghost use Rattle.std.specs.Prelude.{◌≡◌, ◌⊎◌, length, Some, None, OnOk, IfErr};
+ghost use Rattle.pgp_base.specs.Cause.{Wants, WantsMemory, nullable_cause};
+ghost use Rattle.pgp_base.specs.Held.{◌⊕◌};
+ghost use Rattle.pgp_base.specs.Wire.{nullable};
+ghost use Rattle.pgp_c.specs.Lists.{value_of};
+ghost use Rattle.pgp_base.specs.PartReading.{Answers};
+ghost use Rattle.pgp_types.specs.PartReading.{nullable_at, sized_at};
+ghost use Rattle.pgp_types.specs.Part.{shown};
+ghost use Rattle.pgp_c.specs.PartPlaces.{column_before};
+
+use crate::listing::PgpValue;
+use crate::row::PgpColumn;
+use pgp_base::reading::int32_at;
+use pgp_base::{Buffer, Error, length_field, put_u32};
+
+/// The length of a null.
+const NULL: u32 = 0xffff_ffff;
+
+/// A value behind its length, or a null; refused where the length passes the end.
+#[tactic(auto, unfolding(pgp_types::specs::PartReading::nullable_at))]
+pub fn nullable_at(bytes: &[u8], past_end: Error) -> Result<(Option<&[u8]>, &[u8]), Error>
+    ensures { Answers (λ x. (shown x.0, x.1.now)) result (nullable_at past_end bytes.now) }
+{
+    let (len, rest) = int32_at(bytes)?;
+    let Ok(len) = usize::try_from(len) else {
+        return Ok((None, rest));
+    };
+    if rest.len() < len {
+        return Err(past_end);
+    }
+    let (value, rest) = rest.split_at(len);
+    Ok((Some(value), rest))
+}
+
+/// A length, and so many bytes; refused where the length is negative or passes the end.
+#[tactic(auto, unfolding(pgp_types::specs::PartReading::sized_at, pgp_types::specs::PartReading::natural_at))]
+pub fn sized_at(bytes: &[u8], wrong: Error) -> Result<(&[u8], &[u8]), Error>
+    ensures { Answers (λ x. (x.0.now, x.1.now)) result (sized_at wrong bytes.now) }
+{
+    let (len, rest) = int32_at(bytes)?;
+    let Ok(len) = usize::try_from(len) else {
+        return Err(wrong);
+    };
+    if rest.len() < len {
+        return Err(wrong);
+    }
+    Ok(rest.split_at(len))
+}
+
+/// The place of a value that ends at this place.
+pub fn column_before(value: Option<&[u8]>, end: usize) -> PgpColumn
+    ensures { result ≡ column_before (shown value.entry) end }
+{
+    match value {
+        Some(value) => PgpColumn {
+            start: end.saturating_sub(value.len()),
+            end,
+            is_null: false,
+        },
+        None => PgpColumn {
+            start: 0,
+            end: 0,
+            is_null: true,
+        },
+    }
+}
+
+/// Appends a value behind its length, or a null.
+#[tactic(auto, using(pgp_base::proofs::Parts::null_spelled, pgp_base::proofs::Parts::held_steps))]
+pub fn put_value<B: Buffer>(value: &PgpValue<'_>, buf: &mut B) -> Result<(), Error>
+    ensures ok { OnOk result ((nullable_cause (value_of value.now) ≡ None) × (B.held buf.new ≡ B.held buf.old ⊕ nullable (value_of value.now))) }
+    ensures cause { IfErr result (λ e. WantsMemory (Wants B.Lacks (B.held buf.old) (length (nullable (value_of value.now)))) e ⊎ (nullable_cause (value_of value.now) ≡ Some e)) }
+{
+    if value.is_null {
+        put_u32(buf, NULL)?;
+        return Ok(());
+    }
+    put_u32(buf, length_field(value.bytes.len())?)?;
+    buf.append(value.bytes)?;
+    Ok(())
+}
