@@ -4,4 +4,6 @@
 #[cfg(test)]
 mod checks;
 #[cfg(test)]
+mod sides;
+#[cfg(test)]
 mod uses;

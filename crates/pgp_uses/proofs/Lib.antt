@@ -1,5 +1,6 @@
 pub mod Asking
 pub mod Bound
+pub mod Counted
 pub mod Descriptions
 pub mod Elements
 pub mod Known

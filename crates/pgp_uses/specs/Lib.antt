@@ -4,6 +4,7 @@ pub mod Client
 pub mod Columns
 pub mod Filter
 pub mod Login
+pub mod Pooler
 pub mod Proxy
 pub mod Reading
 pub mod Recorder

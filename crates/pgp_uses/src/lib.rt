@@ -6,6 +6,7 @@ pub mod client;
 pub mod columns;
 pub mod filter;
 pub mod login;
+pub mod pooler;
 pub mod proxy;
 pub mod reading;
 pub mod recorder;

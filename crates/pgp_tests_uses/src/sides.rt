@@ -1,0 +1,108 @@
+//! A proxy and a pooler, on bytes of the message formats of the PostgreSQL manual.
+#![tactic(auto, using(pgp_base::proofs::Parts::held_steps))]
+
+use crate::checks::{holds, same};
+use bytes::BytesMut;
+use pgp_base::Window;
+use pgp_uses::pooler::Session;
+use pgp_uses::proxy::{Passed, ProxyError, pass_on};
+use postgres_protocol::message::backend::Messages;
+use postgres_protocol::message::client::{ClientMessages, PasswordKind};
+use std::test::Fail;
+
+/// A Query that is held back, a Parse that isn't, and the first bytes of a Sync.
+const SENT: &[u8; 42] = b"Q\0\0\0\x11DROP TABLE t\0P\0\0\0\x12\0DROP TABLE\0\0\0S\0\0\0\x04";
+
+/// What is held back.
+const REFUSED: [&[u8]; 2] = [b"SELECT", b"DROP TABLE t"];
+
+#[test]
+fn a_refused_statement_is_held_back(rt: HostRuntime) -> Result<(), Fail> {
+    let mut from = ClientMessages::resume(&SENT[..41], true);
+    let mut to = BytesMut::new(rt.alloc());
+    let kind = PasswordKind::Password;
+    same(
+        &rt,
+        pass_on(&REFUSED, kind, &mut from, &mut to),
+        Ok(Some(Passed::HeldBack)),
+    );
+    holds(&rt, to.is_empty());
+    same(
+        &rt,
+        pass_on(&REFUSED, kind, &mut from, &mut to),
+        Ok(Some(Passed::Forwarded)),
+    );
+    same(
+        &rt,
+        to.as_slice(),
+        b"P\0\0\0\x12\0DROP TABLE\0\0\0".as_slice(),
+    );
+    same(&rt, pass_on(&REFUSED, kind, &mut from, &mut to), Ok(None));
+    same(&rt, from.rest(), b"S\0\0\0".as_slice());
+    Ok(())
+}
+
+/// There is room for no message: it is still to be read then, and is passed on once there is.
+#[test]
+fn a_message_without_room_is_read_again(rt: HostRuntime) -> Result<(), Fail> {
+    let mut from = ClientMessages::resume(&SENT[37..], true);
+    let kind = PasswordKind::Password;
+    let mut short = [0u8; 4];
+    let mut room = [0u8; 5];
+    same(
+        &rt,
+        pass_on(&REFUSED, kind, &mut from, &mut Window::new(&mut short)),
+        Err(ProxyError::OutOfMemory),
+    );
+    same(
+        &rt,
+        pass_on(&REFUSED, kind, &mut from, &mut Window::new(&mut room)),
+        Ok(Some(Passed::Forwarded)),
+    );
+    same(&rt, room.as_slice(), b"S\0\0\0\x04".as_slice());
+    Ok(())
+}
+
+/// A startup packet, a Query, and a Parse that awaits nothing before the Sync behind it.
+const CLIENT: &[u8; 40] =
+    b"\0\0\0\x09\0\x03\0\0\0Q\0\0\0\x0aBEGIN\0P\0\0\0\x09\0\x31\0\0\0S\0\0\0\x04X\0\0\0\x04";
+
+/// Three times that the server is ready: idle, in a transaction, idle.
+const SERVER: &[u8; 18] = b"Z\0\0\0\x05IZ\0\0\0\x05TZ\0\0\0\x05I";
+
+/// The session takes note of the client's next message.
+fn sent(session: &mut Session, from: &mut ClientMessages<'_>) {
+    if let Ok(Some(message)) = from.next(PasswordKind::Password) {
+        session.sent(&message);
+    }
+}
+
+/// The session takes note of the server's next message.
+fn came(session: &mut Session, from: &mut Messages<'_>) {
+    if let Ok(Some(message)) = from.next() {
+        session.came(&message);
+    }
+}
+
+#[test]
+fn a_session_is_idle_where_all_is_answered(rt: HostRuntime) -> Result<(), Fail> {
+    let mut client = ClientMessages::new(CLIENT);
+    let mut server = Messages::new(SERVER);
+    let mut session = Session::new();
+    holds(&rt, !session.is_idle(b"", b""));
+    sent(&mut session, &mut client);
+    came(&mut session, &mut server);
+    holds(&rt, session.is_idle(b"", b""));
+    holds(&rt, !session.is_idle(b"Q", b""));
+    holds(&rt, !session.is_idle(b"", b"Z\0"));
+    sent(&mut session, &mut client);
+    holds(&rt, !session.is_idle(b"", b""));
+    came(&mut session, &mut server);
+    holds(&rt, !session.is_idle(b"", b""));
+    sent(&mut session, &mut client);
+    sent(&mut session, &mut client);
+    holds(&rt, !session.is_idle(b"", b""));
+    came(&mut session, &mut server);
+    holds(&rt, session.is_idle(b"", b""));
+    Ok(())
+}

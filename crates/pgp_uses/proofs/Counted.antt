@@ -1,0 +1,86 @@
+-- Counts of what both sides of a session sent.
+use Rattle.std.proofs.Common.{◌≡◌, ℕ, ◌+◌, ◌<◌, ◌≤◌, Bool, true, false, List, [], ◌∷◌, ◌++◌, Option, Some, None, refl, sym, ap, ◌∙◌, arith, inl, inr}
+use Rattle.std.specs.Prelude.{if◌then◌else◌}
+use Rattle.std.proofs.lemmas.Bool.{cases_lt}
+use Rattle.pgp_frontend.specs.ClientMessage.{ClientMessage}
+use Rattle.pgp_message.specs.BackendMessage.{Message}
+use Rattle.pgp_uses.specs.Pooler.{awaits, asks, status, some_one, readies, newer, last_status, IsIdle, IsCount, Saw, IsQuiet}
+use Rattle.pgp_uses.specs.declared.pooler.Session.{Session}
+
+asks_more : (sent : List ClientMessage) (m : ClientMessage) → asks (sent ++ m ∷ []) ≡ asks sent + (if awaits m then 1 else 0)
+asks_more [] m = omega arith
+asks_more (n ∷ sent) m = omega (arith, asks_more sent m)
+
+readies_more : (came : List Message) (m : Message) → readies (came ++ m ∷ []) ≡ readies came + some_one (status m)
+readies_more [] m = omega arith
+readies_more (n ∷ came) m = omega (arith, readies_more came m)
+
+status_more : (before : Option ℕ) (came : List Message) (m : Message) → last_status before (came ++ m ∷ []) ≡ newer (last_status before came) (status m)
+status_more before [] m = refl
+status_more before (n ∷ came) m = status_more (newer before (status n)) came m
+
+-- one more, as far as a `u64` has it
+pub record IsNext (n k : ℕ) : Type 0 where
+  pub below : n < 18446744073709551615 → k ≡ n + 1
+  pub full : 18446744073709551615 ≤ n → k ≡ 18446744073709551615
+
+one_more : (n k count more : ℕ) → IsCount n count → more ≡ count + 1 → IsNext n k → IsCount k more
+one_more n k count more (inl is) grown next =
+    let one : k ≡ n + 1 = next.below (omega (arith, is.0, is.1)) in
+    elim (cases_lt more 18446744073709551615) [
+      | inl fits ↦ inl (omega (arith, is.0, grown, one), fits)
+      | inr full ↦ inr (omega (arith, is.0, is.1, grown, one, full), full)
+    ]
+one_more n k count more (inr is) grown next = inr (next.full (omega (arith, is.0)), omega (arith, is.1, grown))
+
+same_count : (n count more : ℕ) → IsCount n count → more ≡ count → IsCount n more
+same_count n count more h e = rw e h
+
+module _ (sent : List ClientMessage) (came : List Message) (session : Session) (saw : Saw sent came session) where
+  pub saw_asked : (m : ClientMessage) (k : ℕ) → awaits m ≡ true → IsNext session.asked k → Saw (sent ++ m ∷ []) came (record { asked = k; readied = session.readied; status = session.status })
+  saw_asked m k awaited next =
+      let more : asks (sent ++ m ∷ []) ≡ asks sent + 1 = asks_more sent m ∙ ap (λ (b : Bool). asks sent + (if b then 1 else 0)) awaited in
+      record { asked = one_more session.asked k (asks sent) (asks (sent ++ m ∷ [])) saw.asked more next; readied = saw.readied; status = saw.status }
+
+  pub saw_sent : (m : ClientMessage) → awaits m ≡ false → Saw (sent ++ m ∷ []) came session
+  saw_sent m other =
+      let same : asks (sent ++ m ∷ []) ≡ asks sent + 0 = asks_more sent m ∙ ap (λ (b : Bool). asks sent + (if b then 1 else 0)) other in
+      record { asked = same_count session.asked (asks sent) (asks (sent ++ m ∷ [])) saw.asked (omega (arith, same)); readied = saw.readied; status = saw.status }
+
+  pub saw_ready : (m : Message) (k s : ℕ) → status m ≡ Some s → IsNext session.readied k → Saw sent (came ++ m ∷ []) (record { asked = session.asked; readied = k; status = Some s })
+  saw_ready m k s tells next =
+      let more : readies (came ++ m ∷ []) ≡ readies came + 1 = readies_more came m ∙ ap (λ (o : Option ℕ). readies came + some_one o) tells in
+      record {
+        asked = saw.asked;
+        readied = one_more session.readied k (readies came) (readies (came ++ m ∷ [])) saw.readied more next;
+        status = sym (status_more None came m ∙ ap (newer (last_status None came)) tells);
+      }
+
+  pub saw_came : (m : Message) → status m ≡ None → Saw sent (came ++ m ∷ []) session
+  saw_came m other =
+      let same : readies (came ++ m ∷ []) ≡ readies came + 0 = readies_more came m ∙ ap (λ (o : Option ℕ). readies came + some_one o) other in
+      record {
+        asked = saw.asked;
+        readied = same_count session.readied (readies came) (readies (came ++ m ∷ [])) saw.readied (omega (arith, same));
+        status = saw.status ∙ sym (status_more None came m ∙ ap (newer (last_status None came)) other);
+      }
+
+is_count : (n count : ℕ) → IsCount n count → n < 18446744073709551615 → n ≡ count
+is_count n count (inl is) low = is.0
+is_count n count (inr is) low = absurd (omega (arith, is.0, low))
+
+has_count : (n count : ℕ) → IsCount n count → count < 18446744073709551615 → n ≡ count
+has_count n count (inl is) low = is.0
+has_count n count (inr is) low = absurd (omega (arith, is.1, low))
+
+pub quiet_is_idle : (sent : List ClientMessage) (came : List Message) (session : Session) (client server : List ℕ) → Saw sent came session → IsQuiet session client server → IsIdle sent came
+quiet_is_idle sent came session client server saw quiet =
+    let asked = is_count session.asked (asks sent) saw.asked quiet.counted in
+    let readied = is_count session.readied (readies came) saw.readied (omega (arith, quiet.counted, quiet.answered)) in
+    record { answered = omega (arith, asked, readied, quiet.answered); idle = sym saw.status ∙ quiet.idle }
+
+pub idle_is_quiet : (sent : List ClientMessage) (came : List Message) (session : Session) → Saw sent came session → IsIdle sent came → asks sent < 18446744073709551615 → IsQuiet session [] []
+idle_is_quiet sent came session saw idle low =
+    let asked = has_count session.asked (asks sent) saw.asked low in
+    let readied = has_count session.readied (readies came) saw.readied (omega (arith, idle.answered, low)) in
+    record { counted = omega (arith, asked, low); answered = omega (arith, asked, readied, idle.answered); idle = saw.status ∙ idle.idle; client_done = refl; server_done = refl }

@@ -1,0 +1,97 @@
+//! A pooler's core: it is handed the messages of both sides, and tells where a session is idle, so that the server's
+//! connection can be lent to another client.
+
+ghost use Rattle.std.specs.Prelude.{◌≡◌, ◌<◌, ◌∷◌, ◌++◌, [], None, List, ℕ};
+ghost use Rattle.std.specs.Bool.{Decides};
+ghost use Rattle.pgp_frontend.specs.ClientMessage.{ClientMessage as Sent};
+ghost use Rattle.pgp_message.specs.BackendMessage.{Message as Came};
+ghost use Rattle.pgp_message.specs.Views.{view as came_view};
+ghost use Rattle.pgp_server.specs.Views.{view as sent_view};
+ghost use Rattle.pgp_uses.specs.Pooler.{IsIdle, IsQuiet, Saw, asks, awaits, readies, status};
+ghost use Rattle.pgp_uses.specs.declared.pooler.Session.{Session as Known};
+
+use pgp_message::Storage;
+use postgres_protocol::message::backend::Message;
+use postgres_protocol::message::client::ClientMessage;
+
+/// What is known of a session. A startup packet, a Query and a Sync are each answered by one ReadyForQuery in the end.
+#[derive(Debug, Clone, Copy, PartialEq, Eq)]
+pub struct Session {
+    /// How many of those came from the client, or the greatest `u64` where there were more.
+    pub asked: u64,
+    /// How many ReadyForQuerys came from the server, or the greatest `u64`.
+    pub readied: u64,
+    /// The status that the last of them told: `I` where no transaction is open.
+    pub status: Option<u8>,
+}
+
+impl Session {
+    /// A session in which nothing was sent.
+    pub fn new() -> Session
+        ensures { Saw [] [] result }
+    {
+        Session {
+            asked: 0,
+            readied: 0,
+            status: None,
+        }
+    }
+
+    /// Takes note of a message that the client sent.
+    pub fn sent(&mut self, message: &ClientMessage<'_>)
+        ensures { (sent : List Sent) (came : List Came) → Saw sent came self.old → Saw (sent ++ sent_view message.now ∷ []) came self.new }
+    {
+        if awaits(message) {
+            self.asked = self.asked.saturating_add(1);
+        }
+    }
+
+    /// Takes note of a message that the server sent.
+    pub fn came<S: Storage>(&mut self, message: &Message<S>)
+        ensures { (sent : List Sent) (came : List Came) → Saw sent came self.old → Saw sent (came ++ came_view message.now ∷ []) self.new }
+    {
+        if let Some(status) = status(message) {
+            self.readied = self.readied.saturating_add(1);
+            self.status = Some(status);
+        }
+    }
+
+    /// Whether the session is idle behind the bytes that came: nothing of a message that isn't whole waits on the client's side nor on
+    /// the server's, every message that awaits a ReadyForQuery has it, and the last of these told `I`.
+    pub fn is_idle(&self, client: &[u8], server: &[u8]) -> bool
+        ensures { Decides result (IsQuiet self.now client.now server.now) }
+    {
+        client.is_empty()
+            && server.is_empty()
+            && self.asked < u64::MAX
+            && self.asked == self.readied
+            && self.status == Some(b'I')
+    }
+}
+
+/// What is told of a session that saw these messages is so: all that the client sent is answered, and no transaction is open. Where
+/// the counts fit a `u64`, it is told exactly then.
+pub fn idle_by_messages()
+    ensures told { (sent : List Sent) (came : List Came) (session : Known) (client server : List ℕ) → Saw sent came session → IsQuiet session client server → IsIdle sent came }
+    ensures known { (sent : List Sent) (came : List Came) (session : Known) → Saw sent came session → IsIdle sent came → asks sent < 18446744073709551615 → IsQuiet session [] [] }
+{}
+
+/// Whether the server says in the end that it is ready.
+fn awaits(message: &ClientMessage<'_>) -> bool
+    ensures { result ≡ awaits (sent_view message.now) }
+{
+    match message {
+        ClientMessage::Startup { .. } | ClientMessage::Query(_) | ClientMessage::Sync => true,
+        _ => false,
+    }
+}
+
+/// The status that a ReadyForQuery tells.
+fn status<S: Storage>(message: &Message<S>) -> Option<u8>
+    ensures { result ≡ status (came_view message.now) }
+{
+    match message {
+        Message::ReadyForQuery(body) => Some(body.status()),
+        _ => None,
+    }
+}
