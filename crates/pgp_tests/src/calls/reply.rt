@@ -2,7 +2,7 @@
 //! bytes are from the message formats of the PostgreSQL manual.
 #![tactic(auto, using(pgp_base::proofs::Parts::held_steps))]
 
-use crate::checks::same;
+use crate::checks::{holds, same};
 use bytes::BytesMut;
 use pgp_base::Error;
 use pgp_reply::{
@@ -37,7 +37,7 @@ fn a_row_of_too_many_values_is_refused(rt: HostRuntime) -> Result<(), Fail> {
     data_row(&values[1..], &mut buf)?;
     same(&rt, buf.len(), 6 + 7 + 4 * 65_535);
     let front = b"Z\0\0\0\x05ID\0\x04\0\x02\xff\xff".as_slice();
-    same(&rt, &buf.as_slice()[..13], front);
+    holds(&rt, buf.as_slice().starts_with(front));
     Ok(())
 }
 
@@ -56,7 +56,7 @@ fn too_many_columns_are_refused(rt: HostRuntime) -> Result<(), Fail> {
     row_description(&columns[1..], &mut buf)?;
     same(&rt, buf.len(), 6 + 7 + 19 * 65_535);
     let front = b"Z\0\0\0\x05IT\0\x12\xff\xf3\xff\xff".as_slice();
-    same(&rt, &buf.as_slice()[..13], front);
+    holds(&rt, buf.as_slice().starts_with(front));
     Ok(())
 }
 
