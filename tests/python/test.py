@@ -54,6 +54,30 @@ def writers():
     refused('a short key', 'InvalidSize', lambda: pg.cancel_request(1, b'abc'))
 
 
+def streams():
+    """Each message by itself is what the stream holds of it, at every room: the bytes of `writers`."""
+    user, key, values = [(b'user', b'alice')], b'\0\0\0\2', [b'\0\0\0\5', None]
+    opened = [('password_message', b'x'), ('sasl_initial_response', b'SCRAM-SHA-256', b'n,,'), ('sasl_response', b'c'), ('query', b'SELECT 1'),
+              ('parse', b'', b'SELECT 1', [23]), ('bind', b'', b's', [1], values, [1]), ('describe', 'S', b's'), ('execute', b'', 7), ('close', 'P', b''),
+              ('flush',), ('sync',), ('copy_data_head', 6), ('copy_done',), ('copy_fail', b'no'), ('terminate',)]
+    for room in (0, 1, 7, 8192):
+        stream = pg.Stream(room)
+        for name, *arguments in opened:
+            refused(name + ' before the startup packet', 'WrongPhase', lambda: getattr(stream, name)(*arguments))
+        stream.ssl_request()
+        stream.cancel_request(1, key)
+        same('opening', (stream.is_open, stream.drain()), (False, pg.ssl_request() + pg.cancel_request(1, key)))
+        refused('a name that is empty', 'EmptyName', lambda: stream.startup([(b'', b'x')]))
+        stream.startup(user, pg.VERSION_3_2)
+        same('open', (stream.is_open, stream.drain()), (True, pg.startup(user, pg.VERSION_3_2)))
+        refused('startup again', 'WrongPhase', lambda: stream.startup(user))
+        for name, *arguments in opened:
+            getattr(stream, name)(*arguments)
+        refused('a 0 byte', 'EmbeddedNull', lambda: stream.query(b'a\0b'))
+        same('all of it', stream.drain(), b''.join(getattr(pg, name)(*arguments) for name, *arguments in opened))
+        same('nothing more', stream.drain(), b'')
+
+
 def readers():
     stream = b'D\0\0\0\x13\0\3\0\0\0\1a\xff\xff\xff\xff\0\0\0\0' + b'Z\0\0\0\5I' + b'S\0\0\0\x11TimeZone\0UTC\0' + b'Z\0\0'
     row, ready, setting = pg.messages(stream)
@@ -114,6 +138,8 @@ def compounds():
     refused('array, cut', 'InvalidValueLength', lambda: pg.get_array(ints[:-1]), 32)
     refused('array, negative', 'InvalidCount', lambda: pg.get_array(b'\xff\xff\xff\xff'))
     same('hstore', pg.get_hstore(b'\0\0\0\2\0\0\0\4hola\xff\xff\xff\xff\0\0\0\5hello\0\0\0\5world'), {'hola': None, 'hello': 'world'})
+    same('put hstore', pg.put_hstore({'hola': None, 'hello': 'world'}), b'\0\0\0\2\0\0\0\4hola\xff\xff\xff\xff\0\0\0\5hello\0\0\0\5world')
+    same('put hstore of nothing', pg.put_hstore({}), b'\0\0\0\0')
 
 
 def values():
@@ -133,11 +159,14 @@ def auth():
     first = b'r=9IZ2O01zb9IgiIZ1WJ/zgpJBjx/oIRLs02gGSHcw1KEty3eY,s=fs3IXBy7U7+IvVjZ,i=4096'
     scram = pg.Scram(b'foobar', nonce=nonce)
     same('scram first', scram.first(), b'n,,n=,r=' + nonce)
+    refused('no answer yet', 'ScramWrongState', lambda: scram.verify(b'v='))
     same('scram final', scram.final(first), b'c=biws,r=9IZ2O01zb9IgiIZ1WJ/zgpJBjx/oIRLs02gGSHcw1KEty3eY,p=AmNKosjJzS31NTlQYNs5BTeQjdHdk7lOflDo5re2an8=')
     same('scram verify', scram.verify(b'v=U+ppxD5XUKtradnv8e2MkeupiA8FU87Sg8CXzXHDAzw='), None)
     refused("the server's error", 'ScramServer', lambda: scram.verify(b'e=invalid-proof'))
     refused('trailing', 'ScramTrailing', lambda: scram.verify(b'e=invalid-proof=x'), 15)
+    refused('another signature', 'ScramVerification', lambda: scram.verify(b'v=V+ppxD5XUKtradnv8e2MkeupiA8FU87Sg8CXzXHDAzw='))
     refused('another nonce', 'ScramInvalidNonce', lambda: scram.final(b'r=abc,s=,i=1'))
+    refused('no answer any more', 'ScramWrongState', lambda: scram.verify(b'v=U+ppxD5XUKtradnv8e2MkeupiA8FU87Sg8CXzXHDAzw='))
     same('verifier', pg.scram_verifier(b'secret', bytes(range(1, 17))), b'SCRAM-SHA-256$4096:AQIDBAUGBwgJCgsMDQ4PEA==$8rrDg00OqaiWXJ7p+sCgHEIaBSHY89ZJl3mfIsf32oY=:05L1f+yZbiN8O0AnO40Og85NNRhvzTS57naKRWCcsIA=')
     same('md5', pg.md5_answer(b'md5_user', b'password', b'\x2a\x3d\x8f\xe0'), b'md562af4dd09bbb41884907a838a3233294')
     same('literal', pg.escape_literal(b'f\\oo'), b" E'f\\\\oo'")
@@ -167,6 +196,7 @@ def queries():
 
 
 writers()
+streams()
 readers()
 lists()
 values()

@@ -2,7 +2,7 @@
 
 Build a client's messages (`query`, `parse`, `bind`, ..), iterate over a server's (`messages`), read what lists they have (`row`, `fields`,
 `error_fields`, ..), log in (`Scram`), escape texts (`escape_literal`, `escape_identifier`), and write and read values in the binary
-format (`put`, `get`, `put_inet`, `get_array`, ..).
+format (`put`, `get`, `put_inet`, `get_array`, ..). A `Stream` keeps what a connection sends, and refuses what may not come there.
 
 The library is looked for under the name that the environment's PGP_SO gives, and else where the system looks for libraries.
 """
@@ -12,7 +12,7 @@ import os
 import secrets
 from ctypes import POINTER, Structure, byref, c_bool, c_double, c_float, c_int16, c_int32, c_int64, c_size_t, c_uint8, c_uint16, c_uint32, c_uint64, c_void_p
 from ipaddress import IPv4Address, IPv6Address, ip_address
-from typing import Callable, Dict, Iterable, Iterator, List, NamedTuple, Optional, Sequence, Tuple, Union
+from typing import Callable, Dict, Iterable, Iterator, List, Mapping, NamedTuple, Optional, Sequence, Tuple, Union
 
 LIBRARY = ctypes.CDLL(os.environ.get('PGP_SO') or ctypes.util.find_library('postgres_protocol') or 'libpostgres_protocol.so')
 
@@ -106,6 +106,10 @@ class _Value(Structure):
 
 class _Side(Structure):
     _fields_ = [('value', _Value), ('kind', c_uint8)]
+
+
+class _KeyValue(Structure):
+    _fields_ = [('key', c_void_p), ('key_len', c_size_t), ('value', _Value)]
 
 
 class _Pair(Structure):
@@ -410,10 +414,13 @@ def scram_verifier(password: bytes, salt: bytes) -> bytes:
     return _verifier(password, salt)
 
 
-_FINAL = (*_TEXT, c_uint8, *_TEXT, *_TEXT, *_TEXT)
+class _Scram(Structure):
+    _fields_ = [('signature', c_uint8 * 32)]
+
+
 _scram_first = _declare('scram_first', c_uint8, *_TEXT, *_TEXT, *_OUT)
-_scram_final = _declare('scram_final', *_FINAL, *_OUT, POINTER(c_size_t))
-_scram_verify = _declare('scram_verify', *_FINAL, *_TEXT, POINTER(c_size_t))
+_scram_update = _declare('scram_update', *_TEXT, c_uint8, *_TEXT, *_TEXT, *_TEXT, *_OUT, POINTER(c_size_t), POINTER(_Scram))
+_scram_finish = _declare('scram_finish', POINTER(_Scram), *_TEXT, POINTER(c_size_t))
 
 
 class Scram:
@@ -421,7 +428,7 @@ class Scram:
     the server's certificate for tls-server-end-point; with none there is no channel binding."""
 
     def __init__(self, password: bytes, certificate: Optional[bytes] = None, nonce: Optional[bytes] = None) -> None:
-        self._password, self._server_first = password, b''
+        self._password, self._kept = password, None  # type: Tuple[bytes, Optional[_Scram]]
         self._kind, self._certificate = (0, b'') if certificate is None else (2, certificate)
         self._nonce = nonce if nonce is not None else secrets.token_urlsafe(18).encode()
 
@@ -429,21 +436,22 @@ class Scram:
         """What to send in `sasl_initial_response`."""
         return _written(lambda *out: _scram_first(self._kind, *_text(self._certificate), *_text(self._nonce), *out))
 
-    def _start(self) -> Tuple[object, ...]:
-        return (*_text(self._password), self._kind, *_text(self._certificate), *_text(self._nonce), *_text(self._server_first))
-
     def final(self, server_first: bytes) -> bytes:
         """The answer to the server's first text."""
-        self._server_first, at = server_first, c_size_t()
+        at, kept = c_size_t(), _Scram()
+        start = (*_text(self._password), self._kind, *_text(self._certificate), *_text(self._nonce), *_text(server_first))
+        self._kept = None
         try:
-            return _written(lambda *out: _scram_final(*self._start(), *out, byref(at)), 256)
+            answer = _written(lambda *out: _scram_update(*start, *out, byref(at), byref(kept)), 1024)
         except Refused as refusal:
             raise Refused(refusal.status, at.value) from None
+        self._kept = kept
+        return answer
 
     def verify(self, server_final: bytes) -> None:
-        """Raises Refused unless the text shows the signature of the password's verifier."""
+        """Raises Refused unless the text shows the signature of the password's verifier: ScramWrongState where `final` made no answer before."""
         at = c_size_t()
-        status = _scram_verify(*self._start(), *_text(server_final), byref(at))
+        status = 66 if self._kept is None else _scram_finish(byref(self._kept), *_text(server_final), byref(at))
         if status != _OK:
             raise Refused(status, at.value)
 
@@ -481,6 +489,7 @@ _get_range, _get_array = _declare('get_range', *_TEXT, POINTER(_Range)), _declar
 _put_range, _put_empty_range = _declare('put_range', POINTER(_Side), POINTER(_Side), *_OUT), _writer('put_empty_range')
 _put_array = _declare('put_array', c_uint32, POINTER(_Value), c_size_t, *_OUT)
 _get_hstore = _declare('get_hstore', *_TEXT, POINTER(_Cursor))
+_put_hstore = _declare('put_hstore', POINTER(_KeyValue), c_size_t, *_OUT)
 _IS_A = {name: _declare('get_' + name, *_TEXT) for name in ('uuid', 'macaddr')}
 
 Address = Union[IPv4Address, IPv6Address]
@@ -589,6 +598,13 @@ def get_array(data: bytes) -> Array:
                  [_column(data, element) for _ in _walk(_element_next, data, a.elements, element)])
 
 
+def put_hstore(entries: Mapping[str, Optional[str]]) -> bytes:
+    """An hstore of these keys and values, of which None is a null."""
+    kept = [(key.encode(), None if value is None else value.encode()) for key, value in entries.items()]
+    pairs = (_KeyValue * len(kept))(*(_KeyValue(*_text(key), _Value(*_text(value or b''), value is None)) for key, value in kept))
+    return _written(lambda *out: _put_hstore(pairs, len(pairs), *out))
+
+
 def get_hstore(data: bytes) -> Dict[str, Optional[str]]:
     """The keys and values of an hstore, of which None is a null."""
     cursor, entry = _Cursor(), _Entry()
@@ -598,3 +614,6 @@ def get_hstore(data: bytes) -> Dict[str, Optional[str]]:
         value = _column(data, entry.value)
         found[_part(data, entry.key).decode()] = None if value is None else value.decode()
     return found
+
+
+from .stream import Stream  # noqa: E402 (it stands on what is above)

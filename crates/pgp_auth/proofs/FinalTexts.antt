@@ -15,7 +15,7 @@ use Rattle.pgp_auth.specs.declared.scram.reading.Fault.{Fault}
 use Rattle.pgp_auth.specs.ScramText.{is_base64_char, is_value_char, ServerFinal}
 use Rattle.pgp_auth.specs.Pattern.{Run, word}
 use Rattle.pgp_auth.specs.ScramRefusal.{Refusal, InvalidBase64, error_parts, server_final_parts, FinalForm, error, verifier, RefusesFinal, not_utf8, other, trailing, server, no_base64, IsServerError, Verifies, ShowsOther, NotUtf8, OutOfMemory, Server}
-use Rattle.pgp_auth.specs.ScramClient.{NotVerified, TakesMemory, long}
+use Rattle.pgp_auth.specs.ScramClient.{NotShown, NotVerified, TakesMemory, long}
 use Rattle.pgp_auth.specs.declared.scram.error.ScramError.{ScramError}
 use Rattle.pgp_auth.specs.declared.scram.error.ScramError.TheVariants as code
 use Rattle.pgp_auth.specs.ScramErrorView.{refusal}
@@ -136,32 +136,28 @@ pub if_err_from : {T E : Type 0} (r : Result T E) (Q P : E → Type 0) → IsErr
 if_err_from (Ok y) Q P h k = tt
 if_err_from (Err e) Q P h k = k e h
 
-pub text_not : (lacks : Type 0) (m signature : List ℕ) (n : ℕ) → is_utf8 m ≡ false → NotVerified lacks signature m NotUtf8 n n
-text_not lacks m signature n u = inl (not_utf8 (λ text. not_true (sym u ∙ is_utf8-from_IsUtf8 m text)), refl)
-
-pub error_not : (lacks : Type 0) (m signature reason : List ℕ) (n : ℕ) → IsServerError m reason → NotVerified lacks signature m (Server reason) n n
-error_not lacks m signature reason n is = inl (server is, refl)
+pub text_no : (m : List ℕ) → is_utf8 m ≡ false → RefusesFinal m NotUtf8
+text_no m u = not_utf8 (λ text. not_true (sym u ∙ is_utf8-from_IsUtf8 m text))
 
 pub error_kept : (lacks : Type 0) (m signature : List ℕ) (e : Refusal) (n : ℕ) → RefusesFinal m e ⊎ ((e ≡ OutOfMemory) × lacks × TakesMemory m) → NotVerified lacks signature m e n n
 error_kept lacks m signature e n (inl cause) = inl (cause, refl)
 error_kept lacks m signature e n (inr memory) = inr (inr (memory.0, memory.1, memory.2, refl))
 
-pub long_not : {A : Type 0} (lacks : Type 0) (m t signature : List ℕ) (e : ScramError A) (n : ℕ) → ServerFinal m t → 64 < length t
-    → ((e ≡ code.OutOfMemory) × lacks) ⊎ ((e ≡ code.InvalidBase64) × IsErr (decode_of standard t)) → NotVerified lacks signature m (refusal e) n n
-long_not lacks m t signature e n s far (inl memory) = inr (inr (ap refusal memory.0, memory.1, long s far, refl))
-long_not lacks m t signature e n s far (inr bad) = inl (final_no_base64 m t (refusal e) s bad.1 (ap refusal bad.0), refl)
+pub not_shown : (lacks : Type 0) (m signature : List ℕ) (e : Refusal) → RefusesFinal m e ⊎ ((e ≡ OutOfMemory) × lacks × TakesMemory m) → NotShown lacks signature m e
+not_shown lacks m signature e (inl cause) = inl cause
+not_shown lacks m signature e (inr memory) = inr (inr memory)
 
-pub short_not : {A : Type 0} (lacks : Type 0) (m t signature : List ℕ) (e : ScramError A) (n : ℕ) → ServerFinal m t
-    → (e ≡ code.InvalidBase64) × IsErr (decode_of standard t) → NotVerified lacks signature m (refusal e) n n
-short_not lacks m t signature e n s bad = inl (final_no_base64 m t (refusal e) s bad.1 (ap refusal bad.0), refl)
+pub long_not : {A : Type 0} (lacks : Type 0) (m t : List ℕ) (e : ScramError A) → ServerFinal m t → 64 < length t
+    → ((e ≡ code.OutOfMemory) × lacks) ⊎ ((e ≡ code.InvalidBase64) × IsErr (decode_of standard t)) → RefusesFinal m (refusal e) ⊎ ((refusal e ≡ OutOfMemory) × lacks × TakesMemory m)
+long_not lacks m t e s far (inl memory) = inr (ap refusal memory.0, memory.1, long s far)
+long_not lacks m t e s far (inr bad) = inl (final_no_base64 m t (refusal e) s bad.1 (ap refusal bad.0))
 
-pub compared_not : {A : Type 0} (lacks : Type 0) (r : Result (Unit {0}) (ScramError A)) (m t bytes signature : List ℕ) (before after : ℕ) → ServerFinal m t → decode_of standard t ≡ Ok bytes
-    → IfErr r (λ e. (e ≡ code.Verification) × (bytes ≢ signature)) → after ≡ before + 2 → IfErr r (λ e. NotVerified lacks signature m (refusal e) before after)
-compared_not lacks (Ok u) m t bytes signature before after s shows h count = tt
-compared_not lacks (Err e) m t bytes signature before after s shows h count =
-    inr (inl (ap refusal h.0, final_other m t bytes signature s shows h.1, count))
+pub short_not : {A : Type 0} (lacks : Type 0) (m t : List ℕ) (e : ScramError A) → ServerFinal m t
+    → (e ≡ code.InvalidBase64) × IsErr (decode_of standard t) → RefusesFinal m (refusal e) ⊎ ((refusal e ≡ OutOfMemory) × lacks × TakesMemory m)
+short_not lacks m t e s bad = inl (final_no_base64 m t (refusal e) s bad.1 (ap refusal bad.0))
 
-pub compared_is : {A : Type 0} (r : Result (Unit {0}) (ScramError A)) (m t bytes signature : List ℕ) → ServerFinal m t → decode_of standard t ≡ Ok bytes
-    → OnOk r (bytes ≡ signature) → OnOk r (Verifies signature m)
-compared_is (Ok u) m t bytes signature s shows same = record { shown = t; text_is = s; shows = rw same at shows }
-compared_is (Err e) m t bytes signature s shows same = tt
+pub shows : (m t bytes : List ℕ) → ServerFinal m t → decode_of standard t ≡ Ok bytes → Verifies bytes m
+shows m t bytes s is = record { shown = t; text_is = s; shows = is }
+
+pub shows_other : (m bytes signature : List ℕ) → Verifies bytes m → bytes ≢ signature → ShowsOther signature m
+shows_other m bytes signature v differs = record { shown = v.shown; bytes = bytes; text_is = v.text_is; shows = v.shows; differs = differs }

@@ -18,6 +18,7 @@ pub mod ScramRefusal
 pub mod ScramServer
 pub mod ScramServerView
 pub mod ScramServing
+pub mod ScramShown
 pub mod ScramStateView
 pub mod ScramStored
 pub mod ScramText

@@ -47,6 +47,12 @@ message_of Over = None
 abbrev pub signature_of : Answered → List ℕ
 signature_of answered = mac (mac answered.key (codes "Server Key")) answered.auth
 
+-- the signature that is awaited, once the server's first text was taken
+abbrev pub awaited_of : State → Option (List ℕ)
+awaited_of (AwaitsFirst begun) = None
+awaited_of (AwaitsFinal answered) = Some (signature_of answered)
+awaited_of Over = None
+
 -- `update` that is Ok: it was due, the text meets the client's conditions, the server that holds the
 -- verifier of the client's password accepts the final text, and its signature is the one that is awaited
 pub record Answers (old : Client) (text : List ℕ) (new : Client) : Type 0 where
@@ -111,6 +117,10 @@ NotVerified lacks signature text e before after =
     (RefusesFinal text e × (after ≡ before))
     ⊎ (((e ≡ Verification) × ShowsOther signature text × (after ≡ before + 2))
     ⊎ ((e ≡ OutOfMemory) × lacks × TakesMemory text × (after ≡ before)))
+
+-- the same where the signature is known, without HMACs
+abbrev pub NotShown : Type 0 → List ℕ → List ℕ → Refusal → Type 0
+NotShown lacks signature text e = RefusesFinal text e ⊎ (((e ≡ Verification) × ShowsOther signature text) ⊎ ((e ≡ OutOfMemory) × lacks × TakesMemory text))
 
 abbrev pub FinishRefuses : Type 0 → State → List ℕ → Refusal → ℕ → ℕ → Type 0
 FinishRefuses lacks (AwaitsFinal answered) text e before after = NotVerified lacks (signature_of answered) text e before after

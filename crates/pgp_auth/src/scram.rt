@@ -24,3 +24,4 @@ pub use held::{ChannelOffer, StoredVerifier};
 pub use nonce::is_nonce;
 pub use server::ScramServer;
 pub use server_error::{ExchangeError, ServerError, VerifierError};
+pub use verify::verify_signature;

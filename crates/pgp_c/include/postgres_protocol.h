@@ -328,6 +328,9 @@ pgp_status pgp_element_next(const uint8_t *bytes, size_t len, struct pgp_cursor 
 struct pgp_entry { struct pgp_part key; struct pgp_column value; };
 pgp_status pgp_get_hstore(const uint8_t *bytes, size_t len, struct pgp_cursor *entries);
 pgp_status pgp_entry_next(const uint8_t *bytes, size_t len, struct pgp_cursor *cursor, struct pgp_entry *entry);
+/* To write one: keys and values as they come (of equal keys a server keeps one). Key and value have to be UTF-8, else PGP_E_NOT_UTF8. */
+struct pgp_key_value { const uint8_t *key; size_t key_len; struct pgp_value value; };
+pgp_status pgp_put_hstore(const struct pgp_key_value *pairs, size_t count, PGP_OUT);
 
 static inline uint64_t pgp_float8_bits(double value) { uint64_t bits; memcpy(&bits, &value, sizeof bits); return bits; }
 static inline double pgp_float8_of(uint64_t bits) { double value; memcpy(&value, &bits, sizeof value); return value; }

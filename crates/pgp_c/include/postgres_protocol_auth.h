@@ -33,7 +33,10 @@ enum pgp_binding { PGP_BINDING_UNSUPPORTED = 0, PGP_BINDING_UNREQUESTED = 1, PGP
  *   pgp_scram_first   what to send in pgp_sasl_initial_response
  *   pgp_scram_final   the answer to the server's first text, for pgp_sasl_response: a server with the password's verifier accepts it
  *   pgp_scram_verify  PGP_OK only if the server's final text shows the signature of that verifier
- * pgp_scram_final and pgp_scram_verify make the salted key anew (some milliseconds at 4096 rounds). The password is used as it is;
+ * pgp_scram_final and pgp_scram_verify make the salted key anew (some milliseconds at 4096 rounds). Who has a place for 32 bytes makes it once:
+ *   pgp_scram_update  as pgp_scram_final, and keeps in a struct of the caller's what the server has to show (as it was on any answer but PGP_OK)
+ *   pgp_scram_finish  PGP_OK only if the server's final text shows that: no password, no key
+ * The struct holds no secret of the password; there is nothing to free. The password is used as it is;
  * a server prepares one with characters above 127 by SASLprep (RFC 4013), which is the caller's to do.
  * `at` is the place in the text that PGP_SCRAM_UNEXPECTED_CHARACTER and PGP_SCRAM_TRAILING tell of; else 0. A server's own error
  * (PGP_SCRAM_SERVER) stands behind the `e=` of its final text.
@@ -48,6 +51,11 @@ pgp_status pgp_scram_verify(const uint8_t *password, size_t password_len,
                             uint8_t kind, const uint8_t *certificate, size_t certificate_len, const uint8_t *nonce, size_t nonce_len,
                             const uint8_t *server_first, size_t server_first_len,
                             const uint8_t *server_final, size_t server_final_len, size_t *at);
+struct pgp_scram { uint8_t signature[32]; };
+pgp_status pgp_scram_update(const uint8_t *password, size_t password_len,
+                            uint8_t kind, const uint8_t *certificate, size_t certificate_len, const uint8_t *nonce, size_t nonce_len,
+                            const uint8_t *server_first, size_t server_first_len, PGP_OUT, size_t *at, struct pgp_scram *kept);
+pgp_status pgp_scram_finish(const struct pgp_scram *kept, const uint8_t *server_final, size_t server_final_len, size_t *at);
 static inline void pgp_nonce(const uint8_t random[18], uint8_t nonce[24])
 {
     static const char letters[] = "ABCDEFGHIJKLMNOPQRSTUVWXYZabcdefghijklmnopqrstuvwxyz0123456789+/";

@@ -1,58 +1,21 @@
 -- The elements of an array, one after another, and its head.
-use Rattle.std.proofs.Common.{◌≡◌, ℕ, ◌+◌, ◌<◌, ◌≤◌, List, [], ◌∷◌, ◌++◌, length, map, take, drop, ◌*◌, ◌^◌, pos, Some, None, inl, inr, sym, ap, ◌∙◌, get_or, refl, arith, length-append}
+use Rattle.std.proofs.Common.{◌≡◌, ℕ, ◌+◌, ◌<◌, ◌≤◌, List, [], ◌∷◌, ◌++◌, length, map, ◌*◌, ◌^◌, pos, Some, None, inl, inr, sym, ap, ◌∙◌, refl, arith, length-append}
 use Rattle.std.proofs.lemmas.Bool.{cases_Bool}
-use Rattle.std.proofs.lemmas.List.{append_assoc, append-nil, length-map, take_more, map-append, take-append-drop, drop_more}
+use Rattle.std.proofs.lemmas.List.{append_assoc, append-nil, length-map}
 use Rattle.std.proofs.lemmas.List.Elements.{All-from_recursion}
-use Rattle.std.specs.List.{flat_map}
-use Rattle.std.proofs.lemmas.List.Concat.{flat_map-append}
-use Rattle.pgp_base.specs.Cause.{first, nullable_cause, Wants, WantsMemory}
+use Rattle.pgp_base.specs.Cause.{nullable_cause}
 use Rattle.pgp_base.specs.Held.{Held, ◌⊕◌}
-use Rattle.pgp_base.specs.Wire.{nullable, uint32, int32}
+use Rattle.pgp_base.specs.Wire.{uint32, int32}
 use Rattle.pgp_base.specs.declared.error.Error.{Error}
 use Rattle.pgp_base.specs.declared.error.Error.TheVariants.{TooLarge}
-use Rattle.pgp_base.proofs.Causes.{first_more, first_here, length_fits}
-use Rattle.pgp_base.proofs.Needs.{memory_then}
-use Rattle.pgp_base.proofs.Parts.{length-uint32, more_parts, more_twice}
+use Rattle.pgp_base.proofs.Causes.{length_fits}
+use Rattle.pgp_base.proofs.Parts.{length-uint32, more_twice}
 use Rattle.pgp_c.specs.Lists.{value_of}
 use Rattle.pgp_c.specs.Putting.{elements_cause, elements_of, flag_in, head_of, list_of}
 use Rattle.pgp_types.specs.Array.{IsArray, IsDimension, array_bytes, flag_of, has_null}
 use Rattle.pgp_types.proofs.PartLemmas.{int32_pos, signed_fits}
 use Rattle.pgp_c.proofs.Putting.{either_large, value_large}
 use Rattle.pgp_c.specs.declared.listing.PgpValue.{PgpValue}
-
--- the values of one element more, and all of them around one
-values_more : (vs : List PgpValue) (i : ℕ) (d : PgpValue) → i < length vs → map value_of (take (i + 1) vs) ≡ map value_of (take i vs) ++ value_of (get_or vs i d) ∷ []
-values_more vs i d h = ap (map value_of) (take_more vs i d h) ∙ map-append value_of (take i vs) (get_or vs i d ∷ [])
-
-values_split : (vs : List PgpValue) (i : ℕ) (d : PgpValue) → i < length vs → map value_of vs ≡ map value_of (take i vs) ++ value_of (get_or vs i d) ∷ map value_of (drop (i + 1) vs)
-values_split vs i d h =
-    ap (map value_of) (sym (take-append-drop i vs) ∙ ap (λ rest. take i vs ++ rest) (drop_more vs i d h)) ∙ map-append value_of (take i vs) (get_or vs i d ∷ drop (i + 1) vs)
-
-pub elements_none : (vs : List PgpValue) (i : ℕ) (d : PgpValue) → i < length vs → elements_cause (take i vs) ≡ None → nullable_cause (value_of (get_or vs i d)) ≡ None → elements_cause (take (i + 1) vs) ≡ None
-elements_none vs i d h e f =
-    ap (λ l. first (map nullable_cause l)) (values_more vs i d h)
-    ∙ (ap first (map-append nullable_cause (map value_of (take i vs)) (value_of (get_or vs i d) ∷ [])) ∙ first_more (map nullable_cause (map value_of (take i vs))) (nullable_cause (value_of (get_or vs i d))) e f)
-
-pub elements_joined : {K : Type 0} (vs : List PgpValue) (i : ℕ) (d : PgpValue) (old b c : Held K) → i < length vs → b ≡ old ⊕ elements_of (take i vs) → c ≡ b ⊕ nullable (value_of (get_or vs i d)) → c ≡ old ⊕ elements_of (take (i + 1) vs)
-elements_joined vs i d old b c h e f =
-    more_parts nullable old b c (map value_of (take i vs)) (value_of (get_or vs i d)) e f ∙ ap (λ l. old ⊕ flat_map nullable l) (sym (values_more vs i d h))
-
-pub elements_refused : (vs : List PgpValue) (i : ℕ) (d : PgpValue) (e : Error) → i < length vs → elements_cause (take i vs) ≡ None → nullable_cause (value_of (get_or vs i d)) ≡ Some e → elements_cause vs ≡ Some e
-elements_refused vs i d e h f k =
-    ap (λ l. first (map nullable_cause l)) (values_split vs i d h)
-    ∙ (ap first (map-append nullable_cause (map value_of (take i vs)) (value_of (get_or vs i d) ∷ map value_of (drop (i + 1) vs)))
-    ∙ first_here (map nullable_cause (map value_of (take i vs))) (nullable_cause (value_of (get_or vs i d))) (map nullable_cause (map value_of (drop (i + 1) vs))) e f k)
-
--- what a front of the elements and the next one take
-need : (vs : List PgpValue) (i : ℕ) (d : PgpValue) → i < length vs → length (elements_of (take i vs)) + length (nullable (value_of (get_or vs i d))) ≤ length (elements_of vs)
-need vs i d h =
-    let e : elements_of vs ≡ elements_of (take i vs) ++ (nullable (value_of (get_or vs i d)) ++ elements_of (drop (i + 1) vs)) =
-    ap (flat_map nullable) (values_split vs i d h) ∙ flat_map-append nullable (map value_of (take i vs)) (value_of (get_or vs i d) ∷ map value_of (drop (i + 1) vs)) in
-    omega (arith, ap length e, length-append (elements_of (take i vs)) (nullable (value_of (get_or vs i d)) ++ elements_of (drop (i + 1) vs)), length-append (nullable (value_of (get_or vs i d))) (elements_of (drop (i + 1) vs)))
-
-pub elements_want : {K : Type 0} {lacks : Held K → ℕ → Type 0} (vs : List PgpValue) (i : ℕ) (d : PgpValue) (old b : Held K) (e : Error) → i < length vs → b ≡ old ⊕ elements_of (take i vs)
-    → WantsMemory (Wants lacks b (length (nullable (value_of (get_or vs i d))))) e → WantsMemory (Wants lacks old (length (elements_of vs))) e
-elements_want vs i d old b e h s w = memory_then old b (elements_of (take i vs)) _ _ e s (need vs i d h) w
 
 -- two parts, one behind the other
 pub then_more : {K : Type 0} (old h k : Held K) (p q : List ℕ) → h ≡ old ⊕ p → k ≡ h ⊕ q → k ≡ old ⊕ (p ++ q)

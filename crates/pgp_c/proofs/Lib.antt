@@ -4,9 +4,11 @@ mod Elements
 mod Copies
 mod Extensions
 mod Fronts
+mod Items
 mod Listings
 mod Lists
 mod Openings
+mod Pairs
 mod Putting
 mod Sending
 mod BindRefusals

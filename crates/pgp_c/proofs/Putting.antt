@@ -20,7 +20,7 @@ error_in (Some e) = e
 none_large : IsLarge None
 none_large e is = absurd cc
 
-length_large : (n : ℕ) → IsLarge (length_cause n)
+pub length_large : (n : ℕ) → IsLarge (length_cause n)
 length_large n e is = elim (cases_lt 2147483647 n) [
   | inl long ↦ sym (ap error_in is) ∙ ap error_in (length_past n (omega (arith, long)))
   | inr few ↦ absurd (let none : length_cause n ≡ None = length_fits n (omega (arith, few)) in let e = sym none ∙ is in cc)

@@ -1,13 +1,16 @@
 -- Values of several parts, as C hands them over to be written.
-use Rattle.std.specs.Prelude.{◌≡◌, ◌⊎◌, ℕ, ◌<◌, pos, Bool, not, List, [], ◌∷◌, ◌++◌, map, length, Some, nat_eq, if◌then◌else◌}
+use Rattle.std.specs.Prelude.{◌≡◌, ◌⊎◌, ℕ, ◌<◌, pos, Bool, false, not, ◌&&◌, ◌||◌, List, [], ◌∷◌, ◌++◌, map, length, Some, nat_eq, if◌then◌else◌}
 use Rattle.std.specs.List.{flat_map, list_all}
+use Rattle.std.specs.Str.{is_utf8}
 use Rattle.pgp_base.specs.Cause.{Cause, first, nullable_cause}
 use Rattle.pgp_base.specs.Wire.{nullable, uint32}
 use Rattle.pgp_base.specs.declared.error.Error.TheVariants.{TooLarge}
 use Rattle.pgp_types.specs.Array.{Array, array_cause}
+use Rattle.pgp_types.specs.Hstore.{Entry, entry_bytes, entry_cause, hstore}
 use Rattle.pgp_types.specs.Range.{Range, Side, between, range_cause}
 use Rattle.pgp_types.specs.declared.range.RangeBound.TheVariants.{Inclusive, Exclusive, Unbounded}
 use Rattle.pgp_c.specs.Lists.{value_of}
+use Rattle.pgp_c.specs.declared.hstore.PgpKeyValue.{PgpKeyValue}
 use Rattle.pgp_c.specs.declared.listing.PgpValue.{PgpValue}
 use Rattle.pgp_c.specs.declared.range.PgpSide.{PgpSide}
 
@@ -29,6 +32,25 @@ list_of element_type values = record { dimensions = record { len = pos (length v
 -- why it isn't written: an element is too long, or there are too many
 abbrev pub IsNoList : ℕ → List PgpValue → ℕ → Type 0
 IsNoList element_type values code = (code ≡ 3) × ((2147483647 < length values) ⊎ (array_cause (list_of element_type values) ≡ Some TooLarge))
+
+-- a key and a value of an hstore
+abbrev pub entry_of : PgpKeyValue → Entry
+entry_of p = (p.key.now, value_of p.value)
+
+-- both are UTF-8, or the value is a null
+abbrev pub are_texts : PgpKeyValue → Bool
+are_texts p = is_utf8 p.key.now && (p.value.is_null || is_utf8 p.value.bytes.now)
+
+-- why no hstore of these is written: a key or a value isn't text; or one is too long, or there are too many
+abbrev pub IsNoHstore : List PgpKeyValue → ℕ → Type 0
+IsNoHstore pairs code = ((code ≡ 9) × (list_all are_texts pairs ≡ false)) ⊎ ((code ≡ 3) × (hstore.cause (map entry_of pairs) ≡ Some TooLarge))
+
+-- Private: what the code writes behind their number, and their first cause.
+abbrev pub pairs_bytes : List PgpKeyValue → List ℕ
+pairs_bytes pairs = flat_map entry_bytes (map entry_of pairs)
+
+abbrev pub pairs_cause : List PgpKeyValue → Cause
+pairs_cause pairs = first (map entry_cause (map entry_of pairs))
 
 -- Private: what the code writes of such an array, and the first cause of an element.
 abbrev pub has_value : PgpValue → Bool

@@ -1,20 +1,27 @@
-//! Lists of keys and values, read where they stand, one after another.
+//! Lists of keys and values: read where they stand, one after another; and written.
+#![tactic(auto, using(pgp_base::proofs::Parts::held_steps))]
 
-ghost use Rattle.std.specs.Prelude.{◌≡◌, ◌≢◌};
+ghost use Rattle.std.specs.Prelude.{◌≡◌, ◌≢◌, ◌⊎◌, ◌≤◌, length, map, true, Some, None, OnOk, IfErr};
+ghost use Rattle.std.specs.List.{list_all, AllByRecursion};
+ghost use Rattle.std.specs.Str.{is_utf8};
+ghost use Rattle.pgp_base.specs.Cause.{Wants, WantsMemory};
+ghost use Rattle.pgp_base.specs.Held.{◌⊕◌};
 ghost use Rattle.pgp_base.specs.PartReading.{Answers};
-ghost use Rattle.pgp_types.specs.Hstore.{entry, hstore};
+ghost use Rattle.pgp_types.specs.Hstore.{entry, entry_bytes, entry_cause, hstore, IsEntry};
 ghost use Rattle.pgp_types.specs.Part.{shown};
 ghost use Rattle.pgp_types.specs.PartReading.{entry_at, entry_value_at, key_at};
 ghost use Rattle.pgp_c.specs.Compound.{BeginsHstore, entry_in};
-ghost use Rattle.pgp_c.specs.Values.{Refuses};
+ghost use Rattle.pgp_c.specs.Putting.{are_texts, entry_of, IsNoHstore, pairs_bytes, pairs_cause};
+ghost use Rattle.pgp_c.specs.Values.{Lacks, Refuses, Wrote};
 ghost use Rattle.pgp_c.specs.Walks.{IsEnded, RefusesItem, Takes};
 
 use crate::cursor::{Listed, PgpCursor, next_counted};
 use crate::front::PgpPart;
-use crate::part::{column_before, nullable_at, sized_at};
+use crate::listing::PgpValue;
+use crate::part::{column_before, nullable_at, put_value, sized_at};
 use crate::row::PgpColumn;
-use crate::status::failed;
-use pgp_base::{Error, FallibleIterator, text};
+use crate::status::{failed, refused, sent};
+use pgp_base::{Buffer, Error, FallibleIterator, Window, length_field, put_u32, text};
 
 /// A key of an `hstore`, and its value or a null.
 #[repr(C)]
@@ -22,6 +29,14 @@ use pgp_base::{Error, FallibleIterator, text};
 pub struct PgpEntry {
     pub key: PgpPart,
     pub value: PgpColumn,
+}
+
+/// A key and its value that are written. Both have to be UTF-8.
+#[repr(C)]
+#[derive(Clone, Copy)]
+pub struct PgpKeyValue<'a> {
+    pub key: &'a [u8],
+    pub value: PgpValue<'a>,
 }
 
 /// Reads how many entries an `hstore` has, and where the first begins.
@@ -118,4 +133,81 @@ fn entry_value_at(bytes: &[u8]) -> Result<(Option<&[u8]>, &[u8]), Error>
         Ok(_) => Ok((Some(value), rest)),
         Err(_) => Err(Error::NotUtf8),
     }
+}
+
+/// Writes an `hstore` of these keys and values, as they come: a server keeps one of equal keys.
+#[unsafe(no_mangle)]
+pub extern "C" fn pgp_put_hstore(
+    pairs: &[PgpKeyValue<'_>],
+    out: &mut [u8],
+    written: &mut usize,
+) -> u32
+    ensures wrote { result ≡ 0 → AllByRecursion IsEntry (map entry_of pairs.now) × Wrote (hstore.written (map entry_of pairs.now)) out.old out.new written.new }
+    ensures refused { result ≢ 0 → (written.new ≡ 0) × (IsNoHstore pairs.now result ⊎ Lacks (hstore.written (map entry_of pairs.now)) out.old written.new result) }
+{
+    if !all_texts(pairs) {
+        return refused(Error::NotUtf8, written);
+    }
+    let mut window = Window::new(out);
+    match put_list(pairs, &mut window) {
+        Ok(()) => sent(&window, written),
+        Err(e) => refused(e, written),
+    }
+}
+
+/// All keys and values are text.
+fn all_texts(pairs: &[PgpKeyValue<'_>]) -> bool
+    ensures { result ≡ list_all are_texts pairs.now }
+{
+    pairs.iter().all(|pair| are_texts(pair))
+}
+
+/// The key and the value are text, or the value is a null.
+fn are_texts(pair: &PgpKeyValue<'_>) -> bool
+    ensures { result ≡ are_texts pair.now }
+{
+    is_text(pair.key) && (pair.value.is_null || is_text(pair.value.bytes))
+}
+
+/// The bytes are text.
+fn is_text(bytes: &[u8]) -> bool
+    ensures { result ≡ is_utf8 bytes.now }
+{
+    text(bytes).is_ok()
+}
+
+/// How many there are, and all of them.
+fn put_list<B: Buffer>(pairs: &[PgpKeyValue<'_>], buf: &mut B) -> Result<(), Error>
+    ensures ok { OnOk result ((hstore.cause (map entry_of pairs.now) ≡ None) × (B.held buf.new ≡ B.held buf.old ⊕ hstore.written (map entry_of pairs.now))) }
+    ensures cause { IfErr result (λ e. WantsMemory (Wants B.Lacks (B.held buf.old) (length (hstore.written (map entry_of pairs.now)))) e ⊎ (hstore.cause (map entry_of pairs.now) ≡ Some e)) }
+{
+    let count = length_field(pairs.len())?;
+    put_u32(buf, count)?;
+    put_pairs(pairs, buf)?;
+    Ok(())
+}
+
+/// The keys and values, one after another.
+fn put_pairs<B: Buffer>(pairs: &[PgpKeyValue<'_>], buf: &mut B) -> Result<(), Error>
+    ensures ok { OnOk result ((pairs_cause pairs.now ≡ None) × (B.held buf.new ≡ B.held buf.old ⊕ pairs_bytes pairs.now)) }
+    ensures cause { IfErr result (λ e. WantsMemory (Wants B.Lacks (B.held buf.old) (length (pairs_bytes pairs.now))) e ⊎ (pairs_cause pairs.now ≡ Some e)) }
+{
+    for pair in pairs {
+        put_pair(pair, buf)?;
+    }
+    Ok(())
+}
+
+/// A key, and its value or a null.
+fn put_pair<B: Buffer>(pair: &PgpKeyValue<'_>, buf: &mut B) -> Result<(), Error>
+    ensures ok { OnOk result ((entry_cause (entry_of pair.now) ≡ None) × (B.held buf.new ≡ B.held buf.old ⊕ entry_bytes (entry_of pair.now))) }
+    ensures cause { IfErr result (λ e. WantsMemory (Wants B.Lacks (B.held buf.old) (length (entry_bytes (entry_of pair.now)))) e ⊎ (entry_cause (entry_of pair.now) ≡ Some e)) }
+{
+    let key = PgpValue {
+        bytes: pair.key,
+        is_null: false,
+    };
+    put_value(&key, buf)?;
+    put_value(&pair.value, buf)?;
+    Ok(())
 }

@@ -4,7 +4,7 @@ use Rattle.std.specs.Str.{IsUtf8}
 use Rattle.pgp_auth.specs.ScramText.{IsNonce, client_first, Binding, Unsupported, Unrequested, TlsServerEndPoint}
 use Rattle.pgp_auth.specs.ScramRefusal.{Refusal, OutOfMemory, UnexpectedCharacter, Trailing}
 use Rattle.pgp_auth.specs.ScramErrorView.{number_of}
-use Rattle.pgp_auth.specs.ScramClient.{Client, fresh, message_of, Answers, UpdateRefused, Completes, FinishRefused}
+use Rattle.pgp_auth.specs.ScramClient.{Client, fresh, awaited_of, message_of, Answers, UpdateRefused, Completes, FinishRefused, NotShown}
 
 -- this is the channel binding of the number and the bytes that C hands over
 abbrev pub Names : ℕ → List ℕ → Binding → Type 0
@@ -56,6 +56,15 @@ pub record AnswersIn (s : Start) (server_first text : List ℕ) : Type 0 where
   pub answers : Answers start server_first client
   pub text_is : message_of client.state ≡ Some text
 
+-- The text is what a client that began so answers, and this is the signature that a server which holds the verifier answers to it (`Answers`).
+pub record AnswersWith (s : Start) (server_first text signature : List ℕ) : Type 0 where
+  pub start : Client
+  pub begins : Begins s start
+  pub client : Client
+  pub answers : Answers start server_first client
+  pub text_is : message_of client.state ≡ Some text
+  pub signature_is : awaited_of client.state ≡ Some signature
+
 -- `update` refuses the server's first text, and this is the refusal's number and place
 pub record FirstRefused (s : Start) (server_first : List ℕ) (code place : ℕ) : Type 0 where
   pub start : Client
@@ -98,5 +107,13 @@ pub record FinalRefused (s : Start) (server_first server_final : List ℕ) (code
   pub after : Client
   pub refusal : Refusal
   pub refused : FinishRefused (Unit {0}) between server_final refusal after
+  pub code_is : code ≡ code_of refusal
+  pub place_is : place ≡ place_of refusal
+
+-- the server's final text doesn't show the signature, or is refused as a client refuses it that awaits it, and this is the refusal's number
+-- and place
+pub record ShownRefused (signature text : List ℕ) (code place : ℕ) : Type 0 where
+  pub refusal : Refusal
+  pub refused : NotShown (Unit {0}) signature text refusal
   pub code_is : code ≡ code_of refusal
   pub place_is : place ≡ place_of refusal

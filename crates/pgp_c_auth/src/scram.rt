@@ -20,10 +20,10 @@ const BAD_NONCE: u32 = 80;
 const BAD_BINDING: u32 = 81;
 
 /// The answer where there is no memory or no room.
-const NO_ROOM: u32 = 1;
+pub const NO_ROOM: u32 = 1;
 
 /// The number of a refused step: want of memory as everywhere, the others behind 64.
-fn number(e: &ScramError<Global>) -> u32
+pub fn number(e: &ScramError<Global>) -> u32
     ensures code { result ≡ code_of (refusal e.now) }
     ensures some { result ≢ 0 }
 {
@@ -44,7 +44,7 @@ fn number(e: &ScramError<Global>) -> u32
 }
 
 /// The place in the server's text that a refusal tells; 0 where it tells none.
-fn place(e: &ScramError<Global>) -> usize
+pub fn place(e: &ScramError<Global>) -> usize
     ensures { result ≡ place_of (refusal e.now) }
 {
     match e {
@@ -113,7 +113,7 @@ fn begun(
 }
 
 /// A client that has begun with this nonce, and answered the server's first text.
-fn answered(
+pub fn answered(
     alloc: Global,
     password: &[u8],
     kind: u8,

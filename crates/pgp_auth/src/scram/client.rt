@@ -5,7 +5,7 @@ ghost use Rattle.std.specs.Option.{option_copied};
 ghost use Rattle.pgp_auth.specs.Nonce.{drawn_chars};
 ghost use Rattle.pgp_auth.specs.Prepared.{MappingLacks, prepared};
 ghost use Rattle.pgp_auth.specs.ScramText.{IsNonce};
-ghost use Rattle.pgp_auth.specs.ScramClient.{fresh, message_of, Answers, UpdateRefused, Finished, FinishRefused};
+ghost use Rattle.pgp_auth.specs.ScramClient.{awaited_of, fresh, message_of, Answers, UpdateRefused, Finished, FinishRefused};
 ghost use Rattle.pgp_auth.specs.ScramErrorView.{refusal};
 ghost use Rattle.pgp_auth.specs.declared.scram.error.ScramError.TheVariants.{OutOfMemory};
 
@@ -15,7 +15,7 @@ use crate::scram::binding::ChannelBinding;
 use crate::scram::error::ScramError;
 use crate::scram::nonce::draw_nonce;
 use crate::scram::state::{Start, State};
-use crate::scram::verify::verify;
+use crate::scram::verify::{server_signature, verify};
 use pgp_base::Memory;
 use rand_core::Rng;
 use std::alloc::{Allocator, Global};
@@ -164,6 +164,17 @@ impl<A: Allocator> ScramSha256<A> {
             State::AwaitsFirst(start) => Some(&start.first_text),
             State::AwaitsFinal(signed) => Some(&signed.final_text),
             State::Over => None,
+        }
+    }
+
+    /// The signature that the server's final text has to show, once `update` was Ok; for who keeps no client until then, and hands it to
+    /// `verify_signature`. It is made by 2 HMACs, which `hmacs` doesn't count.
+    pub fn signature(&self) -> Option<[u8; 32]>
+        ensures { result ≡ awaited_of self.now.state }
+    {
+        match &self.state {
+            State::AwaitsFinal(signed) => Some(server_signature(signed, &mut 0)),
+            State::AwaitsFirst(_) | State::Over => None,
         }
     }
 

@@ -5,12 +5,13 @@ ghost use Rattle.std.specs.Result.{IsErr};
 ghost use Rattle.std.specs.Str.{is_utf8};
 ghost use Rattle.base64.specs.Engines.{standard};
 ghost use Rattle.base64.specs.GeneralPurpose.{decode_of};
-ghost use Rattle.pgp_auth.specs.declared.scram.error.ScramError.TheVariants.{InvalidBase64, Verification};
-ghost use Rattle.pgp_auth.specs.ScramClient.{signature_of, TakesMemory, NotVerified};
+ghost use Rattle.pgp_auth.specs.declared.scram.error.ScramError.TheVariants.{InvalidBase64};
+ghost use Rattle.pgp_auth.specs.ScramClient.{signature_of, TakesMemory, NotShown, NotVerified};
 ghost use Rattle.pgp_auth.specs.ScramText.{ServerFinal};
 ghost use Rattle.pgp_auth.specs.ScramErrorView.{refusal};
 ghost use Rattle.pgp_auth.specs.ScramReading.{begins_with_e};
 ghost use Rattle.pgp_auth.specs.ScramRefusal.{OutOfMemory, IsServerError, RefusesFinal, Verifies};
+ghost use Rattle.pgp_auth.specs.ScramShown.{shown_bytes};
 ghost use Rattle.pgp_auth.specs.ScramStateView.{answered_of};
 
 use crate::authentication::sasl::counted_code;
@@ -60,7 +61,7 @@ pub(crate) fn decode_short<'a, A: Allocator>(
 }
 
 // The server's signature, by two HMACs.
-fn server_signature<A: Allocator>(signed: &Signed<A>, made: &mut u64) -> [u8; 32]
+pub(crate) fn server_signature<A: Allocator>(signed: &Signed<A>, made: &mut u64) -> [u8; 32]
     requires { made.old < 2 ^ 62 }
     ensures value { result ≡ signature_of (answered_of signed.now) }
     ensures count { made.new ≡ made.old + 2 }
@@ -81,33 +82,12 @@ pub(crate) fn difference(left: &[u8; 32], right: &[u8]) -> u32
     sum
 }
 
-// Whether the bytes are the signature.
-fn is_signature<A: Allocator>(signed: &Signed<A>, bytes: &[u8], made: &mut u64) -> bool
-    requires { made.old < 2 ^ 62 }
-    ensures yes { result ≡ true → bytes.now ≡ signature_of (answered_of signed.now) }
-    ensures no { result ≢ true → bytes.now ≢ signature_of (answered_of signed.now) }
-    ensures count { made.new ≡ made.old + 2 }
+// Whether the bytes are these 32.
+fn are(expected: &[u8; 32], bytes: &[u8]) -> bool
+    ensures yes { result ≡ true → bytes.now ≡ expected.now }
+    ensures no { result ≢ true → bytes.now ≢ expected.now }
 {
-    let expected = server_signature(signed, made);
-    bytes.len() == expected.len() && difference(&expected, bytes) == 0
-}
-
-// Compares the bytes that were shown with the signature.
-fn compared<A: Allocator>(
-    signed: &Signed<A>,
-    bytes: &[u8],
-    made: &mut u64,
-) -> Result<(), ScramError<A>>
-    requires { made.old < 2 ^ 62 }
-    ensures ok { OnOk result (bytes.now ≡ signature_of (answered_of signed.now)) }
-    ensures err { IfErr result (λ e. (e ≡ Verification) × (bytes.now ≢ signature_of (answered_of signed.now))) }
-    ensures count { made.new ≡ made.old + 2 }
-{
-    if is_signature(signed, bytes, made) {
-        Ok(())
-    } else {
-        Err(ScramError::Verification)
-    }
+    bytes.len() == expected.len() && difference(expected, bytes) == 0
 }
 
 // The base64 text that a server shows.
@@ -121,31 +101,60 @@ fn shown_text<A: Allocator>(message: &[u8]) -> Result<&[u8], ScramError<A>>
     Ok(run_behind(b"v=", Alphabet::Base64, message)?)
 }
 
-// Verifies a text of a server that is no error.
-#[tactic(auto, using(crate::proofs::FinalTexts::final_no_base64, crate::proofs::FinalTexts::final_other))]
-fn verify_shown<A: Memory>(
+// The bytes that a text shows: in the caller's room where they are few.
+#[derive(Drop)]
+enum Shown<'a, A: Allocator> {
+    Few(&'a [u8]),
+    Many(Vec<u8, A>),
+}
+
+impl<'a, A: Allocator> Shown<'a, A> {
+    fn bytes(&self) -> &[u8]
+        ensures { result.now ≡ shown_bytes self.now }
+    {
+        match self {
+            Shown::Few(bytes) => bytes,
+            Shown::Many(bytes) => bytes.as_slice(),
+        }
+    }
+}
+
+// The bytes that a text shows that is no error.
+#[tactic(auto, using(crate::proofs::FinalTexts::final_no_base64))]
+fn shown_there<'a, A: Memory>(
     alloc: A,
-    signed: &Signed<A>,
     message: &[u8],
-    made: &mut u64,
-) -> Result<(), ScramError<A>>
-    requires few { made.old < 2 ^ 62 }
+    room: &'a mut [u8; SHORT_ROOM],
+) -> Result<Shown<'a, A>, ScramError<A>>
     requires text { is_utf8 message.now ≡ true }
     requires not_error { begins_with_e message.now ≡ false }
-    ensures ok { OnOk result (Verifies (signature_of (answered_of signed.now)) message.now) }
-    ensures err { IfErr result (λ e. NotVerified A.Lacks (signature_of (answered_of signed.now)) message.now (refusal e) made.old made.new) }
-    ensures count { OnOk result (made.new ≡ made.old + 2) }
-    ensures few { made.new ≤ made.old + 2 }
+    ensures ok { IfOk result (λ s. Verifies (shown_bytes s) message.now) }
+    ensures err { IfErr result (λ e. RefusesFinal message.now (refusal e) ⊎ ((refusal e ≡ OutOfMemory) × A.Lacks × TakesMemory message.now)) }
 {
     let text = shown_text(message)?;
     if text.len() <= SHORT_LEN {
-        let mut room = [0; SHORT_ROOM];
-        let bytes = decode_short(text, &mut room)?;
-        compared(signed, bytes, made)
-    } else {
-        let bytes = shown(alloc, text)?;
-        compared(signed, &bytes, made)
+        return Ok(Shown::Few(decode_short(text, room)?));
     }
+    Ok(Shown::Many(shown(alloc, text)?))
+}
+
+// The bytes that a server's final text shows.
+fn read_final<'a, A: Memory>(
+    alloc: A,
+    message: &[u8],
+    room: &'a mut [u8; SHORT_ROOM],
+) -> Result<Shown<'a, A>, ScramError<A>>
+    ensures ok { IfOk result (λ s. Verifies (shown_bytes s) message.now) }
+    ensures err { IfErr result (λ e. RefusesFinal message.now (refusal e) ⊎ ((refusal e ≡ OutOfMemory) × A.Lacks × TakesMemory message.now)) }
+{
+    if !is_text(message) {
+        return Err(ScramError::NotUtf8);
+    }
+    if is_error(message) {
+        let reason = server_error(alloc, message)?;
+        return Err(ScramError::Server(reason));
+    }
+    shown_there(alloc, message, room)
 }
 
 // Verifies a server's final text.
@@ -161,12 +170,33 @@ pub(crate) fn verify<A: Memory>(
     ensures count { OnOk result (made.new ≡ made.old + 2) }
     ensures few { made.new ≤ made.old + 2 }
 {
-    if !is_text(message) {
-        return Err(ScramError::NotUtf8);
+    let mut room = [0; SHORT_ROOM];
+    let shown = read_final(alloc, message, &mut room)?;
+    let signature = server_signature(signed, made);
+    if !are(&signature, shown.bytes()) {
+        return Err(ScramError::Verification);
     }
-    if is_error(message) {
-        let reason = server_error(alloc, message)?;
-        return Err(ScramError::Server(reason));
+    Ok(())
+}
+
+/// Verifies a server's final text by the signature that it has to show, as `ScramSha256::signature` told it: what `finish` does,
+/// for who keeps no client. All bytes are compared.
+///
+/// # Errors
+///
+/// As `finish`, but `WrongState`.
+pub fn verify_signature<A: Memory>(
+    alloc: A,
+    signature: &[u8; 32],
+    message: &[u8],
+) -> Result<(), ScramError<A>>
+    ensures ok { OnOk result (Verifies signature.now message.now) }
+    ensures err { IfErr result (λ e. NotShown A.Lacks signature.now message.now (refusal e)) }
+{
+    let mut room = [0; SHORT_ROOM];
+    let shown = read_final(alloc, message, &mut room)?;
+    if !are(signature, shown.bytes()) {
+        return Err(ScramError::Verification);
     }
-    verify_shown(alloc, signed, message, made)
+    Ok(())
 }

@@ -1,0 +1,40 @@
+-- The keys and values of an hstore.
+use Rattle.std.proofs.Common.{◌≡◌, ℕ, Bool, true, false, ◌&&◌, ◌||◌, ◌+◌, List, [], ◌∷◌, ◌++◌, length, map, Some, refl, arith, inl, inr}
+use Rattle.std.proofs.lemmas.Bool.{cases_Bool}
+use Rattle.std.proofs.lemmas.Str.{IsUtf8-from_is_utf8}
+use Rattle.std.specs.List.{list_all, AllByRecursion}
+use Rattle.std.specs.Str.{is_utf8}
+use Rattle.pgp_base.specs.Cause.{length_cause}
+use Rattle.pgp_base.specs.declared.error.Error.{Error}
+use Rattle.pgp_base.specs.declared.error.Error.TheVariants.{TooLarge}
+use Rattle.pgp_types.specs.Hstore.{IsEntry, IsTextOrNull, hstore}
+use Rattle.pgp_c.specs.Lists.{value_of}
+use Rattle.pgp_c.specs.Putting.{are_texts, entry_of, pairs_cause}
+use Rattle.pgp_c.specs.declared.hstore.PgpKeyValue.{PgpKeyValue}
+use Rattle.pgp_c.specs.declared.listing.PgpValue.{PgpValue}
+use Rattle.pgp_c.proofs.Putting.{IsLarge, either_large, length_large, value_large}
+
+both : (a b : Bool) → (a && b) ≡ true → (a ≡ true) × (b ≡ true)
+both true b h = (refl, h)
+both false b h = let e : false ≡ true = h in absurd cc
+
+value_text : (v : PgpValue) → (v.is_null || is_utf8 v.bytes.now) ≡ true → IsTextOrNull (value_of v)
+value_text v h = elim (cases_Bool v.is_null) [
+  | inl null ↦ rw null tt
+  | inr full ↦ rw full (IsUtf8-from_is_utf8 v.bytes.now (rw full at h in h))
+]
+
+pub entries_text : (ps : List PgpKeyValue) → list_all are_texts ps ≡ true → AllByRecursion IsEntry (map entry_of ps)
+entries_text [] h = tt
+entries_text (p ∷ ps) h =
+    let k = both (are_texts p) (list_all are_texts ps) h in
+    let one = both (is_utf8 p.key.now) (p.value.is_null || is_utf8 p.value.bytes.now) k.0 in
+    ((IsUtf8-from_is_utf8 p.key.now one.0, value_text p.value one.1), entries_text ps k.1)
+
+pairs_large : (ps : List PgpKeyValue) → IsLarge (pairs_cause ps)
+pairs_large [] e is = absurd cc
+pairs_large (p ∷ ps) e is =
+    either_large _ (pairs_cause ps) (either_large _ _ (value_large (Some p.key.now)) (value_large (value_of p.value))) (pairs_large ps) e is
+
+pub hstore_large : (ps : List PgpKeyValue) → IsLarge (hstore.cause (map entry_of ps))
+hstore_large ps e is = either_large (length_cause (length (map entry_of ps))) (pairs_cause ps) (length_large (length (map entry_of ps))) (pairs_large ps) e is

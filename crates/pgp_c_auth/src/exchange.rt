@@ -1,0 +1,72 @@
+//! The client of SCRAM-SHA-256 that keeps what the server's final text has to show, so that the key is made once.
+
+ghost use Rattle.std.specs.Prelude.{◌≡◌, ◌≢◌, ◌⊎◌, None, take};
+ghost use Rattle.pgp_auth.specs.Prepared.{prepared};
+ghost use Rattle.pgp_auth.specs.ScramRefusal.{Verifies};
+ghost use Rattle.pgp_c_auth.specs.Scram.{AnswersWith, NotAnswered, NoRoom, ShownRefused};
+
+use crate::deliver::deliver;
+use crate::scram::{NO_ROOM, answered, number, place};
+use pgp_auth::authentication::sasl::verify_signature;
+use std::alloc::Global;
+
+/// What is kept between the server's two texts: the signature that the second has to show.
+#[repr(C)]
+#[derive(Clone, Copy)]
+pub struct PgpScram {
+    pub signature: [u8; 32],
+}
+
+/// The final text, as `pgp_scram_final` makes it, and the signature that is awaited.
+#[unsafe(no_mangle)]
+pub extern "C" fn pgp_scram_update(
+    alloc: Global,
+    password: &[u8],
+    kind: u8,
+    certificate: &[u8],
+    nonce: &[u8],
+    server_first: &[u8],
+    out: &mut [u8],
+    written: &mut usize,
+    at: &mut usize,
+    kept: &mut PgpScram,
+) -> u32
+    ensures sent { result ≡ 0 → AnswersWith (record { password = prepared (λ _. None) password.now; kind = kind; certificate = certificate.now; nonce = nonce.now }) server_first.now (take written.new out.new) kept.new.signature }
+    ensures refused { result ≢ 0 → (written.new ≡ 0) × (out.new ≡ out.old) × (kept.new ≡ kept.old) }
+    ensures why { result ≢ 0 → NotAnswered (record { password = prepared (λ _. None) password.now; kind = kind; certificate = certificate.now; nonce = nonce.now }) server_first.now result at.new ⊎ NoRoom (record { password = prepared (λ _. None) password.now; kind = kind; certificate = certificate.now; nonce = nonce.now }) server_first.now out.old result at.new }
+{
+    *written = 0;
+    let client = match answered(alloc, password, kind, certificate, nonce, server_first, at) {
+        Ok(client) => client,
+        Err(code) => return code,
+    };
+    let (Some(text), Some(signature)) = (client.message(), client.signature()) else {
+        unreachable!()
+    };
+    let code = deliver(text, out, written);
+    if code == 0 {
+        *kept = PgpScram { signature };
+    }
+    code
+}
+
+/// Whether the server's final text shows the signature that is awaited: 0 where it does. `at` is the place in it that a refusal tells.
+#[unsafe(no_mangle)]
+pub extern "C" fn pgp_scram_finish(
+    alloc: Global,
+    kept: &PgpScram,
+    server_final: &[u8],
+    at: &mut usize,
+) -> u32
+    ensures verified { result ≡ 0 → Verifies kept.now.signature server_final.now × (at.new ≡ 0) }
+    ensures why { result ≢ 0 → ShownRefused kept.now.signature server_final.now result at.new }
+{
+    *at = 0;
+    match verify_signature(alloc, &kept.signature, server_final) {
+        Ok(()) => 0,
+        Err(e) => {
+            *at = place(&e);
+            number(&e)
+        }
+    }
+}
