@@ -5,7 +5,7 @@ ghost use Rattle.std.specs.Result.{IsErr};
 ghost use Rattle.std.specs.Str.{is_utf8};
 ghost use Rattle.base64.specs.Engines.{standard};
 ghost use Rattle.base64.specs.GeneralPurpose.{decode_of};
-ghost use Rattle.pgp_auth.specs.declared.scram.error.ScramError.TheVariants.{InvalidBase64};
+ghost use Rattle.pgp_auth.specs.declared.scram.error.ScramError.TheVariants.{InvalidBase64, Verification};
 ghost use Rattle.pgp_auth.specs.ScramClient.{signature_of, TakesMemory, NotShown, NotVerified};
 ghost use Rattle.pgp_auth.specs.ScramText.{ServerFinal};
 ghost use Rattle.pgp_auth.specs.ScramErrorView.{refusal};
@@ -82,12 +82,15 @@ pub(crate) fn difference(left: &[u8; 32], right: &[u8]) -> u32
     sum
 }
 
-// Whether the bytes are these 32.
-fn are(expected: &[u8; 32], bytes: &[u8]) -> bool
-    ensures yes { result ≡ true → bytes.now ≡ expected.now }
-    ensures no { result ≢ true → bytes.now ≢ expected.now }
+// Compares the bytes that were shown with the signature.
+fn compared<A: Allocator>(expected: &[u8; 32], bytes: &[u8]) -> Result<(), ScramError<A>>
+    ensures ok { OnOk result (bytes.now ≡ expected.now) }
+    ensures err { IfErr result (λ e. (e ≡ Verification) × (bytes.now ≢ expected.now)) }
 {
-    bytes.len() == expected.len() && difference(expected, bytes) == 0
+    if bytes.len() == expected.len() && difference(expected, bytes) == 0 {
+        return Ok(());
+    }
+    Err(ScramError::Verification)
 }
 
 // The base64 text that a server shows.
@@ -173,10 +176,7 @@ pub(crate) fn verify<A: Memory>(
     let mut room = [0; SHORT_ROOM];
     let shown = read_final(alloc, message, &mut room)?;
     let signature = server_signature(signed, made);
-    if !are(&signature, shown.bytes()) {
-        return Err(ScramError::Verification);
-    }
-    Ok(())
+    compared(&signature, shown.bytes())
 }
 
 /// Verifies a server's final text by the signature that it has to show, as `ScramSha256::signature` told it: what `finish` does,
@@ -195,8 +195,5 @@ pub fn verify_signature<A: Memory>(
 {
     let mut room = [0; SHORT_ROOM];
     let shown = read_final(alloc, message, &mut room)?;
-    if !are(signature, shown.bytes()) {
-        return Err(ScramError::Verification);
-    }
-    Ok(())
+    compared(signature, shown.bytes())
 }
