@@ -151,27 +151,3 @@ pub long_not : {A : Type 0} (lacks : Type 0) (m t : List ℕ) (e : ScramError A)
     → ((e ≡ code.OutOfMemory) × lacks) ⊎ ((e ≡ code.InvalidBase64) × IsErr (decode_of standard t)) → RefusesFinal m (refusal e) ⊎ ((refusal e ≡ OutOfMemory) × lacks × TakesMemory m)
 long_not lacks m t e s far (inl memory) = inr (ap refusal memory.0, memory.1, long s far)
 long_not lacks m t e s far (inr bad) = inl (final_no_base64 m t (refusal e) s bad.1 (ap refusal bad.0))
-
-pub short_not : {A : Type 0} (lacks : Type 0) (m t : List ℕ) (e : ScramError A) → ServerFinal m t
-    → (e ≡ code.InvalidBase64) × IsErr (decode_of standard t) → RefusesFinal m (refusal e) ⊎ ((refusal e ≡ OutOfMemory) × lacks × TakesMemory m)
-short_not lacks m t e s bad = inl (final_no_base64 m t (refusal e) s bad.1 (ap refusal bad.0))
-
-pub shows : (m t bytes : List ℕ) → ServerFinal m t → decode_of standard t ≡ Ok bytes → Verifies bytes m
-shows m t bytes s is = record { shown = t; text_is = s; shows = is }
-
-shows_other : (m bytes signature : List ℕ) → Verifies bytes m → bytes ≢ signature → ShowsOther signature m
-shows_other m bytes signature v differs = record { shown = v.shown; bytes = bytes; text_is = v.text_is; shows = v.shows; differs = differs }
-
-pub compared_is : {A : Type 0} (r : Result (Unit {0}) (ScramError A)) (m bytes signature : List ℕ) → Verifies bytes m → OnOk r (bytes ≡ signature) → OnOk r (Verifies signature m)
-compared_is (Ok u) m bytes signature v same = subst (λ b. Verifies b m) same v
-compared_is (Err e) m bytes signature v same = tt
-
-pub compared_not : {A : Type 0} (lacks : Type 0) (r : Result (Unit {0}) (ScramError A)) (m bytes signature : List ℕ) (before after : ℕ) → Verifies bytes m
-    → IfErr r (λ e. (e ≡ code.Verification) × (bytes ≢ signature)) → after ≡ before + 2 → IfErr r (λ e. NotVerified lacks signature m (refusal e) before after)
-compared_not lacks (Ok u) m bytes signature before after v h count = tt
-compared_not lacks (Err e) m bytes signature before after v h count = inr (inl (ap refusal h.0, shows_other m bytes signature v h.1, count))
-
-pub compared_other : {A : Type 0} (lacks : Type 0) (r : Result (Unit {0}) (ScramError A)) (m bytes signature : List ℕ) → Verifies bytes m
-    → IfErr r (λ e. (e ≡ code.Verification) × (bytes ≢ signature)) → IfErr r (λ e. NotShown lacks signature m (refusal e))
-compared_other lacks (Ok u) m bytes signature v h = tt
-compared_other lacks (Err e) m bytes signature v h = inr (inl (ap refusal h.0, shows_other m bytes signature v h.1))

@@ -1,0 +1,7 @@
+use Rattle.pgp_base.proofs.Parts.{if_err_at}
+use Rattle.pgp_auth.proofs.FinalTexts.{not_shown}
+use Rattle.pgp_auth.proofs.scram.verify.verify_signature.Goals as goal
+
+pub returns-in_err-shown-clause-err : goal.returns-in_err-shown-clause-err
+returns-in_err-shown-clause-err g c =
+    if_err_at c.from_residual.result _ _ c.from_residual.ensures.1 (not_shown _ c.args.message.now _ _ c.in_err-shown.ensures.err)
