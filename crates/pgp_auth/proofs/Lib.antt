@@ -23,6 +23,9 @@ pub mod Refusals
 pub mod Runs
 pub mod ServerSide
 pub mod Steps
+pub mod StoredTexts
+pub mod UserNames
+pub mod ShownKeys
 pub mod VerifierText
 pub mod ServerTexts
 pub mod EndsMeet

@@ -22,4 +22,5 @@ pub mod ScramStateView
 pub mod ScramStored
 pub mod ScramText
 pub mod ScramView
+pub mod StoredReading
 pub mod Verifier

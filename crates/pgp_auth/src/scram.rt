@@ -1,4 +1,4 @@
-//! The client of SCRAM-SHA-256: RFC 5802, RFC 7677.
+//! Both sides of SCRAM-SHA-256: RFC 5802, RFC 7677.
 
 mod admit;
 mod answer;
@@ -6,6 +6,7 @@ mod binding;
 mod client;
 mod error;
 mod held;
+mod named;
 mod nonce;
 mod reading;
 mod server;
@@ -23,4 +24,6 @@ pub use error::ScramError;
 pub use held::{ChannelOffer, StoredVerifier};
 pub use nonce::is_nonce;
 pub use server::ScramServer;
+pub(crate) use serving::behind;
 pub use server_error::{ExchangeError, ServerError, VerifierError};
+pub(crate) use verify::difference;

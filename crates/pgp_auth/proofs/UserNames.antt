@@ -1,0 +1,168 @@
+-- A user's name in a client's first text, and where it ends.
+use Rattle.std.proofs.Common.{◌≡◌, ◌≢◌, ◌==◌, ℕ, ◌<◌, ◌≤◌, Bool, true, false, not, List, [], ◌∷◌, ◌++◌, length, codes, refl, sym, ap, ◌∙◌, subst, arith, inl, inr}
+use Rattle.std.specs.Prelude.{◌↔◌, ◌⊎◌, ◌||◌, Option, Some, None, MatchOption}
+use Rattle.std.specs.List.{AllPass, prefix_len}
+use Rattle.std.proofs.lemmas.Bool.{cases_Bool}
+use Rattle.std.proofs.lemmas.List.{append_cancel_left, take-append-drop}
+use Rattle.std.proofs.lemmas.List.Elements.{All-nil, All-cons, All-head}
+use Rattle.pgp_auth.specs.ScramText.{Binding, is_value_char, is_attribute_char, SaslName, no_more, itself, comma, equals, IsUserName, IsNonce, named_bare, first_bare}
+use Rattle.pgp_auth.specs.ScramReading.{front_of, rest_of}
+use Rattle.pgp_auth.proofs.Runs.{run_stops}
+
+abbrev Plain : ℕ → Type 0
+Plain c = is_attribute_char c ≡ true
+
+not_second : (a b c : Bool) → not (a || b || c) ≡ true → not b ≡ true
+not_second true b c h = cc
+not_second false true c h = cc
+not_second false false c h = refl
+
+value_plain : (c : ℕ) → is_value_char c ≡ true → Plain c
+value_plain c pass = not_second (c == 0) (c == 44) (c == 61) pass
+
+-- a name has no comma
+pub plain_name : (name : List ℕ) → SaslName name → AllPass is_attribute_char name
+plain_name _ no_more = All-nil Plain
+plain_name _ (itself {c = c} {name = n} pass h) = All-cons Plain c n (value_plain c pass) (plain_name n h)
+plain_name _ (comma {name = n} h) = All-cons Plain 61 (50 ∷ 67 ∷ n) refl (All-cons Plain 50 (67 ∷ n) refl (All-cons Plain 67 n refl (plain_name n h)))
+plain_name _ (equals {name = n} h) = All-cons Plain 61 (51 ∷ 68 ∷ n) refl (All-cons Plain 51 (68 ∷ n) refl (All-cons Plain 68 n refl (plain_name n h)))
+
+-- ---- the first character of a name
+
+heads : (a b : ℕ) (l k : List ℕ) → a ∷ l ≡ b ∷ k → a ≡ b
+heads a b l k e = cc
+
+tails : (a b : ℕ) (l k : List ℕ) → a ∷ l ≡ b ∷ k → l ≡ k
+tails a b l k e = cc
+
+not_equals : (c : ℕ) → c ≡ 61 → is_value_char c ≡ true → ⊥
+not_equals c is pass =
+    let bad : false ≡ true = subst (λ x. is_value_char x ≡ true) is pass in
+    cc
+
+record Behind (word r : List ℕ) : Type 0 where
+  x : List ℕ
+  is : r ≡ word ++ x
+  name : SaslName x
+
+-- a name of a character and more: the character stands for itself, or an escape begins
+data Front (c : ℕ) (r : List ℕ) : Type 0 where
+  plain : is_value_char c ≡ true → SaslName r → Front c r
+  two : c ≡ 61 → Behind (codes "2C") r → Front c r
+  three : c ≡ 61 → Behind (codes "3D") r → Front c r
+
+front : (s : List ℕ) (c : ℕ) (r : List ℕ) → SaslName s → s ≡ c ∷ r → Front c r
+front _ c r no_more e = cc
+front _ c r (itself {c = d} {name = n} pass h) e =
+    let one : d ≡ c = heads d c n r e in
+    let rest : n ≡ r = tails d c n r e in
+    plain (subst (λ x. is_value_char x ≡ true) one pass) (subst SaslName rest h)
+front _ c r (comma {name = n} h) e = two (sym (heads 61 c (50 ∷ 67 ∷ n) r e)) (record { x = n; is = sym (tails 61 c (50 ∷ 67 ∷ n) r e); name = h })
+front _ c r (equals {name = n} h) e = three (sym (heads 61 c (51 ∷ 68 ∷ n) r e)) (record { x = n; is = sym (tails 61 c (51 ∷ 68 ∷ n) r e); name = h })
+
+plain_back : (c : ℕ) (r : List ℕ) → is_value_char c ≡ true → Front c r → SaslName r
+plain_back c r pass (plain p h) = h
+plain_back c r pass (two is b) = absurd (not_equals c is pass)
+plain_back c r pass (three is b) = absurd (not_equals c is pass)
+
+-- a character that stands for itself
+pub plain_step : (c : ℕ) (r : List ℕ) → is_value_char c ≡ true → SaslName (c ∷ r) ↔ SaslName r
+plain_step c r pass = (λ h. plain_back c r pass (front (c ∷ r) c r h refl), λ h. itself pass h)
+
+two_back : (r x : List ℕ) → r ≡ codes "2C" ++ x → Front 61 r → SaslName x
+two_back r x is (plain p h) = absurd (not_equals 61 refl p)
+two_back r x is (two same b) = subst SaslName (append_cancel_left (codes "2C") b.x x (sym b.is ∙ is)) b.name
+two_back r x is (three same b) =
+    let bad : 51 ≡ 50 = heads 51 50 (68 ∷ b.x) (67 ∷ x) (sym b.is ∙ is) in
+    absurd (omega (arith, bad))
+
+three_back : (r x : List ℕ) → r ≡ codes "3D" ++ x → Front 61 r → SaslName x
+three_back r x is (plain p h) = absurd (not_equals 61 refl p)
+three_back r x is (two same b) =
+    let bad : 50 ≡ 51 = heads 50 51 (67 ∷ b.x) (68 ∷ x) (sym b.is ∙ is) in
+    absurd (omega (arith, bad))
+three_back r x is (three same b) = subst SaslName (append_cancel_left (codes "3D") b.x x (sym b.is ∙ is)) b.name
+
+two_on : (r x : List ℕ) → r ≡ codes "2C" ++ x → SaslName x → SaslName (61 ∷ r)
+two_on r x is h = subst (λ l. SaslName (61 ∷ l)) (sym is) (comma h)
+
+three_on : (r x : List ℕ) → r ≡ codes "3D" ++ x → SaslName x → SaslName (61 ∷ r)
+three_on r x is h = subst (λ l. SaslName (61 ∷ l)) (sym is) (equals h)
+
+-- an escape
+pub comma_step : (r x : List ℕ) → r ≡ codes "2C" ++ x → SaslName (61 ∷ r) ↔ SaslName x
+comma_step r x is = (λ h. two_back r x is (front (61 ∷ r) 61 r h refl), λ h. two_on r x is h)
+
+pub equals_step : (r x : List ℕ) → r ≡ codes "3D" ++ x → SaslName (61 ∷ r) ↔ SaslName x
+equals_step r x is = (λ h. three_back r x is (front (61 ∷ r) 61 r h refl), λ h. three_on r x is h)
+
+no_escape : (r : List ℕ) → ((x : List ℕ) → r ≢ codes "2C" ++ x) → ((x : List ℕ) → r ≢ codes "3D" ++ x) → Front 61 r → ⊥
+no_escape r a b (plain p h) = not_equals 61 refl p
+no_escape r a b (two same h) = a h.x h.is
+no_escape r a b (three same h) = b h.x h.is
+
+-- no comma's escape: that of an equals sign, or none
+pub second_escape : {T : Type 0} (o : Option T) (now : T → List ℕ) (r : List ℕ) → ((x : List ℕ) → r ≢ codes "2C" ++ x)
+    → MatchOption o ((x : List ℕ) → r ≢ codes "3D" ++ x) (λ x. r ≡ codes "3D" ++ now x)
+    → MatchOption o (¬ SaslName (61 ∷ r)) (λ x. SaslName (61 ∷ r) ↔ SaslName (now x))
+second_escape None now r a b = λ h. no_escape r a b (front (61 ∷ r) 61 r h refl)
+second_escape (Some x) now r a b = equals_step r (now x) b
+
+none_back : (c : ℕ) (r : List ℕ) → c ≢ 61 → is_value_char c ≢ true → Front c r → ⊥
+none_back c r other no_ (plain p h) = no_ p
+none_back c r other no_ (two is b) = other is
+none_back c r other no_ (three is b) = other is
+
+-- neither
+pub no_character : (c : ℕ) (r : List ℕ) → c ≢ 61 → is_value_char c ≢ true → ¬ SaslName (c ∷ r)
+no_character c r other no_ h = none_back c r other no_ (front (c ∷ r) c r h refl)
+
+-- ---- where a name ends
+
+pub name_cut : (bare text u r user nonce : List ℕ) → bare ≡ codes "n=" ++ text → u ≡ front_of is_attribute_char text → r ≡ rest_of is_attribute_char text
+    → IsUserName user → bare ≡ named_bare user nonce → (u ≡ user) × (r ≡ codes ",r=" ++ nonce)
+name_cut bare text u r user nonce is u_is r_is name same =
+    let text_is : text ≡ user ++ (codes ",r=" ++ nonce) = append_cancel_left (codes "n=") text (user ++ (codes ",r=" ++ nonce)) (sym is ∙ same) in
+    let stops = run_stops is_attribute_char user 44 (codes "r=" ++ nonce) (plain_name user name.spelled) refl in
+    (u_is ∙ rw text_is stops.0, r_is ∙ rw text_is stops.1)
+
+-- what no name and no nonce stand in
+abbrev pub Unnamed : List ℕ → Type 0
+Unnamed bare = (user nonce : List ℕ) → IsUserName user → IsNonce nonce → bare ≢ named_bare user nonce
+
+pub no_attribute : (bare : List ℕ) → ((x : List ℕ) → bare ≢ codes "n=" ++ x) → Unnamed bare
+no_attribute bare none user nonce a b is = none (user ++ (codes ",r=" ++ nonce)) is
+
+pub no_second : (bare text u r : List ℕ) → bare ≡ codes "n=" ++ text → u ≡ front_of is_attribute_char text → r ≡ rest_of is_attribute_char text
+    → ((x : List ℕ) → r ≢ codes ",r=" ++ x) → Unnamed bare
+no_second bare text u r is u_is r_is none user nonce a b same = none nonce (name_cut bare text u r user nonce is u_is r_is a same).1
+
+pub no_user : (bare text u r : List ℕ) → bare ≡ codes "n=" ++ text → u ≡ front_of is_attribute_char text → r ≡ rest_of is_attribute_char text
+    → ¬ IsUserName u → Unnamed bare
+no_user bare text u r is u_is r_is none user nonce a b same =
+    none (subst IsUserName (sym (name_cut bare text u r user nonce is u_is r_is a same).0) a)
+
+pub no_nonce : (bare text u r n : List ℕ) → bare ≡ codes "n=" ++ text → u ≡ front_of is_attribute_char text → r ≡ rest_of is_attribute_char text
+    → r ≡ codes ",r=" ++ n → ¬ IsNonce n → Unnamed bare
+no_nonce bare text u r n is u_is r_is n_is none user nonce a b same =
+    let end : nonce ≡ n = append_cancel_left (codes ",r=") nonce n (sym (name_cut bare text u r user nonce is u_is r_is a same).1 ∙ n_is) in
+    none (subst IsNonce end b)
+
+pub named : (bare text u r n : List ℕ) → bare ≡ codes "n=" ++ text → u ≡ front_of is_attribute_char text → r ≡ rest_of is_attribute_char text
+    → r ≡ codes ",r=" ++ n → bare ≡ named_bare u n
+named bare text u r n is u_is r_is n_is =
+    let whole : u ++ r ≡ text = rw (u_is, r_is) (take-append-drop (prefix_len is_attribute_char text) text) in
+    is ∙ ap (λ l. codes "n=" ++ l) (sym whole ∙ ap (λ l. u ++ l) n_is)
+
+-- ---- the empty name
+
+third : (c d : ℕ) (l k : List ℕ) → 110 ∷ 61 ∷ c ∷ l ≡ 110 ∷ 61 ∷ d ∷ k → c ≡ d
+third c d l k e = cc
+
+pub empty_name : (user nonce n : List ℕ) → SaslName user → named_bare user nonce ≡ first_bare n → (user ≡ []) × (nonce ≡ n)
+empty_name [] nonce n name e = (refl, append_cancel_left (codes "n=,r=") nonce n e)
+empty_name (c ∷ user) nonce n name e =
+    let is : c ≡ 44 = third c 44 (user ++ (codes ",r=" ++ nonce)) (codes "r=" ++ n) e in
+    let pass : is_attribute_char c ≡ true = All-head Plain c user (plain_name (c ∷ user) name) in
+    let bad : false ≡ true = subst (λ x. is_attribute_char x ≡ true) is pass in
+    cc
