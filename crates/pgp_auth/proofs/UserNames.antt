@@ -66,7 +66,7 @@ plain_back c r pass (two is b) = absurd (not_equals c is pass)
 plain_back c r pass (three is b) = absurd (not_equals c is pass)
 
 -- a character that stands for itself
-pub plain_step : (c : ℕ) (r : List ℕ) → is_value_char c ≡ true → SaslName (c ∷ r) ↔ SaslName r
+pub plain_step : (c : ℕ) (r : List ℕ) → is_value_char c ≡ true → (SaslName (c ∷ r) ↔ SaslName r)
 plain_step c r pass = (λ h. plain_back c r pass (front (c ∷ r) c r h refl), λ h. itself pass h)
 
 two_back : (r x : List ℕ) → r ≡ codes "2C" ++ x → Front 61 r → SaslName x
@@ -90,10 +90,10 @@ three_on : (r x : List ℕ) → r ≡ codes "3D" ++ x → SaslName x → SaslNam
 three_on r x is h = subst (λ l. SaslName (61 ∷ l)) (sym is) (equals h)
 
 -- an escape
-pub comma_step : (r x : List ℕ) → r ≡ codes "2C" ++ x → SaslName (61 ∷ r) ↔ SaslName x
+pub comma_step : (r x : List ℕ) → r ≡ codes "2C" ++ x → (SaslName (61 ∷ r) ↔ SaslName x)
 comma_step r x is = (λ h. two_back r x is (front (61 ∷ r) 61 r h refl), λ h. two_on r x is h)
 
-pub equals_step : (r x : List ℕ) → r ≡ codes "3D" ++ x → SaslName (61 ∷ r) ↔ SaslName x
+pub equals_step : (r x : List ℕ) → r ≡ codes "3D" ++ x → (SaslName (61 ∷ r) ↔ SaslName x)
 equals_step r x is = (λ h. three_back r x is (front (61 ∷ r) 61 r h refl), λ h. three_on r x is h)
 
 no_escape : (r : List ℕ) → ((x : List ℕ) → r ≢ codes "2C" ++ x) → ((x : List ℕ) → r ≢ codes "3D" ++ x) → Front 61 r → ⊥

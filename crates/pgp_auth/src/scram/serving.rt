@@ -1,6 +1,6 @@
 //! What a server makes of a client's texts.
 
-ghost use Rattle.std.specs.Prelude.{◌≡◌, ◌≢◌, ◌<◌, ◌^◌, ℕ, List, ◌++◌, length, codes, IfOk, IfErr, OnErr, MatchOption};
+ghost use Rattle.std.specs.Prelude.{◌≡◌, ◌≢◌, ◌<◌, ◌^◌, false, ℕ, List, ◌++◌, length, codes, IfOk, IfErr, OnErr, MatchOption};
 ghost use Rattle.pgp_base.specs.Wire.{IsBytes};
 ghost use Rattle.pgp_auth.specs.Base64.{base64, Shows};
 ghost use Rattle.pgp_auth.specs.ScramText.{Binding, gs2_header};
@@ -190,7 +190,7 @@ pub(crate) fn admit<A: Allocator>(
     challenged: &Challenged<A>,
     text: &[u8],
 ) -> Result<[u8; FINAL_LEN], ServerError>
-    ensures ok { IfOk result (λ t. AcceptsFinal (challenge_of challenged.now) text.now × Shown (challenge_of challenged.now) t) }
+    ensures ok { IfOk result (λ t. (challenged.now.verifier.is_mock ≡ false) × AcceptsFinal (challenge_of challenged.now) text.now × Shown (challenge_of challenged.now) t) }
     ensures err { IfErr result (λ e. NotAdmitted (challenge_of challenged.now) text.now e) }
 {
     let Some(rest) = behind(&challenged.front, text) else {

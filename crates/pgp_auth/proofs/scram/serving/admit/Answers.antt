@@ -61,6 +61,7 @@ returns-clause-ok g c =
     let ch = c.args.challenged.now in
     let key : c.digest.result ≡ sha256 (xor_bytes c.in-Some-proof_in.proof.now (mac ch.verifier.stored_key ch.auth.items)) =
     c.digest.ensures ∙ ap sha256 (c.key_in-key.ensures.value ∙ ap (λ l. xor_bytes c.in-Some-proof_in.proof.now (mac ch.verifier.stored_key l)) c.deref-2.ensures.value) in (
+      c.if-is_mock.false,
       accepts_final (challenge_of ch) c.args.text.now ch.front.items ch.auth.items c.in-Some-behind.shown.now c.in-Some-proof_in.proof.now (expects ch)
           (text_shown c.args.text.now ch.front.items c.deref.result.now c.in-Some.rest.now c.in-Some-behind.shown.now c.deref.ensures.value c.in-Some.ensures c.in-Some-behind.ensures) c.in-Some-proof_in.ensures.2 c.key_in-key.ensures.bytes c.in-Some-proof_in.ensures.0
           (sym key ∙ sym (c.difference.ensures.0 c.if-difference-ne0.false)),
