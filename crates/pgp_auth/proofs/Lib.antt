@@ -13,6 +13,7 @@ pub mod FirstTexts
 pub mod Grants
 pub mod HeaderText
 pub mod LongKeys
+pub mod Md5Checks
 pub mod Once
 pub mod OneText
 pub mod Patterns

@@ -1,6 +1,7 @@
 -- What `read_stored` reads is a stored verifier's text, and each such text is read.
 use Rattle.std.proofs.Common.{◌≡◌, ◌≢◌, ℕ, ◌<◌, List, [], ◌∷◌, ◌++◌, length, codes, refl, sym, ap, ◌∙◌, subst, arith, inl, inr}
-use Rattle.std.specs.Prelude.{◌⊎◌}
+use Rattle.std.specs.Prelude.{◌⊎◌, ◌↔◌, ◌==◌, IsTrue, Bool, true, false}
+use Rattle.std.proofs.lemmas.Bool.{eqb-true, eq-eqb}
 use Rattle.std.proofs.lemmas.List.{take-append-drop}
 use Rattle.std.specs.List.{prefix_len, AllPass}
 use Rattle.std.specs.declared.result.Result.{Result}
@@ -187,15 +188,40 @@ no_key shown none key k is = none key k.len (rw is (shows_itself key k.bytes))
 
 -- ---- a verifier is that of a password by its keys
 
+abbrev verifier_at : List ℕ → ℕ → List ℕ → List ℕ → Verifier
+verifier_at salt n stored server = record { salt = salt; count = n; stored_key = stored; server_key = server }
+
+same_keys : (salt : List ℕ) (n : ℕ) (a b c d : List ℕ) → a ≡ b → c ≡ d → verifier_at salt n a c ≡ verifier_at salt n b d
+same_keys salt n a b c d e f = rw (e, f) refl
+
 pub verifier_by_keys : (v : Verifier) (p : List ℕ) → v.stored_key ≡ sha256 (mac (salted p v.salt v.count) (codes "Client Key")) → v.server_key ≡ mac (salted p v.salt v.count) (codes "Server Key")
     → v ≡ verifier p v.salt v.count
 unfolding verifier
 verifier_by_keys v p a b =
-    let q : Verifier = record { salt = v.salt; count = v.count; stored_key = sha256 (mac (salted p v.salt v.count) (codes "Client Key")); server_key = mac (salted p v.salt v.count) (codes "Server Key") } in
-    let same : record { salt = v.salt; count = v.count; stored_key = v.stored_key; server_key = v.server_key } ≡ q = rw (a, b) refl in
-    same
+    same_keys v.salt v.count v.stored_key (sha256 (mac (salted p v.salt v.count) (codes "Client Key"))) v.server_key (mac (salted p v.salt v.count) (codes "Server Key")) a b
 
 pub keys_of_verifier : (v : Verifier) (p : List ℕ) → v ≡ verifier p v.salt v.count
     → (v.stored_key ≡ sha256 (mac (salted p v.salt v.count) (codes "Client Key"))) × (v.server_key ≡ mac (salted p v.salt v.count) (codes "Server Key"))
 unfolding verifier
 keys_of_verifier v p e = (ap (λ (x : Verifier). x.stored_key) e, ap (λ (x : Verifier). x.server_key) e)
+
+made_up_not : (b : Bool) → b ≡ true → b ≡ false → ⊥
+made_up_not b yes_ no_ = cc
+
+-- what a comparison of the keys tells: how far each is from the password's
+abbrev pub IsOf : Bool → Verifier → List ℕ → Type 0
+IsOf made_up v p = (made_up ≡ false) × (v ≡ verifier p v.salt v.count)
+
+pub no_ones : (v : Verifier) (p : List ℕ) (made_up : Bool) → made_up ≡ true → (IsTrue false ↔ IsOf made_up v p)
+no_ones v p made_up yes_ = (λ bad. cc, λ is. absurd (made_up_not made_up yes_ is.0))
+
+pub keys_compared : (v : Verifier) (p sk vk : List ℕ) (made_up : Bool) (far near : ℕ) → made_up ≡ false → sk ≡ sha256 (mac (salted p v.salt v.count) (codes "Client Key")) → vk ≡ mac (salted p v.salt v.count) (codes "Server Key")
+    → ((far ≡ 0) ↔ (v.stored_key ≡ sk)) → ((near ≡ 0) ↔ (v.server_key ≡ vk)) → far ≡ 0 → (IsTrue (near == 0) ↔ IsOf made_up v p)
+keys_compared v p sk vk made_up far near real sk_is vk_is first second zero_ = (
+  λ yes_. (real, verifier_by_keys v p (first.0 zero_ ∙ sk_is) (second.0 (eqb-true near 0 yes_) ∙ vk_is)),
+  λ is. eq-eqb near 0 (second.1 ((keys_of_verifier v p is.1).1 ∙ sym vk_is)),
+)
+
+pub other_stored_key : (v : Verifier) (p sk : List ℕ) (made_up : Bool) (far : ℕ) → sk ≡ sha256 (mac (salted p v.salt v.count) (codes "Client Key"))
+    → ((far ≡ 0) ↔ (v.stored_key ≡ sk)) → far ≢ 0 → (IsTrue false ↔ IsOf made_up v p)
+other_stored_key v p sk made_up far sk_is first other = (λ bad. cc, λ is. absurd (other (first.1 ((keys_of_verifier v p is.1).0 ∙ sym sk_is))))

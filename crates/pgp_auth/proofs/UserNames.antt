@@ -1,7 +1,8 @@
 -- A user's name in a client's first text, and where it ends.
 use Rattle.std.proofs.Common.{◌≡◌, ◌≢◌, ◌==◌, ℕ, ◌<◌, ◌≤◌, Bool, true, false, not, List, [], ◌∷◌, ◌++◌, length, codes, refl, sym, ap, ◌∙◌, subst, arith, inl, inr}
-use Rattle.std.specs.Prelude.{◌↔◌, ◌⊎◌, ◌||◌, Option, Some, None, MatchOption}
+use Rattle.std.specs.Prelude.{◌↔◌, ◌⊎◌, ◌||◌, IsTrue, Option, Some, None, MatchOption}
 use Rattle.std.specs.List.{AllPass, prefix_len}
+use Rattle.std.specs.Str.{IsUtf8}
 use Rattle.std.proofs.lemmas.Bool.{cases_Bool}
 use Rattle.std.proofs.lemmas.List.{append_cancel_left, take-append-drop}
 use Rattle.std.proofs.lemmas.List.Elements.{All-nil, All-cons, All-head}
@@ -116,6 +117,24 @@ none_back c r other no_ (three is b) = other is
 -- neither
 pub no_character : (c : ℕ) (r : List ℕ) → c ≢ 61 → is_value_char c ≢ true → ¬ SaslName (c ∷ r)
 no_character c r other no_ h = none_back c r other no_ (front (c ∷ r) c r h refl)
+
+-- ---- a name, character by character
+
+pub name_goes_on : (name rest r x : List ℕ) (c : ℕ) → (SaslName name ↔ SaslName rest) → rest ≡ c ∷ r → (SaslName (c ∷ r) ↔ SaslName x) → (SaslName name ↔ SaslName x)
+name_goes_on name rest r x c h is step = (λ n. step.0 (subst SaslName is (h.0 n)), λ y. h.1 (subst SaslName (sym is) (step.1 y)))
+
+pub name_stops : (name rest r : List ℕ) (c : ℕ) → (SaslName name ↔ SaslName rest) → rest ≡ c ∷ r → ¬ SaslName (c ∷ r) → (IsTrue false ↔ SaslName name)
+name_stops name rest r c h is none = (λ bad. cc, λ n. absurd (none (subst SaslName is (h.0 n))))
+
+pub name_ends : (name rest : List ℕ) → (SaslName name ↔ SaslName rest) → length rest ≡ 0 → (IsTrue true ↔ SaslName name)
+name_ends name [] h e = (λ _. h.1 no_more, λ _. refl)
+name_ends name (c ∷ r) h e = absurd (omega arith)
+
+pub not_text : (bytes : List ℕ) → ¬ IsUtf8 bytes → (IsTrue false ↔ IsUserName bytes)
+not_text bytes none = (λ bad. cc, λ n. absurd (none n.utf8))
+
+pub text_spelled : (bytes : List ℕ) (b : Bool) → IsUtf8 bytes → (IsTrue b ↔ SaslName bytes) → (IsTrue b ↔ IsUserName bytes)
+text_spelled bytes b u h = (λ y. record { utf8 = u; spelled = h.0 y }, λ n. h.1 n.spelled)
 
 -- ---- where a name ends
 

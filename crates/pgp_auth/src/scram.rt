@@ -24,6 +24,6 @@ pub use error::ScramError;
 pub use held::{ChannelOffer, StoredVerifier};
 pub use nonce::is_nonce;
 pub use server::ScramServer;
-pub(crate) use serving::behind;
 pub use server_error::{ExchangeError, ServerError, VerifierError};
+pub(crate) use serving::behind;
 pub(crate) use verify::difference;

@@ -59,11 +59,7 @@ fn show_check_md5_answer(words: &mut Words<'_>, out: &mut Shown) -> Result<(), F
     out.number(check::md5_answer(answer, salt, words.bytes()?))
 }
 
-fn show_check_scram(
-    alloc: Global,
-    words: &mut Words<'_>,
-    out: &mut Shown,
-) -> Result<(), Fault> {
+fn show_check_scram(alloc: Global, words: &mut Words<'_>, out: &mut Shown) -> Result<(), Fault> {
     let password = words.bytes()?;
     let Ok(stored) = StoredVerifier::parse(alloc, words.bytes()?) else {
         return Err(Fault::Row);

@@ -65,11 +65,7 @@ fn server_of(alloc: Global, served: &Served<'_>) -> Result<ScramServer<Global>, 
         return Err(Fault::Row);
     }
     let verifier = verifier_of(alloc, served)?;
-    Ok(ScramServer::with_nonce(
-        verifier,
-        offer_of(alloc, served)?,
-        own,
-    ))
+    Ok(ScramServer::with_nonce(verifier, offer_of(alloc, served)?, own))
 }
 
 /// Shows a text of the server.
@@ -167,7 +163,11 @@ impl Outcomes {
 }
 
 /// How a first text ends.
-fn first_outcome(alloc: Global, served: &Served<'_>, text: &[u8]) -> Result<Result<(), ServerError>, Fault> {
+fn first_outcome(
+    alloc: Global,
+    served: &Served<'_>,
+    text: &[u8],
+) -> Result<Result<(), ServerError>, Fault> {
     let mut server = server_of(alloc, served)?;
     match server.first(text) {
         Ok(_) => Ok(Ok(())),

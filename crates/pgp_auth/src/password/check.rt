@@ -22,10 +22,13 @@ const DIGITS_LEN: usize = 32;
 fn is_md5_text(digits: &[u8; DIGITS_LEN], text: &[u8]) -> bool
     ensures { IsTrue result ↔ (text.now ≡ codes "md5" ++ digits.now) }
 {
-    match behind(b"md5", text) {
-        Some(rest) => rest.len() == DIGITS_LEN && difference(digits, rest) == 0,
-        None => false,
+    let Some(rest) = behind(b"md5", text) else {
+        return false;
+    };
+    if rest.len() != DIGITS_LEN {
+        return false;
     }
+    difference(digits, rest) == 0
 }
 
 /// A clear-text password against a stored MD5 text.
@@ -51,7 +54,6 @@ pub fn md5_answer(answer: &[u8], salt: [u8; 4], stored: &[u8]) -> bool
 }
 
 // The prepared password is that of a verifier which isn't made up.
-#[tactic(auto, using(crate::proofs::StoredTexts::verifier_by_keys, crate::proofs::StoredTexts::keys_of_verifier))]
 fn is_password<A: Allocator>(password: &[u8], stored: &StoredVerifier<A>) -> bool
     ensures { IsTrue result ↔ ((stored.now.is_mock ≡ false) × (verifier_of stored.now ≡ verifier password.now stored.now.salt.items stored.now.count)) }
 {
@@ -60,7 +62,13 @@ fn is_password<A: Allocator>(password: &[u8], stored: &StoredVerifier<A>) -> boo
     let server_key = hmac_sha256(&salted, b"Server Key", b"");
     let from_stored = difference(&stored_key, &stored.stored_key);
     let from_server = difference(&server_key, &stored.server_key);
-    !stored.is_mock && from_stored == 0 && from_server == 0
+    if stored.is_mock {
+        return false;
+    }
+    if from_stored != 0 {
+        return false;
+    }
+    from_server == 0
 }
 
 /// A clear-text password against a stored verifier. No password is that of `StoredVerifier::mock`.

@@ -14,8 +14,7 @@ const STORED: &[u8] =
 fn meets(alloc: Global, password: &[u8]) -> Option<bool> {
     let mut rng = Counting(5);
     let verifier = StoredVerifier::parse(alloc, STORED).ok()?;
-    let mut server =
-        ScramServer::new(alloc, verifier, ChannelOffer::NotOffered, &mut rng).ok()?;
+    let mut server = ScramServer::new(alloc, verifier, ChannelOffer::NotOffered, &mut rng).ok()?;
     let binding = ChannelBinding::unsupported();
     let mut client = ScramSha256::new(alloc, password, binding, &NoPrep, &mut rng).ok()?;
     let answer = server.first(client.message()?).ok()?;
