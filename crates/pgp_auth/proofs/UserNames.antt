@@ -74,13 +74,13 @@ two_back : (r x : List ℕ) → r ≡ codes "2C" ++ x → Front 61 r → SaslNam
 two_back r x is (plain p h) = absurd (not_equals 61 refl p)
 two_back r x is (two same b) = subst SaslName (append_cancel_left (codes "2C") b.x x (sym b.is ∙ is)) b.name
 two_back r x is (three same b) =
-    let bad : 51 ≡ 50 = heads 51 50 (68 ∷ b.x) (67 ∷ x) (sym b.is ∙ is) in
+    let bad = heads 51 50 (68 ∷ b.x) (67 ∷ x) (sym b.is ∙ is) in
     absurd (omega (arith, bad))
 
 three_back : (r x : List ℕ) → r ≡ codes "3D" ++ x → Front 61 r → SaslName x
 three_back r x is (plain p h) = absurd (not_equals 61 refl p)
 three_back r x is (two same b) =
-    let bad : 50 ≡ 51 = heads 50 51 (67 ∷ b.x) (68 ∷ x) (sym b.is ∙ is) in
+    let bad = heads 50 51 (67 ∷ b.x) (68 ∷ x) (sym b.is ∙ is) in
     absurd (omega (arith, bad))
 three_back r x is (three same b) = subst SaslName (append_cancel_left (codes "3D") b.x x (sym b.is ∙ is)) b.name
 
