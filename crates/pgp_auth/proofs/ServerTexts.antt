@@ -214,11 +214,19 @@ pub front_made : (header hash nonce own items whole w front : List ℕ) → item
     → front ≡ without_proof header hash w → front ≡ without_proof header hash (items ++ own)
 front_made header hash nonce own items whole w front a b c is = rw (a, ← b, ← c) is
 
+pub whole_made : (whole nonce own o : List ℕ) → whole ≡ nonce ++ o → o ≡ own → whole ≡ nonce ++ own
+whole_made whole nonce own o is same = rw (← same) is
+
+same_message : (a b c d e f : List ℕ) → a ≡ b → c ≡ d → e ≡ f → auth_message a c e ≡ auth_message b d f
+same_message a b c d e f p q r = rw (p, q, r) refl
+
 pub auth_made : (bare user nonce own users items whole w salt s answer m front f auth : List ℕ) (count : ℕ) → users ≡ user → items ≡ nonce → bare ≡ named_bare user nonce
     → whole ≡ nonce ++ own → w ≡ whole → s ≡ salt → answer ≡ server_first w s count → m ≡ answer → f ≡ front → auth ≡ auth_message bare m f
     → auth ≡ auth_message (named_bare users items) (server_first (items ++ own) salt count) front
 auth_made bare user nonce own users items whole w salt s answer m front f auth count u a bare_is b c d answer_is m_is f_is is =
-    rw (u, a, ← bare_is, ← b, ← c, ← d, ← answer_is, ← m_is, ← f_is) is
+    let first : bare ≡ named_bare users items = rw (u, a) bare_is in
+    let second : m ≡ server_first (items ++ own) salt count = rw (a, ← b, ← c, ← d) (m_is ∙ answer_is) in
+    is ∙ same_message bare (named_bare users items) m (server_first (items ++ own) salt count) f front first second f_is
 
 pub chars_made : (nonce own items : List ℕ) → items ≡ nonce → AllPass is_nonce_char nonce → AllPass is_nonce_char own → AllPass is_nonce_char (items ++ own)
 chars_made nonce own items a front back = rw a (All-append (λ x. is_nonce_char x ≡ true) nonce own front back)

@@ -20,7 +20,7 @@ use Rattle.pgp_auth.specs.Verifier.{Verifier, verifier}
 use Rattle.pgp_auth.specs.ScramText.{is_digit, is_base64_char, NamesCount}
 use Rattle.pgp_auth.specs.ScramReading.{◌>>=◌, expected, count_of, front_of, rest_of}
 use Rattle.pgp_auth.specs.ScramStored.{stored_text, IsKey, Stores, StoresBut, NotStored}
-use Rattle.pgp_auth.specs.StoredReading.{StoredParts, read_stored}
+use Rattle.pgp_auth.specs.StoredReading.{StoredParts, read_parts, read_stored}
 use Rattle.pgp_auth.proofs.FirstTexts.{from_bind, bind_is, expected-ok, expected-append, count_of-ok, count_of-is}
 use Rattle.pgp_auth.proofs.Runs.{front_passes, run_stops}
 use Rattle.pgp_auth.proofs.BothWays.{base64_chars}
@@ -69,7 +69,7 @@ read_last t p a b c d i ea ei eb ec ed same =
     subst P e made
 
 read_stored-sound : (t : List ℕ) (p : StoredParts) → read_stored t ≡ Ok p → StoredIn t p
-unfolding read_stored
+unfolding read_stored read_parts
 read_stored-sound t p h =
     let Q : Type 0 = StoredIn t p in
     from_bind Q (expected (length t) (codes "SCRAM-SHA-256$") t) _ p h
@@ -112,7 +112,7 @@ abbrev pub parts_at : Verifier → StoredParts
 parts_at v = record { count = v.count; salt = base64 v.salt; stored = base64 v.stored_key; server = base64 v.server_key }
 
 stored_is_read : (t : List ℕ) (v : Verifier) → Stores t v → read_stored t ≡ Ok (parts_at v)
-unfolding read_stored
+unfolding read_stored read_parts
 stored_is_read t v s =
     let whole = from_complete (length t) s.digits (base64 v.salt) (base64 v.stored_key) (base64 v.server_key) v.count s.digit_chars
     (base64_chars v.salt s.salt_bytes) (base64_chars v.stored_key s.stored_key.bytes) s.names in
@@ -145,6 +145,9 @@ no_server_key lacks t p e none = inr (refl, λ v s. none v.server_key s.server_k
 salt_refused : (t : List ℕ) (p : StoredParts) → read_stored t ≡ Ok p → ((salt : List ℕ) → IsBytes salt → p.salt ≢ base64 salt) → Refuses t
 salt_refused t p e none v s = none v.salt s.salt_bytes (ap (λ (q : StoredParts). q.salt) (parts_of_stored t p v e s))
 
+text_as : (t d a b c x y z : List ℕ) → t ≡ stored_text d a b c → a ≡ x → b ≡ y → c ≡ z → t ≡ stored_text d x y z
+text_as t d a b c x y z is e f g = rw (← e, ← f, ← g) is
+
 stores_but : (t : List ℕ) (p : StoredParts) (stored server : List ℕ) → read_stored t ≡ Ok p → IsKey stored → p.stored ≡ base64 stored → IsKey server → p.server ≡ base64 server → StoresBut t
 stores_but t p stored server e sk s_is vk v_is =
     let is = read_stored-sound t p e in
@@ -154,7 +157,7 @@ stores_but t p stored server e sk s_is vk v_is =
       salt_text = p.salt;
       stored = stored;
       server = server;
-      text_is = rw (s_is, v_is) at is.text_is;
+      text_is = text_as t is.digits p.salt p.stored p.server p.salt (base64 stored) (base64 server) is.text_is refl s_is v_is;
       digit_chars = is.digit_chars;
       names = is.names;
       salt_chars = is.salt_chars;
@@ -174,7 +177,7 @@ stores t p salt stored server e sk s_is vk v_is bytes salt_is =
     let is = read_stored-sound t p e in
     record {
       digits = is.digits;
-      text_is = rw (s_is, v_is, salt_is) at is.text_is;
+      text_is = text_as t is.digits p.salt p.stored p.server (base64 salt) (base64 stored) (base64 server) is.text_is salt_is s_is v_is;
       digit_chars = is.digit_chars;
       names = is.names;
       salt_bytes = bytes;
@@ -207,6 +210,12 @@ keys_of_verifier v p e = (ap (λ (x : Verifier). x.stored_key) e, ap (λ (x : Ve
 
 made_up_not : (b : Bool) → b ≡ true → b ≡ false → ⊥
 made_up_not b yes_ no_ = cc
+
+pub client_made : (p salt s k h d : List ℕ) (n : ℕ) → d ≡ sha256 h → h ≡ mac k (codes "Client Key") → k ≡ salted p s n → s ≡ salt → d ≡ sha256 (mac (salted p salt n) (codes "Client Key"))
+client_made p salt s k h d n a b c e = rw (a, b, c, e) refl
+
+pub server_made : (p salt s k h : List ℕ) (n : ℕ) → h ≡ mac k (codes "Server Key") → k ≡ salted p s n → s ≡ salt → h ≡ mac (salted p salt n) (codes "Server Key")
+server_made p salt s k h n b c e = rw (b, c, e) refl
 
 -- what a comparison of the keys tells: how far each is from the password's
 abbrev pub IsOf : Bool → Verifier → List ℕ → Type 0

@@ -1,12 +1,14 @@
 -- A user's name in a client's first text, and where it ends.
 use Rattle.std.proofs.Common.{◌≡◌, ◌≢◌, ◌==◌, ℕ, ◌<◌, ◌≤◌, Bool, true, false, not, List, [], ◌∷◌, ◌++◌, length, codes, refl, sym, ap, ◌∙◌, subst, arith, inl, inr}
-use Rattle.std.specs.Prelude.{◌↔◌, ◌⊎◌, ◌||◌, IsTrue, Option, Some, None, MatchOption}
+use Rattle.std.specs.Prelude.{◌↔◌, ◌⊎◌, ◌&&◌, ◌||◌, IsTrue, Option, Some, None, MatchOption}
 use Rattle.std.specs.List.{AllPass, prefix_len}
-use Rattle.std.specs.Str.{IsUtf8}
-use Rattle.std.proofs.lemmas.Bool.{cases_Bool}
+use Rattle.std.specs.Str.{IsUtf8, is_utf8}
+use Rattle.std.proofs.lemmas.Bool.{eqb-true}
+use Rattle.std.proofs.lemmas.Str.{is_utf8-from_IsUtf8, IsUtf8-from_is_utf8}
 use Rattle.std.proofs.lemmas.List.{append_cancel_left, take-append-drop}
 use Rattle.std.proofs.lemmas.List.Elements.{All-nil, All-cons, All-head}
 use Rattle.pgp_auth.specs.ScramText.{Binding, is_value_char, is_attribute_char, SaslName, no_more, itself, comma, equals, IsUserName, IsNonce, named_bare, first_bare}
+use Rattle.pgp_auth.specs.NameReading.{is_escape, may_stand, spells}
 use Rattle.pgp_auth.specs.ScramReading.{front_of, rest_of}
 use Rattle.pgp_auth.proofs.Runs.{run_stops}
 
@@ -109,14 +111,20 @@ pub second_escape : {T : Type 0} (o : Option T) (now : T → List ℕ) (r : List
 second_escape None now r a b = λ h. no_escape r a b (front (61 ∷ r) 61 r h refl)
 second_escape (Some x) now r a b = equals_step r (now x) b
 
-none_back : (c : ℕ) (r : List ℕ) → c ≢ 61 → is_value_char c ≢ true → Front c r → ⊥
-none_back c r other no_ (plain p h) = no_ p
+not_both : (b : Bool) → b ≡ true → b ≡ false → ⊥
+not_both b yes_ no_ = cc
+
+none_back : (c : ℕ) (r : List ℕ) → c ≢ 61 → is_value_char c ≡ false → Front c r → ⊥
+none_back c r other no_ (plain p h) = not_both (is_value_char c) p no_
 none_back c r other no_ (two is b) = other is
 none_back c r other no_ (three is b) = other is
 
 -- neither
-pub no_character : (c : ℕ) (r : List ℕ) → c ≢ 61 → is_value_char c ≢ true → ¬ SaslName (c ∷ r)
+pub no_character : (c : ℕ) (r : List ℕ) → c ≢ 61 → is_value_char c ≡ false → ¬ SaslName (c ∷ r)
 no_character c r other no_ h = none_back c r other no_ (front (c ∷ r) c r h refl)
+
+pub not_so : (P : Type 0) (b : Bool) → b ≡ false → (IsTrue b ↔ P) → ¬ P
+not_so P b no_ h p = let yes_ : b ≡ true = h.1 p in cc
 
 -- ---- a name, character by character
 
@@ -130,11 +138,83 @@ pub name_ends : (name rest : List ℕ) → (SaslName name ↔ SaslName rest) →
 name_ends name [] h e = (λ _. h.1 no_more, λ _. refl)
 name_ends name (c ∷ r) h e = absurd (omega arith)
 
-pub not_text : (bytes : List ℕ) → ¬ IsUtf8 bytes → (IsTrue false ↔ IsUserName bytes)
-not_text bytes none = (λ bad. cc, λ n. absurd (none n.utf8))
+pub not_text : (bytes : List ℕ) → is_utf8 bytes ≡ false → (IsTrue false ↔ IsUserName bytes)
+not_text bytes none = (λ bad. cc, λ n. absurd (not_both (is_utf8 bytes) (is_utf8-from_IsUtf8 bytes n.utf8) none))
 
-pub text_spelled : (bytes : List ℕ) (b : Bool) → IsUtf8 bytes → (IsTrue b ↔ SaslName bytes) → (IsTrue b ↔ IsUserName bytes)
-text_spelled bytes b u h = (λ y. record { utf8 = u; spelled = h.0 y }, λ n. h.1 n.spelled)
+pub text_spelled : (bytes : List ℕ) (b : Bool) → is_utf8 bytes ≡ true → (IsTrue b ↔ SaslName bytes) → (IsTrue b ↔ IsUserName bytes)
+text_spelled bytes b u h = (λ y. record { utf8 = IsUtf8-from_is_utf8 bytes u; spelled = h.0 y }, λ n. h.1 n.spelled)
+
+-- ---- a name that was tested
+
+both : (a b : Bool) → (a && b) ≡ true → (a ≡ true) × (b ≡ true)
+both true b e = (refl, e)
+both false b e = cc
+
+either : (a b : Bool) → (a || b) ≡ true → (a ≡ true) ⊎ (b ≡ true)
+either true b e = inl refl
+either false b e = inr e
+
+or_left : (a b : Bool) → a ≡ true → (a || b) ≡ true
+or_left true b e = refl
+or_left false b e = cc
+
+and_true : (a b : Bool) → a ≡ true → b ≡ true → (a && b) ≡ true
+and_true true b e f = f
+and_true false b e f = cc
+
+spelled_stands : (name : List ℕ) → SaslName name → spells name ≡ true
+unfolding spells may_stand is_escape
+spelled_stands _ no_more = refl
+spelled_stands _ (itself {c = c} {name = n} pass h) =
+    and_true (is_value_char c || (c == 61 && is_escape n)) (spells n) (or_left (is_value_char c) (c == 61 && is_escape n) pass) (spelled_stands n h)
+spelled_stands _ (comma {name = n} h) = spelled_stands n h
+spelled_stands _ (equals {name = n} h) = spelled_stands n h
+
+record Escape (rest : List ℕ) : Type 0 where
+  x : List ℕ
+  is : (rest ≡ codes "2C" ++ x) ⊎ (rest ≡ codes "3D" ++ x)
+
+by_pair : (a b : ℕ) (r : List ℕ) → ((a == 50 && b == 67) ≡ true) ⊎ ((a == 51 && b == 68) ≡ true) → Escape (a ∷ b ∷ r)
+by_pair a b r (inl e) =
+    let e2 = both (a == 50) (b == 67) e in
+    record { x = r; is = inl (rw (eqb-true a 50 e2.0, eqb-true b 67 e2.1) refl) }
+by_pair a b r (inr e) =
+    let e2 = both (a == 51) (b == 68) e in
+    record { x = r; is = inr (rw (eqb-true a 51 e2.0, eqb-true b 68 e2.1) refl) }
+
+escape_in : (rest : List ℕ) → is_escape rest ≡ true → Escape rest
+unfolding is_escape
+escape_in [] e = cc
+escape_in (a ∷ []) e = cc
+escape_in (a ∷ b ∷ r) e = by_pair a b r (either (a == 50 && b == 67) (a == 51 && b == 68) e)
+
+-- two characters that stand for themselves, taken off
+behind_two : (a b : ℕ) (x : List ℕ) → is_value_char a ≡ true → is_value_char b ≡ true → SaslName (a ∷ b ∷ x) → SaslName x
+behind_two a b x p q h = (plain_step b x q).0 ((plain_step a (b ∷ x) p).0 h)
+
+by_escape : (rest x : List ℕ) → (rest ≡ codes "2C" ++ x) ⊎ (rest ≡ codes "3D" ++ x) → SaslName rest → SaslName (61 ∷ rest)
+by_escape rest x (inl is) h = two_on rest x is (behind_two 50 67 x refl refl (subst SaslName is h))
+by_escape rest x (inr is) h = three_on rest x is (behind_two 51 68 x refl refl (subst SaslName is h))
+
+by_first : (c : ℕ) (rest : List ℕ) → (is_value_char c ≡ true) ⊎ ((c == 61 && is_escape rest) ≡ true) → SaslName rest → SaslName (c ∷ rest)
+by_first c rest (inl pass) h = itself pass h
+by_first c rest (inr e) h =
+    let parts = both (c == 61) (is_escape rest) e in
+    let esc = escape_in rest parts.1 in
+    subst (λ k. SaslName (k ∷ rest)) (sym (eqb-true c 61 parts.0)) (by_escape rest esc.x esc.is h)
+
+stands_spelled : (name : List ℕ) → spells name ≡ true → SaslName name
+unfolding spells may_stand
+stands_spelled [] e = no_more
+stands_spelled (c ∷ rest) e =
+    let parts = both (is_value_char c || (c == 61 && is_escape rest)) (spells rest) e in
+    by_first c rest (either (is_value_char c) (c == 61 && is_escape rest) parts.0) (stands_spelled rest parts.1)
+
+pub name_stands : (name : List ℕ) → IsUserName name → (is_utf8 name ≡ true) × (spells name ≡ true)
+name_stands name n = (is_utf8-from_IsUtf8 name n.utf8, spelled_stands name n.spelled)
+
+pub stands_name : (name : List ℕ) → is_utf8 name ≡ true → spells name ≡ true → IsUserName name
+stands_name name u s = record { utf8 = IsUtf8-from_is_utf8 name u; spelled = stands_spelled name s }
 
 -- ---- where a name ends
 

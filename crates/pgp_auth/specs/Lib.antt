@@ -5,6 +5,7 @@ pub mod IteratedKey
 pub mod Lexer
 pub mod MacBlocks
 pub mod Md5Text
+pub mod NameReading
 pub mod Nonce
 pub mod Pattern
 pub mod Prepared

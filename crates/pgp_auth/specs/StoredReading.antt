@@ -16,11 +16,16 @@ pub record StoredParts : Type 0 where
 abbrev pub pieces_of : Pieces → StoredParts
 pieces_of p = record { count = p.count; salt = p.salt.now; stored = p.stored.now; server = p.server.now }
 
+-- what stands behind the name, in a text of n bytes
+unfoldable pub read_parts : ℕ → List ℕ → Result StoredParts Fault
+read_parts n a = do
+  i ← count_of (front_of is_digit a)
+  b ← expected n (codes ":") (rest_of is_digit a)
+  c ← expected n (codes "$") (rest_of is_base64_char b)
+  d ← expected n (codes ":") (rest_of is_base64_char c)
+  Ok (record { count = i; salt = front_of is_base64_char b; stored = front_of is_base64_char c; server = d })
+
 unfoldable pub read_stored : List ℕ → Result StoredParts Fault
 read_stored s = do
   a ← expected (length s) (codes "SCRAM-SHA-256$") s
-  i ← count_of (front_of is_digit a)
-  b ← expected (length s) (codes ":") (rest_of is_digit a)
-  c ← expected (length s) (codes "$") (rest_of is_base64_char b)
-  d ← expected (length s) (codes ":") (rest_of is_base64_char c)
-  Ok (record { count = i; salt = front_of is_base64_char b; stored = front_of is_base64_char c; server = d })
+  read_parts (length s) a

@@ -1,6 +1,6 @@
 //! A server's verifier: of a password, of the stored text, or made up.
 
-ghost use Rattle.std.specs.Prelude.{◌≡◌, ◌≢◌, ◌⊎◌, true, false, ℕ, List, length, MatchOption, MatchResult, Ok, Err, IfOk, IfErr};
+ghost use Rattle.std.specs.Prelude.{◌≡◌, ◌≢◌, ◌⊎◌, ◌≤◌, true, false, ℕ, List, length, MatchOption, MatchResult, Ok, Err, IfOk, IfErr};
 ghost use Rattle.pgp_base.specs.Cause.{WantsMemory};
 ghost use Rattle.pgp_base.specs.Wire.{IsBytes};
 ghost use Rattle.pgp_auth.specs.Base64.{base64};
@@ -8,7 +8,7 @@ ghost use Rattle.pgp_auth.specs.Prepared.{MappingLacks, prepared};
 ghost use Rattle.pgp_auth.specs.declared.scram.server_error.VerifierError.TheVariants.{OutOfMemory, NotAVerifier};
 ghost use Rattle.pgp_auth.specs.Verifier.{verifier, mock_verifier};
 ghost use Rattle.pgp_auth.specs.ScramStored.{IsKey, Stores, NotStored};
-ghost use Rattle.pgp_auth.specs.StoredReading.{read_stored, pieces_of};
+ghost use Rattle.pgp_auth.specs.StoredReading.{read_parts, read_stored, pieces_of};
 ghost use Rattle.pgp_auth.specs.ScramServerView.{verifier_of};
 
 use crate::authentication::sasl::{SaslPrep, hi, mapped};
@@ -54,13 +54,13 @@ struct Pieces<'a> {
     server: &'a [u8],
 }
 
-#[tactic(auto, using(crate::proofs::Runs::front_passes), unfolding(crate::specs::StoredReading::read_stored))]
-fn split_text<'a>(text: &'a [u8]) -> Result<Pieces<'a>, Fault>
-    ensures { MatchResult result (λ p. read_stored text.now ≡ Ok (pieces_of p)) (λ e. read_stored text.now ≡ Err e) }
+// What stands behind the mechanism's name, the end of a text of `total` bytes.
+#[tactic(auto, using(crate::proofs::Runs::front_passes), unfolding(crate::specs::StoredReading::read_parts))]
+fn parts_behind<'a>(total: usize, text: &'a [u8]) -> Result<Pieces<'a>, Fault>
+    requires { length text.now ≤ total }
+    ensures { MatchResult result (λ p. read_parts total text.now ≡ Ok (pieces_of p)) (λ e. read_parts total text.now ≡ Err e) }
 {
-    let total = text.len();
-    let after = expect(total, b"SCRAM-SHA-256$", text)?;
-    let (digits, rest) = Alphabet::Digits.split_front(after);
+    let (digits, rest) = Alphabet::Digits.split_front(text);
     let count = count(digits)?;
     let after = expect(total, b":", rest)?;
     let (salt, rest) = Alphabet::Base64.split_front(after);
@@ -75,6 +75,21 @@ fn split_text<'a>(text: &'a [u8]) -> Result<Pieces<'a>, Fault>
     })
 }
 
+#[tactic(auto, unfolding(crate::specs::StoredReading::read_stored))]
+fn split_text(text: &[u8]) -> Result<Pieces<'_>, Fault>
+    ensures { MatchResult result (λ p. read_stored text.now ≡ Ok (pieces_of p)) (λ e. read_stored text.now ≡ Err e) }
+{
+    let after = expect(text.len(), b"SCRAM-SHA-256$", text)?;
+    parts_behind(text.len(), after)
+}
+
+// What the type of a list, or of an array, doesn't say in a proof.
+fn are_bytes(bytes: &[u8])
+    ensures { IsBytes bytes.now }
+{
+    let _len = bytes.len();
+}
+
 // A key of 32 bytes that a text shows.
 fn key_of(shown: &[u8]) -> Option<[u8; 32]>
     ensures { MatchOption result ((key : List ℕ) → IsKey key → shown.now ≢ base64 key) (λ key. IsKey key × (shown.now ≡ base64 key)) }
@@ -83,6 +98,7 @@ fn key_of(shown: &[u8]) -> Option<[u8; 32]>
     let Some(bytes) = proof_in(shown, &mut room) else {
         return None;
     };
+    are_bytes(bytes);
     let mut key = [0; 32];
     key.copy_from_slice(bytes);
     Some(key)
@@ -94,7 +110,10 @@ fn salt_of<A: Memory>(alloc: A, shown: &[u8]) -> Result<Vec<u8, A>, VerifierErro
     ensures err { IfErr result (λ e. ((e ≡ OutOfMemory) × A.Lacks) ⊎ ((e ≡ NotAVerifier) × ((salt : List ℕ) → IsBytes salt → shown.now ≢ base64 salt))) }
 {
     match A::base64_shown(alloc, shown) {
-        Ok(salt) => Ok(salt),
+        Ok(salt) => {
+            are_bytes(&salt);
+            Ok(salt)
+        }
         Err(DecodeAllocError::OutOfMemory) => Err(VerifierError::OutOfMemory),
         Err(DecodeAllocError::DecodeError(_)) => Err(VerifierError::NotAVerifier),
     }
