@@ -1,9 +1,9 @@
 -- Our client and our server, step by step.
-use Rattle.std.proofs.Common.{◌≡◌, ℕ, ◌+◌, ◌<◌, ◌≤◌, ◌^◌, true, List, [], ◌∷◌, ◌++◌, codes, Some, subst, refl, sym, ap, ◌∙◌, arith, inl, inr}
+use Rattle.std.proofs.Common.{◌≡◌, ℕ, ◌+◌, ◌<◌, ◌≤◌, ◌^◌, Bool, true, false, List, [], ◌∷◌, ◌++◌, codes, Some, subst, refl, sym, ap, ◌∙◌, arith, inl, inr}
 use Rattle.pgp_base.specs.Wire.{IsBytes}
 use Rattle.pgp_auth.specs.Base64.{base64}
 use Rattle.pgp_auth.specs.Verifier.{Verifier, verifier}
-use Rattle.pgp_auth.specs.ScramText.{Binding, Unsupported, Unrequested, TlsServerEndPoint, IsNonce, client_first, first_bare, is_nonce_char}
+use Rattle.pgp_auth.specs.ScramText.{Binding, Unsupported, Unrequested, TlsServerEndPoint, IsNonce, gs2_header, named_bare, first_bare, is_nonce_char}
 use Rattle.pgp_auth.specs.ScramServer.{Accepts, Signs}
 use Rattle.pgp_auth.specs.ScramRefusal.{Refusal, OutOfMemory as RefusedMemory, Meets}
 use Rattle.pgp_auth.specs.ScramClient.{Begun, Answered, State, AwaitsFirst as ClientAwaitsFirst, AwaitsFinal as ClientAwaitsFinal, Over as ClientOver, Client, first_text, message_of, signature_of, Answers, UpdateRefuses, UpdateRefused, Finished, FinishRefuses, FinishRefused}
@@ -17,6 +17,8 @@ use Rattle.pgp_auth.proofs.Grants.{meets_not_refused}
 use Rattle.pgp_auth.proofs.Once.{meets_once}
 use Rattle.pgp_auth.proofs.BothWays.{never_refused}
 use Rattle.pgp_auth.proofs.ServerTexts.{answer_is_first, shows_itself}
+use Rattle.pgp_auth.proofs.Steps.{no_name}
+use Rattle.pgp_auth.proofs.UserNames.{empty_name}
 
 -- ---- one binding is claimed
 
@@ -28,15 +30,15 @@ apart a b l k lt e =
     let same = heads a b l k e in
     omega arith
 
-one_binding : (o : Offer) (b d : Binding) (n k : List ℕ) → IsTaken o b → IsTaken o d → client_first b n ≡ client_first d k → (b ≡ d) × (n ≡ k)
-one_binding NotOffered Unsupported Unsupported n k s t e = (refl, append_cancel_left (codes "n,,n=,r=") n k e)
-one_binding NotOffered Unsupported Unrequested n k s t e = absurd (apart 110 121 (codes ",,n=,r=" ++ n) (codes ",,n=,r=" ++ k) (omega arith) e)
+one_binding : (o : Offer) (b d : Binding) (n k : List ℕ) → IsTaken o b → IsTaken o d → gs2_header b ++ n ≡ gs2_header d ++ k → (b ≡ d) × (n ≡ k)
+one_binding NotOffered Unsupported Unsupported n k s t e = (refl, append_cancel_left (codes "n,,") n k e)
+one_binding NotOffered Unsupported Unrequested n k s t e = absurd (apart 110 121 (codes ",," ++ n) (codes ",," ++ k) (omega arith) e)
 one_binding NotOffered Unsupported (TlsServerEndPoint y) n k s t e = absurd t
-one_binding NotOffered Unrequested Unsupported n k s t e = absurd (apart 110 121 (codes ",,n=,r=" ++ k) (codes ",,n=,r=" ++ n) (omega arith) (sym e))
-one_binding NotOffered Unrequested Unrequested n k s t e = (refl, append_cancel_left (codes "y,,n=,r=") n k e)
+one_binding NotOffered Unrequested Unsupported n k s t e = absurd (apart 110 121 (codes ",," ++ k) (codes ",," ++ n) (omega arith) (sym e))
+one_binding NotOffered Unrequested Unrequested n k s t e = (refl, append_cancel_left (codes "y,,") n k e)
 one_binding NotOffered Unrequested (TlsServerEndPoint y) n k s t e = absurd t
 one_binding NotOffered (TlsServerEndPoint x) d n k s t e = absurd s
-one_binding Declined Unsupported Unsupported n k s t e = (refl, append_cancel_left (codes "n,,n=,r=") n k e)
+one_binding Declined Unsupported Unsupported n k s t e = (refl, append_cancel_left (codes "n,,") n k e)
 one_binding Declined Unsupported Unrequested n k s t e = absurd t
 one_binding Declined Unsupported (TlsServerEndPoint y) n k s t e = absurd t
 one_binding Declined Unrequested d n k s t e = absurd s
@@ -46,7 +48,7 @@ one_binding (Chosen h) Unrequested d n k s t e = absurd s
 one_binding (Chosen h) (TlsServerEndPoint x) Unsupported n k s t e = absurd t
 one_binding (Chosen h) (TlsServerEndPoint x) Unrequested n k s t e = absurd t
 one_binding (Chosen h) (TlsServerEndPoint x) (TlsServerEndPoint y) n k s t e =
-    (ap TlsServerEndPoint (s ∙ sym t), append_cancel_left (codes "p=tls-server-end-point,,n=,r=") n k e)
+    (ap TlsServerEndPoint (s ∙ sym t), append_cancel_left (codes "p=tls-server-end-point,,") n k e)
 
 -- ---- the first text
 
@@ -54,10 +56,10 @@ pub message_is : (x : Client) (s : Server) (m : Meeting x s) → message_of x.st
 message_is x s m = rw m.client_is refl
 
 refuses_first : (lacks : Type 0) (serving : Serving) (b : Binding) (n : List ℕ) (e : ServerError) → IsTaken serving.offer b → IsNonce n
-    → FirstRefuses lacks (AwaitsFirst serving) (client_first b n) e → (e ≡ OutOfMemory) × lacks
+    → FirstRefuses lacks (AwaitsFirst serving) (gs2_header b ++ first_bare n) e → (e ≡ OutOfMemory) × lacks
 refuses_first lacks serving b n e taken nonce (inl memory) = (memory.0, memory.1)
 refuses_first lacks serving b n e taken nonce (inr (inl header)) = absurd (header.1 b (first_bare n) taken refl)
-refuses_first lacks serving b n e taken nonce (inr (inr bare)) = absurd (bare.1 b n taken nonce refl)
+refuses_first lacks serving b n e taken nonce (inr (inr bare)) = absurd (bare.1 b [] n taken no_name nonce refl)
 
 pub first_memory : {lacks : Type 0} (x : Client) (s new : Server) (e : ServerError) (m : Meeting x s) (text : List ℕ) → text ≡ first_text m.begun → FirstRefused lacks s text e new → (e ≡ OutOfMemory) × lacks
 first_memory {lacks} x s new e m text is r =
@@ -78,19 +80,21 @@ same_answered a b e = cc
 
 -- the challenge that a server makes of this client's text
 abbrev pub challenge_at : Begun → Serving → Challenge
-challenge_at b s = record { verifier = s.verifier; binding = b.binding; nonce = b.nonce; own = s.own }
+challenge_at b s = record { verifier = s.verifier; is_mock = s.is_mock; binding = b.binding; user = []; nonce = b.nonce; own = s.own }
 
-challenge_eq : (c : Challenge) (v : Verifier) (b : Binding) (n o : List ℕ) → c.verifier ≡ v → c.binding ≡ b → c.nonce ≡ n → c.own ≡ o
-    → c ≡ record { verifier = v; binding = b; nonce = n; own = o }
-challenge_eq c v b n o p q r s = rw (← p, ← q, ← r, ← s) refl
+challenge_eq : (c : Challenge) (v : Verifier) (m : Bool) (b : Binding) (u n o : List ℕ) → c.verifier ≡ v → c.is_mock ≡ m → c.binding ≡ b → c.user ≡ u → c.nonce ≡ n → c.own ≡ o
+    → c ≡ record { verifier = v; is_mock = m; binding = b; user = u; nonce = n; own = o }
+challenge_eq c v m b u n o p k q t r s = rw (← p, ← k, ← q, ← t, ← r, ← s) refl
 
 pub challenge_is : (x : Client) (s new : Server) (text answer : List ℕ) (m : Meeting x s) → text ≡ first_text m.begun → (h : Challenges s text new answer)
     → h.challenge ≡ challenge_at m.begun m.serving
 challenge_is x s new text answer m is h =
     let same : h.serving ≡ m.serving = same_serving h.serving m.serving (sym h.due ∙ m.server_is) in
     let opens : Opens m.serving text h.challenge = rw same at h.opens in
-    let one = one_binding m.serving.offer h.challenge.binding m.begun.binding h.challenge.nonce m.begun.nonce opens.taken m.taken (sym opens.text_is ∙ is) in
-    challenge_eq h.challenge m.serving.verifier m.begun.binding m.begun.nonce m.serving.own opens.verifier_is one.0 one.1 opens.own_is
+    let c = h.challenge in
+    let one = one_binding m.serving.offer c.binding m.begun.binding (named_bare c.user c.nonce) (first_bare m.begun.nonce) opens.taken m.taken (sym opens.text_is ∙ is) in
+    let two = empty_name c.user c.nonce m.begun.nonce opens.is_name.spelled one.1 in
+    challenge_eq c m.serving.verifier m.serving.is_mock m.begun.binding [] m.begun.nonce m.serving.own opens.verifier_is opens.mock_is one.0 two.0 two.1 opens.own_is
 
 meets_at : (v : Verifier) (password n own salt : List ℕ) (count : ℕ) → v ≡ verifier password salt count → IsNonce n → IsNonce own → IsBytes salt → count ≤ 100000
     → Meets n (server_first (n ++ own) v.salt v.count) (n ++ own) salt count
@@ -161,7 +165,7 @@ pub finish_never_refused : (x y : Client) (s new after : Server) (text f last : 
     → (a : Answers x f y) → last ≡ a.answered.final → FinalRefused new last e after → ⊥
 finish_never_refused x y s new after text f last e m is h a last_is r =
     let why : FinalRefuses (AwaitsFinal (challenge_at m.begun m.serving)) a.answered.final e = rw (new_is x s new text f m is h, last_is) at r.why in
-    why.not_accepted (final_accepted x y s new text f m is h a)
+    why.not_accepted m.not_mock (final_accepted x y s new text f m is h a)
 
 -- ---- the server's signature
 

@@ -13,6 +13,7 @@ pub mod FirstTexts
 pub mod Grants
 pub mod HeaderText
 pub mod LongKeys
+pub mod Md5Checks
 pub mod Once
 pub mod OneText
 pub mod Patterns
@@ -23,6 +24,9 @@ pub mod Refusals
 pub mod Runs
 pub mod ServerSide
 pub mod Steps
+pub mod StoredTexts
+pub mod UserNames
+pub mod ShownKeys
 pub mod VerifierText
 pub mod ServerTexts
 pub mod EndsMeet

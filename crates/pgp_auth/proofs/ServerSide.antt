@@ -16,7 +16,7 @@ xor_back : (a b : ℕ) → bit_xor (bit_xor a b) b ≡ a
 xor_back a b = xor_assoc a b b ∙ ap (λ x. bit_xor a x) (xor_self b) ∙ xor_zero_r a
 
 -- xor by the same bytes twice gives the bytes back
-xor_bytes_back : (a b : List ℕ) → length a ≡ length b → xor_bytes (xor_bytes a b) b ≡ a
+pub xor_bytes_back : (a b : List ℕ) → length a ≡ length b → xor_bytes (xor_bytes a b) b ≡ a
 xor_bytes_back [] b e = refl
 xor_bytes_back (x ∷ a) [] e = cc
 xor_bytes_back (x ∷ a) (y ∷ b) e =
@@ -66,7 +66,7 @@ pub mac_bytes : (k m : List ℕ) → IsBytes (mac k m)
 unfolding mac
 mac_bytes k m = sha256_bytes _
 
-xor_are_bytes : (a b : List ℕ) → length a ≡ length b → IsBytes a → IsBytes b → (i : ℕ) → slice_index (xor_bytes a b) i < 256
+pub xor_are_bytes : (a b : List ℕ) → length a ≡ length b → IsBytes a → IsBytes b → (i : ℕ) → slice_index (xor_bytes a b) i < 256
 xor_are_bytes [] b e first second i = omega arith
 xor_are_bytes (x ∷ a) [] e first second i = cc
 xor_are_bytes (x ∷ a) (y ∷ b) e first second zero = xor_of_8 x y (first zero) (second zero)

@@ -1,15 +1,13 @@
 -- The texts of a server, and which final texts it accepts.
-use Rattle.std.proofs.Common.{◌≡◌, ◌≢◌, ℕ, zero, suc, ◌+◌, ◌*◌, ◌-◌, ◌/◌, ◌%◌, ◌<◌, ◌≤◌, ◌^◌, Bool, true, List, [], ◌∷◌, ◌++◌, length, inl, codes, refl, sym, ap, ◌∙◌, arith}
+use Rattle.std.proofs.Common.{◌≡◌, ◌≢◌, ℕ, zero, suc, ◌+◌, ◌*◌, ◌-◌, ◌/◌, ◌%◌, ◌<◌, ◌≤◌, ◌^◌, Bool, true, false, List, [], ◌∷◌, ◌++◌, length, inl, codes, refl, sym, ap, ◌∙◌, arith}
 use Rattle.std.specs.Fmt.{decimal}
-use Rattle.std.specs.List.{AllPass, prefix_len}
-use Rattle.pgp_auth.specs.ScramReading.{front_of, rest_of}
-use Rattle.pgp_auth.specs.ScramStored.{Stores, stored_text}
+use Rattle.std.specs.List.{AllPass}
 use Rattle.std.specs.Result.{IsErr}
 use Rattle.std.specs.declared.result.Result.{Result}
 use Rattle.std.specs.declared.result.Result.TheVariants.{Ok, Err}
 use Rattle.std.proofs.lemmas.Fmt.{decimal_by_steps}
 use Rattle.std.proofs.lemmas.Bool.Decides.{nat_tests}
-use Rattle.std.proofs.lemmas.List.{append_cancel_left, append_assoc, length-append, take-append-drop}
+use Rattle.std.proofs.lemmas.List.{append_cancel_left, append_assoc, length-append}
 use Rattle.std.proofs.lemmas.List.Elements.{All-nil, All-cons, All-append}
 use Rattle.base64.specs.declared.decode.DecodeError.{DecodeError}
 use Rattle.base64.specs.Engines.{standard}
@@ -20,9 +18,9 @@ use Rattle.pgp_base.specs.Wire.{IsBytes}
 use Rattle.pgp_auth.specs.Base64.{base64, Shows}
 use Rattle.pgp_auth.specs.Hmac.{mac}
 use Rattle.pgp_auth.specs.IteratedKey.{xor_bytes}
-use Rattle.pgp_auth.specs.ScramText.{Binding, IsNonce, is_digit, is_nonce_char, number, number_from, NamesCount, ServerFirst, gs2_header, binding_data, first_bare, without_proof, with_proof, auth_message}
+use Rattle.pgp_auth.specs.ScramText.{Binding, IsUserName, IsNonce, is_digit, is_nonce_char, number, number_from, NamesCount, ServerFirst, gs2_header, binding_data, named_bare, without_proof, with_proof, auth_message}
 use Rattle.pgp_auth.specs.ScramServer.{Accepts}
-use Rattle.pgp_auth.specs.ScramServing.{Serving, Challenge, IsTaken, NotOpened, server_first, answer_of, first_of, ExpectsOf, AcceptsFinal, Shown, RefusesProof, other_exchange, no_proof, other_proof, NotAdmitted}
+use Rattle.pgp_auth.specs.ScramServing.{Serving, Challenge, IsTaken, NotOpened, server_first, answer_of, first_of, ExpectsOf, AcceptsFinal, Shown, RefusesProof, other_exchange, no_proof, other_proof, mock, NotAdmitted}
 use Rattle.pgp_auth.specs.declared.scram.server_error.ServerError.{ServerError}
 use Rattle.pgp_auth.specs.declared.scram.server_error.ServerError.TheVariants.{OutOfMemory, OtherExchange, InvalidEncoding, InvalidProof}
 use Rattle.pgp_auth.proofs.BothWays.{base64_chars, base64_len}
@@ -80,19 +78,21 @@ answer_is_first nonce salt count chars bytes fits =
 
 -- ---- what a challenge expects
 
-pub expects_of : (c : Challenge) (front auth : List ℕ) → AllPass is_nonce_char (c.nonce ++ c.own) → IsBytes c.verifier.salt → c.verifier.count < 2 ^ 32
+pub expects_of : (c : Challenge) (front auth : List ℕ) → IsUserName c.user → AllPass is_nonce_char (c.nonce ++ c.own) → IsBytes c.verifier.salt → c.verifier.count < 2 ^ 32
     → front ≡ without_proof (gs2_header c.binding) (binding_data c.binding) (c.nonce ++ c.own)
-    → auth ≡ auth_message (first_bare c.nonce) (answer_of c) front → ExpectsOf c front auth
-expects_of c front auth chars bytes fits front_is auth_is = record {
+    → auth ≡ auth_message (named_bare c.user c.nonce) (answer_of c) front → ExpectsOf c front auth
+expects_of c front auth name chars bytes fits front_is auth_is = record {
   header = gs2_header c.binding;
-  bare = first_bare c.nonce;
+  bare = named_bare c.user c.nonce;
+  user = c.user;
   client_nonce = c.nonce;
   nonce = c.nonce ++ c.own;
   more = c.own;
   salt_text = base64 c.verifier.salt;
   count = c.verifier.count;
-  cut = cuts c.binding (first_bare c.nonce);
+  cut = cuts c.binding (named_bare c.user c.nonce);
   header_is = refl;
+  user_is = name;
   bare_is = refl;
   server_first_is = answer_is_first (c.nonce ++ c.own) c.verifier.salt c.verifier.count chars bytes fits;
   nonce_is = refl;
@@ -135,16 +135,20 @@ accepted_shown c text front auth shown x is a =
     let same : shown ≡ base64 a.proof = same_shown front shown (base64 a.proof) (sym is ∙ accepted_text c text front auth x a) in
     rw same (shows_itself a.proof a.bytes)
 
-refused_not : (c : Challenge) (text : List ℕ) (e : ServerError) → RefusesProof c text e → ¬ AcceptsFinal c text
-refused_not c text _ (other_exchange front auth x none) a = none (base64 a.proof) (accepted_text c text front auth x a)
-refused_not c text _ (no_proof front auth shown x is none) a = none a.proof a.len (accepted_shown c text front auth shown x is a)
-refused_not c text _ (other_proof front auth shown proof x is shows differs) a =
+real_not_mock : (b : Bool) → b ≡ false → b ≡ true → ⊥
+real_not_mock b no_ yes_ = cc
+
+refused_not : (c : Challenge) (text : List ℕ) (e : ServerError) → c.is_mock ≡ false → RefusesProof c text e → ¬ AcceptsFinal c text
+refused_not c text _ real (other_exchange front auth x none) a = none (base64 a.proof) (accepted_text c text front auth x a)
+refused_not c text _ real (no_proof front auth shown x is none) a = none a.proof a.len (accepted_shown c text front auth shown x is a)
+refused_not c text _ real (other_proof front auth shown proof x is len shows differs) a =
     let same : a.proof ≡ proof = same_bytes (decode_of standard shown) a.proof proof (accepted_shown c text front auth shown x is a) shows in
     let auths = accepted_auth c text front auth x a in
     differs (rw (same, auths) at a.key)
+refused_not c text _ real (mock front auth shown proof x is len shows made_up) a = real_not_mock c.is_mock real made_up
 
 pub not_admitted : (c : Challenge) (text : List ℕ) (e : ServerError) → RefusesProof c text e → NotAdmitted c text e
-not_admitted c text e why = record { why = why; not_accepted = refused_not c text e why }
+not_admitted c text e why = record { why = why; not_accepted = λ real. refused_not c text e real why }
 
 -- ---- the ways out of a final text
 
@@ -163,10 +167,15 @@ pub not_32 : (c : Challenge) (text front auth shown : List ℕ) → ExpectsOf c 
     → ((proof : List ℕ) → length proof ≡ 32 → ¬ Shows shown proof) → NotAdmitted c text InvalidEncoding
 not_32 c text front auth shown x is none = not_admitted c text InvalidEncoding (no_proof front auth shown x is none)
 
-pub other_key : (c : Challenge) (text front auth shown proof : List ℕ) → ExpectsOf c front auth → text ≡ with_proof front shown
+pub other_key : (c : Challenge) (text front auth shown proof : List ℕ) → ExpectsOf c front auth → text ≡ with_proof front shown → length proof ≡ 32
     → Shows shown proof → sha256 (xor_bytes proof (mac c.verifier.stored_key auth)) ≢ c.verifier.stored_key → NotAdmitted c text InvalidProof
-other_key c text front auth shown proof x is shows differs =
-    not_admitted c text InvalidProof (other_proof front auth shown proof x is shows differs)
+other_key c text front auth shown proof x is len shows differs =
+    not_admitted c text InvalidProof (other_proof front auth shown proof x is len shows differs)
+
+pub made_up : (c : Challenge) (text front auth shown proof : List ℕ) → ExpectsOf c front auth → text ≡ with_proof front shown → length proof ≡ 32
+    → Shows shown proof → c.is_mock ≡ true → NotAdmitted c text InvalidProof
+made_up c text front auth shown proof x is len shows yes_ =
+    not_admitted c text InvalidProof (mock front auth shown proof x is len shows yes_)
 
 -- the ways out of a proof
 pub not_44 : (shown proof : List ℕ) → IsBytes shown → length shown ≢ 44 → length proof ≡ 32 → ¬ Shows shown proof
@@ -205,33 +214,22 @@ pub front_made : (header hash nonce own items whole w front : List ℕ) → item
     → front ≡ without_proof header hash w → front ≡ without_proof header hash (items ++ own)
 front_made header hash nonce own items whole w front a b c is = rw (a, ← b, ← c) is
 
-pub auth_made : (nonce own items whole w salt s answer m front f auth : List ℕ) (count : ℕ) → items ≡ nonce → whole ≡ nonce ++ own → w ≡ whole → s ≡ salt
-    → answer ≡ server_first w s count → m ≡ answer → f ≡ front → auth ≡ auth_message (first_bare nonce) m f
-    → auth ≡ auth_message (first_bare items) (server_first (items ++ own) salt count) front
-auth_made nonce own items whole w salt s answer m front f auth count a b c d answer_is m_is f_is is =
-    rw (a, ← b, ← c, ← d, ← answer_is, ← m_is, ← f_is) is
+pub whole_made : (whole nonce own o : List ℕ) → whole ≡ nonce ++ o → o ≡ own → whole ≡ nonce ++ own
+whole_made whole nonce own o is same = rw (← same) is
+
+same_message : (a b c d e f : List ℕ) → a ≡ b → c ≡ d → e ≡ f → auth_message a c e ≡ auth_message b d f
+same_message a b c d e f p q r = rw (p, q, r) refl
+
+pub auth_made : (bare user nonce own users items whole w salt s answer m front f auth : List ℕ) (count : ℕ) → users ≡ user → items ≡ nonce → bare ≡ named_bare user nonce
+    → whole ≡ nonce ++ own → w ≡ whole → s ≡ salt → answer ≡ server_first w s count → m ≡ answer → f ≡ front → auth ≡ auth_message bare m f
+    → auth ≡ auth_message (named_bare users items) (server_first (items ++ own) salt count) front
+auth_made bare user nonce own users items whole w salt s answer m front f auth count u a bare_is b c d answer_is m_is f_is is =
+    let first : bare ≡ named_bare users items = rw (u, a) bare_is in
+    let second : m ≡ server_first (items ++ own) salt count = rw (a, ← b, ← c, ← d) (m_is ∙ answer_is) in
+    is ∙ same_message bare (named_bare users items) m (server_first (items ++ own) salt count) f front first second f_is
 
 pub chars_made : (nonce own items : List ℕ) → items ≡ nonce → AllPass is_nonce_char nonce → AllPass is_nonce_char own → AllPass is_nonce_char (items ++ own)
 chars_made nonce own items a front back = rw a (All-append (λ x. is_nonce_char x ≡ true) nonce own front back)
-
--- ---- a stored verifier's text
-
-pub split_whole : (p : ℕ → Bool) (s f r : List ℕ) → f ≡ front_of p s → r ≡ rest_of p s → f ++ r ≡ s
-split_whole p s f r a b = rw (a, b) (take-append-drop (prefix_len p s) s)
-
-pub stored_split : (text a b c d f g h x y z : List ℕ) → text ≡ codes "SCRAM-SHA-256$" ++ a → f ++ x ≡ a → x ≡ codes ":" ++ b → g ++ y ≡ b → y ≡ codes "$" ++ c
-    → h ++ z ≡ c → z ≡ codes ":" ++ d → text ≡ stored_text f g h d
-stored_split text a b c d f g h x y z is e1 e2 e3 e4 e5 e6 =
-    let third : h ++ (codes ":" ++ d) ≡ c = rw e6 at e5 in
-    let second : g ++ (codes "$" ++ c) ≡ b = rw e4 at e3 in
-    let first : f ++ (codes ":" ++ b) ≡ a = rw e2 at e1 in
-    rw (third, second, first) is
-
-pub stores : (text digits salt_text stored_text_ server_text salt stored server : List ℕ) (count : ℕ) → AllPass is_digit digits
-    → text ≡ stored_text digits salt_text stored_text_ server_text → NamesCount digits count → salt_text ≡ base64 salt → stored_text_ ≡ base64 stored → server_text ≡ base64 server
-    → length stored ≡ 32 → length server ≡ 32 → Stores text (record { salt = salt; count = count; stored_key = stored; server_key = server })
-stores text digits st kt vt salt stored server count chars is names a b c d e =
-    record { digits = digits; text_is = rw (a, b, c) at is; digit_chars = chars; names = names; stored_len = d; server_len = e }
 
 -- a text that isn't base64 is that of no bytes
 pub no_salt : (text : List ℕ) (d : DecodeError) (salt : List ℕ) → decode_of standard text ≡ Err d → IsBytes salt → text ≢ base64 salt
@@ -240,19 +238,22 @@ no_salt text d salt err are is =
     cc
 
 -- memory is wanted only for a text that opens
-pub opens_without_memory : (lacks : Type 0) (serving : Serving) (text bare nonce : List ℕ) (b : Binding) → IsTaken serving.offer b × (text ≡ gs2_header b ++ bare) → IsNonce nonce × (bare ≡ first_bare nonce) → lacks → NotOpened lacks serving text OutOfMemory
-opens_without_memory lacks serving text bare nonce b taken named l =
+pub opens_without_memory : (lacks : Type 0) (serving : Serving) (text bare user nonce : List ℕ) (b : Binding) → IsTaken serving.offer b × (text ≡ gs2_header b ++ bare)
+    → IsUserName user × IsNonce nonce × (bare ≡ named_bare user nonce) → lacks → NotOpened lacks serving text OutOfMemory
+opens_without_memory lacks serving text bare user nonce b taken named l =
     inl (
       refl,
       l,
       (
-        record { verifier = serving.verifier; binding = b; nonce = nonce; own = serving.own },
+        record { verifier = serving.verifier; is_mock = serving.is_mock; binding = b; user = user; nonce = nonce; own = serving.own },
         record {
           taken = taken.0;
-          is_nonce = named.0;
+          is_name = named.0;
+          is_nonce = named.1;
           verifier_is = refl;
+          mock_is = refl;
           own_is = refl;
-          text_is = taken.1 ∙ ap (λ z. gs2_header b ++ z) named.1;
+          text_is = taken.1 ∙ ap (λ z. gs2_header b ++ z) named.2;
         },
       ),
     )

@@ -2,7 +2,7 @@
 use Rattle.std.proofs.Common.{◌≡◌, ℕ, ◌+◌, List, [], ◌++◌, codes, refl, ap, inl, inr, ◌==◌, not}
 use Rattle.std.specs.Prelude.{◌⊎◌}
 use Rattle.pgp_auth.specs.Verifier.{verifier}
-use Rattle.pgp_auth.specs.ScramText.{Binding, Unsupported, Unrequested, TlsServerEndPoint, gs2_header, first_bare}
+use Rattle.pgp_auth.specs.ScramText.{Binding, Unsupported, Unrequested, TlsServerEndPoint, gs2_header, first_bare, IsUserName, no_more}
 use Rattle.pgp_auth.specs.ScramServer.{comma, CutAfterSecondComma, Expects, Accepts, Signs}
 use Rattle.pgp_auth.specs.ScramRefusal.{Refusal, OutOfMemory, Admitted, Meets, RefusesFirst, Verifies}
 use Rattle.pgp_auth.specs.ScramClient.{Begun, Answered, State, AwaitsFirst, AwaitsFinal, Over, Client, first_text, signature_of, Answers, MadeSome, UpdateRefused, Finished, NotVerified, FinishRefused}
@@ -17,6 +17,8 @@ use Rattle.pgp_auth.specs.ScramStateView.{state_of}
 use Rattle.pgp_auth.specs.ScramReading.{Granted}
 use Rattle.pgp_auth.specs.ScramAnswer.{client_proof, final_front, AnswersGranted, AnswersText, RefusesText}
 use Rattle.std.proofs.lemmas.List.Sums.{AllPass-from_list_all}
+use Rattle.std.proofs.lemmas.Str.{IsUtf8-from_ascii}
+use Rattle.std.proofs.lemmas.Str.Ascii.{IsAscii-nil}
 use Rattle.pgp_auth.proofs.Grants.{granted_meets, not_granted}
 use Rattle.pgp_auth.proofs.ServerSide.{recovers, length-client_proof, proof_bytes}
 
@@ -25,6 +27,10 @@ cuts Unrequested bare = record { one = codes "y"; two = []; one_plain = AllPass-
 cuts Unsupported bare = record { one = codes "n"; two = []; one_plain = AllPass-from_list_all (λ x. not (x == comma)) (codes "n") refl; two_plain = AllPass-from_list_all (λ x. not (x == comma)) [] refl; header_is = refl; text_is = refl }
 cuts (TlsServerEndPoint s) bare = record { one = codes "p=tls-server-end-point"; two = []; one_plain = AllPass-from_list_all (λ x. not (x == comma)) (codes "p=tls-server-end-point") refl; two_plain = AllPass-from_list_all (λ x. not (x == comma)) [] refl; header_is = refl; text_is = refl }
 
+-- the empty name, which a client sends
+pub no_name : IsUserName []
+no_name = record { utf8 = IsUtf8-from_ascii [] IsAscii-nil; spelled = no_more }
+
 -- what the server expects is what the client makes
 expected : (begun : Begun) (text : List ℕ) (g : Granted) (answered : Answered) (before after : ℕ) → Meets begun.nonce text g.nonce g.salt g.count
     → AnswersGranted begun text g answered before after
@@ -32,6 +38,7 @@ expected : (begun : Begun) (text : List ℕ) (g : Granted) (answered : Answered)
 expected begun text g answered before after m a = record {
   header = gs2_header begun.binding;
   bare = first_bare begun.nonce;
+  user = [];
   client_nonce = begun.nonce;
   nonce = g.nonce;
   more = m.more;
@@ -39,6 +46,7 @@ expected begun text g answered before after m a = record {
   count = g.count;
   cut = cuts begun.binding (first_bare begun.nonce);
   header_is = refl;
+  user_is = no_name;
   bare_is = refl;
   server_first_is = m.text_is;
   nonce_is = m.nonce_is;

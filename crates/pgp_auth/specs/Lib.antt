@@ -5,6 +5,7 @@ pub mod IteratedKey
 pub mod Lexer
 pub mod MacBlocks
 pub mod Md5Text
+pub mod NameReading
 pub mod Nonce
 pub mod Pattern
 pub mod Prepared
@@ -23,4 +24,5 @@ pub mod ScramStateView
 pub mod ScramStored
 pub mod ScramText
 pub mod ScramView
+pub mod StoredReading
 pub mod Verifier

@@ -1,5 +1,5 @@
 -- Our client against our server: RFC 5802, section 5.
-use Rattle.std.specs.Prelude.{◌≡◌, ℕ, ◌≤◌, List}
+use Rattle.std.specs.Prelude.{◌≡◌, ℕ, ◌≤◌, false, List}
 use Rattle.pgp_base.specs.Wire.{IsBytes}
 use Rattle.pgp_auth.specs.Verifier.{verifier}
 use Rattle.pgp_auth.specs.ScramText.{IsNonce}
@@ -22,6 +22,7 @@ pub record Meeting (client : Client) (server : Server) : Type 0 where
   pub is_nonce : IsNonce begun.nonce
   pub own_is : IsNonce serving.own
   pub taken : IsTaken serving.offer begun.binding
+  pub not_mock : serving.is_mock ≡ false
   pub verifier_is : serving.verifier ≡ verifier begun.password salt count
   pub salt_is : IsBytes salt
   pub few : count ≤ 100000

@@ -8,7 +8,7 @@ use Rattle.pgp_auth.specs.Base64.{base64}
 use Rattle.pgp_auth.specs.Hmac.{mac}
 use Rattle.pgp_auth.specs.IteratedKey.{xor_bytes}
 use Rattle.pgp_auth.specs.Verifier.{Verifier}
-use Rattle.pgp_auth.specs.ScramText.{Binding, gs2_header, binding_data, first_bare, without_proof, with_proof, auth_message, ServerFirst}
+use Rattle.pgp_auth.specs.ScramText.{Binding, gs2_header, binding_data, IsUserName, named_bare, without_proof, with_proof, auth_message, ServerFirst}
 
 abbrev pub comma : ℕ
 comma = 44
@@ -27,6 +27,7 @@ pub record CutAfterSecondComma (text header bare : List ℕ) : Type 0 where
 pub record Expects (binding : Binding) (first server_first final auth : List ℕ) : Type 0 where
   pub header : List ℕ
   pub bare : List ℕ
+  pub user : List ℕ
   pub client_nonce : List ℕ
   pub nonce : List ℕ
   pub more : List ℕ
@@ -34,7 +35,8 @@ pub record Expects (binding : Binding) (first server_first final auth : List ℕ
   pub count : ℕ
   pub cut : CutAfterSecondComma first header bare
   pub header_is : header ≡ gs2_header binding
-  pub bare_is : bare ≡ first_bare client_nonce
+  pub user_is : IsUserName user
+  pub bare_is : bare ≡ named_bare user client_nonce
   pub server_first_is : ServerFirst server_first nonce salt_text count
   pub nonce_is : nonce ≡ client_nonce ++ more
   pub final_is : final ≡ without_proof header (binding_data binding) nonce

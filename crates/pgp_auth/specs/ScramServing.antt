@@ -1,13 +1,14 @@
 -- The server's side of an exchange: what it keeps, and what each call comes to. Which final texts it accepts, and
 -- what it signs, is `ScramServer`.
-use Rattle.std.specs.Prelude.{◌≡◌, ◌≢◌, ℕ, ◌⊎◌, List, ◌++◌, length, codes}
+use Rattle.std.specs.Prelude.{◌≡◌, ◌≢◌, ℕ, Bool, true, false, ◌⊎◌, List, ◌++◌, length, codes}
 use Rattle.std.specs.Fmt.{decimal}
 use Rattle.sha2.specs.Sha256.{sha256}
+use Rattle.pgp_base.specs.Wire.{IsBytes}
 use Rattle.pgp_auth.specs.Base64.{base64, Shows}
 use Rattle.pgp_auth.specs.Hmac.{mac}
 use Rattle.pgp_auth.specs.IteratedKey.{xor_bytes}
 use Rattle.pgp_auth.specs.Verifier.{Verifier}
-use Rattle.pgp_auth.specs.ScramText.{Binding, Unsupported, Unrequested, TlsServerEndPoint, IsNonce, gs2_header, first_bare, client_first, with_proof}
+use Rattle.pgp_auth.specs.ScramText.{Binding, Unsupported, Unrequested, TlsServerEndPoint, IsUserName, IsNonce, gs2_header, named_first, with_proof}
 use Rattle.pgp_auth.specs.ScramServer.{Expects, Accepts, Signs}
 use Rattle.pgp_auth.specs.declared.scram.server_error.ServerError.{ServerError}
 use Rattle.pgp_auth.specs.declared.scram.server_error.ServerError.TheVariants.{OutOfMemory, WrongState, UnsupportedBinding, InvalidFirst, OtherExchange, InvalidEncoding, InvalidProof}
@@ -31,16 +32,20 @@ IsTaken (Chosen certificate) Unsupported = ⊥
 IsTaken (Chosen certificate) Unrequested = ⊥
 IsTaken (Chosen certificate) (TlsServerEndPoint hash) = hash ≡ certificate
 
--- until the client's first text: the verifier, the offer, and the server's own part of the nonce
+-- until the client's first text: the verifier, whether it is a made-up one, with which no proof is accepted, the
+-- offer, and the server's own part of the nonce
 pub record Serving : Type 0 where
   pub verifier : Verifier
+  pub is_mock : Bool
   pub offer : Offer
   pub own : List ℕ
 
--- from then on: what the client claims, and its part of the nonce
+-- from then on: what the client claims, the user's name and the client's part of the nonce
 pub record Challenge : Type 0 where
   pub verifier : Verifier
+  pub is_mock : Bool
   pub binding : Binding
+  pub user : List ℕ
   pub nonce : List ℕ
   pub own : List ℕ
 
@@ -51,7 +56,7 @@ pub data Server : Type 0 where
 
 -- the two first texts of a challenge
 abbrev pub first_of : Challenge → List ℕ
-first_of c = client_first c.binding c.nonce
+first_of c = named_first c.binding c.user c.nonce
 
 abbrev pub server_first : List ℕ → List ℕ → ℕ → List ℕ
 server_first nonce salt count = codes "r=" ++ (nonce ++ (codes ",s=" ++ (base64 salt ++ (codes ",i=" ++ decimal count))))
@@ -62,8 +67,10 @@ answer_of c = server_first (c.nonce ++ c.own) c.verifier.salt c.verifier.count
 -- the text is a client's first text, with a binding that is taken
 pub record Opens (serving : Serving) (text : List ℕ) (c : Challenge) : Type 0 where
   pub taken : IsTaken serving.offer c.binding
+  pub is_name : IsUserName c.user
   pub is_nonce : IsNonce c.nonce
   pub verifier_is : c.verifier ≡ serving.verifier
+  pub mock_is : c.is_mock ≡ serving.is_mock
   pub own_is : c.own ≡ serving.own
   pub text_is : text ≡ first_of c
 
@@ -81,7 +88,7 @@ abbrev pub NotOpened : Type 0 → Serving → List ℕ → ServerError → Type 
 NotOpened lacks serving text e =
     ((e ≡ OutOfMemory) × lacks × ((c : Challenge) × Opens serving text c))
     ⊎ (((e ≡ UnsupportedBinding) × ((b : Binding) (rest : List ℕ) → IsTaken serving.offer b → text ≢ gs2_header b ++ rest))
-    ⊎ ((e ≡ InvalidFirst) × ((b : Binding) (nonce : List ℕ) → IsTaken serving.offer b → IsNonce nonce → text ≢ client_first b nonce)))
+    ⊎ ((e ≡ InvalidFirst) × ((b : Binding) (user nonce : List ℕ) → IsTaken serving.offer b → IsUserName user → IsNonce nonce → text ≢ named_first b user nonce)))
 
 abbrev pub FirstRefuses : Type 0 → Server → List ℕ → ServerError → Type 0
 FirstRefuses lacks (AwaitsFirst serving) text e = NotOpened lacks serving text e
@@ -93,7 +100,7 @@ pub record FirstRefused (lacks : Type 0) (old : Server) (text : List ℕ) (e : S
   pub why : FirstRefuses lacks old text e
   pub over : new ≡ Over
 
--- the server accepts the final text
+-- the verifier's server accepts the final text
 abbrev pub AcceptsFinal : Challenge → List ℕ → Type 0
 AcceptsFinal c text = Accepts c.verifier c.binding (first_of c) (answer_of c) text
 
@@ -107,6 +114,7 @@ pub record Shown (c : Challenge) (answer : List ℕ) : Type 0 where
 pub record Admits (old : Server) (text : List ℕ) (new : Server) (answer : List ℕ) : Type 0 where
   pub challenge : Challenge
   pub due : old ≡ AwaitsFinal challenge
+  pub not_mock : challenge.is_mock ≡ false
   pub accepts : AcceptsFinal challenge text
   pub shown : Shown challenge answer
   pub over : new ≡ Over
@@ -120,13 +128,15 @@ pub data RefusesProof (c : Challenge) (text : List ℕ) : ServerError → Type 0
   other_exchange : (front auth : List ℕ) → ExpectsOf c front auth → ((shown : List ℕ) → text ≢ with_proof front shown) → RefusesProof c text OtherExchange
   no_proof : (front auth shown : List ℕ) → ExpectsOf c front auth → text ≡ with_proof front shown
       → ((proof : List ℕ) → length proof ≡ 32 → ¬ Shows shown proof) → RefusesProof c text InvalidEncoding
-  other_proof : (front auth shown proof : List ℕ) → ExpectsOf c front auth → text ≡ with_proof front shown → Shows shown proof
+  other_proof : (front auth shown proof : List ℕ) → ExpectsOf c front auth → text ≡ with_proof front shown → length proof ≡ 32 → Shows shown proof
       → sha256 (xor_bytes proof (mac c.verifier.stored_key auth)) ≢ c.verifier.stored_key → RefusesProof c text InvalidProof
+  mock : (front auth shown proof : List ℕ) → ExpectsOf c front auth → text ≡ with_proof front shown → length proof ≡ 32 → Shows shown proof
+      → c.is_mock ≡ true → RefusesProof c text InvalidProof
 
--- each of these texts isn't accepted
+-- each of these texts isn't accepted, or there is no verifier
 pub record NotAdmitted (c : Challenge) (text : List ℕ) (e : ServerError) : Type 0 where
   pub why : RefusesProof c text e
-  pub not_accepted : ¬ AcceptsFinal c text
+  pub not_accepted : c.is_mock ≡ false → ¬ AcceptsFinal c text
 
 abbrev pub FinalRefuses : Server → List ℕ → ServerError → Type 0
 FinalRefuses (AwaitsFirst serving) text e = e ≡ WrongState
@@ -137,3 +147,15 @@ FinalRefuses Over text e = e ≡ WrongState
 pub record FinalRefused (old : Server) (text : List ℕ) (e : ServerError) (new : Server) : Type 0 where
   pub why : FinalRefuses old text e
   pub over : new ≡ Over
+
+-- The final text shows a client's key: its digest is the stored key, and the proof is the key xor a code of the text that
+-- is signed, by the stored key.
+pub record ShowsKey (c : Challenge) (text : List ℕ) : Type 0 where
+  pub front : List ℕ
+  pub auth : List ℕ
+  pub key : List ℕ
+  pub expects : ExpectsOf c front auth
+  pub len : length key ≡ 32
+  pub bytes : IsBytes key
+  pub digest : sha256 key ≡ c.verifier.stored_key
+  pub text_is : text ≡ with_proof front (base64 (xor_bytes key (mac c.verifier.stored_key auth)))

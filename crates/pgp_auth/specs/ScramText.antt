@@ -1,7 +1,9 @@
 -- The texts of SCRAM-SHA-256: RFC 5802, section 7, with the channel bindings of its section 6. Of the
--- RFC's texts these have no authorization identity, no user name and no extensions, as in PostgreSQL.
-use Rattle.std.specs.Prelude.{◌≡◌, ℕ, ◌+◌, ◌-◌, ◌*◌, ◌<◌, ◌^◌, nat_le, ◌==◌, ◌&&◌, ◌||◌, Bool, not, List, [], ◌∷◌, ◌++◌, length, codes}
+-- RFC's texts these have no authorization identity and no extensions, as in PostgreSQL, whose clients send
+-- an empty user name.
+use Rattle.std.specs.Prelude.{◌≡◌, ℕ, ◌+◌, ◌-◌, ◌*◌, ◌<◌, ◌^◌, nat_le, ◌==◌, ◌&&◌, ◌||◌, Bool, true, not, List, [], ◌∷◌, ◌++◌, length, codes}
 use Rattle.std.specs.List.{AllPass}
+use Rattle.std.specs.Str.{IsUtf8}
 use Rattle.pgp_auth.specs.Base64.{base64}
 
 -- a number from `low` to `high`
@@ -19,8 +21,28 @@ is_base64_char c = is_between 97 122 c || is_between 65 90 c || is_between 48 57
 abbrev pub is_digit : ℕ → Bool
 is_digit c = is_between 48 57 c
 
+-- the RFC's value-safe-char, without its limit to UTF-8: all but 0, the comma and `=`
+abbrev pub is_value_char : ℕ → Bool
+is_value_char c = not (c == 0 || c == 44 || c == 61)
+
+-- the characters of an attribute's value: no comma, which ends it
+abbrev pub is_attribute_char : ℕ → Bool
+is_attribute_char c = not (c == 44)
+
 abbrev pub IsNonce : List ℕ → Type 0
 IsNonce text = (0 < length text) × AllPass is_nonce_char text
+
+-- the RFC's saslname, without its limit to UTF-8, or nothing: a comma is written `=2C` in it, and `=` is `=3D`
+pub data SaslName : List ℕ → Type 0 where
+  no_more : SaslName []
+  itself : {c : ℕ} {name : List ℕ} → is_value_char c ≡ true → SaslName name → SaslName (c ∷ name)
+  comma : {name : List ℕ} → SaslName name → SaslName (codes "=2C" ++ name)
+  equals : {name : List ℕ} → SaslName name → SaslName (codes "=3D" ++ name)
+
+-- a user's name in a client's first text; the empty one too
+pub record IsUserName (name : List ℕ) : Type 0 where
+  pub utf8 : IsUtf8 name
+  pub spelled : SaslName name
 
 -- what a client says of channel binding: it can't, it can but the server didn't offer it, or it binds
 -- to the server's certificate, by the certificate's hash
@@ -42,10 +64,18 @@ binding_data Unrequested = []
 binding_data (TlsServerEndPoint signature) = signature
 
 -- client-first-message-bare
+abbrev pub named_bare : List ℕ → List ℕ → List ℕ
+named_bare user nonce = codes "n=" ++ (user ++ (codes ",r=" ++ nonce))
+
+-- with the empty user name
 abbrev pub first_bare : List ℕ → List ℕ
 first_bare nonce = codes "n=,r=" ++ nonce
 
 -- client-first-message
+abbrev pub named_first : Binding → List ℕ → List ℕ → List ℕ
+named_first binding user nonce = gs2_header binding ++ named_bare user nonce
+
+-- with the empty user name
 abbrev pub client_first : Binding → List ℕ → List ℕ
 client_first binding nonce = gs2_header binding ++ first_bare nonce
 
@@ -88,7 +118,3 @@ pub record ServerFirst (text nonce salt_text : List ℕ) (count : ℕ) : Type 0 
 pub record ServerFinal (text shown : List ℕ) : Type 0 where
   pub text_is : text ≡ codes "v=" ++ shown
   pub chars : AllPass is_base64_char shown
-
--- the RFC's value-char, without its limit to UTF-8: all but 0, the comma and `=`
-abbrev pub is_value_char : ℕ → Bool
-is_value_char c = not (c == 0 || c == 44 || c == 61)

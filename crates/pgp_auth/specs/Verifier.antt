@@ -1,6 +1,6 @@
 -- What a server keeps of a password: RFC 5802, section 3 (StoredKey and ServerKey), and its text, which
 -- the PostgreSQL manual gives for the catalog pg_authid.
-use Rattle.std.specs.Prelude.{ℕ, List, ◌++◌, codes}
+use Rattle.std.specs.Prelude.{ℕ, List, ◌++◌, take, replicate, codes}
 use Rattle.std.specs.Fmt.{decimal}
 use Rattle.sha2.specs.Sha256.{sha256}
 use Rattle.pgp_auth.specs.Base64.{base64}
@@ -24,3 +24,13 @@ verifier password salt count = record {
 unfoldable pub verifier_text : Verifier → List ℕ
 verifier_text v =
     codes "SCRAM-SHA-256$" ++ decimal v.count ++ codes ":" ++ base64 v.salt ++ codes "$" ++ base64 v.stored_key ++ codes ":" ++ base64 v.server_key
+
+-- What a server takes for a user of whom it has no verifier, so that a client can't tell: PostgreSQL's `mock_scram_secret`.
+-- The salt is the front of the digest of the user's name and a secret that the server keeps; the keys are no one's.
+abbrev pub mock_verifier : List ℕ → List ℕ → Verifier
+mock_verifier secret user = record {
+  salt = take 16 (sha256 (user ++ secret));
+  count = 4096;
+  stored_key = replicate 32 0;
+  server_key = replicate 32 0;
+}

@@ -8,8 +8,9 @@ ghost use Rattle.pgp_auth.specs.IteratedKey.{salted};
 ghost use Rattle.pgp_auth.specs.Lexer.{Literal, Identifier, IsPlain, NeedsNoEscape, single_quote, double_quote};
 ghost use Rattle.pgp_auth.specs.Md5Text.{md5_text};
 ghost use Rattle.pgp_auth.specs.Verifier.{Verifier, verifier, verifier_text};
-ghost use Rattle.pgp_auth.specs.ScramText.{Binding};
-ghost use Rattle.pgp_auth.specs.ScramServer.{Accepts, Signs};
+ghost use Rattle.pgp_auth.specs.ScramText.{Binding, client_first, first_bare};
+ghost use Rattle.pgp_auth.specs.ScramServer.{Expects, Accepts, Signs};
+ghost use Rattle.pgp_auth.specs.ScramServing.{Server, Admits, ShowsKey};
 ghost use Rattle.pgp_auth.specs.ScramRefusal.{Refusal, OutOfMemory, InvalidBase64, Admitted, Meets, RefusesFirst, RefusesFinal, Verifies, ShowsOther};
 ghost use Rattle.pgp_auth.specs.ScramClient.{Client, Answers, first_text, signature_of, NotVerified, Serves, Completes, Over};
 ghost use Rattle.pgp_auth.specs.ScramErrorView.{refusal, number_of, plain};
@@ -108,6 +109,18 @@ pub fn signature_is_refused_for_memory_alone<A: Memory>()
 pub fn one_signature()
     ensures { (v : Verifier) (binding : Binding) (first server_first x y : List ℕ) →
         Signs v binding first server_first x → Signs v binding first server_first y → x ≡ y }
+{}
+
+/// Where a client's first text has the empty user name, as PostgreSQL's clients send it, what both sides sign begins with
+/// `n=,r=` and the client's nonce.
+pub fn empty_name_is_signed()
+    ensures { (binding : Binding) (nonce server_first final auth : List ℕ) (x : Expects binding (client_first binding nonce) server_first final auth) →
+        (x.user ≡ []) × (x.client_nonce ≡ nonce) × (x.bare ≡ first_bare x.client_nonce) }
+{}
+
+/// Where `ScramServer::finish` is Ok, the client has shown a key whose digest is the stored key.
+pub fn accepted_text_shows_a_key()
+    ensures { (old new : Server) (text answer : List ℕ) (a : Admits old text new answer) → ShowsKey a.challenge text }
 {}
 
 /// Both ways: the server that holds the verifier of the client's password accepts the text that `update`

@@ -17,6 +17,8 @@ use pgp_base::{Error, Memory};
 use rand_core::Rng;
 use sha2::{Digest, Sha256};
 
+pub mod check;
+
 const ITERATIONS: u32 = 4096;
 
 const SALT_LEN: usize = 16;

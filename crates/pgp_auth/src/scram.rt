@@ -1,4 +1,4 @@
-//! The client of SCRAM-SHA-256: RFC 5802, RFC 7677.
+//! Both sides of SCRAM-SHA-256: RFC 5802, RFC 7677.
 
 mod admit;
 mod answer;
@@ -6,6 +6,7 @@ mod binding;
 mod client;
 mod error;
 mod held;
+mod named;
 mod nonce;
 mod reading;
 mod server;
@@ -25,3 +26,5 @@ pub use nonce::is_nonce;
 pub use server::ScramServer;
 pub use server_error::{ExchangeError, ServerError, VerifierError};
 pub use verify::verify_signature;
+pub(crate) use serving::behind;
+pub(crate) use verify::difference;

@@ -19,6 +19,7 @@ mod replies;
 mod row;
 mod saslprep;
 mod scram;
+mod scram_server;
 mod server;
 mod shapes;
 mod shown;
@@ -33,6 +34,7 @@ use replies::check_reply;
 use row::Row;
 use saslprep::check_saslprep;
 use scram::check_scram;
+use scram_server::check_scram_server;
 use server::check_server;
 use std::alloc::Global;
 use std::rt::Files;
@@ -56,10 +58,11 @@ enum Family {
     Server,
     Passwords,
     Scram,
+    ScramServer,
     Saslprep,
 }
 
-const FILES: [(&str, Family); 18] = [
+const FILES: [(&str, Family); 19] = [
     ("client.rows", Family::Client),
     ("client_read.rows", Family::ClientRead),
     ("client_replaced.rows", Family::ClientRead),
@@ -77,6 +80,7 @@ const FILES: [(&str, Family); 18] = [
     ("escapes.rows", Family::Passwords),
     ("passwords.rows", Family::Passwords),
     ("scram.rows", Family::Scram),
+    ("scram_server.rows", Family::ScramServer),
     ("saslprep.rows", Family::Saslprep),
 ];
 
@@ -98,6 +102,7 @@ fn check(alloc: Global, family: Family, row: &Row<'_>) -> Result<(), Fault> {
         Family::Server => check_server(alloc, row),
         Family::Passwords => check_password(alloc, row),
         Family::Scram => check_scram(alloc, row),
+        Family::ScramServer => check_scram_server(alloc, row),
         Family::Saslprep => check_saslprep(alloc, row),
     }
 }

@@ -104,6 +104,27 @@ pub(crate) fn signed_text<A: Memory>(
     Ok(text)
 }
 
+// The text that both sides sign, with the client's first text without its header as it came.
+pub(crate) fn text_to_sign<A: Memory>(
+    alloc: A,
+    bare: &[u8],
+    server_first: &[u8],
+    front: &[u8],
+) -> Result<Vec<u8, A>, AllocError>
+    ensures ok { IfOk result (λ v. v.items ≡ auth_message bare.now server_first.now front.now) }
+    ensures lacks { OnErr result A.Lacks }
+{
+    let room = bare.len().saturating_add(server_first.len());
+    let room = room.saturating_add(front.len()).saturating_add(2);
+    let mut text = A::list_with_capacity(alloc, room)?;
+    A::extend(&mut text, bare)?;
+    A::extend(&mut text, b",")?;
+    A::extend(&mut text, server_first)?;
+    A::extend(&mut text, b",")?;
+    A::extend(&mut text, front)?;
+    Ok(text)
+}
+
 // `front`, with the proof added.
 fn proved_text<A: Memory>(front: Vec<u8, A>, proof: &[u8; 32]) -> Result<Vec<u8, A>, AllocError>
     ensures ok { IfOk result (λ v. v.items ≡ with_proof front.items (base64 proof.now)) }

@@ -3,7 +3,7 @@
 ghost use Rattle.std.specs.Prelude.{◌≡◌, ⊤, ℕ, ◌+◌, ◌-◌, ◌<◌, ◌≤◌, ◌^◌, List, length, drop, codes, MatchResult, Ok, Err};
 ghost use Rattle.std.specs.List.{AllPass};
 ghost use Rattle.std.specs.Str.{is_utf8};
-ghost use Rattle.pgp_auth.specs.ScramText.{is_base64_char, is_value_char, is_digit};
+ghost use Rattle.pgp_auth.specs.ScramText.{is_base64_char, is_value_char, is_attribute_char, is_digit};
 ghost use Rattle.pgp_auth.specs.ScramReading.{expected, front_of, rest_of, count_of, ended, read_first, read_run, begins_with_e};
 ghost use Rattle.pgp_auth.specs.ScramPartView.{admits, parts_of};
 
@@ -31,15 +31,21 @@ fn is_digit_byte(byte: u8) -> bool
     matches!(byte, b'0'..=b'9')
 }
 
-fn is_value_byte(byte: u8) -> bool
+pub(crate) fn is_value_byte(byte: u8) -> bool
     ensures { result ≡ is_value_char byte }
 {
     !(byte == 0 || byte == b',' || byte == b'=')
 }
 
+fn is_attribute_byte(byte: u8) -> bool
+    ensures { result ≡ is_attribute_char byte }
+{
+    !(byte == b',')
+}
+
 // What follows `want` in `text`, the end of a text of `total` bytes.
 #[tactic(auto, unfolding(crate::specs::ScramReading::expected))]
-fn expect<'a>(total: usize, want: &[u8], text: &'a [u8]) -> Result<&'a [u8], Fault>
+pub(crate) fn expect<'a>(total: usize, want: &[u8], text: &'a [u8]) -> Result<&'a [u8], Fault>
     requires { length text.now ≤ total }
     ensures value { MatchResult result (λ r. expected total want.now text.now ≡ Ok r.now) (λ e. expected total want.now text.now ≡ Err e) }
     ensures shorter { MatchResult result (λ r. length r.now ≤ length text.now) (λ _. ⊤) }
@@ -66,6 +72,7 @@ pub(crate) enum Alphabet {
     Base64,
     Digits,
     Value,
+    Attribute,
 }
 
 impl Alphabet {
@@ -77,6 +84,7 @@ impl Alphabet {
             Alphabet::Base64 => is_base64_byte(byte),
             Alphabet::Digits => is_digit_byte(byte),
             Alphabet::Value => is_value_byte(byte),
+            Alphabet::Attribute => is_attribute_byte(byte),
         }
     }
 

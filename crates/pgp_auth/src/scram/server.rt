@@ -1,14 +1,18 @@
 //! The server's side of an exchange.
 
 ghost use Rattle.std.specs.Prelude.{◌≡◌, string_bytes, IfOk, IfErr};
+ghost use Rattle.pgp_auth.specs.Nonce.{drawn_chars};
+ghost use Rattle.pgp_auth.specs.declared.scram.server_error.ServerError.TheVariants.{OutOfMemory};
 ghost use Rattle.pgp_auth.specs.ScramText.{IsNonce};
 ghost use Rattle.pgp_auth.specs.ScramServing.{AwaitsFirst, Challenges, FirstRefused, Admits, FinalRefused};
 ghost use Rattle.pgp_auth.specs.ScramServerView.{verifier_of, offer_of};
 
 use crate::scram::held::{ChannelOffer, ServerState, StoredVerifier, Waiting};
+use crate::scram::nonce::draw_nonce;
 use crate::scram::server_error::ServerError;
 use crate::scram::serving::{admit, challenge};
 use pgp_base::Memory;
+use rand_core::Rng;
 use std::alloc::{Allocator, Global};
 use std::marker::Model;
 use std::mem;
@@ -32,6 +36,35 @@ impl<A: Allocator> Model for ScramServer<A> {
 }
 
 impl<A: Memory> ScramServer<A> {
+    /// A server that holds the verifier of the user's password. Its own part of the nonce is 24 characters that the generator
+    /// draws.
+    ///
+    /// # Errors
+    ///
+    /// `OutOfMemory` where memory for the nonce is refused. The generator has moved on by the nonce then too.
+    pub fn new<R: Rng>(
+        alloc: A,
+        verifier: StoredVerifier<A>,
+        offer: ChannelOffer<A>,
+        rng: &mut R,
+    ) -> Result<ScramServer<A>, ServerError>
+        ensures ok { let nonce = (drawn_chars 24 (R.stream rng.old)).0 in
+            IfOk result (λ server. server ≡ AwaitsFirst (record { verifier = verifier_of verifier; is_mock = verifier.is_mock; offer = offer_of offer; own = nonce })) }
+        ensures nonce { IsNonce (drawn_chars 24 (R.stream rng.old)).0 }
+        ensures drawn { R.stream rng.new ≡ (drawn_chars 24 (R.stream rng.old)).1 }
+        ensures memory { IfErr result (λ e. (e ≡ OutOfMemory) × A.Lacks) }
+    {
+        let drawn = draw_nonce(rng);
+        let own = A::list_of(alloc, &drawn)?;
+        Ok(ScramServer {
+            state: ServerState::AwaitsFirst(Waiting {
+                verifier,
+                offer,
+                own,
+            }),
+        })
+    }
+
     /// A server that holds the verifier of the user's password, with its own part of the nonce, which has to be a new
     /// one each time.
     pub fn with_nonce(
@@ -40,7 +73,7 @@ impl<A: Memory> ScramServer<A> {
         nonce: String<A>,
     ) -> ScramServer<A>
         requires { IsNonce (string_bytes nonce) }
-        ensures { result ≡ AwaitsFirst (record { verifier = verifier_of verifier; offer = offer_of offer; own = string_bytes nonce }) }
+        ensures { result ≡ AwaitsFirst (record { verifier = verifier_of verifier; is_mock = verifier.is_mock; offer = offer_of offer; own = string_bytes nonce }) }
     {
         ScramServer {
             state: ServerState::AwaitsFirst(Waiting {
@@ -59,7 +92,8 @@ impl<A: Memory> ScramServer<A> {
     ///
     /// - `WrongState`: the text was taken before, or the exchange is over.
     /// - `UnsupportedBinding`: no header that claims a binding which is taken stands at its front.
-    /// - `InvalidFirst`: another text than `n=,r=` and a nonce follows it.
+    /// - `InvalidFirst`: another text than `n=`, a user's name, `,r=` and a nonce follows it. The name may be empty, and nothing is
+    ///   made of it: the user is the one of the startup packet.
     /// - `OutOfMemory`: memory for the texts is refused.
     pub fn first(&mut self, client_first: &[u8]) -> Result<Vec<u8, A>, ServerError>
         ensures ok { IfOk result (λ text. Challenges self.old client_first.now self.new text.items) }
@@ -85,7 +119,7 @@ impl<A: Memory> ScramServer<A> {
     /// - `WrongState`: no `first` was Ok before, or the exchange is over.
     /// - `OtherExchange`: the text doesn't begin with this exchange's header, data and nonce.
     /// - `InvalidEncoding`: no base64 of 32 bytes stands behind `,p=`.
-    /// - `InvalidProof`: the proof is of another key.
+    /// - `InvalidProof`: the proof is of another key, or the verifier is made up (`StoredVerifier::mock`).
     pub fn finish(&mut self, client_final: &[u8]) -> Result<[u8; 46], ServerError>
         ensures ok { IfOk result (λ text. Admits self.old client_final.now self.new text) }
         ensures err { IfErr result (λ e. FinalRefused self.old client_final.now e self.new) }

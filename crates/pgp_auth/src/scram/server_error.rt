@@ -16,7 +16,7 @@ pub enum ServerError {
     /// The first text begins with no header that claims a binding that is taken.
     #[error("UnsupportedBinding")]
     UnsupportedBinding,
-    /// No empty user name and nonce stand behind the header, or something follows them.
+    /// No user name and nonce stand behind the header, or something follows them.
     #[error("InvalidFirst")]
     InvalidFirst,
     /// The final text doesn't repeat the header, the channel's data and the nonce.
@@ -25,7 +25,7 @@ pub enum ServerError {
     /// No base64 of 32 bytes stands where the proof has to.
     #[error("InvalidEncoding")]
     InvalidEncoding,
-    /// The proof is of another key.
+    /// The proof is of another key, or there is no such user.
     #[error("InvalidProof")]
     InvalidProof,
 }

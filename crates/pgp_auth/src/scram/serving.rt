@@ -1,9 +1,9 @@
 //! What a server makes of a client's texts.
 
-ghost use Rattle.std.specs.Prelude.{◌≡◌, ◌≢◌, ◌↔◌, ◌<◌, ◌^◌, IsTrue, ℕ, List, ◌++◌, length, codes, IfOk, IfErr, OnErr, MatchOption};
+ghost use Rattle.std.specs.Prelude.{◌≡◌, ◌≢◌, ◌<◌, ◌^◌, false, ℕ, List, ◌++◌, length, codes, IfOk, IfErr, OnErr, MatchOption};
 ghost use Rattle.pgp_base.specs.Wire.{IsBytes};
 ghost use Rattle.pgp_auth.specs.Base64.{base64, Shows};
-ghost use Rattle.pgp_auth.specs.ScramText.{Binding, IsNonce, gs2_header, first_bare};
+ghost use Rattle.pgp_auth.specs.ScramText.{Binding, gs2_header};
 ghost use Rattle.pgp_auth.specs.ScramServing.{IsTaken, Opens, NotOpened, answer_of, server_first, AcceptsFinal, Shown, NotAdmitted};
 ghost use Rattle.pgp_auth.specs.ScramServerView.{offer_of, serving_of, challenge_of};
 ghost use Rattle.pgp_auth.specs.Hmac.{mac};
@@ -11,10 +11,10 @@ ghost use Rattle.pgp_auth.specs.IteratedKey.{xor_bytes};
 
 use crate::hmac::hmac_sha256;
 use crate::lanes::xor_into;
-use crate::scram::answer::{final_front, signed_text};
+use crate::scram::answer::{final_front, text_to_sign};
 use crate::scram::binding::ChannelBinding;
 use crate::scram::held::{Challenged, ChannelOffer, Waiting};
-use crate::scram::nonce::is_nonce_byte;
+use crate::scram::named::named_in;
 use crate::scram::server_error::ServerError;
 use crate::scram::verify::{decode_short, difference};
 use base64::engine::general_purpose::STANDARD;
@@ -60,31 +60,6 @@ fn taken<'a, A: Allocator>(
             Some(bare) => Some((ChannelBinding::tls_server_end_point(hash), bare)),
             None => None,
         },
-    }
-}
-
-// The bytes can be a nonce.
-fn is_nonce_of(bytes: &[u8]) -> bool
-    ensures { IsTrue result ↔ IsNonce bytes.now }
-{
-    !bytes.is_empty() && bytes.iter().all(|byte| is_nonce_byte(*byte))
-}
-
-// The client's nonce, behind an empty user name.
-fn nonce_in(bare: &[u8]) -> Option<&[u8]>
-    ensures { MatchOption result
-        ((nonce : List ℕ) → IsNonce nonce → bare.now ≢ first_bare nonce)
-        (λ x. IsNonce x.now × (bare.now ≡ first_bare x.now)) }
-{
-    match behind(b"n=,r=", bare) {
-        Some(nonce) => {
-            if is_nonce_of(nonce) {
-                Some(nonce)
-            } else {
-                None
-            }
-        }
-        None => None,
     }
 }
 
@@ -136,19 +111,21 @@ pub(crate) fn challenge<A: Memory>(
     let Some((binding, bare)) = taken(offer, text) else {
         return Err(ServerError::UnsupportedBinding);
     };
-    let Some(nonce) = nonce_in(bare) else {
+    let Some(named) = named_in(bare) else {
         return Err(ServerError::InvalidFirst);
     };
     let alloc = *own.allocator();
-    let whole = joined(alloc, nonce, &own)?;
+    let whole = joined(alloc, named.nonce, &own)?;
     let answer = first_answer(alloc, &whole, &verifier.salt, verifier.count)?;
     let front = final_front(alloc, &binding, &whole)?;
-    let auth = signed_text(alloc, nonce, &answer, &front)?;
-    let nonce = A::list_of(alloc, nonce)?;
+    let auth = text_to_sign(alloc, bare, &answer, &front)?;
+    let user = A::list_of(alloc, named.user)?;
+    let nonce = A::list_of(alloc, named.nonce)?;
     Ok((
         Challenged {
             verifier,
             binding,
+            user,
             nonce,
             own,
             front,
@@ -213,7 +190,7 @@ pub(crate) fn admit<A: Allocator>(
     challenged: &Challenged<A>,
     text: &[u8],
 ) -> Result<[u8; FINAL_LEN], ServerError>
-    ensures ok { IfOk result (λ t. AcceptsFinal (challenge_of challenged.now) text.now × Shown (challenge_of challenged.now) t) }
+    ensures ok { IfOk result (λ t. (challenged.now.verifier.is_mock ≡ false) × AcceptsFinal (challenge_of challenged.now) text.now × Shown (challenge_of challenged.now) t) }
     ensures err { IfErr result (λ e. NotAdmitted (challenge_of challenged.now) text.now e) }
 {
     let Some(rest) = behind(&challenged.front, text) else {
@@ -229,6 +206,9 @@ pub(crate) fn admit<A: Allocator>(
     let verifier = &challenged.verifier;
     let key = key_in(proof, &verifier.stored_key, &challenged.auth);
     if difference(&Sha256::digest(key), &verifier.stored_key) != 0 {
+        return Err(ServerError::InvalidProof);
+    }
+    if verifier.is_mock {
         return Err(ServerError::InvalidProof);
     }
     Ok(final_text(&hmac_sha256(&verifier.server_key, &challenged.auth, b"")))
