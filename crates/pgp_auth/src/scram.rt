@@ -25,6 +25,6 @@ pub use held::{ChannelOffer, StoredVerifier};
 pub use nonce::is_nonce;
 pub use server::ScramServer;
 pub use server_error::{ExchangeError, ServerError, VerifierError};
-pub use verify::verify_signature;
 pub(crate) use serving::behind;
 pub(crate) use verify::difference;
+pub use verify::verify_signature;

@@ -1,9 +1,9 @@
 -- The keys and values of an hstore.
-use Rattle.std.proofs.Common.{◌≡◌, ℕ, Bool, true, false, ◌&&◌, ◌||◌, ◌+◌, List, [], ◌∷◌, ◌++◌, length, map, Some, refl, arith, inl, inr}
+use Rattle.std.proofs.Common.{◌≡◌, ℕ, Bool, true, false, ◌&&◌, ◌||◌, List, [], ◌∷◌, length, map, Some, refl, sym, inl, inr}
 use Rattle.std.proofs.lemmas.Bool.{cases_Bool}
-use Rattle.std.proofs.lemmas.Str.{IsUtf8-from_is_utf8}
+use Rattle.std.proofs.lemmas.Str.{IsUtf8-from_is_utf8, is_utf8-from_IsUtf8}
 use Rattle.std.specs.List.{list_all, AllByRecursion}
-use Rattle.std.specs.Str.{is_utf8}
+use Rattle.std.specs.Str.{IsUtf8, is_utf8}
 use Rattle.pgp_base.specs.Cause.{length_cause}
 use Rattle.pgp_base.specs.declared.error.Error.{Error}
 use Rattle.pgp_base.specs.declared.error.Error.TheVariants.{TooLarge}
@@ -18,10 +18,19 @@ both : (a b : Bool) → (a && b) ≡ true → (a ≡ true) × (b ≡ true)
 both true b h = (refl, h)
 both false b h = let e : false ≡ true = h in absurd cc
 
+pub is_a_text : (bytes : List ℕ) → IsUtf8 bytes → true ≡ is_utf8 bytes
+is_a_text bytes h = sym (is_utf8-from_IsUtf8 bytes h)
+
+pub is_no_text : (bytes : List ℕ) → ¬ IsUtf8 bytes → false ≡ is_utf8 bytes
+is_no_text bytes h = elim (cases_Bool (is_utf8 bytes)) [
+  | inl is ↦ absurd (h (IsUtf8-from_is_utf8 bytes is))
+  | inr isnt ↦ sym isnt
+]
+
 value_text : (v : PgpValue) → (v.is_null || is_utf8 v.bytes.now) ≡ true → IsTextOrNull (value_of v)
 value_text v h = elim (cases_Bool v.is_null) [
   | inl null ↦ rw null tt
-  | inr full ↦ rw full (IsUtf8-from_is_utf8 v.bytes.now (rw full at h in h))
+  | inr full ↦ rw full (IsUtf8-from_is_utf8 v.bytes.now (rw full at h))
 ]
 
 pub entries_text : (ps : List PgpKeyValue) → list_all are_texts ps ≡ true → AllByRecursion IsEntry (map entry_of ps)

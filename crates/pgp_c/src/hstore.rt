@@ -173,7 +173,10 @@ fn are_texts(pair: &PgpKeyValue<'_>) -> bool
 fn is_text(bytes: &[u8]) -> bool
     ensures { result ≡ is_utf8 bytes.now }
 {
-    text(bytes).is_ok()
+    match text(bytes) {
+        Ok(_) => true,
+        Err(_) => false,
+    }
 }
 
 /// How many there are, and all of them.
