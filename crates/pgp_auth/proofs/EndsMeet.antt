@@ -66,10 +66,10 @@ first_memory {lacks} x s new e m text is r =
     let why : FirstRefuses lacks s (first_text m.begun) e = rw is at r.why in
     refuses_first lacks m.serving m.begun.binding m.begun.nonce e m.taken m.is_nonce (rw m.server_is at why)
 
-same_serving : (a b : Serving) → AwaitsFirst a ≡ AwaitsFirst b → a ≡ b
+pub same_serving : (a b : Serving) → AwaitsFirst a ≡ AwaitsFirst b → a ≡ b
 same_serving a b e = cc
 
-same_challenge : (a b : Challenge) → AwaitsFinal a ≡ AwaitsFinal b → a ≡ b
+pub same_challenge : (a b : Challenge) → AwaitsFinal a ≡ AwaitsFinal b → a ≡ b
 same_challenge a b e = cc
 
 same_begun : (a b : Begun) → ClientAwaitsFirst a ≡ ClientAwaitsFirst b → a ≡ b
