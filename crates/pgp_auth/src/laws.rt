@@ -10,7 +10,9 @@ ghost use Rattle.pgp_auth.specs.Md5Text.{md5_text, md5_verifier, md5_answer, Ans
 ghost use Rattle.pgp_auth.specs.Verifier.{Verifier, verifier, verifier_text};
 ghost use Rattle.pgp_auth.specs.ScramText.{Binding, client_first, first_bare};
 ghost use Rattle.pgp_auth.specs.ScramServer.{Expects, Accepts, Signs};
-ghost use Rattle.pgp_auth.specs.ScramServing.{Server, Serving, AwaitsFirst, Challenges, Admits, ShowsKey};
+ghost use Rattle.pgp_auth.specs.ScramServing.{Server, Serving, Challenge, AwaitsFirst, Challenges, Admits, RefusesProof, ShowsKey, answer_of};
+ghost use Rattle.pgp_auth.specs.ScramMock.{as_known, ShowsNoProof};
+ghost use Rattle.pgp_auth.specs.declared.scram.server_error.ServerError.{ServerError};
 ghost use Rattle.pgp_auth.specs.ScramRefusal.{Refusal, OutOfMemory, InvalidBase64, Admitted, Meets, RefusesFirst, RefusesFinal, Verifies, ShowsOther};
 ghost use Rattle.pgp_auth.specs.ScramClient.{Client, Answers, first_text, signature_of, NotVerified, Serves, Completes, Over};
 ghost use Rattle.pgp_auth.specs.ScramErrorView.{refusal, number_of, plain};
@@ -133,6 +135,15 @@ pub fn accepted_text_shows_a_key()
 pub fn mock_is_never_accepted()
     ensures { (serving : Serving) (between new : Server) (first answer last signature : List ℕ) → serving.is_mock ≡ true →
         Challenges (AwaitsFirst serving) first between answer → ¬ Admits between last new signature }
+{}
+
+/// A client can't tell by the server's texts and refusals that a verifier is made up: the answer to its first text is that of a
+/// server which has a verifier of the same salt and count, and a final text that shows no proof of its key is refused by
+/// the same causes.
+pub fn mock_is_told_alike()
+    ensures answer { (c : Challenge) (stored_key server_key : List ℕ) → answer_of c ≡ answer_of (as_known c stored_key server_key) }
+    ensures refusal { (c : Challenge) (text stored_key server_key : List ℕ) (e : ServerError) → c.is_mock ≡ true → ShowsNoProof c text stored_key →
+        (RefusesProof c text e ↔ RefusesProof (as_known c stored_key server_key) text e) }
 {}
 
 /// Both ways: the server that holds the verifier of the client's password accepts the text that `update`
