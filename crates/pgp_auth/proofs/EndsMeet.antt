@@ -1,13 +1,13 @@
 -- Our client and our server, step by step.
-use Rattle.std.proofs.Common.{◌≡◌, ℕ, ◌+◌, ◌<◌, ◌≤◌, ◌^◌, Bool, true, false, List, [], ◌∷◌, ◌++◌, codes, Some, subst, refl, sym, ap, ◌∙◌, arith, inl, inr}
+use Rattle.std.proofs.Common.{◌≡◌, ℕ, ◌<◌, ◌≤◌, Bool, true, List, [], ◌∷◌, ◌++◌, codes, Some, subst, refl, sym, ap, ◌∙◌, arith, inl, inr}
 use Rattle.pgp_base.specs.Wire.{IsBytes}
 use Rattle.pgp_auth.specs.Base64.{base64}
 use Rattle.pgp_auth.specs.Verifier.{Verifier, verifier}
 use Rattle.pgp_auth.specs.ScramText.{Binding, Unsupported, Unrequested, TlsServerEndPoint, IsNonce, gs2_header, named_bare, first_bare, is_nonce_char}
 use Rattle.pgp_auth.specs.ScramServer.{Accepts, Signs}
 use Rattle.pgp_auth.specs.ScramRefusal.{Refusal, OutOfMemory as RefusedMemory, Meets}
-use Rattle.pgp_auth.specs.ScramClient.{Begun, Answered, State, AwaitsFirst as ClientAwaitsFirst, AwaitsFinal as ClientAwaitsFinal, Over as ClientOver, Client, first_text, message_of, signature_of, Answers, UpdateRefuses, UpdateRefused, Finished, FinishRefuses, FinishRefused}
-use Rattle.pgp_auth.specs.ScramServing.{Offer, NotOffered, Declined, Chosen, IsTaken, Serving, Challenge, Server, AwaitsFirst, AwaitsFinal, Over, first_of, answer_of, server_first, Opens, Challenges, FirstRefuses, FirstRefused, AcceptsFinal, Shown, Admits, NotAdmitted, FinalRefuses, FinalRefused}
+use Rattle.pgp_auth.specs.ScramClient.{Begun, Answered, AwaitsFirst as ClientAwaitsFirst, AwaitsFinal as ClientAwaitsFinal, Client, first_text, message_of, Answers, UpdateRefuses, UpdateRefused, Finished, FinishRefuses, FinishRefused}
+use Rattle.pgp_auth.specs.ScramServing.{Offer, NotOffered, Declined, Chosen, IsTaken, Serving, Challenge, Server, AwaitsFirst, AwaitsFinal, answer_of, server_first, Opens, Challenges, FirstRefuses, FirstRefused, AcceptsFinal, Shown, Admits, FinalRefuses, FinalRefused}
 use Rattle.pgp_auth.specs.ScramMeeting.{Meeting, Met}
 use Rattle.pgp_auth.specs.declared.scram.server_error.ServerError.{ServerError}
 use Rattle.pgp_auth.specs.declared.scram.server_error.ServerError.TheVariants.{OutOfMemory}
@@ -66,10 +66,10 @@ first_memory {lacks} x s new e m text is r =
     let why : FirstRefuses lacks s (first_text m.begun) e = rw is at r.why in
     refuses_first lacks m.serving m.begun.binding m.begun.nonce e m.taken m.is_nonce (rw m.server_is at why)
 
-same_serving : (a b : Serving) → AwaitsFirst a ≡ AwaitsFirst b → a ≡ b
+pub same_serving : (a b : Serving) → AwaitsFirst a ≡ AwaitsFirst b → a ≡ b
 same_serving a b e = cc
 
-same_challenge : (a b : Challenge) → AwaitsFinal a ≡ AwaitsFinal b → a ≡ b
+pub same_challenge : (a b : Challenge) → AwaitsFinal a ≡ AwaitsFinal b → a ≡ b
 same_challenge a b e = cc
 
 same_begun : (a b : Begun) → ClientAwaitsFirst a ≡ ClientAwaitsFirst b → a ≡ b

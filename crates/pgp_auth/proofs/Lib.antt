@@ -14,6 +14,7 @@ pub mod Grants
 pub mod HeaderText
 pub mod LongKeys
 pub mod Md5Checks
+pub mod Mocks
 pub mod Once
 pub mod OneText
 pub mod Patterns

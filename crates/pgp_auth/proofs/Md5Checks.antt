@@ -1,11 +1,13 @@
 -- What is compared with a stored MD5 text.
-use Rattle.std.proofs.Common.{◌≡◌, ◌≢◌, ◌==◌, ℕ, Bool, true, false, List, ◌++◌, length, codes, refl, sym, ap, ◌∙◌, arith}
+use Rattle.std.proofs.Common.{◌≡◌, ◌≢◌, ◌==◌, ℕ, Bool, false, List, ◌++◌, length, codes, refl, sym, ap, ◌∙◌, arith}
 use Rattle.std.specs.Prelude.{◌↔◌, IsTrue}
 use Rattle.std.proofs.lemmas.Bool.{eqb-true, eq-eqb}
 use Rattle.std.proofs.lemmas.List.{append_cancel_left}
-use Rattle.hex.specs.Hex.{encode_lower}
+use Rattle.hex.specs.Hex.{encode_lower, lower_digits}
+use Rattle.hex.proofs.HexLemmas.{length-encode_with}
 use Rattle.md5.specs.Md5.{md5}
-use Rattle.pgp_auth.specs.Md5Text.{md5_text, AnswersStored}
+use Rattle.md5.proofs.StandardFacts.{length-md5}
+use Rattle.pgp_auth.specs.Md5Text.{md5_text, md5_verifier, md5_answer, AnswersStored}
 
 pub other_front : (text digits : List ℕ) → ((rest : List ℕ) → text ≢ codes "md5" ++ rest) → (IsTrue false ↔ (text ≡ codes "md5" ++ digits))
 other_front text digits none = (λ bad. cc, λ is. absurd (none digits is))
@@ -40,4 +42,17 @@ unfolding md5_text
 answer_compared stored salt answer digits shown b is len shown_is h = (
   λ yes_. record { digits = digits; stored_is = is; len = len; answer_is = h.0 yes_ ∙ ap (λ l. codes "md5" ++ l) shown_is },
   λ a. h.1 (answer_of stored salt answer digits is a ∙ ap (λ l. codes "md5" ++ l) (sym shown_is)),
+)
+
+digits_len : (message : List ℕ) → length (encode_lower (md5 message)) ≡ 32
+digits_len message =
+    let twice = length-encode_with lower_digits (md5 message) in
+    let len = length-md5 message in
+    omega arith
+
+pub answer_told : (password user salt answer : List ℕ) → (AnswersStored (md5_verifier password user) salt answer ↔ (answer ≡ md5_answer user password salt))
+unfolding md5_text
+answer_told password user salt answer = (
+  λ a. answer_of (md5_verifier password user) salt answer (encode_lower (md5 (password ++ user))) refl a,
+  λ is. record { digits = encode_lower (md5 (password ++ user)); stored_is = refl; len = digits_len (password ++ user); answer_is = is },
 )

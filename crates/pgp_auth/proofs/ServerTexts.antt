@@ -1,5 +1,5 @@
 -- The texts of a server, and which final texts it accepts.
-use Rattle.std.proofs.Common.{◌≡◌, ◌≢◌, ℕ, zero, suc, ◌+◌, ◌*◌, ◌-◌, ◌/◌, ◌%◌, ◌<◌, ◌≤◌, ◌^◌, Bool, true, false, List, [], ◌∷◌, ◌++◌, length, inl, codes, refl, sym, ap, ◌∙◌, arith}
+use Rattle.std.proofs.Common.{◌≡◌, ◌≢◌, ℕ, ◌+◌, ◌*◌, ◌-◌, ◌/◌, ◌%◌, ◌<◌, ◌≤◌, ◌^◌, Bool, true, false, List, [], ◌∷◌, ◌++◌, length, inl, codes, refl, sym, ap, ◌∙◌, arith}
 use Rattle.std.specs.Fmt.{decimal}
 use Rattle.std.specs.List.{AllPass}
 use Rattle.std.specs.Result.{IsErr}
@@ -18,8 +18,7 @@ use Rattle.pgp_base.specs.Wire.{IsBytes}
 use Rattle.pgp_auth.specs.Base64.{base64, Shows}
 use Rattle.pgp_auth.specs.Hmac.{mac}
 use Rattle.pgp_auth.specs.IteratedKey.{xor_bytes}
-use Rattle.pgp_auth.specs.ScramText.{Binding, IsUserName, IsNonce, is_digit, is_nonce_char, number, number_from, NamesCount, ServerFirst, gs2_header, binding_data, named_bare, without_proof, with_proof, auth_message}
-use Rattle.pgp_auth.specs.ScramServer.{Accepts}
+use Rattle.pgp_auth.specs.ScramText.{Binding, IsUserName, IsNonce, is_digit, is_nonce_char, number, number_from, ServerFirst, gs2_header, binding_data, named_bare, without_proof, with_proof, auth_message}
 use Rattle.pgp_auth.specs.ScramServing.{Serving, Challenge, IsTaken, NotOpened, server_first, answer_of, first_of, ExpectsOf, AcceptsFinal, Shown, RefusesProof, other_exchange, no_proof, other_proof, mock, NotAdmitted}
 use Rattle.pgp_auth.specs.declared.scram.server_error.ServerError.{ServerError}
 use Rattle.pgp_auth.specs.declared.scram.server_error.ServerError.TheVariants.{OutOfMemory, OtherExchange, InvalidEncoding, InvalidProof}

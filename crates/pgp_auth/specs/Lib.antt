@@ -13,6 +13,7 @@ pub mod ScramAnswer
 pub mod ScramClient
 pub mod ScramErrorView
 pub mod ScramMeeting
+pub mod ScramMock
 pub mod ScramPartView
 pub mod ScramReading
 pub mod ScramRefusal

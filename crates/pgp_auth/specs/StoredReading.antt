@@ -1,7 +1,7 @@
 -- Private: a stored verifier's text as it is read from the left. Laws join this to ScramStored.
 use Rattle.std.specs.Prelude.{ℕ, List, length, codes}
 use Rattle.std.specs.declared.result.Result.{Result}
-use Rattle.std.specs.declared.result.Result.TheVariants.{Ok, Err}
+use Rattle.std.specs.declared.result.Result.TheVariants.{Ok}
 use Rattle.pgp_auth.specs.declared.scram.reading.Fault.{Fault}
 use Rattle.pgp_auth.specs.declared.scram.stored.Pieces.{Pieces}
 use Rattle.pgp_auth.specs.ScramText.{is_base64_char, is_digit}

@@ -1,16 +1,18 @@
 //! Laws on the definitions of this crate.
 
-ghost use Rattle.std.specs.Prelude.{◌≡◌, ◌≢◌, ◌↔◌, ◌⊎◌, codes, ℕ, ◌<◌, Bool, List, [], ◌∷◌, ◌++◌, Some, All, length, slice_get, OnOk, IfErr};
+ghost use Rattle.std.specs.Prelude.{◌≡◌, ◌≢◌, ◌↔◌, ◌⊎◌, codes, ℕ, ◌<◌, Bool, true, List, [], ◌∷◌, ◌++◌, Some, All, length, slice_get, OnOk, IfErr};
 ghost use Rattle.sha2.specs.Sha256.{sha256};
 ghost use Rattle.pgp_base.specs.Wire.{IsBytes};
 ghost use Rattle.pgp_auth.specs.Base64.{base64, Shows};
 ghost use Rattle.pgp_auth.specs.IteratedKey.{salted};
 ghost use Rattle.pgp_auth.specs.Lexer.{Literal, Identifier, IsPlain, NeedsNoEscape, single_quote, double_quote};
-ghost use Rattle.pgp_auth.specs.Md5Text.{md5_text};
+ghost use Rattle.pgp_auth.specs.Md5Text.{md5_text, md5_verifier, md5_answer, AnswersStored};
 ghost use Rattle.pgp_auth.specs.Verifier.{Verifier, verifier, verifier_text};
 ghost use Rattle.pgp_auth.specs.ScramText.{Binding, client_first, first_bare};
 ghost use Rattle.pgp_auth.specs.ScramServer.{Expects, Accepts, Signs};
-ghost use Rattle.pgp_auth.specs.ScramServing.{Server, Admits, ShowsKey};
+ghost use Rattle.pgp_auth.specs.ScramServing.{Server, Serving, Challenge, AwaitsFirst, Challenges, Admits, RefusesProof, ShowsKey, answer_of};
+ghost use Rattle.pgp_auth.specs.ScramMock.{as_known, ShowsNoProof};
+ghost use Rattle.pgp_auth.specs.declared.scram.server_error.ServerError.{ServerError};
 ghost use Rattle.pgp_auth.specs.ScramRefusal.{Refusal, OutOfMemory, InvalidBase64, Admitted, Meets, RefusesFirst, RefusesFinal, Verifies, ShowsOther};
 ghost use Rattle.pgp_auth.specs.ScramClient.{Client, Answers, first_text, signature_of, NotVerified, Serves, Completes, Over};
 ghost use Rattle.pgp_auth.specs.ScramErrorView.{refusal, number_of, plain};
@@ -73,6 +75,12 @@ pub fn verifiers_need_no_escape()
     ensures md5 { (message : List ℕ) → All NeedsNoEscape (md5_text message) }
 {}
 
+/// An answer to an MD5 request is right for what is stored of a password exactly where this password makes it.
+pub fn md5_answers_are_told()
+    ensures { (password user salt answer : List ℕ) →
+        (AnswersStored (md5_verifier password user) salt answer ↔ (answer ≡ md5_answer user password salt)) }
+{}
+
 /// The numbers tell the variants of `ScramError` apart.
 pub fn numbers_differ()
     ensures { (d e : Refusal) → number_of d ≡ number_of e → plain d ≡ plain e }
@@ -121,6 +129,21 @@ pub fn empty_name_is_signed()
 /// Where `ScramServer::finish` is Ok, the client has shown a key whose digest is the stored key.
 pub fn accepted_text_shows_a_key()
     ensures { (old new : Server) (text answer : List ℕ) (a : Admits old text new answer) → ShowsKey a.challenge text }
+{}
+
+/// Where a server has a made-up verifier, and `first` was Ok, `finish` isn't, whatever the client sends.
+pub fn mock_is_never_accepted()
+    ensures { (serving : Serving) (between new : Server) (first answer last signature : List ℕ) → serving.is_mock ≡ true →
+        Challenges (AwaitsFirst serving) first between answer → ¬ Admits between last new signature }
+{}
+
+/// A client can't tell by the server's texts and refusals that a verifier is made up: the answer to its first text is that of a
+/// server which has a verifier of the same salt and count, and a final text that shows no proof of its key is refused by
+/// the same causes.
+pub fn mock_is_told_alike()
+    ensures answer { (c : Challenge) (stored_key server_key : List ℕ) → answer_of c ≡ answer_of (as_known c stored_key server_key) }
+    ensures refusal { (c : Challenge) (text stored_key server_key : List ℕ) (e : ServerError) → c.is_mock ≡ true → ShowsNoProof c text stored_key →
+        (RefusesProof c text e ↔ RefusesProof (as_known c stored_key server_key) text e) }
 {}
 
 /// Both ways: the server that holds the verifier of the client's password accepts the text that `update`
