@@ -8,7 +8,7 @@ use Rattle.std.proofs.lemmas.List.{append-nil, take_all, drop_all, take_at, take
 use Rattle.pgp_base.specs.declared.error.Error.TheVariants.{InvalidLength}
 use Rattle.pgp_frontend.specs.ClientMessage.{PasswordKind}
 use Rattle.pgp_server.specs.AnyStep.{AnyStep}
-use Rattle.pgp_server.specs.Step.{Unread, IsPartial}
+use Rattle.pgp_server.specs.Step.{Unread, IsPartial, place}
 use Rattle.pgp_server.specs.Pieces.{Waiting, IsWithin, IsWhole, HandsOut, Parses}
 use Rattle.pgp_server.specs.Holding.{header, HasSize, IsWanted, wanted, is_whole, Fits, Sizes, Fills, IsReadAs, IsLeft, IsFrameOf, Opens, StandsInPiece, TakesOff, Holds, Completes}
 use Rattle.pgp_server.specs.declared.client_frame.ClientFrame.{ClientFrame}
@@ -16,6 +16,7 @@ use Rattle.pgp_server.specs.declared.error.ClientError.{ClientError}
 use Rattle.pgp_server.specs.declared.limits.Limits.{Limits}
 use Rattle.pgp_server.specs.declared.parser_error.ParserError.{ParserError}
 use Rattle.pgp_server.specs.declared.parser_error.ParserError.TheVariants.{OutOfMemory}
+use Rattle.pgp_server.proofs.Fronts.{behind_length}
 use Rattle.pgp_server.proofs.Handing.{refused_behind, hands_out}
 use Rattle.pgp_server.proofs.Headers.{size_front, size_least, size_behind, not_partial, partial_cut, held_most}
 use Rattle.pgp_server.proofs.AnySteps.{any_fault}
@@ -170,6 +171,11 @@ module _ (lacks : Type 0) (limits : Limits) (opened : Bool) where
     held_handed frame now f x =
         let hands : HandsOut (left (held ++ piece) opened) frame (left rest now) = subst (λ l. HandsOut (left l opened) frame (left rest now)) x.0 (hands_out opened new rest frame now x.2 f) in
         record { limits = refl; answer = (within, hands, refl) }
+
+pub partial_fits : (opened : Bool) (bytes : List ℕ) → IsPartial opened bytes → Fits opened bytes
+partial_fits opened bytes (inl short) = inl (omega (arith, short))
+partial_fits opened bytes (inr u) =
+    inr (u.len + place opened, record { len = u.len; begins = u.begins; enough = u.enough; fits = u.fits; all = refl }, omega (arith, u.missing, behind_length opened bytes u.len u.begins))
 
 pub size_fits : (opened : Bool) (bytes : List ℕ) → HasSize opened bytes (length bytes) → Fits opened bytes
 size_fits opened bytes h = inr (length bytes, h, omega arith)

@@ -114,15 +114,16 @@ impl<A: Memory> ClientParser<A> {
             let frame = take_off(&mut self.opened, size, piece)?;
             return Ok(Some(frame));
         }
-        match complete(&mut self.held, self.opened, size, piece)? {
-            None => Ok(None),
-            Some(now) => {
+        match complete(&mut self.held, self.opened, size, piece) {
+            Ok(Some(now)) => {
                 let bytes = self.held.as_slice();
                 let opened = self.opened;
                 self.read = true;
                 self.opened = now;
                 Ok(Some(ClientFrame { bytes, opened }))
             }
+            Ok(None) => Ok(None),
+            Err(e) => Err(e),
         }
     }
 }

@@ -68,8 +68,8 @@ returns-then-is_in_piece g c =
     let told : Parses lacks c.args.self.now piece (Ok (Some frame)) (waiting held now limits) rest = subst (λ (w : Waiting). Parses lacks w piece (Ok (Some frame)) (waiting held now limits) rest) old all in
     ((refl, (λ x. tt), told), record { whole = whole_of lacks c.args.self.now piece (Ok (Some frame)) (waiting held now limits) rest told; parses = tt })
 
-pub returns-in_err-complete : goal.returns-in_err-complete
-returns-in_err-complete g c =
+pub returns-in-Err : goal.returns-in-Err
+returns-in-Err g c =
     let held : List ℕ = c.drop_read.new.held.items in
     let piece : List ℕ = c.args.piece.now.now in
     let limits = c.self.inside.limits in
@@ -82,15 +82,14 @@ returns-in_err-complete g c =
     let cut : StandsInPiece opened held piece c.in_ok-size.size false = subst (λ b. StandsInPiece opened held piece c.in_ok-size.size b) c.if-is_in_piece.false (subst (λ l. StandsInPiece opened l piece c.in_ok-size.size c.is_in_piece.result) c.as_slice-2.ensures.value c.is_in_piece.ensures) in
     let new : List ℕ = c.complete.new.held.items in
     let rest : List ℕ = c.complete.new.piece.now in
-    let e = c.in_err-complete.field-0.0 in
-    let done : Completes lacks opened held piece (Err e) new rest = c.in_err-complete.ensures in
+    let e = c.in-Err.e in
+    let done : Completes lacks opened held piece (Err e) new rest = c.in-Err.ensures in
     let all = held_refused lacks limits opened held piece sizes.0 new rest e cut done in
-    let is : c.from_residual-in_err-complete.result ≡ Err e = refused c.from_residual-in_err-complete.result e c.from_residual-in_err-complete.ensures.1 in
-    let told : Parses lacks c.args.self.now piece c.from_residual-in_err-complete.result (waiting new opened limits) rest = subst (λ (r : Result (Option ClientFrame) ParserError). Parses lacks c.args.self.now piece r (waiting new opened limits) rest) (sym is) (subst (λ (w : Waiting). Parses lacks w piece (Err e) (waiting new opened limits) rest) old all) in
-    ((refl, (λ x. tt), told), record { whole = whole_of lacks c.args.self.now piece c.from_residual-in_err-complete.result (waiting new opened limits) rest told; parses = tt })
+    let told : Parses lacks c.args.self.now piece (Err e) (waiting new opened limits) rest = subst (λ (w : Waiting). Parses lacks w piece (Err e) (waiting new opened limits) rest) old all in
+    ((refl, (λ x. tt), told), record { whole = tt; parses = tt })
 
-pub returns-in-None : goal.returns-in-None
-returns-in-None g c =
+pub returns-in-Ok-None : goal.returns-in-Ok-None
+returns-in-Ok-None g c =
     let held : List ℕ = c.drop_read.new.held.items in
     let piece : List ℕ = c.args.piece.now.now in
     let limits = c.self.inside.limits in
@@ -102,13 +101,13 @@ returns-in-None g c =
     subst (λ l. IsWithin limits (left (l ++ piece) opened) × IsWanted opened (l ++ piece) c.in_ok-size.size) slice c.in_ok-size.ensures in
     let new : List ℕ = c.complete.new.held.items in
     let rest : List ℕ = c.complete.new.piece.now in
-    let done : Completes lacks opened held piece (Ok None) new rest = c.in-None.ensures in
+    let done : Completes lacks opened held piece (Ok None) new rest = c.in-Ok-None.ensures in
     let all = held_waits lacks limits opened held piece sizes.0 new rest done in
     let told : Parses lacks c.args.self.now piece (Ok None) (waiting new opened limits) rest = subst (λ (w : Waiting). Parses lacks w piece (Ok None) (waiting new opened limits) rest) old all in
     ((refl, (λ x. tt), told), record { whole = whole_of lacks c.args.self.now piece (Ok None) (waiting new opened limits) rest told; parses = tt })
 
-pub invariant_of-self-in-Some : goal.invariant_of-self-in-Some
-invariant_of-self-in-Some g c =
+pub invariant_of-self-in-Ok-Some : goal.invariant_of-self-in-Ok-Some
+invariant_of-self-in-Ok-Some g c =
     let held : List ℕ = c.drop_read.new.held.items in
     let piece : List ℕ = c.args.piece.now.now in
     let limits = c.self.inside.limits in
@@ -120,11 +119,11 @@ invariant_of-self-in-Some g c =
     subst (λ l. IsWithin limits (left (l ++ piece) opened) × IsWanted opened (l ++ piece) c.in_ok-size.size) slice c.in_ok-size.ensures in
     let new : List ℕ = c.complete.new.held.items in
     let rest : List ℕ = c.complete.new.piece.now in
-    let done : Completes lacks opened held piece (Ok (Some c.in-Some.now)) new rest = c.in-Some.ensures in
+    let done : Completes lacks opened held piece (Ok (Some c.in-Ok-Some.now)) new rest = c.in-Ok-Some.ensures in
     inr (size_fits opened new done.1)
 
-pub returns-in-Some : goal.returns-in-Some
-returns-in-Some g c =
+pub returns-in-Ok-Some : goal.returns-in-Ok-Some
+returns-in-Ok-Some g c =
     let held : List ℕ = c.drop_read.new.held.items in
     let piece : List ℕ = c.args.piece.now.now in
     let limits = c.self.inside.limits in
@@ -136,8 +135,8 @@ returns-in-Some g c =
     subst (λ l. IsWithin limits (left (l ++ piece) opened) × IsWanted opened (l ++ piece) c.in_ok-size.size) slice c.in_ok-size.ensures in
     let new : List ℕ = c.complete.new.held.items in
     let rest : List ℕ = c.complete.new.piece.now in
-    let now = c.in-Some.now in
-    let done : Completes lacks opened held piece (Ok (Some now)) new rest = c.in-Some.ensures in
+    let now = c.in-Ok-Some.now in
+    let done : Completes lacks opened held piece (Ok (Some now)) new rest = c.in-Ok-Some.ensures in
     let frame : ClientFrame = record { bytes = c.as_slice-3.result; opened = opened } in
     let all = held_handed lacks limits opened held piece sizes.0 new rest frame now (record { phase = refl; same = c.as_slice-3.ensures.value }) done in
     let told : Parses lacks c.args.self.now piece (Ok (Some frame)) (waiting [] now limits) rest = subst (λ (w : Waiting). Parses lacks w piece (Ok (Some frame)) (waiting [] now limits) rest) old all in
