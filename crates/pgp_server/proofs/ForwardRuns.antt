@@ -10,7 +10,7 @@ use Rattle.pgp_server.specs.AnyReads.{AnyHasRead, any_kinds_behind}
 use Rattle.pgp_server.specs.AnyStep.{AnyStep}
 use Rattle.pgp_server.specs.Forwards.{Forwards, WritesAll, WritesAllOf}
 use Rattle.pgp_server.specs.OtherMessage.{AnyMessage, Ours, Other, any_bytes, WritesAny}
-use Rattle.pgp_server.specs.Reads.{HasRead, kinds_behind}
+use Rattle.pgp_server.specs.Reads.{HasRead, next_kind, kinds_behind}
 use Rattle.pgp_server.specs.Step.{Unread}
 
 -- ---- what was read
@@ -27,7 +27,7 @@ any_stood kind from next (Other o) step = step.stands.whole
 all_of_read : (kinds rest : List PasswordKind) (from here : Unread) (messages : List AnyMessage) → AnyHasRead kinds from messages rest here → from.bytes ≡ flat_map any_bytes messages ++ here.bytes
 all_of_read kinds rest from here [] h = sym (ap (λ (u : Unread). u.bytes) h.1)
 all_of_read kinds rest from here (x ∷ messages) h =
-    any_stood _ from h.0 x h.1 ∙ ap (λ l. any_bytes x ++ l) (all_of_read (any_kinds_behind x kinds) rest h.0 here messages h.2) ∙ sym (append_assoc (any_bytes x) (flat_map any_bytes messages) here.bytes)
+    any_stood (next_kind kinds) from h.0 x h.1 ∙ ap (λ l. any_bytes x ++ l) (all_of_read (any_kinds_behind x kinds) rest h.0 here messages h.2) ∙ sym (append_assoc (any_bytes x) (flat_map any_bytes messages) here.bytes)
 
 -- ---- what was written
 

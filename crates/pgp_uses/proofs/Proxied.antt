@@ -13,8 +13,8 @@ use Rattle.pgp_uses.specs.Proxy.{Call, ProxiesAll, PassesOn, NoneCame, Went, Sta
 use Rattle.pgp_uses.specs.declared.proxy.Passed.{Passed}
 use Rattle.pgp_uses.specs.declared.proxy.Passed.TheVariants.{Forwarded, HeldBack}
 
-read_then : (kind : PasswordKind) (from here next : Unread) (x : AnyMessage) (rest : List ℕ) → from.bytes ≡ any_bytes x ++ here.bytes → here.bytes ≡ rest ++ next.bytes → from.bytes ≡ (any_bytes x ++ rest) ++ next.bytes
-read_then kind from here next x rest e f = e ∙ ap (λ l. any_bytes x ++ l) f ∙ sym (append_assoc (any_bytes x) rest next.bytes)
+read_then : (from here next : Unread) (x : AnyMessage) (rest : List ℕ) → from.bytes ≡ any_bytes x ++ here.bytes → here.bytes ≡ rest ++ next.bytes → from.bytes ≡ (any_bytes x ++ rest) ++ next.bytes
+read_then from here next x rest e f = e ∙ ap (λ l. any_bytes x ++ l) f ∙ sym (append_assoc (any_bytes x) rest next.bytes)
 
 module _ {K : Type 0} (refused : List (Bor (List ℕ))) (lacks : Held K → ℕ → Type 0) where
   one_more : (kind : PasswordKind) (passed : Passed) (from here next : Unread) (old held new : Held K) → Proxies refused kind lacks from old (Ok (Some passed)) here held → PassesOn refused here held next new → PassesOn refused from old next new
@@ -22,14 +22,14 @@ module _ {K : Type 0} (refused : List (Bor (List ℕ))) (lacks : Held K → ℕ 
     came = p.0 ∷ more.came;
     went = p.0 ∷ more.went;
     are = Went p.0 p.2 more.are;
-    read = read_then kind from here next p.0 (flat_map any_bytes more.came) (any_stood kind from here p.0 p.1) more.read;
+    read = read_then from here next p.0 (flat_map any_bytes more.came) (any_stood kind from here p.0 p.1) more.read;
     written = written_then old held new (any_bytes p.0) (flat_map any_bytes more.went) p.3 more.written;
   }
   one_more kind HeldBack from here next old held new p more = record {
     came = p.0 ∷ more.came;
     went = more.went;
     are = Stayed p.0 p.2 more.are;
-    read = read_then kind from here next p.0 (flat_map any_bytes more.came) (any_stood kind from here p.0 p.1) more.read;
+    read = read_then from here next p.0 (flat_map any_bytes more.came) (any_stood kind from here p.0 p.1) more.read;
     written = more.written ∙ ap (λ (h : Held K). h ⊕ flat_map any_bytes more.went) p.3;
   }
 
@@ -44,6 +44,6 @@ module _ {K : Type 0} (refused : List (Bor (List ℕ))) (lacks : Held K → ℕ 
       let step = p.2 in
       record {
         stood = any_bytes step.0 ++ more.stood;
-        whole = read_then kind from p.0 next step.0 more.stood (any_stood kind from p.0 step.0 step.1) more.whole;
+        whole = read_then from p.0 next step.0 more.stood (any_stood kind from p.0 step.0 step.1) more.whole;
         appends = written_then old p.1 new (any_bytes step.0) more.stood step.3 more.appends;
       }

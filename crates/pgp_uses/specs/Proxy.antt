@@ -65,5 +65,8 @@ pub record PassesOn {Kept : Type 0} (refused : List (Bor (List ℕ))) (from : Un
   pub written : new ≡ old ⊕ flat_map any_bytes went
 
 -- calls that were told these kinds, each of which passed its message on
+abbrev pub forwarded : PasswordKind → Call
+forwarded kind = record { kind = kind; passed = Forwarded }
+
 abbrev pub all_forwarded : List PasswordKind → List Call
-all_forwarded kinds = map (λ kind. record { kind = kind; passed = Forwarded }) kinds
+all_forwarded kinds = map forwarded kinds

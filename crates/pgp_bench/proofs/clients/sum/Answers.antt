@@ -7,5 +7,5 @@ use Rattle.pgp_bench.proofs.clients.sum.Goals as goal
 
 pub messages-smaller : goal.messages-smaller
 messages-smaller c =
-    let step : Step Password c.messages.messages (Ok (Some (view c.in-Ok-Some.message))) c.next.new.messages = search rules in
-    shorter Password c.messages.messages c.next.new.messages (view c.in-Ok-Some.message) step
+    let step : Step Password c.messages.messages (Ok (Some (view c.in-Ok-Some.message))) c.next.new.self = search rules in
+    shorter Password c.messages.messages c.next.new.self (view c.in-Ok-Some.message) step
