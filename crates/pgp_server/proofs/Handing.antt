@@ -1,6 +1,6 @@
 -- A message's bytes that are handed out: what a step makes of them, and of more behind them.
-use Rattle.std.proofs.Common.{◌≡◌, ℕ, ◌+◌, ◌<◌, ◌≤◌, ◌^◌, Bool, true, false, List, [], ◌∷◌, ◌++◌, length, Option, Some, None, Result, Ok, Err, refl, sym, ap, subst, ◌∙◌, append_assoc, arith, inl, inr, length-append}
-use Rattle.std.specs.Prelude.{◌⊎◌, ◌||◌}
+use Rattle.std.proofs.Common.{◌≡◌, ℕ, ◌+◌, ◌<◌, ◌^◌, Bool, true, false, List, [], ◌∷◌, ◌++◌, length, Option, Some, None, Result, Ok, Err, refl, sym, ap, subst, ◌∙◌, append_assoc, arith, inl, inr, length-append}
+use Rattle.std.specs.Prelude.{◌||◌}
 use Rattle.std.proofs.lemmas.List.{append-nil}
 use Rattle.pgp_base.specs.Wire.{uint32}
 use Rattle.pgp_base.proofs.Parts.{length-uint32}
@@ -12,7 +12,7 @@ use Rattle.pgp_server.specs.AnyViews.{any_view, read_any}
 use Rattle.pgp_server.specs.OtherMessage.{AnyMessage, Ours, Other, any_is_startup, other_tag, other_payload, other_bytes}
 use Rattle.pgp_server.specs.Step.{Unread, BeginsWithLength}
 use Rattle.pgp_server.specs.Pieces.{IsWhole, HandsOut, step_of}
-use Rattle.pgp_server.specs.Holding.{header, HasSize, IsReadAs, IsFrameOf}
+use Rattle.pgp_server.specs.Holding.{HasSize, IsReadAs, IsFrameOf}
 use Rattle.pgp_server.specs.declared.client_frame.ClientFrame.{ClientFrame}
 use Rattle.pgp_server.specs.declared.error.ClientError.{ClientError}
 use Rattle.pgp_server.specs.declared.other.AnyMessage as code

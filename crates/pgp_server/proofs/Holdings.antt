@@ -1,24 +1,21 @@
 -- What a parser holds of a message that comes in pieces, and what a call answers of it.
-use Rattle.std.proofs.Common.{◌≡◌, ◌≢◌, ℕ, ◌+◌, ◌-◌, ◌<◌, ◌≤◌, Bool, true, false, List, [], ◌++◌, length, take, drop, Option, Some, None, Result, Ok, Err, refl, sym, ap, subst, ◌∙◌, append_assoc, arith, inl, inr, length-append, length-take}
+use Rattle.std.proofs.Common.{◌≡◌, ◌≢◌, ℕ, ◌+◌, ◌<◌, ◌≤◌, Bool, true, false, List, [], ◌++◌, length, take, drop, Option, Some, None, Result, Ok, Err, refl, sym, ap, subst, ◌∙◌, append_assoc, arith, inl, inr, length-append, length-take}
 use Rattle.std.specs.Prelude.{◌⊎◌, nat_le, IfOk, IfSome}
 use Rattle.std.specs.Result.{IsErrAnd}
 use Rattle.std.proofs.lemmas.Bool.{cases_Bool}
 use Rattle.std.proofs.lemmas.Bool.Decides.{nat_tests}
 use Rattle.std.proofs.lemmas.List.{append-nil, take_all, drop_all, take_at, take-append-le, take-append-drop}
 use Rattle.pgp_base.specs.declared.error.Error.TheVariants.{InvalidLength}
-use Rattle.pgp_frontend.specs.ClientMessage.{PasswordKind}
-use Rattle.pgp_server.specs.AnyStep.{AnyStep}
-use Rattle.pgp_server.specs.Step.{Unread, IsPartial, place}
+use Rattle.pgp_server.specs.Step.{IsPartial, place}
 use Rattle.pgp_server.specs.Pieces.{Waiting, IsWithin, IsWhole, HandsOut, Parses}
-use Rattle.pgp_server.specs.Holding.{header, HasSize, IsWanted, wanted, is_whole, Fits, Sizes, Fills, IsReadAs, IsLeft, IsFrameOf, Opens, StandsInPiece, TakesOff, Holds, Completes}
+use Rattle.pgp_server.specs.Holding.{header, HasSize, IsWanted, wanted, is_whole, Fits, Sizes, Fills, IsLeft, IsFrameOf, Opens, StandsInPiece, TakesOff, Holds, Completes}
 use Rattle.pgp_server.specs.declared.client_frame.ClientFrame.{ClientFrame}
-use Rattle.pgp_server.specs.declared.error.ClientError.{ClientError}
 use Rattle.pgp_server.specs.declared.limits.Limits.{Limits}
 use Rattle.pgp_server.specs.declared.parser_error.ParserError.{ParserError}
 use Rattle.pgp_server.specs.declared.parser_error.ParserError.TheVariants.{OutOfMemory}
 use Rattle.pgp_server.proofs.Fronts.{behind_length}
 use Rattle.pgp_server.proofs.Handing.{refused_behind, hands_out}
-use Rattle.pgp_server.proofs.Headers.{size_front, size_least, size_behind, not_partial, partial_cut, held_most}
+use Rattle.pgp_server.proofs.Headers.{size_front, size_least, partial_cut, held_most}
 use Rattle.pgp_server.proofs.AnySteps.{any_fault}
 use Rattle.pgp_server.proofs.Steps.{left}
 
@@ -176,9 +173,6 @@ pub partial_fits : (opened : Bool) (bytes : List ℕ) → IsPartial opened bytes
 partial_fits opened bytes (inl short) = inl (omega (arith, short))
 partial_fits opened bytes (inr u) =
     inr (u.len + place opened, record { len = u.len; begins = u.begins; enough = u.enough; fits = u.fits; all = refl }, omega (arith, u.missing, behind_length opened bytes u.len u.begins))
-
-pub size_fits : (opened : Bool) (bytes : List ℕ) → HasSize opened bytes (length bytes) → Fits opened bytes
-size_fits opened bytes h = inr (length bytes, h, omega arith)
 
 -- what is handed out is whole
 pub whole_of : (lacks : Type 0) (old : Waiting) (piece : List ℕ) (r : Result (Option ClientFrame) ParserError) (new : Waiting) (rest : List ℕ) → Parses lacks old piece r new rest → IfOk r (λ found. IfSome found (λ frame. IsWhole frame.opened frame.bytes.now))

@@ -3,7 +3,7 @@ use Rattle.std.specs.Prelude.{◌≡◌, ◌≢◌, ◌⊎◌, ℕ, ◌+◌, ◌
 use Rattle.pgp_frontend.specs.ClientMessage.{PasswordKind}
 use Rattle.pgp_server.specs.AnyStep.{AnyStep}
 use Rattle.pgp_server.specs.OtherMessage.{AnyMessage}
-use Rattle.pgp_server.specs.Step.{Unread, BeginsWithLength, IsLengthFault, IsPartial, place, least}
+use Rattle.pgp_server.specs.Step.{BeginsWithLength, IsLengthFault, IsPartial, place, least}
 use Rattle.pgp_server.specs.Pieces.{IsTooLong, IsWithin, IsWhole, step_of}
 use Rattle.pgp_server.specs.declared.client_frame.ClientFrame.{ClientFrame}
 use Rattle.pgp_server.specs.declared.error.ClientError.{ClientError}

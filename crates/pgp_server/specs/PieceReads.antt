@@ -1,5 +1,5 @@
 -- A server that reads a connection's pieces on and on.
-use Rattle.std.specs.Prelude.{◌≡◌, ◌⊎◌, ℕ, List, [], ◌∷◌, ◌++◌, Option, Some, None, Result, Ok, Err}
+use Rattle.std.specs.Prelude.{◌≡◌, ◌⊎◌, ℕ, List, [], ◌∷◌, Option, Some, None, Result, Ok, Err}
 use Rattle.pgp_frontend.specs.ClientMessage.{PasswordKind}
 use Rattle.pgp_server.specs.AnyReads.{any_kinds_behind, IsAnyEnd}
 use Rattle.pgp_server.specs.OtherMessage.{AnyMessage}

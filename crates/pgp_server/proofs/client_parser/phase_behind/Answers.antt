@@ -1,4 +1,4 @@
-use Rattle.std.proofs.Common.{rules, ◌≡◌, Bool, true, false, List, ℕ, length, Ok, Err, refl, subst, sym}
+use Rattle.std.proofs.Common.{rules, Bool, true, false, List, ℕ, length, Ok, refl, subst}
 use Rattle.pgp_frontend.specs.ClientMessage.{Password}
 use Rattle.pgp_server.specs.AnyStep.{AnyStep, RefusesAny}
 use Rattle.pgp_server.specs.AnyViews.{read_any}

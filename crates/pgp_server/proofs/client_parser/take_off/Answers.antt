@@ -1,4 +1,4 @@
-use Rattle.std.proofs.Common.{◌≡◌, ◌++◌, take, rules, sym, ap, ◌∙◌, Err}
+use Rattle.std.proofs.Common.{◌≡◌, ◌++◌, take, rules, ap, ◌∙◌, Err}
 use Rattle.std.proofs.lemmas.List.{take-append-drop}
 use Rattle.pgp_server.specs.Holding.{Opens}
 use Rattle.pgp_server.proofs.Holdings.{front_size, front_refused}

@@ -1,9 +1,9 @@
-use Rattle.std.proofs.Common.{◌≡◌, [], ◌++◌, List, ℕ, true, false, length, Option, Some, None, Result, Ok, Err, rules, refl, sym, ap, subst, ◌∙◌, inl, inr}
+use Rattle.std.proofs.Common.{◌≡◌, [], ◌++◌, List, ℕ, true, false, Option, Some, None, Result, Ok, Err, rules, refl, sym, ap, subst, ◌∙◌, inr}
 use Rattle.pgp_server.specs.Pieces.{Waiting, IsWithin, Parses}
-use Rattle.pgp_server.specs.Holding.{IsWanted, Sizes, StandsInPiece, TakesOff, Completes}
+use Rattle.pgp_server.specs.Holding.{Fits, IsWanted, Sizes, StandsInPiece, TakesOff, Completes}
 use Rattle.pgp_server.specs.declared.client_frame.ClientFrame.{ClientFrame}
 use Rattle.pgp_server.specs.declared.parser_error.ParserError.{ParserError}
-use Rattle.pgp_server.proofs.Holdings.{waiting, refused, size_refused, piece_taken, piece_refused, held_refused, held_waits, held_handed, size_fits, whole_of}
+use Rattle.pgp_server.proofs.Holdings.{waiting, refused, size_refused, piece_taken, piece_refused, held_refused, held_waits, held_handed, partial_fits, whole_of}
 use Rattle.pgp_server.proofs.Steps.{left}
 use Rattle.pgp_server.proofs.client_parser.ClientParser.next.Goals as goal
 
@@ -101,26 +101,20 @@ returns-in-Ok-None g c =
     subst (λ l. IsWithin limits (left (l ++ piece) opened) × IsWanted opened (l ++ piece) c.in_ok-size.size) slice c.in_ok-size.ensures in
     let new : List ℕ = c.complete.new.held.items in
     let rest : List ℕ = c.complete.new.piece.now in
-    let done : Completes lacks opened held piece (Ok None) new rest = c.in-Ok-None.ensures in
+    let done : Completes lacks opened held piece (Ok None) new rest = search rules in
     let all = held_waits lacks limits opened held piece sizes.0 new rest done in
     let told : Parses lacks c.args.self.now piece (Ok None) (waiting new opened limits) rest = subst (λ (w : Waiting). Parses lacks w piece (Ok None) (waiting new opened limits) rest) old all in
     ((refl, (λ x. tt), told), record { whole = whole_of lacks c.args.self.now piece (Ok None) (waiting new opened limits) rest told; parses = tt })
 
-pub invariant_of-self-in-Ok-Some : goal.invariant_of-self-in-Ok-Some
-invariant_of-self-in-Ok-Some g c =
+pub invariant_of-self-in-Ok-None : goal.invariant_of-self-in-Ok-None
+invariant_of-self-in-Ok-None g c =
     let held : List ℕ = c.drop_read.new.held.items in
     let piece : List ℕ = c.args.piece.now.now in
-    let limits = c.self.inside.limits in
     let opened = c.self.inside.opened in
-    let lacks = g.A.Memory.Lacks in
-    let old : waiting held opened limits ≡ c.args.self.now = ap (λ l. waiting l opened limits) c.drop_read.ensures ∙ c.self.view_is in
-    let slice : c.as_slice.result.now ≡ held = c.as_slice.ensures.value in
-    let sizes : IsWithin limits (left (held ++ piece) opened) × IsWanted opened (held ++ piece) c.in_ok-size.size =
-    subst (λ l. IsWithin limits (left (l ++ piece) opened) × IsWanted opened (l ++ piece) c.in_ok-size.size) slice c.in_ok-size.ensures in
     let new : List ℕ = c.complete.new.held.items in
     let rest : List ℕ = c.complete.new.piece.now in
-    let done : Completes lacks opened held piece (Ok (Some c.in-Ok-Some.now)) new rest = c.in-Ok-Some.ensures in
-    inr (size_fits opened new done.1)
+    let done : Completes g.A.Memory.Lacks opened held piece (Ok None) new rest = search rules in
+    inr (subst (Fits opened) (sym done.0) (partial_fits opened (held ++ piece) done.2))
 
 pub returns-in-Ok-Some : goal.returns-in-Ok-Some
 returns-in-Ok-Some g c =
@@ -136,9 +130,9 @@ returns-in-Ok-Some g c =
     let new : List ℕ = c.complete.new.held.items in
     let rest : List ℕ = c.complete.new.piece.now in
     let now = c.in-Ok-Some.now in
-    let done : Completes lacks opened held piece (Ok (Some now)) new rest = c.in-Ok-Some.ensures in
-    let frame : ClientFrame = record { bytes = c.as_slice-3.result; opened = opened } in
-    let all = held_handed lacks limits opened held piece sizes.0 new rest frame now (record { phase = refl; same = c.as_slice-3.ensures.value }) done in
+    let done : Completes lacks opened held piece (Ok (Some now)) new rest = search rules in
+    let frame : ClientFrame = record { bytes = c.as_slice-bytes.result; opened = opened } in
+    let all = held_handed lacks limits opened held piece sizes.0 new rest frame now (record { phase = refl; same = c.as_slice-bytes.ensures.value }) done in
     let told : Parses lacks c.args.self.now piece (Ok (Some frame)) (waiting [] now limits) rest = subst (λ (w : Waiting). Parses lacks w piece (Ok (Some frame)) (waiting [] now limits) rest) old all in
     ((refl, (λ x. tt), told), record { whole = whole_of lacks c.args.self.now piece (Ok (Some frame)) (waiting [] now limits) rest told; parses = tt })
 
