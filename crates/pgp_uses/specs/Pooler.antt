@@ -1,5 +1,5 @@
 -- When a session is idle, told by what both sides sent.
-use Rattle.std.specs.Prelude.{◌≡◌, ◌⊎◌, ℕ, ◌+◌, ◌<◌, ◌≤◌, Bool, true, false, List, [], ◌∷◌, ◌++◌, Option, Some, None, if◌then◌else◌}
+use Rattle.std.specs.Prelude.{◌≡◌, ◌⊎◌, ℕ, ◌+◌, ◌<◌, ◌≤◌, Bool, true, false, List, [], ◌∷◌, Option, Some, None, if◌then◌else◌}
 use Rattle.pgp_frontend.specs.ClientMessage.{Query, Sync, Startup}
 use Rattle.pgp_message.specs.BackendMessage.{Message, ReadyForQuery}
 use Rattle.pgp_server.specs.OtherMessage.{AnyMessage, Ours, Other, FunctionCall, StartupOther}

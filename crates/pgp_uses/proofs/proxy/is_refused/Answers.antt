@@ -1,4 +1,4 @@
-use Rattle.std.proofs.Common.{◌≡◌, Some, rules, sym, refl}
+use Rattle.std.proofs.Common.{◌≡◌, Some, rules, refl}
 use Rattle.std.proofs.lemmas.Bool.Decides.{Decides-eqb}
 use Rattle.std.proofs.lemmas.Slice.Eq.{slice_eq-Decides}
 use Rattle.pgp_server.specs.AnyViews.{any_view}

@@ -1,4 +1,4 @@
-use Rattle.std.proofs.Common.{◌≡◌, ◌∙◌, ◌+◌, ◌<◌, ◌≤◌, true, false, arith, sym}
+use Rattle.std.proofs.Common.{◌≡◌, ◌∙◌, true, false, arith, sym}
 use Rattle.pgp_server.specs.AnyViews.{any_view}
 use Rattle.pgp_uses.specs.Pooler.{awaits}
 use Rattle.pgp_uses.proofs.Counted.{IsNext, saw_asked, saw_sent}
