@@ -1,10 +1,11 @@
-//! Times the works that count: parsing and walking, writing, values, escaping, the iterated key.
+//! Times the works that count: parsing and walking, reading a client's messages, writing, values, escaping, the iterated key.
 //!
 //! `pgp_bench` times every work, `pgp_bench NAME..` those whose names begin so, and `pgp_bench check` does
 //! a few units of each, untimed, and prints the sum that its answers come to. `pgp_bench stdin` times the two ways to read
 //! a server's stream out of a slice, which stdin holds.
 #![tactic(auto)]
 
+mod clients;
 mod columns;
 mod escapes;
 mod input;

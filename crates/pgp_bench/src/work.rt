@@ -1,5 +1,6 @@
 //! The works, by name.
 
+use crate::clients::read_client;
 use crate::columns::{by_index, by_places, last};
 use crate::escapes::{identifiers, literals};
 use crate::input::Input;
@@ -34,6 +35,18 @@ pub(crate) enum Work {
     RowPlaced,
     /// The row, read in place, and its last column alone.
     RowColumn,
+    /// The message of `Bare`, read in place.
+    BareInPlace,
+    /// A row of 59 bytes, as many as `ClientBind` has, read in place, and its ranges walked.
+    Row59InPlace,
+    /// A `CommandComplete` of 38 bytes, as many as `ClientQuery` has, read in place, and its tag asked for.
+    Complete38InPlace,
+    /// A client's `Bind` of five int4, read in place, and its values walked.
+    ClientBind,
+    /// A client's `Query` of 32 bytes, read in place.
+    ClientQuery,
+    /// A client's `Sync`, read in place.
+    ClientSync,
     /// The three of `Tiny`, copied into a buffer, and parsed.
     TinyCopied,
     /// The row, copied into a buffer, parsed, and its ranges walked.
@@ -83,7 +96,7 @@ pub(crate) enum Work {
 }
 
 impl Work {
-    pub(crate) const ALL: [Work; 33] = [
+    pub(crate) const ALL: [Work; 39] = [
         Work::Bare,
         Work::Tiny,
         Work::Kept,
@@ -94,6 +107,12 @@ impl Work {
         Work::RowIndexed,
         Work::RowPlaced,
         Work::RowColumn,
+        Work::BareInPlace,
+        Work::Row59InPlace,
+        Work::Complete38InPlace,
+        Work::ClientBind,
+        Work::ClientQuery,
+        Work::ClientSync,
         Work::TinyCopied,
         Work::RowCopied,
         Work::FeedTiny,
@@ -132,6 +151,12 @@ impl Work {
             Work::RowIndexed => "place_row_index",
             Work::RowPlaced => "place_row_places",
             Work::RowColumn => "place_row_column",
+            Work::BareInPlace => "place_bare",
+            Work::Row59InPlace => "place_row_59",
+            Work::Complete38InPlace => "place_complete_38",
+            Work::ClientBind => "client_bind",
+            Work::ClientQuery => "client_query",
+            Work::ClientSync => "client_sync",
             Work::TinyCopied => "copied_tiny",
             Work::RowCopied => "copied_row",
             Work::FeedTiny => "feed_tiny",
@@ -164,6 +189,8 @@ impl Work {
             Work::Key => 8,
             Work::LiteralPlain | Work::LiteralQuotes | Work::Identifier | Work::CopyData => 50_000,
             Work::RowInPlace | Work::RowIndexed | Work::RowPlaced | Work::RowColumn => 1_000_000,
+            Work::BareInPlace | Work::Row59InPlace | Work::Complete38InPlace => 1_000_000,
+            Work::ClientBind | Work::ClientQuery | Work::ClientSync => 1_000_000,
             _ => 500_000,
         }
     }
@@ -183,7 +210,14 @@ pub(crate) fn sum_of(
 ) -> Result<u64, Error> {
     match work {
         Work::Bare | Work::Tiny | Work::Kept | Work::Row | Work::Fields => read(&mut input.stream),
-        Work::TinyInPlace | Work::RowInPlace => read_in_place(input.stream.as_slice()),
+        Work::TinyInPlace
+        | Work::RowInPlace
+        | Work::BareInPlace
+        | Work::Row59InPlace
+        | Work::Complete38InPlace => read_in_place(input.stream.as_slice()),
+        Work::ClientBind | Work::ClientQuery | Work::ClientSync => {
+            read_client(input.stream.as_slice())
+        }
         Work::RowIndexed => by_index(alloc, input.stream.as_slice()),
         Work::RowPlaced => by_places(alloc, input.stream.as_slice()),
         Work::RowColumn => last(input.stream.as_slice()),

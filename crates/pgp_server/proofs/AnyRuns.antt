@@ -32,7 +32,7 @@ other_read kind opened bytes rest o r new stands step =
 
 -- ---- when bytes come
 
-any_took : (kind : PasswordKind) (old new : Unread) (x : AnyMessage) (more : List ℕ) → AnyStep kind old (Ok (Some x)) new → AnyStep kind (left (old.bytes ++ more) old.opened) (Ok (Some x)) (left (new.bytes ++ more) new.opened)
+pub any_took : (kind : PasswordKind) (old new : Unread) (x : AnyMessage) (more : List ℕ) → AnyStep kind old (Ok (Some x)) new → AnyStep kind (left (old.bytes ++ more) old.opened) (Ok (Some x)) (left (new.bytes ++ more) new.opened)
 any_took kind old new (Ours m) more t = took kind old new m more t
 any_took kind old new (Other o) more t = record {
   stands = record {

@@ -1,12 +1,12 @@
 -- The header at the front: the length that stands there, and how many bytes the message has.
-use Rattle.std.proofs.Common.{◌≡◌, ℕ, ◌+◌, ◌<◌, ◌≤◌, ◌^◌, Bool, true, false, List, [], ◌∷◌, ◌++◌, length, take, drop, refl, sym, ap, ◌∙◌, append_assoc, arith, inl, inr, length-append}
+use Rattle.std.proofs.Common.{◌≡◌, ℕ, ◌<◌, ◌≤◌, Bool, true, false, List, ◌++◌, length, take, drop, sym, ap, ◌∙◌, append_assoc, arith, inl, inr, length-append}
 use Rattle.std.proofs.lemmas.Bool.{cases_lt}
 use Rattle.std.proofs.lemmas.List.{take_at, take-append-le, take-append-drop}
-use Rattle.pgp_base.specs.Wire.{uint32, IsBytes}
+use Rattle.pgp_base.specs.Wire.{uint32}
 use Rattle.pgp_base.proofs.Parts.{length-uint32}
 use Rattle.pgp_base.proofs.Prefixes.{fronts, uint32_begins}
-use Rattle.pgp_server.specs.Step.{Unread, place, least, announced, BeginsWithLength, IsLengthFault, IsPartial}
-use Rattle.pgp_server.specs.Pieces.{IsTooLong, IsWithin, limit_of}
+use Rattle.pgp_server.specs.Step.{least, BeginsWithLength, IsPartial}
+use Rattle.pgp_server.specs.Pieces.{IsWithin, limit_of}
 use Rattle.pgp_server.specs.Holding.{header, HasSize, Fits}
 use Rattle.pgp_server.specs.declared.limits.Limits.{Limits}
 use Rattle.pgp_server.proofs.Fronts.{behind_length}

@@ -1,23 +1,23 @@
 -- What a parser holds of a message that comes in pieces, and what a call answers of it.
-use Rattle.std.proofs.Common.{◌≡◌, ◌≢◌, ℕ, ◌+◌, ◌-◌, ◌<◌, ◌≤◌, Bool, true, false, List, [], ◌++◌, length, take, drop, Option, Some, None, Result, Ok, Err, refl, sym, ap, subst, ◌∙◌, append_assoc, arith, inl, inr, length-append, length-take}
-use Rattle.std.specs.Prelude.{nat_le}
+use Rattle.std.proofs.Common.{◌≡◌, ◌≢◌, ℕ, ◌+◌, ◌<◌, ◌≤◌, Bool, true, false, List, [], ◌++◌, length, take, drop, Option, Some, None, Result, Ok, Err, refl, sym, ap, subst, ◌∙◌, append_assoc, arith, inl, inr, length-append, length-take}
+use Rattle.std.specs.Prelude.{◌⊎◌, nat_le, IfOk, IfSome}
 use Rattle.std.specs.Result.{IsErrAnd}
 use Rattle.std.proofs.lemmas.Bool.{cases_Bool}
 use Rattle.std.proofs.lemmas.Bool.Decides.{nat_tests}
-use Rattle.std.proofs.lemmas.List.{append-nil, take_all, drop_all, take-append-drop}
+use Rattle.std.proofs.lemmas.List.{append-nil, take_all, drop_all, take_at, take-append-le, take-append-drop}
 use Rattle.pgp_base.specs.declared.error.Error.TheVariants.{InvalidLength}
-use Rattle.pgp_frontend.specs.ClientMessage.{ClientMessage, PasswordKind}
-use Rattle.pgp_server.specs.Step.{Unread, Step, IsPartial}
-use Rattle.pgp_server.specs.Pieces.{Waiting, unread, IsWithin, HandsOut, Stays, Parses}
-use Rattle.pgp_server.specs.Holding.{header, HasSize, IsWanted, wanted, is_whole, Fits, Sizes, Fills, IsHandedOut, Opens, StandsInPiece, TakesOff, Holds}
+use Rattle.pgp_server.specs.Step.{IsPartial, place}
+use Rattle.pgp_server.specs.Pieces.{Waiting, IsWithin, IsWhole, HandsOut, Parses}
+use Rattle.pgp_server.specs.Holding.{header, HasSize, IsWanted, wanted, is_whole, Fits, Sizes, Fills, IsLeft, IsFrameOf, Opens, StandsInPiece, TakesOff, Holds, Completes}
 use Rattle.pgp_server.specs.declared.client_frame.ClientFrame.{ClientFrame}
-use Rattle.pgp_server.specs.declared.error.ClientError.{ClientError}
 use Rattle.pgp_server.specs.declared.limits.Limits.{Limits}
 use Rattle.pgp_server.specs.declared.parser_error.ParserError.{ParserError}
-use Rattle.pgp_server.specs.declared.parser_error.ParserError.TheVariants.{Refused}
+use Rattle.pgp_server.specs.declared.parser_error.ParserError.TheVariants.{OutOfMemory}
+use Rattle.pgp_server.proofs.Fronts.{behind_length}
 use Rattle.pgp_server.proofs.Handing.{refused_behind, hands_out}
-use Rattle.pgp_server.proofs.Headers.{size_front, size_least, size_behind, not_partial, partial_cut, held_most}
-use Rattle.pgp_server.proofs.Steps.{left, step_fault}
+use Rattle.pgp_server.proofs.Headers.{size_front, size_least, partial_cut, held_most}
+use Rattle.pgp_server.proofs.AnySteps.{any_fault}
+use Rattle.pgp_server.proofs.Steps.{left}
 
 abbrev pub waiting : List ℕ → Bool → Limits → Waiting
 waiting bytes opened limits = record { bytes = bytes; opened = opened; limits = limits }
@@ -83,77 +83,99 @@ front_size opened piece front size h most is =
     let there : HasSize opened (front ++ drop size piece) size = subst (λ l. HasSize opened l size) (sym whole) h in
     subst (HasSize opened front) (sym len) (size_front opened front (drop size piece) size (omega (arith, len, size_least opened piece size h)) there)
 
+-- what is refused is so with bytes behind it
+left_behind : (opened : Bool) (front rest : List ℕ) (e : ParserError) → IsLeft opened front e → IsLeft opened (front ++ rest) e
+left_behind opened front rest e x = record { cause = x.cause; name = x.name; steps = λ kind. refused_behind kind (left front opened) (left front opened) x.cause rest (x.steps kind) }
+
 pub front_refused : (opened : Bool) (piece front rest : List ℕ) (e : ParserError) → front ++ rest ≡ piece → Opens opened front (Err e) → TakesOff opened piece (Err e) opened piece
-front_refused opened piece front rest e whole x =
-    (refl, refl, (x.0, x.1, λ kind. subst (λ l. Step kind (left l opened) (Err x.0) (left l opened)) whole (refused_behind kind (left front opened) (left front opened) x.0 rest (x.2 kind))))
+front_refused opened piece front rest e whole x = (refl, refl, subst (λ l. IsLeft opened l e) whole (left_behind opened front rest e x))
+
+-- ---- a message that is held
+
+module _ (lacks : Type 0) (opened : Bool) (held piece : List ℕ) (size : Option ℕ) (h : IsWanted opened (held ++ piece) size) (new rest : List ℕ) where
+  part : (s : Option ℕ) → IsWanted opened (held ++ piece) s → new ≡ held ++ piece → ((n : ℕ) → s ≡ Some n → length new < n) → IsPartial opened (held ++ piece)
+  part None short is less = inl (omega (arith, short))
+  part (Some n) k is less = partial_cut opened (held ++ piece) n k (omega (arith, ap length is, less n refl))
+
+  pub completes_none : Holds lacks size held piece (Ok false) new rest → Completes lacks opened held piece (Ok None) new rest
+  completes_none x = (x.0, x.1, part size h x.0 x.2)
+
+  module _ (x : Holds lacks size held piece (Ok true) new rest) where
+    there : HasSize opened (held ++ piece) x.1.0
+    there = subst (IsWanted opened (held ++ piece)) x.1.1 h
+
+    pub held_size : HasSize opened new (length new)
+    held_size =
+        let front : HasSize opened (new ++ rest) x.1.0 = subst (λ l. HasSize opened l x.1.0) (sym x.0) there in
+        subst (HasSize opened new) (sym x.1.2) (size_front opened new rest x.1.0 (omega (arith, x.1.2, size_least opened (held ++ piece) x.1.0 there)) front)
+
+    pub completes_some : (now : Bool) → Opens opened new (Ok now) → Completes lacks opened held piece (Ok (Some now)) new rest
+    completes_some now y = (x.0, held_size, y)
+
+    -- what was held is the front of what is held now
+    pub was_held : Fits opened held → take (length held) new ≡ held
+    was_held fits =
+        let most : length held ≤ length new = omega (arith, x.1.2, held_most opened held piece x.1.0 fits there) in
+        sym (take-append-le (length held) new rest most) ∙ ap (take (length held)) x.0 ∙ take_at held piece (length held) refl
+
+    pub completes_refused : (e : ParserError) (back before : List ℕ) → Fits opened held → back ≡ take (length held) new → before ≡ piece → Opens opened new (Err e) → Completes lacks opened held piece (Err e) back before
+    completes_refused e back before fits b p y = (b ∙ was_held fits, p, inr (subst (λ l. IsLeft opened l e) x.0 (left_behind opened new rest e y)))
+
+pub completes_lacking : (lacks : Type 0) (opened : Bool) (held piece : List ℕ) (size : Option ℕ) (e : ParserError) (new rest : List ℕ) → Holds lacks size held piece (Err e) new rest → Completes lacks opened held piece (Err e) new rest
+completes_lacking lacks opened held piece size e new rest x = (x.2, x.3, inl (x.0, x.1, x.4))
 
 -- ---- what a call answers
 
 module _ (lacks : Type 0) (limits : Limits) (opened : Bool) where
   pub size_refused : (held piece : List ℕ) (e : ParserError) → Sizes limits opened (held ++ piece) (Err e) → Parses lacks (waiting held opened limits) piece (Err e) (waiting held opened limits) piece
   size_refused held piece e (inl x) =
-      subst (λ (d : ParserError). Parses lacks (waiting held opened limits) piece (Err d) (waiting held opened limits) piece) (sym x.1)
-      (record { limits = refl; answer = (x.2, record { all = refl; none = λ empty. empty }) })
+      subst (λ (d : ParserError). Parses lacks (waiting held opened limits) piece (Err d) (waiting held opened limits) piece) (sym x.1) (record { limits = refl; answer = (x.2, record { held = refl; in_piece = refl }) })
   size_refused held piece e (inr x) =
       subst (λ (d : ParserError). Parses lacks (waiting held opened limits) piece (Err d) (waiting held opened limits) piece) (sym x.0)
-      (record { limits = refl; answer = (x.1, λ kind. step_fault kind opened (held ++ piece) InvalidLength (refl, x.2), record { all = refl; none = λ empty. empty }) })
+      (record { limits = refl; answer = (x.1, λ kind. any_fault kind opened (held ++ piece) InvalidLength (refl, x.2), record { held = refl; in_piece = refl }) })
 
   pub piece_taken : (piece rest : List ℕ) (frame : ClientFrame) (now : Bool) → IsWithin limits (left piece opened) → TakesOff opened piece (Ok frame) now rest
       → Parses lacks (waiting [] opened limits) piece (Ok (Some frame)) (waiting [] now limits) rest
   piece_taken piece rest frame now within x =
-      let hands : HandsOut (left piece opened) frame (left rest now) = subst (λ l. HandsOut (left l opened) frame (left rest now)) (sym x.2) (hands_out opened x.0 rest frame now x.1) in
+      let hands : HandsOut (left piece opened) frame (left rest now) = subst (λ l. HandsOut (left l opened) frame (left rest now)) (sym x.3) (hands_out opened x.0 rest frame now x.1 x.2) in
       record { limits = refl; answer = (within, hands, refl) }
+
+  left_there : (held piece : List ℕ) (e : ParserError) → IsWithin limits (left (held ++ piece) opened) → IsLeft opened (held ++ piece) e → Parses lacks (waiting held opened limits) piece (Err e) (waiting held opened limits) piece
+  left_there held piece e within x =
+      subst (λ (d : ParserError). Parses lacks (waiting held opened limits) piece (Err d) (waiting held opened limits) piece) (sym x.name) (record { limits = refl; answer = (within, x.steps, record { held = refl; in_piece = refl }) })
 
   pub piece_refused : (piece rest : List ℕ) (e : ParserError) (now : Bool) → IsWithin limits (left piece opened) → TakesOff opened piece (Err e) now rest
       → Parses lacks (waiting [] opened limits) piece (Err e) (waiting [] now limits) rest
-  piece_refused piece rest e now within x =
-      let there : Parses lacks (waiting [] opened limits) piece (Err (Refused x.2.0)) (waiting [] opened limits) piece =
-      record { limits = refl; answer = (within, x.2.2, record { all = refl; none = λ empty. empty }) } in
-      rw (x.0, x.1, x.2.1) there
+  piece_refused piece rest e now within x = rw (x.0, x.1) (left_there [] piece e within x.2)
 
-  module _ (held piece : List ℕ) (within : IsWithin limits (left (held ++ piece) opened)) (size : Option ℕ) (new rest : List ℕ) where
-    pub hold_refused : (e : ParserError) → StandsInPiece opened held piece size false → Holds lacks size held piece (Err e) new rest
-        → Parses lacks (waiting held opened limits) piece (Err e) (waiting new opened limits) rest
-    hold_refused e cut x =
-        rw (x.0, x.2, x.3) (record { limits = refl; answer = (x.1, within, (x.4, cut), record { all = refl; none = λ empty. empty }) })
+  module _ (held piece : List ℕ) (within : IsWithin limits (left (held ++ piece) opened)) (new rest : List ℕ) where
+    cut_refused : (e : ParserError) → (held ≢ []) ⊎ IsPartial opened piece → ((e ≡ OutOfMemory) × lacks × (piece ≢ [])) ⊎ IsLeft opened (held ++ piece) e
+        → Parses lacks (waiting held opened limits) piece (Err e) (waiting held opened limits) piece
+    cut_refused e cut (inl x) =
+        subst (λ (d : ParserError). Parses lacks (waiting held opened limits) piece (Err d) (waiting held opened limits) piece) (sym x.0) (record { limits = refl; answer = (x.1, within, (x.2, cut), record { held = refl; in_piece = refl }) })
+    cut_refused e cut (inr x) = left_there held piece e within x
 
-    pub hold_waits : IsWanted opened (held ++ piece) size → Holds lacks size held piece (Ok false) new rest → Parses lacks (waiting held opened limits) piece (Ok None) (waiting new opened limits) rest
-    hold_waits h x =
+    pub held_refused : (e : ParserError) → (held ≢ []) ⊎ IsPartial opened piece → Completes lacks opened held piece (Err e) new rest → Parses lacks (waiting held opened limits) piece (Err e) (waiting new opened limits) rest
+    held_refused e cut x = rw (x.0, x.1) (cut_refused e cut x.2)
+
+    pub held_waits : Completes lacks opened held piece (Ok None) new rest → Parses lacks (waiting held opened limits) piece (Ok None) (waiting new opened limits) rest
+    held_waits x =
         let all : new ++ rest ≡ held ++ piece = ap (λ l. l ++ rest) x.0 ∙ ap (λ l. (held ++ piece) ++ l) x.1 ∙ append-nil (held ++ piece) in
-        record { limits = refl; answer = (within, part size h x.2, ap (λ l. left l opened) all, x.1) }
-      where
-        part : (s : Option ℕ) → IsWanted opened (held ++ piece) s → ((n : ℕ) → s ≡ Some n → length new < n) → IsPartial opened (held ++ piece)
-        part None short less = inl (omega (arith, short))
-        part (Some n) k less = partial_cut opened (held ++ piece) n k (omega (arith, ap length x.0, less n refl))
+        record { limits = refl; answer = (within, x.2, ap (λ l. left l opened) all, x.1) }
 
-    module _ (h : IsWanted opened (held ++ piece) size) (x : Holds lacks size held piece (Ok true) new rest) where
-      there : HasSize opened (held ++ piece) x.1.0
-      there = subst (IsWanted opened (held ++ piece)) x.1.1 h
+    pub held_handed : (frame : ClientFrame) (now : Bool) → IsFrameOf opened new frame → Completes lacks opened held piece (Ok (Some now)) new rest
+        → Parses lacks (waiting held opened limits) piece (Ok (Some frame)) (waiting [] now limits) rest
+    held_handed frame now f x =
+        let hands : HandsOut (left (held ++ piece) opened) frame (left rest now) = subst (λ l. HandsOut (left l opened) frame (left rest now)) x.0 (hands_out opened new rest frame now x.2 f) in
+        record { limits = refl; answer = (within, hands, refl) }
 
-      pub held_size : HasSize opened new (length new)
-      held_size =
-          let front : HasSize opened (new ++ rest) x.1.0 = subst (λ l. HasSize opened l x.1.0) (sym x.0) there in
-          subst (HasSize opened new) (sym x.1.2) (size_front opened new rest x.1.0 (omega (arith, x.1.2, size_least opened (held ++ piece) x.1.0 there)) front)
+pub partial_fits : (opened : Bool) (bytes : List ℕ) → IsPartial opened bytes → Fits opened bytes
+partial_fits opened bytes (inl short) = inl (omega (arith, short))
+partial_fits opened bytes (inr u) =
+    inr (u.len + place opened, record { len = u.len; begins = u.begins; enough = u.enough; fits = u.fits; all = refl }, omega (arith, u.missing, behind_length opened bytes u.len u.begins))
 
-      pub held_fits : Fits opened new
-      held_fits = inr (length new, held_size, omega arith)
-
-      not_empty : StandsInPiece opened held piece size false → held ≡ [] → new ≡ []
-      not_empty (inl some) empty = absurd (some empty)
-      not_empty (inr cut) empty =
-          let whole : held ++ piece ≡ piece = ap (λ l. l ++ piece) empty in
-          absurd (not_partial opened piece x.1.0 (subst (λ l. HasSize opened l x.1.0) whole there) (omega (arith, x.1.2, ap length x.0, ap length whole, length-append new rest)) cut)
-
-      pub held_refused : (e : ParserError) → StandsInPiece opened held piece size false → Opens opened new (Err e) → Parses lacks (waiting held opened limits) piece (Err e) (waiting new opened limits) rest
-      held_refused e cut y =
-          let same : left (new ++ rest) opened ≡ left (held ++ piece) opened = ap (λ l. left l opened) x.0 in
-          let steps : (kind : PasswordKind) → Step kind (left (held ++ piece) opened) (Err y.0) (left (held ++ piece) opened) =
-          λ kind. subst (λ (u : Unread). Step kind u (Err y.0) u) same (refused_behind kind (left new opened) (left new opened) y.0 rest (y.2 kind)) in
-          let all : Parses lacks (waiting held opened limits) piece (Err (Refused y.0)) (waiting new opened limits) rest =
-          record { limits = refl; answer = (within, steps, record { all = same; none = not_empty cut }) } in
-          rw y.1 all
-
-      pub held_handed : (frame : ClientFrame) (now : Bool) → IsHandedOut opened new frame now → Parses lacks (waiting held opened limits) piece (Ok (Some frame)) (waiting [] now limits) rest
-      held_handed frame now y =
-          let hands : HandsOut (left (held ++ piece) opened) frame (left rest now) = subst (λ l. HandsOut (left l opened) frame (left rest now)) x.0 (hands_out opened new rest frame now y) in
-          record { limits = refl; answer = (within, hands, refl) }
+-- what is handed out is whole
+pub whole_of : (lacks : Type 0) (old : Waiting) (piece : List ℕ) (r : Result (Option ClientFrame) ParserError) (new : Waiting) (rest : List ℕ) → Parses lacks old piece r new rest → IfOk r (λ found. IfSome found (λ frame. IsWhole frame.opened frame.bytes.now))
+whole_of lacks old piece (Ok (Some frame)) new rest p = p.answer.1.whole
+whole_of lacks old piece (Ok None) new rest p = tt
+whole_of lacks old piece (Err e) new rest p = tt

@@ -27,3 +27,4 @@ pub mod AnyRuns
 pub mod Handing
 pub mod Holdings
 pub mod PieceRuns
+pub mod ForwardRuns

@@ -27,6 +27,11 @@ abbrev pub AnyReads : List PasswordKind → Unread → List AnyMessage → Resul
 AnyReads kinds old [] end new = AnyStep (next_kind kinds) old end new × IsAnyEnd end
 AnyReads kinds old (x ∷ messages) end new = (here : Unread) × AnyStep (next_kind kinds) old (Ok (Some x)) here × AnyReads (any_kinds_behind x kinds) here messages end new
 
+-- Steps gave these messages, and these kinds and this are left.
+abbrev pub AnyHasRead : List PasswordKind → Unread → List AnyMessage → List PasswordKind → Unread → Type 0
+AnyHasRead kinds old [] rest here = (rest ≡ kinds) × (here ≡ old)
+AnyHasRead kinds old (x ∷ messages) rest here = (next : Unread) × AnyStep (next_kind kinds) old (Ok (Some x)) next × AnyHasRead (any_kinds_behind x kinds) next messages rest here
+
 -- all was read, each as a message of ours, and the server waits for more
 pub record IsAllReadAsOurs (messages : List ClientMessage) (read : List AnyMessage) (end : Result (Option AnyMessage) ClientError) (new : Unread) : Type 0 where
   pub same : read ≡ map (λ m. Ours m) messages

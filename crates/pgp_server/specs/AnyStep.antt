@@ -6,8 +6,8 @@ use Rattle.pgp_frontend.specs.ClientMessage.{PasswordKind, Initial}
 use Rattle.pgp_frontend.specs.Payload.{Part, Int32, kind_of, framed}
 use Rattle.pgp_frontend.specs.Reading.{shape}
 use Rattle.pgp_server.specs.Faults.{Faulty}
-use Rattle.pgp_server.specs.OtherMessage.{OtherMessage, AnyMessage, Ours, Other, WidePart, Plain, other_tag, other_kind, other_parts, other_bytes, HasOtherMinor, IsWellFormed, is_other_startup}
-use Rattle.pgp_server.specs.Step.{Unread, NoneStands, IsPartial, IsUnknownTag, HasFaultyBody, IsUnknownPacket, HasFaultyPacket, StopsAtLength, Takes}
+use Rattle.pgp_server.specs.OtherMessage.{OtherMessage, AnyMessage, Ours, Other, WidePart, Plain, other_tag, other_kind, other_parts, other_bytes, any_bytes, HasOtherMinor, IsWellFormed, is_other_startup}
+use Rattle.pgp_server.specs.Step.{Unread, Stands, NoneStands, IsPartial, IsUnknownTag, HasFaultyBody, IsUnknownPacket, HasFaultyPacket, StopsAtLength, Takes}
 use Rattle.pgp_server.specs.WideFaults.{wide_shape, WideFaulty}
 use Rattle.pgp_server.specs.declared.error.ClientError.{ClientError}
 use Rattle.pgp_server.specs.declared.error.ClientError.TheVariants.{Reading}
@@ -22,6 +22,11 @@ pub record OtherStands (kind : PasswordKind) (opened : Bool) (bytes : List ℕ) 
   pub expected : IsOtherExpected kind opened o
   pub formed : IsWellFormed o
   pub whole : bytes ≡ other_bytes o ++ rest
+
+-- a message of either sort stands at the front
+abbrev pub AnyStands : PasswordKind → Bool → List ℕ → AnyMessage → List ℕ → Type 0
+AnyStands kind opened bytes (Ours m) rest = Stands kind opened bytes m rest
+AnyStands kind opened bytes (Other o) rest = OtherStands kind opened bytes o rest
 
 -- Whatever comes behind the bytes, no such message stands at their front.
 abbrev pub NoOtherStands : PasswordKind → Bool → List ℕ → Type 0
@@ -109,3 +114,9 @@ AnyStep kind old (Ok (Some (Ours m))) new = Takes kind old m new
 AnyStep kind old (Ok (Some (Other o))) new = TakesOther kind old o new
 AnyStep kind old (Ok None) new = IsPartial old.opened old.bytes × (new ≡ old)
 AnyStep kind old (Err e) new = RefusesAny kind old e new
+
+-- The same step, which also hands out the bytes of the message that it takes.
+abbrev pub AnyTakesWithBytes : PasswordKind → Unread → Result (Option (AnyMessage × List ℕ)) ClientError → Unread → Type 0
+AnyTakesWithBytes kind old (Ok (Some x)) new = AnyStep kind old (Ok (Some x.0)) new × (x.1 ≡ any_bytes x.0)
+AnyTakesWithBytes kind old (Ok None) new = AnyStep kind old (Ok None) new
+AnyTakesWithBytes kind old (Err e) new = AnyStep kind old (Err e) new

@@ -1,5 +1,6 @@
 -- The code's other messages as those of the grammar.
-use Rattle.std.specs.Prelude.{Option, Some, None, Result, Ok, Err}
+use Rattle.std.specs.Prelude.{ℕ, List, Option, Some, None, Result, Ok, Err}
+use Rattle.std.specs.Borrow.{Bor}
 use Rattle.pgp_base.specs.declared.error.Error.{Error}
 use Rattle.pgp_server.specs.declared.error.ClientError.{ClientError}
 use Rattle.pgp_server.specs.declared.other.OtherMessage as code
@@ -38,3 +39,9 @@ abbrev pub read_any : Result (Option any.AnyMessage) ClientError → Result (Opt
 read_any (Ok None) = Ok None
 read_any (Ok (Some m)) = Ok (Some (any_view m))
 read_any (Err e) = Err e
+
+-- the answer of `next_any_with_bytes`
+abbrev pub read_any_with_bytes : Result (Option (any.AnyMessage × Bor (List ℕ))) ClientError → Result (Option (AnyMessage × List ℕ)) ClientError
+read_any_with_bytes (Ok None) = Ok None
+read_any_with_bytes (Ok (Some x)) = Ok (Some (any_view x.0, x.1.now))
+read_any_with_bytes (Err e) = Err e

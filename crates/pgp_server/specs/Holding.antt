@@ -1,8 +1,10 @@
 -- Private: how much of a message a parser holds, as the code counts it. What a call comes to is `Pieces`.
 use Rattle.std.specs.Prelude.{◌≡◌, ◌≢◌, ◌⊎◌, ℕ, ◌+◌, ◌-◌, ◌<◌, ◌≤◌, ◌^◌, Bool, true, false, List, [], ◌++◌, length, take, drop, Option, Some, None, Result, Ok, Err, nat_le}
-use Rattle.pgp_frontend.specs.ClientMessage.{ClientMessage, PasswordKind}
-use Rattle.pgp_server.specs.Step.{Unread, Step, BeginsWithLength, IsLengthFault, IsPartial, place, least}
-use Rattle.pgp_server.specs.Pieces.{IsTooLong, IsWithin, IsWhole, ReadsFrame, step_of}
+use Rattle.pgp_frontend.specs.ClientMessage.{PasswordKind}
+use Rattle.pgp_server.specs.AnyStep.{AnyStep}
+use Rattle.pgp_server.specs.OtherMessage.{AnyMessage}
+use Rattle.pgp_server.specs.Step.{BeginsWithLength, IsLengthFault, IsPartial, place, least}
+use Rattle.pgp_server.specs.Pieces.{IsTooLong, IsWithin, IsWhole, step_of}
 use Rattle.pgp_server.specs.declared.client_frame.ClientFrame.{ClientFrame}
 use Rattle.pgp_server.specs.declared.error.ClientError.{ClientError}
 use Rattle.pgp_server.specs.declared.error.ClientError.TheVariants.{Reading}
@@ -61,30 +63,46 @@ pub record Fills (size : ℕ) (old piece new left : List ℕ) : Type 0 where
   pub rest : left ≡ drop moved piece
   pub done : (moved ≡ size - length old) ⊎ (moved ≡ length piece)
 
--- the message's bytes, and the phase behind it
-pub record IsHandedOut (opened : Bool) (bytes : List ℕ) (frame : ClientFrame) (now : Bool) : Type 0 where
-  pub phase : frame.opened ≡ opened
-  pub same : frame.bytes.now ≡ bytes
+-- The bytes are those of one message, and behind it the connection is in this phase, whatever the message is read as.
+pub record IsReadAs (opened : Bool) (bytes : List ℕ) (now : Bool) : Type 0 where
   pub whole : IsWhole opened bytes
-  pub steps : (kind : PasswordKind) (result : Result ClientMessage ClientError) (phase : Bool) → Step kind (record { bytes = bytes; opened = opened }) (step_of result) (record { bytes = []; opened = phase }) → phase ≡ now
+  pub steps : (kind : PasswordKind) (result : Result AnyMessage ClientError) (phase : Bool) → AnyStep kind (record { bytes = bytes; opened = opened }) (step_of result) (record { bytes = []; opened = phase }) → phase ≡ now
 
--- an opening packet that is no message is left
-abbrev pub Opens : Bool → List ℕ → Result (ClientFrame × Bool) ParserError → Type 0
-Opens opened bytes (Ok x) = IsHandedOut opened bytes x.0 x.1
-Opens opened bytes (Err e) = (d : ClientError) × (e ≡ Refused d) × ((kind : PasswordKind) → Step kind (record { bytes = bytes; opened = opened }) (Err d) (record { bytes = bytes; opened = opened }))
+-- whatever kind is told, a step refuses what stands there, and passes nothing
+pub record IsLeft (opened : Bool) (bytes : List ℕ) (e : ParserError) : Type 0 where
+  pub cause : ClientError
+  pub name : e ≡ Refused cause
+  pub steps : (kind : PasswordKind) → AnyStep kind (record { bytes = bytes; opened = opened }) (Err cause) (record { bytes = bytes; opened = opened })
+
+-- the phase behind the message; an opening packet that is no message is left
+abbrev pub Opens : Bool → List ℕ → Result Bool ParserError → Type 0
+Opens opened bytes (Ok now) = IsReadAs opened bytes now
+Opens opened bytes (Err e) = IsLeft opened bytes e
 
 -- The message is whole in the piece, and nothing is held; or it is cut.
 abbrev pub StandsInPiece : Bool → List ℕ → List ℕ → Option ℕ → Bool → Type 0
 StandsInPiece opened held piece size true = (held ≡ []) × ((n : ℕ) × (size ≡ Some n) × HasSize opened piece n × (n ≤ length piece))
 StandsInPiece opened held piece size false = (held ≢ []) ⊎ IsPartial opened piece
 
+-- the frame is these bytes in this phase
+pub record IsFrameOf (opened : Bool) (bytes : List ℕ) (frame : ClientFrame) : Type 0 where
+  pub phase : frame.opened ≡ opened
+  pub same : frame.bytes.now ≡ bytes
+
 -- The message is taken off the piece; an opening packet that is no message is left.
 abbrev pub TakesOff : Bool → List ℕ → Result ClientFrame ParserError → Bool → List ℕ → Type 0
-TakesOff opened piece (Ok frame) now left = (bytes : List ℕ) × IsHandedOut opened bytes frame now × (piece ≡ bytes ++ left)
-TakesOff opened piece (Err e) now left = (now ≡ opened) × (left ≡ piece) × ((d : ClientError) × (e ≡ Refused d) × ((kind : PasswordKind) → Step kind (record { bytes = piece; opened = opened }) (Err d) (record { bytes = piece; opened = opened })))
+TakesOff opened piece (Ok frame) now left = (bytes : List ℕ) × IsReadAs opened bytes now × IsFrameOf opened bytes frame × (piece ≡ bytes ++ left)
+TakesOff opened piece (Err e) now left = (now ≡ opened) × (left ≡ piece) × IsLeft opened piece e
 
 -- What the piece has of the message is held; and whether all of it is.
 abbrev pub Holds : Type 0 → Option ℕ → List ℕ → List ℕ → Result Bool ParserError → List ℕ → List ℕ → Type 0
 Holds lacks size held piece (Ok true) new left = (new ++ left ≡ held ++ piece) × ((n : ℕ) × (size ≡ Some n) × (length new ≡ n))
 Holds lacks size held piece (Ok false) new left = (new ≡ held ++ piece) × (left ≡ []) × ((n : ℕ) → size ≡ Some n → length new < n)
 Holds lacks size held piece (Err e) new left = (e ≡ OutOfMemory) × lacks × (new ≡ held) × (left ≡ piece) × (piece ≢ [])
+
+-- What is held is all of the message, and behind it the connection is in this phase; or all of the piece is held; or nothing changes,
+-- since memory is refused or an opening packet that is no message stands there.
+abbrev pub Completes : Type 0 → Bool → List ℕ → List ℕ → Result (Option Bool) ParserError → List ℕ → List ℕ → Type 0
+Completes lacks opened held piece (Ok (Some now)) new left = (new ++ left ≡ held ++ piece) × HasSize opened new (length new) × IsReadAs opened new now
+Completes lacks opened held piece (Ok None) new left = (new ≡ held ++ piece) × (left ≡ []) × IsPartial opened (held ++ piece)
+Completes lacks opened held piece (Err e) new left = (new ≡ held) × (left ≡ piece) × (((e ≡ OutOfMemory) × lacks × (piece ≢ [])) ⊎ IsLeft opened (held ++ piece) e)

@@ -6,7 +6,7 @@ ghost use types.Logic.{sem};
 ghost use denote.Follow.{follows_so};
 ghost use Rattle.pgp_server.specs.Step.{announced, least, place};
 ghost use Rattle.pgp_server.specs.Pieces.{IsWhole, Parses};
-ghost use Rattle.pgp_server.specs.Holding.{Fills, Fits, HasSize, Holds, IsWanted, Opens, Sizes, StandsInPiece, TakesOff, header, is_whole, wanted};
+ghost use Rattle.pgp_server.specs.Holding.{Completes, Fills, Fits, HasSize, Holds, IsWanted, Opens, Sizes, StandsInPiece, TakesOff, header, is_whole, wanted};
 ghost use Rattle.pgp_server.specs.contracts.client_parser.ClientParser.{the_row};
 
 use crate::client_frame::ClientFrame;
@@ -63,7 +63,7 @@ impl<A: Memory> ClientParser<A> {
         }
     }
 
-    /// The bytes that came and weren't read: those of a message that isn't whole, or of one that was refused and isn't passed.
+    /// The bytes that came and weren't read: the front of a message that isn't whole, as far as pieces brought it that were used up.
     pub fn rest(&self) -> &[u8]
         ensures { result.now ≡ self.now.bytes }
     {
@@ -92,11 +92,11 @@ impl<A: Memory> ClientParser<A> {
     ///
     /// # Errors
     ///
-    /// All bytes stay, those of a message that begins in the piece in the piece.
+    /// Nothing changes: what was held stays held, and the piece stays as it is.
     ///
     /// - `TooLong`: the header announces a length past the limit. No memory was asked for.
     /// - `Refused`: `InvalidLength`, where no message has the length that stands there; or an opening packet stands there that is no
-    ///   message, with what `ClientMessages::next` tells of it.
+    ///   message, with what `ClientMessages::next_any` tells of it.
     /// - `OutOfMemory`, of a message that is cut.
     pub fn next<'s, 'p: 's>(
         &'s mut self,
@@ -114,13 +114,17 @@ impl<A: Memory> ClientParser<A> {
             let frame = take_off(&mut self.opened, size, piece)?;
             return Ok(Some(frame));
         }
-        if !hold(&mut self.held, self.opened, size, piece)? {
-            return Ok(None);
+        match complete(&mut self.held, self.opened, size, piece) {
+            Ok(Some(now)) => {
+                let bytes = self.held.as_slice();
+                let opened = self.opened;
+                self.read = true;
+                self.opened = now;
+                Ok(Some(ClientFrame { bytes, opened }))
+            }
+            Ok(None) => Ok(None),
+            Err(e) => Err(e),
         }
-        let (frame, opened) = hand_out(self.opened, self.held.as_slice())?;
-        self.read = true;
-        self.opened = opened;
-        Ok(Some(frame))
     }
 }
 
@@ -261,13 +265,49 @@ fn take_off<'p>(
     ensures { TakesOff opened.old piece.old.now result opened.new piece.new.now }
 {
     let (bytes, rest) = piece.split_at(size);
-    match hand_out(*opened, bytes) {
-        Ok((frame, now)) => {
+    match phase_behind(*opened, bytes) {
+        Ok(now) => {
+            let frame = ClientFrame {
+                bytes,
+                opened: *opened,
+            };
             *opened = now;
             *piece = rest;
             Ok(frame)
         }
         Err(e) => Err(e),
+    }
+}
+
+/// Holds what the piece has of the message; where that is all of it, the phase behind the message.
+///
+/// # Errors
+///
+/// Nothing changes.
+///
+/// - `OutOfMemory` where there is no memory for all of it, or for its header while that isn't whole.
+/// - `Refused` of an opening packet that is no message.
+fn complete<A: Memory>(
+    held: &mut Vec<u8, A>,
+    opened: bool,
+    size: Option<usize>,
+    piece: &mut &[u8],
+) -> Result<Option<bool>, ParserError>
+    requires wanted { IsWanted opened (held.old.items ++ piece.old.now) size }
+    requires fits { Fits opened held.old.items }
+    ensures { Completes A.Lacks opened held.old.items piece.old.now result held.new.items piece.new.now }
+{
+    let (len, before) = (held.len(), *piece);
+    if !hold(held, opened, size, piece)? {
+        return Ok(None);
+    }
+    match phase_behind(opened, held.as_slice()) {
+        Ok(now) => Ok(Some(now)),
+        Err(e) => {
+            held.truncate(len);
+            *piece = before;
+            Err(e)
+        }
     }
 }
 
@@ -290,22 +330,21 @@ fn hold<A: Memory>(
     Ok(is_whole(held.len(), size))
 }
 
-/// The message's bytes, and the phase behind it. An opening packet is read for that.
+/// Whether a startup packet was read, behind the message. An opening packet is read for that.
 ///
 /// # Errors
 ///
 /// `Refused` of an opening packet that is no message.
-fn hand_out(opened: bool, bytes: &[u8]) -> Result<(ClientFrame<'_>, bool), ParserError>
+fn phase_behind(opened: bool, bytes: &[u8]) -> Result<bool, ParserError>
     requires { HasSize opened bytes.now (length bytes.now) }
     ensures { Opens opened bytes.now result }
 {
-    let frame = ClientFrame { bytes, opened };
     if opened {
-        return Ok((frame, true));
+        return Ok(true);
     }
     let mut messages = ClientMessages::new(bytes);
-    match messages.next(PasswordKind::Password) {
-        Ok(_) => Ok((frame, messages.is_open())),
+    match messages.next_any(PasswordKind::Password) {
+        Ok(_) => Ok(messages.is_open()),
         Err(e) => Err(ParserError::Refused(e)),
     }
 }

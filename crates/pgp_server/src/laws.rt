@@ -1,11 +1,11 @@
 //! Laws of what a server reads.
 
-ghost use Rattle.std.specs.Prelude.{◌≡◌, ◌||◌, ℕ, Bool, false, List, ◌++◌, Option, Some, None, Result, Ok, Err, IsErr};
+ghost use Rattle.std.specs.Prelude.{◌≡◌, ◌||◌, ℕ, Bool, false, List, [], ◌++◌, Option, Some, None, Result, Ok, Err, IsErr};
 ghost use Rattle.pgp_base.specs.declared.error.Error.{Error};
-ghost use Rattle.pgp_base.specs.Held.{Held};
+ghost use Rattle.pgp_base.specs.Held.{Held, ◌⊕◌};
 ghost use Rattle.pgp_frontend.specs.Payload.{WritesMessage};
 ghost use Rattle.pgp_frontend.specs.Reading.{Shape};
-ghost use Rattle.pgp_server.specs.Forwards.{Forwards};
+ghost use Rattle.pgp_server.specs.Forwards.{Forwards, WritesAll, WritesAllOf};
 ghost use Rattle.pgp_server.specs.Faults.{Faulty};
 ghost use Rattle.pgp_server.specs.declared.error.ClientError.{ClientError as Refusal};
 ghost use Rattle.pgp_frontend.specs.ClientMessage.{ClientMessage as Message, PasswordKind as Kind};
@@ -13,7 +13,7 @@ ghost use Rattle.pgp_frontend.specs.ClientRun.{ClientRun, is_startup};
 ghost use Rattle.pgp_server.specs.AnyStep.{AnyStep, OtherStands};
 ghost use Rattle.pgp_server.specs.OtherMessage as any;
 ghost use Rattle.pgp_server.specs.OtherMessage.{AnyMessage, OtherMessage as Other, Ours, WritesAny, is_other_startup};
-ghost use Rattle.pgp_server.specs.AnyReads.{AnyReads, IsAllReadAsOurs};
+ghost use Rattle.pgp_server.specs.AnyReads.{AnyHasRead, AnyReads, IsAllReadAsOurs};
 ghost use Rattle.pgp_server.specs.Step.{IsPartial, Stands, Step, Unread};
 ghost use Rattle.pgp_server.specs.Reads.{HasRead, Reads, ReadsSession, IsAllRead};
 ghost use Rattle.std.specs.List.{flat_map};
@@ -134,19 +134,42 @@ pub fn any_message_is_forwarded<B: Buffer>()
         AnyStep kind before (Ok (Some x)) after → WritesAny x B.Lacks old new result → Forwards B.Lacks before.bytes after.bytes old new result }
 {}
 
-/// What a call of a `ClientParser` gives, with the message of what it hands out, is the server's step over the bytes that are
-/// held and the piece behind them.
+/// What a call of a `ClientParser` gives, with the message of what it hands out, is the step of a server that reads the others
+/// too, over the bytes that are held and the piece behind them.
 pub fn calls_are_steps<A: Memory>()
-    ensures { (kind : Kind) (old new : Waiting) (piece left : List ℕ) (result : Result (Option Message) Refusal) →
-        Gives A.Lacks kind old piece result new left → Step kind (unread old piece) result (unread new left) }
+    ensures { (kind : Kind) (old new : Waiting) (piece left : List ℕ) (result : Result (Option AnyMessage) Refusal) →
+        Gives A.Lacks kind old piece result new left → AnyStep kind (unread old piece) result (unread new left) }
 {}
 
 /// So, however a client's connection is cut into pieces: the messages that came while each was fed, and those that came of the
 /// last, with what ended them, are what the bytes as a whole give, and all that they give.
 pub fn pieces_give_the_whole<A: Memory>()
-    ensures { (kinds others rest : List Kind) (old here new : Waiting) (came : List Came) (last left : List ℕ) (messages all : List Message)
-        (end result : Result (Option Message) Refusal) (behind : Unread) →
+    ensures { (kinds others rest : List Kind) (old here new : Waiting) (came : List Came) (last left : List ℕ) (messages all : List AnyMessage)
+        (end result : Result (Option AnyMessage) Refusal) (behind : Unread) →
         ReadsPieces A.Lacks kinds old came others here → ReadsPiece A.Lacks others here last messages end rest new left →
-        Reads kinds (unread old (flat_map piece_of came ++ last)) all result behind →
+        AnyReads kinds (unread old (flat_map piece_of came ++ last)) all result behind →
         (all ≡ flat_map messages_of came ++ messages) × (result ≡ end) × (behind ≡ unread new left) }
+{}
+
+/// And where the pieces are those of a session, as the grammar of our messages says: exactly its messages came, and the parser
+/// waits for more.
+pub fn pieces_of_sessions_are_read<A: Memory>()
+    ensures { (kinds others rest : List Kind) (old here new : Waiting) (came : List Came) (last left : List ℕ) (messages : List Message) (all : List AnyMessage)
+        (end : Result (Option AnyMessage) Refusal) →
+        old.bytes ≡ [] → old.opened ≡ false → ReadsPieces A.Lacks kinds old came others here → ReadsPiece A.Lacks others here last all end rest new left →
+        ClientRun kinds messages (flat_map piece_of came ++ last) → IsAllReadAsOurs messages (flat_map messages_of came ++ all) end (unread new left) }
+{}
+
+/// What a proxy writes for all messages that it read are the bytes that stood there.
+pub fn all_that_was_read_is_forwarded<B: Buffer>()
+    ensures ours { (kinds rest : List Kind) (from here : Unread) (messages : List Message) (old new : Held B.Kept) →
+        HasRead kinds from messages rest here → WritesAll B.Lacks messages old new → Forwards B.Lacks from.bytes here.bytes old new (Ok tt) }
+    ensures either { (kinds rest : List Kind) (from here : Unread) (messages : List AnyMessage) (old new : Held B.Kept) →
+        AnyHasRead kinds from messages rest here → WritesAllOf B.Lacks messages old new → Forwards B.Lacks from.bytes here.bytes old new (Ok tt) }
+{}
+
+/// So what it writes for the messages of a whole session are the session's bytes.
+pub fn sessions_are_forwarded<B: Buffer>()
+    ensures { (kinds : List Kind) (messages : List Message) (bytes : List ℕ) (old new : Held B.Kept) →
+        ClientRun kinds messages bytes → WritesAll B.Lacks messages old new → new ≡ old ⊕ bytes }
 {}

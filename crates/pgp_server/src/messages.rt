@@ -2,8 +2,8 @@
 
 ghost use Rattle.std.specs.Prelude.{◌≡◌, true, false};
 ghost use Rattle.pgp_frontend.specs.ClientMessage.{PasswordKind as Kind};
-ghost use Rattle.pgp_server.specs.AnyStep.{AnyStep};
-ghost use Rattle.pgp_server.specs.AnyViews.{read_any};
+ghost use Rattle.pgp_server.specs.AnyStep.{AnyStep, AnyTakesWithBytes};
+ghost use Rattle.pgp_server.specs.AnyViews.{read_any, read_any_with_bytes};
 ghost use Rattle.pgp_server.specs.Step.{Step, TakesWithBytes};
 ghost use Rattle.pgp_server.specs.Views.{kind_view, read, read_with_bytes, view};
 ghost use Rattle.pgp_frontend.specs.ClientRun.{is_startup};
@@ -127,6 +127,28 @@ impl<'a> ClientMessages<'a> {
     {
         let before = self.rest;
         match self.next(kind) {
+            Ok(Some(message)) => {
+                let (bytes, _) = before.split_at(before.len() - self.rest.len());
+                Ok(Some((message, bytes)))
+            }
+            Ok(None) => Ok(None),
+            Err(e) => Err(e),
+        }
+    }
+
+    /// As `next_any`, with the bytes of the message beside it.
+    ///
+    /// # Errors
+    ///
+    /// As `next_any`.
+    pub fn next_any_with_bytes(
+        &mut self,
+        kind: PasswordKind,
+    ) -> Result<Option<(AnyMessage<'a>, &'a [u8])>, ClientError>
+        ensures { AnyTakesWithBytes (kind_view kind) self.old (read_any_with_bytes result) self.new }
+    {
+        let before = self.rest;
+        match self.next_any(kind) {
             Ok(Some(message)) => {
                 let (bytes, _) = before.split_at(before.len() - self.rest.len());
                 Ok(Some((message, bytes)))

@@ -1,7 +1,9 @@
 //! A client's connection that comes in pieces. Its bytes are from the message formats of the PostgreSQL manual.
 
 use crate::checks::{holds, same, same_at};
-use postgres_protocol::message::client::{ClientError, ClientMessage, PasswordKind};
+use postgres_protocol::message::client::{
+    AnyMessage, ClientError, ClientMessage, OtherMessage, PasswordKind,
+};
 use postgres_protocol::session::{ClientParser, Limits, ParserError};
 use std::test::Fail;
 
@@ -11,6 +13,13 @@ const SESSION: &[u8] =
 
 /// What its messages are: the tag, or a letter for an opening packet, or `?` for a refusal.
 const MARKS: &[u8] = b"LUpPBES?QX";
+
+/// GSSENCRequest, a StartupMessage of protocol 3.1, SASLInitialResponse with no response, FunctionCall, Sync.
+const OTHERS: &[u8] =
+    b"\0\0\0\x08\x04\xd2\x16\x30\0\0\0\x14\0\x03\0\x01user\0alice\0\0p\0\0\0\x16SCRAM-SHA-256\0\xff\xff\xff\xffF\0\0\0\x18\0\0\x01\0\0\x01\0\x01\0\x01\0\0\0\x04\0\0\0\x2a\0\x01S\0\0\0\x04";
+
+/// What its messages are.
+const OTHER_MARKS: &[u8] = b"GViFS";
 
 /// No message is too long.
 const UNLIMITED: Limits = Limits {
@@ -24,33 +33,59 @@ const SERVER: Limits = Limits {
     tagged: 0x3fff_ffff,
 };
 
-fn mark(read: &Result<ClientMessage<'_>, ClientError>) -> u8 {
+fn mark(read: &Result<AnyMessage<'_>, ClientError>) -> u8 {
     match read {
-        Ok(ClientMessage::SslRequest) => b'L',
-        Ok(ClientMessage::Startup { .. }) => b'U',
-        Ok(ClientMessage::PasswordMessage(b"secret")) => b'p',
-        Ok(
-            ClientMessage::Parse {
-                query: b"SELECT $1",
-                ..
-            },
-        ) => b'P',
-        Ok(ClientMessage::Bind { .. }) => b'B',
-        Ok(ClientMessage::Execute { max_rows: 0, .. }) => b'E',
-        Ok(ClientMessage::Sync) => b'S',
-        Ok(ClientMessage::Query(b"SELECT 2")) => b'Q',
-        Ok(ClientMessage::Terminate) => b'X',
-        Ok(_) => b'!',
+        Ok(AnyMessage::Ours(message)) => ours(message),
+        Ok(AnyMessage::Other(message)) => other(message),
         Err(_) => b'?',
     }
 }
 
+fn ours(message: &ClientMessage<'_>) -> u8 {
+    match message {
+        ClientMessage::SslRequest => b'L',
+        ClientMessage::Startup { .. } => b'U',
+        ClientMessage::PasswordMessage(b"secret") => b'p',
+        ClientMessage::Parse {
+            query: b"SELECT $1",
+            ..
+        } => b'P',
+        ClientMessage::Bind { .. } => b'B',
+        ClientMessage::Execute { max_rows: 0, .. } => b'E',
+        ClientMessage::Sync => b'S',
+        ClientMessage::Query(b"SELECT 2") => b'Q',
+        ClientMessage::Terminate => b'X',
+        _ => b'!',
+    }
+}
+
+fn other(message: &OtherMessage<'_>) -> u8 {
+    match message {
+        OtherMessage::GssEncRequest => b'G',
+        OtherMessage::StartupOther { minor: 1, .. } => b'V',
+        OtherMessage::SaslInitialWithoutResponse {
+            mechanism: b"SCRAM-SHA-256",
+        } => b'i',
+        OtherMessage::FunctionCall {
+            function: 256,
+            result_format: 1,
+            ..
+        } => b'F',
+        _ => b'!',
+    }
+}
+
 /// Feeds a piece, and adds the marks of its messages.
-fn feed(parser: &mut ClientParser, piece: &[u8], marks: &mut Vec<u8>) -> Result<(), Fail> {
+fn feed(
+    parser: &mut ClientParser,
+    kind: PasswordKind,
+    piece: &[u8],
+    marks: &mut Vec<u8>,
+) -> Result<(), Fail> {
     let mut rest = piece;
     for _ in 0..=MARKS.len() {
         match parser.next(&mut rest) {
-            Ok(Some(frame)) => marks.push(mark(&frame.message(PasswordKind::Password)))?,
+            Ok(Some(frame)) => marks.push(mark(&frame.message(kind)))?,
             Ok(None) => return Ok(()),
             Err(_) => marks.push(b'#')?,
         }
@@ -60,13 +95,30 @@ fn feed(parser: &mut ClientParser, piece: &[u8], marks: &mut Vec<u8>) -> Result<
 
 #[test]
 fn every_cutting_into_two(rt: HostRuntime) -> Result<(), Fail> {
+    let kind = PasswordKind::Password;
     for cut in 0..=SESSION.len() {
         let (front, back) = SESSION.split_at(cut);
         let mut parser = ClientParser::new(rt.alloc(), UNLIMITED);
         let mut marks = Vec::new(rt.alloc());
-        feed(&mut parser, front, &mut marks)?;
-        feed(&mut parser, back, &mut marks)?;
+        feed(&mut parser, kind, front, &mut marks)?;
+        feed(&mut parser, kind, back, &mut marks)?;
         same_at(&rt, cut, marks.as_slice(), MARKS);
+        holds(&rt, parser.is_open() && parser.rest().is_empty());
+    }
+    Ok(())
+}
+
+/// The messages that no writer here makes are read too.
+#[test]
+fn every_cutting_of_others(rt: HostRuntime) -> Result<(), Fail> {
+    let kind = PasswordKind::Initial;
+    for cut in 0..=OTHERS.len() {
+        let (front, back) = OTHERS.split_at(cut);
+        let mut parser = ClientParser::new(rt.alloc(), UNLIMITED);
+        let mut marks = Vec::new(rt.alloc());
+        feed(&mut parser, kind, front, &mut marks)?;
+        feed(&mut parser, kind, back, &mut marks)?;
+        same_at(&rt, cut, marks.as_slice(), OTHER_MARKS);
         holds(&rt, parser.is_open() && parser.rest().is_empty());
     }
     Ok(())
@@ -77,7 +129,7 @@ fn byte_by_byte(rt: HostRuntime) -> Result<(), Fail> {
     let mut parser = ClientParser::new(rt.alloc(), UNLIMITED);
     let mut marks = Vec::new(rt.alloc());
     for byte in SESSION {
-        feed(&mut parser, &[*byte], &mut marks)?;
+        feed(&mut parser, PasswordKind::Password, &[*byte], &mut marks)?;
     }
     same(&rt, marks.as_slice(), MARKS);
     holds(&rt, parser.is_open() && parser.rest().is_empty());
@@ -134,9 +186,9 @@ fn refusals_stay(rt: HostRuntime) -> Result<(), Fail> {
             ParserError::Refused(ClientError::Reading(postgres_protocol::Error::InvalidLength)),
         ),
         (
-            b"\0\0\0\x08\0\x03\0\x01",
+            b"\0\0\0\x08\0\x04\0\0",
             false,
-            ParserError::Refused(ClientError::UnknownPacket(196_609)),
+            ParserError::Refused(ClientError::UnknownPacket(262_144)),
         ),
         (
             b"Q\0\0\0\x03",
@@ -152,5 +204,22 @@ fn refusals_stay(rt: HostRuntime) -> Result<(), Fail> {
         same(&rt, piece, bytes);
         holds(&rt, parser.rest().is_empty());
     }
+    Ok(())
+}
+
+/// Also where it is cut: what was held stays held, and what is in the piece stays there.
+#[test]
+fn cut_refusals_stay(rt: HostRuntime) -> Result<(), Fail> {
+    let mut parser = ClientParser::new(rt.alloc(), UNLIMITED);
+    let front = b"\0\0\0\x08\0".as_slice();
+    let back = b"\x04\0\0Q".as_slice();
+    let e = ParserError::Refused(ClientError::UnknownPacket(262_144));
+    same(&rt, refusal(&mut parser, &mut b"\0\0\0\x08\0".as_slice()), None);
+    let mut piece = back;
+    same(&rt, refusal(&mut parser, &mut piece), Some(e));
+    same(&rt, refusal(&mut parser, &mut piece), Some(e));
+    same(&rt, piece, back);
+    same(&rt, parser.rest(), front);
+    holds(&rt, !parser.is_open());
     Ok(())
 }

@@ -74,7 +74,7 @@ const SERVER: &[u8; 18] = b"Z\0\0\0\x05IZ\0\0\0\x05TZ\0\0\0\x05I";
 
 /// The session takes note of the client's next message.
 fn sent(session: &mut Session, from: &mut ClientMessages<'_>) {
-    if let Ok(Some(message)) = from.next(PasswordKind::Password) {
+    if let Ok(Some(message)) = from.next_any(PasswordKind::Password) {
         session.sent(&message);
     }
 }
@@ -106,5 +106,38 @@ fn a_session_is_idle_where_all_is_answered(rt: HostRuntime) -> Result<(), Fail> 
     holds(&rt, !session.is_idle(b"", b""));
     came(&mut session, &mut server);
     holds(&rt, session.is_idle(b"", b""));
+    Ok(())
+}
+
+/// A startup packet of protocol 3.1, and a FunctionCall, each of which awaits that the server is ready.
+const OTHERS: &[u8; 24] =
+    b"\0\0\0\x09\0\x03\0\x01\0F\0\0\0\x0e\0\0\x01\0\0\0\0\0\0\x01";
+
+#[test]
+fn a_function_call_is_awaited_too(rt: HostRuntime) -> Result<(), Fail> {
+    let mut client = ClientMessages::new(OTHERS);
+    let mut server = Messages::new(SERVER);
+    let mut session = Session::new();
+    sent(&mut session, &mut client);
+    holds(&rt, !session.is_idle(b"", b""));
+    came(&mut session, &mut server);
+    holds(&rt, session.is_idle(b"", b""));
+    sent(&mut session, &mut client);
+    holds(&rt, !session.is_idle(b"", b""));
+    Ok(())
+}
+
+/// A FunctionCall brings no statement: it is passed on.
+#[test]
+fn a_function_call_is_passed_on(rt: HostRuntime) -> Result<(), Fail> {
+    let (_, call) = OTHERS.split_at(9);
+    let mut from = ClientMessages::resume(call, true);
+    let mut to = BytesMut::new(rt.alloc());
+    same(
+        &rt,
+        pass_on(&REFUSED, PasswordKind::Password, &mut from, &mut to),
+        Ok(Some(Passed::Forwarded)),
+    );
+    same(&rt, to.as_slice(), call);
     Ok(())
 }

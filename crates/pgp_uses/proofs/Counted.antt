@@ -2,12 +2,12 @@
 use Rattle.std.proofs.Common.{◌≡◌, ℕ, ◌+◌, ◌<◌, ◌≤◌, Bool, true, false, List, [], ◌∷◌, ◌++◌, Option, Some, None, refl, sym, ap, ◌∙◌, arith, inl, inr}
 use Rattle.std.specs.Prelude.{if◌then◌else◌}
 use Rattle.std.proofs.lemmas.Bool.{cases_lt}
-use Rattle.pgp_frontend.specs.ClientMessage.{ClientMessage}
 use Rattle.pgp_message.specs.BackendMessage.{Message}
+use Rattle.pgp_server.specs.OtherMessage.{AnyMessage}
 use Rattle.pgp_uses.specs.Pooler.{awaits, asks, status, some_one, readies, newer, last_status, IsIdle, IsCount, Saw, IsQuiet}
 use Rattle.pgp_uses.specs.declared.pooler.Session.{Session}
 
-asks_more : (sent : List ClientMessage) (m : ClientMessage) → asks (sent ++ m ∷ []) ≡ asks sent + (if awaits m then 1 else 0)
+asks_more : (sent : List AnyMessage) (m : AnyMessage) → asks (sent ++ m ∷ []) ≡ asks sent + (if awaits m then 1 else 0)
 asks_more [] m = omega arith
 asks_more (n ∷ sent) m = omega (arith, asks_more sent m)
 
@@ -36,13 +36,13 @@ one_more n k count more (inr is) grown next = inr (next.full (omega (arith, is.0
 same_count : (n count more : ℕ) → IsCount n count → more ≡ count → IsCount n more
 same_count n count more h e = rw e h
 
-module _ (sent : List ClientMessage) (came : List Message) (session : Session) (saw : Saw sent came session) where
-  pub saw_asked : (m : ClientMessage) (k : ℕ) → awaits m ≡ true → IsNext session.asked k → Saw (sent ++ m ∷ []) came (record { asked = k; readied = session.readied; status = session.status })
+module _ (sent : List AnyMessage) (came : List Message) (session : Session) (saw : Saw sent came session) where
+  pub saw_asked : (m : AnyMessage) (k : ℕ) → awaits m ≡ true → IsNext session.asked k → Saw (sent ++ m ∷ []) came (record { asked = k; readied = session.readied; status = session.status })
   saw_asked m k awaited next =
       let more : asks (sent ++ m ∷ []) ≡ asks sent + 1 = asks_more sent m ∙ ap (λ (b : Bool). asks sent + (if b then 1 else 0)) awaited in
       record { asked = one_more session.asked k (asks sent) (asks (sent ++ m ∷ [])) saw.asked more next; readied = saw.readied; status = saw.status }
 
-  pub saw_sent : (m : ClientMessage) → awaits m ≡ false → Saw (sent ++ m ∷ []) came session
+  pub saw_sent : (m : AnyMessage) → awaits m ≡ false → Saw (sent ++ m ∷ []) came session
   saw_sent m other =
       let same : asks (sent ++ m ∷ []) ≡ asks sent + 0 = asks_more sent m ∙ ap (λ (b : Bool). asks sent + (if b then 1 else 0)) other in
       record { asked = same_count session.asked (asks sent) (asks (sent ++ m ∷ [])) saw.asked (omega (arith, same)); readied = saw.readied; status = saw.status }
@@ -73,13 +73,13 @@ has_count : (n count : ℕ) → IsCount n count → count < 18446744073709551615
 has_count n count (inl is) low = is.0
 has_count n count (inr is) low = absurd (omega (arith, is.1, low))
 
-pub quiet_is_idle : (sent : List ClientMessage) (came : List Message) (session : Session) (client server : List ℕ) → Saw sent came session → IsQuiet session client server → IsIdle sent came
+pub quiet_is_idle : (sent : List AnyMessage) (came : List Message) (session : Session) (client server : List ℕ) → Saw sent came session → IsQuiet session client server → IsIdle sent came
 quiet_is_idle sent came session client server saw quiet =
     let asked = is_count session.asked (asks sent) saw.asked quiet.counted in
     let readied = is_count session.readied (readies came) saw.readied (omega (arith, quiet.counted, quiet.answered)) in
     record { answered = omega (arith, asked, readied, quiet.answered); idle = sym saw.status ∙ quiet.idle }
 
-pub idle_is_quiet : (sent : List ClientMessage) (came : List Message) (session : Session) → Saw sent came session → IsIdle sent came → asks sent < 18446744073709551615 → IsQuiet session [] []
+pub idle_is_quiet : (sent : List AnyMessage) (came : List Message) (session : Session) → Saw sent came session → IsIdle sent came → asks sent < 18446744073709551615 → IsQuiet session [] []
 idle_is_quiet sent came session saw idle low =
     let asked = has_count session.asked (asks sent) saw.asked low in
     let readied = has_count session.readied (readies came) saw.readied (omega (arith, idle.answered, low)) in

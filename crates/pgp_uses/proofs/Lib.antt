@@ -9,5 +9,6 @@ pub mod Lists
 pub mod Mechanisms
 pub mod Passed
 pub mod Places
+pub mod Proxied
 pub mod Written
 mod Room

@@ -1,20 +1,23 @@
 -- When a session is idle, told by what both sides sent.
-use Rattle.std.specs.Prelude.{◌≡◌, ◌⊎◌, ℕ, ◌+◌, ◌<◌, ◌≤◌, Bool, true, false, List, [], ◌∷◌, ◌++◌, Option, Some, None, if◌then◌else◌}
-use Rattle.pgp_frontend.specs.ClientMessage.{ClientMessage, Query, Sync, Startup}
+use Rattle.std.specs.Prelude.{◌≡◌, ◌⊎◌, ℕ, ◌+◌, ◌<◌, ◌≤◌, Bool, true, false, List, [], ◌∷◌, Option, Some, None, if◌then◌else◌}
+use Rattle.pgp_frontend.specs.ClientMessage.{Query, Sync, Startup}
 use Rattle.pgp_message.specs.BackendMessage.{Message, ReadyForQuery}
+use Rattle.pgp_server.specs.OtherMessage.{AnyMessage, Ours, Other, FunctionCall, StartupOther}
 use Rattle.pgp_uses.specs.declared.pooler.Session.{Session}
 
 -- The server says in the end that it is ready, whatever comes of the message.
-abbrev pub awaits : ClientMessage → Bool
-awaits (Startup version parameters) = true
-awaits (Query text) = true
-awaits Sync = true
-awaits m = false
+abbrev pub awaits : AnyMessage → Bool
+awaits (Ours (Startup version parameters)) = true
+awaits (Ours (Query text)) = true
+awaits (Ours Sync) = true
+awaits (Other (StartupOther minor parameters)) = true
+awaits (Other (FunctionCall function formats arguments result_format)) = true
+awaits x = false
 
 -- how many of the client's messages await that
-abbrev pub asks : List ClientMessage → ℕ
+abbrev pub asks : List AnyMessage → ℕ
 asks [] = 0
-asks (m ∷ sent) = (if awaits m then 1 else 0) + asks sent
+asks (x ∷ sent) = (if awaits x then 1 else 0) + asks sent
 
 -- the status that a message tells: that of a ReadyForQuery
 abbrev pub status : Message → Option ℕ
@@ -40,7 +43,7 @@ last_status before [] = before
 last_status before (m ∷ came) = last_status (newer before (status m)) came
 
 -- All that the client sent is answered, and the server is in no transaction.
-pub record IsIdle (sent : List ClientMessage) (came : List Message) : Type 0 where
+pub record IsIdle (sent : List AnyMessage) (came : List Message) : Type 0 where
   pub answered : asks sent ≡ readies came
   pub idle : last_status None came ≡ Some 73
 
@@ -49,7 +52,7 @@ abbrev pub IsCount : ℕ → ℕ → Type 0
 IsCount n count = ((n ≡ count) × (count < 18446744073709551615)) ⊎ ((n ≡ 18446744073709551615) × (18446744073709551615 ≤ count))
 
 -- what is known of a session by these messages of both sides
-pub record Saw (sent : List ClientMessage) (came : List Message) (session : Session) : Type 0 where
+pub record Saw (sent : List AnyMessage) (came : List Message) (session : Session) : Type 0 where
   pub asked : IsCount session.asked (asks sent)
   pub readied : IsCount session.readied (readies came)
   pub status : session.status ≡ last_status None came

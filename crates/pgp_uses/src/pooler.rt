@@ -3,18 +3,19 @@
 
 ghost use Rattle.std.specs.Prelude.{◌≡◌, ◌<◌, ◌∷◌, ◌++◌, [], None, List, ℕ};
 ghost use Rattle.std.specs.Bool.{Decides};
-ghost use Rattle.pgp_frontend.specs.ClientMessage.{ClientMessage as Sent};
+ghost use Rattle.pgp_server.specs.OtherMessage.{AnyMessage as Sent, Other, Ours};
 ghost use Rattle.pgp_message.specs.BackendMessage.{Message as Came};
 ghost use Rattle.pgp_message.specs.Views.{view as came_view};
-ghost use Rattle.pgp_server.specs.Views.{view as sent_view};
+ghost use Rattle.pgp_server.specs.AnyViews.{any_view as sent_view, other_view};
+ghost use Rattle.pgp_server.specs.Views.{view};
 ghost use Rattle.pgp_uses.specs.Pooler.{IsIdle, IsQuiet, Saw, asks, awaits, readies, status};
 ghost use Rattle.pgp_uses.specs.declared.pooler.Session.{Session as Known};
 
 use pgp_message::Storage;
 use postgres_protocol::message::backend::Message;
-use postgres_protocol::message::client::ClientMessage;
+use postgres_protocol::message::client::{AnyMessage, ClientMessage, OtherMessage};
 
-/// What is known of a session. A startup packet, a Query and a Sync are each answered by one ReadyForQuery in the end.
+/// What is known of a session. A startup packet, a Query, a FunctionCall and a Sync are each answered by one ReadyForQuery in the end.
 #[derive(Debug, Clone, Copy, PartialEq, Eq)]
 pub struct Session {
     /// How many of those came from the client, or the greatest `u64` where there were more.
@@ -38,7 +39,7 @@ impl Session {
     }
 
     /// Takes note of a message that the client sent.
-    pub fn sent(&mut self, message: &ClientMessage<'_>)
+    pub fn sent(&mut self, message: &AnyMessage<'_>)
         ensures { (sent : List Sent) (came : List Came) → Saw sent came self.old → Saw (sent ++ sent_view message.now ∷ []) came self.new }
     {
         if awaits(message) {
@@ -77,11 +78,29 @@ pub fn idle_by_messages()
 {}
 
 /// Whether the server says in the end that it is ready.
-fn awaits(message: &ClientMessage<'_>) -> bool
+fn awaits(message: &AnyMessage<'_>) -> bool
     ensures { result ≡ awaits (sent_view message.now) }
 {
     match message {
+        AnyMessage::Ours(message) => ours_awaits(message),
+        AnyMessage::Other(message) => other_awaits(message),
+    }
+}
+
+fn ours_awaits(message: &ClientMessage<'_>) -> bool
+    ensures { result ≡ awaits (Ours (view message.now)) }
+{
+    match message {
         ClientMessage::Startup { .. } | ClientMessage::Query(_) | ClientMessage::Sync => true,
+        _ => false,
+    }
+}
+
+fn other_awaits(message: &OtherMessage<'_>) -> bool
+    ensures { result ≡ awaits (Other (other_view message.now)) }
+{
+    match message {
+        OtherMessage::StartupOther { .. } | OtherMessage::FunctionCall { .. } => true,
         _ => false,
     }
 }

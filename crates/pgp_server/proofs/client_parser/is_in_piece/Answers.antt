@@ -1,5 +1,5 @@
 use Rattle.std.proofs.Common.{◌≡◌, [], ◌++◌, rules, arith, length, subst}
-use Rattle.pgp_server.specs.Holding.{IsWanted, StandsInPiece, is_whole}
+use Rattle.pgp_server.specs.Holding.{IsWanted, is_whole}
 use Rattle.std.proofs.lemmas.Bool.Decides.{nat_tests}
 use Rattle.pgp_server.proofs.Handing.{none_left}
 use Rattle.pgp_server.proofs.Holdings.{piece_done}

@@ -1,6 +1,5 @@
-use Rattle.std.proofs.Common.{◌≡◌, ◌≤◌, ◌<◌, ◌+◌, ◌++◌, ℕ, List, length, refl, sym, arith, inl, inr, length-append}
+use Rattle.std.proofs.Common.{◌≤◌, ◌<◌, ◌++◌, ℕ, List, length, refl, arith, inl, inr, length-append}
 use Rattle.pgp_base.specs.Wire.{IsBytes}
-use Rattle.pgp_server.specs.Step.{BeginsWithLength}
 use Rattle.pgp_server.specs.Holding.{header}
 use Rattle.pgp_server.proofs.Fronts.{length_there, fault_there}
 use Rattle.pgp_server.proofs.Headers.{short_within, low_within}

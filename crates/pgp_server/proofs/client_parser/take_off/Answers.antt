@@ -1,11 +1,11 @@
-use Rattle.std.proofs.Common.{◌≡◌, ◌++◌, take, rules, sym, ap, ◌∙◌, Err}
+use Rattle.std.proofs.Common.{◌≡◌, ◌++◌, take, rules, ap, ◌∙◌, Err}
 use Rattle.std.proofs.lemmas.List.{take-append-drop}
 use Rattle.pgp_server.specs.Holding.{Opens}
 use Rattle.pgp_server.proofs.Holdings.{front_size, front_refused}
 use Rattle.pgp_server.proofs.client_parser.take_off.Goals as goal
 
-pub hand_out-requires : goal.hand_out-requires
-hand_out-requires c = front_size c.args.opened.now c.args.piece.now.now c.split_at.result.0.now c.args.size c.requires.size c.requires.all c.split_at.ensures.front
+pub phase_behind-requires : goal.phase_behind-requires
+phase_behind-requires c = front_size c.args.opened.now c.args.piece.now.now c.split_at.result.0.now c.args.size c.requires.size c.requires.all c.split_at.ensures.front
 
 pub returns-in-Err : goal.returns-in-Err
 returns-in-Err c =

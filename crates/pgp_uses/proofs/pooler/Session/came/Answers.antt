@@ -1,4 +1,4 @@
-use Rattle.std.proofs.Common.{rules, ◌≡◌, ◌∙◌, ◌+◌, ◌<◌, ◌≤◌, Some, None, arith, sym}
+use Rattle.std.proofs.Common.{rules, ◌≡◌, Some, None, arith}
 use Rattle.pgp_message.specs.Views.{view}
 use Rattle.pgp_uses.specs.Pooler.{status}
 use Rattle.pgp_uses.proofs.Counted.{IsNext, saw_ready, saw_came}
