@@ -1,0 +1,114 @@
+-- What the line of each message says behind its name. PostgreSQL manual, "Message Formats".
+use Rattle.std.specs.Prelude.{◌≡◌, ◌⊎◌, ℕ, pos, List, [], ◌∷◌, ◌++◌, length, Option, Some, None, codes}
+use Rattle.std.specs.Str.{IsUtf8}
+use Rattle.std.specs.declared.ops.Range.{Range}
+use Rattle.pgp_base.specs.Error.{number_of}
+use Rattle.pgp_base.specs.declared.error.Error.{Error}
+use Rattle.pgp_base.specs.Items.{CountedItems, MarkedItems}
+use Rattle.pgp_message.specs.BackendMessage.{AuthenticationOk, AuthenticationKerberosV5, AuthenticationCleartextPassword, AuthenticationMd5Password, AuthenticationScmCredential, AuthenticationGss, AuthenticationGssContinue, AuthenticationSspi, AuthenticationSasl, AuthenticationSaslContinue, AuthenticationSaslFinal, Message, ParseComplete, BindComplete, CloseComplete, NotificationResponse, CommandComplete, DataRow, ErrorResponse, CopyInResponse, CopyOutResponse, EmptyQueryResponse, BackendKeyData, NegotiateProtocolVersion, NoticeResponse, Authentication, ParameterStatus, RowDescription, ReadyForQuery, CopyDone, CopyData, NoData, PortalSuspended, ParameterDescription, payload_of}
+use Rattle.pgp_message.specs.Items.{TextSpelled, TextRefused, FormatSpelled, FormatRefused, TypeSpelled, TypeRefused, RangeSpelled, RangeRefused, FieldPart, FieldSpelled, FieldRefused, ErrorPart, ErrorFieldSpelled, ErrorFieldRefused}
+use Rattle.pgp_message.specs.Parts.{CopyFormats}
+use Rattle.pgp_message.specs.Table.{value_at}
+use Rattle.pgtrace.specs.Line.{Part, Word, Number, Tag, Text, Value, Hidden, followed}
+use Rattle.pgtrace.specs.Names.{refusal_of, field_of, state_of}
+
+-- a refusal
+abbrev pub fault : Error → List Part
+fault e = Word (codes "fault") ∷ Number (pos (number_of e)) ∷ Word (refusal_of e) ∷ []
+
+-- the end of a list: nothing, or why it breaks off
+abbrev pub ending : Option Error → List Part
+ending None = []
+ending (Some e) = fault e
+
+-- the parts of each item, and these behind them
+abbrev pub each_then : {X : Type 0} → (X → List Part) → List X → List Part → List Part
+each_then parts [] more = more
+each_then parts (x ∷ xs) more = parts x ++ each_then parts xs more
+
+abbrev pub list_of : {X : Type 0} → (X → List Part) → List X → Option Error → List Part
+list_of parts items end = each_then parts items (ending end)
+
+-- what is known by a name, or else the byte
+abbrev pub named_or : Option (List ℕ) → ℕ → Part
+named_or (Some name) byte = Word name
+named_or None byte = Tag byte
+
+abbrev pub text_part : List ℕ → List Part
+text_part text = Text text ∷ []
+
+abbrev pub number_part : ℕ → List Part
+number_part n = Number (pos n) ∷ []
+
+abbrev pub value_part : List ℕ → Option (Range ℕ) → List Part
+value_part buffer place = Value (value_at buffer place) ∷ []
+
+abbrev pub field_parts : ErrorPart → List Part
+field_parts field = named_or (field_of field.code) field.code ∷ Text field.value ∷ []
+
+abbrev pub column_parts : FieldPart → List Part
+column_parts column =
+    Text column.name
+    ∷ Word (codes "table") ∷ Number (pos column.table_oid)
+    ∷ Word (codes "column") ∷ Number column.column_id
+    ∷ Word (codes "type") ∷ Number (pos column.type_oid)
+    ∷ Word (codes "size") ∷ Number column.type_size
+    ∷ Word (codes "modifier") ∷ Number column.type_modifier
+    ∷ Word (codes "format") ∷ Number column.format ∷ []
+
+-- Lines before and after a list that is announced with a count, or that a byte 0 ends, where `parts` are those of an item.
+pub record ShowsCounted {V : Type 0} (Spelled : ℕ → V → List ℕ → Type 0) (Refused : List ℕ → Error → Type 0) (parts : V → List Part) (limit count : ℕ) (bytes old new : List ℕ) : Type 0 where
+  pub items : List V
+  pub end : Option Error
+  pub list : CountedItems Spelled Refused count bytes items end
+  pub text : new ≡ followed limit old (Number (pos count) ∷ list_of parts items end)
+
+pub record ShowsMarked {V : Type 0} (Spelled : ℕ → V → List ℕ → Type 0) (Refused : List ℕ → Error → Type 0) (parts : V → List Part) (limit : ℕ) (bytes old new : List ℕ) : Type 0 where
+  pub items : List V
+  pub end : Option Error
+  pub list : MarkedItems Spelled Refused bytes items end
+  pub text : new ≡ followed limit old (list_of parts items end)
+
+-- the bytes of a body as they are
+abbrev pub bare : List ℕ → List Part
+bare body = Word (codes "bytes") ∷ Text body ∷ []
+
+-- the line goes on with these parts, where the texts in them are UTF-8, and else with the bytes of the body
+abbrev pub ShowsTexts : ℕ → Type 0 → List Part → List ℕ → List ℕ → List ℕ → Type 0
+ShowsTexts limit utf8 parts body old new =
+    (utf8 × (new ≡ followed limit old parts))
+    ⊎ ((¬ utf8) × (new ≡ followed limit old (bare body)))
+
+abbrev pub ShowsFormats : ℕ → CopyFormats → List ℕ → List ℕ → Type 0
+ShowsFormats limit copy old new =
+    ShowsCounted FormatSpelled FormatRefused number_part limit copy.count copy.storage
+    (followed limit old (Word (codes "format") ∷ Number (pos copy.format) ∷ Word (codes "columns") ∷ [])) new
+
+-- The line of a message before and after what it says behind its name. Of passwords' salts, of the texts of a SASL exchange and of keys the
+-- length alone is told.
+abbrev pub Shows : ℕ → Message → List ℕ → List ℕ → Type 0
+Shows limit (Authentication (AuthenticationMd5Password salt)) old new = new ≡ followed limit old (Word (codes "salt") ∷ Hidden (length salt) ∷ [])
+Shows limit (Authentication (AuthenticationGssContinue bytes)) old new = new ≡ followed limit old (Word (codes "data") ∷ Hidden (length bytes) ∷ [])
+Shows limit (Authentication (AuthenticationSasl bytes)) old new = ShowsMarked TextSpelled TextRefused text_part limit bytes (followed limit old (Word (codes "mechanisms") ∷ [])) new
+Shows limit (Authentication (AuthenticationSaslContinue bytes)) old new = new ≡ followed limit old (Word (codes "data") ∷ Hidden (length bytes) ∷ [])
+Shows limit (Authentication (AuthenticationSaslFinal bytes)) old new = new ≡ followed limit old (Word (codes "data") ∷ Hidden (length bytes) ∷ [])
+Shows limit (NotificationResponse n) old new = ShowsTexts limit (IsUtf8 n.channel × IsUtf8 n.message)
+    (Word (codes "process") ∷ Number n.process_id ∷ Word (codes "channel") ∷ Text n.channel ∷ Word (codes "payload") ∷ Text n.message ∷ [])
+    (payload_of (NotificationResponse n)) old new
+Shows limit (CommandComplete tag) old new = ShowsTexts limit (IsUtf8 tag) (Word (codes "tag") ∷ Text tag ∷ []) (payload_of (CommandComplete tag)) old new
+Shows limit (DataRow row) old new = ShowsCounted RangeSpelled RangeRefused (value_part row.storage) limit row.count row.storage (followed limit old (Word (codes "values") ∷ [])) new
+Shows limit (ErrorResponse bytes) old new = ShowsMarked ErrorFieldSpelled ErrorFieldRefused field_parts limit bytes old new
+Shows limit (CopyInResponse copy) old new = ShowsFormats limit copy old new
+Shows limit (CopyOutResponse copy) old new = ShowsFormats limit copy old new
+Shows limit (BackendKeyData key) old new = new ≡ followed limit old (Word (codes "process") ∷ Number key.process_id ∷ Word (codes "key") ∷ Hidden (length key.secret_key) ∷ [])
+Shows limit (NegotiateProtocolVersion n) old new = ShowsCounted TextSpelled TextRefused text_part limit n.count n.options
+    (followed limit old (Word (codes "version") ∷ Number n.version ∷ Word (codes "options") ∷ [])) new
+Shows limit (NoticeResponse bytes) old new = ShowsMarked ErrorFieldSpelled ErrorFieldRefused field_parts limit bytes old new
+Shows limit (ParameterStatus setting) old new = ShowsTexts limit (IsUtf8 setting.name × IsUtf8 setting.value)
+    (Word (codes "name") ∷ Text setting.name ∷ Word (codes "value") ∷ Text setting.value ∷ [])
+    (payload_of (ParameterStatus setting)) old new
+Shows limit (RowDescription row) old new = ShowsCounted FieldSpelled FieldRefused column_parts limit row.count row.storage (followed limit old (Word (codes "columns") ∷ [])) new
+Shows limit (ReadyForQuery status) old new = new ≡ followed limit old (named_or (state_of status) status ∷ [])
+Shows limit (CopyData bytes) old new = new ≡ followed limit old (Word (codes "data") ∷ Value (Some bytes) ∷ [])
+Shows limit (ParameterDescription row) old new = ShowsCounted TypeSpelled TypeRefused number_part limit row.count row.storage (followed limit old (Word (codes "types") ∷ [])) new
+Shows limit m old new = new ≡ old

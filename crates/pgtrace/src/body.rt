@@ -1,0 +1,298 @@
+//! What the line of a message says behind its name.
+
+ghost use Rattle.std.specs.Prelude.{◌≡◌, ◌∷◌, [], pos, Some, OnErr, OnOk, codes, string_bytes};
+ghost use Rattle.pgp_base.specs.Walk.{hint_of};
+ghost use Rattle.pgp_message.specs.BackendMessage.{payload_of, Authentication, AuthenticationSasl, NotificationResponse, CommandComplete, DataRow, BackendKeyData, NegotiateProtocolVersion, ParameterStatus, RowDescription, ParameterDescription};
+ghost use Rattle.pgp_message.specs.Views.{view};
+ghost use Rattle.pgtrace.specs.Line.{Word, Number, Text, Value, Hidden, followed};
+ghost use Rattle.pgtrace.specs.Shown.{Shows, bare, list_of, number_part};
+
+use crate::line::{put_hidden, put_number, put_signed, put_some, put_text, put_word};
+use crate::lists::{
+    put_columns, put_fields, put_formats, put_mechanisms, put_named, put_options, put_types,
+    put_values,
+};
+use crate::names::state_of;
+use pgp_base::{FallibleIterator, Memory};
+use postgres_protocol::message::backend::{
+    AuthenticationSaslBody, BackendKeyDataBody, ColumnFormats, CommandCompleteBody, DataRowBody,
+    Message, NegotiateProtocolVersionBody, NotificationResponseBody, ParameterDescriptionBody,
+    ParameterStatusBody, RowDescriptionBody,
+};
+use std::alloc::AllocError;
+
+/// Adds what the message says, whose body these bytes are.
+pub fn put_message<A: Memory>(
+    limit: usize,
+    message: &Message<&[u8]>,
+    body: &[u8],
+    line: &mut String<A>,
+) -> Result<(), AllocError>
+    requires { body.now ≡ payload_of (view message.now) }
+    ensures says { OnOk result (Shows limit (view message.now) (string_bytes line.old) (string_bytes line.new)) }
+    ensures lacks { OnErr result A.Lacks }
+{
+    match message {
+        Message::AuthenticationMd5Password(_) => put_secret(limit, "salt", 4, line),
+        Message::AuthenticationGssContinue(token) => {
+            put_secret(limit, "data", token.data().len(), line)
+        }
+        Message::AuthenticationSasl(offer) => put_offer(limit, offer, line),
+        Message::AuthenticationSaslContinue(text) => {
+            put_secret(limit, "data", text.data().len(), line)
+        }
+        Message::AuthenticationSaslFinal(text) => {
+            put_secret(limit, "data", text.data().len(), line)
+        }
+        Message::BackendKeyData(key) => put_key(limit, key, line),
+        Message::CommandComplete(command) => put_command(limit, command, body, line),
+        Message::CopyData(copy) => put_copied(limit, copy.data(), line),
+        Message::CopyInResponse(copy) => {
+            put_copy(limit, copy.format(), copy.column_formats(), line)
+        }
+        Message::CopyOutResponse(copy) => {
+            put_copy(limit, copy.format(), copy.column_formats(), line)
+        }
+        Message::DataRow(row) => put_row(limit, row, line),
+        Message::ErrorResponse(error) => put_fields(limit, error.fields(), line),
+        Message::NegotiateProtocolVersion(answer) => put_versions(limit, answer, line),
+        Message::NoticeResponse(notice) => put_fields(limit, notice.fields(), line),
+        Message::NotificationResponse(news) => put_news(limit, news, body, line),
+        Message::ParameterDescription(types) => put_parameters(limit, types, line),
+        Message::ParameterStatus(setting) => put_setting(limit, setting, body, line),
+        Message::ReadyForQuery(ready) => {
+            let status = ready.status();
+            put_named(limit, state_of(status), status, line)
+        }
+        Message::RowDescription(row) => put_description(limit, row, line),
+        Message::AuthenticationCleartextPassword
+        | Message::AuthenticationGss
+        | Message::AuthenticationKerberosV5
+        | Message::AuthenticationOk
+        | Message::AuthenticationScmCredential
+        | Message::AuthenticationSspi
+        | Message::BindComplete
+        | Message::CloseComplete
+        | Message::CopyDone
+        | Message::EmptyQueryResponse
+        | Message::NoData
+        | Message::ParseComplete
+        | Message::PortalSuspended => Ok(()),
+    }
+}
+
+/// Adds a secret's name and length.
+fn put_secret<A: Memory>(
+    limit: usize,
+    name: &str,
+    len: usize,
+    line: &mut String<A>,
+) -> Result<(), AllocError>
+    ensures parts { OnOk result (string_bytes line.new ≡ followed limit (string_bytes line.old) (Word name.now ∷ Hidden len ∷ [])) }
+    ensures lacks { OnErr result A.Lacks }
+{
+    put_word(limit, name, line)?;
+    put_hidden(limit, len, line)
+}
+
+/// Adds the mechanisms that a server offers.
+fn put_offer<A: Memory>(
+    limit: usize,
+    offer: &AuthenticationSaslBody<&[u8]>,
+    line: &mut String<A>,
+) -> Result<(), AllocError>
+    ensures says { OnOk result (Shows limit (Authentication (AuthenticationSasl offer.now)) (string_bytes line.old) (string_bytes line.new)) }
+    ensures lacks { OnErr result A.Lacks }
+{
+    put_word(limit, "mechanisms", line)?;
+    put_mechanisms(limit, offer.mechanisms(), line)
+}
+
+/// Adds the process that a cancel request names, and how long its key is.
+fn put_key<A: Memory>(
+    limit: usize,
+    key: &BackendKeyDataBody<&[u8]>,
+    line: &mut String<A>,
+) -> Result<(), AllocError>
+    ensures says { OnOk result (Shows limit (BackendKeyData key.now) (string_bytes line.old) (string_bytes line.new)) }
+    ensures lacks { OnErr result A.Lacks }
+{
+    put_word(limit, "process", line)?;
+    put_signed(limit, key.process_id(), line)?;
+    put_word(limit, "key", line)?;
+    put_hidden(limit, key.secret_key_bytes().len(), line)
+}
+
+/// Adds the bytes of a body as they are.
+fn put_bare<A: Memory>(limit: usize, body: &[u8], line: &mut String<A>) -> Result<(), AllocError>
+    ensures parts { OnOk result (string_bytes line.new ≡ followed limit (string_bytes line.old) (bare body.now)) }
+    ensures lacks { OnErr result A.Lacks }
+{
+    put_word(limit, "bytes", line)?;
+    put_text(limit, body, line)
+}
+
+/// Adds a text with its name.
+fn put_named_text<A: Memory>(
+    limit: usize,
+    name: &str,
+    text: &str,
+    line: &mut String<A>,
+) -> Result<(), AllocError>
+    ensures parts { OnOk result (string_bytes line.new ≡ followed limit (string_bytes line.old) (Word name.now ∷ Text text.now ∷ [])) }
+    ensures lacks { OnErr result A.Lacks }
+{
+    put_word(limit, name, line)?;
+    put_text(limit, text.as_bytes(), line)
+}
+
+/// Adds the tag of a command that is complete.
+fn put_command<A: Memory>(
+    limit: usize,
+    command: &CommandCompleteBody<&[u8]>,
+    body: &[u8],
+    line: &mut String<A>,
+) -> Result<(), AllocError>
+    requires { body.now ≡ payload_of (CommandComplete command.now) }
+    ensures says { OnOk result (Shows limit (CommandComplete command.now) (string_bytes line.old) (string_bytes line.new)) }
+    ensures lacks { OnErr result A.Lacks }
+{
+    match command.tag() {
+        Ok(tag) => put_named_text(limit, "tag", tag, line),
+        Err(_) => put_bare(limit, body, line),
+    }
+}
+
+/// Adds a parameter of the session.
+fn put_setting<A: Memory>(
+    limit: usize,
+    setting: &ParameterStatusBody<&[u8]>,
+    body: &[u8],
+    line: &mut String<A>,
+) -> Result<(), AllocError>
+    requires { body.now ≡ payload_of (ParameterStatus setting.now) }
+    ensures says { OnOk result (Shows limit (ParameterStatus setting.now) (string_bytes line.old) (string_bytes line.new)) }
+    ensures lacks { OnErr result A.Lacks }
+{
+    let Ok(name) = setting.name() else {
+        return put_bare(limit, body, line);
+    };
+    let Ok(value) = setting.value() else {
+        return put_bare(limit, body, line);
+    };
+    put_named_text(limit, "name", name, line)?;
+    put_named_text(limit, "value", value, line)
+}
+
+/// Adds a notification.
+fn put_news<A: Memory>(
+    limit: usize,
+    news: &NotificationResponseBody<&[u8]>,
+    body: &[u8],
+    line: &mut String<A>,
+) -> Result<(), AllocError>
+    requires { body.now ≡ payload_of (NotificationResponse news.now) }
+    ensures says { OnOk result (Shows limit (NotificationResponse news.now) (string_bytes line.old) (string_bytes line.new)) }
+    ensures lacks { OnErr result A.Lacks }
+{
+    let Ok(channel) = news.channel() else {
+        return put_bare(limit, body, line);
+    };
+    let Ok(message) = news.message() else {
+        return put_bare(limit, body, line);
+    };
+    put_word(limit, "process", line)?;
+    put_signed(limit, news.process_id(), line)?;
+    put_named_text(limit, "channel", channel, line)?;
+    put_named_text(limit, "payload", message, line)
+}
+
+/// Adds data of a copy.
+fn put_copied<A: Memory>(limit: usize, data: &[u8], line: &mut String<A>) -> Result<(), AllocError>
+    ensures parts { OnOk result (string_bytes line.new ≡ followed limit (string_bytes line.old) (Word (codes "data") ∷ Value (Some data.now) ∷ [])) }
+    ensures lacks { OnErr result A.Lacks }
+{
+    put_word(limit, "data", line)?;
+    put_some(limit, data, line)
+}
+
+/// Adds the format of a copy, and those of its columns.
+fn put_copy<A: Memory>(
+    limit: usize,
+    format: u8,
+    formats: ColumnFormats<'_>,
+    line: &mut String<A>,
+) -> Result<(), AllocError>
+    ensures parts { OnOk result (string_bytes line.new ≡ followed limit (string_bytes line.old)
+        (Word (codes "format") ∷ Number (pos format) ∷ Word (codes "columns") ∷ Number (pos (hint_of formats.announced).0)
+        ∷ list_of number_part formats.items formats.end)) }
+    ensures lacks { OnErr result A.Lacks }
+{
+    put_word(limit, "format", line)?;
+    put_number(limit, format as u64, line)?;
+    put_word(limit, "columns", line)?;
+    put_number(limit, formats.size_hint().0 as u64, line)?;
+    put_formats(limit, formats, line)
+}
+
+/// Adds a row.
+fn put_row<A: Memory>(
+    limit: usize,
+    row: &DataRowBody<&[u8]>,
+    line: &mut String<A>,
+) -> Result<(), AllocError>
+    ensures says { OnOk result (Shows limit (DataRow row.now) (string_bytes line.old) (string_bytes line.new)) }
+    ensures lacks { OnErr result A.Lacks }
+{
+    let places = row.ranges();
+    put_word(limit, "values", line)?;
+    put_number(limit, places.size_hint().0 as u64, line)?;
+    put_values(limit, row.buffer(), places, line)
+}
+
+/// Adds an answer about versions.
+fn put_versions<A: Memory>(
+    limit: usize,
+    answer: &NegotiateProtocolVersionBody<&[u8]>,
+    line: &mut String<A>,
+) -> Result<(), AllocError>
+    ensures says { OnOk result (Shows limit (NegotiateProtocolVersion answer.now) (string_bytes line.old) (string_bytes line.new)) }
+    ensures lacks { OnErr result A.Lacks }
+{
+    let options = answer.options();
+    put_word(limit, "version", line)?;
+    put_signed(limit, answer.version(), line)?;
+    put_word(limit, "options", line)?;
+    put_number(limit, options.size_hint().0 as u64, line)?;
+    put_options(limit, options, line)
+}
+
+/// Adds the types of parameters.
+fn put_parameters<A: Memory>(
+    limit: usize,
+    description: &ParameterDescriptionBody<&[u8]>,
+    line: &mut String<A>,
+) -> Result<(), AllocError>
+    ensures says { OnOk result (Shows limit (ParameterDescription description.now) (string_bytes line.old) (string_bytes line.new)) }
+    ensures lacks { OnErr result A.Lacks }
+{
+    let types = description.parameters();
+    put_word(limit, "types", line)?;
+    put_number(limit, types.size_hint().0 as u64, line)?;
+    put_types(limit, types, line)
+}
+
+/// Adds the description of a row.
+fn put_description<A: Memory>(
+    limit: usize,
+    description: &RowDescriptionBody<&[u8]>,
+    line: &mut String<A>,
+) -> Result<(), AllocError>
+    ensures says { OnOk result (Shows limit (RowDescription description.now) (string_bytes line.old) (string_bytes line.new)) }
+    ensures lacks { OnErr result A.Lacks }
+{
+    let columns = description.fields();
+    put_word(limit, "columns", line)?;
+    put_number(limit, columns.size_hint().0 as u64, line)?;
+    put_columns(limit, columns, line)
+}
