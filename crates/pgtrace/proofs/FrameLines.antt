@@ -49,22 +49,20 @@ message_told limit place bytes m is begins named said line b n shows e =
       };
     }
 
-pub fault_told : (limit place : ℕ) (bytes : List ℕ) (r : Error) (is : IsFrameOf bytes (Err r)) (begins said line : List ℕ)
-    → begins ≡ begun limit place bytes → said ≡ followed limit begins (fault r) → line ≡ said ++ 10 ∷ [] → HasLine limit place bytes [] line
-fault_told limit place bytes r is begins said line b f e =
-    let head = b ∙ begun_is limit place is.first bytes is.whole in
-    record {
-      first = is.first;
-      whole = is.whole ∙ sym (append-nil (frame_bytes is.first));
-      fits = is.fits;
-      line = record {
-        result = Err r;
-        body = is.body;
-        text = said;
-        told = f ∙ ap (λ l. followed limit l (fault r)) head;
-        ended = e;
-      };
-    }
+pub fault_told : (limit place : ℕ) (bytes : List ℕ) (r : Error) (is : IsFrameOf bytes (Err r)) (line : List ℕ)
+    → line ≡ followed limit (begun limit place bytes) (fault r) ++ 10 ∷ [] → HasLine limit place bytes [] line
+fault_told limit place bytes r is line e = record {
+  first = is.first;
+  whole = is.whole ∙ sym (append-nil (frame_bytes is.first));
+  fits = is.fits;
+  line = record {
+    result = Err r;
+    body = is.body;
+    text = followed limit (begun limit place bytes) (fault r);
+    told = ap (λ l. followed limit l (fault r)) (begun_is limit place is.first bytes is.whole);
+    ended = e;
+  };
+}
 
 -- the bytes before the rest are the frame that was taken
 pub taken_frame : (old new : List ℕ) (r : Result Message Error) → TakesFrame old r new → IsFrameOf (take (length old - length new) old) r

@@ -15,7 +15,7 @@ pub item_more : {V : Type 0} (limit : ℕ) (parts : V → List Part) (old new al
     → followed limit old (list_of parts before.items before.end) ≡ all → TakesItem before x after → new ≡ followed limit old (parts x) → followed limit new (list_of parts after.items after.end) ≡ all
 item_more limit parts old new all before after x so_far takes grown =
     let items : list_of parts before.items before.end ≡ parts x ++ list_of parts after.items after.end =
-        ap (λ l. list_of parts l before.end) takes.items ∙ ap (λ e. parts x ++ list_of parts after.items e) (sym takes.end) in
+    ap (λ l. list_of parts l before.end) takes.items ∙ ap (λ e. parts x ++ list_of parts after.items e) (sym takes.end) in
     ap (λ l. followed limit l (list_of parts after.items after.end)) grown
     ∙ sym (followed_join limit old (parts x) (list_of parts after.items after.end)) ∙ ap (followed limit old) (sym items) ∙ so_far
 

@@ -3,4 +3,7 @@ pub mod Fronts
 pub mod Items
 pub mod FrameLines
 pub mod Traces
+pub mod Quotes
+pub mod Printable
+pub mod Hiding
 pub mod WordLemmas

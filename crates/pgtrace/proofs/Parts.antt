@@ -40,9 +40,9 @@ below a b m le =
 
 pub saturates : (a b m : ℕ) → min (min a m + b) m ≡ min (a + b) m
 saturates a b m = elim (cases_order a m) [
-      | inl e ↦ at_most a b m (omega (arith, e))
-      | inr h ↦ elim h [
-          | inl l ↦ below a b m (omega (arith, l))
-          | inr g ↦ at_most a b m (omega (arith, g))
-        ]
-    ]
+  | inl e ↦ at_most a b m (omega (arith, e))
+  | inr h ↦ elim h [
+    | inl l ↦ below a b m (omega (arith, l))
+    | inr g ↦ at_most a b m (omega (arith, g))
+  ]
+]

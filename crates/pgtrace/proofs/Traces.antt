@@ -26,7 +26,7 @@ lines_join limit a lines first [] [] NoLines = subst (λ l. Lines limit 0 l (lin
 lines_join limit a lines first _ _ (OneLine {bytes = b} {lines = more} f line before fits has) =
     subst (λ l. Lines limit 0 l (lines ++ (more ++ line))) (append_assoc a b (frame_bytes f))
     (subst (Lines limit 0 ((a ++ b) ++ frame_bytes f)) (append_assoc lines more line)
-      (OneLine f line (lines_join limit a lines first b more before) fits (subst (λ p. IsLineOf limit p f line) (same_place a b) has)))
+    (OneLine f line (lines_join limit a lines first b more before) fits (subst (λ p. IsLineOf limit p f line) (same_place a b) has)))
 
 -- ---- a frame at a time
 
@@ -73,7 +73,11 @@ one_cut limit start here bytes rest next line old mid new to at has w =
 -- and no more, since memory was refused
 pub some_listed : (limit start : ℕ) (bytes rest : List ℕ) (old new : Option (List ℕ)) → ListsTo limit start bytes rest old new → ListsSome limit start bytes old new
 some_listed limit start bytes rest old new to = record {
-  front = to.front; rest = rest; lines = to.lines; whole = to.whole; listed = to.listed;
+  front = to.front;
+  rest = rest;
+  lines = to.lines;
+  whole = to.whole;
+  listed = to.listed;
   written = all_taken old new to.lines to.written;
 }
 
@@ -155,7 +159,11 @@ piece_listed limit place was n moved count bytes piece rest items left stopped o
 -- nothing was listed
 pub none_of_piece : (limit place : ℕ) (bytes : List ℕ) (old new : Option (List ℕ)) → Keeps old new → ListsSome limit place bytes old new
 none_of_piece limit place bytes old new kept = record {
-  front = []; rest = bytes; lines = []; whole = refl; listed = NoLines;
+  front = [];
+  rest = bytes;
+  lines = [];
+  whole = refl;
+  listed = NoLines;
   written = all_taken old new [] (kept_nothing old new kept);
 }
 
@@ -171,7 +179,11 @@ pub all_of_piece : (limit place was n : ℕ) (bytes piece rest items : List ℕ)
     → ListsAll limit place items (take n items) (drop n items) stopped old mid → Keeps mid new → ListsSome limit place (rest ++ piece) old new
 all_of_piece limit place was n bytes piece rest items stopped old mid new holds grown all kept =
     some_of_piece limit place was bytes piece rest items old new holds grown (record {
-      front = take n items; rest = drop n items; lines = all.lines; whole = all.whole; listed = all.listed;
+      front = take n items;
+      rest = drop n items;
+      lines = all.lines;
+      whole = all.whole;
+      listed = all.listed;
       written = all_taken old new all.lines (kept_more old mid new all.lines all.written kept);
     })
 
@@ -203,16 +215,21 @@ tracks_nothing limit s held e = record {
 -- nothing came
 pub tracks_same : (limit : ℕ) (before after : Streams) (held : Held) (next : Option (List ℕ)) → Tracks limit before after held → Keeps after.input next → Tracks limit before (record { input = next; output = after.output }) held
 tracks_same limit before after held next t kept = record {
-  front = t.front; rest = t.rest; lines = t.lines;
+  front = t.front;
+  rest = t.rest;
+  lines = t.lines;
   came = Consumes-kept before.input after.input next (t.front ++ t.rest) t.came kept;
-  listed = t.listed; holds = t.holds; place = t.place; written = t.written;
+  listed = t.listed;
+  holds = t.holds;
+  place = t.place;
+  written = t.written;
 }
 
 came_more : (limit : ℕ) (before after : Streams) (held : Held) (t : Tracks limit before after held) (next : Option (List ℕ)) (piece front rest : List ℕ) → Consumes after.input next piece → t.rest ++ piece ≡ front ++ rest
     → Consumes before.input next ((t.front ++ front) ++ rest)
 came_more limit before after held t next piece front rest came whole =
     let moved : (t.front ++ t.rest) ++ piece ≡ (t.front ++ front) ++ rest =
-        append_assoc t.front t.rest piece ∙ ap (λ l. t.front ++ l) whole ∙ sym (append_assoc t.front front rest) in
+    append_assoc t.front t.rest piece ∙ ap (λ l. t.front ++ l) whole ∙ sym (append_assoc t.front front rest) in
     subst (Consumes before.input next) moved (Consumes-trans before.input after.input next (t.front ++ t.rest) piece t.came came)
 
 -- a piece came
@@ -253,7 +270,13 @@ was_listed limit before after held t = record {
 
 pub cut_here : (limit : ℕ) (before after : Streams) (held : Held) → Tracks limit before after held → IsCutShort limit before after
 cut_here limit before after held t = record {
-  front = t.front; rest = t.rest; lines = t.lines; text = t.lines; came = t.came; listed = t.listed; due = inl refl;
+  front = t.front;
+  rest = t.rest;
+  lines = t.lines;
+  text = t.lines;
+  came = t.came;
+  listed = t.listed;
+  due = inl refl;
   written = all_taken before.output after.output t.lines t.written;
 }
 
@@ -264,7 +287,13 @@ all_written limit before after held output t end last =
     Consumes-whole before.input after.input (t.front ++ t.rest) (λ bytes. WritesListing limit bytes before.output output) t.came end (record {
       output = t.lines ++ last_line held.stopped held.left;
       is = record {
-        front = t.front; rest = t.rest; lines = t.lines; stopped = held.stopped; whole = refl; listed = t.listed; ending = t.holds.ending;
+        front = t.front;
+        rest = t.rest;
+        lines = t.lines;
+        stopped = held.stopped;
+        whole = refl;
+        listed = t.listed;
+        ending = t.holds.ending;
         text = ap (λ n. t.lines ++ last_line held.stopped n) t.holds.count;
       };
       written = Appends-trans before.output after.output output t.lines _ t.written last;
@@ -274,7 +303,9 @@ all_written limit before after held output t end last =
 pub cut_last : (limit : ℕ) (before after : Streams) (held : Held) (output : Option (List ℕ)) → Tracks limit before after held → IsAtEnd after.input → AppendsFront after.output output (last_line held.stopped held.left)
     → IsCutShort limit before (record { input = after.input; output = output })
 cut_last limit before after held output t end last = record {
-  front = t.front; rest = t.rest; lines = t.lines;
+  front = t.front;
+  rest = t.rest;
+  lines = t.lines;
   text = t.lines ++ last_line held.stopped held.left;
   came = t.came;
   listed = t.listed;

@@ -3,6 +3,7 @@ pub mod Quoting
 pub mod Line
 pub mod Names
 pub mod Shown
+pub mod Secrets
 pub mod Words
 pub mod Interruptions
 pub mod Command

@@ -13,8 +13,9 @@ is_mark b = (b == 34) || (b == 92)
 abbrev pub hex_digit : ℕ → ℕ
 hex_digit n = if nat_le n 9 then 48 + n else 87 + n
 
+-- the two of a byte
 abbrev pub hex_byte : ℕ → List ℕ
-hex_byte b = hex_digit (b / 16) ∷ hex_digit (b % 16) ∷ []
+hex_byte b = hex_digit (b / 16 % 16) ∷ hex_digit (b % 16) ∷ []
 
 -- A byte: a mark behind a backslash, another printable character as it is, and what isn't printable as `\x` and two digits.
 abbrev pub escaped_byte : ℕ → List ℕ

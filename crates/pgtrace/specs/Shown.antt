@@ -9,7 +9,7 @@ use Rattle.pgp_message.specs.BackendMessage.{AuthenticationOk, AuthenticationKer
 use Rattle.pgp_message.specs.Items.{TextSpelled, TextRefused, FormatSpelled, FormatRefused, TypeSpelled, TypeRefused, RangeSpelled, RangeRefused, FieldPart, FieldSpelled, FieldRefused, ErrorPart, ErrorFieldSpelled, ErrorFieldRefused}
 use Rattle.pgp_message.specs.Parts.{CopyFormats}
 use Rattle.pgp_message.specs.Table.{value_at}
-use Rattle.pgtrace.specs.Line.{Part, Word, Number, Tag, Text, Value, Hidden, followed}
+use Rattle.pgtrace.specs.Line.{Part, Word, Number, Text, Value, Hidden, followed}
 use Rattle.pgtrace.specs.Names.{refusal_of, field_of, state_of}
 
 -- a refusal
@@ -29,10 +29,10 @@ each_then parts (x ∷ xs) more = parts x ++ each_then parts xs more
 abbrev pub list_of : {X : Type 0} → (X → List Part) → List X → Option Error → List Part
 list_of parts items end = each_then parts items (ending end)
 
--- what is known by a name, or else the byte
-abbrev pub named_or : Option (List ℕ) → ℕ → Part
-named_or (Some name) byte = Word name
-named_or None byte = Tag byte
+-- the name, or where there is none the byte that stands for it
+abbrev pub name_or : Option (List ℕ) → ℕ → List ℕ
+name_or (Some name) byte = name
+name_or None byte = byte ∷ []
 
 abbrev pub text_part : List ℕ → List Part
 text_part text = Text text ∷ []
@@ -44,7 +44,7 @@ abbrev pub value_part : List ℕ → Option (Range ℕ) → List Part
 value_part buffer place = Value (value_at buffer place) ∷ []
 
 abbrev pub field_parts : ErrorPart → List Part
-field_parts field = named_or (field_of field.code) field.code ∷ Text field.value ∷ []
+field_parts field = Word (name_or (field_of field.code) field.code) ∷ Text field.value ∷ []
 
 abbrev pub column_parts : FieldPart → List Part
 column_parts column =
@@ -108,7 +108,7 @@ Shows limit (ParameterStatus setting) old new = ShowsTexts limit (IsUtf8 setting
     (Word (codes "name") ∷ Text setting.name ∷ Word (codes "value") ∷ Text setting.value ∷ [])
     (payload_of (ParameterStatus setting)) old new
 Shows limit (RowDescription row) old new = ShowsCounted FieldSpelled FieldRefused column_parts limit row.count row.storage (followed limit old (Word (codes "columns") ∷ [])) new
-Shows limit (ReadyForQuery status) old new = new ≡ followed limit old (named_or (state_of status) status ∷ [])
+Shows limit (ReadyForQuery status) old new = new ≡ followed limit old (Word (name_or (state_of status) status) ∷ [])
 Shows limit (CopyData bytes) old new = new ≡ followed limit old (Word (codes "data") ∷ Value (Some bytes) ∷ [])
 Shows limit (ParameterDescription row) old new = ShowsCounted TypeSpelled TypeRefused number_part limit row.count row.storage (followed limit old (Word (codes "types") ∷ [])) new
 Shows limit m old new = new ≡ old

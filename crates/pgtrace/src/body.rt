@@ -33,18 +33,14 @@ pub fn put_message<A: Memory>(
     ensures lacks { OnErr result A.Lacks }
 {
     match message {
-        Message::AuthenticationMd5Password(_) => put_secret(limit, "salt", 4, line),
+        Message::AuthenticationMd5Password(_) => put_secret("salt", 4, line),
         Message::AuthenticationGssContinue(token) => {
-            put_secret(limit, "data", token.data().len(), line)
+            put_secret("data", token.data().len(), line)
         }
         Message::AuthenticationSasl(offer) => put_offer(limit, offer, line),
-        Message::AuthenticationSaslContinue(text) => {
-            put_secret(limit, "data", text.data().len(), line)
-        }
-        Message::AuthenticationSaslFinal(text) => {
-            put_secret(limit, "data", text.data().len(), line)
-        }
-        Message::BackendKeyData(key) => put_key(limit, key, line),
+        Message::AuthenticationSaslContinue(text) => { put_secret("data", text.data().len(), line) }
+        Message::AuthenticationSaslFinal(text) => { put_secret("data", text.data().len(), line) }
+        Message::BackendKeyData(key) => put_key(key, line),
         Message::CommandComplete(command) => put_command(limit, command, body, line),
         Message::CopyData(copy) => put_copied(limit, copy.data(), line),
         Message::CopyInResponse(copy) => {
@@ -62,7 +58,7 @@ pub fn put_message<A: Memory>(
         Message::ParameterStatus(setting) => put_setting(limit, setting, body, line),
         Message::ReadyForQuery(ready) => {
             let status = ready.status();
-            put_named(limit, state_of(status), status, line)
+            put_named(state_of(status), status, line)
         }
         Message::RowDescription(row) => put_description(limit, row, line),
         Message::AuthenticationCleartextPassword
@@ -82,17 +78,12 @@ pub fn put_message<A: Memory>(
 }
 
 /// Adds a secret's name and length.
-fn put_secret<A: Memory>(
-    limit: usize,
-    name: &str,
-    len: usize,
-    line: &mut String<A>,
-) -> Result<(), AllocError>
-    ensures parts { OnOk result (string_bytes line.new ≡ followed limit (string_bytes line.old) (Word name.now ∷ Hidden len ∷ [])) }
+fn put_secret<A: Memory>(name: &str, len: usize, line: &mut String<A>) -> Result<(), AllocError>
+    ensures parts { OnOk result (string_bytes line.new ≡ followed 0 (string_bytes line.old) (Word name.now ∷ Hidden len ∷ [])) }
     ensures lacks { OnErr result A.Lacks }
 {
-    put_word(limit, name, line)?;
-    put_hidden(limit, len, line)
+    put_word(name, line)?;
+    put_hidden(len, line)
 }
 
 /// Adds the mechanisms that a server offers.
@@ -104,23 +95,22 @@ fn put_offer<A: Memory>(
     ensures says { OnOk result (Shows limit (Authentication (AuthenticationSasl offer.now)) (string_bytes line.old) (string_bytes line.new)) }
     ensures lacks { OnErr result A.Lacks }
 {
-    put_word(limit, "mechanisms", line)?;
+    put_word("mechanisms", line)?;
     put_mechanisms(limit, offer.mechanisms(), line)
 }
 
 /// Adds the process that a cancel request names, and how long its key is.
 fn put_key<A: Memory>(
-    limit: usize,
     key: &BackendKeyDataBody<&[u8]>,
     line: &mut String<A>,
 ) -> Result<(), AllocError>
-    ensures says { OnOk result (Shows limit (BackendKeyData key.now) (string_bytes line.old) (string_bytes line.new)) }
+    ensures says { OnOk result (Shows 0 (BackendKeyData key.now) (string_bytes line.old) (string_bytes line.new)) }
     ensures lacks { OnErr result A.Lacks }
 {
-    put_word(limit, "process", line)?;
-    put_signed(limit, key.process_id(), line)?;
-    put_word(limit, "key", line)?;
-    put_hidden(limit, key.secret_key_bytes().len(), line)
+    put_word("process", line)?;
+    put_signed(key.process_id(), line)?;
+    put_word("key", line)?;
+    put_hidden(key.secret_key_bytes().len(), line)
 }
 
 /// Adds the bytes of a body as they are.
@@ -128,7 +118,7 @@ fn put_bare<A: Memory>(limit: usize, body: &[u8], line: &mut String<A>) -> Resul
     ensures parts { OnOk result (string_bytes line.new ≡ followed limit (string_bytes line.old) (bare body.now)) }
     ensures lacks { OnErr result A.Lacks }
 {
-    put_word(limit, "bytes", line)?;
+    put_word("bytes", line)?;
     put_text(limit, body, line)
 }
 
@@ -142,7 +132,7 @@ fn put_named_text<A: Memory>(
     ensures parts { OnOk result (string_bytes line.new ≡ followed limit (string_bytes line.old) (Word name.now ∷ Text text.now ∷ [])) }
     ensures lacks { OnErr result A.Lacks }
 {
-    put_word(limit, name, line)?;
+    put_word(name, line)?;
     put_text(limit, text.as_bytes(), line)
 }
 
@@ -201,8 +191,8 @@ fn put_news<A: Memory>(
     let Ok(message) = news.message() else {
         return put_bare(limit, body, line);
     };
-    put_word(limit, "process", line)?;
-    put_signed(limit, news.process_id(), line)?;
+    put_word("process", line)?;
+    put_signed(news.process_id(), line)?;
     put_named_text(limit, "channel", channel, line)?;
     put_named_text(limit, "payload", message, line)
 }
@@ -212,7 +202,7 @@ fn put_copied<A: Memory>(limit: usize, data: &[u8], line: &mut String<A>) -> Res
     ensures parts { OnOk result (string_bytes line.new ≡ followed limit (string_bytes line.old) (Word (codes "data") ∷ Value (Some data.now) ∷ [])) }
     ensures lacks { OnErr result A.Lacks }
 {
-    put_word(limit, "data", line)?;
+    put_word("data", line)?;
     put_some(limit, data, line)
 }
 
@@ -228,10 +218,10 @@ fn put_copy<A: Memory>(
         ∷ list_of number_part formats.items formats.end)) }
     ensures lacks { OnErr result A.Lacks }
 {
-    put_word(limit, "format", line)?;
-    put_number(limit, format as u64, line)?;
-    put_word(limit, "columns", line)?;
-    put_number(limit, formats.size_hint().0 as u64, line)?;
+    put_word("format", line)?;
+    put_number(format as u64, line)?;
+    put_word("columns", line)?;
+    put_number(formats.size_hint().0 as u64, line)?;
     put_formats(limit, formats, line)
 }
 
@@ -245,8 +235,8 @@ fn put_row<A: Memory>(
     ensures lacks { OnErr result A.Lacks }
 {
     let places = row.ranges();
-    put_word(limit, "values", line)?;
-    put_number(limit, places.size_hint().0 as u64, line)?;
+    put_word("values", line)?;
+    put_number(places.size_hint().0 as u64, line)?;
     put_values(limit, row.buffer(), places, line)
 }
 
@@ -260,10 +250,10 @@ fn put_versions<A: Memory>(
     ensures lacks { OnErr result A.Lacks }
 {
     let options = answer.options();
-    put_word(limit, "version", line)?;
-    put_signed(limit, answer.version(), line)?;
-    put_word(limit, "options", line)?;
-    put_number(limit, options.size_hint().0 as u64, line)?;
+    put_word("version", line)?;
+    put_signed(answer.version(), line)?;
+    put_word("options", line)?;
+    put_number(options.size_hint().0 as u64, line)?;
     put_options(limit, options, line)
 }
 
@@ -277,8 +267,8 @@ fn put_parameters<A: Memory>(
     ensures lacks { OnErr result A.Lacks }
 {
     let types = description.parameters();
-    put_word(limit, "types", line)?;
-    put_number(limit, types.size_hint().0 as u64, line)?;
+    put_word("types", line)?;
+    put_number(types.size_hint().0 as u64, line)?;
     put_types(limit, types, line)
 }
 
@@ -292,7 +282,7 @@ fn put_description<A: Memory>(
     ensures lacks { OnErr result A.Lacks }
 {
     let columns = description.fields();
-    put_word(limit, "columns", line)?;
-    put_number(limit, columns.size_hint().0 as u64, line)?;
+    put_word("columns", line)?;
+    put_number(columns.size_hint().0 as u64, line)?;
     put_columns(limit, columns, line)
 }

@@ -1,8 +1,9 @@
 //! The line of a frame.
 
-ghost use Rattle.std.specs.Prelude.{◌≡◌, ◌≤◌, ◌<◌, ◌-◌, ◌∷◌, ◌++◌, [], pos, length, take, slice_index, IfOk, OnErr, OnOk, Ok, Err, decimal, string_bytes};
+ghost use Rattle.std.specs.Prelude.{◌≡◌, ◌≤◌, ◌<◌, ◌-◌, ◌∷◌, ◌++◌, [], pos, length, take, slice_index, IfOk, OnErr, OnOk, Ok, decimal, string_bytes};
 ghost use Rattle.pgp_message.specs.Views.{view};
 ghost use Rattle.pgtrace.specs.Line.{Number, Tag, followed};
+ghost use Rattle.pgtrace.specs.Shown.{fault};
 ghost use Rattle.pgtrace.specs.Steps.{HasLine, IsFrameOf, ListsNext};
 
 use crate::body::put_message;
@@ -52,7 +53,7 @@ pub fn next_line<A: Memory>(
         Err(Error::InvalidLength) => Ok(Next::Stops),
         Err(refusal) => {
             let frame = front_of(before, messages.rest());
-            fault_line(limit, place, frame, &refusal, line)?;
+            fault_line(place, frame, &refusal, line)?;
             Ok(Next::Line)
         }
     }
@@ -78,42 +79,37 @@ fn message_line<A: Memory>(
     ensures line { OnOk result (HasLine limit place frame.now [] (string_bytes line.new)) }
     ensures lacks { OnErr result A.Lacks }
 {
-    begin(limit, place, frame, line)?;
-    put_word(limit, name_of(message), line)?;
-    put_message(limit, message, &frame[5..], line)?;
+    begin(place, frame, line)?;
+    put_word(name_of(message), line)?;
+    let (_, body) = frame.split_at(5);
+    put_message(limit, message, body, line)?;
     A::push_char(line, '\n')
 }
 
 /// Makes the line of a refused frame.
 fn fault_line<A: Memory>(
-    limit: usize,
     place: u64,
     frame: &[u8],
     refusal: &Error,
     line: &mut String<A>,
 ) -> Result<(), AllocError>
-    requires { IsFrameOf frame.now (Err refusal.now) }
-    ensures line { OnOk result (HasLine limit place frame.now [] (string_bytes line.new)) }
+    requires { 0 < length frame.now }
+    ensures line { OnOk result (string_bytes line.new ≡ followed 0 (decimal place) (Number (pos (length frame.now)) ∷ Tag (slice_index frame.now 0) ∷ fault refusal.now) ++ 10 ∷ []) }
     ensures lacks { OnErr result A.Lacks }
 {
-    begin(limit, place, frame, line)?;
-    put_fault(limit, refusal, line)?;
+    begin(place, frame, line)?;
+    put_fault(refusal, line)?;
     A::push_char(line, '\n')
 }
 
 /// Begins a line: with the place of the frame, its length, and its tag.
-fn begin<A: Memory>(
-    limit: usize,
-    place: u64,
-    frame: &[u8],
-    line: &mut String<A>,
-) -> Result<(), AllocError>
+fn begin<A: Memory>(place: u64, frame: &[u8], line: &mut String<A>) -> Result<(), AllocError>
     requires { 0 < length frame.now }
-    ensures parts { OnOk result (string_bytes line.new ≡ followed limit (decimal place) (Number (pos (length frame.now)) ∷ Tag (slice_index frame.now 0) ∷ [])) }
+    ensures parts { OnOk result (string_bytes line.new ≡ followed 0 (decimal place) (Number (pos (length frame.now)) ∷ Tag (slice_index frame.now 0) ∷ [])) }
     ensures lacks { OnErr result A.Lacks }
 {
     line.clear();
     A::push_shown(line, place)?;
-    put_number(limit, frame.len() as u64, line)?;
-    put_tag(limit, frame[0], line)
+    put_number(frame.len() as u64, line)?;
+    put_tag(frame[0], line)
 }

@@ -4,10 +4,10 @@ ghost use Rattle.std.specs.Prelude.{◌≡◌, ◌≤◌, ◌∷◌, [], length,
 ghost use Rattle.std.specs.List.{AllByRecursion};
 ghost use Rattle.std.specs.Option.{option_map};
 ghost use Rattle.pgp_message.specs.Table.{IsPlaceIn};
-ghost use Rattle.pgtrace.specs.Line.{followed};
-ghost use Rattle.pgtrace.specs.Shown.{column_parts, fault, field_parts, list_of, named_or, number_part, text_part, value_part};
+ghost use Rattle.pgtrace.specs.Line.{Word, followed};
+ghost use Rattle.pgtrace.specs.Shown.{column_parts, fault, field_parts, list_of, name_or, number_part, text_part, value_part};
 
-use crate::line::{put_null, put_number, put_signed, put_some, put_tag, put_text, put_word};
+use crate::line::{put_name, put_null, put_number, put_signed, put_some, put_text, put_word};
 use crate::names::{field_of, refusal_of};
 use pgp_base::{FallibleIterator, Memory};
 use postgres_protocol::Error;
@@ -19,17 +19,13 @@ use std::alloc::AllocError;
 use std::ops::Range;
 
 /// Adds a refusal.
-pub fn put_fault<A: Memory>(
-    limit: usize,
-    refusal: &Error,
-    line: &mut String<A>,
-) -> Result<(), AllocError>
-    ensures parts { OnOk result (string_bytes line.new ≡ followed limit (string_bytes line.old) (fault refusal.now)) }
+pub fn put_fault<A: Memory>(refusal: &Error, line: &mut String<A>) -> Result<(), AllocError>
+    ensures parts { OnOk result (string_bytes line.new ≡ followed 0 (string_bytes line.old) (fault refusal.now)) }
     ensures lacks { OnErr result A.Lacks }
 {
-    put_word(limit, "fault", line)?;
-    put_number(limit, refusal.number() as u64, line)?;
-    put_word(limit, refusal_of(refusal), line)
+    put_word("fault", line)?;
+    put_number(refusal.number() as u64, line)?;
+    put_word(refusal_of(refusal), line)
 }
 
 /// Adds the names of mechanisms.
@@ -45,7 +41,7 @@ pub fn put_mechanisms<A: Memory>(
         match names.next() {
             Ok(Some(name)) => put_text(limit, name.as_bytes(), line)?,
             Ok(None) => return Ok(()),
-            Err(e) => return put_fault(limit, &e, line),
+            Err(e) => return put_fault(&e, line),
         }
     }
 }
@@ -63,7 +59,7 @@ pub fn put_options<A: Memory>(
         match names.next() {
             Ok(Some(name)) => put_text(limit, name.as_bytes(), line)?,
             Ok(None) => return Ok(()),
-            Err(e) => return put_fault(limit, &e, line),
+            Err(e) => return put_fault(&e, line),
         }
     }
 }
@@ -79,9 +75,9 @@ pub fn put_formats<A: Memory>(
 {
     'items: loop {
         match formats.next() {
-            Ok(Some(format)) => put_number(limit, format as u64, line)?,
+            Ok(Some(format)) => put_number(format as u64, line)?,
             Ok(None) => return Ok(()),
-            Err(e) => return put_fault(limit, &e, line),
+            Err(e) => return put_fault(&e, line),
         }
     }
 }
@@ -97,9 +93,9 @@ pub fn put_types<A: Memory>(
 {
     'items: loop {
         match types.next() {
-            Ok(Some(type_oid)) => put_number(limit, type_oid as u64, line)?,
+            Ok(Some(type_oid)) => put_number(type_oid as u64, line)?,
             Ok(None) => return Ok(()),
-            Err(e) => return put_fault(limit, &e, line),
+            Err(e) => return put_fault(&e, line),
         }
     }
 }
@@ -117,7 +113,7 @@ pub fn put_fields<A: Memory>(
         match fields.next() {
             Ok(Some(field)) => put_field(limit, &field, line)?,
             Ok(None) => return Ok(()),
-            Err(e) => return put_fault(limit, &e, line),
+            Err(e) => return put_fault(&e, line),
         }
     }
 }
@@ -135,7 +131,7 @@ pub fn put_columns<A: Memory>(
         match columns.next() {
             Ok(Some(column)) => put_column(limit, &column, line)?,
             Ok(None) => return Ok(()),
-            Err(e) => return put_fault(limit, &e, line),
+            Err(e) => return put_fault(&e, line),
         }
     }
 }
@@ -155,24 +151,23 @@ pub fn put_values<A: Memory>(
         match places.next() {
             Ok(Some(place)) => put_place(limit, buffer, &place, line)?,
             Ok(None) => return Ok(()),
-            Err(e) => return put_fault(limit, &e, line),
+            Err(e) => return put_fault(&e, line),
         }
     }
 }
 
-/// Adds what is known by a name, or else the byte that stands for it.
+/// Adds a name, or where there is none the byte that stands for it.
 pub fn put_named<A: Memory>(
-    limit: usize,
     name: Option<&str>,
     byte: u8,
     line: &mut String<A>,
 ) -> Result<(), AllocError>
-    ensures part { OnOk result (string_bytes line.new ≡ followed limit (string_bytes line.old) (named_or (option_map (λ name. name.now) name) byte ∷ [])) }
+    ensures part { OnOk result (string_bytes line.new ≡ followed 0 (string_bytes line.old) (Word (name_or (option_map (λ name. name.now) name) byte) ∷ [])) }
     ensures lacks { OnErr result A.Lacks }
 {
     match name {
-        Some(name) => put_word(limit, name, line),
-        None => put_tag(limit, byte, line),
+        Some(name) => put_word(name, line),
+        None => put_name(&[byte], line),
     }
 }
 
@@ -186,7 +181,7 @@ fn put_field<A: Memory>(
     ensures lacks { OnErr result A.Lacks }
 {
     let letter = field.type_();
-    put_named(limit, field_of(letter), letter, line)?;
+    put_named(field_of(letter), letter, line)?;
     put_text(limit, field.value_bytes(), line)
 }
 
@@ -200,18 +195,18 @@ fn put_column<A: Memory>(
     ensures lacks { OnErr result A.Lacks }
 {
     put_text(limit, column.name().as_bytes(), line)?;
-    put_word(limit, "table", line)?;
-    put_number(limit, column.table_oid() as u64, line)?;
-    put_word(limit, "column", line)?;
-    put_signed(limit, column.column_id() as i32, line)?;
-    put_word(limit, "type", line)?;
-    put_number(limit, column.type_oid() as u64, line)?;
-    put_word(limit, "size", line)?;
-    put_signed(limit, column.type_size() as i32, line)?;
-    put_word(limit, "modifier", line)?;
-    put_signed(limit, column.type_modifier(), line)?;
-    put_word(limit, "format", line)?;
-    put_signed(limit, column.format() as i32, line)
+    put_word("table", line)?;
+    put_number(column.table_oid() as u64, line)?;
+    put_word("column", line)?;
+    put_signed(column.column_id() as i32, line)?;
+    put_word("type", line)?;
+    put_number(column.type_oid() as u64, line)?;
+    put_word("size", line)?;
+    put_signed(column.type_size() as i32, line)?;
+    put_word("modifier", line)?;
+    put_signed(column.type_modifier(), line)?;
+    put_word("format", line)?;
+    put_signed(column.format() as i32, line)
 }
 
 /// Adds the value that stands at a place of a row.
@@ -227,6 +222,6 @@ fn put_place<A: Memory>(
 {
     match place {
         Some(place) => put_some(limit, &buffer[place.start..place.end], line),
-        None => put_null(limit, line),
+        None => put_null(line),
     }
 }

@@ -4,6 +4,7 @@
 pub mod body;
 pub mod fault;
 pub mod frame;
+pub mod laws;
 pub mod line;
 pub mod lists;
 pub mod names;
@@ -26,3 +27,8 @@ fn main(rt: HostRuntime) -> ExitCode {
         &mut rt.stderr(),
     ))
 }
+
+#[cfg(test)]
+mod failing;
+#[cfg(test)]
+mod tests;

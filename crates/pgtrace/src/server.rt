@@ -114,8 +114,8 @@ fn list_piece<A: Memory, W: Output>(
 ) -> Result<(), Fault>
     ensures all { OnOk result ((rest : List ℕ) → Holds (record { bytes = held.old.bytes.items; place = held.old.place; stopped = held.old.stopped; left = held.old.left }) rest →
         ListsPiece limit held.old.place (rest ++ piece.now)
-            (record { bytes = held.new.bytes.items; place = held.new.place; stopped = held.new.stopped; left = held.new.left })
-            (W.contents output.old) (W.contents output.new)) }
+        (record { bytes = held.new.bytes.items; place = held.new.place; stopped = held.new.stopped; left = held.new.left })
+        (W.contents output.old) (W.contents output.new)) }
     ensures passed { OnOk result (W.Passed output.new) }
     ensures some { OnErr result ((rest : List ℕ) → Holds (record { bytes = held.old.bytes.items; place = held.old.place; stopped = held.old.stopped; left = held.old.left }) rest →
         ListsSome limit held.old.place (rest ++ piece.now) (W.contents output.old) (W.contents output.new)) }
@@ -160,11 +160,21 @@ fn list_frames<A: Memory, W: Output>(
         let passed = bytes.len() - messages.rest().len();
         let here = place.saturating_add(passed as u64);
         match next_line(limit, here, &mut messages, line)? {
-            Next::Line => write(line.as_bytes(), output)?,
+            Next::Line => put_line(line.as_str(), output)?,
             Next::Waits => return Ok((passed, false)),
             Next::Stops => return Ok((passed, true)),
         }
     }
+}
+
+/// Writes a line. It isn't passed on yet: more may follow it at once.
+fn put_line<W: Output>(line: &str, output: &mut W) -> Result<(), Fault>
+    ensures written { OnOk result (Appends (W.contents output.old) (W.contents output.new) line.now) }
+    ensures front { OnErr result (AppendsFront (W.contents output.old) (W.contents output.new) line.now) }
+    ensures fault { IfErr result (λ fault. fault ≡ Fault.Write) }
+    ensures failed { OnErr result (GivesUp W.Fails W.Interrupted) }
+{
+    write(line.as_bytes(), output)
 }
 
 /// Writes the last line, of the bytes that are left.

@@ -1,0 +1,35 @@
+//! Laws of lines.
+
+ghost use Rattle.std.specs.Prelude.{◌≡◌, ◌≢◌, ◌<◌, ◌≤◌, ◌∷◌, ◌++◌, [], ℕ, List, true, Some, None, length};
+ghost use Rattle.std.specs.List.{AllByRecursion, list_all};
+ghost use Rattle.pgp_message.specs.BackendMessage.{Message};
+ghost use Rattle.pgp_message.specs.Stream.{Frame};
+ghost use Rattle.pgtrace.specs.Line.{Value, shown};
+ghost use Rattle.pgtrace.specs.Listing.{IsLineOf};
+ghost use Rattle.pgtrace.specs.Quoting.{is_printable, quoted};
+ghost use Rattle.pgtrace.specs.Secrets.{Alike};
+ghost use Rattle.pgtrace.specs.Shown.{Shows};
+
+/// No two texts are quoted alike, whatever follows them.
+pub fn quotes_differ()
+    ensures { (xs ys r s : List ℕ) → AllByRecursion (λ b. b < 256) xs → AllByRecursion (λ b. b < 256) ys →
+        quoted xs ++ r ≡ quoted ys ++ s → (xs ≡ ys) × (r ≡ s) }
+{}
+
+/// No two values that aren't cut are shown alike, and none as a null is.
+pub fn values_differ()
+    ensures some { (limit : ℕ) (xs ys : List ℕ) → AllByRecursion (λ b. b < 256) xs → AllByRecursion (λ b. b < 256) ys →
+        length xs ≤ limit → length ys ≤ limit → shown limit (Value (Some xs)) ≡ shown limit (Value (Some ys)) → xs ≡ ys }
+    ensures null { (limit : ℕ) (xs : List ℕ) → shown limit (Value (Some xs)) ≢ shown limit (Value None) }
+{}
+
+/// A line has printable characters of ASCII alone, and then its newline.
+pub fn lines_are_printable()
+    ensures { (limit place : ℕ) (f : Frame) (line : List ℕ) → IsLineOf limit place f line →
+        (text : List ℕ) × (line ≡ text ++ 10 ∷ []) × (list_all is_printable text ≡ true) }
+{}
+
+/// Messages that differ in their secrets alone have the same lines.
+pub fn secrets_are_hidden()
+    ensures { (limit : ℕ) (m n : Message) (old new : List ℕ) → Alike m n → Shows limit m old new → Shows limit n old new }
+{}
