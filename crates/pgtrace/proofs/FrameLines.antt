@@ -6,6 +6,7 @@ use Rattle.pgp_base.specs.Wire.{uint32}
 use Rattle.pgp_base.specs.declared.error.Error.{Error}
 use Rattle.pgp_message.specs.BackendMessage.{Message, payload_of}
 use Rattle.pgp_message.specs.Stream.{Frame, frame_bytes, TakesFrame}
+use Rattle.pgtrace.specs.declared.style.Style.{Style}
 use Rattle.pgtrace.specs.Line.{Word, Number, Tag, followed}
 use Rattle.pgtrace.specs.Names.{name_of}
 use Rattle.pgtrace.specs.Shown.{Shows, fault}
@@ -14,11 +15,11 @@ use Rattle.pgtrace.specs.Steps.{IsFrameOf, HasLine}
 use Rattle.pgtrace.proofs.Parts.{front_taken}
 
 -- what a line begins with, by the bytes of the frame
-abbrev pub begun : ℕ → ℕ → List ℕ → List ℕ
-begun limit place bytes = followed limit (decimal place) (Number (pos (length bytes)) ∷ Tag (slice_index bytes 0) ∷ [])
+abbrev pub begun : ℕ → List ℕ → List ℕ
+begun place bytes = followed 0 (decimal place) (Number (pos (length bytes)) ∷ Tag (slice_index bytes 0) ∷ [])
 
-begun_is : (limit place : ℕ) (f : Frame) (bytes : List ℕ) → bytes ≡ frame_bytes f → begun limit place bytes ≡ front limit place f
-begun_is limit place f bytes e = ap (begun limit place) e
+begun_is : (place : ℕ) (f : Frame) (bytes : List ℕ) → bytes ≡ frame_bytes f → begun place bytes ≡ front place f
+begun_is place f bytes e = ap (begun place) e
 
 pub frame_long : (f : Frame) (bytes : List ℕ) → bytes ≡ frame_bytes f → 5 ≤ length bytes
 unfolding uint32
@@ -32,10 +33,10 @@ payload_behind f = refl
 pub body_is : (bytes : List ℕ) (m : Message) → IsFrameOf bytes (Ok m) → drop 5 bytes ≡ payload_of m
 body_is bytes m is = ap (drop 5) is.whole ∙ payload_behind is.first ∙ is.body.parts ∙ append-nil (payload_of m)
 
-pub message_told : (limit place : ℕ) (bytes : List ℕ) (m : Message) (is : IsFrameOf bytes (Ok m)) (begins named said line : List ℕ)
-    → begins ≡ begun limit place bytes → named ≡ followed limit begins (Word (name_of m) ∷ []) → Shows limit m named said → line ≡ said ++ 10 ∷ [] → HasLine limit place bytes [] line
-message_told limit place bytes m is begins named said line b n shows e =
-    let head = b ∙ begun_is limit place is.first bytes is.whole in
+pub message_told : (style : Style) (place : ℕ) (bytes : List ℕ) (m : Message) (is : IsFrameOf bytes (Ok m)) (begins named said line : List ℕ)
+    → begins ≡ begun place bytes → named ≡ followed 0 begins (Word (name_of m) ∷ []) → Shows style m named said → line ≡ said ++ 10 ∷ [] → HasLine style place bytes [] line
+message_told style place bytes m is begins named said line b n shows e =
+    let head = b ∙ begun_is place is.first bytes is.whole in
     record {
       first = is.first;
       whole = is.whole ∙ sym (append-nil (frame_bytes is.first));
@@ -44,22 +45,22 @@ message_told limit place bytes m is begins named said line b n shows e =
         result = Ok m;
         body = is.body;
         text = said;
-        told = subst (λ l. Shows limit m l said) (n ∙ ap (λ l. followed limit l (Word (name_of m) ∷ [])) head) shows;
+        told = subst (λ l. Shows style m l said) (n ∙ ap (λ l. followed 0 l (Word (name_of m) ∷ [])) head) shows;
         ended = e;
       };
     }
 
-pub fault_told : (limit place : ℕ) (bytes : List ℕ) (r : Error) (is : IsFrameOf bytes (Err r)) (line : List ℕ)
-    → line ≡ followed limit (begun limit place bytes) (fault r) ++ 10 ∷ [] → HasLine limit place bytes [] line
-fault_told limit place bytes r is line e = record {
+pub fault_told : (style : Style) (place : ℕ) (bytes : List ℕ) (r : Error) (is : IsFrameOf bytes (Err r)) (line : List ℕ)
+    → line ≡ followed 0 (begun place bytes) (fault r) ++ 10 ∷ [] → HasLine style place bytes [] line
+fault_told style place bytes r is line e = record {
   first = is.first;
   whole = is.whole ∙ sym (append-nil (frame_bytes is.first));
   fits = is.fits;
   line = record {
     result = Err r;
     body = is.body;
-    text = followed limit (begun limit place bytes) (fault r);
-    told = ap (λ l. followed limit l (fault r)) (begun_is limit place is.first bytes is.whole);
+    text = followed 0 (begun place bytes) (fault r);
+    told = ap (λ l. followed 0 l (fault r)) (begun_is place is.first bytes is.whole);
     ended = e;
   };
 }
@@ -77,8 +78,8 @@ pub no_longer : (old new : List ℕ) (r : Result Message Error) → TakesFrame o
 no_longer old new r t = omega (arith, ap length t.whole, length-append (frame_bytes t.first) new)
 
 -- and what has its line there has it here
-pub line_here : (limit place : ℕ) (old new bytes line : List ℕ) (r : Result Message Error) → TakesFrame old r new → bytes ≡ take (length old - length new) old → HasLine limit place bytes [] line → HasLine limit place old new line
-line_here limit place old new bytes line r t e has = record {
+pub line_here : (style : Style) (place : ℕ) (old new bytes line : List ℕ) (r : Result Message Error) → TakesFrame old r new → bytes ≡ take (length old - length new) old → HasLine style place bytes [] line → HasLine style place old new line
+line_here style place old new bytes line r t e has = record {
   first = has.first;
   whole = t.whole ∙ ap (λ l. l ++ new) (sym (front_taken (frame_bytes t.first) new old t.whole) ∙ sym e ∙ has.whole ∙ append-nil (frame_bytes has.first));
   fits = has.fits;

@@ -4,35 +4,35 @@ use Rattle.std.specs.Prelude.{codes}
 use Rattle.pgp_message.specs.BackendMessage.{AuthenticationOk, AuthenticationKerberosV5, AuthenticationCleartextPassword, AuthenticationMd5Password, AuthenticationScmCredential, AuthenticationGss, AuthenticationGssContinue, AuthenticationSspi, AuthenticationSasl, AuthenticationSaslContinue, AuthenticationSaslFinal, Request, Message, BackendKeyData, Authentication}
 use Rattle.pgp_message.specs.Parts.{KeyData}
 use Rattle.pgtrace.specs.Line.{Word, Number, Hidden, followed}
-use Rattle.pgtrace.specs.Secrets.{Alike}
+use Rattle.pgtrace.specs.Secrets.{Alike, quiet}
 use Rattle.pgtrace.specs.Shown.{Shows}
 
-same : (limit : ℕ) (m n : Message) (old new : List ℕ) → m ≡ n → Shows limit m old new → Shows limit n old new
-same limit m n old new e s = subst (λ k. Shows limit k old new) e s
+same : (limit : ℕ) (m n : Message) (old new : List ℕ) → m ≡ n → Shows (quiet limit) m old new → Shows (quiet limit) n old new
+same limit m n old new e s = subst (λ k. Shows (quiet limit) k old new) e s
 
-salt : (limit : ℕ) (x : List ℕ) (n : Message) (old new : List ℕ) → Alike (Authentication (AuthenticationMd5Password x)) n → Shows limit (Authentication (AuthenticationMd5Password x)) old new → Shows limit n old new
+salt : (limit : ℕ) (x : List ℕ) (n : Message) (old new : List ℕ) → Alike (Authentication (AuthenticationMd5Password x)) n → Shows (quiet limit) (Authentication (AuthenticationMd5Password x)) old new → Shows (quiet limit) n old new
 salt limit x (Authentication (AuthenticationMd5Password y)) old new e s = s ∙ ap (λ k. followed limit old (Word (codes "salt") ∷ Hidden k ∷ [])) e
 salt limit x n old new e s = same limit _ n old new e s
 
-gss : (limit : ℕ) (x : List ℕ) (n : Message) (old new : List ℕ) → Alike (Authentication (AuthenticationGssContinue x)) n → Shows limit (Authentication (AuthenticationGssContinue x)) old new → Shows limit n old new
+gss : (limit : ℕ) (x : List ℕ) (n : Message) (old new : List ℕ) → Alike (Authentication (AuthenticationGssContinue x)) n → Shows (quiet limit) (Authentication (AuthenticationGssContinue x)) old new → Shows (quiet limit) n old new
 gss limit x (Authentication (AuthenticationGssContinue y)) old new e s = s ∙ ap (λ k. followed limit old (Word (codes "data") ∷ Hidden k ∷ [])) e
 gss limit x n old new e s = same limit _ n old new e s
 
-more : (limit : ℕ) (x : List ℕ) (n : Message) (old new : List ℕ) → Alike (Authentication (AuthenticationSaslContinue x)) n → Shows limit (Authentication (AuthenticationSaslContinue x)) old new → Shows limit n old new
+more : (limit : ℕ) (x : List ℕ) (n : Message) (old new : List ℕ) → Alike (Authentication (AuthenticationSaslContinue x)) n → Shows (quiet limit) (Authentication (AuthenticationSaslContinue x)) old new → Shows (quiet limit) n old new
 more limit x (Authentication (AuthenticationSaslContinue y)) old new e s = s ∙ ap (λ k. followed limit old (Word (codes "data") ∷ Hidden k ∷ [])) e
 more limit x n old new e s = same limit _ n old new e s
 
-final : (limit : ℕ) (x : List ℕ) (n : Message) (old new : List ℕ) → Alike (Authentication (AuthenticationSaslFinal x)) n → Shows limit (Authentication (AuthenticationSaslFinal x)) old new → Shows limit n old new
+final : (limit : ℕ) (x : List ℕ) (n : Message) (old new : List ℕ) → Alike (Authentication (AuthenticationSaslFinal x)) n → Shows (quiet limit) (Authentication (AuthenticationSaslFinal x)) old new → Shows (quiet limit) n old new
 final limit x (Authentication (AuthenticationSaslFinal y)) old new e s = s ∙ ap (λ k. followed limit old (Word (codes "data") ∷ Hidden k ∷ [])) e
 final limit x n old new e s = same limit _ n old new e s
 
-key : (limit : ℕ) (x : KeyData) (n : Message) (old new : List ℕ) → Alike (BackendKeyData x) n → Shows limit (BackendKeyData x) old new → Shows limit n old new
+key : (limit : ℕ) (x : KeyData) (n : Message) (old new : List ℕ) → Alike (BackendKeyData x) n → Shows (quiet limit) (BackendKeyData x) old new → Shows (quiet limit) n old new
 key limit x (BackendKeyData y) old new e s =
     s ∙ ap (λ p. followed limit old (Word (codes "process") ∷ Number p ∷ Word (codes "key") ∷ Hidden (length x.secret_key) ∷ [])) e.0
     ∙ ap (λ k. followed limit old (Word (codes "process") ∷ Number y.process_id ∷ Word (codes "key") ∷ Hidden k ∷ [])) e.1
 key limit x n old new e s = same limit _ n old new e s
 
-pub hidden : (limit : ℕ) (m n : Message) (old new : List ℕ) → Alike m n → Shows limit m old new → Shows limit n old new
+pub hidden : (limit : ℕ) (m n : Message) (old new : List ℕ) → Alike m n → Shows (quiet limit) m old new → Shows (quiet limit) n old new
 hidden limit (Authentication (AuthenticationMd5Password x)) n old new e s = salt limit x n old new e s
 hidden limit (Authentication (AuthenticationGssContinue x)) n old new e s = gss limit x n old new e s
 hidden limit (Authentication (AuthenticationSaslContinue x)) n old new e s = more limit x n old new e s

@@ -8,6 +8,7 @@ use Rattle.std.proofs.lemmas.List.Concat.{flat_map-cons}
 use Rattle.pgp_base.specs.declared.error.Error.{Error}
 use Rattle.pgp_message.specs.BackendMessage.{AuthenticationOk, AuthenticationKerberosV5, AuthenticationCleartextPassword, AuthenticationMd5Password, AuthenticationScmCredential, AuthenticationGss, AuthenticationGssContinue, AuthenticationSspi, AuthenticationSasl, AuthenticationSaslContinue, AuthenticationSaslFinal, Message, ParseComplete, BindComplete, CloseComplete, NotificationResponse, CommandComplete, DataRow, ErrorResponse, CopyInResponse, CopyOutResponse, EmptyQueryResponse, BackendKeyData, NegotiateProtocolVersion, NoticeResponse, Authentication, ParameterStatus, RowDescription, ReadyForQuery, CopyDone, CopyData, NoData, PortalSuspended, ParameterDescription, payload_of}
 use Rattle.pgp_message.specs.Stream.{Frame, frame_bytes}
+use Rattle.pgtrace.specs.declared.style.Style.{Style}
 use Rattle.pgtrace.specs.Quoting.{hex_digit, hex_byte, is_mark, is_printable, escaped_byte, escaped, quoted, value, up_to}
 use Rattle.pgtrace.specs.Line.{Part, Word, Number, Tag, Text, Value, Hidden, shown, followed}
 use Rattle.pgtrace.specs.Names.{name_of}
@@ -122,43 +123,43 @@ texts : (limit : ℕ) (utf8 : Type 0) (ps : List Part) (body old new : List ℕ)
 texts limit utf8 ps body old new a (inl h) = goes limit old new ps a h.1
 texts limit utf8 ps body old new a (inr h) = goes limit old new _ a h.1
 
-says : (limit : ℕ) (m : Message) (old new : List ℕ) → Printable old → Shows limit m old new → Printable new
-says limit (Authentication (AuthenticationMd5Password salt)) old new a s = goes limit old new _ a s
-says limit (Authentication (AuthenticationGssContinue bytes)) old new a s = goes limit old new _ a s
-says limit (Authentication (AuthenticationSasl bytes)) old new a s = goes limit _ new _ (parts limit old _ a) s.text
-says limit (Authentication (AuthenticationSaslContinue bytes)) old new a s = goes limit old new _ a s
-says limit (Authentication (AuthenticationSaslFinal bytes)) old new a s = goes limit old new _ a s
-says limit (NotificationResponse n) old new a s = texts limit _ _ _ old new a s
-says limit (CommandComplete tag) old new a s = texts limit _ _ _ old new a s
-says limit (DataRow row) old new a s = goes limit _ new _ (parts limit old _ a) s.text
-says limit (ErrorResponse bytes) old new a s = goes limit old new _ a s.text
-says limit (CopyInResponse copy) old new a s = goes limit _ new _ (parts limit old _ a) s.text
-says limit (CopyOutResponse copy) old new a s = goes limit _ new _ (parts limit old _ a) s.text
-says limit (BackendKeyData key) old new a s = goes limit old new _ a s
-says limit (NegotiateProtocolVersion n) old new a s = goes limit _ new _ (parts limit old _ a) s.text
-says limit (NoticeResponse bytes) old new a s = goes limit old new _ a s.text
-says limit (ParameterStatus setting) old new a s = texts limit _ _ _ old new a s
-says limit (RowDescription row) old new a s = goes limit _ new _ (parts limit old _ a) s.text
-says limit (ReadyForQuery status) old new a s = goes limit old new _ a s
-says limit (CopyData bytes) old new a s = goes limit old new _ a s
-says limit (ParameterDescription row) old new a s = goes limit _ new _ (parts limit old _ a) s.text
-says limit (Authentication AuthenticationOk) old new a s = subst Printable (sym s) a
-says limit (Authentication AuthenticationKerberosV5) old new a s = subst Printable (sym s) a
-says limit (Authentication AuthenticationCleartextPassword) old new a s = subst Printable (sym s) a
-says limit (Authentication AuthenticationScmCredential) old new a s = subst Printable (sym s) a
-says limit (Authentication AuthenticationGss) old new a s = subst Printable (sym s) a
-says limit (Authentication AuthenticationSspi) old new a s = subst Printable (sym s) a
-says limit ParseComplete old new a s = subst Printable (sym s) a
-says limit BindComplete old new a s = subst Printable (sym s) a
-says limit CloseComplete old new a s = subst Printable (sym s) a
-says limit EmptyQueryResponse old new a s = subst Printable (sym s) a
-says limit CopyDone old new a s = subst Printable (sym s) a
-says limit NoData old new a s = subst Printable (sym s) a
-says limit PortalSuspended old new a s = subst Printable (sym s) a
+says : (style : Style) (m : Message) (old new : List ℕ) → Printable old → Shows style m old new → Printable new
+says style (Authentication (AuthenticationMd5Password salt)) old new a s = goes style.limit old new _ a s
+says style (Authentication (AuthenticationGssContinue bytes)) old new a s = goes style.limit old new _ a s
+says style (Authentication (AuthenticationSasl bytes)) old new a s = goes style.limit _ new _ (parts style.limit old _ a) s.text
+says style (Authentication (AuthenticationSaslContinue bytes)) old new a s = goes style.limit old new _ a s
+says style (Authentication (AuthenticationSaslFinal bytes)) old new a s = goes style.limit old new _ a s
+says style (NotificationResponse n) old new a s = texts style.limit _ _ _ old new a s
+says style (CommandComplete tag) old new a s = texts style.limit _ _ _ old new a s
+says style (DataRow row) old new a s = goes style.limit _ new _ (parts style.limit old _ a) s.text
+says style (ErrorResponse bytes) old new a s = goes style.limit old new _ a s.text
+says style (CopyInResponse copy) old new a s = goes style.limit _ new _ (parts style.limit old _ a) s.text
+says style (CopyOutResponse copy) old new a s = goes style.limit _ new _ (parts style.limit old _ a) s.text
+says style (BackendKeyData key) old new a s = goes style.limit old new _ a s
+says style (NegotiateProtocolVersion n) old new a s = goes style.limit _ new _ (parts style.limit old _ a) s.text
+says style (NoticeResponse bytes) old new a s = goes style.limit old new _ a s.text
+says style (ParameterStatus setting) old new a s = texts style.limit _ _ _ old new a s
+says style (RowDescription row) old new a s = goes style.limit _ new _ (parts style.limit old _ a) s.text
+says style (ReadyForQuery status) old new a s = goes style.limit old new _ a s
+says style (CopyData bytes) old new a s = goes style.limit old new _ a s
+says style (ParameterDescription row) old new a s = goes style.limit _ new _ (parts style.limit old _ a) s.text
+says style (Authentication AuthenticationOk) old new a s = subst Printable (sym s) a
+says style (Authentication AuthenticationKerberosV5) old new a s = subst Printable (sym s) a
+says style (Authentication AuthenticationCleartextPassword) old new a s = subst Printable (sym s) a
+says style (Authentication AuthenticationScmCredential) old new a s = subst Printable (sym s) a
+says style (Authentication AuthenticationGss) old new a s = subst Printable (sym s) a
+says style (Authentication AuthenticationSspi) old new a s = subst Printable (sym s) a
+says style ParseComplete old new a s = subst Printable (sym s) a
+says style BindComplete old new a s = subst Printable (sym s) a
+says style CloseComplete old new a s = subst Printable (sym s) a
+says style EmptyQueryResponse old new a s = subst Printable (sym s) a
+says style CopyDone old new a s = subst Printable (sym s) a
+says style NoData old new a s = subst Printable (sym s) a
+says style PortalSuspended old new a s = subst Printable (sym s) a
 
-result : (limit : ℕ) (r : Result Message Error) (old new : List ℕ) → Printable old → GoesOn limit r old new → Printable new
-result limit (Ok m) old new a g = says limit m _ new (parts limit old _ a) g
-result limit (Err e) old new a g = goes limit old new _ a g
+result : (style : Style) (r : Result Message Error) (old new : List ℕ) → Printable old → GoesOn style r old new → Printable new
+result style (Ok m) old new a g = says style m _ new (parts 0 old _ a) g
+result style (Err e) old new a g = goes 0 old new _ a g
 
-pub line_printable : (limit place : ℕ) (f : Frame) (line : List ℕ) → IsLineOf limit place f line → (text : List ℕ) × (line ≡ text ++ 10 ∷ []) × Printable text
-line_printable limit place f line is = (is.text, is.ended, result limit is.result (front limit place f) is.text (parts limit (decimal place) _ (number place)) is.told)
+pub line_printable : (style : Style) (place : ℕ) (f : Frame) (line : List ℕ) → IsLineOf style place f line → (text : List ℕ) × (line ≡ text ++ 10 ∷ []) × Printable text
+line_printable style place f line is = (is.text, is.ended, result style is.result (front place f) is.text (parts 0 (decimal place) _ (number place)) is.told)

@@ -7,6 +7,7 @@ use Rattle.std.proofs.Math.Nat.{min-eq_left}
 use Rattle.std.proofs.lemmas.List.{append-nil, length-take}
 use Rattle.std.proofs.Math.Seq.{take-append_seam, drop-append_seam}
 use Rattle.pgp_message.specs.Stream.{Frame, frame_bytes, IsFrame, IsPartial, IsLengthFault, IsEnding}
+use Rattle.pgtrace.specs.declared.style.Style.{Style}
 use Rattle.pgtrace.specs.Listing.{IsLineOf, Lines, NoLines, OneLine, place_behind, last_line, Streams, IsListed, WasListed, IsListing, WritesListing, EndsWith, IsCutShort}
 use Rattle.pgtrace.specs.Steps.{HasLine, ListsAll, ListsSome, Held, Holds, ListsPiece}
 use Rattle.pgtrace.specs.Taken.{AppendsFront}
@@ -21,58 +22,58 @@ same_place a b =
     let sum : length a + length b ≡ 0 + length (a ++ b) = omega (arith, length-append a b) in
     saturates (length a) (length b) greatest ∙ ap place_behind sum
 
-pub lines_join : (limit : ℕ) (a lines : List ℕ) → Lines limit 0 a lines → (b more : List ℕ) → Lines limit (place_behind (length a)) b more → Lines limit 0 (a ++ b) (lines ++ more)
-lines_join limit a lines first [] [] NoLines = subst (λ l. Lines limit 0 l (lines ++ [])) (sym (append-nil a)) (subst (Lines limit 0 a) (sym (append-nil lines)) first)
-lines_join limit a lines first _ _ (OneLine {bytes = b} {lines = more} f line before fits has) =
-    subst (λ l. Lines limit 0 l (lines ++ (more ++ line))) (append_assoc a b (frame_bytes f))
-    (subst (Lines limit 0 ((a ++ b) ++ frame_bytes f)) (append_assoc lines more line)
-    (OneLine f line (lines_join limit a lines first b more before) fits (subst (λ p. IsLineOf limit p f line) (same_place a b) has)))
+pub lines_join : (style : Style) (a lines : List ℕ) → Lines style 0 a lines → (b more : List ℕ) → Lines style (place_behind (length a)) b more → Lines style 0 (a ++ b) (lines ++ more)
+lines_join style a lines first [] [] NoLines = subst (λ l. Lines style 0 l (lines ++ [])) (sym (append-nil a)) (subst (Lines style 0 a) (sym (append-nil lines)) first)
+lines_join style a lines first _ _ (OneLine {bytes = b} {lines = more} f line before fits has) =
+    subst (λ l. Lines style 0 l (lines ++ (more ++ line))) (append_assoc a b (frame_bytes f))
+    (subst (Lines style 0 ((a ++ b) ++ frame_bytes f)) (append_assoc lines more line)
+    (OneLine f line (lines_join style a lines first b more before) fits (subst (λ p. IsLineOf style p f line) (same_place a b) has)))
 
 -- ---- a frame at a time
 
 -- the frames before the rest were listed
-pub record ListsTo (limit start : ℕ) (bytes rest : List ℕ) (old new : Option (List ℕ)) : Type 0 where
+pub record ListsTo (style : Style) (start : ℕ) (bytes rest : List ℕ) (old new : Option (List ℕ)) : Type 0 where
   pub front : List ℕ
   pub lines : List ℕ
   pub whole : bytes ≡ front ++ rest
-  pub listed : Lines limit start front lines
+  pub listed : Lines style start front lines
   pub written : Appends old new lines
 
-pub nothing_yet : (limit start : ℕ) (bytes : List ℕ) (old : Option (List ℕ)) → ListsTo limit start bytes bytes old old
-nothing_yet limit start bytes old = record { front = []; lines = []; whole = refl; listed = NoLines; written = Appends-nil old }
+pub nothing_yet : (style : Style) (start : ℕ) (bytes : List ℕ) (old : Option (List ℕ)) → ListsTo style start bytes bytes old old
+nothing_yet style start bytes old = record { front = []; lines = []; whole = refl; listed = NoLines; written = Appends-nil old }
 
 passed_is : (bytes front rest : List ℕ) → bytes ≡ front ++ rest → length bytes - length rest ≡ length front
 passed_is bytes front rest e = omega (arith, ap length e, length-append front rest)
 
 -- one more was, which stands behind those
-pub one_listed : (limit start here : ℕ) (bytes rest next line : List ℕ) (old mid new : Option (List ℕ)) → ListsTo limit start bytes rest old mid
-    → here ≡ min (start + (length bytes - length rest)) greatest → HasLine limit here rest next line → Appends mid new line → ListsTo limit start bytes next old new
-one_listed limit start here bytes rest next line old mid new to at has w =
+pub one_listed : (style : Style) (start here : ℕ) (bytes rest next line : List ℕ) (old mid new : Option (List ℕ)) → ListsTo style start bytes rest old mid
+    → here ≡ min (start + (length bytes - length rest)) greatest → HasLine style here rest next line → Appends mid new line → ListsTo style start bytes next old new
+one_listed style start here bytes rest next line old mid new to at has w =
     let place : here ≡ place_behind (start + length to.front) = at ∙ ap (λ n. place_behind (start + n)) (passed_is bytes to.front rest to.whole) in
     record {
       front = to.front ++ frame_bytes has.first;
       lines = to.lines ++ line;
       whole = to.whole ∙ ap (λ l. to.front ++ l) has.whole ∙ sym (append_assoc to.front (frame_bytes has.first) next);
-      listed = OneLine has.first line to.listed has.fits (subst (λ p. IsLineOf limit p has.first line) place has.line);
+      listed = OneLine has.first line to.listed has.fits (subst (λ p. IsLineOf style p has.first line) place has.line);
       written = Appends-trans old mid new to.lines line to.written w;
     }
 
-pub one_cut : (limit start here : ℕ) (bytes rest next line : List ℕ) (old mid new : Option (List ℕ)) → ListsTo limit start bytes rest old mid
-    → here ≡ min (start + (length bytes - length rest)) greatest → HasLine limit here rest next line → AppendsFront mid new line → ListsSome limit start bytes old new
-one_cut limit start here bytes rest next line old mid new to at has w =
+pub one_cut : (style : Style) (start here : ℕ) (bytes rest next line : List ℕ) (old mid new : Option (List ℕ)) → ListsTo style start bytes rest old mid
+    → here ≡ min (start + (length bytes - length rest)) greatest → HasLine style here rest next line → AppendsFront mid new line → ListsSome style start bytes old new
+one_cut style start here bytes rest next line old mid new to at has w =
     let place : here ≡ place_behind (start + length to.front) = at ∙ ap (λ n. place_behind (start + n)) (passed_is bytes to.front rest to.whole) in
     record {
       front = to.front ++ frame_bytes has.first;
       rest = next;
       lines = to.lines ++ line;
       whole = to.whole ∙ ap (λ l. to.front ++ l) has.whole ∙ sym (append_assoc to.front (frame_bytes has.first) next);
-      listed = OneLine has.first line to.listed has.fits (subst (λ p. IsLineOf limit p has.first line) place has.line);
+      listed = OneLine has.first line to.listed has.fits (subst (λ p. IsLineOf style p has.first line) place has.line);
       written = more_taken old mid new to.lines line to.written w;
     }
 
 -- and no more, since memory was refused
-pub some_listed : (limit start : ℕ) (bytes rest : List ℕ) (old new : Option (List ℕ)) → ListsTo limit start bytes rest old new → ListsSome limit start bytes old new
-some_listed limit start bytes rest old new to = record {
+pub some_listed : (style : Style) (start : ℕ) (bytes rest : List ℕ) (old new : Option (List ℕ)) → ListsTo style start bytes rest old new → ListsSome style start bytes old new
+some_listed style start bytes rest old new to = record {
   front = to.front;
   rest = rest;
   lines = to.lines;
@@ -82,22 +83,22 @@ some_listed limit start bytes rest old new to = record {
 }
 
 -- or since none is whole
-pub all_listed : (limit start n : ℕ) (bytes rest : List ℕ) (stopped : Bool) (old new : Option (List ℕ)) → ListsTo limit start bytes rest old new
-    → n ≡ length bytes - length rest → IsEnding stopped rest → ListsAll limit start bytes (take n bytes) (drop n bytes) stopped old new
-all_listed limit start n bytes rest stopped old new to passed ending =
+pub all_listed : (style : Style) (start n : ℕ) (bytes rest : List ℕ) (stopped : Bool) (old new : Option (List ℕ)) → ListsTo style start bytes rest old new
+    → n ≡ length bytes - length rest → IsEnding stopped rest → ListsAll style start bytes (take n bytes) (drop n bytes) stopped old new
+all_listed style start n bytes rest stopped old new to passed ending =
     let count : n ≡ length to.front = passed ∙ passed_is bytes to.front rest to.whole in
     let is : take n bytes ≡ to.front = ap (λ k. take k bytes) count ∙ ap (take (length to.front)) to.whole ∙ take-append_seam to.front rest in
     let left : drop n bytes ≡ rest = ap (λ k. drop k bytes) count ∙ ap (drop (length to.front)) to.whole ∙ drop-append_seam to.front rest in
     record {
       lines = to.lines;
       whole = rw (is, left) to.whole;
-      listed = subst (λ l. Lines limit start l to.lines) (sym is) to.listed;
+      listed = subst (λ l. Lines style start l to.lines) (sym is) to.listed;
       ending = subst (IsEnding stopped) (sym left) ending;
       written = to.written;
     }
 
-pub within : (limit start n : ℕ) (bytes rest : List ℕ) (old new : Option (List ℕ)) → ListsTo limit start bytes rest old new → n ≡ length bytes - length rest → n ≤ length bytes
-within limit start n bytes rest old new to passed = omega (arith, passed)
+pub within : (style : Style) (start n : ℕ) (bytes rest : List ℕ) (old new : Option (List ℕ)) → ListsTo style start bytes rest old new → n ≡ length bytes - length rest → n ≤ length bytes
+within style start n bytes rest old new to passed = omega (arith, passed)
 
 -- ---- a piece at a time
 
@@ -114,10 +115,10 @@ fault_stays rest piece f = record {
 }
 
 -- behind a length fault the bytes are counted
-pub piece_counted : (limit place left count : ℕ) (bytes piece rest : List ℕ) (old new : Option (List ℕ))
+pub piece_counted : (style : Style) (place left count : ℕ) (bytes piece rest : List ℕ) (old new : Option (List ℕ))
     → Holds (record { bytes = bytes; place = place; stopped = true; left = left }) rest → place ≤ greatest → count ≡ min (left + length piece) greatest → Keeps old new
-    → ListsPiece limit place (rest ++ piece) (record { bytes = bytes; place = place; stopped = true; left = count }) old new
-piece_counted limit place left count bytes piece rest old new holds small counts kept = record {
+    → ListsPiece style place (rest ++ piece) (record { bytes = bytes; place = place; stopped = true; left = count }) old new
+piece_counted style place left count bytes piece rest old new holds small counts kept = record {
   front = [];
   rest = rest ++ piece;
   lines = [];
@@ -133,12 +134,12 @@ piece_counted limit place left count bytes piece rest old new holds small counts
 }
 
 -- the frames that are whole with it were listed
-pub piece_listed : (limit place was n moved count : ℕ) (bytes piece rest items left : List ℕ) (stopped : Bool) (old mid new : Option (List ℕ))
+pub piece_listed : (style : Style) (place was n moved count : ℕ) (bytes piece rest items left : List ℕ) (stopped : Bool) (old mid new : Option (List ℕ))
     → Holds (record { bytes = bytes; place = place; stopped = false; left = was }) rest → items ≡ bytes ++ piece
-    → ListsAll limit place items (take n items) (drop n items) stopped old mid → n ≤ length items → left ≡ drop n items
+    → ListsAll style place items (take n items) (drop n items) stopped old mid → n ≤ length items → left ≡ drop n items
     → moved ≡ min (place + n) greatest → count ≡ length left → count ≤ greatest → Keeps mid new
-    → ListsPiece limit place (rest ++ piece) (record { bytes = left; place = moved; stopped = stopped; left = count }) old new
-piece_listed limit place was n moved count bytes piece rest items left stopped old mid new holds grown all le cut moves counts small kept =
+    → ListsPiece style place (rest ++ piece) (record { bytes = left; place = moved; stopped = stopped; left = count }) old new
+piece_listed style place was n moved count bytes piece rest items left stopped old mid new holds grown all le cut moves counts small kept =
     let same : rest ++ piece ≡ items = ap (λ l. l ++ piece) (sym (holds.bytes refl)) ∙ sym grown in
     let long : length (take n items) ≡ n = omega (arith, length-take n items, le) in
     record {
@@ -157,8 +158,8 @@ piece_listed limit place was n moved count bytes piece rest items left stopped o
     }
 
 -- nothing was listed
-pub none_of_piece : (limit place : ℕ) (bytes : List ℕ) (old new : Option (List ℕ)) → Keeps old new → ListsSome limit place bytes old new
-none_of_piece limit place bytes old new kept = record {
+pub none_of_piece : (style : Style) (place : ℕ) (bytes : List ℕ) (old new : Option (List ℕ)) → Keeps old new → ListsSome style place bytes old new
+none_of_piece style place bytes old new kept = record {
   front = [];
   rest = bytes;
   lines = [];
@@ -168,17 +169,17 @@ none_of_piece limit place bytes old new kept = record {
 }
 
 -- some were
-pub some_of_piece : (limit place was : ℕ) (bytes piece rest items : List ℕ) (old new : Option (List ℕ))
-    → Holds (record { bytes = bytes; place = place; stopped = false; left = was }) rest → items ≡ bytes ++ piece → ListsSome limit place items old new → ListsSome limit place (rest ++ piece) old new
-some_of_piece limit place was bytes piece rest items old new holds grown some =
-    subst (λ l. ListsSome limit place l old new) (grown ∙ ap (λ l. l ++ piece) (holds.bytes refl)) some
+pub some_of_piece : (style : Style) (place was : ℕ) (bytes piece rest items : List ℕ) (old new : Option (List ℕ))
+    → Holds (record { bytes = bytes; place = place; stopped = false; left = was }) rest → items ≡ bytes ++ piece → ListsSome style place items old new → ListsSome style place (rest ++ piece) old new
+some_of_piece style place was bytes piece rest items old new holds grown some =
+    subst (λ l. ListsSome style place l old new) (grown ∙ ap (λ l. l ++ piece) (holds.bytes refl)) some
 
 -- all were, and weren't passed on
-pub all_of_piece : (limit place was n : ℕ) (bytes piece rest items : List ℕ) (stopped : Bool) (old mid new : Option (List ℕ))
+pub all_of_piece : (style : Style) (place was n : ℕ) (bytes piece rest items : List ℕ) (stopped : Bool) (old mid new : Option (List ℕ))
     → Holds (record { bytes = bytes; place = place; stopped = false; left = was }) rest → items ≡ bytes ++ piece
-    → ListsAll limit place items (take n items) (drop n items) stopped old mid → Keeps mid new → ListsSome limit place (rest ++ piece) old new
-all_of_piece limit place was n bytes piece rest items stopped old mid new holds grown all kept =
-    some_of_piece limit place was bytes piece rest items old new holds grown (record {
+    → ListsAll style place items (take n items) (drop n items) stopped old mid → Keeps mid new → ListsSome style place (rest ++ piece) old new
+all_of_piece style place was n bytes piece rest items stopped old mid new holds grown all kept =
+    some_of_piece style place was bytes piece rest items old new holds grown (record {
       front = take n items;
       rest = drop n items;
       lines = all.lines;
@@ -190,18 +191,18 @@ all_of_piece limit place was n bytes piece rest items stopped old mid new holds 
 -- ---- the whole stream
 
 -- what came so far was listed, and this is kept of the rest
-pub record Tracks (limit : ℕ) (before after : Streams) (held : Held) : Type 0 where
+pub record Tracks (style : Style) (before after : Streams) (held : Held) : Type 0 where
   pub front : List ℕ
   pub rest : List ℕ
   pub lines : List ℕ
   pub came : Consumes before.input after.input (front ++ rest)
-  pub listed : Lines limit 0 front lines
+  pub listed : Lines style 0 front lines
   pub holds : Holds held rest
   pub place : held.place ≡ place_behind (length front)
   pub written : Appends before.output after.output lines
 
-pub tracks_nothing : (limit : ℕ) (s : Streams) (held : Held) → held ≡ record { bytes = []; place = 0; stopped = false; left = 0 } → Tracks limit s s held
-tracks_nothing limit s held e = record {
+pub tracks_nothing : (style : Style) (s : Streams) (held : Held) → held ≡ record { bytes = []; place = 0; stopped = false; left = 0 } → Tracks style s s held
+tracks_nothing style s held e = record {
   front = [];
   rest = [];
   lines = [];
@@ -213,8 +214,8 @@ tracks_nothing limit s held e = record {
 }
 
 -- nothing came
-pub tracks_same : (limit : ℕ) (before after : Streams) (held : Held) (next : Option (List ℕ)) → Tracks limit before after held → Keeps after.input next → Tracks limit before (record { input = next; output = after.output }) held
-tracks_same limit before after held next t kept = record {
+pub tracks_same : (style : Style) (before after : Streams) (held : Held) (next : Option (List ℕ)) → Tracks style before after held → Keeps after.input next → Tracks style before (record { input = next; output = after.output }) held
+tracks_same style before after held next t kept = record {
   front = t.front;
   rest = t.rest;
   lines = t.lines;
@@ -225,51 +226,51 @@ tracks_same limit before after held next t kept = record {
   written = t.written;
 }
 
-came_more : (limit : ℕ) (before after : Streams) (held : Held) (t : Tracks limit before after held) (next : Option (List ℕ)) (piece front rest : List ℕ) → Consumes after.input next piece → t.rest ++ piece ≡ front ++ rest
+came_more : (style : Style) (before after : Streams) (held : Held) (t : Tracks style before after held) (next : Option (List ℕ)) (piece front rest : List ℕ) → Consumes after.input next piece → t.rest ++ piece ≡ front ++ rest
     → Consumes before.input next ((t.front ++ front) ++ rest)
-came_more limit before after held t next piece front rest came whole =
+came_more style before after held t next piece front rest came whole =
     let moved : (t.front ++ t.rest) ++ piece ≡ (t.front ++ front) ++ rest =
     append_assoc t.front t.rest piece ∙ ap (λ l. t.front ++ l) whole ∙ sym (append_assoc t.front front rest) in
     subst (Consumes before.input next) moved (Consumes-trans before.input after.input next (t.front ++ t.rest) piece t.came came)
 
 -- a piece came
-pub tracks_piece : (limit : ℕ) (before after : Streams) (held new : Held) (next output : Option (List ℕ)) (piece : List ℕ) (t : Tracks limit before after held)
-    → Consumes after.input next piece → ListsPiece limit held.place (t.rest ++ piece) new after.output output → Tracks limit before (record { input = next; output = output }) new
-tracks_piece limit before after held new next output piece t came one = record {
+pub tracks_piece : (style : Style) (before after : Streams) (held new : Held) (next output : Option (List ℕ)) (piece : List ℕ) (t : Tracks style before after held)
+    → Consumes after.input next piece → ListsPiece style held.place (t.rest ++ piece) new after.output output → Tracks style before (record { input = next; output = output }) new
+tracks_piece style before after held new next output piece t came one = record {
   front = t.front ++ one.front;
   rest = one.rest;
   lines = t.lines ++ one.lines;
-  came = came_more limit before after held t next piece one.front one.rest came one.whole;
-  listed = lines_join limit t.front t.lines t.listed one.front one.lines (subst (λ p. Lines limit p one.front one.lines) t.place one.listed);
+  came = came_more style before after held t next piece one.front one.rest came one.whole;
+  listed = lines_join style t.front t.lines t.listed one.front one.lines (subst (λ p. Lines style p one.front one.lines) t.place one.listed);
   holds = one.holds;
   place = one.moved ∙ ap (λ p. place_behind (p + length one.front)) t.place ∙ same_place t.front one.front;
   written = Appends-trans before.output after.output output t.lines one.lines t.written one.written;
 }
 
 -- and was listed in part
-pub cut_piece : (limit : ℕ) (before after : Streams) (held : Held) (next output : Option (List ℕ)) (piece : List ℕ) (t : Tracks limit before after held)
-    → Consumes after.input next piece → ListsSome limit held.place (t.rest ++ piece) after.output output → IsCutShort limit before (record { input = next; output = output })
-cut_piece limit before after held next output piece t came some = record {
+pub cut_piece : (style : Style) (before after : Streams) (held : Held) (next output : Option (List ℕ)) (piece : List ℕ) (t : Tracks style before after held)
+    → Consumes after.input next piece → ListsSome style held.place (t.rest ++ piece) after.output output → IsCutShort style before (record { input = next; output = output })
+cut_piece style before after held next output piece t came some = record {
   front = t.front ++ some.front;
   rest = some.rest;
   lines = t.lines ++ some.lines;
   text = t.lines ++ some.lines;
-  came = came_more limit before after held t next piece some.front some.rest came some.whole;
-  listed = lines_join limit t.front t.lines t.listed some.front some.lines (subst (λ p. Lines limit p some.front some.lines) t.place some.listed);
+  came = came_more style before after held t next piece some.front some.rest came some.whole;
+  listed = lines_join style t.front t.lines t.listed some.front some.lines (subst (λ p. Lines style p some.front some.lines) t.place some.listed);
   due = inl refl;
   written = more_taken before.output after.output output t.lines some.lines t.written some.written;
 }
 
 -- reading failed
-pub was_listed : (limit : ℕ) (before after : Streams) (held : Held) → Tracks limit before after held → WasListed limit before after
-was_listed limit before after held t = record {
+pub was_listed : (style : Style) (before after : Streams) (held : Held) → Tracks style before after held → WasListed style before after
+was_listed style before after held t = record {
   stopped = held.stopped;
   rest = t.rest;
   all = record { front = t.front; lines = t.lines; came = t.came; listed = t.listed; ending = t.holds.ending; written = t.written };
 }
 
-pub cut_here : (limit : ℕ) (before after : Streams) (held : Held) → Tracks limit before after held → IsCutShort limit before after
-cut_here limit before after held t = record {
+pub cut_here : (style : Style) (before after : Streams) (held : Held) → Tracks style before after held → IsCutShort style before after
+cut_here style before after held t = record {
   front = t.front;
   rest = t.rest;
   lines = t.lines;
@@ -281,10 +282,10 @@ cut_here limit before after held t = record {
 }
 
 -- the end came
-pub all_written : (limit : ℕ) (before after : Streams) (held : Held) (output : Option (List ℕ)) → Tracks limit before after held → IsAtEnd after.input → Appends after.output output (last_line held.stopped held.left)
-    → IfSome before.input (λ bytes. WritesListing limit bytes before.output output)
-all_written limit before after held output t end last =
-    Consumes-whole before.input after.input (t.front ++ t.rest) (λ bytes. WritesListing limit bytes before.output output) t.came end (record {
+pub all_written : (style : Style) (before after : Streams) (held : Held) (output : Option (List ℕ)) → Tracks style before after held → IsAtEnd after.input → Appends after.output output (last_line held.stopped held.left)
+    → IfSome before.input (λ bytes. WritesListing style bytes before.output output)
+all_written style before after held output t end last =
+    Consumes-whole before.input after.input (t.front ++ t.rest) (λ bytes. WritesListing style bytes before.output output) t.came end (record {
       output = t.lines ++ last_line held.stopped held.left;
       is = record {
         front = t.front;
@@ -300,9 +301,9 @@ all_written limit before after held output t end last =
     })
 
 -- and the last line was written in part
-pub cut_last : (limit : ℕ) (before after : Streams) (held : Held) (output : Option (List ℕ)) → Tracks limit before after held → IsAtEnd after.input → AppendsFront after.output output (last_line held.stopped held.left)
-    → IsCutShort limit before (record { input = after.input; output = output })
-cut_last limit before after held output t end last = record {
+pub cut_last : (style : Style) (before after : Streams) (held : Held) (output : Option (List ℕ)) → Tracks style before after held → IsAtEnd after.input → AppendsFront after.output output (last_line held.stopped held.left)
+    → IsCutShort style before (record { input = after.input; output = output })
+cut_last style before after held output t end last = record {
   front = t.front;
   rest = t.rest;
   lines = t.lines;

@@ -4,6 +4,6 @@ use Rattle.pgtrace.specs.declared.run.Command.TheVariants as variants
 use Rattle.pgtrace.specs.Command.{Command, Server, Help, Version}
 
 abbrev pub asked : code.Command.Command → Command
-asked (variants.Server full) = Server full
+asked (variants.Server style) = Server style
 asked variants.Help = Help
 asked variants.Version = Version

@@ -1,32 +1,35 @@
 -- What the program does for its words.
-use Rattle.std.specs.Prelude.{◌≡◌, ◌≢◌, ⊤, ◌⊎◌, ℕ, Bool, true, false, List, [], ◌∷◌, ◌++◌, Option, IfSome, codes}
+use Rattle.std.specs.Prelude.{◌≡◌, ◌≢◌, ⊤, ◌⊎◌, ℕ, true, false, List, [], ◌∷◌, ◌++◌, Option, IfSome, codes}
 use Rattle.std.specs.Io.KnownBytes.{Keeps, Appends, IsAtEnd}
 use Rattle.pgtrace.specs.declared.fault.Fault.{Fault}
 use Rattle.pgtrace.specs.declared.fault.Fault.TheVariants.{Memory, Read, Write}
+use Rattle.pgtrace.specs.declared.style.Style.{Style}
 use Rattle.pgtrace.specs.Listing.{Streams, IsCutShort, WasListed, WritesListing}
 use Rattle.pgtrace.specs.Taken.{AppendsFront}
 use Rattle.pgtrace.specs.Words.{greatest, AreWords, HasOther, LacksWords}
 
--- Lists a server's stream, with long texts and values in full or not; or tells how the program is called, or which one it is.
+-- Lists a server's stream in a style; or tells how the program is called, or which one it is.
 pub data Command : Type 0 where
-  Server : (full : Bool) → Command
+  Server : Style → Command
   Help : Command
   Version : Command
 
+-- The style that these options ask for, each once at most: 64 bytes of a text or a value are shown, or all of them, and secrets aren't, or are.
+abbrev pub AskStyle : List (List ℕ) → Style → Type 0
+AskStyle options style =
+    ((options ≡ []) × (style ≡ record { limit = 64; secrets = false }))
+    ⊎ ((options ≡ codes "--full" ∷ []) × (style ≡ record { limit = greatest; secrets = false }))
+    ⊎ ((options ≡ codes "--secrets" ∷ []) × (style ≡ record { limit = 64; secrets = true }))
+    ⊎ (((options ≡ codes "--full" ∷ codes "--secrets" ∷ []) ⊎ (options ≡ codes "--secrets" ∷ codes "--full" ∷ [])) × (style ≡ record { limit = greatest; secrets = true }))
+
 -- the words ask for it
 abbrev pub Asks : List (List ℕ) → Command → Type 0
-Asks words (Server false) = words ≡ codes "server" ∷ []
-Asks words (Server true) = words ≡ codes "server" ∷ codes "--full" ∷ []
+Asks words (Server style) = (options : List (List ℕ)) × (words ≡ codes "server" ∷ options) × AskStyle options style
 Asks words Help = words ≡ codes "--help" ∷ []
 Asks words Version = words ≡ codes "--version" ∷ []
 
--- how many bytes of a text or a value are shown
-abbrev pub limit_of : Bool → ℕ
-limit_of false = 64
-limit_of true = greatest
-
 abbrev pub usage : List ℕ
-usage = codes "usage: pgtrace server [--full] | --help | --version" ++ 10 ∷ []
+usage = codes "usage: pgtrace server [--full] [--secrets] | --help | --version" ++ 10 ∷ []
 
 abbrev pub version : List ℕ
 version = codes "pgtrace 0.1.0" ++ 10 ∷ []
@@ -45,14 +48,14 @@ Caused lacks read_failed write_failed Write = write_failed
 
 -- What is done where no fault is met.
 abbrev pub Does : Command → Streams → Streams → Type 0
-Does (Server full) before after = IsAtEnd after.input × IfSome before.input (λ bytes. WritesListing (limit_of full) bytes before.output after.output)
+Does (Server style) before after = IsAtEnd after.input × IfSome before.input (λ bytes. WritesListing style bytes before.output after.output)
 Does Help before after = Keeps before.input after.input × Appends before.output after.output usage
 Does Version before after = Keeps before.input after.input × Appends before.output after.output version
 
 -- What is done where one is: what is written is a front of what would be; and where a read failed, nothing of what came is held back.
 abbrev pub Stops : Command → Fault → Streams → Streams → Type 0
-Stops (Server full) Read before after = WasListed (limit_of full) before after
-Stops (Server full) fault before after = IsCutShort (limit_of full) before after
+Stops (Server style) Read before after = WasListed style before after
+Stops (Server style) fault before after = IsCutShort style before after
 Stops Help fault before after = Keeps before.input after.input × AppendsFront before.output after.output usage
 Stops Version fault before after = Keeps before.input after.input × AppendsFront before.output after.output version
 

@@ -1,5 +1,5 @@
 -- What the line of each message says behind its name. PostgreSQL manual, "Message Formats".
-use Rattle.std.specs.Prelude.{◌≡◌, ◌⊎◌, ℕ, pos, List, [], ◌∷◌, ◌++◌, length, Option, Some, None, codes}
+use Rattle.std.specs.Prelude.{◌≡◌, ◌⊎◌, ℕ, pos, Bool, true, false, List, [], ◌∷◌, ◌++◌, length, Option, Some, None, codes}
 use Rattle.std.specs.Str.{IsUtf8}
 use Rattle.std.specs.declared.ops.Range.{Range}
 use Rattle.pgp_base.specs.Error.{number_of}
@@ -10,6 +10,7 @@ use Rattle.pgp_message.specs.Items.{TextSpelled, TextRefused, FormatSpelled, For
 use Rattle.pgp_message.specs.Parts.{CopyFormats}
 use Rattle.pgp_message.specs.Table.{value_at}
 use Rattle.pgtrace.specs.Line.{Part, Word, Number, Text, Value, Hidden, followed}
+use Rattle.pgtrace.specs.declared.style.Style.{Style}
 use Rattle.pgtrace.specs.Names.{refusal_of, field_of, state_of}
 
 -- a refusal
@@ -84,31 +85,38 @@ ShowsFormats limit copy old new =
     ShowsCounted FormatSpelled FormatRefused number_part limit copy.count copy.storage
     (followed limit old (Word (codes "format") ∷ Number (pos copy.format) ∷ Word (codes "columns") ∷ [])) new
 
--- The line of a message before and after what it says behind its name. Of passwords' salts, of the texts of a SASL exchange and of keys the
--- length alone is told.
-abbrev pub Shows : ℕ → Message → List ℕ → List ℕ → Type 0
-Shows limit (Authentication (AuthenticationMd5Password salt)) old new = new ≡ followed limit old (Word (codes "salt") ∷ Hidden (length salt) ∷ [])
-Shows limit (Authentication (AuthenticationGssContinue bytes)) old new = new ≡ followed limit old (Word (codes "data") ∷ Hidden (length bytes) ∷ [])
-Shows limit (Authentication (AuthenticationSasl bytes)) old new = ShowsMarked TextSpelled TextRefused text_part limit bytes (followed limit old (Word (codes "mechanisms") ∷ [])) new
-Shows limit (Authentication (AuthenticationSaslContinue bytes)) old new = new ≡ followed limit old (Word (codes "data") ∷ Hidden (length bytes) ∷ [])
-Shows limit (Authentication (AuthenticationSaslFinal bytes)) old new = new ≡ followed limit old (Word (codes "data") ∷ Hidden (length bytes) ∷ [])
-Shows limit (NotificationResponse n) old new = ShowsTexts limit (IsUtf8 n.channel × IsUtf8 n.message)
+-- a secret, or how long it is
+abbrev pub secret_by : Bool → List ℕ → Part
+secret_by true bytes = Text bytes
+secret_by false bytes = Hidden (length bytes)
+
+abbrev pub secret : Style → List ℕ → Part
+secret style bytes = secret_by style.secrets bytes
+
+-- The line of a message before and after what it says behind its name. Salts, the texts of an exchange and keys are secrets.
+abbrev pub Shows : Style → Message → List ℕ → List ℕ → Type 0
+Shows style (Authentication (AuthenticationMd5Password salt)) old new = new ≡ followed style.limit old (Word (codes "salt") ∷ secret style salt ∷ [])
+Shows style (Authentication (AuthenticationGssContinue bytes)) old new = new ≡ followed style.limit old (Word (codes "data") ∷ secret style bytes ∷ [])
+Shows style (Authentication (AuthenticationSasl bytes)) old new = ShowsMarked TextSpelled TextRefused text_part style.limit bytes (followed style.limit old (Word (codes "mechanisms") ∷ [])) new
+Shows style (Authentication (AuthenticationSaslContinue bytes)) old new = new ≡ followed style.limit old (Word (codes "data") ∷ secret style bytes ∷ [])
+Shows style (Authentication (AuthenticationSaslFinal bytes)) old new = new ≡ followed style.limit old (Word (codes "data") ∷ secret style bytes ∷ [])
+Shows style (NotificationResponse n) old new = ShowsTexts style.limit (IsUtf8 n.channel × IsUtf8 n.message)
     (Word (codes "process") ∷ Number n.process_id ∷ Word (codes "channel") ∷ Text n.channel ∷ Word (codes "payload") ∷ Text n.message ∷ [])
     (payload_of (NotificationResponse n)) old new
-Shows limit (CommandComplete tag) old new = ShowsTexts limit (IsUtf8 tag) (Word (codes "tag") ∷ Text tag ∷ []) (payload_of (CommandComplete tag)) old new
-Shows limit (DataRow row) old new = ShowsCounted RangeSpelled RangeRefused (value_part row.storage) limit row.count row.storage (followed limit old (Word (codes "values") ∷ [])) new
-Shows limit (ErrorResponse bytes) old new = ShowsMarked ErrorFieldSpelled ErrorFieldRefused field_parts limit bytes old new
-Shows limit (CopyInResponse copy) old new = ShowsFormats limit copy old new
-Shows limit (CopyOutResponse copy) old new = ShowsFormats limit copy old new
-Shows limit (BackendKeyData key) old new = new ≡ followed limit old (Word (codes "process") ∷ Number key.process_id ∷ Word (codes "key") ∷ Hidden (length key.secret_key) ∷ [])
-Shows limit (NegotiateProtocolVersion n) old new = ShowsCounted TextSpelled TextRefused text_part limit n.count n.options
-    (followed limit old (Word (codes "version") ∷ Number n.version ∷ Word (codes "options") ∷ [])) new
-Shows limit (NoticeResponse bytes) old new = ShowsMarked ErrorFieldSpelled ErrorFieldRefused field_parts limit bytes old new
-Shows limit (ParameterStatus setting) old new = ShowsTexts limit (IsUtf8 setting.name × IsUtf8 setting.value)
+Shows style (CommandComplete tag) old new = ShowsTexts style.limit (IsUtf8 tag) (Word (codes "tag") ∷ Text tag ∷ []) (payload_of (CommandComplete tag)) old new
+Shows style (DataRow row) old new = ShowsCounted RangeSpelled RangeRefused (value_part row.storage) style.limit row.count row.storage (followed style.limit old (Word (codes "values") ∷ [])) new
+Shows style (ErrorResponse bytes) old new = ShowsMarked ErrorFieldSpelled ErrorFieldRefused field_parts style.limit bytes old new
+Shows style (CopyInResponse copy) old new = ShowsFormats style.limit copy old new
+Shows style (CopyOutResponse copy) old new = ShowsFormats style.limit copy old new
+Shows style (BackendKeyData key) old new = new ≡ followed style.limit old (Word (codes "process") ∷ Number key.process_id ∷ Word (codes "key") ∷ secret style key.secret_key ∷ [])
+Shows style (NegotiateProtocolVersion n) old new = ShowsCounted TextSpelled TextRefused text_part style.limit n.count n.options
+    (followed style.limit old (Word (codes "version") ∷ Number n.version ∷ Word (codes "options") ∷ [])) new
+Shows style (NoticeResponse bytes) old new = ShowsMarked ErrorFieldSpelled ErrorFieldRefused field_parts style.limit bytes old new
+Shows style (ParameterStatus setting) old new = ShowsTexts style.limit (IsUtf8 setting.name × IsUtf8 setting.value)
     (Word (codes "name") ∷ Text setting.name ∷ Word (codes "value") ∷ Text setting.value ∷ [])
     (payload_of (ParameterStatus setting)) old new
-Shows limit (RowDescription row) old new = ShowsCounted FieldSpelled FieldRefused column_parts limit row.count row.storage (followed limit old (Word (codes "columns") ∷ [])) new
-Shows limit (ReadyForQuery status) old new = new ≡ followed limit old (Word (name_or (state_of status) status) ∷ [])
-Shows limit (CopyData bytes) old new = new ≡ followed limit old (Word (codes "data") ∷ Value (Some bytes) ∷ [])
-Shows limit (ParameterDescription row) old new = ShowsCounted TypeSpelled TypeRefused number_part limit row.count row.storage (followed limit old (Word (codes "types") ∷ [])) new
-Shows limit m old new = new ≡ old
+Shows style (RowDescription row) old new = ShowsCounted FieldSpelled FieldRefused column_parts style.limit row.count row.storage (followed style.limit old (Word (codes "columns") ∷ [])) new
+Shows style (ReadyForQuery status) old new = new ≡ followed style.limit old (Word (name_or (state_of status) status) ∷ [])
+Shows style (CopyData bytes) old new = new ≡ followed style.limit old (Word (codes "data") ∷ Value (Some bytes) ∷ [])
+Shows style (ParameterDescription row) old new = ShowsCounted TypeSpelled TypeRefused number_part style.limit row.count row.storage (followed style.limit old (Word (codes "types") ∷ [])) new
+Shows style m old new = new ≡ old

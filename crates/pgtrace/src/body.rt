@@ -4,8 +4,8 @@ ghost use Rattle.std.specs.Prelude.{◌≡◌, ◌∷◌, [], pos, Some, OnErr, 
 ghost use Rattle.pgp_base.specs.Walk.{hint_of};
 ghost use Rattle.pgp_message.specs.BackendMessage.{payload_of, Authentication, AuthenticationSasl, NotificationResponse, CommandComplete, DataRow, BackendKeyData, NegotiateProtocolVersion, ParameterStatus, RowDescription, ParameterDescription};
 ghost use Rattle.pgp_message.specs.Views.{view};
-ghost use Rattle.pgtrace.specs.Line.{Word, Number, Text, Value, Hidden, followed};
-ghost use Rattle.pgtrace.specs.Shown.{Shows, bare, list_of, number_part};
+ghost use Rattle.pgtrace.specs.Line.{Word, Number, Text, Value, followed};
+ghost use Rattle.pgtrace.specs.Shown.{Shows, bare, list_of, number_part, secret};
 
 use crate::line::{put_hidden, put_number, put_signed, put_some, put_text, put_word};
 use crate::lists::{
@@ -13,6 +13,7 @@ use crate::lists::{
     put_values,
 };
 use crate::names::state_of;
+use crate::style::Style;
 use pgp_base::{FallibleIterator, Memory};
 use postgres_protocol::message::backend::{
     AuthenticationSaslBody, BackendKeyDataBody, ColumnFormats, CommandCompleteBody, DataRowBody,
@@ -23,44 +24,46 @@ use std::alloc::AllocError;
 
 /// Adds what the message says, whose body these bytes are.
 pub fn put_message<A: Memory>(
-    limit: usize,
+    style: Style,
     message: &Message<&[u8]>,
     body: &[u8],
     line: &mut String<A>,
 ) -> Result<(), AllocError>
     requires { body.now ≡ payload_of (view message.now) }
-    ensures says { OnOk result (Shows limit (view message.now) (string_bytes line.old) (string_bytes line.new)) }
+    ensures says { OnOk result (Shows style (view message.now) (string_bytes line.old) (string_bytes line.new)) }
     ensures lacks { OnErr result A.Lacks }
 {
     match message {
-        Message::AuthenticationMd5Password(_) => put_secret("salt", 4, line),
+        Message::AuthenticationMd5Password(salt) => put_secret(style, "salt", &salt.salt(), line),
         Message::AuthenticationGssContinue(token) => {
-            put_secret("data", token.data().len(), line)
+            put_secret(style, "data", token.data(), line)
         }
-        Message::AuthenticationSasl(offer) => put_offer(limit, offer, line),
-        Message::AuthenticationSaslContinue(text) => { put_secret("data", text.data().len(), line) }
-        Message::AuthenticationSaslFinal(text) => { put_secret("data", text.data().len(), line) }
-        Message::BackendKeyData(key) => put_key(key, line),
-        Message::CommandComplete(command) => put_command(limit, command, body, line),
-        Message::CopyData(copy) => put_copied(limit, copy.data(), line),
+        Message::AuthenticationSasl(offer) => put_offer(style, offer, line),
+        Message::AuthenticationSaslContinue(text) => {
+            put_secret(style, "data", text.data(), line)
+        }
+        Message::AuthenticationSaslFinal(text) => { put_secret(style, "data", text.data(), line) }
+        Message::BackendKeyData(key) => put_key(style, key, line),
+        Message::CommandComplete(command) => put_command(style, command, body, line),
+        Message::CopyData(copy) => put_copied(style.limit, copy.data(), line),
         Message::CopyInResponse(copy) => {
-            put_copy(limit, copy.format(), copy.column_formats(), line)
+            put_copy(style.limit, copy.format(), copy.column_formats(), line)
         }
         Message::CopyOutResponse(copy) => {
-            put_copy(limit, copy.format(), copy.column_formats(), line)
+            put_copy(style.limit, copy.format(), copy.column_formats(), line)
         }
-        Message::DataRow(row) => put_row(limit, row, line),
-        Message::ErrorResponse(error) => put_fields(limit, error.fields(), line),
-        Message::NegotiateProtocolVersion(answer) => put_versions(limit, answer, line),
-        Message::NoticeResponse(notice) => put_fields(limit, notice.fields(), line),
-        Message::NotificationResponse(news) => put_news(limit, news, body, line),
-        Message::ParameterDescription(types) => put_parameters(limit, types, line),
-        Message::ParameterStatus(setting) => put_setting(limit, setting, body, line),
+        Message::DataRow(row) => put_row(style, row, line),
+        Message::ErrorResponse(error) => put_fields(style.limit, error.fields(), line),
+        Message::NegotiateProtocolVersion(answer) => put_versions(style, answer, line),
+        Message::NoticeResponse(notice) => put_fields(style.limit, notice.fields(), line),
+        Message::NotificationResponse(news) => put_news(style, news, body, line),
+        Message::ParameterDescription(types) => put_parameters(style, types, line),
+        Message::ParameterStatus(setting) => put_setting(style, setting, body, line),
         Message::ReadyForQuery(ready) => {
             let status = ready.status();
             put_named(state_of(status), status, line)
         }
-        Message::RowDescription(row) => put_description(limit, row, line),
+        Message::RowDescription(row) => put_description(style, row, line),
         Message::AuthenticationCleartextPassword
         | Message::AuthenticationGss
         | Message::AuthenticationKerberosV5
@@ -77,40 +80,49 @@ pub fn put_message<A: Memory>(
     }
 }
 
-/// Adds a secret's name and length.
-fn put_secret<A: Memory>(name: &str, len: usize, line: &mut String<A>) -> Result<(), AllocError>
-    ensures parts { OnOk result (string_bytes line.new ≡ followed 0 (string_bytes line.old) (Word name.now ∷ Hidden len ∷ [])) }
+/// Adds a secret with its name, or how long it is.
+fn put_secret<A: Memory>(
+    style: Style,
+    name: &str,
+    bytes: &[u8],
+    line: &mut String<A>,
+) -> Result<(), AllocError>
+    ensures parts { OnOk result (string_bytes line.new ≡ followed style.limit (string_bytes line.old) (Word name.now ∷ secret style bytes.now ∷ [])) }
     ensures lacks { OnErr result A.Lacks }
 {
     put_word(name, line)?;
-    put_hidden(len, line)
+    if style.secrets {
+        put_text(style.limit, bytes, line)
+    } else {
+        put_hidden(bytes.len(), line)
+    }
 }
 
 /// Adds the mechanisms that a server offers.
 fn put_offer<A: Memory>(
-    limit: usize,
+    style: Style,
     offer: &AuthenticationSaslBody<&[u8]>,
     line: &mut String<A>,
 ) -> Result<(), AllocError>
-    ensures says { OnOk result (Shows limit (Authentication (AuthenticationSasl offer.now)) (string_bytes line.old) (string_bytes line.new)) }
+    ensures says { OnOk result (Shows style (Authentication (AuthenticationSasl offer.now)) (string_bytes line.old) (string_bytes line.new)) }
     ensures lacks { OnErr result A.Lacks }
 {
     put_word("mechanisms", line)?;
-    put_mechanisms(limit, offer.mechanisms(), line)
+    put_mechanisms(style.limit, offer.mechanisms(), line)
 }
 
-/// Adds the process that a cancel request names, and how long its key is.
+/// Adds the process that a cancel request names, and its key.
 fn put_key<A: Memory>(
+    style: Style,
     key: &BackendKeyDataBody<&[u8]>,
     line: &mut String<A>,
 ) -> Result<(), AllocError>
-    ensures says { OnOk result (Shows 0 (BackendKeyData key.now) (string_bytes line.old) (string_bytes line.new)) }
+    ensures says { OnOk result (Shows style (BackendKeyData key.now) (string_bytes line.old) (string_bytes line.new)) }
     ensures lacks { OnErr result A.Lacks }
 {
     put_word("process", line)?;
     put_signed(key.process_id(), line)?;
-    put_word("key", line)?;
-    put_hidden(key.secret_key_bytes().len(), line)
+    put_secret(style, "key", key.secret_key_bytes(), line)
 }
 
 /// Adds the bytes of a body as they are.
@@ -138,72 +150,72 @@ fn put_named_text<A: Memory>(
 
 /// Adds the tag of a command that is complete.
 fn put_command<A: Memory>(
-    limit: usize,
+    style: Style,
     command: &CommandCompleteBody<&[u8]>,
     body: &[u8],
     line: &mut String<A>,
 ) -> Result<(), AllocError>
     requires { body.now ≡ payload_of (CommandComplete command.now) }
-    ensures says { OnOk result (Shows limit (CommandComplete command.now) (string_bytes line.old) (string_bytes line.new)) }
+    ensures says { OnOk result (Shows style (CommandComplete command.now) (string_bytes line.old) (string_bytes line.new)) }
     ensures lacks { OnErr result A.Lacks }
 {
     match command.tag() {
-        Ok(tag) => put_named_text(limit, "tag", tag, line),
-        Err(_) => put_bare(limit, body, line),
+        Ok(tag) => put_named_text(style.limit, "tag", tag, line),
+        Err(_) => put_bare(style.limit, body, line),
     }
 }
 
 /// Adds a parameter of the session.
 fn put_setting<A: Memory>(
-    limit: usize,
+    style: Style,
     setting: &ParameterStatusBody<&[u8]>,
     body: &[u8],
     line: &mut String<A>,
 ) -> Result<(), AllocError>
     requires { body.now ≡ payload_of (ParameterStatus setting.now) }
-    ensures says { OnOk result (Shows limit (ParameterStatus setting.now) (string_bytes line.old) (string_bytes line.new)) }
+    ensures says { OnOk result (Shows style (ParameterStatus setting.now) (string_bytes line.old) (string_bytes line.new)) }
     ensures lacks { OnErr result A.Lacks }
 {
     let Ok(name) = setting.name() else {
-        return put_bare(limit, body, line);
+        return put_bare(style.limit, body, line);
     };
     let Ok(value) = setting.value() else {
-        return put_bare(limit, body, line);
+        return put_bare(style.limit, body, line);
     };
-    put_named_text(limit, "name", name, line)?;
-    put_named_text(limit, "value", value, line)
+    put_named_text(style.limit, "name", name, line)?;
+    put_named_text(style.limit, "value", value, line)
 }
 
 /// Adds a notification.
 fn put_news<A: Memory>(
-    limit: usize,
+    style: Style,
     news: &NotificationResponseBody<&[u8]>,
     body: &[u8],
     line: &mut String<A>,
 ) -> Result<(), AllocError>
     requires { body.now ≡ payload_of (NotificationResponse news.now) }
-    ensures says { OnOk result (Shows limit (NotificationResponse news.now) (string_bytes line.old) (string_bytes line.new)) }
+    ensures says { OnOk result (Shows style (NotificationResponse news.now) (string_bytes line.old) (string_bytes line.new)) }
     ensures lacks { OnErr result A.Lacks }
 {
     let Ok(channel) = news.channel() else {
-        return put_bare(limit, body, line);
+        return put_bare(style.limit, body, line);
     };
     let Ok(message) = news.message() else {
-        return put_bare(limit, body, line);
+        return put_bare(style.limit, body, line);
     };
     put_word("process", line)?;
     put_signed(news.process_id(), line)?;
-    put_named_text(limit, "channel", channel, line)?;
-    put_named_text(limit, "payload", message, line)
+    put_named_text(style.limit, "channel", channel, line)?;
+    put_named_text(style.limit, "payload", message, line)
 }
 
 /// Adds data of a copy.
-fn put_copied<A: Memory>(limit: usize, data: &[u8], line: &mut String<A>) -> Result<(), AllocError>
-    ensures parts { OnOk result (string_bytes line.new ≡ followed limit (string_bytes line.old) (Word (codes "data") ∷ Value (Some data.now) ∷ [])) }
+fn put_copied<A: Memory>(limit: usize, bytes: &[u8], line: &mut String<A>) -> Result<(), AllocError>
+    ensures parts { OnOk result (string_bytes line.new ≡ followed limit (string_bytes line.old) (Word (codes "data") ∷ Value (Some bytes.now) ∷ [])) }
     ensures lacks { OnErr result A.Lacks }
 {
     put_word("data", line)?;
-    put_some(limit, data, line)
+    put_some(limit, bytes, line)
 }
 
 /// Adds the format of a copy, and those of its columns.
@@ -227,26 +239,26 @@ fn put_copy<A: Memory>(
 
 /// Adds a row.
 fn put_row<A: Memory>(
-    limit: usize,
+    style: Style,
     row: &DataRowBody<&[u8]>,
     line: &mut String<A>,
 ) -> Result<(), AllocError>
-    ensures says { OnOk result (Shows limit (DataRow row.now) (string_bytes line.old) (string_bytes line.new)) }
+    ensures says { OnOk result (Shows style (DataRow row.now) (string_bytes line.old) (string_bytes line.new)) }
     ensures lacks { OnErr result A.Lacks }
 {
     let places = row.ranges();
     put_word("values", line)?;
     put_number(places.size_hint().0 as u64, line)?;
-    put_values(limit, row.buffer(), places, line)
+    put_values(style.limit, row.buffer(), places, line)
 }
 
 /// Adds an answer about versions.
 fn put_versions<A: Memory>(
-    limit: usize,
+    style: Style,
     answer: &NegotiateProtocolVersionBody<&[u8]>,
     line: &mut String<A>,
 ) -> Result<(), AllocError>
-    ensures says { OnOk result (Shows limit (NegotiateProtocolVersion answer.now) (string_bytes line.old) (string_bytes line.new)) }
+    ensures says { OnOk result (Shows style (NegotiateProtocolVersion answer.now) (string_bytes line.old) (string_bytes line.new)) }
     ensures lacks { OnErr result A.Lacks }
 {
     let options = answer.options();
@@ -254,35 +266,35 @@ fn put_versions<A: Memory>(
     put_signed(answer.version(), line)?;
     put_word("options", line)?;
     put_number(options.size_hint().0 as u64, line)?;
-    put_options(limit, options, line)
+    put_options(style.limit, options, line)
 }
 
 /// Adds the types of parameters.
 fn put_parameters<A: Memory>(
-    limit: usize,
+    style: Style,
     description: &ParameterDescriptionBody<&[u8]>,
     line: &mut String<A>,
 ) -> Result<(), AllocError>
-    ensures says { OnOk result (Shows limit (ParameterDescription description.now) (string_bytes line.old) (string_bytes line.new)) }
+    ensures says { OnOk result (Shows style (ParameterDescription description.now) (string_bytes line.old) (string_bytes line.new)) }
     ensures lacks { OnErr result A.Lacks }
 {
     let types = description.parameters();
     put_word("types", line)?;
     put_number(types.size_hint().0 as u64, line)?;
-    put_types(limit, types, line)
+    put_types(style.limit, types, line)
 }
 
 /// Adds the description of a row.
 fn put_description<A: Memory>(
-    limit: usize,
+    style: Style,
     description: &RowDescriptionBody<&[u8]>,
     line: &mut String<A>,
 ) -> Result<(), AllocError>
-    ensures says { OnOk result (Shows limit (RowDescription description.now) (string_bytes line.old) (string_bytes line.new)) }
+    ensures says { OnOk result (Shows style (RowDescription description.now) (string_bytes line.old) (string_bytes line.new)) }
     ensures lacks { OnErr result A.Lacks }
 {
     let columns = description.fields();
     put_word("columns", line)?;
     put_number(columns.size_hint().0 as u64, line)?;
-    put_columns(limit, columns, line)
+    put_columns(style.limit, columns, line)
 }

@@ -10,6 +10,7 @@ use crate::body::put_message;
 use crate::line::{put_number, put_tag, put_word};
 use crate::lists::put_fault;
 use crate::names::name_of;
+use crate::style::Style;
 use pgp_base::Memory;
 use postgres_protocol::Error;
 use postgres_protocol::message::backend::{Message, Messages};
@@ -32,19 +33,19 @@ pub enum Next {
 ///
 /// `AllocError` where there is no memory for the line.
 pub fn next_line<A: Memory>(
-    limit: usize,
+    style: Style,
     place: u64,
     messages: &mut Messages<'_>,
     line: &mut String<A>,
 ) -> Result<Next, AllocError>
-    ensures listed { IfOk result (ListsNext limit place messages.old messages.new (string_bytes line.new)) }
+    ensures listed { IfOk result (ListsNext style place messages.old messages.new (string_bytes line.new)) }
     ensures lacks { OnErr result A.Lacks }
 {
     let before = messages.rest();
     match messages.next() {
         Ok(Some(message)) => {
             let frame = front_of(before, messages.rest());
-            let told = message_line(limit, place, frame, &message, line);
+            let told = message_line(style, place, frame, &message, line);
             drop(message);
             told?;
             Ok(Next::Line)
@@ -69,20 +70,20 @@ fn front_of<'a>(bytes: &'a [u8], rest: &[u8]) -> &'a [u8]
 
 /// Makes the line of a message, whose frame these bytes are.
 fn message_line<A: Memory>(
-    limit: usize,
+    style: Style,
     place: u64,
     frame: &[u8],
     message: &Message<&[u8]>,
     line: &mut String<A>,
 ) -> Result<(), AllocError>
     requires { IsFrameOf frame.now (Ok (view message.now)) }
-    ensures line { OnOk result (HasLine limit place frame.now [] (string_bytes line.new)) }
+    ensures line { OnOk result (HasLine style place frame.now [] (string_bytes line.new)) }
     ensures lacks { OnErr result A.Lacks }
 {
     begin(place, frame, line)?;
     put_word(name_of(message), line)?;
     let (_, body) = frame.split_at(5);
-    put_message(limit, message, body, line)?;
+    put_message(style, message, body, line)?;
     A::push_char(line, '\n')
 }
 

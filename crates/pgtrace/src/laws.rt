@@ -4,10 +4,11 @@ ghost use Rattle.std.specs.Prelude.{◌≡◌, ◌≢◌, ◌<◌, ◌≤◌, �
 ghost use Rattle.std.specs.List.{AllByRecursion, list_all};
 ghost use Rattle.pgp_message.specs.BackendMessage.{Message};
 ghost use Rattle.pgp_message.specs.Stream.{Frame};
+ghost use Rattle.pgtrace.specs.declared.style.Style.{Style};
 ghost use Rattle.pgtrace.specs.Line.{Value, shown};
 ghost use Rattle.pgtrace.specs.Listing.{IsLineOf};
 ghost use Rattle.pgtrace.specs.Quoting.{is_printable, quoted};
-ghost use Rattle.pgtrace.specs.Secrets.{Alike};
+ghost use Rattle.pgtrace.specs.Secrets.{Alike, quiet};
 ghost use Rattle.pgtrace.specs.Shown.{Shows};
 
 /// No two texts are quoted alike, whatever follows them.
@@ -25,11 +26,11 @@ pub fn values_differ()
 
 /// A line has printable characters of ASCII alone, and then its newline.
 pub fn lines_are_printable()
-    ensures { (limit place : ℕ) (f : Frame) (line : List ℕ) → IsLineOf limit place f line →
+    ensures { (style : Style) (place : ℕ) (f : Frame) (line : List ℕ) → IsLineOf style place f line →
         (text : List ℕ) × (line ≡ text ++ 10 ∷ []) × (list_all is_printable text ≡ true) }
 {}
 
-/// Messages that differ in their secrets alone have the same lines.
+/// Messages that differ in their secrets alone have the same lines, unless secrets are asked for.
 pub fn secrets_are_hidden()
-    ensures { (limit : ℕ) (m n : Message) (old new : List ℕ) → Alike m n → Shows limit m old new → Shows limit n old new }
+    ensures { (limit : ℕ) (m n : Message) (old new : List ℕ) → Alike m n → Shows (quiet limit) m old new → Shows (quiet limit) n old new }
 {}

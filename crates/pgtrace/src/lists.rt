@@ -1,4 +1,5 @@
 //! The lists of a line: the items of each walk, and why it breaks off where it does.
+#![tactic(auto, using(crate::proofs::Items::item_more, crate::proofs::Items::items_end, crate::proofs::Items::items_fault))]
 
 ghost use Rattle.std.specs.Prelude.{◌≡◌, ◌≤◌, ◌∷◌, [], length, OnErr, OnOk, string_bytes};
 ghost use Rattle.std.specs.List.{AllByRecursion};

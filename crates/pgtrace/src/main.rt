@@ -13,6 +13,7 @@ pub mod print;
 pub mod quote;
 pub mod run;
 pub mod server;
+pub mod style;
 pub mod words;
 
 use std::io;

@@ -1,20 +1,21 @@
 //! The program's words.
 
-ghost use Rattle.std.specs.Prelude.{◌≡◌, map, IfSome, IfNone, IfOk, IfErr, OnOk};
+ghost use Rattle.std.specs.Prelude.{◌≡◌, if◌then◌else◌, map, IfSome, IfNone, IfOk, IfErr, OnOk};
 ghost use Rattle.std.specs.Io.KnownBytes.{Keeps};
 ghost use Rattle.pgtrace.specs.Interruptions.{GivesUp};
-ghost use Rattle.pgtrace.specs.Command.{Asks, Caused, Does, IsOther, IsSaid, Obeys, ObeysOwn, Runs, RunsOwn, Stops, usage, complaint_of, limit_of, version};
+ghost use Rattle.pgtrace.specs.Command.{Asks, Caused, Does, IsOther, IsSaid, Obeys, ObeysOwn, Runs, RunsOwn, Stops, usage, complaint_of, version};
 ghost use Rattle.pgtrace.specs.Asked.{asked};
-ghost use Rattle.pgtrace.specs.Words.{LacksWords};
+ghost use Rattle.pgtrace.specs.Words.{LacksWords, greatest};
 
 use crate::fault::Fault;
 use crate::ports::{Input, Output, Words};
 use crate::print::put;
 use crate::server::server;
+use crate::style::Style;
 use crate::words::{lent, texts};
 use pgp_base::Memory;
 
-const USAGE: &str = "usage: pgtrace server [--full] | --help | --version\n";
+const USAGE: &str = "usage: pgtrace server [--full] [--secrets] | --help | --version\n";
 
 const VERSION: &str = "pgtrace 0.1.0\n";
 
@@ -55,7 +56,7 @@ impl Outcome {
 /// What the words ask for.
 #[derive(Debug, Clone, Copy)]
 enum Command {
-    Server { full: bool },
+    Server(Style),
     Help,
     Version,
 }
@@ -65,19 +66,26 @@ fn command_of(words: &[&str]) -> Option<Command>
     ensures other { IfNone result (IsOther (map (λ word. word.now) words.now)) }
 {
     match words {
-        ["server"] => Some(Command::Server { full: false }),
-        ["server", "--full"] => Some(Command::Server { full: true }),
+        ["server"] => Some(Command::Server(style(false, false))),
+        ["server", "--full"] => Some(Command::Server(style(true, false))),
+        ["server", "--secrets"] => Some(Command::Server(style(false, true))),
+        ["server", "--full", "--secrets"] | ["server", "--secrets", "--full"] => {
+            Some(Command::Server(style(true, true)))
+        }
         ["--help"] => Some(Command::Help),
         ["--version"] => Some(Command::Version),
         _ => None,
     }
 }
 
-/// How many bytes of a text or a value are shown.
-fn limit_of(full: bool) -> usize
-    ensures { result ≡ limit_of full }
+/// How much is shown: of texts and values all or a front, and secrets or how long they are.
+fn style(full: bool, secrets: bool) -> Style
+    ensures { result ≡ record { limit = (if full then greatest else 64); secrets = secrets } }
 {
-    if full { usize::MAX } else { SHORT }
+    Style {
+        limit: if full { usize::MAX } else { SHORT },
+        secrets,
+    }
 }
 
 /// Does what the command asks for.
@@ -96,7 +104,7 @@ fn perform<A: Memory, R: Input, W: Output>(
     ensures cause { IfErr result (Caused A.Lacks (GivesUp R.Fails R.Called) (GivesUp W.Fails W.Interrupted)) }
 {
     match command {
-        Command::Server { full } => server(alloc, limit_of(full), input, output),
+        Command::Server(style) => server(alloc, style, input, output),
         Command::Help => put(USAGE.as_bytes(), output),
         Command::Version => put(VERSION.as_bytes(), output),
     }

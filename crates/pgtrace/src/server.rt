@@ -12,6 +12,7 @@ use crate::fault::Fault;
 use crate::frame::{Next, next_line};
 use crate::ports::{Input, Output};
 use crate::print::{flush, put, write};
+use crate::style::Style;
 use bytes::{Buf, BytesMut};
 use pgp_base::Memory;
 use postgres_protocol::message::backend::Messages;
@@ -37,48 +38,48 @@ struct Held<A: Memory> {
 }
 
 /// Lists the bytes that a server sent, as they come: the lines of all frames that are whole are written and passed on before
-/// more is read. Of texts and values past the limit a front is shown.
+/// more is read. Of long texts and values a front is shown.
 ///
 /// # Errors
 ///
 /// `Memory` where memory is refused, `Read` where reading fails, and `Write` where writing or a flush fails.
 pub fn server<A: Memory, R: Input, W: Output>(
     alloc: A,
-    limit: usize,
+    style: Style,
     input: &mut R,
     output: &mut W,
 ) -> Result<(), Fault>
     ensures read { OnOk result (IsAtEnd (R.remaining input.new)) }
-    ensures listed { OnOk result (IfSome (R.remaining input.old) (λ bytes. WritesListing limit bytes (W.contents output.old) (W.contents output.new))) }
-    ensures live { IfErr result (λ fault. fault ≡ Fault.Read → WasListed limit
+    ensures listed { OnOk result (IfSome (R.remaining input.old) (λ bytes. WritesListing style bytes (W.contents output.old) (W.contents output.new))) }
+    ensures live { IfErr result (λ fault. fault ≡ Fault.Read → WasListed style
         (record { input = R.remaining input.old; output = W.contents output.old })
         (record { input = R.remaining input.new; output = W.contents output.new })) }
     ensures passed { IfErr result (λ fault. fault ≡ Fault.Read → Keeps (W.contents output.old) (W.contents output.new) ⊎ W.Passed output.new) }
-    ensures cut { OnErr result (IsCutShort limit
+    ensures cut { OnErr result (IsCutShort style
         (record { input = R.remaining input.old; output = W.contents output.old })
         (record { input = R.remaining input.new; output = W.contents output.new })) }
     ensures cause { IfErr result (Caused A.Lacks (GivesUp R.Fails R.Called) (GivesUp W.Fails W.Interrupted)) }
 {
     let mut piece = A::list_filled(alloc, 0, PIECE)?;
-    list_stream(alloc, limit, input, piece.as_mut_slice(), output)
+    list_stream(alloc, style, input, piece.as_mut_slice(), output)
 }
 
 /// Lists the bytes, a piece at a time.
 fn list_stream<A: Memory, R: Input, W: Output>(
     alloc: A,
-    limit: usize,
+    style: Style,
     input: &mut R,
     piece: &mut [u8],
     output: &mut W,
 ) -> Result<(), Fault>
     requires { 0 < length piece.old }
     ensures read { OnOk result (IsAtEnd (R.remaining input.new)) }
-    ensures listed { OnOk result (IfSome (R.remaining input.old) (λ bytes. WritesListing limit bytes (W.contents output.old) (W.contents output.new))) }
-    ensures live { IfErr result (λ fault. fault ≡ Fault.Read → WasListed limit
+    ensures listed { OnOk result (IfSome (R.remaining input.old) (λ bytes. WritesListing style bytes (W.contents output.old) (W.contents output.new))) }
+    ensures live { IfErr result (λ fault. fault ≡ Fault.Read → WasListed style
         (record { input = R.remaining input.old; output = W.contents output.old })
         (record { input = R.remaining input.new; output = W.contents output.new })) }
     ensures passed { IfErr result (λ fault. fault ≡ Fault.Read → Keeps (W.contents output.old) (W.contents output.new) ⊎ W.Passed output.new) }
-    ensures cut { OnErr result (IsCutShort limit
+    ensures cut { OnErr result (IsCutShort style
         (record { input = R.remaining input.old; output = W.contents output.old })
         (record { input = R.remaining input.new; output = W.contents output.new })) }
     ensures cause { IfErr result (Caused A.Lacks (GivesUp R.Fails R.Called) (GivesUp W.Fails W.Interrupted)) }
@@ -94,7 +95,7 @@ fn list_stream<A: Memory, R: Input, W: Output>(
     'pieces: for _ in 0..u64::MAX {
         match input.read_some(piece) {
             Ok(0) => return list_rest(held.stopped, held.left, &mut held.line, output),
-            Ok(n) => list_piece(limit, &piece[..n], &mut held, output)?,
+            Ok(n) => list_piece(style, &piece[..n], &mut held, output)?,
             Err(e) => match e.kind() {
                 ErrorKind::Interrupted => {}
                 ErrorKind::OutOfMemory => return Err(Fault::Memory),
@@ -107,18 +108,18 @@ fn list_stream<A: Memory, R: Input, W: Output>(
 
 /// Lists the frames that are whole with this piece, and has their lines passed on.
 fn list_piece<A: Memory, W: Output>(
-    limit: usize,
+    style: Style,
     piece: &[u8],
     held: &mut Held<A>,
     output: &mut W,
 ) -> Result<(), Fault>
     ensures all { OnOk result ((rest : List ℕ) → Holds (record { bytes = held.old.bytes.items; place = held.old.place; stopped = held.old.stopped; left = held.old.left }) rest →
-        ListsPiece limit held.old.place (rest ++ piece.now)
+        ListsPiece style held.old.place (rest ++ piece.now)
         (record { bytes = held.new.bytes.items; place = held.new.place; stopped = held.new.stopped; left = held.new.left })
         (W.contents output.old) (W.contents output.new)) }
     ensures passed { OnOk result (W.Passed output.new) }
     ensures some { OnErr result ((rest : List ℕ) → Holds (record { bytes = held.old.bytes.items; place = held.old.place; stopped = held.old.stopped; left = held.old.left }) rest →
-        ListsSome limit held.old.place (rest ++ piece.now) (W.contents output.old) (W.contents output.new)) }
+        ListsSome style held.old.place (rest ++ piece.now) (W.contents output.old) (W.contents output.new)) }
     ensures cause { IfErr result (Caused A.Lacks ⊥ (GivesUp W.Fails W.Interrupted)) }
 {
     if held.stopped {
@@ -127,7 +128,7 @@ fn list_piece<A: Memory, W: Output>(
     }
     A::append(&mut held.bytes, piece)?;
     let (listed, stopped) = list_frames(
-        limit,
+        style,
         held.place,
         held.bytes.as_slice(),
         &mut held.line,
@@ -143,23 +144,23 @@ fn list_piece<A: Memory, W: Output>(
 /// Lists the whole frames at the front of the bytes, which stand at this place. Answers how many bytes they take, and whether a length
 /// behind them counts not even itself.
 fn list_frames<A: Memory, W: Output>(
-    limit: usize,
+    style: Style,
     place: u64,
     bytes: &[u8],
     line: &mut String<A>,
     output: &mut W,
 ) -> Result<(usize, bool), Fault>
     ensures within { IfOk result (λ answer. answer.0 ≤ length bytes.now) }
-    ensures all { IfOk result (λ answer. ListsAll limit place bytes.now (take answer.0 bytes.now) (drop answer.0 bytes.now) answer.1
+    ensures all { IfOk result (λ answer. ListsAll style place bytes.now (take answer.0 bytes.now) (drop answer.0 bytes.now) answer.1
         (W.contents output.old) (W.contents output.new)) }
-    ensures some { OnErr result (ListsSome limit place bytes.now (W.contents output.old) (W.contents output.new)) }
+    ensures some { OnErr result (ListsSome style place bytes.now (W.contents output.old) (W.contents output.new)) }
     ensures cause { IfErr result (Caused A.Lacks ⊥ (GivesUp W.Fails W.Interrupted)) }
 {
     let mut messages = Messages::new(bytes);
     'frames: loop {
         let passed = bytes.len() - messages.rest().len();
         let here = place.saturating_add(passed as u64);
-        match next_line(limit, here, &mut messages, line)? {
+        match next_line(style, here, &mut messages, line)? {
             Next::Line => put_line(line.as_str(), output)?,
             Next::Waits => return Ok((passed, false)),
             Next::Stops => return Ok((passed, true)),

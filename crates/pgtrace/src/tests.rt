@@ -5,6 +5,7 @@ use crate::failing::{FailingReader, FailingWriter, PieceReader};
 use crate::fault::Fault;
 use crate::run::run;
 use crate::server::server;
+use crate::style::Style;
 use pgp_test_alloc::Refusing;
 use std::test::Fail;
 
@@ -22,6 +23,11 @@ const THREE: &str =
 const ALL: &str =
     "0 9 S ParameterStatus name \"n\" value \"\\x0a\"\n9 6 Z ReadyForQuery idle\n15 13 K BackendKeyData process 1 key (4 bytes)\nrest 2\n";
 
+const SHORT: Style = Style {
+    limit: 64,
+    secrets: false,
+};
+
 #[test]
 fn a_stream_is_listed_however_it_is_cut(rt: HostRuntime) {
     for cuts in 0..512u16 {
@@ -31,7 +37,7 @@ fn a_stream_is_listed_however_it_is_cut(rt: HostRuntime) {
             interrupted: false,
         };
         let mut output = Vec::new(rt.alloc());
-        assert_eq!(rt; server(rt.alloc(), 64, &mut input, &mut output), Ok(()));
+        assert_eq!(rt; server(rt.alloc(), SHORT, &mut input, &mut output), Ok(()));
         assert!(rt; output.as_slice() == ALL.as_bytes());
     }
 }
@@ -78,7 +84,7 @@ fn a_failing_writer_took_a_front(rt: HostRuntime) {
             left,
             taken: Vec::new(rt.alloc()),
         };
-        let answer = server(rt.alloc(), 64, &mut input, &mut output);
+        let answer = server(rt.alloc(), SHORT, &mut input, &mut output);
         assert_eq!(rt; answer, Err(Fault::Write));
         assert!(rt; output.taken.as_slice() == &ALL.as_bytes()[..left]);
     }
@@ -91,7 +97,7 @@ fn each_allocation_is_refused(rt: HostRuntime) {
         let heap = Refusing::new(rt.alloc(), number);
         let mut input = STREAM;
         let mut output = Vec::new(rt.alloc());
-        let answer = server(&heap, 64, &mut input, &mut output);
+        let answer = server(&heap, SHORT, &mut input, &mut output);
         if heap.until_refusal.get() != 0 {
             assert_eq!(rt; answer, Ok(()));
             assert!(rt; output.as_slice() == ALL.as_bytes());
@@ -104,17 +110,22 @@ fn each_allocation_is_refused(rt: HostRuntime) {
     assert!(rt; refusals > 2, "{refusals}");
 }
 
-const USAGE: &str = "usage: pgtrace server [--full] | --help | --version\n";
+const OPEN: &str =
+    "0 9 S ParameterStatus name \"n\" value \"\\x0a\"\n9 6 Z ReadyForQuery idle\n15 13 K BackendKeyData process 1 key \"abcd\"\nrest 2\n";
+
+const USAGE: &str = "usage: pgtrace server [--full] [--secrets] | --help | --version\n";
 
 #[test]
 fn words_decide_what_runs(rt: HostRuntime) {
-    let runs: [(&[&str], u8, &str, &str); 8] = [
+    let runs: [(&[&str], u8, &str, &str); 10] = [
         (&["server"], 0, ALL, ""),
         (&["server", "--full"], 0, ALL, ""),
         (&["--help"], 0, USAGE, ""),
         (&["--version"], 0, "pgtrace 0.1.0\n", ""),
         (&[], 2, "", USAGE),
-        (&["server", "--secrets"], 2, "", USAGE),
+        (&["server", "--secrets"], 0, OPEN, ""),
+        (&["server", "--secrets", "--full"], 0, OPEN, ""),
+        (&["server", "-full"], 2, "", USAGE),
         (&["server", "--full", "--full"], 2, "", USAGE),
         (&["Server"], 2, "", USAGE),
     ];
