@@ -4,6 +4,7 @@ use Rattle.std.specs.Prelude.{codes}
 use Rattle.pgp_message.specs.BackendMessage.{AuthenticationOk, AuthenticationKerberosV5, AuthenticationCleartextPassword, AuthenticationMd5Password, AuthenticationScmCredential, AuthenticationGss, AuthenticationGssContinue, AuthenticationSspi, AuthenticationSasl, AuthenticationSaslContinue, AuthenticationSaslFinal, Request, Message, BackendKeyData, Authentication}
 use Rattle.pgp_message.specs.Parts.{KeyData}
 use Rattle.pgtrace.specs.Line.{Word, Number, Hidden, followed}
+use Rattle.pgtrace.specs.Names.{name_of}
 use Rattle.pgtrace.specs.Secrets.{Alike, quiet}
 use Rattle.pgtrace.specs.Shown.{Shows}
 
@@ -39,3 +40,35 @@ hidden limit (Authentication (AuthenticationSaslContinue x)) n old new e s = mor
 hidden limit (Authentication (AuthenticationSaslFinal x)) n old new e s = final limit x n old new e s
 hidden limit (BackendKeyData x) n old new e s = key limit x n old new e s
 hidden limit m n old new e s = same limit m n old new e s
+
+-- and have one name
+name_by : (m n : Message) → m ≡ n → name_of m ≡ name_of n
+name_by m n e = ap name_of e
+
+salt_name : (x : List ℕ) (n : Message) → Alike (Authentication (AuthenticationMd5Password x)) n → name_of (Authentication (AuthenticationMd5Password x)) ≡ name_of n
+salt_name x (Authentication (AuthenticationMd5Password y)) e = refl
+salt_name x n e = name_by _ n e
+
+gss_name : (x : List ℕ) (n : Message) → Alike (Authentication (AuthenticationGssContinue x)) n → name_of (Authentication (AuthenticationGssContinue x)) ≡ name_of n
+gss_name x (Authentication (AuthenticationGssContinue y)) e = refl
+gss_name x n e = name_by _ n e
+
+more_name : (x : List ℕ) (n : Message) → Alike (Authentication (AuthenticationSaslContinue x)) n → name_of (Authentication (AuthenticationSaslContinue x)) ≡ name_of n
+more_name x (Authentication (AuthenticationSaslContinue y)) e = refl
+more_name x n e = name_by _ n e
+
+final_name : (x : List ℕ) (n : Message) → Alike (Authentication (AuthenticationSaslFinal x)) n → name_of (Authentication (AuthenticationSaslFinal x)) ≡ name_of n
+final_name x (Authentication (AuthenticationSaslFinal y)) e = refl
+final_name x n e = name_by _ n e
+
+key_name : (x : KeyData) (n : Message) → Alike (BackendKeyData x) n → name_of (BackendKeyData x) ≡ name_of n
+key_name x (BackendKeyData y) e = refl
+key_name x n e = name_by _ n e
+
+pub same_name : (m n : Message) → Alike m n → name_of m ≡ name_of n
+same_name (Authentication (AuthenticationMd5Password x)) n e = salt_name x n e
+same_name (Authentication (AuthenticationGssContinue x)) n e = gss_name x n e
+same_name (Authentication (AuthenticationSaslContinue x)) n e = more_name x n e
+same_name (Authentication (AuthenticationSaslFinal x)) n e = final_name x n e
+same_name (BackendKeyData x) n e = key_name x n e
+same_name m n e = name_by m n e
