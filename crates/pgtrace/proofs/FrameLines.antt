@@ -1,6 +1,6 @@
 -- The line of one frame.
 use Rattle.std.proofs.Common.{◌≡◌, ℕ, ◌+◌, ◌-◌, ◌<◌, ◌≤◌, pos, List, [], ◌∷◌, ◌++◌, length, take, drop, Result, Ok, Err, refl, sym, ap, subst, ◌∙◌, arith, length-append, append_assoc}
-use Rattle.std.specs.Prelude.{slice_index, decimal}
+use Rattle.std.specs.Prelude.{slice_index, decimal, OnOk, is_ok, if◌then◌else◌}
 use Rattle.std.proofs.lemmas.List.{append-nil}
 use Rattle.pgp_base.specs.Wire.{uint32}
 use Rattle.pgp_base.specs.declared.error.Error.{Error}
@@ -41,7 +41,7 @@ message_told style place bytes m is begins named said line b n shows e =
       first = is.first;
       whole = is.whole ∙ sym (append-nil (frame_bytes is.first));
       fits = is.fits;
-      line = record {
+      told = record {
         result = Ok m;
         body = is.body;
         text = said;
@@ -50,13 +50,18 @@ message_told style place bytes m is begins named said line b n shows e =
       };
     }
 
+pub message_ended : {E : Type 0} (r : Result (Unit {0}) E) (style : Style) (place : ℕ) (bytes : List ℕ) (m : Message) (is : IsFrameOf bytes (Ok m)) (begins named said line : List ℕ)
+    → begins ≡ begun place bytes → named ≡ followed 0 begins (Word (name_of m) ∷ []) → Shows style m named said → line ≡ (if is_ok r then said ++ 10 ∷ [] else said) → OnOk r (HasLine style place bytes [] line)
+message_ended (Ok x) style place bytes m is begins named said line b n shows e = message_told style place bytes m is begins named said line b n shows e
+message_ended (Err x) style place bytes m is begins named said line b n shows e = tt
+
 pub fault_told : (style : Style) (place : ℕ) (bytes : List ℕ) (r : Error) (is : IsFrameOf bytes (Err r)) (line : List ℕ)
     → line ≡ followed 0 (begun place bytes) (fault r) ++ 10 ∷ [] → HasLine style place bytes [] line
 fault_told style place bytes r is line e = record {
   first = is.first;
   whole = is.whole ∙ sym (append-nil (frame_bytes is.first));
   fits = is.fits;
-  line = record {
+  told = record {
     result = Err r;
     body = is.body;
     text = followed 0 (begun place bytes) (fault r);
@@ -83,5 +88,5 @@ line_here style place old new bytes line r t e has = record {
   first = has.first;
   whole = t.whole ∙ ap (λ l. l ++ new) (sym (front_taken (frame_bytes t.first) new old t.whole) ∙ sym e ∙ has.whole ∙ append-nil (frame_bytes has.first));
   fits = has.fits;
-  line = has.line;
+  told = has.told;
 }

@@ -1,5 +1,5 @@
 -- Messages that differ in their secrets alone say the same.
-use Rattle.std.proofs.Common.{◌≡◌, ◌≢◌, ℕ, List, [], ◌∷◌, length, ap, subst, ◌∙◌}
+use Rattle.std.proofs.Common.{◌≡◌, ◌≢◌, ℕ, List, [], ◌∷◌, length, refl, ap, subst, ◌∙◌}
 use Rattle.std.specs.Prelude.{codes}
 use Rattle.pgp_message.specs.BackendMessage.{AuthenticationOk, AuthenticationKerberosV5, AuthenticationCleartextPassword, AuthenticationMd5Password, AuthenticationScmCredential, AuthenticationGss, AuthenticationGssContinue, AuthenticationSspi, AuthenticationSasl, AuthenticationSaslContinue, AuthenticationSaslFinal, Request, Message, BackendKeyData, Authentication}
 use Rattle.pgp_message.specs.Parts.{KeyData}
@@ -47,23 +47,23 @@ name_by m n e = ap name_of e
 
 salt_name : (x : List ℕ) (n : Message) → Alike (Authentication (AuthenticationMd5Password x)) n → name_of (Authentication (AuthenticationMd5Password x)) ≡ name_of n
 salt_name x (Authentication (AuthenticationMd5Password y)) e = refl
-salt_name x n e = name_by _ n e
+salt_name x n e = name_by (Authentication (AuthenticationMd5Password x)) n e
 
 gss_name : (x : List ℕ) (n : Message) → Alike (Authentication (AuthenticationGssContinue x)) n → name_of (Authentication (AuthenticationGssContinue x)) ≡ name_of n
 gss_name x (Authentication (AuthenticationGssContinue y)) e = refl
-gss_name x n e = name_by _ n e
+gss_name x n e = name_by (Authentication (AuthenticationGssContinue x)) n e
 
 more_name : (x : List ℕ) (n : Message) → Alike (Authentication (AuthenticationSaslContinue x)) n → name_of (Authentication (AuthenticationSaslContinue x)) ≡ name_of n
 more_name x (Authentication (AuthenticationSaslContinue y)) e = refl
-more_name x n e = name_by _ n e
+more_name x n e = name_by (Authentication (AuthenticationSaslContinue x)) n e
 
 final_name : (x : List ℕ) (n : Message) → Alike (Authentication (AuthenticationSaslFinal x)) n → name_of (Authentication (AuthenticationSaslFinal x)) ≡ name_of n
 final_name x (Authentication (AuthenticationSaslFinal y)) e = refl
-final_name x n e = name_by _ n e
+final_name x n e = name_by (Authentication (AuthenticationSaslFinal x)) n e
 
 key_name : (x : KeyData) (n : Message) → Alike (BackendKeyData x) n → name_of (BackendKeyData x) ≡ name_of n
 key_name x (BackendKeyData y) e = refl
-key_name x n e = name_by _ n e
+key_name x n e = name_by (BackendKeyData x) n e
 
 pub same_name : (m n : Message) → Alike m n → name_of m ≡ name_of n
 same_name (Authentication (AuthenticationMd5Password x)) n e = salt_name x n e

@@ -2,13 +2,13 @@
 use Rattle.std.proofs.Common.{◌≡◌, ℕ, List, [], ◌∷◌, ◌++◌, Option, Some, None, refl, sym, ap, ◌∙◌}
 use Rattle.pgp_base.specs.declared.error.Error.{Error}
 use Rattle.pgp_base.specs.Walk.{Walk, TakesItem, IsFinished, IsRefused}
-use Rattle.pgtrace.specs.Line.{Part, followed}
+use Rattle.pgtrace.specs.Line.{Part, followed, shown}
 use Rattle.pgtrace.specs.Shown.{each_then, ending, fault, list_of}
 
 -- parts behind parts
 pub followed_join : (limit : ℕ) (line : List ℕ) (ps qs : List Part) → followed limit line (ps ++ qs) ≡ followed limit (followed limit line ps) qs
 followed_join limit line [] qs = refl
-followed_join limit line (p ∷ ps) qs = followed_join limit _ ps qs
+followed_join limit line (p ∷ ps) qs = followed_join limit (line ++ 32 ∷ shown limit p) ps qs
 
 -- an item came
 pub item_more : {V : Type 0} (limit : ℕ) (parts : V → List Part) (old new all : List ℕ) (before after : Walk V) (x : V)

@@ -5,6 +5,7 @@ pub mod FrameLines
 pub mod Traces
 pub mod Quotes
 pub mod Printable
+pub mod Printing
 pub mod Runs
 pub mod Hiding
 pub mod Streams

@@ -11,8 +11,10 @@ use Rattle.pgp_message.specs.Stream.{Frame, frame_bytes}
 use Rattle.pgtrace.specs.declared.style.Style.{Style}
 use Rattle.pgtrace.specs.Quoting.{hex_digit, hex_byte, is_mark, is_printable, escaped_byte, escaped, quoted, value, up_to}
 use Rattle.pgtrace.specs.Line.{Part, Word, Number, Tag, Text, Value, Hidden, shown, followed}
-use Rattle.pgtrace.specs.Names.{name_of}
-use Rattle.pgtrace.specs.Shown.{Shows, ShowsTexts, fault}
+use Rattle.pgtrace.specs.Names.{name_of, state_of}
+use Rattle.pgp_message.specs.Items.{TextSpelled, TextRefused, FormatSpelled, FormatRefused, TypeSpelled, TypeRefused, RangeSpelled, RangeRefused, FieldSpelled, FieldRefused, ErrorFieldSpelled, ErrorFieldRefused}
+use Rattle.std.specs.Str.{IsUtf8}
+use Rattle.pgtrace.specs.Shown.{Shows, ShowsCounted, ShowsMarked, ShowsTexts, bare, column_parts, fault, field_parts, list_of, name_or, number_part, secret, text_part, value_part}
 use Rattle.pgtrace.specs.Listing.{GoesOn, IsLineOf, front}
 
 abbrev pub Printable : List ℕ → Type 0
@@ -113,7 +115,7 @@ part limit (Hidden n) = join (codes "(" ++ decimal n) (codes " bytes)") (join (c
 
 parts : (limit : ℕ) (line : List ℕ) (ps : List Part) → Printable line → Printable (followed limit line ps)
 parts limit line [] a = a
-parts limit line (p ∷ ps) a = parts limit _ ps (join line (32 ∷ shown limit p) a (cons 32 (shown limit p) refl (part limit p)))
+parts limit line (p ∷ ps) a = parts limit (line ++ 32 ∷ shown limit p) ps (join line (32 ∷ shown limit p) a (cons 32 (shown limit p) refl (part limit p)))
 
 -- what goes on by parts
 goes : (limit : ℕ) (old new : List ℕ) (ps : List Part) → Printable old → new ≡ followed limit old ps → Printable new
@@ -121,28 +123,43 @@ goes limit old new ps a e = subst Printable (sym e) (parts limit old ps a)
 
 texts : (limit : ℕ) (utf8 : Type 0) (ps : List Part) (body old new : List ℕ) → Printable old → ShowsTexts limit utf8 ps body old new → Printable new
 texts limit utf8 ps body old new a (inl h) = goes limit old new ps a h.1
-texts limit utf8 ps body old new a (inr h) = goes limit old new _ a h.1
+texts limit utf8 ps body old new a (inr h) = goes limit old new (bare body) a h.1
+
+counted : {V : Type 0} (Spelled : ℕ → V → List ℕ → Type 0) (Refused : List ℕ → Error → Type 0) (each : V → List Part) (limit count : ℕ) (bytes old new : List ℕ) → Printable old → ShowsCounted Spelled Refused each limit count bytes old new → Printable new
+counted Spelled Refused each limit count bytes old new a s = goes limit old new (Number (pos count) ∷ list_of each s.items s.end) a s.text
+
+marked : {V : Type 0} (Spelled : ℕ → V → List ℕ → Type 0) (Refused : List ℕ → Error → Type 0) (each : V → List Part) (limit : ℕ) (bytes old new : List ℕ) → Printable old → ShowsMarked Spelled Refused each limit bytes old new → Printable new
+marked Spelled Refused each limit bytes old new a s = goes limit old new (list_of each s.items s.end) a s.text
 
 says : (style : Style) (m : Message) (old new : List ℕ) → Printable old → Shows style m old new → Printable new
-says style (Authentication (AuthenticationMd5Password salt)) old new a s = goes style.limit old new _ a s
-says style (Authentication (AuthenticationGssContinue bytes)) old new a s = goes style.limit old new _ a s
-says style (Authentication (AuthenticationSasl bytes)) old new a s = goes style.limit _ new _ (parts style.limit old _ a) s.text
-says style (Authentication (AuthenticationSaslContinue bytes)) old new a s = goes style.limit old new _ a s
-says style (Authentication (AuthenticationSaslFinal bytes)) old new a s = goes style.limit old new _ a s
-says style (NotificationResponse n) old new a s = texts style.limit _ _ _ old new a s
-says style (CommandComplete tag) old new a s = texts style.limit _ _ _ old new a s
-says style (DataRow row) old new a s = goes style.limit _ new _ (parts style.limit old _ a) s.text
-says style (ErrorResponse bytes) old new a s = goes style.limit old new _ a s.text
-says style (CopyInResponse copy) old new a s = goes style.limit _ new _ (parts style.limit old _ a) s.text
-says style (CopyOutResponse copy) old new a s = goes style.limit _ new _ (parts style.limit old _ a) s.text
-says style (BackendKeyData key) old new a s = goes style.limit old new _ a s
-says style (NegotiateProtocolVersion n) old new a s = goes style.limit _ new _ (parts style.limit old _ a) s.text
-says style (NoticeResponse bytes) old new a s = goes style.limit old new _ a s.text
-says style (ParameterStatus setting) old new a s = texts style.limit _ _ _ old new a s
-says style (RowDescription row) old new a s = goes style.limit _ new _ (parts style.limit old _ a) s.text
-says style (ReadyForQuery status) old new a s = goes style.limit old new _ a s
-says style (CopyData bytes) old new a s = goes style.limit old new _ a s
-says style (ParameterDescription row) old new a s = goes style.limit _ new _ (parts style.limit old _ a) s.text
+says style (Authentication (AuthenticationMd5Password salt)) old new a s = goes style.limit old new (Word (codes "salt") ∷ secret style salt ∷ []) a s
+says style (Authentication (AuthenticationGssContinue bytes)) old new a s = goes style.limit old new (Word (codes "data") ∷ secret style bytes ∷ []) a s
+says style (Authentication (AuthenticationSasl bytes)) old new a s =
+    marked TextSpelled TextRefused text_part style.limit bytes (followed style.limit old (Word (codes "mechanisms") ∷ [])) new (parts style.limit old (Word (codes "mechanisms") ∷ []) a) s
+says style (Authentication (AuthenticationSaslContinue bytes)) old new a s = goes style.limit old new (Word (codes "data") ∷ secret style bytes ∷ []) a s
+says style (Authentication (AuthenticationSaslFinal bytes)) old new a s = goes style.limit old new (Word (codes "data") ∷ secret style bytes ∷ []) a s
+says style (NotificationResponse n) old new a s = texts style.limit (IsUtf8 n.channel × IsUtf8 n.message)
+    (Word (codes "process") ∷ Number n.process_id ∷ Word (codes "channel") ∷ Text n.channel ∷ Word (codes "payload") ∷ Text n.message ∷ []) (payload_of (NotificationResponse n)) old new a s
+says style (CommandComplete tag) old new a s = texts style.limit (IsUtf8 tag) (Word (codes "tag") ∷ Text tag ∷ []) (payload_of (CommandComplete tag)) old new a s
+says style (DataRow row) old new a s =
+    counted RangeSpelled RangeRefused (value_part row.storage) style.limit row.count row.storage (followed style.limit old (Word (codes "values") ∷ [])) new (parts style.limit old (Word (codes "values") ∷ []) a) s
+says style (ErrorResponse bytes) old new a s = marked ErrorFieldSpelled ErrorFieldRefused field_parts style.limit bytes old new a s
+says style (CopyInResponse copy) old new a s =
+    counted FormatSpelled FormatRefused number_part style.limit copy.count copy.storage (followed style.limit old (Word (codes "format") ∷ Number (pos copy.format) ∷ Word (codes "columns") ∷ [])) new (parts style.limit old (Word (codes "format") ∷ Number (pos copy.format) ∷ Word (codes "columns") ∷ []) a) s
+says style (CopyOutResponse copy) old new a s =
+    counted FormatSpelled FormatRefused number_part style.limit copy.count copy.storage (followed style.limit old (Word (codes "format") ∷ Number (pos copy.format) ∷ Word (codes "columns") ∷ [])) new (parts style.limit old (Word (codes "format") ∷ Number (pos copy.format) ∷ Word (codes "columns") ∷ []) a) s
+says style (BackendKeyData key) old new a s = goes style.limit old new (Word (codes "process") ∷ Number key.process_id ∷ Word (codes "key") ∷ secret style key.secret_key ∷ []) a s
+says style (NegotiateProtocolVersion n) old new a s =
+    counted TextSpelled TextRefused text_part style.limit n.count n.options (followed style.limit old (Word (codes "version") ∷ Number n.version ∷ Word (codes "options") ∷ [])) new (parts style.limit old (Word (codes "version") ∷ Number n.version ∷ Word (codes "options") ∷ []) a) s
+says style (NoticeResponse bytes) old new a s = marked ErrorFieldSpelled ErrorFieldRefused field_parts style.limit bytes old new a s
+says style (ParameterStatus setting) old new a s = texts style.limit (IsUtf8 setting.name × IsUtf8 setting.value)
+    (Word (codes "name") ∷ Text setting.name ∷ Word (codes "value") ∷ Text setting.value ∷ []) (payload_of (ParameterStatus setting)) old new a s
+says style (RowDescription row) old new a s =
+    counted FieldSpelled FieldRefused column_parts style.limit row.count row.storage (followed style.limit old (Word (codes "columns") ∷ [])) new (parts style.limit old (Word (codes "columns") ∷ []) a) s
+says style (ReadyForQuery status) old new a s = goes style.limit old new (Word (name_or (state_of status) status) ∷ []) a s
+says style (CopyData bytes) old new a s = goes style.limit old new (Word (codes "data") ∷ Value (Some bytes) ∷ []) a s
+says style (ParameterDescription row) old new a s =
+    counted TypeSpelled TypeRefused number_part style.limit row.count row.storage (followed style.limit old (Word (codes "types") ∷ [])) new (parts style.limit old (Word (codes "types") ∷ []) a) s
 says style (Authentication AuthenticationOk) old new a s = subst Printable (sym s) a
 says style (Authentication AuthenticationKerberosV5) old new a s = subst Printable (sym s) a
 says style (Authentication AuthenticationCleartextPassword) old new a s = subst Printable (sym s) a
@@ -158,8 +175,8 @@ says style NoData old new a s = subst Printable (sym s) a
 says style PortalSuspended old new a s = subst Printable (sym s) a
 
 result : (style : Style) (r : Result Message Error) (old new : List ℕ) → Printable old → GoesOn style r old new → Printable new
-result style (Ok m) old new a g = says style m _ new (parts 0 old _ a) g
-result style (Err e) old new a g = goes 0 old new _ a g
+result style (Ok m) old new a g = says style m (followed 0 old (Word (name_of m) ∷ [])) new (parts 0 old (Word (name_of m) ∷ []) a) g
+result style (Err e) old new a g = goes 0 old new (fault e) a g
 
 pub line_printable : (style : Style) (place : ℕ) (f : Frame) (line : List ℕ) → IsLineOf style place f line → (text : List ℕ) × (line ≡ text ++ 10 ∷ []) × Printable text
-line_printable style place f line is = (is.text, is.ended, result style is.result (front place f) is.text (parts 0 (decimal place) _ (number place)) is.told)
+line_printable style place f line is = (is.text, is.ended, result style is.result (front place f) is.text (parts 0 (decimal place) (Number (pos (length (frame_bytes f))) ∷ Tag f.tag ∷ []) (number place)) is.told)

@@ -137,10 +137,13 @@ quoted_tail xs r = ap (λ l. 34 ∷ l) (append_assoc (escaped xs) (34 ∷ []) r)
 pub quoted_one : (xs ys r s : List ℕ) → AreBytes xs → AreBytes ys → quoted xs ++ r ≡ quoted ys ++ s → Same xs ys r s
 quoted_one xs ys r s a b e = escaped_one xs ys r s a b (ap (drop 1) (sym (quoted_tail xs r) ∙ e ∙ quoted_tail ys s))
 
+nil_cons : (x : ℕ) (xs : List ℕ) → [] ≡ x ∷ xs → ⊥
+nil_cons x xs e = absurd cc
+
 digits_all : (xs ys : List ℕ) → AreBytes xs → AreBytes ys → flat_map hex_byte xs ≡ flat_map hex_byte ys → xs ≡ ys
 digits_all [] [] a b e = refl
-digits_all [] (y ∷ ys) a b e = let n : 0 ≡ 2 + length (flat_map hex_byte ys) = ap length (e ∙ flat_map-cons hex_byte y ys) in absurd (omega (arith, n))
-digits_all (x ∷ xs) [] a b e = let n : 2 + length (flat_map hex_byte xs) ≡ 0 = ap length (sym (flat_map-cons hex_byte x xs) ∙ e) in absurd (omega (arith, n))
+digits_all [] (y ∷ ys) a b e = absurd (nil_cons _ _ (e ∙ flat_map-cons hex_byte y ys))
+digits_all (x ∷ xs) [] a b e = absurd (nil_cons _ _ (sym e ∙ flat_map-cons hex_byte x xs))
 digits_all (x ∷ xs) (y ∷ ys) a b e =
     let first = hex_one x y (flat_map hex_byte xs) (flat_map hex_byte ys) a.0 b.0 (sym (flat_map-cons hex_byte x xs) ∙ e ∙ flat_map-cons hex_byte y ys) in
     ap (λ h. h ∷ xs) first.0 ∙ ap (λ l. y ∷ l) (digits_all xs ys a.1 b.1 first.1)

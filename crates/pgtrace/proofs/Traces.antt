@@ -1,11 +1,12 @@
 -- The lines of a stream, a frame and a piece at a time.
-use Rattle.std.proofs.Common.{◌≡◌, ◌⊎◌, ℕ, ◌+◌, ◌-◌, ◌<◌, ◌≤◌, Bool, true, false, List, [], ◌∷◌, ◌++◌, length, take, drop, min, Option, refl, sym, ap, subst, ◌∙◌, arith, inl, inr, length-append, append_assoc}
-use Rattle.std.specs.Prelude.{IfSome}
+use Rattle.std.proofs.Common.{◌≡◌, ◌⊎◌, ℕ, ◌+◌, ◌-◌, ◌<◌, ◌≤◌, Bool, true, false, List, [], ◌∷◌, ◌++◌, length, take, drop, min, Option, Result, Ok, Err, refl, sym, ap, subst, ◌∙◌, arith, inl, inr, length-append, append_assoc}
+use Rattle.std.specs.Prelude.{IfSome, OnOk, OnErr}
 use Rattle.std.specs.Io.KnownBytes.{Appends, Consumes, Keeps, IsAtEnd}
 use Rattle.std.proofs.KnownBytes.{Appends-nil, Appends-trans, Consumes-nil, Consumes-trans, Consumes-kept, Consumes-whole}
-use Rattle.std.proofs.Math.Nat.{min-eq_left}
+use Rattle.std.proofs.Math.Nat.{min-eq_left, min-le_right}
 use Rattle.std.proofs.lemmas.List.{append-nil, length-take}
 use Rattle.std.proofs.Math.Seq.{take-append_seam, drop-append_seam}
+use Rattle.pgp_base.specs.Wire.{uint32}
 use Rattle.pgp_message.specs.Stream.{Frame, frame_bytes, IsFrame, IsPartial, IsLengthFault, IsEnding}
 use Rattle.pgtrace.specs.declared.style.Style.{Style}
 use Rattle.pgtrace.specs.Listing.{IsLineOf, Lines, NoLines, OneLine, place_behind, last_line, Streams, IsListed, WasListed, IsListing, WritesListing, EndsWith, IsCutShort}
@@ -16,6 +17,12 @@ use Rattle.pgtrace.proofs.Fronts.{none_taken, all_taken, more_taken, kept_nothin
 use Rattle.pgtrace.proofs.Parts.{saturates}
 
 -- ---- lines behind lines
+
+plain_sum : (n : ℕ) → 0 + n ≡ n
+plain_sum n = omega arith
+
+plain_end : (n : ℕ) → n ≡ n + 0
+plain_end n = omega arith
 
 same_place : (a b : List ℕ) → place_behind (place_behind (length a) + length b) ≡ place_behind (0 + length (a ++ b))
 same_place a b =
@@ -54,7 +61,7 @@ one_listed style start here bytes rest next line old mid new to at has w =
       front = to.front ++ frame_bytes has.first;
       lines = to.lines ++ line;
       whole = to.whole ∙ ap (λ l. to.front ++ l) has.whole ∙ sym (append_assoc to.front (frame_bytes has.first) next);
-      listed = OneLine has.first line to.listed has.fits (subst (λ p. IsLineOf style p has.first line) place has.line);
+      listed = OneLine has.first line to.listed has.fits (subst (λ p. IsLineOf style p has.first line) place has.told);
       written = Appends-trans old mid new to.lines line to.written w;
     }
 
@@ -67,7 +74,7 @@ one_cut style start here bytes rest next line old mid new to at has w =
       rest = next;
       lines = to.lines ++ line;
       whole = to.whole ∙ ap (λ l. to.front ++ l) has.whole ∙ sym (append_assoc to.front (frame_bytes has.first) next);
-      listed = OneLine has.first line to.listed has.fits (subst (λ p. IsLineOf style p has.first line) place has.line);
+      listed = OneLine has.first line to.listed has.fits (subst (λ p. IsLineOf style p has.first line) place has.told);
       written = more_taken old mid new to.lines line to.written w;
     }
 
@@ -109,38 +116,50 @@ fault_stays rest piece f = record {
     len = f.header.len;
     rest = f.header.rest ++ piece;
     fits = f.header.fits;
-    parts = ap (λ l. l ++ piece) f.header.parts ∙ append_assoc _ f.header.rest piece;
+    parts = ap (λ l. l ++ piece) f.header.parts ∙ append_assoc (f.header.tag ∷ uint32 f.header.len) f.header.rest piece;
   };
   small = f.small;
 }
 
+not_both : (b : Bool) → b ≡ true → b ≡ false → ⊥
+not_both true e f = absurd cc
+not_both false e f = absurd cc
+
+-- what a piece comes to, whatever wasn't listed
+abbrev pub Lists : Style → ℕ → List ℕ → Held → Held → Option (List ℕ) → Option (List ℕ) → Type 0
+Lists style place piece before after old new = (rest : List ℕ) → Holds before rest → ListsPiece style place (rest ++ piece) after old new
+
+abbrev pub Stops : Style → ℕ → List ℕ → Held → Option (List ℕ) → Option (List ℕ) → Type 0
+Stops style place piece before old new = (rest : List ℕ) → Holds before rest → ListsSome style place (rest ++ piece) old new
+
 -- behind a length fault the bytes are counted
-pub piece_counted : (style : Style) (place left count : ℕ) (bytes piece rest : List ℕ) (old new : Option (List ℕ))
-    → Holds (record { bytes = bytes; place = place; stopped = true; left = left }) rest → place ≤ greatest → count ≡ min (left + length piece) greatest → Keeps old new
-    → ListsPiece style place (rest ++ piece) (record { bytes = bytes; place = place; stopped = true; left = count }) old new
-piece_counted style place left count bytes piece rest old new holds small counts kept = record {
+piece_counted : (style : Style) (place left count : ℕ) (bytes piece : List ℕ) (halted : Bool) (old new : Option (List ℕ))
+    → halted ≡ true → count ≡ min (left + length piece) greatest → Keeps old new
+    → Lists style place piece (record { bytes = bytes; place = place; stopped = halted; left = left }) (record { bytes = bytes; place = place; stopped = halted; left = count }) old new
+piece_counted style place left count bytes piece halted old new stands counts kept rest holds = record {
   front = [];
   rest = rest ++ piece;
   lines = [];
   whole = refl;
   listed = NoLines;
   holds = record {
-    ending = fault_stays rest piece holds.ending;
+    ending = subst (λ s. IsEnding s (rest ++ piece)) (sym stands) (fault_stays rest piece (subst (λ s. IsEnding s rest) stands holds.ending));
     count = counts ∙ ap (λ n. min (n + length piece) greatest) holds.count ∙ saturates (length rest) (length piece) greatest ∙ ap place_behind (sym (length-append rest piece));
-    bytes = λ e. absurd cc;
+    small = holds.small;
+    bytes = λ e. absurd (not_both halted stands e);
   };
-  moved = sym (min-eq_left small) ∙ ap place_behind (omega arith);
+  moved = sym (min-eq_left holds.small) ∙ ap place_behind (plain_end place);
   written = kept_nothing old new kept;
 }
 
 -- the frames that are whole with it were listed
-pub piece_listed : (style : Style) (place was n moved count : ℕ) (bytes piece rest items left : List ℕ) (stopped : Bool) (old mid new : Option (List ℕ))
-    → Holds (record { bytes = bytes; place = place; stopped = false; left = was }) rest → items ≡ bytes ++ piece
+piece_listed : (style : Style) (place was n moved count : ℕ) (bytes piece items left : List ℕ) (halted stopped : Bool) (old mid new : Option (List ℕ))
+    → halted ≡ false → items ≡ bytes ++ piece
     → ListsAll style place items (take n items) (drop n items) stopped old mid → n ≤ length items → left ≡ drop n items
     → moved ≡ min (place + n) greatest → count ≡ length left → count ≤ greatest → Keeps mid new
-    → ListsPiece style place (rest ++ piece) (record { bytes = left; place = moved; stopped = stopped; left = count }) old new
-piece_listed style place was n moved count bytes piece rest items left stopped old mid new holds grown all le cut moves counts small kept =
-    let same : rest ++ piece ≡ items = ap (λ l. l ++ piece) (sym (holds.bytes refl)) ∙ sym grown in
+    → Lists style place piece (record { bytes = bytes; place = place; stopped = halted; left = was }) (record { bytes = left; place = moved; stopped = stopped; left = count }) old new
+piece_listed style place was n moved count bytes piece items left halted stopped old mid new goes grown all le cut moves counts small kept rest holds =
+    let same : rest ++ piece ≡ items = ap (λ l. l ++ piece) (sym (holds.bytes goes)) ∙ sym grown in
     let long : length (take n items) ≡ n = omega (arith, length-take n items, le) in
     record {
       front = take n items;
@@ -151,6 +170,7 @@ piece_listed style place was n moved count bytes piece rest items left stopped o
       holds = record {
         ending = subst (IsEnding stopped) (sym cut) all.ending;
         count = sym (min-eq_left small) ∙ ap place_behind counts;
+        small = subst (λ k. k ≤ greatest) (sym moves) (min-le_right (place + n) greatest);
         bytes = λ e. refl;
       };
       moved = moves ∙ ap (λ k. place_behind (place + k)) (sym long);
@@ -169,17 +189,17 @@ none_of_piece style place bytes old new kept = record {
 }
 
 -- some were
-pub some_of_piece : (style : Style) (place was : ℕ) (bytes piece rest items : List ℕ) (old new : Option (List ℕ))
-    → Holds (record { bytes = bytes; place = place; stopped = false; left = was }) rest → items ≡ bytes ++ piece → ListsSome style place items old new → ListsSome style place (rest ++ piece) old new
-some_of_piece style place was bytes piece rest items old new holds grown some =
-    subst (λ l. ListsSome style place l old new) (grown ∙ ap (λ l. l ++ piece) (holds.bytes refl)) some
+some_of_piece : (style : Style) (place was : ℕ) (bytes piece items : List ℕ) (halted : Bool) (old new : Option (List ℕ))
+    → halted ≡ false → items ≡ bytes ++ piece → ListsSome style place items old new → Stops style place piece (record { bytes = bytes; place = place; stopped = halted; left = was }) old new
+some_of_piece style place was bytes piece items halted old new goes grown some rest holds =
+    subst (λ l. ListsSome style place l old new) (grown ∙ ap (λ l. l ++ piece) (holds.bytes goes)) some
 
 -- all were, and weren't passed on
-pub all_of_piece : (style : Style) (place was n : ℕ) (bytes piece rest items : List ℕ) (stopped : Bool) (old mid new : Option (List ℕ))
-    → Holds (record { bytes = bytes; place = place; stopped = false; left = was }) rest → items ≡ bytes ++ piece
-    → ListsAll style place items (take n items) (drop n items) stopped old mid → Keeps mid new → ListsSome style place (rest ++ piece) old new
-all_of_piece style place was n bytes piece rest items stopped old mid new holds grown all kept =
-    some_of_piece style place was bytes piece rest items old new holds grown (record {
+all_of_piece : (style : Style) (place was n : ℕ) (bytes piece items : List ℕ) (halted stopped : Bool) (old mid new : Option (List ℕ))
+    → halted ≡ false → items ≡ bytes ++ piece
+    → ListsAll style place items (take n items) (drop n items) stopped old mid → Keeps mid new → Stops style place piece (record { bytes = bytes; place = place; stopped = halted; left = was }) old new
+all_of_piece style place was n bytes piece items halted stopped old mid new goes grown all kept =
+    some_of_piece style place was bytes piece items halted old new goes grown (record {
       front = take n items;
       rest = drop n items;
       lines = all.lines;
@@ -187,6 +207,33 @@ all_of_piece style place was n bytes piece rest items stopped old mid new holds 
       listed = all.listed;
       written = all_taken old new all.lines (kept_more old mid new all.lines all.written kept);
     })
+
+-- what a call answers of these
+module _ {T E : Type 0} where
+  pub ok_counted : (r : Result T E) (style : Style) (place left count : ℕ) (bytes piece : List ℕ) (halted : Bool) (old new : Option (List ℕ))
+      → halted ≡ true → count ≡ min (left + length piece) greatest → Keeps old new
+      → OnOk r (Lists style place piece (record { bytes = bytes; place = place; stopped = halted; left = left }) (record { bytes = bytes; place = place; stopped = halted; left = count }) old new)
+  ok_counted (Ok x) style place left count bytes piece halted old new stands counts kept = piece_counted style place left count bytes piece halted old new stands counts kept
+  ok_counted (Err e) style place left count bytes piece halted old new stands counts kept = tt
+
+  pub err_counted : (r : Result T E) (style : Style) (place : ℕ) (piece : List ℕ) (held : Held) (old new : Option (List ℕ)) → Keeps old new → OnErr r (Stops style place piece held old new)
+  err_counted (Ok x) style place piece held old new kept = tt
+  err_counted (Err e) style place piece held old new kept = λ rest holds. none_of_piece style place (rest ++ piece) old new kept
+
+  pub ok_listed : (r : Result T E) (style : Style) (place was n moved count : ℕ) (bytes piece items left : List ℕ) (halted stopped : Bool) (old mid new : Option (List ℕ))
+      → halted ≡ false → items ≡ bytes ++ piece
+      → ListsAll style place items (take n items) (drop n items) stopped old mid → n ≤ length items → left ≡ drop n items
+      → moved ≡ min (place + n) greatest → count ≡ length left → count ≤ greatest → Keeps mid new
+      → OnOk r (Lists style place piece (record { bytes = bytes; place = place; stopped = halted; left = was }) (record { bytes = left; place = moved; stopped = stopped; left = count }) old new)
+  ok_listed (Ok x) style place was n moved count bytes piece items left halted stopped old mid new goes grown all le cut moves counts small kept =
+      piece_listed style place was n moved count bytes piece items left halted stopped old mid new goes grown all le cut moves counts small kept
+  ok_listed (Err e) style place was n moved count bytes piece items left halted stopped old mid new goes grown all le cut moves counts small kept = tt
+
+  pub err_listed : (r : Result T E) (style : Style) (place was n : ℕ) (bytes piece items : List ℕ) (halted stopped : Bool) (old mid new : Option (List ℕ))
+      → halted ≡ false → items ≡ bytes ++ piece
+      → ListsAll style place items (take n items) (drop n items) stopped old mid → Keeps mid new → OnErr r (Stops style place piece (record { bytes = bytes; place = place; stopped = halted; left = was }) old new)
+  err_listed (Ok x) style place was n bytes piece items halted stopped old mid new goes grown all kept = tt
+  err_listed (Err e) style place was n bytes piece items halted stopped old mid new goes grown all kept = all_of_piece style place was n bytes piece items halted stopped old mid new goes grown all kept
 
 -- ---- the whole stream
 
@@ -201,16 +248,29 @@ pub record Tracks (style : Style) (before after : Streams) (held : Held) : Type 
   pub place : held.place ≡ place_behind (length front)
   pub written : Appends before.output after.output lines
 
-pub tracks_nothing : (style : Style) (s : Streams) (held : Held) → held ≡ record { bytes = []; place = 0; stopped = false; left = 0 } → Tracks style s s held
-tracks_nothing style s held e = record {
+pub tracks_start : (style : Style) (s : Streams) (bytes : List ℕ) → bytes ≡ [] → Tracks style s s (record { bytes = bytes; place = 0; stopped = false; left = 0 })
+tracks_start style s bytes e = record {
   front = [];
   rest = [];
   lines = [];
   came = Consumes-nil s.input;
   listed = NoLines;
-  holds = rw e (record { ending = inl (omega arith); count = refl; bytes = λ h. refl });
-  place = ap (λ (h : Held). h.place) e;
+  holds = record { ending = inl (omega arith); count = refl; small = omega arith; bytes = λ h. e };
+  place = refl;
   written = Appends-nil s.output;
+}
+
+pub tracks_none : (style : Style) (before : Streams) (now next output : Option (List ℕ)) (held : Held) → Tracks style before (record { input = now; output = output }) held → Consumes now next []
+    → Tracks style before (record { input = next; output = output }) held
+tracks_none style before now next output held t none = record {
+  front = t.front;
+  rest = t.rest;
+  lines = t.lines;
+  came = subst (Consumes before.input next) (append-nil (t.front ++ t.rest)) (Consumes-trans before.input now next (t.front ++ t.rest) [] t.came none);
+  listed = t.listed;
+  holds = t.holds;
+  place = t.place;
+  written = t.written;
 }
 
 -- nothing came
@@ -243,7 +303,7 @@ tracks_piece style before after held new next output piece t came one = record {
   came = came_more style before after held t next piece one.front one.rest came one.whole;
   listed = lines_join style t.front t.lines t.listed one.front one.lines (subst (λ p. Lines style p one.front one.lines) t.place one.listed);
   holds = one.holds;
-  place = one.moved ∙ ap (λ p. place_behind (p + length one.front)) t.place ∙ same_place t.front one.front;
+  place = one.moved ∙ ap (λ p. place_behind (p + length one.front)) t.place ∙ same_place t.front one.front ∙ ap place_behind (plain_sum (length (t.front ++ one.front)));
   written = Appends-trans before.output after.output output t.lines one.lines t.written one.written;
 }
 
@@ -310,6 +370,51 @@ cut_last style before after held output t end last = record {
   text = t.lines ++ last_line held.stopped held.left;
   came = t.came;
   listed = t.listed;
-  due = inr (record { stopped = held.stopped; end = end; ending = t.holds.ending; text = ap (λ n. t.lines ++ last_line held.stopped n) t.holds.count });
+  due = inr (record { stopped = held.stopped; end = end; ending = t.holds.ending; all = ap (λ n. t.lines ++ last_line held.stopped n) t.holds.count });
   written = more_taken before.output after.output output t.lines _ t.written last;
 }
+
+-- nothing was written
+pub cut_nothing : (style : Style) (s : Streams) → IsCutShort style s s
+cut_nothing style s = record {
+  front = [];
+  rest = [];
+  lines = [];
+  text = [];
+  came = Consumes-nil s.input;
+  listed = NoLines;
+  due = inl refl;
+  written = none_taken s.output [];
+}
+
+-- ---- what calls answer of these
+
+module _ {T E : Type 0} where
+  pub end_written : (r : Result T E) (style : Style) (before : Streams) (now next middle output : Option (List ℕ)) (held : Held) → Tracks style before (record { input = now; output = middle }) held
+      → Consumes now next [] → IsAtEnd next → OnOk r (Appends middle output (last_line held.stopped held.left)) → OnOk r (IfSome before.input (λ bytes. WritesListing style bytes before.output output))
+  end_written (Ok x) style before now next middle output held t none end last = all_written style before (record { input = next; output = middle }) held output (tracks_none style before now next middle held t none) end last
+  end_written (Err e) style before now next middle output held t none end last = tt
+
+  pub end_cut : (r : Result T E) (style : Style) (before : Streams) (now next middle output : Option (List ℕ)) (held : Held) → Tracks style before (record { input = now; output = middle }) held
+      → Consumes now next [] → IsAtEnd next → OnErr r (AppendsFront middle output (last_line held.stopped held.left)) → OnErr r (IsCutShort style before (record { input = next; output = output }))
+  end_cut (Ok x) style before now next middle output held t none end last = tt
+  end_cut (Err e) style before now next middle output held t none end last = cut_last style before (record { input = next; output = middle }) held output (tracks_none style before now next middle held t none) end last
+
+  pub piece_cut : (r : Result T E) (style : Style) (before : Streams) (now next middle output : Option (List ℕ)) (held : Held) (piece : List ℕ) (t : Tracks style before (record { input = now; output = middle }) held)
+      → Consumes now next piece → Stops style held.place piece held middle output → OnErr r (IsCutShort style before (record { input = next; output = output }))
+  piece_cut (Ok x) style before now next middle output held piece t came some = tt
+  piece_cut (Err e) style before now next middle output held piece t came some = cut_piece style before (record { input = now; output = middle }) held next output piece t came (some t.rest t.holds)
+
+  pub nothing_cut : (r : Result T E) (style : Style) (s : Streams) → OnErr r (IsCutShort style s s)
+  nothing_cut (Ok x) style s = tt
+  nothing_cut (Err e) style s = cut_nothing style s
+
+  pub one_cut_err : (r : Result T E) (style : Style) (start here : ℕ) (bytes rest next line : List ℕ) (old mid new : Option (List ℕ)) → ListsTo style start bytes rest old mid
+      → here ≡ min (start + (length bytes - length rest)) greatest → HasLine style here rest next line → AppendsFront mid new line → OnErr r (ListsSome style start bytes old new)
+  one_cut_err (Ok x) style start here bytes rest next line old mid new to at has w = tt
+  one_cut_err (Err e) style start here bytes rest next line old mid new to at has w = one_cut style start here bytes rest next line old mid new to at has w
+
+-- so many calls came, and one more
+pub called_more : {S : Type 0} (called : S → ℕ → Type 0) (old new : S) (n : ℕ) → called new 1 → ((k : ℕ) → called old k → called new (k + 1)) → ((n ≡ 0) ⊎ called old n) → (n + 1 ≡ 0) ⊎ called new (n + 1)
+called_more called old new n once again (inl e) = inr (subst (λ k. called new (k + 1)) (sym e) once)
+called_more called old new n once again (inr h) = inr (again n h)

@@ -14,17 +14,18 @@ pub data Command : Type 0 where
   Help : Command
   Version : Command
 
--- The style that these options ask for, each once at most: 64 bytes of a text or a value are shown, or all of them, and secrets aren't, or are.
+-- the words ask for a listing in this style: 64 bytes of a text or a value are shown, or all of them, and secrets aren't, or are
 abbrev pub AskStyle : List (List ℕ) → Style → Type 0
-AskStyle options style =
-    ((options ≡ []) × (style ≡ record { limit = 64; secrets = false }))
-    ⊎ ((options ≡ codes "--full" ∷ []) × (style ≡ record { limit = greatest; secrets = false }))
-    ⊎ ((options ≡ codes "--secrets" ∷ []) × (style ≡ record { limit = 64; secrets = true }))
-    ⊎ (((options ≡ codes "--full" ∷ codes "--secrets" ∷ []) ⊎ (options ≡ codes "--secrets" ∷ codes "--full" ∷ [])) × (style ≡ record { limit = greatest; secrets = true }))
+AskStyle words style =
+    ((words ≡ codes "server" ∷ []) × (style ≡ record { limit = 64; secrets = false }))
+    ⊎ ((words ≡ codes "server" ∷ codes "--full" ∷ []) × (style ≡ record { limit = greatest; secrets = false }))
+    ⊎ ((words ≡ codes "server" ∷ codes "--secrets" ∷ []) × (style ≡ record { limit = 64; secrets = true }))
+    ⊎ ((words ≡ codes "server" ∷ codes "--full" ∷ codes "--secrets" ∷ []) × (style ≡ record { limit = greatest; secrets = true }))
+    ⊎ ((words ≡ codes "server" ∷ codes "--secrets" ∷ codes "--full" ∷ []) × (style ≡ record { limit = greatest; secrets = true }))
 
 -- the words ask for it
 abbrev pub Asks : List (List ℕ) → Command → Type 0
-Asks words (Server style) = (options : List (List ℕ)) × (words ≡ codes "server" ∷ options) × AskStyle options style
+Asks words (Server style) = AskStyle words style
 Asks words Help = words ≡ codes "--help" ∷ []
 Asks words Version = words ≡ codes "--version" ∷ []
 

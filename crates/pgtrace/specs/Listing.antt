@@ -85,7 +85,7 @@ pub record EndsWith (input : Option (List ℕ)) (rest lines text : List ℕ) : T
   pub stopped : Bool
   pub end : IsAtEnd input
   pub ending : IsEnding stopped rest
-  pub text : text ≡ lines ++ last_line stopped (place_behind (length rest))
+  pub all : text ≡ lines ++ last_line stopped (place_behind (length rest))
 
 -- A front of the lines of what came was written, and of the last one where it is due.
 pub record IsCutShort (style : Style) (before after : Streams) : Type 0 where

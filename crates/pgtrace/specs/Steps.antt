@@ -1,5 +1,5 @@
 -- Private: a frame and its line, one at a time, and what a piece of a stream adds to its listing.
-use Rattle.std.specs.Prelude.{◌≡◌, ℕ, ◌+◌, Bool, false, List, ◌++◌, length, Option, Result}
+use Rattle.std.specs.Prelude.{◌≡◌, ◌≤◌, ℕ, ◌+◌, Bool, false, List, ◌++◌, length, Option, Result}
 use Rattle.std.specs.Io.KnownBytes.{Appends}
 use Rattle.pgp_base.specs.declared.error.Error.{Error}
 use Rattle.pgp_message.specs.BackendMessage.{Message, Body}
@@ -9,6 +9,7 @@ use Rattle.pgtrace.specs.declared.frame.Next.{Next}
 use Rattle.pgtrace.specs.declared.frame.Next.TheVariants.{Line, Waits, Stops}
 use Rattle.pgtrace.specs.Listing.{IsLineOf, Lines, place_behind}
 use Rattle.pgtrace.specs.Taken.{AppendsFront}
+use Rattle.pgtrace.specs.Words.{greatest}
 
 -- the bytes are one frame, with this result
 pub record IsFrameOf (bytes : List ℕ) (r : Result Message Error) : Type 0 where
@@ -22,7 +23,7 @@ pub record HasLine (style : Style) (place : ℕ) (old new line : List ℕ) : Typ
   pub first : Frame
   pub whole : old ≡ frame_bytes first ++ new
   pub fits : IsFrame first
-  pub line : IsLineOf style place first line
+  pub told : IsLineOf style place first line
 
 -- a frame was passed and has its line; or none is whole, and more is awaited, or the stream ends at a length that counts not even itself
 abbrev pub ListsNext : Style → ℕ → List ℕ → List ℕ → List ℕ → Next → Type 0
@@ -59,6 +60,7 @@ pub record Held : Type 0 where
 pub record Holds (held : Held) (rest : List ℕ) : Type 0 where
   pub ending : IsEnding held.stopped rest
   pub count : held.left ≡ place_behind (length rest)
+  pub small : held.place ≤ greatest
   pub bytes : held.stopped ≡ false → held.bytes ≡ rest
 
 -- These bytes stood at the place. All frames at their front were listed, and this is kept of what is left.

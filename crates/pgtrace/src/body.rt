@@ -15,7 +15,7 @@ use crate::lists::{
 use crate::names::state_of;
 use crate::style::Style;
 use pgp_base::{FallibleIterator, Memory};
-use postgres_protocol::message::backend::{
+use pgp_message::{
     AuthenticationSaslBody, BackendKeyDataBody, ColumnFormats, CommandCompleteBody, DataRowBody,
     Message, NegotiateProtocolVersionBody, NotificationResponseBody, ParameterDescriptionBody,
     ParameterStatusBody, RowDescriptionBody,
@@ -226,8 +226,8 @@ fn put_copy<A: Memory>(
     line: &mut String<A>,
 ) -> Result<(), AllocError>
     ensures parts { OnOk result (string_bytes line.new ≡ followed limit (string_bytes line.old)
-        (Word (codes "format") ∷ Number (pos format) ∷ Word (codes "columns") ∷ Number (pos (hint_of formats.announced).0)
-        ∷ list_of number_part formats.items formats.end)) }
+        (Word (codes "format") ∷ Number (pos format) ∷ Word (codes "columns") ∷ Number (pos (hint_of formats.entry.announced).0)
+        ∷ list_of number_part formats.entry.items formats.entry.end)) }
     ensures lacks { OnErr result A.Lacks }
 {
     put_word("format", line)?;

@@ -11,9 +11,8 @@ use crate::line::{put_number, put_tag, put_word};
 use crate::lists::put_fault;
 use crate::names::name_of;
 use crate::style::Style;
-use pgp_base::Memory;
-use postgres_protocol::Error;
-use postgres_protocol::message::backend::{Message, Messages};
+use pgp_base::{Error, Memory};
+use pgp_message::{Message, Messages};
 use std::alloc::AllocError;
 
 /// What stood at the front of a stream.

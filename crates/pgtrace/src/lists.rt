@@ -10,9 +10,8 @@ ghost use Rattle.pgtrace.specs.Shown.{column_parts, fault, field_parts, list_of,
 
 use crate::line::{put_name, put_null, put_number, put_signed, put_some, put_text, put_word};
 use crate::names::{field_of, refusal_of};
-use pgp_base::{FallibleIterator, Memory};
-use postgres_protocol::Error;
-use postgres_protocol::message::backend::{
+use pgp_base::{Error, FallibleIterator, Memory};
+use pgp_message::{
     ColumnFormats, DataRowRanges, ErrorField, ErrorFields, Field, Fields, Parameters,
     ProtocolOptions, SaslMechanisms,
 };
@@ -163,7 +162,7 @@ pub fn put_named<A: Memory>(
     byte: u8,
     line: &mut String<A>,
 ) -> Result<(), AllocError>
-    ensures part { OnOk result (string_bytes line.new ≡ followed 0 (string_bytes line.old) (Word (name_or (option_map (λ name. name.now) name) byte) ∷ [])) }
+    ensures part { OnOk result (string_bytes line.new ≡ followed 0 (string_bytes line.old) (Word (name_or (option_map (λ name. name.now) name.entry) byte) ∷ [])) }
     ensures lacks { OnErr result A.Lacks }
 {
     match name {

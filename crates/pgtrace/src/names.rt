@@ -5,8 +5,8 @@ ghost use Rattle.std.specs.Option.{option_map};
 ghost use Rattle.pgp_message.specs.Views.{view};
 ghost use Rattle.pgtrace.specs.Names.{field_of, name_of, place_of, refusal_of, state_of};
 
-use postgres_protocol::Error;
-use postgres_protocol::message::backend::Message;
+use pgp_base::Error;
+use pgp_message::Message;
 
 /// The name of a message.
 pub fn name_of(message: &Message<&[u8]>) -> &'static str

@@ -69,9 +69,8 @@ fn command_of(words: &[&str]) -> Option<Command>
         ["server"] => Some(Command::Server(style(false, false))),
         ["server", "--full"] => Some(Command::Server(style(true, false))),
         ["server", "--secrets"] => Some(Command::Server(style(false, true))),
-        ["server", "--full", "--secrets"] | ["server", "--secrets", "--full"] => {
-            Some(Command::Server(style(true, true)))
-        }
+        ["server", "--full", "--secrets"] => Some(Command::Server(style(true, true))),
+        ["server", "--secrets", "--full"] => Some(Command::Server(style(true, true))),
         ["--help"] => Some(Command::Help),
         ["--version"] => Some(Command::Version),
         _ => None,

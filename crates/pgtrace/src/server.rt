@@ -15,7 +15,7 @@ use crate::print::{flush, put, write};
 use crate::style::Style;
 use bytes::{Buf, BytesMut};
 use pgp_base::Memory;
-use postgres_protocol::message::backend::Messages;
+use pgp_message::Messages;
 use std::alloc::AllocError;
 use std::io::ErrorKind;
 
