@@ -124,7 +124,7 @@ fn list_piece<A: Memory, W: Output>(
 {
     if held.stopped {
         held.left = held.left.saturating_add(piece.len() as u64);
-        return flush(output);
+        return pass_on(output);
     }
     A::append(&mut held.bytes, piece)?;
     let (listed, stopped) = list_frames(
@@ -138,7 +138,7 @@ fn list_piece<A: Memory, W: Output>(
     held.place = held.place.saturating_add(listed as u64);
     held.left = held.bytes.len() as u64;
     held.stopped = stopped;
-    flush(output)
+    pass_on(output)
 }
 
 /// Lists the whole frames at the front of the bytes, which stand at this place. Answers how many bytes they take, and whether a length
@@ -166,6 +166,16 @@ fn list_frames<A: Memory, W: Output>(
             Next::Stops => return Ok((passed, true)),
         }
     }
+}
+
+/// Has the lines so far passed on.
+fn pass_on<W: Output>(output: &mut W) -> Result<(), Fault>
+    ensures kept { Keeps (W.contents output.old) (W.contents output.new) }
+    ensures passed { OnOk result (W.Passed output.new) }
+    ensures fault { IfErr result (λ fault. fault ≡ Fault.Write) }
+    ensures failed { OnErr result (GivesUp W.Fails W.Interrupted) }
+{
+    flush(output)
 }
 
 /// Writes a line. It isn't passed on yet: more may follow it at once.
