@@ -1,9 +1,9 @@
 -- The parts of a line, a part and an item at a time.
-use Rattle.std.proofs.Common.{◌≡◌, ℕ, List, [], ◌∷◌, ◌++◌, Option, Some, None, refl, sym, ap, ◌∙◌}
+use Rattle.std.proofs.Common.{◌≡◌, ℕ, List, [], ◌∷◌, ◌++◌, refl, sym, ap, ◌∙◌}
 use Rattle.pgp_base.specs.declared.error.Error.{Error}
 use Rattle.pgp_base.specs.Walk.{Walk, TakesItem, IsFinished, IsRefused}
 use Rattle.pgtrace.specs.Line.{Part, followed, shown}
-use Rattle.pgtrace.specs.Shown.{each_then, ending, fault, list_of}
+use Rattle.pgtrace.specs.Shown.{ending, fault, list_of}
 
 -- parts behind parts
 pub followed_join : (limit : ℕ) (line : List ℕ) (ps qs : List Part) → followed limit line (ps ++ qs) ≡ followed limit (followed limit line ps) qs

@@ -6,14 +6,13 @@ use Rattle.std.proofs.lemmas.List.{append-nil, length-append}
 use Rattle.std.proofs.lemmas.List.Concat.{flat_map-cons}
 use Rattle.pgp_base.specs.Wire.{uint32}
 use Rattle.pgp_base.specs.declared.error.Error.{Error}
-use Rattle.pgp_message.specs.BackendMessage.{Message, Body}
+use Rattle.pgp_message.specs.BackendMessage.{Message}
 use Rattle.pgp_message.specs.Stream.{Frame, frame_bytes, IsFrame}
 use Rattle.pgp_message.proofs.Runs.{front_is_one, each_push, pushed}
 use Rattle.pgtrace.specs.declared.style.Style.{Style}
 use Rattle.pgtrace.specs.Line.{Word, Number, Tag, followed}
 use Rattle.pgtrace.specs.Listing.{GoesOn, IsLineOf, Lines, NoLines, OneLine, front, place_behind}
-use Rattle.pgtrace.specs.Names.{name_of}
-use Rattle.pgtrace.specs.Secrets.{Alike, AlikeResults, AlikeFrames, AlikeStreams, NoFrames, OneAlike, quiet}
+use Rattle.pgtrace.specs.Secrets.{AlikeResults, AlikeFrames, AlikeStreams, NoFrames, OneAlike, quiet}
 use Rattle.pgtrace.specs.Shown.{Shows}
 use Rattle.pgtrace.proofs.Hiding.{hidden, same_name}
 

@@ -5,7 +5,7 @@ use Rattle.std.specs.declared.ops.Range.{Range}
 use Rattle.pgp_base.specs.Error.{number_of}
 use Rattle.pgp_base.specs.declared.error.Error.{Error}
 use Rattle.pgp_base.specs.Items.{CountedItems, MarkedItems}
-use Rattle.pgp_message.specs.BackendMessage.{AuthenticationOk, AuthenticationKerberosV5, AuthenticationCleartextPassword, AuthenticationMd5Password, AuthenticationScmCredential, AuthenticationGss, AuthenticationGssContinue, AuthenticationSspi, AuthenticationSasl, AuthenticationSaslContinue, AuthenticationSaslFinal, Message, ParseComplete, BindComplete, CloseComplete, NotificationResponse, CommandComplete, DataRow, ErrorResponse, CopyInResponse, CopyOutResponse, EmptyQueryResponse, BackendKeyData, NegotiateProtocolVersion, NoticeResponse, Authentication, ParameterStatus, RowDescription, ReadyForQuery, CopyDone, CopyData, NoData, PortalSuspended, ParameterDescription, payload_of}
+use Rattle.pgp_message.specs.BackendMessage.{AuthenticationMd5Password, AuthenticationGssContinue, AuthenticationSasl, AuthenticationSaslContinue, AuthenticationSaslFinal, Message, NotificationResponse, CommandComplete, DataRow, ErrorResponse, CopyInResponse, CopyOutResponse, BackendKeyData, NegotiateProtocolVersion, NoticeResponse, Authentication, ParameterStatus, RowDescription, ReadyForQuery, CopyData, ParameterDescription, payload_of}
 use Rattle.pgp_message.specs.Items.{TextSpelled, TextRefused, FormatSpelled, FormatRefused, TypeSpelled, TypeRefused, RangeSpelled, RangeRefused, FieldPart, FieldSpelled, FieldRefused, ErrorPart, ErrorFieldSpelled, ErrorFieldRefused}
 use Rattle.pgp_message.specs.Parts.{CopyFormats}
 use Rattle.pgp_message.specs.Table.{value_at}

@@ -1,5 +1,4 @@
 -- The places of a row lie in its bytes.
-use Rattle.std.proofs.Common.{length}
 use Rattle.pgp_message.proofs.TableLemmas.{places_in}
 use Rattle.pgtrace.proofs.body.put_row.Goals as goal
 

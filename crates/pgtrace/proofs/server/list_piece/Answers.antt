@@ -1,7 +1,6 @@
-use Rattle.std.proofs.Common.{◌≡◌, ◌≤◌, List, ℕ, length, take, drop, arith, sym, subst, ◌∙◌}
+use Rattle.std.proofs.Common.{◌≤◌, List, ℕ, length, take, drop, arith, subst}
 use Rattle.std.proofs.KnownBytes.{Keeps-refl}
 use Rattle.pgtrace.specs.Steps.{ListsAll}
-use Rattle.pgtrace.specs.Words.{greatest}
 use Rattle.pgtrace.proofs.Traces.{ok_counted, err_counted, ok_listed, err_listed}
 use Rattle.pgtrace.proofs.server.list_piece.Goals as goal
 

@@ -1,5 +1,5 @@
-use Rattle.std.proofs.Common.{◌≡◌, List, ℕ, take, length, arith, rules, refl, subst, inl, inr}
-use Rattle.std.specs.Io.KnownBytes.{Consumes, IsAtEnd, Keeps}
+use Rattle.std.proofs.Common.{take, arith, rules, refl, subst, inl, inr}
+use Rattle.std.specs.Io.KnownBytes.{Consumes}
 use Rattle.std.proofs.KnownBytes.{Keeps-refl}
 use Rattle.pgtrace.proofs.Traces.{tracks_start, tracks_same, tracks_piece, end_written, end_cut, piece_cut, cut_here, was_listed, called_more}
 use Rattle.pgtrace.proofs.server.list_stream.Goals as goal
