@@ -1,0 +1,12 @@
+pub mod Parts
+pub mod Fronts
+pub mod Items
+pub mod FrameLines
+pub mod Traces
+pub mod Quotes
+pub mod Printable
+pub mod Printing
+pub mod Runs
+pub mod Hiding
+pub mod Streams
+pub mod WordLemmas

@@ -1,0 +1,48 @@
+-- Lists, one element after another.
+use Rattle.std.proofs.Common.{◌≡◌, ℕ, ◌+◌, ◌-◌, ◌<◌, ◌≤◌, List, [], ◌∷◌, ◌++◌, length, take, get_or, sym, ap, ◌∙◌, arith, length-append, append_assoc, min, inl, inr}
+use Rattle.std.specs.List.{flat_map}
+use Rattle.std.proofs.Math.Nat.{min-eq_left, min-eq_right}
+use Rattle.std.proofs.lemmas.Bool.{cases_order}
+use Rattle.std.proofs.lemmas.List.{append-nil, take_more}
+use Rattle.std.proofs.lemmas.List.Concat.{flat_map-cons}
+use Rattle.std.proofs.lemmas.Grind.{flat_map-append}
+use Rattle.std.proofs.Math.Seq.{take-append_seam}
+
+-- one element more
+pub one_more : (f : ℕ → List ℕ) (xs : List ℕ) (i d : ℕ) → i < length xs → flat_map f (take (i + 1) xs) ≡ flat_map f (take i xs) ++ f (get_or xs i d)
+one_more f xs i d lt =
+    ap (flat_map f) (take_more xs i d lt) ∙ flat_map-append f (take i xs) (get_or xs i d ∷ [])
+    ∙ ap (λ l. flat_map f (take i xs) ++ l) (flat_map-cons f (get_or xs i d) [] ∙ append-nil (f (get_or xs i d)))
+
+-- and its part of a text
+pub text_more : (f : ℕ → List ℕ) (xs before old new : List ℕ) (i d : ℕ) → i < length xs → old ≡ before ++ flat_map f (take i xs) → new ≡ old ++ f (get_or xs i d) → new ≡ before ++ flat_map f (take (i + 1) xs)
+text_more f xs before old new i d lt so_far grown =
+    grown ∙ ap (λ l. l ++ f (get_or xs i d)) so_far ∙ append_assoc before (flat_map f (take i xs)) (f (get_or xs i d)) ∙ ap (λ l. before ++ l) (sym (one_more f xs i d lt))
+
+-- what stands before the rest
+pub front_taken : (front rest all : List ℕ) → all ≡ front ++ rest → take (length all - length rest) all ≡ front
+front_taken front rest all e =
+    let n : length all - length rest ≡ length front = omega (arith, ap length e, length-append front rest) in
+    ap (λ k. take k all) n ∙ ap (take (length front)) e ∙ take-append_seam front rest
+
+-- a sum that stays at the greatest number
+at_most : (a b m : ℕ) → m ≤ a → min (min a m + b) m ≡ min (a + b) m
+at_most a b m le =
+    let here : min a m ≡ m = min-eq_right le in
+    let one : m ≤ m + b = omega arith in
+    let two : m ≤ a + b = omega (arith, le) in
+    ap (λ k. min (k + b) m) here ∙ min-eq_right one ∙ sym (min-eq_right two)
+
+below : (a b m : ℕ) → a ≤ m → min (min a m + b) m ≡ min (a + b) m
+below a b m le =
+    let here : min a m ≡ a = min-eq_left le in
+    ap (λ k. min (k + b) m) here
+
+pub saturates : (a b m : ℕ) → min (min a m + b) m ≡ min (a + b) m
+saturates a b m = elim (cases_order a m) [
+  | inl e ↦ at_most a b m (omega (arith, e))
+  | inr h ↦ elim h [
+    | inl l ↦ below a b m (omega (arith, l))
+    | inr g ↦ at_most a b m (omega (arith, g))
+  ]
+]

@@ -1,0 +1,32 @@
+use Rattle.std.proofs.Common.{◌≡◌, ◌-◌, List, ℕ, length, take, Ok, Err, rules, ap, sym, subst, ◌∙◌}
+use Rattle.std.specs.Prelude.{string_bytes}
+use Rattle.pgp_message.specs.Stream.{TakesFrame}
+use Rattle.pgp_message.specs.Views.{view}
+use Rattle.pgp_message.proofs.Steps.{taken_by}
+use Rattle.pgtrace.specs.Steps.{IsFrameOf}
+use Rattle.pgtrace.proofs.FrameLines.{taken_frame, line_here, fault_told}
+use Rattle.pgtrace.proofs.frame.next_line.Goals as goal
+
+pub message_line-told-requires : goal.message_line-told-requires
+message_line-told-requires g c =
+    let old = c.args.messages.now in
+    let new = c.next.new.self in
+    let t : TakesFrame old (Ok (view c.in-Ok-Some.message)) new = search rules in
+    let is : c.front_of-frame.result.now ≡ take (length old - length new) old =
+    c.front_of-frame.ensures ∙ ap (λ (l : List ℕ). take (length l - length c.rest.result.now) l) c.rest-before.ensures ∙ ap (λ (l : List ℕ). take (length old - length l) old) c.rest.ensures in
+    subst (λ l. IsFrameOf l (Ok (view c.in-Ok-Some.message))) (sym is) (taken_frame old new (Ok (view c.in-Ok-Some.message)) t)
+
+pub returns-in_ok-fault_line-in-Err : goal.returns-in_ok-fault_line-in-Err
+returns-in_ok-fault_line-in-Err g c =
+    let old = c.args.messages.now in
+    let new = c.next.new.self in
+    let e = c.in-Err.refusal in
+    let frame = c.front_of-frame-in-Err.result.now in
+    let t : TakesFrame old (Err e) new = taken_by old new e (λ h. search rules) c.in-Err.ensures.step in
+    let is : frame ≡ take (length old - length new) old =
+    c.front_of-frame-in-Err.ensures ∙ ap (λ (l : List ℕ). take (length l - length c.rest-in-Err.result.now) l) c.rest-before.ensures ∙ ap (λ (l : List ℕ). take (length old - length l) old) c.rest-in-Err.ensures in
+    let framed : IsFrameOf frame (Err e) = subst (λ l. IsFrameOf l (Err e)) (sym is) (taken_frame old new (Err e) t) in
+    record {
+      listed = line_here c.args.style c.args.place old new frame (string_bytes c.fault_line.new.line) (Err e) t is (fault_told c.args.style c.args.place frame e framed (string_bytes c.fault_line.new.line) c.in_ok-fault_line-in-Err.ensures.line);
+      lacks = tt;
+    }

@@ -1,0 +1,9 @@
+-- Private: the code's commands as those of `Command`.
+use Rattle.pgtrace.specs.declared.run as code
+use Rattle.pgtrace.specs.declared.run.Command.TheVariants as variants
+use Rattle.pgtrace.specs.Command.{Command, Server, Help, Version}
+
+abbrev pub asked : code.Command.Command → Command
+asked (variants.Server style) = Server style
+asked variants.Help = Help
+asked variants.Version = Version

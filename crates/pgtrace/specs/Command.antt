@@ -1,0 +1,129 @@
+-- What the program does for its words.
+use Rattle.std.specs.Prelude.{◌≡◌, ◌⊎◌, ℕ, true, false, List, [], ◌∷◌, ◌++◌, Option, IfSome, codes}
+use Rattle.std.specs.Io.KnownBytes.{Keeps, Appends, IsAtEnd}
+use Rattle.pgtrace.specs.declared.fault.Fault.{Fault}
+use Rattle.pgtrace.specs.declared.fault.Fault.TheVariants.{Memory, Read, Write}
+use Rattle.pgtrace.specs.declared.style.Style.{Style}
+use Rattle.pgtrace.specs.Listing.{Streams, IsCutShort, WasListed, WritesListing}
+use Rattle.pgtrace.specs.Taken.{AppendsFront}
+use Rattle.pgtrace.specs.Words.{greatest, AreWords, HasOther, LacksWords}
+
+-- Lists a server's stream in a style; or tells how the program is called, or which one it is.
+pub data Command : Type 0 where
+  Server : Style → Command
+  Help : Command
+  Version : Command
+
+-- the words ask for a listing in this style: 64 bytes of a text or a value are shown, or all of them, and secrets aren't, or are
+abbrev pub AskStyle : List (List ℕ) → Style → Type 0
+AskStyle words style =
+    ((words ≡ codes "server" ∷ []) × (style ≡ record { limit = 64; secrets = false }))
+    ⊎ ((words ≡ codes "server" ∷ codes "--full" ∷ []) × (style ≡ record { limit = greatest; secrets = false }))
+    ⊎ ((words ≡ codes "server" ∷ codes "--secrets" ∷ []) × (style ≡ record { limit = 64; secrets = true }))
+    ⊎ ((words ≡ codes "server" ∷ codes "--full" ∷ codes "--secrets" ∷ []) × (style ≡ record { limit = greatest; secrets = true }))
+    ⊎ ((words ≡ codes "server" ∷ codes "--secrets" ∷ codes "--full" ∷ []) × (style ≡ record { limit = greatest; secrets = true }))
+
+-- the words ask for it
+abbrev pub Asks : List (List ℕ) → Command → Type 0
+Asks words (Server style) = AskStyle words style
+Asks words Help = words ≡ codes "--help" ∷ []
+Asks words Version = words ≡ codes "--version" ∷ []
+
+abbrev pub usage : List ℕ
+usage = codes "usage: pgtrace server [--full] [--secrets] | --help | --version" ++ 10 ∷ []
+
+abbrev pub version : List ℕ
+version = codes "pgtrace 0.1.0" ++ 10 ∷ []
+
+-- what is said on standard error of a fault
+abbrev pub complaint_of : Fault → List ℕ
+complaint_of Memory = codes "pgtrace: out of memory" ++ 10 ∷ []
+complaint_of Read = codes "pgtrace: read failed" ++ 10 ∷ []
+complaint_of Write = codes "pgtrace: write failed" ++ 10 ∷ []
+
+-- What stands behind a fault, where memory is refused and reads and writes fail so. A reader may fail for want of memory.
+abbrev pub Caused : Type 0 → Type 0 → Type 0 → Fault → Type 0
+Caused lacks read_failed write_failed Memory = lacks ⊎ read_failed
+Caused lacks read_failed write_failed Read = read_failed
+Caused lacks read_failed write_failed Write = write_failed
+
+-- What is done where no fault is met.
+abbrev pub Does : Command → Streams → Streams → Type 0
+Does (Server style) before after = IsAtEnd after.input × IfSome before.input (λ bytes. WritesListing style bytes before.output after.output)
+Does Help before after = Keeps before.input after.input × Appends before.output after.output usage
+Does Version before after = Keeps before.input after.input × Appends before.output after.output version
+
+-- What is done where one is: what is written is a front of what would be; and where a read failed, nothing of what came is held back.
+abbrev pub Stops : Command → Fault → Streams → Streams → Type 0
+Stops (Server style) Read before after = WasListed style before after
+Stops (Server style) fault before after = IsCutShort style before after
+Stops Help fault before after = Keeps before.input after.input × AppendsFront before.output after.output usage
+Stops Version fault before after = Keeps before.input after.input × AppendsFront before.output after.output version
+
+-- It was done, with this status, and nothing is to be said on standard error.
+pub record Succeeds (command : Command) (before after : Streams) (status : ℕ) (complaint : List ℕ) : Type 0 where
+  pub does : Does command before after
+  pub fine : status ≡ 0
+  pub silent : complaint ≡ []
+
+-- the words ask for nothing that there is
+abbrev pub IsOther : List (List ℕ) → Type 0
+IsOther words = (command : Command) → ¬ Asks words command
+
+-- The words aren't obeyed: this is told, and nothing is read or written.
+pub record IsUnread (text : List ℕ) (code : ℕ) (before after : Streams) (status : ℕ) (complaint : List ℕ) : Type 0 where
+  pub told : complaint ≡ text
+  pub failed : status ≡ code
+  pub input : Keeps before.input after.input
+  pub output : Keeps before.output after.output
+
+-- What is to be said on standard error is said; or a front of it is, where a call of its writer failed.
+abbrev pub IsSaid : Type 0 → Option (List ℕ) → Option (List ℕ) → List ℕ → Type 0
+IsSaid failed old new text = Appends old new text ⊎ (failed × AppendsFront old new text)
+
+-- Where memory is refused and reads and writes fail so.
+module _ (lacks read_failed write_failed : Type 0) where
+  -- a fault was met, and is told
+  pub record IsFaulty (command : Command) (before after : Streams) (status : ℕ) (complaint : List ℕ) : Type 0 where
+    pub fault : Fault
+    pub stops : Stops command fault before after
+    pub cause : Caused lacks read_failed write_failed fault
+    pub told : complaint ≡ complaint_of fault
+    pub failed : status ≡ 1
+
+  -- What the words ask for is done.
+  pub record IsDone (words : List (List ℕ)) (before after : Streams) (status : ℕ) (complaint : List ℕ) : Type 0 where
+    pub command : Command
+    pub asks : Asks words command
+    pub does : Succeeds command before after status complaint ⊎ IsFaulty command before after status complaint
+
+  abbrev pub Obeys : List (List ℕ) → Streams → Streams → ℕ → List ℕ → Type 0
+  Obeys words before after status complaint = IsDone words before after status complaint ⊎ (IsOther words × IsUnread usage 2 before after status complaint)
+
+  -- A run: the words are obeyed, and it is said what is then to be said.
+  pub record Runs (said_failed : Type 0) (words : List (List ℕ)) (before after : Streams) (old new : Option (List ℕ)) (status : ℕ) : Type 0 where
+    pub complaint : List ℕ
+    pub obeyed : Obeys words before after status complaint
+    pub said : IsSaid said_failed old new complaint
+
+  -- What is done for the words of the process, where words stand so and none stands at such places.
+  module _ (Stands : ℕ → List ℕ → Type 0) (Ends : ℕ → Type 0) where
+    -- They are obeyed, and no other words.
+    pub record ObeysAll (before after : Streams) (status : ℕ) (complaint : List ℕ) : Type 0 where
+      pub words : List (List ℕ)
+      pub own : AreWords Stands Ends words
+      pub obeyed : Obeys words before after status complaint
+
+    -- Where a word is so long:
+    module _ (Longer : ℕ → ℕ → Type 0) where
+      -- They are obeyed; or one of them isn't UTF-8; or there is no memory for them.
+      abbrev pub ObeysOwn : Streams → Streams → ℕ → List ℕ → Type 0
+      ObeysOwn before after status complaint = ObeysAll before after status complaint
+          ⊎ (HasOther Stands × IsUnread usage 2 before after status complaint)
+          ⊎ (LacksWords lacks Stands Longer × IsUnread (complaint_of Memory) 1 before after status complaint)
+
+      -- A run on the words of the process.
+      pub record RunsOwn (said_failed : Type 0) (before after : Streams) (old new : Option (List ℕ)) (status : ℕ) : Type 0 where
+        pub complaint : List ℕ
+        pub obeyed : ObeysOwn before after status complaint
+        pub said : IsSaid said_failed old new complaint

@@ -1,0 +1,12 @@
+pub mod Taken
+pub mod Quoting
+pub mod Line
+pub mod Names
+pub mod Shown
+pub mod Secrets
+pub mod Words
+pub mod Interruptions
+pub mod Command
+pub mod Listing
+pub mod Steps
+pub mod Asked

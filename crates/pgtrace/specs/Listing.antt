@@ -1,0 +1,99 @@
+-- The listing of a server's stream.
+use Rattle.std.specs.Prelude.{◌≡◌, ◌⊎◌, ℕ, ◌+◌, pos, min, Bool, true, false, List, [], ◌∷◌, ◌++◌, length, Result, Ok, Err, Option, codes, decimal}
+use Rattle.std.specs.Io.KnownBytes.{Appends, Consumes, IsAtEnd}
+use Rattle.pgp_base.specs.declared.error.Error.{Error}
+use Rattle.pgp_message.specs.BackendMessage.{Message, Body}
+use Rattle.pgp_message.specs.Stream.{Frame, frame_bytes, IsFrame, IsEnding}
+use Rattle.pgtrace.specs.declared.style.Style.{Style}
+use Rattle.pgtrace.specs.Line.{Word, Number, Tag, followed}
+use Rattle.pgtrace.specs.Names.{name_of}
+use Rattle.pgtrace.specs.Shown.{Shows, fault}
+use Rattle.pgtrace.specs.Taken.{AppendsFront}
+use Rattle.pgtrace.specs.Words.{greatest}
+
+-- what each line begins with: the place of the frame, how long it is, and its tag
+abbrev pub front : ℕ → Frame → List ℕ
+front place f = followed 0 (decimal place) (Number (pos (length (frame_bytes f))) ∷ Tag f.tag ∷ [])
+
+-- and how it goes on: with the name of the message and what it says, or with the refusal
+abbrev pub GoesOn : Style → Result Message Error → List ℕ → List ℕ → Type 0
+GoesOn style (Ok m) old new = Shows style m (followed 0 old (Word (name_of m) ∷ [])) new
+GoesOn style (Err e) old new = new ≡ followed 0 old (fault e)
+
+-- the line of a frame that stands at the place
+pub record IsLineOf (style : Style) (place : ℕ) (f : Frame) (line : List ℕ) : Type 0 where
+  pub result : Result Message Error
+  pub body : Body f.tag f.payload result
+  pub text : List ℕ
+  pub told : GoesOn style result (front place f) text
+  pub ended : line ≡ text ++ 10 ∷ []
+
+-- how many bytes stand before, as far as a number of the machine tells it
+abbrev pub place_behind : ℕ → ℕ
+place_behind n = min n greatest
+
+-- These bytes, behind so many others, are whole frames, with these lines: each frame has one, in order.
+pub data Lines (style : Style) (start : ℕ) : List ℕ → List ℕ → Type 0 where
+  NoLines : Lines style start [] []
+  OneLine : {bytes lines : List ℕ} (f : Frame) (line : List ℕ) → Lines style start bytes lines → IsFrame f
+      → IsLineOf style (place_behind (start + length bytes)) f line → Lines style start (bytes ++ frame_bytes f) (lines ++ line)
+
+-- the last line, where so many bytes are left, as far as a number of the machine tells it
+abbrev pub last_line : Bool → ℕ → List ℕ
+last_line false n = codes "rest " ++ decimal n ++ 10 ∷ []
+last_line true n = codes "stopped rest " ++ decimal n ++ 10 ∷ []
+
+-- What a reader has left, and what a writer holds.
+pub record Streams : Type 0 where
+  pub input : Option (List ℕ)
+  pub output : Option (List ℕ)
+
+-- All lines of what came so far were written: the bytes are frames, each of which has its line, and then a rest in which none is whole.
+pub record IsListed (style : Style) (stopped : Bool) (rest : List ℕ) (before after : Streams) : Type 0 where
+  pub front : List ℕ
+  pub lines : List ℕ
+  pub came : Consumes before.input after.input (front ++ rest)
+  pub listed : Lines style 0 front lines
+  pub ending : IsEnding stopped rest
+  pub written : Appends before.output after.output lines
+
+-- whatever stands behind the frames
+pub record WasListed (style : Style) (before after : Streams) : Type 0 where
+  pub stopped : Bool
+  pub rest : List ℕ
+  pub all : IsListed style stopped rest before after
+
+-- The same of a stream whose end has come, and a last line that tells how many bytes are left.
+pub record IsListing (style : Style) (bytes output : List ℕ) : Type 0 where
+  pub front : List ℕ
+  pub rest : List ℕ
+  pub lines : List ℕ
+  pub stopped : Bool
+  pub whole : bytes ≡ front ++ rest
+  pub listed : Lines style 0 front lines
+  pub ending : IsEnding stopped rest
+  pub text : output ≡ lines ++ last_line stopped (place_behind (length rest))
+
+-- that listing was written, and nothing else
+pub record WritesListing (style : Style) (bytes : List ℕ) (old new : Option (List ℕ)) : Type 0 where
+  pub output : List ℕ
+  pub is : IsListing style bytes output
+  pub written : Appends old new output
+
+-- the end of the input has come, and the last line is due
+pub record EndsWith (input : Option (List ℕ)) (rest lines text : List ℕ) : Type 0 where
+  pub stopped : Bool
+  pub end : IsAtEnd input
+  pub ending : IsEnding stopped rest
+  pub all : text ≡ lines ++ last_line stopped (place_behind (length rest))
+
+-- A front of the lines of what came was written, and of the last one where it is due.
+pub record IsCutShort (style : Style) (before after : Streams) : Type 0 where
+  pub front : List ℕ
+  pub rest : List ℕ
+  pub lines : List ℕ
+  pub text : List ℕ
+  pub came : Consumes before.input after.input (front ++ rest)
+  pub listed : Lines style 0 front lines
+  pub due : (text ≡ lines) ⊎ EndsWith after.input rest lines text
+  pub written : AppendsFront before.output after.output text

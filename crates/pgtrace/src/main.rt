@@ -1,0 +1,35 @@
+//! Shows a person what a PostgreSQL server sent, a line a message, as it comes.
+#![tactic(auto)]
+
+pub mod body;
+pub mod fault;
+pub mod frame;
+pub mod laws;
+pub mod line;
+pub mod lists;
+pub mod names;
+pub mod ports;
+pub mod print;
+pub mod quote;
+pub mod run;
+pub mod server;
+pub mod style;
+pub mod words;
+
+use std::io;
+use std::process::ExitCode;
+
+fn main(rt: HostRuntime) -> ExitCode {
+    ExitCode::from(run::run_own(
+        rt.alloc(),
+        &rt,
+        &mut rt.reader(),
+        &mut io::writer(&rt),
+        &mut rt.stderr(),
+    ))
+}
+
+#[cfg(test)]
+mod failing;
+#[cfg(test)]
+mod tests;

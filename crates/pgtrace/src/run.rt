@@ -1,0 +1,218 @@
+//! The program's words.
+
+ghost use Rattle.std.specs.Prelude.{◌≡◌, if◌then◌else◌, map, IfSome, IfNone, IfOk, IfErr, OnOk};
+ghost use Rattle.std.specs.Io.KnownBytes.{Keeps};
+ghost use Rattle.pgtrace.specs.Interruptions.{GivesUp};
+ghost use Rattle.pgtrace.specs.Command.{Asks, Caused, Does, IsOther, IsSaid, Obeys, ObeysOwn, Runs, RunsOwn, Stops, usage, complaint_of, version};
+ghost use Rattle.pgtrace.specs.Asked.{asked};
+ghost use Rattle.pgtrace.specs.Words.{LacksWords, greatest};
+
+use crate::fault::Fault;
+use crate::ports::{Input, Output, Words};
+use crate::print::put;
+use crate::server::server;
+use crate::style::Style;
+use crate::words::{lent, texts};
+use pgp_base::Memory;
+
+const USAGE: &str = "usage: pgtrace server [--full] [--secrets] | --help | --version\n";
+
+const VERSION: &str = "pgtrace 0.1.0\n";
+
+/// How many bytes of a text or a value are shown where not all are asked for.
+const SHORT: usize = 64;
+
+/// How a run ended: the status, and what is to be said on standard error.
+#[derive(Debug, Clone, Copy, PartialEq, Eq)]
+pub struct Outcome {
+    pub status: u8,
+    pub complaint: &'static str,
+}
+
+impl Outcome {
+    /// The words ask for nothing that there is.
+    fn refused() -> Outcome
+        ensures status { result.status ≡ 2 }
+        ensures complaint { result.complaint.now ≡ usage }
+    {
+        Outcome {
+            status: 2,
+            complaint: USAGE,
+        }
+    }
+
+    /// What was asked for met a fault.
+    fn stopped(fault: Fault) -> Outcome
+        ensures status { result.status ≡ 1 }
+        ensures complaint { result.complaint.now ≡ complaint_of fault }
+    {
+        Outcome {
+            status: 1,
+            complaint: fault.complaint(),
+        }
+    }
+}
+
+/// What the words ask for.
+#[derive(Debug, Clone, Copy)]
+enum Command {
+    Server(Style),
+    Help,
+    Version,
+}
+
+fn command_of(words: &[&str]) -> Option<Command>
+    ensures known { IfSome result (λ command. Asks (map (λ word. word.now) words.now) (asked command)) }
+    ensures other { IfNone result (IsOther (map (λ word. word.now) words.now)) }
+{
+    match words {
+        ["server"] => Some(Command::Server(style(false, false))),
+        ["server", "--full"] => Some(Command::Server(style(true, false))),
+        ["server", "--secrets"] => Some(Command::Server(style(false, true))),
+        ["server", "--full", "--secrets"] => Some(Command::Server(style(true, true))),
+        ["server", "--secrets", "--full"] => Some(Command::Server(style(true, true))),
+        ["--help"] => Some(Command::Help),
+        ["--version"] => Some(Command::Version),
+        _ => None,
+    }
+}
+
+/// How much is shown: of texts and values all or a front, and secrets or how long they are.
+fn style(full: bool, secrets: bool) -> Style
+    ensures { result ≡ record { limit = (if full then greatest else 64); secrets = secrets } }
+{
+    Style {
+        limit: if full { usize::MAX } else { SHORT },
+        secrets,
+    }
+}
+
+/// Does what the command asks for.
+fn perform<A: Memory, R: Input, W: Output>(
+    alloc: A,
+    command: Command,
+    input: &mut R,
+    output: &mut W,
+) -> Result<(), Fault>
+    ensures done { OnOk result (Does (asked command)
+        (record { input = R.remaining input.old; output = W.contents output.old })
+        (record { input = R.remaining input.new; output = W.contents output.new })) }
+    ensures stops { IfErr result (λ fault. Stops (asked command) fault
+        (record { input = R.remaining input.old; output = W.contents output.old })
+        (record { input = R.remaining input.new; output = W.contents output.new })) }
+    ensures cause { IfErr result (Caused A.Lacks (GivesUp R.Fails R.Called) (GivesUp W.Fails W.Interrupted)) }
+{
+    match command {
+        Command::Server(style) => server(alloc, style, input, output),
+        Command::Help => put(USAGE.as_bytes(), output),
+        Command::Version => put(VERSION.as_bytes(), output),
+    }
+}
+
+/// Does what the words ask for.
+pub fn obey<A: Memory, R: Input, W: Output>(
+    alloc: A,
+    words: &[&str],
+    input: &mut R,
+    output: &mut W,
+) -> Outcome
+    ensures { Obeys A.Lacks (GivesUp R.Fails R.Called) (GivesUp W.Fails W.Interrupted) (map (λ word. word.now) words.now)
+        (record { input = R.remaining input.old; output = W.contents output.old })
+        (record { input = R.remaining input.new; output = W.contents output.new })
+        result.status result.complaint.now }
+{
+    let Some(command) = command_of(words) else {
+        return Outcome::refused();
+    };
+    match perform(alloc, command, input, output) {
+        Ok(()) => Outcome {
+            status: 0,
+            complaint: "",
+        },
+        Err(fault) => Outcome::stopped(fault),
+    }
+}
+
+/// Says on `errors` what is to be said there, or as much of it as it takes where it fails, and answers the status.
+fn tell<E: Output>(outcome: Outcome, errors: &mut E) -> u8
+    ensures status { result ≡ outcome.status }
+    ensures told { IsSaid (GivesUp E.Fails E.Interrupted) (E.contents errors.old) (E.contents errors.new) outcome.complaint.now }
+{
+    let _ = put(outcome.complaint.as_bytes(), errors);
+    outcome.status
+}
+
+/// Does what the words ask for, says on `errors` what is to be said there, and answers the status.
+///
+/// Where `errors` fails, a front of that is said.
+pub fn run<A: Memory, R: Input, W: Output, E: Output>(
+    alloc: A,
+    words: &[&str],
+    input: &mut R,
+    output: &mut W,
+    errors: &mut E,
+) -> u8
+    ensures { Runs A.Lacks (GivesUp R.Fails R.Called) (GivesUp W.Fails W.Interrupted) (GivesUp E.Fails E.Interrupted) (map (λ word. word.now) words.now)
+        (record { input = R.remaining input.old; output = W.contents output.old })
+        (record { input = R.remaining input.new; output = W.contents output.new })
+        (E.contents errors.old) (E.contents errors.new) result }
+{
+    tell(obey(alloc, words, input, output), errors)
+}
+
+/// Does what the program's own words ask for, where there is memory for them. A word that isn't UTF-8
+/// asks for nothing that there is.
+fn try_own<A: Memory, V: Words, R: Input, W: Output>(
+    alloc: A,
+    env: &V,
+    input: &mut R,
+    output: &mut W,
+) -> Result<Outcome, Fault>
+    ensures obeyed { IfOk result (λ outcome. ObeysOwn A.Lacks (GivesUp R.Fails R.Called) (GivesUp W.Fails W.Interrupted) (V.Stands env.now) (V.Ends env.now) (V.Longer env.now)
+        (record { input = R.remaining input.old; output = W.contents output.old })
+        (record { input = R.remaining input.new; output = W.contents output.new })
+        outcome.status outcome.complaint.now) }
+    ensures fault { IfErr result (λ fault. (fault ≡ Fault.Memory) × LacksWords A.Lacks (V.Stands env.now) (V.Longer env.now)) }
+    ensures input { IfErr result (λ _. Keeps (R.remaining input.old) (R.remaining input.new)) }
+    ensures output { IfErr result (λ _. Keeps (W.contents output.old) (W.contents output.new)) }
+{
+    let Some(texts) = texts(alloc, env)? else {
+        return Ok(Outcome::refused());
+    };
+    let words = lent(alloc, texts.as_slice())?;
+    Ok(obey(alloc, words.as_slice(), input, output))
+}
+
+/// Does what the program's own words ask for.
+fn obey_own<A: Memory, V: Words, R: Input, W: Output>(
+    alloc: A,
+    env: &V,
+    input: &mut R,
+    output: &mut W,
+) -> Outcome
+    ensures { ObeysOwn A.Lacks (GivesUp R.Fails R.Called) (GivesUp W.Fails W.Interrupted) (V.Stands env.now) (V.Ends env.now) (V.Longer env.now)
+        (record { input = R.remaining input.old; output = W.contents output.old })
+        (record { input = R.remaining input.new; output = W.contents output.new })
+        result.status result.complaint.now }
+{
+    match try_own(alloc, env, input, output) {
+        Ok(outcome) => outcome,
+        Err(fault) => Outcome::stopped(fault),
+    }
+}
+
+/// Runs on the words of the process, behind its name.
+pub fn run_own<A: Memory, V: Words, R: Input, W: Output, E: Output>(
+    alloc: A,
+    env: &V,
+    input: &mut R,
+    output: &mut W,
+    errors: &mut E,
+) -> u8
+    ensures { RunsOwn A.Lacks (GivesUp R.Fails R.Called) (GivesUp W.Fails W.Interrupted) (V.Stands env.now) (V.Ends env.now) (V.Longer env.now) (GivesUp E.Fails E.Interrupted)
+        (record { input = R.remaining input.old; output = W.contents output.old })
+        (record { input = R.remaining input.new; output = W.contents output.new })
+        (E.contents errors.old) (E.contents errors.new) result }
+{
+    tell(obey_own(alloc, env, input, output), errors)
+}
