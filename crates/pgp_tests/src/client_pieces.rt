@@ -214,7 +214,11 @@ fn cut_refusals_stay(rt: HostRuntime) -> Result<(), Fail> {
     let front = b"\0\0\0\x08\0".as_slice();
     let back = b"\x04\0\0Q".as_slice();
     let e = ParserError::Refused(ClientError::UnknownPacket(262_144));
-    same(&rt, refusal(&mut parser, &mut b"\0\0\0\x08\0".as_slice()), None);
+    same(
+        &rt,
+        refusal(&mut parser, &mut b"\0\0\0\x08\0".as_slice()),
+        None,
+    );
     let mut piece = back;
     same(&rt, refusal(&mut parser, &mut piece), Some(e));
     same(&rt, refusal(&mut parser, &mut piece), Some(e));

@@ -110,8 +110,7 @@ fn a_session_is_idle_where_all_is_answered(rt: HostRuntime) -> Result<(), Fail> 
 }
 
 /// A startup packet of protocol 3.1, and a FunctionCall, each of which awaits that the server is ready.
-const OTHERS: &[u8; 24] =
-    b"\0\0\0\x09\0\x03\0\x01\0F\0\0\0\x0e\0\0\x01\0\0\0\0\0\0\x01";
+const OTHERS: &[u8; 24] = b"\0\0\0\x09\0\x03\0\x01\0F\0\0\0\x0e\0\0\x01\0\0\0\0\0\0\x01";
 
 #[test]
 fn a_function_call_is_awaited_too(rt: HostRuntime) -> Result<(), Fail> {

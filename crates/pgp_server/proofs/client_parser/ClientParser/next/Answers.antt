@@ -135,4 +135,3 @@ returns-in-Ok-Some g c =
     let all = held_handed lacks limits opened held piece sizes.0 new rest frame now (record { phase = refl; same = c.as_slice-bytes.ensures.value }) done in
     let told : Parses lacks c.args.self.now piece (Ok (Some frame)) (waiting [] now limits) rest = subst (λ (w : Waiting). Parses lacks w piece (Ok (Some frame)) (waiting [] now limits) rest) old all in
     ((refl, (λ x. tt), told), record { whole = whole_of lacks c.args.self.now piece (Ok (Some frame)) (waiting [] now limits) rest told; parses = tt })
-
