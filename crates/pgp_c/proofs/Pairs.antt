@@ -5,8 +5,6 @@ use Rattle.std.proofs.lemmas.Str.{IsUtf8-from_is_utf8, is_utf8-from_IsUtf8}
 use Rattle.std.specs.List.{list_all, AllByRecursion}
 use Rattle.std.specs.Str.{IsUtf8, is_utf8}
 use Rattle.pgp_base.specs.Cause.{length_cause}
-use Rattle.pgp_base.specs.declared.error.Error.{Error}
-use Rattle.pgp_base.specs.declared.error.Error.TheVariants.{TooLarge}
 use Rattle.pgp_types.specs.Hstore.{IsEntry, IsTextOrNull, hstore}
 use Rattle.pgp_c.specs.Lists.{value_of}
 use Rattle.pgp_c.specs.Putting.{are_texts, entry_of, pairs_cause}
