@@ -1,8 +1,8 @@
 -- How a server's final text is read.
-use Rattle.std.proofs.Common.{◌≡◌, ◌≢◌, ℕ, ◌+◌, ◌<◌, Bool, true, false, List, [], ◌∷◌, ◌++◌, length, codes, refl, sym, ap, subst, ◌∙◌, append-nil, inl, inr}
+use Rattle.std.proofs.Common.{◌≡◌, ◌≢◌, ℕ, ◌<◌, Bool, true, false, List, [], ◌∷◌, ◌++◌, length, codes, refl, sym, ap, subst, ◌∙◌, append-nil, inl, inr}
 use Rattle.std.specs.List.{AllPass, prefix_len}
 use Rattle.std.specs.Str.{is_utf8, IsUtf8}
-use Rattle.std.specs.Result.{IsErr, IsErrAnd, IfErr, OnOk}
+use Rattle.std.specs.Result.{IsErr, IsErrAnd, IfErr}
 use Rattle.std.proofs.lemmas.Bool.{eqb-true}
 use Rattle.std.proofs.lemmas.List.{take-append-drop}
 use Rattle.std.proofs.lemmas.Str.{IsUtf8-from_is_utf8, is_utf8-from_IsUtf8, IsUtf8-past_char}
@@ -14,7 +14,7 @@ use Rattle.base64.specs.GeneralPurpose.{decode_of}
 use Rattle.pgp_auth.specs.declared.scram.reading.Fault.{Fault}
 use Rattle.pgp_auth.specs.ScramText.{is_base64_char, is_value_char, ServerFinal}
 use Rattle.pgp_auth.specs.Pattern.{Run, word}
-use Rattle.pgp_auth.specs.ScramRefusal.{Refusal, InvalidBase64, error_parts, server_final_parts, FinalForm, error, verifier, RefusesFinal, not_utf8, other, trailing, server, no_base64, IsServerError, Verifies, ShowsOther, NotUtf8, OutOfMemory, Server}
+use Rattle.pgp_auth.specs.ScramRefusal.{Refusal, InvalidBase64, error_parts, server_final_parts, FinalForm, error, verifier, RefusesFinal, not_utf8, other, trailing, no_base64, IsServerError, ShowsOther, NotUtf8, OutOfMemory}
 use Rattle.pgp_auth.specs.ScramClient.{NotShown, NotVerified, TakesMemory, long}
 use Rattle.pgp_auth.specs.declared.scram.error.ScramError.{ScramError}
 use Rattle.pgp_auth.specs.declared.scram.error.ScramError.TheVariants as code
