@@ -102,7 +102,7 @@ module _ (size : ℕ) (old : PgpStream) (mid out post : List ℕ) (told n : ℕ)
 named_one : (p : PgpPair) → is_named p ≡ true → (pair_of p).0 ≢ []
 named_one p h e = let n = ap length e in let some = ltb-true 0 (length p.name.now) h in omega (arith, n, some)
 
-both : (a b : Bool) → (a && b) ≡ true → (a ≡ true) × (b ≡ true)
+pub both : (a b : Bool) → (a && b) ≡ true → (a ≡ true) × (b ≡ true)
 both true b h = (refl, h)
 both false b h = let e : false ≡ true = h in absurd cc
 

@@ -1,5 +1,5 @@
 -- The keys and values of an hstore.
-use Rattle.std.proofs.Common.{◌≡◌, ℕ, Bool, true, false, ◌&&◌, ◌||◌, List, [], ◌∷◌, length, map, Some, refl, sym, inl, inr}
+use Rattle.std.proofs.Common.{◌≡◌, ℕ, true, false, ◌||◌, List, [], ◌∷◌, length, map, Some, sym, inl, inr}
 use Rattle.std.proofs.lemmas.Bool.{cases_Bool}
 use Rattle.std.proofs.lemmas.Str.{IsUtf8-from_is_utf8, is_utf8-from_IsUtf8}
 use Rattle.std.specs.List.{list_all, AllByRecursion}
@@ -10,11 +10,8 @@ use Rattle.pgp_c.specs.Lists.{value_of}
 use Rattle.pgp_c.specs.Putting.{are_texts, entry_of, pairs_cause}
 use Rattle.pgp_c.specs.declared.hstore.PgpKeyValue.{PgpKeyValue}
 use Rattle.pgp_c.specs.declared.listing.PgpValue.{PgpValue}
+use Rattle.pgp_c.proofs.Extensions.{both}
 use Rattle.pgp_c.proofs.Putting.{IsLarge, either_large, length_large, value_large}
-
-both : (a b : Bool) → (a && b) ≡ true → (a ≡ true) × (b ≡ true)
-both true b h = (refl, h)
-both false b h = let e : false ≡ true = h in absurd cc
 
 pub is_a_text : (bytes : List ℕ) → IsUtf8 bytes → true ≡ is_utf8 bytes
 is_a_text bytes h = sym (is_utf8-from_IsUtf8 bytes h)

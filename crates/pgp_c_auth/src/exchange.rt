@@ -32,6 +32,7 @@ pub extern "C" fn pgp_scram_update(
     kept: &mut PgpScram,
 ) -> u32
     ensures sent { result ≡ 0 → AnswersWith (record { password = prepared (λ _. None) password.now; kind = kind; certificate = certificate.now; nonce = nonce.now }) server_first.now (take written.new out.new) kept.new.signature }
+    ensures no_place { result ≡ 0 → at.new ≡ 0 }
     ensures refused { result ≢ 0 → (written.new ≡ 0) × (out.new ≡ out.old) × (kept.new ≡ kept.old) }
     ensures why { result ≢ 0 → NotAnswered (record { password = prepared (λ _. None) password.now; kind = kind; certificate = certificate.now; nonce = nonce.now }) server_first.now result at.new ⊎ NoRoom (record { password = prepared (λ _. None) password.now; kind = kind; certificate = certificate.now; nonce = nonce.now }) server_first.now out.old result at.new }
 {

@@ -177,6 +177,7 @@ pub extern "C" fn pgp_scram_final(
     at: &mut usize,
 ) -> u32
     ensures sent { result ≡ 0 → AnswersIn (record { password = prepared (λ _. None) password.now; kind = kind; certificate = certificate.now; nonce = nonce.now }) server_first.now (take written.new out.new) }
+    ensures no_place { result ≡ 0 → at.new ≡ 0 }
     ensures refused { result ≢ 0 → (written.new ≡ 0) × (out.new ≡ out.old) }
     ensures why { result ≢ 0 → NotAnswered (record { password = prepared (λ _. None) password.now; kind = kind; certificate = certificate.now; nonce = nonce.now }) server_first.now result at.new ⊎ NoRoom (record { password = prepared (λ _. None) password.now; kind = kind; certificate = certificate.now; nonce = nonce.now }) server_first.now out.old result at.new }
 {
@@ -204,6 +205,7 @@ pub extern "C" fn pgp_scram_verify(
     at: &mut usize,
 ) -> u32
     ensures verified { result ≡ 0 → Verified (record { password = prepared (λ _. None) password.now; kind = kind; certificate = certificate.now; nonce = nonce.now }) server_first.now server_final.now }
+    ensures no_place { result ≡ 0 → at.new ≡ 0 }
     ensures why { result ≢ 0 → NotAnswered (record { password = prepared (λ _. None) password.now; kind = kind; certificate = certificate.now; nonce = nonce.now }) server_first.now result at.new ⊎ FinalRefused (record { password = prepared (λ _. None) password.now; kind = kind; certificate = certificate.now; nonce = nonce.now }) server_first.now server_final.now result at.new }
 {
     match answered(alloc, password, kind, certificate, nonce, server_first, at) {
