@@ -1,12 +1,13 @@
 -- What is known of a session of a server stays known with each step.
-use Rattle.std.proofs.Common.{◌≡◌, ℕ, List, Option, Some, None, Result, Ok, Err, [], ◌∷◌, ◌++◌, refl, sym, subst}
+use Rattle.std.proofs.Common.{◌≡◌, ℕ, List, Option, Some, None, Result, Ok, Err, [], ◌∷◌, ◌++◌, refl, sym, subst, inl, inr, append_assoc}
+use Rattle.std.proofs.lemmas.List.{append-nil}
 use Rattle.pgp_base.specs.Held.{Held}
 use Rattle.pgp_base.specs.declared.error.Error.{Error}
 use Rattle.pgp_auth.specs.ScramServing.{Server, Challenges, Admits}
 use Rattle.pgp_frontend.specs.ClientMessage.{ClientMessage, PasswordMessage, SaslInitialResponse, SaslResponse, Terminate, Startup, CancelRequest, SslRequest}
 use Rattle.pgp_server.specs.OtherMessage.{AnyMessage, Ours, Other, OtherMessage, FunctionCall, GssEncRequest}
 use Rattle.pgp_uses.specs.Serving as spec
-use Rattle.pgp_uses.specs.Serving.{Due, Outcome, Comes, Steps, Knows, Proves, HasShown, IsUnderWay, IsChallenged, IsAdmitted, CameIn, NoneWanted, OneCame, OtherCame, due, ours_due, other_due, at_opening, at_password, at_first, at_final, at_open, other_at_opening, other_at_open, phase_after, password_message, first_message, final_message, scram}
+use Rattle.pgp_uses.specs.Serving.{Due, Outcome, Comes, Steps, StepsAll, IsAsked, Knows, Proves, HasShown, IsUnderWay, IsChallenged, IsAdmitted, CameIn, NoneWanted, OneCame, OtherCame, due, ours_due, other_due, at_opening, at_password, at_first, at_final, at_open, other_at_opening, other_at_open, phase_after, password_message, first_message, final_message, scram}
 use Rattle.pgp_uses.specs.declared.serving.Denial.TheVariants.{WrongPassword, Violation}
 use Rattle.pgp_uses.specs.declared.serving.Method.{Method}
 use Rattle.pgp_uses.specs.declared.serving.Method.TheVariants as methods
@@ -143,3 +144,21 @@ module _ {A K : Type 0} (memory : Type 0) (lacks : Held K → ℕ → Type 0) (s
       subst (λ (p : ServingPhase). Knows start (came ++ (m ∷ [])) p new.method) (sym w.3)
       (on came m start old.phase (due old.phase m) old.method w.0 new.method (is_due old.phase m) w.1 k)
   kept_known (Err e) w k = subst (λ (p : ServingPhase). Knows start (came ++ (m ∷ [])) p new.method) (sym w.0) tt
+
+module _ {A K : Type 0} (memory : Type 0) (lacks : Held K → ℕ → Type 0) (start : Method A) where
+  -- over steps one behind the other
+  all_known : (came sent : List AnyMessage) (old new : Serving A) → Knows start came old.phase old.method → StepsAll memory lacks sent old new → Knows start (came ++ sent) new.phase new.method
+  all_known came [] old new k w =
+      let kept : Knows start came new.phase new.method = subst (λ (s : Serving A). Knows start came s.phase s.method) (sym w) k in
+      rw (append-nil came) kept
+  all_known came (m ∷ ms) old new k w =
+      let next : Knows start (came ++ (m ∷ [])) w.0.phase w.0.method = kept_known memory lacks start came m old w.0 w.1 w.2 w.3 w.4 k in
+      rw (← append_assoc came (m ∷ []) ms) (all_known (came ++ (m ∷ [])) ms w.0 new next w.5)
+
+  asked_known : (asked : Serving A) → IsAsked start asked → Knows start [] asked.phase asked.method
+  asked_known asked (same, inl e) = rw e same
+  asked_known asked (same, inr e) = rw e same
+
+  pub shown_at_last : (sent : List AnyMessage) (asked now : Serving A) → IsAsked start asked → StepsAll memory lacks sent asked now → now.phase ≡ Open → HasShown start sent
+  shown_at_last sent asked now i w e =
+      subst (λ (p : ServingPhase). Knows start sent p now.method) e (all_known [] sent asked now (asked_known asked i) w)

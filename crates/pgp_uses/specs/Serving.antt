@@ -287,6 +287,16 @@ module _ {A K : Type 0} (memory : Type 0) (lacks : Held K → ℕ → Type 0) wh
       × (event ≡ event_of o) × (new.phase ≡ phase_after o) × (cause_of o ≡ None) × (behind ≡ before ⊕ spelled o)
   Steps m old new before behind (Err e) = (new.phase ≡ Over) × Leaves before behind × Unanswered m old new before e
 
+  -- steps one behind the other, on these messages
+  abbrev pub StepsAll : List AnyMessage → Serving A → Serving A → Type 0
+  StepsAll [] old new = new ≡ old
+  StepsAll (m ∷ ms) old new = (mid : Serving A) × (before behind : Held K) × (result : Result ServingEvent Error)
+      × Steps m old mid before behind result × StepsAll ms mid new
+
+-- the client was asked for this
+abbrev pub IsAsked : {A : Type 0} → Method A → Serving A → Type 0
+IsAsked start s = (s.method ≡ start) × ((s.phase ≡ AwaitsPassword) ⊎ (s.phase ≡ AwaitsFirst))
+
 -- ---- a whole run
 
 -- the first messages came among the second in this order, others before, between and behind them

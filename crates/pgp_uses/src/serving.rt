@@ -11,7 +11,7 @@ ghost use Rattle.pgp_message.specs.BackendMessage.{Authentication, Authenticatio
 ghost use Rattle.pgp_server.specs.AnyViews.{any_view, other_view};
 ghost use Rattle.pgp_server.specs.OtherMessage.{AnyMessage as Came};
 ghost use Rattle.pgp_server.specs.Views.{kind_view, view};
-ghost use Rattle.pgp_uses.specs.Serving.{Comes, First, Final, GoesOn, IsNewer, Knows, NamesLast, Proves, Replies, Steps, Text, admission, at_final, at_first, at_open, at_opening, at_password, cause_of, due, error_of, event_of, kind_in, other_at_open, other_at_opening, other_due, ours_due, phase_after, scram_offer, seen, shown, signature, spelled, sqlstate, told};
+ghost use Rattle.pgp_uses.specs.Serving.{Comes, First, Final, GoesOn, HasShown, IsAsked, IsNewer, Knows, NamesLast, Proves, Replies, Steps, StepsAll, Text, admission, at_final, at_first, at_open, at_opening, at_password, cause_of, due, error_of, event_of, kind_in, other_at_open, other_at_opening, other_due, ours_due, phase_after, scram_offer, seen, shown, signature, spelled, sqlstate, told};
 ghost use Rattle.pgp_reply.specs.Reply.{bytes_of, cause};
 
 use pgp_base::{Buffer, FallibleIterator, Memory, put_u8};
@@ -255,6 +255,12 @@ impl<A: Memory> Serving<A> {
         refuse(why, out)
     }
 }
+
+/// Whatever a client sends once it was asked, it is let in only where it has shown among these messages what was asked for.
+pub fn no_other_is_let_in<A: Memory, B: Buffer>()
+    ensures { (start : Method A) (sent : List Came) (asked now : Serving A) → IsAsked start asked
+        → StepsAll A.Lacks B.Lacks sent asked now → now.phase ≡ ServingPhase.Open → HasShown start sent }
+{}
 
 /// What a startup packet names.
 #[derive(Debug, Clone, Copy, PartialEq, Eq)]

@@ -16,4 +16,4 @@ returns-in-Ok g c =
 pub returns-in-Err : goal.returns-in-Err
 returns-in-Err g c =
     second_unsaid (bytes_of (signature c.args.text.now)) (bytes_of admission) (cause (signature c.args.text.now)) _ _ _ _ c.len-start.result c.in-Err.e
-        c.in_ok-authentication_sasl_final.ensures.1.1 (admission_said g.B.Buffer.Lacks _ _ (Err c.in-Err.e) c.in-Err.ensures.1) c.len-start.ensures.value c.truncate.ensures.bytes c.truncate.ensures.kept
+    c.in_ok-authentication_sasl_final.ensures.1.1 (admission_said g.B.Buffer.Lacks _ _ (Err c.in-Err.e) c.in-Err.ensures.1) c.len-start.ensures.value c.truncate.ensures.bytes c.truncate.ensures.kept
