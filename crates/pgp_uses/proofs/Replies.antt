@@ -1,8 +1,8 @@
 -- What a server answers, in one message or two.
-use Rattle.std.proofs.Common.{◌≡◌, ◌⊎◌, ℕ, ◌+◌, ◌≤◌, List, ◌++◌, length, take, Result, Ok, Err, Some, None, true, false, refl, subst, ap, ◌∙◌, length-append, arith, inl, inr}
+use Rattle.std.proofs.Common.{◌≡◌, ◌⊎◌, ℕ, ◌≤◌, List, ◌++◌, length, take, Result, Ok, Err, Some, None, true, false, refl, subst, ap, ◌∙◌, length-append, arith, inl, inr}
 use Rattle.std.specs.Result.{IsErr, IsErrAnd}
 use Rattle.pgp_base.specs.Cause.{Cause, Wants, WantsMemory, Writes}
-use Rattle.pgp_base.specs.Held.{Held, ◌⊕◌, Leaves}
+use Rattle.pgp_base.specs.Held.{Held, ◌⊕◌}
 use Rattle.pgp_base.specs.Wire.{int32}
 use Rattle.pgp_base.specs.declared.error.Error.{Error}
 use Rattle.pgp_base.proofs.Parts.{cut_back, front_left, front_then, more_twice, wants_more, wants_then}

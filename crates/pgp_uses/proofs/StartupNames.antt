@@ -1,7 +1,7 @@
 -- The names of a startup packet, one more with each step.
-use Rattle.std.proofs.Common.{◌≡◌, ◌≢◌, ◌⊎◌, ℕ, Bool, List, [], ◌∷◌, ◌++◌, Option, Some, None, refl, sym, ap, subst, ◌∙◌, inl, inr, append_assoc}
+use Rattle.std.proofs.Common.{◌≡◌, ◌≢◌, ℕ, List, [], ◌∷◌, ◌++◌, Option, Some, None, refl, sym, ap, subst, ◌∙◌, inl, inr, append_assoc}
 use Rattle.std.proofs.lemmas.List.{append-nil}
-use Rattle.pgp_base.specs.Walk.{Walk, TakesItem, IsFinished}
+use Rattle.pgp_base.specs.Walk.{Walk, TakesItem}
 use Rattle.pgp_uses.specs.Serving.{NamesLast, NoneStands, OneStands, OtherStands, IsNewer}
 
 -- these pairs came, and the last of them with this name is that
