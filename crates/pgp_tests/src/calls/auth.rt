@@ -58,10 +58,11 @@ fn names_of_the_mechanisms(rt: HostRuntime) {
 // The names that no row has.
 #[test]
 fn refusals_show_their_names(rt: HostRuntime) -> Result<(), Fail> {
-    for (refusal, number, name) in [
+    let refusals: [(ScramError, u8, &str); 2] = [
         (ScramError::OutOfMemory, 1, "OutOfMemory"),
         (ScramError::WrongState, 2, "WrongState"),
-    ] {
+    ];
+    for (refusal, number, name) in refusals {
         let text = format!(in rt.alloc(); "{refusal}")?;
         same(&rt, text.as_str(), name);
         same(&rt, refusal.number(), number);
