@@ -27,6 +27,8 @@ fn serve(rt: &HostRuntime, words: &[String]) -> Result<(), Fault> {
     let text = fs::read_to_string(rt, words.script).map_err(|_| Fault::Script(0))?;
     let script = script::script_of(rt.alloc(), &text)?;
     let host = Host::new(&words, &script);
+    // A verifier or a nonce that isn't one is told before a client comes.
+    drop(host.exchange(rt.alloc(), words.user.as_bytes())?);
     stream::run(rt.alloc(), &host, &mut rt.reader(), &mut io::writer(rt))
 }
 
@@ -37,7 +39,10 @@ fn told(rt: &HostRuntime, fault: &Fault) -> io::Result<u8> {
             refusal.print(rt)?;
             return Ok(if refusal.use_stderr() { 2 } else { 0 });
         }
-        Fault::Script(line) => eprintln!(rt; "pgserve: the script, line {line}")?,
+        Fault::Script(0) => eprintln!(rt; "pgserve: the script can't be read as UTF-8 text")?,
+        Fault::Script(line) => eprintln!(rt;
+            "pgserve: line {line} of the script has no such form, or its answer has no end"
+        )?,
         other => eprintln!(rt; "pgserve: {}", other.complaint())?,
     }
     Ok(1)

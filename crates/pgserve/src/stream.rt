@@ -37,8 +37,7 @@ fn put<W: Write>(bytes: &[u8], output: &mut W) -> Result<(), Fault> {
 ///
 /// # Errors
 ///
-/// `Read`, `Write`, `Memory`; `TooLong` where an answer of the script doesn't fit a message; `Verifier` and `Nonce`, when a client has
-/// told its name. What was answered before was written.
+/// `Read`, `Write`, `Memory`, and `TooLong` where an answer of the script doesn't fit a message. What was answered before was written.
 pub(crate) fn run<R: Read, W: Write>(
     alloc: Global,
     host: &Host<'_>,
