@@ -55,6 +55,3 @@ fn main(rt: HostRuntime) -> io::Result<ExitCode> {
         Err(fault) => Ok(ExitCode::from(told(&rt, &fault)?)),
     }
 }
-
-#[cfg(test)]
-mod tests;
