@@ -1,5 +1,7 @@
 //! A connection: the log-in, and the session behind it.
 
+ghost use Rattle.pgp_server.specs.Pieces.{IsWhole};
+
 use crate::fault::Fault;
 use crate::host::Host;
 use crate::session::Session;
@@ -71,7 +73,9 @@ impl<'h> Connection<'h> {
     }
 
     /// Takes the bytes of a message.
-    fn take_frame(&mut self, frame: ClientFrame<'_>, out: &mut BytesMut) -> Result<(), Fault> {
+    fn take_frame(&mut self, frame: ClientFrame<'_>, out: &mut BytesMut) -> Result<(), Fault>
+        requires { IsWhole frame.opened frame.bytes.now }
+    {
         match frame.message(self.serving.kind()) {
             Ok(message) => self.take(message, out),
             Err(_) => self.reject(out),
