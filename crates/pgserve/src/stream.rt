@@ -14,7 +14,7 @@ const PIECE: usize = 16_384;
 fn read<R: Read>(input: &mut R, piece: &mut [u8]) -> Result<usize, Fault> {
     for _ in 0..u64::MAX {
         match input.read(piece) {
-            Ok(n) => return Ok(n.min(piece.len())),
+            Ok(n) => return Ok(n),
             Err(e) => match e.kind() {
                 ErrorKind::Interrupted => {}
                 _ => return Err(Fault::Read),
@@ -22,6 +22,11 @@ fn read<R: Read>(input: &mut R, piece: &mut [u8]) -> Result<usize, Fault> {
         }
     }
     Err(Fault::Read)
+}
+
+/// So many bytes of the piece, at most all.
+fn front(piece: &[u8], n: usize) -> &[u8] {
+    &piece[..n.min(piece.len())]
 }
 
 /// Writes the bytes, and has them passed on.
@@ -50,7 +55,7 @@ pub(crate) fn run<R: Read, W: Write>(
     let mut piece = [0u8; PIECE];
     for _ in 0..u64::MAX {
         let n = read(input, &mut piece)?;
-        let taken = take_piece(&mut parser, &mut connection, &piece[..n], &mut out);
+        let taken = take_piece(&mut parser, &mut connection, front(&piece, n), &mut out);
         put(&out, output)?;
         out.clear();
         taken?;
