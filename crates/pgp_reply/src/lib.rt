@@ -3,6 +3,7 @@
 
 mod copy;
 mod extended;
+mod given;
 mod item;
 pub mod laws;
 mod listed;
