@@ -8,7 +8,7 @@ use Rattle.std.proofs.lemmas.Int.{of_z-to_z, to_z_pos}
 use Rattle.std.proofs.lemmas.List.{append-nil, length-map}
 use Rattle.std.proofs.lemmas.List.Concat.{flat_map-append}
 use Rattle.std.proofs.lemmas.List.Folds.{flat_map-map}
-use Rattle.pgp_base.specs.Wire.{uint16, uint32, int32}
+use Rattle.pgp_base.specs.Wire.{uint16, uint32, int32, frame}
 use Rattle.pgp_base.specs.Cause.{Cause, either, count_cause, length_cause, Wants, WantsMemory}
 use Rattle.pgp_base.specs.Held.{Held, ◌⊕◌, Leaves}
 use Rattle.pgp_base.specs.declared.error.Error.{Error}
@@ -18,11 +18,13 @@ use Rattle.pgp_base.proofs.Parts.{int32_spelled, length-uint16, length-uint32}
 use Rattle.pgp_frontend.specs.Payload.{Part, Byte, Rest, joined, parts_cause, frame_cause, framed}
 use Rattle.pgp_frontend.specs.Putting.{PutsParts, PartsRefused}
 use Rattle.pgp_frontend.proofs.Needs.{framed_length, int32_length, tagged_length}
+use Rattle.pgp_message.specs.BackendMessage.{Message, tag_of}
 use Rattle.pgp_reply.specs.declared.given.Ending.{Ending}
 use Rattle.pgp_reply.specs.declared.given.Ending.TheVariants.{Count, WideCount, Zero}
 use Rattle.pgp_reply.specs.Ending.{number_cause}
-use Rattle.pgp_reply.specs.Given.{uncounted, items_cause, Arrived, SoFarRefused, GivenRefused, WritesBytes}
+use Rattle.pgp_reply.specs.Given.{uncounted, items_cause, Arrived, SoFarRefused, GivenRefused, WritesBytes, WritesGiven}
 use Rattle.pgp_reply.specs.Lists.{counted_list, wide_list, marked_list}
+use Rattle.pgp_reply.specs.Reply.{parts, bytes_of}
 use Rattle.pgp_reply.proofs.Lists.{cause_before, cause_behind, joined-append, puts_then, refused_behind}
 
 -- one item more, at the end
@@ -74,6 +76,12 @@ module _ {A : Type 0} (given : List A → Option A → Type 0) (number : ℕ →
 module _ {D A : Type 0} (view : D → A) (item : A → List Part) (xs : List D) where
   pub counted_view : counted_list (λ x. item (view x)) xs ≡ counted_list item (map view xs)
   counted_view = ap (λ ps. Rest (uint16 (length xs)) ∷ ps) (sym (flat_map-map item view xs)) ∙ ap (λ n. Rest (uint16 n) ∷ flat_map item (map view xs)) (sym (length-map xs view))
+
+  pub wide_view : wide_list (λ x. item (view x)) xs ≡ wide_list item (map view xs)
+  wide_view = ap (λ ps. Rest (int32 (pos (length xs))) ∷ ps) (sym (flat_map-map item view xs)) ∙ ap (λ n. Rest (int32 (pos n)) ∷ flat_map item (map view xs)) (sym (length-map xs view))
+
+  pub marked_view : marked_list (λ x. item (view x)) xs ≡ marked_list item (map view xs)
+  marked_view = ap (λ ps. ps ++ Byte 0 ∷ []) (sym (flat_map-map item view xs))
 
 -- items with a 0 byte behind them
 module _ {D : Type 0} (parts : D → List Part) (xs : List D) where
@@ -136,3 +144,15 @@ module _ {A : Type 0} (given : List A → Option A → Type 0) (number : ℕ →
   pub given_memory : (bytes : List A → List ℕ) (r : Result (Unit {0}) Error) (x : Error) (old new : Held K) → IsErr r → IsErrAnd r (λ e. e ≡ x) → WantsMemory (Wants lacks old (length (bytes []))) x → Leaves old new → WritesBytes given number ps bytes lacks old new r
   given_memory bytes (Ok done) x old new is h w l = let e : false ≡ true = is in cc
   given_memory bytes (Err e) x old new is h w l = (inl ([], inl refl, inl (h ∙ w.0, w.1)), l)
+
+-- What was written is the message, whose parts have the same bytes.
+module _ {D : Type 0} (given : List D → Option D → Type 0) (number : ℕ → Cause) (ps qs : List D → List Part) (tag : ℕ) (message : List D → Message)
+    (same : (xs : List D) → ps xs ≡ qs xs) (is : (xs : List D) → tag_of (message xs) ≡ tag) (spelled : (xs : List D) → joined (qs xs) ≡ joined (parts (message xs))) where
+  bytes_are : (xs : List D) → framed (Some tag) (joined (ps xs)) ≡ bytes_of (message xs)
+  bytes_are xs = ap (λ ps. frame tag (joined ps)) (same xs) ∙ (ap (λ z. frame tag z) (spelled xs) ∙ ap (λ t. frame t (joined (parts (message xs)))) (sym (is xs)))
+
+  pub message_given : {K : Type 0} (lacks : Held K → ℕ → Type 0) (old new : Held K) (result : Result (Unit {0}) Error) → WritesBytes given number ps (λ xs. framed (Some tag) (joined (ps xs))) lacks old new result → WritesGiven given number qs message lacks old new result
+  message_given lacks old new result w = given_as given number ps qs (λ xs. framed (Some tag) (joined (ps xs))) (λ xs. bytes_of (message xs)) same bytes_are lacks old new result w
+
+pub counted_spelled : (count items : List ℕ) → count ++ items ≡ count ++ (items ++ [])
+counted_spelled count items = ap (λ z. count ++ z) (sym (append-nil items))

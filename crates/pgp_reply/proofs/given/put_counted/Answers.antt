@@ -33,7 +33,7 @@ returns-clause-ok g c =
       (
         i.1.0,
         filled2 (g.B.Buffer.held c.args.buf.now) items (g.B.Buffer.held c.args.buf.now ⊕ uint16 0) _ _ _ _ (length xs) refl i.1.1 c.len-base.ensures.value i.0 c.patch_u16.ensures
-        ∙ more_twice (g.B.Buffer.held c.args.buf.now) (uint16 (length xs)) items,
+            ∙ more_twice (g.B.Buffer.held c.args.buf.now) (uint16 (length xs)) items,
       ),
     )
 
@@ -55,10 +55,9 @@ returns-in_err-put-clause-cause g c =
     let i = c.loop-item.invariant in
     let xs = c.loop-item.yielded in
     let ys = xs ++ c.in-Some.item ∷ [] in
-    if_err_at _ _ _ c.from_residual-in_err-put.ensures.1
-    (
+    if_err_at _ _ _ c.from_residual-in_err-put.ensures.1 (
       ys,
       inr (record { before = xs; next = Some c.in-Some.item; came = search rules; none = either_none (count_cause (length xs)) (parts_cause (counted_list g.T.Item.parts xs)) (count_fits (length xs) (omega arith)) i.1.0; are = refl }),
       counted_refused g.T.Item.parts ys (g.B.Buffer.held c.args.buf.now) _ (count_fits (length ys) (omega (arith, length-append xs (c.in-Some.item ∷ []))))
-      (more_refused g.T.Item.parts xs c.in-Some.item (g.B.Buffer.held c.args.buf.now ⊕ uint16 0) _ _ i.1 c.in_err-put.ensures.cause),
+          (more_refused g.T.Item.parts xs c.in-Some.item (g.B.Buffer.held c.args.buf.now ⊕ uint16 0) _ _ i.1 c.in_err-put.ensures.cause),
     )

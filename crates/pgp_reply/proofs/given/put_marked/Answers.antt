@@ -18,12 +18,11 @@ returns-in_err-put-clause-cause g c =
     let i = c.loop-item.invariant in
     let xs = c.loop-item.yielded in
     let ys = xs ++ c.in-Some.item ∷ [] in
-    if_err_at _ _ _ c.from_residual.ensures.1
-    (
+    if_err_at _ _ _ c.from_residual.ensures.1 (
       ys,
       inr (record { before = xs; next = Some c.in-Some.item; came = search rules; none = marked_none g.T.Item.parts xs i.0; are = refl }),
       refused_before (flat_map g.T.Item.parts ys) (Byte 0 ∷ []) (g.B.Buffer.held c.args.buf.now) _
-      (more_refused g.T.Item.parts xs c.in-Some.item (g.B.Buffer.held c.args.buf.now) _ _ i c.in_err-put.ensures.cause),
+          (more_refused g.T.Item.parts xs c.in-Some.item (g.B.Buffer.held c.args.buf.now) _ _ i c.in_err-put.ensures.cause),
     )
 
 pub returns-clause-ok : goal.returns-clause-ok

@@ -38,7 +38,7 @@ returns-clause-ok g c =
       (
         i.2.0,
         filled4 (g.B.Buffer.held c.args.buf.now) items (g.B.Buffer.held c.args.buf.now ⊕ uint32 0) _ _ _ _ (length xs) refl i.2.1 c.len-base.ensures.value i.0 c.patch_u32.ensures
-        ∙ (ap (λ z. g.B.Buffer.held c.args.buf.now ⊕ z ⊕ items) (sym (wide_number (length xs) (omega (arith, i.0, i.1)))) ∙ more_twice (g.B.Buffer.held c.args.buf.now) (int32 (pos (length xs))) items),
+            ∙ (ap (λ z. g.B.Buffer.held c.args.buf.now ⊕ z ⊕ items) (sym (wide_number (length xs) (omega (arith, i.0, i.1)))) ∙ more_twice (g.B.Buffer.held c.args.buf.now) (int32 (pos (length xs))) items),
       ),
     )
 
@@ -61,10 +61,9 @@ returns-in_err-put-clause-cause g c =
     let i = c.loop-item.invariant in
     let xs = c.loop-item.yielded in
     let ys = xs ++ c.in-Some.item ∷ [] in
-    if_err_at _ _ _ c.from_residual-in_err-put.ensures.1
-    (
+    if_err_at _ _ _ c.from_residual-in_err-put.ensures.1 (
       ys,
       inr (record { before = xs; next = Some c.in-Some.item; came = search rules; none = either_none (length_cause (length xs)) (parts_cause (wide_list g.T.Item.parts xs)) (length_fits (length xs) (omega (arith, i.0, i.1))) i.2.0; are = refl }),
       wide_refused g.T.Item.parts ys (g.B.Buffer.held c.args.buf.now) _ (length_fits (length ys) (omega (arith, i.0, i.1, length-append xs (c.in-Some.item ∷ []))))
-      (more_refused g.T.Item.parts xs c.in-Some.item (g.B.Buffer.held c.args.buf.now ⊕ uint32 0) _ _ i.2 c.in_err-put.ensures.cause),
+          (more_refused g.T.Item.parts xs c.in-Some.item (g.B.Buffer.held c.args.buf.now ⊕ uint32 0) _ _ i.2 c.in_err-put.ensures.cause),
     )
