@@ -16,6 +16,7 @@ mod numbers;
 mod passwords;
 mod ranges;
 mod replies;
+mod replies_given;
 mod row;
 mod saslprep;
 mod scram;
