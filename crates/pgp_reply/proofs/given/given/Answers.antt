@@ -1,4 +1,4 @@
-use Rattle.std.proofs.Common.{arith, [], ◌∷◌, ◌++◌}
+use Rattle.std.proofs.Common.{arith, [], ◌++◌}
 use Rattle.pgp_base.specs.Calls.{Came}
 use Rattle.pgp_base.proofs.Needs.{memory_more}
 use Rattle.pgp_base.proofs.Parts.{cut_back, front_then, left_same}

@@ -2,7 +2,7 @@ use Rattle.std.proofs.Common.{rules, arith, [], ◌∷◌, ◌++◌, refl, inl, 
 use Rattle.std.specs.List.{flat_map}
 use Rattle.std.proofs.lemmas.List.{append-nil}
 use Rattle.pgp_base.specs.Calls.{Came}
-use Rattle.pgp_base.proofs.Needs.{if_err_map, memory_more, memory_then}
+use Rattle.pgp_base.proofs.Needs.{if_err_map, memory_then}
 use Rattle.pgp_base.proofs.Parts.{if_err_at}
 use Rattle.pgp_frontend.specs.Payload.{Byte, joined}
 use Rattle.pgp_reply.proofs.Lists.{joined-append, refused_before}
