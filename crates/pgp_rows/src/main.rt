@@ -16,7 +16,6 @@ mod numbers;
 mod passwords;
 mod ranges;
 mod replies;
-mod replies_given;
 mod row;
 mod saslprep;
 mod scram;

@@ -4,7 +4,6 @@ use crate::arrays::elements;
 use crate::client::{letter, numbers};
 use crate::codec::{Codec, check_written};
 use crate::fault::{Fault, done};
-use crate::replies_given::GivenReplies;
 use crate::row::Row;
 use crate::shown::Shown;
 use crate::word::{Word, Words};
@@ -24,7 +23,7 @@ use pgp_reply::{
 use std::alloc::{AllocError, Global};
 
 /// The texts of a list.
-pub fn texts(alloc: Global, list: &[Word]) -> Result<Vec<&[u8]>, Fault> {
+fn texts(alloc: Global, list: &[Word]) -> Result<Vec<&[u8]>, Fault> {
     let mut texts = Vec::new(alloc);
     for word in list {
         texts.push(word.bytes()?).map_err(AllocError::from)?;
@@ -33,7 +32,7 @@ pub fn texts(alloc: Global, list: &[Word]) -> Result<Vec<&[u8]>, Fault> {
 }
 
 /// The fields of a list: a letter and a text each.
-pub fn fields(alloc: Global, list: &[Word]) -> Result<Vec<ErrorField<'_>>, Fault> {
+fn fields(alloc: Global, list: &[Word]) -> Result<Vec<ErrorField<'_>>, Fault> {
     let mut fields = Vec::new(alloc);
     for pair in list.chunks(2) {
         let mut words = Words::new(pair);
@@ -60,8 +59,7 @@ fn column(part: &[Word]) -> Result<Column<'_>, Fault> {
     })
 }
 
-/// The columns of a list.
-pub fn columns(alloc: Global, list: &[Word]) -> Result<Vec<Column<'_>>, Fault> {
+fn columns(alloc: Global, list: &[Word]) -> Result<Vec<Column<'_>>, Fault> {
     let mut columns = Vec::new(alloc);
     for part in list.chunks(7) {
         columns.push(column(part)?).map_err(AllocError::from)?;
@@ -195,11 +193,9 @@ impl Codec for Replies {
     }
 }
 
-/// A row of a server's call: it appends the bytes, which are one message, or it is refused. A list is handed over as a slice, and
-/// then as an iterator.
+/// A row of a server's call: it appends the bytes, which are one message, or it is refused.
 pub fn check_reply(alloc: Global, row: &Row<'_>) -> Result<(), Fault> {
     check_written::<Replies>(alloc, row)?;
-    check_written::<GivenReplies>(alloc, row)?;
     if row.is_refusal() {
         return Ok(());
     }
