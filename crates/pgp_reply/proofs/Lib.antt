@@ -1,3 +1,4 @@
+pub mod GivenLists
 pub mod Lists
 pub mod Payloads
 pub mod ReadBack

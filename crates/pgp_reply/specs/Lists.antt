@@ -1,14 +1,25 @@
 -- The parts of the items of lists.
 -- PostgreSQL manual, "Message Formats", the repeated parts.
-use Rattle.std.specs.Prelude.{ℕ, negsuc, List, [], ◌∷◌, ◌++◌, Option, Some, None}
+use Rattle.std.specs.Prelude.{ℕ, negsuc, pos, List, [], ◌∷◌, ◌++◌, length, Option, Some, None}
+use Rattle.std.specs.List.{flat_map}
 use Rattle.std.specs.Borrow.{Bor}
-use Rattle.pgp_base.specs.Wire.{int16, uint16, oid}
-use Rattle.pgp_frontend.specs.Payload.{Part, Int32, Text, Sized, Rest}
+use Rattle.pgp_base.specs.Wire.{int16, int32, uint16, oid}
+use Rattle.pgp_frontend.specs.Payload.{Part, Byte, Int32, Text, Sized, Rest}
 use Rattle.pgp_message.specs.Items.{FieldPart, ErrorPart}
 
 -- the parts before a list, those of its items, and those behind it
 abbrev pub with_list : List Part → List Part → List Part → List Part
 with_list head items tail = head ++ (items ++ tail)
+
+-- A list of such items: behind a count of two bytes; behind one of four with a sign; with a 0 byte behind it.
+abbrev pub counted_list : {A : Type 0} → (A → List Part) → List A → List Part
+counted_list item xs = Rest (uint16 (length xs)) ∷ flat_map item xs
+
+abbrev pub wide_list : {A : Type 0} → (A → List Part) → List A → List Part
+wide_list item xs = Rest (int32 (pos (length xs))) ∷ flat_map item xs
+
+abbrev pub marked_list : {A : Type 0} → (A → List Part) → List A → List Part
+marked_list item xs = flat_map item xs ++ Byte 0 ∷ []
 
 -- the bytes of a lent value, or none for a null
 abbrev pub lent : Option (Bor (List ℕ)) → Option (List ℕ)

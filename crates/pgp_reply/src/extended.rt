@@ -1,14 +1,18 @@
 //! The extended query protocol, on the server's side.
 
 ghost use Rattle.std.specs.Prelude.{length, [], ◌∷◌};
+ghost use Rattle.std.specs.Iterator.{IsFiniteIterable};
 ghost use Rattle.std.specs.List.{flat_map};
+ghost use Rattle.pgp_base.specs.Calls.{Came};
 ghost use Rattle.pgp_base.specs.Cause.{count_cause};
 ghost use Rattle.pgp_base.specs.Wire.{uint16};
 ghost use Rattle.pgp_frontend.specs.Payload.{Rest};
 ghost use Rattle.pgp_message.specs.BackendMessage.{BindComplete, CloseComplete, NoData, ParseComplete, PortalSuspended};
-ghost use Rattle.pgp_reply.specs.Lists.{type_parts, with_list};
+ghost use Rattle.pgp_reply.specs.Given.{WritesGiven};
+ghost use Rattle.pgp_reply.specs.Lists.{counted_list, type_parts, with_list};
 ghost use Rattle.pgp_reply.specs.Reply.{types_of, WritesList, WritesReply};
 
+use crate::given::{Ending, given};
 use crate::listed::{count_field, listed};
 use pgp_base::{Buffer, Error, Oid};
 use pgp_frontend::field::{Field, message};
@@ -80,4 +84,25 @@ pub fn parameter_description<B: Buffer>(types: &[Oid], buf: &mut B) -> Result<()
 {
     let count = count_field(types.len())?;
     listed(b't', &[Field::Rest(&count)], types, &[], buf)
+}
+
+/// The same, of types that come from an iterator.
+///
+/// # Errors
+///
+/// The first from the left of: `TooLarge` at the type past 65,535, which is not written, and `TooLarge` where the
+/// message passes the greatest `i32`. Else `OutOfMemory` where a growth was refused, which may come before any of them. The
+/// buffer keeps its bytes.
+pub fn parameter_description_of<B: Buffer, I: IntoIterator<Item = Oid> + Drop>(
+    types: I,
+    buf: &mut B,
+) -> Result<(), Error>
+where
+    I::IntoIter: Drop,
+    requires { IsFiniteIterable I.into_iter_gives I.IntoIter.can_next I.IntoIter.remaining types }
+    ensures { WritesGiven (Came I.into_iter_gives I.IntoIter.next_gives types) count_cause
+        (λ all. counted_list type_parts all) (λ all. types_of all)
+        B.Lacks (B.held buf.old) (B.held buf.new) result }
+{
+    given(b't', &[], Ending::Count, types, buf)
 }

@@ -1,14 +1,18 @@
 //! What a server says before the first query is due: requests for authentication, the key of a cancel request, the version.
 
 ghost use Rattle.std.specs.Prelude.{pos, length, map, [], ◌∷◌, Some, None};
+ghost use Rattle.std.specs.Iterator.{IsFiniteIterable};
 ghost use Rattle.std.specs.List.{flat_map};
+ghost use Rattle.pgp_base.specs.Calls.{Came};
 ghost use Rattle.pgp_base.specs.Cause.{length_cause};
 ghost use Rattle.pgp_base.specs.Wire.{int32};
 ghost use Rattle.pgp_frontend.specs.Payload.{Byte, Int32, Rest, WritesFrame};
 ghost use Rattle.pgp_message.specs.BackendMessage.{Authentication, AuthenticationOk, AuthenticationKerberosV5, AuthenticationCleartextPassword, AuthenticationMd5Password, AuthenticationScmCredential, AuthenticationGss, AuthenticationGssContinue, AuthenticationSspi, AuthenticationSasl, AuthenticationSaslContinue, AuthenticationSaslFinal, BackendKeyData};
-ghost use Rattle.pgp_reply.specs.Lists.{text_parts, with_list};
+ghost use Rattle.pgp_reply.specs.Given.{uncounted, WritesGiven};
+ghost use Rattle.pgp_reply.specs.Lists.{marked_list, text_parts, wide_list, with_list};
 ghost use Rattle.pgp_reply.specs.Reply.{names_of, negotiation_of, WritesList, WritesReply};
 
+use crate::given::{Ending, given};
 use crate::listed::{listed, wide_count};
 use pgp_base::{Buffer, Error};
 use pgp_frontend::field::{Field, message};
@@ -153,6 +157,27 @@ pub fn authentication_sasl<B: Buffer>(mechanisms: &[&[u8]], buf: &mut B) -> Resu
     )
 }
 
+/// The same, of names that come from an iterator.
+///
+/// # Errors
+///
+/// `EmbeddedNull` at the first name with a 0 byte, and `TooLarge` where the message passes the greatest `i32`. Else `OutOfMemory`
+/// where a growth was refused, which may come before any of them. The buffer keeps its bytes.
+pub fn authentication_sasl_of<'a, B: Buffer, I: IntoIterator<Item = &'a [u8]> + Drop>(
+    mechanisms: I,
+    buf: &mut B,
+) -> Result<(), Error>
+where
+    I::IntoIter: Drop,
+    requires { IsFiniteIterable I.into_iter_gives I.IntoIter.can_next I.IntoIter.remaining mechanisms }
+    ensures { WritesGiven (Came I.into_iter_gives I.IntoIter.next_gives mechanisms) uncounted
+        (λ all. Int32 (pos 10) ∷ marked_list text_parts (map (λ name. name.now) all))
+        (λ all. Authentication (AuthenticationSasl (names_of (map (λ name. name.now) all))))
+        B.Lacks (B.held buf.old) (B.held buf.new) result }
+{
+    given(b'R', &[Field::Int32(10)], Ending::Zero, mechanisms, buf)
+}
+
 /// What a request to cancel has to show: the process, and a key of 4 to 256 bytes, by this project's profile of protocol 3.2.
 ///
 /// # Errors
@@ -191,4 +216,33 @@ pub fn negotiate_protocol_version<B: Buffer>(
     let count = wide_count(options.len())?;
     let head = [Field::Int32(version), Field::Rest(&count)];
     listed(b'v', &head, options, &[], buf)
+}
+
+/// The same, of options that come from an iterator.
+///
+/// # Errors
+///
+/// The first from the left of: `EmbeddedNull` where an option has a 0 byte, `TooLarge` at the option past 2,147,483,647, which is
+/// not written, and `TooLarge` where the message passes the greatest `i32`. Else `OutOfMemory` where a growth was refused, which
+/// may come before any of them. The buffer keeps its bytes.
+pub fn negotiate_protocol_version_of<'a, B: Buffer, I: IntoIterator<Item = &'a [u8]> + Drop>(
+    version: i32,
+    options: I,
+    buf: &mut B,
+) -> Result<(), Error>
+where
+    I::IntoIter: Drop,
+    requires { IsFiniteIterable I.into_iter_gives I.IntoIter.can_next I.IntoIter.remaining options }
+    ensures { WritesGiven (Came I.into_iter_gives I.IntoIter.next_gives options) length_cause
+        (λ all. Int32 version ∷ wide_list text_parts (map (λ text. text.now) all))
+        (λ all. negotiation_of version (map (λ text. text.now) all))
+        B.Lacks (B.held buf.old) (B.held buf.new) result }
+{
+    given(
+        b'v',
+        &[Field::Int32(version)],
+        Ending::WideCount,
+        options,
+        buf,
+    )
 }

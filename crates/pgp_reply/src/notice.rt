@@ -2,13 +2,17 @@
 #![tactic(auto, using(pgp_base::proofs::Parts::held_steps))]
 
 ghost use Rattle.std.specs.Prelude.{map, [], ◌∷◌, None};
+ghost use Rattle.std.specs.Iterator.{IsFiniteIterable};
 ghost use Rattle.std.specs.List.{flat_map};
+ghost use Rattle.pgp_base.specs.Calls.{Came};
 ghost use Rattle.pgp_frontend.specs.Payload.{Byte};
 ghost use Rattle.pgp_message.specs.BackendMessage.{ErrorResponse, NoticeResponse};
-ghost use Rattle.pgp_reply.specs.Lists.{field_parts, with_list};
+ghost use Rattle.pgp_reply.specs.Given.{uncounted, WritesGiven};
+ghost use Rattle.pgp_reply.specs.Lists.{field_parts, marked_list, with_list};
 ghost use Rattle.pgp_reply.specs.Reply.{fields_of, WritesList};
 ghost use Rattle.pgp_reply.specs.Views.{shown_field};
 
+use crate::given::{Ending, given};
 use crate::item::Item;
 use crate::listed::listed;
 use pgp_base::{Buffer, Error};
@@ -48,6 +52,26 @@ pub fn error_response<B: Buffer>(fields: &[ErrorField<'_>], buf: &mut B) -> Resu
     listed(b'E', &[], fields, &[Field::Byte(0)], buf)
 }
 
+/// The same, of fields that come from an iterator.
+///
+/// # Errors
+///
+/// `EmbeddedNull` at the first field with a 0 byte, and `TooLarge` where the message passes the greatest `i32`. Else `OutOfMemory`
+/// where a growth was refused, which may come before any of them. The buffer keeps its bytes.
+pub fn error_response_of<'a, B: Buffer, I: IntoIterator<Item = ErrorField<'a>> + Drop>(
+    fields: I,
+    buf: &mut B,
+) -> Result<(), Error>
+where
+    I::IntoIter: Drop,
+    requires { IsFiniteIterable I.into_iter_gives I.IntoIter.can_next I.IntoIter.remaining fields }
+    ensures { WritesGiven (Came I.into_iter_gives I.IntoIter.next_gives fields) uncounted
+        (λ all. marked_list field_parts (map shown_field all)) (λ all. ErrorResponse (fields_of (map shown_field all)))
+        B.Lacks (B.held buf.old) (B.held buf.new) result }
+{
+    given(b'E', &[], Ending::Zero, fields, buf)
+}
+
 /// A notice of these fields.
 ///
 /// # Errors
@@ -58,4 +82,23 @@ pub fn notice_response<B: Buffer>(fields: &[ErrorField<'_>], buf: &mut B) -> Res
         B.Lacks (B.held buf.old) (B.held buf.new) result }
 {
     listed(b'N', &[], fields, &[Field::Byte(0)], buf)
+}
+
+/// The same, of fields that come from an iterator.
+///
+/// # Errors
+///
+/// As `error_response_of`.
+pub fn notice_response_of<'a, B: Buffer, I: IntoIterator<Item = ErrorField<'a>> + Drop>(
+    fields: I,
+    buf: &mut B,
+) -> Result<(), Error>
+where
+    I::IntoIter: Drop,
+    requires { IsFiniteIterable I.into_iter_gives I.IntoIter.can_next I.IntoIter.remaining fields }
+    ensures { WritesGiven (Came I.into_iter_gives I.IntoIter.next_gives fields) uncounted
+        (λ all. marked_list field_parts (map shown_field all)) (λ all. NoticeResponse (fields_of (map shown_field all)))
+        B.Lacks (B.held buf.old) (B.held buf.new) result }
+{
+    given(b'N', &[], Ending::Zero, fields, buf)
 }

@@ -2,14 +2,18 @@
 #![tactic(auto, using(pgp_base::proofs::Parts::held_steps))]
 
 ghost use Rattle.std.specs.Prelude.{map, length, [], ◌∷◌};
+ghost use Rattle.std.specs.Iterator.{IsFiniteIterable};
 ghost use Rattle.std.specs.List.{flat_map};
+ghost use Rattle.pgp_base.specs.Calls.{Came};
 ghost use Rattle.pgp_base.specs.Cause.{count_cause};
 ghost use Rattle.pgp_base.specs.Wire.{uint16};
 ghost use Rattle.pgp_frontend.specs.Payload.{Rest};
-ghost use Rattle.pgp_reply.specs.Lists.{column_parts, lent, value_parts, with_list};
+ghost use Rattle.pgp_reply.specs.Given.{WritesGiven};
+ghost use Rattle.pgp_reply.specs.Lists.{column_parts, counted_list, lent, value_parts, with_list};
 ghost use Rattle.pgp_reply.specs.Reply.{description_of, row_of, WritesList};
 ghost use Rattle.pgp_reply.specs.Views.{shown_column};
 
+use crate::given::{Ending, given};
 use crate::item::Item;
 use crate::listed::{count_field, listed};
 use pgp_base::{Buffer, Error, Oid};
@@ -67,6 +71,27 @@ pub fn row_description<B: Buffer>(columns: &[Column<'_>], buf: &mut B) -> Result
     listed(b'T', &[Field::Rest(&count)], columns, &[], buf)
 }
 
+/// The same, of columns that come from an iterator.
+///
+/// # Errors
+///
+/// The first from the left of: `EmbeddedNull` where a name has a 0 byte, `TooLarge` at the column past 65,535, which is not written, and `TooLarge` where the
+/// message passes the greatest `i32`. Else `OutOfMemory` where a growth was refused, which may come before any of them. The
+/// buffer keeps its bytes.
+pub fn row_description_of<'a, B: Buffer, I: IntoIterator<Item = Column<'a>> + Drop>(
+    columns: I,
+    buf: &mut B,
+) -> Result<(), Error>
+where
+    I::IntoIter: Drop,
+    requires { IsFiniteIterable I.into_iter_gives I.IntoIter.can_next I.IntoIter.remaining columns }
+    ensures { WritesGiven (Came I.into_iter_gives I.IntoIter.next_gives columns) count_cause
+        (λ all. counted_list column_parts (map shown_column all)) (λ all. description_of (map shown_column all))
+        B.Lacks (B.held buf.old) (B.held buf.new) result }
+{
+    given(b'T', &[], Ending::Count, columns, buf)
+}
+
 /// A row of these values, or none for a null, each in its column's format.
 ///
 /// # Errors
@@ -80,4 +105,25 @@ pub fn data_row<B: Buffer>(values: &[Option<&[u8]>], buf: &mut B) -> Result<(), 
 {
     let count = count_field(values.len())?;
     listed(b'D', &[Field::Rest(&count)], values, &[], buf)
+}
+
+/// The same, of values that come from an iterator.
+///
+/// # Errors
+///
+/// The first from the left of: `TooLarge` where a value passes the greatest `i32`, `TooLarge` at the value past 65,535, which is
+/// not written, and `TooLarge` where the message passes the greatest `i32`. Else `OutOfMemory` where a growth was refused, which
+/// may come before any of them. The buffer keeps its bytes.
+pub fn data_row_of<'a, B: Buffer, I: IntoIterator<Item = Option<&'a [u8]>> + Drop>(
+    values: I,
+    buf: &mut B,
+) -> Result<(), Error>
+where
+    I::IntoIter: Drop,
+    requires { IsFiniteIterable I.into_iter_gives I.IntoIter.can_next I.IntoIter.remaining values }
+    ensures { WritesGiven (Came I.into_iter_gives I.IntoIter.next_gives values) count_cause
+        (λ vs. counted_list value_parts (map lent vs)) (λ vs. row_of (map lent vs))
+        B.Lacks (B.held buf.old) (B.held buf.new) result }
+{
+    given(b'D', &[], Ending::Count, values, buf)
 }
