@@ -26,7 +26,7 @@
  * POINTERS Where a length is 0 the pointer is not read. The proof speaks of pointers that are not NULL; NULL with the length 0 is
  *          tested and serves.
  *
- * C99 or later, C++98 or later with <stdint.h>. Sizes and offsets of the structs are checked where the library is built.
+ * C99 or later, C++98 or later with <stdint.h>. `make check-c` compares each declaration and struct with what the library exports.
  */
 #ifndef POSTGRES_PROTOCOL_H
 #define POSTGRES_PROTOCOL_H

@@ -1,9 +1,9 @@
 //! Walks over lists that stand in the caller's bytes, by a cursor that the caller holds.
 
-ghost use Rattle.std.specs.Prelude.{◌≡◌, ◌≢◌, ◌+◌, ◌<◌, ◌^◌, ℕ, List, length, IfOk, IfErr};
+ghost use Rattle.std.specs.Prelude.{◌≡◌, ◌≢◌, ◌+◌, ◌<◌, ◌^◌, ℕ, List, [], length, None, IfSome, IfOk, IfErr};
 ghost use Rattle.pgp_base.specs.Grammar.{StandsAt};
 ghost use Rattle.pgp_base.specs.declared.error.Error.{Error as Refusal};
-ghost use Rattle.pgp_c.specs.Walks.{IsEnded, IsMarkedEnd, RefusesItem, RefusesMarked, StandsFrom, Takes, TakesMarked, rest_of};
+ghost use Rattle.pgp_c.specs.Walks.{IsEnded, IsMarkedEnd, RefusesItem, RefusesMarked, StandsFrom, Takes, TakesMarked, rest as left_of, rest_of};
 
 use crate::status::failed;
 use pgp_base::Error;
@@ -54,8 +54,24 @@ pub fn next_counted<L: Listed>(bytes: &[u8], cursor: &mut PgpCursor, item: &mut 
     ensures refused { result ≢ 0 → result ≢ 101 → RefusesItem L.Refused bytes.now cursor.old result }
     ensures left { result ≢ 0 → (cursor.new ≡ cursor.old) × (item.new ≡ item.old) }
 {
+    match between(bytes, cursor.at, cursor.end) {
+        Some(rest) => next_in::<L>(rest, cursor, item),
+        None => next_in::<L>(&[], cursor, item),
+    }
+}
+
+/// The next item of such a list, of which this is left.
+// The hint carries the speed of walks: where nothing is left because the cursor's places are none, no item is read, and where something is
+// left, the places are compared by branches, which the reading needn't wait for.
+#[inline(always)]
+fn next_in<L: Listed>(rest: &[u8], cursor: &mut PgpCursor, item: &mut L::Item) -> u32
+    requires { cursor.old.at + length rest.now < 2 ^ 64 }
+    ensures item { result ≡ 0 → (bytes : List ℕ) → rest.now ≡ left_of bytes cursor.old → Takes L.Spelled bytes cursor.old cursor.new (L.meaning bytes item.new) }
+    ensures done { result ≡ 101 → (cursor.old.left ≡ 0) × (rest.now ≡ []) }
+    ensures refused { result ≢ 0 → result ≢ 101 → (bytes : List ℕ) → rest.now ≡ left_of bytes cursor.old → RefusesItem L.Refused bytes cursor.old result }
+    ensures left { result ≢ 0 → (cursor.new ≡ cursor.old) × (item.new ≡ item.old) }
+{
     let at = cursor.at;
-    let rest = rest_of(bytes, at, cursor.end);
     if cursor.left == 0 {
         if rest.is_empty() {
             return DONE;
@@ -103,10 +119,19 @@ fn rest_of(bytes: &[u8], at: usize, end: usize) -> &[u8]
     ensures value { result.now ≡ rest_of bytes.now at end }
     ensures fits { at + length result.now < 2 ^ 64 }
 {
+    between(bytes, at, end).unwrap_or(&[])
+}
+
+/// The bytes from a place up to another, where these are places of the bytes, in this order.
+#[inline(always)]
+fn between(bytes: &[u8], at: usize, end: usize) -> Option<&[u8]>
+    ensures some { IfSome result (λ rest. (rest.now ≡ rest_of bytes.now at end) × (at + length rest.now < 2 ^ 64)) }
+    ensures none { result ≡ None → rest_of bytes.now at end ≡ [] }
+{
     if end <= bytes.len() {
         if at <= end {
-            return &bytes[at..end];
+            return Some(&bytes[at..end]);
         }
     }
-    &[]
+    None
 }

@@ -1,23 +1,24 @@
-use Rattle.std.proofs.Common.{rules, arith}
+use Rattle.std.proofs.Common.{arith}
 use Rattle.pgp_base.proofs.Parts.{if_err_at}
 use Rattle.pgp_base.specs.Wire.{IsBytes}
 use Rattle.pgp_message.specs.ItemReading.{range_at}
 use Rattle.pgp_message.specs.Items.{RangeSpelled, RangeRefused}
 use Rattle.pgp_message.proofs.RangeLemmas.{range_reader}
-use Rattle.pgp_c.proofs.Listings.{reader_found, reader_shorter}
+use Rattle.pgp_c.specs.Listings.{range_of}
+use Rattle.pgp_c.proofs.Listings.{reader_shorter}
 use Rattle.pgp_c.proofs.row.ValuesListed.read.Goals as goal
 
-pub returns-in_err-range-clause-refused : goal.returns-in_err-range-clause-refused
-returns-in_err-range-clause-refused c =
+pub returns-in_err-column-clause-refused : goal.returns-in_err-column-clause-refused
+returns-in_err-column-clause-refused c =
     let each : IsBytes c.args.rest.now = λ i. omega (arith, c.type_inv.rest i) in
-    if_err_at _ _ _ c.from_residual.ensures.1 (range_reader.refused c.args.at c.args.rest.now _ each c.in_err-range.ensures)
+    if_err_at _ _ _ c.from_residual.ensures.1 (range_reader.refused c.args.at c.args.rest.now _ each c.in_err-column.ensures)
 
 pub returns-clause-item : goal.returns-clause-item
 returns-clause-item c bytes stands =
     let each : IsBytes c.args.rest.now = λ i. omega (arith, c.type_inv.rest i) in
-    reader_found RangeSpelled RangeRefused range_at range_reader c.args.at c.args.rest.now c.in_ok-range.range _ c.in_ok-range.more.now each c.in_ok-range.ensures (search rules)
+    range_reader.found c.args.at c.args.rest.now (range_of c.in_ok-column.column) c.in_ok-column.more.now each c.in_ok-column.ensures
 
 pub returns-clause-shorter : goal.returns-clause-shorter
 returns-clause-shorter c =
     let each : IsBytes c.args.rest.now = λ i. omega (arith, c.type_inv.rest i) in
-    reader_shorter RangeSpelled RangeRefused range_at range_reader c.args.at c.args.rest.now c.in_ok-range.range c.in_ok-range.more.now each c.in_ok-range.ensures
+    reader_shorter RangeSpelled RangeRefused range_at range_reader c.args.at c.args.rest.now (range_of c.in_ok-column.column) c.in_ok-column.more.now each c.in_ok-column.ensures
