@@ -2,11 +2,16 @@ pub mod Parts
 pub mod Fronts
 pub mod Items
 pub mod FrameLines
+pub mod ClientLines
+pub mod Ends
 pub mod Traces
 pub mod Quotes
 pub mod Printable
 pub mod Printing
+pub mod Shorter
+pub mod Sides
 pub mod Runs
 pub mod Hiding
+pub mod ClientHiding
 pub mod Streams
 pub mod WordLemmas

@@ -5,32 +5,35 @@ use Rattle.pgtrace.specs.declared.fault.Fault.{Fault}
 use Rattle.pgtrace.specs.declared.fault.Fault.TheVariants.{Memory, Read, Write}
 use Rattle.pgtrace.specs.declared.style.Style.{Style}
 use Rattle.pgtrace.specs.Listing.{Streams, IsCutShort, WasListed, WritesListing}
+use Rattle.pgtrace.specs.Sides as side
 use Rattle.pgtrace.specs.Taken.{AppendsFront}
 use Rattle.pgtrace.specs.Words.{greatest, AreWords, HasOther, LacksWords}
 
--- Lists a server's stream in a style; or tells how the program is called, or which one it is.
+-- Lists a server's or a client's stream in a style; or tells how the program is called, or which one it is.
 pub data Command : Type 0 where
   Server : Style → Command
+  Client : Style → Command
   Help : Command
   Version : Command
 
--- the words ask for a listing in this style: 64 bytes of a text or a value are shown, or all of them, and secrets aren't, or are
-abbrev pub AskStyle : List (List ℕ) → Style → Type 0
-AskStyle words style =
-    ((words ≡ codes "server" ∷ []) × (style ≡ record { limit = 64; secrets = false }))
-    ⊎ ((words ≡ codes "server" ∷ codes "--full" ∷ []) × (style ≡ record { limit = greatest; secrets = false }))
-    ⊎ ((words ≡ codes "server" ∷ codes "--secrets" ∷ []) × (style ≡ record { limit = 64; secrets = true }))
-    ⊎ ((words ≡ codes "server" ∷ codes "--full" ∷ codes "--secrets" ∷ []) × (style ≡ record { limit = greatest; secrets = true }))
-    ⊎ ((words ≡ codes "server" ∷ codes "--secrets" ∷ codes "--full" ∷ []) × (style ≡ record { limit = greatest; secrets = true }))
+-- the words ask for a listing of this name in this style: 64 bytes of a text or a value are shown, or all of them, and secrets aren't, or are
+abbrev pub AskStyle : List ℕ → List (List ℕ) → Style → Type 0
+AskStyle name words style =
+    ((words ≡ name ∷ []) × (style ≡ record { limit = 64; secrets = false }))
+    ⊎ ((words ≡ name ∷ codes "--full" ∷ []) × (style ≡ record { limit = greatest; secrets = false }))
+    ⊎ ((words ≡ name ∷ codes "--secrets" ∷ []) × (style ≡ record { limit = 64; secrets = true }))
+    ⊎ ((words ≡ name ∷ codes "--full" ∷ codes "--secrets" ∷ []) × (style ≡ record { limit = greatest; secrets = true }))
+    ⊎ ((words ≡ name ∷ codes "--secrets" ∷ codes "--full" ∷ []) × (style ≡ record { limit = greatest; secrets = true }))
 
 -- the words ask for it
 abbrev pub Asks : List (List ℕ) → Command → Type 0
-Asks words (Server style) = AskStyle words style
+Asks words (Server style) = AskStyle (codes "server") words style
+Asks words (Client style) = AskStyle (codes "client") words style
 Asks words Help = words ≡ codes "--help" ∷ []
 Asks words Version = words ≡ codes "--version" ∷ []
 
 abbrev pub usage : List ℕ
-usage = codes "usage: pgtrace server [--full] [--secrets] | --help | --version" ++ 10 ∷ []
+usage = codes "usage: pgtrace server|client [--full] [--secrets] | --help | --version" ++ 10 ∷ []
 
 abbrev pub version : List ℕ
 version = codes "pgtrace 0.1.0" ++ 10 ∷ []
@@ -47,16 +50,26 @@ Caused lacks read_failed write_failed Memory = lacks ⊎ read_failed
 Caused lacks read_failed write_failed Read = read_failed
 Caused lacks read_failed write_failed Write = write_failed
 
+-- all of the input was read, and its listing was written
+abbrev pub Lists : Style → side.Side → Streams → Streams → Type 0
+Lists style from before after = IsAtEnd after.input × IfSome before.input (λ bytes. WritesListing style from bytes before.output after.output)
+
 -- What is done where no fault is met.
 abbrev pub Does : Command → Streams → Streams → Type 0
-Does (Server style) before after = IsAtEnd after.input × IfSome before.input (λ bytes. WritesListing style bytes before.output after.output)
+Does (Server style) before after = Lists style side.Server before after
+Does (Client style) before after = Lists style (side.Client false []) before after
 Does Help before after = Keeps before.input after.input × Appends before.output after.output usage
 Does Version before after = Keeps before.input after.input × Appends before.output after.output version
 
--- What is done where one is: what is written is a front of what would be; and where a read failed, nothing of what came is held back.
+-- a front of the listing was written; and where a read failed, nothing of what came is held back
+abbrev pub BreaksOff : Style → side.Side → Fault → Streams → Streams → Type 0
+BreaksOff style from Read before after = WasListed style from before after
+BreaksOff style from fault before after = IsCutShort style from before after
+
+-- What is done where one is: what is written is a front of what would be.
 abbrev pub Stops : Command → Fault → Streams → Streams → Type 0
-Stops (Server style) Read before after = WasListed style before after
-Stops (Server style) fault before after = IsCutShort style before after
+Stops (Server style) fault before after = BreaksOff style side.Server fault before after
+Stops (Client style) fault before after = BreaksOff style (side.Client false []) fault before after
 Stops Help fault before after = Keeps before.input after.input × AppendsFront before.output after.output usage
 Stops Version fault before after = Keeps before.input after.input × AppendsFront before.output after.output version
 

@@ -7,6 +7,8 @@ pub mod Secrets
 pub mod Words
 pub mod Interruptions
 pub mod Command
+pub mod Sides
+pub mod Client
 pub mod Listing
 pub mod Steps
 pub mod Asked

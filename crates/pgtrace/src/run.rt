@@ -1,21 +1,23 @@
 //! The program's words.
 
-ghost use Rattle.std.specs.Prelude.{◌≡◌, if◌then◌else◌, map, IfSome, IfNone, IfOk, IfErr, OnOk};
+ghost use Rattle.std.specs.Prelude.{◌≡◌, if◌then◌else◌, [], false, map, IfSome, IfNone, IfOk, IfErr, OnOk};
 ghost use Rattle.std.specs.Io.KnownBytes.{Keeps};
 ghost use Rattle.pgtrace.specs.Interruptions.{GivesUp};
-ghost use Rattle.pgtrace.specs.Command.{Asks, Caused, Does, IsOther, IsSaid, Obeys, ObeysOwn, Runs, RunsOwn, Stops, usage, complaint_of, version};
+ghost use Rattle.pgtrace.specs.Command.{Asks, BreaksOff, Caused, Does, IsOther, IsSaid, Lists, Obeys, ObeysOwn, Runs, RunsOwn, Stops, usage, complaint_of, version};
 ghost use Rattle.pgtrace.specs.Asked.{asked};
+ghost use Rattle.pgtrace.specs.Sides as side;
 ghost use Rattle.pgtrace.specs.Words.{LacksWords, greatest};
 
 use crate::fault::Fault;
 use crate::ports::{Input, Output, Words};
 use crate::print::put;
-use crate::server::server;
+use crate::side::Side;
+use crate::stream::list;
 use crate::style::Style;
 use crate::words::{lent, texts};
 use pgp_base::Memory;
 
-const USAGE: &str = "usage: pgtrace server [--full] [--secrets] | --help | --version\n";
+const USAGE: &str = "usage: pgtrace server|client [--full] [--secrets] | --help | --version\n";
 
 const VERSION: &str = "pgtrace 0.1.0\n";
 
@@ -57,6 +59,7 @@ impl Outcome {
 #[derive(Debug, Clone, Copy)]
 enum Command {
     Server(Style),
+    Client(Style),
     Help,
     Version,
 }
@@ -71,6 +74,11 @@ fn command_of(words: &[&str]) -> Option<Command>
         ["server", "--secrets"] => Some(Command::Server(style(false, true))),
         ["server", "--full", "--secrets"] => Some(Command::Server(style(true, true))),
         ["server", "--secrets", "--full"] => Some(Command::Server(style(true, true))),
+        ["client"] => Some(Command::Client(style(false, false))),
+        ["client", "--full"] => Some(Command::Client(style(true, false))),
+        ["client", "--secrets"] => Some(Command::Client(style(false, true))),
+        ["client", "--full", "--secrets"] => Some(Command::Client(style(true, true))),
+        ["client", "--secrets", "--full"] => Some(Command::Client(style(true, true))),
         ["--help"] => Some(Command::Help),
         ["--version"] => Some(Command::Version),
         _ => None,
@@ -85,6 +93,28 @@ fn style(full: bool, secrets: bool) -> Style
         limit: if full { usize::MAX } else { SHORT },
         secrets,
     }
+}
+
+/// Lists what a client sent. Which its messages of tag `p` are isn't known.
+fn list_client<A: Memory, R: Input, W: Output>(
+    alloc: A,
+    style: Style,
+    input: &mut R,
+    output: &mut W,
+) -> Result<(), Fault>
+    ensures done { OnOk result (Lists style (side.Client false [])
+        (record { input = R.remaining input.old; output = W.contents output.old })
+        (record { input = R.remaining input.new; output = W.contents output.new })) }
+    ensures stops { IfErr result (λ fault. BreaksOff style (side.Client false []) fault
+        (record { input = R.remaining input.old; output = W.contents output.old })
+        (record { input = R.remaining input.new; output = W.contents output.new })) }
+    ensures cause { IfErr result (Caused A.Lacks (GivesUp R.Fails R.Called) (GivesUp W.Fails W.Interrupted)) }
+{
+    let side = Side::Client {
+        opened: false,
+        kinds: &[],
+    };
+    list(alloc, style, side, input, output)
 }
 
 /// Does what the command asks for.
@@ -103,7 +133,8 @@ fn perform<A: Memory, R: Input, W: Output>(
     ensures cause { IfErr result (Caused A.Lacks (GivesUp R.Fails R.Called) (GivesUp W.Fails W.Interrupted)) }
 {
     match command {
-        Command::Server(style) => server(alloc, style, input, output),
+        Command::Server(style) => list(alloc, style, Side::Server, input, output),
+        Command::Client(style) => list_client(alloc, style, input, output),
         Command::Help => put(USAGE.as_bytes(), output),
         Command::Version => put(VERSION.as_bytes(), output),
     }
