@@ -10,5 +10,3 @@ pub mod laws;
 mod md5_text;
 pub mod password;
 mod scram;
-#[cfg(test)]
-mod tests;

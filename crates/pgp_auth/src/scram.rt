@@ -14,8 +14,6 @@ mod server_error;
 mod serving;
 mod state;
 mod stored;
-#[cfg(test)]
-mod tests;
 mod verify;
 
 pub use binding::ChannelBinding;

@@ -93,6 +93,8 @@ pub fn int32_at(bytes: &[u8]) -> Result<(i32, &[u8]), Error>
 /// # Errors
 ///
 /// `UnexpectedEof` where no byte 0 is left.
+// The hint carries the speed of messages with short texts: else what is read goes through memory.
+#[inline(always)]
 pub fn string_at(bytes: &[u8]) -> Result<(&[u8], &[u8]), Error>
     ensures { Gives (λ x. (x.0.now, x.1.now)) result (string_at bytes.now) }
 {

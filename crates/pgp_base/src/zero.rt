@@ -76,7 +76,7 @@ fn zero_in_few(bytes: &[u8]) -> Option<usize>
     }
 }
 
-// The place of the first 0. Where fewer than 32 bytes are left, two looks that may overlap cover them.
+// The place of the first 0. Where up to 64 bytes are left, two looks that may overlap cover them.
 #[inline]
 pub(crate) fn first_zero(bytes: &[u8]) -> Option<usize>
     ensures { IsFirstByte (is_byte 0) bytes.now result }
@@ -85,6 +85,7 @@ pub(crate) fn first_zero(bytes: &[u8]) -> Option<usize>
     if 32 <= len {
         match zero_in_32(bytes, 0) {
             Some(at) => Some(at),
+            None if len <= 64 => zero_in_32(bytes, len - 32),
             None => memchr(0, bytes),
         }
     } else if 16 <= len {

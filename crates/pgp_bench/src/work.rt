@@ -183,14 +183,15 @@ impl Work {
         }
     }
 
-    /// How many units are timed together: some hundredths of a second.
+    /// How many units are timed together: some hundredths of a second, but where a stream is to fit the cache.
     pub(crate) fn units(self) -> u32 {
         match self {
             Work::Key => 8,
             Work::LiteralPlain | Work::LiteralQuotes | Work::Identifier | Work::CopyData => 50_000,
             Work::RowInPlace | Work::RowIndexed | Work::RowPlaced | Work::RowColumn => 1_000_000,
-            Work::BareInPlace | Work::Row59InPlace | Work::Complete38InPlace => 1_000_000,
-            Work::ClientBind | Work::ClientQuery | Work::ClientSync => 1_000_000,
+            // a stream that the cache holds, as what was just received
+            Work::BareInPlace | Work::Row59InPlace | Work::Complete38InPlace => 16_000,
+            Work::ClientBind | Work::ClientQuery | Work::ClientSync => 16_000,
             _ => 500_000,
         }
     }

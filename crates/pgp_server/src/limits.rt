@@ -7,7 +7,7 @@ ghost use Rattle.pgp_server.specs.Pieces.{limit_of};
 /// refuses none.
 #[derive(Debug, Clone, Copy, PartialEq, Eq)]
 pub struct Limits {
-    /// Of opening packets. PostgreSQL's own servers take 10,000 bytes and no more.
+    /// Of opening packets. PostgreSQL's own servers take 10,000 bytes behind the length and no more, which is 10,004 here.
     pub opening: u32,
     /// Of tagged messages.
     pub tagged: u32,

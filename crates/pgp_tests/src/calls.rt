@@ -2,6 +2,7 @@
 //! tests is proved once with them and once without.
 
 mod arrays;
+mod auth;
 mod base;
 mod frontend;
 mod message;

@@ -4,6 +4,8 @@
 #[cfg(test)]
 mod auth;
 #[cfg(test)]
+mod auth_server;
+#[cfg(test)]
 mod bound_values;
 #[cfg(test)]
 mod checks;

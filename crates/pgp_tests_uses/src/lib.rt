@@ -4,6 +4,8 @@
 #[cfg(test)]
 mod checks;
 #[cfg(test)]
+mod serving;
+#[cfg(test)]
 mod sides;
 #[cfg(test)]
 mod uses;

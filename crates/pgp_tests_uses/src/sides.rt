@@ -6,6 +6,7 @@ use bytes::BytesMut;
 use pgp_base::Window;
 use pgp_uses::pooler::Session;
 use pgp_uses::proxy::{Passed, ProxyError, pass_on};
+use pgp_uses::reading::front_query;
 use postgres_protocol::message::backend::Messages;
 use postgres_protocol::message::client::{ClientMessages, PasswordKind};
 use std::test::Fail;
@@ -40,6 +41,21 @@ fn a_refused_statement_is_held_back(rt: HostRuntime) -> Result<(), Fail> {
     );
     same(&rt, pass_on(&REFUSED, kind, &mut from, &mut to), Ok(None));
     same(&rt, from.rest(), b"S\0\0\0".as_slice());
+    Ok(())
+}
+
+/// A Parse is no query, nor is one that is cut.
+#[test]
+fn a_query_at_the_front_is_read(rt: HostRuntime) -> Result<(), Fail> {
+    let (query, rest) = SENT.split_at(18);
+    let (cut, _) = query.split_at(17);
+    same(
+        &rt,
+        front_query(SENT),
+        Some((b"DROP TABLE t".as_slice(), rest)),
+    );
+    same(&rt, front_query(rest), None);
+    same(&rt, front_query(cut), None);
     Ok(())
 }
 
@@ -105,6 +121,24 @@ fn a_session_is_idle_where_all_is_answered(rt: HostRuntime) -> Result<(), Fail> 
     sent(&mut session, &mut client);
     holds(&rt, !session.is_idle(b"", b""));
     came(&mut session, &mut server);
+    holds(&rt, session.is_idle(b"", b""));
+    Ok(())
+}
+
+#[test]
+fn a_session_is_not_idle_behind_a_parse(rt: HostRuntime) -> Result<(), Fail> {
+    let (_, parse) = CLIENT.split_at(20);
+    let mut client = ClientMessages::resume(parse, true);
+    let mut session = Session {
+        asked: 1,
+        readied: 1,
+        status: Some(b'I'),
+        unfinished: false,
+    };
+    sent(&mut session, &mut client);
+    holds(&rt, !session.is_idle(b"", b""));
+    sent(&mut session, &mut client);
+    session.readied = 2;
     holds(&rt, session.is_idle(b"", b""));
     Ok(())
 }

@@ -4,7 +4,7 @@ use Rattle.std.specs.Prelude.{if◌then◌else◌}
 use Rattle.std.proofs.lemmas.Bool.{cases_lt}
 use Rattle.pgp_message.specs.BackendMessage.{Message}
 use Rattle.pgp_server.specs.OtherMessage.{AnyMessage}
-use Rattle.pgp_uses.specs.Pooler.{awaits, asks, status, some_one, readies, newer, last_status, IsIdle, IsCount, Saw, IsQuiet}
+use Rattle.pgp_uses.specs.Pooler.{awaits, waits, waits_behind, asks, status, some_one, readies, newer, last_status, IsIdle, IsCount, Saw, IsQuiet}
 use Rattle.pgp_uses.specs.declared.pooler.Session.{Session}
 
 asks_more : (sent : List AnyMessage) (m : AnyMessage) → asks (sent ++ m ∷ []) ≡ asks sent + (if awaits m then 1 else 0)
@@ -18,6 +18,10 @@ readies_more (n ∷ came) m = omega (arith, readies_more came m)
 status_more : (before : Option ℕ) (came : List Message) (m : Message) → last_status before (came ++ m ∷ []) ≡ newer (last_status before came) (status m)
 status_more before [] m = refl
 status_more before (n ∷ came) m = status_more (newer before (status n)) came m
+
+waits_more : (before : Bool) (sent : List AnyMessage) (m : AnyMessage) → waits_behind before (sent ++ m ∷ []) ≡ waits (waits_behind before sent) m
+waits_more before [] m = refl
+waits_more before (n ∷ sent) m = waits_more (waits before n) sent m
 
 -- one more, as far as a `u64` has it
 pub record IsNext (n k : ℕ) : Type 0 where
@@ -37,23 +41,27 @@ same_count : (n count more : ℕ) → IsCount n count → more ≡ count → IsC
 same_count n count more h e = rw e h
 
 module _ (sent : List AnyMessage) (came : List Message) (session : Session) (saw : Saw sent came session) where
-  pub saw_asked : (m : AnyMessage) (k : ℕ) → awaits m ≡ true → IsNext session.asked k → Saw (sent ++ m ∷ []) came (record { asked = k; readied = session.readied; status = session.status })
-  saw_asked m k awaited next =
+  told_waits : (m : AnyMessage) (now : Bool) → now ≡ waits session.unfinished m → now ≡ waits_behind false (sent ++ m ∷ [])
+  told_waits m now is = is ∙ ap (λ (b : Bool). waits b m) saw.unfinished ∙ sym (waits_more false sent m)
+
+  pub saw_asked : (m : AnyMessage) (k : ℕ) (now : Bool) → awaits m ≡ true → now ≡ waits session.unfinished m → IsNext session.asked k → Saw (sent ++ m ∷ []) came (record { asked = k; readied = session.readied; status = session.status; unfinished = now })
+  saw_asked m k now awaited is next =
       let more : asks (sent ++ m ∷ []) ≡ asks sent + 1 = asks_more sent m ∙ ap (λ (b : Bool). asks sent + (if b then 1 else 0)) awaited in
-      record { asked = one_more session.asked k (asks sent) (asks (sent ++ m ∷ [])) saw.asked more next; readied = saw.readied; status = saw.status }
+      record { asked = one_more session.asked k (asks sent) (asks (sent ++ m ∷ [])) saw.asked more next; readied = saw.readied; status = saw.status; unfinished = told_waits m now is }
 
-  pub saw_sent : (m : AnyMessage) → awaits m ≡ false → Saw (sent ++ m ∷ []) came session
-  saw_sent m other =
+  pub saw_sent : (m : AnyMessage) (now : Bool) → awaits m ≡ false → now ≡ waits session.unfinished m → Saw (sent ++ m ∷ []) came (record { asked = session.asked; readied = session.readied; status = session.status; unfinished = now })
+  saw_sent m now other is =
       let same : asks (sent ++ m ∷ []) ≡ asks sent + 0 = asks_more sent m ∙ ap (λ (b : Bool). asks sent + (if b then 1 else 0)) other in
-      record { asked = same_count session.asked (asks sent) (asks (sent ++ m ∷ [])) saw.asked (omega (arith, same)); readied = saw.readied; status = saw.status }
+      record { asked = same_count session.asked (asks sent) (asks (sent ++ m ∷ [])) saw.asked (omega (arith, same)); readied = saw.readied; status = saw.status; unfinished = told_waits m now is }
 
-  pub saw_ready : (m : Message) (k s : ℕ) → status m ≡ Some s → IsNext session.readied k → Saw sent (came ++ m ∷ []) (record { asked = session.asked; readied = k; status = Some s })
+  pub saw_ready : (m : Message) (k s : ℕ) → status m ≡ Some s → IsNext session.readied k → Saw sent (came ++ m ∷ []) (record { asked = session.asked; readied = k; status = Some s; unfinished = session.unfinished })
   saw_ready m k s tells next =
       let more : readies (came ++ m ∷ []) ≡ readies came + 1 = readies_more came m ∙ ap (λ (o : Option ℕ). readies came + some_one o) tells in
       record {
         asked = saw.asked;
         readied = one_more session.readied k (readies came) (readies (came ++ m ∷ [])) saw.readied more next;
         status = sym (status_more None came m ∙ ap (newer (last_status None came)) tells);
+        unfinished = saw.unfinished;
       }
 
   pub saw_came : (m : Message) → status m ≡ None → Saw sent (came ++ m ∷ []) session
@@ -63,6 +71,7 @@ module _ (sent : List AnyMessage) (came : List Message) (session : Session) (saw
         asked = saw.asked;
         readied = same_count session.readied (readies came) (readies (came ++ m ∷ [])) saw.readied (omega (arith, same));
         status = saw.status ∙ sym (status_more None came m ∙ ap (newer (last_status None came)) other);
+        unfinished = saw.unfinished;
       }
 
 is_count : (n count : ℕ) → IsCount n count → n < 18446744073709551615 → n ≡ count
@@ -77,10 +86,10 @@ pub quiet_is_idle : (sent : List AnyMessage) (came : List Message) (session : Se
 quiet_is_idle sent came session client server saw quiet =
     let asked = is_count session.asked (asks sent) saw.asked quiet.counted in
     let readied = is_count session.readied (readies came) saw.readied (omega (arith, quiet.counted, quiet.answered)) in
-    record { answered = omega (arith, asked, readied, quiet.answered); idle = sym saw.status ∙ quiet.idle }
+    record { answered = omega (arith, asked, readied, quiet.answered); finished = sym saw.unfinished ∙ quiet.finished; idle = sym saw.status ∙ quiet.idle }
 
 pub idle_is_quiet : (sent : List AnyMessage) (came : List Message) (session : Session) → Saw sent came session → IsIdle sent came → asks sent < 18446744073709551615 → IsQuiet session [] []
 idle_is_quiet sent came session saw idle low =
     let asked = has_count session.asked (asks sent) saw.asked low in
     let readied = has_count session.readied (readies came) saw.readied (omega (arith, idle.answered, low)) in
-    record { counted = omega (arith, asked, low); answered = omega (arith, asked, readied, idle.answered); idle = saw.status ∙ idle.idle; client_done = refl; server_done = refl }
+    record { counted = omega (arith, asked, low); answered = omega (arith, asked, readied, idle.answered); idle = saw.status ∙ idle.idle; finished = saw.unfinished ∙ idle.finished; client_done = refl; server_done = refl }

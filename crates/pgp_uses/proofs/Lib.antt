@@ -10,5 +10,8 @@ pub mod Mechanisms
 pub mod Passed
 pub mod Places
 pub mod Proxied
+pub mod Replies
+pub mod Served
+pub mod StartupNames
 pub mod Written
 mod Room

@@ -11,5 +11,6 @@ pub mod Recorder
 pub mod Rows
 pub mod ScramLogin
 pub mod Server
+pub mod Serving
 pub mod Streams
 pub mod Values

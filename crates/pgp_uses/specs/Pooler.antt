@@ -1,6 +1,6 @@
 -- When a session is idle, told by what both sides sent.
 use Rattle.std.specs.Prelude.{◌≡◌, ◌⊎◌, ℕ, ◌+◌, ◌<◌, ◌≤◌, Bool, true, false, List, [], ◌∷◌, Option, Some, None, if◌then◌else◌}
-use Rattle.pgp_frontend.specs.ClientMessage.{Query, Sync, Startup}
+use Rattle.pgp_frontend.specs.ClientMessage.{Bind, Close, Describe, Execute, Parse, Query, Sync, Startup}
 use Rattle.pgp_message.specs.BackendMessage.{Message, ReadyForQuery}
 use Rattle.pgp_server.specs.OtherMessage.{AnyMessage, Ours, Other, FunctionCall, StartupOther}
 use Rattle.pgp_uses.specs.declared.pooler.Session.{Session}
@@ -13,6 +13,24 @@ awaits (Ours Sync) = true
 awaits (Other (StartupOther minor parameters)) = true
 awaits (Other (FunctionCall function formats arguments result_format)) = true
 awaits x = false
+
+-- A part of an extended query. What awaits a ReadyForQuery ends it.
+abbrev pub extends : AnyMessage → Bool
+extends (Ours (Parse name query types)) = true
+extends (Ours (Bind portal statement formats values result_formats)) = true
+extends (Ours (Describe variant name)) = true
+extends (Ours (Execute portal max_rows)) = true
+extends (Ours (Close variant name)) = true
+extends x = false
+
+-- whether a part of an extended query waits for its end, behind a message
+abbrev pub waits : Bool → AnyMessage → Bool
+waits before x = if awaits x then false else (if extends x then true else before)
+
+-- the same behind all that the client sent
+abbrev pub waits_behind : Bool → List AnyMessage → Bool
+waits_behind before [] = before
+waits_behind before (x ∷ sent) = waits_behind (waits before x) sent
 
 -- how many of the client's messages await that
 abbrev pub asks : List AnyMessage → ℕ
@@ -42,9 +60,10 @@ abbrev pub last_status : Option ℕ → List Message → Option ℕ
 last_status before [] = before
 last_status before (m ∷ came) = last_status (newer before (status m)) came
 
--- All that the client sent is answered, and the server is in no transaction.
+-- All that the client sent is answered, no part of an extended query waits for its end, and the server is in no transaction.
 pub record IsIdle (sent : List AnyMessage) (came : List Message) : Type 0 where
   pub answered : asks sent ≡ readies came
+  pub finished : waits_behind false sent ≡ false
   pub idle : last_status None came ≡ Some 73
 
 -- a count, as far as a `u64` has it
@@ -56,11 +75,13 @@ pub record Saw (sent : List AnyMessage) (came : List Message) (session : Session
   pub asked : IsCount session.asked (asks sent)
   pub readied : IsCount session.readied (readies came)
   pub status : session.status ≡ last_status None came
+  pub unfinished : session.unfinished ≡ waits_behind false sent
 
--- A session is told to be idle: so these counts say it, and no byte of a cut message waits on either side.
+-- A session is told to be idle: so these counts say it, and nothing waits on either side, be it a part of an extended query or a byte of a cut message.
 pub record IsQuiet (session : Session) (client server : List ℕ) : Type 0 where
   pub counted : session.asked < 18446744073709551615
   pub answered : session.asked ≡ session.readied
   pub idle : session.status ≡ Some 73
+  pub finished : session.unfinished ≡ false
   pub client_done : client ≡ []
   pub server_done : server ≡ []

@@ -13,6 +13,7 @@ pub mod recorder;
 pub mod rows;
 pub mod scram_login;
 pub mod server;
+pub mod serving;
 pub mod session;
 pub mod streams;
 pub mod values;

@@ -8,14 +8,16 @@ ghost use Rattle.pgp_message.specs.BackendMessage.{Message as Came};
 ghost use Rattle.pgp_message.specs.Views.{view as came_view};
 ghost use Rattle.pgp_server.specs.AnyViews.{any_view as sent_view, other_view};
 ghost use Rattle.pgp_server.specs.Views.{view};
-ghost use Rattle.pgp_uses.specs.Pooler.{IsIdle, IsQuiet, Saw, asks, awaits, readies, status};
+ghost use Rattle.pgp_uses.specs.Pooler.{IsIdle, IsQuiet, Saw, asks, awaits, extends, readies, status, waits};
 ghost use Rattle.pgp_uses.specs.declared.pooler.Session.{Session as Known};
 
 use pgp_message::Storage;
 use postgres_protocol::message::backend::Message;
 use postgres_protocol::message::client::{AnyMessage, ClientMessage, OtherMessage};
 
-/// What is known of a session. A startup packet, a Query, a FunctionCall and a Sync are each answered by one ReadyForQuery in the end.
+/// What is known of a session. A startup packet, a Query, a FunctionCall and a Sync are each answered by one ReadyForQuery in the end; but a
+/// server passes over a Sync while rows are copied to it, and behind an error of an extended query all that comes before the next Sync. Behind
+/// such a message no session is told to be idle any more.
 #[derive(Debug, Clone, Copy, PartialEq, Eq)]
 pub struct Session {
     /// How many of those came from the client, or the greatest `u64` where there were more.
@@ -24,6 +26,8 @@ pub struct Session {
     pub readied: u64,
     /// The status that the last of them told: `I` where no transaction is open.
     pub status: Option<u8>,
+    /// Whether a part of an extended query came from the client, and nothing behind it that ends one.
+    pub unfinished: bool,
 }
 
 impl Session {
@@ -35,6 +39,7 @@ impl Session {
             asked: 0,
             readied: 0,
             status: None,
+            unfinished: false,
         }
     }
 
@@ -42,6 +47,7 @@ impl Session {
     pub fn sent(&mut self, message: &AnyMessage<'_>)
         ensures { (sent : List Sent) (came : List Came) → Saw sent came self.old → Saw (sent ++ sent_view message.now ∷ []) came self.new }
     {
+        self.unfinished = waits(self.unfinished, message);
         if awaits(message) {
             self.asked = self.asked.saturating_add(1);
         }
@@ -58,7 +64,8 @@ impl Session {
     }
 
     /// Whether the session is idle behind the bytes that came: nothing of a message that isn't whole waits on the client's side nor on
-    /// the server's, every message that awaits a ReadyForQuery has it, and the last of these told `I`.
+    /// the server's, every message that awaits a ReadyForQuery has it, the last of these told `I`, and no part of an extended query came
+    /// behind the last message that ends one.
     pub fn is_idle(&self, client: &[u8], server: &[u8]) -> bool
         ensures { Decides result (IsQuiet self.now client.now server.now) }
     {
@@ -67,11 +74,12 @@ impl Session {
             && self.asked < u64::MAX
             && self.asked == self.readied
             && self.status == Some(b'I')
+            && !self.unfinished
     }
 }
 
-/// What is told of a session that saw these messages is so: all that the client sent is answered, and no transaction is open. Where
-/// the counts fit a `u64`, it is told exactly then.
+/// What is told of a session that saw these messages is so: all that the client sent is answered, no part of an extended query is left
+/// without its end, and no transaction is open. Where the counts fit a `u64`, it is told exactly then.
 pub fn idle_by_messages()
     ensures told { (sent : List Sent) (came : List Came) (session : Known) (client server : List ℕ) → Saw sent came session → IsQuiet session client server → IsIdle sent came }
     ensures known { (sent : List Sent) (came : List Came) (session : Known) → Saw sent came session → IsIdle sent came → asks sent < 18446744073709551615 → IsQuiet session [] [] }
@@ -101,6 +109,40 @@ fn other_awaits(message: &OtherMessage<'_>) -> bool
 {
     match message {
         OtherMessage::StartupOther { .. } | OtherMessage::FunctionCall { .. } => true,
+        _ => false,
+    }
+}
+
+/// Whether a part of an extended query waits for its end, behind a message.
+fn waits(before: bool, message: &AnyMessage<'_>) -> bool
+    ensures { result ≡ waits before (sent_view message.now) }
+{
+    if awaits(message) {
+        return false;
+    }
+    if extends(message) {
+        return true;
+    }
+    before
+}
+
+/// Whether it is a part of an extended query.
+fn extends(message: &AnyMessage<'_>) -> bool
+    ensures { result ≡ extends (sent_view message.now) }
+{
+    match message {
+        AnyMessage::Ours(message) => ours_extends(message),
+        AnyMessage::Other(_) => false,
+    }
+}
+
+fn ours_extends(message: &ClientMessage<'_>) -> bool
+    ensures { result ≡ extends (Ours (view message.now)) }
+{
+    match message {
+        ClientMessage::Parse { .. } | ClientMessage::Bind { .. } => true,
+        ClientMessage::Describe { .. } | ClientMessage::Execute { .. } => true,
+        ClientMessage::Close { .. } => true,
         _ => false,
     }
 }

@@ -1,0 +1,297 @@
+//! A server's core, on the example of RFC 7677 and messages of the PostgreSQL manual's formats. MD5 texts are python3's.
+#![tactic(auto, using(pgp_base::proofs::Parts::held_steps))]
+
+ghost use Rattle.std.specs.Prelude.{◌≡◌};
+
+use crate::checks::{holds, same};
+use bytes::BytesMut;
+use pgp_uses::serving::{
+    Denial, Method, Serving, ServingEvent, ServingPhase, StartupNames, startup_names,
+};
+use postgres_protocol::Error;
+use postgres_protocol::authentication::sasl::{
+    ChannelOffer, ScramServer, StoredVerifier, is_nonce,
+};
+use postgres_protocol::message::client::{AnyMessage, ClientMessage, ClientMessages, PasswordKind};
+use std::test::Fail;
+
+const STORED: &[u8] =
+    b"SCRAM-SHA-256$4096:W22ZaJ0SNY7soEsUEjb6gQ==$WG5d8oPm3OtcPnkdi4Uo7BkeZkBFzpcXkuLmtbsT4qY=:wfPLwcE6nTWhTAmQ7tl2KeoiWGPlZqQxSrmfPwDl2dU=";
+
+const FIRST: &[u8] = b"n,,n=user,r=rOprNGfwEbeRWgbNEkqO";
+
+const FINAL: &[u8] =
+    b"c=biws,r=rOprNGfwEbeRWgbNEkqO%hvYDpWUa2RaTCAfuxFIlj)hNlF$k0,p=dHzbZapWIk4jUhN+Ute9ytag9zjfMHgsqmmiz7AndVQ=";
+
+const ANSWERS: &[u8] =
+    b"R\0\0\0\x17\0\0\0\x0aSCRAM-SHA-256\0\0R\0\0\0\x5e\0\0\0\x0br=rOprNGfwEbeRWgbNEkqO%hvYDpWUa2RaTCAfuxFIlj)hNlF$k0,s=W22ZaJ0SNY7soEsUEjb6gQ==,i=4096R\0\0\0\x36\0\0\0\x0cv=6rriTRBi23WpRR/wtup+mMhUZUn/dB5nLTJRsjl95G4=R\0\0\0\x08\0\0\0\0";
+
+const DENIED: &[u8] = b"E\0\0\0\x3aSFATAL\0VFATAL\0C28P01\0Mpassword authentication failed\0\0";
+
+const MISPLACED: &[u8] = b"E\0\0\0\x2eSFATAL\0VFATAL\0C08P01\0Mprotocol violation\0\0";
+
+const NOT_ALLOWED: &[u8] =
+    b"E\0\0\0\x3fSFATAL\0VFATAL\0C28000\0Minvalid authorization specification\0\0";
+
+/// A session whose startup packet came.
+fn named() -> Serving
+    ensures { result.phase ≡ ServingPhase.Named }
+{
+    Serving {
+        phase: ServingPhase::Named,
+        method: Method::Nothing,
+    }
+}
+
+/// What the session makes of the message.
+fn heard(
+    serving: &mut Serving,
+    message: ClientMessage<'_>,
+    out: &mut BytesMut,
+) -> Option<ServingEvent> {
+    let message = AnyMessage::Ours(message);
+    let heard = serving.step(&message, out);
+    drop(message);
+    heard.ok()
+}
+
+/// What it makes of the next message of a client's bytes.
+fn read(
+    serving: &mut Serving,
+    from: &mut ClientMessages<'_>,
+    out: &mut BytesMut,
+) -> Option<ServingEvent> {
+    match from.next_any(serving.kind()) {
+        Ok(Some(message)) => {
+            let heard = serving.step(&message, out);
+            drop(message);
+            heard.ok()
+        }
+        _ => None,
+    }
+}
+
+/// An exchange with the server's nonce of the RFC.
+fn exchange(rt: &HostRuntime) -> Result<ScramServer, Fail> {
+    let nonce = String::from_str(rt.alloc(), "%hvYDpWUa2RaTCAfuxFIlj)hNlF$k0")?;
+    if !is_nonce(&nonce) {
+        return Err(Error::NotUtf8.into());
+    }
+    let verifier = StoredVerifier::parse(rt.alloc(), STORED)?;
+    Ok(ScramServer::with_nonce(verifier, ChannelOffer::NotOffered, nonce))
+}
+
+/// The two questions for encryption, and a startup packet.
+const OPENING: &[u8] =
+    b"\0\0\0\x08\x04\xd2\x16\x2f\0\0\0\x08\x04\xd2\x16\x30\0\0\0\x13\0\x03\0\0user\0user\0\0";
+
+#[test]
+fn a_client_opens(rt: HostRuntime) -> Result<(), Fail> {
+    let mut serving = Serving::new();
+    let mut from = ClientMessages::new(OPENING);
+    let mut out = BytesMut::new(rt.alloc());
+    same(
+        &rt,
+        read(&mut serving, &mut from, &mut out),
+        Some(ServingEvent::Unencrypted),
+    );
+    same(
+        &rt,
+        read(&mut serving, &mut from, &mut out),
+        Some(ServingEvent::Unencrypted),
+    );
+    same(
+        &rt,
+        read(&mut serving, &mut from, &mut out),
+        Some(ServingEvent::Named),
+    );
+    same(&rt, out.as_slice(), b"NN".as_slice());
+    let mut refused = BytesMut::new(rt.alloc());
+    serving.deny(Denial::NotAllowed, &mut refused)?;
+    same(&rt, refused.as_slice(), NOT_ALLOWED);
+    Ok(())
+}
+
+/// A startup packet that names the user twice, and a database.
+const NAMES: &[u8] = b"\0\0\0\x22\0\x03\0\0user\0a\0database\0b\0user\0c\0\0";
+
+#[test]
+fn the_last_of_two_names_counts(rt: HostRuntime) -> Result<(), Fail> {
+    let mut from = ClientMessages::new(NAMES);
+    let names = match from.next(PasswordKind::Password) {
+        Ok(Some(ClientMessage::Startup { parameters, .. })) => Some(startup_names(parameters)),
+        _ => None,
+    };
+    let (user, database): (&[u8], &[u8]) = (b"c", b"b");
+    let wanted = StartupNames {
+        user: Some(user),
+        database: Some(database),
+    };
+    same(&rt, names, Some(wanted));
+    Ok(())
+}
+
+#[test]
+fn a_proof_logs_a_client_in(rt: HostRuntime) -> Result<(), Fail> {
+    let mut serving = named();
+    let mut out = BytesMut::new(rt.alloc());
+    serving.ask_scram(exchange(&rt)?, &mut out)?;
+    let first = ClientMessage::SaslInitialResponse {
+        mechanism: b"SCRAM-SHA-256",
+        response: FIRST,
+    };
+    same(
+        &rt,
+        heard(&mut serving, first, &mut out),
+        Some(ServingEvent::Challenged),
+    );
+    let last = ClientMessage::SaslResponse(FINAL);
+    same(
+        &rt,
+        heard(&mut serving, last, &mut out),
+        Some(ServingEvent::LoggedIn),
+    );
+    same(&rt, out.as_slice(), ANSWERS);
+    holds(&rt, serving.phase == ServingPhase::Open);
+    Ok(())
+}
+
+/// The proof of the RFC, with another letter at its front.
+const FALSE: &[u8] =
+    b"c=biws,r=rOprNGfwEbeRWgbNEkqO%hvYDpWUa2RaTCAfuxFIlj)hNlF$k0,p=eHzbZapWIk4jUhN+Ute9ytag9zjfMHgsqmmiz7AndVQ=";
+
+#[test]
+fn another_proof_does_not(rt: HostRuntime) -> Result<(), Fail> {
+    let mut serving = named();
+    let mut asked = BytesMut::new(rt.alloc());
+    serving.ask_scram(exchange(&rt)?, &mut asked)?;
+    let first = ClientMessage::SaslInitialResponse {
+        mechanism: b"SCRAM-SHA-256",
+        response: FIRST,
+    };
+    same(
+        &rt,
+        heard(&mut serving, first, &mut asked),
+        Some(ServingEvent::Challenged),
+    );
+    let mut out = BytesMut::new(rt.alloc());
+    let last = ClientMessage::SaslResponse(FALSE);
+    same(
+        &rt,
+        heard(&mut serving, last, &mut out),
+        Some(ServingEvent::Refused),
+    );
+    same(&rt, out.as_slice(), DENIED);
+    Ok(())
+}
+
+/// What a session that asks for the password in clear text makes of this one.
+fn told(
+    rt: &HostRuntime,
+    stored: StoredVerifier,
+    text: &[u8],
+    out: &mut BytesMut,
+) -> Result<Option<ServingEvent>, Fail> {
+    let mut serving = named();
+    serving.ask_password(stored, &mut BytesMut::new(rt.alloc()))?;
+    Ok(heard(&mut serving, ClientMessage::PasswordMessage(text), out))
+}
+
+#[test]
+fn a_password_logs_a_client_in(rt: HostRuntime) -> Result<(), Fail> {
+    let mut out = BytesMut::new(rt.alloc());
+    let stored = StoredVerifier::parse(rt.alloc(), STORED)?;
+    same(
+        &rt,
+        told(&rt, stored, b"pencil", &mut out)?,
+        Some(ServingEvent::LoggedIn),
+    );
+    same(&rt, out.as_slice(), b"R\0\0\0\x08\0\0\0\0".as_slice());
+    Ok(())
+}
+
+#[test]
+fn an_unknown_user_is_denied(rt: HostRuntime) -> Result<(), Fail> {
+    let mut out = BytesMut::new(rt.alloc());
+    let stored = StoredVerifier::mock(rt.alloc(), b"secret", b"nobody")?;
+    same(
+        &rt,
+        told(&rt, stored, b"pencil", &mut out)?,
+        Some(ServingEvent::Refused),
+    );
+    same(&rt, out.as_slice(), DENIED);
+    Ok(())
+}
+
+/// What a session that asks for MD5 makes of this answer.
+fn digested(
+    rt: &HostRuntime,
+    text: &[u8],
+    out: &mut BytesMut,
+) -> Result<Option<ServingEvent>, Fail> {
+    let mut serving = named();
+    let stored = Vec::from_slice(rt.alloc(), b"md520c46e3762c864548e296b33c3406aa9")?;
+    serving.ask_md5([1, 2, 3, 4], stored, out)?;
+    Ok(heard(&mut serving, ClientMessage::PasswordMessage(text), out))
+}
+
+#[test]
+fn a_digest_logs_a_client_in(rt: HostRuntime) -> Result<(), Fail> {
+    let mut out = BytesMut::new(rt.alloc());
+    let answer = b"md54376eb6913b38f9aaff38dc7cf19ca76";
+    same(
+        &rt,
+        digested(&rt, answer, &mut out)?,
+        Some(ServingEvent::LoggedIn),
+    );
+    same(
+        &rt,
+        out.as_slice(),
+        b"R\0\0\0\x0c\0\0\0\x05\x01\x02\x03\x04R\0\0\0\x08\0\0\0\0".as_slice(),
+    );
+    same(
+        &rt,
+        digested(&rt, b"pencil", &mut out)?,
+        Some(ServingEvent::Refused),
+    );
+    Ok(())
+}
+
+#[test]
+fn a_message_out_of_place_ends_a_session(rt: HostRuntime) -> Result<(), Fail> {
+    let mut serving = named();
+    let mut out = BytesMut::new(rt.alloc());
+    let query = ClientMessage::Query(b"SELECT 1");
+    same(
+        &rt,
+        heard(&mut serving, query, &mut out),
+        Some(ServingEvent::Refused),
+    );
+    same(&rt, out.as_slice(), MISPLACED);
+    same(
+        &rt,
+        heard(&mut serving, ClientMessage::Sync, &mut out),
+        Some(ServingEvent::Ignored),
+    );
+    Ok(())
+}
+
+#[test]
+fn requests_are_handed_on(rt: HostRuntime) -> Result<(), Fail> {
+    let mut serving = named();
+    let mut out = BytesMut::new(rt.alloc());
+    serving.trust(&mut out)?;
+    let query = ClientMessage::Query(b"SELECT 1");
+    same(
+        &rt,
+        heard(&mut serving, query, &mut out),
+        Some(ServingEvent::Requested),
+    );
+    same(
+        &rt,
+        heard(&mut serving, ClientMessage::Terminate, &mut out),
+        Some(ServingEvent::Ended),
+    );
+    same(&rt, out.as_slice(), b"R\0\0\0\x08\0\0\0\0".as_slice());
+    Ok(())
+}

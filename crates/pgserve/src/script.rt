@@ -1,0 +1,296 @@
+//! A script: statements, and what the server answers to each. README.md says how it is written.
+
+use crate::fault::Fault;
+use crate::text::{trimmed, unescaped};
+use crate::types::{Type, type_of};
+use pgp_base::Oid;
+use std::alloc::{AllocError, Global};
+
+/// A column of the rows.
+#[derive(Drop)]
+pub(crate) struct Column {
+    pub(crate) name: Vec<u8>,
+    pub(crate) kind: Type,
+}
+
+/// An error or a notice: its SQLSTATE and its message.
+#[derive(Drop)]
+pub(crate) struct Report {
+    pub(crate) code: Vec<u8>,
+    pub(crate) message: Vec<u8>,
+}
+
+/// How an answer ends.
+#[derive(Drop)]
+pub(crate) enum End {
+    /// A line of the script has to say it yet.
+    Open,
+    Tag(Vec<u8>),
+    Error(Report),
+}
+
+/// A statement, and what is answered.
+#[derive(Drop)]
+pub(crate) struct Statement {
+    /// The line where it begins.
+    pub(crate) line: usize,
+    pub(crate) text: Vec<u8>,
+    /// The types of its parameters.
+    pub(crate) parameters: Vec<Oid>,
+    pub(crate) columns: Vec<Column>,
+    /// The values of each row, as texts.
+    pub(crate) rows: Vec<Vec<Option<Vec<u8>>>>,
+    pub(crate) notices: Vec<Report>,
+    pub(crate) end: End,
+    /// The status that the server tells from then on; 0 where it stays.
+    pub(crate) status: u8,
+}
+
+/// All statements.
+#[derive(Drop)]
+pub(crate) struct Script {
+    pub(crate) statements: Vec<Statement>,
+}
+
+impl Statement {
+    fn new(alloc: Global, line: usize, text: Vec<u8>) -> Statement {
+        Statement {
+            line,
+            text,
+            parameters: Vec::new(alloc),
+            columns: Vec::new(alloc),
+            rows: Vec::new(alloc),
+            notices: Vec::new(alloc),
+            end: End::Open,
+            status: 0,
+        }
+    }
+}
+
+impl Script {
+    /// The place of the statement of this text.
+    pub(crate) fn find(&self, text: &[u8]) -> Option<usize> {
+        let text = trimmed(text);
+        self.statements
+            .iter()
+            .position(|statement| statement.text.as_slice() == text)
+    }
+}
+
+/// The types of these names.
+fn types_of(alloc: Global, words: &str) -> Result<Option<Vec<Oid>>, AllocError> {
+    let mut types = Vec::new(alloc);
+    for word in words.split_ascii_whitespace() {
+        let Some(kind) = type_of(word) else {
+            return Ok(None);
+        };
+        types.push(kind.oid)?;
+    }
+    Ok(Some(types))
+}
+
+/// The column of this line: its name, and behind the last space its type.
+fn column_of(alloc: Global, line: &str) -> Result<Option<Column>, AllocError> {
+    let Some((name, kind)) = line.rsplit_once(' ') else {
+        return Ok(None);
+    };
+    let Some(kind) = type_of(kind) else {
+        return Ok(None);
+    };
+    match unescaped(alloc, name)? {
+        Some(name) => Ok(Some(Column { name, kind })),
+        None => Ok(None),
+    }
+}
+
+/// The value of this text; `\N` is a null.
+fn value_of(alloc: Global, text: &str) -> Result<Option<Option<Vec<u8>>>, AllocError> {
+    if text == "\\N" {
+        return Ok(Some(None));
+    }
+    match unescaped(alloc, text)? {
+        Some(value) => Ok(Some(Some(value))),
+        None => Ok(None),
+    }
+}
+
+/// The values of this line, between which tabs stand.
+fn row_of(alloc: Global, line: &str) -> Result<Option<Vec<Option<Vec<u8>>>>, AllocError> {
+    let mut values = Vec::new(alloc);
+    for text in line.split('\t') {
+        let Some(value) = value_of(alloc, text)? else {
+            return Ok(None);
+        };
+        values.push(value)?;
+    }
+    Ok(Some(values))
+}
+
+/// The report of this line: five letters or digits, a space, and the message.
+fn report_of(alloc: Global, line: &str) -> Result<Option<Report>, AllocError> {
+    let Some((code, message)) = line.split_once(' ') else {
+        return Ok(None);
+    };
+    if code.len() != 5 || !code.bytes().all(|byte| byte.is_ascii_alphanumeric()) {
+        return Ok(None);
+    }
+    match unescaped(alloc, message)? {
+        Some(message) => Ok(Some(Report {
+            code: Vec::from_slice(alloc, code.as_bytes())?,
+            message,
+        })),
+        None => Ok(None),
+    }
+}
+
+/// The letter of a status.
+fn status_of(word: &str) -> Option<u8> {
+    match word {
+        "idle" => Some(b'I'),
+        "transaction" => Some(b'T'),
+        "failed" => Some(b'E'),
+        _ => None,
+    }
+}
+
+impl Statement {
+    /// Adds a row, which has a value for each column.
+    fn add_row(&mut self, alloc: Global, line: &str) -> Result<bool, AllocError> {
+        match row_of(alloc, line)? {
+            Some(row) if row.len() == self.columns.len() => {
+                self.rows.push(row)?;
+                Ok(true)
+            }
+            _ => Ok(false),
+        }
+    }
+
+    /// Adds a column; rows stand behind all of them.
+    fn add_column(&mut self, alloc: Global, line: &str) -> Result<bool, AllocError> {
+        match column_of(alloc, line)? {
+            Some(column) if self.rows.is_empty() => {
+                self.columns.push(column)?;
+                Ok(true)
+            }
+            _ => Ok(false),
+        }
+    }
+
+    fn add_notice(&mut self, alloc: Global, line: &str) -> Result<bool, AllocError> {
+        match report_of(alloc, line)? {
+            Some(report) => {
+                self.notices.push(report)?;
+                Ok(true)
+            }
+            None => Ok(false),
+        }
+    }
+
+    fn set_parameters(&mut self, alloc: Global, line: &str) -> Result<bool, AllocError> {
+        match types_of(alloc, line)? {
+            Some(types) => {
+                self.parameters = types;
+                Ok(true)
+            }
+            None => Ok(false),
+        }
+    }
+
+    /// How the answer ends.
+    fn set_end(&mut self, end: Option<End>) -> bool {
+        match end {
+            Some(end) => {
+                self.end = end;
+                true
+            }
+            None => false,
+        }
+    }
+
+    fn set_status(&mut self, word: &str) -> bool {
+        match status_of(word) {
+            Some(status) => {
+                self.status = status;
+                true
+            }
+            None => false,
+        }
+    }
+
+    /// Adds what a line says, and answers whether it is one.
+    fn add(&mut self, alloc: Global, word: &str, rest: &str) -> Result<bool, AllocError> {
+        match word {
+            "parameters" => self.set_parameters(alloc, rest),
+            "column" => self.add_column(alloc, rest),
+            "row" => self.add_row(alloc, rest),
+            "notice" => self.add_notice(alloc, rest),
+            "tag" => Ok(self.set_end(unescaped(alloc, rest)?.map(End::Tag))),
+            "error" => Ok(self.set_end(report_of(alloc, rest)?.map(End::Error))),
+            "status" => Ok(self.set_status(rest)),
+            _ => Ok(false),
+        }
+    }
+}
+
+/// Begins a statement, and answers whether the line is one.
+fn begin(
+    alloc: Global,
+    script: &mut Script,
+    number: usize,
+    rest: &str,
+) -> Result<bool, AllocError> {
+    match unescaped(alloc, rest)? {
+        Some(text) => {
+            let text = Vec::from_slice(alloc, trimmed(&text))?;
+            script.statements.push(Statement::new(alloc, number, text))?;
+            Ok(true)
+        }
+        None => Ok(false),
+    }
+}
+
+/// Reads a line, and answers whether it is one.
+fn read_line(
+    alloc: Global,
+    script: &mut Script,
+    number: usize,
+    line: &str,
+) -> Result<bool, AllocError> {
+    if line.is_empty() || line.starts_with('#') {
+        return Ok(true);
+    }
+    let (word, rest) = line.split_once(' ').unwrap_or((line, ""));
+    if word == "statement" {
+        return begin(alloc, script, number, rest);
+    }
+    match script.statements.last_mut() {
+        Some(statement) => statement.add(alloc, word, rest),
+        None => Ok(false),
+    }
+}
+
+/// The script of this text.
+///
+/// # Errors
+///
+/// `Script`, with the number of the line that has another form, or where a statement begins that has neither a tag nor an error.
+pub(crate) fn script_of(alloc: Global, text: &str) -> Result<Script, Fault> {
+    let mut script = Script {
+        statements: Vec::new(alloc),
+    };
+    let mut number = 0usize;
+    for line in text.lines() {
+        number = number.saturating_add(1);
+        if !read_line(alloc, &mut script, number, line)? {
+            return Err(Fault::Script(number));
+        }
+    }
+    match script
+        .statements
+        .iter()
+        .find(|statement| matches!(statement.end, End::Open))
+    {
+        Some(statement) => Err(Fault::Script(statement.line)),
+        None => Ok(script),
+    }
+}
