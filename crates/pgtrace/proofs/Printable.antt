@@ -198,6 +198,8 @@ begun place opened frame = parts 0 (decimal place) (Number (pos (length frame)) 
 
 pub line_printable : (style : Style) (place : ℕ) (from to : Side) (frame line : List ℕ) → LineOf style place from frame line to → (text : List ℕ) × (line ≡ text ++ 10 ∷ []) × Printable text
 line_printable style place Server to frame line is = server_line style place is.0.first line is.0.told
-line_printable style place (Client opened kinds) to frame line is =
-    (client_line style (is_told kinds) is.told.result (client_front place opened frame), is.told.told,
-    client style (is_told kinds) is.told.result (client_front place opened frame) (begun place opened frame))
+line_printable style place (Client opened kinds) to frame line is = (
+  client_line style (is_told kinds) is.told.result (client_front place opened frame),
+  is.told.told,
+  client style (is_told kinds) is.told.result (client_front place opened frame) (begun place opened frame),
+)

@@ -210,7 +210,11 @@ fn put_news<A: Memory>(
 }
 
 /// Adds data of a copy.
-pub fn put_copied<A: Memory>(limit: usize, bytes: &[u8], line: &mut String<A>) -> Result<(), AllocError>
+pub fn put_copied<A: Memory>(
+    limit: usize,
+    bytes: &[u8],
+    line: &mut String<A>,
+) -> Result<(), AllocError>
     ensures parts { OnOk result (string_bytes line.new ≡ followed limit (string_bytes line.old) (Word (codes "data") ∷ Value (Some bytes.now) ∷ [])) }
     ensures lacks { OnErr result A.Lacks }
 {

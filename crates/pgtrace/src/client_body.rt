@@ -58,7 +58,10 @@ fn put_ours<A: Memory>(
             put_values(limit, "values", values, line)?;
             put_formats(limit, "results", result_formats, line)
         }
-        ClientMessage::CancelRequest { process_id, secret_key } => {
+        ClientMessage::CancelRequest {
+            process_id,
+            secret_key,
+        } => {
             put_integer(limit, "process", process_id, line)?;
             put_secret(style, "key", secret_key, line)
         }
@@ -80,14 +83,18 @@ fn put_ours<A: Memory>(
         }
         ClientMessage::PasswordMessage(password) => put_secret(style, "password", password, line),
         ClientMessage::Query(query) => put_one(limit, "query", query, line),
-        ClientMessage::SaslInitialResponse { mechanism, response } => {
+        ClientMessage::SaslInitialResponse {
+            mechanism,
+            response,
+        } => {
             put_one(limit, "mechanism", mechanism, line)?;
             put_secret(style, "data", response, line)
         }
         ClientMessage::SaslResponse(response) => put_response(style, told, response, line),
-        ClientMessage::Startup { version, parameters } => {
-            put_startup(limit, number_of(version), parameters, line)
-        }
+        ClientMessage::Startup {
+            version,
+            parameters,
+        } => { put_startup(limit, number_of(version), parameters, line) }
         ClientMessage::CopyDone
         | ClientMessage::Flush
         | ClientMessage::SslRequest

@@ -33,7 +33,14 @@ pub fn next_line<'a, 'b, A: Memory>(
         }
         Side::Client { opened, kinds } => {
             let (next, now, left, rest) = client_line(style, place, opened, kinds, bytes, line)?;
-            Ok((next, Side::Client { opened: now, kinds: left }, rest))
+            Ok((
+                next,
+                Side::Client {
+                    opened: now,
+                    kinds: left,
+                },
+                rest,
+            ))
         }
     }
 }

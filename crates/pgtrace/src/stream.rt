@@ -171,7 +171,13 @@ fn list_frames<'a, A: Memory>(
     let mut rest = bytes;
     'frames: loop {
         let passed = bytes.len() - rest.len();
-        let (next, to, behind) = next_line(style, place.saturating_add(passed as u64), here, rest, line)?;
+        let (next, to, behind) = next_line(
+            style,
+            place.saturating_add(passed as u64),
+            here,
+            rest,
+            line,
+        )?;
         match next {
             Next::Line => add_line(line.as_str(), lines)?,
             Next::Waits => return Ok((passed, false, here)),

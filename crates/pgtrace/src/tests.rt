@@ -39,7 +39,10 @@ fn a_stream_is_listed_however_it_is_cut(rt: HostRuntime) {
             interrupted: false,
         };
         let mut output = Vec::new(rt.alloc());
-        assert_eq!(rt; list(rt.alloc(), SHORT, Side::Server, &mut input, &mut output), Ok(()));
+        assert_eq!(rt;
+            list(rt.alloc(), SHORT, Side::Server, &mut input, &mut output),
+            Ok(())
+        );
         assert!(rt; output.as_slice() == ALL.as_bytes());
     }
 }
@@ -165,7 +168,10 @@ fn a_clients_stream_is_listed_however_it_is_cut(rt: HostRuntime) {
             kinds: &[PasswordKind::Password],
         };
         let mut output = Vec::new(rt.alloc());
-        assert_eq!(rt; list(rt.alloc(), SHORT, side, &mut input, &mut output), Ok(()));
+        assert_eq!(rt;
+            list(rt.alloc(), SHORT, side, &mut input, &mut output),
+            Ok(())
+        );
         assert!(rt; output.as_slice() == CLIENT_ALL.as_bytes());
     }
 }
