@@ -15,3 +15,5 @@ pub mod Hiding
 pub mod ClientHiding
 pub mod Streams
 pub mod WordLemmas
+pub mod OptionLemmas
+pub mod CommandLemmas

@@ -5,6 +5,7 @@ pub mod Names
 pub mod Shown
 pub mod Secrets
 pub mod Words
+pub mod Options
 pub mod Interruptions
 pub mod Command
 pub mod Sides

@@ -13,6 +13,7 @@ pub mod line;
 pub mod lists;
 pub mod names;
 pub mod next;
+pub mod options;
 pub mod ports;
 pub mod print;
 pub mod quote;
@@ -37,5 +38,7 @@ fn main(rt: HostRuntime) -> ExitCode {
 
 #[cfg(test)]
 mod failing;
+#[cfg(test)]
+mod session;
 #[cfg(test)]
 mod tests;

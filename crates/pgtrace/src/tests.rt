@@ -4,11 +4,14 @@
 use crate::failing::{FailingReader, FailingWriter, PieceReader};
 use crate::fault::Fault;
 use crate::run::run;
+use crate::session::{LATER, LATER_LINES, LINES, OPEN_LINES, OTHER, OTHER_LINES, SESSION};
 use crate::side::Side;
 use crate::stream::list;
 use crate::style::Style;
+use pgp_base::Memory;
 use pgp_server::PasswordKind;
 use pgp_test_alloc::Refusing;
+use std::process::Abort;
 use std::test::Fail;
 
 /// A setting, a state and a key, and the front of another state.
@@ -118,20 +121,21 @@ fn each_allocation_is_refused(rt: HostRuntime) {
 const OPEN: &str =
     "0 9 S ParameterStatus name \"n\" value \"\\x0a\"\n9 6 Z ReadyForQuery idle\n15 13 K BackendKeyData process 1 key \"abcd\"\nrest 2\n";
 
-const USAGE: &str = "usage: pgtrace server|client [--full] [--secrets] | --help | --version\n";
+const USAGE: &str =
+    "usage: pgtrace server [--full] [--secrets] | client [--full] [--secrets] [--password-kind password|initial|response].. | --help | --version\n";
 
 #[test]
 fn words_decide_what_runs(rt: HostRuntime) {
     let runs: [(&[&str], u8, &str, &str); 10] = [
         (&["server"], 0, ALL, ""),
-        (&["server", "--full"], 0, ALL, ""),
         (&["--help"], 0, USAGE, ""),
         (&["--version"], 0, "pgtrace 0.1.0\n", ""),
         (&[], 2, "", USAGE),
         (&["server", "--secrets"], 0, OPEN, ""),
-        (&["server", "--secrets", "--full"], 0, OPEN, ""),
         (&["server", "-full"], 2, "", USAGE),
-        (&["server", "--full", "--full"], 2, "", USAGE),
+        (&["server", "--full", "--secrets", "--full"], 0, OPEN, ""),
+        (&["server", "--password-kind", "password"], 2, "", USAGE),
+        (&["client", "--password-kind"], 2, "", USAGE),
         (&["Server"], 2, "", USAGE),
     ];
     for (words, status, written, told) in runs {
@@ -198,4 +202,58 @@ fn each_allocation_of_a_clients_listing_is_refused(rt: HostRuntime) {
         refusals = number;
     }
     assert!(rt; refusals > 2, "{refusals}");
+}
+
+/// The kinds of the session's first four messages of tag `p`.
+const KINDS: &[&str] = &[
+    "client",
+    "--password-kind",
+    "password",
+    "--password-kind",
+    "initial",
+    "--password-kind",
+    "initial",
+    "--password-kind",
+    "response",
+];
+
+const OPEN_KINDS: &[&str] = &[
+    "client",
+    "--password-kind",
+    "password",
+    "--secrets",
+    "--password-kind",
+    "initial",
+    "--password-kind",
+    "initial",
+    "--full",
+    "--password-kind",
+    "response",
+];
+
+/// Runs the program on these words and bytes: it writes these lines, and nothing else.
+fn writes<A: Memory>(rt: &impl Abort, alloc: A, words: &[&str], bytes: &[u8], lines: &str) {
+    let mut input = bytes;
+    let mut output = Vec::new(alloc);
+    let mut errors = Vec::new(alloc);
+    let status = run(alloc, words, &mut input, &mut output, &mut errors);
+    assert_eq!(rt; status, 0);
+    assert!(rt; output.as_slice() == lines.as_bytes());
+    assert!(rt; errors.is_empty());
+}
+
+#[test]
+fn each_message_of_a_client_has_its_line(rt: HostRuntime) {
+    writes(&rt, rt.alloc(), KINDS, SESSION, LINES);
+}
+
+#[test]
+fn each_secret_of_a_client_is_shown_where_asked_for(rt: HostRuntime) {
+    writes(&rt, rt.alloc(), OPEN_KINDS, SESSION, OPEN_LINES);
+}
+
+#[test]
+fn each_version_of_a_client_has_its_line(rt: HostRuntime) {
+    writes(&rt, rt.alloc(), &["client"], LATER, LATER_LINES);
+    writes(&rt, rt.alloc(), &["client"], OTHER, OTHER_LINES);
 }
