@@ -10,7 +10,8 @@ use Rattle.pgtrace.specs.declared.style.Style.{Style}
 use Rattle.pgtrace.specs.Line.{Word, Number, Tag, followed}
 use Rattle.pgtrace.specs.Names.{name_of}
 use Rattle.pgtrace.specs.Shown.{Shows, fault}
-use Rattle.pgtrace.specs.Listing.{front}
+use Rattle.pgtrace.specs.Listing.{front, IsServerLine}
+use Rattle.pgtrace.specs.Sides.{Server}
 use Rattle.pgtrace.specs.Steps.{IsFrameOf, HasLine}
 use Rattle.pgtrace.proofs.Parts.{front_taken}
 
@@ -34,12 +35,12 @@ pub body_is : (bytes : List ℕ) (m : Message) → IsFrameOf bytes (Ok m) → dr
 body_is bytes m is = ap (drop 5) is.whole ∙ payload_behind is.first ∙ is.body.parts ∙ append-nil (payload_of m)
 
 pub message_told : (style : Style) (place : ℕ) (bytes : List ℕ) (m : Message) (is : IsFrameOf bytes (Ok m)) (begins named said line : List ℕ)
-    → begins ≡ begun place bytes → named ≡ followed 0 begins (Word (name_of m) ∷ []) → Shows style m named said → line ≡ said ++ 10 ∷ [] → HasLine style place bytes [] line
+    → begins ≡ begun place bytes → named ≡ followed 0 begins (Word (name_of m) ∷ []) → Shows style m named said → line ≡ said ++ 10 ∷ [] → IsServerLine style place bytes line
 message_told style place bytes m is begins named said line b n shows e =
     let head = b ∙ begun_is place is.first bytes is.whole in
     record {
       first = is.first;
-      whole = is.whole ∙ sym (append-nil (frame_bytes is.first));
+      whole = is.whole;
       fits = is.fits;
       told = record {
         result = Ok m;
@@ -51,15 +52,15 @@ message_told style place bytes m is begins named said line b n shows e =
     }
 
 pub message_ended : {E : Type 0} (r : Result (Unit {0}) E) (style : Style) (place : ℕ) (bytes : List ℕ) (m : Message) (is : IsFrameOf bytes (Ok m)) (begins named said line : List ℕ)
-    → begins ≡ begun place bytes → named ≡ followed 0 begins (Word (name_of m) ∷ []) → Shows style m named said → line ≡ (if is_ok r then said ++ 10 ∷ [] else said) → OnOk r (HasLine style place bytes [] line)
+    → begins ≡ begun place bytes → named ≡ followed 0 begins (Word (name_of m) ∷ []) → Shows style m named said → line ≡ (if is_ok r then said ++ 10 ∷ [] else said) → OnOk r (IsServerLine style place bytes line)
 message_ended (Ok x) style place bytes m is begins named said line b n shows e = message_told style place bytes m is begins named said line b n shows e
 message_ended (Err x) style place bytes m is begins named said line b n shows e = tt
 
 pub fault_told : (style : Style) (place : ℕ) (bytes : List ℕ) (r : Error) (is : IsFrameOf bytes (Err r)) (line : List ℕ)
-    → line ≡ followed 0 (begun place bytes) (fault r) ++ 10 ∷ [] → HasLine style place bytes [] line
+    → line ≡ followed 0 (begun place bytes) (fault r) ++ 10 ∷ [] → IsServerLine style place bytes line
 fault_told style place bytes r is line e = record {
   first = is.first;
-  whole = is.whole ∙ sym (append-nil (frame_bytes is.first));
+  whole = is.whole;
   fits = is.fits;
   told = record {
     result = Err r;
@@ -83,10 +84,9 @@ pub no_longer : (old new : List ℕ) (r : Result Message Error) → TakesFrame o
 no_longer old new r t = omega (arith, ap length t.whole, length-append (frame_bytes t.first) new)
 
 -- and what has its line there has it here
-pub line_here : (style : Style) (place : ℕ) (old new bytes line : List ℕ) (r : Result Message Error) → TakesFrame old r new → bytes ≡ take (length old - length new) old → HasLine style place bytes [] line → HasLine style place old new line
+pub line_here : (style : Style) (place : ℕ) (old new bytes line : List ℕ) (r : Result Message Error) → TakesFrame old r new → bytes ≡ take (length old - length new) old → IsServerLine style place bytes line → HasLine style place Server old new line Server
 line_here style place old new bytes line r t e has = record {
-  first = has.first;
-  whole = t.whole ∙ ap (λ l. l ++ new) (sym (front_taken (frame_bytes t.first) new old t.whole) ∙ sym e ∙ has.whole ∙ append-nil (frame_bytes has.first));
-  fits = has.fits;
-  told = has.told;
+  frame = bytes;
+  whole = t.whole ∙ ap (λ l. l ++ new) (sym (front_taken (frame_bytes t.first) new old t.whole) ∙ sym e);
+  told = (has, refl);
 }

@@ -15,7 +15,11 @@ use Rattle.pgtrace.specs.Names.{name_of, state_of}
 use Rattle.pgp_message.specs.Items.{TextSpelled, TextRefused, FormatSpelled, FormatRefused, TypeSpelled, TypeRefused, RangeSpelled, RangeRefused, FieldSpelled, FieldRefused, ErrorFieldSpelled, ErrorFieldRefused}
 use Rattle.std.specs.Str.{IsUtf8}
 use Rattle.pgtrace.specs.Shown.{Shows, ShowsCounted, ShowsMarked, ShowsTexts, bare, column_parts, fault, field_parts, list_of, name_or, number_part, secret, text_part, value_part}
-use Rattle.pgtrace.specs.Listing.{GoesOn, IsLineOf, front}
+use Rattle.pgp_server.specs.OtherMessage.{AnyMessage}
+use Rattle.pgp_server.specs.declared.error.ClientError.{ClientError}
+use Rattle.pgtrace.specs.Client.{client_groups, client_line, client_name, grouped, refusal_parts}
+use Rattle.pgtrace.specs.Listing.{GoesOn, IsLineOf, LineOf, front, client_front, client_tag}
+use Rattle.pgtrace.specs.Sides.{Side, Server, Client, is_told}
 
 abbrev pub Printable : List ℕ → Type 0
 Printable text = list_all is_printable text ≡ true
@@ -178,5 +182,24 @@ result : (style : Style) (r : Result Message Error) (old new : List ℕ) → Pri
 result style (Ok m) old new a g = says style m (followed 0 old (Word (name_of m) ∷ [])) new (parts 0 old (Word (name_of m) ∷ []) a) g
 result style (Err e) old new a g = goes 0 old new (fault e) a g
 
-pub line_printable : (style : Style) (place : ℕ) (f : Frame) (line : List ℕ) → IsLineOf style place f line → (text : List ℕ) × (line ≡ text ++ 10 ∷ []) × Printable text
-line_printable style place f line is = (is.text, is.ended, result style is.result (front place f) is.text (parts 0 (decimal place) (Number (pos (length (frame_bytes f))) ∷ Tag f.tag ∷ []) (number place)) is.told)
+server_line : (style : Style) (place : ℕ) (f : Frame) (line : List ℕ) → IsLineOf style place f line → (text : List ℕ) × (line ≡ text ++ 10 ∷ []) × Printable text
+server_line style place f line is = (is.text, is.ended, result style is.result (front place f) is.text (parts 0 (decimal place) (Number (pos (length (frame_bytes f))) ∷ Tag f.tag ∷ []) (number place)) is.told)
+
+groups : (limit : ℕ) (line : List ℕ) (gs : List (List Part)) → Printable line → Printable (grouped limit line gs)
+groups limit line [] a = a
+groups limit line (ps ∷ gs) a = groups limit (followed limit line ps) gs (parts limit line ps a)
+
+client : (style : Style) (told : Bool) (r : Result AnyMessage ClientError) (old : List ℕ) → Printable old → Printable (client_line style told r old)
+client style told (Ok x) old a = groups style.limit (followed 0 old (Word (client_name told x) ∷ [])) (client_groups style told x) (parts 0 old (Word (client_name told x) ∷ []) a)
+client style told (Err e) old a = parts 0 old (refusal_parts e) a
+
+begun : (place : ℕ) (opened : Bool) (frame : List ℕ) → Printable (client_front place opened frame)
+begun place opened frame = parts 0 (decimal place) (Number (pos (length frame)) ∷ Tag (client_tag opened frame) ∷ []) (number place)
+
+pub line_printable : (style : Style) (place : ℕ) (from to : Side) (frame line : List ℕ) → LineOf style place from frame line to → (text : List ℕ) × (line ≡ text ++ 10 ∷ []) × Printable text
+line_printable style place Server to frame line is = server_line style place is.0.first line is.0.told
+line_printable style place (Client opened kinds) to frame line is = (
+  client_line style (is_told kinds) is.told.result (client_front place opened frame),
+  is.told.told,
+  client style (is_told kinds) is.told.result (client_front place opened frame) (begun place opened frame),
+)

@@ -11,7 +11,9 @@ use Rattle.pgp_message.specs.Stream.{Frame, frame_bytes, IsFrame}
 use Rattle.pgp_message.proofs.Runs.{front_is_one, each_push, pushed}
 use Rattle.pgtrace.specs.declared.style.Style.{Style}
 use Rattle.pgtrace.specs.Line.{Word, Number, Tag, followed}
-use Rattle.pgtrace.specs.Listing.{GoesOn, IsLineOf, Lines, NoLines, OneLine, front, place_behind}
+use Rattle.pgtrace.specs.Sides.{Side, Server}
+use Rattle.pgtrace.proofs.Sides.{server_line}
+use Rattle.pgtrace.specs.Listing.{GoesOn, IsLineOf, IsServerLine, Lines, NoLines, OneLine, front, place_behind}
 use Rattle.pgtrace.specs.Secrets.{AlikeResults, AlikeFrames, AlikeStreams, NoFrames, OneAlike, quiet}
 use Rattle.pgtrace.specs.Shown.{Shows}
 use Rattle.pgtrace.proofs.Hiding.{hidden, same_name}
@@ -39,9 +41,11 @@ left_frames : (a b : List ℕ) → AlikeStreams a b → AreFrames a
 left_frames [] [] NoFrames = record { frames = []; whole = refl; each = tt }
 left_frames _ _ (OneAlike {a = a} {b = b} f g before ff gg alike) = more_frames a f (left_frames a b before) ff
 
-listed_frames : (style : Style) (start : ℕ) (bytes lines : List ℕ) → Lines style start bytes lines → AreFrames bytes
-listed_frames style start [] [] NoLines = record { frames = []; whole = refl; each = tt }
-listed_frames style start _ _ (OneLine {bytes = bytes} {lines = lines} f line before fits has) = more_frames bytes f (listed_frames style start bytes lines before) fits
+listed_frames : (style : Style) (start : ℕ) (bytes lines : List ℕ) (to : Side) → Lines style start Server bytes lines to → AreFrames bytes
+listed_frames style start [] [] Server NoLines = record { frames = []; whole = refl; each = tt }
+listed_frames style start _ _ to (OneLine {bytes = bytes} {lines = lines} {here = here} frame line before has) =
+    let is : IsServerLine style (place_behind (start + length bytes)) frame line = server_line style start (place_behind (start + length bytes)) bytes lines frame line here to before has in
+    subst (λ l. AreFrames (bytes ++ l)) (sym is.whole) (more_frames bytes is.first (listed_frames style start bytes lines here before) is.fits)
 
 abbrev LastIsOne : List Frame → List Frame → Frame → Frame → Type 0
 LastIsOne fs gs f g = (flat_map frame_bytes fs ≡ flat_map frame_bytes gs) × (f ≡ g)
@@ -127,11 +131,21 @@ nothing_alike : (all other : List ℕ) → AlikeStreams all other → all ≡ []
 nothing_alike [] [] NoFrames e = refl
 nothing_alike _ _ (OneAlike {a = a} {b = b} g h before gg hh alike) e = absurd (no_last a g (sym e))
 
-pub streams_hidden : (limit start : ℕ) (a b lines : List ℕ) → AlikeStreams a b → Lines (quiet limit) start a lines → Lines (quiet limit) start b lines
-streams_hidden limit start [] b [] alike NoLines = subst (λ l. Lines (quiet limit) start l []) (sym (nothing_alike [] b alike refl)) NoLines
-streams_hidden limit start _ b _ alike (OneLine {bytes = bytes} {lines = lines} f line before fits has) =
-    let end = ends_alike (bytes ++ frame_bytes f) b alike bytes f (listed_frames (quiet limit) start bytes lines before) fits refl in
+-- the lines of a server's frames, with the frame as bytes
+server_step : (style : Style) (start : ℕ) (bytes lines : List ℕ) (f : Frame) (line : List ℕ) → Lines style start Server bytes lines Server → IsFrame f
+    → IsLineOf style (place_behind (start + length bytes)) f line → Lines style start Server (bytes ++ frame_bytes f) (lines ++ line) Server
+server_step style start bytes lines f line before fits has = OneLine (frame_bytes f) line before (record { first = f; whole = refl; fits = fits; told = has }, refl)
+
+hidden_lines : (limit start : ℕ) (a lines : List ℕ) (to : Side) → Lines (quiet limit) start Server a lines to → (b : List ℕ) → AlikeStreams a b → Lines (quiet limit) start Server b lines Server
+hidden_lines limit start [] [] Server NoLines b alike = subst (λ l. Lines (quiet limit) start Server l [] Server) (sym (nothing_alike [] b alike refl)) NoLines
+hidden_lines limit start _ _ to (OneLine {bytes = bytes} {lines = lines} {here = here} frame line before has) b alike =
+    let is : IsServerLine (quiet limit) (place_behind (start + length bytes)) frame line = server_line (quiet limit) start (place_behind (start + length bytes)) bytes lines frame line here to before has in
+    let same : AlikeStreams (bytes ++ frame_bytes is.first) b = subst (λ l. AlikeStreams (bytes ++ l) b) is.whole alike in
+    let end = ends_alike (bytes ++ frame_bytes is.first) b same bytes is.first (listed_frames (quiet limit) start bytes lines here before) is.fits refl in
     let place : place_behind (start + length bytes) ≡ place_behind (start + length end.before) = ap (λ n. place_behind (start + n)) (same_length bytes end.before end.alike) in
-    subst (λ l. Lines (quiet limit) start l (lines ++ line)) (sym end.whole)
-    (OneLine end.last line (streams_hidden limit start bytes end.before lines end.alike before) end.fits
-    (line_hidden limit (place_behind (start + length end.before)) f end.last line end.same (subst (λ p. IsLineOf (quiet limit) p f line) place has)))
+    subst (λ l. Lines (quiet limit) start Server l (lines ++ line) Server) (sym end.whole)
+    (server_step (quiet limit) start end.before lines end.last line (hidden_lines limit start bytes lines here before end.before end.alike) end.fits
+    (line_hidden limit (place_behind (start + length end.before)) is.first end.last line end.same (subst (λ p. IsLineOf (quiet limit) p is.first line) place is.told)))
+
+pub streams_hidden : (limit start : ℕ) (a b lines : List ℕ) → AlikeStreams a b → Lines (quiet limit) start Server a lines Server → Lines (quiet limit) start Server b lines Server
+streams_hidden limit start a b lines alike listed = hidden_lines limit start a lines Server listed b alike

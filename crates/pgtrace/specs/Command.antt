@@ -1,36 +1,39 @@
 -- What the program does for its words.
-use Rattle.std.specs.Prelude.{◌≡◌, ◌⊎◌, ℕ, true, false, List, [], ◌∷◌, ◌++◌, Option, IfSome, codes}
+use Rattle.std.specs.Prelude.{◌≡◌, ◌⊎◌, ℕ, false, List, [], ◌∷◌, ◌++◌, Option, IfSome, codes}
 use Rattle.std.specs.Io.KnownBytes.{Keeps, Appends, IsAtEnd}
+use Rattle.pgp_server.specs.declared.message.PasswordKind.{PasswordKind}
 use Rattle.pgtrace.specs.declared.fault.Fault.{Fault}
 use Rattle.pgtrace.specs.declared.fault.Fault.TheVariants.{Memory, Read, Write}
 use Rattle.pgtrace.specs.declared.style.Style.{Style}
 use Rattle.pgtrace.specs.Listing.{Streams, IsCutShort, WasListed, WritesListing}
+use Rattle.pgtrace.specs.Options.{AreOptions}
+use Rattle.pgtrace.specs.Sides as side
 use Rattle.pgtrace.specs.Taken.{AppendsFront}
-use Rattle.pgtrace.specs.Words.{greatest, AreWords, HasOther, LacksWords}
+use Rattle.pgtrace.specs.Words.{AreWords, HasOther, LacksWords}
 
--- Lists a server's stream in a style; or tells how the program is called, or which one it is.
+-- Lists a server's or a client's stream in a style, a client's with the kinds of its first messages of tag `p`; or tells how the program is called, or
+-- which one it is.
 pub data Command : Type 0 where
   Server : Style → Command
+  Client : Style → List PasswordKind → Command
   Help : Command
   Version : Command
 
--- the words ask for a listing in this style: 64 bytes of a text or a value are shown, or all of them, and secrets aren't, or are
-abbrev pub AskStyle : List (List ℕ) → Style → Type 0
-AskStyle words style =
-    ((words ≡ codes "server" ∷ []) × (style ≡ record { limit = 64; secrets = false }))
-    ⊎ ((words ≡ codes "server" ∷ codes "--full" ∷ []) × (style ≡ record { limit = greatest; secrets = false }))
-    ⊎ ((words ≡ codes "server" ∷ codes "--secrets" ∷ []) × (style ≡ record { limit = 64; secrets = true }))
-    ⊎ ((words ≡ codes "server" ∷ codes "--full" ∷ codes "--secrets" ∷ []) × (style ≡ record { limit = greatest; secrets = true }))
-    ⊎ ((words ≡ codes "server" ∷ codes "--secrets" ∷ codes "--full" ∷ []) × (style ≡ record { limit = greatest; secrets = true }))
+-- The words ask for a listing of this name, in this style and with these kinds.
+pub record AsksListing (name : List ℕ) (words : List (List ℕ)) (style : Style) (kinds : List PasswordKind) : Type 0 where
+  pub options : List (List ℕ)
+  pub whole : words ≡ name ∷ options
+  pub read : AreOptions options style kinds
 
 -- the words ask for it
 abbrev pub Asks : List (List ℕ) → Command → Type 0
-Asks words (Server style) = AskStyle words style
+Asks words (Server style) = AsksListing (codes "server") words style []
+Asks words (Client style kinds) = AsksListing (codes "client") words style kinds
 Asks words Help = words ≡ codes "--help" ∷ []
 Asks words Version = words ≡ codes "--version" ∷ []
 
 abbrev pub usage : List ℕ
-usage = codes "usage: pgtrace server [--full] [--secrets] | --help | --version" ++ 10 ∷ []
+usage = codes "usage: pgtrace server [--full] [--secrets] | client [--full] [--secrets] [--password-kind password|initial|response].. | --help | --version" ++ 10 ∷ []
 
 abbrev pub version : List ℕ
 version = codes "pgtrace 0.1.0" ++ 10 ∷ []
@@ -47,16 +50,26 @@ Caused lacks read_failed write_failed Memory = lacks ⊎ read_failed
 Caused lacks read_failed write_failed Read = read_failed
 Caused lacks read_failed write_failed Write = write_failed
 
+-- all of the input was read, and its listing was written
+abbrev pub Lists : Style → side.Side → Streams → Streams → Type 0
+Lists style from before after = IsAtEnd after.input × IfSome before.input (λ bytes. WritesListing style from bytes before.output after.output)
+
 -- What is done where no fault is met.
 abbrev pub Does : Command → Streams → Streams → Type 0
-Does (Server style) before after = IsAtEnd after.input × IfSome before.input (λ bytes. WritesListing style bytes before.output after.output)
+Does (Server style) before after = Lists style side.Server before after
+Does (Client style kinds) before after = Lists style (side.Client false kinds) before after
 Does Help before after = Keeps before.input after.input × Appends before.output after.output usage
 Does Version before after = Keeps before.input after.input × Appends before.output after.output version
 
--- What is done where one is: what is written is a front of what would be; and where a read failed, nothing of what came is held back.
+-- a front of the listing was written; and where a read failed, nothing of what came is held back
+abbrev pub BreaksOff : Style → side.Side → Fault → Streams → Streams → Type 0
+BreaksOff style from Read before after = WasListed style from before after
+BreaksOff style from fault before after = IsCutShort style from before after
+
+-- What is done where one is: what is written is a front of what would be.
 abbrev pub Stops : Command → Fault → Streams → Streams → Type 0
-Stops (Server style) Read before after = WasListed style before after
-Stops (Server style) fault before after = IsCutShort style before after
+Stops (Server style) fault before after = BreaksOff style side.Server fault before after
+Stops (Client style kinds) fault before after = BreaksOff style (side.Client false kinds) fault before after
 Stops Help fault before after = Keeps before.input after.input × AppendsFront before.output after.output usage
 Stops Version fault before after = Keeps before.input after.input × AppendsFront before.output after.output version
 
@@ -97,8 +110,11 @@ module _ (lacks read_failed write_failed : Type 0) where
     pub asks : Asks words command
     pub does : Succeeds command before after status complaint ⊎ IsFaulty command before after status complaint
 
+  -- Or they ask for nothing; or there is no memory to read them.
   abbrev pub Obeys : List (List ℕ) → Streams → Streams → ℕ → List ℕ → Type 0
-  Obeys words before after status complaint = IsDone words before after status complaint ⊎ (IsOther words × IsUnread usage 2 before after status complaint)
+  Obeys words before after status complaint = IsDone words before after status complaint
+      ⊎ (IsOther words × IsUnread usage 2 before after status complaint)
+      ⊎ (lacks × IsUnread (complaint_of Memory) 1 before after status complaint)
 
   -- A run: the words are obeyed, and it is said what is then to be said.
   pub record Runs (said_failed : Type 0) (words : List (List ℕ)) (before after : Streams) (old new : Option (List ℕ)) (status : ℕ) : Type 0 where

@@ -5,8 +5,11 @@ pub mod Names
 pub mod Shown
 pub mod Secrets
 pub mod Words
+pub mod Options
 pub mod Interruptions
 pub mod Command
+pub mod Sides
+pub mod Client
 pub mod Listing
 pub mod Steps
 pub mod Asked

@@ -81,7 +81,7 @@ pub fn put_message<A: Memory>(
 }
 
 /// Adds a secret with its name, or how long it is.
-fn put_secret<A: Memory>(
+pub fn put_secret<A: Memory>(
     style: Style,
     name: &str,
     bytes: &[u8],
@@ -210,7 +210,11 @@ fn put_news<A: Memory>(
 }
 
 /// Adds data of a copy.
-fn put_copied<A: Memory>(limit: usize, bytes: &[u8], line: &mut String<A>) -> Result<(), AllocError>
+pub fn put_copied<A: Memory>(
+    limit: usize,
+    bytes: &[u8],
+    line: &mut String<A>,
+) -> Result<(), AllocError>
     ensures parts { OnOk result (string_bytes line.new ≡ followed limit (string_bytes line.old) (Word (codes "data") ∷ Value (Some bytes.now) ∷ [])) }
     ensures lacks { OnErr result A.Lacks }
 {

@@ -1,10 +1,12 @@
-//! The line of a frame.
+//! The line of a server's frame.
 
 ghost use Rattle.std.specs.Prelude.{◌≡◌, ◌≤◌, ◌<◌, ◌-◌, ◌∷◌, ◌++◌, [], pos, length, take, slice_index, IfOk, OnErr, OnOk, Ok, decimal, string_bytes};
 ghost use Rattle.pgp_message.specs.Views.{view};
 ghost use Rattle.pgtrace.specs.Line.{Number, Tag, followed};
 ghost use Rattle.pgtrace.specs.Shown.{fault};
-ghost use Rattle.pgtrace.specs.Steps.{HasLine, IsFrameOf, ListsNext};
+ghost use Rattle.pgtrace.specs.Listing.{IsServerLine};
+ghost use Rattle.pgtrace.specs.Sides.{Server};
+ghost use Rattle.pgtrace.specs.Steps.{IsFrameOf, ListsNext};
 
 use crate::body::put_message;
 use crate::line::{put_number, put_tag, put_word};
@@ -22,45 +24,47 @@ pub enum Next {
     Line,
     /// A frame that isn't whole, or nothing.
     Waits,
-    /// A length that counts not even itself.
+    /// What no frame begins with, and nothing tells where the next one does.
     Stops,
 }
 
-/// Makes the line of the frame at the front of the messages, which stands at this place, and passes the frame.
+/// Makes the line of a server's frame at the front of the bytes, which stands at this place, and answers what stands behind the frame.
 ///
 /// # Errors
 ///
 /// `AllocError` where there is no memory for the line.
-pub fn next_line<A: Memory>(
+pub fn server_line<'b, A: Memory>(
     style: Style,
     place: u64,
-    messages: &mut Messages<'_>,
+    bytes: &'b [u8],
     line: &mut String<A>,
-) -> Result<Next, AllocError>
-    ensures listed { IfOk result (ListsNext style place messages.old messages.new (string_bytes line.new)) }
+) -> Result<(Next, &'b [u8]), AllocError>
+    ensures listed { IfOk result (λ x. ListsNext style place Server bytes.now x.1.now (string_bytes line.new) Server x.0) }
     ensures lacks { OnErr result A.Lacks }
 {
-    let before = messages.rest();
+    let mut messages = Messages::new(bytes);
     match messages.next() {
         Ok(Some(message)) => {
-            let frame = front_of(before, messages.rest());
+            let behind = messages.rest();
+            let frame = front_of(bytes, behind);
             let told = message_line(style, place, frame, &message, line);
             drop(message);
             told?;
-            Ok(Next::Line)
+            Ok((Next::Line, behind))
         }
-        Ok(None) => Ok(Next::Waits),
-        Err(Error::InvalidLength) => Ok(Next::Stops),
+        Ok(None) => Ok((Next::Waits, bytes)),
+        Err(Error::InvalidLength) => Ok((Next::Stops, bytes)),
         Err(refusal) => {
-            let frame = front_of(before, messages.rest());
+            let behind = messages.rest();
+            let frame = front_of(bytes, behind);
             fault_line(place, frame, &refusal, line)?;
-            Ok(Next::Line)
+            Ok((Next::Line, behind))
         }
     }
 }
 
 /// What stands before the rest.
-fn front_of<'a>(bytes: &'a [u8], rest: &[u8]) -> &'a [u8]
+pub fn front_of<'a>(bytes: &'a [u8], rest: &[u8]) -> &'a [u8]
     requires { length rest.now ≤ length bytes.now }
     ensures { result.now ≡ take (length bytes.now - length rest.now) bytes.now }
 {
@@ -76,7 +80,7 @@ fn message_line<A: Memory>(
     line: &mut String<A>,
 ) -> Result<(), AllocError>
     requires { IsFrameOf frame.now (Ok (view message.now)) }
-    ensures line { OnOk result (HasLine style place frame.now [] (string_bytes line.new)) }
+    ensures line { OnOk result (IsServerLine style place frame.now (string_bytes line.new)) }
     ensures lacks { OnErr result A.Lacks }
 {
     begin(place, frame, line)?;
@@ -108,8 +112,21 @@ fn begin<A: Memory>(place: u64, frame: &[u8], line: &mut String<A>) -> Result<()
     ensures parts { OnOk result (string_bytes line.new ≡ followed 0 (decimal place) (Number (pos (length frame.now)) ∷ Tag (slice_index frame.now 0) ∷ [])) }
     ensures lacks { OnErr result A.Lacks }
 {
+    begin_line(place, frame.len(), frame[0], line)
+}
+
+/// Begins a line: with the place of a frame, its length, and its tag.
+pub fn begin_line<A: Memory>(
+    place: u64,
+    len: usize,
+    tag: u8,
+    line: &mut String<A>,
+) -> Result<(), AllocError>
+    ensures parts { OnOk result (string_bytes line.new ≡ followed 0 (decimal place) (Number (pos len) ∷ Tag tag ∷ [])) }
+    ensures lacks { OnErr result A.Lacks }
+{
     line.clear();
     A::push_shown(line, place)?;
-    put_number(frame.len() as u64, line)?;
-    put_tag(frame[0], line)
+    put_number(len as u64, line)?;
+    put_tag(tag, line)
 }

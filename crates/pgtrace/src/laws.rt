@@ -1,16 +1,20 @@
 //! Laws of lines.
 
-ghost use Rattle.std.specs.Prelude.{◌≡◌, ◌≢◌, ◌<◌, ◌≤◌, ◌∷◌, ◌++◌, [], ℕ, List, true, Some, None, Result, length};
+ghost use Rattle.std.specs.Prelude.{◌≡◌, ◌≢◌, ◌<◌, ◌≤◌, ◌∷◌, ◌++◌, [], ℕ, List, true, false, Bool, ℤ, Ok, Some, None, Result, length};
 ghost use Rattle.std.specs.List.{AllByRecursion, list_all};
 ghost use Rattle.pgp_base.specs.declared.error.Error.{Error};
 ghost use Rattle.pgp_message.specs.BackendMessage.{Message};
-ghost use Rattle.pgp_message.specs.Stream.{BackendRun, Frame};
+ghost use Rattle.pgp_frontend.specs.ClientMessage.{CancelRequest, PasswordMessage, SaslInitialResponse, SaslResponse};
+ghost use Rattle.pgp_message.specs.Stream.{BackendRun};
+ghost use Rattle.pgp_server.specs.OtherMessage.{Ours};
+ghost use Rattle.pgtrace.specs.Client.{client_line};
 ghost use Rattle.pgtrace.specs.declared.style.Style.{Style};
 ghost use Rattle.pgtrace.specs.Line.{Value, shown};
-ghost use Rattle.pgtrace.specs.Listing.{IsLineOf, IsListing, Lines};
+ghost use Rattle.pgtrace.specs.Listing.{IsListing, LineOf, Lines};
 ghost use Rattle.pgtrace.specs.Quoting.{is_printable, quoted};
 ghost use Rattle.pgtrace.specs.Secrets.{Alike, AlikeStreams, quiet};
 ghost use Rattle.pgtrace.specs.Shown.{Shows};
+ghost use Rattle.pgtrace.specs.Sides.{Server, Side};
 
 /// No two texts are quoted alike, whatever follows them.
 pub fn quotes_differ()
@@ -27,22 +31,37 @@ pub fn values_differ()
 
 /// A line has printable characters of ASCII alone, and then its newline.
 pub fn lines_are_printable()
-    ensures { (style : Style) (place : ℕ) (f : Frame) (line : List ℕ) → IsLineOf style place f line →
+    ensures { (style : Style) (place : ℕ) (from to : Side) (frame line : List ℕ) → LineOf style place from frame line to →
         (text : List ℕ) × (line ≡ text ++ 10 ∷ []) × (list_all is_printable text ≡ true) }
 {}
 
-/// Messages that differ in their secrets alone have the same lines, unless secrets are asked for.
+/// A server's messages that differ in their secrets alone have the same lines, unless secrets are asked for.
 pub fn secrets_are_hidden()
     ensures { (limit : ℕ) (m n : Message) (old new : List ℕ) → Alike m n → Shows (quiet limit) m old new → Shows (quiet limit) n old new }
 {}
 
-/// Streams that differ in their secrets alone have the same lines, unless secrets are asked for.
+/// A server's streams that differ in their secrets alone have the same lines, unless secrets are asked for.
 pub fn streams_hide_their_secrets()
-    ensures { (limit start : ℕ) (a b lines : List ℕ) → AlikeStreams a b → Lines (quiet limit) start a lines → Lines (quiet limit) start b lines }
+    ensures { (limit start : ℕ) (a b lines : List ℕ) → AlikeStreams a b → Lines (quiet limit) start Server a lines Server → Lines (quiet limit) start Server b lines Server }
 {}
 
-/// A listing is that of the stream as it is read elsewhere: with these results of its frames, this rest, and this end.
+/// A listing of what a server sent is that of the stream as it is read elsewhere: with these results of its frames, this rest, and this end.
 pub fn listings_are_runs()
-    ensures { (style : Style) (bytes output : List ℕ) (l : IsListing style bytes output) →
+    ensures { (style : Style) (bytes output : List ℕ) (l : IsListing style Server bytes output) →
         (results : List (Result Message Error)) × BackendRun bytes results l.stopped l.rest }
+{}
+
+/// A client's messages that differ in their secrets alone have the same lines, unless secrets are asked for. Where it isn't told which message of tag `p`
+/// one is, it has the same line whatever is asked for.
+pub fn client_secrets_are_hidden()
+    ensures password { (limit : ℕ) (told : Bool) (a b old : List ℕ) → length a ≡ length b →
+        client_line (quiet limit) told (Ok (Ours (PasswordMessage a))) old ≡ client_line (quiet limit) told (Ok (Ours (PasswordMessage b))) old }
+    ensures initial { (limit : ℕ) (told : Bool) (mechanism a b old : List ℕ) → length a ≡ length b →
+        client_line (quiet limit) told (Ok (Ours (SaslInitialResponse mechanism a))) old ≡ client_line (quiet limit) told (Ok (Ours (SaslInitialResponse mechanism b))) old }
+    ensures response { (limit : ℕ) (a b old : List ℕ) → length a ≡ length b →
+        client_line (quiet limit) true (Ok (Ours (SaslResponse a))) old ≡ client_line (quiet limit) true (Ok (Ours (SaslResponse b))) old }
+    ensures key { (limit : ℕ) (told : Bool) (process : ℤ) (a b old : List ℕ) → length a ≡ length b →
+        client_line (quiet limit) told (Ok (Ours (CancelRequest process a))) old ≡ client_line (quiet limit) told (Ok (Ours (CancelRequest process b))) old }
+    ensures untold { (style : Style) (a b old : List ℕ) → length a ≡ length b →
+        client_line style false (Ok (Ours (SaslResponse a))) old ≡ client_line style false (Ok (Ours (SaslResponse b))) old }
 {}

@@ -1,18 +1,25 @@
-//! Shows a person what a PostgreSQL server sent, a line a message, as it comes.
+//! Shows a person what a PostgreSQL server or client sent, a line a message, as it comes.
 #![tactic(auto)]
 
 pub mod body;
+pub mod client;
+pub mod client_body;
+pub mod client_lists;
+pub mod client_names;
 pub mod fault;
 pub mod frame;
 pub mod laws;
 pub mod line;
 pub mod lists;
 pub mod names;
+pub mod next;
+pub mod options;
 pub mod ports;
 pub mod print;
 pub mod quote;
 pub mod run;
-pub mod server;
+pub mod side;
+pub mod stream;
 pub mod style;
 pub mod words;
 
@@ -31,5 +38,7 @@ fn main(rt: HostRuntime) -> ExitCode {
 
 #[cfg(test)]
 mod failing;
+#[cfg(test)]
+mod session;
 #[cfg(test)]
 mod tests;

@@ -1,26 +1,29 @@
 //! The program's words.
 
-ghost use Rattle.std.specs.Prelude.{◌≡◌, if◌then◌else◌, map, IfSome, IfNone, IfOk, IfErr, OnOk};
+ghost use Rattle.std.specs.Prelude.{◌≡◌, ◌∷◌, codes, false, map, IfSome, IfNone, IfOk, IfErr, OnErr, OnOk};
 ghost use Rattle.std.specs.Io.KnownBytes.{Keeps};
 ghost use Rattle.pgtrace.specs.Interruptions.{GivesUp};
-ghost use Rattle.pgtrace.specs.Command.{Asks, Caused, Does, IsOther, IsSaid, Obeys, ObeysOwn, Runs, RunsOwn, Stops, usage, complaint_of, version};
+ghost use Rattle.pgtrace.specs.Command.{Asks, BreaksOff, Caused, Does, IsOther, IsSaid, Lists, Obeys, ObeysOwn, Runs, RunsOwn, Stops, usage, complaint_of, version};
 ghost use Rattle.pgtrace.specs.Asked.{asked};
-ghost use Rattle.pgtrace.specs.Words.{LacksWords, greatest};
+ghost use Rattle.pgtrace.specs.Sides as side;
+ghost use Rattle.pgtrace.specs.Words.{LacksWords};
 
 use crate::fault::Fault;
+use crate::options::{options_of, style};
 use crate::ports::{Input, Output, Words};
 use crate::print::put;
-use crate::server::server;
+use crate::side::Side;
+use crate::stream::list;
 use crate::style::Style;
 use crate::words::{lent, texts};
 use pgp_base::Memory;
+use pgp_server::PasswordKind;
+use std::alloc::AllocError;
 
-const USAGE: &str = "usage: pgtrace server [--full] [--secrets] | --help | --version\n";
+const USAGE: &str =
+    "usage: pgtrace server [--full] [--secrets] | client [--full] [--secrets] [--password-kind password|initial|response].. | --help | --version\n";
 
 const VERSION: &str = "pgtrace 0.1.0\n";
-
-/// How many bytes of a text or a value are shown where not all are asked for.
-const SHORT: usize = 64;
 
 /// How a run ended: the status, and what is to be said on standard error.
 #[derive(Debug, Clone, Copy, PartialEq, Eq)]
@@ -54,43 +57,90 @@ impl Outcome {
 }
 
 /// What the words ask for.
-#[derive(Debug, Clone, Copy)]
-enum Command {
+#[derive(Drop)]
+enum Command<A: Memory> {
     Server(Style),
+    /// A client's listing, and which its messages of tag `p` are.
+    Client(Style, Vec<PasswordKind, A>),
     Help,
     Version,
 }
 
-fn command_of(words: &[&str]) -> Option<Command>
-    ensures known { IfSome result (λ command. Asks (map (λ word. word.now) words.now) (asked command)) }
-    ensures other { IfNone result (IsOther (map (λ word. word.now) words.now)) }
+fn command_of<A: Memory>(alloc: A, words: &[&str]) -> Result<Option<Command<A>>, AllocError>
+    ensures known { IfOk result (λ r. IfSome r (λ command. Asks (map (λ word. word.now) words.now) (asked command))) }
+    ensures other { IfOk result (λ r. IfNone r (IsOther (map (λ word. word.now) words.now))) }
+    ensures lacks { OnErr result A.Lacks }
 {
     match words {
-        ["server"] => Some(Command::Server(style(false, false))),
-        ["server", "--full"] => Some(Command::Server(style(true, false))),
-        ["server", "--secrets"] => Some(Command::Server(style(false, true))),
-        ["server", "--full", "--secrets"] => Some(Command::Server(style(true, true))),
-        ["server", "--secrets", "--full"] => Some(Command::Server(style(true, true))),
-        ["--help"] => Some(Command::Help),
-        ["--version"] => Some(Command::Version),
-        _ => None,
+        ["--help"] => return Ok(Some(Command::Help)),
+        ["--version"] => return Ok(Some(Command::Version)),
+        _ => {}
+    }
+    let Some((first, options)) = words.split_first() else {
+        return Ok(None);
+    };
+    match *first {
+        "server" => server_of(alloc, options),
+        "client" => client_of(alloc, options),
+        _ => Ok(None),
     }
 }
 
-/// How much is shown: of texts and values all or a front, and secrets or how long they are.
-fn style(full: bool, secrets: bool) -> Style
-    ensures { result ≡ record { limit = (if full then greatest else 64); secrets = secrets } }
+/// What the words behind `server` ask for.
+fn server_of<A: Memory>(alloc: A, words: &[&str]) -> Result<Option<Command<A>>, AllocError>
+    ensures known { IfOk result (λ r. IfSome r (λ command. Asks (codes "server" ∷ map (λ word. word.now) words.now) (asked command))) }
+    ensures other { IfOk result (λ r. IfNone r (IsOther (codes "server" ∷ map (λ word. word.now) words.now))) }
+    ensures lacks { OnErr result A.Lacks }
 {
-    Style {
-        limit: if full { usize::MAX } else { SHORT },
-        secrets,
+    let Some(options) = options_of(alloc, words)? else {
+        return Ok(None);
+    };
+    if !options.kinds.is_empty() {
+        return Ok(None);
     }
+    Ok(Some(Command::Server(style(options.full, options.secrets))))
+}
+
+/// What the words behind `client` ask for.
+fn client_of<A: Memory>(alloc: A, words: &[&str]) -> Result<Option<Command<A>>, AllocError>
+    ensures known { IfOk result (λ r. IfSome r (λ command. Asks (codes "client" ∷ map (λ word. word.now) words.now) (asked command))) }
+    ensures other { IfOk result (λ r. IfNone r (IsOther (codes "client" ∷ map (λ word. word.now) words.now))) }
+    ensures lacks { OnErr result A.Lacks }
+{
+    let Some(options) = options_of(alloc, words)? else {
+        return Ok(None);
+    };
+    let style = style(options.full, options.secrets);
+    Ok(Some(Command::Client(style, options.kinds)))
+}
+
+/// Lists what a client sent, whose first messages of tag `p` are of these kinds.
+fn list_client<A: Memory, R: Input, W: Output>(
+    alloc: A,
+    style: Style,
+    kinds: &[PasswordKind],
+    input: &mut R,
+    output: &mut W,
+) -> Result<(), Fault>
+    ensures done { OnOk result (Lists style (side.Client false kinds.now)
+        (record { input = R.remaining input.old; output = W.contents output.old })
+        (record { input = R.remaining input.new; output = W.contents output.new })) }
+    ensures stops { IfErr result (λ fault. BreaksOff style (side.Client false kinds.now) fault
+        (record { input = R.remaining input.old; output = W.contents output.old })
+        (record { input = R.remaining input.new; output = W.contents output.new })) }
+    ensures cause { IfErr result (Caused A.Lacks (GivesUp R.Fails R.Called) (GivesUp W.Fails W.Interrupted)) }
+{
+    let side = Side::Client {
+        opened: false,
+        kinds,
+    };
+    list(alloc, style, side, input, output)
 }
 
 /// Does what the command asks for.
 fn perform<A: Memory, R: Input, W: Output>(
     alloc: A,
-    command: Command,
+    command: Command<A>,
     input: &mut R,
     output: &mut W,
 ) -> Result<(), Fault>
@@ -103,7 +153,10 @@ fn perform<A: Memory, R: Input, W: Output>(
     ensures cause { IfErr result (Caused A.Lacks (GivesUp R.Fails R.Called) (GivesUp W.Fails W.Interrupted)) }
 {
     match command {
-        Command::Server(style) => server(alloc, style, input, output),
+        Command::Server(style) => list(alloc, style, Side::Server, input, output),
+        Command::Client(style, kinds) => {
+            list_client(alloc, style, kinds.as_slice(), input, output)
+        }
         Command::Help => put(USAGE.as_bytes(), output),
         Command::Version => put(VERSION.as_bytes(), output),
     }
@@ -121,8 +174,10 @@ pub fn obey<A: Memory, R: Input, W: Output>(
         (record { input = R.remaining input.new; output = W.contents output.new })
         result.status result.complaint.now }
 {
-    let Some(command) = command_of(words) else {
-        return Outcome::refused();
+    let command = match command_of(alloc, words) {
+        Ok(Some(command)) => command,
+        Ok(None) => return Outcome::refused(),
+        Err(_) => return Outcome::stopped(Fault::Memory),
     };
     match perform(alloc, command, input, output) {
         Ok(()) => Outcome {

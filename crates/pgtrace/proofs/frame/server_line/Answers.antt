@@ -5,28 +5,30 @@ use Rattle.pgp_message.specs.Views.{view}
 use Rattle.pgp_message.proofs.Steps.{taken_by}
 use Rattle.pgtrace.specs.Steps.{IsFrameOf}
 use Rattle.pgtrace.proofs.FrameLines.{taken_frame, line_here, fault_told}
-use Rattle.pgtrace.proofs.frame.next_line.Goals as goal
+use Rattle.pgtrace.proofs.frame.server_line.Goals as goal
 
 pub message_line-told-requires : goal.message_line-told-requires
 message_line-told-requires g c =
-    let old = c.args.messages.now in
+    let old = c.args.bytes.now in
     let new = c.next.new.self in
-    let t : TakesFrame old (Ok (view c.in-Ok-Some.message)) new = search rules in
+    let step : TakesFrame c.new-messages.result (Ok (view c.in-Ok-Some.message)) new = search rules in
+    let t : TakesFrame old (Ok (view c.in-Ok-Some.message)) new = subst (λ (l : List ℕ). TakesFrame l (Ok (view c.in-Ok-Some.message)) new) c.new-messages.ensures step in
     let is : c.front_of-frame.result.now ≡ take (length old - length new) old =
-    c.front_of-frame.ensures ∙ ap (λ (l : List ℕ). take (length l - length c.rest.result.now) l) c.rest-before.ensures ∙ ap (λ (l : List ℕ). take (length old - length l) old) c.rest.ensures in
+    c.front_of-frame.ensures ∙ ap (λ (l : List ℕ). take (length old - length l) old) c.rest-behind.ensures in
     subst (λ l. IsFrameOf l (Ok (view c.in-Ok-Some.message))) (sym is) (taken_frame old new (Ok (view c.in-Ok-Some.message)) t)
 
 pub returns-in_ok-fault_line-in-Err : goal.returns-in_ok-fault_line-in-Err
 returns-in_ok-fault_line-in-Err g c =
-    let old = c.args.messages.now in
+    let old = c.args.bytes.now in
     let new = c.next.new.self in
     let e = c.in-Err.refusal in
     let frame = c.front_of-frame-in-Err.result.now in
-    let t : TakesFrame old (Err e) new = taken_by old new e (λ h. search rules) c.in-Err.ensures.step in
+    let taken : TakesFrame c.new-messages.result (Err e) new = taken_by c.new-messages.result new e (λ h. search rules) c.in-Err.ensures.step in
+    let t : TakesFrame old (Err e) new = subst (λ (l : List ℕ). TakesFrame l (Err e) new) c.new-messages.ensures taken in
     let is : frame ≡ take (length old - length new) old =
-    c.front_of-frame-in-Err.ensures ∙ ap (λ (l : List ℕ). take (length l - length c.rest-in-Err.result.now) l) c.rest-before.ensures ∙ ap (λ (l : List ℕ). take (length old - length l) old) c.rest-in-Err.ensures in
+    c.front_of-frame-in-Err.ensures ∙ ap (λ (l : List ℕ). take (length old - length l) old) c.rest-behind-in-Err.ensures in
     let framed : IsFrameOf frame (Err e) = subst (λ l. IsFrameOf l (Err e)) (sym is) (taken_frame old new (Err e) t) in
     record {
-      listed = line_here c.args.style c.args.place old new frame (string_bytes c.fault_line.new.line) (Err e) t is (fault_told c.args.style c.args.place frame e framed (string_bytes c.fault_line.new.line) c.in_ok-fault_line-in-Err.ensures.line);
+      listed = rw c.rest-behind-in-Err.ensures (line_here c.args.style c.args.place old new frame (string_bytes c.fault_line.new.line) (Err e) t is (fault_told c.args.style c.args.place frame e framed (string_bytes c.fault_line.new.line) c.in_ok-fault_line-in-Err.ensures.line));
       lacks = tt;
     }

@@ -1,21 +1,22 @@
-//! The listing of a server's stream, as it comes.
+//! The listing of a stream, as it comes.
 
 ghost use Rattle.std.specs.Prelude.{◌≡◌, ◌⊎◌, ◌≤◌, ◌<◌, ◌++◌, ℕ, List, drop, length, take, IfErr, IfOk, IfSome, OnErr, OnOk, string_bytes};
 ghost use Rattle.std.specs.Io.KnownBytes.{Appends, IsAtEnd, Keeps};
 ghost use Rattle.pgtrace.specs.Command.{Caused};
 ghost use Rattle.pgtrace.specs.Interruptions.{GivesUp};
 ghost use Rattle.pgtrace.specs.Listing.{IsCutShort, WasListed, WritesListing, last_line};
-ghost use Rattle.pgtrace.specs.Steps.{Holds, ListsAll, ListsPiece, ListsSome};
+ghost use Rattle.pgtrace.specs.Steps.{Holds, ListsAll, ListsPiece, ListsSome, side_of};
 ghost use Rattle.pgtrace.specs.Taken.{AppendsFront};
 
 use crate::fault::Fault;
-use crate::frame::{Next, next_line};
+use crate::frame::Next;
+use crate::next::next_line;
 use crate::ports::{Input, Output};
-use crate::print::{flush, put, write};
+use crate::print::{flush, put};
+use crate::side::Side;
 use crate::style::Style;
 use bytes::{Buf, BytesMut};
 use pgp_base::Memory;
-use pgp_message::Messages;
 use std::alloc::AllocError;
 use std::io::ErrorKind;
 
@@ -24,72 +25,79 @@ const PIECE: usize = 65536;
 
 /// What is kept of a stream.
 #[derive(Drop)]
-struct Held<A: Memory> {
+struct Held<'a, A: Memory> {
+    side: Side<'a>,
     /// The bytes that aren't listed yet.
     bytes: BytesMut<A>,
     /// Where they stand.
     place: u64,
-    /// Whether they begin with a length that counts not even itself. What comes behind it is counted alone.
+    /// Whether nothing tells where a frame begins in them. What comes behind them is counted alone.
     stopped: bool,
     /// How many bytes aren't listed.
     left: u64,
     /// Memory for a line.
     line: String<A>,
+    /// Memory for the lines of a piece.
+    lines: String<A>,
 }
 
-/// Lists the bytes that a server sent, as they come: the lines of all frames that are whole are written and passed on before
+/// Lists the bytes that this side sent, as they come: the lines of all frames that are whole are written and passed on before
 /// more is read. Of long texts and values a front is shown.
 ///
 /// # Errors
 ///
 /// `Memory` where memory is refused, `Read` where reading fails, and `Write` where writing or a flush fails.
-pub fn server<A: Memory, R: Input, W: Output>(
+pub fn list<A: Memory, R: Input, W: Output>(
     alloc: A,
     style: Style,
+    side: Side<'_>,
     input: &mut R,
     output: &mut W,
 ) -> Result<(), Fault>
     ensures read { OnOk result (IsAtEnd (R.remaining input.new)) }
-    ensures listed { OnOk result (IfSome (R.remaining input.old) (λ bytes. WritesListing style bytes (W.contents output.old) (W.contents output.new))) }
-    ensures live { IfErr result (λ fault. fault ≡ Fault.Read → WasListed style
+    ensures listed { OnOk result (IfSome (R.remaining input.old) (λ bytes. WritesListing style (side_of side.entry) bytes (W.contents output.old) (W.contents output.new))) }
+    ensures live { IfErr result (λ fault. fault ≡ Fault.Read → WasListed style (side_of side.entry)
         (record { input = R.remaining input.old; output = W.contents output.old })
         (record { input = R.remaining input.new; output = W.contents output.new })) }
     ensures passed { IfErr result (λ fault. fault ≡ Fault.Read → Keeps (W.contents output.old) (W.contents output.new) ⊎ W.Passed output.new) }
-    ensures cut { OnErr result (IsCutShort style
+    ensures cut { OnErr result (IsCutShort style (side_of side.entry)
         (record { input = R.remaining input.old; output = W.contents output.old })
         (record { input = R.remaining input.new; output = W.contents output.new })) }
     ensures cause { IfErr result (Caused A.Lacks (GivesUp R.Fails R.Called) (GivesUp W.Fails W.Interrupted)) }
 {
     let mut piece = A::list_filled(alloc, 0, PIECE)?;
-    list_stream(alloc, style, input, piece.as_mut_slice(), output)
+    list_stream(alloc, style, side, input, piece.as_mut_slice(), output)
 }
 
 /// Lists the bytes, a piece at a time.
 fn list_stream<A: Memory, R: Input, W: Output>(
     alloc: A,
     style: Style,
+    side: Side<'_>,
     input: &mut R,
     piece: &mut [u8],
     output: &mut W,
 ) -> Result<(), Fault>
     requires { 0 < length piece.old }
     ensures read { OnOk result (IsAtEnd (R.remaining input.new)) }
-    ensures listed { OnOk result (IfSome (R.remaining input.old) (λ bytes. WritesListing style bytes (W.contents output.old) (W.contents output.new))) }
-    ensures live { IfErr result (λ fault. fault ≡ Fault.Read → WasListed style
+    ensures listed { OnOk result (IfSome (R.remaining input.old) (λ bytes. WritesListing style (side_of side.entry) bytes (W.contents output.old) (W.contents output.new))) }
+    ensures live { IfErr result (λ fault. fault ≡ Fault.Read → WasListed style (side_of side.entry)
         (record { input = R.remaining input.old; output = W.contents output.old })
         (record { input = R.remaining input.new; output = W.contents output.new })) }
     ensures passed { IfErr result (λ fault. fault ≡ Fault.Read → Keeps (W.contents output.old) (W.contents output.new) ⊎ W.Passed output.new) }
-    ensures cut { OnErr result (IsCutShort style
+    ensures cut { OnErr result (IsCutShort style (side_of side.entry)
         (record { input = R.remaining input.old; output = W.contents output.old })
         (record { input = R.remaining input.new; output = W.contents output.new })) }
     ensures cause { IfErr result (Caused A.Lacks (GivesUp R.Fails R.Called) (GivesUp W.Fails W.Interrupted)) }
 {
     let mut held = Held {
+        side,
         bytes: BytesMut::new(alloc),
         place: 0,
         stopped: false,
         left: 0,
         line: String::new(alloc),
+        lines: String::new(alloc),
     };
     // Bounded, since each function has to end, and a reader may give pieces or be interrupted for ever.
     'pieces: for _ in 0..u64::MAX {
@@ -110,16 +118,16 @@ fn list_stream<A: Memory, R: Input, W: Output>(
 fn list_piece<A: Memory, W: Output>(
     style: Style,
     piece: &[u8],
-    held: &mut Held<A>,
+    held: &mut Held<'_, A>,
     output: &mut W,
 ) -> Result<(), Fault>
-    ensures all { OnOk result ((rest : List ℕ) → Holds (record { bytes = held.old.bytes.items; place = held.old.place; stopped = held.old.stopped; left = held.old.left }) rest →
-        ListsPiece style held.old.place (rest ++ piece.now)
-        (record { bytes = held.new.bytes.items; place = held.new.place; stopped = held.new.stopped; left = held.new.left })
+    ensures all { OnOk result ((rest : List ℕ) → Holds (record { side = side_of held.old.side; bytes = held.old.bytes.items; place = held.old.place; stopped = held.old.stopped; left = held.old.left }) rest →
+        ListsPiece style held.old.place (side_of held.old.side) (rest ++ piece.now)
+        (record { side = side_of held.new.side; bytes = held.new.bytes.items; place = held.new.place; stopped = held.new.stopped; left = held.new.left })
         (W.contents output.old) (W.contents output.new)) }
     ensures passed { OnOk result (W.Passed output.new) }
-    ensures some { OnErr result ((rest : List ℕ) → Holds (record { bytes = held.old.bytes.items; place = held.old.place; stopped = held.old.stopped; left = held.old.left }) rest →
-        ListsSome style held.old.place (rest ++ piece.now) (W.contents output.old) (W.contents output.new)) }
+    ensures some { OnErr result ((rest : List ℕ) → Holds (record { side = side_of held.old.side; bytes = held.old.bytes.items; place = held.old.place; stopped = held.old.stopped; left = held.old.left }) rest →
+        ListsSome style held.old.place (side_of held.old.side) (rest ++ piece.now) (W.contents output.old) (W.contents output.new)) }
     ensures cause { IfErr result (Caused A.Lacks ⊥ (GivesUp W.Fails W.Interrupted)) }
 {
     if held.stopped {
@@ -127,45 +135,65 @@ fn list_piece<A: Memory, W: Output>(
         return pass_on(output);
     }
     A::append(&mut held.bytes, piece)?;
-    let (listed, stopped) = list_frames(
+    held.lines.clear();
+    let (listed, stopped, side) = list_frames(
         style,
         held.place,
+        held.side,
         held.bytes.as_slice(),
         &mut held.line,
-        output,
+        &mut held.lines,
     )?;
+    held.side = side;
     held.bytes.advance(listed);
     held.place = held.place.saturating_add(listed as u64);
     held.left = held.bytes.len() as u64;
     held.stopped = stopped;
-    pass_on(output)
+    put_lines(held.lines.as_str(), output)
 }
 
-/// Lists the whole frames at the front of the bytes, which stand at this place. Answers how many bytes they take, and whether a length
-/// behind them counts not even itself.
-fn list_frames<A: Memory, W: Output>(
+/// Adds the lines of the whole frames at the front of the bytes, which stand at this place. Answers how many bytes they take, whether nothing
+/// tells where the next one begins, and what is then known of the side.
+fn list_frames<'a, A: Memory>(
     style: Style,
     place: u64,
+    side: Side<'a>,
     bytes: &[u8],
     line: &mut String<A>,
-    output: &mut W,
-) -> Result<(usize, bool), Fault>
+    lines: &mut String<A>,
+) -> Result<(usize, bool, Side<'a>), AllocError>
     ensures within { IfOk result (λ answer. answer.0 ≤ length bytes.now) }
-    ensures all { IfOk result (λ answer. ListsAll style place bytes.now (take answer.0 bytes.now) (drop answer.0 bytes.now) answer.1
-        (W.contents output.old) (W.contents output.new)) }
-    ensures some { OnErr result (ListsSome style place bytes.now (W.contents output.old) (W.contents output.new)) }
-    ensures cause { IfErr result (Caused A.Lacks ⊥ (GivesUp W.Fails W.Interrupted)) }
+    ensures all { IfOk result (λ answer. ListsAll style place (side_of side.entry) bytes.now (take answer.0 bytes.now) (drop answer.0 bytes.now) answer.1 (side_of answer.2)
+        (string_bytes lines.old) (string_bytes lines.new)) }
+    ensures lacks { OnErr result A.Lacks }
 {
-    let mut messages = Messages::new(bytes);
+    let mut here = side;
+    let mut rest = bytes;
     'frames: loop {
-        let passed = bytes.len() - messages.rest().len();
-        let here = place.saturating_add(passed as u64);
-        match next_line(style, here, &mut messages, line)? {
-            Next::Line => put_line(line.as_str(), output)?,
-            Next::Waits => return Ok((passed, false)),
-            Next::Stops => return Ok((passed, true)),
+        let passed = bytes.len() - rest.len();
+        let (next, to, behind) = next_line(
+            style,
+            place.saturating_add(passed as u64),
+            here,
+            rest,
+            line,
+        )?;
+        match next {
+            Next::Line => add_line(line.as_str(), lines)?,
+            Next::Waits => return Ok((passed, false, here)),
+            Next::Stops => return Ok((passed, true, here)),
         }
+        here = to;
+        rest = behind;
     }
+}
+
+/// Adds a line to those of the piece.
+fn add_line<A: Memory>(line: &str, lines: &mut String<A>) -> Result<(), AllocError>
+    ensures added { OnOk result (string_bytes lines.new ≡ string_bytes lines.old ++ line.now) }
+    ensures lacks { OnErr result A.Lacks }
+{
+    A::push_str(lines, line)
 }
 
 /// Has the lines so far passed on.
@@ -178,14 +206,15 @@ fn pass_on<W: Output>(output: &mut W) -> Result<(), Fault>
     flush(output)
 }
 
-/// Writes a line. It isn't passed on yet: more may follow it at once.
-fn put_line<W: Output>(line: &str, output: &mut W) -> Result<(), Fault>
-    ensures written { OnOk result (Appends (W.contents output.old) (W.contents output.new) line.now) }
-    ensures front { OnErr result (AppendsFront (W.contents output.old) (W.contents output.new) line.now) }
+/// Writes the lines of a piece, and has them passed on.
+fn put_lines<W: Output>(lines: &str, output: &mut W) -> Result<(), Fault>
+    ensures written { OnOk result (Appends (W.contents output.old) (W.contents output.new) lines.now) }
+    ensures front { OnErr result (AppendsFront (W.contents output.old) (W.contents output.new) lines.now) }
+    ensures passed { OnOk result (W.Passed output.new) }
     ensures fault { IfErr result (λ fault. fault ≡ Fault.Write) }
     ensures failed { OnErr result (GivesUp W.Fails W.Interrupted) }
 {
-    write(line.as_bytes(), output)
+    put(lines.as_bytes(), output)
 }
 
 /// Writes the last line, of the bytes that are left.

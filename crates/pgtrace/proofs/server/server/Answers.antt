@@ -1,5 +1,0 @@
-use Rattle.pgtrace.proofs.Traces.{nothing_cut}
-use Rattle.pgtrace.proofs.server.server.Goals as goal
-
-pub returns-in_err-piece-clause-cut : goal.returns-in_err-piece-clause-cut
-returns-in_err-piece-clause-cut g c = nothing_cut c.from_residual.result c.args.style (record { input = g.R.Read.remaining c.args.input.now; output = g.W.Write.contents c.args.output.now })
