@@ -27,7 +27,7 @@ const UNLIMITED: Limits = Limits {
     tagged: u32::MAX,
 };
 
-/// What a server of PostgreSQL takes.
+/// About what a server of PostgreSQL takes.
 const SERVER: Limits = Limits {
     opening: 10_000,
     tagged: 0x3fff_ffff,

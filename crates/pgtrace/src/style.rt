@@ -5,6 +5,6 @@
 pub struct Style {
     /// How many bytes of a text or of a value.
     pub limit: usize,
-    /// Whether passwords' salts, the texts of exchanges and keys are, or how long they are alone.
+    /// Whether passwords, their salts, the texts of exchanges and keys are, or how long they are alone.
     pub secrets: bool,
 }
