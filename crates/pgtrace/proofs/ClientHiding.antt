@@ -1,10 +1,10 @@
 -- A client's messages that differ in their secrets alone say the same.
 use Rattle.std.proofs.Common.{◌≡◌, ℕ, ℤ, Bool, true, false, List, [], ◌∷◌, length, Ok, ap}
 use Rattle.std.specs.Prelude.{codes}
-use Rattle.pgp_frontend.specs.ClientMessage.{ClientMessage, CancelRequest, PasswordMessage, SaslInitialResponse, SaslResponse}
+use Rattle.pgp_frontend.specs.ClientMessage.{CancelRequest, PasswordMessage, SaslInitialResponse, SaslResponse}
 use Rattle.pgp_server.specs.OtherMessage.{Ours}
 use Rattle.pgtrace.specs.declared.style.Style.{Style}
-use Rattle.pgtrace.specs.Client.{client_line, grouped, our_name}
+use Rattle.pgtrace.specs.Client.{client_line, grouped}
 use Rattle.pgtrace.specs.Line.{Part, Word, Number, Text, Hidden, followed}
 use Rattle.pgtrace.specs.Secrets.{quiet}
 

@@ -1,22 +1,22 @@
 -- A client's frame by itself.
-use Rattle.std.proofs.Common.{◌≡◌, ℕ, ◌+◌, ◌-◌, ◌<◌, ◌≤◌, ◌^◌, Bool, true, false, List, [], ◌∷◌, ◌++◌, length, take, Option, Some, None, Result, Ok, Err, refl, sym, ap, subst, ◌∙◌, append_assoc, arith, length-append, inl, inr}
+use Rattle.std.proofs.Common.{◌≡◌, ℕ, ◌+◌, ◌-◌, ◌<◌, ◌≤◌, ◌^◌, Bool, true, false, List, [], ◌∷◌, ◌++◌, length, take, Option, Some, None, Result, Ok, Err, refl, sym, ap, subst, ◌∙◌, arith, length-append, inl, inr}
 use Rattle.std.proofs.lemmas.List.{append-nil}
 use Rattle.pgp_base.specs.Wire.{uint32}
-use Rattle.pgp_frontend.specs.ClientMessage.{ClientMessage, PasswordKind}
+use Rattle.pgp_frontend.specs.ClientMessage.{PasswordKind}
 use Rattle.pgp_frontend.specs.Payload.{framed, payload, tag_of, bytes_of}
 use Rattle.pgp_frontend.proofs.Readings.{tagged_bodies, tag_in}
 use Rattle.pgp_server.proofs.Steps.{payload_fits}
-use Rattle.pgp_server.specs.AnyStep.{AnyStep, OtherStands, NoOtherStands, RefusesAny}
-use Rattle.pgp_server.specs.OtherMessage.{OtherMessage, AnyMessage, Ours, Other, other_tag, other_payload, other_bytes}
+use Rattle.pgp_server.specs.AnyStep.{AnyStep, NoOtherStands, RefusesAny}
+use Rattle.pgp_server.specs.OtherMessage.{AnyMessage, Ours, Other, other_tag, other_payload, other_bytes}
 use Rattle.pgp_server.specs.Pieces.{step_of}
-use Rattle.pgp_server.specs.Step.{Unread, Stands, NoneStands}
+use Rattle.pgp_server.specs.Step.{Unread, NoneStands}
 use Rattle.pgp_server.specs.declared.error.ClientError.{ClientError}
 use Rattle.pgp_server.specs.declared.message.PasswordKind as code
 use Rattle.pgtrace.specs.declared.style.Style.{Style}
-use Rattle.pgtrace.specs.Listing.{IsClientLine, client_front}
+use Rattle.pgtrace.specs.Listing.{client_front}
 use Rattle.pgtrace.specs.Client.{client_line}
-use Rattle.pgtrace.specs.Sides.{Side, Client, Ends, expected, is_told, kinds_behind}
-use Rattle.pgtrace.specs.Steps.{HasLine, IsAtRest}
+use Rattle.pgtrace.specs.Sides.{Client, Ends, expected, is_told, kinds_behind}
+use Rattle.pgtrace.specs.Steps.{HasLine}
 use Rattle.pgtrace.proofs.Parts.{front_taken}
 
 abbrev left : List ℕ → Bool → Unread

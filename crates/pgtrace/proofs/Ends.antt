@@ -1,5 +1,5 @@
 -- Where a stream isn't cut into frames.
-use Rattle.std.proofs.Common.{◌≡◌, ℕ, ◌+◌, ◌<◌, ◌^◌, Bool, true, false, List, [], ◌∷◌, ◌++◌, length, None, ap, ◌∙◌, append_assoc, arith, inl, inr}
+use Rattle.std.proofs.Common.{ℕ, Bool, true, false, List, [], ◌∷◌, ◌++◌, None, ap, ◌∙◌, append_assoc, arith, inl, inr}
 use Rattle.pgp_base.specs.Wire.{uint32}
 use Rattle.pgp_frontend.specs.Payload.{framed}
 use Rattle.pgp_message.specs.Stream.{IsLengthFault}

@@ -1,13 +1,13 @@
 -- Options, one behind another.
 use Rattle.std.proofs.Common.{◌≡◌, ◌≢◌, ℕ, suc, ◌+◌, ◌-◌, ◌<◌, ◌≤◌, Bool, true, false, List, [], ◌∷◌, ◌++◌, length, length-append, get_or, drop, map, refl, sym, ap, subst, ◌∙◌, append_assoc, arith}
-use Rattle.std.specs.Prelude.{◌||◌, codes}
+use Rattle.std.specs.Prelude.{◌||◌}
 use Rattle.std.specs.List.{flat_map, list_any}
 use Rattle.std.proofs.lemmas.List.{append-nil, drop-drop, length-drop, length-map}
 use Rattle.std.proofs.lemmas.List.Concat.{flat_map-cons}
 use Rattle.std.proofs.lemmas.List.Folds.{list_any-append}
 use Rattle.std.proofs.lemmas.Grind.{flat_map-append}
 use Rattle.pgp_server.specs.declared.message.PasswordKind.{PasswordKind}
-use Rattle.pgtrace.specs.Options.{AreOptions, AreNoOptions, BeginsWithNone, is_full, is_secrets, kind_in, kind_word, spelled, style_of}
+use Rattle.pgtrace.specs.Options.{AreOptions, AreNoOptions, BeginsWithNone, is_full, is_secrets, kind_in, spelled, style_of}
 use Rattle.pgtrace.specs.declared.options.Choice.{Choice}
 use Rattle.pgtrace.specs.declared.options.Choice.TheVariants.{Full, Secrets, Kind}
 use Rattle.pgtrace.specs.declared.style.Style.{Style}

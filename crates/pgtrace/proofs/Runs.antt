@@ -1,8 +1,8 @@
 -- A listing is that of the run of its stream.
-use Rattle.std.proofs.Common.{ℕ, List, [], ◌∷◌, ◌++◌, Result, ◌+◌, length, refl, sym, ap, subst, append_assoc}
+use Rattle.std.proofs.Common.{ℕ, List, [], ◌∷◌, ◌++◌, Result, ◌+◌, length, sym, ap, subst, append_assoc}
 use Rattle.pgp_base.specs.declared.error.Error.{Error}
 use Rattle.pgp_message.specs.BackendMessage.{Message}
-use Rattle.pgp_message.specs.Stream.{frame_bytes, Frames, BackendRun, TakesFrame}
+use Rattle.pgp_message.specs.Stream.{Frames, BackendRun, TakesFrame}
 use Rattle.pgp_message.proofs.Runs.{frames_none, frames_next}
 use Rattle.pgtrace.specs.declared.style.Style.{Style}
 use Rattle.pgp_message.specs.Stream.{IsEnding}

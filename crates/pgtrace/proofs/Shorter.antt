@@ -1,5 +1,5 @@
 -- A line takes bytes off.
-use Rattle.std.proofs.Common.{◌≡◌, ℕ, ◌+◌, ◌<◌, ◌≤◌, List, [], ◌∷◌, ◌++◌, length, ap, arith, length-append}
+use Rattle.std.proofs.Common.{ℕ, ◌<◌, ◌≤◌, List, [], length, ap, arith, length-append}
 use Rattle.pgtrace.specs.declared.style.Style.{Style}
 use Rattle.pgtrace.specs.Listing.{LineOf}
 use Rattle.pgtrace.specs.Sides.{Side, Server, Client, expected}

@@ -1,8 +1,8 @@
 -- The lines of a server's stream.
-use Rattle.std.proofs.Common.{◌≡◌, ℕ, ◌+◌, List, [], ◌++◌, length, refl, subst, sym}
+use Rattle.std.proofs.Common.{◌≡◌, ℕ, ◌+◌, List, [], length, refl, subst}
 use Rattle.pgtrace.specs.declared.style.Style.{Style}
 use Rattle.pgtrace.specs.Listing.{LineOf, IsServerLine, Lines, NoLines, OneLine, place_behind}
-use Rattle.pgtrace.specs.Sides.{Side, Server, Client}
+use Rattle.pgtrace.specs.Sides.{Side, Server}
 
 -- behind a server's lines come a server's
 pub stays_server : (style : Style) (start : ℕ) (bytes lines : List ℕ) (to : Side) → Lines style start Server bytes lines to → to ≡ Server

@@ -1,19 +1,19 @@
 -- The lines of a stream, a frame and a piece at a time.
-use Rattle.std.proofs.Common.{◌≡◌, ◌⊎◌, ℕ, ◌+◌, ◌-◌, ◌≤◌, Bool, true, false, List, [], ◌∷◌, ◌++◌, length, take, drop, min, Option, Result, Ok, Err, refl, sym, ap, subst, ◌∙◌, arith, inl, inr, length-append, append_assoc}
+use Rattle.std.proofs.Common.{◌≡◌, ◌⊎◌, ℕ, ◌+◌, ◌-◌, ◌≤◌, Bool, true, false, List, [], ◌++◌, length, take, drop, min, Option, Result, Ok, Err, refl, sym, ap, subst, ◌∙◌, arith, inl, inr, length-append, append_assoc}
 use Rattle.std.specs.Prelude.{IfSome, OnOk, OnErr}
 use Rattle.std.specs.Io.KnownBytes.{Appends, Consumes, Keeps, IsAtEnd}
-use Rattle.std.proofs.KnownBytes.{Appends-nil, Appends-trans, Consumes-nil, Consumes-trans, Consumes-kept, Consumes-whole, Keeps-refl}
+use Rattle.std.proofs.KnownBytes.{Appends-nil, Appends-trans, Consumes-nil, Consumes-trans, Consumes-kept, Consumes-whole}
 use Rattle.std.proofs.Math.Nat.{min-eq_left, min-le_right}
 use Rattle.std.proofs.lemmas.List.{append-nil, length-take}
 use Rattle.std.proofs.Math.Seq.{take-append_seam, drop-append_seam}
 use Rattle.pgtrace.specs.declared.style.Style.{Style}
 use Rattle.pgtrace.specs.Listing.{LineOf, Lines, NoLines, OneLine, place_behind, last_line, Streams, WasListed, WritesListing, IsCutShort}
-use Rattle.pgtrace.specs.Sides.{Side, Server, Client, Ends}
+use Rattle.pgtrace.specs.Sides.{Side, Ends}
 use Rattle.pgtrace.specs.Steps.{HasLine, ListsAll, ListsSome, Held, Holds, ListsPiece}
 use Rattle.pgtrace.specs.Taken.{AppendsFront}
 use Rattle.pgtrace.specs.Words.{greatest}
 use Rattle.pgtrace.proofs.Ends.{stays_ended, nothing_ends}
-use Rattle.pgtrace.proofs.Fronts.{none_taken, all_taken, more_taken, kept_nothing, kept_more}
+use Rattle.pgtrace.proofs.Fronts.{none_taken, all_taken, more_taken, kept_nothing}
 use Rattle.pgtrace.proofs.Parts.{saturates}
 
 -- ---- lines behind lines

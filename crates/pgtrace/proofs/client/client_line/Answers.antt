@@ -1,11 +1,11 @@
-use Rattle.std.proofs.Common.{◌≡◌, ◌∙◌, ◌-◌, ◌++◌, ◌∷◌, [], List, ℕ, length, take, Some, Ok, Err, rules, ap, sym, subst}
+use Rattle.std.proofs.Common.{◌≡◌, ◌++◌, ◌∷◌, [], length, Some, Ok, Err, rules}
 use Rattle.std.specs.Prelude.{string_bytes}
 use Rattle.pgp_server.specs.AnyStep.{AnyStep, RefusesAny}
 use Rattle.pgp_server.specs.AnyViews.{any_view}
 use Rattle.pgp_server.specs.Views.{kind_view}
 use Rattle.pgtrace.specs.Client.{client_line}
 use Rattle.pgtrace.specs.Listing.{client_front}
-use Rattle.pgtrace.specs.Sides.{is_told, expected, kinds_behind}
+use Rattle.pgtrace.specs.Sides.{is_told}
 use Rattle.pgtrace.proofs.ClientLines.{message_passed, refusal_passed}
 use Rattle.pgtrace.proofs.client.client_line.Goals as goal
 

@@ -1,4 +1,4 @@
-use Rattle.std.proofs.Common.{◌+◌, rules, refl, map, drop, length}
+use Rattle.std.proofs.Common.{◌+◌, rules, refl, map, drop}
 use Rattle.std.proofs.lemmas.List.{take_rest}
 use Rattle.pgtrace.proofs.OptionLemmas.{came_wrong, place_more, place_left}
 use Rattle.pgtrace.proofs.options.options_of.Goals as goal

@@ -1,4 +1,4 @@
-use Rattle.std.proofs.Common.{◌≡◌, ◌+◌, ◌-◌, ◌++◌, ◌∙◌, ℕ, List, length, min, rules, ap}
+use Rattle.std.proofs.Common.{◌≡◌, ◌+◌, ◌-◌, ◌++◌, ◌∙◌, length, min, rules, ap}
 use Rattle.std.specs.Prelude.{string_bytes}
 use Rattle.pgtrace.specs.Steps.{HasLine, side_of}
 use Rattle.pgtrace.specs.Words.{greatest}

@@ -1,4 +1,4 @@
-use Rattle.std.proofs.Common.{◌≡◌, ◌≤◌, ◌∙◌, List, ℕ, [], length, take, drop, arith, subst, sym}
+use Rattle.std.proofs.Common.{◌≤◌, List, ℕ, [], length, take, drop, arith, subst, sym}
 use Rattle.std.specs.Prelude.{string_bytes}
 use Rattle.std.proofs.KnownBytes.{Keeps-refl}
 use Rattle.pgtrace.specs.Steps.{ListsAll, side_of}
