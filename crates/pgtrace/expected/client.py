@@ -3,19 +3,7 @@
 Each packet or message stands beside its line, which is written by hand after the message formats of the PostgreSQL manual, in
 both styles where they differ. The places and lengths are counted here. Nothing is taken from the program.
 """
-import struct
-
-
-def frame(tag, body):
-    return tag + struct.pack(">I", len(body) + 4) + body
-
-
-def int16(*numbers):
-    return struct.pack(">%dh" % len(numbers), *numbers)
-
-
-def int32(*numbers):
-    return struct.pack(">%di" % len(numbers), *numbers)
+from session import frame, int16, int32
 
 
 def values(*texts):

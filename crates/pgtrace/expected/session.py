@@ -103,4 +103,5 @@ def main():
         file.write(lines)
 
 
-main()
+if __name__ == "__main__":
+    main()
