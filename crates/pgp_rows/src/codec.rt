@@ -7,7 +7,8 @@ use crate::shown::{Shown, same};
 use crate::word::{Word, Words, joined};
 use bytes::BytesMut;
 use pgp_base::{Buffer, Window};
-use std::alloc::Global;
+use pgp_test_alloc::Refusing;
+use std::alloc::{AllocError, Allocator, Global};
 
 /// The calls of a family.
 pub trait Codec {
@@ -126,6 +127,76 @@ fn needs_its_room<C: Codec>(
     same("OutOfMemory \"\"", came)
 }
 
+/// A buffer that holds a message, and has so much room behind it.
+fn with_room<A: Allocator + Copy>(alloc: A, room: usize) -> Result<BytesMut<A>, AllocError> {
+    let mut buf = BytesMut::with_capacity(alloc, SYNC.len().saturating_add(room))?;
+    buf.extend_from_slice(SYNC)?;
+    Ok(buf)
+}
+
+/// What the call comes to where its request of memory of this number is refused, and whether that came.
+fn refused_at<C: Codec>(
+    alloc: Global,
+    name: &str,
+    words: &[Word],
+    room: usize,
+    number: u64,
+) -> Result<(Shown, bool), Fault> {
+    let heap = Refusing::new(alloc, 0);
+    let mut buf: BytesMut<&Refusing<Global>> = with_room(&heap, room)?;
+    heap.until_refusal.set(number);
+    let answer = call::<C, BytesMut<&Refusing<Global>>>(alloc, name, words, &mut buf);
+    let is_refused = heap.until_refusal.get() == 0;
+    let mut came = Shown::new(alloc);
+    show_refusal(answer, &mut came)?;
+    came.bytes(buf.as_slice())?;
+    Ok((came, is_refused))
+}
+
+/// More requests than a row's call makes.
+const REQUESTS: u64 = 1000;
+
+/// In a buffer with so much room behind what it holds each request of memory is refused in turn, until all are granted: a refusal
+/// is told, and leaves what stood there. Answers how many there were.
+fn refusals_of<C: Codec>(
+    alloc: Global,
+    name: &str,
+    words: &[Word],
+    room: usize,
+    wanted: &str,
+) -> Result<u64, Fault> {
+    for number in 1..REQUESTS {
+        let (came, is_refused) = refused_at::<C>(alloc, name, words, room, number)?;
+        if !is_refused {
+            same(wanted, came)?;
+            return Ok(number - 1);
+        }
+        same("OutOfMemory 5300000004", came)?;
+    }
+    Err(Fault::Row)
+}
+
+/// The same for each room that is too small. A buffer may have room for a byte more than was asked for; where more bytes are
+/// missing, the call asks for memory.
+fn grows<C: Codec>(
+    alloc: Global,
+    row: &Row<'_>,
+    name: &str,
+    words: &[Word],
+    len: usize,
+) -> Result<(), Fault> {
+    let (wanted, _) = wanted(alloc, row)?;
+    for room in 0..len {
+        let refusals = refusals_of::<C>(alloc, name, words, room, wanted.as_str())?;
+        if refusals == 0 && 1 < len - room {
+            let mut came = Shown::new(alloc);
+            came.word("asked for no memory")?;
+            return same(wanted.as_str(), came);
+        }
+    }
+    Ok(())
+}
+
 /// What is read from the bytes is as the text.
 fn is_read<C: Codec>(alloc: Global, name: &str, bytes: &[u8], wanted: &str) -> Result<(), Fault> {
     let mut came = Shown::new(alloc);
@@ -142,7 +213,8 @@ fn writes<C: Codec>(alloc: Global, row: &Row<'_>, name: &str, words: &[Word]) ->
     }
     let bytes = row.wanted_bytes(alloc)?;
     fits::<C>(alloc, name, words, &bytes)?;
-    needs_its_room::<C>(alloc, name, words, &bytes)
+    needs_its_room::<C>(alloc, name, words, &bytes)?;
+    grows::<C>(alloc, row, name, words, bytes.len())
 }
 
 /// A row of a call that only writes.
