@@ -1,6 +1,6 @@
 //! Messages that are read in place.
 
-ghost use Rattle.std.specs.Prelude.{◌≡◌, ◌≢◌, ◌≤◌, length, drop, take, Some, Ok, Err, None, IfSome};
+ghost use Rattle.std.specs.Prelude.{◌≡◌, ◌≢◌, Ok, Err, None, IfSome};
 ghost use Rattle.pgp_message.specs.BackendMessage.{DataRow};
 ghost use Rattle.pgp_message.specs.Parts.{CountedBytes};
 ghost use Rattle.pgp_message.specs.Reading.{body_of};

@@ -1,4 +1,4 @@
-use Rattle.std.proofs.Common.{rules, ◌≡◌, ◌∙◌, ℕ, List, take, drop, Ok, Err, refl, sym, ap, false, true}
+use Rattle.std.proofs.Common.{rules, ◌∙◌, Ok, Err, refl, sym, ap, false, true}
 use Rattle.pgp_message.specs.BackendMessage.{DataRow}
 use Rattle.pgp_message.specs.FrontReading.{Front, IsFront, Finds}
 use Rattle.pgp_message.specs.Reading.{body_of}
