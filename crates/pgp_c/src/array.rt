@@ -120,9 +120,9 @@ impl Listed for Dimensions {
 
     ghost Refused = { dimension.Refused };
 
-    fn read(_at: usize, rest: &[u8]) -> Result<(PgpDimension, &[u8]), Error> {
+    fn read(_at: usize, rest: &[u8]) -> Result<(&[u8], PgpDimension), Error> {
         let (dimension, more) = dimension_at(rest)?;
-        Ok((dimension, more))
+        Ok((more, dimension))
     }
 }
 
@@ -145,10 +145,10 @@ impl Listed for Elements {
 
     ghost Refused = { (nullable InvalidValueLength).Refused };
 
-    fn read(at: usize, rest: &[u8]) -> Result<(PgpColumn, &[u8]), Error> {
+    fn read(at: usize, rest: &[u8]) -> Result<(&[u8], PgpColumn), Error> {
         let (value, more) = nullable_at(rest, Error::InvalidValueLength)?;
         let column = column_before(value, at + (rest.len() - more.len()));
-        Ok((column, more))
+        Ok((more, column))
     }
 }
 

@@ -35,15 +35,16 @@ pub trait Listed {
 
     ghost Refused: { List ℕ → Refusal → Type 0 };
 
-    /// The item at the front of what is left, which begins at this place, and what stands behind it.
+    /// What stands behind the item at the front of what is left, which begins at this place; and the item.
+    // In this order no number of the item lies where a refusal would, so that it is stored whole.
     ///
     /// # Errors
     ///
     /// Why no item stands there.
-    fn read(at: usize, rest: &[u8]) -> Result<(Self::Item, &[u8]), Error>
+    fn read(at: usize, rest: &[u8]) -> Result<(&[u8], Self::Item), Error>
         requires { at + length rest.now < 2 ^ 64 }
-        ensures item { IfOk result (λ x. (bytes : List ℕ) → StandsFrom bytes at rest.now → StandsAt Spelled at rest.now (meaning bytes x.0) x.1.now) }
-        ensures shorter { IfOk result (λ x. length x.1.now < length rest.now) }
+        ensures item { IfOk result (λ x. (bytes : List ℕ) → StandsFrom bytes at rest.now → StandsAt Spelled at rest.now (meaning bytes x.1) x.0.now) }
+        ensures shorter { IfOk result (λ x. length x.0.now < length rest.now) }
         ensures refused { IfErr result (λ e. Refused rest.now e) };
 }
 
@@ -79,7 +80,7 @@ fn next_in<L: Listed>(rest: &[u8], cursor: &mut PgpCursor, item: &mut L::Item) -
         return failed(Error::NotDrained);
     }
     match L::read(at, rest) {
-        Ok((read, more)) => {
+        Ok((more, read)) => {
             cursor.at = at + (rest.len() - more.len());
             cursor.left -= 1;
             *item = read;
@@ -105,7 +106,7 @@ pub fn next_marked<L: Listed>(bytes: &[u8], cursor: &mut PgpCursor, item: &mut L
         return failed(Error::NotDrained);
     }
     match L::read(at, rest) {
-        Ok((read, more)) => {
+        Ok((more, read)) => {
             cursor.at = at + (rest.len() - more.len());
             *item = read;
             0

@@ -59,14 +59,14 @@ impl Listed for Fields {
 
     ghost Refused = { FieldRefused };
 
-    fn read(at: usize, rest: &[u8]) -> Result<(PgpField, &[u8]), Error> {
+    fn read(at: usize, rest: &[u8]) -> Result<(&[u8], PgpField), Error> {
         let (name, more) = text_at(rest)?;
         let name = PgpPart {
             at,
             len: name.len(),
         };
         let (field, more) = numbers_at(name, more)?;
-        Ok((field, more))
+        Ok((more, field))
     }
 }
 

@@ -87,14 +87,14 @@ impl Listed for Entries {
 
     ghost Refused = { entry.Refused };
 
-    fn read(at: usize, rest: &[u8]) -> Result<(PgpEntry, &[u8]), Error> {
+    fn read(at: usize, rest: &[u8]) -> Result<(&[u8], PgpEntry), Error> {
         let ((key, value), more) = entry_at(rest)?;
         let key = PgpPart {
             at: at + 4,
             len: key.len(),
         };
         let value = column_before(value, at + (rest.len() - more.len()));
-        Ok((PgpEntry { key, value }, more))
+        Ok((more, PgpEntry { key, value }))
     }
 }
 

@@ -54,14 +54,14 @@ impl Listed for Names {
 
     ghost Refused = { TextRefused };
 
-    fn read(at: usize, rest: &[u8]) -> Result<(PgpPart, &[u8]), Error> {
+    fn read(at: usize, rest: &[u8]) -> Result<(&[u8], PgpPart), Error> {
         let (name, more) = text_at(rest)?;
         Ok((
+            more,
             PgpPart {
                 at,
                 len: name.len(),
             },
-            more,
         ))
     }
 }

@@ -49,9 +49,9 @@ impl Listed for Types {
 
     ghost Refused = { TypeRefused };
 
-    fn read(_at: usize, rest: &[u8]) -> Result<(u32, &[u8]), Error> {
+    fn read(_at: usize, rest: &[u8]) -> Result<(&[u8], u32), Error> {
         let (number, more) = type_at(rest)?;
-        Ok((number, more))
+        Ok((more, number))
     }
 }
 
@@ -72,9 +72,9 @@ impl Listed for Formats {
 
     ghost Refused = { FormatRefused };
 
-    fn read(_at: usize, rest: &[u8]) -> Result<(u16, &[u8]), Error> {
+    fn read(_at: usize, rest: &[u8]) -> Result<(&[u8], u16), Error> {
         let (number, more) = format_at(rest)?;
-        Ok((number, more))
+        Ok((more, number))
     }
 }
 

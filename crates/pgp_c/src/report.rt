@@ -52,13 +52,13 @@ impl Listed for ErrorFields {
 
     ghost Refused = { ErrorFieldRefused };
 
-    fn read(at: usize, rest: &[u8]) -> Result<(PgpErrorField, &[u8]), Error> {
+    fn read(at: usize, rest: &[u8]) -> Result<(&[u8], PgpErrorField), Error> {
         let ((code, value), more) = error_field_at(rest)?;
         let value = PgpPart {
             at: at + 1,
             len: value.len(),
         };
-        Ok((PgpErrorField { value, code }, more))
+        Ok((more, PgpErrorField { value, code }))
     }
 }
 

@@ -16,3 +16,4 @@ pub mod FieldLemmas
 pub mod ErrorFieldLemmas
 pub mod Headers
 pub mod FindLemmas
+pub mod RowSteps

@@ -80,7 +80,7 @@ front_is_one f g x y ff gg e =
     (same_frame f g tags parts.0, parts.1)
 
 -- a frame is no ending
-no_ending : (f : Frame) (x : List ℕ) (stopped : Bool) → IsFrame f → IsEnding stopped (frame_bytes f ++ x) → ⊥
+pub no_ending : (f : Frame) (x : List ℕ) (stopped : Bool) → IsFrame f → IsEnding stopped (frame_bytes f ++ x) → ⊥
 no_ending f x false fits part =
     let is = announced_frame f x fits in
     elim (partial_is (frame_bytes f ++ x) part) [

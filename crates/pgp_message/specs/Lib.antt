@@ -11,3 +11,4 @@ pub mod Reading
 pub mod ItemReading
 pub mod FrontReading
 pub mod FrameSteps
+pub mod Rows

@@ -1,12 +1,18 @@
 //! Messages that are read in place.
 
-ghost use Rattle.std.specs.Prelude.{◌≡◌, Ok, Err, None};
+ghost use Rattle.std.specs.Prelude.{◌≡◌, ◌≢◌, Ok, Err, None, IfSome};
+ghost use Rattle.pgp_message.specs.BackendMessage.{DataRow};
+ghost use Rattle.pgp_message.specs.Parts.{CountedBytes};
+ghost use Rattle.pgp_message.specs.Reading.{body_of};
+ghost use Rattle.pgp_message.specs.Rows.{TakesRow};
 ghost use Rattle.pgp_message.specs.Stream.{Step, IsPartial, IsLengthFault};
 ghost use Rattle.pgp_message.specs.Views.{parsed};
 
+use crate::body::DataRowBody;
 use crate::dispatch::body;
 use crate::frame::{Front, header_of};
 use crate::message::Message;
+use crate::tag::DATA_ROW_TAG;
 use pgp_base::Error;
 use std::marker::Model;
 
@@ -61,5 +67,43 @@ impl<'a> Messages<'a> {
         let (_, rest) = self.rest.split_at(front.total);
         self.rest = rest;
         body(front.tag, payload).map(Some)
+    }
+
+    /// Takes the row at the front. Where no whole row stands there, nothing is passed, and `next` tells what does.
+    // The hint carries the speed of rows: else the row goes through memory.
+    #[inline(always)]
+    pub fn next_row(&mut self) -> Option<DataRowBody<&'a [u8]>>
+        ensures { TakesRow self.old result self.new }
+    {
+        let front = match Front::find(header_of(self.rest), self.rest) {
+            Ok(Some(front)) => front,
+            Ok(None) => return None,
+            Err(_) => return None,
+        };
+        match row_of(front.tag, &self.rest[5..front.total]) {
+            Some(row) => {
+                let (_, behind) = self.rest.split_at(front.total);
+                self.rest = behind;
+                Some(row)
+            }
+            None => None,
+        }
+    }
+}
+
+/// The row of a frame, where its tag is that of rows and its body is whole.
+// The hint carries the speed of rows, as above.
+#[inline(always)]
+#[tactic(auto, unfolding(crate::specs::Reading::body_of))]
+fn row_of(tag: u8, payload: &[u8]) -> Option<DataRowBody<&[u8]>>
+    ensures some { IfSome result (λ row. body_of tag payload.now ≡ Ok (DataRow row)) }
+    ensures none { result ≡ None → (row : CountedBytes) → body_of tag payload.now ≢ Ok (DataRow row) }
+{
+    if tag != DATA_ROW_TAG {
+        return None;
+    }
+    match DataRowBody::read(payload) {
+        Ok(row) => Some(row),
+        Err(_) => None,
     }
 }

@@ -8,17 +8,17 @@ use Rattle.pgp_c.specs.Listings.{range_of}
 use Rattle.pgp_c.proofs.Listings.{reader_shorter}
 use Rattle.pgp_c.proofs.row.ValuesListed.read.Goals as goal
 
-pub returns-in_err-column-clause-refused : goal.returns-in_err-column-clause-refused
-returns-in_err-column-clause-refused c =
+pub returns-in_err-more-clause-refused : goal.returns-in_err-more-clause-refused
+returns-in_err-more-clause-refused c =
     let each : IsBytes c.args.rest.now = λ i. omega (arith, c.type_inv.rest i) in
-    if_err_at _ _ _ c.from_residual.ensures.1 (range_reader.refused c.args.at c.args.rest.now _ each c.in_err-column.ensures)
+    if_err_at _ _ _ c.from_residual.ensures.1 (range_reader.refused c.args.at c.args.rest.now _ each c.in_err-more.ensures)
 
 pub returns-clause-item : goal.returns-clause-item
 returns-clause-item c bytes stands =
     let each : IsBytes c.args.rest.now = λ i. omega (arith, c.type_inv.rest i) in
-    range_reader.found c.args.at c.args.rest.now (range_of c.in_ok-column.column) c.in_ok-column.more.now each c.in_ok-column.ensures
+    range_reader.found c.args.at c.args.rest.now (range_of c.in_ok-more.column) c.in_ok-more.more.now each c.in_ok-more.ensures
 
 pub returns-clause-shorter : goal.returns-clause-shorter
 returns-clause-shorter c =
     let each : IsBytes c.args.rest.now = λ i. omega (arith, c.type_inv.rest i) in
-    reader_shorter RangeSpelled RangeRefused range_at range_reader c.args.at c.args.rest.now (range_of c.in_ok-column.column) c.in_ok-column.more.now each c.in_ok-column.ensures
+    reader_shorter RangeSpelled RangeRefused range_at range_reader c.args.at c.args.rest.now (range_of c.in_ok-more.column) c.in_ok-more.more.now each c.in_ok-more.ensures
