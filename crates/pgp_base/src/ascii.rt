@@ -8,21 +8,12 @@ use std::simd::prelude::*;
 /// The bytes of the widest look.
 pub(crate) const BLOCK_LEN: usize = 64;
 
-/// The bytes of two such looks, which are tested at once.
+/// The bytes of two such looks.
 pub(crate) const PAIR_LEN: usize = 128;
-
-// No byte of the 128 at `at` is above 127.
-#[inline(always)]
-pub(crate) fn are_ascii_128(bytes: &[u8], at: usize) -> bool
-    requires { at + 128 ≤ length bytes.now }
-    ensures { IsTrue result → AreAscii bytes.now at (at + 128) }
-{
-    are_ascii_64(bytes, at) & are_ascii_64(bytes, at + BLOCK_LEN)
-}
 
 // No byte of the 64 at `at` is above 127.
 #[inline(always)]
-fn are_ascii_64(bytes: &[u8], at: usize) -> bool
+pub(crate) fn are_ascii_64(bytes: &[u8], at: usize) -> bool
     requires { at + 64 ≤ length bytes.now }
     ensures { IsTrue result → AreAscii bytes.now at (at + 64) }
 {

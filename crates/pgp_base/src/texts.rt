@@ -4,7 +4,7 @@ ghost use Rattle.std.specs.Prelude.{◌≡◌, ◌↔◌, ◌≤◌, ◌<◌, le
 ghost use Rattle.pgp_base.specs.Ascii.{AreAscii};
 
 use crate::ascii::{
-    BLOCK_LEN, PAIR_LEN, are_ascii, are_ascii_128, are_ascii_from, ascii_front, is_dense,
+    BLOCK_LEN, PAIR_LEN, are_ascii, are_ascii_64, are_ascii_from, ascii_front, is_dense,
 };
 use crate::characters::are_characters;
 use crate::error::Error;
@@ -44,7 +44,6 @@ fn is_text_past(bytes: &[u8], at: usize) -> bool
 }
 
 // Whether the bytes are text, of which there are more than one look shows.
-#[inline(never)]
 fn is_long_text(bytes: &[u8]) -> bool
     requires { BLOCK_LEN < length bytes.now }
     ensures { IsTrue result ↔ IsUtf8 bytes.now }
@@ -52,10 +51,10 @@ fn is_long_text(bytes: &[u8]) -> bool
     let len = bytes.len();
     let mut at = 0;
     'lanes: while PAIR_LEN < len - at {
-        if !are_ascii_128(bytes, at) {
+        if !are_ascii_64(bytes, at) {
             return is_text_past(bytes, at);
         }
-        at += PAIR_LEN;
+        at += BLOCK_LEN;
     }
     are_ascii_from(bytes, at) || is_text_past(bytes, at)
 }
