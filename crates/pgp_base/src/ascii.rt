@@ -8,6 +8,9 @@ use std::simd::prelude::*;
 /// The bytes of the widest look.
 pub(crate) const BLOCK_LEN: usize = 64;
 
+/// The bytes of two such looks.
+pub(crate) const PAIR_LEN: usize = 128;
+
 // No byte of the 64 at `at` is above 127.
 #[inline(always)]
 pub(crate) fn are_ascii_64(bytes: &[u8], at: usize) -> bool
@@ -58,16 +61,27 @@ fn are_ascii_4(bytes: &[u8], at: usize) -> bool
     lanes.simd_ge(u8x4::splat(128)).to_bitmask() == 0
 }
 
-// No byte from `at` on is above 127, where at most 64 are left. Two looks that may overlap cover them.
+// No byte from `at` on is above 127, where at most 128 are left of 64 or more. Two looks that may overlap cover them.
 #[inline(always)]
 pub(crate) fn are_ascii_from(bytes: &[u8], at: usize) -> bool
     requires within { at ≤ length bytes.now }
-    requires short { length bytes.now ≤ at + BLOCK_LEN }
+    requires short { length bytes.now ≤ at + PAIR_LEN }
+    requires long { BLOCK_LEN ≤ length bytes.now }
     ensures { IsTrue result → AreAscii bytes.now at (length bytes.now) }
+{
+    let last = bytes.len() - BLOCK_LEN;
+    are_ascii_64(bytes, at.min(last)) & are_ascii_64(bytes, last)
+}
+
+// No byte is above 127, where there are at most 64. Two looks that may overlap cover them.
+#[inline(always)]
+pub(crate) fn are_ascii(bytes: &[u8]) -> bool
+    requires { length bytes.now ≤ BLOCK_LEN }
+    ensures { IsTrue result → AreAscii bytes.now 0 (length bytes.now) }
 {
     let len = bytes.len();
     if 32 <= len {
-        are_ascii_32(bytes, at.min(len - 32)) & are_ascii_32(bytes, len - 32)
+        are_ascii_32(bytes, 0) & are_ascii_32(bytes, len - 32)
     } else if 16 <= len {
         are_ascii_16(bytes, 0) & are_ascii_16(bytes, len - 16)
     } else if 8 <= len {

@@ -1,9 +1,11 @@
 //! Bytes as text: ASCII is looked at many bytes at a time, and only the rest is read by characters.
 
-ghost use Rattle.std.specs.Prelude.{◌≡◌, ◌↔◌, ◌≤◌, length, IsTrue, IsUtf8, MatchResult};
+ghost use Rattle.std.specs.Prelude.{◌≡◌, ◌↔◌, ◌≤◌, ◌<◌, length, IsTrue, IsUtf8, MatchResult};
 ghost use Rattle.pgp_base.specs.Ascii.{AreAscii};
 
-use crate::ascii::{BLOCK_LEN, are_ascii_64, are_ascii_from, ascii_front, is_dense};
+use crate::ascii::{
+    BLOCK_LEN, PAIR_LEN, are_ascii, are_ascii_64, are_ascii_from, ascii_front, is_dense,
+};
 use crate::characters::are_characters;
 use crate::error::Error;
 use simdutf8::is_utf8;
@@ -41,6 +43,22 @@ fn is_text_past(bytes: &[u8], at: usize) -> bool
     is_mixed_text(&bytes[at..])
 }
 
+// Whether the bytes are text, of which there are more than one look shows.
+fn is_long_text(bytes: &[u8]) -> bool
+    requires { BLOCK_LEN < length bytes.now }
+    ensures { IsTrue result ↔ IsUtf8 bytes.now }
+{
+    let len = bytes.len();
+    let mut at = 0;
+    'lanes: while PAIR_LEN < len - at {
+        if !are_ascii_64(bytes, at) {
+            return is_text_past(bytes, at);
+        }
+        at += BLOCK_LEN;
+    }
+    are_ascii_from(bytes, at) || is_text_past(bytes, at)
+}
+
 // Whether the bytes are text.
 fn is_text(bytes: &[u8]) -> bool
     ensures { IsTrue result ↔ IsUtf8 bytes.now }
@@ -50,15 +68,10 @@ fn is_text(bytes: &[u8]) -> bool
     {
         return is_mixed_text(bytes);
     }
-    let len = bytes.len();
-    let mut at = 0;
-    'lanes: while BLOCK_LEN < len - at {
-        if !are_ascii_64(bytes, at) {
-            return is_text_past(bytes, at);
-        }
-        at += BLOCK_LEN;
+    if BLOCK_LEN < bytes.len() {
+        return is_long_text(bytes);
     }
-    are_ascii_from(bytes, at) || is_text_past(bytes, at)
+    are_ascii(bytes) || is_mixed_text(bytes)
 }
 
 /// The bytes as text: what `str::from_utf8` gives, faster where they are ASCII.

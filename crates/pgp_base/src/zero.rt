@@ -98,8 +98,13 @@ pub(crate) fn first_zero(bytes: &[u8]) -> Option<usize>
             Some(at) => Some(at),
             None => zero_in_8(bytes, len - 8),
         }
+    } else if 4 <= len {
+        match zero_in_4(bytes, 0) {
+            Some(at) => Some(at),
+            None => zero_in_4(bytes, len - 4),
+        }
     } else {
-        memchr(0, bytes)
+        zero_in_few(bytes)
     }
 }
 

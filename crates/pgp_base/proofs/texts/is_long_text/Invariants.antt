@@ -1,6 +1,6 @@
 use Rattle.std.proofs.Common.{◌-◌, ◌≤◌, length}
 use Rattle.pgp_base.specs.Ascii.{AreAscii}
-use Rattle.pgp_base.proofs.texts.is_text.Given as goal
+use Rattle.pgp_base.proofs.texts.is_long_text.Given as goal
 
 abbrev pub invariant-lanes : goal.invariant-lanes
 invariant-lanes l = (l.at ≤ length l.bytes) × AreAscii l.bytes 0 l.at
