@@ -91,7 +91,7 @@ line_alike limit place opened kinds f g line to alike is =
         result = s;
         step = reads;
         told = is.told.told ∙ ap (λ l. l ++ 10 ∷ []) (answers_alike limit (is_told kinds) is.told.result s (client_front place opened f) same
-        ∙ ap (client_line (quiet limit) (is_told kinds) s) (same_front place opened f g alike.tagged alike.long));
+            ∙ ap (client_line (quiet limit) (is_told kinds) s) (same_front place opened f g alike.tagged alike.long));
       };
       behind = is.behind ∙ ap (Client is.now) (same_kinds opened kinds f g alike.tagged alike.long);
     }

@@ -94,7 +94,6 @@ pub front_utf8 : (bytes : List ℕ) → IsUtf8 (take (utf8_valid_len bytes) byte
 unfolding utf8_valid_len
 front_utf8 bytes = front_up_to bytes (length bytes)
 
-
 whole_at : (bytes : List ℕ) (n : ℕ) → n ≡ length bytes → escaped_at n bytes ≡ escaped_text bytes
 whole_at bytes n e =
     ap (λ k. escaped_at k bytes) e

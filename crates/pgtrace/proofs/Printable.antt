@@ -130,7 +130,7 @@ join xs ys a b = record {
   characters = a.characters ++ b.characters;
   scalars = scalars_join a.characters b.characters a.scalars b.scalars;
   spelled = ap (λ l. l ++ ys) a.spelled ∙ ap (λ l. encode_utf8_all a.characters ++ l) b.spelled ∙ sym (encodes-append a.characters b.characters);
-  printed = list_join is_printable a.characters b.characters a.printed b.printed
+  printed = list_join is_printable a.characters b.characters a.printed b.printed;
 }
 
 number : (n : ℕ) → IsPrinted (decimal n)

@@ -3,8 +3,8 @@
 ghost use Rattle.std.specs.Prelude.{◌≡◌, ◌∷◌, ◌++◌, [], pos, None, Some, OnErr, OnOk, string_bytes};
 ghost use Rattle.pgtrace.specs.Line.{Word, Number, Left, Right, Oid, Tag, Text, Value, Hidden, blanks, followed, named, right};
 
-use crate::types::type_of;
 use crate::quote::{put_byte, put_bytes, put_cut_text, put_value};
+use crate::types::type_of;
 use pgp_base::Memory;
 use std::alloc::AllocError;
 
@@ -88,11 +88,7 @@ pub fn put_called<A: Memory>(
 }
 
 /// Adds a word in a column of so many characters.
-fn put_left<A: Memory>(
-    width: usize,
-    word: &str,
-    line: &mut String<A>,
-) -> Result<(), AllocError>
+fn put_left<A: Memory>(width: usize, word: &str, line: &mut String<A>) -> Result<(), AllocError>
     ensures part { OnOk result (string_bytes line.new ≡ followed 0 (string_bytes line.old) (Left width word.now ∷ [])) }
     ensures lacks { OnErr result A.Lacks }
 {

@@ -8,7 +8,9 @@ ghost use Rattle.pgp_message.specs.Table.{IsPlaceIn};
 ghost use Rattle.pgtrace.specs.Line.{Word, followed};
 ghost use Rattle.pgtrace.specs.Shown.{column_parts, fault, field_parts, list_of, name_or, number_part, text_part, type_part, value_part};
 
-use crate::line::{put_name, put_null, put_number, put_signed, put_some, put_text, put_type, put_word};
+use crate::line::{
+    put_name, put_null, put_number, put_signed, put_some, put_text, put_type, put_word,
+};
 use crate::names::{field_of, refusal_of};
 use pgp_base::{Error, FallibleIterator, Memory};
 use pgp_message::{

@@ -106,11 +106,7 @@ fn put_escaped<A: Memory>(bytes: &[u8], line: &mut String<A>) -> Result<(), Allo
 }
 
 /// Adds the characters of so many bytes, and then bytes.
-fn put_broken<A: Memory>(
-    bytes: &[u8],
-    len: usize,
-    line: &mut String<A>,
-) -> Result<(), AllocError>
+fn put_broken<A: Memory>(bytes: &[u8], len: usize, line: &mut String<A>) -> Result<(), AllocError>
     requires within { len ≤ length bytes.now }
     requires utf8 { IsUtf8 (take len bytes.now) }
     ensures text { OnOk result (string_bytes line.new ≡ string_bytes line.old ++ escaped_at len bytes.now) }
@@ -140,10 +136,7 @@ fn put_text<A: Memory>(text: &str, line: &mut String<A>) -> Result<(), AllocErro
 }
 
 /// Adds the characters at the front that stand as they are, at once, and gives what is behind them.
-fn put_plain<'t, A: Memory>(
-    text: &'t str,
-    line: &mut String<A>,
-) -> Result<&'t str, AllocError>
+fn put_plain<'t, A: Memory>(text: &'t str, line: &mut String<A>) -> Result<&'t str, AllocError>
     ensures text { IfOk result (λ rest. string_bytes line.new ++ escaped_text rest.now ≡ string_bytes line.old ++ escaped_text text.now) }
     ensures len { IfOk result (λ rest. length rest.now ≤ length text.now) }
     ensures lacks { OnErr result A.Lacks }
@@ -154,10 +147,7 @@ fn put_plain<'t, A: Memory>(
 }
 
 /// Adds the next character, if there is one, and gives what is behind it.
-fn put_next<'t, A: Memory>(
-    text: &'t str,
-    line: &mut String<A>,
-) -> Result<&'t str, AllocError>
+fn put_next<'t, A: Memory>(text: &'t str, line: &mut String<A>) -> Result<&'t str, AllocError>
     ensures text { IfOk result (λ rest. string_bytes line.new ++ escaped_text rest.now ≡ string_bytes line.old ++ escaped_text text.now) }
     ensures len { IfOk result (λ rest. (length rest.now ≡ 0) ⊎ (length rest.now < length text.now)) }
     ensures lacks { OnErr result A.Lacks }

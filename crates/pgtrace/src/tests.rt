@@ -20,7 +20,8 @@ const STREAM: &[u8] =
 
 const FIRST: &str = "         0        9 S ParameterStatus      name \"n\" value \"\\x0a\"\n";
 
-const TWO: &str = "         0        9 S ParameterStatus      name \"n\" value \"\\x0a\"\n         9        6 Z ReadyForQuery        idle\n";
+const TWO: &str =
+    "         0        9 S ParameterStatus      name \"n\" value \"\\x0a\"\n         9        6 Z ReadyForQuery        idle\n";
 
 const THREE: &str =
     "         0        9 S ParameterStatus      name \"n\" value \"\\x0a\"\n         9        6 Z ReadyForQuery        idle\n        15       13 K BackendKeyData       process 1 key (4 bytes)\n";
