@@ -1,10 +1,10 @@
 -- A client's streams that differ in their secrets alone have the same lines.
-use Rattle.std.proofs.Common.{◌≡◌, ℕ, ◌+◌, ◌-◌, ◌<◌, Bool, true, false, List, [], ◌∷◌, ◌++◌, length, drop, get_or, Option, Some, None, Result, Ok, Err, inl, inr, refl, sym, ap, subst, ◌∙◌, append_assoc, arith}
+use Rattle.std.proofs.Common.{◌≡◌, ℕ, ◌+◌, ◌<◌, Bool, true, false, List, [], ◌∷◌, ◌++◌, length, drop, get_or, Option, Some, None, Result, Ok, Err, inl, inr, refl, sym, ap, subst, ◌∙◌, append_assoc, arith}
 use Rattle.std.specs.Prelude.{◌==◌, if◌then◌else◌}
 use Rattle.std.specs.List.{concat}
 use Rattle.std.proofs.lemmas.List.{append-nil, length-append}
 use Rattle.pgp_base.specs.Wire.{uint32}
-use Rattle.pgp_frontend.specs.ClientMessage.{CancelRequest, PasswordMessage, SaslInitialResponse, SaslResponse, PasswordKind}
+use Rattle.pgp_frontend.specs.ClientMessage.{CancelRequest, PasswordMessage, SaslInitialResponse, SaslResponse}
 use Rattle.pgp_server.specs.AnyStep.{AnyStep}
 use Rattle.pgp_frontend.specs.Payload.{framed, payload, tag_of}
 use Rattle.pgp_server.specs.OtherMessage.{AnyMessage, Ours, Other, other_payload, other_tag}

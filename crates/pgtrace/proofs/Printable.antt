@@ -4,7 +4,7 @@ use Rattle.std.specs.Prelude.{◌/◌, ◌%◌, ◌||◌, nat_le, nat_lt, ◌==�
 use lib.Utf8.{scalar as is_scalar}
 use Rattle.std.specs.Char.{encode_utf8, IsScalar}
 use Rattle.std.specs.Fmt.{digits as numerals, digits_onto, digit_glyph, signed_decimal}
-use Rattle.std.specs.List.{flat_map, list_any, list_all}
+use Rattle.std.specs.List.{flat_map, list_all}
 use Rattle.std.proofs.lemmas.Bool.{eqb-true, leb-true, le-leb, lt-ltb, and_from, and_parts}
 use Rattle.std.proofs.lemmas.List.{append-nil}
 use Rattle.std.proofs.lemmas.Str.{chars-IsAscii, encodes-append, encodes-IsAscii, IsUtf8-from_ascii, scalars-chars}

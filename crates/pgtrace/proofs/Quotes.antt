@@ -2,7 +2,7 @@
 use Rattle.std.proofs.Common.{◌≡◌, ◌≢◌, ◌⊎◌, ℕ, suc, ◌+◌, ◌<◌, ◌≤◌, Bool, true, false, List, [], ◌∷◌, ◌++◌, length, take, drop, get_or, Some, None, refl, sym, ap, subst, ◌∙◌, arith, inl, inr, append_assoc}
 use Rattle.std.specs.Prelude.{◌/◌, ◌%◌, ◌||◌, nat_le, ◌==◌, if◌then◌else◌, codes, decimal}
 use Rattle.std.specs.Char.{encode_utf8}
-use Rattle.std.specs.List.{flat_map, list_any, AllByRecursion}
+use Rattle.std.specs.List.{flat_map, AllByRecursion}
 use Rattle.std.specs.Str.{chars, encode_utf8_all, IsUtf8}
 use Rattle.std.specs.Str.Lossy.{utf8_valid_len}
 use Rattle.std.proofs.Math.ListN.{get_or-append}
@@ -10,7 +10,7 @@ use Rattle.std.proofs.lemmas.Bool.{eqb-true, eqb-false, leb-true, leb-false, le-
 use Rattle.std.proofs.lemmas.List.{append-nil, take-append-drop}
 use Rattle.std.proofs.lemmas.List.Concat.{flat_map-cons}
 use Rattle.std.proofs.lemmas.Str.{encode_ascii, encodes-chars, inside_one}
-use Rattle.pgtrace.specs.Quoting.{digits, hex_digit, hex_byte, hex_escape, is_mark, is_printable, is_text, is_visible, escaped_at, escaped_byte, escaped_char, escaped, quoted, value, up_to}
+use Rattle.pgtrace.specs.Quoting.{digits, hex_digit, hex_byte, hex_escape, is_mark, is_printable, is_text, is_visible, escaped_byte, escaped_char, escaped, quoted, value, up_to}
 use Rattle.pgtrace.proofs.Escapes.{front_utf8}
 use Rattle.pgtrace.specs.Line.{Value, shown}
 

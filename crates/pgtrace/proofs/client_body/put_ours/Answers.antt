@@ -1,5 +1,5 @@
 -- Each message's calls, one behind another.
-use Rattle.std.proofs.Common.{◌≡◌, [], ◌∷◌, ap, subst, sym, ◌∙◌}
+use Rattle.std.proofs.Common.{◌≡◌, [], ◌∷◌, ap, subst, ◌∙◌}
 use Rattle.std.specs.Prelude.{codes, string_bytes, OnOk}
 use Rattle.pgtrace.specs.Client.{client_value, counted, signed_part}
 use Rattle.pgtrace.specs.Line.{Word, followed}

@@ -1,4 +1,4 @@
-use Rattle.std.proofs.Common.{◌≡◌, ◌∷◌, ◌++◌, ap, subst, ◌∙◌}
+use Rattle.std.proofs.Common.{◌≡◌, ◌++◌, ap, subst, ◌∙◌}
 use Rattle.std.specs.Prelude.{string_bytes, OnOk}
 use Rattle.std.specs.Fmt.{styled_decimal}
 use Rattle.pgtrace.proofs.Columns.{right_10}
