@@ -81,6 +81,25 @@ fn in_place(bytes: &[u8], out: &mut Shown) -> Result<(), Fault> {
     show_rest(messages.rest(), out)
 }
 
+/// The next message, a row by the call that takes rows alone.
+fn next_by_row<'a>(messages: &mut Messages<'a>) -> Result<Option<Message<&'a [u8]>>, Error> {
+    match messages.next_row() {
+        Some(row) => Ok(Some(Message::DataRow(row))),
+        None => messages.next(),
+    }
+}
+
+/// In place, with the rows taken alone.
+fn by_rows(bytes: &[u8], out: &mut Shown) -> Result<(), Fault> {
+    let mut messages = Messages::new(bytes);
+    for _ in 0..MOST {
+        if !show_step(next_by_row(&mut messages), out)? {
+            break;
+        }
+    }
+    show_rest(messages.rest(), out)
+}
+
 /// Takes what can be taken, and tells whether a length stopped it.
 fn drain(parser: &mut FrameParser, buf: &mut BytesMut, out: &mut Shown) -> Result<bool, Fault> {
     for _ in 0..MOST {
@@ -149,6 +168,9 @@ pub fn check_server(alloc: Global, row: &Row<'_>) -> Result<(), Fault> {
     same(row.right, out)?;
     let mut out = Shown::new(alloc);
     in_place(&bytes, &mut out)?;
+    same(row.right, out)?;
+    let mut out = Shown::new(alloc);
+    by_rows(&bytes, &mut out)?;
     same(row.right, out)?;
     let mut out = Shown::new(alloc);
     by_bytes(&bytes, &mut out)?;

@@ -3,7 +3,7 @@
 Each packet or message stands beside its line, which is written by hand after the message formats of the PostgreSQL manual, in
 both styles where they differ. The places and lengths are counted here. Nothing is taken from the program.
 """
-from session import frame, int16, int32
+from session import frame, int16, int32, line
 
 
 def values(*texts):
@@ -26,7 +26,7 @@ SESSION = [
     (b"p", b"c=biws", "SASLResponse data (6 bytes)", 'SASLResponse data "c=biws"'),
     (b"p", b"more\0", "Password, SASLInitialResponse or SASLResponse (5 bytes)"),
     (b"Q", b"select 1\0", 'Query query "select 1"'),
-    (b"P", b"s\0select $1, $2\0" + int16(2) + int32(23, 25), 'Parse statement "s" query "select $1, $2" types 2 23 25'),
+    (b"P", b"s\0select $1, $2\0" + int16(2) + int32(23, 25), 'Parse statement "s" query "select $1, $2" types 2 23 int4 25 text'),
     (b"P", b"\0commit\0" + int16(0), 'Parse statement "" query "commit" types 0'),
     (
         b"B",
@@ -63,7 +63,7 @@ def listed(rows, style, rest):
     lines, place = "", 0
     for row in rows:
         n = len(frame(row[0], row[1]))
-        lines += "%d %d %s %s\n" % (place, n, row[0].decode() or "-", row[2:][min(style, len(row) - 3)])
+        lines += line(place, n, row[0].decode() or "-", row[2:][min(style, len(row) - 3)])
         place += n
     return lines + "rest %d\n" % rest
 

@@ -18,8 +18,20 @@ def int32(*numbers):
     return struct.pack(">%di" % len(numbers), *numbers)
 
 
+def line(place, length, tag, text):
+    """A line: the place and the length at the right of 10 and 8 characters, and a name at the left of 20 where more stands behind it."""
+    name, _, more = text.partition(" ")
+    if more and name not in ("fault", "Password,"):
+        text = name.ljust(20) + " " + more
+    return "%10d %8d %s %s\n" % (place, length, tag, text)
+
+
 def column(name, table, number, type_, size, modifier, format_):
     return name + b"\0" + int32(table) + int16(number) + int32(type_) + int16(size) + int32(modifier) + int16(format_)
+
+
+def value(bytes_):
+    return int32(len(bytes_)) + bytes_
 
 
 FRAMES = [
@@ -40,12 +52,12 @@ FRAMES = [
     (b"K", int32(4711, -2), "BackendKeyData process 4711 key (4 bytes)"),
     (b"Z", b"I", "ReadyForQuery idle"),
     (b"1", b"", "ParseComplete"),
-    (b"t", int16(2) + int32(23, 25), "ParameterDescription types 2 23 25"),
+    (b"t", int16(3) + int32(23, 25, 16385), "ParameterDescription types 3 23 int4 25 text 16385"),
     (
         b"T",
         int16(2) + column(b"id", 16384, 1, 23, 4, -1, 0) + column(b"a\nb", 0, 0, 25, -1, -1, 1),
-        'RowDescription columns 2 "id" table 16384 column 1 type 23 size 4 modifier -1 format 0'
-        ' "a\\x0ab" table 0 column 0 type 25 size -1 modifier -1 format 1',
+        'RowDescription columns 2 "id" table 16384 column 1 type 23 int4 size 4 modifier -1 format 0'
+        ' "a\\x0ab" table 0 column 0 type 25 text size -1 modifier -1 format 1',
     ),
     (b"2", b"", "BindComplete"),
     (
@@ -53,7 +65,14 @@ FRAMES = [
         int16(4) + int32(1) + b"1" + int32(-1) + int32(0) + int32(9) + b'a"b\\c\n\x1b[m',
         'DataRow values 4 "1" NULL "" "a\\"b\\\\c\\x0a\\x1b[m"',
     ),
-    (b"D", int16(3) + int32(4) + b"\0\0\0\x05" + int32(7) + b"Z\xc3\xbcrich" + int32(4) + b"NULL", 'DataRow values 3 \\x00000005 "Z\\xc3\\xbcrich" "NULL"'),
+    (b"D", int16(3) + int32(4) + b"\0\0\0\x05" + int32(7) + b"Z\xc3\xbcrich" + int32(4) + b"NULL", 'DataRow values 3 \\x00000005 "Zürich" "NULL"'),
+    (
+        b"D",
+        int16(3) + value(b"Z\xfcrich") + value("¡日本 😀 שלום".encode()) + value("a\u00a0b\u00ad\u200b\ufeff\ue000".encode()),
+        'DataRow values 3 \\x5afc72696368 "¡日本 😀 שלום" "a\\xc2\\xa0b\\xc2\\xad\\xe2\\x80\\x8b\\xef\\xbb\\xbf\\xee\\x80\\x80"',
+    ),
+    (b"D", int16(1) + value(b"0123456789" * 6 + b"abc\xc3\xbc"), 'DataRow values 1 "' + "0123456789" * 6 + 'abc\\xc3" of 65 bytes'),
+    (b"D", int16(1) + value(b"0123456789" * 6 + b"abcd\xff"), "DataRow values 1 \\x" + "30313233343536373839" * 6 + "61626364 of 65 bytes"),
     (b"D", int16(1) + int32(65) + b"0123456789" * 6 + b"abcde", 'DataRow values 1 "' + "0123456789" * 6 + 'abcd" of 65 bytes'),
     (b"D", int16(1) + int32(64) + b"0123456789" * 6 + b"abcd", 'DataRow values 1 "' + "0123456789" * 6 + 'abcd"'),
     (b"D", int16(2) + int32(1) + b"1", 'DataRow values 2 "1" fault 7 UnexpectedEof'),
@@ -64,8 +83,8 @@ FRAMES = [
     (b"I", b"", "EmptyQueryResponse"),
     (
         b"E",
-        b"SERROR\0C42P01\0Mrelation \"t\" does not exist\0P15\0Zx\0\0",
-        'ErrorResponse severity "ERROR" code "42P01" message "relation \\"t\\" does not exist" position "15" Z "x"',
+        b"SERROR\0C42P01\0Dna\xefve\0Mrelation \"t\" does not exist\0P15\0Zx\0\0",
+        'ErrorResponse severity "ERROR" code "42P01" detail "na\\xefve" message "relation \\"t\\" does not exist" position "15" Z "x"',
     ),
     (b"Z", b"E", "ReadyForQuery failed"),
     (
@@ -81,7 +100,7 @@ FRAMES = [
     (b"H", b"\1" + int16(1, 1), "CopyOutResponse format 1 columns 1 1"),
     (b"d", b"1\ta\n", 'CopyData data "1\\x09a\\x0a"'),
     (b"c", b"", "CopyDone"),
-    (b"\n", b"", "\\x0a fault 5 UnknownTag"),
+    (b"\n", b"", "fault 5 UnknownTag"),
     (b"R", int32(99), "fault 6 UnknownAuthentication"),
     (b"1", b"x", "fault 8 NotDrained"),
 ]
@@ -93,13 +112,12 @@ def main():
     bytes_, lines = b"", ""
     for tag, body, text in FRAMES:
         one = frame(tag, body)
-        shown = "" if text.startswith("\\x0a") else tag.decode() + " "
-        lines += "%d %d %s%s\n" % (len(bytes_), len(one), shown, text)
+        lines += line(len(bytes_), len(one), "\\x0a" if tag == b"\n" else tag.decode(), text)
         bytes_ += one
     lines += "rest %d\n" % len(REST)
     with open("stdin", "wb") as file:
         file.write(bytes_ + REST)
-    with open("stdout", "w") as file:
+    with open("stdout", "w", encoding="utf-8") as file:
         file.write(lines)
 
 

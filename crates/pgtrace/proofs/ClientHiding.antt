@@ -5,12 +5,12 @@ use Rattle.pgp_frontend.specs.ClientMessage.{CancelRequest, PasswordMessage, Sas
 use Rattle.pgp_server.specs.OtherMessage.{Ours}
 use Rattle.pgtrace.specs.declared.style.Style.{Style}
 use Rattle.pgtrace.specs.Client.{client_line, grouped}
-use Rattle.pgtrace.specs.Line.{Part, Word, Number, Text, Hidden, followed}
+use Rattle.pgtrace.specs.Line.{Part, Left, Word, Number, Text, Hidden, followed}
 use Rattle.pgtrace.specs.Secrets.{quiet}
 
 -- a line with a name and one group of parts
 abbrev one : ℕ → List ℕ → List ℕ → List Part → List ℕ
-one limit old name parts = grouped limit (followed 0 old (Word name ∷ [])) (parts ∷ [])
+one limit old name parts = grouped limit (followed 0 old (Left 20 name ∷ [])) (parts ∷ [])
 
 pub password : (limit : ℕ) (told : Bool) (a b old : List ℕ) → length a ≡ length b → client_line (quiet limit) told (Ok (Ours (PasswordMessage a))) old ≡ client_line (quiet limit) told (Ok (Ours (PasswordMessage b))) old
 password limit true a b old e = ap (λ n. one limit old (codes "PasswordMessage") (Word (codes "password") ∷ Hidden n ∷ [])) e

@@ -1,15 +1,14 @@
 -- The line of one frame.
-use Rattle.std.proofs.Common.{◌≡◌, ℕ, ◌-◌, ◌≤◌, pos, List, [], ◌∷◌, ◌++◌, length, take, drop, Result, Ok, Err, refl, sym, ap, subst, ◌∙◌, arith, length-append}
-use Rattle.std.specs.Prelude.{slice_index, decimal, OnOk, is_ok, if◌then◌else◌}
+use Rattle.std.proofs.Common.{◌≡◌, ℕ, ◌-◌, ◌≤◌, List, [], ◌∷◌, ◌++◌, length, take, drop, Result, Ok, Err, refl, sym, ap, subst, ◌∙◌, arith, length-append}
+use Rattle.std.specs.Prelude.{slice_index, OnOk, is_ok, if◌then◌else◌}
 use Rattle.std.proofs.lemmas.List.{append-nil}
 use Rattle.pgp_base.specs.Wire.{uint32}
 use Rattle.pgp_base.specs.declared.error.Error.{Error}
 use Rattle.pgp_message.specs.BackendMessage.{Message, payload_of}
 use Rattle.pgp_message.specs.Stream.{Frame, frame_bytes, TakesFrame}
 use Rattle.pgtrace.specs.declared.style.Style.{Style}
-use Rattle.pgtrace.specs.Line.{Word, Number, Tag, followed}
-use Rattle.pgtrace.specs.Names.{name_of}
-use Rattle.pgtrace.specs.Shown.{Shows, fault}
+use Rattle.pgtrace.specs.Line.{Right, Tag, followed, right}
+use Rattle.pgtrace.specs.Shown.{Shows, called, fault}
 use Rattle.pgtrace.specs.Listing.{front, IsServerLine}
 use Rattle.pgtrace.specs.Sides.{Server}
 use Rattle.pgtrace.specs.Steps.{IsFrameOf, HasLine}
@@ -17,7 +16,7 @@ use Rattle.pgtrace.proofs.Parts.{front_taken}
 
 -- what a line begins with, by the bytes of the frame
 abbrev pub begun : ℕ → List ℕ → List ℕ
-begun place bytes = followed 0 (decimal place) (Number (pos (length bytes)) ∷ Tag (slice_index bytes 0) ∷ [])
+begun place bytes = followed 0 (right 10 place) (Right 8 (length bytes) ∷ Tag (slice_index bytes 0) ∷ [])
 
 begun_is : (place : ℕ) (f : Frame) (bytes : List ℕ) → bytes ≡ frame_bytes f → begun place bytes ≡ front place f
 begun_is place f bytes e = ap (begun place) e
@@ -35,7 +34,7 @@ pub body_is : (bytes : List ℕ) (m : Message) → IsFrameOf bytes (Ok m) → dr
 body_is bytes m is = ap (drop 5) is.whole ∙ payload_behind is.first ∙ is.body.parts ∙ append-nil (payload_of m)
 
 pub message_told : (style : Style) (place : ℕ) (bytes : List ℕ) (m : Message) (is : IsFrameOf bytes (Ok m)) (begins named said line : List ℕ)
-    → begins ≡ begun place bytes → named ≡ followed 0 begins (Word (name_of m) ∷ []) → Shows style m named said → line ≡ said ++ 10 ∷ [] → IsServerLine style place bytes line
+    → begins ≡ begun place bytes → named ≡ followed 0 begins (called m ∷ []) → Shows style m named said → line ≡ said ++ 10 ∷ [] → IsServerLine style place bytes line
 message_told style place bytes m is begins named said line b n shows e =
     let head = b ∙ begun_is place is.first bytes is.whole in
     record {
@@ -46,13 +45,13 @@ message_told style place bytes m is begins named said line b n shows e =
         result = Ok m;
         body = is.body;
         text = said;
-        told = subst (λ l. Shows style m l said) (n ∙ ap (λ l. followed 0 l (Word (name_of m) ∷ [])) head) shows;
+        told = subst (λ l. Shows style m l said) (n ∙ ap (λ l. followed 0 l (called m ∷ [])) head) shows;
         ended = e;
       };
     }
 
 pub message_ended : {E : Type 0} (r : Result (Unit {0}) E) (style : Style) (place : ℕ) (bytes : List ℕ) (m : Message) (is : IsFrameOf bytes (Ok m)) (begins named said line : List ℕ)
-    → begins ≡ begun place bytes → named ≡ followed 0 begins (Word (name_of m) ∷ []) → Shows style m named said → line ≡ (if is_ok r then said ++ 10 ∷ [] else said) → OnOk r (IsServerLine style place bytes line)
+    → begins ≡ begun place bytes → named ≡ followed 0 begins (called m ∷ []) → Shows style m named said → line ≡ (if is_ok r then said ++ 10 ∷ [] else said) → OnOk r (IsServerLine style place bytes line)
 message_ended (Ok x) style place bytes m is begins named said line b n shows e = message_told style place bytes m is begins named said line b n shows e
 message_ended (Err x) style place bytes m is begins named said line b n shows e = tt
 

@@ -4,9 +4,8 @@ use Rattle.std.specs.Prelude.{codes}
 use Rattle.pgp_message.specs.BackendMessage.{AuthenticationMd5Password, AuthenticationGssContinue, AuthenticationSaslContinue, AuthenticationSaslFinal, Message, BackendKeyData, Authentication}
 use Rattle.pgp_message.specs.Parts.{KeyData}
 use Rattle.pgtrace.specs.Line.{Word, Number, Hidden, followed}
-use Rattle.pgtrace.specs.Names.{name_of}
 use Rattle.pgtrace.specs.Secrets.{Alike, quiet}
-use Rattle.pgtrace.specs.Shown.{Shows}
+use Rattle.pgtrace.specs.Shown.{Shows, called}
 
 same : (limit : ℕ) (m n : Message) (old new : List ℕ) → m ≡ n → Shows (quiet limit) m old new → Shows (quiet limit) n old new
 same limit m n old new e s = subst (λ k. Shows (quiet limit) k old new) e s
@@ -42,33 +41,33 @@ hidden limit (BackendKeyData x) n old new e s = key limit x n old new e s
 hidden limit m n old new e s = same limit m n old new e s
 
 -- and have one name
-name_by : (m n : Message) → m ≡ n → name_of m ≡ name_of n
-name_by m n e = ap name_of e
+name_by : (m n : Message) → m ≡ n → called m ≡ called n
+name_by m n e = ap called e
 
-salt_name : (x : List ℕ) (n : Message) → Alike (Authentication (AuthenticationMd5Password x)) n → name_of (Authentication (AuthenticationMd5Password x)) ≡ name_of n
+salt_name : (x : List ℕ) (n : Message) → Alike (Authentication (AuthenticationMd5Password x)) n → called (Authentication (AuthenticationMd5Password x)) ≡ called n
 salt_name x (Authentication (AuthenticationMd5Password y)) e = refl
 salt_name x n e = name_by (Authentication (AuthenticationMd5Password x)) n e
 
-gss_name : (x : List ℕ) (n : Message) → Alike (Authentication (AuthenticationGssContinue x)) n → name_of (Authentication (AuthenticationGssContinue x)) ≡ name_of n
+gss_name : (x : List ℕ) (n : Message) → Alike (Authentication (AuthenticationGssContinue x)) n → called (Authentication (AuthenticationGssContinue x)) ≡ called n
 gss_name x (Authentication (AuthenticationGssContinue y)) e = refl
 gss_name x n e = name_by (Authentication (AuthenticationGssContinue x)) n e
 
-more_name : (x : List ℕ) (n : Message) → Alike (Authentication (AuthenticationSaslContinue x)) n → name_of (Authentication (AuthenticationSaslContinue x)) ≡ name_of n
+more_name : (x : List ℕ) (n : Message) → Alike (Authentication (AuthenticationSaslContinue x)) n → called (Authentication (AuthenticationSaslContinue x)) ≡ called n
 more_name x (Authentication (AuthenticationSaslContinue y)) e = refl
 more_name x n e = name_by (Authentication (AuthenticationSaslContinue x)) n e
 
-final_name : (x : List ℕ) (n : Message) → Alike (Authentication (AuthenticationSaslFinal x)) n → name_of (Authentication (AuthenticationSaslFinal x)) ≡ name_of n
+final_name : (x : List ℕ) (n : Message) → Alike (Authentication (AuthenticationSaslFinal x)) n → called (Authentication (AuthenticationSaslFinal x)) ≡ called n
 final_name x (Authentication (AuthenticationSaslFinal y)) e = refl
 final_name x n e = name_by (Authentication (AuthenticationSaslFinal x)) n e
 
-key_name : (x : KeyData) (n : Message) → Alike (BackendKeyData x) n → name_of (BackendKeyData x) ≡ name_of n
+key_name : (x : KeyData) (n : Message) → Alike (BackendKeyData x) n → called (BackendKeyData x) ≡ called n
 key_name x (BackendKeyData y) e = refl
 key_name x n e = name_by (BackendKeyData x) n e
 
-pub same_name : (m n : Message) → Alike m n → name_of m ≡ name_of n
-same_name (Authentication (AuthenticationMd5Password x)) n e = salt_name x n e
-same_name (Authentication (AuthenticationGssContinue x)) n e = gss_name x n e
-same_name (Authentication (AuthenticationSaslContinue x)) n e = more_name x n e
-same_name (Authentication (AuthenticationSaslFinal x)) n e = final_name x n e
-same_name (BackendKeyData x) n e = key_name x n e
-same_name m n e = name_by m n e
+pub same_call : (m n : Message) → Alike m n → called m ≡ called n
+same_call (Authentication (AuthenticationMd5Password x)) n e = salt_name x n e
+same_call (Authentication (AuthenticationGssContinue x)) n e = gss_name x n e
+same_call (Authentication (AuthenticationSaslContinue x)) n e = more_name x n e
+same_call (Authentication (AuthenticationSaslFinal x)) n e = final_name x n e
+same_call (BackendKeyData x) n e = key_name x n e
+same_call m n e = name_by m n e

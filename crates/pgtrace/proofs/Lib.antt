@@ -1,10 +1,12 @@
 pub mod Parts
+pub mod Columns
 pub mod Fronts
 pub mod Items
 pub mod FrameLines
 pub mod ClientLines
 pub mod Ends
 pub mod Traces
+pub mod Escapes
 pub mod Quotes
 pub mod Printable
 pub mod Printing
@@ -14,6 +16,7 @@ pub mod Runs
 pub mod Hiding
 pub mod ClientHiding
 pub mod Streams
+pub mod ClientStreams
 pub mod WordLemmas
 pub mod OptionLemmas
 pub mod CommandLemmas

@@ -1,11 +1,17 @@
 -- Quoting loses nothing.
-use Rattle.std.proofs.Common.{◌≡◌, ◌≢◌, ◌⊎◌, ℕ, ◌+◌, ◌<◌, ◌≤◌, Bool, true, false, List, [], ◌∷◌, ◌++◌, length, take, drop, get_or, Some, None, refl, sym, ap, subst, ◌∙◌, arith, inl, inr, append_assoc}
+use Rattle.std.proofs.Common.{◌≡◌, ◌≢◌, ◌⊎◌, ℕ, suc, ◌+◌, ◌<◌, ◌≤◌, Bool, true, false, List, [], ◌∷◌, ◌++◌, length, take, drop, get_or, Some, None, refl, sym, ap, subst, ◌∙◌, arith, inl, inr, append_assoc}
 use Rattle.std.specs.Prelude.{◌/◌, ◌%◌, ◌||◌, nat_le, ◌==◌, if◌then◌else◌, codes, decimal}
-use Rattle.std.specs.List.{flat_map, list_any, AllByRecursion}
+use Rattle.std.specs.Char.{encode_utf8}
+use Rattle.std.specs.List.{flat_map, AllByRecursion}
+use Rattle.std.specs.Str.{chars, encode_utf8_all, IsUtf8}
+use Rattle.std.specs.Str.Lossy.{utf8_valid_len}
+use Rattle.std.proofs.Math.ListN.{get_or-append}
 use Rattle.std.proofs.lemmas.Bool.{eqb-true, eqb-false, leb-true, leb-false, le-leb}
-use Rattle.std.proofs.lemmas.List.{append-nil}
+use Rattle.std.proofs.lemmas.List.{append-nil, take-append-drop}
 use Rattle.std.proofs.lemmas.List.Concat.{flat_map-cons}
-use Rattle.pgtrace.specs.Quoting.{hex_digit, hex_byte, is_mark, is_printable, escaped_byte, escaped, quoted, value, up_to}
+use Rattle.std.proofs.lemmas.Str.{encode_ascii, encodes-chars, inside_one}
+use Rattle.pgtrace.specs.Quoting.{digits, hex_digit, hex_byte, hex_escape, is_mark, is_printable, is_text, is_visible, escaped_byte, escaped_char, escaped, quoted, value, up_to}
+use Rattle.pgtrace.proofs.Escapes.{front_utf8}
 use Rattle.pgtrace.specs.Line.{Value, shown}
 
 -- ---- hex digits
@@ -57,13 +63,17 @@ unmarked_by b true y e f h = absurd cc
 unmarked_by b false true e f h = absurd cc
 unmarked_by b false false e f h = (eqb-false b 34 e, eqb-false b 92 f)
 
-escape_by : (b : ℕ) (m p : Bool) → is_mark b ≡ m → Escape b (if m then 92 ∷ b ∷ [] else if p then b ∷ [] else 92 ∷ 120 ∷ hex_byte b)
+escape_by : (b : ℕ) (m p : Bool) → is_mark b ≡ m → Escape b (if m then 92 ∷ b ∷ [] else if p then b ∷ [] else hex_escape b)
 escape_by b true p e = inl (mark_by b (b == 34) (b == 92) refl refl e, refl)
 escape_by b false true e = let none = unmarked_by b (b == 34) (b == 92) refl refl e in inr (inl (none.0, none.1, refl))
 escape_by b false false e = inr (inr refl)
 
 escape_of : (b : ℕ) → Escape b (escaped_byte b)
-escape_of b = escape_by b (is_mark b) (is_printable b) refl
+escape_of b = escape_by b (is_mark b) (is_visible b) refl
+
+low_mark : (b : ℕ) → Mark b → b < 128
+low_mark b (inl e) = omega (arith, e)
+low_mark b (inr e) = omega (arith, e)
 
 never_mark : (b : ℕ) → Mark b → b ≡ 120 → ⊥
 never_mark b (inl e) h = absurd (omega (arith, e, h))
@@ -101,9 +111,6 @@ escapes_one b c e f r s x y (inr (inr p)) (inr (inr q)) h =
     let k : 92 ∷ 120 ∷ (hex_byte b ++ r) ≡ 92 ∷ 120 ∷ (hex_byte c ++ s) = ap (λ l. l ++ r) (sym p) ∙ h ∙ ap (λ l. l ++ s) q in
     hex_one b c r s x y (ap (drop 2) k)
 
-byte_one : (b c : ℕ) (r s : List ℕ) → b < 256 → c < 256 → escaped_byte b ++ r ≡ escaped_byte c ++ s → One b c r s
-byte_one b c r s x y h = escapes_one b c (escaped_byte b) (escaped_byte c) r s x y (escape_of b) (escape_of c) h
-
 -- no byte is escaped by what begins with a quote
 escape_begins : (b : ℕ) (e r s : List ℕ) → Escape b e → e ++ r ≡ 34 ∷ s → ⊥
 escape_begins b e r s (inl p) h = let k : 92 ∷ b ∷ r ≡ 34 ∷ s = ap (λ l. l ++ r) (sym p.1) ∙ h in let n : 92 ≡ 34 = ap (λ l. get_or l 0 0) k in absurd (omega (arith, n))
@@ -115,27 +122,79 @@ escape_begins b e r s (inr (inr p)) h = let k : 92 ∷ 120 ∷ (hex_byte b ++ r)
 abbrev pub AreBytes : List ℕ → Type 0
 AreBytes bytes = AllByRecursion (λ b. b < 256) bytes
 
-spread : (f : ℕ → List ℕ) (b : ℕ) (bs r : List ℕ) → flat_map f (b ∷ bs) ++ r ≡ f b ++ (flat_map f bs ++ r)
-spread f b bs r = ap (λ l. l ++ r) (flat_map-cons f b bs) ∙ append_assoc (f b) (flat_map f bs) r
+-- The bytes, each escaped in one of these ways. No bytes but these come to what is shown so.
+data Spells : List ℕ → List ℕ → Type 0 where
+  NoBytes : Spells [] []
+  OneByte : {bs out : List ℕ} (b : ℕ) (e : List ℕ) → Escape b e → Spells bs out → Spells (b ∷ bs) (e ++ out)
+
+spells_join : {xs a : List ℕ} {ys b : List ℕ} → Spells xs a → Spells ys b → Spells (xs ++ ys) (a ++ b)
+spells_join NoBytes t = t
+spells_join {ys = ys} {b = b} (OneByte {bs} {out} x e way s) t = subst (Spells (x ∷ (bs ++ ys))) (sym (append_assoc e out b)) (OneByte x e way (spells_join s t))
+
+-- bytes, each by itself
+spells_each : (f : ℕ → List ℕ) → ((b : ℕ) → Escape b (f b)) → (bs : List ℕ) → Spells bs (flat_map f bs)
+spells_each f all [] = NoBytes
+spells_each f all (b ∷ bs) = subst (Spells (b ∷ bs)) (sym (flat_map-cons f b bs)) (OneByte b (f b) (all b) (spells_each f all bs))
+
+-- bytes that stand as they are
+spells_same : (bs : List ℕ) → AllByRecursion (λ b. (b ≢ 34) × (b ≢ 92)) bs → Spells bs bs
+spells_same [] all = NoBytes
+spells_same (b ∷ bs) all = OneByte b (b ∷ []) (inr (inl (all.0.0, all.0.1, refl))) (spells_same bs all.1)
+
+-- bytes of which none is a mark
+unmarked_all : (bs : List ℕ) → ((k : ℕ) → k < length bs → (get_or bs k 0 ≢ 34) × (get_or bs k 0 ≢ 92)) → AllByRecursion (λ b. (b ≢ 34) × (b ≢ 92)) bs
+unmarked_all [] h = tt
+unmarked_all (b ∷ bs) h = (h 0 (omega arith), unmarked_all bs (λ k lt. h (suc k) (omega (arith, lt))))
+
+-- a character of which a byte is one of ASCII is that byte
+never_inside : (c k m : ℕ) → m < 128 → k < length (encode_utf8 c) → c ≢ m → get_or (encode_utf8 c) k 0 ≢ m
+never_inside c k m low lt other e = other (inside_one c [] (encode_utf8 c) k (sym (append-nil (encode_utf8 c))) lt (omega (arith, e, low)) ∙ e)
+
+spells_char_by : (c : ℕ) (m p : Bool) → is_mark c ≡ m → Spells (encode_utf8 c) (if m then 92 ∷ c ∷ [] else if p then encode_utf8 c else flat_map hex_escape (encode_utf8 c))
+spells_char_by c true p e =
+    let mark = mark_by c (c == 34) (c == 92) refl refl e in
+    subst (λ l. Spells l (92 ∷ c ∷ [])) (sym (encode_ascii c (low_mark c mark))) (OneByte c (92 ∷ c ∷ []) (inl (mark, refl)) NoBytes)
+spells_char_by c false true e =
+    let none = unmarked_by c (c == 34) (c == 92) refl refl e in
+    spells_same (encode_utf8 c) (unmarked_all (encode_utf8 c) (λ k lt. (never_inside c k 34 (omega arith) lt none.0, never_inside c k 92 (omega arith) lt none.1)))
+spells_char_by c false false e = spells_each hex_escape (λ b. inr (inr refl)) (encode_utf8 c)
+
+spells_char : (c : ℕ) → Spells (encode_utf8 c) (escaped_char c)
+spells_char c = spells_char_by c (is_mark c) (is_printable c) refl
+
+spells_chars : (cs : List ℕ) → Spells (encode_utf8_all cs) (flat_map escaped_char cs)
+spells_chars [] = NoBytes
+spells_chars (c ∷ cs) = subst (Spells (encode_utf8 c ++ encode_utf8_all cs)) (sym (flat_map-cons escaped_char c cs)) (spells_join (spells_char c) (spells_chars cs))
+
+spells_text : (bytes : List ℕ) → IsUtf8 bytes → Spells bytes (flat_map escaped_char (chars bytes))
+spells_text bytes u = subst (λ l. Spells l (flat_map escaped_char (chars bytes))) (encodes-chars bytes u) (spells_chars (chars bytes))
+
+-- what is escaped spells the bytes
+spells_escaped : (bytes : List ℕ) → Spells bytes (escaped bytes)
+unfolding escaped
+spells_escaped bytes =
+    let n = utf8_valid_len bytes in
+    subst (λ l. Spells l (escaped bytes)) (take-append-drop n bytes) (spells_join (spells_text (take n bytes) (front_utf8 bytes)) (spells_each escaped_byte escape_of (drop n bytes)))
 
 abbrev Same : List ℕ → List ℕ → List ℕ → List ℕ → Type 0
 Same xs ys r s = (xs ≡ ys) × (r ≡ s)
 
-escaped_one : (xs ys r s : List ℕ) → AreBytes xs → AreBytes ys → escaped xs ++ 34 ∷ r ≡ escaped ys ++ 34 ∷ s → Same xs ys r s
-escaped_one [] [] r s a b e = (refl, ap (drop 1) e)
-escaped_one [] (y ∷ ys) r s a b e = absurd (escape_begins y (escaped_byte y) (escaped ys ++ 34 ∷ s) r (escape_of y) (sym (spread escaped_byte y ys (34 ∷ s)) ∙ sym e))
-escaped_one (x ∷ xs) [] r s a b e = absurd (escape_begins x (escaped_byte x) (escaped xs ++ 34 ∷ r) s (escape_of x) (sym (spread escaped_byte x xs (34 ∷ r)) ∙ e))
-escaped_one (x ∷ xs) (y ∷ ys) r s a b e =
-    let first = byte_one x y (escaped xs ++ 34 ∷ r) (escaped ys ++ 34 ∷ s) a.0 b.0 (sym (spread escaped_byte x xs (34 ∷ r)) ∙ e ∙ spread escaped_byte y ys (34 ∷ s)) in
-    let rest = escaped_one xs ys r s a.1 b.1 first.1 in
-    (ap (λ h. h ∷ xs) first.0 ∙ ap (λ l. y ∷ l) rest.0, rest.1)
+-- what spells bytes up to a quote spells no others
+spelled_one : {xs ys a b : List ℕ} (r s : List ℕ) → Spells xs a → Spells ys b → AreBytes xs → AreBytes ys → a ++ 34 ∷ r ≡ b ++ 34 ∷ s → Same xs ys r s
+spelled_one r s NoBytes NoBytes x y e = (refl, ap (drop 1) e)
+spelled_one r s NoBytes (OneByte {bs} {out} c f way t) x y e = absurd (escape_begins c f (out ++ 34 ∷ s) r way (sym (append_assoc f out (34 ∷ s)) ∙ sym e))
+spelled_one r s (OneByte {bs} {out} c f way t) NoBytes x y e = absurd (escape_begins c f (out ++ 34 ∷ r) s way (sym (append_assoc f out (34 ∷ r)) ∙ e))
+spelled_one r s (OneByte {bs} {out} c f way t) (OneByte {bs = cs} {out = more} d g path u) x y e =
+    let first = escapes_one c d f g (out ++ 34 ∷ r) (more ++ 34 ∷ s) x.0 y.0 way path (sym (append_assoc f out (34 ∷ r)) ∙ e ∙ append_assoc g more (34 ∷ s)) in
+    let rest = spelled_one r s t u x.1 y.1 first.1 in
+    (ap (λ h. h ∷ bs) first.0 ∙ ap (λ l. d ∷ l) rest.0, rest.1)
 
 quoted_tail : (xs r : List ℕ) → quoted xs ++ r ≡ 34 ∷ (escaped xs ++ 34 ∷ r)
 quoted_tail xs r = ap (λ l. 34 ∷ l) (append_assoc (escaped xs) (34 ∷ []) r)
 
 -- one text is quoted so, whatever follows it
 pub quoted_one : (xs ys r s : List ℕ) → AreBytes xs → AreBytes ys → quoted xs ++ r ≡ quoted ys ++ s → Same xs ys r s
-quoted_one xs ys r s a b e = escaped_one xs ys r s a b (ap (drop 1) (sym (quoted_tail xs r) ∙ e ∙ quoted_tail ys s))
+quoted_one xs ys r s a b e = spelled_one r s (spells_escaped xs) (spells_escaped ys) a b (ap (drop 1) (sym (quoted_tail xs r) ∙ e ∙ quoted_tail ys s))
 
 nil_cons : (x : ℕ) (xs : List ℕ) → [] ≡ x ∷ xs → ⊥
 nil_cons x xs e = absurd cc
@@ -148,34 +207,39 @@ digits_all (x ∷ xs) (y ∷ ys) a b e =
     let first = hex_one x y (flat_map hex_byte xs) (flat_map hex_byte ys) a.0 b.0 (sym (flat_map-cons hex_byte x xs) ∙ e ∙ flat_map-cons hex_byte y ys) in
     ap (λ h. h ∷ xs) first.0 ∙ ap (λ l. y ∷ l) (digits_all xs ys a.1 b.1 first.1)
 
--- a value as it is shown, by whether it has a byte 0
-abbrev by_zero : Bool → List ℕ → List ℕ
-by_zero zero bytes = if zero then 92 ∷ 120 ∷ flat_map hex_byte bytes else quoted bytes
+-- ---- values
 
-value_by : (p q : Bool) (xs ys : List ℕ) → AreBytes xs → AreBytes ys → by_zero p xs ≡ by_zero q ys → xs ≡ ys
-value_by true true xs ys a b e = digits_all xs ys a b (ap (drop 2) e)
-value_by true false xs ys a b e = let n : 92 ≡ 34 = ap (λ l. get_or l 0 0) e in absurd (omega (arith, n))
-value_by false true xs ys a b e = let n : 34 ≡ 92 = ap (λ l. get_or l 0 0) e in absurd (omega (arith, n))
-value_by false false xs ys a b e = (quoted_one xs ys [] [] a b (ap (λ l. l ++ []) e)).0
-
-pub value_one : (xs ys : List ℕ) → AreBytes xs → AreBytes ys → value xs ≡ value ys → xs ≡ ys
-value_one xs ys a b e = value_by (list_any (λ c. c == 0) xs) (list_any (λ c. c == 0) ys) xs ys a b e
-
-null_by : (p : Bool) (xs r : List ℕ) → by_zero p xs ++ r ≡ codes "NULL" → ⊥
-null_by true xs r e = let n : 92 ≡ 78 = ap (λ l. get_or l 0 0) e in absurd (omega (arith, n))
-null_by false xs r e = let n : 34 ≡ 78 = ap (λ l. get_or l 0 0) e in absurd (omega (arith, n))
-
--- ---- up to a limit
+-- up to a limit
+abbrev pub upto : Bool → ℕ → (List ℕ → List ℕ) → List ℕ → List ℕ
+upto short limit show bytes = if short then show bytes else show (take limit bytes) ++ codes " of " ++ decimal (length bytes) ++ codes " bytes"
 
 uncut : (limit : ℕ) (show : List ℕ → List ℕ) (xs : List ℕ) → length xs ≤ limit → up_to limit show xs ≡ show xs
-uncut limit show xs le = ap (λ (b : Bool). if b then show xs else show (take limit xs) ++ codes " of " ++ decimal (length xs) ++ codes " bytes") (le-leb (length xs) limit le)
+unfolding up_to
+uncut limit show xs le = ap (λ (b : Bool). upto b limit show xs) (le-leb (length xs) limit le)
+
+value_by : (p q : Bool) (limit : ℕ) (xs ys : List ℕ) → AreBytes xs → AreBytes ys → length xs ≤ limit → length ys ≤ limit
+    → (if p then up_to limit quoted xs else up_to limit digits xs) ≡ (if q then up_to limit quoted ys else up_to limit digits ys) → xs ≡ ys
+value_by true true limit xs ys a b x y e = (quoted_one xs ys [] [] a b (ap (λ l. l ++ []) (sym (uncut limit quoted xs x) ∙ e ∙ uncut limit quoted ys y))).0
+value_by true false limit xs ys a b x y e = let n : 34 ≡ 92 = ap (λ l. get_or l 0 0) (sym (uncut limit quoted xs x) ∙ e ∙ uncut limit digits ys y) in absurd (omega (arith, n))
+value_by false true limit xs ys a b x y e = let n : 92 ≡ 34 = ap (λ l. get_or l 0 0) (sym (uncut limit digits xs x) ∙ e ∙ uncut limit quoted ys y) in absurd (omega (arith, n))
+value_by false false limit xs ys a b x y e = digits_all xs ys a b (ap (drop 2) (sym (uncut limit digits xs x) ∙ e ∙ uncut limit digits ys y))
 
 pub short_values : (limit : ℕ) (xs ys : List ℕ) → AreBytes xs → AreBytes ys → length xs ≤ limit → length ys ≤ limit → shown limit (Value (Some xs)) ≡ shown limit (Value (Some ys)) → xs ≡ ys
-short_values limit xs ys a b x y e = value_one xs ys a b (sym (uncut limit value xs x) ∙ e ∙ uncut limit value ys y)
+unfolding value
+short_values limit xs ys a b x y e = value_by (is_text xs) (is_text ys) limit xs ys a b x y e
 
-cut_null : (p : Bool) (xs ys q r s : List ℕ) → (if p then value xs else value ys ++ q ++ r ++ s) ≡ codes "NULL" → ⊥
-cut_null true xs ys q r s e = null_by (list_any (λ c. c == 0) xs) xs [] (append-nil (value xs) ∙ e)
-cut_null false xs ys q r s e = null_by (list_any (λ c. c == 0) ys) ys (q ++ (r ++ s)) (sym (append_assoc (value ys) q (r ++ s)) ∙ sym (append_assoc (value ys ++ q) r s) ∙ e)
+-- the first character of what is shown
+begins : (short : Bool) (limit d : ℕ) (show : List ℕ → List ℕ) (xs : List ℕ) → ((bytes : List ℕ) → get_or (show bytes) 0 0 ≡ d) → ((bytes : List ℕ) → 0 < length (show bytes)) → get_or (upto short limit show xs) 0 0 ≡ d
+begins true limit d show xs all some = all xs
+begins false limit d show xs all some =
+    ap (λ l. get_or l 0 0) (append_assoc (show (take limit xs) ++ codes " of ") (decimal (length xs)) (codes " bytes") ∙ append_assoc (show (take limit xs)) (codes " of ") (decimal (length xs) ++ codes " bytes"))
+    ∙ get_or-append (show (take limit xs)) (codes " of " ++ (decimal (length xs) ++ codes " bytes")) 0 0 (some (take limit xs)) ∙ all (take limit xs)
+
+never_null : (text : Bool) (limit : ℕ) (xs : List ℕ) → (if text then up_to limit quoted xs else up_to limit digits xs) ≡ codes "NULL" → ⊥
+unfolding up_to
+never_null true limit xs e = let n : 34 ≡ 78 = sym (begins (nat_le (length xs) limit) limit 34 quoted xs (λ b. refl) (λ b. omega arith)) ∙ ap (λ l. get_or l 0 0) e in absurd (omega (arith, n))
+never_null false limit xs e = let n : 92 ≡ 78 = sym (begins (nat_le (length xs) limit) limit 92 digits xs (λ b. refl) (λ b. omega arith)) ∙ ap (λ l. get_or l 0 0) e in absurd (omega (arith, n))
 
 pub never_shown_null : (limit : ℕ) (xs : List ℕ) → shown limit (Value (Some xs)) ≡ shown limit (Value None) → ⊥
-never_shown_null limit xs e = cut_null (nat_le (length xs) limit) xs (take limit xs) (codes " of ") (decimal (length xs)) (codes " bytes") e
+unfolding value
+never_shown_null limit xs e = never_null (is_text xs) limit xs e

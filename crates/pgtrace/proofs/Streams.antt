@@ -1,6 +1,5 @@
 -- Streams that differ in their secrets alone have the same lines.
-use Rattle.std.proofs.Common.{◌≡◌, ℕ, ◌+◌, ◌<◌, List, [], ◌∷◌, ◌++◌, length, pos, Result, Ok, Err, refl, sym, ap, subst, ◌∙◌, append_assoc, arith}
-use Rattle.std.specs.Prelude.{decimal}
+use Rattle.std.proofs.Common.{◌≡◌, ℕ, ◌+◌, ◌<◌, List, [], ◌∷◌, ◌++◌, length, Result, Ok, Err, refl, sym, ap, subst, ◌∙◌, append_assoc, arith}
 use Rattle.std.specs.List.{flat_map, AllByRecursion}
 use Rattle.std.proofs.lemmas.List.{append-nil, length-append}
 use Rattle.std.proofs.lemmas.List.Concat.{flat_map-cons}
@@ -10,13 +9,13 @@ use Rattle.pgp_message.specs.BackendMessage.{Message}
 use Rattle.pgp_message.specs.Stream.{Frame, frame_bytes, IsFrame}
 use Rattle.pgp_message.proofs.Runs.{front_is_one, each_push, pushed}
 use Rattle.pgtrace.specs.declared.style.Style.{Style}
-use Rattle.pgtrace.specs.Line.{Word, Number, Tag, followed}
+use Rattle.pgtrace.specs.Line.{Right, Tag, followed, right}
 use Rattle.pgtrace.specs.Sides.{Side, Server}
 use Rattle.pgtrace.proofs.Sides.{server_line}
 use Rattle.pgtrace.specs.Listing.{GoesOn, IsLineOf, IsServerLine, Lines, NoLines, OneLine, front, place_behind}
 use Rattle.pgtrace.specs.Secrets.{AlikeResults, AlikeFrames, AlikeStreams, NoFrames, OneAlike, quiet}
 use Rattle.pgtrace.specs.Shown.{Shows}
-use Rattle.pgtrace.proofs.Hiding.{hidden, same_name}
+use Rattle.pgtrace.proofs.Hiding.{hidden, same_call}
 
 -- ---- frames at the end of bytes
 
@@ -77,11 +76,11 @@ one_last a b f g p q ff gg e =
 
 same_front : (place : ℕ) (f g : Frame) → AlikeFrames f g → front place f ≡ front place g
 same_front place f g alike =
-    ap (λ n. followed 0 (decimal place) (Number (pos n) ∷ Tag f.tag ∷ [])) alike.long ∙ ap (λ t. followed 0 (decimal place) (Number (pos (length (frame_bytes g))) ∷ Tag t ∷ [])) alike.tagged
+    ap (λ n. followed 0 (right 10 place) (Right 8 n ∷ Tag f.tag ∷ [])) alike.long ∙ ap (λ t. followed 0 (right 10 place) (Right 8 (length (frame_bytes g)) ∷ Tag t ∷ [])) alike.tagged
 
 goes_on : (limit : ℕ) (r s : Result Message Error) (old new : List ℕ) → AlikeResults r s → GoesOn (quiet limit) r old new → GoesOn (quiet limit) s old new
 goes_on limit (Ok m) (Ok n) old new alike goes =
-    subst (λ w. Shows (quiet limit) n (followed 0 old (Word w ∷ [])) new) (same_name m n alike) (hidden limit m n _ new alike goes)
+    subst (λ w. Shows (quiet limit) n (followed 0 old (w ∷ [])) new) (same_call m n alike) (hidden limit m n _ new alike goes)
 goes_on limit (Err d) (Err e) old new alike goes = subst (λ k. GoesOn (quiet limit) (Err k) old new) alike goes
 goes_on limit (Ok m) (Err e) old new alike goes = absurd alike
 goes_on limit (Err d) (Ok n) old new alike goes = absurd alike

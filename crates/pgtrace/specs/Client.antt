@@ -7,8 +7,8 @@ use Rattle.pgp_server.specs.OtherMessage.{AnyMessage, Ours, Other, FunctionCall,
 use Rattle.pgp_server.specs.declared.error.ClientError.{ClientError}
 use Rattle.pgp_server.specs.declared.error.ClientError.TheVariants.{UnknownPacket, Reading}
 use Rattle.pgtrace.specs.declared.style.Style.{Style}
-use Rattle.pgtrace.specs.Line.{Part, Word, Number, Text, Value, Hidden, followed}
-use Rattle.pgtrace.specs.Shown.{fault, list_of, name_or, number_part, secret}
+use Rattle.pgtrace.specs.Line.{Part, Word, Number, Text, Value, Hidden, followed, named}
+use Rattle.pgtrace.specs.Shown.{fault, list_of, name_or, secret, type_part}
 
 -- a message of tag `p` of which nothing is known but its tag
 abbrev pub some_password : List ℕ
@@ -89,7 +89,7 @@ our_groups style told (CopyFail message) = (Word (codes "message") ∷ Text mess
 our_groups style told (Describe variant name) = named_object variant name ∷ []
 our_groups style told (Execute portal max_rows) = (Word (codes "portal") ∷ Text portal ∷ Word (codes "rows") ∷ Number max_rows ∷ []) ∷ []
 our_groups style told (Parse name query param_types) =
-    (Word (codes "statement") ∷ Text name ∷ Word (codes "query") ∷ Text query ∷ []) ∷ counted (codes "types") number_part param_types ∷ []
+    (Word (codes "statement") ∷ Text name ∷ Word (codes "query") ∷ Text query ∷ []) ∷ counted (codes "types") type_part param_types ∷ []
 our_groups style told (PasswordMessage password) = (Word (codes "password") ∷ secret style password ∷ []) ∷ []
 our_groups style told (Query query) = (Word (codes "query") ∷ Text query ∷ []) ∷ []
 our_groups style told (SaslInitialResponse mechanism response) = (Word (codes "mechanism") ∷ Text mechanism ∷ Word (codes "data") ∷ secret style response ∷ []) ∷ []
@@ -107,6 +107,19 @@ client_groups style told (Other (SaslInitialWithoutResponse mechanism)) = (Word 
 client_groups style told (Other GssEncRequest) = []
 client_groups style told (Other (StartupOther minor parameters)) = startup_parts (196608 + minor) parameters ∷ []
 
+-- a message of which no more is said than its name
+abbrev pub client_says_nothing : AnyMessage → Bool
+client_says_nothing (Ours CopyDone) = true
+client_says_nothing (Ours Flush) = true
+client_says_nothing (Ours Sync) = true
+client_says_nothing (Ours Terminate) = true
+client_says_nothing (Ours SslRequest) = true
+client_says_nothing (Other GssEncRequest) = true
+client_says_nothing x = false
+
+abbrev pub client_called : Bool → AnyMessage → Part
+client_called told x = named (client_says_nothing x) (client_name told x)
+
 -- a line with these groups of parts behind it
 abbrev pub grouped : ℕ → List ℕ → List (List Part) → List ℕ
 grouped limit line [] = line
@@ -119,5 +132,5 @@ refusal_parts (UnknownPacket code) = Word (codes "packet") ∷ Number code ∷ [
 
 -- the line goes on with the name of the message and what it says, or with the refusal
 abbrev pub client_line : Style → Bool → Result AnyMessage ClientError → List ℕ → List ℕ
-client_line style told (Ok x) old = grouped style.limit (followed 0 old (Word (client_name told x) ∷ [])) (client_groups style told x)
+client_line style told (Ok x) old = grouped style.limit (followed 0 old (client_called told x ∷ [])) (client_groups style told x)
 client_line style told (Err e) old = followed 0 old (refusal_parts e)

@@ -1,5 +1,7 @@
 pub mod Taken
 pub mod Quoting
+pub mod Plain
+pub mod Types
 pub mod Line
 pub mod Names
 pub mod Shown
@@ -11,5 +13,6 @@ pub mod Command
 pub mod Sides
 pub mod Client
 pub mod Listing
+pub mod ClientSecrets
 pub mod Steps
 pub mod Asked

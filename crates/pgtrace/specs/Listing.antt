@@ -1,5 +1,5 @@
 -- The listing of a server's or a client's stream.
-use Rattle.std.specs.Prelude.{◌≡◌, ◌⊎◌, ℕ, ◌+◌, pos, min, Bool, true, false, List, [], ◌∷◌, ◌++◌, length, get_or, Result, Ok, Err, Option, codes, decimal}
+use Rattle.std.specs.Prelude.{◌≡◌, ◌⊎◌, ℕ, ◌+◌, min, Bool, true, false, List, [], ◌∷◌, ◌++◌, length, get_or, Result, Ok, Err, Option, codes, decimal}
 use Rattle.std.specs.Io.KnownBytes.{Appends, Consumes, IsAtEnd}
 use Rattle.pgp_base.specs.declared.error.Error.{Error}
 use Rattle.pgp_message.specs.BackendMessage.{Message, Body}
@@ -12,19 +12,18 @@ use Rattle.pgp_server.specs.declared.message.PasswordKind.{PasswordKind}
 use Rattle.pgtrace.specs.Client.{client_line}
 use Rattle.pgtrace.specs.Sides.{Side, Server, Client, Ends, expected, is_told, kinds_behind}
 use Rattle.pgtrace.specs.declared.style.Style.{Style}
-use Rattle.pgtrace.specs.Line.{Word, Number, Tag, followed}
-use Rattle.pgtrace.specs.Names.{name_of}
-use Rattle.pgtrace.specs.Shown.{Shows, fault}
+use Rattle.pgtrace.specs.Line.{Right, Tag, followed, right}
+use Rattle.pgtrace.specs.Shown.{Shows, called, fault}
 use Rattle.pgtrace.specs.Taken.{AppendsFront}
 use Rattle.pgtrace.specs.Words.{greatest}
 
 -- what each line begins with: the place of the frame, how long it is, and its tag
 abbrev pub front : ℕ → Frame → List ℕ
-front place f = followed 0 (decimal place) (Number (pos (length (frame_bytes f))) ∷ Tag f.tag ∷ [])
+front place f = followed 0 (right 10 place) (Right 8 (length (frame_bytes f)) ∷ Tag f.tag ∷ [])
 
 -- and how it goes on: with the name of the message and what it says, or with the refusal
 abbrev pub GoesOn : Style → Result Message Error → List ℕ → List ℕ → Type 0
-GoesOn style (Ok m) old new = Shows style m (followed 0 old (Word (name_of m) ∷ [])) new
+GoesOn style (Ok m) old new = Shows style m (followed 0 old (called m ∷ [])) new
 GoesOn style (Err e) old new = new ≡ followed 0 old (fault e)
 
 -- the line of a frame that stands at the place
@@ -48,7 +47,7 @@ client_tag true frame = get_or frame 0 0
 client_tag false frame = 45
 
 abbrev pub client_front : ℕ → Bool → List ℕ → List ℕ
-client_front place opened frame = followed 0 (decimal place) (Number (pos (length frame)) ∷ Tag (client_tag opened frame) ∷ [])
+client_front place opened frame = followed 0 (right 10 place) (Right 8 (length frame) ∷ Tag (client_tag opened frame) ∷ [])
 
 -- The bytes are what a step of a server takes or passes that reads a client, and their line.
 pub record IsClientLine (style : Style) (place : ℕ) (opened : Bool) (kinds : List PasswordKind) (frame line : List ℕ) (now : Bool) : Type 0 where

@@ -5,13 +5,13 @@ use Rattle.std.specs.declared.ops.Range.{Range}
 use Rattle.pgp_base.specs.Error.{number_of}
 use Rattle.pgp_base.specs.declared.error.Error.{Error}
 use Rattle.pgp_base.specs.Items.{CountedItems, MarkedItems}
-use Rattle.pgp_message.specs.BackendMessage.{AuthenticationMd5Password, AuthenticationGssContinue, AuthenticationSasl, AuthenticationSaslContinue, AuthenticationSaslFinal, Message, NotificationResponse, CommandComplete, DataRow, ErrorResponse, CopyInResponse, CopyOutResponse, BackendKeyData, NegotiateProtocolVersion, NoticeResponse, Authentication, ParameterStatus, RowDescription, ReadyForQuery, CopyData, ParameterDescription, payload_of}
+use Rattle.pgp_message.specs.BackendMessage.{AuthenticationOk, AuthenticationKerberosV5, AuthenticationCleartextPassword, AuthenticationScmCredential, AuthenticationGss, AuthenticationSspi, ParseComplete, BindComplete, CloseComplete, EmptyQueryResponse, CopyDone, NoData, PortalSuspended, AuthenticationMd5Password, AuthenticationGssContinue, AuthenticationSasl, AuthenticationSaslContinue, AuthenticationSaslFinal, Message, NotificationResponse, CommandComplete, DataRow, ErrorResponse, CopyInResponse, CopyOutResponse, BackendKeyData, NegotiateProtocolVersion, NoticeResponse, Authentication, ParameterStatus, RowDescription, ReadyForQuery, CopyData, ParameterDescription, payload_of}
 use Rattle.pgp_message.specs.Items.{TextSpelled, TextRefused, FormatSpelled, FormatRefused, TypeSpelled, TypeRefused, RangeSpelled, RangeRefused, FieldPart, FieldSpelled, FieldRefused, ErrorPart, ErrorFieldSpelled, ErrorFieldRefused}
 use Rattle.pgp_message.specs.Parts.{CopyFormats}
 use Rattle.pgp_message.specs.Table.{value_at}
-use Rattle.pgtrace.specs.Line.{Part, Word, Number, Text, Value, Hidden, followed}
+use Rattle.pgtrace.specs.Line.{Part, Word, Number, Oid, Text, Value, Hidden, followed, named}
 use Rattle.pgtrace.specs.declared.style.Style.{Style}
-use Rattle.pgtrace.specs.Names.{refusal_of, field_of, state_of}
+use Rattle.pgtrace.specs.Names.{name_of, refusal_of, field_of, state_of}
 
 -- a refusal
 abbrev pub fault : Error → List Part
@@ -41,6 +41,9 @@ text_part text = Text text ∷ []
 abbrev pub number_part : ℕ → List Part
 number_part n = Number (pos n) ∷ []
 
+abbrev pub type_part : ℕ → List Part
+type_part oid = Oid oid ∷ []
+
 abbrev pub value_part : List ℕ → Option (Range ℕ) → List Part
 value_part buffer place = Value (value_at buffer place) ∷ []
 
@@ -52,7 +55,7 @@ column_parts column =
     Text column.name
     ∷ Word (codes "table") ∷ Number (pos column.table_oid)
     ∷ Word (codes "column") ∷ Number column.column_id
-    ∷ Word (codes "type") ∷ Number (pos column.type_oid)
+    ∷ Word (codes "type") ∷ Oid column.type_oid
     ∷ Word (codes "size") ∷ Number column.type_size
     ∷ Word (codes "modifier") ∷ Number column.type_modifier
     ∷ Word (codes "format") ∷ Number column.format ∷ []
@@ -93,6 +96,26 @@ secret_by false bytes = Hidden (length bytes)
 abbrev pub secret : Style → List ℕ → Part
 secret style bytes = secret_by style.secrets bytes
 
+-- a message of which no more is said than its name
+abbrev pub says_nothing : Message → Bool
+says_nothing (Authentication AuthenticationOk) = true
+says_nothing (Authentication AuthenticationKerberosV5) = true
+says_nothing (Authentication AuthenticationCleartextPassword) = true
+says_nothing (Authentication AuthenticationScmCredential) = true
+says_nothing (Authentication AuthenticationGss) = true
+says_nothing (Authentication AuthenticationSspi) = true
+says_nothing ParseComplete = true
+says_nothing BindComplete = true
+says_nothing CloseComplete = true
+says_nothing EmptyQueryResponse = true
+says_nothing CopyDone = true
+says_nothing NoData = true
+says_nothing PortalSuspended = true
+says_nothing m = false
+
+abbrev pub called : Message → Part
+called m = named (says_nothing m) (name_of m)
+
 -- The line of a message before and after what it says behind its name. Salts, the texts of an exchange and keys are secrets.
 abbrev pub Shows : Style → Message → List ℕ → List ℕ → Type 0
 Shows style (Authentication (AuthenticationMd5Password salt)) old new = new ≡ followed style.limit old (Word (codes "salt") ∷ secret style salt ∷ [])
@@ -118,5 +141,5 @@ Shows style (ParameterStatus setting) old new = ShowsTexts style.limit (IsUtf8 s
 Shows style (RowDescription row) old new = ShowsCounted FieldSpelled FieldRefused column_parts style.limit row.count row.storage (followed style.limit old (Word (codes "columns") ∷ [])) new
 Shows style (ReadyForQuery status) old new = new ≡ followed style.limit old (Word (name_or (state_of status) status) ∷ [])
 Shows style (CopyData bytes) old new = new ≡ followed style.limit old (Word (codes "data") ∷ Value (Some bytes) ∷ [])
-Shows style (ParameterDescription row) old new = ShowsCounted TypeSpelled TypeRefused number_part style.limit row.count row.storage (followed style.limit old (Word (codes "types") ∷ [])) new
+Shows style (ParameterDescription row) old new = ShowsCounted TypeSpelled TypeRefused type_part style.limit row.count row.storage (followed style.limit old (Word (codes "types") ∷ [])) new
 Shows style m old new = new ≡ old

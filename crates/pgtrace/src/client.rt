@@ -10,9 +10,9 @@ ghost use Rattle.pgtrace.specs.Sides.{Client, expected, is_told, is_password, ki
 ghost use Rattle.pgtrace.specs.Steps.{ListsNext};
 
 use crate::client_body::put_client_message;
-use crate::client_names::client_name;
+use crate::client_names::{client_name, says_nothing};
 use crate::frame::{Next, begin_line, front_of};
-use crate::line::{put_signed, put_word};
+use crate::line::{put_called, put_signed, put_word};
 use crate::lists::put_fault;
 use crate::style::Style;
 use pgp_base::Memory;
@@ -116,7 +116,7 @@ fn message_line<A: Memory>(
     ensures lacks { OnErr result A.Lacks }
 {
     begin_line(place, frame.len(), tag_of(opened, frame), line)?;
-    put_word(client_name(told, &message), line)?;
+    put_called(says_nothing(&message), client_name(told, &message), line)?;
     put_client_message(style, told, message, line)?;
     A::push_char(line, '\n')
 }

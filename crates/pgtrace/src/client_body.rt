@@ -6,7 +6,6 @@ ghost use Rattle.pgp_server.specs.OtherMessage.{Other};
 ghost use Rattle.pgp_server.specs.Views.{view};
 ghost use Rattle.pgtrace.specs.Client.{client_groups, client_value, counted, grouped, named_object, our_groups, response_parts, signed_part, startup_parts, version_number};
 ghost use Rattle.pgtrace.specs.Line.{Word, Number, Text, followed};
-ghost use Rattle.pgtrace.specs.Shown.{number_part};
 
 use crate::body::{put_copied, put_secret};
 use crate::client_lists::{put_formats, put_pairs, put_types, put_values};

@@ -5,9 +5,9 @@ ghost use Rattle.std.specs.Prelude.{◌≡◌, None, OnErr, OnOk, string_bytes};
 ghost use Rattle.pgp_server.specs.Whole.{shown};
 ghost use Rattle.pgtrace.specs.Client.{client_value, counted, pair_parts, signed_part};
 ghost use Rattle.pgtrace.specs.Line.{followed};
-ghost use Rattle.pgtrace.specs.Shown.{list_of, number_part};
+ghost use Rattle.pgtrace.specs.Shown.{list_of, type_part};
 
-use crate::line::{put_null, put_number, put_signed, put_some, put_text, put_word};
+use crate::line::{put_null, put_number, put_signed, put_some, put_text, put_type, put_word};
 use crate::lists::put_fault;
 use pgp_base::{FallibleIterator, Memory};
 use pgp_server::{Formats, ParamTypes, StartupParameters, Values};
@@ -35,7 +35,7 @@ pub fn put_types<A: Memory>(
     types: ParamTypes<'_>,
     line: &mut String<A>,
 ) -> Result<(), AllocError>
-    ensures parts { OnOk result (string_bytes line.new ≡ followed limit (string_bytes line.old) (counted name.now number_part types.entry)) }
+    ensures parts { OnOk result (string_bytes line.new ≡ followed limit (string_bytes line.old) (counted name.now type_part types.entry)) }
     ensures lacks { OnErr result A.Lacks }
 {
     put_word(name, line)?;
@@ -112,12 +112,12 @@ fn each_type<A: Memory>(
     mut types: ParamTypes<'_>,
     line: &mut String<A>,
 ) -> Result<(), AllocError>
-    ensures list { OnOk result (string_bytes line.new ≡ followed limit (string_bytes line.old) (list_of number_part types.entry None)) }
+    ensures list { OnOk result (string_bytes line.new ≡ followed limit (string_bytes line.old) (list_of type_part types.entry None)) }
     ensures lacks { OnErr result A.Lacks }
 {
     'items: loop {
         match types.next() {
-            Ok(Some(oid)) => put_number(oid as u64, line)?,
+            Ok(Some(oid)) => put_type(oid, line)?,
             Ok(None) => return Ok(()),
             Err(e) => return put_fault(&e, line),
         }

@@ -4,9 +4,9 @@ ghost use Rattle.std.specs.Prelude.{◌≡◌, ℕ, List};
 ghost use Rattle.pgp_frontend.specs.ClientMessage.{SaslResponse};
 ghost use Rattle.std.specs.Option.{option_map};
 ghost use Rattle.pgp_server.specs.AnyViews.{any_view, other_view};
-ghost use Rattle.pgp_server.specs.OtherMessage.{Other};
+ghost use Rattle.pgp_server.specs.OtherMessage.{Other, Ours};
 ghost use Rattle.pgp_server.specs.Views.{view};
-ghost use Rattle.pgtrace.specs.Client.{client_name, object_of, our_name};
+ghost use Rattle.pgtrace.specs.Client.{client_name, client_says_nothing, object_of, our_name};
 
 use pgp_server::{AnyMessage, ClientMessage, OtherMessage};
 
@@ -66,6 +66,52 @@ fn other_name(told: bool, message: &OtherMessage<'_>) -> &'static str
         OtherMessage::GssEncRequest => "GSSENCRequest",
         OtherMessage::SaslInitialWithoutResponse { .. } => "SASLInitialResponse",
         OtherMessage::StartupOther { .. } => "StartupMessage",
+    }
+}
+
+/// Whether no more is said of a message than its name.
+pub fn says_nothing(message: &AnyMessage<'_>) -> bool
+    ensures { result ≡ client_says_nothing (any_view message.now) }
+{
+    match message {
+        AnyMessage::Ours(message) => ours_says_nothing(message),
+        AnyMessage::Other(message) => other_says_nothing(message),
+    }
+}
+
+fn ours_says_nothing(message: &ClientMessage<'_>) -> bool
+    ensures { result ≡ client_says_nothing (Ours (view message.now)) }
+{
+    match message {
+        ClientMessage::Bind { .. } => false,
+        ClientMessage::CancelRequest { .. } => false,
+        ClientMessage::Close { .. } => false,
+        ClientMessage::CopyData(_) => false,
+        ClientMessage::CopyDone => true,
+        ClientMessage::CopyFail(_) => false,
+        ClientMessage::Describe { .. } => false,
+        ClientMessage::Execute { .. } => false,
+        ClientMessage::Flush => true,
+        ClientMessage::Parse { .. } => false,
+        ClientMessage::PasswordMessage(_) => false,
+        ClientMessage::Query(_) => false,
+        ClientMessage::SaslInitialResponse { .. } => false,
+        ClientMessage::SaslResponse(_) => false,
+        ClientMessage::SslRequest => true,
+        ClientMessage::Startup { .. } => false,
+        ClientMessage::Sync => true,
+        ClientMessage::Terminate => true,
+    }
+}
+
+fn other_says_nothing(message: &OtherMessage<'_>) -> bool
+    ensures { result ≡ client_says_nothing (Other (other_view message.now)) }
+{
+    match message {
+        OtherMessage::FunctionCall { .. } => false,
+        OtherMessage::GssEncRequest => true,
+        OtherMessage::SaslInitialWithoutResponse { .. } => false,
+        OtherMessage::StartupOther { .. } => false,
     }
 }
 

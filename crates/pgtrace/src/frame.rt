@@ -1,17 +1,17 @@
 //! The line of a server's frame.
 
-ghost use Rattle.std.specs.Prelude.{◌≡◌, ◌≤◌, ◌<◌, ◌-◌, ◌∷◌, ◌++◌, [], pos, length, take, slice_index, IfOk, OnErr, OnOk, Ok, decimal, string_bytes};
+ghost use Rattle.std.specs.Prelude.{◌≡◌, ◌≤◌, ◌<◌, ◌-◌, ◌∷◌, ◌++◌, [], length, take, slice_index, IfOk, OnErr, OnOk, Ok, string_bytes};
 ghost use Rattle.pgp_message.specs.Views.{view};
-ghost use Rattle.pgtrace.specs.Line.{Number, Tag, followed};
+ghost use Rattle.pgtrace.specs.Line.{Right, Tag, followed, right};
 ghost use Rattle.pgtrace.specs.Shown.{fault};
 ghost use Rattle.pgtrace.specs.Listing.{IsServerLine};
 ghost use Rattle.pgtrace.specs.Sides.{Server};
 ghost use Rattle.pgtrace.specs.Steps.{IsFrameOf, ListsNext};
 
 use crate::body::put_message;
-use crate::line::{put_number, put_tag, put_word};
+use crate::line::{put_called, put_length, put_place, put_tag};
 use crate::lists::put_fault;
-use crate::names::name_of;
+use crate::names::{name_of, says_nothing};
 use crate::style::Style;
 use pgp_base::{Error, Memory};
 use pgp_message::{Message, Messages};
@@ -84,7 +84,7 @@ fn message_line<A: Memory>(
     ensures lacks { OnErr result A.Lacks }
 {
     begin(place, frame, line)?;
-    put_word(name_of(message), line)?;
+    put_called(says_nothing(message), name_of(message), line)?;
     let (_, body) = frame.split_at(5);
     put_message(style, message, body, line)?;
     A::push_char(line, '\n')
@@ -98,7 +98,7 @@ fn fault_line<A: Memory>(
     line: &mut String<A>,
 ) -> Result<(), AllocError>
     requires { 0 < length frame.now }
-    ensures line { OnOk result (string_bytes line.new ≡ followed 0 (decimal place) (Number (pos (length frame.now)) ∷ Tag (slice_index frame.now 0) ∷ fault refusal.now) ++ 10 ∷ []) }
+    ensures line { OnOk result (string_bytes line.new ≡ followed 0 (right 10 place) (Right 8 (length frame.now) ∷ Tag (slice_index frame.now 0) ∷ fault refusal.now) ++ 10 ∷ []) }
     ensures lacks { OnErr result A.Lacks }
 {
     begin(place, frame, line)?;
@@ -109,7 +109,7 @@ fn fault_line<A: Memory>(
 /// Begins a line: with the place of the frame, its length, and its tag.
 fn begin<A: Memory>(place: u64, frame: &[u8], line: &mut String<A>) -> Result<(), AllocError>
     requires { 0 < length frame.now }
-    ensures parts { OnOk result (string_bytes line.new ≡ followed 0 (decimal place) (Number (pos (length frame.now)) ∷ Tag (slice_index frame.now 0) ∷ [])) }
+    ensures parts { OnOk result (string_bytes line.new ≡ followed 0 (right 10 place) (Right 8 (length frame.now) ∷ Tag (slice_index frame.now 0) ∷ [])) }
     ensures lacks { OnErr result A.Lacks }
 {
     begin_line(place, frame.len(), frame[0], line)
@@ -122,11 +122,11 @@ pub fn begin_line<A: Memory>(
     tag: u8,
     line: &mut String<A>,
 ) -> Result<(), AllocError>
-    ensures parts { OnOk result (string_bytes line.new ≡ followed 0 (decimal place) (Number (pos len) ∷ Tag tag ∷ [])) }
+    ensures parts { OnOk result (string_bytes line.new ≡ followed 0 (right 10 place) (Right 8 len ∷ Tag tag ∷ [])) }
     ensures lacks { OnErr result A.Lacks }
 {
     line.clear();
-    A::push_shown(line, place)?;
-    put_number(len as u64, line)?;
+    put_place(place, line)?;
+    put_length(len, line)?;
     put_tag(tag, line)
 }

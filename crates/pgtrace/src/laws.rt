@@ -1,20 +1,22 @@
 //! Laws of lines.
 
 ghost use Rattle.std.specs.Prelude.{◌≡◌, ◌≢◌, ◌<◌, ◌≤◌, ◌∷◌, ◌++◌, [], ℕ, List, true, false, Bool, ℤ, Ok, Some, None, Result, length};
-ghost use Rattle.std.specs.List.{AllByRecursion, list_all};
+ghost use Rattle.std.specs.List.{AllByRecursion};
 ghost use Rattle.pgp_base.specs.declared.error.Error.{Error};
 ghost use Rattle.pgp_message.specs.BackendMessage.{Message};
 ghost use Rattle.pgp_frontend.specs.ClientMessage.{CancelRequest, PasswordMessage, SaslInitialResponse, SaslResponse};
 ghost use Rattle.pgp_message.specs.Stream.{BackendRun};
 ghost use Rattle.pgp_server.specs.OtherMessage.{Ours};
+ghost use Rattle.pgp_server.specs.declared.message.PasswordKind.{PasswordKind};
 ghost use Rattle.pgtrace.specs.Client.{client_line};
+ghost use Rattle.pgtrace.specs.ClientSecrets.{AlikeClientStreams};
 ghost use Rattle.pgtrace.specs.declared.style.Style.{Style};
 ghost use Rattle.pgtrace.specs.Line.{Value, shown};
 ghost use Rattle.pgtrace.specs.Listing.{IsListing, LineOf, Lines};
-ghost use Rattle.pgtrace.specs.Quoting.{is_printable, quoted};
+ghost use Rattle.pgtrace.specs.Quoting.{IsPrinted, quoted};
 ghost use Rattle.pgtrace.specs.Secrets.{Alike, AlikeStreams, quiet};
 ghost use Rattle.pgtrace.specs.Shown.{Shows};
-ghost use Rattle.pgtrace.specs.Sides.{Server, Side};
+ghost use Rattle.pgtrace.specs.Sides.{Client, Server, Side};
 
 /// No two texts are quoted alike, whatever follows them.
 pub fn quotes_differ()
@@ -29,10 +31,10 @@ pub fn values_differ()
     ensures null { (limit : ℕ) (xs : List ℕ) → shown limit (Value (Some xs)) ≢ shown limit (Value None) }
 {}
 
-/// A line has printable characters of ASCII alone, and then its newline.
+/// A line has characters alone that a terminal prints, and then its newline.
 pub fn lines_are_printable()
     ensures { (style : Style) (place : ℕ) (from to : Side) (frame line : List ℕ) → LineOf style place from frame line to →
-        (text : List ℕ) × (line ≡ text ++ 10 ∷ []) × (list_all is_printable text ≡ true) }
+        (text : List ℕ) × (line ≡ text ++ 10 ∷ []) × IsPrinted text }
 {}
 
 /// A server's messages that differ in their secrets alone have the same lines, unless secrets are asked for.
@@ -64,4 +66,10 @@ pub fn client_secrets_are_hidden()
         client_line (quiet limit) told (Ok (Ours (CancelRequest process a))) old ≡ client_line (quiet limit) told (Ok (Ours (CancelRequest process b))) old }
     ensures untold { (style : Style) (a b old : List ℕ) → length a ≡ length b →
         client_line style false (Ok (Ours (SaslResponse a))) old ≡ client_line style false (Ok (Ours (SaslResponse b))) old }
+{}
+
+/// A client's streams that differ in their secrets alone have the same lines, unless secrets are asked for.
+pub fn client_streams_hide_their_secrets()
+    ensures { (limit start : ℕ) (opened : Bool) (kinds : List PasswordKind) (a b lines : List ℕ) (to behind : Side) → AlikeClientStreams (Client opened kinds) a b behind →
+        Lines (quiet limit) start (Client opened kinds) a lines to → Lines (quiet limit) start (Client opened kinds) b lines to }
 {}

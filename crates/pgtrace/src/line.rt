@@ -1,9 +1,10 @@
 //! The parts of a line, each with a space before it.
 
-ghost use Rattle.std.specs.Prelude.{◌≡◌, ◌∷◌, ◌++◌, [], pos, None, Some, OnErr, OnOk, string_bytes, codes, decimal};
-ghost use Rattle.pgtrace.specs.Line.{Word, Number, Tag, Text, Value, Hidden, followed};
+ghost use Rattle.std.specs.Prelude.{◌≡◌, ◌∷◌, ◌++◌, [], pos, None, Some, OnErr, OnOk, string_bytes};
+ghost use Rattle.pgtrace.specs.Line.{Word, Number, Left, Right, Oid, Tag, Text, Value, Hidden, blanks, followed, named, right};
 
-use crate::quote::{put_byte, put_escaped, put_quoted, put_value};
+use crate::quote::{put_byte, put_bytes, put_cut_text, put_value};
+use crate::types::type_of;
 use pgp_base::Memory;
 use std::alloc::AllocError;
 
@@ -23,7 +24,7 @@ pub fn put_name<A: Memory>(word: &[u8], line: &mut String<A>) -> Result<(), Allo
     ensures lacks { OnErr result A.Lacks }
 {
     A::push_char(line, ' ')?;
-    put_escaped(word, line)
+    put_bytes(word, line)
 }
 
 /// Adds a number that has no sign.
@@ -40,6 +41,70 @@ pub fn put_signed<A: Memory>(n: i32, line: &mut String<A>) -> Result<(), AllocEr
     ensures lacks { OnErr result A.Lacks }
 {
     A::push_shown(line, format_args!(" {n}"))
+}
+
+/// Adds a type.
+pub fn put_type<A: Memory>(oid: u32, line: &mut String<A>) -> Result<(), AllocError>
+    ensures part { OnOk result (string_bytes line.new ≡ followed 0 (string_bytes line.old) (Oid oid ∷ [])) }
+    ensures lacks { OnErr result A.Lacks }
+{
+    put_number(oid as u64, line)?;
+    match type_of(oid) {
+        Some(name) => put_word(name, line),
+        None => Ok(()),
+    }
+}
+
+/// Adds how long a frame is, in its column.
+pub fn put_length<A: Memory>(len: usize, line: &mut String<A>) -> Result<(), AllocError>
+    ensures part { OnOk result (string_bytes line.new ≡ followed 0 (string_bytes line.old) (Right 8 len ∷ [])) }
+    ensures lacks { OnErr result A.Lacks }
+{
+    A::push_shown(line, format_args!(" {len:>8}"))
+}
+
+/// Adds the place of a frame, in its column.
+pub fn put_place<A: Memory>(place: u64, line: &mut String<A>) -> Result<(), AllocError>
+    ensures text { OnOk result (string_bytes line.new ≡ string_bytes line.old ++ right 10 place) }
+    ensures lacks { OnErr result A.Lacks }
+{
+    A::push_shown(line, format_args!("{place:>10}"))
+}
+
+/// Adds the name of a message: by itself, or in a column where more stands behind it.
+pub fn put_called<A: Memory>(
+    alone: bool,
+    name: &str,
+    line: &mut String<A>,
+) -> Result<(), AllocError>
+    ensures part { OnOk result (string_bytes line.new ≡ followed 0 (string_bytes line.old) (named alone name.now ∷ [])) }
+    ensures lacks { OnErr result A.Lacks }
+{
+    if alone {
+        put_word(name, line)
+    } else {
+        put_left(20, name, line)
+    }
+}
+
+/// Adds a word in a column of so many characters.
+fn put_left<A: Memory>(width: usize, word: &str, line: &mut String<A>) -> Result<(), AllocError>
+    ensures part { OnOk result (string_bytes line.new ≡ followed 0 (string_bytes line.old) (Left width word.now ∷ [])) }
+    ensures lacks { OnErr result A.Lacks }
+{
+    put_word(word, line)?;
+    put_blanks(width.saturating_sub(word.len()), line)
+}
+
+/// Adds so many blanks.
+fn put_blanks<A: Memory>(len: usize, line: &mut String<A>) -> Result<(), AllocError>
+    ensures text { OnOk result (string_bytes line.new ≡ string_bytes line.old ++ blanks len) }
+    ensures lacks { OnErr result A.Lacks }
+{
+    for _ in 0..len {
+        A::push_char(line, ' ')?;
+    }
+    Ok(())
 }
 
 /// Adds the tag of a frame.
@@ -61,11 +126,7 @@ pub fn put_text<A: Memory>(
     ensures lacks { OnErr result A.Lacks }
 {
     A::push_char(line, ' ')?;
-    if text.len() <= limit {
-        return put_quoted(text, line);
-    }
-    put_quoted(&text[..limit], line)?;
-    put_len(text.len(), line)
+    put_cut_text(limit, text, line)
 }
 
 /// Adds a value of a row, up to the limit.
@@ -78,11 +139,7 @@ pub fn put_some<A: Memory>(
     ensures lacks { OnErr result A.Lacks }
 {
     A::push_char(line, ' ')?;
-    if bytes.len() <= limit {
-        return put_value(bytes, line);
-    }
-    put_value(&bytes[..limit], line)?;
-    put_len(bytes.len(), line)
+    put_value(limit, bytes, line)
 }
 
 /// Adds a null.
@@ -99,12 +156,4 @@ pub fn put_hidden<A: Memory>(len: usize, line: &mut String<A>) -> Result<(), All
     ensures lacks { OnErr result A.Lacks }
 {
     A::push_shown(line, format_args!(" ({len} bytes)"))
-}
-
-/// Adds how long what was cut is.
-fn put_len<A: Memory>(len: usize, line: &mut String<A>) -> Result<(), AllocError>
-    ensures text { OnOk result (string_bytes line.new ≡ string_bytes line.old ++ codes " of " ++ decimal len ++ codes " bytes") }
-    ensures lacks { OnErr result A.Lacks }
-{
-    A::push_shown(line, format_args!(" of {len} bytes"))
 }

@@ -6,9 +6,11 @@ ghost use Rattle.std.specs.List.{AllByRecursion};
 ghost use Rattle.std.specs.Option.{option_map};
 ghost use Rattle.pgp_message.specs.Table.{IsPlaceIn};
 ghost use Rattle.pgtrace.specs.Line.{Word, followed};
-ghost use Rattle.pgtrace.specs.Shown.{column_parts, fault, field_parts, list_of, name_or, number_part, text_part, value_part};
+ghost use Rattle.pgtrace.specs.Shown.{column_parts, fault, field_parts, list_of, name_or, number_part, text_part, type_part, value_part};
 
-use crate::line::{put_name, put_null, put_number, put_signed, put_some, put_text, put_word};
+use crate::line::{
+    put_name, put_null, put_number, put_signed, put_some, put_text, put_type, put_word,
+};
 use crate::names::{field_of, refusal_of};
 use pgp_base::{Error, FallibleIterator, Memory};
 use pgp_message::{
@@ -88,12 +90,12 @@ pub fn put_types<A: Memory>(
     mut types: Parameters<'_>,
     line: &mut String<A>,
 ) -> Result<(), AllocError>
-    ensures list { OnOk result (string_bytes line.new ≡ followed limit (string_bytes line.old) (list_of number_part types.entry.items types.entry.end)) }
+    ensures list { OnOk result (string_bytes line.new ≡ followed limit (string_bytes line.old) (list_of type_part types.entry.items types.entry.end)) }
     ensures lacks { OnErr result A.Lacks }
 {
     'items: loop {
         match types.next() {
-            Ok(Some(type_oid)) => put_number(type_oid as u64, line)?,
+            Ok(Some(type_oid)) => put_type(type_oid, line)?,
             Ok(None) => return Ok(()),
             Err(e) => return put_fault(&e, line),
         }
@@ -200,7 +202,7 @@ fn put_column<A: Memory>(
     put_word("column", line)?;
     put_signed(column.column_id() as i32, line)?;
     put_word("type", line)?;
-    put_number(column.type_oid() as u64, line)?;
+    put_type(column.type_oid(), line)?;
     put_word("size", line)?;
     put_signed(column.type_size() as i32, line)?;
     put_word("modifier", line)?;

@@ -2,6 +2,7 @@
 #![tactic(auto)]
 
 pub mod body;
+pub mod characters;
 pub mod client;
 pub mod client_body;
 pub mod client_lists;
@@ -21,6 +22,7 @@ pub mod run;
 pub mod side;
 pub mod stream;
 pub mod style;
+pub mod types;
 pub mod words;
 
 use std::io;

@@ -4,6 +4,7 @@ ghost use Rattle.std.specs.Prelude.{◌≡◌};
 ghost use Rattle.std.specs.Option.{option_map};
 ghost use Rattle.pgp_message.specs.Views.{view};
 ghost use Rattle.pgtrace.specs.Names.{field_of, name_of, place_of, refusal_of, state_of};
+ghost use Rattle.pgtrace.specs.Shown.{says_nothing};
 
 use pgp_base::Error;
 use pgp_message::Message;
@@ -45,6 +46,46 @@ pub fn name_of(message: &Message<&[u8]>) -> &'static str
         Message::PortalSuspended => "PortalSuspended",
         Message::ReadyForQuery(_) => "ReadyForQuery",
         Message::RowDescription(_) => "RowDescription",
+    }
+}
+
+/// Whether no more is said of a message than its name.
+pub fn says_nothing(message: &Message<&[u8]>) -> bool
+    ensures { result ≡ says_nothing (view message.now) }
+{
+    match message {
+        Message::AuthenticationCleartextPassword => true,
+        Message::AuthenticationGss => true,
+        Message::AuthenticationGssContinue(_) => false,
+        Message::AuthenticationKerberosV5 => true,
+        Message::AuthenticationMd5Password(_) => false,
+        Message::AuthenticationOk => true,
+        Message::AuthenticationSasl(_) => false,
+        Message::AuthenticationSaslContinue(_) => false,
+        Message::AuthenticationSaslFinal(_) => false,
+        Message::AuthenticationScmCredential => true,
+        Message::AuthenticationSspi => true,
+        Message::BackendKeyData(_) => false,
+        Message::BindComplete => true,
+        Message::CloseComplete => true,
+        Message::CommandComplete(_) => false,
+        Message::CopyData(_) => false,
+        Message::CopyDone => true,
+        Message::CopyInResponse(_) => false,
+        Message::CopyOutResponse(_) => false,
+        Message::DataRow(_) => false,
+        Message::EmptyQueryResponse => true,
+        Message::ErrorResponse(_) => false,
+        Message::NegotiateProtocolVersion(_) => false,
+        Message::NoData => true,
+        Message::NoticeResponse(_) => false,
+        Message::NotificationResponse(_) => false,
+        Message::ParameterDescription(_) => false,
+        Message::ParameterStatus(_) => false,
+        Message::ParseComplete => true,
+        Message::PortalSuspended => true,
+        Message::ReadyForQuery(_) => false,
+        Message::RowDescription(_) => false,
     }
 }
 

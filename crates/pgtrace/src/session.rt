@@ -34,65 +34,65 @@ pub const SESSION: &[u8] = b"\
 
 /// Its lines.
 pub const LINES: &str = "\
-    0 8 - SSLRequest\n\
-    8 8 - GSSENCRequest\n\
-    16 16 - CancelRequest process 4711 key (4 bytes)\n\
-    32 27 - StartupMessage version 196608 parameters \"user\" \"a\" \"database\" \"b\"\n\
-    59 12 p PasswordMessage password (6 bytes)\n\
-    71 31 p SASLInitialResponse mechanism \"SCRAM-SHA-256\" data (8 bytes)\n\
-    102 23 p SASLInitialResponse mechanism \"SCRAM-SHA-256\" data NULL\n\
-    125 11 p SASLResponse data (6 bytes)\n\
-    136 10 p Password, SASLInitialResponse or SASLResponse (5 bytes)\n\
-    146 14 Q Query query \"select 1\"\n\
-    160 31 P Parse statement \"s\" query \"select $1, $2\" types 2 23 25\n\
-    191 15 P Parse statement \"\" query \"commit\" types 0\n\
-    206 33 B Bind portal \"p\" statement \"s\" formats 1 1 values 2 \\x00000007 NULL results 2 0 1\n\
-    239 8 D Describe statement \"s\"\n\
-    247 8 D Describe portal \"p\"\n\
-    255 11 E Execute portal \"p\" rows 100\n\
-    266 5 H Flush\n\
-    271 5 S Sync\n\
-    276 8 C Close statement \"s\"\n\
-    284 8 C Close X \"s\"\n\
-    292 9 d CopyData data \"1\\x09a\\x0a\"\n\
-    301 5 c CopyDone\n\
-    306 15 f CopyFail message \"no \\\"more\\\"\"\n\
-    321 26 F FunctionCall function 1598 formats 1 1 values 2 \"7\" NULL result 0\n\
-    347 5 Y fault 5 UnknownTag\n\
-    352 6 S fault 8 NotDrained\n\
-    358 5 X Terminate\n\
+    \x20        0        8 - SSLRequest\n\
+    \x20        8        8 - GSSENCRequest\n\
+    \x20       16       16 - CancelRequest        process 4711 key (4 bytes)\n\
+    \x20       32       27 - StartupMessage       version 196608 parameters \"user\" \"a\" \"database\" \"b\"\n\
+    \x20       59       12 p PasswordMessage      password (6 bytes)\n\
+    \x20       71       31 p SASLInitialResponse  mechanism \"SCRAM-SHA-256\" data (8 bytes)\n\
+    \x20      102       23 p SASLInitialResponse  mechanism \"SCRAM-SHA-256\" data NULL\n\
+    \x20      125       11 p SASLResponse         data (6 bytes)\n\
+    \x20      136       10 p Password, SASLInitialResponse or SASLResponse (5 bytes)\n\
+    \x20      146       14 Q Query                query \"select 1\"\n\
+    \x20      160       31 P Parse                statement \"s\" query \"select $1, $2\" types 2 23 int4 25 text\n\
+    \x20      191       15 P Parse                statement \"\" query \"commit\" types 0\n\
+    \x20      206       33 B Bind                 portal \"p\" statement \"s\" formats 1 1 values 2 \\x00000007 NULL results 2 0 1\n\
+    \x20      239        8 D Describe             statement \"s\"\n\
+    \x20      247        8 D Describe             portal \"p\"\n\
+    \x20      255       11 E Execute              portal \"p\" rows 100\n\
+    \x20      266        5 H Flush\n\
+    \x20      271        5 S Sync\n\
+    \x20      276        8 C Close                statement \"s\"\n\
+    \x20      284        8 C Close                X \"s\"\n\
+    \x20      292        9 d CopyData             data \"1\\x09a\\x0a\"\n\
+    \x20      301        5 c CopyDone\n\
+    \x20      306       15 f CopyFail             message \"no \\\"more\\\"\"\n\
+    \x20      321       26 F FunctionCall         function 1598 formats 1 1 values 2 \"7\" NULL result 0\n\
+    \x20      347        5 Y fault 5 UnknownTag\n\
+    \x20      352        6 S fault 8 NotDrained\n\
+    \x20      358        5 X Terminate\n\
     rest 2\n\
     ";
 
 /// Its lines with secrets.
 pub const OPEN_LINES: &str = "\
-    0 8 - SSLRequest\n\
-    8 8 - GSSENCRequest\n\
-    16 16 - CancelRequest process 4711 key \"abcd\"\n\
-    32 27 - StartupMessage version 196608 parameters \"user\" \"a\" \"database\" \"b\"\n\
-    59 12 p PasswordMessage password \"secret\"\n\
-    71 31 p SASLInitialResponse mechanism \"SCRAM-SHA-256\" data \"n,,n=,r=\"\n\
-    102 23 p SASLInitialResponse mechanism \"SCRAM-SHA-256\" data NULL\n\
-    125 11 p SASLResponse data \"c=biws\"\n\
-    136 10 p Password, SASLInitialResponse or SASLResponse (5 bytes)\n\
-    146 14 Q Query query \"select 1\"\n\
-    160 31 P Parse statement \"s\" query \"select $1, $2\" types 2 23 25\n\
-    191 15 P Parse statement \"\" query \"commit\" types 0\n\
-    206 33 B Bind portal \"p\" statement \"s\" formats 1 1 values 2 \\x00000007 NULL results 2 0 1\n\
-    239 8 D Describe statement \"s\"\n\
-    247 8 D Describe portal \"p\"\n\
-    255 11 E Execute portal \"p\" rows 100\n\
-    266 5 H Flush\n\
-    271 5 S Sync\n\
-    276 8 C Close statement \"s\"\n\
-    284 8 C Close X \"s\"\n\
-    292 9 d CopyData data \"1\\x09a\\x0a\"\n\
-    301 5 c CopyDone\n\
-    306 15 f CopyFail message \"no \\\"more\\\"\"\n\
-    321 26 F FunctionCall function 1598 formats 1 1 values 2 \"7\" NULL result 0\n\
-    347 5 Y fault 5 UnknownTag\n\
-    352 6 S fault 8 NotDrained\n\
-    358 5 X Terminate\n\
+    \x20        0        8 - SSLRequest\n\
+    \x20        8        8 - GSSENCRequest\n\
+    \x20       16       16 - CancelRequest        process 4711 key \"abcd\"\n\
+    \x20       32       27 - StartupMessage       version 196608 parameters \"user\" \"a\" \"database\" \"b\"\n\
+    \x20       59       12 p PasswordMessage      password \"secret\"\n\
+    \x20       71       31 p SASLInitialResponse  mechanism \"SCRAM-SHA-256\" data \"n,,n=,r=\"\n\
+    \x20      102       23 p SASLInitialResponse  mechanism \"SCRAM-SHA-256\" data NULL\n\
+    \x20      125       11 p SASLResponse         data \"c=biws\"\n\
+    \x20      136       10 p Password, SASLInitialResponse or SASLResponse (5 bytes)\n\
+    \x20      146       14 Q Query                query \"select 1\"\n\
+    \x20      160       31 P Parse                statement \"s\" query \"select $1, $2\" types 2 23 int4 25 text\n\
+    \x20      191       15 P Parse                statement \"\" query \"commit\" types 0\n\
+    \x20      206       33 B Bind                 portal \"p\" statement \"s\" formats 1 1 values 2 \\x00000007 NULL results 2 0 1\n\
+    \x20      239        8 D Describe             statement \"s\"\n\
+    \x20      247        8 D Describe             portal \"p\"\n\
+    \x20      255       11 E Execute              portal \"p\" rows 100\n\
+    \x20      266        5 H Flush\n\
+    \x20      271        5 S Sync\n\
+    \x20      276        8 C Close                statement \"s\"\n\
+    \x20      284        8 C Close                X \"s\"\n\
+    \x20      292        9 d CopyData             data \"1\\x09a\\x0a\"\n\
+    \x20      301        5 c CopyDone\n\
+    \x20      306       15 f CopyFail             message \"no \\\"more\\\"\"\n\
+    \x20      321       26 F FunctionCall         function 1598 formats 1 1 values 2 \"7\" NULL result 0\n\
+    \x20      347        5 Y fault 5 UnknownTag\n\
+    \x20      352        6 S fault 8 NotDrained\n\
+    \x20      358        5 X Terminate\n\
     rest 2\n\
     ";
 
@@ -104,8 +104,8 @@ pub const LATER: &[u8] = b"\
 
 /// Its lines.
 pub const LATER_LINES: &str = "\
-    0 16 - StartupMessage version 196610 parameters \"user\" \"a\"\n\
-    16 5 S Sync\n\
+    \x20        0       16 - StartupMessage       version 196610 parameters \"user\" \"a\"\n\
+    \x20       16        5 S Sync\n\
     rest 0\n\
     ";
 
@@ -117,7 +117,7 @@ pub const OTHER: &[u8] = b"\
 
 /// Its lines.
 pub const OTHER_LINES: &str = "\
-    0 9 - StartupMessage version 196609 parameters\n\
-    9 5 S Sync\n\
+    \x20        0        9 - StartupMessage       version 196609 parameters\n\
+    \x20        9        5 S Sync\n\
     rest 0\n\
     ";

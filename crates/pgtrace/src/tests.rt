@@ -18,15 +18,16 @@ use std::test::Fail;
 const STREAM: &[u8] =
     b"S\x00\x00\x00\x08n\x00\n\x00Z\x00\x00\x00\x05IK\x00\x00\x00\x0c\x00\x00\x00\x01abcdZ\x00";
 
-const FIRST: &str = "0 9 S ParameterStatus name \"n\" value \"\\x0a\"\n";
+const FIRST: &str = "         0        9 S ParameterStatus      name \"n\" value \"\\x0a\"\n";
 
-const TWO: &str = "0 9 S ParameterStatus name \"n\" value \"\\x0a\"\n9 6 Z ReadyForQuery idle\n";
+const TWO: &str =
+    "         0        9 S ParameterStatus      name \"n\" value \"\\x0a\"\n         9        6 Z ReadyForQuery        idle\n";
 
 const THREE: &str =
-    "0 9 S ParameterStatus name \"n\" value \"\\x0a\"\n9 6 Z ReadyForQuery idle\n15 13 K BackendKeyData process 1 key (4 bytes)\n";
+    "         0        9 S ParameterStatus      name \"n\" value \"\\x0a\"\n         9        6 Z ReadyForQuery        idle\n        15       13 K BackendKeyData       process 1 key (4 bytes)\n";
 
 const ALL: &str =
-    "0 9 S ParameterStatus name \"n\" value \"\\x0a\"\n9 6 Z ReadyForQuery idle\n15 13 K BackendKeyData process 1 key (4 bytes)\nrest 2\n";
+    "         0        9 S ParameterStatus      name \"n\" value \"\\x0a\"\n         9        6 Z ReadyForQuery        idle\n        15       13 K BackendKeyData       process 1 key (4 bytes)\nrest 2\n";
 
 const SHORT: Style = Style {
     limit: 64,
@@ -119,7 +120,7 @@ fn each_allocation_is_refused(rt: HostRuntime) {
 }
 
 const OPEN: &str =
-    "0 9 S ParameterStatus name \"n\" value \"\\x0a\"\n9 6 Z ReadyForQuery idle\n15 13 K BackendKeyData process 1 key \"abcd\"\nrest 2\n";
+    "         0        9 S ParameterStatus      name \"n\" value \"\\x0a\"\n         9        6 Z ReadyForQuery        idle\n        15       13 K BackendKeyData       process 1 key \"abcd\"\nrest 2\n";
 
 const USAGE: &str =
     "usage: pgtrace server [--full] [--secrets] | client [--full] [--secrets] [--password-kind password|initial|response].. | --help | --version\n";
@@ -154,10 +155,10 @@ const CLIENT: &[u8] =
     b"\x00\x00\x00\x08\x04\xd2\x16/\x00\x00\x00\x10\x00\x03\x00\x00user\x00a\x00\x00p\x00\x00\x00\x07pw\x00Q\x00\x00\x00\x06x\x00X\x00";
 
 const CLIENT_ALL: &str =
-    "0 8 - SSLRequest\n8 16 - StartupMessage version 196608 parameters \"user\" \"a\"\n24 8 p PasswordMessage password (2 bytes)\n32 7 Q Query query \"x\"\nrest 2\n";
+    "         0        8 - SSLRequest\n         8       16 - StartupMessage       version 196608 parameters \"user\" \"a\"\n        24        8 p PasswordMessage      password (2 bytes)\n        32        7 Q Query                query \"x\"\nrest 2\n";
 
 const CLIENT_UNTOLD: &str =
-    "0 8 - SSLRequest\n8 16 - StartupMessage version 196608 parameters \"user\" \"a\"\n24 8 p Password, SASLInitialResponse or SASLResponse (3 bytes)\n32 7 Q Query query \"x\"\nrest 2\n";
+    "         0        8 - SSLRequest\n         8       16 - StartupMessage       version 196608 parameters \"user\" \"a\"\n        24        8 p Password, SASLInitialResponse or SASLResponse (3 bytes)\n        32        7 Q Query                query \"x\"\nrest 2\n";
 
 #[test]
 fn a_clients_stream_is_listed_however_it_is_cut(rt: HostRuntime) {
