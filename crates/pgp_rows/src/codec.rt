@@ -176,7 +176,7 @@ fn refusals_of<C: Codec>(
     Err(Fault::Row)
 }
 
-/// The same for each room that is too small. A buffer may have room for a byte more than was asked for; where more bytes are
+/// The same for each room that is too small. A buffer may have room for up to seven bytes more than was asked for; where more are
 /// missing, the call asks for memory.
 fn grows<C: Codec>(
     alloc: Global,
@@ -188,7 +188,7 @@ fn grows<C: Codec>(
     let (wanted, _) = wanted(alloc, row)?;
     for room in 0..len {
         let refusals = refusals_of::<C>(alloc, name, words, room, wanted.as_str())?;
-        if refusals == 0 && 1 < len - room {
+        if refusals == 0 && 7 < len - room {
             let mut came = Shown::new(alloc);
             came.word("asked for no memory")?;
             return same(wanted.as_str(), came);
