@@ -1,7 +1,8 @@
 # The two commands of a newcomer: `make run` lists a sample stream in about a minute, `make test` is the gate.
 # `make program` proves and builds the program, which `make run` and `./pgwire` run from then on.
 # `make edits`, before a release, tries every wrong body by itself, `make edits CRATES=pgp_base` those of one crate.
-# `make live` tries SASLprep, and what psql, pgbench and pg_dump send, with a PostgreSQL server of this machine, which it starts and stops; and pgserve with psql and pgbench.
+# `make live` tries SASLprep, and what psql, pgbench and pg_dump send, with a PostgreSQL server of this machine, which it starts and stops; pgserve with psql and pgbench; and
+# examples/record.sh, which lists a session of psql with pgtrace.
 # `make library` proves and builds the library for C (docs/C.md), `make install PREFIX=..` puts it and the program there, and
 # `make check-c` tries it from C, C++ and Python.
 # `make bench` times the works of crates/pgp_bench, `make bench WORKS=write` those whose names begin so.
@@ -32,9 +33,11 @@ bench:
 live:
 	cd crates/pgp_rows && rt run >/dev/null 2>&1 || [ -x out/pgp_rows ]
 	cd crates/pgserve && rt run -- --version >/dev/null 2>&1 || [ -x out/pgserve ]
+	cd crates/pgtrace && rt run -- --version >/dev/null 2>&1 || [ -x out/pgtrace ]
 	@scripts/live_saslprep
 	@scripts/live_sessions
 	@scripts/live_serve
+	@scripts/live_trace
 
 library:
 	@scripts/library build

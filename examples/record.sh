@@ -1,25 +1,43 @@
 #!/bin/sh
 # Records what psql and a server say to each other, and lists both sides with pgtrace.
 #
-#   examples/record.sh HOST PORT PSQL-ARGUMENTS..
+#   examples/record.sh [--live] HOST PORT PSQL-ARGUMENTS..
 #
-# Needs psql, socat, a server that takes connections over TCP, and crates/pgtrace/out/pgtrace (`rt run < /dev/null` in
-# crates/pgtrace). The connection isn't encrypted. RELAY is the port that psql calls, 54329 if it isn't set.
+# With --live the server's side is listed while psql runs, each line as soon as its message is whole.
+# Needs psql, a server that takes connections over TCP, socat (or python3, for relay.py beside this script), and
+# crates/pgtrace/out/pgtrace (`rt run < /dev/null` in crates/pgtrace), or the program that PGTRACE names. The connection isn't encrypted.
+# RELAY is the port that psql calls, 54329 if it isn't set.
 set -eu
+live=
+if [ "$1" = --live ]; then
+  live=yes
+  shift
+fi
 host=$1
 server=$2
 shift 2
 relay=${RELAY:-54329}
-pgtrace=$(dirname "$0")/../crates/pgtrace/out/pgtrace
+here=$(dirname "$0")
+pgtrace=${PGTRACE:-$here/../crates/pgtrace/out/pgtrace}
 dir=$(mktemp -d)
 trap 'rm -r "$dir"' EXIT
 
-socat -r "$dir/client" -R "$dir/server" "TCP-LISTEN:$relay,bind=127.0.0.1,reuseaddr" "TCP:$host:$server" &
+if [ -n "$live" ]; then
+  mkfifo "$dir/server"
+  "$pgtrace" server < "$dir/server" &
+fi
+if command -v socat > /dev/null; then
+  socat -r "$dir/client" -R "$dir/server" "TCP-LISTEN:$relay,bind=127.0.0.1,reuseaddr" "TCP:$host:$server" &
+else
+  python3 "$here/relay.py" "$relay" "$host" "$server" "$dir/client" "$dir/server" &
+fi
 sleep 1
 PGSSLMODE=disable PGGSSENCMODE=disable psql -h 127.0.0.1 -p "$relay" "$@" || echo "psql ended with status $?" >&2
 wait
 
 echo '-- the client'
 "$pgtrace" client --password-kind initial --password-kind response < "$dir/client"
-echo '-- the server'
-"$pgtrace" server < "$dir/server"
+if [ -z "$live" ]; then
+  echo '-- the server'
+  "$pgtrace" server < "$dir/server"
+fi
