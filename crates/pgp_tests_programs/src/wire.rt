@@ -1,7 +1,8 @@
 use crate::failing::{FailingReader, FailingWriter, PieceReader};
+use pgp_program::fault::Fault;
 use pgp_test_alloc::Refusing;
 use pgp_wire::backend::backend;
-use pgp_wire::fault::Fault;
+use pgp_wire::fault::complaint;
 use pgp_wire::run::{run, run_own};
 use std::alloc::Global;
 use std::env::FillError;
@@ -413,7 +414,7 @@ fn faults_are_told(rt: HostRuntime) {
         1
     );
     assert_eq!(rt; errors.as_slice(), b"pgwire: write failed\n".as_slice());
-    assert_eq!(rt; Fault::Memory.complaint(), "pgwire: out of memory\n");
+    assert_eq!(rt; complaint(Fault::Memory), "pgwire: out of memory\n");
 }
 
 #[test]

@@ -1,9 +1,9 @@
 //! Scripts of a client. Expected bytes are from the message formats of the PostgreSQL manual.
 
 use crate::failing::{FailingReader, FailingWriter, PieceReader};
+use pgp_program::fault::Fault;
 use pgp_test_alloc::Refusing;
 use pgp_wire::client::client;
-use pgp_wire::fault::Fault;
 use pgp_wire::run::run;
 use std::alloc::Global;
 

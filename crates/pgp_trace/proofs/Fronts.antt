@@ -4,7 +4,7 @@ use Rattle.std.specs.Io.KnownBytes.{Appends, Keeps}
 use Rattle.std.proofs.KnownBytes.{Appends-nil, Appends-trans}
 use Rattle.std.proofs.lemmas.List.{append-nil, take_all}
 use Rattle.std.proofs.Math.Seq.{take-append-add}
-use Rattle.pgp_trace.specs.Taken.{AppendsFront}
+use Rattle.pgp_program.specs.Taken.{AppendsFront}
 
 -- nothing
 pub none_taken : (old : Option (List ℕ)) (bytes : List ℕ) → AppendsFront old old bytes

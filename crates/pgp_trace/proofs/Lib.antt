@@ -17,6 +17,5 @@ pub mod Hiding
 pub mod ClientHiding
 pub mod Streams
 pub mod ClientStreams
-pub mod WordLemmas
 pub mod OptionLemmas
 pub mod CommandLemmas

@@ -3,9 +3,9 @@ use Rattle.std.proofs.Common.{◌≡◌, ℕ, List, Option, Result, Ok, Err, sub
 use Rattle.std.specs.Prelude.{OnOk, OnErr, IfErr}
 use Rattle.std.specs.Io.KnownBytes.{Appends}
 use Rattle.std.proofs.KnownBytes.{Keeps-refl}
-use Rattle.pgp_trace.specs.declared.fault.Fault.{Fault}
+use Rattle.pgp_program.specs.declared.fault.Fault.{Fault}
 use Rattle.pgp_trace.specs.Command.{Does, Stops, Help, Version, usage, version}
-use Rattle.pgp_trace.specs.Taken.{AppendsFront}
+use Rattle.pgp_program.specs.Taken.{AppendsFront}
 
 pub stops_help : (r : Result (Unit {0}) Fault) (i o p : Option (List ℕ)) (bytes : List ℕ) → bytes ≡ usage → OnErr r (AppendsFront o p bytes)
     → IfErr r (λ fault. Stops Help fault (record { input = i; output = o }) (record { input = i; output = p }))

@@ -10,8 +10,8 @@ use Rattle.pgp_trace.specs.declared.style.Style.{Style}
 use Rattle.pgp_trace.specs.Listing.{LineOf, Lines, NoLines, OneLine, place_behind, last_line, Streams, WasListed, WritesListing, IsCutShort}
 use Rattle.pgp_trace.specs.Sides.{Side, Ends}
 use Rattle.pgp_trace.specs.Steps.{HasLine, ListsAll, ListsSome, Held, Holds, ListsPiece}
-use Rattle.pgp_trace.specs.Taken.{AppendsFront}
-use Rattle.pgp_trace.specs.Words.{greatest}
+use Rattle.pgp_program.specs.Taken.{AppendsFront}
+use Rattle.pgp_program.specs.Words.{greatest}
 use Rattle.pgp_trace.proofs.Ends.{stays_ended, nothing_ends}
 use Rattle.pgp_trace.proofs.Fronts.{none_taken, all_taken, more_taken, kept_nothing}
 use Rattle.pgp_trace.proofs.Parts.{saturates}

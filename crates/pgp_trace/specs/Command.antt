@@ -2,14 +2,14 @@
 use Rattle.std.specs.Prelude.{◌≡◌, ◌⊎◌, ℕ, false, List, [], ◌∷◌, ◌++◌, Option, IfSome, codes}
 use Rattle.std.specs.Io.KnownBytes.{Keeps, Appends, IsAtEnd}
 use Rattle.pgp_server.specs.declared.message.PasswordKind.{PasswordKind}
-use Rattle.pgp_trace.specs.declared.fault.Fault.{Fault}
-use Rattle.pgp_trace.specs.declared.fault.Fault.TheVariants.{Memory, Read, Write}
+use Rattle.pgp_program.specs.declared.fault.Fault.{Fault}
+use Rattle.pgp_program.specs.declared.fault.Fault.TheVariants.{Memory, Read, Write}
 use Rattle.pgp_trace.specs.declared.style.Style.{Style}
 use Rattle.pgp_trace.specs.Listing.{Streams, IsCutShort, WasListed, WritesListing}
 use Rattle.pgp_trace.specs.Options.{AreOptions}
 use Rattle.pgp_trace.specs.Sides as side
-use Rattle.pgp_trace.specs.Taken.{AppendsFront}
-use Rattle.pgp_trace.specs.Words.{AreWords, HasOther, LacksWords}
+use Rattle.pgp_program.specs.Taken.{AppendsFront}
+use Rattle.pgp_program.specs.Words.{AreWords, HasOther, LacksWords}
 
 -- Lists a server's or a client's stream in a style, a client's with the kinds of its first messages of tag `p`; or tells how the program is called, or
 -- which one it is.

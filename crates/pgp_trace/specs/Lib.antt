@@ -1,4 +1,3 @@
-pub mod Taken
 pub mod Quoting
 pub mod Plain
 pub mod Types
@@ -6,9 +5,7 @@ pub mod Line
 pub mod Names
 pub mod Shown
 pub mod Secrets
-pub mod Words
 pub mod Options
-pub mod Interruptions
 pub mod Command
 pub mod Sides
 pub mod Client

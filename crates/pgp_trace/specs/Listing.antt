@@ -14,8 +14,8 @@ use Rattle.pgp_trace.specs.Sides.{Side, Server, Client, Ends, expected, is_told,
 use Rattle.pgp_trace.specs.declared.style.Style.{Style}
 use Rattle.pgp_trace.specs.Line.{Right, Tag, followed, right}
 use Rattle.pgp_trace.specs.Shown.{Shows, called, fault}
-use Rattle.pgp_trace.specs.Taken.{AppendsFront}
-use Rattle.pgp_trace.specs.Words.{greatest}
+use Rattle.pgp_program.specs.Taken.{AppendsFront}
+use Rattle.pgp_program.specs.Words.{greatest}
 
 -- what each line begins with: the place of the frame, how long it is, and its tag
 abbrev pub front : ℕ → Frame → List ℕ

@@ -3,7 +3,7 @@ use Rattle.std.specs.Prelude.{◌≡◌, ◌≢◌, ℕ, Bool, true, false, if�
 use Rattle.std.specs.List.{flat_map, list_any}
 use Rattle.pgp_server.specs.declared.message.PasswordKind.{PasswordKind}
 use Rattle.pgp_server.specs.declared.message.PasswordKind.TheVariants.{Password, Initial, Response}
-use Rattle.pgp_trace.specs.Words.{greatest}
+use Rattle.pgp_program.specs.Words.{greatest}
 use Rattle.pgp_trace.specs.declared.options.Choice.{Choice}
 use Rattle.pgp_trace.specs.declared.options.Choice.TheVariants.{Full, Secrets, Kind}
 use Rattle.pgp_trace.specs.declared.style.Style.{Style}

@@ -11,8 +11,8 @@ use Rattle.pgp_trace.specs.declared.side.Side.TheVariants as variants
 use Rattle.pgp_trace.specs.declared.style.Style.{Style}
 use Rattle.pgp_trace.specs.Listing.{LineOf, Lines, place_behind}
 use Rattle.pgp_trace.specs.Sides.{Side, Server, Client, Ends}
-use Rattle.pgp_trace.specs.Taken.{AppendsFront}
-use Rattle.pgp_trace.specs.Words.{greatest}
+use Rattle.pgp_program.specs.Taken.{AppendsFront}
+use Rattle.pgp_program.specs.Words.{greatest}
 
 -- the code's sides
 abbrev pub side_of : code.Side → Side

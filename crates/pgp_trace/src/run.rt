@@ -2,21 +2,23 @@
 
 ghost use Rattle.std.specs.Prelude.{◌≡◌, ◌∷◌, codes, false, map, IfSome, IfNone, IfOk, IfErr, OnErr, OnOk};
 ghost use Rattle.std.specs.Io.KnownBytes.{Keeps};
-ghost use Rattle.pgp_trace.specs.Interruptions.{GivesUp};
+ghost use Rattle.pgp_program.specs.Interruptions.{GivesUp};
 ghost use Rattle.pgp_trace.specs.Command.{Asks, BreaksOff, Caused, Does, IsOther, IsSaid, Lists, Obeys, ObeysOwn, Runs, RunsOwn, Stops, usage, complaint_of, version};
 ghost use Rattle.pgp_trace.specs.Asked.{asked};
 ghost use Rattle.pgp_trace.specs.Sides as side;
-ghost use Rattle.pgp_trace.specs.Words.{LacksWords};
+ghost use Rattle.pgp_program.specs.Words.{LacksWords};
 
-use crate::fault::Fault;
+use crate::fault::complaint;
 use crate::options::{options_of, style};
-use crate::ports::{Input, Output, Words};
-use crate::print::put;
+use crate::ports::Input;
 use crate::side::Side;
 use crate::stream::list;
 use crate::style::Style;
-use crate::words::{lent, texts};
 use pgp_base::Memory;
+use pgp_program::fault::Fault;
+use pgp_program::ports::{Output, Words};
+use pgp_program::print::put;
+use pgp_program::words::{lent, texts};
 use pgp_server::PasswordKind;
 use std::alloc::AllocError;
 
@@ -51,7 +53,7 @@ impl Outcome {
     {
         Outcome {
             status: 1,
-            complaint: fault.complaint(),
+            complaint: complaint(fault),
         }
     }
 }

@@ -3,20 +3,21 @@
 ghost use Rattle.std.specs.Prelude.{◌≡◌, ◌⊎◌, ◌≤◌, ◌<◌, ◌++◌, ℕ, List, drop, length, take, IfErr, IfOk, IfSome, OnErr, OnOk, string_bytes};
 ghost use Rattle.std.specs.Io.KnownBytes.{Appends, IsAtEnd, Keeps};
 ghost use Rattle.pgp_trace.specs.Command.{Caused};
-ghost use Rattle.pgp_trace.specs.Interruptions.{GivesUp};
+ghost use Rattle.pgp_program.specs.Interruptions.{GivesUp};
 ghost use Rattle.pgp_trace.specs.Listing.{IsCutShort, WasListed, WritesListing, last_line};
 ghost use Rattle.pgp_trace.specs.Steps.{Holds, ListsAll, ListsPiece, ListsSome, side_of};
-ghost use Rattle.pgp_trace.specs.Taken.{AppendsFront};
+ghost use Rattle.pgp_program.specs.Taken.{AppendsFront};
 
-use crate::fault::Fault;
 use crate::frame::Next;
 use crate::next::next_line;
-use crate::ports::{Input, Output};
-use crate::print::{flush, put};
+use crate::ports::Input;
 use crate::side::Side;
 use crate::style::Style;
 use bytes::{Buf, BytesMut};
 use pgp_base::Memory;
+use pgp_program::fault::Fault;
+use pgp_program::ports::Output;
+use pgp_program::print::{flush, put};
 use std::alloc::AllocError;
 use std::io::ErrorKind;
 

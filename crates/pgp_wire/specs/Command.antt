@@ -5,12 +5,12 @@ use Rattle.hex.specs.Hex.{decode_sized}
 use Rattle.pgp_auth.specs.Lexer.{Literal, Identifier, IsPlain, backslash}
 use Rattle.pgp_auth.specs.Verifier.{verifier, verifier_text}
 use Rattle.pgp_base.specs.Held.{Held}
-use Rattle.pgp_wire.specs.declared.fault.Fault.{Fault}
-use Rattle.pgp_wire.specs.declared.fault.Fault.TheVariants.{Memory, Read, Write}
+use Rattle.pgp_program.specs.declared.fault.Fault.{Fault}
+use Rattle.pgp_program.specs.declared.fault.Fault.TheVariants.{Memory, Read, Write}
 use Rattle.pgp_wire.specs.Output.{line, BackendOutput}
 use Rattle.pgp_wire.specs.ClientOutput.{ClientOutput}
-use Rattle.pgp_wire.specs.Taken.{AppendsFront}
-use Rattle.pgp_wire.specs.Words.{AreWords, HasOther, LacksWords}
+use Rattle.pgp_program.specs.Taken.{AppendsFront}
+use Rattle.pgp_program.specs.Words.{AreWords, HasOther, LacksWords}
 
 pub data Command : Type 0 where
   Client : Command

@@ -1,11 +1,8 @@
-pub mod Taken
 pub mod Output
 pub mod Listing
 pub mod Script
 pub mod Request
 pub mod ClientOutput
 pub mod Sending
-pub mod Words
-pub mod Interruptions
 pub mod Command
 pub mod Asked

@@ -4,16 +4,17 @@ ghost use Rattle.std.specs.Prelude.{◌≡◌, ◌≢◌, ◌<◌, ◌++◌, len
 ghost use Rattle.std.specs.Io.KnownBytes.{IsAtEnd, Keeps};
 ghost use Rattle.std.specs.List.{flat_map};
 ghost use Rattle.pgp_message.specs.Views.{seen, view};
-ghost use Rattle.pgp_wire.specs.Interruptions.{GivesUp};
+ghost use Rattle.pgp_program.specs.Interruptions.{GivesUp};
 ghost use Rattle.pgp_wire.specs.Output.{line, name_of, line_of, last_line, BackendOutput};
 ghost use Rattle.pgp_wire.specs.Listing.{ListsPiece};
 ghost use Rattle.pgp_wire.specs.Command.{Backend, Caused, IsCut, IsWritten};
 
-use crate::fault::Fault;
-use crate::ports::{Input, Output};
-use crate::print::put;
+use crate::ports::Input;
 use crate::rest::read_rest;
 use pgp_base::Memory;
+use pgp_program::fault::Fault;
+use pgp_program::ports::Output;
+use pgp_program::print::put;
 use postgres_protocol::Error;
 use postgres_protocol::message::backend::{Message, Storage};
 use postgres_protocol::session::StreamParser;

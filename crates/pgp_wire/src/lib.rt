@@ -12,4 +12,3 @@ pub mod rest;
 pub mod run;
 pub mod script;
 pub mod text;
-pub mod words;

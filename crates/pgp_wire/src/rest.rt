@@ -4,9 +4,9 @@ ghost use Rattle.std.specs.Prelude.{◌≡◌, IfErr, IfOk, IfSome, OnOk};
 ghost use Rattle.std.specs.Io.KnownBytes.{Consumes, IsAtEnd};
 ghost use Rattle.pgp_wire.specs.Command.{Caused};
 
-use crate::fault::Fault;
 use crate::ports::Input;
 use pgp_base::Memory;
+use pgp_program::fault::Fault;
 use std::io::ErrorKind;
 
 /// Reads all that is left.

@@ -2,20 +2,22 @@
 
 ghost use Rattle.std.specs.Prelude.{◌≡◌, [], map, IfSome, IfNone, IfOk, IfErr};
 ghost use Rattle.std.specs.Io.KnownBytes.{Keeps};
-ghost use Rattle.pgp_wire.specs.Interruptions.{GivesUp};
+ghost use Rattle.pgp_program.specs.Interruptions.{GivesUp};
 ghost use Rattle.pgp_wire.specs.Command.{Asks, IsOther, usage, complaint_of, Obeys, Succeeds, Stops, Runs, ObeysOwn, RunsOwn, IsSaid};
 ghost use Rattle.pgp_wire.specs.Asked.{asked};
-ghost use Rattle.pgp_wire.specs.Words.{LacksWords};
+ghost use Rattle.pgp_program.specs.Words.{LacksWords};
 
 use crate::backend::backend;
 use crate::client::client;
-use crate::fault::Fault;
-use crate::ports::{Input, Output, Words};
-use crate::print::put;
+use crate::fault::complaint;
+use crate::ports::Input;
 use crate::text;
-use crate::words::{lent, texts};
 use hex::FromHex;
 use pgp_base::Memory;
+use pgp_program::fault::Fault;
+use pgp_program::ports::{Output, Words};
+use pgp_program::print::put;
+use pgp_program::words::{lent, texts};
 
 const USAGE: &str =
     "usage: pgwire client | backend | verifier PASSWORD SALTHEX | escape literal|identifier TEXT\n";
@@ -46,7 +48,7 @@ impl Outcome {
     {
         Outcome {
             status: 1,
-            complaint: fault.complaint(),
+            complaint: complaint(fault),
         }
     }
 }

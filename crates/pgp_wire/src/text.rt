@@ -4,15 +4,15 @@ ghost use Rattle.std.specs.Prelude.{◌≡◌, ◌≢◌, ℕ, List, IfOk, IfErr
 ghost use Rattle.std.specs.Io.KnownBytes.{Appends, Keeps};
 ghost use Rattle.pgp_auth.specs.Lexer.{Identifier};
 ghost use Rattle.pgp_auth.specs.Verifier.{verifier, verifier_text};
-ghost use Rattle.pgp_wire.specs.Interruptions.{GivesUp};
+ghost use Rattle.pgp_program.specs.Interruptions.{GivesUp};
 ghost use Rattle.pgp_wire.specs.Output.{line};
 ghost use Rattle.pgp_wire.specs.Command.{Caused, IsEscapedLiteral};
-ghost use Rattle.pgp_wire.specs.Taken.{AppendsFront};
+ghost use Rattle.pgp_program.specs.Taken.{AppendsFront};
 
-use crate::fault::Fault;
-use crate::ports::Output;
 use crate::print::print;
 use pgp_base::Memory;
+use pgp_program::fault::Fault;
+use pgp_program::ports::Output;
 use postgres_protocol::authentication::sasl::NoPrep;
 use postgres_protocol::{escape, password};
 

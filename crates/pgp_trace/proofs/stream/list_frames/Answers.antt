@@ -1,7 +1,7 @@
 use Rattle.std.proofs.Common.{◌≡◌, ◌+◌, ◌-◌, ◌++◌, ◌∙◌, length, min, rules, ap}
 use Rattle.std.specs.Prelude.{string_bytes}
 use Rattle.pgp_trace.specs.Steps.{HasLine, side_of}
-use Rattle.pgp_trace.specs.Words.{greatest}
+use Rattle.pgp_program.specs.Words.{greatest}
 use Rattle.pgp_trace.proofs.Shorter.{shorter}
 use Rattle.pgp_trace.proofs.Traces.{nothing_yet, one_listed}
 use Rattle.pgp_trace.proofs.stream.list_frames.Goals as goal
