@@ -4,6 +4,7 @@ use crate::data::{append, is_data};
 use crate::fault::Fault;
 use crate::shown::Shown;
 use crate::walks::show_walk;
+use pgp_base::Error;
 use pgp_message::{
     DataRowBody, Field, Message, Messages, NegotiateProtocolVersionBody, RowDescriptionBody,
 };
@@ -72,24 +73,31 @@ fn show_options(
     )
 }
 
+/// A message that was read, with so many bytes at the most in its body.
+fn show_message(
+    read: &Result<Option<Message<&[u8]>>, Error>,
+    most: usize,
+    out: &mut Shown,
+) -> Result<(), Fault> {
+    match read {
+        Ok(Some(Message::DataRow(row))) => show_row(row, out),
+        Ok(Some(Message::RowDescription(columns))) => show_columns(columns, most, out),
+        Ok(Some(Message::NegotiateProtocolVersion(answer))) => show_options(answer, most, out),
+        Ok(_) => Err(Fault::Data),
+        Err(e) => out.number(*e),
+    }
+}
+
 /// A body behind its tag and length.
 fn show_body(tag: u8, body: &[u8], out: &mut Shown) -> Result<(), Fault> {
     let len = u32::try_from(body.len().saturating_add(4)).map_err(|_| Fault::Data)?;
     let mut frame = Vec::from_slice(out.alloc(), &[tag])?;
     frame.extend_from_slice(&len.to_be_bytes())?;
     frame.extend_from_slice(body)?;
-    match Messages::new(frame.as_slice()).next() {
-        Ok(Some(Message::DataRow(row))) => show_row(&row, out),
-        Ok(Some(Message::RowDescription(columns))) => show_columns(&columns, body.len(), out),
-        Ok(Some(Message::NegotiateProtocolVersion(answer))) => {
-            show_options(&answer, body.len(), out)
-        }
-        Err(e) => out.number(e),
-        other => {
-            drop(other);
-            Err(Fault::Data)
-        }
-    }
+    let read = Messages::new(frame.as_slice()).next();
+    let shown = show_message(&read, body.len(), out);
+    drop(read);
+    shown
 }
 
 fn show_dimension(dimension: ArrayDimension, out: &mut Shown) -> Result<(), Fault> {

@@ -2,6 +2,7 @@
 #![tactic(auto, using(pgp_base::proofs::Parts::held_steps))]
 
 use crate::checks::{holds, same};
+use crate::reads::{brings, next_row};
 use bytes::BytesMut;
 use pgp_auth::authentication::md5_hash;
 use pgp_auth::authentication::sasl::NoPrep;
@@ -134,18 +135,6 @@ fn long_passwords_have_verifiers(rt: HostRuntime) -> Result<(), Fail> {
     Ok(())
 }
 
-// Whether the message at the front brings these bytes of a copy.
-fn brings(buf: &mut BytesMut, data: &[u8]) -> Result<bool, Error> {
-    match Message::parse(buf)? {
-        Some(Message::CopyData(body)) => Ok(body.data() == data),
-        Some(other) => {
-            drop(other);
-            Ok(false)
-        }
-        None => Ok(false),
-    }
-}
-
 // A piece of a copy has the same frame in both directions.
 #[test]
 fn a_megabyte_is_copied(rt: HostRuntime) -> Result<(), Fail> {
@@ -188,9 +177,7 @@ fn a_long_text_is_a_value(rt: HostRuntime) -> Result<(), Fail> {
 
 // How many of the columns are the number 42.
 fn columns_of_42(alloc: Global, buf: &mut BytesMut) -> Result<usize, Error> {
-    let Some(Message::DataRow(row)) = Message::parse(buf)? else {
-        return Ok(0);
-    };
+    let row = next_row(buf)?;
     let values = row_int4(alloc, &row)?;
     Ok(
         values

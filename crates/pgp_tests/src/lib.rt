@@ -10,4 +10,6 @@ mod checks;
 #[cfg(test)]
 mod client_pieces;
 #[cfg(test)]
+mod reads;
+#[cfg(test)]
 mod values;

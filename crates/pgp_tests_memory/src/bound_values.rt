@@ -2,9 +2,9 @@
 #![tactic(auto, using(pgp_base::proofs::Parts::held_steps))]
 
 use crate::checks::{holds, same};
+use crate::reads::{buffer, next_row};
 use bytes::BytesMut;
 use pgp_base::{BindError, Error};
-use pgp_message::Message;
 use pgp_test_alloc::Refusing;
 use pgp_types::ArrayDimension;
 use postgres_protocol::laws::{Step, bind_array, row_int4};
@@ -66,11 +66,8 @@ const ROW: &[u8] = b"D\0\0\0\x16\0\x03\0\0\0\x04\0\0\0\x05\xff\xff\xff\xff\0\0\0
 
 /// How many of the values of that row are there, and are what they are to be.
 fn good_values<A: Allocator + Copy>(alloc: A, memory: Global) -> Result<usize, Error> {
-    let mut buf = BytesMut::new(memory);
-    buf.extend_from_slice(ROW)?;
-    let Some(Message::DataRow(row)) = Message::parse(&mut buf)? else {
-        return Ok(0);
-    };
+    let mut buf = buffer(memory, ROW)?;
+    let row = next_row(&mut buf)?;
     let values = row_int4(alloc, &row)?;
     let wanted = [Some(Ok(5)), None, Some(Err(Error::UnexpectedEof))];
     match values.as_slice() == wanted.as_slice() {

@@ -130,23 +130,26 @@ impl Sums {
             _ => self.add(b""),
         }
     }
+
+    /// Adds a message that was read in place.
+    fn add_in_place(&mut self, message: &Message<&[u8]>) {
+        match message {
+            Message::CopyData(body) => self.add(body.data()),
+            Message::CommandComplete(body) => self.add(body.tag().unwrap_or("").as_bytes()),
+            _ => self.add(b""),
+        }
+    }
 }
 
 /// Adds the messages of the bytes, read in place, and answers how many bytes are left.
 fn add_in_place(bytes: &[u8], sums: &mut Sums) -> Result<usize, Error> {
     let mut messages = Messages::new(bytes);
     for _ in 0..bytes.len() {
-        match messages.next()? {
-            Some(Message::CopyData(body)) => sums.add(body.data()),
-            Some(Message::CommandComplete(body)) => {
-                sums.add(body.tag().unwrap_or("").as_bytes());
-            }
-            Some(other) => {
-                drop(other);
-                sums.add(b"");
-            }
-            None => break,
-        }
+        let Some(message) = messages.next()? else {
+            break;
+        };
+        sums.add_in_place(&message);
+        drop(message);
     }
     Ok(messages.rest().len())
 }

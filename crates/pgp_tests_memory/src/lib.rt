@@ -20,6 +20,8 @@ mod message;
 #[cfg(test)]
 mod pieces;
 #[cfg(test)]
+mod reads;
+#[cfg(test)]
 mod serializers;
 #[cfg(test)]
 mod session;

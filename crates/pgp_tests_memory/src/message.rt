@@ -2,33 +2,24 @@
 #![tactic(auto, using(pgp_base::proofs::Parts::held_steps))]
 
 use crate::checks::{holds, same};
+use crate::reads::{buffer, count, is_copy, is_some, next_row};
 use bytes::{Bytes, BytesMut};
-use pgp_base::{Error, FallibleIterator};
+use pgp_base::Error;
 use pgp_message::{DataRowBody, FrameParser, Message, Messages, RowPlaces, read_frames};
 use pgp_test_alloc::Refusing;
 use std::alloc::{AllocError, Allocator, Global};
 use std::process::Abort;
 use std::test::Fail;
 
-fn buffer<A: Allocator + Copy>(alloc: A, bytes: &[u8]) -> Result<BytesMut<A>, Error> {
-    let mut buf = BytesMut::new(alloc);
-    buf.extend_from_slice(bytes)?;
-    Ok(buf)
-}
-
 // Whether the message at the front brings these bytes of a copy.
 fn is_copy_of<A: Allocator + Copy>(
     buf: &mut BytesMut<A>,
     data: &[u8],
 ) -> Result<Option<bool>, Error> {
-    match Message::parse(buf)? {
-        Some(Message::CopyData(body)) => Ok(Some(body.data() == data)),
-        Some(other) => {
-            drop(other);
-            Ok(Some(false))
-        }
-        None => Ok(None),
-    }
+    let read = Message::parse(buf);
+    let answer = is_copy(&read, data);
+    drop(read);
+    answer
 }
 
 // A refused frame stays, and is taken once memory is there.
@@ -77,13 +68,10 @@ fn unfinished_frame_with_each_allocation_refused(rt: HostRuntime) -> Result<(), 
 
 // Whether a message stands at the front, which is removed.
 fn is_message<A: Allocator + Copy>(buf: &mut BytesMut<A>) -> Result<bool, Error> {
-    match Message::parse(buf)? {
-        Some(message) => {
-            drop(message);
-            Ok(true)
-        }
-        None => Ok(false),
-    }
+    let read = Message::parse(buf);
+    let answer = is_some(&read);
+    drop(read);
+    answer
 }
 
 // A message that keeps no bytes of its frame asks for no memory, and neither does a frame of no message.
@@ -186,18 +174,6 @@ fn read_frames_with_each_allocation_refused(rt: HostRuntime) -> Result<(), Fail>
     Ok(())
 }
 
-fn row<A: Allocator + Copy>(alloc: A, bytes: &[u8]) -> Result<DataRowBody<Bytes<A>>, Error> {
-    let mut buf = buffer(alloc, bytes)?;
-    match Message::parse(&mut buf)? {
-        Some(Message::DataRow(row)) => Ok(row),
-        Some(other) => {
-            drop(other);
-            Err(Error::NotDrained)
-        }
-        None => Err(Error::UnexpectedEof),
-    }
-}
-
 // Whether a row's copy holds these bytes.
 fn cloned<A: Allocator + Copy>(row: &DataRowBody<Bytes<A>>, buffer: &[u8]) -> Result<bool, Error> {
     let copy = row.clone()?;
@@ -209,7 +185,8 @@ fn cloned<A: Allocator + Copy>(row: &DataRowBody<Bytes<A>>, buffer: &[u8]) -> Re
 fn clone_with_each_allocation_refused(rt: HostRuntime) -> Result<(), Fail> {
     let frame: &[u8] = b"\x44\0\0\0\x13\0\x03\0\0\0\x01\x61\xff\xff\xff\xff\0\0\0\0";
     let heap = Refusing::new(rt.alloc(), 0);
-    let row = row(&heap, frame)?;
+    let mut buf = buffer(&heap, frame)?;
+    let row = next_row(&mut buf)?;
     heap.until_refusal.set(1);
     same(&rt, cloned(&row, &frame[7..]), Ok(true));
     holds(&rt, heap.until_refusal.get() != 0);
@@ -219,13 +196,13 @@ fn clone_with_each_allocation_refused(rt: HostRuntime) -> Result<(), Fail> {
 // How many items the walk over the message's body collects.
 fn collected<A: Allocator + Copy>(alloc: A, message: &Message) -> Result<usize, Error> {
     match message {
-        Message::CopyInResponse(body) => Ok(body.column_formats().collect(alloc)?.len()),
-        Message::ParameterDescription(body) => Ok(body.parameters().collect(alloc)?.len()),
-        Message::DataRow(body) => Ok(body.ranges().collect(alloc)?.len()),
-        Message::RowDescription(body) => Ok(body.fields().collect(alloc)?.len()),
-        Message::ErrorResponse(body) => Ok(body.fields().collect(alloc)?.len()),
-        Message::AuthenticationSasl(body) => Ok(body.mechanisms().collect(alloc)?.len()),
-        Message::NegotiateProtocolVersion(body) => Ok(body.options().collect(alloc)?.len()),
+        Message::CopyInResponse(body) => count(alloc, body.column_formats()),
+        Message::ParameterDescription(body) => count(alloc, body.parameters()),
+        Message::DataRow(body) => count(alloc, body.ranges()),
+        Message::RowDescription(body) => count(alloc, body.fields()),
+        Message::ErrorResponse(body) => count(alloc, body.fields()),
+        Message::AuthenticationSasl(body) => count(alloc, body.mechanisms()),
+        Message::NegotiateProtocolVersion(body) => count(alloc, body.options()),
         _ => Err(Error::UnknownTag(0)),
     }
 }
@@ -288,14 +265,10 @@ fn is_next_copy_of<A: Allocator + Copy>(
     if !parser.fits(buf) {
         return Err(Error::InvalidCount);
     }
-    match parser.parse(buf)? {
-        Some(Message::CopyData(body)) => Ok(Some(body.data() == data)),
-        Some(other) => {
-            drop(other);
-            Ok(Some(false))
-        }
-        None => Ok(None),
-    }
+    let read = parser.parse(buf);
+    let answer = is_copy(&read, data);
+    drop(read);
+    answer
 }
 
 // A refused frame stays, its header is remembered, and it is taken once memory is there.
@@ -330,12 +303,9 @@ fn parser_with_each_allocation_refused(rt: HostRuntime) -> Result<(), Fail> {
 
 // How many columns the table of the first message has, which has to be a row.
 fn columns<A: Allocator + Copy>(alloc: A, bytes: &[u8]) -> Result<usize, Error> {
-    match Messages::new(bytes).next() {
-        Ok(Some(Message::DataRow(row))) => Ok(row.index(alloc)?.len()),
-        other => {
-            drop(other);
-            Err(Error::InvalidCount)
-        }
+    match Messages::new(bytes).next_row() {
+        Some(row) => Ok(row.index(alloc)?.len()),
+        None => Err(Error::InvalidCount),
     }
 }
 
@@ -378,12 +348,9 @@ fn columns_again<A: Allocator + Copy>(
     places: &mut RowPlaces<A>,
     bytes: &[u8],
 ) -> Result<usize, Error> {
-    match Messages::new(bytes).next() {
-        Ok(Some(Message::DataRow(row))) => Ok(row.index_into(places)?.len()),
-        other => {
-            drop(other);
-            Err(Error::InvalidCount)
-        }
+    match Messages::new(bytes).next_row() {
+        Some(row) => Ok(row.index_into(places)?.len()),
+        None => Err(Error::InvalidCount),
     }
 }
 
@@ -429,28 +396,16 @@ fn long(alloc: Global, front: &[u8], len: usize, byte: u8) -> Result<BytesMut, E
 #[test]
 fn a_long_frame_is_read(rt: HostRuntime) -> Result<(), Fail> {
     let mut buf = long(rt.alloc(), b"\x64\0\x20\0\x04", 2_097_152, 7)?;
-    match Message::parse(&mut buf) {
-        Ok(Some(Message::CopyData(body))) => {
-            same(&rt, body.data().len(), 2_097_152);
-        }
-        other => {
-            drop(other);
-            panic!(rt; "no copy")
-        }
-    }
+    let data = long(rt.alloc(), b"", 2_097_152, 7)?;
+    same(&rt, is_copy_of(&mut buf, data.as_slice()), Ok(Some(true)));
     holds(&rt, buf.is_empty());
     Ok(())
 }
 
 // How long the buffers of a row and of its copy are.
 fn row_and_copy(buf: &mut BytesMut) -> Result<(usize, usize), Error> {
-    match Message::parse(buf)? {
-        Some(Message::DataRow(row)) => Ok((row.buffer().len(), row.clone()?.buffer().len())),
-        other => {
-            drop(other);
-            Err(Error::InvalidCount)
-        }
-    }
+    let row = next_row(buf)?;
+    Ok((row.buffer().len(), row.clone()?.buffer().len()))
 }
 
 // With ample memory rows of 300 bytes and of 1 MB are read, and copied.

@@ -50,24 +50,6 @@ fn feed(parser: &mut StreamParser, pieces: &[&[u8]]) -> Result<(), Error> {
     Ok(())
 }
 
-#[test]
-fn every_cutting_into_three(rt: HostRuntime) -> Result<(), Fail> {
-    for cut in 0..102usize {
-        for more in 0..6usize {
-            let (front, back) = HOSTILE.split_at(cut);
-            let (middle, last) = back.split_at(more.min(back.len()));
-            let mut parser = StreamParser::new(rt.alloc());
-            feed(&mut parser, &[front, middle, last])?;
-            holds(&rt, are_all(parser.results()));
-            holds(&rt, parser.stopped());
-            holds(&rt, !parser.failed());
-            same(&rt, parser.headers(), 7);
-            same(&rt, parser.rest(), b"Z\0\0\0\x03".as_slice());
-        }
-    }
-    Ok(())
-}
-
 /// Results are handed out once, and none is lost.
 #[test]
 fn taken_after_each_byte(rt: HostRuntime) -> Result<(), Fail> {

@@ -1,6 +1,7 @@
 //! The walks over values, with each allocation refused in turn. The writers of values are tried by their rows (`pgp_rows`).
 
 use crate::checks::{holds, holds_at, same};
+use crate::reads::count;
 use pgp_base::{Error, FallibleIterator};
 use pgp_test_alloc::Refusing;
 use pgp_types::{array_from_sql, hstore_from_sql, path_from_sql};
@@ -24,10 +25,10 @@ fn collect_reserves_nothing_by_the_count(rt: HostRuntime) -> Result<(), Fail> {
 // How many items the walk over the value of this number collects.
 fn collected<A: Allocator + Copy>(alloc: A, number: u32) -> Result<usize, Error> {
     match number {
-        0 => Ok(hstore_from_sql(PAIRS)?.collect(alloc)?.len()),
-        1 => Ok(path_from_sql(POINTS)?.points().collect(alloc)?.len()),
-        2 => Ok(array_from_sql(LIST)?.dimensions().collect(alloc)?.len()),
-        _ => Ok(array_from_sql(LIST)?.values().collect(alloc)?.len()),
+        0 => count(alloc, hstore_from_sql(PAIRS)?),
+        1 => count(alloc, path_from_sql(POINTS)?.points()),
+        2 => count(alloc, array_from_sql(LIST)?.dimensions()),
+        _ => count(alloc, array_from_sql(LIST)?.values()),
     }
 }
 

@@ -1,4 +1,4 @@
-"""Writes src/session.rt: `python3 expected/client.py`, in crates/pgtrace.
+"""Writes ../pgp_tests_programs/src/trace_session.rt: `python3 expected/client.py`, in crates/pgtrace.
 
 Each packet or message stands beside its line, which is written by hand after the message formats of the PostgreSQL manual, in
 both styles where they differ. The places and lengths are counted here. Nothing is taken from the program.
@@ -85,7 +85,7 @@ def constant(text, name, type_, value):
 
 def main():
     rest = b"X\0"
-    out = "//! Sessions of a client, and their lines: written by `python3 expected/client.py` from its table.\n\n"
+    out = "//! Sessions of a client, and their lines: written by `python3 expected/client.py` of crates/pgtrace from its table.\n\n"
     bytes_ = "&[u8]"
     out += constant("Each of a client's messages.", "SESSION", bytes_, "b" + literal([frame(r[0], r[1]) for r in SESSION] + [rest]))
     for text, name, style in (("Its lines.", "LINES", 0), ("Its lines with secrets.", "OPEN_LINES", 1)):
@@ -93,7 +93,7 @@ def main():
     for text, name, rows in (("A session of version 3.2.", "LATER", LATER), ("A session of another version.", "OTHER", OTHER)):
         out += constant(text, name, bytes_, "b" + literal([frame(r[0], r[1]) for r in rows]))
         out += constant("Its lines.", name + "_LINES", "&str", literal([line.encode() + b"\n" for line in listed(rows, 0, 0).splitlines()]))
-    with open("src/session.rt", "w") as file:
+    with open("../pgp_tests_programs/src/trace_session.rt", "w") as file:
         file.write(out.rstrip("\n") + "\n")
 
 

@@ -2,41 +2,16 @@
 //! Expected bytes are from the message formats of the PostgreSQL manual.
 
 use crate::checks::{holds, same};
+use crate::reads::{buffer, row};
 use bytes::{Bytes, BytesMut};
 use pgp_base::{Error, FallibleIterator};
-use pgp_message::{
-    DataRowBody, FrameParser, Header, Message, Messages, RowPlaces, Storage, read_frames,
-};
+use pgp_message::{FrameParser, Header, Message, Messages, RowPlaces, Storage, read_frames};
 use std::alloc::Global;
 use std::process::Abort;
 use std::test::Fail;
 
 /// A message that was read, or why there is none.
 type Read<S> = Result<Message<S>, Error>;
-
-fn buffer(alloc: Global, bytes: &[u8]) -> Result<BytesMut, Error> {
-    let mut buf = BytesMut::new(alloc);
-    buf.extend_from_slice(bytes)?;
-    Ok(buf)
-}
-
-/// The row that the bytes are.
-fn row(alloc: Global, bytes: &[u8]) -> Result<DataRowBody<Bytes>, Error> {
-    let mut buf = buffer(alloc, bytes)?;
-    match Message::parse(&mut buf) {
-        Ok(Some(Message::DataRow(row))) => Ok(row),
-        Ok(other) => {
-            drop(other);
-            Err(Error::InvalidCount)
-        }
-        Err(e) => Err(e),
-    }
-}
-
-/// The variant of the message at the front, which is removed.
-fn parsed(buf: &mut BytesMut) -> Result<Option<&'static str>, Error> {
-    named(Message::parse(buf))
-}
 
 /// The variant of a message, which is let go.
 fn named<S: Storage>(
@@ -310,60 +285,23 @@ fn found_frames_are_read_onto_a_list(rt: HostRuntime) -> Result<(), Fail> {
     Ok(())
 }
 
-/// Whether these results come by repeated `Message::parse`, where the bytes come in two pieces.
-fn parse_in_two(
-    alloc: Global,
-    bytes: &[u8],
-    place: usize,
-    expected: &[Result<Option<&'static str>, Error>],
-) -> Result<(usize, usize), Error> {
-    let mut buf = BytesMut::new(alloc);
-    let mut came = 0usize;
-    for (at, byte) in bytes.iter().enumerate() {
-        if at == place {
-            came = drain(&mut FrameParser::new(), &mut buf, expected, came);
-        }
-        buf.extend_from_slice(&[*byte])?;
+/// The bytes of a copy that was read in place.
+fn copied<'a>(read: &Result<Option<Message<&'a [u8]>>, Error>) -> Option<&'a [u8]> {
+    match read {
+        Ok(Some(Message::CopyData(body))) => Some(body.data()),
+        _ => None,
     }
-    for _ in expected {
-        let result = parsed(&mut buf);
-        if came < expected.len() && result == expected[came] {
-            came += 1;
-        }
-    }
-    Ok((came, buf.len()))
-}
-
-#[test]
-fn repeated_parse_reads_the_same_at_every_place(rt: HostRuntime) -> Result<(), Fail> {
-    let results = [Err(Error::NotDrained), Ok(Some("ParseComplete"))];
-    for place in 0..12usize {
-        let read = parse_in_two(rt.alloc(), REFUSED_THEN_READ, place, &results);
-        same(&rt, read, Ok((2, 0)));
-    }
-    let fault: &[u8] = b"\x5a\0\0\0\x03\x31\0\0\0\x04";
-    let results = [Err(Error::InvalidLength)];
-    same(
-        &rt,
-        parse_in_two(rt.alloc(), fault, 5, &results),
-        Ok((1, 10)),
-    );
-    Ok(())
 }
 
 #[test]
 fn a_message_is_kept_while_the_reader_goes_on(rt: HostRuntime) -> Result<(), Fail> {
     let mut messages = Messages::new(b"d\0\0\0\x06ab1\0\0\0\x04");
-    let data = match messages.next() {
-        Ok(Some(Message::CopyData(body))) => body.data(),
-        other => {
-            drop(other);
-            panic!(rt; "no bytes of a copy");
-        }
-    };
+    let read = messages.next();
+    let data = copied(&read);
+    drop(read);
     same(&rt, messages.rest().len(), 5);
     tells(&rt, named(messages.next()), Ok(Some("ParseComplete")));
-    same(&rt, data, b"ab".as_slice());
+    same(&rt, data, Some(b"ab".as_slice()));
     Ok(())
 }
 
@@ -374,35 +312,9 @@ fn any_column_of_a_row_is_at_hand(rt: HostRuntime) -> Result<(), Fail> {
     same(&rt, index.len(), 3);
     let values = [Some(b"a".as_slice()), None, Some(b"".as_slice())];
     let places = [Some(4..5usize), None, Some(13..13usize)];
-    for order in [
-        [0usize, 1, 2],
-        [0, 2, 1],
-        [1, 0, 2],
-        [1, 2, 0],
-        [2, 0, 1],
-        [2, 1, 0],
-    ] {
-        for column in order {
-            if column < 3 {
-                same(&rt, index.value(column), Some(values[column]));
-                same(&rt, index.range(column).as_ref(), Some(&places[column]));
-            }
-        }
-    }
-    for past in [3usize, 4, usize::MAX] {
-        same(&rt, index.value(past), None);
-        same(&rt, index.range(past), None);
-    }
-    Ok(())
-}
-
-#[test]
-fn the_columns_at_hand_are_those_of_the_walk(rt: HostRuntime) -> Result<(), Fail> {
-    let row = row(rt.alloc(), ROW)?;
-    let index = row.index(rt.alloc())?;
-    let mut ranges = row.ranges();
-    for column in 0..3usize {
-        same(&rt, ranges.next(), Ok(index.range(column)));
+    for column in [2usize, 0, 1, 3, 4, usize::MAX] {
+        same(&rt, index.value(column), values.get(column).copied());
+        same(&rt, index.range(column).as_ref(), places.get(column));
     }
     Ok(())
 }

@@ -2,18 +2,13 @@
 
 mod calls;
 mod exchange;
-mod streams;
 mod values;
 
 use crate::checks::{holds, same};
 use bytes::BytesMut;
 use pgp_base::Error;
-use pgp_message::Message;
-use postgres_protocol::session::{ClientStream, StreamParser, parse_stream};
+use postgres_protocol::session::{ClientStream, StreamParser};
 use std::test::Fail;
-
-/// A frame that is refused, and a message.
-const TWO: [u8; 12] = *b"Z\x00\x00\x00\x06I\x001\x00\x00\x00\x04";
 
 /// A length fault, and a message.
 const FAULT: [u8; 10] = *b"Z\x00\x00\x00\x031\x00\x00\x00\x04";
@@ -22,37 +17,12 @@ const FAULT: [u8; 10] = *b"Z\x00\x00\x00\x031\x00\x00\x00\x04";
 const ROW: [u8; 20] =
     *b"D\x00\x00\x00\x13\x00\x03\x00\x00\x00\x01a\xff\xff\xff\xff\x00\x00\x00\x00";
 
-/// The refusal of each frame, 0 for a message.
-fn numbers(results: &[Result<Message, Error>], out: &mut Vec<u8>) -> Result<(), Fail> {
-    for result in results {
-        match result {
-            Ok(_) => out.push(0)?,
-            Err(e) => out.push(e.number())?,
-        }
-    }
-    Ok(())
-}
-
 /// Feeds the bytes one at a time.
 fn feed_each(parser: &mut StreamParser, bytes: &[u8]) -> Result<(), Error> {
     for byte in bytes {
         if !parser.failed() {
             parser.feed(&[*byte])?;
         }
-    }
-    Ok(())
-}
-
-#[test]
-fn any_cutting(rt: HostRuntime) -> Result<(), Fail> {
-    for cut in 0..13usize {
-        let (front, back) = TWO.split_at(cut);
-        let parsed = parse_stream(rt.alloc(), &[front, back])?;
-        let mut found = Vec::new(rt.alloc());
-        numbers(parsed.results(), &mut found)?;
-        same(&rt, found.as_slice(), [8u8, 0].as_slice());
-        holds(&rt, !parsed.stopped());
-        holds(&rt, parsed.rest().is_empty());
     }
     Ok(())
 }

@@ -4,8 +4,8 @@
 
 use super::ROW;
 use crate::checks::{holds, same};
+use crate::reads::row;
 use bytes::BytesMut;
-use pgp_message::Message;
 use postgres_protocol::laws::{Step, bind_array, row_int4};
 use postgres_protocol::types::ArrayDimension;
 use postgres_protocol::{BindError, Error};
@@ -81,12 +81,7 @@ fn a_step_refuses(rt: HostRuntime) -> Result<(), Fail> {
 
 /// The values of the row that the frame is.
 fn read_row(alloc: Global, frame: &[u8]) -> Result<Vec<Option<Result<i32, Error>>>, Error> {
-    let mut buf = BytesMut::new(alloc);
-    buf.extend_from_slice(frame)?;
-    match Message::parse(&mut buf)? {
-        Some(Message::DataRow(body)) => row_int4(alloc, &body),
-        _ => Err(Error::InvalidLength),
-    }
+    row_int4(alloc, &row(alloc, frame)?)
 }
 
 #[test]

@@ -1,0 +1,7 @@
+use Rattle.std.proofs.Common.{◌≡◌, map, string_bytes, ◌+◌, length}
+use Rattle.pgp_program.specs.Words.{TextsFrom}
+use Rattle.pgp_program.proofs.words.texts.Given as goal
+
+abbrev pub invariant-places : goal.invariant-places
+invariant-places g l = TextsFrom (g.V.Words.Stands l.env) 1 (map string_bytes l.texts.items)
+    × (l.place ≡ 1 + length (map string_bytes l.texts.items))

@@ -1,0 +1,273 @@
+-- A client's streams that differ in their secrets alone have the same lines.
+use Rattle.std.proofs.Common.{◌≡◌, ℕ, ◌+◌, ◌<◌, Bool, true, false, List, [], ◌∷◌, ◌++◌, length, drop, get_or, Option, Some, None, Result, Ok, Err, inl, inr, refl, sym, ap, subst, ◌∙◌, append_assoc, arith}
+use Rattle.std.specs.Prelude.{◌==◌, if◌then◌else◌}
+use Rattle.std.specs.List.{concat}
+use Rattle.std.proofs.lemmas.List.{append-nil, length-append}
+use Rattle.pgp_base.specs.Wire.{uint32}
+use Rattle.pgp_frontend.specs.ClientMessage.{CancelRequest, PasswordMessage, SaslInitialResponse, SaslResponse}
+use Rattle.pgp_server.specs.AnyStep.{AnyStep}
+use Rattle.pgp_frontend.specs.Payload.{framed, payload, tag_of}
+use Rattle.pgp_server.specs.OtherMessage.{AnyMessage, Ours, Other, other_payload, other_tag}
+use Rattle.pgp_server.specs.Pieces.{step_of}
+use Rattle.pgp_server.specs.Step.{Unread}
+use Rattle.pgp_server.specs.declared.error.ClientError.{ClientError}
+use Rattle.pgp_server.specs.declared.message.PasswordKind as code
+use Rattle.pgp_server.proofs.AnyOneStep.{any_step_one}
+use Rattle.pgp_server.proofs.AnyRuns.{any_took}
+use Rattle.pgp_server.proofs.Fronts.{behind_length}
+use Rattle.pgp_server.proofs.Handing.{refused_behind}
+use Rattle.pgp_trace.specs.declared.style.Style.{Style}
+use Rattle.pgp_trace.specs.Client.{client_line}
+use Rattle.pgp_trace.specs.ClientSecrets.{AlikeAny, AlikeAnswers, AlikeClientFrames, AlikeClientStreams, NoClientFrames, OneClientAlike, ReadsAs}
+use Rattle.pgp_trace.specs.Line.{Right, Tag, followed, right}
+use Rattle.pgp_trace.specs.Listing.{IsNextLine, LineOf, Lines, NoLines, OneLine, client_front, client_tag, place_behind}
+use Rattle.pgp_trace.specs.Secrets.{quiet}
+use Rattle.pgp_trace.specs.Sides.{Side, Server, Client, expected, is_password, is_told, kinds_behind}
+use Rattle.pgp_trace.proofs.Parts.{front_taken}
+use Rattle.pgp_trace.proofs.ClientHiding.{password, initial, response, key, untold}
+
+-- ---- messages
+
+abbrev Told : ℕ → Bool → AnyMessage → AnyMessage → List ℕ → Type 0
+Told limit told x y old = client_line (quiet limit) told (Ok x) old ≡ client_line (quiet limit) told (Ok y) old
+
+told_same : (limit : ℕ) (told : Bool) (x y : AnyMessage) (old : List ℕ) → x ≡ y → Told limit told x y old
+told_same limit told x y old e = ap (λ z. client_line (quiet limit) told (Ok z) old) e
+
+passwords : (limit : ℕ) (told : Bool) (a : List ℕ) (y : AnyMessage) (old : List ℕ) → AlikeAny (Ours (PasswordMessage a)) y → Told limit told (Ours (PasswordMessage a)) y old
+passwords limit told a (Ours (PasswordMessage b)) old e = password limit told a b old e
+passwords limit told a y old e = told_same limit told _ y old e
+
+initials : (limit : ℕ) (told : Bool) (m a : List ℕ) (y : AnyMessage) (old : List ℕ) → AlikeAny (Ours (SaslInitialResponse m a)) y → Told limit told (Ours (SaslInitialResponse m a)) y old
+initials limit told m a (Ours (SaslInitialResponse n b)) old e =
+    ap (λ k. client_line (quiet limit) told (Ok (Ours (SaslInitialResponse k a))) old) e.0 ∙ initial limit told n a b old e.1
+initials limit told m a y old e = told_same limit told _ y old e
+
+responses : (limit : ℕ) (told : Bool) (a : List ℕ) (y : AnyMessage) (old : List ℕ) → AlikeAny (Ours (SaslResponse a)) y → Told limit told (Ours (SaslResponse a)) y old
+responses limit true a (Ours (SaslResponse b)) old e = response limit a b old e
+responses limit false a (Ours (SaslResponse b)) old e = untold (quiet limit) a b old e
+responses limit told a y old e = told_same limit told _ y old e
+
+keys : (limit : ℕ) (told : Bool) (process : _) (a : List ℕ) (y : AnyMessage) (old : List ℕ) → AlikeAny (Ours (CancelRequest process a)) y → Told limit told (Ours (CancelRequest process a)) y old
+keys limit told p a (Ours (CancelRequest q b)) old e = ap (λ k. client_line (quiet limit) told (Ok (Ours (CancelRequest k a))) old) e.0 ∙ key limit told q a b old e.1
+keys limit told p a y old e = told_same limit told _ y old e
+
+told_alike : (limit : ℕ) (told : Bool) (x y : AnyMessage) (old : List ℕ) → AlikeAny x y → Told limit told x y old
+told_alike limit told (Ours (PasswordMessage a)) y old e = passwords limit told a y old e
+told_alike limit told (Ours (SaslInitialResponse m a)) y old e = initials limit told m a y old e
+told_alike limit told (Ours (SaslResponse a)) y old e = responses limit told a y old e
+told_alike limit told (Ours (CancelRequest p a)) y old e = keys limit told p a y old e
+told_alike limit told x y old e = told_same limit told x y old e
+
+answers_alike : (limit : ℕ) (told : Bool) (r s : Result AnyMessage ClientError) (old : List ℕ) → AlikeAnswers r s → client_line (quiet limit) told r old ≡ client_line (quiet limit) told s old
+answers_alike limit told (Ok x) (Ok y) old e = told_alike limit told x y old e
+answers_alike limit told (Err d) (Err e) old h = ap (λ k. client_line (quiet limit) told (Err k) old) h
+answers_alike limit told (Ok x) (Err e) old h = absurd h
+answers_alike limit told (Err d) (Ok y) old h = absurd h
+
+-- ---- frames
+
+same_front : (place : ℕ) (opened : Bool) (f g : List ℕ) → client_tag opened f ≡ client_tag opened g → length f ≡ length g → client_front place opened f ≡ client_front place opened g
+same_front place opened f g t n =
+    ap (λ k. followed 0 (right 10 place) (Right 8 k ∷ Tag (client_tag opened f) ∷ [])) n ∙ ap (λ k. followed 0 (right 10 place) (Right 8 (length g) ∷ Tag k ∷ [])) t
+
+same_password : (opened : Bool) (f g : List ℕ) → client_tag opened f ≡ client_tag opened g → length f ≡ length g → is_password opened f ≡ is_password opened g
+same_password false f g t n = refl
+same_password true [] [] t n = refl
+same_password true [] (y ∷ ys) t n = absurd (omega (arith, n))
+same_password true (x ∷ xs) [] t n = absurd (omega (arith, n))
+same_password true (x ∷ xs) (y ∷ ys) t n = ap (λ k. k == 112) t
+
+same_kinds : (opened : Bool) (kinds : List code.PasswordKind) (f g : List ℕ) → client_tag opened f ≡ client_tag opened g → length f ≡ length g → kinds_behind opened f kinds ≡ kinds_behind opened g kinds
+same_kinds opened kinds f g t n = ap (λ (p : Bool). if p then drop 1 kinds else kinds) (same_password opened f g t n)
+
+line_alike : (limit place : ℕ) (opened : Bool) (kinds : List code.PasswordKind) (f g line : List ℕ) (to : Side) → AlikeClientFrames opened kinds f g
+    → IsNextLine (quiet limit) place opened kinds f line to → IsNextLine (quiet limit) place opened kinds g line to
+line_alike limit place opened kinds f g line to alike is =
+    let (s, reads, same) = alike.read is.told.result is.now is.told.step in
+    record {
+      now = is.now;
+      told = record {
+        result = s;
+        step = reads;
+        told = is.told.told ∙ ap (λ l. l ++ 10 ∷ []) (answers_alike limit (is_told kinds) is.told.result s (client_front place opened f) same
+            ∙ ap (client_line (quiet limit) (is_told kinds) s) (same_front place opened f g alike.tagged alike.long));
+      };
+      behind = is.behind ∙ ap (Client is.now) (same_kinds opened kinds f g alike.tagged alike.long);
+    }
+
+framed_some : (tag : Option ℕ) (body : List ℕ) → 0 < length (framed tag body)
+unfolding uint32
+framed_some (Some t) body = omega arith
+framed_some None body = omega arith
+
+stands_some : (f : List ℕ) (tag : Option ℕ) (body : List ℕ) → f ≡ framed tag body ++ [] → 0 < length f
+stands_some f tag body e = omega (arith, ap length e, length-append (framed tag body) [], framed_some tag body)
+
+-- no step takes nothing
+frame_some : (opened now : Bool) (kinds : List code.PasswordKind) (f : List ℕ) (r : Result AnyMessage ClientError) → ReadsAs opened kinds f r now → 0 < length f
+frame_some opened now kinds f (Ok (Ours m)) step = stands_some f (tag_of m) (payload m) step.stands.whole
+frame_some opened now kinds f (Ok (Other o)) step = stands_some f (other_tag o) (other_payload o) step.stands.whole
+frame_some opened now kinds f (Err e) step = elim step.left [
+  | inl at ↦ omega (arith, behind_length opened f at.fault.len at.fault.begins)
+  | inr other ↦ elim other [
+    | inl skips ↦ stands_some f (Some skips.tag) skips.payload skips.whole
+    | inr stops ↦ omega (arith, ap length stops.whole, length-append (framed None stops.payload) stops.rest, framed_some None stops.payload)
+  ]
+]
+
+-- a step, with bytes behind it
+behind : (opened now : Bool) (kinds : List code.PasswordKind) (f more : List ℕ) (r : Result AnyMessage ClientError) → ReadsAs opened kinds f r now
+    → AnyStep (expected kinds) (record { bytes = f ++ more; opened = opened }) (step_of r) (record { bytes = more; opened = now })
+behind opened now kinds f more (Ok x) step = any_took (expected kinds) (record { bytes = f; opened = opened }) (record { bytes = []; opened = now }) x more step
+behind opened now kinds f more (Err e) step = refused_behind (expected kinds) (record { bytes = f; opened = opened }) (record { bytes = []; opened = now }) e more step
+
+same_end : (f g r : List ℕ) → f ++ r ≡ g ++ r → f ≡ g
+same_end f g r e = sym (front_taken f r (f ++ r) refl) ∙ front_taken g r (f ++ r) e
+
+-- frames, the first at first, and the side behind them
+data Chain : Side → List (List ℕ) → Side → Type 0 where
+  NoLink : {side : Side} → Chain side [] side
+  Link : {opened now : Bool} {kinds : List code.PasswordKind} {fs : List (List ℕ)} {to : Side} (f : List ℕ) (r : Result AnyMessage ClientError) → ReadsAs opened kinds f r now
+      → Chain (Client now (kinds_behind opened f kinds)) fs to → Chain (Client opened kinds) (f ∷ fs) to
+
+one_first : (opened now later : Bool) (kinds : List code.PasswordKind) (f g x y : List ℕ) (r s : Result AnyMessage ClientError) → ReadsAs opened kinds f r now → ReadsAs opened kinds g s later → f ++ x ≡ g ++ y
+    → (f ≡ g) × (x ≡ y) × (now ≡ later)
+one_first opened now later kinds f g x y r s a b e =
+    let moved = subst (λ l. AnyStep (expected kinds) (record { bytes = l; opened = opened }) (step_of r) (record { bytes = x; opened = now })) e (behind opened now kinds f x r a) in
+    let one = any_step_one (expected kinds) (record { bytes = g ++ y; opened = opened }) (record { bytes = x; opened = now }) (record { bytes = y; opened = later }) (step_of r) (step_of s) moved (behind opened later kinds g y s b) in
+    let rest : x ≡ y = ap (λ (u : Unread). u.bytes) one.1 in
+    (same_end f g y (ap (λ l. f ++ l) (sym rest) ∙ e), rest, ap (λ (u : Unread). u.opened) one.1)
+
+none_empty : (f x : List ℕ) → 0 < length f → [] ≡ f ++ x → ⊥
+none_empty f x some e = absurd (omega (arith, some, ap length e, length-append f x))
+
+-- bytes are one row of frames
+one_chain : (fs gs : List (List ℕ)) (side to too : Side) → Chain side fs to → Chain side gs too → concat fs ≡ concat gs → (fs ≡ gs) × (to ≡ too)
+one_chain [] [] _ _ _ NoLink NoLink e = (refl, refl)
+one_chain [] (_ ∷ gs) _ _ _ NoLink (Link {opened} {now} {kinds} g s reads rest) e = absurd (none_empty g (concat gs) (frame_some opened now kinds g s reads) e)
+one_chain (_ ∷ fs) [] _ _ _ (Link {opened} {now} {kinds} f r reads rest) NoLink e = absurd (none_empty f (concat fs) (frame_some opened now kinds f r reads) (sym e))
+one_chain (_ ∷ fs) (_ ∷ gs) _ to too (Link {opened} {now} {kinds} f r reads rest) (Link {now = later} g s others more) e =
+    let one = one_first opened now later kinds f g (concat fs) (concat gs) r s reads others e in
+    let side : Client later (kinds_behind opened g kinds) ≡ Client now (kinds_behind opened f kinds) =
+    ap (λ b. Client b (kinds_behind opened g kinds)) (sym one.2) ∙ ap (λ l. Client now (kinds_behind opened l kinds)) (sym one.0) in
+    let same = one_chain fs gs (Client now (kinds_behind opened f kinds)) to too rest (subst (λ (h : Side). Chain h gs too) side more) one.1 in
+    (ap (λ h. h ∷ fs) one.0 ∙ ap (λ l. g ∷ l) same.0, same.1)
+
+push : (fs : List (List ℕ)) (f : List ℕ) (r : Result AnyMessage ClientError) (side : Side) (opened now : Bool) (kinds : List code.PasswordKind) → Chain side fs (Client opened kinds) → ReadsAs opened kinds f r now
+    → Chain side (fs ++ f ∷ []) (Client now (kinds_behind opened f kinds))
+push [] f r _ opened now kinds NoLink reads = Link f r reads NoLink
+push (_ ∷ gs) f r _ opened now kinds (Link {opened = o} {now = n} {kinds = k} g s others rest) reads = Link g s others (push gs f r (Client n (kinds_behind o g k)) opened now kinds rest reads)
+
+concat_push : (fs : List (List ℕ)) (f : List ℕ) → concat (fs ++ f ∷ []) ≡ concat fs ++ f
+concat_push [] f = append-nil f
+concat_push (g ∷ gs) f = ap (λ l. g ++ l) (concat_push gs f) ∙ sym (append_assoc g (concat gs) f)
+
+-- bytes that are such frames
+record AreChain (side to : Side) (bytes : List ℕ) : Type 0 where
+  frames : List (List ℕ)
+  chain : Chain side frames to
+  whole : bytes ≡ concat frames
+
+more_chain : {side : Side} {opened now : Bool} {kinds : List code.PasswordKind} (bytes f : List ℕ) (r : Result AnyMessage ClientError) → AreChain side (Client opened kinds) bytes → ReadsAs opened kinds f r now
+    → AreChain side (Client now (kinds_behind opened f kinds)) (bytes ++ f)
+more_chain {side} {opened} {now} {kinds} bytes f r are reads = record {
+  frames = are.frames ++ f ∷ [];
+  chain = push are.frames f r side opened now kinds are.chain reads;
+  whole = ap (λ l. l ++ f) are.whole ∙ sym (concat_push are.frames f);
+}
+
+alike_chain : (from : Side) (a b : List ℕ) (to : Side) → AlikeClientStreams from a b to → AreChain from to a
+alike_chain from [] [] _ NoClientFrames = record { frames = []; chain = NoLink; whole = refl }
+alike_chain from _ _ _ (OneClientAlike {a = a} {b = b} {opened = opened} {kinds = kinds} r f g before reads alike) = more_chain a f r (alike_chain from a b (Client opened kinds) before) reads
+
+-- ---- lines
+
+record ClientAt (side : Side) : Type 0 where
+  opened : Bool
+  kinds : List code.PasswordKind
+  is : side ≡ Client opened kinds
+
+next_line : (style : Style) (place : ℕ) (here to : Side) (frame line : List ℕ) (c : ClientAt here) → LineOf style place here frame line to → IsNextLine style place c.opened c.kinds frame line to
+next_line style place here to frame line c has = subst (λ h. LineOf style place h frame line to) c.is has
+
+-- behind a client's lines come a client's
+stays_client : (style : Style) (start : ℕ) (opened : Bool) (kinds : List code.PasswordKind) (bytes lines : List ℕ) (to : Side) → Lines style start (Client opened kinds) bytes lines to → ClientAt to
+stays_client style start opened kinds [] [] _ NoLines = record { opened = opened; kinds = kinds; is = refl }
+stays_client style start opened kinds _ _ to (OneLine {bytes = bytes} {lines = lines} {here = here} frame line before has) =
+    let c = stays_client style start opened kinds bytes lines here before in
+    let next = next_line style (place_behind (start + length bytes)) here to frame line c has in
+    record { opened = next.now; kinds = kinds_behind c.opened frame c.kinds; is = next.behind }
+
+listed_chain : (style : Style) (start : ℕ) (opened : Bool) (kinds : List code.PasswordKind) (bytes lines : List ℕ) (to : Side) → Lines style start (Client opened kinds) bytes lines to → AreChain (Client opened kinds) to bytes
+listed_chain style start opened kinds [] [] _ NoLines = record { frames = []; chain = NoLink; whole = refl }
+listed_chain style start opened kinds _ _ to (OneLine {bytes = bytes} {lines = lines} {here = here} frame line before has) =
+    let c = stays_client style start opened kinds bytes lines here before in
+    let next = next_line style (place_behind (start + length bytes)) here to frame line c has in
+    let so_far = subst (λ h. AreChain (Client opened kinds) h bytes) c.is (listed_chain style start opened kinds bytes lines here before) in
+    subst (λ t. AreChain (Client opened kinds) t (bytes ++ frame)) (sym next.behind) (more_chain bytes frame next.told.result so_far next.told.step)
+
+last_same : (fs gs : List (List ℕ)) (f g : List ℕ) → fs ++ f ∷ [] ≡ gs ++ g ∷ [] → (fs ≡ gs) × (f ≡ g)
+last_same [] [] f g e = (refl, ap (λ l. get_or l 0 []) e)
+last_same [] (k ∷ gs) f g e = absurd (omega (arith, ap length e, length-append gs (g ∷ [])))
+last_same (h ∷ fs) [] f g e = absurd (omega (arith, ap length e, length-append fs (f ∷ [])))
+last_same (h ∷ fs) (k ∷ gs) f g e =
+    let rest = last_same fs gs f g (ap (drop 1) e) in
+    (ap (λ x. x ∷ fs) (ap (λ l. get_or l 0 []) e) ∙ ap (λ l. k ∷ l) rest.0, rest.1)
+
+abbrev SideAlike : Side → List ℕ → List ℕ → Type 0
+SideAlike Server f g = ⊥
+SideAlike (Client opened kinds) f g = AlikeClientFrames opened kinds f g
+
+-- the stream that is like one whose last frame is known
+record EndsAlike (from here : Side) (bytes other f : List ℕ) : Type 0 where
+  before : List ℕ
+  last : List ℕ
+  whole : other ≡ before ++ last
+  alike : AlikeClientStreams from bytes before here
+  same : SideAlike here f last
+
+ends_alike : (from to : Side) (opened now : Bool) (kinds : List code.PasswordKind) (all other : List ℕ) → AlikeClientStreams from all other to → (bytes f : List ℕ) (r : Result AnyMessage ClientError)
+    → AreChain from (Client opened kinds) bytes → ReadsAs opened kinds f r now → all ≡ bytes ++ f → EndsAlike from (Client opened kinds) bytes other f
+ends_alike from _ opened now kinds [] [] NoClientFrames bytes f r are reads e =
+    absurd (omega (arith, ap length e, length-append bytes f, frame_some opened now kinds f r reads))
+ends_alike from _ opened now kinds _ _ (OneClientAlike {a = a} {b = b} {opened = o} {now = n} {kinds = k} s g h before others alike) bytes f r are reads e =
+    let front = alike_chain from a b (Client o k) before in
+    let meet = concat_push front.frames g ∙ ap (λ l. l ++ g) (sym front.whole) ∙ e ∙ ap (λ l. l ++ f) are.whole ∙ sym (concat_push are.frames f) in
+    let one = one_chain (front.frames ++ g ∷ []) (are.frames ++ f ∷ []) from (Client n (kinds_behind o g k)) (Client now (kinds_behind opened f kinds)) (push front.frames g s from o n k front.chain others) (push are.frames f r from opened now kinds are.chain reads) meet in
+    let same = last_same front.frames are.frames g f one.0 in
+    let side = (one_chain front.frames are.frames from (Client o k) (Client opened kinds) front.chain are.chain (ap concat same.0)).1 in
+    record {
+      before = b;
+      last = h;
+      whole = refl;
+      alike = subst (λ l. AlikeClientStreams from l b (Client opened kinds)) (front.whole ∙ ap concat same.0 ∙ sym are.whole) (subst (AlikeClientStreams from a b) side before);
+      same = subst (λ l. AlikeClientFrames opened kinds l h) same.1 (subst (λ t. SideAlike t g h) side alike);
+    }
+
+same_length : (from : Side) (a b : List ℕ) (to : Side) → AlikeClientStreams from a b to → length a ≡ length b
+same_length from [] [] _ NoClientFrames = refl
+same_length from _ _ _ (OneClientAlike {a = a} {b = b} {opened = opened} {kinds = kinds} r f g before reads alike) = omega (arith, same_length from a b (Client opened kinds) before, length-append a f, length-append b g, alike.long)
+
+nothing_alike : (all other : List ℕ) (from to : Side) → AlikeClientStreams from all other to → all ≡ [] → other ≡ []
+nothing_alike all other from to alike e = none_long other (sym (same_length from all other to alike) ∙ ap length e)
+  where
+    none_long : (l : List ℕ) → length l ≡ 0 → l ≡ []
+    none_long [] z = refl
+    none_long (x ∷ xs) z = absurd (omega (arith, z))
+
+pub client_streams_hidden : (limit start : ℕ) (opened : Bool) (kinds : List code.PasswordKind) (a lines : List ℕ) (to too : Side) → Lines (quiet limit) start (Client opened kinds) a lines to → (b : List ℕ)
+    → AlikeClientStreams (Client opened kinds) a b too → Lines (quiet limit) start (Client opened kinds) b lines to
+client_streams_hidden limit start opened kinds [] [] _ too NoLines b alike =
+    subst (λ l. Lines (quiet limit) start (Client opened kinds) l [] (Client opened kinds)) (sym (nothing_alike [] b (Client opened kinds) too alike refl)) NoLines
+client_streams_hidden limit start opened kinds _ _ to too (OneLine {bytes = bytes} {lines = lines} {here = here} frame line before has) b alike =
+    let style = quiet limit in
+    let c = stays_client style start opened kinds bytes lines here before in
+    let next = next_line style (place_behind (start + length bytes)) here to frame line c has in
+    let so_far = subst (λ h. AreChain (Client opened kinds) h bytes) c.is (listed_chain style start opened kinds bytes lines here before) in
+    let end = ends_alike (Client opened kinds) too c.opened next.now c.kinds (bytes ++ frame) b alike bytes frame next.told.result so_far next.told.step refl in
+    let rest = client_streams_hidden limit start opened kinds bytes lines here (Client c.opened c.kinds) before end.before end.alike in
+    let place : place_behind (start + length bytes) ≡ place_behind (start + length end.before) = ap (λ n. place_behind (start + n)) (same_length (Client opened kinds) bytes end.before (Client c.opened c.kinds) end.alike) in
+    let line_of = line_alike limit (place_behind (start + length end.before)) c.opened c.kinds frame end.last line to end.same (subst (λ p. IsNextLine style p c.opened c.kinds frame line to) place next) in
+    subst (λ l. Lines style start (Client opened kinds) l (lines ++ line) to) (sym end.whole)
+    (OneLine end.last line rest (subst (λ h. LineOf style (place_behind (start + length end.before)) h end.last line to) (sym c.is) line_of))

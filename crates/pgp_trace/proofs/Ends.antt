@@ -1,0 +1,46 @@
+-- Where a stream isn't cut into frames.
+use Rattle.std.proofs.Common.{ℕ, Bool, true, false, List, [], ◌∷◌, ◌++◌, None, ap, ◌∙◌, append_assoc, arith, inl, inr}
+use Rattle.pgp_base.specs.Wire.{uint32}
+use Rattle.pgp_frontend.specs.Payload.{framed}
+use Rattle.pgp_message.specs.Stream.{IsLengthFault}
+use Rattle.pgp_server.specs.Step as client
+use Rattle.pgp_server.proofs.Refusals.{more_behind}
+use Rattle.pgp_trace.specs.Sides.{Side, Server, Client, Ends, IsRefusedPacket}
+
+fault_stays : (rest piece : List ℕ) → IsLengthFault rest → IsLengthFault (rest ++ piece)
+fault_stays rest piece f = record {
+  header = record {
+    tag = f.header.tag;
+    len = f.header.len;
+    rest = f.header.rest ++ piece;
+    fits = f.header.fits;
+    parts = ap (λ l. l ++ piece) f.header.parts ∙ append_assoc (f.header.tag ∷ uint32 f.header.len) f.header.rest piece;
+  };
+  small = f.small;
+}
+
+length_stays : (opened : Bool) (rest piece : List ℕ) → client.IsLengthFault opened rest → client.IsLengthFault opened (rest ++ piece)
+length_stays opened rest piece f = record { len = f.len; begins = more_behind opened rest piece f.len f.begins; wrong = f.wrong }
+
+packet_stays : (opened : Bool) (rest piece : List ℕ) → IsRefusedPacket opened rest → IsRefusedPacket opened (rest ++ piece)
+packet_stays opened rest piece r = record {
+  phase = r.phase;
+  payload = r.payload;
+  rest = r.rest ++ piece;
+  fits = r.fits;
+  whole = ap (λ l. l ++ piece) r.whole ∙ append_assoc (framed None r.payload) r.rest piece;
+  error = r.error;
+  blames = r.blames;
+}
+
+-- what stopped a stream stays there
+pub stays_ended : (side : Side) (rest piece : List ℕ) → Ends side true rest → Ends side true (rest ++ piece)
+stays_ended Server rest piece f = fault_stays rest piece f
+stays_ended (Client opened kinds) rest piece (inl f) = inl (length_stays opened rest piece f)
+stays_ended (Client opened kinds) rest piece (inr r) = inr (packet_stays opened rest piece r)
+
+-- and where nothing came, more is awaited
+pub nothing_ends : (side : Side) → Ends side false []
+nothing_ends Server = inl (omega arith)
+nothing_ends (Client true kinds) = inl (omega arith)
+nothing_ends (Client false kinds) = inl (omega arith)

@@ -1,0 +1,91 @@
+-- The line of one frame.
+use Rattle.std.proofs.Common.{◌≡◌, ℕ, ◌-◌, ◌≤◌, List, [], ◌∷◌, ◌++◌, length, take, drop, Result, Ok, Err, refl, sym, ap, subst, ◌∙◌, arith, length-append}
+use Rattle.std.specs.Prelude.{slice_index, OnOk, is_ok, if◌then◌else◌}
+use Rattle.std.proofs.lemmas.List.{append-nil}
+use Rattle.pgp_base.specs.Wire.{uint32}
+use Rattle.pgp_base.specs.declared.error.Error.{Error}
+use Rattle.pgp_message.specs.BackendMessage.{Message, payload_of}
+use Rattle.pgp_message.specs.Stream.{Frame, frame_bytes, TakesFrame}
+use Rattle.pgp_trace.specs.declared.style.Style.{Style}
+use Rattle.pgp_trace.specs.Line.{Right, Tag, followed, right}
+use Rattle.pgp_trace.specs.Shown.{Shows, called, fault}
+use Rattle.pgp_trace.specs.Listing.{front, IsServerLine}
+use Rattle.pgp_trace.specs.Sides.{Server}
+use Rattle.pgp_trace.specs.Steps.{IsFrameOf, HasLine}
+use Rattle.pgp_trace.proofs.Parts.{front_taken}
+
+-- what a line begins with, by the bytes of the frame
+abbrev pub begun : ℕ → List ℕ → List ℕ
+begun place bytes = followed 0 (right 10 place) (Right 8 (length bytes) ∷ Tag (slice_index bytes 0) ∷ [])
+
+begun_is : (place : ℕ) (f : Frame) (bytes : List ℕ) → bytes ≡ frame_bytes f → begun place bytes ≡ front place f
+begun_is place f bytes e = ap (begun place) e
+
+pub frame_long : (f : Frame) (bytes : List ℕ) → bytes ≡ frame_bytes f → 5 ≤ length bytes
+unfolding uint32
+frame_long f bytes e = omega (arith, ap length e)
+
+payload_behind : (f : Frame) → drop 5 (frame_bytes f) ≡ f.payload
+unfolding uint32
+payload_behind f = refl
+
+-- the body of a message's frame
+pub body_is : (bytes : List ℕ) (m : Message) → IsFrameOf bytes (Ok m) → drop 5 bytes ≡ payload_of m
+body_is bytes m is = ap (drop 5) is.whole ∙ payload_behind is.first ∙ is.body.parts ∙ append-nil (payload_of m)
+
+pub message_told : (style : Style) (place : ℕ) (bytes : List ℕ) (m : Message) (is : IsFrameOf bytes (Ok m)) (begins named said line : List ℕ)
+    → begins ≡ begun place bytes → named ≡ followed 0 begins (called m ∷ []) → Shows style m named said → line ≡ said ++ 10 ∷ [] → IsServerLine style place bytes line
+message_told style place bytes m is begins named said line b n shows e =
+    let head = b ∙ begun_is place is.first bytes is.whole in
+    record {
+      first = is.first;
+      whole = is.whole;
+      fits = is.fits;
+      told = record {
+        result = Ok m;
+        body = is.body;
+        text = said;
+        told = subst (λ l. Shows style m l said) (n ∙ ap (λ l. followed 0 l (called m ∷ [])) head) shows;
+        ended = e;
+      };
+    }
+
+pub message_ended : {E : Type 0} (r : Result (Unit {0}) E) (style : Style) (place : ℕ) (bytes : List ℕ) (m : Message) (is : IsFrameOf bytes (Ok m)) (begins named said line : List ℕ)
+    → begins ≡ begun place bytes → named ≡ followed 0 begins (called m ∷ []) → Shows style m named said → line ≡ (if is_ok r then said ++ 10 ∷ [] else said) → OnOk r (IsServerLine style place bytes line)
+message_ended (Ok x) style place bytes m is begins named said line b n shows e = message_told style place bytes m is begins named said line b n shows e
+message_ended (Err x) style place bytes m is begins named said line b n shows e = tt
+
+pub fault_told : (style : Style) (place : ℕ) (bytes : List ℕ) (r : Error) (is : IsFrameOf bytes (Err r)) (line : List ℕ)
+    → line ≡ followed 0 (begun place bytes) (fault r) ++ 10 ∷ [] → IsServerLine style place bytes line
+fault_told style place bytes r is line e = record {
+  first = is.first;
+  whole = is.whole;
+  fits = is.fits;
+  told = record {
+    result = Err r;
+    body = is.body;
+    text = followed 0 (begun place bytes) (fault r);
+    told = ap (λ l. followed 0 l (fault r)) (begun_is place is.first bytes is.whole);
+    ended = e;
+  };
+}
+
+-- the bytes before the rest are the frame that was taken
+pub taken_frame : (old new : List ℕ) (r : Result Message Error) → TakesFrame old r new → IsFrameOf (take (length old - length new) old) r
+taken_frame old new r t = record {
+  first = t.first;
+  whole = front_taken (frame_bytes t.first) new old t.whole;
+  fits = t.fits;
+  body = t.body;
+}
+
+pub no_longer : (old new : List ℕ) (r : Result Message Error) → TakesFrame old r new → length new ≤ length old
+no_longer old new r t = omega (arith, ap length t.whole, length-append (frame_bytes t.first) new)
+
+-- and what has its line there has it here
+pub line_here : (style : Style) (place : ℕ) (old new bytes line : List ℕ) (r : Result Message Error) → TakesFrame old r new → bytes ≡ take (length old - length new) old → IsServerLine style place bytes line → HasLine style place Server old new line Server
+line_here style place old new bytes line r t e has = record {
+  frame = bytes;
+  whole = t.whole ∙ ap (λ l. l ++ new) (sym (front_taken (frame_bytes t.first) new old t.whole) ∙ sym e);
+  told = (has, refl);
+}

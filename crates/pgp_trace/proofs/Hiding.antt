@@ -1,0 +1,73 @@
+-- Messages that differ in their secrets alone say the same.
+use Rattle.std.proofs.Common.{◌≡◌, ℕ, List, [], ◌∷◌, length, refl, ap, subst, ◌∙◌}
+use Rattle.std.specs.Prelude.{codes}
+use Rattle.pgp_message.specs.BackendMessage.{AuthenticationMd5Password, AuthenticationGssContinue, AuthenticationSaslContinue, AuthenticationSaslFinal, Message, BackendKeyData, Authentication}
+use Rattle.pgp_message.specs.Parts.{KeyData}
+use Rattle.pgp_trace.specs.Line.{Word, Number, Hidden, followed}
+use Rattle.pgp_trace.specs.Secrets.{Alike, quiet}
+use Rattle.pgp_trace.specs.Shown.{Shows, called}
+
+same : (limit : ℕ) (m n : Message) (old new : List ℕ) → m ≡ n → Shows (quiet limit) m old new → Shows (quiet limit) n old new
+same limit m n old new e s = subst (λ k. Shows (quiet limit) k old new) e s
+
+salt : (limit : ℕ) (x : List ℕ) (n : Message) (old new : List ℕ) → Alike (Authentication (AuthenticationMd5Password x)) n → Shows (quiet limit) (Authentication (AuthenticationMd5Password x)) old new → Shows (quiet limit) n old new
+salt limit x (Authentication (AuthenticationMd5Password y)) old new e s = s ∙ ap (λ k. followed limit old (Word (codes "salt") ∷ Hidden k ∷ [])) e
+salt limit x n old new e s = same limit _ n old new e s
+
+gss : (limit : ℕ) (x : List ℕ) (n : Message) (old new : List ℕ) → Alike (Authentication (AuthenticationGssContinue x)) n → Shows (quiet limit) (Authentication (AuthenticationGssContinue x)) old new → Shows (quiet limit) n old new
+gss limit x (Authentication (AuthenticationGssContinue y)) old new e s = s ∙ ap (λ k. followed limit old (Word (codes "data") ∷ Hidden k ∷ [])) e
+gss limit x n old new e s = same limit _ n old new e s
+
+more : (limit : ℕ) (x : List ℕ) (n : Message) (old new : List ℕ) → Alike (Authentication (AuthenticationSaslContinue x)) n → Shows (quiet limit) (Authentication (AuthenticationSaslContinue x)) old new → Shows (quiet limit) n old new
+more limit x (Authentication (AuthenticationSaslContinue y)) old new e s = s ∙ ap (λ k. followed limit old (Word (codes "data") ∷ Hidden k ∷ [])) e
+more limit x n old new e s = same limit _ n old new e s
+
+final : (limit : ℕ) (x : List ℕ) (n : Message) (old new : List ℕ) → Alike (Authentication (AuthenticationSaslFinal x)) n → Shows (quiet limit) (Authentication (AuthenticationSaslFinal x)) old new → Shows (quiet limit) n old new
+final limit x (Authentication (AuthenticationSaslFinal y)) old new e s = s ∙ ap (λ k. followed limit old (Word (codes "data") ∷ Hidden k ∷ [])) e
+final limit x n old new e s = same limit _ n old new e s
+
+key : (limit : ℕ) (x : KeyData) (n : Message) (old new : List ℕ) → Alike (BackendKeyData x) n → Shows (quiet limit) (BackendKeyData x) old new → Shows (quiet limit) n old new
+key limit x (BackendKeyData y) old new e s =
+    s ∙ ap (λ p. followed limit old (Word (codes "process") ∷ Number p ∷ Word (codes "key") ∷ Hidden (length x.secret_key) ∷ [])) e.0
+    ∙ ap (λ k. followed limit old (Word (codes "process") ∷ Number y.process_id ∷ Word (codes "key") ∷ Hidden k ∷ [])) e.1
+key limit x n old new e s = same limit _ n old new e s
+
+pub hidden : (limit : ℕ) (m n : Message) (old new : List ℕ) → Alike m n → Shows (quiet limit) m old new → Shows (quiet limit) n old new
+hidden limit (Authentication (AuthenticationMd5Password x)) n old new e s = salt limit x n old new e s
+hidden limit (Authentication (AuthenticationGssContinue x)) n old new e s = gss limit x n old new e s
+hidden limit (Authentication (AuthenticationSaslContinue x)) n old new e s = more limit x n old new e s
+hidden limit (Authentication (AuthenticationSaslFinal x)) n old new e s = final limit x n old new e s
+hidden limit (BackendKeyData x) n old new e s = key limit x n old new e s
+hidden limit m n old new e s = same limit m n old new e s
+
+-- and have one name
+name_by : (m n : Message) → m ≡ n → called m ≡ called n
+name_by m n e = ap called e
+
+salt_name : (x : List ℕ) (n : Message) → Alike (Authentication (AuthenticationMd5Password x)) n → called (Authentication (AuthenticationMd5Password x)) ≡ called n
+salt_name x (Authentication (AuthenticationMd5Password y)) e = refl
+salt_name x n e = name_by (Authentication (AuthenticationMd5Password x)) n e
+
+gss_name : (x : List ℕ) (n : Message) → Alike (Authentication (AuthenticationGssContinue x)) n → called (Authentication (AuthenticationGssContinue x)) ≡ called n
+gss_name x (Authentication (AuthenticationGssContinue y)) e = refl
+gss_name x n e = name_by (Authentication (AuthenticationGssContinue x)) n e
+
+more_name : (x : List ℕ) (n : Message) → Alike (Authentication (AuthenticationSaslContinue x)) n → called (Authentication (AuthenticationSaslContinue x)) ≡ called n
+more_name x (Authentication (AuthenticationSaslContinue y)) e = refl
+more_name x n e = name_by (Authentication (AuthenticationSaslContinue x)) n e
+
+final_name : (x : List ℕ) (n : Message) → Alike (Authentication (AuthenticationSaslFinal x)) n → called (Authentication (AuthenticationSaslFinal x)) ≡ called n
+final_name x (Authentication (AuthenticationSaslFinal y)) e = refl
+final_name x n e = name_by (Authentication (AuthenticationSaslFinal x)) n e
+
+key_name : (x : KeyData) (n : Message) → Alike (BackendKeyData x) n → called (BackendKeyData x) ≡ called n
+key_name x (BackendKeyData y) e = refl
+key_name x n e = name_by (BackendKeyData x) n e
+
+pub same_call : (m n : Message) → Alike m n → called m ≡ called n
+same_call (Authentication (AuthenticationMd5Password x)) n e = salt_name x n e
+same_call (Authentication (AuthenticationGssContinue x)) n e = gss_name x n e
+same_call (Authentication (AuthenticationSaslContinue x)) n e = more_name x n e
+same_call (Authentication (AuthenticationSaslFinal x)) n e = final_name x n e
+same_call (BackendKeyData x) n e = key_name x n e
+same_call m n e = name_by m n e

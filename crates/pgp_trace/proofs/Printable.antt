@@ -1,0 +1,305 @@
+-- A line has printable characters alone, and a newline at its end.
+use Rattle.std.proofs.Common.{◌≡◌, ℕ, zero, suc, ◌+◌, ◌-◌, ◌<◌, ◌≤◌, Bool, true, false, List, [], ◌∷◌, ◌++◌, length, take, drop, Option, Some, None, Result, Ok, Err, ℤ, pos, negsuc, refl, sym, ap, subst, ◌∙◌, arith, inl, inr}
+use Rattle.std.specs.Prelude.{◌/◌, ◌%◌, ◌||◌, nat_le, nat_lt, ◌==◌, if◌then◌else◌, codes, decimal}
+use lib.Utf8.{scalar as is_scalar}
+use Rattle.std.specs.Char.{encode_utf8, IsScalar}
+use Rattle.std.specs.Fmt.{digits as numerals, digits_onto, digit_glyph, signed_decimal}
+use Rattle.std.specs.List.{flat_map, list_all}
+use Rattle.std.proofs.lemmas.Bool.{eqb-true, leb-true, le-leb, lt-ltb, and_from, and_parts}
+use Rattle.std.proofs.lemmas.List.{append-nil}
+use Rattle.std.proofs.lemmas.Str.{chars-IsAscii, encodes-append, encodes-IsAscii, IsUtf8-from_ascii, scalars-chars}
+use Rattle.std.proofs.lemmas.Str.Ascii.{IsAscii-nil, IsAscii-cons}
+use Rattle.std.proofs.lemmas.List.Concat.{flat_map-cons}
+use Rattle.pgp_base.specs.declared.error.Error.{Error}
+use Rattle.pgp_message.specs.BackendMessage.{AuthenticationOk, AuthenticationKerberosV5, AuthenticationCleartextPassword, AuthenticationMd5Password, AuthenticationScmCredential, AuthenticationGss, AuthenticationGssContinue, AuthenticationSspi, AuthenticationSasl, AuthenticationSaslContinue, AuthenticationSaslFinal, Message, ParseComplete, BindComplete, CloseComplete, NotificationResponse, CommandComplete, DataRow, ErrorResponse, CopyInResponse, CopyOutResponse, EmptyQueryResponse, BackendKeyData, NegotiateProtocolVersion, NoticeResponse, Authentication, ParameterStatus, RowDescription, ReadyForQuery, CopyDone, CopyData, NoData, PortalSuspended, ParameterDescription, payload_of}
+use Rattle.pgp_message.specs.Stream.{Frame, frame_bytes}
+use Rattle.pgp_trace.specs.declared.style.Style.{Style}
+use Rattle.pgp_trace.specs.Quoting.{IsPrinted, digits, hex_digit, hex_byte, hex_escape, is_mark, is_printable, is_text, is_visible, escaped_byte, escaped_char, escaped, quoted, value, up_to}
+use Rattle.pgp_trace.proofs.Escapes.{front_utf8}
+use Rattle.pgp_trace.specs.Line.{Part, Word, Number, Left, Right, Oid, Tag, Text, Value, Hidden, blanks, right, shown, typed, followed}
+use Rattle.pgp_trace.specs.Types.{type_of}
+use Rattle.pgp_trace.specs.Names.{state_of}
+use Rattle.pgp_message.specs.Items.{TextSpelled, TextRefused, FormatSpelled, FormatRefused, TypeSpelled, TypeRefused, RangeSpelled, RangeRefused, FieldSpelled, FieldRefused, ErrorFieldSpelled, ErrorFieldRefused}
+use Rattle.std.specs.Str.{IsAscii, IsUtf8, all_scalars, chars, encode_utf8_all}
+use Rattle.std.specs.Str.Lossy.{utf8_valid_len}
+use Rattle.pgp_trace.specs.Shown.{Shows, ShowsCounted, ShowsMarked, ShowsTexts, bare, called, column_parts, fault, field_parts, list_of, name_or, number_part, secret, text_part, type_part, value_part}
+use Rattle.pgp_server.specs.OtherMessage.{AnyMessage}
+use Rattle.pgp_server.specs.declared.error.ClientError.{ClientError}
+use Rattle.pgp_trace.specs.Client.{client_called, client_groups, client_line, grouped, refusal_parts}
+use Rattle.pgp_trace.specs.Listing.{GoesOn, IsLineOf, LineOf, front, client_front, client_tag}
+use Rattle.pgp_trace.specs.Sides.{Side, Server, Client, is_told}
+
+-- ASCII that is printed
+abbrev Plain : List ℕ → Type 0
+Plain text = list_all is_visible text ≡ true
+
+plain_join : (xs ys : List ℕ) → Plain xs → Plain ys → Plain (xs ++ ys)
+plain_join [] ys a b = b
+plain_join (x ∷ xs) ys a b = let parts = and_parts (is_visible x) (list_all is_visible xs) a in and_from (is_visible x) (list_all is_visible (xs ++ ys)) parts.0 (plain_join xs ys parts.1 b)
+
+cons : (x : ℕ) (xs : List ℕ) → is_visible x ≡ true → Plain xs → Plain (x ∷ xs)
+cons x xs a b = and_from (is_visible x) (list_all is_visible xs) a b
+
+between : (b : ℕ) → 32 ≤ b → b ≤ 126 → is_visible b ≡ true
+between b low high = and_from (nat_le 32 b) (nat_le b 126) (le-leb 32 b low) (le-leb b 126 high)
+
+each : (f : ℕ → List ℕ) → ((b : ℕ) → Plain (f b)) → (xs : List ℕ) → Plain (flat_map f xs)
+each f all [] = refl
+each f all (x ∷ xs) = subst Plain (sym (flat_map-cons f x xs)) (plain_join (f x) (flat_map f xs) (all x) (each f all xs))
+
+-- ---- numbers
+
+digit_by : (n : ℕ) (low : Bool) → nat_le n 9 ≡ low → n < 16 → is_visible (if low then 48 + n else 87 + n) ≡ true
+digit_by n true e h = between (48 + n) (omega arith) (omega (arith, leb-true n 9 e))
+digit_by n false e h = between (87 + n) (omega arith) (omega (arith, h))
+
+digit : (n : ℕ) → n < 16 → is_visible (hex_digit n) ≡ true
+digit n h = digit_by n (nat_le n 9) refl h
+
+hex : (b : ℕ) → Plain (hex_byte b)
+hex b =
+    let high : b / 16 % 16 < 16 = omega arith in
+    let low : b % 16 < 16 = omega arith in
+    cons (hex_digit (b / 16 % 16)) (hex_digit (b % 16) ∷ []) (digit (b / 16 % 16) high) (cons (hex_digit (b % 16)) [] (digit (b % 16) low) refl)
+
+escape : (b : ℕ) → Plain (hex_escape b)
+escape b = cons 92 (120 ∷ hex_byte b) refl (cons 120 (hex_byte b) refl (hex b))
+
+glyph_by : (d : ℕ) (low : Bool) → d < 10 → is_visible (if low then 48 + d else 87 + d) ≡ true
+glyph_by d true h = between (48 + d) (omega arith) (omega (arith, h))
+glyph_by d false h = between (87 + d) (omega arith) (omega (arith, h))
+
+glyph : (d : ℕ) → d < 10 → is_visible (digit_glyph false d) ≡ true
+glyph d h = glyph_by d (nat_lt d 10) h
+
+plain_either : (b : Bool) (xs ys : List ℕ) → Plain xs → Plain ys → Plain (if b then xs else ys)
+plain_either true xs ys a c = a
+plain_either false xs ys a c = c
+
+onto : (k n : ℕ) (acc : List ℕ) → Plain acc → Plain (digits_onto k 10 false n acc)
+onto zero n acc a = a
+onto (suc k) n acc a =
+    let small : n % 10 < 10 = omega arith in
+    let here : Plain (digit_glyph false (n % 10) ∷ acc) = cons (digit_glyph false (n % 10)) acc (glyph (n % 10) small) a in
+    plain_either (n / 10 == 0) _ _ here (onto k (n / 10) _ here)
+
+plain_number : (n : ℕ) → Plain (decimal n)
+unfolding numerals
+plain_number n = onto 64 n [] refl
+
+plain_signed : (z : ℤ) → Plain (signed_decimal z)
+plain_signed (pos n) = plain_number n
+plain_signed (negsuc n) = cons 45 (decimal (suc n)) refl (plain_number (suc n))
+
+-- ---- characters
+
+low : (b : ℕ) → is_visible b ≡ true → b < 128
+low b e = let parts = and_parts (nat_le 32 b) (nat_le b 126) e in omega (arith, leb-true b 126 parts.1)
+
+ascii : (xs : List ℕ) → Plain xs → IsAscii xs
+ascii [] a = IsAscii-nil
+ascii (x ∷ xs) a = let parts = and_parts (is_visible x) (list_all is_visible xs) a in IsAscii-cons x xs (low x parts.0) (ascii xs parts.1)
+
+printed_by : (c : ℕ) (below v h : Bool) → below ≡ true → v ≡ true → (if below then v else h) ≡ true
+printed_by c true v h e f = f
+printed_by c false v h e f = absurd cc
+
+printed : (c : ℕ) → is_visible c ≡ true → is_printable c ≡ true
+printed c e = printed_by c (nat_lt c 128) (is_visible c) _ (lt-ltb c 128 (low c e)) e
+
+all_printed : (xs : List ℕ) → Plain xs → list_all is_printable xs ≡ true
+all_printed [] a = refl
+all_printed (x ∷ xs) a = let parts = and_parts (is_visible x) (list_all is_visible xs) a in and_from (is_printable x) (list_all is_printable xs) (printed x parts.0) (all_printed xs parts.1)
+
+plain : (xs : List ℕ) → Plain xs → IsPrinted xs
+plain xs a =
+    let same = chars-IsAscii xs (ascii xs a) in
+    let utf8 = IsUtf8-from_ascii xs (ascii xs a) in
+    record { characters = xs; scalars = subst (λ l. all_scalars l ≡ true) same (scalars-chars xs utf8); spelled = sym (encodes-IsAscii xs (ascii xs a)); printed = all_printed xs a }
+
+list_join : (f : ℕ → Bool) (xs ys : List ℕ) → list_all f xs ≡ true → list_all f ys ≡ true → list_all f (xs ++ ys) ≡ true
+list_join f [] ys a b = b
+list_join f (x ∷ xs) ys a b = let parts = and_parts (f x) (list_all f xs) a in and_from (f x) (list_all f (xs ++ ys)) parts.0 (list_join f xs ys parts.1 b)
+
+scalars_join : (xs ys : List ℕ) → all_scalars xs ≡ true → all_scalars ys ≡ true → all_scalars (xs ++ ys) ≡ true
+scalars_join [] ys a b = b
+scalars_join (x ∷ xs) ys a b = let parts = and_parts (is_scalar x) (all_scalars xs) a in and_from (is_scalar x) (all_scalars (xs ++ ys)) parts.0 (scalars_join xs ys parts.1 b)
+
+join : (xs ys : List ℕ) → IsPrinted xs → IsPrinted ys → IsPrinted (xs ++ ys)
+join xs ys a b = record {
+  characters = a.characters ++ b.characters;
+  scalars = scalars_join a.characters b.characters a.scalars b.scalars;
+  spelled = ap (λ l. l ++ ys) a.spelled ∙ ap (λ l. encode_utf8_all a.characters ++ l) b.spelled ∙ sym (encodes-append a.characters b.characters);
+  printed = list_join is_printable a.characters b.characters a.printed b.printed;
+}
+
+number : (n : ℕ) → IsPrinted (decimal n)
+number n = plain (decimal n) (plain_number n)
+
+either : (b : Bool) (xs ys : List ℕ) → IsPrinted xs → IsPrinted ys → IsPrinted (if b then xs else ys)
+either true xs ys a c = a
+either false xs ys a c = c
+
+-- ---- bytes and texts
+
+mark_by : (b : ℕ) (x y : Bool) → (b == 34) ≡ x → (b == 92) ≡ y → (x || y) ≡ true → is_visible b ≡ true
+mark_by b true y e f h = between b (omega (arith, eqb-true b 34 e)) (omega (arith, eqb-true b 34 e))
+mark_by b false true e f h = between b (omega (arith, eqb-true b 92 f)) (omega (arith, eqb-true b 92 f))
+mark_by b false false e f h = absurd cc
+
+mark_printed : (b : ℕ) → is_mark b ≡ true → Plain (92 ∷ b ∷ [])
+mark_printed b e = cons 92 (b ∷ []) refl (cons b [] (mark_by b (b == 34) (b == 92) refl refl e) refl)
+
+byte_by : (b : ℕ) (m p : Bool) → is_mark b ≡ m → is_visible b ≡ p → Plain (if m then 92 ∷ b ∷ [] else if p then b ∷ [] else hex_escape b)
+byte_by b true p e f = mark_printed b e
+byte_by b false true e f = cons b [] f refl
+byte_by b false false e f = escape b
+
+byte : (b : ℕ) → Plain (escaped_byte b)
+byte b = byte_by b (is_mark b) (is_visible b) refl refl
+
+char_by : (c : ℕ) (m p : Bool) → IsScalar c → is_mark c ≡ m → is_printable c ≡ p → IsPrinted (if m then 92 ∷ c ∷ [] else if p then encode_utf8 c else flat_map hex_escape (encode_utf8 c))
+char_by c true p s e f = plain (92 ∷ c ∷ []) (mark_printed c e)
+char_by c false true s e f = record { characters = c ∷ []; scalars = and_from (is_scalar c) true s refl; spelled = sym (append-nil (encode_utf8 c)); printed = and_from (is_printable c) true f refl }
+char_by c false false s e f = plain (flat_map hex_escape (encode_utf8 c)) (each hex_escape escape (encode_utf8 c))
+
+each_char : (cs : List ℕ) → all_scalars cs ≡ true → IsPrinted (flat_map escaped_char cs)
+each_char [] s = plain [] refl
+each_char (c ∷ cs) s =
+    let parts = and_parts (is_scalar c) (all_scalars cs) s in
+    subst IsPrinted (sym (flat_map-cons escaped_char c cs)) (join (escaped_char c) (flat_map escaped_char cs) (char_by c (is_mark c) (is_printable c) parts.0 refl refl) (each_char cs parts.1))
+
+escapes : (bytes : List ℕ) → IsPrinted (escaped bytes)
+unfolding escaped
+escapes bytes =
+    let n = utf8_valid_len bytes in
+    join (flat_map escaped_char (chars (take n bytes))) (flat_map escaped_byte (drop n bytes))
+    (each_char (chars (take n bytes)) (scalars-chars (take n bytes) (front_utf8 bytes))) (plain (flat_map escaped_byte (drop n bytes)) (each escaped_byte byte (drop n bytes)))
+
+quote : (bytes : List ℕ) → IsPrinted (quoted bytes)
+quote bytes = join (34 ∷ []) (escaped bytes ++ 34 ∷ []) (plain (34 ∷ []) refl) (join (escaped bytes) (34 ∷ []) (escapes bytes) (plain (34 ∷ []) refl))
+
+hexes : (bytes : List ℕ) → IsPrinted (digits bytes)
+hexes bytes = plain (digits bytes) (cons 92 (120 ∷ flat_map hex_byte bytes) refl (cons 120 (flat_map hex_byte bytes) refl (each hex_byte hex bytes)))
+
+cut : (show : List ℕ → List ℕ) → ((bytes : List ℕ) → IsPrinted (show bytes)) → (limit : ℕ) (bytes : List ℕ) → IsPrinted (up_to limit show bytes)
+unfolding up_to
+cut show all limit bytes = either (nat_le (length bytes) limit) (show bytes) (show (take limit bytes) ++ codes " of " ++ decimal (length bytes) ++ codes " bytes") (all bytes)
+    (join (show (take limit bytes) ++ codes " of " ++ decimal (length bytes)) (codes " bytes")
+    (join (show (take limit bytes) ++ codes " of ") (decimal (length bytes)) (join (show (take limit bytes)) (codes " of ") (all (take limit bytes)) (plain (codes " of ") refl)) (number (length bytes))) (plain (codes " bytes") refl))
+
+val : (limit : ℕ) (bytes : List ℕ) → IsPrinted (value limit bytes)
+unfolding value
+val limit bytes = either (is_text bytes) (up_to limit quoted bytes) (up_to limit digits bytes) (cut quoted quote limit bytes) (cut digits hexes limit bytes)
+
+-- ---- lines
+
+blank : (n : ℕ) → Plain (blanks n)
+blank zero = refl
+blank (suc n) = cons 32 (blanks n) refl (blank n)
+
+at_right : (width n : ℕ) → IsPrinted (right width n)
+at_right width n = join (blanks (width - length (decimal n))) (decimal n) (plain (blanks (width - length (decimal n))) (blank (width - length (decimal n)))) (number n)
+
+type_by : (oid : ℕ) (name : Option (List ℕ)) → IsPrinted (typed oid name)
+type_by oid None = number oid
+type_by oid (Some name) = join (decimal oid) (32 ∷ flat_map escaped_byte name) (number oid) (plain (32 ∷ flat_map escaped_byte name) (cons 32 (flat_map escaped_byte name) refl (each escaped_byte byte name)))
+
+part : (limit : ℕ) (p : Part) → IsPrinted (shown limit p)
+part limit (Word word) = plain (flat_map escaped_byte word) (each escaped_byte byte word)
+part limit (Number n) = plain (signed_decimal n) (plain_signed n)
+part limit (Left width word) = join (flat_map escaped_byte word) (blanks (width - length word)) (plain (flat_map escaped_byte word) (each escaped_byte byte word)) (plain (blanks (width - length word)) (blank (width - length word)))
+part limit (Right width n) = at_right width n
+part limit (Oid oid) = type_by oid (type_of oid)
+part limit (Tag tag) = plain (escaped_byte tag) (byte tag)
+part limit (Text bytes) = cut quoted quote limit bytes
+part limit (Value None) = plain (codes "NULL") refl
+part limit (Value (Some bytes)) = val limit bytes
+part limit (Hidden n) = join (codes "(" ++ decimal n) (codes " bytes)") (join (codes "(") (decimal n) (plain (codes "(") refl) (number n)) (plain (codes " bytes)") refl)
+
+parts : (limit : ℕ) (line : List ℕ) (ps : List Part) → IsPrinted line → IsPrinted (followed limit line ps)
+parts limit line [] a = a
+parts limit line (p ∷ ps) a = parts limit (line ++ 32 ∷ shown limit p) ps (join line (32 ∷ shown limit p) a (join (32 ∷ []) (shown limit p) (plain (32 ∷ []) refl) (part limit p)))
+
+-- what goes on by parts
+goes : (limit : ℕ) (old new : List ℕ) (ps : List Part) → IsPrinted old → new ≡ followed limit old ps → IsPrinted new
+goes limit old new ps a e = subst IsPrinted (sym e) (parts limit old ps a)
+
+texts : (limit : ℕ) (utf8 : Type 0) (ps : List Part) (body old new : List ℕ) → IsPrinted old → ShowsTexts limit utf8 ps body old new → IsPrinted new
+texts limit utf8 ps body old new a (inl h) = goes limit old new ps a h.1
+texts limit utf8 ps body old new a (inr h) = goes limit old new (bare body) a h.1
+
+counted : {V : Type 0} (Spelled : ℕ → V → List ℕ → Type 0) (Refused : List ℕ → Error → Type 0) (each : V → List Part) (limit count : ℕ) (bytes old new : List ℕ) → IsPrinted old → ShowsCounted Spelled Refused each limit count bytes old new → IsPrinted new
+counted Spelled Refused each limit count bytes old new a s = goes limit old new (Number (pos count) ∷ list_of each s.items s.end) a s.text
+
+marked : {V : Type 0} (Spelled : ℕ → V → List ℕ → Type 0) (Refused : List ℕ → Error → Type 0) (each : V → List Part) (limit : ℕ) (bytes old new : List ℕ) → IsPrinted old → ShowsMarked Spelled Refused each limit bytes old new → IsPrinted new
+marked Spelled Refused each limit bytes old new a s = goes limit old new (list_of each s.items s.end) a s.text
+
+says : (style : Style) (m : Message) (old new : List ℕ) → IsPrinted old → Shows style m old new → IsPrinted new
+says style (Authentication (AuthenticationMd5Password salt)) old new a s = goes style.limit old new (Word (codes "salt") ∷ secret style salt ∷ []) a s
+says style (Authentication (AuthenticationGssContinue bytes)) old new a s = goes style.limit old new (Word (codes "data") ∷ secret style bytes ∷ []) a s
+says style (Authentication (AuthenticationSasl bytes)) old new a s =
+    marked TextSpelled TextRefused text_part style.limit bytes (followed style.limit old (Word (codes "mechanisms") ∷ [])) new (parts style.limit old (Word (codes "mechanisms") ∷ []) a) s
+says style (Authentication (AuthenticationSaslContinue bytes)) old new a s = goes style.limit old new (Word (codes "data") ∷ secret style bytes ∷ []) a s
+says style (Authentication (AuthenticationSaslFinal bytes)) old new a s = goes style.limit old new (Word (codes "data") ∷ secret style bytes ∷ []) a s
+says style (NotificationResponse n) old new a s = texts style.limit (IsUtf8 n.channel × IsUtf8 n.message)
+    (Word (codes "process") ∷ Number n.process_id ∷ Word (codes "channel") ∷ Text n.channel ∷ Word (codes "payload") ∷ Text n.message ∷ []) (payload_of (NotificationResponse n)) old new a s
+says style (CommandComplete tag) old new a s = texts style.limit (IsUtf8 tag) (Word (codes "tag") ∷ Text tag ∷ []) (payload_of (CommandComplete tag)) old new a s
+says style (DataRow row) old new a s =
+    counted RangeSpelled RangeRefused (value_part row.storage) style.limit row.count row.storage (followed style.limit old (Word (codes "values") ∷ [])) new (parts style.limit old (Word (codes "values") ∷ []) a) s
+says style (ErrorResponse bytes) old new a s = marked ErrorFieldSpelled ErrorFieldRefused field_parts style.limit bytes old new a s
+says style (CopyInResponse copy) old new a s =
+    counted FormatSpelled FormatRefused number_part style.limit copy.count copy.storage (followed style.limit old (Word (codes "format") ∷ Number (pos copy.format) ∷ Word (codes "columns") ∷ [])) new (parts style.limit old (Word (codes "format") ∷ Number (pos copy.format) ∷ Word (codes "columns") ∷ []) a) s
+says style (CopyOutResponse copy) old new a s =
+    counted FormatSpelled FormatRefused number_part style.limit copy.count copy.storage (followed style.limit old (Word (codes "format") ∷ Number (pos copy.format) ∷ Word (codes "columns") ∷ [])) new (parts style.limit old (Word (codes "format") ∷ Number (pos copy.format) ∷ Word (codes "columns") ∷ []) a) s
+says style (BackendKeyData key) old new a s = goes style.limit old new (Word (codes "process") ∷ Number key.process_id ∷ Word (codes "key") ∷ secret style key.secret_key ∷ []) a s
+says style (NegotiateProtocolVersion n) old new a s =
+    counted TextSpelled TextRefused text_part style.limit n.count n.options (followed style.limit old (Word (codes "version") ∷ Number n.version ∷ Word (codes "options") ∷ [])) new (parts style.limit old (Word (codes "version") ∷ Number n.version ∷ Word (codes "options") ∷ []) a) s
+says style (NoticeResponse bytes) old new a s = marked ErrorFieldSpelled ErrorFieldRefused field_parts style.limit bytes old new a s
+says style (ParameterStatus setting) old new a s = texts style.limit (IsUtf8 setting.name × IsUtf8 setting.value)
+    (Word (codes "name") ∷ Text setting.name ∷ Word (codes "value") ∷ Text setting.value ∷ []) (payload_of (ParameterStatus setting)) old new a s
+says style (RowDescription row) old new a s =
+    counted FieldSpelled FieldRefused column_parts style.limit row.count row.storage (followed style.limit old (Word (codes "columns") ∷ [])) new (parts style.limit old (Word (codes "columns") ∷ []) a) s
+says style (ReadyForQuery status) old new a s = goes style.limit old new (Word (name_or (state_of status) status) ∷ []) a s
+says style (CopyData bytes) old new a s = goes style.limit old new (Word (codes "data") ∷ Value (Some bytes) ∷ []) a s
+says style (ParameterDescription row) old new a s =
+    counted TypeSpelled TypeRefused type_part style.limit row.count row.storage (followed style.limit old (Word (codes "types") ∷ [])) new (parts style.limit old (Word (codes "types") ∷ []) a) s
+says style (Authentication AuthenticationOk) old new a s = subst IsPrinted (sym s) a
+says style (Authentication AuthenticationKerberosV5) old new a s = subst IsPrinted (sym s) a
+says style (Authentication AuthenticationCleartextPassword) old new a s = subst IsPrinted (sym s) a
+says style (Authentication AuthenticationScmCredential) old new a s = subst IsPrinted (sym s) a
+says style (Authentication AuthenticationGss) old new a s = subst IsPrinted (sym s) a
+says style (Authentication AuthenticationSspi) old new a s = subst IsPrinted (sym s) a
+says style ParseComplete old new a s = subst IsPrinted (sym s) a
+says style BindComplete old new a s = subst IsPrinted (sym s) a
+says style CloseComplete old new a s = subst IsPrinted (sym s) a
+says style EmptyQueryResponse old new a s = subst IsPrinted (sym s) a
+says style CopyDone old new a s = subst IsPrinted (sym s) a
+says style NoData old new a s = subst IsPrinted (sym s) a
+says style PortalSuspended old new a s = subst IsPrinted (sym s) a
+
+result : (style : Style) (r : Result Message Error) (old new : List ℕ) → IsPrinted old → GoesOn style r old new → IsPrinted new
+result style (Ok m) old new a g = says style m (followed 0 old (called m ∷ [])) new (parts 0 old (called m ∷ []) a) g
+result style (Err e) old new a g = goes 0 old new (fault e) a g
+
+server_line : (style : Style) (place : ℕ) (f : Frame) (line : List ℕ) → IsLineOf style place f line → (text : List ℕ) × (line ≡ text ++ 10 ∷ []) × IsPrinted text
+server_line style place f line is = (is.text, is.ended, result style is.result (front place f) is.text (parts 0 (right 10 place) (Right 8 (length (frame_bytes f)) ∷ Tag f.tag ∷ []) (at_right 10 place)) is.told)
+
+groups : (limit : ℕ) (line : List ℕ) (gs : List (List Part)) → IsPrinted line → IsPrinted (grouped limit line gs)
+groups limit line [] a = a
+groups limit line (ps ∷ gs) a = groups limit (followed limit line ps) gs (parts limit line ps a)
+
+client : (style : Style) (told : Bool) (r : Result AnyMessage ClientError) (old : List ℕ) → IsPrinted old → IsPrinted (client_line style told r old)
+client style told (Ok x) old a = groups style.limit (followed 0 old (client_called told x ∷ [])) (client_groups style told x) (parts 0 old (client_called told x ∷ []) a)
+client style told (Err e) old a = parts 0 old (refusal_parts e) a
+
+begun : (place : ℕ) (opened : Bool) (frame : List ℕ) → IsPrinted (client_front place opened frame)
+begun place opened frame = parts 0 (right 10 place) (Right 8 (length frame) ∷ Tag (client_tag opened frame) ∷ []) (at_right 10 place)
+
+pub line_printable : (style : Style) (place : ℕ) (from to : Side) (frame line : List ℕ) → LineOf style place from frame line to → (text : List ℕ) × (line ≡ text ++ 10 ∷ []) × IsPrinted text
+line_printable style place Server to frame line is = server_line style place is.0.first line is.0.told
+line_printable style place (Client opened kinds) to frame line is = (
+  client_line style (is_told kinds) is.told.result (client_front place opened frame),
+  is.told.told,
+  client style (is_told kinds) is.told.result (client_front place opened frame) (begun place opened frame),
+)

@@ -1,0 +1,34 @@
+-- A listing is that of the run of its stream.
+use Rattle.std.proofs.Common.{ℕ, List, [], ◌∷◌, ◌++◌, Result, ◌+◌, length, sym, ap, subst, append_assoc}
+use Rattle.pgp_base.specs.declared.error.Error.{Error}
+use Rattle.pgp_message.specs.BackendMessage.{Message}
+use Rattle.pgp_message.specs.Stream.{Frames, BackendRun, TakesFrame}
+use Rattle.pgp_message.proofs.Runs.{frames_none, frames_next}
+use Rattle.pgp_trace.specs.declared.style.Style.{Style}
+use Rattle.pgp_message.specs.Stream.{IsEnding}
+use Rattle.pgp_trace.specs.Listing.{IsServerLine, Lines, NoLines, OneLine, IsListing, place_behind}
+use Rattle.pgp_trace.specs.Sides.{Side, Server, Ends}
+use Rattle.pgp_trace.proofs.Sides.{stays_server, server_line}
+
+-- the frames that were listed, and a result for each
+record Read (front rest : List ℕ) : Type 0 where
+  results : List (Result Message Error)
+  frames : Frames (front ++ rest) results rest
+
+read_of : (style : Style) (start : ℕ) (front lines : List ℕ) (to : Side) → Lines style start Server front lines to → (rest : List ℕ) → Read front rest
+read_of style start [] [] Server NoLines rest = record { results = []; frames = frames_none rest }
+read_of style start _ _ to (OneLine {bytes = bytes} {lines = lines} {here = here} frame line before has) rest =
+    let is : IsServerLine style (place_behind (start + length bytes)) frame line = server_line style start (place_behind (start + length bytes)) bytes lines frame line here to before has in
+    let so_far = read_of style start bytes lines here before (frame ++ rest) in
+    let takes : TakesFrame (frame ++ rest) is.told.result rest = record { first = is.first; whole = ap (λ l. l ++ rest) is.whole; fits = is.fits; body = is.told.body } in
+    record {
+      results = so_far.results ++ is.told.result ∷ [];
+      frames = subst (λ l. Frames l (so_far.results ++ is.told.result ∷ []) rest) (sym (append_assoc bytes frame rest))
+          (frames_next (bytes ++ (frame ++ rest)) (frame ++ rest) rest so_far.results is.told.result so_far.frames takes);
+    }
+
+pub run_of : (style : Style) (bytes output : List ℕ) (l : IsListing style Server bytes output) → (results : List (Result Message Error)) × BackendRun bytes results l.stopped l.rest
+run_of style bytes output l =
+    let read = read_of style 0 l.front l.lines l.to l.listed l.rest in
+    let ends : IsEnding l.stopped l.rest = subst (λ s. Ends s l.stopped l.rest) (stays_server style 0 l.front l.lines l.to l.listed) l.ending in
+    (read.results, record { run = subst (λ b. Frames b read.results l.rest) (sym l.whole) read.frames; ending = ends })

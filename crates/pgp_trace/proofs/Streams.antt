@@ -1,0 +1,150 @@
+-- Streams that differ in their secrets alone have the same lines.
+use Rattle.std.proofs.Common.{◌≡◌, ℕ, ◌+◌, ◌<◌, List, [], ◌∷◌, ◌++◌, length, Result, Ok, Err, refl, sym, ap, subst, ◌∙◌, append_assoc, arith}
+use Rattle.std.specs.List.{flat_map, AllByRecursion}
+use Rattle.std.proofs.lemmas.List.{append-nil, length-append}
+use Rattle.std.proofs.lemmas.List.Concat.{flat_map-cons}
+use Rattle.pgp_base.specs.Wire.{uint32}
+use Rattle.pgp_base.specs.declared.error.Error.{Error}
+use Rattle.pgp_message.specs.BackendMessage.{Message}
+use Rattle.pgp_message.specs.Stream.{Frame, frame_bytes, IsFrame}
+use Rattle.pgp_message.proofs.Runs.{front_is_one, each_push, pushed}
+use Rattle.pgp_trace.specs.declared.style.Style.{Style}
+use Rattle.pgp_trace.specs.Line.{Right, Tag, followed, right}
+use Rattle.pgp_trace.specs.Sides.{Side, Server}
+use Rattle.pgp_trace.proofs.Sides.{server_line}
+use Rattle.pgp_trace.specs.Listing.{GoesOn, IsLineOf, IsServerLine, Lines, NoLines, OneLine, front, place_behind}
+use Rattle.pgp_trace.specs.Secrets.{AlikeResults, AlikeFrames, AlikeStreams, NoFrames, OneAlike, quiet}
+use Rattle.pgp_trace.specs.Shown.{Shows}
+use Rattle.pgp_trace.proofs.Hiding.{hidden, same_call}
+
+-- ---- frames at the end of bytes
+
+some_bytes : (f : Frame) → 0 < length (frame_bytes f)
+unfolding uint32
+some_bytes f = omega arith
+
+-- bytes that are frames
+record AreFrames (bytes : List ℕ) : Type 0 where
+  frames : List Frame
+  whole : bytes ≡ flat_map frame_bytes frames
+  each : AllByRecursion IsFrame frames
+
+more_frames : (bytes : List ℕ) (f : Frame) → AreFrames bytes → IsFrame f → AreFrames (bytes ++ frame_bytes f)
+more_frames bytes f are fits = record {
+  frames = are.frames ++ f ∷ [];
+  whole = ap (λ l. l ++ frame_bytes f) are.whole ∙ sym (pushed are.frames f);
+  each = each_push are.frames f are.each fits;
+}
+
+left_frames : (a b : List ℕ) → AlikeStreams a b → AreFrames a
+left_frames [] [] NoFrames = record { frames = []; whole = refl; each = tt }
+left_frames _ _ (OneAlike {a = a} {b = b} f g before ff gg alike) = more_frames a f (left_frames a b before) ff
+
+listed_frames : (style : Style) (start : ℕ) (bytes lines : List ℕ) (to : Side) → Lines style start Server bytes lines to → AreFrames bytes
+listed_frames style start [] [] Server NoLines = record { frames = []; whole = refl; each = tt }
+listed_frames style start _ _ to (OneLine {bytes = bytes} {lines = lines} {here = here} frame line before has) =
+    let is : IsServerLine style (place_behind (start + length bytes)) frame line = server_line style start (place_behind (start + length bytes)) bytes lines frame line here to before has in
+    subst (λ l. AreFrames (bytes ++ l)) (sym is.whole) (more_frames bytes is.first (listed_frames style start bytes lines here before) is.fits)
+
+abbrev LastIsOne : List Frame → List Frame → Frame → Frame → Type 0
+LastIsOne fs gs f g = (flat_map frame_bytes fs ≡ flat_map frame_bytes gs) × (f ≡ g)
+
+spread : (h : Frame) (fs : List Frame) (r : List ℕ) → flat_map frame_bytes (h ∷ fs) ++ r ≡ frame_bytes h ++ (flat_map frame_bytes fs ++ r)
+spread h fs r = ap (λ l. l ++ r) (flat_map-cons frame_bytes h fs) ∙ append_assoc (frame_bytes h) (flat_map frame_bytes fs) r
+
+never_more : (f g h : Frame) (gs : List Frame) → IsFrame f → IsFrame h → frame_bytes f ≡ flat_map frame_bytes (h ∷ gs) ++ frame_bytes g → ⊥
+never_more f g h gs ff hh e =
+    let none : [] ≡ flat_map frame_bytes gs ++ frame_bytes g = (front_is_one f h [] (flat_map frame_bytes gs ++ frame_bytes g) ff hh (append-nil (frame_bytes f) ∙ e ∙ spread h gs (frame_bytes g))).1 in
+    absurd (omega (arith, ap length none, length-append (flat_map frame_bytes gs) (frame_bytes g), some_bytes g))
+
+last_is_one : (fs gs : List Frame) (f g : Frame) → AllByRecursion IsFrame fs → AllByRecursion IsFrame gs → IsFrame f → IsFrame g
+    → flat_map frame_bytes fs ++ frame_bytes f ≡ flat_map frame_bytes gs ++ frame_bytes g → LastIsOne fs gs f g
+last_is_one [] [] f g a b ff gg e = (refl, (front_is_one f g [] [] ff gg (ap (λ l. l ++ []) e)).0)
+last_is_one [] (h ∷ gs) f g a b ff gg e = absurd (never_more f g h gs ff b.0 e)
+last_is_one (h ∷ fs) [] f g a b ff gg e = absurd (never_more g f h fs gg a.0 (sym e))
+last_is_one (h ∷ fs) (k ∷ gs) f g a b ff gg e =
+    let first = front_is_one h k (flat_map frame_bytes fs ++ frame_bytes f) (flat_map frame_bytes gs ++ frame_bytes g) a.0 b.0 (sym (spread h fs (frame_bytes f)) ∙ e ∙ spread k gs (frame_bytes g)) in
+    let rest = last_is_one fs gs f g a.1 b.1 ff gg first.1 in
+    (flat_map-cons frame_bytes h fs ∙ ap (λ x. frame_bytes x ++ flat_map frame_bytes fs) first.0 ∙ ap (λ l. frame_bytes k ++ l) rest.0 ∙ sym (flat_map-cons frame_bytes k gs), rest.1)
+
+one_last : (a b : List ℕ) (f g : Frame) → AreFrames a → AreFrames b → IsFrame f → IsFrame g → a ++ frame_bytes f ≡ b ++ frame_bytes g → (a ≡ b) × (f ≡ g)
+one_last a b f g p q ff gg e =
+    let one = last_is_one p.frames q.frames f g p.each q.each ff gg (ap (λ l. l ++ frame_bytes f) (sym p.whole) ∙ e ∙ ap (λ l. l ++ frame_bytes g) q.whole) in
+    (p.whole ∙ one.0 ∙ sym q.whole, one.1)
+
+-- ---- lines
+
+same_front : (place : ℕ) (f g : Frame) → AlikeFrames f g → front place f ≡ front place g
+same_front place f g alike =
+    ap (λ n. followed 0 (right 10 place) (Right 8 n ∷ Tag f.tag ∷ [])) alike.long ∙ ap (λ t. followed 0 (right 10 place) (Right 8 (length (frame_bytes g)) ∷ Tag t ∷ [])) alike.tagged
+
+goes_on : (limit : ℕ) (r s : Result Message Error) (old new : List ℕ) → AlikeResults r s → GoesOn (quiet limit) r old new → GoesOn (quiet limit) s old new
+goes_on limit (Ok m) (Ok n) old new alike goes =
+    subst (λ w. Shows (quiet limit) n (followed 0 old (w ∷ [])) new) (same_call m n alike) (hidden limit m n _ new alike goes)
+goes_on limit (Err d) (Err e) old new alike goes = subst (λ k. GoesOn (quiet limit) (Err k) old new) alike goes
+goes_on limit (Ok m) (Err e) old new alike goes = absurd alike
+goes_on limit (Err d) (Ok n) old new alike goes = absurd alike
+
+line_hidden : (limit place : ℕ) (f g : Frame) (line : List ℕ) → AlikeFrames f g → IsLineOf (quiet limit) place f line → IsLineOf (quiet limit) place g line
+line_hidden limit place f g line alike is =
+    let (s, body, same) = alike.bodies is.result is.body in
+    record {
+      result = s;
+      body = body;
+      text = is.text;
+      told = goes_on limit is.result s (front place g) is.text same (subst (λ l. GoesOn (quiet limit) is.result l is.text) (same_front place f g alike) is.told);
+      ended = is.ended;
+    }
+
+same_length : (a b : List ℕ) → AlikeStreams a b → length a ≡ length b
+same_length [] [] NoFrames = refl
+same_length _ _ (OneAlike {a = a} {b = b} f g before ff gg alike) =
+    omega (arith, same_length a b before, length-append a (frame_bytes f), length-append b (frame_bytes g), alike.long)
+
+no_last : (bytes : List ℕ) (f : Frame) → [] ≡ bytes ++ frame_bytes f → ⊥
+no_last bytes f e = absurd (omega (arith, ap length e, length-append bytes (frame_bytes f), some_bytes f))
+
+-- the stream that is like one whose last frame is known
+record EndsAlike (bytes other : List ℕ) (f : Frame) : Type 0 where
+  before : List ℕ
+  last : Frame
+  whole : other ≡ before ++ frame_bytes last
+  alike : AlikeStreams bytes before
+  fits : IsFrame last
+  same : AlikeFrames f last
+
+ends_alike : (all other : List ℕ) → AlikeStreams all other → (bytes : List ℕ) (f : Frame) → AreFrames bytes → IsFrame f → all ≡ bytes ++ frame_bytes f → EndsAlike bytes other f
+ends_alike [] [] NoFrames bytes f are fits e = absurd (no_last bytes f e)
+ends_alike _ _ (OneAlike {a = a} {b = b} g h before gg hh alike) bytes f are fits e =
+    let one = one_last a bytes g f (left_frames a b before) are gg fits e in
+    record {
+      before = b;
+      last = h;
+      whole = refl;
+      alike = subst (λ l. AlikeStreams l b) one.0 before;
+      fits = hh;
+      same = subst (λ k. AlikeFrames k h) one.1 alike;
+    }
+
+nothing_alike : (all other : List ℕ) → AlikeStreams all other → all ≡ [] → other ≡ []
+nothing_alike [] [] NoFrames e = refl
+nothing_alike _ _ (OneAlike {a = a} {b = b} g h before gg hh alike) e = absurd (no_last a g (sym e))
+
+-- the lines of a server's frames, with the frame as bytes
+server_step : (style : Style) (start : ℕ) (bytes lines : List ℕ) (f : Frame) (line : List ℕ) → Lines style start Server bytes lines Server → IsFrame f
+    → IsLineOf style (place_behind (start + length bytes)) f line → Lines style start Server (bytes ++ frame_bytes f) (lines ++ line) Server
+server_step style start bytes lines f line before fits has = OneLine (frame_bytes f) line before (record { first = f; whole = refl; fits = fits; told = has }, refl)
+
+hidden_lines : (limit start : ℕ) (a lines : List ℕ) (to : Side) → Lines (quiet limit) start Server a lines to → (b : List ℕ) → AlikeStreams a b → Lines (quiet limit) start Server b lines Server
+hidden_lines limit start [] [] Server NoLines b alike = subst (λ l. Lines (quiet limit) start Server l [] Server) (sym (nothing_alike [] b alike refl)) NoLines
+hidden_lines limit start _ _ to (OneLine {bytes = bytes} {lines = lines} {here = here} frame line before has) b alike =
+    let is : IsServerLine (quiet limit) (place_behind (start + length bytes)) frame line = server_line (quiet limit) start (place_behind (start + length bytes)) bytes lines frame line here to before has in
+    let same : AlikeStreams (bytes ++ frame_bytes is.first) b = subst (λ l. AlikeStreams (bytes ++ l) b) is.whole alike in
+    let end = ends_alike (bytes ++ frame_bytes is.first) b same bytes is.first (listed_frames (quiet limit) start bytes lines here before) is.fits refl in
+    let place : place_behind (start + length bytes) ≡ place_behind (start + length end.before) = ap (λ n. place_behind (start + n)) (same_length bytes end.before end.alike) in
+    subst (λ l. Lines (quiet limit) start Server l (lines ++ line) Server) (sym end.whole)
+    (server_step (quiet limit) start end.before lines end.last line (hidden_lines limit start bytes lines here before end.before end.alike) end.fits
+    (line_hidden limit (place_behind (start + length end.before)) is.first end.last line end.same (subst (λ p. IsLineOf (quiet limit) p is.first line) place is.told)))
+
+pub streams_hidden : (limit start : ℕ) (a b lines : List ℕ) → AlikeStreams a b → Lines (quiet limit) start Server a lines Server → Lines (quiet limit) start Server b lines Server
+streams_hidden limit start a b lines alike listed = hidden_lines limit start a lines Server listed b alike

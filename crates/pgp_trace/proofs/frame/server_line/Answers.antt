@@ -1,0 +1,34 @@
+use Rattle.std.proofs.Common.{◌≡◌, ◌-◌, List, ℕ, length, take, Ok, Err, rules, ap, sym, subst, ◌∙◌}
+use Rattle.std.specs.Prelude.{string_bytes}
+use Rattle.pgp_message.specs.Stream.{TakesFrame}
+use Rattle.pgp_message.specs.Views.{view}
+use Rattle.pgp_message.proofs.Steps.{taken_by}
+use Rattle.pgp_trace.specs.Steps.{IsFrameOf}
+use Rattle.pgp_trace.proofs.FrameLines.{taken_frame, line_here, fault_told}
+use Rattle.pgp_trace.proofs.frame.server_line.Goals as goal
+
+pub message_line-told-requires : goal.message_line-told-requires
+message_line-told-requires g c =
+    let old = c.args.bytes.now in
+    let new = c.next.new.self in
+    let step : TakesFrame c.new-messages.result (Ok (view c.in-Ok-Some.message)) new = search rules in
+    let t : TakesFrame old (Ok (view c.in-Ok-Some.message)) new = subst (λ (l : List ℕ). TakesFrame l (Ok (view c.in-Ok-Some.message)) new) c.new-messages.ensures step in
+    let is : c.front_of-frame.result.now ≡ take (length old - length new) old =
+    c.front_of-frame.ensures ∙ ap (λ (l : List ℕ). take (length old - length l) old) c.rest-behind.ensures in
+    subst (λ l. IsFrameOf l (Ok (view c.in-Ok-Some.message))) (sym is) (taken_frame old new (Ok (view c.in-Ok-Some.message)) t)
+
+pub returns-in_ok-fault_line-in-Err : goal.returns-in_ok-fault_line-in-Err
+returns-in_ok-fault_line-in-Err g c =
+    let old = c.args.bytes.now in
+    let new = c.next.new.self in
+    let e = c.in-Err.refusal in
+    let frame = c.front_of-frame-in-Err.result.now in
+    let taken : TakesFrame c.new-messages.result (Err e) new = taken_by c.new-messages.result new e (λ h. search rules) c.in-Err.ensures.step in
+    let t : TakesFrame old (Err e) new = subst (λ (l : List ℕ). TakesFrame l (Err e) new) c.new-messages.ensures taken in
+    let is : frame ≡ take (length old - length new) old =
+    c.front_of-frame-in-Err.ensures ∙ ap (λ (l : List ℕ). take (length old - length l) old) c.rest-behind-in-Err.ensures in
+    let framed : IsFrameOf frame (Err e) = subst (λ l. IsFrameOf l (Err e)) (sym is) (taken_frame old new (Err e) t) in
+    record {
+      listed = rw c.rest-behind-in-Err.ensures (line_here c.args.style c.args.place old new frame (string_bytes c.fault_line.new.line) (Err e) t is (fault_told c.args.style c.args.place frame e framed (string_bytes c.fault_line.new.line) c.in_ok-fault_line-in-Err.ensures.line));
+      lacks = tt;
+    }

@@ -1,0 +1,13 @@
+use Rattle.std.proofs.Common.{◌≡◌, map, length, rules}
+use Rattle.pgp_trace.specs.Options.{AreOptions, style_of}
+use Rattle.pgp_trace.proofs.CommandLemmas.{server_kinds}
+use Rattle.pgp_trace.proofs.run.server_of.Goals as goal
+
+-- Kinds are named.
+pub returns-then-not-is_empty-clause-other : goal.returns-then-not-is_empty-clause-other
+returns-then-not-is_empty-clause-other g c =
+    let words = map (λ word. word.now) c.args.words.now in
+    let options = c.in-Some.options in
+    let are : AreOptions words (style_of options.full options.secrets) options.kinds.items = search rules in
+    let some : length options.kinds.items ≡ 0 → ⊥ = λ h. search rules in
+    server_kinds words (style_of options.full options.secrets) options.kinds.items are some

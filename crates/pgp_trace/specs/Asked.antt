@@ -1,0 +1,10 @@
+-- Private: the code's commands as those of `Command`.
+use Rattle.pgp_trace.specs.declared.run as code
+use Rattle.pgp_trace.specs.declared.run.Command.TheVariants as variants
+use Rattle.pgp_trace.specs.Command.{Command, Server, Client, Help, Version}
+
+abbrev pub asked : {A : Type 0} → code.Command.Command A → Command
+asked (variants.Server style) = Server style
+asked (variants.Client style kinds) = Client style kinds.items
+asked variants.Help = Help
+asked variants.Version = Version

@@ -1,0 +1,15 @@
+pub mod Quoting
+pub mod Plain
+pub mod Types
+pub mod Line
+pub mod Names
+pub mod Shown
+pub mod Secrets
+pub mod Options
+pub mod Command
+pub mod Sides
+pub mod Client
+pub mod Listing
+pub mod ClientSecrets
+pub mod Steps
+pub mod Asked

@@ -1,0 +1,139 @@
+-- The listing of a server's or a client's stream.
+use Rattle.std.specs.Prelude.{◌≡◌, ◌⊎◌, ℕ, ◌+◌, min, Bool, true, false, List, [], ◌∷◌, ◌++◌, length, get_or, Result, Ok, Err, Option, codes, decimal}
+use Rattle.std.specs.Io.KnownBytes.{Appends, Consumes, IsAtEnd}
+use Rattle.pgp_base.specs.declared.error.Error.{Error}
+use Rattle.pgp_message.specs.BackendMessage.{Message, Body}
+use Rattle.pgp_message.specs.Stream.{Frame, frame_bytes, IsFrame}
+use Rattle.pgp_server.specs.AnyStep.{AnyStep}
+use Rattle.pgp_server.specs.OtherMessage.{AnyMessage}
+use Rattle.pgp_server.specs.Pieces.{step_of}
+use Rattle.pgp_server.specs.declared.error.ClientError.{ClientError}
+use Rattle.pgp_server.specs.declared.message.PasswordKind.{PasswordKind}
+use Rattle.pgp_trace.specs.Client.{client_line}
+use Rattle.pgp_trace.specs.Sides.{Side, Server, Client, Ends, expected, is_told, kinds_behind}
+use Rattle.pgp_trace.specs.declared.style.Style.{Style}
+use Rattle.pgp_trace.specs.Line.{Right, Tag, followed, right}
+use Rattle.pgp_trace.specs.Shown.{Shows, called, fault}
+use Rattle.pgp_program.specs.Taken.{AppendsFront}
+use Rattle.pgp_program.specs.Words.{greatest}
+
+-- what each line begins with: the place of the frame, how long it is, and its tag
+abbrev pub front : ℕ → Frame → List ℕ
+front place f = followed 0 (right 10 place) (Right 8 (length (frame_bytes f)) ∷ Tag f.tag ∷ [])
+
+-- and how it goes on: with the name of the message and what it says, or with the refusal
+abbrev pub GoesOn : Style → Result Message Error → List ℕ → List ℕ → Type 0
+GoesOn style (Ok m) old new = Shows style m (followed 0 old (called m ∷ [])) new
+GoesOn style (Err e) old new = new ≡ followed 0 old (fault e)
+
+-- the line of a frame that stands at the place
+pub record IsLineOf (style : Style) (place : ℕ) (f : Frame) (line : List ℕ) : Type 0 where
+  pub result : Result Message Error
+  pub body : Body f.tag f.payload result
+  pub text : List ℕ
+  pub told : GoesOn style result (front place f) text
+  pub ended : line ≡ text ++ 10 ∷ []
+
+-- the frame of a server, and its line
+pub record IsServerLine (style : Style) (place : ℕ) (frame line : List ℕ) : Type 0 where
+  pub first : Frame
+  pub whole : frame ≡ frame_bytes first
+  pub fits : IsFrame first
+  pub told : IsLineOf style place first line
+
+-- an opening packet has no tag
+abbrev pub client_tag : Bool → List ℕ → ℕ
+client_tag true frame = get_or frame 0 0
+client_tag false frame = 45
+
+abbrev pub client_front : ℕ → Bool → List ℕ → List ℕ
+client_front place opened frame = followed 0 (right 10 place) (Right 8 (length frame) ∷ Tag (client_tag opened frame) ∷ [])
+
+-- The bytes are what a step of a server takes or passes that reads a client, and their line.
+pub record IsClientLine (style : Style) (place : ℕ) (opened : Bool) (kinds : List PasswordKind) (frame line : List ℕ) (now : Bool) : Type 0 where
+  pub result : Result AnyMessage ClientError
+  pub step : AnyStep (expected kinds) (record { bytes = frame; opened = opened }) (step_of result) (record { bytes = []; opened = now })
+  pub told : line ≡ client_line style (is_told kinds) result (client_front place opened frame) ++ 10 ∷ []
+
+pub record IsNextLine (style : Style) (place : ℕ) (opened : Bool) (kinds : List PasswordKind) (frame line : List ℕ) (to : Side) : Type 0 where
+  pub now : Bool
+  pub told : IsClientLine style place opened kinds frame line now
+  pub behind : to ≡ Client now (kinds_behind opened frame kinds)
+
+-- a frame that stands at the place, and its line; and what is known of the side behind it
+abbrev pub LineOf : Style → ℕ → Side → List ℕ → List ℕ → Side → Type 0
+LineOf style place Server frame line to = IsServerLine style place frame line × (to ≡ Server)
+LineOf style place (Client opened kinds) frame line to = IsNextLine style place opened kinds frame line to
+
+-- how many bytes stand before, as far as a number of the machine tells it
+abbrev pub place_behind : ℕ → ℕ
+place_behind n = min n greatest
+
+-- These bytes, behind so many others, are whole frames, with these lines: each frame has one, in order.
+pub data Lines (style : Style) (start : ℕ) (from : Side) : List ℕ → List ℕ → Side → Type 0 where
+  NoLines : Lines style start from [] [] from
+  OneLine : {bytes lines : List ℕ} {here to : Side} (frame line : List ℕ) → Lines style start from bytes lines here
+      → LineOf style (place_behind (start + length bytes)) here frame line to → Lines style start from (bytes ++ frame) (lines ++ line) to
+
+-- the last line, where so many bytes are left, as far as a number of the machine tells it
+abbrev pub last_line : Bool → ℕ → List ℕ
+last_line false n = codes "rest " ++ decimal n ++ 10 ∷ []
+last_line true n = codes "stopped rest " ++ decimal n ++ 10 ∷ []
+
+-- What a reader has left, and what a writer holds.
+pub record Streams : Type 0 where
+  pub input : Option (List ℕ)
+  pub output : Option (List ℕ)
+
+-- All lines of what came so far were written: the bytes are frames, each of which has its line, and then a rest in which none is whole.
+pub record IsListed (style : Style) (from : Side) (stopped : Bool) (rest : List ℕ) (before after : Streams) : Type 0 where
+  pub to : Side
+  pub front : List ℕ
+  pub lines : List ℕ
+  pub came : Consumes before.input after.input (front ++ rest)
+  pub listed : Lines style 0 from front lines to
+  pub ending : Ends to stopped rest
+  pub written : Appends before.output after.output lines
+
+-- whatever stands behind the frames
+pub record WasListed (style : Style) (from : Side) (before after : Streams) : Type 0 where
+  pub stopped : Bool
+  pub rest : List ℕ
+  pub all : IsListed style from stopped rest before after
+
+-- The same of a stream whose end has come, and a last line that tells how many bytes are left.
+pub record IsListing (style : Style) (from : Side) (bytes output : List ℕ) : Type 0 where
+  pub to : Side
+  pub front : List ℕ
+  pub rest : List ℕ
+  pub lines : List ℕ
+  pub stopped : Bool
+  pub whole : bytes ≡ front ++ rest
+  pub listed : Lines style 0 from front lines to
+  pub ending : Ends to stopped rest
+  pub text : output ≡ lines ++ last_line stopped (place_behind (length rest))
+
+-- that listing was written, and nothing else
+pub record WritesListing (style : Style) (from : Side) (bytes : List ℕ) (old new : Option (List ℕ)) : Type 0 where
+  pub output : List ℕ
+  pub is : IsListing style from bytes output
+  pub written : Appends old new output
+
+-- the end of the input has come, and the last line is due
+pub record EndsWith (to : Side) (input : Option (List ℕ)) (rest lines text : List ℕ) : Type 0 where
+  pub stopped : Bool
+  pub end : IsAtEnd input
+  pub ending : Ends to stopped rest
+  pub all : text ≡ lines ++ last_line stopped (place_behind (length rest))
+
+-- A front of the lines of what came was written, and of the last one where it is due.
+pub record IsCutShort (style : Style) (from : Side) (before after : Streams) : Type 0 where
+  pub to : Side
+  pub front : List ℕ
+  pub rest : List ℕ
+  pub lines : List ℕ
+  pub text : List ℕ
+  pub came : Consumes before.input after.input (front ++ rest)
+  pub listed : Lines style 0 from front lines to
+  pub due : (text ≡ lines) ⊎ EndsWith to after.input rest lines text
+  pub written : AppendsFront before.output after.output text

@@ -1,0 +1,58 @@
+-- The options of a listing, as words spell them.
+use Rattle.std.specs.Prelude.{◌≡◌, ◌≢◌, ℕ, Bool, true, false, if◌then◌else◌, List, [], ◌∷◌, ◌++◌, codes}
+use Rattle.std.specs.List.{flat_map, list_any}
+use Rattle.pgp_server.specs.declared.message.PasswordKind.{PasswordKind}
+use Rattle.pgp_server.specs.declared.message.PasswordKind.TheVariants.{Password, Initial, Response}
+use Rattle.pgp_program.specs.Words.{greatest}
+use Rattle.pgp_trace.specs.declared.options.Choice.{Choice}
+use Rattle.pgp_trace.specs.declared.options.Choice.TheVariants.{Full, Secrets, Kind}
+use Rattle.pgp_trace.specs.declared.style.Style.{Style}
+
+abbrev pub kind_word : PasswordKind → List ℕ
+kind_word Password = codes "password"
+kind_word Initial = codes "initial"
+kind_word Response = codes "response"
+
+-- the words of one
+abbrev pub spelled : Choice → List (List ℕ)
+spelled Full = codes "--full" ∷ []
+spelled Secrets = codes "--secrets" ∷ []
+spelled (Kind kind) = codes "--password-kind" ∷ kind_word kind ∷ []
+
+abbrev pub is_full : Choice → Bool
+is_full Full = true
+is_full Secrets = false
+is_full (Kind kind) = false
+
+abbrev pub is_secrets : Choice → Bool
+is_secrets Full = false
+is_secrets Secrets = true
+is_secrets (Kind kind) = false
+
+abbrev pub kind_in : Choice → List PasswordKind
+kind_in Full = []
+kind_in Secrets = []
+kind_in (Kind kind) = kind ∷ []
+
+-- 64 bytes of a text or a value are shown, or all of them; and secrets aren't, or are
+abbrev pub style_of : Bool → Bool → Style
+style_of full secrets = record { limit = (if full then greatest else 64); secrets = secrets }
+
+-- The words are options, one after another, in any order. They ask for this style, and name these kinds in order.
+pub record AreOptions (words : List (List ℕ)) (style : Style) (kinds : List PasswordKind) : Type 0 where
+  pub choices : List Choice
+  pub spelling : words ≡ flat_map spelled choices
+  pub shown : style ≡ style_of (list_any is_full choices) (list_any is_secrets choices)
+  pub named : kinds ≡ flat_map kind_in choices
+
+-- the words are no options
+abbrev pub AreNoOptions : List (List ℕ) → Type 0
+AreNoOptions words = (choices : List Choice) → words ≢ flat_map spelled choices
+
+-- no option stands first
+abbrev pub BeginsWithNone : List (List ℕ) → Type 0
+BeginsWithNone words = (choice : Choice) (more : List (List ℕ)) → words ≢ spelled choice ++ more
+
+-- the word names no kind
+abbrev pub NamesNoKind : List ℕ → Type 0
+NamesNoKind word = (kind : PasswordKind) → word ≢ kind_word kind

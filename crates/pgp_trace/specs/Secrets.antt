@@ -1,0 +1,36 @@
+-- Messages and streams that differ in their secrets alone.
+use Rattle.std.specs.Prelude.{◌≡◌, ℕ, false, List, [], ◌++◌, length, Result, Ok, Err}
+use Rattle.pgp_message.specs.BackendMessage.{AuthenticationMd5Password, AuthenticationGssContinue, AuthenticationSaslContinue, AuthenticationSaslFinal, Message, BackendKeyData, Authentication, Body}
+use Rattle.pgp_base.specs.declared.error.Error.{Error}
+use Rattle.pgp_message.specs.Stream.{Frame, frame_bytes, IsFrame}
+use Rattle.pgp_trace.specs.declared.style.Style.{Style}
+
+-- The salt of an MD5 answer, the texts of an exchange and the key of a cancel request may be others of the same length; all else is the same.
+abbrev pub Alike : Message → Message → Type 0
+Alike (Authentication (AuthenticationMd5Password salt)) (Authentication (AuthenticationMd5Password other)) = length salt ≡ length other
+Alike (Authentication (AuthenticationGssContinue bytes)) (Authentication (AuthenticationGssContinue others)) = length bytes ≡ length others
+Alike (Authentication (AuthenticationSaslContinue bytes)) (Authentication (AuthenticationSaslContinue others)) = length bytes ≡ length others
+Alike (Authentication (AuthenticationSaslFinal bytes)) (Authentication (AuthenticationSaslFinal others)) = length bytes ≡ length others
+Alike (BackendKeyData key) (BackendKeyData other) = (key.process_id ≡ other.process_id) × (length key.secret_key ≡ length other.secret_key)
+Alike m n = m ≡ n
+
+-- secrets aren't shown
+abbrev pub quiet : ℕ → Style
+quiet limit = record { limit = limit; secrets = false }
+
+-- messages that are alike, or the same refusal
+abbrev pub AlikeResults : Result Message Error → Result Message Error → Type 0
+AlikeResults (Ok m) (Ok n) = Alike m n
+AlikeResults (Err d) (Err e) = d ≡ e
+AlikeResults r s = ⊥
+
+-- frames of one tag and one length, whose bodies are alike
+pub record AlikeFrames (f g : Frame) : Type 0 where
+  pub tagged : f.tag ≡ g.tag
+  pub long : length (frame_bytes f) ≡ length (frame_bytes g)
+  pub bodies : (r : Result Message Error) → Body f.tag f.payload r → (s : Result Message Error) × Body g.tag g.payload s × AlikeResults r s
+
+-- bytes that are frames, each like that of the other bytes in its place
+pub data AlikeStreams : List ℕ → List ℕ → Type 0 where
+  NoFrames : AlikeStreams [] []
+  OneAlike : {a b : List ℕ} (f g : Frame) → AlikeStreams a b → IsFrame f → IsFrame g → AlikeFrames f g → AlikeStreams (a ++ frame_bytes f) (b ++ frame_bytes g)

@@ -1,0 +1,145 @@
+-- What the line of each message says behind its name. PostgreSQL manual, "Message Formats".
+use Rattle.std.specs.Prelude.{◌≡◌, ◌⊎◌, ℕ, pos, Bool, true, false, List, [], ◌∷◌, ◌++◌, length, Option, Some, None, codes}
+use Rattle.std.specs.Str.{IsUtf8}
+use Rattle.std.specs.declared.ops.Range.{Range}
+use Rattle.pgp_base.specs.Error.{number_of}
+use Rattle.pgp_base.specs.declared.error.Error.{Error}
+use Rattle.pgp_base.specs.Items.{CountedItems, MarkedItems}
+use Rattle.pgp_message.specs.BackendMessage.{AuthenticationOk, AuthenticationKerberosV5, AuthenticationCleartextPassword, AuthenticationScmCredential, AuthenticationGss, AuthenticationSspi, ParseComplete, BindComplete, CloseComplete, EmptyQueryResponse, CopyDone, NoData, PortalSuspended, AuthenticationMd5Password, AuthenticationGssContinue, AuthenticationSasl, AuthenticationSaslContinue, AuthenticationSaslFinal, Message, NotificationResponse, CommandComplete, DataRow, ErrorResponse, CopyInResponse, CopyOutResponse, BackendKeyData, NegotiateProtocolVersion, NoticeResponse, Authentication, ParameterStatus, RowDescription, ReadyForQuery, CopyData, ParameterDescription, payload_of}
+use Rattle.pgp_message.specs.Items.{TextSpelled, TextRefused, FormatSpelled, FormatRefused, TypeSpelled, TypeRefused, RangeSpelled, RangeRefused, FieldPart, FieldSpelled, FieldRefused, ErrorPart, ErrorFieldSpelled, ErrorFieldRefused}
+use Rattle.pgp_message.specs.Parts.{CopyFormats}
+use Rattle.pgp_message.specs.Table.{value_at}
+use Rattle.pgp_trace.specs.Line.{Part, Word, Number, Oid, Text, Value, Hidden, followed, named}
+use Rattle.pgp_trace.specs.declared.style.Style.{Style}
+use Rattle.pgp_trace.specs.Names.{name_of, refusal_of, field_of, state_of}
+
+-- a refusal
+abbrev pub fault : Error → List Part
+fault e = Word (codes "fault") ∷ Number (pos (number_of e)) ∷ Word (refusal_of e) ∷ []
+
+-- the end of a list: nothing, or why it breaks off
+abbrev pub ending : Option Error → List Part
+ending None = []
+ending (Some e) = fault e
+
+-- the parts of each item, and these behind them
+abbrev pub each_then : {X : Type 0} → (X → List Part) → List X → List Part → List Part
+each_then parts [] more = more
+each_then parts (x ∷ xs) more = parts x ++ each_then parts xs more
+
+abbrev pub list_of : {X : Type 0} → (X → List Part) → List X → Option Error → List Part
+list_of parts items end = each_then parts items (ending end)
+
+-- the name, or where there is none the byte that stands for it
+abbrev pub name_or : Option (List ℕ) → ℕ → List ℕ
+name_or (Some name) byte = name
+name_or None byte = byte ∷ []
+
+abbrev pub text_part : List ℕ → List Part
+text_part text = Text text ∷ []
+
+abbrev pub number_part : ℕ → List Part
+number_part n = Number (pos n) ∷ []
+
+abbrev pub type_part : ℕ → List Part
+type_part oid = Oid oid ∷ []
+
+abbrev pub value_part : List ℕ → Option (Range ℕ) → List Part
+value_part buffer place = Value (value_at buffer place) ∷ []
+
+abbrev pub field_parts : ErrorPart → List Part
+field_parts field = Word (name_or (field_of field.code) field.code) ∷ Text field.value ∷ []
+
+abbrev pub column_parts : FieldPart → List Part
+column_parts column =
+    Text column.name
+    ∷ Word (codes "table") ∷ Number (pos column.table_oid)
+    ∷ Word (codes "column") ∷ Number column.column_id
+    ∷ Word (codes "type") ∷ Oid column.type_oid
+    ∷ Word (codes "size") ∷ Number column.type_size
+    ∷ Word (codes "modifier") ∷ Number column.type_modifier
+    ∷ Word (codes "format") ∷ Number column.format ∷ []
+
+-- Lines before and after a list that is announced with a count, or that a byte 0 ends, where `parts` are those of an item.
+pub record ShowsCounted {V : Type 0} (Spelled : ℕ → V → List ℕ → Type 0) (Refused : List ℕ → Error → Type 0) (parts : V → List Part) (limit count : ℕ) (bytes old new : List ℕ) : Type 0 where
+  pub items : List V
+  pub end : Option Error
+  pub list : CountedItems Spelled Refused count bytes items end
+  pub text : new ≡ followed limit old (Number (pos count) ∷ list_of parts items end)
+
+pub record ShowsMarked {V : Type 0} (Spelled : ℕ → V → List ℕ → Type 0) (Refused : List ℕ → Error → Type 0) (parts : V → List Part) (limit : ℕ) (bytes old new : List ℕ) : Type 0 where
+  pub items : List V
+  pub end : Option Error
+  pub list : MarkedItems Spelled Refused bytes items end
+  pub text : new ≡ followed limit old (list_of parts items end)
+
+-- the bytes of a body as they are
+abbrev pub bare : List ℕ → List Part
+bare body = Word (codes "bytes") ∷ Text body ∷ []
+
+-- the line goes on with these parts, where the texts in them are UTF-8, and else with the bytes of the body
+abbrev pub ShowsTexts : ℕ → Type 0 → List Part → List ℕ → List ℕ → List ℕ → Type 0
+ShowsTexts limit utf8 parts body old new =
+    (utf8 × (new ≡ followed limit old parts))
+    ⊎ ((¬ utf8) × (new ≡ followed limit old (bare body)))
+
+abbrev pub ShowsFormats : ℕ → CopyFormats → List ℕ → List ℕ → Type 0
+ShowsFormats limit copy old new =
+    ShowsCounted FormatSpelled FormatRefused number_part limit copy.count copy.storage
+    (followed limit old (Word (codes "format") ∷ Number (pos copy.format) ∷ Word (codes "columns") ∷ [])) new
+
+-- a secret, or how long it is
+abbrev pub secret_by : Bool → List ℕ → Part
+secret_by true bytes = Text bytes
+secret_by false bytes = Hidden (length bytes)
+
+abbrev pub secret : Style → List ℕ → Part
+secret style bytes = secret_by style.secrets bytes
+
+-- a message of which no more is said than its name
+abbrev pub says_nothing : Message → Bool
+says_nothing (Authentication AuthenticationOk) = true
+says_nothing (Authentication AuthenticationKerberosV5) = true
+says_nothing (Authentication AuthenticationCleartextPassword) = true
+says_nothing (Authentication AuthenticationScmCredential) = true
+says_nothing (Authentication AuthenticationGss) = true
+says_nothing (Authentication AuthenticationSspi) = true
+says_nothing ParseComplete = true
+says_nothing BindComplete = true
+says_nothing CloseComplete = true
+says_nothing EmptyQueryResponse = true
+says_nothing CopyDone = true
+says_nothing NoData = true
+says_nothing PortalSuspended = true
+says_nothing m = false
+
+abbrev pub called : Message → Part
+called m = named (says_nothing m) (name_of m)
+
+-- The line of a message before and after what it says behind its name. Salts, the texts of an exchange and keys are secrets.
+abbrev pub Shows : Style → Message → List ℕ → List ℕ → Type 0
+Shows style (Authentication (AuthenticationMd5Password salt)) old new = new ≡ followed style.limit old (Word (codes "salt") ∷ secret style salt ∷ [])
+Shows style (Authentication (AuthenticationGssContinue bytes)) old new = new ≡ followed style.limit old (Word (codes "data") ∷ secret style bytes ∷ [])
+Shows style (Authentication (AuthenticationSasl bytes)) old new = ShowsMarked TextSpelled TextRefused text_part style.limit bytes (followed style.limit old (Word (codes "mechanisms") ∷ [])) new
+Shows style (Authentication (AuthenticationSaslContinue bytes)) old new = new ≡ followed style.limit old (Word (codes "data") ∷ secret style bytes ∷ [])
+Shows style (Authentication (AuthenticationSaslFinal bytes)) old new = new ≡ followed style.limit old (Word (codes "data") ∷ secret style bytes ∷ [])
+Shows style (NotificationResponse n) old new = ShowsTexts style.limit (IsUtf8 n.channel × IsUtf8 n.message)
+    (Word (codes "process") ∷ Number n.process_id ∷ Word (codes "channel") ∷ Text n.channel ∷ Word (codes "payload") ∷ Text n.message ∷ [])
+    (payload_of (NotificationResponse n)) old new
+Shows style (CommandComplete tag) old new = ShowsTexts style.limit (IsUtf8 tag) (Word (codes "tag") ∷ Text tag ∷ []) (payload_of (CommandComplete tag)) old new
+Shows style (DataRow row) old new = ShowsCounted RangeSpelled RangeRefused (value_part row.storage) style.limit row.count row.storage (followed style.limit old (Word (codes "values") ∷ [])) new
+Shows style (ErrorResponse bytes) old new = ShowsMarked ErrorFieldSpelled ErrorFieldRefused field_parts style.limit bytes old new
+Shows style (CopyInResponse copy) old new = ShowsFormats style.limit copy old new
+Shows style (CopyOutResponse copy) old new = ShowsFormats style.limit copy old new
+Shows style (BackendKeyData key) old new = new ≡ followed style.limit old (Word (codes "process") ∷ Number key.process_id ∷ Word (codes "key") ∷ secret style key.secret_key ∷ [])
+Shows style (NegotiateProtocolVersion n) old new = ShowsCounted TextSpelled TextRefused text_part style.limit n.count n.options
+    (followed style.limit old (Word (codes "version") ∷ Number n.version ∷ Word (codes "options") ∷ [])) new
+Shows style (NoticeResponse bytes) old new = ShowsMarked ErrorFieldSpelled ErrorFieldRefused field_parts style.limit bytes old new
+Shows style (ParameterStatus setting) old new = ShowsTexts style.limit (IsUtf8 setting.name × IsUtf8 setting.value)
+    (Word (codes "name") ∷ Text setting.name ∷ Word (codes "value") ∷ Text setting.value ∷ [])
+    (payload_of (ParameterStatus setting)) old new
+Shows style (RowDescription row) old new = ShowsCounted FieldSpelled FieldRefused column_parts style.limit row.count row.storage (followed style.limit old (Word (codes "columns") ∷ [])) new
+Shows style (ReadyForQuery status) old new = new ≡ followed style.limit old (Word (name_or (state_of status) status) ∷ [])
+Shows style (CopyData bytes) old new = new ≡ followed style.limit old (Word (codes "data") ∷ Value (Some bytes) ∷ [])
+Shows style (ParameterDescription row) old new = ShowsCounted TypeSpelled TypeRefused type_part style.limit row.count row.storage (followed style.limit old (Word (codes "types") ∷ [])) new
+Shows style m old new = new ≡ old

@@ -1,0 +1,90 @@
+-- Private: a frame and its line, one at a time, and what a piece of a stream adds to its listing.
+use Rattle.std.specs.Prelude.{◌≡◌, ◌≤◌, ℕ, ◌+◌, Bool, true, false, List, ◌++◌, length, Option, Result}
+use Rattle.std.specs.Io.KnownBytes.{Appends}
+use Rattle.pgp_base.specs.declared.error.Error.{Error}
+use Rattle.pgp_message.specs.BackendMessage.{Message, Body}
+use Rattle.pgp_message.specs.Stream.{Frame, frame_bytes, IsFrame}
+use Rattle.pgp_trace.specs.declared.frame.Next.{Next}
+use Rattle.pgp_trace.specs.declared.frame.Next.TheVariants.{Line, Waits, Stops}
+use Rattle.pgp_trace.specs.declared.side.Side as code
+use Rattle.pgp_trace.specs.declared.side.Side.TheVariants as variants
+use Rattle.pgp_trace.specs.declared.style.Style.{Style}
+use Rattle.pgp_trace.specs.Listing.{LineOf, Lines, place_behind}
+use Rattle.pgp_trace.specs.Sides.{Side, Server, Client, Ends}
+use Rattle.pgp_program.specs.Taken.{AppendsFront}
+use Rattle.pgp_program.specs.Words.{greatest}
+
+-- the code's sides
+abbrev pub side_of : code.Side → Side
+side_of variants.Server = Server
+side_of (variants.Client opened kinds) = Client opened kinds.now
+
+-- the bytes are one frame, with this result
+pub record IsFrameOf (bytes : List ℕ) (r : Result Message Error) : Type 0 where
+  pub first : Frame
+  pub whole : bytes ≡ frame_bytes first
+  pub fits : IsFrame first
+  pub body : Body first.tag first.payload r
+
+-- the bytes begin with a frame, which has this line, and then come the new ones
+pub record HasLine (style : Style) (place : ℕ) (from : Side) (old new line : List ℕ) (to : Side) : Type 0 where
+  pub frame : List ℕ
+  pub whole : old ≡ frame ++ new
+  pub told : LineOf style place from frame line to
+
+-- nothing was taken, and nothing stands first that could be
+pub record IsAtRest (from : Side) (stopped : Bool) (old new : List ℕ) (to : Side) : Type 0 where
+  pub same : new ≡ old
+  pub ending : Ends from stopped old
+  pub side : to ≡ from
+
+-- a frame was passed and has its line; or none is whole, and more is awaited, or the stream ends where nothing tells the next frame
+abbrev pub ListsNext : Style → ℕ → Side → List ℕ → List ℕ → List ℕ → Side → Next → Type 0
+ListsNext style place from old new line to Line = HasLine style place from old new line to
+ListsNext style place from old new line to Waits = IsAtRest from false old new to
+ListsNext style place from old new line to Stops = IsAtRest from true old new to
+
+-- The frames of the front have these lines behind the old ones, from the place on, and no whole one is left.
+pub record ListsAll (style : Style) (start : ℕ) (from : Side) (bytes front rest : List ℕ) (stopped : Bool) (to : Side) (old new : List ℕ) : Type 0 where
+  pub lines : List ℕ
+  pub whole : bytes ≡ front ++ rest
+  pub listed : Lines style start from front lines to
+  pub ending : Ends to stopped rest
+  pub text : new ≡ old ++ lines
+
+-- Some of them were listed, or of the last line a front alone.
+pub record ListsSome (style : Style) (start : ℕ) (from : Side) (bytes : List ℕ) (old new : Option (List ℕ)) : Type 0 where
+  pub to : Side
+  pub front : List ℕ
+  pub rest : List ℕ
+  pub lines : List ℕ
+  pub whole : bytes ≡ front ++ rest
+  pub listed : Lines style start from front lines to
+  pub written : AppendsFront old new lines
+
+-- What is kept of a stream: its side, bytes that aren't listed, the place at which they stand, whether nothing tells where a frame begins in them, and
+-- how many they are, as far as a number of the machine tells it.
+pub record Held : Type 0 where
+  pub side : Side
+  pub bytes : List ℕ
+  pub place : ℕ
+  pub stopped : Bool
+  pub left : ℕ
+
+-- It is kept of a stream of which this isn't listed. Of one that is stopped the bytes are counted alone.
+pub record Holds (held : Held) (rest : List ℕ) : Type 0 where
+  pub ending : Ends held.side held.stopped rest
+  pub count : held.left ≡ place_behind (length rest)
+  pub small : held.place ≤ greatest
+  pub bytes : held.stopped ≡ false → held.bytes ≡ rest
+
+-- These bytes stood at the place. All frames at their front were listed, and this is kept of what is left.
+pub record ListsPiece (style : Style) (start : ℕ) (from : Side) (bytes : List ℕ) (after : Held) (old new : Option (List ℕ)) : Type 0 where
+  pub front : List ℕ
+  pub rest : List ℕ
+  pub lines : List ℕ
+  pub whole : bytes ≡ front ++ rest
+  pub listed : Lines style start from front lines after.side
+  pub holds : Holds after rest
+  pub moved : after.place ≡ place_behind (start + length front)
+  pub written : Appends old new lines

@@ -1,0 +1,165 @@
+//! The line of a client's frame.
+
+ghost use Rattle.std.specs.Prelude.{◌≡◌, ◌≤◌, ◌<◌, ◌∷◌, ◌++◌, [], length, true, IfOk, OnErr, OnOk, Ok, Err, string_bytes};
+ghost use Rattle.pgp_server.specs.AnyViews.{any_view};
+ghost use Rattle.pgp_server.specs.Views.{kind_view};
+ghost use Rattle.pgp_trace.specs.Client.{client_line, refusal_parts};
+ghost use Rattle.pgp_trace.specs.Line.{followed};
+ghost use Rattle.pgp_trace.specs.Listing.{client_front, client_tag};
+ghost use Rattle.pgp_trace.specs.Sides.{Client, expected, is_told, is_password, kinds_behind};
+ghost use Rattle.pgp_trace.specs.Steps.{ListsNext};
+
+use crate::client_body::put_client_message;
+use crate::client_names::{client_name, says_nothing};
+use crate::frame::{Next, begin_line, front_of};
+use crate::line::{put_called, put_signed, put_word};
+use crate::lists::put_fault;
+use crate::style::Style;
+use pgp_base::Memory;
+use pgp_server::{AnyMessage, ClientError, ClientMessages, PasswordKind};
+use std::alloc::AllocError;
+
+/// Makes the line of a client's frame at the front of the bytes, which stands at this place. Answers whether a startup packet came then, the kinds
+/// that are left, and what stands behind the frame.
+///
+/// # Errors
+///
+/// `AllocError` where there is no memory for the line.
+pub fn client_line<'a, 'b, A: Memory>(
+    style: Style,
+    place: u64,
+    opened: bool,
+    kinds: &'a [PasswordKind],
+    bytes: &'b [u8],
+    line: &mut String<A>,
+) -> Result<(Next, bool, &'a [PasswordKind], &'b [u8]), AllocError>
+    ensures listed { IfOk result (λ x. ListsNext style place (Client opened kinds.now) bytes.now x.3.now (string_bytes line.new) (Client x.1 x.2.now) x.0) }
+    ensures lacks { OnErr result A.Lacks }
+{
+    let mut messages = ClientMessages::resume(bytes, opened);
+    match messages.next_any(expected(kinds)) {
+        Ok(Some(message)) => {
+            let behind = messages.rest();
+            let frame = front_of(bytes, behind);
+            message_line(style, place, opened, is_told(kinds), frame, message, line)?;
+            let left = kinds_behind(opened, frame, kinds);
+            Ok((Next::Line, messages.is_open(), left, behind))
+        }
+        Ok(None) => Ok((Next::Waits, opened, kinds, bytes)),
+        Err(refusal) => {
+            let behind = messages.rest();
+            if behind.len() == bytes.len() {
+                return Ok((Next::Stops, opened, kinds, bytes));
+            }
+            let frame = front_of(bytes, behind);
+            refusal_line(place, opened, frame, &refusal, line)?;
+            let left = kinds_behind(opened, frame, kinds);
+            Ok((Next::Line, messages.is_open(), left, behind))
+        }
+    }
+}
+
+/// The kind that the next message of tag `p` is read as.
+fn expected(kinds: &[PasswordKind]) -> PasswordKind
+    ensures { kind_view result ≡ expected kinds.now }
+{
+    match kinds {
+        [] => PasswordKind::Response,
+        [first, ..] => *first,
+    }
+}
+
+/// Whether its kind is known.
+fn is_told(kinds: &[PasswordKind]) -> bool
+    ensures { result ≡ is_told kinds.now }
+{
+    match kinds {
+        [] => false,
+        [_, ..] => true,
+    }
+}
+
+/// The kinds that are known behind a frame.
+fn kinds_behind<'a>(opened: bool, frame: &[u8], kinds: &'a [PasswordKind]) -> &'a [PasswordKind]
+    ensures { result.now ≡ kinds_behind opened frame.now kinds.now }
+{
+    if !is_password(opened, frame) {
+        return kinds;
+    }
+    match kinds {
+        [] => kinds,
+        [_, rest @ ..] => rest,
+    }
+}
+
+/// Whether the frame is one of tag `p`.
+fn is_password(opened: bool, frame: &[u8]) -> bool
+    ensures { result ≡ is_password opened frame.now }
+{
+    match frame {
+        [] => false,
+        [tag, ..] => opened && *tag == b'p',
+    }
+}
+
+/// Makes the line of a message, whose frame these bytes are.
+fn message_line<A: Memory>(
+    style: Style,
+    place: u64,
+    opened: bool,
+    told: bool,
+    frame: &[u8],
+    message: AnyMessage<'_>,
+    line: &mut String<A>,
+) -> Result<(), AllocError>
+    ensures line { OnOk result (string_bytes line.new ≡ client_line style told (Ok (any_view message.entry)) (client_front place opened frame.now) ++ 10 ∷ []) }
+    ensures lacks { OnErr result A.Lacks }
+{
+    begin_line(place, frame.len(), tag_of(opened, frame), line)?;
+    put_called(says_nothing(&message), client_name(told, &message), line)?;
+    put_client_message(style, told, message, line)?;
+    A::push_char(line, '\n')
+}
+
+/// Makes the line of a refused frame.
+fn refusal_line<A: Memory>(
+    place: u64,
+    opened: bool,
+    frame: &[u8],
+    refusal: &ClientError,
+    line: &mut String<A>,
+) -> Result<(), AllocError>
+    ensures line { OnOk result (string_bytes line.new ≡ followed 0 (client_front place opened frame.now) (refusal_parts refusal.now) ++ 10 ∷ []) }
+    ensures lacks { OnErr result A.Lacks }
+{
+    begin_line(place, frame.len(), tag_of(opened, frame), line)?;
+    put_refusal(refusal, line)?;
+    A::push_char(line, '\n')
+}
+
+/// The tag of a frame, or what stands for it of an opening packet.
+fn tag_of(opened: bool, frame: &[u8]) -> u8
+    ensures { result ≡ client_tag opened frame.now }
+{
+    if !opened {
+        return b'-';
+    }
+    match frame {
+        [] => 0,
+        [tag, ..] => *tag,
+    }
+}
+
+/// Adds why a frame is refused.
+fn put_refusal<A: Memory>(refusal: &ClientError, line: &mut String<A>) -> Result<(), AllocError>
+    ensures parts { OnOk result (string_bytes line.new ≡ followed 0 (string_bytes line.old) (refusal_parts refusal.now)) }
+    ensures lacks { OnErr result A.Lacks }
+{
+    match refusal {
+        ClientError::Reading(e) => put_fault(e, line),
+        ClientError::UnknownPacket(code) => {
+            put_word("packet", line)?;
+            put_signed(*code, line)
+        }
+    }
+}

@@ -1,0 +1,264 @@
+//! What the line of a client's message says behind its name.
+
+ghost use Rattle.std.specs.Prelude.{◌≡◌, ◌∷◌, [], pos, OnErr, OnOk, codes, string_bytes};
+ghost use Rattle.pgp_server.specs.AnyViews.{any_view, other_view};
+ghost use Rattle.pgp_server.specs.OtherMessage.{Other};
+ghost use Rattle.pgp_server.specs.Views.{view};
+ghost use Rattle.pgp_trace.specs.Client.{client_groups, client_value, counted, grouped, named_object, our_groups, response_parts, signed_part, startup_parts, version_number};
+ghost use Rattle.pgp_trace.specs.Line.{Word, Number, Text, followed};
+
+use crate::body::{put_copied, put_secret};
+use crate::client_lists::{put_formats, put_pairs, put_types, put_values};
+use crate::client_names::object_of;
+use crate::line::{put_hidden, put_null, put_number, put_signed, put_text, put_word};
+use crate::lists::put_named;
+use crate::style::Style;
+use pgp_base::Memory;
+use pgp_frontend::ProtocolVersion;
+use pgp_server::{AnyMessage, ClientMessage, Formats, OtherMessage, StartupParameters, Values};
+use std::alloc::AllocError;
+
+/// Adds what the message says. Where it isn't known which message of tag `p` it is, its length is told alone.
+pub fn put_client_message<A: Memory>(
+    style: Style,
+    told: bool,
+    message: AnyMessage<'_>,
+    line: &mut String<A>,
+) -> Result<(), AllocError>
+    ensures says { OnOk result (string_bytes line.new ≡ grouped style.limit (string_bytes line.old) (client_groups style told (any_view message.entry))) }
+    ensures lacks { OnErr result A.Lacks }
+{
+    match message {
+        AnyMessage::Ours(message) => put_ours(style, told, message, line),
+        AnyMessage::Other(message) => put_other(style, told, message, line),
+    }
+}
+
+fn put_ours<A: Memory>(
+    style: Style,
+    told: bool,
+    message: ClientMessage<'_>,
+    line: &mut String<A>,
+) -> Result<(), AllocError>
+    ensures says { OnOk result (string_bytes line.new ≡ grouped style.limit (string_bytes line.old) (our_groups style told (view message.entry))) }
+    ensures lacks { OnErr result A.Lacks }
+{
+    let limit = style.limit;
+    match message {
+        ClientMessage::Bind {
+            portal,
+            statement,
+            formats,
+            values,
+            result_formats,
+        } => {
+            put_texts(limit, "portal", portal, "statement", statement, line)?;
+            put_formats(limit, "formats", formats, line)?;
+            put_values(limit, "values", values, line)?;
+            put_formats(limit, "results", result_formats, line)
+        }
+        ClientMessage::CancelRequest {
+            process_id,
+            secret_key,
+        } => {
+            put_integer(limit, "process", process_id, line)?;
+            put_secret(style, "key", secret_key, line)
+        }
+        ClientMessage::Close { variant, name } => put_object(limit, variant, name, line),
+        ClientMessage::CopyData(bytes) => put_copied(limit, bytes, line),
+        ClientMessage::CopyFail(message) => put_one(limit, "message", message, line),
+        ClientMessage::Describe { variant, name } => put_object(limit, variant, name, line),
+        ClientMessage::Execute { portal, max_rows } => {
+            put_one(limit, "portal", portal, line)?;
+            put_integer(limit, "rows", max_rows, line)
+        }
+        ClientMessage::Parse {
+            name,
+            query,
+            param_types,
+        } => {
+            put_texts(limit, "statement", name, "query", query, line)?;
+            put_types(limit, "types", param_types, line)
+        }
+        ClientMessage::PasswordMessage(password) => put_secret(style, "password", password, line),
+        ClientMessage::Query(query) => put_one(limit, "query", query, line),
+        ClientMessage::SaslInitialResponse {
+            mechanism,
+            response,
+        } => {
+            put_one(limit, "mechanism", mechanism, line)?;
+            put_secret(style, "data", response, line)
+        }
+        ClientMessage::SaslResponse(response) => put_response(style, told, response, line),
+        ClientMessage::Startup {
+            version,
+            parameters,
+        } => { put_startup(limit, number_of(version), parameters, line) }
+        ClientMessage::CopyDone
+        | ClientMessage::Flush
+        | ClientMessage::SslRequest
+        | ClientMessage::Sync
+        | ClientMessage::Terminate => Ok(()),
+    }
+}
+
+fn put_other<A: Memory>(
+    style: Style,
+    told: bool,
+    message: OtherMessage<'_>,
+    line: &mut String<A>,
+) -> Result<(), AllocError>
+    ensures says { OnOk result (string_bytes line.new ≡ grouped style.limit (string_bytes line.old) (client_groups style told (Other (other_view message.entry)))) }
+    ensures lacks { OnErr result A.Lacks }
+{
+    let limit = style.limit;
+    match message {
+        OtherMessage::FunctionCall {
+            function,
+            formats,
+            arguments,
+            result_format,
+        } => {
+            put_unsigned(limit, "function", function, line)?;
+            put_arguments(limit, formats, arguments, line)?;
+            put_integer(limit, "result", result_format as i32, line)
+        }
+        OtherMessage::SaslInitialWithoutResponse { mechanism } => {
+            put_one(limit, "mechanism", mechanism, line)?;
+            put_word("data", line)?;
+            put_null(line)
+        }
+        OtherMessage::GssEncRequest => Ok(()),
+        OtherMessage::StartupOther { minor, parameters } => {
+            put_startup(limit, 0x30000 + minor as u32, parameters, line)
+        }
+    }
+}
+
+/// Adds a call's arguments and their formats.
+fn put_arguments<A: Memory>(
+    limit: usize,
+    formats: Formats<'_>,
+    arguments: Values<'_>,
+    line: &mut String<A>,
+) -> Result<(), AllocError>
+    ensures parts { OnOk result (string_bytes line.new ≡ followed limit (followed limit (string_bytes line.old) (counted (codes "formats") signed_part formats.entry)) (counted (codes "values") client_value arguments.entry)) }
+    ensures lacks { OnErr result A.Lacks }
+{
+    put_formats(limit, "formats", formats, line)?;
+    put_values(limit, "values", arguments, line)
+}
+
+/// Adds a text with its name.
+fn put_one<A: Memory>(
+    limit: usize,
+    name: &str,
+    text: &[u8],
+    line: &mut String<A>,
+) -> Result<(), AllocError>
+    ensures parts { OnOk result (string_bytes line.new ≡ followed limit (string_bytes line.old) (Word name.now ∷ Text text.now ∷ [])) }
+    ensures lacks { OnErr result A.Lacks }
+{
+    put_word(name, line)?;
+    put_text(limit, text, line)
+}
+
+/// Adds a number with its name.
+fn put_unsigned<A: Memory>(
+    limit: usize,
+    name: &str,
+    n: u32,
+    line: &mut String<A>,
+) -> Result<(), AllocError>
+    ensures parts { OnOk result (string_bytes line.new ≡ followed limit (string_bytes line.old) (Word name.now ∷ Number (pos n) ∷ [])) }
+    ensures lacks { OnErr result A.Lacks }
+{
+    put_word(name, line)?;
+    put_number(n as u64, line)
+}
+
+/// Adds a number that may have a sign, with its name.
+fn put_integer<A: Memory>(
+    limit: usize,
+    name: &str,
+    n: i32,
+    line: &mut String<A>,
+) -> Result<(), AllocError>
+    ensures parts { OnOk result (string_bytes line.new ≡ followed limit (string_bytes line.old) (Word name.now ∷ Number n ∷ [])) }
+    ensures lacks { OnErr result A.Lacks }
+{
+    put_word(name, line)?;
+    put_signed(n, line)
+}
+
+/// Adds two texts with their names.
+fn put_texts<A: Memory>(
+    limit: usize,
+    name: &str,
+    text: &[u8],
+    second: &str,
+    other: &[u8],
+    line: &mut String<A>,
+) -> Result<(), AllocError>
+    ensures parts { OnOk result (string_bytes line.new ≡ followed limit (string_bytes line.old) (Word name.now ∷ Text text.now ∷ Word second.now ∷ Text other.now ∷ [])) }
+    ensures lacks { OnErr result A.Lacks }
+{
+    put_one(limit, name, text, line)?;
+    put_one(limit, second, other, line)
+}
+
+/// Adds the name of a statement or of a portal, and which of them it is of.
+fn put_object<A: Memory>(
+    limit: usize,
+    variant: u8,
+    name: &[u8],
+    line: &mut String<A>,
+) -> Result<(), AllocError>
+    ensures parts { OnOk result (string_bytes line.new ≡ followed limit (string_bytes line.old) (named_object variant name.now)) }
+    ensures lacks { OnErr result A.Lacks }
+{
+    put_named(object_of(variant), variant, line)?;
+    put_text(limit, name, line)
+}
+
+/// Adds the bytes of an exchange, or how long they are; alone where it isn't known that they are of one.
+fn put_response<A: Memory>(
+    style: Style,
+    told: bool,
+    response: &[u8],
+    line: &mut String<A>,
+) -> Result<(), AllocError>
+    ensures parts { OnOk result (string_bytes line.new ≡ followed style.limit (string_bytes line.old) (response_parts style told response.now)) }
+    ensures lacks { OnErr result A.Lacks }
+{
+    if told {
+        put_secret(style, "data", response, line)
+    } else {
+        put_hidden(response.len(), line)
+    }
+}
+
+/// The number of a version.
+fn number_of(version: ProtocolVersion) -> u32
+    ensures { result ≡ version_number version }
+{
+    match version {
+        ProtocolVersion::V3_0 => 196608,
+        ProtocolVersion::V3_2 => 196610,
+    }
+}
+
+/// Adds the version that a client asks for, and its parameters.
+fn put_startup<A: Memory>(
+    limit: usize,
+    version: u32,
+    parameters: StartupParameters<'_>,
+    line: &mut String<A>,
+) -> Result<(), AllocError>
+    ensures parts { OnOk result (string_bytes line.new ≡ followed limit (string_bytes line.old) (startup_parts version parameters.entry)) }
+    ensures lacks { OnErr result A.Lacks }
+{
+    put_unsigned(limit, "version", version, line)?;
+    put_word("parameters", line)?;
+    put_pairs(limit, parameters, line)
+}

@@ -1,0 +1,127 @@
+//! The names that a line has for a client's messages.
+
+ghost use Rattle.std.specs.Prelude.{◌≡◌, ℕ, List};
+ghost use Rattle.pgp_frontend.specs.ClientMessage.{SaslResponse};
+ghost use Rattle.std.specs.Option.{option_map};
+ghost use Rattle.pgp_server.specs.AnyViews.{any_view, other_view};
+ghost use Rattle.pgp_server.specs.OtherMessage.{Other, Ours};
+ghost use Rattle.pgp_server.specs.Views.{view};
+ghost use Rattle.pgp_trace.specs.Client.{client_name, client_says_nothing, object_of, our_name};
+
+use pgp_server::{AnyMessage, ClientMessage, OtherMessage};
+
+/// The name of a message, where it is known which message of tag `p` it is or not.
+pub fn client_name(told: bool, message: &AnyMessage<'_>) -> &'static str
+    ensures { result.now ≡ client_name told (any_view message.now) }
+{
+    match message {
+        AnyMessage::Ours(message) => our_name(told, message),
+        AnyMessage::Other(message) => other_name(told, message),
+    }
+}
+
+/// The name of a message of ours.
+fn our_name(told: bool, message: &ClientMessage<'_>) -> &'static str
+    ensures { result.now ≡ our_name told (view message.now) }
+{
+    match message {
+        ClientMessage::Bind { .. } => "Bind",
+        ClientMessage::CancelRequest { .. } => "CancelRequest",
+        ClientMessage::Close { .. } => "Close",
+        ClientMessage::CopyData(_) => "CopyData",
+        ClientMessage::CopyDone => "CopyDone",
+        ClientMessage::CopyFail(_) => "CopyFail",
+        ClientMessage::Describe { .. } => "Describe",
+        ClientMessage::Execute { .. } => "Execute",
+        ClientMessage::Flush => "Flush",
+        ClientMessage::Parse { .. } => "Parse",
+        ClientMessage::PasswordMessage(_) => "PasswordMessage",
+        ClientMessage::Query(_) => "Query",
+        ClientMessage::SaslInitialResponse { .. } => "SASLInitialResponse",
+        ClientMessage::SaslResponse(_) => response_name(told),
+        ClientMessage::SslRequest => "SSLRequest",
+        ClientMessage::Startup { .. } => "StartupMessage",
+        ClientMessage::Sync => "Sync",
+        ClientMessage::Terminate => "Terminate",
+    }
+}
+
+/// The name of a message of tag `p` that is all bytes.
+fn response_name(told: bool) -> &'static str
+    ensures { (response : List ℕ) → result.now ≡ our_name told (SaslResponse response) }
+{
+    if told {
+        "SASLResponse"
+    } else {
+        "Password, SASLInitialResponse or SASLResponse"
+    }
+}
+
+/// The name of one of the others.
+fn other_name(told: bool, message: &OtherMessage<'_>) -> &'static str
+    ensures { result.now ≡ client_name told (Other (other_view message.now)) }
+{
+    match message {
+        OtherMessage::FunctionCall { .. } => "FunctionCall",
+        OtherMessage::GssEncRequest => "GSSENCRequest",
+        OtherMessage::SaslInitialWithoutResponse { .. } => "SASLInitialResponse",
+        OtherMessage::StartupOther { .. } => "StartupMessage",
+    }
+}
+
+/// Whether no more is said of a message than its name.
+pub fn says_nothing(message: &AnyMessage<'_>) -> bool
+    ensures { result ≡ client_says_nothing (any_view message.now) }
+{
+    match message {
+        AnyMessage::Ours(message) => ours_says_nothing(message),
+        AnyMessage::Other(message) => other_says_nothing(message),
+    }
+}
+
+fn ours_says_nothing(message: &ClientMessage<'_>) -> bool
+    ensures { result ≡ client_says_nothing (Ours (view message.now)) }
+{
+    match message {
+        ClientMessage::Bind { .. } => false,
+        ClientMessage::CancelRequest { .. } => false,
+        ClientMessage::Close { .. } => false,
+        ClientMessage::CopyData(_) => false,
+        ClientMessage::CopyDone => true,
+        ClientMessage::CopyFail(_) => false,
+        ClientMessage::Describe { .. } => false,
+        ClientMessage::Execute { .. } => false,
+        ClientMessage::Flush => true,
+        ClientMessage::Parse { .. } => false,
+        ClientMessage::PasswordMessage(_) => false,
+        ClientMessage::Query(_) => false,
+        ClientMessage::SaslInitialResponse { .. } => false,
+        ClientMessage::SaslResponse(_) => false,
+        ClientMessage::SslRequest => true,
+        ClientMessage::Startup { .. } => false,
+        ClientMessage::Sync => true,
+        ClientMessage::Terminate => true,
+    }
+}
+
+fn other_says_nothing(message: &OtherMessage<'_>) -> bool
+    ensures { result ≡ client_says_nothing (Other (other_view message.now)) }
+{
+    match message {
+        OtherMessage::FunctionCall { .. } => false,
+        OtherMessage::GssEncRequest => true,
+        OtherMessage::SaslInitialWithoutResponse { .. } => false,
+        OtherMessage::StartupOther { .. } => false,
+    }
+}
+
+/// What a message is of, by its letter.
+pub fn object_of(variant: u8) -> Option<&'static str>
+    ensures { option_map (λ name. name.now) result ≡ object_of variant }
+{
+    match variant {
+        b'S' => Some("statement"),
+        b'P' => Some("portal"),
+        _ => None,
+    }
+}

@@ -1,0 +1,132 @@
+//! The line of a server's frame.
+
+ghost use Rattle.std.specs.Prelude.{◌≡◌, ◌≤◌, ◌<◌, ◌-◌, ◌∷◌, ◌++◌, [], length, take, slice_index, IfOk, OnErr, OnOk, Ok, string_bytes};
+ghost use Rattle.pgp_message.specs.Views.{view};
+ghost use Rattle.pgp_trace.specs.Line.{Right, Tag, followed, right};
+ghost use Rattle.pgp_trace.specs.Shown.{fault};
+ghost use Rattle.pgp_trace.specs.Listing.{IsServerLine};
+ghost use Rattle.pgp_trace.specs.Sides.{Server};
+ghost use Rattle.pgp_trace.specs.Steps.{IsFrameOf, ListsNext};
+
+use crate::body::put_message;
+use crate::line::{put_called, put_length, put_place, put_tag};
+use crate::lists::put_fault;
+use crate::names::{name_of, says_nothing};
+use crate::style::Style;
+use pgp_base::{Error, Memory};
+use pgp_message::{Message, Messages};
+use std::alloc::AllocError;
+
+/// What stood at the front of a stream.
+#[derive(Debug, Clone, Copy, PartialEq, Eq)]
+pub enum Next {
+    /// A frame, which was passed, and whose line was made.
+    Line,
+    /// A frame that isn't whole, or nothing.
+    Waits,
+    /// What no frame begins with, and nothing tells where the next one does.
+    Stops,
+}
+
+/// Makes the line of a server's frame at the front of the bytes, which stands at this place, and answers what stands behind the frame.
+///
+/// # Errors
+///
+/// `AllocError` where there is no memory for the line.
+pub fn server_line<'b, A: Memory>(
+    style: Style,
+    place: u64,
+    bytes: &'b [u8],
+    line: &mut String<A>,
+) -> Result<(Next, &'b [u8]), AllocError>
+    ensures listed { IfOk result (λ x. ListsNext style place Server bytes.now x.1.now (string_bytes line.new) Server x.0) }
+    ensures lacks { OnErr result A.Lacks }
+{
+    let mut messages = Messages::new(bytes);
+    match messages.next() {
+        Ok(Some(message)) => {
+            let behind = messages.rest();
+            let frame = front_of(bytes, behind);
+            let told = message_line(style, place, frame, &message, line);
+            drop(message);
+            told?;
+            Ok((Next::Line, behind))
+        }
+        Ok(None) => Ok((Next::Waits, bytes)),
+        Err(Error::InvalidLength) => Ok((Next::Stops, bytes)),
+        Err(refusal) => {
+            let behind = messages.rest();
+            let frame = front_of(bytes, behind);
+            fault_line(place, frame, &refusal, line)?;
+            Ok((Next::Line, behind))
+        }
+    }
+}
+
+/// What stands before the rest.
+pub fn front_of<'a>(bytes: &'a [u8], rest: &[u8]) -> &'a [u8]
+    requires { length rest.now ≤ length bytes.now }
+    ensures { result.now ≡ take (length bytes.now - length rest.now) bytes.now }
+{
+    &bytes[..bytes.len() - rest.len()]
+}
+
+/// Makes the line of a message, whose frame these bytes are.
+fn message_line<A: Memory>(
+    style: Style,
+    place: u64,
+    frame: &[u8],
+    message: &Message<&[u8]>,
+    line: &mut String<A>,
+) -> Result<(), AllocError>
+    requires { IsFrameOf frame.now (Ok (view message.now)) }
+    ensures line { OnOk result (IsServerLine style place frame.now (string_bytes line.new)) }
+    ensures lacks { OnErr result A.Lacks }
+{
+    begin(place, frame, line)?;
+    put_called(says_nothing(message), name_of(message), line)?;
+    let (_, body) = frame.split_at(5);
+    put_message(style, message, body, line)?;
+    A::push_char(line, '\n')
+}
+
+/// Makes the line of a refused frame.
+fn fault_line<A: Memory>(
+    place: u64,
+    frame: &[u8],
+    refusal: &Error,
+    line: &mut String<A>,
+) -> Result<(), AllocError>
+    requires { 0 < length frame.now }
+    ensures line { OnOk result (string_bytes line.new ≡ followed 0 (right 10 place) (Right 8 (length frame.now) ∷ Tag (slice_index frame.now 0) ∷ fault refusal.now) ++ 10 ∷ []) }
+    ensures lacks { OnErr result A.Lacks }
+{
+    begin(place, frame, line)?;
+    put_fault(refusal, line)?;
+    A::push_char(line, '\n')
+}
+
+/// Begins a line: with the place of the frame, its length, and its tag.
+fn begin<A: Memory>(place: u64, frame: &[u8], line: &mut String<A>) -> Result<(), AllocError>
+    requires { 0 < length frame.now }
+    ensures parts { OnOk result (string_bytes line.new ≡ followed 0 (right 10 place) (Right 8 (length frame.now) ∷ Tag (slice_index frame.now 0) ∷ [])) }
+    ensures lacks { OnErr result A.Lacks }
+{
+    begin_line(place, frame.len(), frame[0], line)
+}
+
+/// Begins a line: with the place of a frame, its length, and its tag.
+pub fn begin_line<A: Memory>(
+    place: u64,
+    len: usize,
+    tag: u8,
+    line: &mut String<A>,
+) -> Result<(), AllocError>
+    ensures parts { OnOk result (string_bytes line.new ≡ followed 0 (right 10 place) (Right 8 len ∷ Tag tag ∷ [])) }
+    ensures lacks { OnErr result A.Lacks }
+{
+    line.clear();
+    put_place(place, line)?;
+    put_length(len, line)?;
+    put_tag(tag, line)
+}

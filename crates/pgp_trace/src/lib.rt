@@ -1,0 +1,24 @@
+//! Shows a person what a PostgreSQL server or client sent, a line a message, as it comes: what the program `pgtrace` runs.
+#![tactic(auto)]
+
+pub mod body;
+pub mod characters;
+pub mod client;
+pub mod client_body;
+pub mod client_lists;
+pub mod client_names;
+pub mod fault;
+pub mod frame;
+pub mod laws;
+pub mod line;
+pub mod lists;
+pub mod names;
+pub mod next;
+pub mod options;
+pub mod ports;
+pub mod quote;
+pub mod run;
+pub mod side;
+pub mod stream;
+pub mod style;
+pub mod types;

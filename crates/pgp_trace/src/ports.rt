@@ -1,0 +1,40 @@
+//! What the program reads from.
+
+ghost use Rattle.std.specs.Prelude.{◌≢◌, ◌+◌, ℕ, IfErr};
+ghost use Rattle.std.specs.Io.{ReadsAtMost};
+ghost use Rattle.std.specs.Io.KnownBytes.{ReadConsumes};
+ghost use Rattle.std.specs.IoError.{error_kind};
+
+use std::io::{self, ErrorKind, Read};
+
+/// A reader, any of std's.
+pub trait Input: Read {
+    /// A call of such a reader failed, and not because it was interrupted.
+    ghost Fails: { Type 0 };
+
+    /// So many calls of it came one after another, the last of which left it so.
+    ghost Called: { Self → ℕ → Type 0 };
+
+    /// Reads what comes at once, as `read` does.
+    ///
+    /// # Errors
+    ///
+    /// That of the reader.
+    fn read_some(&mut self, piece: &mut [u8]) -> io::Result<usize>
+        ensures bound { ReadsAtMost result piece.new }
+        ensures bytes { ReadConsumes (Self.remaining self.old) (Self.remaining self.new) result piece.new }
+        ensures fails { IfErr result (λ e. error_kind e ≢ ErrorKind.Interrupted → Fails) }
+        ensures once { Self.Called self.new 1 }
+        ensures again { (n : ℕ) → Self.Called self.old n → Self.Called self.new (n + 1) };
+}
+
+/// Of its failures nothing is said: any call may fail.
+impl<R: Read> Input for R {
+    ghost Fails = { Unit {0} };
+
+    ghost Called = { λ _ _. Unit {0} };
+
+    fn read_some(&mut self, piece: &mut [u8]) -> io::Result<usize> {
+        self.read(piece)
+    }
+}

@@ -1,0 +1,275 @@
+//! The program's words.
+
+ghost use Rattle.std.specs.Prelude.{◌≡◌, ◌∷◌, codes, false, map, IfSome, IfNone, IfOk, IfErr, OnErr, OnOk};
+ghost use Rattle.std.specs.Io.KnownBytes.{Keeps};
+ghost use Rattle.pgp_program.specs.Interruptions.{GivesUp};
+ghost use Rattle.pgp_trace.specs.Command.{Asks, BreaksOff, Caused, Does, IsOther, IsSaid, Lists, Obeys, ObeysOwn, Runs, RunsOwn, Stops, usage, complaint_of, version};
+ghost use Rattle.pgp_trace.specs.Asked.{asked};
+ghost use Rattle.pgp_trace.specs.Sides as side;
+ghost use Rattle.pgp_program.specs.Words.{LacksWords};
+
+use crate::fault::complaint;
+use crate::options::{options_of, style};
+use crate::ports::Input;
+use crate::side::Side;
+use crate::stream::list;
+use crate::style::Style;
+use pgp_base::Memory;
+use pgp_program::fault::Fault;
+use pgp_program::ports::{Output, Words};
+use pgp_program::print::put;
+use pgp_program::words::{lent, texts};
+use pgp_server::PasswordKind;
+use std::alloc::AllocError;
+
+const USAGE: &str =
+    "usage: pgtrace server [--full] [--secrets] | client [--full] [--secrets] [--password-kind password|initial|response].. | --help | --version\n";
+
+const VERSION: &str = "pgtrace 0.1.0\n";
+
+/// How a run ended: the status, and what is to be said on standard error.
+#[derive(Debug, Clone, Copy, PartialEq, Eq)]
+pub struct Outcome {
+    pub status: u8,
+    pub complaint: &'static str,
+}
+
+impl Outcome {
+    /// The words ask for nothing that there is.
+    fn refused() -> Outcome
+        ensures status { result.status ≡ 2 }
+        ensures complaint { result.complaint.now ≡ usage }
+    {
+        Outcome {
+            status: 2,
+            complaint: USAGE,
+        }
+    }
+
+    /// What was asked for met a fault.
+    fn stopped(fault: Fault) -> Outcome
+        ensures status { result.status ≡ 1 }
+        ensures complaint { result.complaint.now ≡ complaint_of fault }
+    {
+        Outcome {
+            status: 1,
+            complaint: complaint(fault),
+        }
+    }
+}
+
+/// What the words ask for.
+#[derive(Drop)]
+enum Command<A: Memory> {
+    Server(Style),
+    /// A client's listing, and which its messages of tag `p` are.
+    Client(Style, Vec<PasswordKind, A>),
+    Help,
+    Version,
+}
+
+fn command_of<A: Memory>(alloc: A, words: &[&str]) -> Result<Option<Command<A>>, AllocError>
+    ensures known { IfOk result (λ r. IfSome r (λ command. Asks (map (λ word. word.now) words.now) (asked command))) }
+    ensures other { IfOk result (λ r. IfNone r (IsOther (map (λ word. word.now) words.now))) }
+    ensures lacks { OnErr result A.Lacks }
+{
+    match words {
+        ["--help"] => return Ok(Some(Command::Help)),
+        ["--version"] => return Ok(Some(Command::Version)),
+        _ => {}
+    }
+    let Some((first, options)) = words.split_first() else {
+        return Ok(None);
+    };
+    match *first {
+        "server" => server_of(alloc, options),
+        "client" => client_of(alloc, options),
+        _ => Ok(None),
+    }
+}
+
+/// What the words behind `server` ask for.
+fn server_of<A: Memory>(alloc: A, words: &[&str]) -> Result<Option<Command<A>>, AllocError>
+    ensures known { IfOk result (λ r. IfSome r (λ command. Asks (codes "server" ∷ map (λ word. word.now) words.now) (asked command))) }
+    ensures other { IfOk result (λ r. IfNone r (IsOther (codes "server" ∷ map (λ word. word.now) words.now))) }
+    ensures lacks { OnErr result A.Lacks }
+{
+    let Some(options) = options_of(alloc, words)? else {
+        return Ok(None);
+    };
+    if !options.kinds.is_empty() {
+        return Ok(None);
+    }
+    Ok(Some(Command::Server(style(options.full, options.secrets))))
+}
+
+/// What the words behind `client` ask for.
+fn client_of<A: Memory>(alloc: A, words: &[&str]) -> Result<Option<Command<A>>, AllocError>
+    ensures known { IfOk result (λ r. IfSome r (λ command. Asks (codes "client" ∷ map (λ word. word.now) words.now) (asked command))) }
+    ensures other { IfOk result (λ r. IfNone r (IsOther (codes "client" ∷ map (λ word. word.now) words.now))) }
+    ensures lacks { OnErr result A.Lacks }
+{
+    let Some(options) = options_of(alloc, words)? else {
+        return Ok(None);
+    };
+    let style = style(options.full, options.secrets);
+    Ok(Some(Command::Client(style, options.kinds)))
+}
+
+/// Lists what a client sent, whose first messages of tag `p` are of these kinds.
+fn list_client<A: Memory, R: Input, W: Output>(
+    alloc: A,
+    style: Style,
+    kinds: &[PasswordKind],
+    input: &mut R,
+    output: &mut W,
+) -> Result<(), Fault>
+    ensures done { OnOk result (Lists style (side.Client false kinds.now)
+        (record { input = R.remaining input.old; output = W.contents output.old })
+        (record { input = R.remaining input.new; output = W.contents output.new })) }
+    ensures stops { IfErr result (λ fault. BreaksOff style (side.Client false kinds.now) fault
+        (record { input = R.remaining input.old; output = W.contents output.old })
+        (record { input = R.remaining input.new; output = W.contents output.new })) }
+    ensures cause { IfErr result (Caused A.Lacks (GivesUp R.Fails R.Called) (GivesUp W.Fails W.Interrupted)) }
+{
+    let side = Side::Client {
+        opened: false,
+        kinds,
+    };
+    list(alloc, style, side, input, output)
+}
+
+/// Does what the command asks for.
+fn perform<A: Memory, R: Input, W: Output>(
+    alloc: A,
+    command: Command<A>,
+    input: &mut R,
+    output: &mut W,
+) -> Result<(), Fault>
+    ensures done { OnOk result (Does (asked command)
+        (record { input = R.remaining input.old; output = W.contents output.old })
+        (record { input = R.remaining input.new; output = W.contents output.new })) }
+    ensures stops { IfErr result (λ fault. Stops (asked command) fault
+        (record { input = R.remaining input.old; output = W.contents output.old })
+        (record { input = R.remaining input.new; output = W.contents output.new })) }
+    ensures cause { IfErr result (Caused A.Lacks (GivesUp R.Fails R.Called) (GivesUp W.Fails W.Interrupted)) }
+{
+    match command {
+        Command::Server(style) => list(alloc, style, Side::Server, input, output),
+        Command::Client(style, kinds) => {
+            list_client(alloc, style, kinds.as_slice(), input, output)
+        }
+        Command::Help => put(USAGE.as_bytes(), output),
+        Command::Version => put(VERSION.as_bytes(), output),
+    }
+}
+
+/// Does what the words ask for.
+pub fn obey<A: Memory, R: Input, W: Output>(
+    alloc: A,
+    words: &[&str],
+    input: &mut R,
+    output: &mut W,
+) -> Outcome
+    ensures { Obeys A.Lacks (GivesUp R.Fails R.Called) (GivesUp W.Fails W.Interrupted) (map (λ word. word.now) words.now)
+        (record { input = R.remaining input.old; output = W.contents output.old })
+        (record { input = R.remaining input.new; output = W.contents output.new })
+        result.status result.complaint.now }
+{
+    let command = match command_of(alloc, words) {
+        Ok(Some(command)) => command,
+        Ok(None) => return Outcome::refused(),
+        Err(_) => return Outcome::stopped(Fault::Memory),
+    };
+    match perform(alloc, command, input, output) {
+        Ok(()) => Outcome {
+            status: 0,
+            complaint: "",
+        },
+        Err(fault) => Outcome::stopped(fault),
+    }
+}
+
+/// Says on `errors` what is to be said there, or as much of it as it takes where it fails, and answers the status.
+fn tell<E: Output>(outcome: Outcome, errors: &mut E) -> u8
+    ensures status { result ≡ outcome.status }
+    ensures told { IsSaid (GivesUp E.Fails E.Interrupted) (E.contents errors.old) (E.contents errors.new) outcome.complaint.now }
+{
+    let _ = put(outcome.complaint.as_bytes(), errors);
+    outcome.status
+}
+
+/// Does what the words ask for, says on `errors` what is to be said there, and answers the status.
+///
+/// Where `errors` fails, a front of that is said.
+pub fn run<A: Memory, R: Input, W: Output, E: Output>(
+    alloc: A,
+    words: &[&str],
+    input: &mut R,
+    output: &mut W,
+    errors: &mut E,
+) -> u8
+    ensures { Runs A.Lacks (GivesUp R.Fails R.Called) (GivesUp W.Fails W.Interrupted) (GivesUp E.Fails E.Interrupted) (map (λ word. word.now) words.now)
+        (record { input = R.remaining input.old; output = W.contents output.old })
+        (record { input = R.remaining input.new; output = W.contents output.new })
+        (E.contents errors.old) (E.contents errors.new) result }
+{
+    tell(obey(alloc, words, input, output), errors)
+}
+
+/// Does what the program's own words ask for, where there is memory for them. A word that isn't UTF-8
+/// asks for nothing that there is.
+fn try_own<A: Memory, V: Words, R: Input, W: Output>(
+    alloc: A,
+    env: &V,
+    input: &mut R,
+    output: &mut W,
+) -> Result<Outcome, Fault>
+    ensures obeyed { IfOk result (λ outcome. ObeysOwn A.Lacks (GivesUp R.Fails R.Called) (GivesUp W.Fails W.Interrupted) (V.Stands env.now) (V.Ends env.now) (V.Longer env.now)
+        (record { input = R.remaining input.old; output = W.contents output.old })
+        (record { input = R.remaining input.new; output = W.contents output.new })
+        outcome.status outcome.complaint.now) }
+    ensures fault { IfErr result (λ fault. (fault ≡ Fault.Memory) × LacksWords A.Lacks (V.Stands env.now) (V.Longer env.now)) }
+    ensures input { IfErr result (λ _. Keeps (R.remaining input.old) (R.remaining input.new)) }
+    ensures output { IfErr result (λ _. Keeps (W.contents output.old) (W.contents output.new)) }
+{
+    let Some(texts) = texts(alloc, env)? else {
+        return Ok(Outcome::refused());
+    };
+    let words = lent(alloc, texts.as_slice())?;
+    Ok(obey(alloc, words.as_slice(), input, output))
+}
+
+/// Does what the program's own words ask for.
+fn obey_own<A: Memory, V: Words, R: Input, W: Output>(
+    alloc: A,
+    env: &V,
+    input: &mut R,
+    output: &mut W,
+) -> Outcome
+    ensures { ObeysOwn A.Lacks (GivesUp R.Fails R.Called) (GivesUp W.Fails W.Interrupted) (V.Stands env.now) (V.Ends env.now) (V.Longer env.now)
+        (record { input = R.remaining input.old; output = W.contents output.old })
+        (record { input = R.remaining input.new; output = W.contents output.new })
+        result.status result.complaint.now }
+{
+    match try_own(alloc, env, input, output) {
+        Ok(outcome) => outcome,
+        Err(fault) => Outcome::stopped(fault),
+    }
+}
+
+/// Runs on the words of the process, behind its name.
+pub fn run_own<A: Memory, V: Words, R: Input, W: Output, E: Output>(
+    alloc: A,
+    env: &V,
+    input: &mut R,
+    output: &mut W,
+    errors: &mut E,
+) -> u8
+    ensures { RunsOwn A.Lacks (GivesUp R.Fails R.Called) (GivesUp W.Fails W.Interrupted) (V.Stands env.now) (V.Ends env.now) (V.Longer env.now) (GivesUp E.Fails E.Interrupted)
+        (record { input = R.remaining input.old; output = W.contents output.old })
+        (record { input = R.remaining input.new; output = W.contents output.new })
+        (E.contents errors.old) (E.contents errors.new) result }
+{
+    tell(obey_own(alloc, env, input, output), errors)
+}

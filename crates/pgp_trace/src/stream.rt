@@ -1,0 +1,247 @@
+//! The listing of a stream, as it comes.
+
+ghost use Rattle.std.specs.Prelude.{◌≡◌, ◌⊎◌, ◌≤◌, ◌<◌, ◌++◌, ℕ, List, drop, length, take, IfErr, IfOk, IfSome, OnErr, OnOk, string_bytes};
+ghost use Rattle.std.specs.Io.KnownBytes.{Appends, IsAtEnd, Keeps};
+ghost use Rattle.pgp_trace.specs.Command.{Caused};
+ghost use Rattle.pgp_program.specs.Interruptions.{GivesUp};
+ghost use Rattle.pgp_trace.specs.Listing.{IsCutShort, WasListed, WritesListing, last_line};
+ghost use Rattle.pgp_trace.specs.Steps.{Holds, ListsAll, ListsPiece, ListsSome, side_of};
+ghost use Rattle.pgp_program.specs.Taken.{AppendsFront};
+
+use crate::frame::Next;
+use crate::next::next_line;
+use crate::ports::Input;
+use crate::side::Side;
+use crate::style::Style;
+use bytes::{Buf, BytesMut};
+use pgp_base::Memory;
+use pgp_program::fault::Fault;
+use pgp_program::ports::Output;
+use pgp_program::print::{flush, put};
+use std::alloc::AllocError;
+use std::io::ErrorKind;
+
+/// How many bytes are read at a time.
+const PIECE: usize = 65536;
+
+/// What is kept of a stream.
+#[derive(Drop)]
+struct Held<'a, A: Memory> {
+    side: Side<'a>,
+    /// The bytes that aren't listed yet.
+    bytes: BytesMut<A>,
+    /// Where they stand.
+    place: u64,
+    /// Whether nothing tells where a frame begins in them. What comes behind them is counted alone.
+    stopped: bool,
+    /// How many bytes aren't listed.
+    left: u64,
+    /// Memory for a line.
+    line: String<A>,
+    /// Memory for the lines of a piece.
+    lines: String<A>,
+}
+
+/// Lists the bytes that this side sent, as they come: the lines of all frames that are whole are written and passed on before
+/// more is read. Of long texts and values a front is shown.
+///
+/// # Errors
+///
+/// `Memory` where memory is refused, `Read` where reading fails, and `Write` where writing or a flush fails.
+pub fn list<A: Memory, R: Input, W: Output>(
+    alloc: A,
+    style: Style,
+    side: Side<'_>,
+    input: &mut R,
+    output: &mut W,
+) -> Result<(), Fault>
+    ensures read { OnOk result (IsAtEnd (R.remaining input.new)) }
+    ensures listed { OnOk result (IfSome (R.remaining input.old) (λ bytes. WritesListing style (side_of side.entry) bytes (W.contents output.old) (W.contents output.new))) }
+    ensures live { IfErr result (λ fault. fault ≡ Fault.Read → WasListed style (side_of side.entry)
+        (record { input = R.remaining input.old; output = W.contents output.old })
+        (record { input = R.remaining input.new; output = W.contents output.new })) }
+    ensures passed { IfErr result (λ fault. fault ≡ Fault.Read → Keeps (W.contents output.old) (W.contents output.new) ⊎ W.Passed output.new) }
+    ensures cut { OnErr result (IsCutShort style (side_of side.entry)
+        (record { input = R.remaining input.old; output = W.contents output.old })
+        (record { input = R.remaining input.new; output = W.contents output.new })) }
+    ensures cause { IfErr result (Caused A.Lacks (GivesUp R.Fails R.Called) (GivesUp W.Fails W.Interrupted)) }
+{
+    let mut piece = A::list_filled(alloc, 0, PIECE)?;
+    list_stream(alloc, style, side, input, piece.as_mut_slice(), output)
+}
+
+/// Lists the bytes, a piece at a time.
+fn list_stream<A: Memory, R: Input, W: Output>(
+    alloc: A,
+    style: Style,
+    side: Side<'_>,
+    input: &mut R,
+    piece: &mut [u8],
+    output: &mut W,
+) -> Result<(), Fault>
+    requires { 0 < length piece.old }
+    ensures read { OnOk result (IsAtEnd (R.remaining input.new)) }
+    ensures listed { OnOk result (IfSome (R.remaining input.old) (λ bytes. WritesListing style (side_of side.entry) bytes (W.contents output.old) (W.contents output.new))) }
+    ensures live { IfErr result (λ fault. fault ≡ Fault.Read → WasListed style (side_of side.entry)
+        (record { input = R.remaining input.old; output = W.contents output.old })
+        (record { input = R.remaining input.new; output = W.contents output.new })) }
+    ensures passed { IfErr result (λ fault. fault ≡ Fault.Read → Keeps (W.contents output.old) (W.contents output.new) ⊎ W.Passed output.new) }
+    ensures cut { OnErr result (IsCutShort style (side_of side.entry)
+        (record { input = R.remaining input.old; output = W.contents output.old })
+        (record { input = R.remaining input.new; output = W.contents output.new })) }
+    ensures cause { IfErr result (Caused A.Lacks (GivesUp R.Fails R.Called) (GivesUp W.Fails W.Interrupted)) }
+{
+    let mut held = Held {
+        side,
+        bytes: BytesMut::new(alloc),
+        place: 0,
+        stopped: false,
+        left: 0,
+        line: String::new(alloc),
+        lines: String::new(alloc),
+    };
+    // Bounded, since each function has to end, and a reader may give pieces or be interrupted for ever.
+    'pieces: for _ in 0..u64::MAX {
+        match input.read_some(piece) {
+            Ok(0) => return list_rest(held.stopped, held.left, &mut held.line, output),
+            Ok(n) => list_piece(style, &piece[..n], &mut held, output)?,
+            Err(e) => match e.kind() {
+                ErrorKind::Interrupted => {}
+                ErrorKind::OutOfMemory => return Err(Fault::Memory),
+                _ => return Err(Fault::Read),
+            },
+        }
+    }
+    Err(Fault::Read)
+}
+
+/// Lists the frames that are whole with this piece, and has their lines passed on.
+fn list_piece<A: Memory, W: Output>(
+    style: Style,
+    piece: &[u8],
+    held: &mut Held<'_, A>,
+    output: &mut W,
+) -> Result<(), Fault>
+    ensures all { OnOk result ((rest : List ℕ) → Holds (record { side = side_of held.old.side; bytes = held.old.bytes.items; place = held.old.place; stopped = held.old.stopped; left = held.old.left }) rest →
+        ListsPiece style held.old.place (side_of held.old.side) (rest ++ piece.now)
+        (record { side = side_of held.new.side; bytes = held.new.bytes.items; place = held.new.place; stopped = held.new.stopped; left = held.new.left })
+        (W.contents output.old) (W.contents output.new)) }
+    ensures passed { OnOk result (W.Passed output.new) }
+    ensures some { OnErr result ((rest : List ℕ) → Holds (record { side = side_of held.old.side; bytes = held.old.bytes.items; place = held.old.place; stopped = held.old.stopped; left = held.old.left }) rest →
+        ListsSome style held.old.place (side_of held.old.side) (rest ++ piece.now) (W.contents output.old) (W.contents output.new)) }
+    ensures cause { IfErr result (Caused A.Lacks ⊥ (GivesUp W.Fails W.Interrupted)) }
+{
+    if held.stopped {
+        held.left = held.left.saturating_add(piece.len() as u64);
+        return pass_on(output);
+    }
+    A::append(&mut held.bytes, piece)?;
+    held.lines.clear();
+    let (listed, stopped, side) = list_frames(
+        style,
+        held.place,
+        held.side,
+        held.bytes.as_slice(),
+        &mut held.line,
+        &mut held.lines,
+    )?;
+    held.side = side;
+    held.bytes.advance(listed);
+    held.place = held.place.saturating_add(listed as u64);
+    held.left = held.bytes.len() as u64;
+    held.stopped = stopped;
+    put_lines(held.lines.as_str(), output)
+}
+
+/// Adds the lines of the whole frames at the front of the bytes, which stand at this place. Answers how many bytes they take, whether nothing
+/// tells where the next one begins, and what is then known of the side.
+fn list_frames<'a, A: Memory>(
+    style: Style,
+    place: u64,
+    side: Side<'a>,
+    bytes: &[u8],
+    line: &mut String<A>,
+    lines: &mut String<A>,
+) -> Result<(usize, bool, Side<'a>), AllocError>
+    ensures within { IfOk result (λ answer. answer.0 ≤ length bytes.now) }
+    ensures all { IfOk result (λ answer. ListsAll style place (side_of side.entry) bytes.now (take answer.0 bytes.now) (drop answer.0 bytes.now) answer.1 (side_of answer.2)
+        (string_bytes lines.old) (string_bytes lines.new)) }
+    ensures lacks { OnErr result A.Lacks }
+{
+    let mut here = side;
+    let mut rest = bytes;
+    'frames: loop {
+        let passed = bytes.len() - rest.len();
+        let (next, to, behind) = next_line(
+            style,
+            place.saturating_add(passed as u64),
+            here,
+            rest,
+            line,
+        )?;
+        match next {
+            Next::Line => add_line(line.as_str(), lines)?,
+            Next::Waits => return Ok((passed, false, here)),
+            Next::Stops => return Ok((passed, true, here)),
+        }
+        here = to;
+        rest = behind;
+    }
+}
+
+/// Adds a line to those of the piece.
+fn add_line<A: Memory>(line: &str, lines: &mut String<A>) -> Result<(), AllocError>
+    ensures added { OnOk result (string_bytes lines.new ≡ string_bytes lines.old ++ line.now) }
+    ensures lacks { OnErr result A.Lacks }
+{
+    A::push_str(lines, line)
+}
+
+/// Has the lines so far passed on.
+fn pass_on<W: Output>(output: &mut W) -> Result<(), Fault>
+    ensures kept { Keeps (W.contents output.old) (W.contents output.new) }
+    ensures passed { OnOk result (W.Passed output.new) }
+    ensures fault { IfErr result (λ fault. fault ≡ Fault.Write) }
+    ensures failed { OnErr result (GivesUp W.Fails W.Interrupted) }
+{
+    flush(output)
+}
+
+/// Writes the lines of a piece, and has them passed on.
+fn put_lines<W: Output>(lines: &str, output: &mut W) -> Result<(), Fault>
+    ensures written { OnOk result (Appends (W.contents output.old) (W.contents output.new) lines.now) }
+    ensures front { OnErr result (AppendsFront (W.contents output.old) (W.contents output.new) lines.now) }
+    ensures passed { OnOk result (W.Passed output.new) }
+    ensures fault { IfErr result (λ fault. fault ≡ Fault.Write) }
+    ensures failed { OnErr result (GivesUp W.Fails W.Interrupted) }
+{
+    put(lines.as_bytes(), output)
+}
+
+/// Writes the last line, of the bytes that are left.
+fn list_rest<A: Memory, W: Output>(
+    stopped: bool,
+    left: u64,
+    line: &mut String<A>,
+    output: &mut W,
+) -> Result<(), Fault>
+    ensures all { OnOk result (Appends (W.contents output.old) (W.contents output.new) (last_line stopped left)) }
+    ensures some { OnErr result (AppendsFront (W.contents output.old) (W.contents output.new) (last_line stopped left)) }
+    ensures cause { IfErr result (Caused A.Lacks ⊥ (GivesUp W.Fails W.Interrupted)) }
+{
+    line.clear();
+    put_rest(stopped, left, line)?;
+    put(line.as_bytes(), output)
+}
+
+/// Adds the last line, of so many bytes that are left.
+fn put_rest<A: Memory>(stopped: bool, n: u64, line: &mut String<A>) -> Result<(), AllocError>
+    ensures line { OnOk result (string_bytes line.new ≡ string_bytes line.old ++ last_line stopped n) }
+    ensures lacks { OnErr result A.Lacks }
+{
+    if stopped {
+        A::push_shown(line, format_args!("stopped rest {n}\n"))
+    } else {
+        A::push_shown(line, format_args!("rest {n}\n"))
+    }
+}

@@ -1,0 +1,13 @@
+use Rattle.std.proofs.Common.{◌≡◌, ℕ, ◌+◌, ◌≤◌, List, ◌++◌, length}
+use Rattle.std.specs.List.{slice_split}
+use Rattle.pgp_wire.specs.Script.{is_newline}
+use Rattle.pgp_wire.specs.Sending.{HasSent, lines_left, size_left}
+use Rattle.pgp_wire.proofs.client.send_lines.Given as goal
+
+abbrev pub invariant-lines : goal.invariant-lines
+invariant-lines g l = (before : List (List ℕ)) × (slice_split is_newline l.fn.script ≡ before ++ lines_left l.rest)
+    × (l.number ≡ length before) × (l.number + size_left l.rest ≤ length l.fn.script + 1)
+    × HasSent before (g.B.Buffer.held l.stream.buf).bytes l.stream.opened
+
+abbrev pub decreases-lines : goal.decreases-lines
+decreases-lines g l = size_left l.rest

@@ -1,0 +1,23 @@
+use Rattle.std.proofs.Common.{rules, arith, ◌≢◌, [], inr, Some, map, ap, ◌∙◌}
+use Rattle.std.proofs.lemmas.List.{map_push}
+use Rattle.std.proofs.lemmas.Str.Pattern.{split_parts}
+use Rattle.pgp_frontend.specs.Given.{shown}
+use Rattle.pgp_wire.specs.Script.{IsPair}
+use Rattle.pgp_wire.proofs.ScriptLemmas.{free, never_without}
+use Rattle.pgp_wire.proofs.script.add.Goals as goal
+
+pub returns-in_default-clause-added : goal.returns-in_default-clause-added
+returns-in_default-clause-added g c =
+    let part = c.args.part.now in
+    let parts = split_parts 61 part c.split_once.result c.split_once.ensures.cases (omega arith) in
+    let some : part ≢ [] = search rules in
+    (some, never_without part (free 61 part (rw c.in_default.is at parts)))
+
+pub returns-clause-added : goal.returns-clause-added
+returns-clause-added g c =
+    let part = c.args.part.now in
+    let parts = split_parts 61 part (Some (c.in-Some.name, c.in-Some.value)) c.in-Some.ensures.cases (omega arith) in
+    let some : part ≢ [] = search rules in
+    let named : c.in-Some.name.now ≢ [] = search rules in
+    let pair : IsPair part (c.in-Some.name.now, c.in-Some.value.now) = record { spelled = parts.0; first = free 61 c.in-Some.name.now parts.1; some = named } in
+    inr (some, ((c.in-Some.name.now, c.in-Some.value.now), pair, ap (map shown) c.in_ok-push.ensures.items ∙ map_push shown c.args.list.now.items (c.in-Some.name, c.in-Some.value)))

@@ -1,0 +1,17 @@
+//! What is said of a fault on standard error.
+
+ghost use Rattle.std.specs.Prelude.{◌≡◌};
+ghost use Rattle.pgp_wire.specs.Command.{complaint_of};
+
+use pgp_program::fault::Fault;
+
+/// The line that tells of it.
+pub fn complaint(fault: Fault) -> &'static str
+    ensures { result.now ≡ complaint_of fault }
+{
+    match fault {
+        Fault::Memory => "pgwire: out of memory\n",
+        Fault::Read => "pgwire: read failed\n",
+        Fault::Write => "pgwire: write failed\n",
+    }
+}

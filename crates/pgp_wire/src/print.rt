@@ -1,0 +1,26 @@
+//! Writing a line.
+
+ghost use Rattle.std.specs.Prelude.{◌≡◌, ◌≢◌, IfErr, IfOk, OnErr, OnOk, string_bytes};
+ghost use Rattle.std.specs.Io.KnownBytes.{Appends, Keeps};
+ghost use Rattle.pgp_program.specs.Interruptions.{GivesUp};
+ghost use Rattle.pgp_program.specs.Taken.{AppendsFront};
+ghost use Rattle.pgp_wire.specs.Command.{Caused};
+ghost use Rattle.pgp_wire.specs.Output.{line};
+
+use pgp_base::Memory;
+use pgp_program::fault::Fault;
+use pgp_program::ports::Output;
+use pgp_program::print::put;
+
+/// Writes the text and a newline.
+pub fn print<A: Memory, W: Output>(mut text: String<A>, output: &mut W) -> Result<u8, Fault>
+    ensures written { OnOk result (Appends (W.contents output.old) (W.contents output.new) (line (string_bytes text))) }
+    ensures status { IfOk result (λ status. status ≡ 0) }
+    ensures quiet { IfErr result (λ fault. fault ≢ Fault.Write → Keeps (W.contents output.old) (W.contents output.new)) }
+    ensures front { OnErr result (AppendsFront (W.contents output.old) (W.contents output.new) (line (string_bytes text))) }
+    ensures cause { IfErr result (Caused A.Lacks ⊥ (GivesUp W.Fails W.Interrupted)) }
+{
+    A::push_char(&mut text, '\n')?;
+    put(text.as_bytes(), output)?;
+    Ok(0)
+}

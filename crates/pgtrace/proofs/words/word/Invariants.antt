@@ -1,9 +1,0 @@
-use Rattle.std.specs.Prelude.{◌<◌, ◌-◌}
-use Rattle.pgtrace.specs.Words.{greatest}
-use Rattle.pgtrace.proofs.words.word.Given as goal
-
-abbrev pub invariant-sizes : goal.invariant-sizes
-invariant-sizes g l = 0 < l.size
-
-abbrev pub decreases-sizes : goal.decreases-sizes
-decreases-sizes g l = greatest - l.size
