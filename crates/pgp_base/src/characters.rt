@@ -7,7 +7,7 @@ ghost use Rattle.pgp_base.specs.Characters.{Follows, AreTwo, AreThree, AreFour, 
 use crate::ascii::ascii_front;
 
 // Fewer bytes aren't worth a look.
-const SHORT_LEN: usize = 8;
+const SHORT_LEN: usize = 4;
 
 // The byte goes on with a character.
 #[inline(always)]
@@ -52,7 +52,7 @@ fn are_four(a: u8, b: u8, c: u8, d: u8) -> bool
         & (a != 0xF4 || b < 0x90)
 }
 
-// How many bytes at the front are ASCII, as far as one look shows, where the first is.
+// How many bytes at the front are ASCII, as far as two looks show, where the first is.
 #[inline(always)]
 fn ascii_len(bytes: &[u8]) -> usize
     requires some { 0 < length bytes.now }
@@ -104,7 +104,7 @@ fn four_len(bytes: &[u8]) -> Option<usize>
     }
 }
 
-// The length of some text at the front: of ASCII, as far as one look shows, or of one character.
+// The length of some text at the front: of ASCII, as far as two looks show, or of one character.
 #[inline(always)]
 fn front_len(bytes: &[u8]) -> Option<usize>
     requires { 0 < length bytes.now }

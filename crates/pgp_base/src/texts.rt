@@ -1,10 +1,10 @@
 //! Bytes as text: ASCII is looked at many bytes at a time, and only the rest is read by characters.
 
-ghost use Rattle.std.specs.Prelude.{◌≡◌, ◌↔◌, ◌≤◌, ◌<◌, length, IsTrue, IsUtf8, MatchResult};
+ghost use Rattle.std.specs.Prelude.{◌≡◌, ◌↔◌, ◌+◌, ◌≤◌, ◌<◌, length, IsTrue, IsUtf8, MatchResult};
 ghost use Rattle.pgp_base.specs.Ascii.{AreAscii};
 
 use crate::ascii::{
-    BLOCK_LEN, PAIR_LEN, are_ascii, are_ascii_64, are_ascii_from, ascii_front, is_dense,
+    BLOCK_LEN, PAIR_LEN, are_ascii, are_ascii_64, are_ascii_from, ascii_end, ascii_front, is_dense,
 };
 use crate::characters::are_characters;
 use crate::error::Error;
@@ -43,6 +43,17 @@ fn is_text_past(bytes: &[u8], at: usize) -> bool
     is_mixed_text(&bytes[at..])
 }
 
+// Whether the bytes are text, where those before `at` are ASCII, and 64 to 128 are left.
+#[inline(never)]
+fn is_text_near(bytes: &[u8], at: usize) -> bool
+    requires short { length bytes.now ≤ at + PAIR_LEN }
+    requires long { at + BLOCK_LEN ≤ length bytes.now }
+    requires front { AreAscii bytes.now 0 at }
+    ensures { IsTrue result ↔ IsUtf8 bytes.now }
+{
+    is_text_past(bytes, ascii_end(bytes, at))
+}
+
 // Whether the bytes are text, of which there are more than one look shows.
 fn is_long_text(bytes: &[u8]) -> bool
     requires { BLOCK_LEN < length bytes.now }
@@ -56,7 +67,7 @@ fn is_long_text(bytes: &[u8]) -> bool
         }
         at += BLOCK_LEN;
     }
-    are_ascii_from(bytes, at) || is_text_past(bytes, at)
+    are_ascii_from(bytes, at) || is_text_near(bytes, at)
 }
 
 // Whether the bytes are text.
