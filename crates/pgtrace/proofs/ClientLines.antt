@@ -13,6 +13,7 @@ use Rattle.pgp_server.specs.Step.{Unread, NoneStands}
 use Rattle.pgp_server.specs.declared.error.ClientError.{ClientError}
 use Rattle.pgp_server.specs.declared.message.PasswordKind as code
 use Rattle.pgtrace.specs.declared.style.Style.{Style}
+use Rattle.pgtrace.specs.Line.{closing}
 use Rattle.pgtrace.specs.Listing.{client_front}
 use Rattle.pgtrace.specs.Client.{client_line}
 use Rattle.pgtrace.specs.Sides.{Client, Ends, expected, is_told, kinds_behind}
@@ -178,7 +179,7 @@ taken_less kind old new (Other o) step = omega (arith, framed_long (other_tag o)
 pub passed_line : (style : Style) (place : ℕ) (opened now : Bool) (kinds behind : List code.PasswordKind) (bytes frame rest line : List ℕ) (kind : PasswordKind) (r : Result AnyMessage ClientError)
     → kind ≡ expected kinds → length rest < length bytes
     → AnyStep kind (record { bytes = bytes; opened = opened }) (step_of r) (record { bytes = rest; opened = now })
-    → frame ≡ take (length bytes - length rest) bytes → line ≡ client_line style (is_told kinds) r (client_front place opened frame) ++ 10 ∷ []
+    → frame ≡ take (length bytes - length rest) bytes → line ≡ client_line style (is_told kinds) r (client_front style place opened frame) ++ closing style ++ 10 ∷ []
     → behind ≡ kinds_behind opened frame kinds → HasLine style place (Client opened kinds) bytes rest line (Client now behind)
 passed_line style place opened now kinds behind bytes frame rest line kind r told less step is has moved =
     let whole : bytes ≡ frame ++ rest = splits kind (left bytes opened) (left rest now) r less step ∙ ap (λ l. l ++ rest) (sym is) in
@@ -204,7 +205,7 @@ same_unread new rest now r o = ap (λ b. left b new.opened) (sym r) ∙ ap (left
 
 pub message_passed : (style : Style) (place : ℕ) (opened now : Bool) (kinds behind : List code.PasswordKind) (bytes frame rest line : List ℕ) (kind : PasswordKind) (x : AnyMessage) (old new : Unread)
     → old ≡ record { bytes = bytes; opened = opened } → rest ≡ new.bytes → now ≡ new.opened → kind ≡ expected kinds → AnyStep kind old (Ok (Some x)) new
-    → frame ≡ take (length bytes - length rest) bytes → line ≡ client_line style (is_told kinds) (Ok x) (client_front place opened frame) ++ 10 ∷ []
+    → frame ≡ take (length bytes - length rest) bytes → line ≡ client_line style (is_told kinds) (Ok x) (client_front style place opened frame) ++ closing style ++ 10 ∷ []
     → behind ≡ kinds_behind opened frame kinds → LineBehind style place opened kinds bytes rest line now behind
 message_passed style place opened now kinds behind bytes frame rest line kind x old new was r o told step is has moved =
     let here : AnyStep kind (left bytes opened) (Ok (Some x)) (left rest now) =
@@ -214,7 +215,7 @@ message_passed style place opened now kinds behind bytes frame rest line kind x 
 pub refusal_passed : (style : Style) (place : ℕ) (opened now : Bool) (kinds behind : List code.PasswordKind) (bytes frame rest line : List ℕ) (kind : PasswordKind) (e : ClientError) (old new : Unread)
     → old ≡ record { bytes = bytes; opened = opened } → rest ≡ new.bytes → now ≡ new.opened → kind ≡ expected kinds → RefusesAny kind old e new
     → (length rest ≡ length bytes → ⊥)
-    → frame ≡ take (length bytes - length rest) bytes → line ≡ client_line style (is_told kinds) (Err e) (client_front place opened frame) ++ 10 ∷ []
+    → frame ≡ take (length bytes - length rest) bytes → line ≡ client_line style (is_told kinds) (Err e) (client_front style place opened frame) ++ closing style ++ 10 ∷ []
     → behind ≡ kinds_behind opened frame kinds → LineBehind style place opened kinds bytes rest line now behind
 refusal_passed style place opened now kinds behind bytes frame rest line kind e old new was r o told step differ is has moved =
     let here : RefusesAny kind (left bytes opened) e (left rest now) =

@@ -8,6 +8,7 @@ pub mod Ends
 pub mod Traces
 pub mod Escapes
 pub mod Quotes
+pub mod JsonQuotes
 pub mod Printable
 pub mod Printing
 pub mod Shorter

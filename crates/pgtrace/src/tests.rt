@@ -7,7 +7,7 @@ use crate::run::run;
 use crate::session::{LATER, LATER_LINES, LINES, OPEN_LINES, OTHER, OTHER_LINES, SESSION};
 use crate::side::Side;
 use crate::stream::list;
-use crate::style::Style;
+use crate::style::{Form, Style};
 use pgp_base::Memory;
 use pgp_server::PasswordKind;
 use pgp_test_alloc::Refusing;
@@ -30,6 +30,7 @@ const ALL: &str =
     "         0        9 S ParameterStatus      name \"n\" value \"\\x0a\"\n         9        6 Z ReadyForQuery        idle\n        15       13 K BackendKeyData       process 1 key (4 bytes)\nrest 2\n";
 
 const SHORT: Style = Style {
+    form: Form::Columns,
     limit: 64,
     secrets: false,
 };
@@ -123,7 +124,7 @@ const OPEN: &str =
     "         0        9 S ParameterStatus      name \"n\" value \"\\x0a\"\n         9        6 Z ReadyForQuery        idle\n        15       13 K BackendKeyData       process 1 key \"abcd\"\nrest 2\n";
 
 const USAGE: &str =
-    "usage: pgtrace server [--full] [--secrets] | client [--full] [--secrets] [--password-kind password|initial|response].. | --help | --version\n";
+    "usage: pgtrace server [--json] [--full] [--secrets] | client [--json] [--full] [--secrets] [--password-kind password|initial|response].. | --help | --version\n";
 
 #[test]
 fn words_decide_what_runs(rt: HostRuntime) {
