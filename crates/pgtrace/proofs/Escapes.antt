@@ -1,6 +1,6 @@
 -- A text a run at a time.
-use Rattle.std.proofs.Common.{◌≡◌, ℕ, zero, suc, ◌+◌, ◌<◌, ◌≤◌, Bool, true, false, List, [], ◌∷◌, ◌++◌, length, take, drop, get_or, refl, sym, ap, subst, ◌∙◌, arith, append_assoc, take-append-drop}
-use Rattle.std.specs.Prelude.{◌==◌, nat_le, nat_lt, if◌then◌else◌}
+use Rattle.std.proofs.Common.{◌≡◌, ℕ, zero, suc, ◌+◌, ◌-◌, ◌<◌, ◌≤◌, Bool, true, false, List, [], ◌∷◌, ◌++◌, length, take, drop, get_or, Result, Ok, Err, refl, sym, ap, subst, ◌∙◌, arith, append_assoc, take-append-drop}
+use Rattle.std.specs.Prelude.{◌/◌, ◌%◌, OnOk, ◌==◌, nat_le, nat_lt, if◌then◌else◌}
 use Rattle.std.specs.Char.{encode_utf8}
 use Rattle.std.specs.List.{flat_map, list_all, list_any}
 use Rattle.std.specs.Str.{IsUtf8, IsAscii, IsCharBoundary, chars, is_utf8}
@@ -13,7 +13,7 @@ use Rattle.std.proofs.lemmas.Str.{IsCharBoundary-from_take, IsUtf8-nil, chars-ni
 use Rattle.std.proofs.lemmas.Str.Ascii.{IsAscii-nil, IsAscii-cons}
 use Rattle.pgtrace.specs.declared.style.Form.{Form}
 use Rattle.pgtrace.specs.declared.style.Form.TheVariants.{Columns, Json}
-use Rattle.pgtrace.specs.Quoting.{broken, escaped, escaped_at, escaped_char, is_mark, is_printable, is_text, is_visible, unprinted}
+use Rattle.pgtrace.specs.Quoting.{broken, escaped, escaped_at, escaped_char, is_mark, is_printable, is_text, is_visible, unit, units, unprinted}
 use Rattle.pgtrace.specs.Plain.{escaped_text, is_plain}
 
 -- ---- plain characters
@@ -127,6 +127,20 @@ none_left form (x ∷ xs) e = absurd (omega (arith, e))
 
 pub all_added : (form : Form) (line rest all : List ℕ) → line ++ escaped_text form rest ≡ all → length rest ≡ 0 → line ≡ all
 all_added form line rest all e z = sym (append-nil line) ∙ ap (λ l. line ++ l) (sym (none_left form rest z)) ∙ e
+
+-- ---- a character of two units
+
+pair_by : (low : Bool) (xs ys : List ℕ) → low ≡ false → (if low then xs else ys) ≡ ys
+pair_by true xs ys e = absurd cc
+pair_by false xs ys e = refl
+
+pub pair_added : {T E : Type 0} (r : Result T E) (old mid new : List ℕ) (c : ℕ) → nat_lt c 0x10000 ≡ false → mid ≡ old ++ unit (0xD800 + (c - 0x10000) / 1024)
+    → OnOk r (new ≡ mid ++ unit (0xDC00 + (c - 0x10000) % 1024)) → OnOk r (new ≡ old ++ units c)
+pair_added (Ok x) old mid new c above e f =
+    let high : List ℕ = unit (0xD800 + (c - 0x10000) / 1024) in
+    let low : List ℕ = unit (0xDC00 + (c - 0x10000) % 1024) in
+    f ∙ ap (λ l. l ++ low) e ∙ append_assoc old high low ∙ ap (λ l. old ++ l) (sym (pair_by (nat_lt c 0x10000) (unit c) (high ++ low) above))
+pair_added (Err x) old mid new c above e f = tt
 
 -- ---- which values are texts
 
