@@ -41,6 +41,8 @@ fn main(rt: HostRuntime) -> ExitCode {
 #[cfg(test)]
 mod failing;
 #[cfg(test)]
+mod objects;
+#[cfg(test)]
 mod session;
 #[cfg(test)]
 mod tests;

@@ -3,6 +3,7 @@
 
 use crate::failing::{FailingReader, FailingWriter, PieceReader};
 use crate::fault::Fault;
+use crate::objects::{ANSWER_OBJECTS, ANSWERS, OBJECTS, OPEN_OBJECTS};
 use crate::run::run;
 use crate::session::{LATER, LATER_LINES, LINES, OPEN_LINES, OTHER, OTHER_LINES, SESSION};
 use crate::side::Side;
@@ -233,6 +234,19 @@ const OPEN_KINDS: &[&str] = &[
     "response",
 ];
 
+const JSON_KINDS: &[&str] = &[
+    "client",
+    "--json",
+    "--password-kind",
+    "password",
+    "--password-kind",
+    "initial",
+    "--password-kind",
+    "initial",
+    "--password-kind",
+    "response",
+];
+
 /// Runs the program on these words and bytes: it writes these lines, and nothing else.
 fn writes<A: Memory>(rt: &impl Abort, alloc: A, words: &[&str], bytes: &[u8], lines: &str) {
     let mut input = bytes;
@@ -258,4 +272,30 @@ fn each_secret_of_a_client_is_shown_where_asked_for(rt: HostRuntime) {
 fn each_version_of_a_client_has_its_line(rt: HostRuntime) {
     writes(&rt, rt.alloc(), &["client"], LATER, LATER_LINES);
     writes(&rt, rt.alloc(), &["client"], OTHER, OTHER_LINES);
+}
+
+#[test]
+fn each_message_has_its_object(rt: HostRuntime) {
+    let open: &[&str] = &["server", "--secrets", "--json", "--full"];
+    writes(
+        &rt,
+        rt.alloc(),
+        &["server", "--json"],
+        ANSWERS,
+        ANSWER_OBJECTS,
+    );
+    writes(&rt, rt.alloc(), open, ANSWERS, OPEN_OBJECTS);
+    writes(&rt, rt.alloc(), JSON_KINDS, SESSION, OBJECTS);
+}
+
+#[test]
+fn a_stopped_stream_has_its_object(rt: HostRuntime) {
+    let last = "{\"rest\":5,\"stopped\":true}\n";
+    writes(
+        &rt,
+        rt.alloc(),
+        &["server", "--json"],
+        b"Z\x00\x00\x00\x03",
+        last,
+    );
 }
