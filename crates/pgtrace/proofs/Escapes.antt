@@ -5,7 +5,7 @@ use Rattle.std.specs.Char.{encode_utf8}
 use Rattle.std.specs.List.{flat_map, list_all, list_any}
 use Rattle.std.specs.Str.{IsUtf8, IsAscii, IsCharBoundary, chars, is_utf8}
 use Rattle.std.specs.Str.Lossy.{utf8_valid_len, valid_len_up_to}
-use Rattle.std.proofs.lemmas.Bool.{leb-true, lt-ltb, and_from, and_parts}
+use Rattle.std.proofs.lemmas.Bool.{leb-true, le-ltb, lt-ltb, and_from, and_parts}
 use Rattle.std.proofs.lemmas.List.{append-nil, take_more, take_all, drop_all}
 use Rattle.std.proofs.lemmas.List.Concat.{flat_map-cons}
 use Rattle.std.proofs.lemmas.Grind.{flat_map-append}
@@ -134,12 +134,12 @@ pair_by : (low : Bool) (xs ys : List ℕ) → low ≡ false → (if low then xs 
 pair_by true xs ys e = absurd cc
 pair_by false xs ys e = refl
 
-pub pair_added : {T E : Type 0} (r : Result T E) (old mid new : List ℕ) (c : ℕ) → nat_lt c 0x10000 ≡ false → mid ≡ old ++ unit (0xD800 + (c - 0x10000) / 1024)
+pub pair_added : {T E : Type 0} (r : Result T E) (old mid new : List ℕ) (c : ℕ) → 0x10000 ≤ c → mid ≡ old ++ unit (0xD800 + (c - 0x10000) / 1024)
     → OnOk r (new ≡ mid ++ unit (0xDC00 + (c - 0x10000) % 1024)) → OnOk r (new ≡ old ++ units c)
 pair_added (Ok x) old mid new c above e f =
     let high : List ℕ = unit (0xD800 + (c - 0x10000) / 1024) in
     let low : List ℕ = unit (0xDC00 + (c - 0x10000) % 1024) in
-    f ∙ ap (λ l. l ++ low) e ∙ append_assoc old high low ∙ ap (λ l. old ++ l) (sym (pair_by (nat_lt c 0x10000) (unit c) (high ++ low) above))
+    f ∙ ap (λ l. l ++ low) e ∙ append_assoc old high low ∙ ap (λ l. old ++ l) (sym (pair_by (nat_lt c 0x10000) (unit c) (high ++ low) (le-ltb c 0x10000 above)))
 pair_added (Err x) old mid new c above e f = tt
 
 -- ---- which values are texts

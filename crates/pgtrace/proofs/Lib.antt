@@ -2,6 +2,7 @@ pub mod Parts
 pub mod Columns
 pub mod Fronts
 pub mod Items
+pub mod Objects
 pub mod FrameLines
 pub mod ClientLines
 pub mod Ends
@@ -9,6 +10,7 @@ pub mod Traces
 pub mod Escapes
 pub mod Quotes
 pub mod JsonQuotes
+pub mod JsonReads
 pub mod Printable
 pub mod Printing
 pub mod Shorter

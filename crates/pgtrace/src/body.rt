@@ -203,8 +203,23 @@ fn put_news<A: Memory>(
     let Ok(message) = news.message() else {
         return put_bare(style, body, line);
     };
+    put_notice(style, news.process_id(), channel, message, line)
+}
+
+/// Adds the process that notifies, the channel, and what it says there.
+fn put_notice<A: Memory>(
+    style: Style,
+    process_id: i32,
+    channel: &str,
+    message: &str,
+    line: &mut String<A>,
+) -> Result<(), AllocError>
+    ensures parts { OnOk result (string_bytes line.new ≡ followed style (string_bytes line.old)
+        (Word (codes "process") ∷ Number process_id ∷ Word (codes "channel") ∷ Text channel.now ∷ Word (codes "payload") ∷ Text message.now ∷ [])) }
+    ensures lacks { OnErr result A.Lacks }
+{
     put_word(style, "process", line)?;
-    put_signed(style, news.process_id(), line)?;
+    put_signed(style, process_id, line)?;
     put_named_text(style, "channel", channel, line)?;
     put_named_text(style, "payload", message, line)
 }

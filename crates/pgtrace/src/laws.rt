@@ -8,6 +8,7 @@ ghost use Rattle.pgp_frontend.specs.ClientMessage.{CancelRequest, PasswordMessag
 ghost use Rattle.pgp_message.specs.Stream.{BackendRun};
 ghost use Rattle.pgp_server.specs.OtherMessage.{Ours};
 ghost use Rattle.pgp_server.specs.declared.message.PasswordKind.{PasswordKind};
+ghost use Rattle.json.specs.Text.{content, plain};
 ghost use Rattle.pgtrace.specs.Client.{client_line};
 ghost use Rattle.pgtrace.specs.ClientSecrets.{AlikeClientStreams};
 ghost use Rattle.std.specs.Str.{IsUtf8};
@@ -25,6 +26,11 @@ pub fn quotes_differ()
     ensures columns { (xs ys r s : List ℕ) → AllByRecursion (λ b. b < 256) xs → AllByRecursion (λ b. b < 256) ys →
         quoted Columns xs ++ r ≡ quoted Columns ys ++ s → (xs ≡ ys) × (r ≡ s) }
     ensures json { (xs ys r s : List ℕ) → IsUtf8 xs → IsUtf8 ys → quoted Json xs ++ r ≡ quoted Json ys ++ s → (xs ≡ ys) × (r ≡ s) }
+{}
+
+/// The string of a text in JSON is read as that text, as RFC 8259 says in section 7.
+pub fn strings_are_read()
+    ensures { (xs rest : List ℕ) → IsUtf8 xs → (rs : List ℕ) × (quoted Json xs ++ rest ≡ 34 ∷ rs) × (content plain rs ≡ Some xs) }
 {}
 
 /// No two values that aren't cut are shown alike, and none as a null is.
