@@ -1,15 +1,15 @@
 -- A client's frame by itself.
-use Rattle.std.proofs.Common.{◌≡◌, ℕ, ◌+◌, ◌-◌, ◌<◌, ◌≤◌, ◌^◌, Bool, true, false, List, [], ◌∷◌, ◌++◌, length, take, Option, Some, None, Result, Ok, Err, refl, sym, ap, subst, ◌∙◌, arith, length-append, inl, inr}
+use Rattle.std.proofs.Common.{◌≡◌, ℕ, ◌+◌, ◌-◌, ◌<◌, ◌≤◌, ◌^◌, Bool, true, false, List, [], ◌∷◌, ◌++◌, length, take, Option, Some, None, Result, Ok, Err, refl, sym, ap, subst, ◌∙◌, arith, length-append, inl, inr, ◌⊎◌}
 use Rattle.std.proofs.lemmas.List.{append-nil}
 use Rattle.pgp_base.specs.Wire.{uint32}
 use Rattle.pgp_frontend.specs.ClientMessage.{PasswordKind}
 use Rattle.pgp_frontend.specs.Payload.{framed, payload, tag_of, bytes_of}
 use Rattle.pgp_frontend.proofs.Readings.{tagged_bodies, tag_in}
 use Rattle.pgp_server.proofs.Steps.{payload_fits}
-use Rattle.pgp_server.specs.AnyStep.{AnyStep, NoOtherStands, RefusesAny}
+use Rattle.pgp_server.specs.AnyStep.{AnyStep, NoOtherStands, RefusesAny, SkipsAnyFrame, StopsAtAny}
 use Rattle.pgp_server.specs.OtherMessage.{AnyMessage, Ours, Other, other_tag, other_payload, other_bytes}
 use Rattle.pgp_server.specs.Pieces.{step_of}
-use Rattle.pgp_server.specs.Step.{Unread, NoneStands}
+use Rattle.pgp_server.specs.Step.{Unread, NoneStands, StopsAtLength}
 use Rattle.pgp_server.specs.declared.error.ClientError.{ClientError}
 use Rattle.pgp_server.specs.declared.message.PasswordKind as code
 use Rattle.pgtrace.specs.declared.style.Style.{Style}
@@ -223,3 +223,17 @@ refusal_passed style place opened now kinds behind bytes frame rest line kind e 
     let le : length rest ≤ length bytes = no_longer kind opened now bytes rest (Err e) here in
     let less : length rest < length bytes = omega (arith, le, differ) in
     passed_line style place opened now kinds behind bytes frame rest line kind (Err e) told less here is has moved
+
+-- where nothing was passed, no frame stands first
+ends_by : (opened : Bool) (kinds : List code.PasswordKind) (bytes rest : List ℕ) (kind : PasswordKind) (e : ClientError) (new : Unread) → rest ≡ new.bytes → length rest ≡ length bytes
+    → StopsAtLength (left bytes opened) e new ⊎ (SkipsAnyFrame kind (left bytes opened) e new ⊎ StopsAtAny (left bytes opened) e new) → Ends (Client opened kinds) true bytes
+ends_by opened kinds bytes rest kind e new r same (inl s) = inl s.fault
+ends_by opened kinds bytes rest kind e new r same (inr (inl k)) =
+    absurd (omega (arith, framed_long (Some k.tag) k.payload, ap length k.whole, length-append (framed (Some k.tag) k.payload) new.bytes, ap length r, same))
+ends_by opened kinds bytes rest kind e new r same (inr (inr t)) = inr (record { phase = t.phase; payload = t.payload; rest = t.rest; fits = t.fits; whole = t.whole; error = e; blames = t.blames })
+
+pub refusal_rests : (opened : Bool) (kinds : List code.PasswordKind) (bytes rest : List ℕ) (kind : PasswordKind) (e : ClientError) (old new : Unread)
+    → old ≡ record { bytes = bytes; opened = opened } → rest ≡ new.bytes → RefusesAny kind old e new → length rest ≡ length bytes → Ends (Client opened kinds) true bytes
+refusal_rests opened kinds bytes rest kind e old new was r step same =
+    let here : RefusesAny kind (left bytes opened) e new = subst (λ (u : Unread). RefusesAny kind u e new) was step in
+    ends_by opened kinds bytes rest kind e new r same here.left

@@ -32,23 +32,23 @@ unit_one u v r s x y e =
     (halves u v high.0 low.0, low.1)
 
 -- no surrogate
-abbrev Bounded : ℕ → Type 0
+abbrev pub Bounded : ℕ → Type 0
 Bounded c = ((c < 0xD800) ⊎ (0xE000 ≤ c)) × (c < 0x110000)
 
 bounded_by : (c : ℕ) (low : Bool) → nat_lt c 0xD800 ≡ low → (if low then true else (nat_le 0xE000 c && nat_lt c 0x110000)) ≡ true → Bounded c
 bounded_by c true e s = let less : c < 0xD800 = ltb-true c 0xD800 e in (inl less, omega (arith, less))
 bounded_by c false e s = let parts = and_parts (nat_le 0xE000 c) (nat_lt c 0x110000) s in (inr (leb-true 0xE000 c parts.0), ltb-true c 0x110000 parts.1)
 
-bounded : (c : ℕ) → IsScalar c → Bounded c
+pub bounded : (c : ℕ) → IsScalar c → Bounded c
 bounded c s = bounded_by c (nat_lt c 0xD800) refl s
 
-abbrev high_of : ℕ → ℕ
+abbrev pub high_of : ℕ → ℕ
 high_of c = 0xD800 + (c - 0x10000) / 1024
 
-abbrev low_of : ℕ → ℕ
+abbrev pub low_of : ℕ → ℕ
 low_of c = 0xDC00 + (c - 0x10000) % 1024
 
-small_pair : (c : ℕ) → c < 0x110000 → (high_of c < 0xDC00) × (low_of c < 0xE000)
+pub small_pair : (c : ℕ) → c < 0x110000 → (high_of c < 0xDC00) × (low_of c < 0xE000)
 small_pair c less = (omega (arith, less), omega (arith, less))
 
 from_pair : (c d : ℕ) → 0x10000 ≤ c → 0x10000 ≤ d → high_of c ≡ high_of d → low_of c ≡ low_of d → c ≡ d
