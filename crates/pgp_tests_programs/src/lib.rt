@@ -6,6 +6,8 @@ mod failing;
 #[cfg(test)]
 mod trace;
 #[cfg(test)]
+mod trace_objects;
+#[cfg(test)]
 mod trace_session;
 #[cfg(test)]
 mod wire;

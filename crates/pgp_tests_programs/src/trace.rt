@@ -2,6 +2,7 @@
 //! formats of the PostgreSQL manual.
 
 use crate::failing::{FailingReader, FailingWriter, PieceReader};
+use crate::trace_objects::{ANSWER_OBJECTS, ANSWERS, OBJECTS, OPEN_OBJECTS};
 use crate::trace_session::{LATER, LATER_LINES, LINES, OPEN_LINES, OTHER, OTHER_LINES, SESSION};
 use pgp_base::Memory;
 use pgp_program::fault::Fault;
@@ -10,7 +11,7 @@ use pgp_test_alloc::Refusing;
 use pgp_trace::run::run;
 use pgp_trace::side::Side;
 use pgp_trace::stream::list;
-use pgp_trace::style::Style;
+use pgp_trace::style::{Form, Style};
 use std::process::Abort;
 use std::test::Fail;
 
@@ -30,6 +31,7 @@ const ALL: &str =
     "         0        9 S ParameterStatus      name \"n\" value \"\\x0a\"\n         9        6 Z ReadyForQuery        idle\n        15       13 K BackendKeyData       process 1 key (4 bytes)\nrest 2\n";
 
 const SHORT: Style = Style {
+    form: Form::Columns,
     limit: 64,
     secrets: false,
 };
@@ -123,7 +125,7 @@ const OPEN: &str =
     "         0        9 S ParameterStatus      name \"n\" value \"\\x0a\"\n         9        6 Z ReadyForQuery        idle\n        15       13 K BackendKeyData       process 1 key \"abcd\"\nrest 2\n";
 
 const USAGE: &str =
-    "usage: pgtrace server [--full] [--secrets] | client [--full] [--secrets] [--password-kind password|initial|response].. | --help | --version\n";
+    "usage: pgtrace server [--json] [--full] [--secrets] | client [--json] [--full] [--secrets] [--password-kind password|initial|response].. | --help | --version\n";
 
 #[test]
 fn words_decide_what_runs(rt: HostRuntime) {
@@ -232,6 +234,19 @@ const OPEN_KINDS: &[&str] = &[
     "response",
 ];
 
+const JSON_KINDS: &[&str] = &[
+    "client",
+    "--json",
+    "--password-kind",
+    "password",
+    "--password-kind",
+    "initial",
+    "--password-kind",
+    "initial",
+    "--password-kind",
+    "response",
+];
+
 /// Runs the program on these words and bytes: it writes these lines, and nothing else.
 fn writes<A: Memory>(rt: &impl Abort, alloc: A, words: &[&str], bytes: &[u8], lines: &str) {
     let mut input = bytes;
@@ -257,4 +272,30 @@ fn each_secret_of_a_client_is_shown_where_asked_for(rt: HostRuntime) {
 fn each_version_of_a_client_has_its_line(rt: HostRuntime) {
     writes(&rt, rt.alloc(), &["client"], LATER, LATER_LINES);
     writes(&rt, rt.alloc(), &["client"], OTHER, OTHER_LINES);
+}
+
+#[test]
+fn each_message_has_its_object(rt: HostRuntime) {
+    let open: &[&str] = &["server", "--secrets", "--json", "--full"];
+    writes(
+        &rt,
+        rt.alloc(),
+        &["server", "--json"],
+        ANSWERS,
+        ANSWER_OBJECTS,
+    );
+    writes(&rt, rt.alloc(), open, ANSWERS, OPEN_OBJECTS);
+    writes(&rt, rt.alloc(), JSON_KINDS, SESSION, OBJECTS);
+}
+
+#[test]
+fn a_stopped_stream_has_its_object(rt: HostRuntime) {
+    let last = "{\"rest\":5,\"stopped\":true}\n";
+    writes(
+        &rt,
+        rt.alloc(),
+        &["server", "--json"],
+        b"Z\x00\x00\x00\x03",
+        last,
+    );
 }

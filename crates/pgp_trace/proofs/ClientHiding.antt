@@ -5,28 +5,28 @@ use Rattle.pgp_frontend.specs.ClientMessage.{CancelRequest, PasswordMessage, Sas
 use Rattle.pgp_server.specs.OtherMessage.{Ours}
 use Rattle.pgp_trace.specs.declared.style.Style.{Style}
 use Rattle.pgp_trace.specs.Client.{client_line, grouped}
-use Rattle.pgp_trace.specs.Line.{Part, Left, Word, Number, Text, Hidden, followed}
+use Rattle.pgp_trace.specs.Line.{Part, Name, Word, Number, Text, Hidden, followed}
 use Rattle.pgp_trace.specs.Secrets.{quiet}
 
 -- a line with a name and one group of parts
-abbrev one : ℕ → List ℕ → List ℕ → List Part → List ℕ
-one limit old name parts = grouped limit (followed 0 old (Left 20 name ∷ [])) (parts ∷ [])
+abbrev one : Style → List ℕ → List ℕ → List Part → List ℕ
+one style old name parts = grouped style (followed style old (Name false name ∷ [])) (parts ∷ [])
 
-pub password : (limit : ℕ) (told : Bool) (a b old : List ℕ) → length a ≡ length b → client_line (quiet limit) told (Ok (Ours (PasswordMessage a))) old ≡ client_line (quiet limit) told (Ok (Ours (PasswordMessage b))) old
-password limit true a b old e = ap (λ n. one limit old (codes "PasswordMessage") (Word (codes "password") ∷ Hidden n ∷ [])) e
-password limit false a b old e = ap (λ n. one limit old (codes "PasswordMessage") (Word (codes "password") ∷ Hidden n ∷ [])) e
+pub password : (style : Style) (told : Bool) (a b old : List ℕ) → length a ≡ length b → client_line (quiet style) told (Ok (Ours (PasswordMessage a))) old ≡ client_line (quiet style) told (Ok (Ours (PasswordMessage b))) old
+password style true a b old e = ap (λ n. one (quiet style) old (codes "PasswordMessage") (Word (codes "password") ∷ Hidden n ∷ [])) e
+password style false a b old e = ap (λ n. one (quiet style) old (codes "PasswordMessage") (Word (codes "password") ∷ Hidden n ∷ [])) e
 
-pub initial : (limit : ℕ) (told : Bool) (mechanism a b old : List ℕ) → length a ≡ length b
-    → client_line (quiet limit) told (Ok (Ours (SaslInitialResponse mechanism a))) old ≡ client_line (quiet limit) told (Ok (Ours (SaslInitialResponse mechanism b))) old
-initial limit true mechanism a b old e = ap (λ n. one limit old (codes "SASLInitialResponse") (Word (codes "mechanism") ∷ Text mechanism ∷ Word (codes "data") ∷ Hidden n ∷ [])) e
-initial limit false mechanism a b old e = ap (λ n. one limit old (codes "SASLInitialResponse") (Word (codes "mechanism") ∷ Text mechanism ∷ Word (codes "data") ∷ Hidden n ∷ [])) e
+pub initial : (style : Style) (told : Bool) (mechanism a b old : List ℕ) → length a ≡ length b
+    → client_line (quiet style) told (Ok (Ours (SaslInitialResponse mechanism a))) old ≡ client_line (quiet style) told (Ok (Ours (SaslInitialResponse mechanism b))) old
+initial style true mechanism a b old e = ap (λ n. one (quiet style) old (codes "SASLInitialResponse") (Word (codes "mechanism") ∷ Text mechanism ∷ Word (codes "data") ∷ Hidden n ∷ [])) e
+initial style false mechanism a b old e = ap (λ n. one (quiet style) old (codes "SASLInitialResponse") (Word (codes "mechanism") ∷ Text mechanism ∷ Word (codes "data") ∷ Hidden n ∷ [])) e
 
-pub response : (limit : ℕ) (a b old : List ℕ) → length a ≡ length b → client_line (quiet limit) true (Ok (Ours (SaslResponse a))) old ≡ client_line (quiet limit) true (Ok (Ours (SaslResponse b))) old
-response limit a b old e = ap (λ n. one limit old (codes "SASLResponse") (Word (codes "data") ∷ Hidden n ∷ [])) e
+pub response : (style : Style) (a b old : List ℕ) → length a ≡ length b → client_line (quiet style) true (Ok (Ours (SaslResponse a))) old ≡ client_line (quiet style) true (Ok (Ours (SaslResponse b))) old
+response style a b old e = ap (λ n. one (quiet style) old (codes "SASLResponse") (Word (codes "data") ∷ Hidden n ∷ [])) e
 
-pub key : (limit : ℕ) (told : Bool) (process : ℤ) (a b old : List ℕ) → length a ≡ length b → client_line (quiet limit) told (Ok (Ours (CancelRequest process a))) old ≡ client_line (quiet limit) told (Ok (Ours (CancelRequest process b))) old
-key limit true process a b old e = ap (λ n. one limit old (codes "CancelRequest") (Word (codes "process") ∷ Number process ∷ Word (codes "key") ∷ Hidden n ∷ [])) e
-key limit false process a b old e = ap (λ n. one limit old (codes "CancelRequest") (Word (codes "process") ∷ Number process ∷ Word (codes "key") ∷ Hidden n ∷ [])) e
+pub key : (style : Style) (told : Bool) (process : ℤ) (a b old : List ℕ) → length a ≡ length b → client_line (quiet style) told (Ok (Ours (CancelRequest process a))) old ≡ client_line (quiet style) told (Ok (Ours (CancelRequest process b))) old
+key style true process a b old e = ap (λ n. one (quiet style) old (codes "CancelRequest") (Word (codes "process") ∷ Number process ∷ Word (codes "key") ∷ Hidden n ∷ [])) e
+key style false process a b old e = ap (λ n. one (quiet style) old (codes "CancelRequest") (Word (codes "process") ∷ Number process ∷ Word (codes "key") ∷ Hidden n ∷ [])) e
 
 pub untold : (style : Style) (a b old : List ℕ) → length a ≡ length b → client_line style false (Ok (Ours (SaslResponse a))) old ≡ client_line style false (Ok (Ours (SaslResponse b))) old
-untold style a b old e = ap (λ n. one style.limit old (codes "Password, SASLInitialResponse or SASLResponse") (Hidden n ∷ [])) e
+untold style a b old e = ap (λ n. one style old (codes "Password, SASLInitialResponse or SASLResponse") (Hidden n ∷ [])) e

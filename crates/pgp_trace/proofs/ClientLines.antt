@@ -1,18 +1,19 @@
 -- A client's frame by itself.
-use Rattle.std.proofs.Common.{◌≡◌, ℕ, ◌+◌, ◌-◌, ◌<◌, ◌≤◌, ◌^◌, Bool, true, false, List, [], ◌∷◌, ◌++◌, length, take, Option, Some, None, Result, Ok, Err, refl, sym, ap, subst, ◌∙◌, arith, length-append, inl, inr}
+use Rattle.std.proofs.Common.{◌≡◌, ℕ, ◌+◌, ◌-◌, ◌<◌, ◌≤◌, ◌^◌, Bool, true, false, List, [], ◌∷◌, ◌++◌, length, take, Option, Some, None, Result, Ok, Err, refl, sym, ap, subst, ◌∙◌, arith, length-append, inl, inr, ◌⊎◌}
 use Rattle.std.proofs.lemmas.List.{append-nil}
 use Rattle.pgp_base.specs.Wire.{uint32}
 use Rattle.pgp_frontend.specs.ClientMessage.{PasswordKind}
 use Rattle.pgp_frontend.specs.Payload.{framed, payload, tag_of, bytes_of}
 use Rattle.pgp_frontend.proofs.Readings.{tagged_bodies, tag_in}
 use Rattle.pgp_server.proofs.Steps.{payload_fits}
-use Rattle.pgp_server.specs.AnyStep.{AnyStep, NoOtherStands, RefusesAny}
+use Rattle.pgp_server.specs.AnyStep.{AnyStep, NoOtherStands, RefusesAny, SkipsAnyFrame, StopsAtAny}
 use Rattle.pgp_server.specs.OtherMessage.{AnyMessage, Ours, Other, other_tag, other_payload, other_bytes}
 use Rattle.pgp_server.specs.Pieces.{step_of}
-use Rattle.pgp_server.specs.Step.{Unread, NoneStands}
+use Rattle.pgp_server.specs.Step.{Unread, NoneStands, StopsAtLength}
 use Rattle.pgp_server.specs.declared.error.ClientError.{ClientError}
 use Rattle.pgp_server.specs.declared.message.PasswordKind as code
 use Rattle.pgp_trace.specs.declared.style.Style.{Style}
+use Rattle.pgp_trace.specs.Line.{closing}
 use Rattle.pgp_trace.specs.Listing.{client_front}
 use Rattle.pgp_trace.specs.Client.{client_line}
 use Rattle.pgp_trace.specs.Sides.{Client, Ends, expected, is_told, kinds_behind}
@@ -178,7 +179,7 @@ taken_less kind old new (Other o) step = omega (arith, framed_long (other_tag o)
 pub passed_line : (style : Style) (place : ℕ) (opened now : Bool) (kinds behind : List code.PasswordKind) (bytes frame rest line : List ℕ) (kind : PasswordKind) (r : Result AnyMessage ClientError)
     → kind ≡ expected kinds → length rest < length bytes
     → AnyStep kind (record { bytes = bytes; opened = opened }) (step_of r) (record { bytes = rest; opened = now })
-    → frame ≡ take (length bytes - length rest) bytes → line ≡ client_line style (is_told kinds) r (client_front place opened frame) ++ 10 ∷ []
+    → frame ≡ take (length bytes - length rest) bytes → line ≡ client_line style (is_told kinds) r (client_front style place opened frame) ++ closing style ++ 10 ∷ []
     → behind ≡ kinds_behind opened frame kinds → HasLine style place (Client opened kinds) bytes rest line (Client now behind)
 passed_line style place opened now kinds behind bytes frame rest line kind r told less step is has moved =
     let whole : bytes ≡ frame ++ rest = splits kind (left bytes opened) (left rest now) r less step ∙ ap (λ l. l ++ rest) (sym is) in
@@ -204,7 +205,7 @@ same_unread new rest now r o = ap (λ b. left b new.opened) (sym r) ∙ ap (left
 
 pub message_passed : (style : Style) (place : ℕ) (opened now : Bool) (kinds behind : List code.PasswordKind) (bytes frame rest line : List ℕ) (kind : PasswordKind) (x : AnyMessage) (old new : Unread)
     → old ≡ record { bytes = bytes; opened = opened } → rest ≡ new.bytes → now ≡ new.opened → kind ≡ expected kinds → AnyStep kind old (Ok (Some x)) new
-    → frame ≡ take (length bytes - length rest) bytes → line ≡ client_line style (is_told kinds) (Ok x) (client_front place opened frame) ++ 10 ∷ []
+    → frame ≡ take (length bytes - length rest) bytes → line ≡ client_line style (is_told kinds) (Ok x) (client_front style place opened frame) ++ closing style ++ 10 ∷ []
     → behind ≡ kinds_behind opened frame kinds → LineBehind style place opened kinds bytes rest line now behind
 message_passed style place opened now kinds behind bytes frame rest line kind x old new was r o told step is has moved =
     let here : AnyStep kind (left bytes opened) (Ok (Some x)) (left rest now) =
@@ -214,7 +215,7 @@ message_passed style place opened now kinds behind bytes frame rest line kind x 
 pub refusal_passed : (style : Style) (place : ℕ) (opened now : Bool) (kinds behind : List code.PasswordKind) (bytes frame rest line : List ℕ) (kind : PasswordKind) (e : ClientError) (old new : Unread)
     → old ≡ record { bytes = bytes; opened = opened } → rest ≡ new.bytes → now ≡ new.opened → kind ≡ expected kinds → RefusesAny kind old e new
     → (length rest ≡ length bytes → ⊥)
-    → frame ≡ take (length bytes - length rest) bytes → line ≡ client_line style (is_told kinds) (Err e) (client_front place opened frame) ++ 10 ∷ []
+    → frame ≡ take (length bytes - length rest) bytes → line ≡ client_line style (is_told kinds) (Err e) (client_front style place opened frame) ++ closing style ++ 10 ∷ []
     → behind ≡ kinds_behind opened frame kinds → LineBehind style place opened kinds bytes rest line now behind
 refusal_passed style place opened now kinds behind bytes frame rest line kind e old new was r o told step differ is has moved =
     let here : RefusesAny kind (left bytes opened) e (left rest now) =
@@ -222,3 +223,17 @@ refusal_passed style place opened now kinds behind bytes frame rest line kind e 
     let le : length rest ≤ length bytes = no_longer kind opened now bytes rest (Err e) here in
     let less : length rest < length bytes = omega (arith, le, differ) in
     passed_line style place opened now kinds behind bytes frame rest line kind (Err e) told less here is has moved
+
+-- where nothing was passed, no frame stands first
+ends_by : (opened : Bool) (kinds : List code.PasswordKind) (bytes rest : List ℕ) (kind : PasswordKind) (e : ClientError) (new : Unread) → rest ≡ new.bytes → length rest ≡ length bytes
+    → StopsAtLength (left bytes opened) e new ⊎ (SkipsAnyFrame kind (left bytes opened) e new ⊎ StopsAtAny (left bytes opened) e new) → Ends (Client opened kinds) true bytes
+ends_by opened kinds bytes rest kind e new r same (inl s) = inl s.fault
+ends_by opened kinds bytes rest kind e new r same (inr (inl k)) =
+    absurd (omega (arith, framed_long (Some k.tag) k.payload, ap length k.whole, length-append (framed (Some k.tag) k.payload) new.bytes, ap length r, same))
+ends_by opened kinds bytes rest kind e new r same (inr (inr t)) = inr (record { phase = t.phase; payload = t.payload; rest = t.rest; fits = t.fits; whole = t.whole; error = e; blames = t.blames })
+
+pub refusal_rests : (opened : Bool) (kinds : List code.PasswordKind) (bytes rest : List ℕ) (kind : PasswordKind) (e : ClientError) (old new : Unread)
+    → old ≡ record { bytes = bytes; opened = opened } → rest ≡ new.bytes → RefusesAny kind old e new → length rest ≡ length bytes → Ends (Client opened kinds) true bytes
+refusal_rests opened kinds bytes rest kind e old new was r step same =
+    let here : RefusesAny kind (left bytes opened) e new = subst (λ (u : Unread). RefusesAny kind u e new) was step in
+    ends_by opened kinds bytes rest kind e new r same here.left

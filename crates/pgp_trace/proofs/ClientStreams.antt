@@ -19,7 +19,7 @@ use Rattle.pgp_server.proofs.Handing.{refused_behind}
 use Rattle.pgp_trace.specs.declared.style.Style.{Style}
 use Rattle.pgp_trace.specs.Client.{client_line}
 use Rattle.pgp_trace.specs.ClientSecrets.{AlikeAny, AlikeAnswers, AlikeClientFrames, AlikeClientStreams, NoClientFrames, OneClientAlike, ReadsAs}
-use Rattle.pgp_trace.specs.Line.{Right, Tag, followed, right}
+use Rattle.pgp_trace.specs.Line.{Length, Tag, closing, followed, opening}
 use Rattle.pgp_trace.specs.Listing.{IsNextLine, LineOf, Lines, NoLines, OneLine, client_front, client_tag, place_behind}
 use Rattle.pgp_trace.specs.Secrets.{quiet}
 use Rattle.pgp_trace.specs.Sides.{Side, Server, Client, expected, is_password, is_told, kinds_behind}
@@ -28,48 +28,48 @@ use Rattle.pgp_trace.proofs.ClientHiding.{password, initial, response, key, unto
 
 -- ---- messages
 
-abbrev Told : ℕ → Bool → AnyMessage → AnyMessage → List ℕ → Type 0
-Told limit told x y old = client_line (quiet limit) told (Ok x) old ≡ client_line (quiet limit) told (Ok y) old
+abbrev Told : Style → Bool → AnyMessage → AnyMessage → List ℕ → Type 0
+Told style told x y old = client_line (quiet style) told (Ok x) old ≡ client_line (quiet style) told (Ok y) old
 
-told_same : (limit : ℕ) (told : Bool) (x y : AnyMessage) (old : List ℕ) → x ≡ y → Told limit told x y old
-told_same limit told x y old e = ap (λ z. client_line (quiet limit) told (Ok z) old) e
+told_same : (style : Style) (told : Bool) (x y : AnyMessage) (old : List ℕ) → x ≡ y → Told style told x y old
+told_same style told x y old e = ap (λ z. client_line (quiet style) told (Ok z) old) e
 
-passwords : (limit : ℕ) (told : Bool) (a : List ℕ) (y : AnyMessage) (old : List ℕ) → AlikeAny (Ours (PasswordMessage a)) y → Told limit told (Ours (PasswordMessage a)) y old
-passwords limit told a (Ours (PasswordMessage b)) old e = password limit told a b old e
-passwords limit told a y old e = told_same limit told _ y old e
+passwords : (style : Style) (told : Bool) (a : List ℕ) (y : AnyMessage) (old : List ℕ) → AlikeAny (Ours (PasswordMessage a)) y → Told style told (Ours (PasswordMessage a)) y old
+passwords style told a (Ours (PasswordMessage b)) old e = password style told a b old e
+passwords style told a y old e = told_same style told _ y old e
 
-initials : (limit : ℕ) (told : Bool) (m a : List ℕ) (y : AnyMessage) (old : List ℕ) → AlikeAny (Ours (SaslInitialResponse m a)) y → Told limit told (Ours (SaslInitialResponse m a)) y old
-initials limit told m a (Ours (SaslInitialResponse n b)) old e =
-    ap (λ k. client_line (quiet limit) told (Ok (Ours (SaslInitialResponse k a))) old) e.0 ∙ initial limit told n a b old e.1
-initials limit told m a y old e = told_same limit told _ y old e
+initials : (style : Style) (told : Bool) (m a : List ℕ) (y : AnyMessage) (old : List ℕ) → AlikeAny (Ours (SaslInitialResponse m a)) y → Told style told (Ours (SaslInitialResponse m a)) y old
+initials style told m a (Ours (SaslInitialResponse n b)) old e =
+    ap (λ k. client_line (quiet style) told (Ok (Ours (SaslInitialResponse k a))) old) e.0 ∙ initial style told n a b old e.1
+initials style told m a y old e = told_same style told _ y old e
 
-responses : (limit : ℕ) (told : Bool) (a : List ℕ) (y : AnyMessage) (old : List ℕ) → AlikeAny (Ours (SaslResponse a)) y → Told limit told (Ours (SaslResponse a)) y old
-responses limit true a (Ours (SaslResponse b)) old e = response limit a b old e
-responses limit false a (Ours (SaslResponse b)) old e = untold (quiet limit) a b old e
-responses limit told a y old e = told_same limit told _ y old e
+responses : (style : Style) (told : Bool) (a : List ℕ) (y : AnyMessage) (old : List ℕ) → AlikeAny (Ours (SaslResponse a)) y → Told style told (Ours (SaslResponse a)) y old
+responses style true a (Ours (SaslResponse b)) old e = response style a b old e
+responses style false a (Ours (SaslResponse b)) old e = untold (quiet style) a b old e
+responses style told a y old e = told_same style told _ y old e
 
-keys : (limit : ℕ) (told : Bool) (process : _) (a : List ℕ) (y : AnyMessage) (old : List ℕ) → AlikeAny (Ours (CancelRequest process a)) y → Told limit told (Ours (CancelRequest process a)) y old
-keys limit told p a (Ours (CancelRequest q b)) old e = ap (λ k. client_line (quiet limit) told (Ok (Ours (CancelRequest k a))) old) e.0 ∙ key limit told q a b old e.1
-keys limit told p a y old e = told_same limit told _ y old e
+keys : (style : Style) (told : Bool) (process : _) (a : List ℕ) (y : AnyMessage) (old : List ℕ) → AlikeAny (Ours (CancelRequest process a)) y → Told style told (Ours (CancelRequest process a)) y old
+keys style told p a (Ours (CancelRequest q b)) old e = ap (λ k. client_line (quiet style) told (Ok (Ours (CancelRequest k a))) old) e.0 ∙ key style told q a b old e.1
+keys style told p a y old e = told_same style told _ y old e
 
-told_alike : (limit : ℕ) (told : Bool) (x y : AnyMessage) (old : List ℕ) → AlikeAny x y → Told limit told x y old
-told_alike limit told (Ours (PasswordMessage a)) y old e = passwords limit told a y old e
-told_alike limit told (Ours (SaslInitialResponse m a)) y old e = initials limit told m a y old e
-told_alike limit told (Ours (SaslResponse a)) y old e = responses limit told a y old e
-told_alike limit told (Ours (CancelRequest p a)) y old e = keys limit told p a y old e
-told_alike limit told x y old e = told_same limit told x y old e
+told_alike : (style : Style) (told : Bool) (x y : AnyMessage) (old : List ℕ) → AlikeAny x y → Told style told x y old
+told_alike style told (Ours (PasswordMessage a)) y old e = passwords style told a y old e
+told_alike style told (Ours (SaslInitialResponse m a)) y old e = initials style told m a y old e
+told_alike style told (Ours (SaslResponse a)) y old e = responses style told a y old e
+told_alike style told (Ours (CancelRequest p a)) y old e = keys style told p a y old e
+told_alike style told x y old e = told_same style told x y old e
 
-answers_alike : (limit : ℕ) (told : Bool) (r s : Result AnyMessage ClientError) (old : List ℕ) → AlikeAnswers r s → client_line (quiet limit) told r old ≡ client_line (quiet limit) told s old
-answers_alike limit told (Ok x) (Ok y) old e = told_alike limit told x y old e
-answers_alike limit told (Err d) (Err e) old h = ap (λ k. client_line (quiet limit) told (Err k) old) h
-answers_alike limit told (Ok x) (Err e) old h = absurd h
-answers_alike limit told (Err d) (Ok y) old h = absurd h
+answers_alike : (style : Style) (told : Bool) (r s : Result AnyMessage ClientError) (old : List ℕ) → AlikeAnswers r s → client_line (quiet style) told r old ≡ client_line (quiet style) told s old
+answers_alike style told (Ok x) (Ok y) old e = told_alike style told x y old e
+answers_alike style told (Err d) (Err e) old h = ap (λ k. client_line (quiet style) told (Err k) old) h
+answers_alike style told (Ok x) (Err e) old h = absurd h
+answers_alike style told (Err d) (Ok y) old h = absurd h
 
 -- ---- frames
 
-same_front : (place : ℕ) (opened : Bool) (f g : List ℕ) → client_tag opened f ≡ client_tag opened g → length f ≡ length g → client_front place opened f ≡ client_front place opened g
-same_front place opened f g t n =
-    ap (λ k. followed 0 (right 10 place) (Right 8 k ∷ Tag (client_tag opened f) ∷ [])) n ∙ ap (λ k. followed 0 (right 10 place) (Right 8 (length g) ∷ Tag k ∷ [])) t
+same_front : (style : Style) (place : ℕ) (opened : Bool) (f g : List ℕ) → client_tag opened f ≡ client_tag opened g → length f ≡ length g → client_front style place opened f ≡ client_front style place opened g
+same_front style place opened f g t n =
+    ap (λ k. followed style (opening style place) (Length k ∷ Tag (client_tag opened f) ∷ [])) n ∙ ap (λ k. followed style (opening style place) (Length (length g) ∷ Tag k ∷ [])) t
 
 same_password : (opened : Bool) (f g : List ℕ) → client_tag opened f ≡ client_tag opened g → length f ≡ length g → is_password opened f ≡ is_password opened g
 same_password false f g t n = refl
@@ -81,17 +81,17 @@ same_password true (x ∷ xs) (y ∷ ys) t n = ap (λ k. k == 112) t
 same_kinds : (opened : Bool) (kinds : List code.PasswordKind) (f g : List ℕ) → client_tag opened f ≡ client_tag opened g → length f ≡ length g → kinds_behind opened f kinds ≡ kinds_behind opened g kinds
 same_kinds opened kinds f g t n = ap (λ (p : Bool). if p then drop 1 kinds else kinds) (same_password opened f g t n)
 
-line_alike : (limit place : ℕ) (opened : Bool) (kinds : List code.PasswordKind) (f g line : List ℕ) (to : Side) → AlikeClientFrames opened kinds f g
-    → IsNextLine (quiet limit) place opened kinds f line to → IsNextLine (quiet limit) place opened kinds g line to
-line_alike limit place opened kinds f g line to alike is =
+line_alike : (style : Style) (place : ℕ) (opened : Bool) (kinds : List code.PasswordKind) (f g line : List ℕ) (to : Side) → AlikeClientFrames opened kinds f g
+    → IsNextLine (quiet style) place opened kinds f line to → IsNextLine (quiet style) place opened kinds g line to
+line_alike style place opened kinds f g line to alike is =
     let (s, reads, same) = alike.read is.told.result is.now is.told.step in
     record {
       now = is.now;
       told = record {
         result = s;
         step = reads;
-        told = is.told.told ∙ ap (λ l. l ++ 10 ∷ []) (answers_alike limit (is_told kinds) is.told.result s (client_front place opened f) same
-            ∙ ap (client_line (quiet limit) (is_told kinds) s) (same_front place opened f g alike.tagged alike.long));
+        told = is.told.told ∙ ap (λ l. l ++ closing style ++ 10 ∷ []) (answers_alike style (is_told kinds) is.told.result s (client_front (quiet style) place opened f) same
+            ∙ ap (client_line (quiet style) (is_told kinds) s) (same_front (quiet style) place opened f g alike.tagged alike.long));
       };
       behind = is.behind ∙ ap (Client is.now) (same_kinds opened kinds f g alike.tagged alike.long);
     }
@@ -256,18 +256,18 @@ nothing_alike all other from to alike e = none_long other (sym (same_length from
     none_long [] z = refl
     none_long (x ∷ xs) z = absurd (omega (arith, z))
 
-pub client_streams_hidden : (limit start : ℕ) (opened : Bool) (kinds : List code.PasswordKind) (a lines : List ℕ) (to too : Side) → Lines (quiet limit) start (Client opened kinds) a lines to → (b : List ℕ)
-    → AlikeClientStreams (Client opened kinds) a b too → Lines (quiet limit) start (Client opened kinds) b lines to
-client_streams_hidden limit start opened kinds [] [] _ too NoLines b alike =
-    subst (λ l. Lines (quiet limit) start (Client opened kinds) l [] (Client opened kinds)) (sym (nothing_alike [] b (Client opened kinds) too alike refl)) NoLines
-client_streams_hidden limit start opened kinds _ _ to too (OneLine {bytes = bytes} {lines = lines} {here = here} frame line before has) b alike =
-    let style = quiet limit in
+pub client_streams_hidden : (style : Style) (start : ℕ) (opened : Bool) (kinds : List code.PasswordKind) (a lines : List ℕ) (to too : Side) → Lines (quiet style) start (Client opened kinds) a lines to → (b : List ℕ)
+    → AlikeClientStreams (Client opened kinds) a b too → Lines (quiet style) start (Client opened kinds) b lines to
+client_streams_hidden style start opened kinds [] [] _ too NoLines b alike =
+    subst (λ l. Lines (quiet style) start (Client opened kinds) l [] (Client opened kinds)) (sym (nothing_alike [] b (Client opened kinds) too alike refl)) NoLines
+client_streams_hidden loud start opened kinds _ _ to too (OneLine {bytes = bytes} {lines = lines} {here = here} frame line before has) b alike =
+    let style = quiet loud in
     let c = stays_client style start opened kinds bytes lines here before in
     let next = next_line style (place_behind (start + length bytes)) here to frame line c has in
     let so_far = subst (λ h. AreChain (Client opened kinds) h bytes) c.is (listed_chain style start opened kinds bytes lines here before) in
     let end = ends_alike (Client opened kinds) too c.opened next.now c.kinds (bytes ++ frame) b alike bytes frame next.told.result so_far next.told.step refl in
-    let rest = client_streams_hidden limit start opened kinds bytes lines here (Client c.opened c.kinds) before end.before end.alike in
+    let rest = client_streams_hidden loud start opened kinds bytes lines here (Client c.opened c.kinds) before end.before end.alike in
     let place : place_behind (start + length bytes) ≡ place_behind (start + length end.before) = ap (λ n. place_behind (start + n)) (same_length (Client opened kinds) bytes end.before (Client c.opened c.kinds) end.alike) in
-    let line_of = line_alike limit (place_behind (start + length end.before)) c.opened c.kinds frame end.last line to end.same (subst (λ p. IsNextLine style p c.opened c.kinds frame line to) place next) in
+    let line_of = line_alike loud (place_behind (start + length end.before)) c.opened c.kinds frame end.last line to end.same (subst (λ p. IsNextLine style p c.opened c.kinds frame line to) place next) in
     subst (λ l. Lines style start (Client opened kinds) l (lines ++ line) to) (sym end.whole)
     (OneLine end.last line rest (subst (λ h. LineOf style (place_behind (start + length end.before)) h end.last line to) (sym c.is) line_of))

@@ -1,17 +1,19 @@
 -- A text a run at a time.
-use Rattle.std.proofs.Common.{◌≡◌, ℕ, zero, suc, ◌+◌, ◌<◌, ◌≤◌, Bool, true, false, List, [], ◌∷◌, ◌++◌, length, take, drop, get_or, refl, sym, ap, subst, ◌∙◌, arith, append_assoc, take-append-drop}
-use Rattle.std.specs.Prelude.{◌==◌, nat_le, nat_lt, if◌then◌else◌}
+use Rattle.std.proofs.Common.{◌≡◌, ℕ, zero, suc, ◌+◌, ◌-◌, ◌<◌, ◌≤◌, Bool, true, false, List, [], ◌∷◌, ◌++◌, length, take, drop, get_or, Result, Ok, Err, refl, sym, ap, subst, ◌∙◌, arith, append_assoc, take-append-drop}
+use Rattle.std.specs.Prelude.{◌/◌, ◌%◌, OnOk, ◌==◌, nat_le, nat_lt, if◌then◌else◌}
 use Rattle.std.specs.Char.{encode_utf8}
 use Rattle.std.specs.List.{flat_map, list_all, list_any}
 use Rattle.std.specs.Str.{IsUtf8, IsAscii, IsCharBoundary, chars, is_utf8}
 use Rattle.std.specs.Str.Lossy.{utf8_valid_len, valid_len_up_to}
-use Rattle.std.proofs.lemmas.Bool.{leb-true, lt-ltb, and_from, and_parts}
+use Rattle.std.proofs.lemmas.Bool.{leb-true, le-ltb, lt-ltb, and_from, and_parts}
 use Rattle.std.proofs.lemmas.List.{append-nil, take_more, take_all, drop_all}
 use Rattle.std.proofs.lemmas.List.Concat.{flat_map-cons}
 use Rattle.std.proofs.lemmas.Grind.{flat_map-append}
 use Rattle.std.proofs.lemmas.Str.{IsCharBoundary-from_take, IsUtf8-nil, chars-nil, is_utf8-from_IsUtf8, IsUtf8-from_is_utf8, encode_ascii, IsUtf8-from_ascii, chars-append, chars-IsAscii, chars_past_char, utf8_valid_len-IsUtf8}
 use Rattle.std.proofs.lemmas.Str.Ascii.{IsAscii-nil, IsAscii-cons}
-use Rattle.pgp_trace.specs.Quoting.{escaped, escaped_at, escaped_byte, escaped_char, is_mark, is_printable, is_text, is_visible, hex_escape}
+use Rattle.pgp_trace.specs.declared.style.Form.{Form}
+use Rattle.pgp_trace.specs.declared.style.Form.TheVariants.{Columns, Json}
+use Rattle.pgp_trace.specs.Quoting.{broken, escaped, escaped_at, escaped_char, is_mark, is_printable, is_text, is_visible, unit, units, unprinted}
 use Rattle.pgp_trace.specs.Plain.{escaped_text, is_plain}
 
 -- ---- plain characters
@@ -28,27 +30,27 @@ plainly_by b false false e f h = absurd cc
 plainly : (b : ℕ) → is_plain b ≡ true → IsPlainly b
 plainly b h = plainly_by b (is_mark b) (is_visible b) refl refl h
 
-alone_by : (b : ℕ) (m p : Bool) → m ≡ false → p ≡ true → (if m then 92 ∷ b ∷ [] else if p then encode_utf8 b else flat_map hex_escape (encode_utf8 b)) ≡ encode_utf8 b
-alone_by b true p e f = absurd cc
-alone_by b false true e f = refl
-alone_by b false false e f = absurd cc
+alone_by : (form : Form) (b : ℕ) (m p : Bool) → m ≡ false → p ≡ true → (if m then 92 ∷ b ∷ [] else if p then encode_utf8 b else unprinted form b) ≡ encode_utf8 b
+alone_by form b true p e f = absurd cc
+alone_by form b false true e f = refl
+alone_by form b false false e f = absurd cc
 
 low_by : (b : ℕ) (low v h : Bool) → low ≡ true → v ≡ true → (if low then v else h) ≡ true
 low_by b true v h e f = f
 low_by b false v h e f = absurd cc
 
-alone : (b : ℕ) → IsPlainly b → escaped_char b ≡ b ∷ []
-alone b p = alone_by b (is_mark b) (is_printable b) p.1 (low_by b (nat_lt b 128) (is_visible b) _ (lt-ltb b 128 p.0) p.2) ∙ encode_ascii b p.0
+alone : (form : Form) (b : ℕ) → IsPlainly b → escaped_char form b ≡ b ∷ []
+alone form b p = alone_by form b (is_mark b) (is_printable b) p.1 (low_by b (nat_lt b 128) (is_visible b) _ (lt-ltb b 128 p.0) p.2) ∙ encode_ascii b p.0
 
 plain_ascii : (xs : List ℕ) → list_all is_plain xs ≡ true → IsAscii xs
 plain_ascii [] h = IsAscii-nil
 plain_ascii (x ∷ xs) h = let parts = and_parts (is_plain x) (list_all is_plain xs) h in IsAscii-cons x xs (plainly x parts.0).0 (plain_ascii xs parts.1)
 
-plain_same : (xs : List ℕ) → list_all is_plain xs ≡ true → flat_map escaped_char xs ≡ xs
-plain_same [] h = refl
-plain_same (x ∷ xs) h =
+plain_same : (form : Form) (xs : List ℕ) → list_all is_plain xs ≡ true → flat_map (escaped_char form) xs ≡ xs
+plain_same form [] h = refl
+plain_same form (x ∷ xs) h =
     let parts = and_parts (is_plain x) (list_all is_plain xs) h in
-    flat_map-cons escaped_char x xs ∙ ap (λ l. l ++ flat_map escaped_char xs) (alone x (plainly x parts.0)) ∙ ap (λ l. x ∷ l) (plain_same xs parts.1)
+    flat_map-cons (escaped_char form) x xs ∙ ap (λ l. l ++ flat_map (escaped_char form) xs) (alone form x (plainly x parts.0)) ∙ ap (λ l. x ∷ l) (plain_same form xs parts.1)
 
 pub plain_utf8 : (xs : List ℕ) → list_all is_plain xs ≡ true → IsUtf8 xs
 plain_utf8 xs h = IsUtf8-from_ascii xs (plain_ascii xs h)
@@ -58,13 +60,13 @@ pub plain_end : (text : List ℕ) (n : ℕ) → IsUtf8 text → n ≤ length tex
 plain_end text n u le h = IsCharBoundary-from_take text n u le (plain_utf8 (take n text) h)
 
 -- a run of them at the front
-pub plain_front : (xs ys : List ℕ) → list_all is_plain xs ≡ true → escaped_text (xs ++ ys) ≡ xs ++ escaped_text ys
-plain_front xs ys h =
-    ap (flat_map escaped_char) (chars-append xs ys (plain_utf8 xs h)) ∙ flat_map-append escaped_char (chars xs) (chars ys)
-    ∙ ap (λ l. flat_map escaped_char l ++ escaped_text ys) (chars-IsAscii xs (plain_ascii xs h)) ∙ ap (λ l. l ++ escaped_text ys) (plain_same xs h)
+pub plain_front : (form : Form) (xs ys : List ℕ) → list_all is_plain xs ≡ true → escaped_text form (xs ++ ys) ≡ xs ++ escaped_text form ys
+plain_front form xs ys h =
+    ap (flat_map (escaped_char form)) (chars-append xs ys (plain_utf8 xs h)) ∙ flat_map-append (escaped_char form) (chars xs) (chars ys)
+    ∙ ap (λ l. flat_map (escaped_char form) l ++ escaped_text form ys) (chars-IsAscii xs (plain_ascii xs h)) ∙ ap (λ l. l ++ escaped_text form ys) (plain_same form xs h)
 
-pub plain_split : (text : List ℕ) (n : ℕ) → list_all is_plain (take n text) ≡ true → escaped_text text ≡ take n text ++ escaped_text (drop n text)
-plain_split text n h = ap escaped_text (sym (take-append-drop n text)) ∙ plain_front (take n text) (drop n text) h
+pub plain_split : (form : Form) (text : List ℕ) (n : ℕ) → list_all is_plain (take n text) ≡ true → escaped_text form text ≡ take n text ++ escaped_text form (drop n text)
+plain_split form text n h = ap (escaped_text form) (sym (take-append-drop n text)) ∙ plain_front form (take n text) (drop n text) h
 
 all_more : (xs : List ℕ) (b : ℕ) → list_all is_plain xs ≡ true → is_plain b ≡ true → list_all is_plain (xs ++ b ∷ []) ≡ true
 all_more [] b h k = and_from (is_plain b) true k refl
@@ -76,8 +78,8 @@ plain_more xs i lt h k = subst (λ l. list_all is_plain l ≡ true) (sym (take_m
 
 -- ---- the next character
 
-pub next_char : (text rest : List ℕ) (c : ℕ) → IsUtf8 text → text ≡ encode_utf8 c ++ rest → escaped_text text ≡ escaped_char c ++ escaped_text rest
-next_char text rest c u e = ap (flat_map escaped_char) (chars_past_char text rest c u e) ∙ flat_map-cons escaped_char c (chars rest)
+pub next_char : (form : Form) (text rest : List ℕ) (c : ℕ) → IsUtf8 text → text ≡ encode_utf8 c ++ rest → escaped_text form text ≡ escaped_char form c ++ escaped_text form rest
+next_char form text rest c u e = ap (flat_map (escaped_char form)) (chars_past_char text rest c u e) ∙ flat_map-cons (escaped_char form) c (chars rest)
 
 -- ---- a text
 
@@ -94,33 +96,51 @@ pub front_utf8 : (bytes : List ℕ) → IsUtf8 (take (utf8_valid_len bytes) byte
 unfolding utf8_valid_len
 front_utf8 bytes = front_up_to bytes (length bytes)
 
-whole_at : (bytes : List ℕ) (n : ℕ) → n ≡ length bytes → escaped_at n bytes ≡ escaped_text bytes
-whole_at bytes n e =
-    ap (λ k. escaped_at k bytes) e
-    ∙ ap (λ l. escaped_text l ++ flat_map escaped_byte (drop (length bytes) bytes)) (take_all (length bytes) bytes (omega arith))
-    ∙ ap (λ l. escaped_text bytes ++ flat_map escaped_byte l) (drop_all (length bytes) bytes (omega arith)) ∙ append-nil (escaped_text bytes)
+broken_none : (form : Form) → broken form [] ≡ []
+broken_none Columns = refl
+broken_none Json = refl
 
-pub whole_text : (bytes : List ℕ) → IsUtf8 bytes → escaped bytes ≡ escaped_text bytes
+whole_at : (form : Form) (bytes : List ℕ) (n : ℕ) → n ≡ length bytes → escaped_at form n bytes ≡ escaped_text form bytes
+whole_at form bytes n e =
+    ap (λ k. escaped_at form k bytes) e
+    ∙ ap (λ l. escaped_text form l ++ broken form (drop (length bytes) bytes)) (take_all (length bytes) bytes (omega arith))
+    ∙ ap (λ l. escaped_text form bytes ++ broken form l) (drop_all (length bytes) bytes (omega arith)) ∙ ap (λ l. escaped_text form bytes ++ l) (broken_none form) ∙ append-nil (escaped_text form bytes)
+
+pub whole_text : (form : Form) (bytes : List ℕ) → IsUtf8 bytes → escaped form bytes ≡ escaped_text form bytes
 unfolding escaped
-whole_text bytes u = whole_at bytes (utf8_valid_len bytes) (utf8_valid_len-IsUtf8 bytes u)
+whole_text form bytes u = whole_at form bytes (utf8_valid_len bytes) (utf8_valid_len-IsUtf8 bytes u)
 
 -- ---- what a line gains
 
 -- the rest of a text behind a run, and behind a character
-pub run_added : (old new text : List ℕ) (n : ℕ) → list_all is_plain (take n text) ≡ true → new ≡ old ++ take n text → new ++ escaped_text (drop n text) ≡ old ++ escaped_text text
-run_added old new text n h e =
-    ap (λ l. l ++ escaped_text (drop n text)) e ∙ append_assoc old (take n text) (escaped_text (drop n text)) ∙ ap (λ l. old ++ l) (sym (plain_split text n h))
+pub run_added : (form : Form) (old new text : List ℕ) (n : ℕ) → list_all is_plain (take n text) ≡ true → new ≡ old ++ take n text → new ++ escaped_text form (drop n text) ≡ old ++ escaped_text form text
+run_added form old new text n h e =
+    ap (λ l. l ++ escaped_text form (drop n text)) e ∙ append_assoc old (take n text) (escaped_text form (drop n text)) ∙ ap (λ l. old ++ l) (sym (plain_split form text n h))
 
-pub char_added : (old new text rest : List ℕ) (c : ℕ) → IsUtf8 text → text ≡ encode_utf8 c ++ rest → new ≡ old ++ escaped_char c → new ++ escaped_text rest ≡ old ++ escaped_text text
-char_added old new text rest c u t e =
-    ap (λ l. l ++ escaped_text rest) e ∙ append_assoc old (escaped_char c) (escaped_text rest) ∙ ap (λ l. old ++ l) (sym (next_char text rest c u t))
+pub char_added : (form : Form) (old new text rest : List ℕ) (c : ℕ) → IsUtf8 text → text ≡ encode_utf8 c ++ rest → new ≡ old ++ escaped_char form c → new ++ escaped_text form rest ≡ old ++ escaped_text form text
+char_added form old new text rest c u t e =
+    ap (λ l. l ++ escaped_text form rest) e ∙ append_assoc old (escaped_char form c) (escaped_text form rest) ∙ ap (λ l. old ++ l) (sym (next_char form text rest c u t))
 
-none_left : (rest : List ℕ) → length rest ≡ 0 → escaped_text rest ≡ []
-none_left [] e = ap (flat_map escaped_char) chars-nil
-none_left (x ∷ xs) e = absurd (omega (arith, e))
+none_left : (form : Form) (rest : List ℕ) → length rest ≡ 0 → escaped_text form rest ≡ []
+none_left form [] e = ap (flat_map (escaped_char form)) chars-nil
+none_left form (x ∷ xs) e = absurd (omega (arith, e))
 
-pub all_added : (line rest all : List ℕ) → line ++ escaped_text rest ≡ all → length rest ≡ 0 → line ≡ all
-all_added line rest all e z = sym (append-nil line) ∙ ap (λ l. line ++ l) (sym (none_left rest z)) ∙ e
+pub all_added : (form : Form) (line rest all : List ℕ) → line ++ escaped_text form rest ≡ all → length rest ≡ 0 → line ≡ all
+all_added form line rest all e z = sym (append-nil line) ∙ ap (λ l. line ++ l) (sym (none_left form rest z)) ∙ e
+
+-- ---- a character of two units
+
+pair_by : (low : Bool) (xs ys : List ℕ) → low ≡ false → (if low then xs else ys) ≡ ys
+pair_by true xs ys e = absurd cc
+pair_by false xs ys e = refl
+
+pub pair_added : {T E : Type 0} (r : Result T E) (old mid new : List ℕ) (c : ℕ) → 0x10000 ≤ c → mid ≡ old ++ unit (0xD800 + (c - 0x10000) / 1024)
+    → OnOk r (new ≡ mid ++ unit (0xDC00 + (c - 0x10000) % 1024)) → OnOk r (new ≡ old ++ units c)
+pair_added (Ok x) old mid new c above e f =
+    let high : List ℕ = unit (0xD800 + (c - 0x10000) / 1024) in
+    let low : List ℕ = unit (0xDC00 + (c - 0x10000) % 1024) in
+    f ∙ ap (λ l. l ++ low) e ∙ append_assoc old high low ∙ ap (λ l. old ++ l) (sym (pair_by (nat_lt c 0x10000) (unit c) (high ++ low) (le-ltb c 0x10000 above)))
+pair_added (Err x) old mid new c above e f = tt
 
 -- ---- which values are texts
 

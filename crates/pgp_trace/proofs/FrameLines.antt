@@ -7,19 +7,19 @@ use Rattle.pgp_base.specs.declared.error.Error.{Error}
 use Rattle.pgp_message.specs.BackendMessage.{Message, payload_of}
 use Rattle.pgp_message.specs.Stream.{Frame, frame_bytes, TakesFrame}
 use Rattle.pgp_trace.specs.declared.style.Style.{Style}
-use Rattle.pgp_trace.specs.Line.{Right, Tag, followed, right}
-use Rattle.pgp_trace.specs.Shown.{Shows, called, fault}
+use Rattle.pgp_trace.specs.Line.{Length, Tag, closing, followed, opening}
+use Rattle.pgp_trace.specs.Shown.{Shows, called, refused}
 use Rattle.pgp_trace.specs.Listing.{front, IsServerLine}
 use Rattle.pgp_trace.specs.Sides.{Server}
 use Rattle.pgp_trace.specs.Steps.{IsFrameOf, HasLine}
 use Rattle.pgp_trace.proofs.Parts.{front_taken}
 
 -- what a line begins with, by the bytes of the frame
-abbrev pub begun : ℕ → List ℕ → List ℕ
-begun place bytes = followed 0 (right 10 place) (Right 8 (length bytes) ∷ Tag (slice_index bytes 0) ∷ [])
+abbrev pub begun : Style → ℕ → List ℕ → List ℕ
+begun style place bytes = followed style (opening style place) (Length (length bytes) ∷ Tag (slice_index bytes 0) ∷ [])
 
-begun_is : (place : ℕ) (f : Frame) (bytes : List ℕ) → bytes ≡ frame_bytes f → begun place bytes ≡ front place f
-begun_is place f bytes e = ap (begun place) e
+begun_is : (style : Style) (place : ℕ) (f : Frame) (bytes : List ℕ) → bytes ≡ frame_bytes f → begun style place bytes ≡ front style place f
+begun_is style place f bytes e = ap (begun style place) e
 
 pub frame_long : (f : Frame) (bytes : List ℕ) → bytes ≡ frame_bytes f → 5 ≤ length bytes
 unfolding uint32
@@ -34,9 +34,9 @@ pub body_is : (bytes : List ℕ) (m : Message) → IsFrameOf bytes (Ok m) → dr
 body_is bytes m is = ap (drop 5) is.whole ∙ payload_behind is.first ∙ is.body.parts ∙ append-nil (payload_of m)
 
 pub message_told : (style : Style) (place : ℕ) (bytes : List ℕ) (m : Message) (is : IsFrameOf bytes (Ok m)) (begins named said line : List ℕ)
-    → begins ≡ begun place bytes → named ≡ followed 0 begins (called m ∷ []) → Shows style m named said → line ≡ said ++ 10 ∷ [] → IsServerLine style place bytes line
+    → begins ≡ begun style place bytes → named ≡ followed style begins (called m ∷ []) → Shows style m named said → line ≡ said ++ closing style ++ 10 ∷ [] → IsServerLine style place bytes line
 message_told style place bytes m is begins named said line b n shows e =
-    let head = b ∙ begun_is place is.first bytes is.whole in
+    let head = b ∙ begun_is style place is.first bytes is.whole in
     record {
       first = is.first;
       whole = is.whole;
@@ -45,18 +45,18 @@ message_told style place bytes m is begins named said line b n shows e =
         result = Ok m;
         body = is.body;
         text = said;
-        told = subst (λ l. Shows style m l said) (n ∙ ap (λ l. followed 0 l (called m ∷ [])) head) shows;
+        told = subst (λ l. Shows style m l said) (n ∙ ap (λ l. followed style l (called m ∷ [])) head) shows;
         ended = e;
       };
     }
 
 pub message_ended : {E : Type 0} (r : Result (Unit {0}) E) (style : Style) (place : ℕ) (bytes : List ℕ) (m : Message) (is : IsFrameOf bytes (Ok m)) (begins named said line : List ℕ)
-    → begins ≡ begun place bytes → named ≡ followed 0 begins (called m ∷ []) → Shows style m named said → line ≡ (if is_ok r then said ++ 10 ∷ [] else said) → OnOk r (IsServerLine style place bytes line)
+    → begins ≡ begun style place bytes → named ≡ followed style begins (called m ∷ []) → Shows style m named said → OnOk r (line ≡ said ++ closing style ++ 10 ∷ []) → OnOk r (IsServerLine style place bytes line)
 message_ended (Ok x) style place bytes m is begins named said line b n shows e = message_told style place bytes m is begins named said line b n shows e
 message_ended (Err x) style place bytes m is begins named said line b n shows e = tt
 
 pub fault_told : (style : Style) (place : ℕ) (bytes : List ℕ) (r : Error) (is : IsFrameOf bytes (Err r)) (line : List ℕ)
-    → line ≡ followed 0 (begun place bytes) (fault r) ++ 10 ∷ [] → IsServerLine style place bytes line
+    → line ≡ followed style (begun style place bytes) (refused r) ++ closing style ++ 10 ∷ [] → IsServerLine style place bytes line
 fault_told style place bytes r is line e = record {
   first = is.first;
   whole = is.whole;
@@ -64,8 +64,8 @@ fault_told style place bytes r is line e = record {
   told = record {
     result = Err r;
     body = is.body;
-    text = followed 0 (begun place bytes) (fault r);
-    told = ap (λ l. followed 0 l (fault r)) (begun_is place is.first bytes is.whole);
+    text = followed style (begun style place bytes) (refused r);
+    told = ap (λ l. followed style l (refused r)) (begun_is style place is.first bytes is.whole);
     ended = e;
   };
 }

@@ -4,41 +4,42 @@ use Rattle.std.specs.Prelude.{codes}
 use Rattle.pgp_message.specs.BackendMessage.{AuthenticationMd5Password, AuthenticationGssContinue, AuthenticationSaslContinue, AuthenticationSaslFinal, Message, BackendKeyData, Authentication}
 use Rattle.pgp_message.specs.Parts.{KeyData}
 use Rattle.pgp_trace.specs.Line.{Word, Number, Hidden, followed}
+use Rattle.pgp_trace.specs.declared.style.Style.{Style}
 use Rattle.pgp_trace.specs.Secrets.{Alike, quiet}
 use Rattle.pgp_trace.specs.Shown.{Shows, called}
 
-same : (limit : ℕ) (m n : Message) (old new : List ℕ) → m ≡ n → Shows (quiet limit) m old new → Shows (quiet limit) n old new
-same limit m n old new e s = subst (λ k. Shows (quiet limit) k old new) e s
+same : (style : Style) (m n : Message) (old new : List ℕ) → m ≡ n → Shows (quiet style) m old new → Shows (quiet style) n old new
+same style m n old new e s = subst (λ k. Shows (quiet style) k old new) e s
 
-salt : (limit : ℕ) (x : List ℕ) (n : Message) (old new : List ℕ) → Alike (Authentication (AuthenticationMd5Password x)) n → Shows (quiet limit) (Authentication (AuthenticationMd5Password x)) old new → Shows (quiet limit) n old new
-salt limit x (Authentication (AuthenticationMd5Password y)) old new e s = s ∙ ap (λ k. followed limit old (Word (codes "salt") ∷ Hidden k ∷ [])) e
-salt limit x n old new e s = same limit _ n old new e s
+salt : (style : Style) (x : List ℕ) (n : Message) (old new : List ℕ) → Alike (Authentication (AuthenticationMd5Password x)) n → Shows (quiet style) (Authentication (AuthenticationMd5Password x)) old new → Shows (quiet style) n old new
+salt style x (Authentication (AuthenticationMd5Password y)) old new e s = s ∙ ap (λ k. followed (quiet style) old (Word (codes "salt") ∷ Hidden k ∷ [])) e
+salt style x n old new e s = same style _ n old new e s
 
-gss : (limit : ℕ) (x : List ℕ) (n : Message) (old new : List ℕ) → Alike (Authentication (AuthenticationGssContinue x)) n → Shows (quiet limit) (Authentication (AuthenticationGssContinue x)) old new → Shows (quiet limit) n old new
-gss limit x (Authentication (AuthenticationGssContinue y)) old new e s = s ∙ ap (λ k. followed limit old (Word (codes "data") ∷ Hidden k ∷ [])) e
-gss limit x n old new e s = same limit _ n old new e s
+gss : (style : Style) (x : List ℕ) (n : Message) (old new : List ℕ) → Alike (Authentication (AuthenticationGssContinue x)) n → Shows (quiet style) (Authentication (AuthenticationGssContinue x)) old new → Shows (quiet style) n old new
+gss style x (Authentication (AuthenticationGssContinue y)) old new e s = s ∙ ap (λ k. followed (quiet style) old (Word (codes "data") ∷ Hidden k ∷ [])) e
+gss style x n old new e s = same style _ n old new e s
 
-more : (limit : ℕ) (x : List ℕ) (n : Message) (old new : List ℕ) → Alike (Authentication (AuthenticationSaslContinue x)) n → Shows (quiet limit) (Authentication (AuthenticationSaslContinue x)) old new → Shows (quiet limit) n old new
-more limit x (Authentication (AuthenticationSaslContinue y)) old new e s = s ∙ ap (λ k. followed limit old (Word (codes "data") ∷ Hidden k ∷ [])) e
-more limit x n old new e s = same limit _ n old new e s
+more : (style : Style) (x : List ℕ) (n : Message) (old new : List ℕ) → Alike (Authentication (AuthenticationSaslContinue x)) n → Shows (quiet style) (Authentication (AuthenticationSaslContinue x)) old new → Shows (quiet style) n old new
+more style x (Authentication (AuthenticationSaslContinue y)) old new e s = s ∙ ap (λ k. followed (quiet style) old (Word (codes "data") ∷ Hidden k ∷ [])) e
+more style x n old new e s = same style _ n old new e s
 
-final : (limit : ℕ) (x : List ℕ) (n : Message) (old new : List ℕ) → Alike (Authentication (AuthenticationSaslFinal x)) n → Shows (quiet limit) (Authentication (AuthenticationSaslFinal x)) old new → Shows (quiet limit) n old new
-final limit x (Authentication (AuthenticationSaslFinal y)) old new e s = s ∙ ap (λ k. followed limit old (Word (codes "data") ∷ Hidden k ∷ [])) e
-final limit x n old new e s = same limit _ n old new e s
+final : (style : Style) (x : List ℕ) (n : Message) (old new : List ℕ) → Alike (Authentication (AuthenticationSaslFinal x)) n → Shows (quiet style) (Authentication (AuthenticationSaslFinal x)) old new → Shows (quiet style) n old new
+final style x (Authentication (AuthenticationSaslFinal y)) old new e s = s ∙ ap (λ k. followed (quiet style) old (Word (codes "data") ∷ Hidden k ∷ [])) e
+final style x n old new e s = same style _ n old new e s
 
-key : (limit : ℕ) (x : KeyData) (n : Message) (old new : List ℕ) → Alike (BackendKeyData x) n → Shows (quiet limit) (BackendKeyData x) old new → Shows (quiet limit) n old new
-key limit x (BackendKeyData y) old new e s =
-    s ∙ ap (λ p. followed limit old (Word (codes "process") ∷ Number p ∷ Word (codes "key") ∷ Hidden (length x.secret_key) ∷ [])) e.0
-    ∙ ap (λ k. followed limit old (Word (codes "process") ∷ Number y.process_id ∷ Word (codes "key") ∷ Hidden k ∷ [])) e.1
-key limit x n old new e s = same limit _ n old new e s
+key : (style : Style) (x : KeyData) (n : Message) (old new : List ℕ) → Alike (BackendKeyData x) n → Shows (quiet style) (BackendKeyData x) old new → Shows (quiet style) n old new
+key style x (BackendKeyData y) old new e s =
+    s ∙ ap (λ p. followed (quiet style) old (Word (codes "process") ∷ Number p ∷ Word (codes "key") ∷ Hidden (length x.secret_key) ∷ [])) e.0
+    ∙ ap (λ k. followed (quiet style) old (Word (codes "process") ∷ Number y.process_id ∷ Word (codes "key") ∷ Hidden k ∷ [])) e.1
+key style x n old new e s = same style _ n old new e s
 
-pub hidden : (limit : ℕ) (m n : Message) (old new : List ℕ) → Alike m n → Shows (quiet limit) m old new → Shows (quiet limit) n old new
-hidden limit (Authentication (AuthenticationMd5Password x)) n old new e s = salt limit x n old new e s
-hidden limit (Authentication (AuthenticationGssContinue x)) n old new e s = gss limit x n old new e s
-hidden limit (Authentication (AuthenticationSaslContinue x)) n old new e s = more limit x n old new e s
-hidden limit (Authentication (AuthenticationSaslFinal x)) n old new e s = final limit x n old new e s
-hidden limit (BackendKeyData x) n old new e s = key limit x n old new e s
-hidden limit m n old new e s = same limit m n old new e s
+pub hidden : (style : Style) (m n : Message) (old new : List ℕ) → Alike m n → Shows (quiet style) m old new → Shows (quiet style) n old new
+hidden style (Authentication (AuthenticationMd5Password x)) n old new e s = salt style x n old new e s
+hidden style (Authentication (AuthenticationGssContinue x)) n old new e s = gss style x n old new e s
+hidden style (Authentication (AuthenticationSaslContinue x)) n old new e s = more style x n old new e s
+hidden style (Authentication (AuthenticationSaslFinal x)) n old new e s = final style x n old new e s
+hidden style (BackendKeyData x) n old new e s = key style x n old new e s
+hidden style m n old new e s = same style m n old new e s
 
 -- and have one name
 name_by : (m n : Message) → m ≡ n → called m ≡ called n

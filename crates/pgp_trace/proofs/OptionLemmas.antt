@@ -7,21 +7,22 @@ use Rattle.std.proofs.lemmas.List.Concat.{flat_map-cons}
 use Rattle.std.proofs.lemmas.List.Folds.{list_any-append}
 use Rattle.std.proofs.lemmas.Grind.{flat_map-append}
 use Rattle.pgp_server.specs.declared.message.PasswordKind.{PasswordKind}
-use Rattle.pgp_trace.specs.Options.{AreOptions, AreNoOptions, BeginsWithNone, is_full, is_secrets, kind_in, spelled, style_of}
+use Rattle.pgp_trace.specs.Options.{AreOptions, AreNoOptions, BeginsWithNone, is_full, is_json, is_secrets, kind_in, spelled, style_of}
 use Rattle.pgp_trace.specs.declared.options.Choice.{Choice}
-use Rattle.pgp_trace.specs.declared.options.Choice.TheVariants.{Full, Secrets, Kind}
+use Rattle.pgp_trace.specs.declared.options.Choice.TheVariants.{AsJson, Full, Secrets, Kind}
 use Rattle.pgp_trace.specs.declared.style.Style.{Style}
 
 -- Some options came, and these words stand behind them.
-pub record Came (all rest : List (List ℕ)) (full secrets : Bool) (kinds : List PasswordKind) : Type 0 where
+pub record Came (all rest : List (List ℕ)) (json full secrets : Bool) (kinds : List PasswordKind) : Type 0 where
   pub choices : List Choice
   pub whole : all ≡ flat_map spelled choices ++ rest
+  pub all_json : json ≡ list_any is_json choices
   pub all_full : full ≡ list_any is_full choices
   pub all_secrets : secrets ≡ list_any is_secrets choices
   pub all_kinds : kinds ≡ flat_map kind_in choices
 
-pub came_none : (all : List (List ℕ)) (kinds : List PasswordKind) → kinds ≡ [] → Came all all false false kinds
-came_none all kinds e = record { choices = []; whole = refl; all_full = refl; all_secrets = refl; all_kinds = e }
+pub came_none : (all : List (List ℕ)) (kinds : List PasswordKind) → kinds ≡ [] → Came all all false false false kinds
+came_none all kinds e = record { choices = []; whole = refl; all_json = refl; all_full = refl; all_secrets = refl; all_kinds = e }
 
 -- one more, behind the others
 flat_more : {X A : Type 0} (f : X → List A) (xs : List X) (x : X) → flat_map f (xs ++ x ∷ []) ≡ flat_map f xs ++ f x
@@ -36,22 +37,24 @@ or_false false false = refl
 any_more : (p : Choice → Bool) (xs : List Choice) (x : Choice) (was now : Bool) → was ≡ list_any p xs → now ≡ (p x || was) → now ≡ list_any p (xs ++ x ∷ [])
 any_more p xs x was now e f = f ∙ ap (λ b. p x || b) e ∙ or_false (p x) (list_any p xs) ∙ sym (list_any-append p xs (x ∷ []))
 
-pub came_more : (all rest behind : List (List ℕ)) (full secrets full2 secrets2 : Bool) (kinds kinds2 : List PasswordKind) (c : Choice) → Came all rest full secrets kinds → rest ≡ spelled c ++ behind
-    → full2 ≡ (is_full c || full) → secrets2 ≡ (is_secrets c || secrets) → kinds2 ≡ kinds ++ kind_in c → Came all behind full2 secrets2 kinds2
-came_more all rest behind full secrets full2 secrets2 kinds kinds2 c came is f s k = record {
+pub came_more : (all rest behind : List (List ℕ)) (json full secrets json2 full2 secrets2 : Bool) (kinds kinds2 : List PasswordKind) (c : Choice) → Came all rest json full secrets kinds → rest ≡ spelled c ++ behind
+    → json2 ≡ (is_json c || json) → full2 ≡ (is_full c || full) → secrets2 ≡ (is_secrets c || secrets) → kinds2 ≡ kinds ++ kind_in c → Came all behind json2 full2 secrets2 kinds2
+came_more all rest behind json full secrets json2 full2 secrets2 kinds kinds2 c came is j f s k = record {
   choices = came.choices ++ c ∷ [];
   whole = came.whole ∙ ap (λ l. flat_map spelled came.choices ++ l) is ∙ sym (append_assoc (flat_map spelled came.choices) (spelled c) behind) ∙ ap (λ l. l ++ behind) (sym (flat_more spelled came.choices c));
+  all_json = any_more is_json came.choices c json json2 came.all_json j;
   all_full = any_more is_full came.choices c full full2 came.all_full f;
   all_secrets = any_more is_secrets came.choices c secrets secrets2 came.all_secrets s;
   all_kinds = k ∙ ap (λ l. l ++ kind_in c) came.all_kinds ∙ sym (flat_more kind_in came.choices c);
 }
 
 -- all came
-pub came_all : (all rest : List (List ℕ)) (full secrets : Bool) (kinds : List PasswordKind) (style : Style) → Came all rest full secrets kinds → rest ≡ [] → style ≡ style_of full secrets → AreOptions all style kinds
-came_all all rest full secrets kinds style came end shown = record {
+pub came_all : (all rest : List (List ℕ)) (json full secrets : Bool) (kinds : List PasswordKind) (style : Style) → Came all rest json full secrets kinds → rest ≡ [] → style ≡ style_of json full secrets → AreOptions all style kinds
+came_all all rest json full secrets kinds style came end shown = record {
   choices = came.choices;
   spelling = came.whole ∙ ap (λ l. flat_map spelled came.choices ++ l) end ∙ append-nil (flat_map spelled came.choices);
-  shown = shown ∙ ap (λ f. style_of f secrets) came.all_full ∙ ap (λ s. style_of (list_any is_full came.choices) s) came.all_secrets;
+  shown = shown ∙ ap (λ j. style_of j full secrets) came.all_json ∙ ap (λ f. style_of (list_any is_json came.choices) f secrets) came.all_full
+      ∙ ap (λ s. style_of (list_any is_json came.choices) (list_any is_full came.choices) s) came.all_secrets;
   named = came.all_kinds;
 }
 
@@ -60,8 +63,18 @@ came_all all rest full secrets kinds style came end shown = record {
 abbrev first_word : List (List ℕ) → ℕ
 first_word words = length (get_or words 0 [])
 
+abbrev third_letter : List (List ℕ) → ℕ
+third_letter words = get_or (get_or words 0 []) 2 0
+
 -- the first option of each has as many kinds, and the same stands behind it
 one_first : (c d : Choice) (x y : List (List ℕ)) → spelled c ++ x ≡ spelled d ++ y → (length (kind_in c) ≡ length (kind_in d)) × (x ≡ y)
+one_first AsJson AsJson x y e = (refl, ap (λ l. drop 1 l) e)
+one_first AsJson Full x y e = let h : 106 ≡ 102 = ap third_letter e in absurd (omega (arith, h))
+one_first AsJson Secrets x y e = let h : 6 ≡ 9 = ap first_word e in absurd (omega (arith, h))
+one_first AsJson (Kind j) x y e = let h : 6 ≡ 15 = ap first_word e in absurd (omega (arith, h))
+one_first Full AsJson x y e = let h : 102 ≡ 106 = ap third_letter e in absurd (omega (arith, h))
+one_first Secrets AsJson x y e = let h : 9 ≡ 6 = ap first_word e in absurd (omega (arith, h))
+one_first (Kind k) AsJson x y e = let h : 15 ≡ 6 = ap first_word e in absurd (omega (arith, h))
 one_first Full Full x y e = (refl, ap (λ l. drop 1 l) e)
 one_first Secrets Secrets x y e = (refl, ap (λ l. drop 1 l) e)
 one_first (Kind k) (Kind j) x y e = (refl, ap (λ l. drop 2 l) e)
@@ -73,6 +86,7 @@ one_first (Kind k) Full x y e = let h : 15 ≡ 6 = ap first_word e in absurd (om
 one_first (Kind k) Secrets x y e = let h : 15 ≡ 9 = ap first_word e in absurd (omega (arith, h))
 
 spelled_long : (c : Choice) (x : List (List ℕ)) → spelled c ++ x ≡ [] → ⊥
+spelled_long AsJson x e = let h : suc (length x) ≡ 0 = ap length e in absurd (omega (arith, h))
 spelled_long Full x e = let h : suc (length x) ≡ 0 = ap length e in absurd (omega (arith, h))
 spelled_long Secrets x e = let h : suc (length x) ≡ 0 = ap length e in absurd (omega (arith, h))
 spelled_long (Kind k) x e = let h : suc (suc (length x)) ≡ 0 = ap length e in absurd (omega (arith, h))
@@ -88,8 +102,8 @@ breaks_off (c ∷ cs) (d ∷ ds) rest some none e =
     breaks_off cs ds rest some none (one_first c d (flat_map spelled cs ++ rest) (flat_map spelled ds) (sym (split cs c rest) ∙ e ∙ flat_map-cons spelled d ds)).1
 
 -- where no option stands behind some, the words are no options
-pub came_wrong : (all rest : List (List ℕ)) (full secrets : Bool) (kinds : List PasswordKind) → Came all rest full secrets kinds → rest ≢ [] → BeginsWithNone rest → AreNoOptions all
-came_wrong all rest full secrets kinds came some none = λ ds e. breaks_off came.choices ds rest some none (sym came.whole ∙ e)
+pub came_wrong : (all rest : List (List ℕ)) (json full secrets : Bool) (kinds : List PasswordKind) → Came all rest json full secrets kinds → rest ≢ [] → BeginsWithNone rest → AreNoOptions all
+came_wrong all rest json full secrets kinds came some none = λ ds e. breaks_off came.choices ds rest some none (sym came.whole ∙ e)
 
 as_many : (cs ds : List Choice) → flat_map spelled cs ≡ flat_map spelled ds → length (flat_map kind_in cs) ≡ length (flat_map kind_in ds)
 as_many [] [] e = refl
@@ -107,18 +121,18 @@ kinds_agree words s t ks js a b = ap length a.named ∙ as_many a.choices b.choi
 -- ---- places in the words
 
 -- one more stands at a place
-pub place_more : {X : Type 0} (word : X → List ℕ) (words : List X) (at n next : ℕ) (full secrets full2 secrets2 : Bool) (kinds kinds2 : List PasswordKind) (c : Choice) → at < length words
-    → Came (map word words) (map word (drop at words)) full secrets kinds → map word (drop at words) ≡ spelled c ++ map word (drop (length (spelled c)) (drop at words)) → n ≡ length (spelled c) → next ≡ at + n
-    → full2 ≡ (is_full c || full) → secrets2 ≡ (is_secrets c || secrets) → kinds2 ≡ kinds ++ kind_in c
-    → (next ≤ length words) × Came (map word words) (map word (drop next words)) full2 secrets2 kinds2
-place_more {X = X} word words at n next full secrets full2 secrets2 kinds kinds2 c less came is long sum f s k =
+pub place_more : {X : Type 0} (word : X → List ℕ) (words : List X) (at n next : ℕ) (json full secrets json2 full2 secrets2 : Bool) (kinds kinds2 : List PasswordKind) (c : Choice) → at < length words
+    → Came (map word words) (map word (drop at words)) json full secrets kinds → map word (drop at words) ≡ spelled c ++ map word (drop (length (spelled c)) (drop at words)) → n ≡ length (spelled c) → next ≡ at + n
+    → json2 ≡ (is_json c || json) → full2 ≡ (is_full c || full) → secrets2 ≡ (is_secrets c || secrets) → kinds2 ≡ kinds ++ kind_in c
+    → (next ≤ length words) × Came (map word words) (map word (drop next words)) json2 full2 secrets2 kinds2
+place_more {X = X} word words at n next json full secrets json2 full2 secrets2 kinds kinds2 c less came is long sum j f s k =
     let rest = drop at words in
     let there : drop (length (spelled c)) rest ≡ drop next words = drop-drop (length (spelled c)) at words ∙ ap (λ i. drop i words) (omega (arith, long, sum)) in
     let size : length rest ≡ length words - at = length-drop at words in
     let lengths : length rest ≡ length (spelled c) + length (map word (drop (length (spelled c)) rest)) = sym (length-map rest word) ∙ ap length is ∙ length-append (spelled c) (map word (drop (length (spelled c)) rest)) in (
       omega (arith, less, long, sum, size, lengths),
-      subst (λ (l : List X). Came (map word words) (map word l) full2 secrets2 kinds2) there
-          (came_more (map word words) (map word rest) (map word (drop (length (spelled c)) rest)) full secrets full2 secrets2 kinds kinds2 c came is f s k),
+      subst (λ (l : List X). Came (map word words) (map word l) json2 full2 secrets2 kinds2) there
+          (came_more (map word words) (map word rest) (map word (drop (length (spelled c)) rest)) json full secrets json2 full2 secrets2 kinds kinds2 c came is j f s k),
     )
 
 pub place_left : {X : Type 0} (word : X → List ℕ) (words : List X) (at : ℕ) → at < length words → map word (drop at words) ≢ []

@@ -13,16 +13,18 @@ use Rattle.std.proofs.lemmas.List.Concat.{flat_map-cons}
 use Rattle.pgp_base.specs.declared.error.Error.{Error}
 use Rattle.pgp_message.specs.BackendMessage.{AuthenticationOk, AuthenticationKerberosV5, AuthenticationCleartextPassword, AuthenticationMd5Password, AuthenticationScmCredential, AuthenticationGss, AuthenticationGssContinue, AuthenticationSspi, AuthenticationSasl, AuthenticationSaslContinue, AuthenticationSaslFinal, Message, ParseComplete, BindComplete, CloseComplete, NotificationResponse, CommandComplete, DataRow, ErrorResponse, CopyInResponse, CopyOutResponse, EmptyQueryResponse, BackendKeyData, NegotiateProtocolVersion, NoticeResponse, Authentication, ParameterStatus, RowDescription, ReadyForQuery, CopyDone, CopyData, NoData, PortalSuspended, ParameterDescription, payload_of}
 use Rattle.pgp_message.specs.Stream.{Frame, frame_bytes}
+use Rattle.pgp_trace.specs.declared.style.Form.{Form}
+use Rattle.pgp_trace.specs.declared.style.Form.TheVariants.{Columns, Json}
 use Rattle.pgp_trace.specs.declared.style.Style.{Style}
-use Rattle.pgp_trace.specs.Quoting.{IsPrinted, digits, hex_digit, hex_byte, hex_escape, is_mark, is_printable, is_text, is_visible, escaped_byte, escaped_char, escaped, quoted, value, up_to}
+use Rattle.pgp_trace.specs.Quoting.{IsPrinted, broken, digits, hex_digit, hex_byte, hex_escape, is_mark, is_printable, is_text, is_visible, escaped_byte, escaped_char, escaped, json_digits, json_hex, json_text, json_value, long, quoted, unit, units, unprinted, value, up_to}
 use Rattle.pgp_trace.proofs.Escapes.{front_utf8}
-use Rattle.pgp_trace.specs.Line.{Part, Word, Number, Left, Right, Oid, Tag, Text, Value, Hidden, blanks, right, shown, typed, followed}
+use Rattle.pgp_trace.specs.Line.{Part, Length, Tag, Name, Refusal, Word, Number, Oid, Text, Value, Hidden, added, added_by, blanks, closing, closing_by, followed, json, json_name, named, opening, opening_by, right, shown, spelt, string, type_name}
 use Rattle.pgp_trace.specs.Types.{type_of}
 use Rattle.pgp_trace.specs.Names.{state_of}
 use Rattle.pgp_message.specs.Items.{TextSpelled, TextRefused, FormatSpelled, FormatRefused, TypeSpelled, TypeRefused, RangeSpelled, RangeRefused, FieldSpelled, FieldRefused, ErrorFieldSpelled, ErrorFieldRefused}
 use Rattle.std.specs.Str.{IsAscii, IsUtf8, all_scalars, chars, encode_utf8_all}
 use Rattle.std.specs.Str.Lossy.{utf8_valid_len}
-use Rattle.pgp_trace.specs.Shown.{Shows, ShowsCounted, ShowsMarked, ShowsTexts, bare, called, column_parts, fault, field_parts, list_of, name_or, number_part, secret, text_part, type_part, value_part}
+use Rattle.pgp_trace.specs.Shown.{Shows, ShowsCounted, ShowsMarked, ShowsTexts, bare, called, column_parts, field_parts, list_of, name_or, number_part, refused, secret, text_part, type_part, value_part}
 use Rattle.pgp_server.specs.OtherMessage.{AnyMessage}
 use Rattle.pgp_server.specs.declared.error.ClientError.{ClientError}
 use Rattle.pgp_trace.specs.Client.{client_called, client_groups, client_line, grouped, refusal_parts}
@@ -62,8 +64,14 @@ hex b =
     let low : b % 16 < 16 = omega arith in
     cons (hex_digit (b / 16 % 16)) (hex_digit (b % 16) ∷ []) (digit (b / 16 % 16) high) (cons (hex_digit (b % 16)) [] (digit (b % 16) low) refl)
 
-escape : (b : ℕ) → Plain (hex_escape b)
-escape b = cons 92 (120 ∷ hex_byte b) refl (cons 120 (hex_byte b) refl (hex b))
+escape : (form : Form) (b : ℕ) → Plain (hex_escape form b)
+escape Columns b = cons 92 (120 ∷ hex_byte b) refl (cons 120 (hex_byte b) refl (hex b))
+escape Json b = cons 92 (117 ∷ 48 ∷ 48 ∷ hex_byte b) refl (cons 117 (48 ∷ 48 ∷ hex_byte b) refl (cons 48 (48 ∷ hex_byte b) refl (cons 48 (hex_byte b) refl (hex b))))
+
+one_unit : (u : ℕ) → Plain (unit u)
+one_unit u =
+    let digits : List ℕ = hex_byte (u / 256) ++ hex_byte (u % 256) in
+    cons 92 (117 ∷ digits) refl (cons 117 digits refl (plain_join (hex_byte (u / 256)) (hex_byte (u % 256)) (hex (u / 256)) (hex (u % 256))))
 
 glyph_by : (d : ℕ) (low : Bool) → d < 10 → is_visible (if low then 48 + d else 87 + d) ≡ true
 glyph_by d true h = between (48 + d) (omega arith) (omega (arith, h))
@@ -90,6 +98,16 @@ plain_number n = onto 64 n [] refl
 plain_signed : (z : ℤ) → Plain (signed_decimal z)
 plain_signed (pos n) = plain_number n
 plain_signed (negsuc n) = cons 45 (decimal (suc n)) refl (plain_number (suc n))
+
+by_units : (c : ℕ) → Plain (units c)
+by_units c =
+    let high : ℕ = 0xD800 + (c - 0x10000) / 1024 in
+    let low : ℕ = 0xDC00 + (c - 0x10000) % 1024 in
+    plain_either (nat_lt c 0x10000) (unit c) (unit high ++ unit low) (one_unit c) (plain_join (unit high) (unit low) (one_unit high) (one_unit low))
+
+by_digits : (form : Form) (c : ℕ) → Plain (unprinted form c)
+by_digits Columns c = each (hex_escape Columns) (escape Columns) (encode_utf8 c)
+by_digits Json c = by_units c
 
 -- ---- characters
 
@@ -150,34 +168,38 @@ mark_by b false false e f h = absurd cc
 mark_printed : (b : ℕ) → is_mark b ≡ true → Plain (92 ∷ b ∷ [])
 mark_printed b e = cons 92 (b ∷ []) refl (cons b [] (mark_by b (b == 34) (b == 92) refl refl e) refl)
 
-byte_by : (b : ℕ) (m p : Bool) → is_mark b ≡ m → is_visible b ≡ p → Plain (if m then 92 ∷ b ∷ [] else if p then b ∷ [] else hex_escape b)
-byte_by b true p e f = mark_printed b e
-byte_by b false true e f = cons b [] f refl
-byte_by b false false e f = escape b
+byte_by : (form : Form) (b : ℕ) (m p : Bool) → is_mark b ≡ m → is_visible b ≡ p → Plain (if m then 92 ∷ b ∷ [] else if p then b ∷ [] else hex_escape form b)
+byte_by form b true p e f = mark_printed b e
+byte_by form b false true e f = cons b [] f refl
+byte_by form b false false e f = escape form b
 
-byte : (b : ℕ) → Plain (escaped_byte b)
-byte b = byte_by b (is_mark b) (is_visible b) refl refl
+byte : (form : Form) (b : ℕ) → Plain (escaped_byte form b)
+byte form b = byte_by form b (is_mark b) (is_visible b) refl refl
 
-char_by : (c : ℕ) (m p : Bool) → IsScalar c → is_mark c ≡ m → is_printable c ≡ p → IsPrinted (if m then 92 ∷ c ∷ [] else if p then encode_utf8 c else flat_map hex_escape (encode_utf8 c))
-char_by c true p s e f = plain (92 ∷ c ∷ []) (mark_printed c e)
-char_by c false true s e f = record { characters = c ∷ []; scalars = and_from (is_scalar c) true s refl; spelled = sym (append-nil (encode_utf8 c)); printed = and_from (is_printable c) true f refl }
-char_by c false false s e f = plain (flat_map hex_escape (encode_utf8 c)) (each hex_escape escape (encode_utf8 c))
+char_by : (form : Form) (c : ℕ) (m p : Bool) → IsScalar c → is_mark c ≡ m → is_printable c ≡ p → IsPrinted (if m then 92 ∷ c ∷ [] else if p then encode_utf8 c else unprinted form c)
+char_by form c true p s e f = plain (92 ∷ c ∷ []) (mark_printed c e)
+char_by form c false true s e f = record { characters = c ∷ []; scalars = and_from (is_scalar c) true s refl; spelled = sym (append-nil (encode_utf8 c)); printed = and_from (is_printable c) true f refl }
+char_by form c false false s e f = plain (unprinted form c) (by_digits form c)
 
-each_char : (cs : List ℕ) → all_scalars cs ≡ true → IsPrinted (flat_map escaped_char cs)
-each_char [] s = plain [] refl
-each_char (c ∷ cs) s =
+each_char : (form : Form) (cs : List ℕ) → all_scalars cs ≡ true → IsPrinted (flat_map (escaped_char form) cs)
+each_char form [] s = plain [] refl
+each_char form (c ∷ cs) s =
     let parts = and_parts (is_scalar c) (all_scalars cs) s in
-    subst IsPrinted (sym (flat_map-cons escaped_char c cs)) (join (escaped_char c) (flat_map escaped_char cs) (char_by c (is_mark c) (is_printable c) parts.0 refl refl) (each_char cs parts.1))
+    subst IsPrinted (sym (flat_map-cons (escaped_char form) c cs)) (join (escaped_char form c) (flat_map (escaped_char form) cs) (char_by form c (is_mark c) (is_printable c) parts.0 refl refl) (each_char form cs parts.1))
 
-escapes : (bytes : List ℕ) → IsPrinted (escaped bytes)
+no_character : (form : Form) (bytes : List ℕ) → Plain (broken form bytes)
+no_character Columns bytes = each (escaped_byte Columns) (byte Columns) bytes
+no_character Json bytes = refl
+
+escapes : (form : Form) (bytes : List ℕ) → IsPrinted (escaped form bytes)
 unfolding escaped
-escapes bytes =
+escapes form bytes =
     let n = utf8_valid_len bytes in
-    join (flat_map escaped_char (chars (take n bytes))) (flat_map escaped_byte (drop n bytes))
-    (each_char (chars (take n bytes)) (scalars-chars (take n bytes) (front_utf8 bytes))) (plain (flat_map escaped_byte (drop n bytes)) (each escaped_byte byte (drop n bytes)))
+    join (flat_map (escaped_char form) (chars (take n bytes))) (broken form (drop n bytes))
+    (each_char form (chars (take n bytes)) (scalars-chars (take n bytes) (front_utf8 bytes))) (plain (broken form (drop n bytes)) (no_character form (drop n bytes)))
 
-quote : (bytes : List ℕ) → IsPrinted (quoted bytes)
-quote bytes = join (34 ∷ []) (escaped bytes ++ 34 ∷ []) (plain (34 ∷ []) refl) (join (escaped bytes) (34 ∷ []) (escapes bytes) (plain (34 ∷ []) refl))
+quote : (form : Form) (bytes : List ℕ) → IsPrinted (quoted form bytes)
+quote form bytes = join (34 ∷ []) (escaped form bytes ++ 34 ∷ []) (plain (34 ∷ []) refl) (join (escaped form bytes) (34 ∷ []) (escapes form bytes) (plain (34 ∷ []) refl))
 
 hexes : (bytes : List ℕ) → IsPrinted (digits bytes)
 hexes bytes = plain (digits bytes) (cons 92 (120 ∷ flat_map hex_byte bytes) refl (cons 120 (flat_map hex_byte bytes) refl (each hex_byte hex bytes)))
@@ -190,7 +212,35 @@ cut show all limit bytes = either (nat_le (length bytes) limit) (show bytes) (sh
 
 val : (limit : ℕ) (bytes : List ℕ) → IsPrinted (value limit bytes)
 unfolding value
-val limit bytes = either (is_text bytes) (up_to limit quoted bytes) (up_to limit digits bytes) (cut quoted quote limit bytes) (cut digits hexes limit bytes)
+val limit bytes = either (is_text bytes) (up_to limit (quoted Columns) bytes) (up_to limit digits bytes) (cut (quoted Columns) (quote Columns) limit bytes) (cut digits hexes limit bytes)
+
+-- ---- in JSON
+
+-- between two texts
+around : (before xs behind : List ℕ) → Plain before → Plain behind → IsPrinted xs → IsPrinted (before ++ xs ++ behind)
+around before xs behind a b p = join (before ++ xs) behind (join before xs (plain before a) p) (plain behind b)
+
+how_long : (n : ℕ) → IsPrinted (long n)
+how_long n = around (codes ",\"bytes\":") (decimal n) (codes "}") refl refl (number n)
+
+json_texts : (limit : ℕ) (bytes : List ℕ) → IsPrinted (json_text limit bytes)
+unfolding json_text
+json_texts limit bytes =
+    either (nat_le (length bytes) limit) (quoted Json bytes) (codes "{\"text\":" ++ quoted Json (take limit bytes) ++ long (length bytes)) (quote Json bytes)
+    (join (codes "{\"text\":" ++ quoted Json (take limit bytes)) (long (length bytes)) (join (codes "{\"text\":") (quoted Json (take limit bytes)) (plain (codes "{\"text\":") refl) (quote Json (take limit bytes))) (how_long (length bytes)))
+
+json_hexes : (bytes : List ℕ) → IsPrinted (json_digits bytes)
+json_hexes bytes = around (codes "{\"hex\":\"") (flat_map hex_byte bytes) (34 ∷ []) refl refl (plain (flat_map hex_byte bytes) (each hex_byte hex bytes))
+
+json_digit : (limit : ℕ) (bytes : List ℕ) → IsPrinted (json_hex limit bytes)
+unfolding json_hex
+json_digit limit bytes =
+    either (nat_le (length bytes) limit) (json_digits bytes ++ 125 ∷ []) (json_digits (take limit bytes) ++ long (length bytes))
+    (join (json_digits bytes) (125 ∷ []) (json_hexes bytes) (plain (125 ∷ []) refl)) (join (json_digits (take limit bytes)) (long (length bytes)) (json_hexes (take limit bytes)) (how_long (length bytes)))
+
+json_val : (limit : ℕ) (bytes : List ℕ) → IsPrinted (json_value limit bytes)
+unfolding json_value
+json_val limit bytes = either (is_text bytes) (json_text limit bytes) (json_hex limit bytes) (json_texts limit bytes) (json_digit limit bytes)
 
 -- ---- lines
 
@@ -201,69 +251,109 @@ blank (suc n) = cons 32 (blanks n) refl (blank n)
 at_right : (width n : ℕ) → IsPrinted (right width n)
 at_right width n = join (blanks (width - length (decimal n))) (decimal n) (plain (blanks (width - length (decimal n))) (blank (width - length (decimal n)))) (number n)
 
-type_by : (oid : ℕ) (name : Option (List ℕ)) → IsPrinted (typed oid name)
-type_by oid None = number oid
-type_by oid (Some name) = join (decimal oid) (32 ∷ flat_map escaped_byte name) (number oid) (plain (32 ∷ flat_map escaped_byte name) (cons 32 (flat_map escaped_byte name) refl (each escaped_byte byte name)))
+word_of : (form : Form) (word : List ℕ) → Plain (flat_map (escaped_byte form) word)
+word_of form word = each (escaped_byte form) (byte form) word
+
+string_of : (word : List ℕ) → IsPrinted (string word)
+string_of word = plain (string word) (cons 34 (flat_map (escaped_byte Json) word ++ 34 ∷ []) refl (plain_join (flat_map (escaped_byte Json) word) (34 ∷ []) (word_of Json word) refl))
+
+named_by : (alone : Bool) (name : List ℕ) → IsPrinted (named alone name)
+named_by true name = plain (spelt name) (word_of Columns name)
+named_by false name = join (spelt name) (blanks (20 - length name)) (plain (spelt name) (word_of Columns name)) (plain (blanks (20 - length name)) (blank (20 - length name)))
+
+type_by : (name : Option (List ℕ)) → IsPrinted (type_name name)
+type_by None = plain [] refl
+type_by (Some name) = plain (32 ∷ spelt name) (cons 32 (spelt name) refl (word_of Columns name))
+
+json_type_by : (name : Option (List ℕ)) → IsPrinted (json_name name)
+json_type_by None = plain (codes "}") refl
+json_type_by (Some name) = around (codes ",\"name\":") (string name) (codes "}") refl refl (string_of name)
 
 part : (limit : ℕ) (p : Part) → IsPrinted (shown limit p)
-part limit (Word word) = plain (flat_map escaped_byte word) (each escaped_byte byte word)
+part limit (Length n) = at_right 8 n
+part limit (Tag tag) = plain (escaped_byte Columns tag) (byte Columns tag)
+part limit (Name alone name) = named_by alone name
+part limit (Refusal n) = join (codes "fault ") (decimal n) (plain (codes "fault ") refl) (number n)
+part limit (Word word) = plain (spelt word) (word_of Columns word)
 part limit (Number n) = plain (signed_decimal n) (plain_signed n)
-part limit (Left width word) = join (flat_map escaped_byte word) (blanks (width - length word)) (plain (flat_map escaped_byte word) (each escaped_byte byte word)) (plain (blanks (width - length word)) (blank (width - length word)))
-part limit (Right width n) = at_right width n
-part limit (Oid oid) = type_by oid (type_of oid)
-part limit (Tag tag) = plain (escaped_byte tag) (byte tag)
-part limit (Text bytes) = cut quoted quote limit bytes
+part limit (Oid oid) = join (decimal oid) (type_name (type_of oid)) (number oid) (type_by (type_of oid))
+part limit (Text bytes) = cut (quoted Columns) (quote Columns) limit bytes
 part limit (Value None) = plain (codes "NULL") refl
 part limit (Value (Some bytes)) = val limit bytes
-part limit (Hidden n) = join (codes "(" ++ decimal n) (codes " bytes)") (join (codes "(") (decimal n) (plain (codes "(") refl) (number n)) (plain (codes " bytes)") refl)
+part limit (Hidden n) = around (codes "(") (decimal n) (codes " bytes)") refl refl (number n)
 
-parts : (limit : ℕ) (line : List ℕ) (ps : List Part) → IsPrinted line → IsPrinted (followed limit line ps)
-parts limit line [] a = a
-parts limit line (p ∷ ps) a = parts limit (line ++ 32 ∷ shown limit p) ps (join line (32 ∷ shown limit p) a (join (32 ∷ []) (shown limit p) (plain (32 ∷ []) refl) (part limit p)))
+json_part : (limit : ℕ) (p : Part) → IsPrinted (json limit p)
+json_part limit (Length n) = join (codes "\"length\":") (decimal n) (plain (codes "\"length\":") refl) (number n)
+json_part limit (Tag tag) = join (codes "\"tag\":") (string (tag ∷ [])) (plain (codes "\"tag\":") refl) (string_of (tag ∷ []))
+json_part limit (Name alone name) = join (codes "\"message\":[") (string name) (plain (codes "\"message\":[") refl) (string_of name)
+json_part limit (Refusal n) = join (codes "\"fault\":[") (decimal n) (plain (codes "\"fault\":[") refl) (number n)
+json_part limit (Word word) = string_of word
+json_part limit (Number n) = plain (signed_decimal n) (plain_signed n)
+json_part limit (Oid oid) = join (codes "{\"oid\":" ++ decimal oid) (json_name (type_of oid)) (join (codes "{\"oid\":") (decimal oid) (plain (codes "{\"oid\":") refl) (number oid)) (json_type_by (type_of oid))
+json_part limit (Text bytes) = json_val limit bytes
+json_part limit (Value None) = plain (codes "null") refl
+json_part limit (Value (Some bytes)) = json_val limit bytes
+json_part limit (Hidden n) = around (codes "{\"bytes\":") (decimal n) (codes "}") refl refl (number n)
+
+one_part : (form : Form) (limit : ℕ) (p : Part) → IsPrinted (added_by form limit p)
+one_part Columns limit p = join (32 ∷ []) (shown limit p) (plain (32 ∷ []) refl) (part limit p)
+one_part Json limit p = join (44 ∷ []) (json limit p) (plain (44 ∷ []) refl) (json_part limit p)
+
+first : (form : Form) (place : ℕ) → IsPrinted (opening_by form place)
+first Columns place = at_right 10 place
+first Json place = join (codes "{\"offset\":") (decimal place) (plain (codes "{\"offset\":") refl) (number place)
+
+last : (form : Form) → IsPrinted (closing_by form)
+last Columns = plain [] refl
+last Json = plain (codes "]}") refl
+
+parts : (style : Style) (line : List ℕ) (ps : List Part) → IsPrinted line → IsPrinted (followed style line ps)
+parts style line [] a = a
+parts style line (p ∷ ps) a = parts style (line ++ added style p) ps (join line (added style p) a (one_part style.form style.limit p))
 
 -- what goes on by parts
-goes : (limit : ℕ) (old new : List ℕ) (ps : List Part) → IsPrinted old → new ≡ followed limit old ps → IsPrinted new
-goes limit old new ps a e = subst IsPrinted (sym e) (parts limit old ps a)
+goes : (style : Style) (old new : List ℕ) (ps : List Part) → IsPrinted old → new ≡ followed style old ps → IsPrinted new
+goes style old new ps a e = subst IsPrinted (sym e) (parts style old ps a)
 
-texts : (limit : ℕ) (utf8 : Type 0) (ps : List Part) (body old new : List ℕ) → IsPrinted old → ShowsTexts limit utf8 ps body old new → IsPrinted new
-texts limit utf8 ps body old new a (inl h) = goes limit old new ps a h.1
-texts limit utf8 ps body old new a (inr h) = goes limit old new (bare body) a h.1
+texts : (style : Style) (utf8 : Type 0) (ps : List Part) (body old new : List ℕ) → IsPrinted old → ShowsTexts style utf8 ps body old new → IsPrinted new
+texts style utf8 ps body old new a (inl h) = goes style old new ps a h.1
+texts style utf8 ps body old new a (inr h) = goes style old new (bare body) a h.1
 
-counted : {V : Type 0} (Spelled : ℕ → V → List ℕ → Type 0) (Refused : List ℕ → Error → Type 0) (each : V → List Part) (limit count : ℕ) (bytes old new : List ℕ) → IsPrinted old → ShowsCounted Spelled Refused each limit count bytes old new → IsPrinted new
-counted Spelled Refused each limit count bytes old new a s = goes limit old new (Number (pos count) ∷ list_of each s.items s.end) a s.text
+counted : {V : Type 0} (Spelled : ℕ → V → List ℕ → Type 0) (Refused : List ℕ → Error → Type 0) (each : V → List Part) (style : Style) (count : ℕ) (bytes old new : List ℕ) → IsPrinted old → ShowsCounted Spelled Refused each style count bytes old new → IsPrinted new
+counted Spelled Refused each style count bytes old new a s = goes style old new (Number (pos count) ∷ list_of each s.items s.end) a s.text
 
-marked : {V : Type 0} (Spelled : ℕ → V → List ℕ → Type 0) (Refused : List ℕ → Error → Type 0) (each : V → List Part) (limit : ℕ) (bytes old new : List ℕ) → IsPrinted old → ShowsMarked Spelled Refused each limit bytes old new → IsPrinted new
-marked Spelled Refused each limit bytes old new a s = goes limit old new (list_of each s.items s.end) a s.text
+marked : {V : Type 0} (Spelled : ℕ → V → List ℕ → Type 0) (Refused : List ℕ → Error → Type 0) (each : V → List Part) (style : Style) (bytes old new : List ℕ) → IsPrinted old → ShowsMarked Spelled Refused each style bytes old new → IsPrinted new
+marked Spelled Refused each style bytes old new a s = goes style old new (list_of each s.items s.end) a s.text
 
 says : (style : Style) (m : Message) (old new : List ℕ) → IsPrinted old → Shows style m old new → IsPrinted new
-says style (Authentication (AuthenticationMd5Password salt)) old new a s = goes style.limit old new (Word (codes "salt") ∷ secret style salt ∷ []) a s
-says style (Authentication (AuthenticationGssContinue bytes)) old new a s = goes style.limit old new (Word (codes "data") ∷ secret style bytes ∷ []) a s
+says style (Authentication (AuthenticationMd5Password salt)) old new a s = goes style old new (Word (codes "salt") ∷ secret style salt ∷ []) a s
+says style (Authentication (AuthenticationGssContinue bytes)) old new a s = goes style old new (Word (codes "data") ∷ secret style bytes ∷ []) a s
 says style (Authentication (AuthenticationSasl bytes)) old new a s =
-    marked TextSpelled TextRefused text_part style.limit bytes (followed style.limit old (Word (codes "mechanisms") ∷ [])) new (parts style.limit old (Word (codes "mechanisms") ∷ []) a) s
-says style (Authentication (AuthenticationSaslContinue bytes)) old new a s = goes style.limit old new (Word (codes "data") ∷ secret style bytes ∷ []) a s
-says style (Authentication (AuthenticationSaslFinal bytes)) old new a s = goes style.limit old new (Word (codes "data") ∷ secret style bytes ∷ []) a s
-says style (NotificationResponse n) old new a s = texts style.limit (IsUtf8 n.channel × IsUtf8 n.message)
+    marked TextSpelled TextRefused text_part style bytes (followed style old (Word (codes "mechanisms") ∷ [])) new (parts style old (Word (codes "mechanisms") ∷ []) a) s
+says style (Authentication (AuthenticationSaslContinue bytes)) old new a s = goes style old new (Word (codes "data") ∷ secret style bytes ∷ []) a s
+says style (Authentication (AuthenticationSaslFinal bytes)) old new a s = goes style old new (Word (codes "data") ∷ secret style bytes ∷ []) a s
+says style (NotificationResponse n) old new a s = texts style (IsUtf8 n.channel × IsUtf8 n.message)
     (Word (codes "process") ∷ Number n.process_id ∷ Word (codes "channel") ∷ Text n.channel ∷ Word (codes "payload") ∷ Text n.message ∷ []) (payload_of (NotificationResponse n)) old new a s
-says style (CommandComplete tag) old new a s = texts style.limit (IsUtf8 tag) (Word (codes "tag") ∷ Text tag ∷ []) (payload_of (CommandComplete tag)) old new a s
+says style (CommandComplete tag) old new a s = texts style (IsUtf8 tag) (Word (codes "tag") ∷ Text tag ∷ []) (payload_of (CommandComplete tag)) old new a s
 says style (DataRow row) old new a s =
-    counted RangeSpelled RangeRefused (value_part row.storage) style.limit row.count row.storage (followed style.limit old (Word (codes "values") ∷ [])) new (parts style.limit old (Word (codes "values") ∷ []) a) s
-says style (ErrorResponse bytes) old new a s = marked ErrorFieldSpelled ErrorFieldRefused field_parts style.limit bytes old new a s
+    counted RangeSpelled RangeRefused (value_part row.storage) style row.count row.storage (followed style old (Word (codes "values") ∷ [])) new (parts style old (Word (codes "values") ∷ []) a) s
+says style (ErrorResponse bytes) old new a s = marked ErrorFieldSpelled ErrorFieldRefused field_parts style bytes old new a s
 says style (CopyInResponse copy) old new a s =
-    counted FormatSpelled FormatRefused number_part style.limit copy.count copy.storage (followed style.limit old (Word (codes "format") ∷ Number (pos copy.format) ∷ Word (codes "columns") ∷ [])) new (parts style.limit old (Word (codes "format") ∷ Number (pos copy.format) ∷ Word (codes "columns") ∷ []) a) s
+    counted FormatSpelled FormatRefused number_part style copy.count copy.storage (followed style old (Word (codes "format") ∷ Number (pos copy.format) ∷ Word (codes "columns") ∷ [])) new (parts style old (Word (codes "format") ∷ Number (pos copy.format) ∷ Word (codes "columns") ∷ []) a) s
 says style (CopyOutResponse copy) old new a s =
-    counted FormatSpelled FormatRefused number_part style.limit copy.count copy.storage (followed style.limit old (Word (codes "format") ∷ Number (pos copy.format) ∷ Word (codes "columns") ∷ [])) new (parts style.limit old (Word (codes "format") ∷ Number (pos copy.format) ∷ Word (codes "columns") ∷ []) a) s
-says style (BackendKeyData key) old new a s = goes style.limit old new (Word (codes "process") ∷ Number key.process_id ∷ Word (codes "key") ∷ secret style key.secret_key ∷ []) a s
+    counted FormatSpelled FormatRefused number_part style copy.count copy.storage (followed style old (Word (codes "format") ∷ Number (pos copy.format) ∷ Word (codes "columns") ∷ [])) new (parts style old (Word (codes "format") ∷ Number (pos copy.format) ∷ Word (codes "columns") ∷ []) a) s
+says style (BackendKeyData key) old new a s = goes style old new (Word (codes "process") ∷ Number key.process_id ∷ Word (codes "key") ∷ secret style key.secret_key ∷ []) a s
 says style (NegotiateProtocolVersion n) old new a s =
-    counted TextSpelled TextRefused text_part style.limit n.count n.options (followed style.limit old (Word (codes "version") ∷ Number n.version ∷ Word (codes "options") ∷ [])) new (parts style.limit old (Word (codes "version") ∷ Number n.version ∷ Word (codes "options") ∷ []) a) s
-says style (NoticeResponse bytes) old new a s = marked ErrorFieldSpelled ErrorFieldRefused field_parts style.limit bytes old new a s
-says style (ParameterStatus setting) old new a s = texts style.limit (IsUtf8 setting.name × IsUtf8 setting.value)
+    counted TextSpelled TextRefused text_part style n.count n.options (followed style old (Word (codes "version") ∷ Number n.version ∷ Word (codes "options") ∷ [])) new (parts style old (Word (codes "version") ∷ Number n.version ∷ Word (codes "options") ∷ []) a) s
+says style (NoticeResponse bytes) old new a s = marked ErrorFieldSpelled ErrorFieldRefused field_parts style bytes old new a s
+says style (ParameterStatus setting) old new a s = texts style (IsUtf8 setting.name × IsUtf8 setting.value)
     (Word (codes "name") ∷ Text setting.name ∷ Word (codes "value") ∷ Text setting.value ∷ []) (payload_of (ParameterStatus setting)) old new a s
 says style (RowDescription row) old new a s =
-    counted FieldSpelled FieldRefused column_parts style.limit row.count row.storage (followed style.limit old (Word (codes "columns") ∷ [])) new (parts style.limit old (Word (codes "columns") ∷ []) a) s
-says style (ReadyForQuery status) old new a s = goes style.limit old new (Word (name_or (state_of status) status) ∷ []) a s
-says style (CopyData bytes) old new a s = goes style.limit old new (Word (codes "data") ∷ Value (Some bytes) ∷ []) a s
+    counted FieldSpelled FieldRefused column_parts style row.count row.storage (followed style old (Word (codes "columns") ∷ [])) new (parts style old (Word (codes "columns") ∷ []) a) s
+says style (ReadyForQuery status) old new a s = goes style old new (Word (name_or (state_of status) status) ∷ []) a s
+says style (CopyData bytes) old new a s = goes style old new (Word (codes "data") ∷ Value (Some bytes) ∷ []) a s
 says style (ParameterDescription row) old new a s =
-    counted TypeSpelled TypeRefused type_part style.limit row.count row.storage (followed style.limit old (Word (codes "types") ∷ [])) new (parts style.limit old (Word (codes "types") ∷ []) a) s
+    counted TypeSpelled TypeRefused type_part style row.count row.storage (followed style old (Word (codes "types") ∷ [])) new (parts style old (Word (codes "types") ∷ []) a) s
 says style (Authentication AuthenticationOk) old new a s = subst IsPrinted (sym s) a
 says style (Authentication AuthenticationKerberosV5) old new a s = subst IsPrinted (sym s) a
 says style (Authentication AuthenticationCleartextPassword) old new a s = subst IsPrinted (sym s) a
@@ -279,27 +369,28 @@ says style NoData old new a s = subst IsPrinted (sym s) a
 says style PortalSuspended old new a s = subst IsPrinted (sym s) a
 
 result : (style : Style) (r : Result Message Error) (old new : List ℕ) → IsPrinted old → GoesOn style r old new → IsPrinted new
-result style (Ok m) old new a g = says style m (followed 0 old (called m ∷ [])) new (parts 0 old (called m ∷ []) a) g
-result style (Err e) old new a g = goes 0 old new (fault e) a g
+result style (Ok m) old new a g = says style m (followed style old (called m ∷ [])) new (parts style old (called m ∷ []) a) g
+result style (Err e) old new a g = goes style old new (refused e) a g
 
 server_line : (style : Style) (place : ℕ) (f : Frame) (line : List ℕ) → IsLineOf style place f line → (text : List ℕ) × (line ≡ text ++ 10 ∷ []) × IsPrinted text
-server_line style place f line is = (is.text, is.ended, result style is.result (front place f) is.text (parts 0 (right 10 place) (Right 8 (length (frame_bytes f)) ∷ Tag f.tag ∷ []) (at_right 10 place)) is.told)
+server_line style place f line is = (is.text ++ closing style, is.ended, join is.text (closing style) (result style is.result (front style place f) is.text (parts style (opening style place) (Length (length (frame_bytes f)) ∷ Tag f.tag ∷ []) (first style.form place)) is.told) (last style.form))
 
-groups : (limit : ℕ) (line : List ℕ) (gs : List (List Part)) → IsPrinted line → IsPrinted (grouped limit line gs)
-groups limit line [] a = a
-groups limit line (ps ∷ gs) a = groups limit (followed limit line ps) gs (parts limit line ps a)
+groups : (style : Style) (line : List ℕ) (gs : List (List Part)) → IsPrinted line → IsPrinted (grouped style line gs)
+groups style line [] a = a
+groups style line (ps ∷ gs) a = groups style (followed style line ps) gs (parts style line ps a)
 
 client : (style : Style) (told : Bool) (r : Result AnyMessage ClientError) (old : List ℕ) → IsPrinted old → IsPrinted (client_line style told r old)
-client style told (Ok x) old a = groups style.limit (followed 0 old (client_called told x ∷ [])) (client_groups style told x) (parts 0 old (client_called told x ∷ []) a)
-client style told (Err e) old a = parts 0 old (refusal_parts e) a
+client style told (Ok x) old a = groups style (followed style old (client_called told x ∷ [])) (client_groups style told x) (parts style old (client_called told x ∷ []) a)
+client style told (Err e) old a = parts style old (refusal_parts e) a
 
-begun : (place : ℕ) (opened : Bool) (frame : List ℕ) → IsPrinted (client_front place opened frame)
-begun place opened frame = parts 0 (right 10 place) (Right 8 (length frame) ∷ Tag (client_tag opened frame) ∷ []) (at_right 10 place)
+begun : (style : Style) (place : ℕ) (opened : Bool) (frame : List ℕ) → IsPrinted (client_front style place opened frame)
+begun style place opened frame = parts style (opening style place) (Length (length frame) ∷ Tag (client_tag opened frame) ∷ []) (first style.form place)
 
 pub line_printable : (style : Style) (place : ℕ) (from to : Side) (frame line : List ℕ) → LineOf style place from frame line to → (text : List ℕ) × (line ≡ text ++ 10 ∷ []) × IsPrinted text
 line_printable style place Server to frame line is = server_line style place is.0.first line is.0.told
-line_printable style place (Client opened kinds) to frame line is = (
-  client_line style (is_told kinds) is.told.result (client_front place opened frame),
-  is.told.told,
-  client style (is_told kinds) is.told.result (client_front place opened frame) (begun place opened frame),
-)
+line_printable style place (Client opened kinds) to frame line is =
+    let text = client_line style (is_told kinds) is.told.result (client_front style place opened frame) in (
+      text ++ closing style,
+      is.told.told,
+      join text (closing style) (client style (is_told kinds) is.told.result (client_front style place opened frame) (begun style place opened frame)) (last style.form),
+    )

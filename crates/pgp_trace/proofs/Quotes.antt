@@ -10,8 +10,10 @@ use Rattle.std.proofs.lemmas.Bool.{eqb-true, eqb-false, leb-true, leb-false, le-
 use Rattle.std.proofs.lemmas.List.{append-nil, take-append-drop}
 use Rattle.std.proofs.lemmas.List.Concat.{flat_map-cons}
 use Rattle.std.proofs.lemmas.Str.{encode_ascii, encodes-chars, inside_one}
-use Rattle.pgp_trace.specs.Quoting.{digits, hex_digit, hex_byte, hex_escape, is_mark, is_printable, is_text, is_visible, escaped_byte, escaped_char, escaped, quoted, value, up_to}
+use Rattle.pgp_trace.specs.Quoting.{digits, hex_digit, hex_byte, hex_escape, is_mark, is_printable, is_text, is_visible, escaped_byte, escaped_char, escaped, quoted, unprinted, value, up_to}
 use Rattle.pgp_trace.proofs.Escapes.{front_utf8}
+use Rattle.pgp_trace.specs.declared.style.Form.{Form}
+use Rattle.pgp_trace.specs.declared.style.Form.TheVariants.{Columns, Json}
 use Rattle.pgp_trace.specs.Line.{Value, shown}
 
 -- ---- hex digits
@@ -47,31 +49,31 @@ hex_one b c r s x y e = (
 -- ---- bytes
 
 -- how a byte is escaped
-abbrev Mark : ℕ → Type 0
+abbrev pub Mark : ℕ → Type 0
 Mark b = (b ≡ 34) ⊎ (b ≡ 92)
 
 abbrev Escape : ℕ → List ℕ → Type 0
 Escape b e = (Mark b × (e ≡ 92 ∷ b ∷ [])) ⊎ ((b ≢ 34) × (b ≢ 92) × (e ≡ b ∷ [])) ⊎ (e ≡ 92 ∷ 120 ∷ hex_byte b)
 
-mark_by : (b : ℕ) (x y : Bool) → (b == 34) ≡ x → (b == 92) ≡ y → (x || y) ≡ true → Mark b
+pub mark_by : (b : ℕ) (x y : Bool) → (b == 34) ≡ x → (b == 92) ≡ y → (x || y) ≡ true → Mark b
 mark_by b true y e f h = inl (eqb-true b 34 e)
 mark_by b false true e f h = inr (eqb-true b 92 f)
 mark_by b false false e f h = absurd cc
 
-unmarked_by : (b : ℕ) (x y : Bool) → (b == 34) ≡ x → (b == 92) ≡ y → (x || y) ≡ false → (b ≢ 34) × (b ≢ 92)
+pub unmarked_by : (b : ℕ) (x y : Bool) → (b == 34) ≡ x → (b == 92) ≡ y → (x || y) ≡ false → (b ≢ 34) × (b ≢ 92)
 unmarked_by b true y e f h = absurd cc
 unmarked_by b false true e f h = absurd cc
 unmarked_by b false false e f h = (eqb-false b 34 e, eqb-false b 92 f)
 
-escape_by : (b : ℕ) (m p : Bool) → is_mark b ≡ m → Escape b (if m then 92 ∷ b ∷ [] else if p then b ∷ [] else hex_escape b)
+escape_by : (b : ℕ) (m p : Bool) → is_mark b ≡ m → Escape b (if m then 92 ∷ b ∷ [] else if p then b ∷ [] else hex_escape Columns b)
 escape_by b true p e = inl (mark_by b (b == 34) (b == 92) refl refl e, refl)
 escape_by b false true e = let none = unmarked_by b (b == 34) (b == 92) refl refl e in inr (inl (none.0, none.1, refl))
 escape_by b false false e = inr (inr refl)
 
-escape_of : (b : ℕ) → Escape b (escaped_byte b)
+escape_of : (b : ℕ) → Escape b (escaped_byte Columns b)
 escape_of b = escape_by b (is_mark b) (is_visible b) refl
 
-low_mark : (b : ℕ) → Mark b → b < 128
+pub low_mark : (b : ℕ) → Mark b → b < 128
 low_mark b (inl e) = omega (arith, e)
 low_mark b (inr e) = omega (arith, e)
 
@@ -142,41 +144,41 @@ spells_same [] all = NoBytes
 spells_same (b ∷ bs) all = OneByte b (b ∷ []) (inr (inl (all.0.0, all.0.1, refl))) (spells_same bs all.1)
 
 -- bytes of which none is a mark
-unmarked_all : (bs : List ℕ) → ((k : ℕ) → k < length bs → (get_or bs k 0 ≢ 34) × (get_or bs k 0 ≢ 92)) → AllByRecursion (λ b. (b ≢ 34) × (b ≢ 92)) bs
+pub unmarked_all : (bs : List ℕ) → ((k : ℕ) → k < length bs → (get_or bs k 0 ≢ 34) × (get_or bs k 0 ≢ 92)) → AllByRecursion (λ b. (b ≢ 34) × (b ≢ 92)) bs
 unmarked_all [] h = tt
 unmarked_all (b ∷ bs) h = (h 0 (omega arith), unmarked_all bs (λ k lt. h (suc k) (omega (arith, lt))))
 
 -- a character of which a byte is one of ASCII is that byte
-never_inside : (c k m : ℕ) → m < 128 → k < length (encode_utf8 c) → c ≢ m → get_or (encode_utf8 c) k 0 ≢ m
+pub never_inside : (c k m : ℕ) → m < 128 → k < length (encode_utf8 c) → c ≢ m → get_or (encode_utf8 c) k 0 ≢ m
 never_inside c k m low lt other e = other (inside_one c [] (encode_utf8 c) k (sym (append-nil (encode_utf8 c))) lt (omega (arith, e, low)) ∙ e)
 
-spells_char_by : (c : ℕ) (m p : Bool) → is_mark c ≡ m → Spells (encode_utf8 c) (if m then 92 ∷ c ∷ [] else if p then encode_utf8 c else flat_map hex_escape (encode_utf8 c))
+spells_char_by : (c : ℕ) (m p : Bool) → is_mark c ≡ m → Spells (encode_utf8 c) (if m then 92 ∷ c ∷ [] else if p then encode_utf8 c else unprinted Columns c)
 spells_char_by c true p e =
     let mark = mark_by c (c == 34) (c == 92) refl refl e in
     subst (λ l. Spells l (92 ∷ c ∷ [])) (sym (encode_ascii c (low_mark c mark))) (OneByte c (92 ∷ c ∷ []) (inl (mark, refl)) NoBytes)
 spells_char_by c false true e =
     let none = unmarked_by c (c == 34) (c == 92) refl refl e in
     spells_same (encode_utf8 c) (unmarked_all (encode_utf8 c) (λ k lt. (never_inside c k 34 (omega arith) lt none.0, never_inside c k 92 (omega arith) lt none.1)))
-spells_char_by c false false e = spells_each hex_escape (λ b. inr (inr refl)) (encode_utf8 c)
+spells_char_by c false false e = spells_each (hex_escape Columns) (λ b. inr (inr refl)) (encode_utf8 c)
 
-spells_char : (c : ℕ) → Spells (encode_utf8 c) (escaped_char c)
+spells_char : (c : ℕ) → Spells (encode_utf8 c) (escaped_char Columns c)
 spells_char c = spells_char_by c (is_mark c) (is_printable c) refl
 
-spells_chars : (cs : List ℕ) → Spells (encode_utf8_all cs) (flat_map escaped_char cs)
+spells_chars : (cs : List ℕ) → Spells (encode_utf8_all cs) (flat_map (escaped_char Columns) cs)
 spells_chars [] = NoBytes
-spells_chars (c ∷ cs) = subst (Spells (encode_utf8 c ++ encode_utf8_all cs)) (sym (flat_map-cons escaped_char c cs)) (spells_join (spells_char c) (spells_chars cs))
+spells_chars (c ∷ cs) = subst (Spells (encode_utf8 c ++ encode_utf8_all cs)) (sym (flat_map-cons (escaped_char Columns) c cs)) (spells_join (spells_char c) (spells_chars cs))
 
-spells_text : (bytes : List ℕ) → IsUtf8 bytes → Spells bytes (flat_map escaped_char (chars bytes))
-spells_text bytes u = subst (λ l. Spells l (flat_map escaped_char (chars bytes))) (encodes-chars bytes u) (spells_chars (chars bytes))
+spells_text : (bytes : List ℕ) → IsUtf8 bytes → Spells bytes (flat_map (escaped_char Columns) (chars bytes))
+spells_text bytes u = subst (λ l. Spells l (flat_map (escaped_char Columns) (chars bytes))) (encodes-chars bytes u) (spells_chars (chars bytes))
 
 -- what is escaped spells the bytes
-spells_escaped : (bytes : List ℕ) → Spells bytes (escaped bytes)
+spells_escaped : (bytes : List ℕ) → Spells bytes (escaped Columns bytes)
 unfolding escaped
 spells_escaped bytes =
     let n = utf8_valid_len bytes in
-    subst (λ l. Spells l (escaped bytes)) (take-append-drop n bytes) (spells_join (spells_text (take n bytes) (front_utf8 bytes)) (spells_each escaped_byte escape_of (drop n bytes)))
+    subst (λ l. Spells l (escaped Columns bytes)) (take-append-drop n bytes) (spells_join (spells_text (take n bytes) (front_utf8 bytes)) (spells_each (escaped_byte Columns) escape_of (drop n bytes)))
 
-abbrev Same : List ℕ → List ℕ → List ℕ → List ℕ → Type 0
+abbrev pub Same : List ℕ → List ℕ → List ℕ → List ℕ → Type 0
 Same xs ys r s = (xs ≡ ys) × (r ≡ s)
 
 -- what spells bytes up to a quote spells no others
@@ -189,17 +191,17 @@ spelled_one r s (OneByte {bs} {out} c f way t) (OneByte {bs = cs} {out = more} d
     let rest = spelled_one r s t u x.1 y.1 first.1 in
     (ap (λ h. h ∷ bs) first.0 ∙ ap (λ l. d ∷ l) rest.0, rest.1)
 
-quoted_tail : (xs r : List ℕ) → quoted xs ++ r ≡ 34 ∷ (escaped xs ++ 34 ∷ r)
-quoted_tail xs r = ap (λ l. 34 ∷ l) (append_assoc (escaped xs) (34 ∷ []) r)
+pub quoted_tail : (form : Form) (xs r : List ℕ) → quoted form xs ++ r ≡ 34 ∷ (escaped form xs ++ 34 ∷ r)
+quoted_tail form xs r = ap (λ l. 34 ∷ l) (append_assoc (escaped form xs) (34 ∷ []) r)
 
 -- one text is quoted so, whatever follows it
-pub quoted_one : (xs ys r s : List ℕ) → AreBytes xs → AreBytes ys → quoted xs ++ r ≡ quoted ys ++ s → Same xs ys r s
-quoted_one xs ys r s a b e = spelled_one r s (spells_escaped xs) (spells_escaped ys) a b (ap (drop 1) (sym (quoted_tail xs r) ∙ e ∙ quoted_tail ys s))
+pub quoted_one : (xs ys r s : List ℕ) → AreBytes xs → AreBytes ys → quoted Columns xs ++ r ≡ quoted Columns ys ++ s → Same xs ys r s
+quoted_one xs ys r s a b e = spelled_one r s (spells_escaped xs) (spells_escaped ys) a b (ap (drop 1) (sym (quoted_tail Columns xs r) ∙ e ∙ quoted_tail Columns ys s))
 
 nil_cons : (x : ℕ) (xs : List ℕ) → [] ≡ x ∷ xs → ⊥
 nil_cons x xs e = absurd cc
 
-digits_all : (xs ys : List ℕ) → AreBytes xs → AreBytes ys → flat_map hex_byte xs ≡ flat_map hex_byte ys → xs ≡ ys
+pub digits_all : (xs ys : List ℕ) → AreBytes xs → AreBytes ys → flat_map hex_byte xs ≡ flat_map hex_byte ys → xs ≡ ys
 digits_all [] [] a b e = refl
 digits_all [] (y ∷ ys) a b e = absurd (nil_cons _ _ (e ∙ flat_map-cons hex_byte y ys))
 digits_all (x ∷ xs) [] a b e = absurd (nil_cons _ _ (sym e ∙ flat_map-cons hex_byte x xs))
@@ -218,10 +220,10 @@ unfolding up_to
 uncut limit show xs le = ap (λ (b : Bool). upto b limit show xs) (le-leb (length xs) limit le)
 
 value_by : (p q : Bool) (limit : ℕ) (xs ys : List ℕ) → AreBytes xs → AreBytes ys → length xs ≤ limit → length ys ≤ limit
-    → (if p then up_to limit quoted xs else up_to limit digits xs) ≡ (if q then up_to limit quoted ys else up_to limit digits ys) → xs ≡ ys
-value_by true true limit xs ys a b x y e = (quoted_one xs ys [] [] a b (ap (λ l. l ++ []) (sym (uncut limit quoted xs x) ∙ e ∙ uncut limit quoted ys y))).0
-value_by true false limit xs ys a b x y e = let n : 34 ≡ 92 = ap (λ l. get_or l 0 0) (sym (uncut limit quoted xs x) ∙ e ∙ uncut limit digits ys y) in absurd (omega (arith, n))
-value_by false true limit xs ys a b x y e = let n : 92 ≡ 34 = ap (λ l. get_or l 0 0) (sym (uncut limit digits xs x) ∙ e ∙ uncut limit quoted ys y) in absurd (omega (arith, n))
+    → (if p then up_to limit (quoted Columns) xs else up_to limit digits xs) ≡ (if q then up_to limit (quoted Columns) ys else up_to limit digits ys) → xs ≡ ys
+value_by true true limit xs ys a b x y e = (quoted_one xs ys [] [] a b (ap (λ l. l ++ []) (sym (uncut limit (quoted Columns) xs x) ∙ e ∙ uncut limit (quoted Columns) ys y))).0
+value_by true false limit xs ys a b x y e = let n : 34 ≡ 92 = ap (λ l. get_or l 0 0) (sym (uncut limit (quoted Columns) xs x) ∙ e ∙ uncut limit digits ys y) in absurd (omega (arith, n))
+value_by false true limit xs ys a b x y e = let n : 92 ≡ 34 = ap (λ l. get_or l 0 0) (sym (uncut limit digits xs x) ∙ e ∙ uncut limit (quoted Columns) ys y) in absurd (omega (arith, n))
 value_by false false limit xs ys a b x y e = digits_all xs ys a b (ap (drop 2) (sym (uncut limit digits xs x) ∙ e ∙ uncut limit digits ys y))
 
 pub short_values : (limit : ℕ) (xs ys : List ℕ) → AreBytes xs → AreBytes ys → length xs ≤ limit → length ys ≤ limit → shown limit (Value (Some xs)) ≡ shown limit (Value (Some ys)) → xs ≡ ys
@@ -235,9 +237,9 @@ begins false limit d show xs all some =
     ap (λ l. get_or l 0 0) (append_assoc (show (take limit xs) ++ codes " of ") (decimal (length xs)) (codes " bytes") ∙ append_assoc (show (take limit xs)) (codes " of ") (decimal (length xs) ++ codes " bytes"))
     ∙ get_or-append (show (take limit xs)) (codes " of " ++ (decimal (length xs) ++ codes " bytes")) 0 0 (some (take limit xs)) ∙ all (take limit xs)
 
-never_null : (text : Bool) (limit : ℕ) (xs : List ℕ) → (if text then up_to limit quoted xs else up_to limit digits xs) ≡ codes "NULL" → ⊥
+never_null : (text : Bool) (limit : ℕ) (xs : List ℕ) → (if text then up_to limit (quoted Columns) xs else up_to limit digits xs) ≡ codes "NULL" → ⊥
 unfolding up_to
-never_null true limit xs e = let n : 34 ≡ 78 = sym (begins (nat_le (length xs) limit) limit 34 quoted xs (λ b. refl) (λ b. omega arith)) ∙ ap (λ l. get_or l 0 0) e in absurd (omega (arith, n))
+never_null true limit xs e = let n : 34 ≡ 78 = sym (begins (nat_le (length xs) limit) limit 34 (quoted Columns) xs (λ b. refl) (λ b. omega arith)) ∙ ap (λ l. get_or l 0 0) e in absurd (omega (arith, n))
 never_null false limit xs e = let n : 92 ≡ 78 = sym (begins (nat_le (length xs) limit) limit 92 digits xs (λ b. refl) (λ b. omega arith)) ∙ ap (λ l. get_or l 0 0) e in absurd (omega (arith, n))
 
 pub never_shown_null : (limit : ℕ) (xs : List ℕ) → shown limit (Value (Some xs)) ≡ shown limit (Value None) → ⊥

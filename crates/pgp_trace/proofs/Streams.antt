@@ -9,7 +9,7 @@ use Rattle.pgp_message.specs.BackendMessage.{Message}
 use Rattle.pgp_message.specs.Stream.{Frame, frame_bytes, IsFrame}
 use Rattle.pgp_message.proofs.Runs.{front_is_one, each_push, pushed}
 use Rattle.pgp_trace.specs.declared.style.Style.{Style}
-use Rattle.pgp_trace.specs.Line.{Right, Tag, followed, right}
+use Rattle.pgp_trace.specs.Line.{Length, Tag, closing, followed, opening}
 use Rattle.pgp_trace.specs.Sides.{Side, Server}
 use Rattle.pgp_trace.proofs.Sides.{server_line}
 use Rattle.pgp_trace.specs.Listing.{GoesOn, IsLineOf, IsServerLine, Lines, NoLines, OneLine, front, place_behind}
@@ -74,25 +74,25 @@ one_last a b f g p q ff gg e =
 
 -- ---- lines
 
-same_front : (place : ℕ) (f g : Frame) → AlikeFrames f g → front place f ≡ front place g
-same_front place f g alike =
-    ap (λ n. followed 0 (right 10 place) (Right 8 n ∷ Tag f.tag ∷ [])) alike.long ∙ ap (λ t. followed 0 (right 10 place) (Right 8 (length (frame_bytes g)) ∷ Tag t ∷ [])) alike.tagged
+same_front : (style : Style) (place : ℕ) (f g : Frame) → AlikeFrames f g → front style place f ≡ front style place g
+same_front style place f g alike =
+    ap (λ n. followed style (opening style place) (Length n ∷ Tag f.tag ∷ [])) alike.long ∙ ap (λ t. followed style (opening style place) (Length (length (frame_bytes g)) ∷ Tag t ∷ [])) alike.tagged
 
-goes_on : (limit : ℕ) (r s : Result Message Error) (old new : List ℕ) → AlikeResults r s → GoesOn (quiet limit) r old new → GoesOn (quiet limit) s old new
-goes_on limit (Ok m) (Ok n) old new alike goes =
-    subst (λ w. Shows (quiet limit) n (followed 0 old (w ∷ [])) new) (same_call m n alike) (hidden limit m n _ new alike goes)
-goes_on limit (Err d) (Err e) old new alike goes = subst (λ k. GoesOn (quiet limit) (Err k) old new) alike goes
-goes_on limit (Ok m) (Err e) old new alike goes = absurd alike
-goes_on limit (Err d) (Ok n) old new alike goes = absurd alike
+goes_on : (style : Style) (r s : Result Message Error) (old new : List ℕ) → AlikeResults r s → GoesOn (quiet style) r old new → GoesOn (quiet style) s old new
+goes_on style (Ok m) (Ok n) old new alike goes =
+    subst (λ w. Shows (quiet style) n (followed (quiet style) old (w ∷ [])) new) (same_call m n alike) (hidden style m n _ new alike goes)
+goes_on style (Err d) (Err e) old new alike goes = subst (λ k. GoesOn (quiet style) (Err k) old new) alike goes
+goes_on style (Ok m) (Err e) old new alike goes = absurd alike
+goes_on style (Err d) (Ok n) old new alike goes = absurd alike
 
-line_hidden : (limit place : ℕ) (f g : Frame) (line : List ℕ) → AlikeFrames f g → IsLineOf (quiet limit) place f line → IsLineOf (quiet limit) place g line
-line_hidden limit place f g line alike is =
+line_hidden : (style : Style) (place : ℕ) (f g : Frame) (line : List ℕ) → AlikeFrames f g → IsLineOf (quiet style) place f line → IsLineOf (quiet style) place g line
+line_hidden style place f g line alike is =
     let (s, body, same) = alike.bodies is.result is.body in
     record {
       result = s;
       body = body;
       text = is.text;
-      told = goes_on limit is.result s (front place g) is.text same (subst (λ l. GoesOn (quiet limit) is.result l is.text) (same_front place f g alike) is.told);
+      told = goes_on style is.result s (front (quiet style) place g) is.text same (subst (λ l. GoesOn (quiet style) is.result l is.text) (same_front (quiet style) place f g alike) is.told);
       ended = is.ended;
     }
 
@@ -135,16 +135,16 @@ server_step : (style : Style) (start : ℕ) (bytes lines : List ℕ) (f : Frame)
     → IsLineOf style (place_behind (start + length bytes)) f line → Lines style start Server (bytes ++ frame_bytes f) (lines ++ line) Server
 server_step style start bytes lines f line before fits has = OneLine (frame_bytes f) line before (record { first = f; whole = refl; fits = fits; told = has }, refl)
 
-hidden_lines : (limit start : ℕ) (a lines : List ℕ) (to : Side) → Lines (quiet limit) start Server a lines to → (b : List ℕ) → AlikeStreams a b → Lines (quiet limit) start Server b lines Server
-hidden_lines limit start [] [] Server NoLines b alike = subst (λ l. Lines (quiet limit) start Server l [] Server) (sym (nothing_alike [] b alike refl)) NoLines
-hidden_lines limit start _ _ to (OneLine {bytes = bytes} {lines = lines} {here = here} frame line before has) b alike =
-    let is : IsServerLine (quiet limit) (place_behind (start + length bytes)) frame line = server_line (quiet limit) start (place_behind (start + length bytes)) bytes lines frame line here to before has in
+hidden_lines : (style : Style) (start : ℕ) (a lines : List ℕ) (to : Side) → Lines (quiet style) start Server a lines to → (b : List ℕ) → AlikeStreams a b → Lines (quiet style) start Server b lines Server
+hidden_lines style start [] [] Server NoLines b alike = subst (λ l. Lines (quiet style) start Server l [] Server) (sym (nothing_alike [] b alike refl)) NoLines
+hidden_lines style start _ _ to (OneLine {bytes = bytes} {lines = lines} {here = here} frame line before has) b alike =
+    let is : IsServerLine (quiet style) (place_behind (start + length bytes)) frame line = server_line (quiet style) start (place_behind (start + length bytes)) bytes lines frame line here to before has in
     let same : AlikeStreams (bytes ++ frame_bytes is.first) b = subst (λ l. AlikeStreams (bytes ++ l) b) is.whole alike in
-    let end = ends_alike (bytes ++ frame_bytes is.first) b same bytes is.first (listed_frames (quiet limit) start bytes lines here before) is.fits refl in
+    let end = ends_alike (bytes ++ frame_bytes is.first) b same bytes is.first (listed_frames (quiet style) start bytes lines here before) is.fits refl in
     let place : place_behind (start + length bytes) ≡ place_behind (start + length end.before) = ap (λ n. place_behind (start + n)) (same_length bytes end.before end.alike) in
-    subst (λ l. Lines (quiet limit) start Server l (lines ++ line) Server) (sym end.whole)
-    (server_step (quiet limit) start end.before lines end.last line (hidden_lines limit start bytes lines here before end.before end.alike) end.fits
-    (line_hidden limit (place_behind (start + length end.before)) is.first end.last line end.same (subst (λ p. IsLineOf (quiet limit) p is.first line) place is.told)))
+    subst (λ l. Lines (quiet style) start Server l (lines ++ line) Server) (sym end.whole)
+    (server_step (quiet style) start end.before lines end.last line (hidden_lines style start bytes lines here before end.before end.alike) end.fits
+    (line_hidden style (place_behind (start + length end.before)) is.first end.last line end.same (subst (λ p. IsLineOf (quiet style) p is.first line) place is.told)))
 
-pub streams_hidden : (limit start : ℕ) (a b lines : List ℕ) → AlikeStreams a b → Lines (quiet limit) start Server a lines Server → Lines (quiet limit) start Server b lines Server
-streams_hidden limit start a b lines alike listed = hidden_lines limit start a lines Server listed b alike
+pub streams_hidden : (style : Style) (start : ℕ) (a b lines : List ℕ) → AlikeStreams a b → Lines (quiet style) start Server a lines Server → Lines (quiet style) start Server b lines Server
+streams_hidden style start a b lines alike listed = hidden_lines style start a lines Server listed b alike

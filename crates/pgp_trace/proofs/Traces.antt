@@ -306,11 +306,11 @@ cut_here style from before after held t = record {
 }
 
 -- the end came
-pub all_written : (style : Style) (from : Side) (before after : Streams) (held : Held) (output : Option (List ℕ)) → Tracks style from before after held → IsAtEnd after.input → Appends after.output output (last_line held.stopped held.left)
+pub all_written : (style : Style) (from : Side) (before after : Streams) (held : Held) (output : Option (List ℕ)) → Tracks style from before after held → IsAtEnd after.input → Appends after.output output (last_line style held.stopped held.left)
     → IfSome before.input (λ bytes. WritesListing style from bytes before.output output)
 all_written style from before after held output t end last =
     Consumes-whole before.input after.input (t.front ++ t.rest) (λ bytes. WritesListing style from bytes before.output output) t.came end (record {
-      output = t.lines ++ last_line held.stopped held.left;
+      output = t.lines ++ last_line style held.stopped held.left;
       is = record {
         to = held.side;
         front = t.front;
@@ -320,23 +320,23 @@ all_written style from before after held output t end last =
         whole = refl;
         listed = t.listed;
         ending = t.holds.ending;
-        text = ap (λ n. t.lines ++ last_line held.stopped n) t.holds.count;
+        text = ap (λ n. t.lines ++ last_line style held.stopped n) t.holds.count;
       };
       written = Appends-trans before.output after.output output t.lines _ t.written last;
     })
 
 -- and the last line was written in part
-pub cut_last : (style : Style) (from : Side) (before after : Streams) (held : Held) (output : Option (List ℕ)) → Tracks style from before after held → IsAtEnd after.input → AppendsFront after.output output (last_line held.stopped held.left)
+pub cut_last : (style : Style) (from : Side) (before after : Streams) (held : Held) (output : Option (List ℕ)) → Tracks style from before after held → IsAtEnd after.input → AppendsFront after.output output (last_line style held.stopped held.left)
     → IsCutShort style from before (record { input = after.input; output = output })
 cut_last style from before after held output t end last = record {
   to = held.side;
   front = t.front;
   rest = t.rest;
   lines = t.lines;
-  text = t.lines ++ last_line held.stopped held.left;
+  text = t.lines ++ last_line style held.stopped held.left;
   came = t.came;
   listed = t.listed;
-  due = inr (record { stopped = held.stopped; end = end; ending = t.holds.ending; all = ap (λ n. t.lines ++ last_line held.stopped n) t.holds.count });
+  due = inr (record { stopped = held.stopped; end = end; ending = t.holds.ending; all = ap (λ n. t.lines ++ last_line style held.stopped n) t.holds.count });
   written = more_taken before.output after.output output t.lines _ t.written last;
 }
 
@@ -358,12 +358,12 @@ cut_nothing style from s = record {
 
 module _ {T E : Type 0} where
   pub end_written : (r : Result T E) (style : Style) (from : Side) (before : Streams) (now next middle output : Option (List ℕ)) (held : Held) → Tracks style from before (record { input = now; output = middle }) held
-      → Consumes now next [] → IsAtEnd next → OnOk r (Appends middle output (last_line held.stopped held.left)) → OnOk r (IfSome before.input (λ bytes. WritesListing style from bytes before.output output))
+      → Consumes now next [] → IsAtEnd next → OnOk r (Appends middle output (last_line style held.stopped held.left)) → OnOk r (IfSome before.input (λ bytes. WritesListing style from bytes before.output output))
   end_written (Ok x) style from before now next middle output held t none end last = all_written style from before (record { input = next; output = middle }) held output (tracks_none style from before now next middle held t none) end last
   end_written (Err e) style from before now next middle output held t none end last = tt
 
   pub end_cut : (r : Result T E) (style : Style) (from : Side) (before : Streams) (now next middle output : Option (List ℕ)) (held : Held) → Tracks style from before (record { input = now; output = middle }) held
-      → Consumes now next [] → IsAtEnd next → OnErr r (AppendsFront middle output (last_line held.stopped held.left)) → OnErr r (IsCutShort style from before (record { input = next; output = output }))
+      → Consumes now next [] → IsAtEnd next → OnErr r (AppendsFront middle output (last_line style held.stopped held.left)) → OnErr r (IsCutShort style from before (record { input = next; output = output }))
   end_cut (Ok x) style from before now next middle output held t none end last = tt
   end_cut (Err e) style from before now next middle output held t none end last = cut_last style from before (record { input = next; output = middle }) held output (tracks_none style from before now next middle held t none) end last
 

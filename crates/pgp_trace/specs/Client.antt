@@ -7,8 +7,8 @@ use Rattle.pgp_server.specs.OtherMessage.{AnyMessage, Ours, Other, FunctionCall,
 use Rattle.pgp_server.specs.declared.error.ClientError.{ClientError}
 use Rattle.pgp_server.specs.declared.error.ClientError.TheVariants.{UnknownPacket, Reading}
 use Rattle.pgp_trace.specs.declared.style.Style.{Style}
-use Rattle.pgp_trace.specs.Line.{Part, Word, Number, Text, Value, Hidden, followed, named}
-use Rattle.pgp_trace.specs.Shown.{fault, list_of, name_or, secret, type_part}
+use Rattle.pgp_trace.specs.Line.{Part, Name, Word, Number, Text, Value, Hidden, followed}
+use Rattle.pgp_trace.specs.Shown.{list_of, name_or, refused, secret, type_part}
 
 -- a message of tag `p` of which nothing is known but its tag
 abbrev pub some_password : List ℕ
@@ -118,19 +118,19 @@ client_says_nothing (Other GssEncRequest) = true
 client_says_nothing x = false
 
 abbrev pub client_called : Bool → AnyMessage → Part
-client_called told x = named (client_says_nothing x) (client_name told x)
+client_called told x = Name (client_says_nothing x) (client_name told x)
 
 -- a line with these groups of parts behind it
-abbrev pub grouped : ℕ → List ℕ → List (List Part) → List ℕ
-grouped limit line [] = line
-grouped limit line (parts ∷ groups) = grouped limit (followed limit line parts) groups
+abbrev pub grouped : Style → List ℕ → List (List Part) → List ℕ
+grouped style line [] = line
+grouped style line (parts ∷ groups) = grouped style (followed style line parts) groups
 
 -- why a frame is refused; a packet of unknown code is never passed, and so has no line
 abbrev pub refusal_parts : ClientError → List Part
-refusal_parts (Reading e) = fault e
-refusal_parts (UnknownPacket code) = Word (codes "packet") ∷ Number code ∷ []
+refusal_parts (Reading e) = refused e
+refusal_parts (UnknownPacket code) = Name true (codes "packet") ∷ Number code ∷ []
 
 -- the line goes on with the name of the message and what it says, or with the refusal
 abbrev pub client_line : Style → Bool → Result AnyMessage ClientError → List ℕ → List ℕ
-client_line style told (Ok x) old = grouped style.limit (followed 0 old (client_called told x ∷ [])) (client_groups style told x)
-client_line style told (Err e) old = followed 0 old (refusal_parts e)
+client_line style told (Ok x) old = grouped style (followed style old (client_called told x ∷ [])) (client_groups style told x)
+client_line style told (Err e) old = followed style old (refusal_parts e)

@@ -33,7 +33,7 @@ Asks words Help = words ≡ codes "--help" ∷ []
 Asks words Version = words ≡ codes "--version" ∷ []
 
 abbrev pub usage : List ℕ
-usage = codes "usage: pgtrace server [--full] [--secrets] | client [--full] [--secrets] [--password-kind password|initial|response].. | --help | --version" ++ 10 ∷ []
+usage = codes "usage: pgtrace server [--json] [--full] [--secrets] | client [--json] [--full] [--secrets] [--password-kind password|initial|response].. | --help | --version" ++ 10 ∷ []
 
 abbrev pub version : List ℕ
 version = codes "pgtrace 0.1.0" ++ 10 ∷ []

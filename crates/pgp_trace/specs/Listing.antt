@@ -11,28 +11,30 @@ use Rattle.pgp_server.specs.declared.error.ClientError.{ClientError}
 use Rattle.pgp_server.specs.declared.message.PasswordKind.{PasswordKind}
 use Rattle.pgp_trace.specs.Client.{client_line}
 use Rattle.pgp_trace.specs.Sides.{Side, Server, Client, Ends, expected, is_told, kinds_behind}
+use Rattle.pgp_trace.specs.declared.style.Form.{Form}
+use Rattle.pgp_trace.specs.declared.style.Form.TheVariants.{Columns, Json}
 use Rattle.pgp_trace.specs.declared.style.Style.{Style}
-use Rattle.pgp_trace.specs.Line.{Right, Tag, followed, right}
-use Rattle.pgp_trace.specs.Shown.{Shows, called, fault}
+use Rattle.pgp_trace.specs.Line.{Length, Tag, closing, followed, opening}
+use Rattle.pgp_trace.specs.Shown.{Shows, called, refused}
 use Rattle.pgp_program.specs.Taken.{AppendsFront}
 use Rattle.pgp_program.specs.Words.{greatest}
 
 -- what each line begins with: the place of the frame, how long it is, and its tag
-abbrev pub front : ℕ → Frame → List ℕ
-front place f = followed 0 (right 10 place) (Right 8 (length (frame_bytes f)) ∷ Tag f.tag ∷ [])
+abbrev pub front : Style → ℕ → Frame → List ℕ
+front style place f = followed style (opening style place) (Length (length (frame_bytes f)) ∷ Tag f.tag ∷ [])
 
 -- and how it goes on: with the name of the message and what it says, or with the refusal
 abbrev pub GoesOn : Style → Result Message Error → List ℕ → List ℕ → Type 0
-GoesOn style (Ok m) old new = Shows style m (followed 0 old (called m ∷ [])) new
-GoesOn style (Err e) old new = new ≡ followed 0 old (fault e)
+GoesOn style (Ok m) old new = Shows style m (followed style old (called m ∷ [])) new
+GoesOn style (Err e) old new = new ≡ followed style old (refused e)
 
 -- the line of a frame that stands at the place
 pub record IsLineOf (style : Style) (place : ℕ) (f : Frame) (line : List ℕ) : Type 0 where
   pub result : Result Message Error
   pub body : Body f.tag f.payload result
   pub text : List ℕ
-  pub told : GoesOn style result (front place f) text
-  pub ended : line ≡ text ++ 10 ∷ []
+  pub told : GoesOn style result (front style place f) text
+  pub ended : line ≡ text ++ closing style ++ 10 ∷ []
 
 -- the frame of a server, and its line
 pub record IsServerLine (style : Style) (place : ℕ) (frame line : List ℕ) : Type 0 where
@@ -46,14 +48,14 @@ abbrev pub client_tag : Bool → List ℕ → ℕ
 client_tag true frame = get_or frame 0 0
 client_tag false frame = 45
 
-abbrev pub client_front : ℕ → Bool → List ℕ → List ℕ
-client_front place opened frame = followed 0 (right 10 place) (Right 8 (length frame) ∷ Tag (client_tag opened frame) ∷ [])
+abbrev pub client_front : Style → ℕ → Bool → List ℕ → List ℕ
+client_front style place opened frame = followed style (opening style place) (Length (length frame) ∷ Tag (client_tag opened frame) ∷ [])
 
 -- The bytes are what a step of a server takes or passes that reads a client, and their line.
 pub record IsClientLine (style : Style) (place : ℕ) (opened : Bool) (kinds : List PasswordKind) (frame line : List ℕ) (now : Bool) : Type 0 where
   pub result : Result AnyMessage ClientError
   pub step : AnyStep (expected kinds) (record { bytes = frame; opened = opened }) (step_of result) (record { bytes = []; opened = now })
-  pub told : line ≡ client_line style (is_told kinds) result (client_front place opened frame) ++ 10 ∷ []
+  pub told : line ≡ client_line style (is_told kinds) result (client_front style place opened frame) ++ closing style ++ 10 ∷ []
 
 pub record IsNextLine (style : Style) (place : ℕ) (opened : Bool) (kinds : List PasswordKind) (frame line : List ℕ) (to : Side) : Type 0 where
   pub now : Bool
@@ -76,9 +78,14 @@ pub data Lines (style : Style) (start : ℕ) (from : Side) : List ℕ → List �
       → LineOf style (place_behind (start + length bytes)) here frame line to → Lines style start from (bytes ++ frame) (lines ++ line) to
 
 -- the last line, where so many bytes are left, as far as a number of the machine tells it
-abbrev pub last_line : Bool → ℕ → List ℕ
-last_line false n = codes "rest " ++ decimal n ++ 10 ∷ []
-last_line true n = codes "stopped rest " ++ decimal n ++ 10 ∷ []
+abbrev pub last_by : Form → Bool → ℕ → List ℕ
+last_by Columns false n = codes "rest " ++ decimal n
+last_by Columns true n = codes "stopped rest " ++ decimal n
+last_by Json false n = codes "{\"rest\":" ++ decimal n ++ codes ",\"stopped\":false}"
+last_by Json true n = codes "{\"rest\":" ++ decimal n ++ codes ",\"stopped\":true}"
+
+abbrev pub last_line : Style → Bool → ℕ → List ℕ
+last_line style stopped n = last_by style.form stopped n ++ 10 ∷ []
 
 -- What a reader has left, and what a writer holds.
 pub record Streams : Type 0 where
@@ -111,7 +118,7 @@ pub record IsListing (style : Style) (from : Side) (bytes output : List ℕ) : T
   pub whole : bytes ≡ front ++ rest
   pub listed : Lines style 0 from front lines to
   pub ending : Ends to stopped rest
-  pub text : output ≡ lines ++ last_line stopped (place_behind (length rest))
+  pub text : output ≡ lines ++ last_line style stopped (place_behind (length rest))
 
 -- that listing was written, and nothing else
 pub record WritesListing (style : Style) (from : Side) (bytes : List ℕ) (old new : Option (List ℕ)) : Type 0 where
@@ -120,11 +127,11 @@ pub record WritesListing (style : Style) (from : Side) (bytes : List ℕ) (old n
   pub written : Appends old new output
 
 -- the end of the input has come, and the last line is due
-pub record EndsWith (to : Side) (input : Option (List ℕ)) (rest lines text : List ℕ) : Type 0 where
+pub record EndsWith (style : Style) (to : Side) (input : Option (List ℕ)) (rest lines text : List ℕ) : Type 0 where
   pub stopped : Bool
   pub end : IsAtEnd input
   pub ending : Ends to stopped rest
-  pub all : text ≡ lines ++ last_line stopped (place_behind (length rest))
+  pub all : text ≡ lines ++ last_line style stopped (place_behind (length rest))
 
 -- A front of the lines of what came was written, and of the last one where it is due.
 pub record IsCutShort (style : Style) (from : Side) (before after : Streams) : Type 0 where
@@ -135,5 +142,5 @@ pub record IsCutShort (style : Style) (from : Side) (before after : Streams) : T
   pub text : List ℕ
   pub came : Consumes before.input after.input (front ++ rest)
   pub listed : Lines style 0 from front lines to
-  pub due : (text ≡ lines) ⊎ EndsWith to after.input rest lines text
+  pub due : (text ≡ lines) ⊎ EndsWith style to after.input rest lines text
   pub written : AppendsFront before.output after.output text

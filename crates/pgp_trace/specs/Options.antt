@@ -5,7 +5,8 @@ use Rattle.pgp_server.specs.declared.message.PasswordKind.{PasswordKind}
 use Rattle.pgp_server.specs.declared.message.PasswordKind.TheVariants.{Password, Initial, Response}
 use Rattle.pgp_program.specs.Words.{greatest}
 use Rattle.pgp_trace.specs.declared.options.Choice.{Choice}
-use Rattle.pgp_trace.specs.declared.options.Choice.TheVariants.{Full, Secrets, Kind}
+use Rattle.pgp_trace.specs.declared.options.Choice.TheVariants.{AsJson, Full, Secrets, Kind}
+use Rattle.pgp_trace.specs.declared.style.Form.TheVariants.{Columns, Json}
 use Rattle.pgp_trace.specs.declared.style.Style.{Style}
 
 abbrev pub kind_word : PasswordKind → List ℕ
@@ -15,34 +16,44 @@ kind_word Response = codes "response"
 
 -- the words of one
 abbrev pub spelled : Choice → List (List ℕ)
+spelled AsJson = codes "--json" ∷ []
 spelled Full = codes "--full" ∷ []
 spelled Secrets = codes "--secrets" ∷ []
 spelled (Kind kind) = codes "--password-kind" ∷ kind_word kind ∷ []
 
+abbrev pub is_json : Choice → Bool
+is_json AsJson = true
+is_json Full = false
+is_json Secrets = false
+is_json (Kind kind) = false
+
 abbrev pub is_full : Choice → Bool
+is_full AsJson = false
 is_full Full = true
 is_full Secrets = false
 is_full (Kind kind) = false
 
 abbrev pub is_secrets : Choice → Bool
+is_secrets AsJson = false
 is_secrets Full = false
 is_secrets Secrets = true
 is_secrets (Kind kind) = false
 
 abbrev pub kind_in : Choice → List PasswordKind
+kind_in AsJson = []
 kind_in Full = []
 kind_in Secrets = []
 kind_in (Kind kind) = kind ∷ []
 
--- 64 bytes of a text or a value are shown, or all of them; and secrets aren't, or are
-abbrev pub style_of : Bool → Bool → Style
-style_of full secrets = record { limit = (if full then greatest else 64); secrets = secrets }
+-- By a line of text or a JSON object; 64 bytes of a text or a value are shown, or all of them; and secrets aren't, or are
+abbrev pub style_of : Bool → Bool → Bool → Style
+style_of json full secrets = record { form = (if json then Json else Columns); limit = (if full then greatest else 64); secrets = secrets }
 
 -- The words are options, one after another, in any order. They ask for this style, and name these kinds in order.
 pub record AreOptions (words : List (List ℕ)) (style : Style) (kinds : List PasswordKind) : Type 0 where
   pub choices : List Choice
   pub spelling : words ≡ flat_map spelled choices
-  pub shown : style ≡ style_of (list_any is_full choices) (list_any is_secrets choices)
+  pub shown : style ≡ style_of (list_any is_json choices) (list_any is_full choices) (list_any is_secrets choices)
   pub named : kinds ≡ flat_map kind_in choices
 
 -- the words are no options

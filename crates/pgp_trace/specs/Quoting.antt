@@ -1,9 +1,11 @@
 -- How bytes stand in a line: by characters that a terminal prints.
-use Rattle.std.specs.Prelude.{◌≡◌, ℕ, ◌+◌, ◌/◌, ◌%◌, Bool, true, false, not, ◌||◌, ◌&&◌, nat_le, nat_lt, ◌==◌, if◌then◌else◌, List, [], ◌∷◌, ◌++◌, length, take, drop, codes, decimal}
+use Rattle.std.specs.Prelude.{◌≡◌, ℕ, ◌+◌, ◌-◌, ◌/◌, ◌%◌, Bool, true, false, not, ◌||◌, ◌&&◌, nat_le, nat_lt, ◌==◌, if◌then◌else◌, List, [], ◌∷◌, ◌++◌, length, take, drop, codes, decimal}
 use Rattle.std.specs.Char.{encode_utf8}
 use Rattle.std.specs.List.{flat_map, list_all, list_any}
 use Rattle.std.specs.Str.{all_scalars, chars, encode_utf8_all, is_utf8}
 use Rattle.std.specs.Str.Lossy.{utf8_valid_len}
+use Rattle.pgp_trace.specs.declared.style.Form.{Form}
+use Rattle.pgp_trace.specs.declared.style.Form.TheVariants.{Columns, Json}
 
 abbrev pub is_within : ℕ → ℕ → ℕ → Bool
 is_within first last c = nat_le first c && nat_le c last
@@ -61,27 +63,47 @@ hex_digit n = if nat_le n 9 then 48 + n else 87 + n
 abbrev pub hex_byte : ℕ → List ℕ
 hex_byte b = hex_digit (b / 16 % 16) ∷ hex_digit (b % 16) ∷ []
 
-abbrev pub hex_escape : ℕ → List ℕ
-hex_escape b = 92 ∷ 120 ∷ hex_byte b
+-- `\x` and the digits of a byte; JSON knows characters alone, and has there the one of that number
+abbrev pub hex_escape : Form → ℕ → List ℕ
+hex_escape Columns b = 92 ∷ 120 ∷ hex_byte b
+hex_escape Json b = 92 ∷ 117 ∷ 48 ∷ 48 ∷ hex_byte b
 
--- A character: a mark behind a backslash, another that is printed as it is, and of what isn't each byte as `\x` and two digits.
-abbrev pub escaped_char : ℕ → List ℕ
-escaped_char c = if is_mark c then 92 ∷ c ∷ [] else if is_printable c then encode_utf8 c else flat_map hex_escape (encode_utf8 c)
+-- `\u` and the four digits of a number
+abbrev pub unit : ℕ → List ℕ
+unit u = 92 ∷ 117 ∷ (hex_byte (u / 256) ++ hex_byte (u % 256))
+
+-- a character of JSON by its units of UTF-16
+abbrev pub units : ℕ → List ℕ
+units c = if nat_lt c 0x10000 then unit c else unit (0xD800 + (c - 0x10000) / 1024) ++ unit (0xDC00 + (c - 0x10000) % 1024)
+
+-- a character that isn't printed: each of its bytes
+abbrev pub unprinted : Form → ℕ → List ℕ
+unprinted Columns c = flat_map (hex_escape Columns) (encode_utf8 c)
+unprinted Json c = units c
+
+-- A character: a mark behind a backslash, another that is printed as it is, and what isn't by its digits.
+abbrev pub escaped_char : Form → ℕ → List ℕ
+escaped_char form c = if is_mark c then 92 ∷ c ∷ [] else if is_printable c then encode_utf8 c else unprinted form c
 
 -- a byte outside of a text, which is a character of ASCII or none
-abbrev pub escaped_byte : ℕ → List ℕ
-escaped_byte b = if is_mark b then 92 ∷ b ∷ [] else if is_visible b then b ∷ [] else hex_escape b
+abbrev pub escaped_byte : Form → ℕ → List ℕ
+escaped_byte form b = if is_mark b then 92 ∷ b ∷ [] else if is_visible b then b ∷ [] else hex_escape form b
+
+-- what is no character; JSON doesn't say it
+abbrev pub broken : Form → List ℕ → List ℕ
+broken Columns bytes = flat_map (escaped_byte Columns) bytes
+broken Json bytes = []
 
 -- the characters of so many bytes, and then bytes
-abbrev pub escaped_at : ℕ → List ℕ → List ℕ
-escaped_at n bytes = flat_map escaped_char (chars (take n bytes)) ++ flat_map escaped_byte (drop n bytes)
+abbrev pub escaped_at : Form → ℕ → List ℕ → List ℕ
+escaped_at form n bytes = flat_map (escaped_char form) (chars (take n bytes)) ++ broken form (drop n bytes)
 
 -- characters as far as the bytes are UTF-8, and bytes from there on
-unfoldable pub escaped : List ℕ → List ℕ
-escaped bytes = escaped_at (utf8_valid_len bytes) bytes
+unfoldable pub escaped : Form → List ℕ → List ℕ
+escaped form bytes = escaped_at form (utf8_valid_len bytes) bytes
 
-abbrev pub quoted : List ℕ → List ℕ
-quoted bytes = 34 ∷ (escaped bytes ++ 34 ∷ [])
+abbrev pub quoted : Form → List ℕ → List ℕ
+quoted form bytes = 34 ∷ (escaped form bytes ++ 34 ∷ [])
 
 abbrev pub digits : List ℕ → List ℕ
 digits bytes = 92 ∷ 120 ∷ flat_map hex_byte bytes
@@ -96,7 +118,23 @@ up_to limit show bytes = if nat_le (length bytes) limit then show bytes else sho
 
 -- a value: a text in quotes, and what is none as `\x` and its digits
 unfoldable pub value : ℕ → List ℕ → List ℕ
-value limit bytes = if is_text bytes then up_to limit quoted bytes else up_to limit digits bytes
+value limit bytes = if is_text bytes then up_to limit (quoted Columns) bytes else up_to limit digits bytes
+
+-- and in JSON: a string; or an object that has the front of a text, or hex digits, and how long the whole is where that isn't all
+abbrev pub long : ℕ → List ℕ
+long n = codes ",\"bytes\":" ++ decimal n ++ codes "}"
+
+unfoldable pub json_text : ℕ → List ℕ → List ℕ
+json_text limit bytes = if nat_le (length bytes) limit then quoted Json bytes else codes "{\"text\":" ++ quoted Json (take limit bytes) ++ long (length bytes)
+
+abbrev pub json_digits : List ℕ → List ℕ
+json_digits bytes = codes "{\"hex\":\"" ++ flat_map hex_byte bytes ++ 34 ∷ []
+
+unfoldable pub json_hex : ℕ → List ℕ → List ℕ
+json_hex limit bytes = if nat_le (length bytes) limit then json_digits bytes ++ 125 ∷ [] else json_digits (take limit bytes) ++ long (length bytes)
+
+unfoldable pub json_value : ℕ → List ℕ → List ℕ
+json_value limit bytes = if is_text bytes then json_text limit bytes else json_hex limit bytes
 
 -- characters that a terminal prints, in UTF-8
 pub record IsPrinted (text : List ℕ) : Type 0 where

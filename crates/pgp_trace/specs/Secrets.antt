@@ -15,8 +15,8 @@ Alike (BackendKeyData key) (BackendKeyData other) = (key.process_id ≡ other.pr
 Alike m n = m ≡ n
 
 -- secrets aren't shown
-abbrev pub quiet : ℕ → Style
-quiet limit = record { limit = limit; secrets = false }
+abbrev pub quiet : Style → Style
+quiet style = record { form = style.form; limit = style.limit; secrets = false }
 
 -- messages that are alike, or the same refusal
 abbrev pub AlikeResults : Result Message Error → Result Message Error → Type 0

@@ -9,11 +9,15 @@ use Rattle.pgp_message.specs.BackendMessage.{AuthenticationOk, AuthenticationKer
 use Rattle.pgp_message.specs.Items.{TextSpelled, TextRefused, FormatSpelled, FormatRefused, TypeSpelled, TypeRefused, RangeSpelled, RangeRefused, FieldPart, FieldSpelled, FieldRefused, ErrorPart, ErrorFieldSpelled, ErrorFieldRefused}
 use Rattle.pgp_message.specs.Parts.{CopyFormats}
 use Rattle.pgp_message.specs.Table.{value_at}
-use Rattle.pgp_trace.specs.Line.{Part, Word, Number, Oid, Text, Value, Hidden, followed, named}
+use Rattle.pgp_trace.specs.Line.{Part, Name, Refusal, Word, Number, Oid, Text, Value, Hidden, followed}
 use Rattle.pgp_trace.specs.declared.style.Style.{Style}
 use Rattle.pgp_trace.specs.Names.{name_of, refusal_of, field_of, state_of}
 
--- a refusal
+-- the refusal of a frame
+abbrev pub refused : Error → List Part
+refused e = Refusal (number_of e) ∷ Word (refusal_of e) ∷ []
+
+-- a refusal in a list
 abbrev pub fault : Error → List Part
 fault e = Word (codes "fault") ∷ Number (pos (number_of e)) ∷ Word (refusal_of e) ∷ []
 
@@ -61,32 +65,32 @@ column_parts column =
     ∷ Word (codes "format") ∷ Number column.format ∷ []
 
 -- Lines before and after a list that is announced with a count, or that a byte 0 ends, where `parts` are those of an item.
-pub record ShowsCounted {V : Type 0} (Spelled : ℕ → V → List ℕ → Type 0) (Refused : List ℕ → Error → Type 0) (parts : V → List Part) (limit count : ℕ) (bytes old new : List ℕ) : Type 0 where
+pub record ShowsCounted {V : Type 0} (Spelled : ℕ → V → List ℕ → Type 0) (Refused : List ℕ → Error → Type 0) (parts : V → List Part) (style : Style) (count : ℕ) (bytes old new : List ℕ) : Type 0 where
   pub items : List V
   pub end : Option Error
   pub list : CountedItems Spelled Refused count bytes items end
-  pub text : new ≡ followed limit old (Number (pos count) ∷ list_of parts items end)
+  pub text : new ≡ followed style old (Number (pos count) ∷ list_of parts items end)
 
-pub record ShowsMarked {V : Type 0} (Spelled : ℕ → V → List ℕ → Type 0) (Refused : List ℕ → Error → Type 0) (parts : V → List Part) (limit : ℕ) (bytes old new : List ℕ) : Type 0 where
+pub record ShowsMarked {V : Type 0} (Spelled : ℕ → V → List ℕ → Type 0) (Refused : List ℕ → Error → Type 0) (parts : V → List Part) (style : Style) (bytes old new : List ℕ) : Type 0 where
   pub items : List V
   pub end : Option Error
   pub list : MarkedItems Spelled Refused bytes items end
-  pub text : new ≡ followed limit old (list_of parts items end)
+  pub text : new ≡ followed style old (list_of parts items end)
 
 -- the bytes of a body as they are
 abbrev pub bare : List ℕ → List Part
 bare body = Word (codes "bytes") ∷ Text body ∷ []
 
 -- the line goes on with these parts, where the texts in them are UTF-8, and else with the bytes of the body
-abbrev pub ShowsTexts : ℕ → Type 0 → List Part → List ℕ → List ℕ → List ℕ → Type 0
-ShowsTexts limit utf8 parts body old new =
-    (utf8 × (new ≡ followed limit old parts))
-    ⊎ ((¬ utf8) × (new ≡ followed limit old (bare body)))
+abbrev pub ShowsTexts : Style → Type 0 → List Part → List ℕ → List ℕ → List ℕ → Type 0
+ShowsTexts style utf8 parts body old new =
+    (utf8 × (new ≡ followed style old parts))
+    ⊎ ((¬ utf8) × (new ≡ followed style old (bare body)))
 
-abbrev pub ShowsFormats : ℕ → CopyFormats → List ℕ → List ℕ → Type 0
-ShowsFormats limit copy old new =
-    ShowsCounted FormatSpelled FormatRefused number_part limit copy.count copy.storage
-    (followed limit old (Word (codes "format") ∷ Number (pos copy.format) ∷ Word (codes "columns") ∷ [])) new
+abbrev pub ShowsFormats : Style → CopyFormats → List ℕ → List ℕ → Type 0
+ShowsFormats style copy old new =
+    ShowsCounted FormatSpelled FormatRefused number_part style copy.count copy.storage
+    (followed style old (Word (codes "format") ∷ Number (pos copy.format) ∷ Word (codes "columns") ∷ [])) new
 
 -- a secret, or how long it is
 abbrev pub secret_by : Bool → List ℕ → Part
@@ -114,32 +118,32 @@ says_nothing PortalSuspended = true
 says_nothing m = false
 
 abbrev pub called : Message → Part
-called m = named (says_nothing m) (name_of m)
+called m = Name (says_nothing m) (name_of m)
 
 -- The line of a message before and after what it says behind its name. Salts, the texts of an exchange and keys are secrets.
 abbrev pub Shows : Style → Message → List ℕ → List ℕ → Type 0
-Shows style (Authentication (AuthenticationMd5Password salt)) old new = new ≡ followed style.limit old (Word (codes "salt") ∷ secret style salt ∷ [])
-Shows style (Authentication (AuthenticationGssContinue bytes)) old new = new ≡ followed style.limit old (Word (codes "data") ∷ secret style bytes ∷ [])
-Shows style (Authentication (AuthenticationSasl bytes)) old new = ShowsMarked TextSpelled TextRefused text_part style.limit bytes (followed style.limit old (Word (codes "mechanisms") ∷ [])) new
-Shows style (Authentication (AuthenticationSaslContinue bytes)) old new = new ≡ followed style.limit old (Word (codes "data") ∷ secret style bytes ∷ [])
-Shows style (Authentication (AuthenticationSaslFinal bytes)) old new = new ≡ followed style.limit old (Word (codes "data") ∷ secret style bytes ∷ [])
-Shows style (NotificationResponse n) old new = ShowsTexts style.limit (IsUtf8 n.channel × IsUtf8 n.message)
+Shows style (Authentication (AuthenticationMd5Password salt)) old new = new ≡ followed style old (Word (codes "salt") ∷ secret style salt ∷ [])
+Shows style (Authentication (AuthenticationGssContinue bytes)) old new = new ≡ followed style old (Word (codes "data") ∷ secret style bytes ∷ [])
+Shows style (Authentication (AuthenticationSasl bytes)) old new = ShowsMarked TextSpelled TextRefused text_part style bytes (followed style old (Word (codes "mechanisms") ∷ [])) new
+Shows style (Authentication (AuthenticationSaslContinue bytes)) old new = new ≡ followed style old (Word (codes "data") ∷ secret style bytes ∷ [])
+Shows style (Authentication (AuthenticationSaslFinal bytes)) old new = new ≡ followed style old (Word (codes "data") ∷ secret style bytes ∷ [])
+Shows style (NotificationResponse n) old new = ShowsTexts style (IsUtf8 n.channel × IsUtf8 n.message)
     (Word (codes "process") ∷ Number n.process_id ∷ Word (codes "channel") ∷ Text n.channel ∷ Word (codes "payload") ∷ Text n.message ∷ [])
     (payload_of (NotificationResponse n)) old new
-Shows style (CommandComplete tag) old new = ShowsTexts style.limit (IsUtf8 tag) (Word (codes "tag") ∷ Text tag ∷ []) (payload_of (CommandComplete tag)) old new
-Shows style (DataRow row) old new = ShowsCounted RangeSpelled RangeRefused (value_part row.storage) style.limit row.count row.storage (followed style.limit old (Word (codes "values") ∷ [])) new
-Shows style (ErrorResponse bytes) old new = ShowsMarked ErrorFieldSpelled ErrorFieldRefused field_parts style.limit bytes old new
-Shows style (CopyInResponse copy) old new = ShowsFormats style.limit copy old new
-Shows style (CopyOutResponse copy) old new = ShowsFormats style.limit copy old new
-Shows style (BackendKeyData key) old new = new ≡ followed style.limit old (Word (codes "process") ∷ Number key.process_id ∷ Word (codes "key") ∷ secret style key.secret_key ∷ [])
-Shows style (NegotiateProtocolVersion n) old new = ShowsCounted TextSpelled TextRefused text_part style.limit n.count n.options
-    (followed style.limit old (Word (codes "version") ∷ Number n.version ∷ Word (codes "options") ∷ [])) new
-Shows style (NoticeResponse bytes) old new = ShowsMarked ErrorFieldSpelled ErrorFieldRefused field_parts style.limit bytes old new
-Shows style (ParameterStatus setting) old new = ShowsTexts style.limit (IsUtf8 setting.name × IsUtf8 setting.value)
+Shows style (CommandComplete tag) old new = ShowsTexts style (IsUtf8 tag) (Word (codes "tag") ∷ Text tag ∷ []) (payload_of (CommandComplete tag)) old new
+Shows style (DataRow row) old new = ShowsCounted RangeSpelled RangeRefused (value_part row.storage) style row.count row.storage (followed style old (Word (codes "values") ∷ [])) new
+Shows style (ErrorResponse bytes) old new = ShowsMarked ErrorFieldSpelled ErrorFieldRefused field_parts style bytes old new
+Shows style (CopyInResponse copy) old new = ShowsFormats style copy old new
+Shows style (CopyOutResponse copy) old new = ShowsFormats style copy old new
+Shows style (BackendKeyData key) old new = new ≡ followed style old (Word (codes "process") ∷ Number key.process_id ∷ Word (codes "key") ∷ secret style key.secret_key ∷ [])
+Shows style (NegotiateProtocolVersion n) old new = ShowsCounted TextSpelled TextRefused text_part style n.count n.options
+    (followed style old (Word (codes "version") ∷ Number n.version ∷ Word (codes "options") ∷ [])) new
+Shows style (NoticeResponse bytes) old new = ShowsMarked ErrorFieldSpelled ErrorFieldRefused field_parts style bytes old new
+Shows style (ParameterStatus setting) old new = ShowsTexts style (IsUtf8 setting.name × IsUtf8 setting.value)
     (Word (codes "name") ∷ Text setting.name ∷ Word (codes "value") ∷ Text setting.value ∷ [])
     (payload_of (ParameterStatus setting)) old new
-Shows style (RowDescription row) old new = ShowsCounted FieldSpelled FieldRefused column_parts style.limit row.count row.storage (followed style.limit old (Word (codes "columns") ∷ [])) new
-Shows style (ReadyForQuery status) old new = new ≡ followed style.limit old (Word (name_or (state_of status) status) ∷ [])
-Shows style (CopyData bytes) old new = new ≡ followed style.limit old (Word (codes "data") ∷ Value (Some bytes) ∷ [])
-Shows style (ParameterDescription row) old new = ShowsCounted TypeSpelled TypeRefused type_part style.limit row.count row.storage (followed style.limit old (Word (codes "types") ∷ [])) new
+Shows style (RowDescription row) old new = ShowsCounted FieldSpelled FieldRefused column_parts style row.count row.storage (followed style old (Word (codes "columns") ∷ [])) new
+Shows style (ReadyForQuery status) old new = new ≡ followed style old (Word (name_or (state_of status) status) ∷ [])
+Shows style (CopyData bytes) old new = new ≡ followed style old (Word (codes "data") ∷ Value (Some bytes) ∷ [])
+Shows style (ParameterDescription row) old new = ShowsCounted TypeSpelled TypeRefused type_part style row.count row.storage (followed style old (Word (codes "types") ∷ [])) new
 Shows style m old new = new ≡ old

@@ -45,23 +45,23 @@ pub fn put_message<A: Memory>(
         Message::AuthenticationSaslFinal(text) => { put_secret(style, "data", text.data(), line) }
         Message::BackendKeyData(key) => put_key(style, key, line),
         Message::CommandComplete(command) => put_command(style, command, body, line),
-        Message::CopyData(copy) => put_copied(style.limit, copy.data(), line),
+        Message::CopyData(copy) => put_copied(style, copy.data(), line),
         Message::CopyInResponse(copy) => {
-            put_copy(style.limit, copy.format(), copy.column_formats(), line)
+            put_copy(style, copy.format(), copy.column_formats(), line)
         }
         Message::CopyOutResponse(copy) => {
-            put_copy(style.limit, copy.format(), copy.column_formats(), line)
+            put_copy(style, copy.format(), copy.column_formats(), line)
         }
         Message::DataRow(row) => put_row(style, row, line),
-        Message::ErrorResponse(error) => put_fields(style.limit, error.fields(), line),
+        Message::ErrorResponse(error) => put_fields(style, error.fields(), line),
         Message::NegotiateProtocolVersion(answer) => put_versions(style, answer, line),
-        Message::NoticeResponse(notice) => put_fields(style.limit, notice.fields(), line),
+        Message::NoticeResponse(notice) => put_fields(style, notice.fields(), line),
         Message::NotificationResponse(news) => put_news(style, news, body, line),
         Message::ParameterDescription(types) => put_parameters(style, types, line),
         Message::ParameterStatus(setting) => put_setting(style, setting, body, line),
         Message::ReadyForQuery(ready) => {
             let status = ready.status();
-            put_named(state_of(status), status, line)
+            put_named(style, state_of(status), status, line)
         }
         Message::RowDescription(row) => put_description(style, row, line),
         Message::AuthenticationCleartextPassword
@@ -87,14 +87,14 @@ pub fn put_secret<A: Memory>(
     bytes: &[u8],
     line: &mut String<A>,
 ) -> Result<(), AllocError>
-    ensures parts { OnOk result (string_bytes line.new ≡ followed style.limit (string_bytes line.old) (Word name.now ∷ secret style bytes.now ∷ [])) }
+    ensures parts { OnOk result (string_bytes line.new ≡ followed style (string_bytes line.old) (Word name.now ∷ secret style bytes.now ∷ [])) }
     ensures lacks { OnErr result A.Lacks }
 {
-    put_word(name, line)?;
+    put_word(style, name, line)?;
     if style.secrets {
-        put_text(style.limit, bytes, line)
+        put_text(style, bytes, line)
     } else {
-        put_hidden(bytes.len(), line)
+        put_hidden(style, bytes.len(), line)
     }
 }
 
@@ -107,8 +107,8 @@ fn put_offer<A: Memory>(
     ensures says { OnOk result (Shows style (Authentication (AuthenticationSasl offer.now)) (string_bytes line.old) (string_bytes line.new)) }
     ensures lacks { OnErr result A.Lacks }
 {
-    put_word("mechanisms", line)?;
-    put_mechanisms(style.limit, offer.mechanisms(), line)
+    put_word(style, "mechanisms", line)?;
+    put_mechanisms(style, offer.mechanisms(), line)
 }
 
 /// Adds the process that a cancel request names, and its key.
@@ -120,32 +120,32 @@ fn put_key<A: Memory>(
     ensures says { OnOk result (Shows style (BackendKeyData key.now) (string_bytes line.old) (string_bytes line.new)) }
     ensures lacks { OnErr result A.Lacks }
 {
-    put_word("process", line)?;
-    put_signed(key.process_id(), line)?;
+    put_word(style, "process", line)?;
+    put_signed(style, key.process_id(), line)?;
     put_secret(style, "key", key.secret_key_bytes(), line)
 }
 
 /// Adds the bytes of a body as they are.
-fn put_bare<A: Memory>(limit: usize, body: &[u8], line: &mut String<A>) -> Result<(), AllocError>
-    ensures parts { OnOk result (string_bytes line.new ≡ followed limit (string_bytes line.old) (bare body.now)) }
+fn put_bare<A: Memory>(style: Style, body: &[u8], line: &mut String<A>) -> Result<(), AllocError>
+    ensures parts { OnOk result (string_bytes line.new ≡ followed style (string_bytes line.old) (bare body.now)) }
     ensures lacks { OnErr result A.Lacks }
 {
-    put_word("bytes", line)?;
-    put_text(limit, body, line)
+    put_word(style, "bytes", line)?;
+    put_text(style, body, line)
 }
 
 /// Adds a text with its name.
 fn put_named_text<A: Memory>(
-    limit: usize,
+    style: Style,
     name: &str,
     text: &str,
     line: &mut String<A>,
 ) -> Result<(), AllocError>
-    ensures parts { OnOk result (string_bytes line.new ≡ followed limit (string_bytes line.old) (Word name.now ∷ Text text.now ∷ [])) }
+    ensures parts { OnOk result (string_bytes line.new ≡ followed style (string_bytes line.old) (Word name.now ∷ Text text.now ∷ [])) }
     ensures lacks { OnErr result A.Lacks }
 {
-    put_word(name, line)?;
-    put_text(limit, text.as_bytes(), line)
+    put_word(style, name, line)?;
+    put_text(style, text.as_bytes(), line)
 }
 
 /// Adds the tag of a command that is complete.
@@ -160,8 +160,8 @@ fn put_command<A: Memory>(
     ensures lacks { OnErr result A.Lacks }
 {
     match command.tag() {
-        Ok(tag) => put_named_text(style.limit, "tag", tag, line),
-        Err(_) => put_bare(style.limit, body, line),
+        Ok(tag) => put_named_text(style, "tag", tag, line),
+        Err(_) => put_bare(style, body, line),
     }
 }
 
@@ -177,13 +177,13 @@ fn put_setting<A: Memory>(
     ensures lacks { OnErr result A.Lacks }
 {
     let Ok(name) = setting.name() else {
-        return put_bare(style.limit, body, line);
+        return put_bare(style, body, line);
     };
     let Ok(value) = setting.value() else {
-        return put_bare(style.limit, body, line);
+        return put_bare(style, body, line);
     };
-    put_named_text(style.limit, "name", name, line)?;
-    put_named_text(style.limit, "value", value, line)
+    put_named_text(style, "name", name, line)?;
+    put_named_text(style, "value", value, line)
 }
 
 /// Adds a notification.
@@ -198,47 +198,62 @@ fn put_news<A: Memory>(
     ensures lacks { OnErr result A.Lacks }
 {
     let Ok(channel) = news.channel() else {
-        return put_bare(style.limit, body, line);
+        return put_bare(style, body, line);
     };
     let Ok(message) = news.message() else {
-        return put_bare(style.limit, body, line);
+        return put_bare(style, body, line);
     };
-    put_word("process", line)?;
-    put_signed(news.process_id(), line)?;
-    put_named_text(style.limit, "channel", channel, line)?;
-    put_named_text(style.limit, "payload", message, line)
+    put_notice(style, news.process_id(), channel, message, line)
+}
+
+/// Adds the process that notifies, the channel, and what it says there.
+fn put_notice<A: Memory>(
+    style: Style,
+    process_id: i32,
+    channel: &str,
+    message: &str,
+    line: &mut String<A>,
+) -> Result<(), AllocError>
+    ensures parts { OnOk result (string_bytes line.new ≡ followed style (string_bytes line.old)
+        (Word (codes "process") ∷ Number process_id ∷ Word (codes "channel") ∷ Text channel.now ∷ Word (codes "payload") ∷ Text message.now ∷ [])) }
+    ensures lacks { OnErr result A.Lacks }
+{
+    put_word(style, "process", line)?;
+    put_signed(style, process_id, line)?;
+    put_named_text(style, "channel", channel, line)?;
+    put_named_text(style, "payload", message, line)
 }
 
 /// Adds data of a copy.
 pub fn put_copied<A: Memory>(
-    limit: usize,
+    style: Style,
     bytes: &[u8],
     line: &mut String<A>,
 ) -> Result<(), AllocError>
-    ensures parts { OnOk result (string_bytes line.new ≡ followed limit (string_bytes line.old) (Word (codes "data") ∷ Value (Some bytes.now) ∷ [])) }
+    ensures parts { OnOk result (string_bytes line.new ≡ followed style (string_bytes line.old) (Word (codes "data") ∷ Value (Some bytes.now) ∷ [])) }
     ensures lacks { OnErr result A.Lacks }
 {
-    put_word("data", line)?;
-    put_some(limit, bytes, line)
+    put_word(style, "data", line)?;
+    put_some(style, bytes, line)
 }
 
 /// Adds the format of a copy, and those of its columns.
 fn put_copy<A: Memory>(
-    limit: usize,
+    style: Style,
     format: u8,
     formats: ColumnFormats<'_>,
     line: &mut String<A>,
 ) -> Result<(), AllocError>
-    ensures parts { OnOk result (string_bytes line.new ≡ followed limit (string_bytes line.old)
+    ensures parts { OnOk result (string_bytes line.new ≡ followed style (string_bytes line.old)
         (Word (codes "format") ∷ Number (pos format) ∷ Word (codes "columns") ∷ Number (pos (hint_of formats.entry.announced).0)
         ∷ list_of number_part formats.entry.items formats.entry.end)) }
     ensures lacks { OnErr result A.Lacks }
 {
-    put_word("format", line)?;
-    put_number(format as u64, line)?;
-    put_word("columns", line)?;
-    put_number(formats.size_hint().0 as u64, line)?;
-    put_formats(limit, formats, line)
+    put_word(style, "format", line)?;
+    put_number(style, format as u64, line)?;
+    put_word(style, "columns", line)?;
+    put_number(style, formats.size_hint().0 as u64, line)?;
+    put_formats(style, formats, line)
 }
 
 /// Adds a row.
@@ -251,9 +266,9 @@ fn put_row<A: Memory>(
     ensures lacks { OnErr result A.Lacks }
 {
     let places = row.ranges();
-    put_word("values", line)?;
-    put_number(places.size_hint().0 as u64, line)?;
-    put_values(style.limit, row.buffer(), places, line)
+    put_word(style, "values", line)?;
+    put_number(style, places.size_hint().0 as u64, line)?;
+    put_values(style, row.buffer(), places, line)
 }
 
 /// Adds an answer about versions.
@@ -266,11 +281,11 @@ fn put_versions<A: Memory>(
     ensures lacks { OnErr result A.Lacks }
 {
     let options = answer.options();
-    put_word("version", line)?;
-    put_signed(answer.version(), line)?;
-    put_word("options", line)?;
-    put_number(options.size_hint().0 as u64, line)?;
-    put_options(style.limit, options, line)
+    put_word(style, "version", line)?;
+    put_signed(style, answer.version(), line)?;
+    put_word(style, "options", line)?;
+    put_number(style, options.size_hint().0 as u64, line)?;
+    put_options(style, options, line)
 }
 
 /// Adds the types of parameters.
@@ -283,9 +298,9 @@ fn put_parameters<A: Memory>(
     ensures lacks { OnErr result A.Lacks }
 {
     let types = description.parameters();
-    put_word("types", line)?;
-    put_number(types.size_hint().0 as u64, line)?;
-    put_types(style.limit, types, line)
+    put_word(style, "types", line)?;
+    put_number(style, types.size_hint().0 as u64, line)?;
+    put_types(style, types, line)
 }
 
 /// Adds the description of a row.
@@ -298,7 +313,7 @@ fn put_description<A: Memory>(
     ensures lacks { OnErr result A.Lacks }
 {
     let columns = description.fields();
-    put_word("columns", line)?;
-    put_number(columns.size_hint().0 as u64, line)?;
-    put_columns(style.limit, columns, line)
+    put_word(style, "columns", line)?;
+    put_number(style, columns.size_hint().0 as u64, line)?;
+    put_columns(style, columns, line)
 }

@@ -4,7 +4,7 @@ ghost use Rattle.std.specs.Prelude.{◌≡◌, ◌≤◌, ◌<◌, ◌∷◌, �
 ghost use Rattle.pgp_server.specs.AnyViews.{any_view};
 ghost use Rattle.pgp_server.specs.Views.{kind_view};
 ghost use Rattle.pgp_trace.specs.Client.{client_line, refusal_parts};
-ghost use Rattle.pgp_trace.specs.Line.{followed};
+ghost use Rattle.pgp_trace.specs.Line.{closing, followed};
 ghost use Rattle.pgp_trace.specs.Listing.{client_front, client_tag};
 ghost use Rattle.pgp_trace.specs.Sides.{Client, expected, is_told, is_password, kinds_behind};
 ghost use Rattle.pgp_trace.specs.Steps.{ListsNext};
@@ -12,8 +12,8 @@ ghost use Rattle.pgp_trace.specs.Steps.{ListsNext};
 use crate::client_body::put_client_message;
 use crate::client_names::{client_name, says_nothing};
 use crate::frame::{Next, begin_line, front_of};
-use crate::line::{put_called, put_signed, put_word};
-use crate::lists::put_fault;
+use crate::line::{put_called, put_end, put_signed};
+use crate::lists::put_refused;
 use crate::style::Style;
 use pgp_base::Memory;
 use pgp_server::{AnyMessage, ClientError, ClientMessages, PasswordKind};
@@ -52,7 +52,7 @@ pub fn client_line<'a, 'b, A: Memory>(
                 return Ok((Next::Stops, opened, kinds, bytes));
             }
             let frame = front_of(bytes, behind);
-            refusal_line(place, opened, frame, &refusal, line)?;
+            refusal_line(style, place, opened, frame, &refusal, line)?;
             let left = kinds_behind(opened, frame, kinds);
             Ok((Next::Line, messages.is_open(), left, behind))
         }
@@ -112,29 +112,35 @@ fn message_line<A: Memory>(
     message: AnyMessage<'_>,
     line: &mut String<A>,
 ) -> Result<(), AllocError>
-    ensures line { OnOk result (string_bytes line.new ≡ client_line style told (Ok (any_view message.entry)) (client_front place opened frame.now) ++ 10 ∷ []) }
+    ensures line { OnOk result (string_bytes line.new ≡ client_line style told (Ok (any_view message.entry)) (client_front style place opened frame.now) ++ closing style ++ 10 ∷ []) }
     ensures lacks { OnErr result A.Lacks }
 {
-    begin_line(place, frame.len(), tag_of(opened, frame), line)?;
-    put_called(says_nothing(&message), client_name(told, &message), line)?;
+    begin_line(style, place, frame.len(), tag_of(opened, frame), line)?;
+    put_called(
+        style,
+        says_nothing(&message),
+        client_name(told, &message),
+        line,
+    )?;
     put_client_message(style, told, message, line)?;
-    A::push_char(line, '\n')
+    put_end(style, line)
 }
 
 /// Makes the line of a refused frame.
 fn refusal_line<A: Memory>(
+    style: Style,
     place: u64,
     opened: bool,
     frame: &[u8],
     refusal: &ClientError,
     line: &mut String<A>,
 ) -> Result<(), AllocError>
-    ensures line { OnOk result (string_bytes line.new ≡ followed 0 (client_front place opened frame.now) (refusal_parts refusal.now) ++ 10 ∷ []) }
+    ensures line { OnOk result (string_bytes line.new ≡ followed style (client_front style place opened frame.now) (refusal_parts refusal.now) ++ closing style ++ 10 ∷ []) }
     ensures lacks { OnErr result A.Lacks }
 {
-    begin_line(place, frame.len(), tag_of(opened, frame), line)?;
-    put_refusal(refusal, line)?;
-    A::push_char(line, '\n')
+    begin_line(style, place, frame.len(), tag_of(opened, frame), line)?;
+    put_refusal(style, refusal, line)?;
+    put_end(style, line)
 }
 
 /// The tag of a frame, or what stands for it of an opening packet.
@@ -151,15 +157,19 @@ fn tag_of(opened: bool, frame: &[u8]) -> u8
 }
 
 /// Adds why a frame is refused.
-fn put_refusal<A: Memory>(refusal: &ClientError, line: &mut String<A>) -> Result<(), AllocError>
-    ensures parts { OnOk result (string_bytes line.new ≡ followed 0 (string_bytes line.old) (refusal_parts refusal.now)) }
+fn put_refusal<A: Memory>(
+    style: Style,
+    refusal: &ClientError,
+    line: &mut String<A>,
+) -> Result<(), AllocError>
+    ensures parts { OnOk result (string_bytes line.new ≡ followed style (string_bytes line.old) (refusal_parts refusal.now)) }
     ensures lacks { OnErr result A.Lacks }
 {
     match refusal {
-        ClientError::Reading(e) => put_fault(e, line),
+        ClientError::Reading(e) => put_refused(style, e, line),
         ClientError::UnknownPacket(code) => {
-            put_word("packet", line)?;
-            put_signed(*code, line)
+            put_called(style, true, "packet", line)?;
+            put_signed(style, *code, line)
         }
     }
 }

@@ -25,7 +25,7 @@ pub fn put_client_message<A: Memory>(
     message: AnyMessage<'_>,
     line: &mut String<A>,
 ) -> Result<(), AllocError>
-    ensures says { OnOk result (string_bytes line.new ≡ grouped style.limit (string_bytes line.old) (client_groups style told (any_view message.entry))) }
+    ensures says { OnOk result (string_bytes line.new ≡ grouped style (string_bytes line.old) (client_groups style told (any_view message.entry))) }
     ensures lacks { OnErr result A.Lacks }
 {
     match message {
@@ -40,10 +40,9 @@ fn put_ours<A: Memory>(
     message: ClientMessage<'_>,
     line: &mut String<A>,
 ) -> Result<(), AllocError>
-    ensures says { OnOk result (string_bytes line.new ≡ grouped style.limit (string_bytes line.old) (our_groups style told (view message.entry))) }
+    ensures says { OnOk result (string_bytes line.new ≡ grouped style (string_bytes line.old) (our_groups style told (view message.entry))) }
     ensures lacks { OnErr result A.Lacks }
 {
-    let limit = style.limit;
     match message {
         ClientMessage::Bind {
             portal,
@@ -52,48 +51,48 @@ fn put_ours<A: Memory>(
             values,
             result_formats,
         } => {
-            put_texts(limit, "portal", portal, "statement", statement, line)?;
-            put_formats(limit, "formats", formats, line)?;
-            put_values(limit, "values", values, line)?;
-            put_formats(limit, "results", result_formats, line)
+            put_texts(style, "portal", portal, "statement", statement, line)?;
+            put_formats(style, "formats", formats, line)?;
+            put_values(style, "values", values, line)?;
+            put_formats(style, "results", result_formats, line)
         }
         ClientMessage::CancelRequest {
             process_id,
             secret_key,
         } => {
-            put_integer(limit, "process", process_id, line)?;
+            put_integer(style, "process", process_id, line)?;
             put_secret(style, "key", secret_key, line)
         }
-        ClientMessage::Close { variant, name } => put_object(limit, variant, name, line),
-        ClientMessage::CopyData(bytes) => put_copied(limit, bytes, line),
-        ClientMessage::CopyFail(message) => put_one(limit, "message", message, line),
-        ClientMessage::Describe { variant, name } => put_object(limit, variant, name, line),
+        ClientMessage::Close { variant, name } => put_object(style, variant, name, line),
+        ClientMessage::CopyData(bytes) => put_copied(style, bytes, line),
+        ClientMessage::CopyFail(message) => put_one(style, "message", message, line),
+        ClientMessage::Describe { variant, name } => put_object(style, variant, name, line),
         ClientMessage::Execute { portal, max_rows } => {
-            put_one(limit, "portal", portal, line)?;
-            put_integer(limit, "rows", max_rows, line)
+            put_one(style, "portal", portal, line)?;
+            put_integer(style, "rows", max_rows, line)
         }
         ClientMessage::Parse {
             name,
             query,
             param_types,
         } => {
-            put_texts(limit, "statement", name, "query", query, line)?;
-            put_types(limit, "types", param_types, line)
+            put_texts(style, "statement", name, "query", query, line)?;
+            put_types(style, "types", param_types, line)
         }
         ClientMessage::PasswordMessage(password) => put_secret(style, "password", password, line),
-        ClientMessage::Query(query) => put_one(limit, "query", query, line),
+        ClientMessage::Query(query) => put_one(style, "query", query, line),
         ClientMessage::SaslInitialResponse {
             mechanism,
             response,
         } => {
-            put_one(limit, "mechanism", mechanism, line)?;
+            put_one(style, "mechanism", mechanism, line)?;
             put_secret(style, "data", response, line)
         }
         ClientMessage::SaslResponse(response) => put_response(style, told, response, line),
         ClientMessage::Startup {
             version,
             parameters,
-        } => { put_startup(limit, number_of(version), parameters, line) }
+        } => { put_startup(style, number_of(version), parameters, line) }
         ClientMessage::CopyDone
         | ClientMessage::Flush
         | ClientMessage::SslRequest
@@ -108,10 +107,9 @@ fn put_other<A: Memory>(
     message: OtherMessage<'_>,
     line: &mut String<A>,
 ) -> Result<(), AllocError>
-    ensures says { OnOk result (string_bytes line.new ≡ grouped style.limit (string_bytes line.old) (client_groups style told (Other (other_view message.entry)))) }
+    ensures says { OnOk result (string_bytes line.new ≡ grouped style (string_bytes line.old) (client_groups style told (Other (other_view message.entry)))) }
     ensures lacks { OnErr result A.Lacks }
 {
-    let limit = style.limit;
     match message {
         OtherMessage::FunctionCall {
             function,
@@ -119,106 +117,106 @@ fn put_other<A: Memory>(
             arguments,
             result_format,
         } => {
-            put_unsigned(limit, "function", function, line)?;
-            put_arguments(limit, formats, arguments, line)?;
-            put_integer(limit, "result", result_format as i32, line)
+            put_unsigned(style, "function", function, line)?;
+            put_arguments(style, formats, arguments, line)?;
+            put_integer(style, "result", result_format as i32, line)
         }
         OtherMessage::SaslInitialWithoutResponse { mechanism } => {
-            put_one(limit, "mechanism", mechanism, line)?;
-            put_word("data", line)?;
-            put_null(line)
+            put_one(style, "mechanism", mechanism, line)?;
+            put_word(style, "data", line)?;
+            put_null(style, line)
         }
         OtherMessage::GssEncRequest => Ok(()),
         OtherMessage::StartupOther { minor, parameters } => {
-            put_startup(limit, 0x30000 + minor as u32, parameters, line)
+            put_startup(style, 0x30000 + minor as u32, parameters, line)
         }
     }
 }
 
 /// Adds a call's arguments and their formats.
 fn put_arguments<A: Memory>(
-    limit: usize,
+    style: Style,
     formats: Formats<'_>,
     arguments: Values<'_>,
     line: &mut String<A>,
 ) -> Result<(), AllocError>
-    ensures parts { OnOk result (string_bytes line.new ≡ followed limit (followed limit (string_bytes line.old) (counted (codes "formats") signed_part formats.entry)) (counted (codes "values") client_value arguments.entry)) }
+    ensures parts { OnOk result (string_bytes line.new ≡ followed style (followed style (string_bytes line.old) (counted (codes "formats") signed_part formats.entry)) (counted (codes "values") client_value arguments.entry)) }
     ensures lacks { OnErr result A.Lacks }
 {
-    put_formats(limit, "formats", formats, line)?;
-    put_values(limit, "values", arguments, line)
+    put_formats(style, "formats", formats, line)?;
+    put_values(style, "values", arguments, line)
 }
 
 /// Adds a text with its name.
 fn put_one<A: Memory>(
-    limit: usize,
+    style: Style,
     name: &str,
     text: &[u8],
     line: &mut String<A>,
 ) -> Result<(), AllocError>
-    ensures parts { OnOk result (string_bytes line.new ≡ followed limit (string_bytes line.old) (Word name.now ∷ Text text.now ∷ [])) }
+    ensures parts { OnOk result (string_bytes line.new ≡ followed style (string_bytes line.old) (Word name.now ∷ Text text.now ∷ [])) }
     ensures lacks { OnErr result A.Lacks }
 {
-    put_word(name, line)?;
-    put_text(limit, text, line)
+    put_word(style, name, line)?;
+    put_text(style, text, line)
 }
 
 /// Adds a number with its name.
 fn put_unsigned<A: Memory>(
-    limit: usize,
+    style: Style,
     name: &str,
     n: u32,
     line: &mut String<A>,
 ) -> Result<(), AllocError>
-    ensures parts { OnOk result (string_bytes line.new ≡ followed limit (string_bytes line.old) (Word name.now ∷ Number (pos n) ∷ [])) }
+    ensures parts { OnOk result (string_bytes line.new ≡ followed style (string_bytes line.old) (Word name.now ∷ Number (pos n) ∷ [])) }
     ensures lacks { OnErr result A.Lacks }
 {
-    put_word(name, line)?;
-    put_number(n as u64, line)
+    put_word(style, name, line)?;
+    put_number(style, n as u64, line)
 }
 
 /// Adds a number that may have a sign, with its name.
 fn put_integer<A: Memory>(
-    limit: usize,
+    style: Style,
     name: &str,
     n: i32,
     line: &mut String<A>,
 ) -> Result<(), AllocError>
-    ensures parts { OnOk result (string_bytes line.new ≡ followed limit (string_bytes line.old) (Word name.now ∷ Number n ∷ [])) }
+    ensures parts { OnOk result (string_bytes line.new ≡ followed style (string_bytes line.old) (Word name.now ∷ Number n ∷ [])) }
     ensures lacks { OnErr result A.Lacks }
 {
-    put_word(name, line)?;
-    put_signed(n, line)
+    put_word(style, name, line)?;
+    put_signed(style, n, line)
 }
 
 /// Adds two texts with their names.
 fn put_texts<A: Memory>(
-    limit: usize,
+    style: Style,
     name: &str,
     text: &[u8],
     second: &str,
     other: &[u8],
     line: &mut String<A>,
 ) -> Result<(), AllocError>
-    ensures parts { OnOk result (string_bytes line.new ≡ followed limit (string_bytes line.old) (Word name.now ∷ Text text.now ∷ Word second.now ∷ Text other.now ∷ [])) }
+    ensures parts { OnOk result (string_bytes line.new ≡ followed style (string_bytes line.old) (Word name.now ∷ Text text.now ∷ Word second.now ∷ Text other.now ∷ [])) }
     ensures lacks { OnErr result A.Lacks }
 {
-    put_one(limit, name, text, line)?;
-    put_one(limit, second, other, line)
+    put_one(style, name, text, line)?;
+    put_one(style, second, other, line)
 }
 
 /// Adds the name of a statement or of a portal, and which of them it is of.
 fn put_object<A: Memory>(
-    limit: usize,
+    style: Style,
     variant: u8,
     name: &[u8],
     line: &mut String<A>,
 ) -> Result<(), AllocError>
-    ensures parts { OnOk result (string_bytes line.new ≡ followed limit (string_bytes line.old) (named_object variant name.now)) }
+    ensures parts { OnOk result (string_bytes line.new ≡ followed style (string_bytes line.old) (named_object variant name.now)) }
     ensures lacks { OnErr result A.Lacks }
 {
-    put_named(object_of(variant), variant, line)?;
-    put_text(limit, name, line)
+    put_named(style, object_of(variant), variant, line)?;
+    put_text(style, name, line)
 }
 
 /// Adds the bytes of an exchange, or how long they are; alone where it isn't known that they are of one.
@@ -228,13 +226,13 @@ fn put_response<A: Memory>(
     response: &[u8],
     line: &mut String<A>,
 ) -> Result<(), AllocError>
-    ensures parts { OnOk result (string_bytes line.new ≡ followed style.limit (string_bytes line.old) (response_parts style told response.now)) }
+    ensures parts { OnOk result (string_bytes line.new ≡ followed style (string_bytes line.old) (response_parts style told response.now)) }
     ensures lacks { OnErr result A.Lacks }
 {
     if told {
         put_secret(style, "data", response, line)
     } else {
-        put_hidden(response.len(), line)
+        put_hidden(style, response.len(), line)
     }
 }
 
@@ -250,15 +248,15 @@ fn number_of(version: ProtocolVersion) -> u32
 
 /// Adds the version that a client asks for, and its parameters.
 fn put_startup<A: Memory>(
-    limit: usize,
+    style: Style,
     version: u32,
     parameters: StartupParameters<'_>,
     line: &mut String<A>,
 ) -> Result<(), AllocError>
-    ensures parts { OnOk result (string_bytes line.new ≡ followed limit (string_bytes line.old) (startup_parts version parameters.entry)) }
+    ensures parts { OnOk result (string_bytes line.new ≡ followed style (string_bytes line.old) (startup_parts version parameters.entry)) }
     ensures lacks { OnErr result A.Lacks }
 {
-    put_unsigned(limit, "version", version, line)?;
-    put_word("parameters", line)?;
-    put_pairs(limit, parameters, line)
+    put_unsigned(style, "version", version, line)?;
+    put_word(style, "parameters", line)?;
+    put_pairs(style, parameters, line)
 }

@@ -9,149 +9,150 @@ ghost use Rattle.pgp_trace.specs.Shown.{list_of, type_part};
 
 use crate::line::{put_null, put_number, put_signed, put_some, put_text, put_type, put_word};
 use crate::lists::put_fault;
+use crate::style::Style;
 use pgp_base::{FallibleIterator, Memory};
 use pgp_server::{Formats, ParamTypes, StartupParameters, Values};
 use std::alloc::AllocError;
 
 /// Adds formats.
 pub fn put_formats<A: Memory>(
-    limit: usize,
+    style: Style,
     name: &str,
     formats: Formats<'_>,
     line: &mut String<A>,
 ) -> Result<(), AllocError>
-    ensures parts { OnOk result (string_bytes line.new ≡ followed limit (string_bytes line.old) (counted name.now signed_part formats.entry)) }
+    ensures parts { OnOk result (string_bytes line.new ≡ followed style (string_bytes line.old) (counted name.now signed_part formats.entry)) }
     ensures lacks { OnErr result A.Lacks }
 {
-    put_word(name, line)?;
-    put_number(formats.size_hint().0 as u64, line)?;
-    each_format(limit, formats, line)
+    put_word(style, name, line)?;
+    put_number(style, formats.size_hint().0 as u64, line)?;
+    each_format(style, formats, line)
 }
 
 /// Adds the types of parameters.
 pub fn put_types<A: Memory>(
-    limit: usize,
+    style: Style,
     name: &str,
     types: ParamTypes<'_>,
     line: &mut String<A>,
 ) -> Result<(), AllocError>
-    ensures parts { OnOk result (string_bytes line.new ≡ followed limit (string_bytes line.old) (counted name.now type_part types.entry)) }
+    ensures parts { OnOk result (string_bytes line.new ≡ followed style (string_bytes line.old) (counted name.now type_part types.entry)) }
     ensures lacks { OnErr result A.Lacks }
 {
-    put_word(name, line)?;
-    put_number(types.size_hint().0 as u64, line)?;
-    each_type(limit, types, line)
+    put_word(style, name, line)?;
+    put_number(style, types.size_hint().0 as u64, line)?;
+    each_type(style, types, line)
 }
 
 /// Adds values.
 pub fn put_values<A: Memory>(
-    limit: usize,
+    style: Style,
     name: &str,
     values: Values<'_>,
     line: &mut String<A>,
 ) -> Result<(), AllocError>
-    ensures parts { OnOk result (string_bytes line.new ≡ followed limit (string_bytes line.old) (counted name.now client_value values.entry)) }
+    ensures parts { OnOk result (string_bytes line.new ≡ followed style (string_bytes line.old) (counted name.now client_value values.entry)) }
     ensures lacks { OnErr result A.Lacks }
 {
-    put_word(name, line)?;
-    put_number(values.size_hint().0 as u64, line)?;
-    each_value(limit, values, line)
+    put_word(style, name, line)?;
+    put_number(style, values.size_hint().0 as u64, line)?;
+    each_value(style, values, line)
 }
 
 /// Adds the names and values of a startup packet.
 pub fn put_pairs<A: Memory>(
-    limit: usize,
+    style: Style,
     mut pairs: StartupParameters<'_>,
     line: &mut String<A>,
 ) -> Result<(), AllocError>
-    ensures list { OnOk result (string_bytes line.new ≡ followed limit (string_bytes line.old) (list_of pair_parts pairs.entry None)) }
+    ensures list { OnOk result (string_bytes line.new ≡ followed style (string_bytes line.old) (list_of pair_parts pairs.entry None)) }
     ensures lacks { OnErr result A.Lacks }
 {
     'items: loop {
         match pairs.next() {
-            Ok(Some((name, value))) => put_pair(limit, name, value, line)?,
+            Ok(Some((name, value))) => put_pair(style, name, value, line)?,
             Ok(None) => return Ok(()),
-            Err(e) => return put_fault(&e, line),
+            Err(e) => return put_fault(style, &e, line),
         }
     }
 }
 
 /// Adds a name and its value.
 fn put_pair<A: Memory>(
-    limit: usize,
+    style: Style,
     name: &[u8],
     value: &[u8],
     line: &mut String<A>,
 ) -> Result<(), AllocError>
-    ensures parts { OnOk result (string_bytes line.new ≡ followed limit (string_bytes line.old) (pair_parts (name.now, value.now))) }
+    ensures parts { OnOk result (string_bytes line.new ≡ followed style (string_bytes line.old) (pair_parts (name.now, value.now))) }
     ensures lacks { OnErr result A.Lacks }
 {
-    put_text(limit, name, line)?;
-    put_text(limit, value, line)
+    put_text(style, name, line)?;
+    put_text(style, value, line)
 }
 
 fn each_format<A: Memory>(
-    limit: usize,
+    style: Style,
     mut formats: Formats<'_>,
     line: &mut String<A>,
 ) -> Result<(), AllocError>
-    ensures list { OnOk result (string_bytes line.new ≡ followed limit (string_bytes line.old) (list_of signed_part formats.entry None)) }
+    ensures list { OnOk result (string_bytes line.new ≡ followed style (string_bytes line.old) (list_of signed_part formats.entry None)) }
     ensures lacks { OnErr result A.Lacks }
 {
     'items: loop {
         match formats.next() {
-            Ok(Some(format)) => put_signed(format as i32, line)?,
+            Ok(Some(format)) => put_signed(style, format as i32, line)?,
             Ok(None) => return Ok(()),
-            Err(e) => return put_fault(&e, line),
+            Err(e) => return put_fault(style, &e, line),
         }
     }
 }
 
 fn each_type<A: Memory>(
-    limit: usize,
+    style: Style,
     mut types: ParamTypes<'_>,
     line: &mut String<A>,
 ) -> Result<(), AllocError>
-    ensures list { OnOk result (string_bytes line.new ≡ followed limit (string_bytes line.old) (list_of type_part types.entry None)) }
+    ensures list { OnOk result (string_bytes line.new ≡ followed style (string_bytes line.old) (list_of type_part types.entry None)) }
     ensures lacks { OnErr result A.Lacks }
 {
     'items: loop {
         match types.next() {
-            Ok(Some(oid)) => put_type(oid, line)?,
+            Ok(Some(oid)) => put_type(style, oid, line)?,
             Ok(None) => return Ok(()),
-            Err(e) => return put_fault(&e, line),
+            Err(e) => return put_fault(style, &e, line),
         }
     }
 }
 
 fn each_value<A: Memory>(
-    limit: usize,
+    style: Style,
     mut values: Values<'_>,
     line: &mut String<A>,
 ) -> Result<(), AllocError>
-    ensures list { OnOk result (string_bytes line.new ≡ followed limit (string_bytes line.old) (list_of client_value values.entry None)) }
+    ensures list { OnOk result (string_bytes line.new ≡ followed style (string_bytes line.old) (list_of client_value values.entry None)) }
     ensures lacks { OnErr result A.Lacks }
 {
     'items: loop {
         match values.next() {
-            Ok(Some(value)) => put_value(limit, value, line)?,
+            Ok(Some(value)) => put_value(style, value, line)?,
             Ok(None) => return Ok(()),
-            Err(e) => return put_fault(&e, line),
+            Err(e) => return put_fault(style, &e, line),
         }
     }
 }
 
 /// Adds a value, or that it is a null.
 fn put_value<A: Memory>(
-    limit: usize,
+    style: Style,
     value: Option<&[u8]>,
     line: &mut String<A>,
 ) -> Result<(), AllocError>
-    ensures parts { OnOk result (string_bytes line.new ≡ followed limit (string_bytes line.old) (client_value (shown value.entry))) }
+    ensures parts { OnOk result (string_bytes line.new ≡ followed style (string_bytes line.old) (client_value (shown value.entry))) }
     ensures lacks { OnErr result A.Lacks }
 {
     match value {
-        Some(bytes) => put_some(limit, bytes, line),
-        None => put_null(line),
+        Some(bytes) => put_some(style, bytes, line),
+        None => put_null(style, line),
     }
 }

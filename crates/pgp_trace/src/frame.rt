@@ -2,15 +2,15 @@
 
 ghost use Rattle.std.specs.Prelude.{◌≡◌, ◌≤◌, ◌<◌, ◌-◌, ◌∷◌, ◌++◌, [], length, take, slice_index, IfOk, OnErr, OnOk, Ok, string_bytes};
 ghost use Rattle.pgp_message.specs.Views.{view};
-ghost use Rattle.pgp_trace.specs.Line.{Right, Tag, followed, right};
-ghost use Rattle.pgp_trace.specs.Shown.{fault};
+ghost use Rattle.pgp_trace.specs.Line.{Length, Tag, closing, followed, opening};
+ghost use Rattle.pgp_trace.specs.Shown.{refused};
 ghost use Rattle.pgp_trace.specs.Listing.{IsServerLine};
 ghost use Rattle.pgp_trace.specs.Sides.{Server};
 ghost use Rattle.pgp_trace.specs.Steps.{IsFrameOf, ListsNext};
 
 use crate::body::put_message;
-use crate::line::{put_called, put_length, put_place, put_tag};
-use crate::lists::put_fault;
+use crate::line::{put_called, put_end, put_frame_length, put_frame_place, put_tag};
+use crate::lists::put_refused;
 use crate::names::{name_of, says_nothing};
 use crate::style::Style;
 use pgp_base::{Error, Memory};
@@ -57,7 +57,7 @@ pub fn server_line<'b, A: Memory>(
         Err(refusal) => {
             let behind = messages.rest();
             let frame = front_of(bytes, behind);
-            fault_line(place, frame, &refusal, line)?;
+            fault_line(style, place, frame, &refusal, line)?;
             Ok((Next::Line, behind))
         }
     }
@@ -83,50 +83,57 @@ fn message_line<A: Memory>(
     ensures line { OnOk result (IsServerLine style place frame.now (string_bytes line.new)) }
     ensures lacks { OnErr result A.Lacks }
 {
-    begin(place, frame, line)?;
-    put_called(says_nothing(message), name_of(message), line)?;
+    begin(style, place, frame, line)?;
+    put_called(style, says_nothing(message), name_of(message), line)?;
     let (_, body) = frame.split_at(5);
     put_message(style, message, body, line)?;
-    A::push_char(line, '\n')
+    put_end(style, line)
 }
 
 /// Makes the line of a refused frame.
 fn fault_line<A: Memory>(
+    style: Style,
     place: u64,
     frame: &[u8],
     refusal: &Error,
     line: &mut String<A>,
 ) -> Result<(), AllocError>
     requires { 0 < length frame.now }
-    ensures line { OnOk result (string_bytes line.new ≡ followed 0 (right 10 place) (Right 8 (length frame.now) ∷ Tag (slice_index frame.now 0) ∷ fault refusal.now) ++ 10 ∷ []) }
+    ensures line { OnOk result (string_bytes line.new ≡ followed style (opening style place) (Length (length frame.now) ∷ Tag (slice_index frame.now 0) ∷ refused refusal.now) ++ closing style ++ 10 ∷ []) }
     ensures lacks { OnErr result A.Lacks }
 {
-    begin(place, frame, line)?;
-    put_fault(refusal, line)?;
-    A::push_char(line, '\n')
+    begin(style, place, frame, line)?;
+    put_refused(style, refusal, line)?;
+    put_end(style, line)
 }
 
 /// Begins a line: with the place of the frame, its length, and its tag.
-fn begin<A: Memory>(place: u64, frame: &[u8], line: &mut String<A>) -> Result<(), AllocError>
+fn begin<A: Memory>(
+    style: Style,
+    place: u64,
+    frame: &[u8],
+    line: &mut String<A>,
+) -> Result<(), AllocError>
     requires { 0 < length frame.now }
-    ensures parts { OnOk result (string_bytes line.new ≡ followed 0 (right 10 place) (Right 8 (length frame.now) ∷ Tag (slice_index frame.now 0) ∷ [])) }
+    ensures parts { OnOk result (string_bytes line.new ≡ followed style (opening style place) (Length (length frame.now) ∷ Tag (slice_index frame.now 0) ∷ [])) }
     ensures lacks { OnErr result A.Lacks }
 {
-    begin_line(place, frame.len(), frame[0], line)
+    begin_line(style, place, frame.len(), frame[0], line)
 }
 
 /// Begins a line: with the place of a frame, its length, and its tag.
 pub fn begin_line<A: Memory>(
+    style: Style,
     place: u64,
     len: usize,
     tag: u8,
     line: &mut String<A>,
 ) -> Result<(), AllocError>
-    ensures parts { OnOk result (string_bytes line.new ≡ followed 0 (right 10 place) (Right 8 len ∷ Tag tag ∷ [])) }
+    ensures parts { OnOk result (string_bytes line.new ≡ followed style (opening style place) (Length len ∷ Tag tag ∷ [])) }
     ensures lacks { OnErr result A.Lacks }
 {
     line.clear();
-    put_place(place, line)?;
-    put_length(len, line)?;
-    put_tag(tag, line)
+    put_frame_place(style, place, line)?;
+    put_frame_length(style, len, line)?;
+    put_tag(style, tag, line)
 }

@@ -1,99 +1,219 @@
-//! The parts of a line, each with a space before it.
+//! The parts of a line, each behind a space, or in JSON behind a comma.
 
 ghost use Rattle.std.specs.Prelude.{◌≡◌, ◌∷◌, ◌++◌, [], pos, None, Some, OnErr, OnOk, string_bytes};
-ghost use Rattle.pgp_trace.specs.Line.{Word, Number, Left, Right, Oid, Tag, Text, Value, Hidden, blanks, followed, named, right};
+ghost use Rattle.pgp_trace.specs.Line.{Length, Tag, Name, Refusal, Word, Number, Oid, Text, Value, Hidden, blanks, closing, followed, json_name, named, opening, right, string, type_name};
+ghost use Rattle.std.specs.Option.{option_map};
 
-use crate::quote::{put_byte, put_bytes, put_cut_text, put_value};
+use crate::quote::{put_byte, put_bytes, put_cut_text, put_json, put_value};
+use crate::style::{Form, Style};
 use crate::types::type_of;
 use pgp_base::Memory;
 use std::alloc::AllocError;
 
-// No limit changes a part that is neither a text nor a value: so of these the limit is 0 in the clauses.
-
 /// Adds a word of ours.
-pub fn put_word<A: Memory>(word: &str, line: &mut String<A>) -> Result<(), AllocError>
-    ensures part { OnOk result (string_bytes line.new ≡ followed 0 (string_bytes line.old) (Word word.now ∷ [])) }
+pub fn put_word<A: Memory>(style: Style, word: &str, line: &mut String<A>) -> Result<(), AllocError>
+    ensures part { OnOk result (string_bytes line.new ≡ followed style (string_bytes line.old) (Word word.now ∷ [])) }
     ensures lacks { OnErr result A.Lacks }
 {
-    put_name(word.as_bytes(), line)
+    put_name(style, word.as_bytes(), line)
 }
 
 /// Adds a word that is given by its bytes.
-pub fn put_name<A: Memory>(word: &[u8], line: &mut String<A>) -> Result<(), AllocError>
-    ensures part { OnOk result (string_bytes line.new ≡ followed 0 (string_bytes line.old) (Word word.now ∷ [])) }
+pub fn put_name<A: Memory>(
+    style: Style,
+    word: &[u8],
+    line: &mut String<A>,
+) -> Result<(), AllocError>
+    ensures part { OnOk result (string_bytes line.new ≡ followed style (string_bytes line.old) (Word word.now ∷ [])) }
     ensures lacks { OnErr result A.Lacks }
 {
-    A::push_char(line, ' ')?;
-    put_bytes(word, line)
+    match style.form {
+        Form::Columns => {
+            A::push_char(line, ' ')?;
+            put_bytes(Form::Columns, word, line)
+        }
+        Form::Json => {
+            A::push_char(line, ',')?;
+            put_string(word, line)
+        }
+    }
+}
+
+/// Adds a word of ours in the quotes of JSON.
+fn put_string<A: Memory>(word: &[u8], line: &mut String<A>) -> Result<(), AllocError>
+    ensures text { OnOk result (string_bytes line.new ≡ string_bytes line.old ++ string word.now) }
+    ensures lacks { OnErr result A.Lacks }
+{
+    A::push_char(line, '"')?;
+    put_bytes(Form::Json, word, line)?;
+    A::push_char(line, '"')
 }
 
 /// Adds a number that has no sign.
-pub fn put_number<A: Memory>(n: u64, line: &mut String<A>) -> Result<(), AllocError>
-    ensures part { OnOk result (string_bytes line.new ≡ followed 0 (string_bytes line.old) (Number (pos n) ∷ [])) }
+pub fn put_number<A: Memory>(style: Style, n: u64, line: &mut String<A>) -> Result<(), AllocError>
+    ensures part { OnOk result (string_bytes line.new ≡ followed style (string_bytes line.old) (Number (pos n) ∷ [])) }
     ensures lacks { OnErr result A.Lacks }
 {
-    A::push_shown(line, format_args!(" {n}"))
+    match style.form {
+        Form::Columns => A::push_shown(line, format_args!(" {n}")),
+        Form::Json => A::push_shown(line, format_args!(",{n}")),
+    }
 }
 
 /// Adds a number that may have a sign.
-pub fn put_signed<A: Memory>(n: i32, line: &mut String<A>) -> Result<(), AllocError>
-    ensures part { OnOk result (string_bytes line.new ≡ followed 0 (string_bytes line.old) (Number n ∷ [])) }
+pub fn put_signed<A: Memory>(style: Style, n: i32, line: &mut String<A>) -> Result<(), AllocError>
+    ensures part { OnOk result (string_bytes line.new ≡ followed style (string_bytes line.old) (Number n ∷ [])) }
     ensures lacks { OnErr result A.Lacks }
 {
-    A::push_shown(line, format_args!(" {n}"))
+    match style.form {
+        Form::Columns => A::push_shown(line, format_args!(" {n}")),
+        Form::Json => A::push_shown(line, format_args!(",{n}")),
+    }
 }
 
 /// Adds a type.
-pub fn put_type<A: Memory>(oid: u32, line: &mut String<A>) -> Result<(), AllocError>
-    ensures part { OnOk result (string_bytes line.new ≡ followed 0 (string_bytes line.old) (Oid oid ∷ [])) }
+pub fn put_type<A: Memory>(style: Style, oid: u32, line: &mut String<A>) -> Result<(), AllocError>
+    ensures part { OnOk result (string_bytes line.new ≡ followed style (string_bytes line.old) (Oid oid ∷ [])) }
     ensures lacks { OnErr result A.Lacks }
 {
-    put_number(oid as u64, line)?;
-    match type_of(oid) {
-        Some(name) => put_word(name, line),
+    match style.form {
+        Form::Columns => {
+            A::push_shown(line, format_args!(" {oid}"))?;
+            put_type_name(type_of(oid), line)
+        }
+        Form::Json => {
+            A::push_str(line, ",{\"oid\":")?;
+            A::push_shown(line, format_args!("{oid}"))?;
+            put_json_name(type_of(oid), line)
+        }
+    }
+}
+
+/// Adds the name of a type behind its number.
+fn put_type_name<A: Memory>(name: Option<&str>, line: &mut String<A>) -> Result<(), AllocError>
+    ensures text { OnOk result (string_bytes line.new ≡ string_bytes line.old ++ type_name (option_map (λ name. name.now) name.entry)) }
+    ensures lacks { OnErr result A.Lacks }
+{
+    match name {
+        Some(name) => {
+            A::push_char(line, ' ')?;
+            put_bytes(Form::Columns, name.as_bytes(), line)
+        }
         None => Ok(()),
     }
 }
 
+/// Adds it in JSON, with the end of the type's object.
+fn put_json_name<A: Memory>(name: Option<&str>, line: &mut String<A>) -> Result<(), AllocError>
+    ensures text { OnOk result (string_bytes line.new ≡ string_bytes line.old ++ json_name (option_map (λ name. name.now) name.entry)) }
+    ensures lacks { OnErr result A.Lacks }
+{
+    match name {
+        Some(name) => {
+            A::push_str(line, ",\"name\":")?;
+            put_string(name.as_bytes(), line)?;
+            A::push_char(line, '}')
+        }
+        None => A::push_char(line, '}'),
+    }
+}
+
 /// Adds how long a frame is, in its column.
-pub fn put_length<A: Memory>(len: usize, line: &mut String<A>) -> Result<(), AllocError>
-    ensures part { OnOk result (string_bytes line.new ≡ followed 0 (string_bytes line.old) (Right 8 len ∷ [])) }
+pub fn put_frame_length<A: Memory>(
+    style: Style,
+    len: usize,
+    line: &mut String<A>,
+) -> Result<(), AllocError>
+    ensures part { OnOk result (string_bytes line.new ≡ followed style (string_bytes line.old) (Length len ∷ [])) }
+    ensures lacks { OnErr result A.Lacks }
+{
+    match style.form {
+        Form::Columns => put_length(len, line),
+        Form::Json => {
+            A::push_str(line, ",\"length\":")?;
+            A::push_shown(line, format_args!("{len}"))
+        }
+    }
+}
+
+/// Adds a number at the right of 8 characters, and a space before it.
+fn put_length<A: Memory>(len: usize, line: &mut String<A>) -> Result<(), AllocError>
+    ensures text { OnOk result (string_bytes line.new ≡ string_bytes line.old ++ 32 ∷ right 8 len) }
     ensures lacks { OnErr result A.Lacks }
 {
     A::push_shown(line, format_args!(" {len:>8}"))
 }
 
 /// Adds the place of a frame, in its column.
-pub fn put_place<A: Memory>(place: u64, line: &mut String<A>) -> Result<(), AllocError>
+pub fn put_frame_place<A: Memory>(
+    style: Style,
+    place: u64,
+    line: &mut String<A>,
+) -> Result<(), AllocError>
+    ensures text { OnOk result (string_bytes line.new ≡ string_bytes line.old ++ opening style place) }
+    ensures lacks { OnErr result A.Lacks }
+{
+    match style.form {
+        Form::Columns => put_place(place, line),
+        Form::Json => {
+            A::push_str(line, "{\"offset\":")?;
+            A::push_shown(line, format_args!("{place}"))
+        }
+    }
+}
+
+/// Adds a number at the right of 10 characters.
+fn put_place<A: Memory>(place: u64, line: &mut String<A>) -> Result<(), AllocError>
     ensures text { OnOk result (string_bytes line.new ≡ string_bytes line.old ++ right 10 place) }
     ensures lacks { OnErr result A.Lacks }
 {
     A::push_shown(line, format_args!("{place:>10}"))
 }
 
+/// Ends a line.
+pub fn put_end<A: Memory>(style: Style, line: &mut String<A>) -> Result<(), AllocError>
+    ensures text { OnOk result (string_bytes line.new ≡ string_bytes line.old ++ closing style ++ 10 ∷ []) }
+    ensures lacks { OnErr result A.Lacks }
+{
+    match style.form {
+        Form::Columns => A::push_char(line, '\n'),
+        Form::Json => A::push_str(line, "]}\n"),
+    }
+}
+
 /// Adds the name of a message: by itself, or in a column where more stands behind it.
 pub fn put_called<A: Memory>(
+    style: Style,
     alone: bool,
     name: &str,
     line: &mut String<A>,
 ) -> Result<(), AllocError>
-    ensures part { OnOk result (string_bytes line.new ≡ followed 0 (string_bytes line.old) (named alone name.now ∷ [])) }
+    ensures part { OnOk result (string_bytes line.new ≡ followed style (string_bytes line.old) (Name alone name.now ∷ [])) }
     ensures lacks { OnErr result A.Lacks }
 {
-    if alone {
-        put_word(name, line)
-    } else {
-        put_left(20, name, line)
+    match style.form {
+        Form::Columns => {
+            A::push_char(line, ' ')?;
+            put_named(alone, name, line)
+        }
+        Form::Json => {
+            A::push_str(line, ",\"message\":[")?;
+            put_string(name.as_bytes(), line)
+        }
     }
 }
 
-/// Adds a word in a column of so many characters.
-fn put_left<A: Memory>(width: usize, word: &str, line: &mut String<A>) -> Result<(), AllocError>
-    ensures part { OnOk result (string_bytes line.new ≡ followed 0 (string_bytes line.old) (Left width word.now ∷ [])) }
+/// Adds a name, and blanks where more stands behind it.
+fn put_named<A: Memory>(alone: bool, name: &str, line: &mut String<A>) -> Result<(), AllocError>
+    ensures text { OnOk result (string_bytes line.new ≡ string_bytes line.old ++ named alone name.now) }
     ensures lacks { OnErr result A.Lacks }
 {
-    put_word(word, line)?;
-    put_blanks(width.saturating_sub(word.len()), line)
+    put_bytes(Form::Columns, name.as_bytes(), line)?;
+    if alone {
+        Ok(())
+    } else {
+        put_blanks(20usize.saturating_sub(name.len()), line)
+    }
 }
 
 /// Adds so many blanks.
@@ -107,53 +227,102 @@ fn put_blanks<A: Memory>(len: usize, line: &mut String<A>) -> Result<(), AllocEr
     Ok(())
 }
 
-/// Adds the tag of a frame.
-pub fn put_tag<A: Memory>(tag: u8, line: &mut String<A>) -> Result<(), AllocError>
-    ensures part { OnOk result (string_bytes line.new ≡ followed 0 (string_bytes line.old) (Tag tag ∷ [])) }
+/// Adds the number of a frame's refusal.
+pub fn put_refusal<A: Memory>(
+    style: Style,
+    number: u64,
+    line: &mut String<A>,
+) -> Result<(), AllocError>
+    ensures part { OnOk result (string_bytes line.new ≡ followed style (string_bytes line.old) (Refusal number ∷ [])) }
     ensures lacks { OnErr result A.Lacks }
 {
-    A::push_char(line, ' ')?;
-    put_byte(tag, line)
+    match style.form {
+        Form::Columns => A::push_shown(line, format_args!(" fault {number}")),
+        Form::Json => A::push_shown(line, format_args!(",\"fault\":[{number}")),
+    }
+}
+
+/// Adds the tag of a frame.
+pub fn put_tag<A: Memory>(style: Style, tag: u8, line: &mut String<A>) -> Result<(), AllocError>
+    ensures part { OnOk result (string_bytes line.new ≡ followed style (string_bytes line.old) (Tag tag ∷ [])) }
+    ensures lacks { OnErr result A.Lacks }
+{
+    match style.form {
+        Form::Columns => {
+            A::push_char(line, ' ')?;
+            put_byte(Form::Columns, tag, line)
+        }
+        Form::Json => {
+            A::push_str(line, ",\"tag\":")?;
+            put_string(&[tag], line)
+        }
+    }
 }
 
 /// Adds a text, up to the limit.
 pub fn put_text<A: Memory>(
-    limit: usize,
+    style: Style,
     text: &[u8],
     line: &mut String<A>,
 ) -> Result<(), AllocError>
-    ensures part { OnOk result (string_bytes line.new ≡ followed limit (string_bytes line.old) (Text text.now ∷ [])) }
+    ensures part { OnOk result (string_bytes line.new ≡ followed style (string_bytes line.old) (Text text.now ∷ [])) }
     ensures lacks { OnErr result A.Lacks }
 {
-    A::push_char(line, ' ')?;
-    put_cut_text(limit, text, line)
+    match style.form {
+        Form::Columns => {
+            A::push_char(line, ' ')?;
+            put_cut_text(style.limit, text, line)
+        }
+        Form::Json => {
+            A::push_char(line, ',')?;
+            put_json(style.limit, text, line)
+        }
+    }
 }
 
 /// Adds a value of a row, up to the limit.
 pub fn put_some<A: Memory>(
-    limit: usize,
+    style: Style,
     bytes: &[u8],
     line: &mut String<A>,
 ) -> Result<(), AllocError>
-    ensures part { OnOk result (string_bytes line.new ≡ followed limit (string_bytes line.old) (Value (Some bytes.now) ∷ [])) }
+    ensures part { OnOk result (string_bytes line.new ≡ followed style (string_bytes line.old) (Value (Some bytes.now) ∷ [])) }
     ensures lacks { OnErr result A.Lacks }
 {
-    A::push_char(line, ' ')?;
-    put_value(limit, bytes, line)
+    match style.form {
+        Form::Columns => {
+            A::push_char(line, ' ')?;
+            put_value(style.limit, bytes, line)
+        }
+        Form::Json => {
+            A::push_char(line, ',')?;
+            put_json(style.limit, bytes, line)
+        }
+    }
 }
 
 /// Adds a null.
-pub fn put_null<A: Memory>(line: &mut String<A>) -> Result<(), AllocError>
-    ensures part { OnOk result (string_bytes line.new ≡ followed 0 (string_bytes line.old) (Value None ∷ [])) }
+pub fn put_null<A: Memory>(style: Style, line: &mut String<A>) -> Result<(), AllocError>
+    ensures part { OnOk result (string_bytes line.new ≡ followed style (string_bytes line.old) (Value None ∷ [])) }
     ensures lacks { OnErr result A.Lacks }
 {
-    A::push_str(line, " NULL")
+    match style.form {
+        Form::Columns => A::push_str(line, " NULL"),
+        Form::Json => A::push_str(line, ",null"),
+    }
 }
 
 /// Adds how long a secret is.
-pub fn put_hidden<A: Memory>(len: usize, line: &mut String<A>) -> Result<(), AllocError>
-    ensures part { OnOk result (string_bytes line.new ≡ followed 0 (string_bytes line.old) (Hidden len ∷ [])) }
+pub fn put_hidden<A: Memory>(
+    style: Style,
+    len: usize,
+    line: &mut String<A>,
+) -> Result<(), AllocError>
+    ensures part { OnOk result (string_bytes line.new ≡ followed style (string_bytes line.old) (Hidden len ∷ [])) }
     ensures lacks { OnErr result A.Lacks }
 {
-    A::push_shown(line, format_args!(" ({len} bytes)"))
+    match style.form {
+        Form::Columns => A::push_shown(line, format_args!(" ({len} bytes)")),
+        Form::Json => A::push_shown(line, format_args!(",{{\"bytes\":{len}}}")),
+    }
 }

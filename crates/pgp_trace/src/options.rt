@@ -1,9 +1,9 @@
 //! The options of a listing.
 
 ghost use Rattle.std.specs.Prelude.{◌≡◌, ◌++◌, ◌∷◌, ◌||◌, codes, drop, length, map, IfNone, IfOk, IfSome, OnErr, OnOk};
-ghost use Rattle.pgp_trace.specs.Options.{AreNoOptions, AreOptions, BeginsWithNone, NamesNoKind, is_full, is_secrets, kind_in, kind_word, spelled, style_of};
+ghost use Rattle.pgp_trace.specs.Options.{AreNoOptions, AreOptions, BeginsWithNone, NamesNoKind, is_full, is_json, is_secrets, kind_in, kind_word, spelled, style_of};
 
-use crate::style::Style;
+use crate::style::{Form, Style};
 use pgp_base::Memory;
 use pgp_server::PasswordKind;
 use std::alloc::AllocError;
@@ -14,6 +14,7 @@ const SHORT: usize = 64;
 /// An option of a listing.
 #[derive(Debug, Clone, Copy, PartialEq, Eq)]
 pub enum Choice {
+    AsJson,
     Full,
     Secrets,
     /// Which the next message of tag `p` is that none names yet.
@@ -23,6 +24,7 @@ pub enum Choice {
 /// What the options of a listing come to.
 #[derive(Drop)]
 pub struct Options<A: Memory> {
+    pub json: bool,
     pub full: bool,
     pub secrets: bool,
     /// Which the messages of tag `p` are, from the first on.
@@ -35,11 +37,12 @@ pub struct Options<A: Memory> {
 ///
 /// There is no memory for the kinds.
 pub fn options_of<A: Memory>(alloc: A, words: &[&str]) -> Result<Option<Options<A>>, AllocError>
-    ensures known { IfOk result (λ r. IfSome r (λ options. AreOptions (map (λ word. word.now) words.now) (style_of options.full options.secrets) options.kinds.items)) }
+    ensures known { IfOk result (λ r. IfSome r (λ options. AreOptions (map (λ word. word.now) words.now) (style_of options.json options.full options.secrets) options.kinds.items)) }
     ensures other { IfOk result (λ r. IfNone r (AreNoOptions (map (λ word. word.now) words.now))) }
     ensures lacks { OnErr result A.Lacks }
 {
     let mut options = Options {
+        json: false,
         full: false,
         secrets: false,
         kinds: Vec::new(alloc),
@@ -55,11 +58,12 @@ pub fn options_of<A: Memory>(alloc: A, words: &[&str]) -> Result<Option<Options<
     Ok(Some(options))
 }
 
-/// How much is shown: of texts and values all or a front, and secrets or how long they are.
-pub fn style(full: bool, secrets: bool) -> Style
-    ensures { result ≡ style_of full secrets }
+/// How messages are shown: by lines of text or JSON objects, with all or a front of texts and values, and with secrets or how long they are.
+pub fn style(json: bool, full: bool, secrets: bool) -> Style
+    ensures { result ≡ style_of json full secrets }
 {
     Style {
+        form: if json { Form::Json } else { Form::Columns },
         limit: if full { usize::MAX } else { SHORT },
         secrets,
     }
@@ -67,12 +71,17 @@ pub fn style(full: bool, secrets: bool) -> Style
 
 /// Adds an option.
 fn choose<A: Memory>(choice: Choice, options: &mut Options<A>) -> Result<(), AllocError>
+    ensures json { OnOk result (options.new.json ≡ (is_json choice || options.old.json)) }
     ensures full { OnOk result (options.new.full ≡ (is_full choice || options.old.full)) }
     ensures secrets { OnOk result (options.new.secrets ≡ (is_secrets choice || options.old.secrets)) }
     ensures kinds { OnOk result (options.new.kinds.items ≡ options.old.kinds.items ++ kind_in choice) }
     ensures lacks { OnErr result A.Lacks }
 {
     match choice {
+        Choice::AsJson => {
+            options.json = true;
+            Ok(())
+        }
         Choice::Full => {
             options.full = true;
             Ok(())
@@ -93,7 +102,7 @@ fn len(choice: Choice) -> usize
     ensures { result ≡ length (spelled choice) }
 {
     match choice {
-        Choice::Full | Choice::Secrets => 1,
+        Choice::AsJson | Choice::Full | Choice::Secrets => 1,
         Choice::Kind(_) => 2,
     }
 }
@@ -105,6 +114,7 @@ fn first_choice(words: &[&str]) -> Option<Choice>
 {
     let (word, rest) = words.split_first()?;
     match *word {
+        "--json" => Some(Choice::AsJson),
         "--full" => Some(Choice::Full),
         "--secrets" => Some(Choice::Secrets),
         "--password-kind" => first_kind(rest),

@@ -23,7 +23,7 @@ use pgp_server::PasswordKind;
 use std::alloc::AllocError;
 
 const USAGE: &str =
-    "usage: pgtrace server [--full] [--secrets] | client [--full] [--secrets] [--password-kind password|initial|response].. | --help | --version\n";
+    "usage: pgtrace server [--json] [--full] [--secrets] | client [--json] [--full] [--secrets] [--password-kind password|initial|response].. | --help | --version\n";
 
 const VERSION: &str = "pgtrace 0.1.0\n";
 
@@ -100,7 +100,7 @@ fn server_of<A: Memory>(alloc: A, words: &[&str]) -> Result<Option<Command<A>>, 
     if !options.kinds.is_empty() {
         return Ok(None);
     }
-    Ok(Some(Command::Server(style(options.full, options.secrets))))
+    Ok(Some(Command::Server(style(options.json, options.full, options.secrets))))
 }
 
 /// What the words behind `client` ask for.
@@ -112,7 +112,7 @@ fn client_of<A: Memory>(alloc: A, words: &[&str]) -> Result<Option<Command<A>>, 
     let Some(options) = options_of(alloc, words)? else {
         return Ok(None);
     };
-    let style = style(options.full, options.secrets);
+    let style = style(options.json, options.full, options.secrets);
     Ok(Some(Command::Client(style, options.kinds)))
 }
 

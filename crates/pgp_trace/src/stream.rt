@@ -1,18 +1,19 @@
 //! The listing of a stream, as it comes.
 
-ghost use Rattle.std.specs.Prelude.{◌≡◌, ◌⊎◌, ◌≤◌, ◌<◌, ◌++◌, ℕ, List, drop, length, take, IfErr, IfOk, IfSome, OnErr, OnOk, string_bytes};
+ghost use Rattle.std.specs.Prelude.{◌≡◌, ◌⊎◌, ◌≤◌, ◌<◌, ◌++◌, ◌∷◌, [], ℕ, List, drop, length, take, IfErr, IfOk, IfSome, OnErr, OnOk, string_bytes};
 ghost use Rattle.std.specs.Io.KnownBytes.{Appends, IsAtEnd, Keeps};
 ghost use Rattle.pgp_trace.specs.Command.{Caused};
 ghost use Rattle.pgp_program.specs.Interruptions.{GivesUp};
-ghost use Rattle.pgp_trace.specs.Listing.{IsCutShort, WasListed, WritesListing, last_line};
+ghost use Rattle.pgp_trace.specs.Listing.{IsCutShort, WasListed, WritesListing, last_by, last_line};
 ghost use Rattle.pgp_trace.specs.Steps.{Holds, ListsAll, ListsPiece, ListsSome, side_of};
 ghost use Rattle.pgp_program.specs.Taken.{AppendsFront};
+ghost use Rattle.pgp_trace.specs.declared.style.Form.TheVariants.{Columns, Json};
 
 use crate::frame::Next;
 use crate::next::next_line;
 use crate::ports::Input;
 use crate::side::Side;
-use crate::style::Style;
+use crate::style::{Form, Style};
 use bytes::{Buf, BytesMut};
 use pgp_base::Memory;
 use pgp_program::fault::Fault;
@@ -103,7 +104,7 @@ fn list_stream<A: Memory, R: Input, W: Output>(
     // Bounded, since each function has to end, and a reader may give pieces or be interrupted for ever.
     'pieces: for _ in 0..u64::MAX {
         match input.read_some(piece) {
-            Ok(0) => return list_rest(held.stopped, held.left, &mut held.line, output),
+            Ok(0) => return list_rest(style, held.stopped, held.left, &mut held.line, output),
             Ok(n) => list_piece(style, &piece[..n], &mut held, output)?,
             Err(e) => match e.kind() {
                 ErrorKind::Interrupted => {}
@@ -220,28 +221,55 @@ fn put_lines<W: Output>(lines: &str, output: &mut W) -> Result<(), Fault>
 
 /// Writes the last line, of the bytes that are left.
 fn list_rest<A: Memory, W: Output>(
+    style: Style,
     stopped: bool,
     left: u64,
     line: &mut String<A>,
     output: &mut W,
 ) -> Result<(), Fault>
-    ensures all { OnOk result (Appends (W.contents output.old) (W.contents output.new) (last_line stopped left)) }
-    ensures some { OnErr result (AppendsFront (W.contents output.old) (W.contents output.new) (last_line stopped left)) }
+    ensures all { OnOk result (Appends (W.contents output.old) (W.contents output.new) (last_line style stopped left)) }
+    ensures some { OnErr result (AppendsFront (W.contents output.old) (W.contents output.new) (last_line style stopped left)) }
     ensures cause { IfErr result (Caused A.Lacks ⊥ (GivesUp W.Fails W.Interrupted)) }
 {
     line.clear();
-    put_rest(stopped, left, line)?;
+    put_rest(style, stopped, left, line)?;
     put(line.as_bytes(), output)
 }
 
 /// Adds the last line, of so many bytes that are left.
-fn put_rest<A: Memory>(stopped: bool, n: u64, line: &mut String<A>) -> Result<(), AllocError>
-    ensures line { OnOk result (string_bytes line.new ≡ string_bytes line.old ++ last_line stopped n) }
+fn put_rest<A: Memory>(
+    style: Style,
+    stopped: bool,
+    n: u64,
+    line: &mut String<A>,
+) -> Result<(), AllocError>
+    ensures line { OnOk result (string_bytes line.new ≡ string_bytes line.old ++ last_line style stopped n) }
+    ensures lacks { OnErr result A.Lacks }
+{
+    match style.form {
+        Form::Columns => put_rest_line(stopped, n, line),
+        Form::Json => put_rest_object(stopped, n, line),
+    }
+}
+
+fn put_rest_line<A: Memory>(stopped: bool, n: u64, line: &mut String<A>) -> Result<(), AllocError>
+    ensures line { OnOk result (string_bytes line.new ≡ string_bytes line.old ++ last_by Columns stopped n ++ 10 ∷ []) }
     ensures lacks { OnErr result A.Lacks }
 {
     if stopped {
         A::push_shown(line, format_args!("stopped rest {n}\n"))
     } else {
         A::push_shown(line, format_args!("rest {n}\n"))
+    }
+}
+
+fn put_rest_object<A: Memory>(stopped: bool, n: u64, line: &mut String<A>) -> Result<(), AllocError>
+    ensures line { OnOk result (string_bytes line.new ≡ string_bytes line.old ++ last_by Json stopped n ++ 10 ∷ []) }
+    ensures lacks { OnErr result A.Lacks }
+{
+    if stopped {
+        A::push_shown(line, format_args!("{{\"rest\":{n},\"stopped\":true}}\n"))
+    } else {
+        A::push_shown(line, format_args!("{{\"rest\":{n},\"stopped\":false}}\n"))
     }
 }

@@ -97,4 +97,5 @@ def main():
         file.write(out.rstrip("\n") + "\n")
 
 
-main()
+if __name__ == "__main__":
+    main()

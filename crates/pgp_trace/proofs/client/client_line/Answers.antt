@@ -1,12 +1,13 @@
-use Rattle.std.proofs.Common.{◌≡◌, ◌++◌, ◌∷◌, [], length, Some, Ok, Err, rules}
+use Rattle.std.proofs.Common.{◌≡◌, ◌++◌, ◌∷◌, [], length, Some, Ok, Err, rules, refl}
 use Rattle.std.specs.Prelude.{string_bytes}
 use Rattle.pgp_server.specs.AnyStep.{AnyStep, RefusesAny}
 use Rattle.pgp_server.specs.AnyViews.{any_view}
 use Rattle.pgp_server.specs.Views.{kind_view}
 use Rattle.pgp_trace.specs.Client.{client_line}
+use Rattle.pgp_trace.specs.Line.{closing}
 use Rattle.pgp_trace.specs.Listing.{client_front}
 use Rattle.pgp_trace.specs.Sides.{is_told}
-use Rattle.pgp_trace.proofs.ClientLines.{message_passed, refusal_passed}
+use Rattle.pgp_trace.proofs.ClientLines.{message_passed, refusal_passed, refusal_rests}
 use Rattle.pgp_trace.proofs.client.client_line.Goals as goal
 
 pub returns-in_ok-message_line-in-Ok-Some-clause-listed : goal.returns-in_ok-message_line-in-Ok-Some-clause-listed
@@ -17,7 +18,7 @@ returns-in_ok-message_line-in-Ok-Some-clause-listed g c =
     let line = string_bytes c.message_line.new.line in
     let x = any_view c.in-Ok-Some.message in
     let step : AnyStep (kind_view c.expected.result) c.resume-messages.result (Ok (Some x)) c.next_any.new.self = search rules in
-    let has : line ≡ client_line c.args.style (is_told c.args.kinds.now) (Ok x) (client_front c.args.place c.args.opened frame) ++ 10 ∷ [] = search rules in
+    let has : line ≡ client_line c.args.style (is_told c.args.kinds.now) (Ok x) (client_front c.args.style c.args.place c.args.opened frame) ++ closing c.args.style ++ 10 ∷ [] = search rules in
     message_passed c.args.style c.args.place c.args.opened c.is_open.result c.args.kinds.now c.kinds_behind-left.result.now bytes frame rest line (kind_view c.expected.result) x c.resume-messages.result c.next_any.new.self
     c.resume-messages.ensures c.rest-behind.ensures c.is_open.ensures c.expected.ensures step c.front_of-frame.ensures has c.kinds_behind-left.ensures
 
@@ -30,6 +31,18 @@ returns-in_ok-refusal_line-in-Err-clause-listed g c =
     let e = c.in-Err.refusal in
     let step : RefusesAny (kind_view c.expected.result) c.resume-messages.result e c.next_any.new.self = search rules in
     let differ : length rest ≡ length bytes → ⊥ = λ h. search rules in
-    let has : line ≡ client_line c.args.style (is_told c.args.kinds.now) (Err e) (client_front c.args.place c.args.opened frame) ++ 10 ∷ [] = search rules in
+    let has : line ≡ client_line c.args.style (is_told c.args.kinds.now) (Err e) (client_front c.args.style c.args.place c.args.opened frame) ++ closing c.args.style ++ 10 ∷ [] = search rules in
     refusal_passed c.args.style c.args.place c.args.opened c.is_open-in-Err.result c.args.kinds.now c.kinds_behind-left-in-Err.result.now bytes frame rest line (kind_view c.expected.result) e c.resume-messages.result c.next_any.new.self
     c.resume-messages.ensures c.rest-behind-in-Err.ensures c.is_open-in-Err.ensures c.expected.ensures step differ c.front_of-frame-in-Err.ensures has c.kinds_behind-left-in-Err.ensures
+
+pub returns-then-behind-bytes-clause-listed : goal.returns-then-behind-bytes-clause-listed
+returns-then-behind-bytes-clause-listed g c =
+    let bytes = c.args.bytes.now in
+    let rest = c.rest-behind-in-Err.result.now in
+    let step : RefusesAny (kind_view c.expected.result) c.resume-messages.result c.in-Err.refusal c.next_any.new.self = search rules in
+    let same : length rest ≡ length bytes = search rules in
+    record {
+      same = refl;
+      ending = refusal_rests c.args.opened c.args.kinds.now bytes rest (kind_view c.expected.result) c.in-Err.refusal c.resume-messages.result c.next_any.new.self c.resume-messages.ensures c.rest-behind-in-Err.ensures step same;
+      side = refl;
+    }

@@ -8,20 +8,20 @@ use Rattle.pgp_trace.proofs.client_body.put_ours.Goals as goal
 
 pub returns-in_ok-put_values-in-Bind-clause-says : goal.returns-in_ok-put_values-in-Bind-clause-says
 returns-in_ok-put_values-in-Bind-clause-says g c =
-    rw c.in-Bind.is (subst (λ l. OnOk c.put_formats-in-Bind.result (string_bytes c.put_formats-in-Bind.new.line ≡ followed c.args.style.limit l (counted (codes "results") signed_part c.in-Bind.result_formats)))
+    rw c.in-Bind.is (subst (λ l. OnOk c.put_formats-in-Bind.result (string_bytes c.put_formats-in-Bind.new.line ≡ followed c.args.style l (counted (codes "results") signed_part c.in-Bind.result_formats)))
     (c.in_ok-put_values-in-Bind.ensures.parts
-    ∙ ap (λ l. followed c.args.style.limit l (counted (codes "values") client_value c.in-Bind.values)) (c.in_ok-put_formats-in-Bind.ensures.parts
-    ∙ ap (λ l. followed c.args.style.limit l (counted (codes "formats") signed_part c.in-Bind.formats)) c.in_ok-put_texts-in-Bind.ensures.parts))
+    ∙ ap (λ l. followed c.args.style l (counted (codes "values") client_value c.in-Bind.values)) (c.in_ok-put_formats-in-Bind.ensures.parts
+    ∙ ap (λ l. followed c.args.style l (counted (codes "formats") signed_part c.in-Bind.formats)) c.in_ok-put_texts-in-Bind.ensures.parts))
     c.put_formats-in-Bind.ensures.parts)
 
 pub returns-in_ok-put_texts-in-Parse-clause-says : goal.returns-in_ok-put_texts-in-Parse-clause-says
 returns-in_ok-put_texts-in-Parse-clause-says g c =
-    rw c.in-Parse.is (subst (λ l. OnOk c.put_types.result (string_bytes c.put_types.new.line ≡ followed c.args.style.limit l (counted (codes "types") type_part c.in-Parse.param_types))) c.in_ok-put_texts-in-Parse.ensures.parts c.put_types.ensures.parts)
+    rw c.in-Parse.is (subst (λ l. OnOk c.put_types.result (string_bytes c.put_types.new.line ≡ followed c.args.style l (counted (codes "types") type_part c.in-Parse.param_types))) c.in_ok-put_texts-in-Parse.ensures.parts c.put_types.ensures.parts)
 
 pub returns-in-PasswordMessage-clause-says : goal.returns-in-PasswordMessage-clause-says
 returns-in-PasswordMessage-clause-says g c = rw c.in-PasswordMessage.is c.put_secret-in-PasswordMessage.ensures.parts
 
 pub returns-in_ok-put_one-in-SaslInitialResponse-clause-says : goal.returns-in_ok-put_one-in-SaslInitialResponse-clause-says
 returns-in_ok-put_one-in-SaslInitialResponse-clause-says g c =
-    rw c.in-SaslInitialResponse.is (subst (λ l. OnOk c.put_secret-in-SaslInitialResponse.result (string_bytes c.put_secret-in-SaslInitialResponse.new.line ≡ followed c.args.style.limit l (Word (codes "data") ∷ secret c.args.style c.in-SaslInitialResponse.response.now ∷ [])))
+    rw c.in-SaslInitialResponse.is (subst (λ l. OnOk c.put_secret-in-SaslInitialResponse.result (string_bytes c.put_secret-in-SaslInitialResponse.new.line ≡ followed c.args.style l (Word (codes "data") ∷ secret c.args.style c.in-SaslInitialResponse.response.now ∷ [])))
     c.in_ok-put_one-in-SaslInitialResponse.ensures.parts c.put_secret-in-SaslInitialResponse.ensures.parts)

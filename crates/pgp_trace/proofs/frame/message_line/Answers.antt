@@ -1,8 +1,7 @@
-use Rattle.std.proofs.Common.{◌≡◌, ◌∙◌, ap, subst, [], ◌∷◌, ◌++◌, arith}
-use Rattle.std.specs.Prelude.{string_bytes, is_ok, if◌then◌else◌}
-use Rattle.std.proofs.lemmas.Str.{encode_ascii}
+use Rattle.std.proofs.Common.{◌≡◌, ◌∙◌, ap, [], ◌∷◌}
+use Rattle.std.specs.Prelude.{string_bytes}
 use Rattle.pgp_message.specs.Views.{view}
-use Rattle.pgp_trace.specs.Line.{followed, named}
+use Rattle.pgp_trace.specs.Line.{Name, followed}
 use Rattle.pgp_trace.specs.Shown.{says_nothing}
 use Rattle.pgp_trace.proofs.FrameLines.{frame_long, body_is, message_ended}
 use Rattle.pgp_trace.proofs.frame.message_line.Goals as goal
@@ -15,11 +14,11 @@ put_message-requires g c = c.split_at.ensures.back ∙ body_is c.args.frame.now 
 
 pub returns-clause-line : goal.returns-clause-line
 returns-clause-line g c =
-    message_ended c.push_char.result c.args.style c.args.place c.args.frame.now (view c.args.message.now) c.requires
-    (string_bytes c.begin.new.line) (string_bytes c.put_called.new.line) (string_bytes c.put_message.new.line) (string_bytes c.push_char.new.text)
+    message_ended c.put_end.result c.args.style c.args.place c.args.frame.now (view c.args.message.now) c.requires
+    (string_bytes c.begin.new.line) (string_bytes c.put_called.new.line) (string_bytes c.put_message.new.line) (string_bytes c.put_end.new.line)
     c.in_ok-begin.ensures.parts
     (c.in_ok-put_called.ensures.part
-    ∙ ap (λ b. followed 0 (string_bytes c.begin.new.line) (named b c.name_of.result.now ∷ [])) c.says_nothing.ensures
-    ∙ ap (λ w. followed 0 (string_bytes c.begin.new.line) (named (says_nothing (view c.args.message.now)) w ∷ [])) c.name_of.ensures)
+    ∙ ap (λ b. followed c.args.style (string_bytes c.begin.new.line) (Name b c.name_of.result.now ∷ [])) c.says_nothing.ensures
+    ∙ ap (λ w. followed c.args.style (string_bytes c.begin.new.line) (Name (says_nothing (view c.args.message.now)) w ∷ [])) c.name_of.ensures)
     c.in_ok-put_message.ensures.says
-    (subst (λ l. string_bytes c.push_char.new.text ≡ (if is_ok c.push_char.result then string_bytes c.put_message.new.line ++ l else string_bytes c.put_message.new.line)) (encode_ascii 10 (omega arith)) c.push_char.ensures.bytes)
+    c.put_end.ensures.text

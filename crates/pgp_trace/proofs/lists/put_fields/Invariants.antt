@@ -6,7 +6,7 @@ use Rattle.pgp_trace.specs.Shown.{list_of, field_parts}
 use Rattle.pgp_trace.proofs.lists.put_fields.Given as goal
 
 abbrev pub invariant-items : goal.invariant-items
-invariant-items g l = followed l.limit (string_bytes l.line) (list_of field_parts l.fields.items l.fields.end) ≡ followed l.fn.limit (string_bytes l.fn.line) (list_of field_parts l.fn.fields.items l.fn.fields.end)
+invariant-items g l = followed l.style (string_bytes l.line) (list_of field_parts l.fields.items l.fields.end) ≡ followed l.fn.style (string_bytes l.fn.line) (list_of field_parts l.fn.fields.items l.fn.fields.end)
 
 abbrev pub decreases-items : goal.decreases-items
 decreases-items g l = length l.fields.items

@@ -6,7 +6,7 @@ use Rattle.pgp_trace.specs.Shown.{list_of, number_part}
 use Rattle.pgp_trace.proofs.lists.put_formats.Given as goal
 
 abbrev pub invariant-items : goal.invariant-items
-invariant-items g l = followed l.limit (string_bytes l.line) (list_of number_part l.formats.items l.formats.end) ≡ followed l.fn.limit (string_bytes l.fn.line) (list_of number_part l.fn.formats.items l.fn.formats.end)
+invariant-items g l = followed l.style (string_bytes l.line) (list_of number_part l.formats.items l.formats.end) ≡ followed l.fn.style (string_bytes l.fn.line) (list_of number_part l.fn.formats.items l.fn.formats.end)
 
 abbrev pub decreases-items : goal.decreases-items
 decreases-items g l = length l.formats.items

@@ -6,7 +6,7 @@ use Rattle.pgp_trace.specs.Shown.{list_of, text_part}
 use Rattle.pgp_trace.proofs.lists.put_mechanisms.Given as goal
 
 abbrev pub invariant-items : goal.invariant-items
-invariant-items g l = followed l.limit (string_bytes l.line) (list_of text_part l.names.items l.names.end) ≡ followed l.fn.limit (string_bytes l.fn.line) (list_of text_part l.fn.names.items l.fn.names.end)
+invariant-items g l = followed l.style (string_bytes l.line) (list_of text_part l.names.items l.names.end) ≡ followed l.fn.style (string_bytes l.fn.line) (list_of text_part l.fn.names.items l.fn.names.end)
 
 abbrev pub decreases-items : goal.decreases-items
 decreases-items g l = length l.names.items

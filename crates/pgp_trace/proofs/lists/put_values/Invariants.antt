@@ -8,7 +8,7 @@ use Rattle.pgp_trace.specs.Shown.{list_of, value_part}
 use Rattle.pgp_trace.proofs.lists.put_values.Given as goal
 
 abbrev pub invariant-items : goal.invariant-items
-invariant-items g l = (followed l.limit (string_bytes l.line) (list_of (value_part l.buffer) l.places.items l.places.end) ≡ followed l.fn.limit (string_bytes l.fn.line) (list_of (value_part l.fn.buffer) l.fn.places.items l.fn.places.end)) × AllByRecursion (IsPlaceIn (length l.buffer)) l.places.items
+invariant-items g l = (followed l.style (string_bytes l.line) (list_of (value_part l.buffer) l.places.items l.places.end) ≡ followed l.fn.style (string_bytes l.fn.line) (list_of (value_part l.fn.buffer) l.fn.places.items l.fn.places.end)) × AllByRecursion (IsPlaceIn (length l.buffer)) l.places.items
 
 abbrev pub decreases-items : goal.decreases-items
 decreases-items g l = length l.places.items

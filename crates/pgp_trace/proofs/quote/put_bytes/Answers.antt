@@ -7,8 +7,8 @@ use Rattle.pgp_trace.proofs.Parts.{text_more}
 use Rattle.pgp_trace.proofs.quote.put_bytes.Goals as goal
 
 pub loop-byte-preserved : goal.loop-byte-preserved
-loop-byte-preserved g c = text_more escaped_byte c.args.bytes.now (string_bytes c.args.line.now) (string_bytes c.loop-byte.line) _ c.loop-byte.byte-index 0 c.loop-byte-test.true c.loop-byte.invariant (search rules)
+loop-byte-preserved g c = text_more (escaped_byte c.args.form) c.args.bytes.now (string_bytes c.args.line.now) (string_bytes c.loop-byte.line) _ c.loop-byte.byte-index 0 c.loop-byte-test.true c.loop-byte.invariant (search rules)
 
 pub returns-clause-text : goal.returns-clause-text
 returns-clause-text g c =
-    c.loop-byte.invariant ∙ ap (λ l. string_bytes c.args.line.now ++ flat_map escaped_byte l) (take_all c.loop-byte.byte-index c.args.bytes.now (omega (arith, c.loop-byte-test.false)))
+    c.loop-byte.invariant ∙ ap (λ l. string_bytes c.args.line.now ++ flat_map (escaped_byte c.args.form) l) (take_all c.loop-byte.byte-index c.args.bytes.now (omega (arith, c.loop-byte-test.false)))

@@ -6,4 +6,4 @@ use Rattle.pgp_trace.specs.Quoting.{escaped_byte}
 use Rattle.pgp_trace.proofs.quote.put_bytes.Given as goal
 
 abbrev pub invariant-loop-byte : goal.invariant-loop-byte
-invariant-loop-byte g l = string_bytes l.line ≡ string_bytes l.fn.line ++ flat_map escaped_byte (take l.byte-index l.bytes)
+invariant-loop-byte g l = string_bytes l.line ≡ string_bytes l.fn.line ++ flat_map (escaped_byte l.form) (take l.byte-index l.bytes)

@@ -7,7 +7,7 @@ use Rattle.pgp_trace.specs.Plain.{escaped_text}
 use Rattle.pgp_trace.proofs.quote.put_text.Given as goal
 
 abbrev pub invariant-runs : goal.invariant-runs
-invariant-runs g l = (string_bytes l.line ++ escaped_text l.rest ≡ string_bytes l.fn.line ++ escaped_text l.text) × shadow (Utf8 l.rest)
+invariant-runs g l = (string_bytes l.line ++ escaped_text l.form l.rest ≡ string_bytes l.fn.line ++ escaped_text l.form l.text) × shadow (Utf8 l.rest)
 
 abbrev pub decreases-runs : goal.decreases-runs
 decreases-runs g l = length l.rest
