@@ -16,6 +16,9 @@ use std::marker::Model;
 #[derive(Drop)]
 pub struct AuthenticationMd5PasswordBody {
     salt: [u8; 4],
+    // No bytes: it keeps the salt away from the byte that tells the kind of a message, which is else stored as one byte and
+    // read back with the salt. It carries the speed of tiny messages.
+    place: [u64; 0],
 }
 
 impl Model for AuthenticationMd5PasswordBody {
@@ -38,7 +41,7 @@ impl AuthenticationMd5PasswordBody {
         if bytes.len() > 4 {
             return Err(Error::NotDrained);
         }
-        Ok(AuthenticationMd5PasswordBody { salt })
+        Ok(AuthenticationMd5PasswordBody { salt, place: [] })
     }
 
     /// The four bytes that the answer is salted with.
