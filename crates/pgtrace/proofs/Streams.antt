@@ -9,7 +9,7 @@ use Rattle.pgp_message.specs.BackendMessage.{Message}
 use Rattle.pgp_message.specs.Stream.{Frame, frame_bytes, IsFrame}
 use Rattle.pgp_message.proofs.Runs.{front_is_one, each_push, pushed}
 use Rattle.pgtrace.specs.declared.style.Style.{Style}
-use Rattle.pgtrace.specs.Line.{Length, Tag, closing, followed, opening}
+use Rattle.pgtrace.specs.Line.{Length, Tag, followed, opening}
 use Rattle.pgtrace.specs.Sides.{Side, Server}
 use Rattle.pgtrace.proofs.Sides.{server_line}
 use Rattle.pgtrace.specs.Listing.{GoesOn, IsLineOf, IsServerLine, Lines, NoLines, OneLine, front, place_behind}
