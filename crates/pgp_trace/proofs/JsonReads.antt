@@ -1,5 +1,5 @@
 -- A string of JSON is read as the text that it was written of.
-use Rattle.std.proofs.Common.{◌≡◌, ◌≢◌, ◌⊎◌, ℕ, suc, ◌+◌, ◌-◌, ◌*◌, ◌<◌, ◌≤◌, Bool, true, false, List, [], ◌∷◌, ◌++◌, length, get_or, Option, Some, None, refl, sym, ap, subst, ◌∙◌, arith, inl, inr, append_assoc}
+use Rattle.std.proofs.Common.{◌≡◌, ◌≢◌, ◌⊎◌, ℕ, suc, ◌+◌, ◌*◌, ◌<◌, ◌≤◌, Bool, true, false, List, [], ◌∷◌, ◌++◌, length, get_or, Option, Some, None, refl, sym, ap, subst, ◌∙◌, arith, inl, inr, append_assoc}
 use Rattle.std.specs.Prelude.{◌/◌, ◌%◌, ◌&&◌, cond, nat_le, nat_lt, ◌==◌, if◌then◌else◌, option_and_then}
 use lib.Utf8.{scalar as is_scalar}
 use Rattle.std.specs.Char.{digit_value, encode_utf8, is_digit, IsScalar}

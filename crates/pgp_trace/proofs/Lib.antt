@@ -2,7 +2,7 @@ pub mod Parts
 pub mod Columns
 pub mod Fronts
 pub mod Items
-pub mod Objects
+pub mod Called
 pub mod FrameLines
 pub mod ClientLines
 pub mod Ends

@@ -13,7 +13,7 @@ use Rattle.std.proofs.lemmas.Str.{encode_ascii, encodes-chars, inside_one}
 use Rattle.pgp_trace.specs.Quoting.{digits, hex_digit, hex_byte, hex_escape, is_mark, is_printable, is_text, is_visible, escaped_byte, escaped_char, escaped, quoted, unprinted, value, up_to}
 use Rattle.pgp_trace.proofs.Escapes.{front_utf8}
 use Rattle.pgp_trace.specs.declared.style.Form.{Form}
-use Rattle.pgp_trace.specs.declared.style.Form.TheVariants.{Columns, Json}
+use Rattle.pgp_trace.specs.declared.style.Form.TheVariants.{Columns}
 use Rattle.pgp_trace.specs.Line.{Value, shown}
 
 -- ---- hex digits

@@ -203,11 +203,11 @@ fn put_news<A: Memory>(
     let Ok(message) = news.message() else {
         return put_bare(style, body, line);
     };
-    put_notice(style, news.process_id(), channel, message, line)
+    put_notification(style, news.process_id(), channel, message, line)
 }
 
 /// Adds the process that notifies, the channel, and what it says there.
-fn put_notice<A: Memory>(
+fn put_notification<A: Memory>(
     style: Style,
     process_id: i32,
     channel: &str,

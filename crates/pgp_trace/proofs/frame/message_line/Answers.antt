@@ -1,4 +1,4 @@
-use Rattle.std.proofs.Common.{◌≡◌, ◌∙◌, ap, [], ◌∷◌}
+use Rattle.std.proofs.Common.{◌∙◌, ap, [], ◌∷◌}
 use Rattle.std.specs.Prelude.{string_bytes}
 use Rattle.pgp_message.specs.Views.{view}
 use Rattle.pgp_trace.specs.Line.{Name, followed}

@@ -1,5 +1,5 @@
 use Rattle.std.specs.Prelude.{string_bytes}
-use Rattle.pgp_trace.proofs.Objects.{called_added}
+use Rattle.pgp_trace.proofs.Called.{called_added}
 use Rattle.pgp_trace.proofs.line.put_called.Goals as goal
 
 pub returns-in_ok-push_str-in-Json-clause-part : goal.returns-in_ok-push_str-in-Json-clause-part
