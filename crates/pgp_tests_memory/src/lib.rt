@@ -22,6 +22,8 @@ mod pieces;
 #[cfg(test)]
 mod reads;
 #[cfg(test)]
+mod refused;
+#[cfg(test)]
 mod serializers;
 #[cfg(test)]
 mod session;
