@@ -1,9 +1,8 @@
 //! Values in messages, with each allocation refused in turn.
 #![tactic(auto, using(pgp_base::proofs::Parts::held_steps))]
 
-use crate::checks::holds;
+use crate::checks::{holds, same};
 use crate::reads::{buffer, next_row};
-use crate::refused::refusals;
 use bytes::BytesMut;
 use pgp_base::{BindError, Error};
 use pgp_test_alloc::Refusing;
@@ -36,19 +35,6 @@ fn full<A: Allocator + Copy>(alloc: A) -> Result<BytesMut<A>, AllocError> {
     Ok(buf)
 }
 
-/// What binding an array of these elements comes to where this request is refused. A refused call leaves the bytes that stood there:
-/// else the answer is `NotDrained`.
-fn bound_at(heap: &Refusing<Global>, number: u64, steps: &[Step]) -> Result<(), Error> {
-    let mut buf: BytesMut<&Refusing<Global>> = full(heap)?;
-    heap.until_refusal.set(number);
-    let answer = plain(bind_array(&[PAIR], 17, steps, &mut buf));
-    if answer.is_ok() || buf.as_slice() == SYNC.as_slice() {
-        answer
-    } else {
-        Err(Error::NotDrained)
-    }
-}
-
 #[test]
 fn bind_array_with_each_allocation_refused(rt: HostRuntime) -> Result<(), Fail> {
     let mut steps = Vec::new(rt.alloc());
@@ -57,12 +43,20 @@ fn bind_array_with_each_allocation_refused(rt: HostRuntime) -> Result<(), Fail> 
             return Ok(());
         }
     }
-    let refusals = refusals(
-        &rt,
-        rt.alloc(),
-        |heap: &Refusing<Global>, number: u64| bound_at(heap, number, &steps),
-        (),
-    );
+    let mut refusals = 0u64;
+    for number in 1..100u64 {
+        let heap = Refusing::new(rt.alloc(), 0);
+        let mut buf: BytesMut<&Refusing<Global>> = full(&heap)?;
+        heap.until_refusal.set(number);
+        let answer = plain(bind_array(&[PAIR], 17, &steps, &mut buf));
+        if heap.until_refusal.get() != 0 {
+            same(&rt, answer, Ok(()));
+            break;
+        }
+        same(&rt, answer, Err(Error::OutOfMemory));
+        same(&rt, buf.as_slice(), SYNC.as_slice());
+        refusals = number;
+    }
     holds(&rt, refusals > 0);
     Ok(())
 }
@@ -82,20 +76,19 @@ fn good_values<A: Allocator + Copy>(alloc: A, memory: Global) -> Result<usize, E
     }
 }
 
-/// The same where this request is refused.
-fn good_values_at(heap: &Refusing<Global>, number: u64, memory: Global) -> Result<usize, Error> {
-    heap.until_refusal.set(number);
-    good_values(heap, memory)
-}
-
 #[test]
-fn row_int4_with_each_allocation_refused(rt: HostRuntime) {
-    let memory = rt.alloc();
-    let refusals = refusals(
-        &rt,
-        memory,
-        |heap: &Refusing<Global>, number: u64| good_values_at(heap, number, memory),
-        3,
-    );
+fn row_int4_with_each_allocation_refused(rt: HostRuntime) -> Result<(), Fail> {
+    let mut refusals = 0u64;
+    for number in 1..100u64 {
+        let heap = Refusing::new(rt.alloc(), number);
+        let answer = good_values(&heap, rt.alloc());
+        if heap.until_refusal.get() != 0 {
+            same(&rt, answer, Ok(3));
+            break;
+        }
+        same(&rt, answer, Err(Error::OutOfMemory));
+        refusals = number;
+    }
     holds(&rt, refusals > 0);
+    Ok(())
 }

@@ -3,7 +3,6 @@
 #![tactic(auto, using(pgp_base::proofs::Parts::held_steps))]
 
 use crate::checks::{holds, holds_at, same, same_at};
-use crate::refused::refusals;
 use bytes::BytesMut;
 use pgp_base::{
     BindError, Buffer, Error, IsNull, put_u8, write_body, write_counted, write_cstr, write_nullable,
@@ -48,42 +47,26 @@ fn full<A: Allocator + Copy>(alloc: A) -> Result<BytesMut<A>, AllocError> {
     Ok(buf)
 }
 
-// What the writer comes to where this request is refused: the bytes that it writes in ample memory, or a refusal that leaves what stood
-// there. Else the answer is `NotDrained`.
-fn written_at(
-    heap: &Refusing<Global>,
-    number: u64,
-    writer: u32,
-    ample: &[u8],
-) -> Result<(), Error> {
-    let mut buf: BytesMut<&Refusing<Global>> = full(heap)?;
-    heap.until_refusal.set(number);
-    let answer = write(writer, &mut buf);
-    let bytes = if answer.is_ok() {
-        ample
-    } else {
-        SYNC.as_slice()
-    };
-    if buf.as_slice() == bytes {
-        answer
-    } else {
-        Err(Error::NotDrained)
-    }
-}
-
 #[test]
 fn writers_with_each_allocation_refused(rt: HostRuntime) -> Result<(), Fail> {
     for writer in 0..WRITERS {
         let mut ample = full(rt.alloc())?;
         same_at(&rt, writer, write(writer, &mut ample), Ok(()));
-        let refusals = refusals(
-            &rt,
-            rt.alloc(),
-            |heap: &Refusing<Global>, number: u64| {
-                written_at(heap, number, writer, ample.as_slice())
-            },
-            (),
-        );
+        let mut refusals = 0u64;
+        for number in 1..1000u64 {
+            let heap = Refusing::new(rt.alloc(), 0);
+            let mut buf: BytesMut<&Refusing<Global>> = full(&heap)?;
+            heap.until_refusal.set(number);
+            let answer = write(writer, &mut buf);
+            if heap.until_refusal.get() != 0 {
+                same_at(&rt, writer, answer, Ok(()));
+                same_at(&rt, writer, buf.as_slice(), ample.as_slice());
+                break;
+            }
+            same_at(&rt, writer, answer, Err(Error::OutOfMemory));
+            same_at(&rt, writer, buf.as_slice(), SYNC.as_slice());
+            refusals = number;
+        }
         holds_at(&rt, writer, refusals >= 1 && refusals < 100);
     }
     Ok(())

@@ -22,8 +22,6 @@ mod pieces;
 #[cfg(test)]
 mod reads;
 #[cfg(test)]
-mod refused;
-#[cfg(test)]
 mod serializers;
 #[cfg(test)]
 mod session;

@@ -3,7 +3,6 @@
 
 use crate::checks::{holds, same};
 use crate::reads::{buffer, count, is_copy, is_some, next_row};
-use crate::refused::refusals;
 use bytes::{Bytes, BytesMut};
 use pgp_base::Error;
 use pgp_message::{DataRowBody, FrameParser, Message, Messages, RowPlaces, read_frames};
@@ -23,33 +22,28 @@ fn is_copy_of<A: Allocator + Copy>(
     answer
 }
 
-// What reading the frame comes to where this request is refused. A refused frame stays, and is taken once memory is there: else the
-// answer is `NotDrained`.
-fn copy_at(heap: &Refusing<Global>, number: u64) -> Result<Option<bool>, Error> {
-    let frame: &[u8] = b"\x64\0\0\0\x06ab";
-    let mut buf: BytesMut<&Refusing<Global>> = buffer(heap, frame)?;
-    heap.until_refusal.set(number);
-    let answer = is_copy_of(&mut buf, b"ab");
-    let is_right = match answer {
-        Ok(_) => buf.is_empty(),
-        Err(_) => buf.as_slice() == frame && is_copy_of(&mut buf, b"ab") == Ok(Some(true)),
-    };
-    if is_right {
-        answer
-    } else {
-        Err(Error::NotDrained)
-    }
-}
-
+// A refused frame stays, and is taken once memory is there.
 #[test]
-fn parse_with_each_allocation_refused(rt: HostRuntime) {
-    let refusals = refusals(
-        &rt,
-        rt.alloc(),
-        |heap: &Refusing<Global>, number: u64| copy_at(heap, number),
-        Some(true),
-    );
+fn parse_with_each_allocation_refused(rt: HostRuntime) -> Result<(), Fail> {
+    let frame: &[u8] = b"\x64\0\0\0\x06ab";
+    let mut refusals = 0u64;
+    for number in 1..100u64 {
+        let heap = Refusing::new(rt.alloc(), 0);
+        let mut buf = buffer(&heap, frame)?;
+        heap.until_refusal.set(number);
+        let answer = is_copy_of(&mut buf, b"ab");
+        if heap.until_refusal.get() != 0 {
+            same(&rt, answer, Ok(Some(true)));
+            holds(&rt, buf.is_empty());
+            break;
+        }
+        same(&rt, answer, Err(Error::OutOfMemory));
+        same(&rt, buf.as_slice(), frame);
+        same(&rt, is_copy_of(&mut buf, b"ab"), Ok(Some(true)));
+        refusals = number;
+    }
     holds(&rt, refusals > 0);
+    Ok(())
 }
 
 // Room for what is missing is asked for, and a refusal of it is not told.
@@ -107,39 +101,34 @@ fn bare_frames_ask_for_no_memory(rt: HostRuntime) -> Result<(), Fail> {
     Ok(())
 }
 
-// The same of any frame.
-fn message_at(heap: &Refusing<Global>, number: u64, frame: &[u8]) -> Result<bool, Error> {
-    let mut buf: BytesMut<&Refusing<Global>> = buffer(heap, frame)?;
-    heap.until_refusal.set(number);
-    let answer = is_message(&mut buf);
-    let is_right = match answer {
-        Ok(_) => buf.is_empty(),
-        Err(_) => buf.as_slice() == frame && is_message(&mut buf) == Ok(true),
-    };
-    if is_right {
-        answer
-    } else {
-        Err(Error::NotDrained)
-    }
-}
-
 // A key and an answer about versions keep bytes of their frames: a refused frame stays, and is taken once memory is there.
 #[test]
-fn keys_and_versions_with_each_allocation_refused(rt: HostRuntime) {
+fn keys_and_versions_with_each_allocation_refused(rt: HostRuntime) -> Result<(), Fail> {
     let frames: [&[u8]; 3] = [
         b"\x4b\0\0\0\x0c\0\0\0\x01\0\0\0\x02",
         b"\x4b\0\0\0\x0d\0\0\0\x01\x01\x02\x03\x04\x05",
         b"\x76\0\0\0\x13\0\x03\0\0\0\0\0\x01_pq_.x\0",
     ];
     for frame in frames {
-        let refusals = refusals(
-            &rt,
-            rt.alloc(),
-            |heap: &Refusing<Global>, number: u64| message_at(heap, number, frame),
-            true,
-        );
+        let mut refusals = 0u64;
+        for number in 1..100u64 {
+            let heap = Refusing::new(rt.alloc(), 0);
+            let mut buf = buffer(&heap, frame)?;
+            heap.until_refusal.set(number);
+            let answer = is_message(&mut buf);
+            if heap.until_refusal.get() != 0 {
+                same(&rt, answer, Ok(true));
+                holds(&rt, buf.is_empty());
+                break;
+            }
+            same(&rt, answer, Err(Error::OutOfMemory));
+            same(&rt, buf.as_slice(), frame);
+            same(&rt, is_message(&mut buf), Ok(true));
+            refusals = number;
+        }
         holds(&rt, refusals > 0);
     }
+    Ok(())
 }
 
 /// Reads the whole frames of the bytes onto a list.
@@ -218,10 +207,20 @@ fn collected<A: Allocator + Copy>(alloc: A, message: &Message) -> Result<usize, 
     }
 }
 
-// The same where this request is refused.
-fn collected_at(heap: &Refusing<Global>, number: u64, message: &Message) -> Result<usize, Error> {
-    heap.until_refusal.set(number);
-    collected(heap, message)
+// How often the walk's list was refused memory before it was collected.
+fn refusals_of(rt: &impl Abort, alloc: Global, message: &Message, len: usize) -> u64 {
+    let mut refusals = 0u64;
+    for number in 1..100u64 {
+        let heap = Refusing::new(alloc, number);
+        let answer = collected(&heap, message);
+        if heap.until_refusal.get() != 0 {
+            same(rt, answer, Ok(len));
+            break;
+        }
+        same(rt, answer, Err(Error::OutOfMemory));
+        refusals = number;
+    }
+    refusals
 }
 
 const LISTS: [(&[u8], usize); 7] = [
@@ -250,12 +249,7 @@ fn collect_with_each_allocation_refused(rt: HostRuntime) -> Result<(), Fail> {
         let Some(message) = Message::parse(&mut buf)? else {
             panic!(rt; "no message");
         };
-        let refusals = refusals(
-            &rt,
-            rt.alloc(),
-            |heap: &Refusing<Global>, number: u64| collected_at(heap, number, &message),
-            len,
-        );
+        let refusals = refusals_of(&rt, rt.alloc(), &message, len);
         drop(message);
         holds(&rt, refusals > 0);
     }
@@ -277,37 +271,34 @@ fn is_next_copy_of<A: Allocator + Copy>(
     answer
 }
 
-// What a parser that goes on reads of the frame where this request is refused. A refused frame stays, its header is remembered, and it
-// is taken once memory is there: else the answer is `NotDrained`.
-fn next_copy_at(heap: &Refusing<Global>, number: u64) -> Result<Option<bool>, Error> {
-    let frame: &[u8] = b"\x64\0\0\0\x06ab";
-    let mut buf: BytesMut<&Refusing<Global>> = buffer(heap, frame)?;
-    let mut parser = FrameParser::new();
-    heap.until_refusal.set(number);
-    let answer = is_next_copy_of(&mut parser, &mut buf, b"ab");
-    let is_right = match answer {
-        Ok(_) => buf.is_empty(),
-        Err(_) => {
-            buf.as_slice() == frame
-                && is_next_copy_of(&mut parser, &mut buf, b"ab") == Ok(Some(true))
-        }
-    };
-    if is_right && parser.headers() == 1 {
-        answer
-    } else {
-        Err(Error::NotDrained)
-    }
-}
-
+// A refused frame stays, its header is remembered, and it is taken once memory is there.
 #[test]
-fn parser_with_each_allocation_refused(rt: HostRuntime) {
-    let refusals = refusals(
-        &rt,
-        rt.alloc(),
-        |heap: &Refusing<Global>, number: u64| next_copy_at(heap, number),
-        Some(true),
-    );
+fn parser_with_each_allocation_refused(rt: HostRuntime) -> Result<(), Fail> {
+    let frame: &[u8] = b"\x64\0\0\0\x06ab";
+    let mut refusals = 0u64;
+    for number in 1..100u64 {
+        let heap = Refusing::new(rt.alloc(), 0);
+        let mut buf = buffer(&heap, frame)?;
+        let mut parser = FrameParser::new();
+        heap.until_refusal.set(number);
+        let answer = is_next_copy_of(&mut parser, &mut buf, b"ab");
+        if heap.until_refusal.get() != 0 {
+            same(&rt, answer, Ok(Some(true)));
+            holds(&rt, buf.is_empty());
+            break;
+        }
+        same(&rt, answer, Err(Error::OutOfMemory));
+        same(&rt, buf.as_slice(), frame);
+        same(
+            &rt,
+            is_next_copy_of(&mut parser, &mut buf, b"ab"),
+            Ok(Some(true)),
+        );
+        same(&rt, parser.headers(), 1);
+        refusals = number;
+    }
     holds(&rt, refusals > 0);
+    Ok(())
 }
 
 // How many columns the table of the first message has, which has to be a row.
@@ -318,20 +309,20 @@ fn columns<A: Allocator + Copy>(alloc: A, bytes: &[u8]) -> Result<usize, Error> 
     }
 }
 
-// The same where this request is refused.
-fn columns_at(heap: &Refusing<Global>, number: u64, row: &[u8]) -> Result<usize, Error> {
-    heap.until_refusal.set(number);
-    columns(heap, row)
-}
-
 // How often the table of a row was refused memory before it was made.
 fn refusals_of_table(rt: &impl Abort, alloc: Global, row: &[u8], len: usize) -> u64 {
-    refusals(
-        rt,
-        alloc,
-        |heap: &Refusing<Global>, number: u64| columns_at(heap, number, row),
-        len,
-    )
+    let mut refusals = 0u64;
+    for number in 1..100u64 {
+        let heap = Refusing::new(alloc, number);
+        let answer = columns(&heap, row);
+        if heap.until_refusal.get() != 0 {
+            same(rt, answer, Ok(len));
+            break;
+        }
+        same(rt, answer, Err(Error::OutOfMemory));
+        refusals = number;
+    }
+    refusals
 }
 
 // The table of a short row is one allocation, that of a row without columns none.

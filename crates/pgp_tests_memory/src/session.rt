@@ -1,8 +1,7 @@
 //! A client's stream, with each allocation refused in turn.
 #![tactic(auto, using(pgp_base::proofs::Parts::held_steps))]
 
-use crate::checks::{holds_at, same, same_at};
-use crate::refused::refusals;
+use crate::checks::{holds, holds_at, same, same_at};
 use bytes::BytesMut;
 use pgp_base::{BindError, Buffer, Error, IsNull, put_u32};
 use pgp_frontend::{CopyData, ProtocolVersion};
@@ -100,73 +99,64 @@ fn call<B: Buffer>(number: usize, stream: &mut ClientStream<B>) -> Result<(), Er
     }
 }
 
-/// What the request comes to where this request of memory is refused: the bytes of ample memory. A refused call changes neither the bytes
-/// nor the phase, and can be made again. Else the answer is `NotDrained`.
-fn begun_at(
-    heap: &Refusing<Global>,
-    number: u64,
-    request: usize,
-    ample: &[u8],
-) -> Result<(), Error> {
-    let mut stream: ClientStream<BytesMut<&Refusing<Global>>> = ClientStream::new(heap);
-    heap.until_refusal.set(number);
-    let answer = begin(request, &mut stream);
-    let is_kept = answer.is_ok()
-        || stream.bytes().is_empty() && !stream.is_open() && begin(request, &mut stream).is_ok();
-    if is_kept && stream.bytes() == ample && stream.is_open() == (2..5).contains(&request) {
-        answer
-    } else {
-        Err(Error::NotDrained)
-    }
-}
-
+/// A refused call changes neither the bytes nor the phase, and can be made again.
 #[test]
-fn requests_with_each_allocation_refused(rt: HostRuntime) {
+fn requests_with_each_allocation_refused(rt: HostRuntime) -> Result<(), Fail> {
     for request in 0..REQUESTS {
-        let mut ample = ClientStream::<BytesMut>::new(rt.alloc());
+        let mut ample = ClientStream::new(rt.alloc());
         same_at(&rt, request, begin(request, &mut ample), Ok(()));
-        let refusals = refusals(
-            &rt,
-            rt.alloc(),
-            |heap: &Refusing<Global>, number: u64| begun_at(heap, number, request, ample.bytes()),
-            (),
-        );
+        let mut refusals = 0u64;
+        for number in 1..100u64 {
+            let heap = Refusing::new(rt.alloc(), 0);
+            let mut stream: ClientStream<BytesMut<&Refusing<Global>>> = ClientStream::new(&heap);
+            heap.until_refusal.set(number);
+            let answer = begin(request, &mut stream);
+            if heap.until_refusal.get() != 0 {
+                same_at(&rt, request, answer, Ok(()));
+                break;
+            }
+            same_at(&rt, request, answer, Err(Error::OutOfMemory));
+            holds(&rt, stream.bytes().is_empty());
+            holds(&rt, !stream.is_open());
+            same_at(&rt, request, begin(request, &mut stream), Ok(()));
+            same(&rt, stream.is_open(), (2..5).contains(&request));
+            same_at(&rt, request, stream.bytes(), ample.bytes());
+            refusals = number;
+        }
         holds_at(&rt, request, refusals > 0);
     }
+    Ok(())
 }
 
 /// The same in a session, whose stream has no room left.
-fn called_at(heap: &Refusing<Global>, number: u64, what: usize, ample: &[u8]) -> Result<(), Error> {
-    let buf: BytesMut<&Refusing<Global>> = BytesMut::with_capacity(heap, STARTUP.len())?;
-    let mut stream = ClientStream::over(buf);
-    begin(3, &mut stream)?;
-    heap.until_refusal.set(number);
-    let answer = call(what, &mut stream);
-    let is_kept = answer.is_ok()
-        || stream.bytes() == STARTUP.as_slice()
-            && stream.is_open()
-            && call(what, &mut stream).is_ok();
-    if is_kept && stream.bytes() == ample {
-        answer
-    } else {
-        Err(Error::NotDrained)
-    }
-}
-
 #[test]
-fn calls_with_each_allocation_refused(rt: HostRuntime) {
+fn calls_with_each_allocation_refused(rt: HostRuntime) -> Result<(), Fail> {
     for what in 0..CALLS {
-        let mut ample = ClientStream::<BytesMut>::new(rt.alloc());
+        let mut ample = ClientStream::new(rt.alloc());
         same(&rt, begin(3, &mut ample), Ok(()));
         same_at(&rt, what, call(what, &mut ample), Ok(()));
-        let refusals = refusals(
-            &rt,
-            rt.alloc(),
-            |heap: &Refusing<Global>, number: u64| called_at(heap, number, what, ample.bytes()),
-            (),
-        );
+        let mut refusals = 0u64;
+        for number in 1..100u64 {
+            let heap = Refusing::new(rt.alloc(), 0);
+            let buf: BytesMut<&Refusing<Global>> = BytesMut::with_capacity(&heap, STARTUP.len())?;
+            let mut stream = ClientStream::over(buf);
+            same(&rt, begin(3, &mut stream), Ok(()));
+            heap.until_refusal.set(number);
+            let answer = call(what, &mut stream);
+            if heap.until_refusal.get() != 0 {
+                same_at(&rt, what, answer, Ok(()));
+                break;
+            }
+            same_at(&rt, what, answer, Err(Error::OutOfMemory));
+            same_at(&rt, what, stream.bytes(), STARTUP.as_slice());
+            holds(&rt, stream.is_open());
+            same_at(&rt, what, call(what, &mut stream), Ok(()));
+            same_at(&rt, what, stream.bytes(), ample.bytes());
+            refusals = number;
+        }
         holds_at(&rt, what, refusals > 0);
     }
+    Ok(())
 }
 
 /// A session: a startup packet with a user, a query, a Sync and a Terminate, after the manual's message formats.

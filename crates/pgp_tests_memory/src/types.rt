@@ -1,12 +1,11 @@
 //! The walks over values, with each allocation refused in turn. The writers of values are tried by their rows (`pgp_rows`).
 
-use crate::checks::{holds, holds_at};
+use crate::checks::{holds, holds_at, same};
 use crate::reads::count;
-use crate::refused::refusals;
 use pgp_base::{Error, FallibleIterator};
 use pgp_test_alloc::Refusing;
 use pgp_types::{array_from_sql, hstore_from_sql, path_from_sql};
-use std::alloc::{Allocator, Global};
+use std::alloc::Allocator;
 use std::test::Fail;
 
 // The array announces 2,147,483,647 elements, and none stands there: no memory is asked for.
@@ -42,22 +41,21 @@ const POINTS: &[u8] =
 const LIST: &[u8] =
     b"\0\0\0\x05\0\0\0\x01\0\0\0\x17\0\0\0\x01\0\0\0\x01\0\0\0\x05\0\0\0\x01\0\0\0\x01\0\0\0\x01\0\0\0\x01\0\0\0\x01\0\0\0\x01\0\0\0\x01\xff\xff\xff\xff\xff\xff\xff\xff\xff\xff\xff\xff\xff\xff\xff\xff\xff\xff\xff\xff";
 
-// The same where this request is refused.
-fn collected_at(heap: &Refusing<Global>, number: u64, walk: u32) -> Result<usize, Error> {
-    heap.until_refusal.set(number);
-    collected(heap, walk)
-}
-
 // Each walk of five items hands them out, or is refused memory.
 #[test]
 fn collect_with_each_allocation_refused(rt: HostRuntime) {
     for walk in 0..4u32 {
-        let refusals = refusals(
-            &rt,
-            rt.alloc(),
-            |heap: &Refusing<Global>, number: u64| collected_at(heap, number, walk),
-            5,
-        );
+        let mut refusals = 0u64;
+        for number in 1..100u64 {
+            let heap = Refusing::new(rt.alloc(), number);
+            let answer = collected(&heap, walk);
+            if heap.until_refusal.get() != 0 {
+                same(&rt, answer, Ok(5));
+                break;
+            }
+            same(&rt, answer, Err(Error::OutOfMemory));
+            refusals = number;
+        }
         holds_at(&rt, walk, refusals > 0);
     }
 }
