@@ -5,6 +5,9 @@ ghost use Rattle.pgp_base.specs.Ascii.{AreAscii};
 
 use std::simd::prelude::*;
 
+/// A text of fewer bytes is short.
+pub(crate) const SHORT_LEN: usize = 16;
+
 /// The bytes of the widest look.
 pub(crate) const BLOCK_LEN: usize = 64;
 
@@ -71,18 +74,14 @@ pub(crate) fn are_ascii_from(bytes: &[u8], at: usize) -> bool
     are_ascii_64(bytes, at) & are_ascii_64(bytes, bytes.len() - BLOCK_LEN)
 }
 
-// No byte is above 127, where there are at most 64. Two looks that may overlap cover them.
+// No byte is above 127, where there are fewer than 16. Two looks that may overlap cover four or more.
 #[inline(always)]
-pub(crate) fn are_ascii(bytes: &[u8]) -> bool
-    requires { length bytes.now ≤ BLOCK_LEN }
+pub(crate) fn are_ascii_short(bytes: &[u8]) -> bool
+    requires { length bytes.now < SHORT_LEN }
     ensures { IsTrue result → AreAscii bytes.now 0 (length bytes.now) }
 {
     let len = bytes.len();
-    if 32 <= len {
-        are_ascii_32(bytes, 0) & are_ascii_32(bytes, len - 32)
-    } else if 16 <= len {
-        are_ascii_16(bytes, 0) & are_ascii_16(bytes, len - 16)
-    } else if 8 <= len {
+    if 8 <= len {
         are_ascii_8(bytes, 0) & are_ascii_8(bytes, len - 8)
     } else if 4 <= len {
         are_ascii_4(bytes, 0) & are_ascii_4(bytes, len - 4)
@@ -93,6 +92,21 @@ pub(crate) fn are_ascii(bytes: &[u8]) -> bool
             [a, b] => (*a < 128) & (*b < 128),
             [a, b, c, ..] => (*a < 128) & (*b < 128) & (*c < 128),
         }
+    }
+}
+
+// The same of 16 to 64 bytes.
+#[inline(always)]
+pub(crate) fn are_ascii(bytes: &[u8]) -> bool
+    requires some { SHORT_LEN ≤ length bytes.now }
+    requires few { length bytes.now ≤ BLOCK_LEN }
+    ensures { IsTrue result → AreAscii bytes.now 0 (length bytes.now) }
+{
+    let len = bytes.len();
+    if 32 <= len {
+        are_ascii_32(bytes, 0) & are_ascii_32(bytes, len - 32)
+    } else {
+        are_ascii_16(bytes, 0) & are_ascii_16(bytes, len - 16)
     }
 }
 

@@ -4,7 +4,8 @@ ghost use Rattle.std.specs.Prelude.{◌≡◌, ◌↔◌, ◌+◌, ◌≤◌, �
 ghost use Rattle.pgp_base.specs.Ascii.{AreAscii};
 
 use crate::ascii::{
-    BLOCK_LEN, PAIR_LEN, are_ascii, are_ascii_64, are_ascii_from, ascii_end, ascii_front, is_dense,
+    BLOCK_LEN, PAIR_LEN, SHORT_LEN, are_ascii, are_ascii_64, are_ascii_from, are_ascii_short,
+    ascii_end, ascii_front, is_dense,
 };
 use crate::characters::are_characters;
 use crate::error::Error;
@@ -70,13 +71,14 @@ fn is_long_text(bytes: &[u8]) -> bool
     are_ascii_from(bytes, at) || is_text_near(bytes, at)
 }
 
-// Whether the bytes are text.
+// Whether the bytes are text. Short ones are told apart first: they are the most.
 fn is_text(bytes: &[u8]) -> bool
     ensures { IsTrue result ↔ IsUtf8 bytes.now }
 {
-    if let [first, ..] = bytes
-        && 128 <= *first
-    {
+    if bytes.len() < SHORT_LEN {
+        return are_ascii_short(bytes) || is_mixed_text(bytes);
+    }
+    if 128 <= bytes[0] {
         return is_mixed_text(bytes);
     }
     if BLOCK_LEN < bytes.len() {

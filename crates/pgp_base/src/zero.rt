@@ -76,24 +76,14 @@ fn zero_in_few(bytes: &[u8]) -> Option<usize>
     }
 }
 
-// The place of the first 0. Where up to 64 bytes are left, two looks that may overlap cover them.
-#[inline]
-pub(crate) fn first_zero(bytes: &[u8]) -> Option<usize>
+// The place of the first 0 of fewer than 16 bytes. Two looks that may overlap cover four or more.
+#[inline(always)]
+fn zero_in_short(bytes: &[u8]) -> Option<usize>
+    requires { length bytes.now < 16 }
     ensures { IsFirstByte (is_byte 0) bytes.now result }
 {
     let len = bytes.len();
-    if 32 <= len {
-        match zero_in_32(bytes, 0) {
-            Some(at) => Some(at),
-            None if len <= 64 => zero_in_32(bytes, len - 32),
-            None => memchr(0, bytes),
-        }
-    } else if 16 <= len {
-        match zero_in_16(bytes, 0) {
-            Some(at) => Some(at),
-            None => zero_in_16(bytes, len - 16),
-        }
-    } else if 8 <= len {
+    if 8 <= len {
         match zero_in_8(bytes, 0) {
             Some(at) => Some(at),
             None => zero_in_8(bytes, len - 8),
@@ -108,14 +98,48 @@ pub(crate) fn first_zero(bytes: &[u8]) -> Option<usize>
     }
 }
 
+// The same of 16 to 32 bytes.
+#[inline(always)]
+fn zero_in_middle(bytes: &[u8]) -> Option<usize>
+    requires some { 16 ≤ length bytes.now }
+    requires few { length bytes.now ≤ 32 }
+    ensures { IsFirstByte (is_byte 0) bytes.now result }
+{
+    match zero_in_16(bytes, 0) {
+        Some(at) => Some(at),
+        None => zero_in_16(bytes, bytes.len() - 16),
+    }
+}
+
+// The place of the first 0. Where up to 64 bytes are left, two looks that may overlap cover them.
+#[inline]
+pub(crate) fn first_zero(bytes: &[u8]) -> Option<usize>
+    ensures { IsFirstByte (is_byte 0) bytes.now result }
+{
+    let len = bytes.len();
+    if len < 16 {
+        zero_in_short(bytes)
+    } else if len < 32 {
+        zero_in_middle(bytes)
+    } else {
+        match zero_in_32(bytes, 0) {
+            Some(at) => Some(at),
+            None if len <= 64 => zero_in_32(bytes, len - 32),
+            None => memchr(0, bytes),
+        }
+    }
+}
+
 // The same, where none is expected, as in what is written: two looks cover up to 64 bytes.
 #[inline]
 pub(crate) fn stray_zero(bytes: &[u8]) -> Option<usize>
     ensures { IsFirstByte (is_byte 0) bytes.now result }
 {
     let len = bytes.len();
-    if len < 32 {
+    if len < 16 {
         zero_in_short(bytes)
+    } else if len < 32 {
+        zero_in_middle(bytes)
     } else if len <= 64 {
         match zero_in_32(bytes, 0) {
             Some(at) => Some(at),
@@ -123,32 +147,5 @@ pub(crate) fn stray_zero(bytes: &[u8]) -> Option<usize>
         }
     } else {
         memchr(0, bytes)
-    }
-}
-
-// The place of the first 0 of fewer than 32 bytes.
-#[inline(always)]
-fn zero_in_short(bytes: &[u8]) -> Option<usize>
-    requires { length bytes.now < 32 }
-    ensures { IsFirstByte (is_byte 0) bytes.now result }
-{
-    let size = bytes.len();
-    if size < 4 {
-        zero_in_few(bytes)
-    } else if size < 8 {
-        match zero_in_4(bytes, 0) {
-            Some(at) => Some(at),
-            None => zero_in_4(bytes, size - 4),
-        }
-    } else if size < 16 {
-        match zero_in_8(bytes, 0) {
-            Some(at) => Some(at),
-            None => zero_in_8(bytes, size - 8),
-        }
-    } else {
-        match zero_in_16(bytes, 0) {
-            Some(at) => Some(at),
-            None => zero_in_16(bytes, size - 16),
-        }
     }
 }

@@ -14,10 +14,10 @@ pub fn natural_at(bytes: &[u8], negative: Error) -> Result<(usize, &[u8]), Error
     ensures { Answers (λ x. (x.0, x.1.now)) result (natural_at negative bytes.now) }
 {
     let (number, rest) = int32_at(bytes)?;
-    match usize::try_from(number) {
-        Ok(n) => Ok((n, rest)),
-        Err(_) => Err(negative),
+    if number < 0 {
+        return Err(negative);
     }
+    Ok((number as usize, rest))
 }
 
 /// A length, and so many bytes; refused where the length is negative or passes the end.
@@ -38,9 +38,10 @@ pub fn nullable_at(bytes: &[u8], past_end: Error) -> Result<(Option<&[u8]>, &[u8
     ensures { Answers (λ x. (shown x.0, x.1.now)) result (nullable_at past_end bytes.now) }
 {
     let (len, rest) = int32_at(bytes)?;
-    let Ok(len) = usize::try_from(len) else {
+    if len < 0 {
         return Ok((None, rest));
-    };
+    }
+    let len = len as usize;
     if rest.len() < len {
         return Err(past_end);
     }

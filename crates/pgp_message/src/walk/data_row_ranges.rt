@@ -76,9 +76,10 @@ fn range_at(place: usize, bytes: &[u8]) -> Result<(Option<Range<usize>>, &[u8]),
     ensures shorter { IfOk result (λ x. length x.1.now ≤ length bytes.now) }
 {
     let (len, rest) = int32_at(bytes)?;
-    let Ok(len) = usize::try_from(len) else {
+    if len < 0 {
         return Ok((None, rest));
-    };
+    }
+    let len = len as usize;
     if rest.len() < len {
         return Err(Error::UnexpectedEof);
     }
