@@ -76,25 +76,26 @@ fn zero_in_few(bytes: &[u8]) -> Option<usize>
     }
 }
 
-// The place of the first 0 of fewer than 16 bytes. Two looks that may overlap cover four or more.
+// The place of the first 0 of fewer than 16 bytes. Two looks that may overlap cover four or more. Names are told apart first:
+// many are empty or of one letter.
 #[inline(always)]
 fn zero_in_short(bytes: &[u8]) -> Option<usize>
     requires { length bytes.now < 16 }
     ensures { IsFirstByte (is_byte 0) bytes.now result }
 {
     let len = bytes.len();
-    if 8 <= len {
-        match zero_in_8(bytes, 0) {
-            Some(at) => Some(at),
-            None => zero_in_8(bytes, len - 8),
-        }
-    } else if 4 <= len {
+    if len < 4 {
+        zero_in_few(bytes)
+    } else if len < 8 {
         match zero_in_4(bytes, 0) {
             Some(at) => Some(at),
             None => zero_in_4(bytes, len - 4),
         }
     } else {
-        zero_in_few(bytes)
+        match zero_in_8(bytes, 0) {
+            Some(at) => Some(at),
+            None => zero_in_8(bytes, len - 8),
+        }
     }
 }
 
