@@ -1,0 +1,11 @@
+-- What came so far stands as it is.
+use Rattle.std.proofs.Common.{◌≡◌, ◌≤◌, ◌-◌, true, length, take}
+use Rattle.std.specs.List.{list_all}
+use Rattle.pgp_line.specs.Plain.{is_plain}
+use Rattle.pgp_line.proofs.quote.plain_len.Given as goal
+
+abbrev pub invariant-bytes : goal.invariant-bytes
+invariant-bytes l = (l.len ≤ length l.bytes) × (list_all is_plain (take l.len l.bytes) ≡ true)
+
+abbrev pub decreases-bytes : goal.decreases-bytes
+decreases-bytes l = length l.bytes - l.len
