@@ -1,8 +1,8 @@
 //! Bytes in a line, by characters that a terminal prints.
 #![tactic(auto, using(crate::proofs::Escapes::whole_text, crate::proofs::Escapes::plain_more, crate::proofs::Escapes::run_added, crate::proofs::Escapes::char_added, crate::proofs::Escapes::all_added, crate::proofs::Escapes::is_one, crate::proofs::Escapes::is_none))]
 
-ghost use Rattle.std.specs.Prelude.{◌≡◌, ◌⊎◌, ◌≤◌, ◌<◌, ◌∷◌, ◌++◌, [], length, take, true, IfOk, OnErr, OnOk, string_bytes, codes, decimal};
-ghost use Rattle.std.specs.List.{flat_map, list_all};
+ghost use Rattle.std.specs.Prelude.{◌≡◌, ◌⊎◌, ◌≤◌, ◌<◌, ◌∷◌, ◌++◌, [], drop, length, take, true, IfOk, OnErr, OnOk, string_bytes, codes, decimal};
+ghost use Rattle.std.specs.List.{flat_map, list_all, prefix_len};
 ghost use Rattle.std.specs.Str.{IsUtf8};
 ghost use Rattle.pgp_line.specs.Quoting.{broken, digits, escaped, escaped_at, escaped_byte, escaped_char, hex_byte, hex_digit, hex_escape, is_text, json_digits, json_hex, json_text, json_value, long, quoted, unit, units, unprinted, up_to, value};
 ghost use Rattle.pgp_line.specs.declared.style.Form.TheVariants.{Columns, Json};
@@ -230,6 +230,7 @@ fn put_plain<'t, A: Memory>(
     text: &'t str,
     line: &mut String<A>,
 ) -> Result<&'t str, AllocError>
+    ensures all { IfOk result (λ rest. rest.now ≡ drop (prefix_len is_plain text.now) text.now) }
     ensures text { IfOk result (λ rest. string_bytes line.new ++ escaped_text form rest.now ≡ string_bytes line.old ++ escaped_text form text.now) }
     ensures len { IfOk result (λ rest. length rest.now ≤ length text.now) }
     ensures lacks { OnErr result A.Lacks }
@@ -263,6 +264,7 @@ fn put_next<'t, A: Memory>(
 fn plain_len(bytes: &[u8]) -> usize
     ensures within { result ≤ length bytes.now }
     ensures plain { list_all is_plain (take result bytes.now) ≡ true }
+    ensures all { result ≡ prefix_len is_plain bytes.now }
 {
     let mut len = 0;
     'bytes: while len < bytes.len() {

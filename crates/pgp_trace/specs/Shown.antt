@@ -1,5 +1,5 @@
 -- What the line of each message says behind its name. PostgreSQL manual, "Message Formats".
-use Rattle.std.specs.Prelude.{◌≡◌, ◌⊎◌, ℕ, pos, Bool, true, false, List, [], ◌∷◌, ◌++◌, length, Option, Some, None, codes}
+use Rattle.std.specs.Prelude.{◌≡◌, ◌⊎◌, ℕ, pos, Bool, true, false, List, [], ◌∷◌, ◌++◌, Option, Some, None, codes}
 use Rattle.std.specs.Str.{IsUtf8}
 use Rattle.std.specs.declared.ops.Range.{Range}
 use Rattle.pgp_base.specs.Error.{number_of}
