@@ -5,13 +5,13 @@ use crate::failing::{FailingReader, FailingWriter, PieceReader};
 use crate::trace_objects::{ANSWER_OBJECTS, ANSWERS, OBJECTS, OPEN_OBJECTS};
 use crate::trace_session::{LATER, LATER_LINES, LINES, OPEN_LINES, OTHER, OTHER_LINES, SESSION};
 use pgp_base::Memory;
+use pgp_line::style::{Form, Style};
 use pgp_program::fault::Fault;
 use pgp_server::PasswordKind;
 use pgp_test_alloc::Refusing;
 use pgp_trace::run::run;
 use pgp_trace::side::Side;
 use pgp_trace::stream::list;
-use pgp_trace::style::{Form, Style};
 use std::process::Abort;
 use std::test::Fail;
 

@@ -3,9 +3,9 @@ use Rattle.std.proofs.Common.{◌≡◌, ℕ, ℤ, Bool, true, false, List, [], 
 use Rattle.std.specs.Prelude.{codes}
 use Rattle.pgp_frontend.specs.ClientMessage.{CancelRequest, PasswordMessage, SaslInitialResponse, SaslResponse}
 use Rattle.pgp_server.specs.OtherMessage.{Ours}
-use Rattle.pgp_trace.specs.declared.style.Style.{Style}
+use Rattle.pgp_line.specs.declared.style.Style.{Style}
 use Rattle.pgp_trace.specs.Client.{client_line, grouped}
-use Rattle.pgp_trace.specs.Line.{Part, Name, Word, Number, Text, Hidden, followed}
+use Rattle.pgp_line.specs.Line.{Part, Name, Word, Number, Text, Hidden, followed}
 use Rattle.pgp_trace.specs.Secrets.{quiet}
 
 -- a line with a name and one group of parts

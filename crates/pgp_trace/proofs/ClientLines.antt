@@ -12,8 +12,8 @@ use Rattle.pgp_server.specs.Pieces.{step_of}
 use Rattle.pgp_server.specs.Step.{Unread, NoneStands, StopsAtLength}
 use Rattle.pgp_server.specs.declared.error.ClientError.{ClientError}
 use Rattle.pgp_server.specs.declared.message.PasswordKind as code
-use Rattle.pgp_trace.specs.declared.style.Style.{Style}
-use Rattle.pgp_trace.specs.Line.{closing}
+use Rattle.pgp_line.specs.declared.style.Style.{Style}
+use Rattle.pgp_line.specs.Line.{closing}
 use Rattle.pgp_trace.specs.Listing.{client_front}
 use Rattle.pgp_trace.specs.Client.{client_line}
 use Rattle.pgp_trace.specs.Sides.{Client, Ends, expected, is_told, kinds_behind}

@@ -16,10 +16,10 @@ use Rattle.pgp_server.proofs.AnyOneStep.{any_step_one}
 use Rattle.pgp_server.proofs.AnyRuns.{any_took}
 use Rattle.pgp_server.proofs.Fronts.{behind_length}
 use Rattle.pgp_server.proofs.Handing.{refused_behind}
-use Rattle.pgp_trace.specs.declared.style.Style.{Style}
+use Rattle.pgp_line.specs.declared.style.Style.{Style}
 use Rattle.pgp_trace.specs.Client.{client_line}
 use Rattle.pgp_trace.specs.ClientSecrets.{AlikeAny, AlikeAnswers, AlikeClientFrames, AlikeClientStreams, NoClientFrames, OneClientAlike, ReadsAs}
-use Rattle.pgp_trace.specs.Line.{Length, Tag, closing, followed, opening}
+use Rattle.pgp_line.specs.Line.{Length, Tag, closing, followed, opening}
 use Rattle.pgp_trace.specs.Listing.{IsNextLine, LineOf, Lines, NoLines, OneLine, client_front, client_tag, place_behind}
 use Rattle.pgp_trace.specs.Secrets.{quiet}
 use Rattle.pgp_trace.specs.Sides.{Side, Server, Client, expected, is_password, is_told, kinds_behind}

@@ -2,7 +2,7 @@
 use Rattle.std.proofs.Common.{◌≡◌, ◌≢◌, ℕ, List, [], ◌∷◌, length, get_or, drop, ap, subst, sym, ◌∙◌, arith}
 use Rattle.std.specs.Prelude.{codes}
 use Rattle.pgp_server.specs.declared.message.PasswordKind.{PasswordKind}
-use Rattle.pgp_trace.specs.declared.style.Style.{Style}
+use Rattle.pgp_line.specs.declared.style.Style.{Style}
 use Rattle.pgp_trace.specs.Command.{AsksListing, IsOther, Server, Client, Help, Version}
 use Rattle.pgp_trace.specs.Options.{AreOptions, AreNoOptions}
 use Rattle.pgp_trace.proofs.OptionLemmas.{kinds_agree}

@@ -6,8 +6,8 @@ use Rattle.pgp_base.specs.Wire.{uint32}
 use Rattle.pgp_base.specs.declared.error.Error.{Error}
 use Rattle.pgp_message.specs.BackendMessage.{Message, payload_of}
 use Rattle.pgp_message.specs.Stream.{Frame, frame_bytes, TakesFrame}
-use Rattle.pgp_trace.specs.declared.style.Style.{Style}
-use Rattle.pgp_trace.specs.Line.{Length, Tag, closing, followed, opening}
+use Rattle.pgp_line.specs.declared.style.Style.{Style}
+use Rattle.pgp_line.specs.Line.{Length, Tag, closing, followed, opening}
 use Rattle.pgp_trace.specs.Shown.{Shows, called, refused}
 use Rattle.pgp_trace.specs.Listing.{front, IsServerLine}
 use Rattle.pgp_trace.specs.Sides.{Server}

@@ -3,8 +3,8 @@ use Rattle.std.proofs.Common.{◌≡◌, ℕ, List, [], ◌∷◌, length, refl,
 use Rattle.std.specs.Prelude.{codes}
 use Rattle.pgp_message.specs.BackendMessage.{AuthenticationMd5Password, AuthenticationGssContinue, AuthenticationSaslContinue, AuthenticationSaslFinal, Message, BackendKeyData, Authentication}
 use Rattle.pgp_message.specs.Parts.{KeyData}
-use Rattle.pgp_trace.specs.Line.{Word, Number, Hidden, followed}
-use Rattle.pgp_trace.specs.declared.style.Style.{Style}
+use Rattle.pgp_line.specs.Line.{Word, Number, Hidden, followed}
+use Rattle.pgp_line.specs.declared.style.Style.{Style}
 use Rattle.pgp_trace.specs.Secrets.{Alike, quiet}
 use Rattle.pgp_trace.specs.Shown.{Shows, called}
 

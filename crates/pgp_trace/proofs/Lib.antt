@@ -1,16 +1,10 @@
 pub mod Parts
-pub mod Columns
 pub mod Fronts
 pub mod Items
-pub mod Called
 pub mod FrameLines
 pub mod ClientLines
 pub mod Ends
 pub mod Traces
-pub mod Escapes
-pub mod Quotes
-pub mod JsonQuotes
-pub mod JsonReads
 pub mod Printable
 pub mod Printing
 pub mod Shorter

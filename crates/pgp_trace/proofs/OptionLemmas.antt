@@ -7,10 +7,11 @@ use Rattle.std.proofs.lemmas.List.Concat.{flat_map-cons}
 use Rattle.std.proofs.lemmas.List.Folds.{list_any-append}
 use Rattle.std.proofs.lemmas.Grind.{flat_map-append}
 use Rattle.pgp_server.specs.declared.message.PasswordKind.{PasswordKind}
-use Rattle.pgp_trace.specs.Options.{AreOptions, AreNoOptions, BeginsWithNone, is_full, is_json, is_secrets, kind_in, spelled, style_of}
+use Rattle.pgp_trace.specs.Options.{AreOptions, AreNoOptions, BeginsWithNone, is_full, is_json, is_secrets, kind_in, spelled}
+use Rattle.pgp_line.specs.Styles.{style_of}
 use Rattle.pgp_trace.specs.declared.options.Choice.{Choice}
 use Rattle.pgp_trace.specs.declared.options.Choice.TheVariants.{AsJson, Full, Secrets, Kind}
-use Rattle.pgp_trace.specs.declared.style.Style.{Style}
+use Rattle.pgp_line.specs.declared.style.Style.{Style}
 
 -- Some options came, and these words stand behind them.
 pub record Came (all rest : List (List ℕ)) (json full secrets : Bool) (kinds : List PasswordKind) : Type 0 where

@@ -13,18 +13,19 @@ use Rattle.std.proofs.lemmas.List.Concat.{flat_map-cons}
 use Rattle.pgp_base.specs.declared.error.Error.{Error}
 use Rattle.pgp_message.specs.BackendMessage.{AuthenticationOk, AuthenticationKerberosV5, AuthenticationCleartextPassword, AuthenticationMd5Password, AuthenticationScmCredential, AuthenticationGss, AuthenticationGssContinue, AuthenticationSspi, AuthenticationSasl, AuthenticationSaslContinue, AuthenticationSaslFinal, Message, ParseComplete, BindComplete, CloseComplete, NotificationResponse, CommandComplete, DataRow, ErrorResponse, CopyInResponse, CopyOutResponse, EmptyQueryResponse, BackendKeyData, NegotiateProtocolVersion, NoticeResponse, Authentication, ParameterStatus, RowDescription, ReadyForQuery, CopyDone, CopyData, NoData, PortalSuspended, ParameterDescription, payload_of}
 use Rattle.pgp_message.specs.Stream.{Frame, frame_bytes}
-use Rattle.pgp_trace.specs.declared.style.Form.{Form}
-use Rattle.pgp_trace.specs.declared.style.Form.TheVariants.{Columns, Json}
-use Rattle.pgp_trace.specs.declared.style.Style.{Style}
-use Rattle.pgp_trace.specs.Quoting.{IsPrinted, broken, digits, hex_digit, hex_byte, hex_escape, is_mark, is_printable, is_text, is_visible, escaped_byte, escaped_char, escaped, json_digits, json_hex, json_text, json_value, long, quoted, unit, units, unprinted, value, up_to}
-use Rattle.pgp_trace.proofs.Escapes.{front_utf8}
-use Rattle.pgp_trace.specs.Line.{Part, Length, Tag, Name, Refusal, Word, Number, Oid, Text, Value, Hidden, added, added_by, blanks, closing, closing_by, followed, json, json_name, named, opening, opening_by, right, shown, spelt, string, type_name}
-use Rattle.pgp_trace.specs.Types.{type_of}
+use Rattle.pgp_line.specs.declared.style.Form.{Form}
+use Rattle.pgp_line.specs.declared.style.Form.TheVariants.{Columns, Json}
+use Rattle.pgp_line.specs.declared.style.Style.{Style}
+use Rattle.pgp_line.specs.Quoting.{IsPrinted, broken, digits, hex_digit, hex_byte, hex_escape, is_mark, is_printable, is_text, is_visible, escaped_byte, escaped_char, escaped, json_digits, json_hex, json_text, json_value, long, quoted, unit, units, unprinted, value, up_to}
+use Rattle.pgp_line.proofs.Escapes.{front_utf8}
+use Rattle.pgp_line.specs.Line.{Part, Length, Tag, Name, Refusal, Word, Number, Oid, Text, Value, Hidden, added, added_by, blanks, closing, closing_by, followed, json, json_name, named, opening, opening_by, right, shown, spelt, string, type_name}
+use Rattle.pgp_line.specs.Types.{type_of}
 use Rattle.pgp_trace.specs.Names.{state_of}
 use Rattle.pgp_message.specs.Items.{TextSpelled, TextRefused, FormatSpelled, FormatRefused, TypeSpelled, TypeRefused, RangeSpelled, RangeRefused, FieldSpelled, FieldRefused, ErrorFieldSpelled, ErrorFieldRefused}
 use Rattle.std.specs.Str.{IsAscii, IsUtf8, all_scalars, chars, encode_utf8_all}
 use Rattle.std.specs.Str.Lossy.{utf8_valid_len}
-use Rattle.pgp_trace.specs.Shown.{Shows, ShowsCounted, ShowsMarked, ShowsTexts, bare, called, column_parts, field_parts, list_of, name_or, number_part, refused, secret, text_part, type_part, value_part}
+use Rattle.pgp_trace.specs.Shown.{Shows, ShowsCounted, ShowsMarked, ShowsTexts, bare, called, column_parts, field_parts, list_of, name_or, number_part, refused, text_part, type_part, value_part}
+use Rattle.pgp_line.specs.Secret.{secret}
 use Rattle.pgp_server.specs.OtherMessage.{AnyMessage}
 use Rattle.pgp_server.specs.declared.error.ClientError.{ClientError}
 use Rattle.pgp_trace.specs.Client.{client_called, client_groups, client_line, grouped, refusal_parts}

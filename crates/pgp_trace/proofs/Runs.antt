@@ -4,7 +4,7 @@ use Rattle.pgp_base.specs.declared.error.Error.{Error}
 use Rattle.pgp_message.specs.BackendMessage.{Message}
 use Rattle.pgp_message.specs.Stream.{Frames, BackendRun, TakesFrame}
 use Rattle.pgp_message.proofs.Runs.{frames_none, frames_next}
-use Rattle.pgp_trace.specs.declared.style.Style.{Style}
+use Rattle.pgp_line.specs.declared.style.Style.{Style}
 use Rattle.pgp_message.specs.Stream.{IsEnding}
 use Rattle.pgp_trace.specs.Listing.{IsServerLine, Lines, NoLines, OneLine, IsListing, place_behind}
 use Rattle.pgp_trace.specs.Sides.{Side, Server, Ends}

@@ -1,6 +1,6 @@
 -- A line takes bytes off.
 use Rattle.std.proofs.Common.{ℕ, ◌<◌, ◌≤◌, List, [], length, ap, arith, length-append}
-use Rattle.pgp_trace.specs.declared.style.Style.{Style}
+use Rattle.pgp_line.specs.declared.style.Style.{Style}
 use Rattle.pgp_trace.specs.Listing.{LineOf}
 use Rattle.pgp_trace.specs.Sides.{Side, Server, Client, expected}
 use Rattle.pgp_trace.specs.Steps.{HasLine}

@@ -1,6 +1,6 @@
 -- The lines of a server's stream.
 use Rattle.std.proofs.Common.{◌≡◌, ℕ, ◌+◌, List, [], length, refl, subst}
-use Rattle.pgp_trace.specs.declared.style.Style.{Style}
+use Rattle.pgp_line.specs.declared.style.Style.{Style}
 use Rattle.pgp_trace.specs.Listing.{LineOf, IsServerLine, Lines, NoLines, OneLine, place_behind}
 use Rattle.pgp_trace.specs.Sides.{Side, Server}
 

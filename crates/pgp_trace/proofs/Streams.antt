@@ -8,8 +8,8 @@ use Rattle.pgp_base.specs.declared.error.Error.{Error}
 use Rattle.pgp_message.specs.BackendMessage.{Message}
 use Rattle.pgp_message.specs.Stream.{Frame, frame_bytes, IsFrame}
 use Rattle.pgp_message.proofs.Runs.{front_is_one, each_push, pushed}
-use Rattle.pgp_trace.specs.declared.style.Style.{Style}
-use Rattle.pgp_trace.specs.Line.{Length, Tag, followed, opening}
+use Rattle.pgp_line.specs.declared.style.Style.{Style}
+use Rattle.pgp_line.specs.Line.{Length, Tag, followed, opening}
 use Rattle.pgp_trace.specs.Sides.{Side, Server}
 use Rattle.pgp_trace.proofs.Sides.{server_line}
 use Rattle.pgp_trace.specs.Listing.{GoesOn, IsLineOf, IsServerLine, Lines, NoLines, OneLine, front, place_behind}

@@ -6,9 +6,10 @@ use Rattle.pgp_frontend.specs.declared.startup.ProtocolVersion.TheVariants.{V3_0
 use Rattle.pgp_server.specs.OtherMessage.{AnyMessage, Ours, Other, FunctionCall, SaslInitialWithoutResponse, GssEncRequest, StartupOther}
 use Rattle.pgp_server.specs.declared.error.ClientError.{ClientError}
 use Rattle.pgp_server.specs.declared.error.ClientError.TheVariants.{UnknownPacket, Reading}
-use Rattle.pgp_trace.specs.declared.style.Style.{Style}
-use Rattle.pgp_trace.specs.Line.{Part, Name, Word, Number, Text, Value, Hidden, followed}
-use Rattle.pgp_trace.specs.Shown.{list_of, name_or, refused, secret, type_part}
+use Rattle.pgp_line.specs.declared.style.Style.{Style}
+use Rattle.pgp_line.specs.Line.{Part, Name, Word, Number, Text, Value, followed}
+use Rattle.pgp_trace.specs.Shown.{list_of, name_or, refused, type_part}
+use Rattle.pgp_line.specs.Secret.{response_parts, secret}
 
 -- a message of tag `p` of which nothing is known but its tag
 abbrev pub some_password : List ℕ
@@ -72,11 +73,6 @@ startup_parts version parameters = Word (codes "version") ∷ Number (pos versio
 
 abbrev pub named_object : ℕ → List ℕ → List Part
 named_object variant name = Word (name_or (object_of variant) variant) ∷ Text name ∷ []
-
--- a message of tag `p` of which nothing is known is told by its length alone
-abbrev pub response_parts : Style → Bool → List ℕ → List Part
-response_parts style true response = Word (codes "data") ∷ secret style response ∷ []
-response_parts style false response = Hidden (length response) ∷ []
 
 -- The parts of a line behind the name, in groups. Passwords, the texts of an exchange and keys are secrets.
 abbrev pub our_groups : Style → Bool → ClientMessage → List (List Part)

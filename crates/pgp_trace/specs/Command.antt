@@ -4,7 +4,7 @@ use Rattle.std.specs.Io.KnownBytes.{Keeps, Appends, IsAtEnd}
 use Rattle.pgp_server.specs.declared.message.PasswordKind.{PasswordKind}
 use Rattle.pgp_program.specs.declared.fault.Fault.{Fault}
 use Rattle.pgp_program.specs.declared.fault.Fault.TheVariants.{Memory, Read, Write}
-use Rattle.pgp_trace.specs.declared.style.Style.{Style}
+use Rattle.pgp_line.specs.declared.style.Style.{Style}
 use Rattle.pgp_trace.specs.Listing.{Streams, IsCutShort, WasListed, WritesListing}
 use Rattle.pgp_trace.specs.Options.{AreOptions}
 use Rattle.pgp_trace.specs.Sides as side

@@ -1,7 +1,3 @@
-pub mod Quoting
-pub mod Plain
-pub mod Types
-pub mod Line
 pub mod Names
 pub mod Shown
 pub mod Secrets

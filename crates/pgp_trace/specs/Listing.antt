@@ -11,10 +11,10 @@ use Rattle.pgp_server.specs.declared.error.ClientError.{ClientError}
 use Rattle.pgp_server.specs.declared.message.PasswordKind.{PasswordKind}
 use Rattle.pgp_trace.specs.Client.{client_line}
 use Rattle.pgp_trace.specs.Sides.{Side, Server, Client, Ends, expected, is_told, kinds_behind}
-use Rattle.pgp_trace.specs.declared.style.Form.{Form}
-use Rattle.pgp_trace.specs.declared.style.Form.TheVariants.{Columns, Json}
-use Rattle.pgp_trace.specs.declared.style.Style.{Style}
-use Rattle.pgp_trace.specs.Line.{Length, Tag, closing, followed, opening}
+use Rattle.pgp_line.specs.declared.style.Form.{Form}
+use Rattle.pgp_line.specs.declared.style.Form.TheVariants.{Columns, Json}
+use Rattle.pgp_line.specs.declared.style.Style.{Style}
+use Rattle.pgp_line.specs.Line.{Length, Tag, closing, followed, opening}
 use Rattle.pgp_trace.specs.Shown.{Shows, called, refused}
 use Rattle.pgp_program.specs.Taken.{AppendsFront}
 use Rattle.pgp_program.specs.Words.{greatest}

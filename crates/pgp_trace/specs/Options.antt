@@ -1,13 +1,12 @@
 -- The options of a listing, as words spell them.
-use Rattle.std.specs.Prelude.{◌≡◌, ◌≢◌, ℕ, Bool, true, false, if◌then◌else◌, List, [], ◌∷◌, ◌++◌, codes}
+use Rattle.std.specs.Prelude.{◌≡◌, ◌≢◌, ℕ, Bool, true, false, List, [], ◌∷◌, ◌++◌, codes}
 use Rattle.std.specs.List.{flat_map, list_any}
 use Rattle.pgp_server.specs.declared.message.PasswordKind.{PasswordKind}
 use Rattle.pgp_server.specs.declared.message.PasswordKind.TheVariants.{Password, Initial, Response}
-use Rattle.pgp_program.specs.Words.{greatest}
 use Rattle.pgp_trace.specs.declared.options.Choice.{Choice}
 use Rattle.pgp_trace.specs.declared.options.Choice.TheVariants.{AsJson, Full, Secrets, Kind}
-use Rattle.pgp_trace.specs.declared.style.Form.TheVariants.{Columns, Json}
-use Rattle.pgp_trace.specs.declared.style.Style.{Style}
+use Rattle.pgp_line.specs.Styles.{style_of}
+use Rattle.pgp_line.specs.declared.style.Style.{Style}
 
 abbrev pub kind_word : PasswordKind → List ℕ
 kind_word Password = codes "password"
@@ -44,10 +43,6 @@ kind_in AsJson = []
 kind_in Full = []
 kind_in Secrets = []
 kind_in (Kind kind) = kind ∷ []
-
--- By a line of text or a JSON object; 64 bytes of a text or a value are shown, or all of them; and secrets aren't, or are
-abbrev pub style_of : Bool → Bool → Bool → Style
-style_of json full secrets = record { form = (if json then Json else Columns); limit = (if full then greatest else 64); secrets = secrets }
 
 -- The words are options, one after another, in any order. They ask for this style, and name these kinds in order.
 pub record AreOptions (words : List (List ℕ)) (style : Style) (kinds : List PasswordKind) : Type 0 where

@@ -1,5 +1,5 @@
 -- What the line of each message says behind its name. PostgreSQL manual, "Message Formats".
-use Rattle.std.specs.Prelude.{◌≡◌, ◌⊎◌, ℕ, pos, Bool, true, false, List, [], ◌∷◌, ◌++◌, length, Option, Some, None, codes}
+use Rattle.std.specs.Prelude.{◌≡◌, ◌⊎◌, ℕ, pos, Bool, true, false, List, [], ◌∷◌, ◌++◌, Option, Some, None, codes}
 use Rattle.std.specs.Str.{IsUtf8}
 use Rattle.std.specs.declared.ops.Range.{Range}
 use Rattle.pgp_base.specs.Error.{number_of}
@@ -9,8 +9,9 @@ use Rattle.pgp_message.specs.BackendMessage.{AuthenticationOk, AuthenticationKer
 use Rattle.pgp_message.specs.Items.{TextSpelled, TextRefused, FormatSpelled, FormatRefused, TypeSpelled, TypeRefused, RangeSpelled, RangeRefused, FieldPart, FieldSpelled, FieldRefused, ErrorPart, ErrorFieldSpelled, ErrorFieldRefused}
 use Rattle.pgp_message.specs.Parts.{CopyFormats}
 use Rattle.pgp_message.specs.Table.{value_at}
-use Rattle.pgp_trace.specs.Line.{Part, Name, Refusal, Word, Number, Oid, Text, Value, Hidden, followed}
-use Rattle.pgp_trace.specs.declared.style.Style.{Style}
+use Rattle.pgp_line.specs.Line.{Part, Name, Refusal, Word, Number, Oid, Text, Value, followed}
+use Rattle.pgp_line.specs.Secret.{secret}
+use Rattle.pgp_line.specs.declared.style.Style.{Style}
 use Rattle.pgp_trace.specs.Names.{name_of, refusal_of, field_of, state_of}
 
 -- the refusal of a frame
@@ -91,14 +92,6 @@ abbrev pub ShowsFormats : Style → CopyFormats → List ℕ → List ℕ → Ty
 ShowsFormats style copy old new =
     ShowsCounted FormatSpelled FormatRefused number_part style copy.count copy.storage
     (followed style old (Word (codes "format") ∷ Number (pos copy.format) ∷ Word (codes "columns") ∷ [])) new
-
--- a secret, or how long it is
-abbrev pub secret_by : Bool → List ℕ → Part
-secret_by true bytes = Text bytes
-secret_by false bytes = Hidden (length bytes)
-
-abbrev pub secret : Style → List ℕ → Part
-secret style bytes = secret_by style.secrets bytes
 
 -- a message of which no more is said than its name
 abbrev pub says_nothing : Message → Bool

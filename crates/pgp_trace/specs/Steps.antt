@@ -8,7 +8,7 @@ use Rattle.pgp_trace.specs.declared.frame.Next.{Next}
 use Rattle.pgp_trace.specs.declared.frame.Next.TheVariants.{Line, Waits, Stops}
 use Rattle.pgp_trace.specs.declared.side.Side as code
 use Rattle.pgp_trace.specs.declared.side.Side.TheVariants as variants
-use Rattle.pgp_trace.specs.declared.style.Style.{Style}
+use Rattle.pgp_line.specs.declared.style.Style.{Style}
 use Rattle.pgp_trace.specs.Listing.{LineOf, Lines, place_behind}
 use Rattle.pgp_trace.specs.Sides.{Side, Server, Client, Ends}
 use Rattle.pgp_program.specs.Taken.{AppendsFront}

@@ -4,17 +4,18 @@ ghost use Rattle.std.specs.Prelude.{◌≡◌, ◌∷◌, [], pos, Some, OnErr, 
 ghost use Rattle.pgp_base.specs.Walk.{hint_of};
 ghost use Rattle.pgp_message.specs.BackendMessage.{payload_of, Authentication, AuthenticationSasl, NotificationResponse, CommandComplete, DataRow, BackendKeyData, NegotiateProtocolVersion, ParameterStatus, RowDescription, ParameterDescription};
 ghost use Rattle.pgp_message.specs.Views.{view};
-ghost use Rattle.pgp_trace.specs.Line.{Word, Number, Text, Value, followed};
-ghost use Rattle.pgp_trace.specs.Shown.{Shows, bare, list_of, number_part, secret};
+ghost use Rattle.pgp_line.specs.Line.{Word, Number, Text, Value, followed};
+ghost use Rattle.pgp_trace.specs.Shown.{Shows, bare, list_of, number_part};
 
-use crate::line::{put_hidden, put_number, put_signed, put_some, put_text, put_word};
 use crate::lists::{
     put_columns, put_fields, put_formats, put_mechanisms, put_named, put_options, put_types,
     put_values,
 };
 use crate::names::state_of;
-use crate::style::Style;
 use pgp_base::{FallibleIterator, Memory};
+use pgp_line::line::{put_number, put_signed, put_some, put_text, put_word};
+use pgp_line::secret::put_secret;
+use pgp_line::style::Style;
 use pgp_message::{
     AuthenticationSaslBody, BackendKeyDataBody, ColumnFormats, CommandCompleteBody, DataRowBody,
     Message, NegotiateProtocolVersionBody, NotificationResponseBody, ParameterDescriptionBody,
@@ -77,24 +78,6 @@ pub fn put_message<A: Memory>(
         | Message::NoData
         | Message::ParseComplete
         | Message::PortalSuspended => Ok(()),
-    }
-}
-
-/// Adds a secret with its name, or how long it is.
-pub fn put_secret<A: Memory>(
-    style: Style,
-    name: &str,
-    bytes: &[u8],
-    line: &mut String<A>,
-) -> Result<(), AllocError>
-    ensures parts { OnOk result (string_bytes line.new ≡ followed style (string_bytes line.old) (Word name.now ∷ secret style bytes.now ∷ [])) }
-    ensures lacks { OnErr result A.Lacks }
-{
-    put_word(style, name, line)?;
-    if style.secrets {
-        put_text(style, bytes, line)
-    } else {
-        put_hidden(style, bytes.len(), line)
     }
 }
 

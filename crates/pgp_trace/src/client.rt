@@ -4,7 +4,7 @@ ghost use Rattle.std.specs.Prelude.{◌≡◌, ◌≤◌, ◌<◌, ◌∷◌, �
 ghost use Rattle.pgp_server.specs.AnyViews.{any_view};
 ghost use Rattle.pgp_server.specs.Views.{kind_view};
 ghost use Rattle.pgp_trace.specs.Client.{client_line, refusal_parts};
-ghost use Rattle.pgp_trace.specs.Line.{closing, followed};
+ghost use Rattle.pgp_line.specs.Line.{closing, followed};
 ghost use Rattle.pgp_trace.specs.Listing.{client_front, client_tag};
 ghost use Rattle.pgp_trace.specs.Sides.{Client, expected, is_told, is_password, kinds_behind};
 ghost use Rattle.pgp_trace.specs.Steps.{ListsNext};
@@ -12,10 +12,10 @@ ghost use Rattle.pgp_trace.specs.Steps.{ListsNext};
 use crate::client_body::put_client_message;
 use crate::client_names::{client_name, says_nothing};
 use crate::frame::{Next, begin_line, front_of};
-use crate::line::{put_called, put_end, put_signed};
 use crate::lists::put_refused;
-use crate::style::Style;
 use pgp_base::Memory;
+use pgp_line::line::{put_called, put_end, put_signed};
+use pgp_line::style::Style;
 use pgp_server::{AnyMessage, ClientError, ClientMessages, PasswordKind};
 use std::alloc::AllocError;
 

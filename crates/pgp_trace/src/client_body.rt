@@ -4,17 +4,18 @@ ghost use Rattle.std.specs.Prelude.{◌≡◌, ◌∷◌, [], pos, OnErr, OnOk, 
 ghost use Rattle.pgp_server.specs.AnyViews.{any_view, other_view};
 ghost use Rattle.pgp_server.specs.OtherMessage.{Other};
 ghost use Rattle.pgp_server.specs.Views.{view};
-ghost use Rattle.pgp_trace.specs.Client.{client_groups, client_value, counted, grouped, named_object, our_groups, response_parts, signed_part, startup_parts, version_number};
-ghost use Rattle.pgp_trace.specs.Line.{Word, Number, Text, followed};
+ghost use Rattle.pgp_trace.specs.Client.{client_groups, client_value, counted, grouped, named_object, our_groups, signed_part, startup_parts, version_number};
+ghost use Rattle.pgp_line.specs.Line.{Word, Number, Text, followed};
 
-use crate::body::{put_copied, put_secret};
+use crate::body::put_copied;
 use crate::client_lists::{put_formats, put_pairs, put_types, put_values};
 use crate::client_names::object_of;
-use crate::line::{put_hidden, put_null, put_number, put_signed, put_text, put_word};
 use crate::lists::put_named;
-use crate::style::Style;
 use pgp_base::Memory;
 use pgp_frontend::ProtocolVersion;
+use pgp_line::line::{put_null, put_number, put_signed, put_text, put_word};
+use pgp_line::secret::{put_response, put_secret};
+use pgp_line::style::Style;
 use pgp_server::{AnyMessage, ClientMessage, Formats, OtherMessage, StartupParameters, Values};
 use std::alloc::AllocError;
 
@@ -217,23 +218,6 @@ fn put_object<A: Memory>(
 {
     put_named(style, object_of(variant), variant, line)?;
     put_text(style, name, line)
-}
-
-/// Adds the bytes of an exchange, or how long they are; alone where it isn't known that they are of one.
-fn put_response<A: Memory>(
-    style: Style,
-    told: bool,
-    response: &[u8],
-    line: &mut String<A>,
-) -> Result<(), AllocError>
-    ensures parts { OnOk result (string_bytes line.new ≡ followed style (string_bytes line.old) (response_parts style told response.now)) }
-    ensures lacks { OnErr result A.Lacks }
-{
-    if told {
-        put_secret(style, "data", response, line)
-    } else {
-        put_hidden(style, response.len(), line)
-    }
 }
 
 /// The number of a version.

@@ -4,13 +4,13 @@
 ghost use Rattle.std.specs.Prelude.{◌≡◌, None, OnErr, OnOk, string_bytes};
 ghost use Rattle.pgp_server.specs.Whole.{shown};
 ghost use Rattle.pgp_trace.specs.Client.{client_value, counted, pair_parts, signed_part};
-ghost use Rattle.pgp_trace.specs.Line.{followed};
+ghost use Rattle.pgp_line.specs.Line.{followed};
 ghost use Rattle.pgp_trace.specs.Shown.{list_of, type_part};
 
-use crate::line::{put_null, put_number, put_signed, put_some, put_text, put_type, put_word};
 use crate::lists::put_fault;
-use crate::style::Style;
 use pgp_base::{FallibleIterator, Memory};
+use pgp_line::line::{put_null, put_number, put_signed, put_some, put_text, put_type, put_word};
+use pgp_line::style::Style;
 use pgp_server::{Formats, ParamTypes, StartupParameters, Values};
 use std::alloc::AllocError;
 

@@ -2,18 +2,18 @@
 
 ghost use Rattle.std.specs.Prelude.{◌≡◌, ◌≤◌, ◌<◌, ◌-◌, ◌∷◌, ◌++◌, [], length, take, slice_index, IfOk, OnErr, OnOk, Ok, string_bytes};
 ghost use Rattle.pgp_message.specs.Views.{view};
-ghost use Rattle.pgp_trace.specs.Line.{Length, Tag, closing, followed, opening};
+ghost use Rattle.pgp_line.specs.Line.{Length, Tag, closing, followed, opening};
 ghost use Rattle.pgp_trace.specs.Shown.{refused};
 ghost use Rattle.pgp_trace.specs.Listing.{IsServerLine};
 ghost use Rattle.pgp_trace.specs.Sides.{Server};
 ghost use Rattle.pgp_trace.specs.Steps.{IsFrameOf, ListsNext};
 
 use crate::body::put_message;
-use crate::line::{put_called, put_end, put_frame_length, put_frame_place, put_tag};
 use crate::lists::put_refused;
 use crate::names::{name_of, says_nothing};
-use crate::style::Style;
 use pgp_base::{Error, Memory};
+use pgp_line::line::{put_called, put_end, put_frame_length, put_frame_place, put_tag};
+use pgp_line::style::Style;
 use pgp_message::{Message, Messages};
 use std::alloc::AllocError;
 

@@ -1,44 +1,20 @@
 //! Laws of lines.
 
-ghost use Rattle.std.specs.Prelude.{◌≡◌, ◌≢◌, ◌<◌, ◌≤◌, ◌∷◌, ◌++◌, [], ℕ, List, true, false, Bool, ℤ, Ok, Some, None, Result, length};
-ghost use Rattle.std.specs.List.{AllByRecursion};
+ghost use Rattle.std.specs.Prelude.{◌≡◌, ◌∷◌, ◌++◌, [], ℕ, List, true, false, Bool, ℤ, Ok, Result, length};
 ghost use Rattle.pgp_base.specs.declared.error.Error.{Error};
 ghost use Rattle.pgp_message.specs.BackendMessage.{Message};
 ghost use Rattle.pgp_frontend.specs.ClientMessage.{CancelRequest, PasswordMessage, SaslInitialResponse, SaslResponse};
 ghost use Rattle.pgp_message.specs.Stream.{BackendRun};
 ghost use Rattle.pgp_server.specs.OtherMessage.{Ours};
 ghost use Rattle.pgp_server.specs.declared.message.PasswordKind.{PasswordKind};
-ghost use Rattle.json.specs.Text.{content, plain};
 ghost use Rattle.pgp_trace.specs.Client.{client_line};
 ghost use Rattle.pgp_trace.specs.ClientSecrets.{AlikeClientStreams};
-ghost use Rattle.std.specs.Str.{IsUtf8};
-ghost use Rattle.pgp_trace.specs.declared.style.Form.TheVariants.{Columns, Json};
-ghost use Rattle.pgp_trace.specs.declared.style.Style.{Style};
-ghost use Rattle.pgp_trace.specs.Line.{Value, added};
+ghost use Rattle.pgp_line.specs.declared.style.Style.{Style};
 ghost use Rattle.pgp_trace.specs.Listing.{IsListing, LineOf, Lines};
-ghost use Rattle.pgp_trace.specs.Quoting.{IsPrinted, quoted};
+ghost use Rattle.pgp_line.specs.Quoting.{IsPrinted};
 ghost use Rattle.pgp_trace.specs.Secrets.{Alike, AlikeStreams, quiet};
 ghost use Rattle.pgp_trace.specs.Shown.{Shows};
 ghost use Rattle.pgp_trace.specs.Sides.{Client, Server, Side};
-
-/// No two texts are quoted alike, whatever follows them.
-pub fn quotes_differ()
-    ensures columns { (xs ys r s : List ℕ) → AllByRecursion (λ b. b < 256) xs → AllByRecursion (λ b. b < 256) ys →
-        quoted Columns xs ++ r ≡ quoted Columns ys ++ s → (xs ≡ ys) × (r ≡ s) }
-    ensures json { (xs ys r s : List ℕ) → IsUtf8 xs → IsUtf8 ys → quoted Json xs ++ r ≡ quoted Json ys ++ s → (xs ≡ ys) × (r ≡ s) }
-{}
-
-/// The string of a text in JSON is read as that text, as RFC 8259 says in section 7.
-pub fn strings_are_read()
-    ensures { (xs rest : List ℕ) → IsUtf8 xs → (rs : List ℕ) × (quoted Json xs ++ rest ≡ 34 ∷ rs) × (content plain rs ≡ Some xs) }
-{}
-
-/// No two values that aren't cut are shown alike, and none as a null is.
-pub fn values_differ()
-    ensures some { (style : Style) (xs ys : List ℕ) → AllByRecursion (λ b. b < 256) xs → AllByRecursion (λ b. b < 256) ys →
-        length xs ≤ style.limit → length ys ≤ style.limit → added style (Value (Some xs)) ≡ added style (Value (Some ys)) → xs ≡ ys }
-    ensures null { (style : Style) (xs : List ℕ) → added style (Value (Some xs)) ≢ added style (Value None) }
-{}
 
 /// A line has characters alone that a terminal prints, and then its newline.
 pub fn lines_are_printable()

@@ -2,7 +2,6 @@
 #![tactic(auto)]
 
 pub mod body;
-pub mod characters;
 pub mod client;
 pub mod client_body;
 pub mod client_lists;
@@ -10,15 +9,11 @@ pub mod client_names;
 pub mod fault;
 pub mod frame;
 pub mod laws;
-pub mod line;
 pub mod lists;
 pub mod names;
 pub mod next;
 pub mod options;
 pub mod ports;
-pub mod quote;
 pub mod run;
 pub mod side;
 pub mod stream;
-pub mod style;
-pub mod types;

@@ -5,15 +5,15 @@ ghost use Rattle.std.specs.Prelude.{◌≡◌, ◌≤◌, ◌∷◌, [], length,
 ghost use Rattle.std.specs.List.{AllByRecursion};
 ghost use Rattle.std.specs.Option.{option_map};
 ghost use Rattle.pgp_message.specs.Table.{IsPlaceIn};
-ghost use Rattle.pgp_trace.specs.Line.{Word, followed};
+ghost use Rattle.pgp_line.specs.Line.{Word, followed};
 ghost use Rattle.pgp_trace.specs.Shown.{column_parts, fault, field_parts, list_of, name_or, number_part, refused, text_part, type_part, value_part};
 
-use crate::line::{
+use crate::names::{field_of, refusal_of};
+use pgp_base::{Error, FallibleIterator, Memory};
+use pgp_line::line::{
     put_name, put_null, put_number, put_refusal, put_signed, put_some, put_text, put_type, put_word,
 };
-use crate::names::{field_of, refusal_of};
-use crate::style::Style;
-use pgp_base::{Error, FallibleIterator, Memory};
+use pgp_line::style::Style;
 use pgp_message::{
     ColumnFormats, DataRowRanges, ErrorField, ErrorFields, Field, Fields, Parameters,
     ProtocolOptions, SaslMechanisms,

@@ -6,8 +6,8 @@ ghost use Rattle.pgp_trace.specs.Steps.{ListsNext, side_of};
 use crate::client::client_line;
 use crate::frame::{Next, server_line};
 use crate::side::Side;
-use crate::style::Style;
 use pgp_base::Memory;
+use pgp_line::style::Style;
 use std::alloc::AllocError;
 
 /// Makes the line of the frame at the front of the bytes, which stands at this place. Answers what is then known of the side, and what stands

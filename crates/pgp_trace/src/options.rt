@@ -1,15 +1,12 @@
 //! The options of a listing.
 
 ghost use Rattle.std.specs.Prelude.{◌≡◌, ◌++◌, ◌∷◌, ◌||◌, codes, drop, length, map, IfNone, IfOk, IfSome, OnErr, OnOk};
-ghost use Rattle.pgp_trace.specs.Options.{AreNoOptions, AreOptions, BeginsWithNone, NamesNoKind, is_full, is_json, is_secrets, kind_in, kind_word, spelled, style_of};
+ghost use Rattle.pgp_trace.specs.Options.{AreNoOptions, AreOptions, BeginsWithNone, NamesNoKind, is_full, is_json, is_secrets, kind_in, kind_word, spelled};
+ghost use Rattle.pgp_line.specs.Styles.{style_of};
 
-use crate::style::{Form, Style};
 use pgp_base::Memory;
 use pgp_server::PasswordKind;
 use std::alloc::AllocError;
-
-/// How many bytes of a text or a value are shown where not all are asked for.
-const SHORT: usize = 64;
 
 /// An option of a listing.
 #[derive(Debug, Clone, Copy, PartialEq, Eq)]
@@ -56,17 +53,6 @@ pub fn options_of<A: Memory>(alloc: A, words: &[&str]) -> Result<Option<Options<
         at += len(choice);
     }
     Ok(Some(options))
-}
-
-/// How messages are shown: by lines of text or JSON objects, with all or a front of texts and values, and with secrets or how long they are.
-pub fn style(json: bool, full: bool, secrets: bool) -> Style
-    ensures { result ≡ style_of json full secrets }
-{
-    Style {
-        form: if json { Form::Json } else { Form::Columns },
-        limit: if full { usize::MAX } else { SHORT },
-        secrets,
-    }
 }
 
 /// Adds an option.

@@ -9,12 +9,12 @@ ghost use Rattle.pgp_trace.specs.Sides as side;
 ghost use Rattle.pgp_program.specs.Words.{LacksWords};
 
 use crate::fault::complaint;
-use crate::options::{options_of, style};
+use crate::options::options_of;
 use crate::ports::Input;
 use crate::side::Side;
 use crate::stream::list;
-use crate::style::Style;
 use pgp_base::Memory;
+use pgp_line::style::{Style, style_of};
 use pgp_program::fault::Fault;
 use pgp_program::ports::{Output, Words};
 use pgp_program::print::put;
@@ -100,7 +100,7 @@ fn server_of<A: Memory>(alloc: A, words: &[&str]) -> Result<Option<Command<A>>, 
     if !options.kinds.is_empty() {
         return Ok(None);
     }
-    Ok(Some(Command::Server(style(options.json, options.full, options.secrets))))
+    Ok(Some(Command::Server(style_of(options.json, options.full, options.secrets))))
 }
 
 /// What the words behind `client` ask for.
@@ -112,7 +112,7 @@ fn client_of<A: Memory>(alloc: A, words: &[&str]) -> Result<Option<Command<A>>, 
     let Some(options) = options_of(alloc, words)? else {
         return Ok(None);
     };
-    let style = style(options.json, options.full, options.secrets);
+    let style = style_of(options.json, options.full, options.secrets);
     Ok(Some(Command::Client(style, options.kinds)))
 }
 

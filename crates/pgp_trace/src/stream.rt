@@ -7,15 +7,16 @@ ghost use Rattle.pgp_program.specs.Interruptions.{GivesUp};
 ghost use Rattle.pgp_trace.specs.Listing.{IsCutShort, WasListed, WritesListing, last_by, last_line};
 ghost use Rattle.pgp_trace.specs.Steps.{Holds, ListsAll, ListsPiece, ListsSome, side_of};
 ghost use Rattle.pgp_program.specs.Taken.{AppendsFront};
-ghost use Rattle.pgp_trace.specs.declared.style.Form.TheVariants.{Columns, Json};
+ghost use Rattle.pgp_line.specs.declared.style.Form.TheVariants.{Columns, Json};
 
 use crate::frame::Next;
 use crate::next::next_line;
 use crate::ports::Input;
 use crate::side::Side;
-use crate::style::{Form, Style};
 use bytes::{Buf, BytesMut};
 use pgp_base::Memory;
+use pgp_line::line::add_line;
+use pgp_line::style::{Form, Style};
 use pgp_program::fault::Fault;
 use pgp_program::ports::Output;
 use pgp_program::print::{flush, put};
@@ -188,14 +189,6 @@ fn list_frames<'a, A: Memory>(
         here = to;
         rest = behind;
     }
-}
-
-/// Adds a line to those of the piece.
-fn add_line<A: Memory>(line: &str, lines: &mut String<A>) -> Result<(), AllocError>
-    ensures added { OnOk result (string_bytes lines.new ≡ string_bytes lines.old ++ line.now) }
-    ensures lacks { OnErr result A.Lacks }
-{
-    A::push_str(lines, line)
 }
 
 /// Has the lines so far passed on.

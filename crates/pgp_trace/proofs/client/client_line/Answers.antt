@@ -4,7 +4,7 @@ use Rattle.pgp_server.specs.AnyStep.{AnyStep, RefusesAny}
 use Rattle.pgp_server.specs.AnyViews.{any_view}
 use Rattle.pgp_server.specs.Views.{kind_view}
 use Rattle.pgp_trace.specs.Client.{client_line}
-use Rattle.pgp_trace.specs.Line.{closing}
+use Rattle.pgp_line.specs.Line.{closing}
 use Rattle.pgp_trace.specs.Listing.{client_front}
 use Rattle.pgp_trace.specs.Sides.{is_told}
 use Rattle.pgp_trace.proofs.ClientLines.{message_passed, refusal_passed, refusal_rests}

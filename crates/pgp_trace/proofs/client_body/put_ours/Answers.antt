@@ -2,8 +2,9 @@
 use Rattle.std.proofs.Common.{◌≡◌, [], ◌∷◌, ap, subst, ◌∙◌}
 use Rattle.std.specs.Prelude.{codes, string_bytes, OnOk}
 use Rattle.pgp_trace.specs.Client.{client_value, counted, signed_part}
-use Rattle.pgp_trace.specs.Line.{Word, followed}
-use Rattle.pgp_trace.specs.Shown.{secret, type_part}
+use Rattle.pgp_line.specs.Line.{Word, followed}
+use Rattle.pgp_trace.specs.Shown.{type_part}
+use Rattle.pgp_line.specs.Secret.{secret}
 use Rattle.pgp_trace.proofs.client_body.put_ours.Goals as goal
 
 pub returns-in_ok-put_values-in-Bind-clause-says : goal.returns-in_ok-put_values-in-Bind-clause-says

@@ -1,7 +1,7 @@
 use Rattle.std.proofs.Common.{◌∙◌, ap, [], ◌∷◌}
 use Rattle.std.specs.Prelude.{string_bytes}
 use Rattle.pgp_message.specs.Views.{view}
-use Rattle.pgp_trace.specs.Line.{Name, followed}
+use Rattle.pgp_line.specs.Line.{Name, followed}
 use Rattle.pgp_trace.specs.Shown.{says_nothing}
 use Rattle.pgp_trace.proofs.FrameLines.{frame_long, body_is, message_ended}
 use Rattle.pgp_trace.proofs.frame.message_line.Goals as goal

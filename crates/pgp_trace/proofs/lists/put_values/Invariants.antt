@@ -3,7 +3,7 @@ use Rattle.std.proofs.Common.{◌≡◌, length}
 use Rattle.std.specs.Prelude.{string_bytes}
 use Rattle.std.specs.List.{AllByRecursion}
 use Rattle.pgp_message.specs.Table.{IsPlaceIn}
-use Rattle.pgp_trace.specs.Line.{followed}
+use Rattle.pgp_line.specs.Line.{followed}
 use Rattle.pgp_trace.specs.Shown.{list_of, value_part}
 use Rattle.pgp_trace.proofs.lists.put_values.Given as goal
 

@@ -1,5 +1,6 @@
 use Rattle.std.proofs.Common.{◌≡◌, map, length, rules}
-use Rattle.pgp_trace.specs.Options.{AreOptions, style_of}
+use Rattle.pgp_trace.specs.Options.{AreOptions}
+use Rattle.pgp_line.specs.Styles.{style_of}
 use Rattle.pgp_trace.proofs.CommandLemmas.{server_kinds}
 use Rattle.pgp_trace.proofs.run.server_of.Goals as goal
 

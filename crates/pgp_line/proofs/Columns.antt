@@ -1,0 +1,37 @@
+-- Columns of a line.
+use Rattle.std.proofs.Common.{◌≡◌, ℕ, zero, suc, ◌+◌, ◌-◌, false, List, [], ◌∷◌, ◌++◌, length, refl, ap, ◌∙◌, arith, append_assoc}
+use Rattle.std.specs.Prelude.{decimal}
+use Rattle.std.specs.Char.{encode_utf8}
+use Rattle.std.specs.Fmt.{char_count, format_spec, padded_integral, styled_decimal}
+use Rattle.std.specs.List.{repeat}
+use Rattle.std.proofs.lemmas.List.{append-nil, replicate-append-replicate}
+use Rattle.std.proofs.lemmas.Str.{encode_ascii}
+use Rattle.pgp_line.specs.Line.{blanks, right}
+
+-- one more
+pub blank_more : (before old new : List ℕ) (n : ℕ) → old ≡ before ++ blanks n → new ≡ old ++ 32 ∷ [] → new ≡ before ++ blanks (n + 1)
+blank_more before old new n so_far grown =
+    grown ∙ ap (λ l. l ++ 32 ∷ []) so_far ∙ append_assoc before (blanks n) (32 ∷ []) ∙ ap (λ l. before ++ l) (replicate-append-replicate n 1 32)
+
+-- a fill of blanks
+pub filled : (n : ℕ) → repeat n (encode_utf8 32) ≡ blanks n
+filled zero = refl
+filled (suc n) = ap (λ l. l ++ repeat n (encode_utf8 32)) (encode_ascii 32 (omega arith)) ∙ ap (λ l. 32 ∷ l) (filled n)
+
+-- a number behind a fill of blanks
+padded_right : (w n : ℕ) → padded_integral (format_spec 32 3 0 w 18446744073709551615) false [] (decimal n) ≡ right w n
+unfolding padded_integral char_count
+padded_right w n =
+    let fill : ℕ → List ℕ = λ k. repeat k (encode_utf8 32) in
+    let p = w - length (decimal n) - 0 - 0 in
+    let none : p - p ≡ 0 = omega arith in
+    let all : p ≡ w - length (decimal n) = omega arith in
+    ap (λ l. l ++ (decimal n ++ fill (p - p))) (append-nil (fill p ++ [] ++ []) ∙ append-nil (fill p ++ []) ∙ append-nil (fill p))
+    ∙ ap (λ j. fill p ++ (decimal n ++ fill j)) none ∙ ap (λ l. fill p ++ l) (append-nil (decimal n))
+    ∙ ap (λ j. fill j ++ decimal n) all ∙ ap (λ l. l ++ decimal n) (filled (w - length (decimal n)))
+
+pub right_8 : (n : ℕ) → styled_decimal (format_spec 32 3 0 8 18446744073709551615) n ≡ right 8 n
+right_8 n = padded_right 8 n
+
+pub right_10 : (n : ℕ) → styled_decimal (format_spec 32 3 0 10 18446744073709551615) n ≡ right 10 n
+right_10 n = padded_right 10 n

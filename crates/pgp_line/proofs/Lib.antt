@@ -1,0 +1,7 @@
+pub mod Parts
+pub mod Columns
+pub mod Called
+pub mod Escapes
+pub mod Quotes
+pub mod JsonQuotes
+pub mod JsonReads

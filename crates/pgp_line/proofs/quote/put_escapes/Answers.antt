@@ -1,0 +1,15 @@
+use Rattle.std.proofs.Common.{arith, rules, ◌∙◌, ap, ◌++◌}
+use Rattle.std.specs.Prelude.{string_bytes}
+use Rattle.std.specs.List.{flat_map}
+use Rattle.std.proofs.lemmas.List.{take_all}
+use Rattle.pgp_line.specs.declared.style.Form.TheVariants.{Columns}
+use Rattle.pgp_line.specs.Quoting.{hex_escape}
+use Rattle.pgp_line.proofs.Parts.{text_more}
+use Rattle.pgp_line.proofs.quote.put_escapes.Goals as goal
+
+pub loop-byte-preserved : goal.loop-byte-preserved
+loop-byte-preserved g c = text_more (hex_escape Columns) c.args.bytes.now (string_bytes c.args.line.now) (string_bytes c.loop-byte.line) _ c.loop-byte.byte-index 0 c.loop-byte-test.true c.loop-byte.invariant (search rules)
+
+pub returns-clause-text : goal.returns-clause-text
+returns-clause-text g c =
+    c.loop-byte.invariant ∙ ap (λ l. string_bytes c.args.line.now ++ flat_map (hex_escape Columns) l) (take_all c.loop-byte.byte-index c.args.bytes.now (omega (arith, c.loop-byte-test.false)))
