@@ -194,7 +194,7 @@ enum pgp_kind {
     PGP_NEGOTIATE_PROTOCOL_VERSION = 32
 };
 
-/* Some of the bytes that a call was handed: `len` of them, from bytes[at] on. */
+/* Some of the bytes that a call was handed: `len` of them, from bytes[at] on; at + len never passes their end. */
 struct pgp_part { size_t at, len; };
 
 /* The parts of a message, by its kind; what a kind doesn't have is 0.
@@ -239,8 +239,9 @@ static inline struct pgp_cursor pgp_walk(const struct pgp_message *message)
     return c;
 }
 
-/* The next value of a row: bytes[start .. end), or a null. PGP_DONE behind the last; a refusal (7: the value is cut short, 8: bytes
-   stand behind the last one) is answered again at each later call. Both leave the cursor and the column as they are. */
+/* The next value of a row: bytes[start .. end), or a null; start <= end <= len holds of both. PGP_DONE behind the last; a refusal
+   (7: the value is cut short, 8: bytes stand behind the last one) is answered again at each later call. Both leave the cursor and
+   the column as they are. */
 struct pgp_column { size_t start, end; bool is_null; };
 pgp_status pgp_row_next(const uint8_t *bytes, size_t len, struct pgp_cursor *cursor, struct pgp_column *column);
 

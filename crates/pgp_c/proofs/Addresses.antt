@@ -1,9 +1,10 @@
 -- The addresses that bytes are.
-use Rattle.std.proofs.Common.{◌≡◌, ℕ, ◌*◌, ◌≤◌, List, length, refl, ap, ◌∙◌, sym, subst}
+use Rattle.std.proofs.Common.{◌≡◌, ℕ, ◌+◌, ◌-◌, ◌*◌, ◌≤◌, List, length, Ok, arith, refl, ap, ◌∙◌, sym, subst}
 use Rattle.std.specs.declared.net.ip_addr.IpAddr.{IpAddr}
 use Rattle.std.specs.declared.net.ip_addr.IpAddr.TheVariants.{V4, V6}
 use Rattle.std.specs.Net.Addr.{ipv6_segments, segments_of, octets_of, IsV6And}
 use Rattle.pgp_base.specs.Wire.{IsBytes}
+use Rattle.pgp_types.specs.Network.{Inet, InetReads}
 use Rattle.pgp_types.proofs.InetLemmas.{octets_of-segments_of, length-segments_of, segments_below}
 use Rattle.pgp_c.specs.Compound.{IsAddress, IsInetOf}
 
@@ -17,3 +18,7 @@ is_v6 bytes (V6 ip) size each is = record {
 
 pub inet_of : (bytes : List ℕ) (netmask : ℕ) (addr : IpAddr) → IsAddress bytes addr → netmask ≤ 8 * length bytes → IsInetOf bytes netmask (record { addr = addr; netmask = netmask })
 inet_of bytes netmask addr a few = record { is = (a.valid, subst (λ n. netmask ≤ 8 * n) (sym a.size) few); address = a.octets; same = refl }
+
+-- four bytes stand before the address
+pub inet_behind : (bytes : List ℕ) (v : Inet) (len : ℕ) → InetReads bytes (Ok v) → len ≡ length bytes - 4 → 4 + len ≤ length bytes
+inet_behind bytes v len (is, (cidr, whole)) cut = omega (arith, ap length whole, cut)

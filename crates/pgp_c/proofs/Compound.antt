@@ -1,7 +1,8 @@
 -- The parts of values stand at their places among the bytes.
-use Rattle.std.proofs.Common.{◌≡◌, ℕ, ℤ, negsuc, ◌+◌, ◌-◌, ◌*◌, ◌<◌, ◌≤◌, ◌^◌, List, [], ◌∷◌, ◌++◌, length, take, drop, Option, Some, None, Ok, refl, sym, ap, subst, ◌∙◌, inl, inr, arith, length-append}
+use Rattle.std.proofs.Common.{◌≡◌, ℕ, ℤ, pos, negsuc, true, false, ◌+◌, ◌-◌, ◌*◌, ◌<◌, ◌≤◌, ◌^◌, List, [], ◌∷◌, ◌++◌, length, take, drop, Option, Some, None, Ok, refl, sym, ap, subst, ◌∙◌, inl, inr, arith, length-append}
 use Rattle.std.specs.Prelude.{min}
 use Rattle.std.specs.List.{flat_map}
+use Rattle.std.specs.declared.ops.Range.{Range}
 use Rattle.std.proofs.lemmas.List.{append_assoc, append-nil}
 use Rattle.std.proofs.lemmas.Bool.{cases_lt}
 use Rattle.std.proofs.Math.Seq.{drop-append_seam, take-append_seam, take-length}
@@ -15,6 +16,7 @@ use Rattle.pgp_base.proofs.Causes.{length_fits, length_past}
 use Rattle.pgp_base.specs.Walk.{Walk, hint_of}
 use Rattle.pgp_base.specs.declared.error.Error.TheVariants.{NotDrained, UnexpectedEof}
 use Rattle.pgp_base.proofs.PartLemmas.{int32_number, oid_number}
+use Rattle.pgp_message.specs.Items.{IsValue, RangeSpelled}
 use Rattle.pgp_types.specs.declared.array.ArrayDimension.{ArrayDimension}
 use Rattle.pgp_types.specs.Array.{IsFlag, dimension_bytes, head, ArrayRead, ArrayReads}
 use Rattle.pgp_types.specs.Hstore.{Entry, entry, entry_count, HstoreReads}
@@ -25,11 +27,13 @@ use Rattle.pgp_types.specs.declared.range.RangeBound.TheVariants.{Inclusive, Exc
 use Rattle.pgp_types.proofs.ArrayLemmas.{part_reader}
 use Rattle.pgp_types.proofs.Numbers.{int32_spelling}
 use Rattle.pgp_types.proofs.PartLemmas.{fixed_is, then_part}
-use Rattle.pgp_c.specs.Compound.{dimension, value_in, BeginsHstore, IsArrayIn, side_in}
+use Rattle.pgp_c.specs.Compound.{dimension, value_in, BeginsHstore, IsArrayIn, IsRangeInside, IsSideInside, side_in}
+use Rattle.pgp_c.specs.Listings.{IsColumnInside, range_of}
 use Rattle.pgp_c.specs.PartPlaces.{dimension_at, column_before, value_length, bound_before, side_length}
 use Rattle.pgp_c.specs.declared.array.PgpArray.{PgpArray}
 use Rattle.pgp_c.specs.declared.cursor.PgpCursor.{PgpCursor}
 use Rattle.pgp_c.specs.declared.range.PgpBound.{PgpBound}
+use Rattle.pgp_c.specs.declared.range.PgpRange.{PgpRange}
 use Rattle.pgp_c.specs.declared.row.PgpColumn.{PgpColumn}
 use Rattle.pgp_c.specs.Walks.{StandsFrom, rest_of, rest}
 use Rattle.pgp_c.proofs.Listings.{part_stands}
@@ -52,6 +56,19 @@ column_in bytes rest before front more (Some v) at end from spelled parts last =
     let whole : rest ≡ (before ++ head) ++ (v ++ more) = parts ∙ (ap (λ l. before ++ (l ++ more)) spelled.1 ∙ (ap (λ l. before ++ l) (append_assoc head v more) ∙ sym (append_assoc before head (v ++ more)))) in
     ap (λ x. Some x) (value_behind bytes rest (before ++ head) v more at end from whole last)
 
+pub column_inside : (v : Option (List ℕ)) (end size : ℕ) → end ≤ size → IsColumnInside size (column_before v end)
+column_inside None end size few = (omega arith, omega arith)
+column_inside (Some v) end size few = (omega arith, few)
+
+-- a value of a row
+pub range_inside : (here more : List ℕ) (c : PgpColumn) (at size : ℕ) → c.is_null ≡ false → at + length here ≤ size → StandsAt RangeSpelled at here (range_of c) more → IsColumnInside size c
+range_inside here more c at size full few s =
+    let r : Range ℕ = record { start = c.start; end = c.end } in
+    let is : range_of c ≡ Some r = rw full refl in
+    let v : IsValue at r s.front = subst (λ (x : Option (Range ℕ)). RangeSpelled at x s.front) is s.spelled in
+    let long = ap length v.parts in
+    (omega (arith, v.starts, v.ends, long, length-append (int32 (pos (length v.value))) v.value, int32_number.len (pos (length v.value))), omega (arith, v.ends, few, ap length s.whole, length-append s.front more))
+
 -- an element of an array
 pub element_in : (bytes rest front more : List ℕ) (v : Option (List ℕ)) (at end : ℕ) → StandsFrom bytes at rest → NullableSpelled v front → rest ≡ front ++ more → end ≡ at + (length rest - length more)
     → value_in bytes (column_before v end) ≡ v
@@ -68,6 +85,10 @@ key_in bytes rest more x at from b =
 pub entry_value_in : (bytes rest more : List ℕ) (x : Entry) (at end : ℕ) → StandsFrom bytes at rest → Begins entry rest x more → end ≡ at + (length rest - length more) → value_in bytes (column_before x.1 end) ≡ x.1
 entry_value_in bytes rest more x at end from b last =
     column_in bytes rest b.spelled.first b.spelled.second more x.1 at end from b.spelled.other.0 (b.whole ∙ (ap (λ l. l ++ more) b.spelled.whole ∙ append_assoc b.spelled.first b.spelled.second more)) last
+
+pub key_inside : (rest more : List ℕ) (x : Entry) → Begins entry rest x more → 4 + length x.0 ≤ length rest
+key_inside rest more x b =
+    omega (arith, ap length b.whole, length-append b.front more, ap length b.spelled.whole, length-append b.spelled.first b.spelled.second, ap length b.spelled.one.0.1, length-append (uint32 (length x.0)) x.0, length-uint32 (length x.0))
 
 -- how many bytes a value takes with its length
 value_size : (v : Option (List ℕ)) (front : List ℕ) → NullableSpelled v front → length front ≡ 4 + value_length v
@@ -181,6 +202,27 @@ lower_placed tag (Exclusive v) bytes rest front more end spelled whole parts las
     let joined : bytes ≡ (tag ∷ []) ++ (front ++ more) = whole ∙ ap (λ l. tag ∷ l) parts in
     side_placed lower_bits tag (Exclusive v) bytes (tag ∷ []) front more end spelled joined
     (omega (arith, last, fits, ap length whole, ap length parts, length-append front more, value_size v front spelled.2))
+
+-- the bound that ends at this place
+bound_inside : (s : Side) (end size : ℕ) → end ≤ size → IsSideInside size (bound_before s end)
+bound_inside Unbounded end size few = (omega arith, (omega arith, omega arith))
+bound_inside (Inclusive v) end size few = (omega arith, column_inside v end size few)
+bound_inside (Exclusive v) end size few = (omega arith, column_inside v end size few)
+
+lower_inside : (tag : ℕ) (s : Side) (rest front more : List ℕ) (end size : ℕ) → SideSpelled lower_bits tag s front → size ≡ 1 + length rest → rest ≡ front ++ more → end ≤ side_length s + 5 → IsSideInside size (bound_before s end)
+lower_inside tag Unbounded rest front more end size spelled long parts last = (omega arith, (omega arith, omega arith))
+lower_inside tag (Inclusive v) rest front more end size spelled long parts last =
+    bound_inside (Inclusive v) end size (omega (arith, last, long, ap length parts, length-append front more, value_size v front spelled.2))
+lower_inside tag (Exclusive v) rest front more end size spelled long parts last =
+    bound_inside (Exclusive v) end size (omega (arith, last, long, ap length parts, length-append front more, value_size v front spelled.2))
+
+pub range_within : (bytes : List ℕ) (l u : Side) (r : PgpRange) (first end : ℕ) → RangeReads bytes (Ok (between l u)) → r.lower ≡ bound_before l first → r.upper ≡ bound_before u end
+    → r.is_empty ≡ false → first ≡ min (side_length l + 5) 18446744073709551615 → end ≡ length bytes → IsRangeInside (length bytes) r
+range_within bytes l u r first end (tag, rest, whole, other, s) lower_is upper_is full place last = (
+  subst (λ b. IsSideInside (length bytes) b) (sym lower_is) (lower_inside tag l rest s.first s.second first (length bytes) s.one (omega (arith, ap length whole)) s.whole (omega (arith, place))),
+  subst (λ b. IsSideInside (length bytes) b) (sym upper_is) (bound_inside u end (length bytes) (omega (arith, last))),
+  λ is. let e : false ≡ true = sym full ∙ is in absurd cc,
+)
 
 pub range_placed : (bytes : List ℕ) (l u : Side) (lower upper : PgpBound) (first end : ℕ) → RangeReads bytes (Ok (between l u)) → lower ≡ bound_before l first → upper ≡ bound_before u end
     → first ≡ min (side_length l + 5) 18446744073709551615 → end ≡ length bytes → length bytes < 2 ^ 64 → RangeReads bytes (Ok (between (side_in bytes lower) (side_in bytes upper)))

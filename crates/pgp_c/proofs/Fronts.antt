@@ -1,5 +1,5 @@
 -- The parts of a message stand where they are told to.
-use Rattle.std.proofs.Common.{◌≡◌, ℕ, pos, ◌+◌, ◌-◌, ◌≤◌, List, [], ◌∷◌, ◌++◌, length, take, drop, Option, Some, None, Result, Ok, Err, refl, sym, ap, ◌∙◌, subst, arith}
+use Rattle.std.proofs.Common.{◌≡◌, ℕ, ℤ, pos, ◌+◌, ◌-◌, ◌≤◌, List, [], ◌∷◌, ◌++◌, length, take, drop, Option, Some, None, Result, Ok, Err, refl, sym, ap, ◌∙◌, subst, arith}
 use Rattle.std.specs.Prelude.{◌≢◌}
 use Rattle.std.proofs.Math.Seq.{take-append_seam, drop-append_seam}
 use Rattle.std.proofs.lemmas.List.{length-append, append_assoc, append-nil}
@@ -14,7 +14,7 @@ use Rattle.pgp_message.specs.Stream.{Frame, frame_bytes, TakesFrame, Step}
 use Rattle.pgp_c.specs.declared.front.PgpMessage.{PgpMessage}
 use Rattle.pgp_c.specs.declared.front.PgpParts.{PgpParts}
 use Rattle.pgp_c.specs.Front.{Told, code_of as code_told, kind_told, ShowsAll}
-use Rattle.pgp_c.specs.Parts.{Shows, no_parts, stands}
+use Rattle.pgp_c.specs.Parts.{IsInside, Shows, no_parts, part, stands}
 use Rattle.pgp_c.specs.Places.{place, first_of, second_of}
 
 module _ (bytes new : List ℕ) (f : Frame) (whole : bytes ≡ frame_bytes f ++ new) where
@@ -65,12 +65,37 @@ module _ (bytes new : List ℕ) (f : Frame) (whole : bytes ≡ frame_bytes f ++ 
     second_len : frame - 1 - (length bytes - length (text b ++ new)) ≡ length b
     second_len = omega (arith, is, lengths, length-append (text b) new, length-append b (0 ∷ []))
 
+    first_fits : IsInside frame (first_of at (string_at (drop at bytes)))
+    first_fits = subst (λ s. IsInside frame (first_of at s)) (sym read) (omega (arith, is, lengths, place_is))
+
+    second_fits : IsInside frame (second_of (length bytes) frame (string_at (drop at bytes)))
+    second_fits =
+        subst (λ s. IsInside frame (second_of (length bytes) frame s)) (sym read)
+        (omega (arith, is, lengths, second_at, second_len, length-append front (text a), length-append a (0 ∷ [])))
+
     second_stands : stands bytes (second_of (length bytes) frame (string_at (drop at bytes))) ≡ b
     second_stands =
         ap (λ s. stands bytes (second_of (length bytes) frame s)) read
         ∙ sits (front ++ text a) b (0 ∷ []) _ _ (pay ∙ sym (append_assoc front (text a) (text b))) second_at second_len
 
   module _ (frame : ℕ) (is : frame ≡ length bytes - length new) where
+    -- what ends the payload lies inside the frame
+    rest_fits : (n : ℕ) → n ≤ 5 + length f.payload → IsInside frame (part n (frame - n))
+    rest_fits n few = omega (arith, few, frame_length frame is)
+
+    behind_fits : (front rest : List ℕ) (n : ℕ) → f.payload ≡ (front ++ rest) ++ [] → n ≡ 5 + length front → IsInside frame (part n (frame - n))
+    behind_fits front rest n pay at = rest_fits n (omega (arith, at, ap length pay, length-append (front ++ rest) [], length-append front rest))
+
+    number_fits : (n : ℤ) (b : List ℕ) → f.payload ≡ (int32 n ++ b) ++ [] → IsInside frame (part 9 (frame - 9))
+    number_fits n b pay = behind_fits (int32 n) b 9 pay (ap (λ n. 5 + n) (sym (int32_number.len n)))
+
+    count_fits : (count : ℕ) (b : List ℕ) → f.payload ≡ (uint16 count ++ b) ++ [] → IsInside frame (part 7 (frame - 7))
+    count_fits count b pay = behind_fits (uint16 count) b 7 pay (ap (λ n. 5 + n) (sym (uint16_number.len count)))
+
+    formats_fit : (format count : ℕ) (b : List ℕ) → f.payload ≡ (format ∷ uint16 count ++ b) ++ [] → IsInside frame (part 8 (frame - 8))
+    unfolding uint16
+    formats_fit format count b pay = behind_fits (format ∷ uint16 count) b 8 pay refl
+
     -- the payload is the parts, with nothing behind them
     alone : (m : Message) → f.payload ≡ payload_of m ++ [] → f.payload ≡ payload_of m
     alone m e = e ∙ append-nil (payload_of m)
@@ -128,6 +153,46 @@ shows bytes new (Authentication AuthenticationGss) frame is t = refl
 shows bytes new (Authentication AuthenticationSspi) frame is t = refl
 shows bytes new m frame is t = refl
 
+-- and lie inside the frame
+abbrev AreInside : ℕ → PgpParts → Type 0
+AreInside frame p = IsInside frame p.first × IsInside frame p.second
+
+inside : (bytes new : List ℕ) (m : Message) (frame : ℕ) → frame ≡ length bytes - length new → TakesFrame bytes (Ok m) new → AreInside frame (place m bytes frame)
+inside bytes new (CommandComplete tag) frame is t = (omega (arith, frame_length bytes new t.first t.whole frame is), omega arith)
+inside bytes new (ErrorResponse b) frame is t = (rest_fits bytes new t.first t.whole frame is 5 (omega arith), omega arith)
+inside bytes new (NoticeResponse b) frame is t = (rest_fits bytes new t.first t.whole frame is 5 (omega arith), omega arith)
+inside bytes new (CopyData b) frame is t = (rest_fits bytes new t.first t.whole frame is 5 (omega arith), omega arith)
+inside bytes new (Authentication (AuthenticationGssContinue b)) frame is t = (number_fits bytes new t.first t.whole frame is (pos 8) b t.body.parts, omega arith)
+inside bytes new (Authentication (AuthenticationSasl b)) frame is t = (number_fits bytes new t.first t.whole frame is (pos 10) b t.body.parts, omega arith)
+inside bytes new (Authentication (AuthenticationSaslContinue b)) frame is t = (number_fits bytes new t.first t.whole frame is (pos 11) b t.body.parts, omega arith)
+inside bytes new (Authentication (AuthenticationSaslFinal b)) frame is t = (number_fits bytes new t.first t.whole frame is (pos 12) b t.body.parts, omega arith)
+inside bytes new (Authentication (AuthenticationMd5Password salt)) frame is t =
+    (omega (arith, frame_length bytes new t.first t.whole frame is, ap length t.body.parts, length-append (int32 (pos 5) ++ salt) [], length-append (int32 (pos 5)) salt, int32_number.len (pos 5), t.body.fits), omega arith)
+inside bytes new (DataRow row) frame is t = (count_fits bytes new t.first t.whole frame is row.count row.storage t.body.parts, omega arith)
+inside bytes new (RowDescription row) frame is t = (count_fits bytes new t.first t.whole frame is row.count row.storage t.body.parts, omega arith)
+inside bytes new (ParameterDescription row) frame is t = (count_fits bytes new t.first t.whole frame is row.count row.storage t.body.parts, omega arith)
+inside bytes new (CopyInResponse copy) frame is t = (formats_fit bytes new t.first t.whole frame is copy.format copy.count copy.storage t.body.parts, omega arith)
+inside bytes new (CopyOutResponse copy) frame is t = (formats_fit bytes new t.first t.whole frame is copy.format copy.count copy.storage t.body.parts, omega arith)
+inside bytes new (BackendKeyData key) frame is t = (number_fits bytes new t.first t.whole frame is key.process_id key.secret_key t.body.parts, omega arith)
+inside bytes new (NegotiateProtocolVersion n) frame is t =
+    let at : 13 ≡ 5 + length (int32 n.version ++ int32 (pos n.count)) = omega (arith, length-append (int32 n.version) (int32 (pos n.count)), int32_number.len n.version, int32_number.len (pos n.count)) in
+    (behind_fits bytes new t.first t.whole frame is (int32 n.version ++ int32 (pos n.count)) n.options 13 t.body.parts at, omega arith)
+inside bytes new (ParameterStatus s) frame is t =
+    let e = alone bytes new t.first t.whole frame is (ParameterStatus s) t.body.parts in
+    (first_fits bytes new t.first t.whole [] s.name s.value 5 frame is e t.body.fits.0 refl, second_fits bytes new t.first t.whole [] s.name s.value 5 frame is e t.body.fits.0 refl)
+inside bytes new (NotificationResponse n) frame is t =
+    let e = alone bytes new t.first t.whole frame is (NotificationResponse n) t.body.parts ∙ append_assoc (int32 n.process_id) (text n.channel) (text n.message) in
+    let at : 9 ≡ 5 + length (int32 n.process_id) = ap (λ n. 5 + n) (sym (int32_number.len n.process_id)) in
+    (first_fits bytes new t.first t.whole (int32 n.process_id) n.channel n.message 9 frame is e t.body.fits.1 at, second_fits bytes new t.first t.whole (int32 n.process_id) n.channel n.message 9 frame is e t.body.fits.1 at)
+inside bytes new (ReadyForQuery status) frame is t = (omega arith, omega arith)
+inside bytes new (Authentication AuthenticationOk) frame is t = (omega arith, omega arith)
+inside bytes new (Authentication AuthenticationKerberosV5) frame is t = (omega arith, omega arith)
+inside bytes new (Authentication AuthenticationCleartextPassword) frame is t = (omega arith, omega arith)
+inside bytes new (Authentication AuthenticationScmCredential) frame is t = (omega arith, omega arith)
+inside bytes new (Authentication AuthenticationGss) frame is t = (omega arith, omega arith)
+inside bytes new (Authentication AuthenticationSspi) frame is t = (omega arith, omega arith)
+inside bytes new m frame is t = (omega arith, omega arith)
+
 -- what is left is what stands behind the frame
 left : (bytes new : List ℕ) → (e : Error) → TakesFrame bytes (Err e) new → drop (length bytes - length new) bytes ≡ new
 left bytes new e t =
@@ -159,6 +224,11 @@ shows_all bytes new (Ok None) p is s at = at
 shows_all bytes new (Ok (Some m)) p is s at = subst (λ (q : _). Shows bytes m q) (sym at) (shows bytes new m p.frame is s)
 shows_all bytes new (Err e) p is s at = at
 
+inside_all : (bytes new : List ℕ) (r : Result (Option Message) Error) (p : PgpMessage) → p.frame ≡ length bytes - length new → Step ⊥ bytes r new → p.parts ≡ parts_told bytes p.frame r → AreInside p.frame p.parts
+inside_all bytes new (Ok None) p is s at = subst (λ (q : _). AreInside p.frame q) (sym at) (omega arith, omega arith)
+inside_all bytes new (Ok (Some m)) p is s at = subst (λ (q : _). AreInside p.frame q) (sym at) (inside bytes new m p.frame is s)
+inside_all bytes new (Err e) p is s at = subst (λ (q : _). AreInside p.frame q) (sym at) (omega arith, omega arith)
+
 pub told : (bytes new : List ℕ) (r : Result (Option Message) Error) (p : PgpMessage) (code : ℕ) → p.frame ≡ length bytes - length new → Step ⊥ bytes r new → code ≡ code_told r → p.kind ≡ kind_told r
     → p.parts ≡ parts_told bytes p.frame r → (p.frame ≢ 0 → p.frame ≤ length bytes → (rest : List ℕ) × (bytes ≡ p.tag ∷ rest)) → (p.frame ≡ 0 → p.tag ≡ 0) → Told bytes p code
 told bytes new r p code is s code_is kind_is at tag none =
@@ -170,6 +240,8 @@ told bytes new r p code is s code_is kind_is at tag none =
       code_is = code_is;
       kind_is = kind_is;
       shows = shows_all bytes new r p is s at;
+      first_inside = (inside_all bytes new r p is s at).0;
+      second_inside = (inside_all bytes new r p is s at).1;
       tag_is = λ some. tag some within;
       no_tag = none;
     }

@@ -1,5 +1,5 @@
 -- The items that are read at the front stand at their places among the bytes.
-use Rattle.std.proofs.Common.{◌≡◌, ℕ, ◌+◌, ◌<◌, List, [], ◌∷◌, ◌++◌, length, take, drop, Result, Ok, Err, refl, sym, ap, subst, ◌∙◌, arith}
+use Rattle.std.proofs.Common.{◌≡◌, ℕ, ◌+◌, ◌<◌, ◌≤◌, List, [], ◌∷◌, ◌++◌, length, take, drop, Result, Ok, Err, refl, sym, ap, subst, ◌∙◌, arith}
 use Rattle.std.proofs.lemmas.List.{length-append, take-append-drop, append_assoc}
 use Rattle.std.proofs.Math.Seq.{drop-append_seam, take-append_seam}
 use Rattle.pgp_base.specs.Grammar.{StandsAt, IsReader}
@@ -41,11 +41,21 @@ text_item bytes rest name more at each is stands =
     let s = text_reader.found at rest name more each is in
     front_stands bytes rest name (0 ∷ more) at stands (s.whole ∙ (ap (λ l. l ++ more) s.spelled.parts ∙ append_assoc name (0 ∷ []) more))
 
+pub text_fits : (rest name more : List ℕ) → IsBytes rest → text_at rest ≡ Ok (name, more) → length name ≤ length rest
+text_fits rest name more each is =
+    let s = text_reader.found 0 rest name more each is in
+    omega (arith, ap length s.whole, length-append s.front more, ap length s.spelled.parts, length-append name (0 ∷ []))
+
 -- a field of an error, by the place of its value
 pub error_value_item : (bytes rest : List ℕ) (x : ErrorPart) (more : List ℕ) (at : ℕ) → IsBytes rest → error_field_at rest ≡ Ok (x, more) → StandsFrom bytes at rest → take (length x.value) (drop (at + 1) bytes) ≡ x.value
 error_value_item bytes rest x more at each is stands =
     let s = error_field_reader.found at rest x more each is in
     part_stands bytes rest (x.code ∷ []) x.value (0 ∷ more) at stands (s.whole ∙ (ap (λ l. l ++ more) s.spelled.parts ∙ ap (λ l. x.code ∷ l) (append_assoc x.value (0 ∷ []) more)))
+
+pub error_value_fits : (rest : List ℕ) (x : ErrorPart) (more : List ℕ) → IsBytes rest → error_field_at rest ≡ Ok (x, more) → 1 + length x.value ≤ length rest
+error_value_fits rest x more each is =
+    let s = error_field_reader.found 0 rest x more each is in
+    omega (arith, ap length s.whole, length-append s.front more, ap length s.spelled.parts, length-append x.value (0 ∷ []))
 
 -- a column's description: the name, and the numbers behind it
 pub field_of_parts : (rest name behind : List ℕ) (r : Result (FieldPart × List ℕ) Error) → text_at rest ≡ Ok (name, behind) → numbers_at name behind ≡ r → field_at rest ≡ r

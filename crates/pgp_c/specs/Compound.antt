@@ -1,5 +1,5 @@
 -- Values of several parts, by their places among the bytes.
-use Rattle.std.specs.Prelude.{◌≡◌, ◌≢◌, ◌⊎◌, ℕ, ℤ, ◌*◌, ◌<◌, List, take, drop, length, Option, Some, None, ◌-◌, Ok, nat_eq, if◌then◌else◌}
+use Rattle.std.specs.Prelude.{◌≡◌, ◌≢◌, ◌⊎◌, ℕ, ℤ, ◌*◌, ◌<◌, ◌≤◌, true, List, take, drop, length, Option, Some, None, ◌-◌, Ok, nat_eq, if◌then◌else◌}
 use Rattle.std.specs.Int.{div_ceil}
 use Rattle.std.specs.List.{flat_map}
 use Rattle.std.specs.Net.Addr.{IsIpv4Addr, IsIpv6Addr, MatchIp}
@@ -11,7 +11,8 @@ use Rattle.pgp_types.specs.Network.{Inet, IsInet, inet, address_size, family_num
 use Rattle.pgp_types.specs.Part.{Part, Begins, ◌then◌}
 use Rattle.pgp_types.specs.Range.{Range, Side, empty, between}
 use Rattle.pgp_types.specs.declared.range.RangeBound.TheVariants.{Inclusive, Exclusive, Unbounded}
-use Rattle.pgp_c.specs.Parts.{stands}
+use Rattle.pgp_c.specs.Listings.{IsColumnInside}
+use Rattle.pgp_c.specs.Parts.{IsInside, stands}
 use Rattle.pgp_c.specs.Walks.{rest}
 use Rattle.pgp_c.specs.declared.array.PgpArray.{PgpArray}
 use Rattle.pgp_c.specs.declared.cursor.PgpCursor.{PgpCursor}
@@ -60,6 +61,10 @@ IsNoVarbit bits bytes code = ((code ≡ 10) × (length bytes ≢ div_ceil bits 8
 abbrev pub entry_in : List ℕ → PgpEntry → Entry
 entry_in bytes e = (stands bytes e.key, value_in bytes e.value)
 
+-- both lie before this place
+abbrev pub IsEntryInside : ℕ → PgpEntry → Type 0
+IsEntryInside size e = IsInside size e.key × IsColumnInside size e.value
+
 -- the cursor is at the first of so many entries as the bytes announce
 abbrev pub BeginsHstore : List ℕ → PgpCursor → Type 0
 BeginsHstore bytes c = Begins entry_count bytes c.left (rest bytes c)
@@ -85,3 +90,10 @@ side_in bytes b = if nat_eq b.kind 0 then Unbounded else if nat_eq b.kind 1 then
 
 abbrev pub range_in : List ℕ → PgpRange → Range
 range_in bytes r = if r.is_empty then empty else between (side_in bytes r.lower) (side_in bytes r.upper)
+
+-- The kinds are 0, 1 and 2, of an empty range 0, and the values' places lie before this one.
+abbrev pub IsSideInside : ℕ → PgpBound → Type 0
+IsSideInside size b = (b.kind ≤ 2) × IsColumnInside size b.value
+
+abbrev pub IsRangeInside : ℕ → PgpRange → Type 0
+IsRangeInside size r = IsSideInside size r.lower × IsSideInside size r.upper × (r.is_empty ≡ true → (r.lower.kind ≡ 0) × (r.upper.kind ≡ 0))

@@ -5,7 +5,7 @@ use Rattle.pgp_base.specs.declared.error.Error.{Error}
 use Rattle.pgp_message.specs.BackendMessage.{Message}
 use Rattle.pgp_message.specs.Stream.{Step}
 use Rattle.pgp_c.specs.declared.front.PgpMessage.{PgpMessage}
-use Rattle.pgp_c.specs.Parts.{kind_of, no_parts, Shows}
+use Rattle.pgp_c.specs.Parts.{IsInside, kind_of, no_parts, Shows}
 
 -- 100: bytes are missing
 abbrev pub code_of : Result (Option Message) Error → ℕ
@@ -22,7 +22,7 @@ ShowsAll bytes (Ok (Some m)) p = Shows bytes m p.parts
 ShowsAll bytes r p = p.parts ≡ no_parts
 
 -- One step along the stream takes the frame; its result is told by the code and the kind, and the message's parts are those that
--- stand at their places among the bytes. The tag is the first byte of what was taken.
+-- stand at their places among the bytes, inside the frame. The tag is the first byte of what was taken.
 pub record Told (bytes : List ℕ) (message : PgpMessage) (code : ℕ) : Type 0 where
   pub result : Result (Option Message) Error
   pub step : Step ⊥ bytes result (drop message.frame bytes)
@@ -30,5 +30,7 @@ pub record Told (bytes : List ℕ) (message : PgpMessage) (code : ℕ) : Type 0 
   pub code_is : code ≡ code_of result
   pub kind_is : message.kind ≡ kind_told result
   pub shows : ShowsAll bytes result message
+  pub first_inside : IsInside message.frame message.parts.first
+  pub second_inside : IsInside message.frame message.parts.second
   pub tag_is : message.frame ≢ 0 → (rest : List ℕ) × (bytes ≡ message.tag ∷ rest)
   pub no_tag : message.frame ≡ 0 → message.tag ≡ 0

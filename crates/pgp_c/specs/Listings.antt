@@ -1,5 +1,5 @@
 -- The items of lists, by their places among the bytes.
-use Rattle.std.specs.Prelude.{ℕ, List, Option, Some, None, if◌then◌else◌}
+use Rattle.std.specs.Prelude.{◌≤◌, ℕ, List, Option, Some, None, if◌then◌else◌}
 use Rattle.std.specs.declared.ops.Range.{Range}
 use Rattle.pgp_message.specs.Items.{FieldPart, ErrorPart}
 use Rattle.pgp_c.specs.Parts.{stands}
@@ -10,6 +10,10 @@ use Rattle.pgp_c.specs.declared.report.PgpErrorField.{PgpErrorField}
 -- where a value of a row stands; none for a null
 abbrev pub range_of : PgpColumn → Option (Range ℕ)
 range_of c = if c.is_null then None else Some (record { start = c.start; end = c.end })
+
+-- it ends no sooner than it begins, and lies before this place
+abbrev pub IsColumnInside : ℕ → PgpColumn → Type 0
+IsColumnInside size c = (c.start ≤ c.end) × (c.end ≤ size)
 
 -- what a column's description says with this name
 abbrev pub named : List ℕ → PgpField → FieldPart

@@ -1,5 +1,5 @@
 -- The kind and the parts of a message, as C sees them.
-use Rattle.std.specs.Prelude.{◌≡◌, ℕ, pos, List, take, drop}
+use Rattle.std.specs.Prelude.{◌≡◌, ◌≤◌, ℕ, ◌+◌, pos, List, take, drop}
 use Rattle.pgp_message.specs.BackendMessage.{Message, Authentication, NegotiateProtocolVersion, AuthenticationCleartextPassword, AuthenticationGss, AuthenticationGssContinue, AuthenticationKerberosV5, AuthenticationMd5Password, AuthenticationOk, AuthenticationSasl, AuthenticationSaslContinue, AuthenticationSaslFinal, AuthenticationScmCredential, AuthenticationSspi, BackendKeyData, BindComplete, CloseComplete, CommandComplete, CopyData, CopyDone, CopyInResponse, CopyOutResponse, DataRow, EmptyQueryResponse, ErrorResponse, NoData, NoticeResponse, NotificationResponse, ParameterDescription, ParameterStatus, ParseComplete, PortalSuspended, ReadyForQuery, RowDescription}
 use Rattle.pgp_message.specs.Parts.{CountedBytes, CopyFormats}
 use Rattle.pgp_c.specs.declared.front.PgpPart.{PgpPart}
@@ -49,6 +49,10 @@ no_parts = record { first = part 0 0; second = part 0 0; count = 0; number = pos
 -- what stands at a part's place
 abbrev pub stands : List ℕ → PgpPart → List ℕ
 stands bytes p = take p.len (drop p.at bytes)
+
+-- all of it lies before this place
+abbrev pub IsInside : ℕ → PgpPart → Type 0
+IsInside size p = p.at + p.len ≤ size
 
 -- one part, and nothing else
 abbrev pub One : List ℕ → PgpParts → List ℕ → Type 0

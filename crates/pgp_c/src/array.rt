@@ -10,6 +10,7 @@ ghost use Rattle.pgp_base.specs.declared.error.Error.TheVariants.{InvalidValueLe
 ghost use Rattle.pgp_types.specs.Array.{IsArray, array};
 ghost use Rattle.pgp_types.specs.Part.{nullable};
 ghost use Rattle.pgp_c.specs.Compound.{IsArrayIn, dimension, value_in};
+ghost use Rattle.pgp_c.specs.Listings.{IsColumnInside};
 ghost use Rattle.pgp_c.specs.PartPlaces.{dimension_at};
 ghost use Rattle.pgp_c.specs.Putting.{IsNoList, elements_cause, elements_of, flag_in, has_value, head_of, list_of};
 ghost use Rattle.pgp_c.specs.Values.{Lacks, Refuses, Wrote};
@@ -96,6 +97,7 @@ pub extern "C" fn pgp_element_next(
     item: &mut PgpColumn,
 ) -> u32
     ensures item { result ≡ 0 → Takes (λ place. (nullable InvalidValueLength).Spelled) bytes.now cursor.old cursor.new (value_in bytes.now item.new) }
+    ensures inside { result ≡ 0 → IsColumnInside (length bytes.now) item.new }
     ensures done { result ≡ 101 → IsEnded bytes.now cursor.old }
     ensures refused { result ≢ 0 → result ≢ 101 → RefusesItem (nullable InvalidValueLength).Refused bytes.now cursor.old result }
     ensures left { result ≢ 0 → (cursor.new ≡ cursor.old) × (item.new ≡ item.old) }
@@ -107,7 +109,7 @@ pub extern "C" fn pgp_element_next(
 struct Dimensions;
 
 impl Listed for Dimensions {
-    ghost use Rattle.std.specs.Prelude.{ℤ};
+    ghost use Rattle.std.specs.Prelude.{ℤ, ⊤};
     ghost use Rattle.pgp_c.specs.Compound.{dimension};
 
     type Item = PgpDimension;
@@ -119,6 +121,8 @@ impl Listed for Dimensions {
     ghost Spelled = { λ place. dimension.Spelled };
 
     ghost Refused = { dimension.Refused };
+
+    ghost Inside = { λ size d. ⊤ };
 
     fn read(_at: usize, rest: &[u8]) -> Result<(&[u8], PgpDimension), Error> {
         let (dimension, more) = dimension_at(rest)?;
@@ -134,6 +138,7 @@ impl Listed for Elements {
     ghost use Rattle.pgp_base.specs.declared.error.Error.TheVariants.{InvalidValueLength};
     ghost use Rattle.pgp_types.specs.Part.{nullable};
     ghost use Rattle.pgp_c.specs.Compound.{value_in};
+    ghost use Rattle.pgp_c.specs.Listings.{IsColumnInside};
 
     type Item = PgpColumn;
 
@@ -144,6 +149,8 @@ impl Listed for Elements {
     ghost Spelled = { λ place. (nullable InvalidValueLength).Spelled };
 
     ghost Refused = { (nullable InvalidValueLength).Refused };
+
+    ghost Inside = { λ size c. IsColumnInside size c };
 
     fn read(at: usize, rest: &[u8]) -> Result<(&[u8], PgpColumn), Error> {
         let (value, more) = nullable_at(rest, Error::InvalidValueLength)?;

@@ -1,6 +1,6 @@
 //! Walks over lists that stand in the caller's bytes, by a cursor that the caller holds.
 
-ghost use Rattle.std.specs.Prelude.{◌≡◌, ◌≢◌, ◌+◌, ◌<◌, ◌^◌, ℕ, List, [], length, None, IfSome, IfOk, IfErr};
+ghost use Rattle.std.specs.Prelude.{◌≡◌, ◌≢◌, ◌+◌, ◌<◌, ◌≤◌, ◌^◌, ℕ, List, [], length, None, IfSome, IfOk, IfErr};
 ghost use Rattle.pgp_base.specs.Grammar.{StandsAt};
 ghost use Rattle.pgp_base.specs.declared.error.Error.{Error as Refusal};
 ghost use Rattle.pgp_c.specs.Walks.{IsEnded, IsMarkedEnd, RefusesItem, RefusesMarked, StandsFrom, Takes, TakesMarked, rest as left_of, rest_of};
@@ -35,6 +35,9 @@ pub trait Listed {
 
     ghost Refused: { List ℕ → Refusal → Type 0 };
 
+    /// All places that the item tells lie before this one.
+    ghost Inside: { ℕ → Self.Item → Type 0 };
+
     /// What stands behind the item at the front of what is left, which begins at this place; and the item.
     // In this order no number of the item lies where a refusal would, so that it is stored whole.
     ///
@@ -45,12 +48,14 @@ pub trait Listed {
         requires { at + length rest.now < 2 ^ 64 }
         ensures item { IfOk result (λ x. (bytes : List ℕ) → StandsFrom bytes at rest.now → StandsAt Spelled at rest.now (meaning bytes x.1) x.0.now) }
         ensures shorter { IfOk result (λ x. length x.0.now < length rest.now) }
+        ensures inside { IfOk result (λ x. (size : ℕ) → at + length rest.now ≤ size → Inside size x.1) }
         ensures refused { IfErr result (λ e. Refused rest.now e) };
 }
 
 /// The next item of a list whose items are counted.
 pub fn next_counted<L: Listed>(bytes: &[u8], cursor: &mut PgpCursor, item: &mut L::Item) -> u32
     ensures item { result ≡ 0 → Takes L.Spelled bytes.now cursor.old cursor.new (L.meaning bytes.now item.new) }
+    ensures inside { result ≡ 0 → L.Inside (length bytes.now) item.new }
     ensures done { result ≡ 101 → IsEnded bytes.now cursor.old }
     ensures refused { result ≢ 0 → result ≢ 101 → RefusesItem L.Refused bytes.now cursor.old result }
     ensures left { result ≢ 0 → (cursor.new ≡ cursor.old) × (item.new ≡ item.old) }
@@ -68,6 +73,8 @@ pub fn next_counted<L: Listed>(bytes: &[u8], cursor: &mut PgpCursor, item: &mut 
 fn next_in<L: Listed>(rest: &[u8], cursor: &mut PgpCursor, item: &mut L::Item) -> u32
     requires { cursor.old.at + length rest.now < 2 ^ 64 }
     ensures item { result ≡ 0 → (bytes : List ℕ) → rest.now ≡ left_of bytes cursor.old → Takes L.Spelled bytes cursor.old cursor.new (L.meaning bytes item.new) }
+    ensures inside { result ≡ 0 → (size : ℕ) → cursor.old.at + length rest.now ≤ size → L.Inside size item.new }
+    ensures some { result ≡ 0 → 0 < length rest.now }
     ensures done { result ≡ 101 → (cursor.old.left ≡ 0) × (rest.now ≡ []) }
     ensures refused { result ≢ 0 → result ≢ 101 → (bytes : List ℕ) → rest.now ≡ left_of bytes cursor.old → RefusesItem L.Refused bytes cursor.old result }
     ensures left { result ≢ 0 → (cursor.new ≡ cursor.old) × (item.new ≡ item.old) }
@@ -93,6 +100,7 @@ fn next_in<L: Listed>(rest: &[u8], cursor: &mut PgpCursor, item: &mut L::Item) -
 /// The next item of a list that a byte 0 ends.
 pub fn next_marked<L: Listed>(bytes: &[u8], cursor: &mut PgpCursor, item: &mut L::Item) -> u32
     ensures item { result ≡ 0 → TakesMarked L.Spelled bytes.now cursor.old cursor.new (L.meaning bytes.now item.new) }
+    ensures inside { result ≡ 0 → L.Inside (length bytes.now) item.new }
     ensures done { result ≡ 101 → IsMarkedEnd bytes.now cursor.old }
     ensures refused { result ≢ 0 → result ≢ 101 → RefusesMarked L.Refused bytes.now cursor.old result }
     ensures left { result ≢ 0 → (cursor.new ≡ cursor.old) × (item.new ≡ item.old) }
@@ -119,14 +127,19 @@ pub fn next_marked<L: Listed>(bytes: &[u8], cursor: &mut PgpCursor, item: &mut L
 fn rest_of(bytes: &[u8], at: usize, end: usize) -> &[u8]
     ensures value { result.now ≡ rest_of bytes.now at end }
     ensures fits { at + length result.now < 2 ^ 64 }
+    ensures inside { 0 < length result.now → at + length result.now ≤ length bytes.now }
 {
-    between(bytes, at, end).unwrap_or(&[])
+    match between(bytes, at, end) {
+        Some(rest) => rest,
+        None => &[],
+    }
 }
 
 /// The bytes from a place up to another, where these are places of the bytes, in this order.
 #[inline(always)]
 fn between(bytes: &[u8], at: usize, end: usize) -> Option<&[u8]>
-    ensures some { IfSome result (λ rest. (rest.now ≡ rest_of bytes.now at end) × (at + length rest.now < 2 ^ 64)) }
+    ensures some { IfSome result (λ rest. (rest.now ≡ rest_of bytes.now at end) × (at + length rest.now < 2 ^ 64)
+        × (at + length rest.now ≤ length bytes.now)) }
     ensures none { result ≡ None → rest_of bytes.now at end ≡ [] }
 {
     if end <= bytes.len() {

@@ -1,10 +1,11 @@
 //! The columns of a row description, read where they stand, one after another.
 
-ghost use Rattle.std.specs.Prelude.{◌≡◌, ◌≢◌, ℕ, List, IfOk};
+ghost use Rattle.std.specs.Prelude.{◌≡◌, ◌≢◌, ℕ, List, length, IfOk};
 ghost use Rattle.pgp_base.specs.PartReading.{Answers};
 ghost use Rattle.pgp_message.specs.ItemReading.{numbers_at};
 ghost use Rattle.pgp_message.specs.Items.{FieldSpelled, FieldRefused};
 ghost use Rattle.pgp_c.specs.Listings.{field_of, named};
+ghost use Rattle.pgp_c.specs.Parts.{IsInside};
 ghost use Rattle.pgp_c.specs.Walks.{IsEnded, RefusesItem, Takes};
 
 use crate::cursor::{Listed, PgpCursor, next_counted};
@@ -35,6 +36,7 @@ pub struct PgpField {
 #[unsafe(no_mangle)]
 pub extern "C" fn pgp_field_next(bytes: &[u8], cursor: &mut PgpCursor, field: &mut PgpField) -> u32
     ensures item { result ≡ 0 → Takes FieldSpelled bytes.now cursor.old cursor.new (field_of bytes.now field.new) }
+    ensures inside { result ≡ 0 → IsInside (length bytes.now) field.new.name }
     ensures done { result ≡ 101 → IsEnded bytes.now cursor.old }
     ensures refused { result ≢ 0 → result ≢ 101 → RefusesItem FieldRefused bytes.now cursor.old result }
     ensures left { result ≢ 0 → (cursor.new ≡ cursor.old) × (field.new ≡ field.old) }
@@ -48,6 +50,7 @@ struct Fields;
 impl Listed for Fields {
     ghost use Rattle.pgp_message.specs.Items.{FieldPart, FieldSpelled, FieldRefused};
     ghost use Rattle.pgp_c.specs.Listings.{field_of};
+    ghost use Rattle.pgp_c.specs.Parts.{IsInside};
 
     type Item = PgpField;
 
@@ -58,6 +61,8 @@ impl Listed for Fields {
     ghost Spelled = { FieldSpelled };
 
     ghost Refused = { FieldRefused };
+
+    ghost Inside = { λ size field. IsInside size field.name };
 
     fn read(at: usize, rest: &[u8]) -> Result<(&[u8], PgpField), Error> {
         let (name, more) = text_at(rest)?;

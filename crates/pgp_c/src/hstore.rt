@@ -10,7 +10,7 @@ ghost use Rattle.pgp_base.specs.PartReading.{Answers};
 ghost use Rattle.pgp_types.specs.Hstore.{entry, entry_bytes, entry_cause, hstore, IsEntry};
 ghost use Rattle.pgp_types.specs.Part.{shown};
 ghost use Rattle.pgp_types.specs.PartReading.{entry_at, entry_value_at, key_at};
-ghost use Rattle.pgp_c.specs.Compound.{BeginsHstore, entry_in};
+ghost use Rattle.pgp_c.specs.Compound.{BeginsHstore, IsEntryInside, entry_in};
 ghost use Rattle.pgp_c.specs.Putting.{are_texts, entry_of, IsNoHstore, pairs_bytes, pairs_cause};
 ghost use Rattle.pgp_c.specs.Values.{Lacks, Refuses, Wrote};
 ghost use Rattle.pgp_c.specs.Walks.{IsEnded, RefusesItem, Takes};
@@ -63,6 +63,7 @@ pub extern "C" fn pgp_get_hstore(bytes: &[u8], entries: &mut PgpCursor) -> u32
 #[unsafe(no_mangle)]
 pub extern "C" fn pgp_entry_next(bytes: &[u8], cursor: &mut PgpCursor, item: &mut PgpEntry) -> u32
     ensures item { result ≡ 0 → Takes (λ place. entry.Spelled) bytes.now cursor.old cursor.new (entry_in bytes.now item.new) }
+    ensures inside { result ≡ 0 → IsEntryInside (length bytes.now) item.new }
     ensures done { result ≡ 101 → IsEnded bytes.now cursor.old }
     ensures refused { result ≢ 0 → result ≢ 101 → RefusesItem entry.Refused bytes.now cursor.old result }
     ensures left { result ≢ 0 → (cursor.new ≡ cursor.old) × (item.new ≡ item.old) }
@@ -75,7 +76,7 @@ struct Entries;
 
 impl Listed for Entries {
     ghost use Rattle.pgp_types.specs.Hstore.{Entry, entry};
-    ghost use Rattle.pgp_c.specs.Compound.{entry_in};
+    ghost use Rattle.pgp_c.specs.Compound.{IsEntryInside, entry_in};
 
     type Item = PgpEntry;
 
@@ -86,6 +87,8 @@ impl Listed for Entries {
     ghost Spelled = { λ place. entry.Spelled };
 
     ghost Refused = { entry.Refused };
+
+    ghost Inside = { λ size e. IsEntryInside size e };
 
     fn read(at: usize, rest: &[u8]) -> Result<(&[u8], PgpEntry), Error> {
         let ((key, value), more) = entry_at(rest)?;

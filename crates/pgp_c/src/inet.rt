@@ -3,6 +3,7 @@
 ghost use Rattle.std.specs.Prelude.{◌≡◌, ◌≢◌, ◌⊎◌, ◌*◌, ◌<◌, ◌≤◌, length, IfOk, IfErr};
 ghost use Rattle.pgp_types.specs.Network.{Inet, family_number, family_of, inet};
 ghost use Rattle.pgp_c.specs.Compound.{IsAddress, IsInetIn, IsInetOf, IsNoAddress, IsNoInet};
+ghost use Rattle.pgp_c.specs.Parts.{IsInside};
 ghost use Rattle.pgp_c.specs.Values.{Lacks, Refuses, Wrote};
 
 use crate::front::PgpPart;
@@ -23,6 +24,7 @@ pub struct PgpInet {
 #[unsafe(no_mangle)]
 pub extern "C" fn pgp_get_inet(bytes: &[u8], value: &mut PgpInet) -> u32
     ensures read { result ≡ 0 → IsInetIn bytes.now value.new }
+    ensures inside { result ≡ 0 → IsInside (length bytes.now) value.new.address }
     ensures refused { result ≢ 0 → Refuses inet bytes.now result }
     ensures left { result ≢ 0 → value.new ≡ value.old }
 {

@@ -1,8 +1,8 @@
 //! The names of a list, read where they stand, one after another: SASL mechanisms, and options of a startup packet.
 
-ghost use Rattle.std.specs.Prelude.{◌≡◌, ◌≢◌};
+ghost use Rattle.std.specs.Prelude.{◌≡◌, ◌≢◌, length};
 ghost use Rattle.pgp_message.specs.Items.{TextSpelled, TextRefused};
-ghost use Rattle.pgp_c.specs.Parts.{stands};
+ghost use Rattle.pgp_c.specs.Parts.{IsInside, stands};
 ghost use Rattle.pgp_c.specs.Walks.{IsEnded, IsMarkedEnd, RefusesItem, RefusesMarked, Takes, TakesMarked};
 
 use crate::cursor::{Listed, PgpCursor, next_counted, next_marked};
@@ -18,6 +18,7 @@ pub extern "C" fn pgp_mechanism_next(
     name: &mut PgpPart,
 ) -> u32
     ensures item { result ≡ 0 → TakesMarked TextSpelled bytes.now cursor.old cursor.new (stands bytes.now name.new) }
+    ensures inside { result ≡ 0 → IsInside (length bytes.now) name.new }
     ensures done { result ≡ 101 → IsMarkedEnd bytes.now cursor.old }
     ensures refused { result ≢ 0 → result ≢ 101 → RefusesMarked TextRefused bytes.now cursor.old result }
     ensures left { result ≢ 0 → (cursor.new ≡ cursor.old) × (name.new ≡ name.old) }
@@ -29,6 +30,7 @@ pub extern "C" fn pgp_mechanism_next(
 #[unsafe(no_mangle)]
 pub extern "C" fn pgp_option_next(bytes: &[u8], cursor: &mut PgpCursor, name: &mut PgpPart) -> u32
     ensures item { result ≡ 0 → Takes TextSpelled bytes.now cursor.old cursor.new (stands bytes.now name.new) }
+    ensures inside { result ≡ 0 → IsInside (length bytes.now) name.new }
     ensures done { result ≡ 101 → IsEnded bytes.now cursor.old }
     ensures refused { result ≢ 0 → result ≢ 101 → RefusesItem TextRefused bytes.now cursor.old result }
     ensures left { result ≢ 0 → (cursor.new ≡ cursor.old) × (name.new ≡ name.old) }
@@ -42,7 +44,7 @@ struct Names;
 impl Listed for Names {
     ghost use Rattle.std.specs.Prelude.{ℕ, List};
     ghost use Rattle.pgp_message.specs.Items.{TextSpelled, TextRefused};
-    ghost use Rattle.pgp_c.specs.Parts.{stands};
+    ghost use Rattle.pgp_c.specs.Parts.{IsInside, stands};
 
     type Item = PgpPart;
 
@@ -53,6 +55,8 @@ impl Listed for Names {
     ghost Spelled = { TextSpelled };
 
     ghost Refused = { TextRefused };
+
+    ghost Inside = { λ size name. IsInside size name };
 
     fn read(at: usize, rest: &[u8]) -> Result<(&[u8], PgpPart), Error> {
         let (name, more) = text_at(rest)?;

@@ -36,7 +36,7 @@ pub extern "C" fn pgp_format_next(bytes: &[u8], cursor: &mut PgpCursor, value: &
 struct Types;
 
 impl Listed for Types {
-    ghost use Rattle.std.specs.Prelude.{ℕ};
+    ghost use Rattle.std.specs.Prelude.{ℕ, ⊤};
     ghost use Rattle.pgp_message.specs.Items.{TypeSpelled, TypeRefused};
 
     type Item = u32;
@@ -49,6 +49,8 @@ impl Listed for Types {
 
     ghost Refused = { TypeRefused };
 
+    ghost Inside = { λ size value. ⊤ };
+
     fn read(_at: usize, rest: &[u8]) -> Result<(&[u8], u32), Error> {
         let (number, more) = type_at(rest)?;
         Ok((more, number))
@@ -59,7 +61,7 @@ impl Listed for Types {
 struct Formats;
 
 impl Listed for Formats {
-    ghost use Rattle.std.specs.Prelude.{ℕ};
+    ghost use Rattle.std.specs.Prelude.{ℕ, ⊤};
     ghost use Rattle.pgp_message.specs.Items.{FormatSpelled, FormatRefused};
 
     type Item = u16;
@@ -71,6 +73,8 @@ impl Listed for Formats {
     ghost Spelled = { FormatSpelled };
 
     ghost Refused = { FormatRefused };
+
+    ghost Inside = { λ size value. ⊤ };
 
     fn read(_at: usize, rest: &[u8]) -> Result<(&[u8], u16), Error> {
         let (number, more) = format_at(rest)?;

@@ -8,7 +8,7 @@ ghost use Rattle.pgp_types.specs.Format.{Reads};
 ghost use Rattle.pgp_types.specs.Part.{shown};
 ghost use Rattle.pgp_types.specs.Range.{empty, range, range_bytes, range_cause, side_bit, side_bytes, side_cause};
 ghost use Rattle.pgp_types.specs.RangeReading.{shown_side};
-ghost use Rattle.pgp_c.specs.Compound.{range_in};
+ghost use Rattle.pgp_c.specs.Compound.{IsRangeInside, range_in};
 ghost use Rattle.pgp_c.specs.PartPlaces.{bound_before, side_length, value_length};
 ghost use Rattle.pgp_c.specs.Putting.{IsNoRange, range_of_sides, side_of};
 ghost use Rattle.pgp_c.specs.Values.{Lacks, Refuses, Wrote};
@@ -49,6 +49,7 @@ pub struct PgpRange {
 #[unsafe(no_mangle)]
 pub extern "C" fn pgp_get_range(bytes: &[u8], value: &mut PgpRange) -> u32
     ensures read { result ≡ 0 → Reads range bytes.now (Ok (range_in bytes.now value.new)) }
+    ensures inside { result ≡ 0 → IsRangeInside (length bytes.now) value.new }
     ensures refused { result ≢ 0 → Refuses range bytes.now result }
     ensures left { result ≢ 0 → value.new ≡ value.old }
 {

@@ -1,10 +1,11 @@
 //! The fields of an error or a notice, read where they stand, one after another.
 
-ghost use Rattle.std.specs.Prelude.{◌≡◌, ◌≢◌};
+ghost use Rattle.std.specs.Prelude.{◌≡◌, ◌≢◌, length};
 ghost use Rattle.pgp_base.specs.PartReading.{Answers};
 ghost use Rattle.pgp_message.specs.ItemReading.{error_field_at};
 ghost use Rattle.pgp_message.specs.Items.{ErrorFieldSpelled, ErrorFieldRefused};
 ghost use Rattle.pgp_c.specs.Listings.{error_field_of};
+ghost use Rattle.pgp_c.specs.Parts.{IsInside};
 ghost use Rattle.pgp_c.specs.Walks.{IsMarkedEnd, RefusesMarked, TakesMarked};
 
 use crate::cursor::{Listed, PgpCursor, next_marked};
@@ -28,6 +29,7 @@ pub extern "C" fn pgp_error_field_next(
     field: &mut PgpErrorField,
 ) -> u32
     ensures item { result ≡ 0 → TakesMarked ErrorFieldSpelled bytes.now cursor.old cursor.new (error_field_of bytes.now field.new) }
+    ensures inside { result ≡ 0 → IsInside (length bytes.now) field.new.value }
     ensures done { result ≡ 101 → IsMarkedEnd bytes.now cursor.old }
     ensures refused { result ≢ 0 → result ≢ 101 → RefusesMarked ErrorFieldRefused bytes.now cursor.old result }
     ensures left { result ≢ 0 → (cursor.new ≡ cursor.old) × (field.new ≡ field.old) }
@@ -41,6 +43,7 @@ struct ErrorFields;
 impl Listed for ErrorFields {
     ghost use Rattle.pgp_message.specs.Items.{ErrorPart, ErrorFieldSpelled, ErrorFieldRefused};
     ghost use Rattle.pgp_c.specs.Listings.{error_field_of};
+    ghost use Rattle.pgp_c.specs.Parts.{IsInside};
 
     type Item = PgpErrorField;
 
@@ -51,6 +54,8 @@ impl Listed for ErrorFields {
     ghost Spelled = { ErrorFieldSpelled };
 
     ghost Refused = { ErrorFieldRefused };
+
+    ghost Inside = { λ size field. IsInside size field.value };
 
     fn read(at: usize, rest: &[u8]) -> Result<(&[u8], PgpErrorField), Error> {
         let ((code, value), more) = error_field_at(rest)?;

@@ -1,9 +1,9 @@
 use Rattle.std.proofs.Common.{rules, refl, true, map}
 use Rattle.pgp_frontend.specs.ClientMessage.{Bind}
 use Rattle.pgp_c.specs.Lists.{value_of}
-use Rattle.pgp_c.proofs.Extensions.{extends}
+use Rattle.pgp_c.proofs.Extensions.{extends, parts_of}
 use Rattle.pgp_c.proofs.stream.pgp_stream_bind.Goals as goal
 
 pub returns-clause-added : goal.returns-clause-added
 returns-clause-added c z =
-    extends (Bind c.args.portal.now c.args.statement.now c.args.formats.now (map value_of c.args.values.now) c.args.result_formats.now) c.args.stream.now _ c.pgp_bind-code.new.out _ c.pgp_bind-code.new.written _ _ refl (search rules) (c.pgp_bind-code.ensures.sent z) (search rules) (search rules) (search rules) true (search rules) (λ e. absurd cc) refl
+    extends (Bind c.args.portal.now c.args.statement.now c.args.formats.now (map value_of c.args.values.now) c.args.result_formats.now) c.args.stream.now _ c.pgp_bind-code.new.out _ c.pgp_bind-code.new.written _ _ refl c.if-len-stream.false (c.pgp_bind-code.ensures.sent z) c.saturating_add-stream.ensures (search rules) (search rules) (parts_of c.args.stream.now) true (search rules) (λ e. absurd cc) refl

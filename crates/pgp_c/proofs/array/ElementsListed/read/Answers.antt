@@ -1,4 +1,4 @@
-use Rattle.std.proofs.Common.{◌<◌, length, refl, ap, ◌∙◌, arith}
+use Rattle.std.proofs.Common.{◌<◌, length, refl, sym, subst, ap, ◌∙◌, arith}
 use Rattle.pgp_base.proofs.Parts.{if_err_at}
 use Rattle.pgp_base.specs.Wire.{IsBytes}
 use Rattle.pgp_base.specs.declared.error.Error.TheVariants.{InvalidValueLength}
@@ -6,7 +6,8 @@ use Rattle.pgp_types.specs.ArrayReading.{element_at}
 use Rattle.pgp_types.specs.Part.{nullable, shown}
 use Rattle.pgp_types.proofs.ArrayLemmas.{element_reader}
 use Rattle.pgp_c.specs.Compound.{value_in}
-use Rattle.pgp_c.proofs.Compound.{element_in}
+use Rattle.pgp_c.specs.Listings.{IsColumnInside}
+use Rattle.pgp_c.proofs.Compound.{column_inside, element_in}
 use Rattle.pgp_c.proofs.Listings.{reader_found, reader_shorter}
 use Rattle.pgp_c.proofs.array.ElementsListed.read.Goals as goal
 
@@ -34,3 +35,7 @@ pub returns-clause-shorter : goal.returns-clause-shorter
 returns-clause-shorter c =
     let each : IsBytes c.args.rest.now = λ i. omega (arith, c.type_inv.rest i) in
     reader_shorter (λ place. (nullable InvalidValueLength).Spelled) (nullable InvalidValueLength).Refused (λ place. element_at) element_reader c.args.at c.args.rest.now _ c.in_ok-value.more.now each c.in_ok-value.ensures
+
+pub returns-clause-inside : goal.returns-clause-inside
+returns-clause-inside c size within =
+    subst (λ x. IsColumnInside size x) (sym c.column_before-column.ensures) (column_inside (shown c.in_ok-value.value) _ size (omega (arith, within)))

@@ -1,12 +1,12 @@
-use Rattle.std.proofs.Common.{◌≡◌, ap, ◌∙◌, arith}
+use Rattle.std.proofs.Common.{◌≡◌, ap, ◌∙◌, arith, subst, sym}
 use Rattle.pgp_base.proofs.Parts.{if_err_at}
 use Rattle.pgp_base.specs.Wire.{IsBytes}
 use Rattle.pgp_message.specs.ItemReading.{field_at}
 use Rattle.pgp_message.specs.Items.{FieldSpelled, FieldRefused}
 use Rattle.pgp_message.proofs.FieldLemmas.{field_reader}
 use Rattle.pgp_c.specs.Listings.{named}
-use Rattle.pgp_c.specs.Parts.{stands}
-use Rattle.pgp_c.proofs.Listings.{reader_found, reader_shorter, text_item, field_of_parts, field_of_no_text}
+use Rattle.pgp_c.specs.Parts.{IsInside, stands}
+use Rattle.pgp_c.proofs.Listings.{reader_found, reader_shorter, text_fits, text_item, field_of_parts, field_of_no_text}
 use Rattle.pgp_c.proofs.description.FieldsListed.read.Goals as goal
 
 pub returns-in_err-name-clause-refused : goal.returns-in_err-name-clause-refused
@@ -34,3 +34,9 @@ returns-clause-shorter c =
     let each : IsBytes c.args.rest.now = λ i. omega (arith, c.type_inv.rest i) in
     let whole = field_of_parts c.args.rest.now c.in_ok-name.name.now c.in_ok-name.more.now _ c.in_ok-name.ensures (c.in_ok-field.ensures.numbers c.in_ok-name.name.now) in
     reader_shorter FieldSpelled FieldRefused (λ place. field_at) field_reader c.args.at c.args.rest.now (named c.in_ok-name.name.now c.in_ok-field.field) c.in_ok-field.more.now each whole
+
+pub returns-clause-inside : goal.returns-clause-inside
+returns-clause-inside c size within =
+    let each : IsBytes c.args.rest.now = λ i. omega (arith, c.type_inv.rest i) in
+    let few = text_fits c.args.rest.now c.in_ok-name.name.now c.in_ok-name.more.now each c.in_ok-name.ensures in
+    subst (λ p. IsInside size p) (sym c.in_ok-field.ensures.name) (omega (arith, within, few))

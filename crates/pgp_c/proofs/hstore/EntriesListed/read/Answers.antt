@@ -1,10 +1,11 @@
-use Rattle.std.proofs.Common.{arith}
+use Rattle.std.proofs.Common.{arith, subst, sym}
 use Rattle.pgp_base.proofs.Parts.{if_err_at}
 use Rattle.pgp_base.specs.Wire.{IsBytes}
 use Rattle.pgp_types.specs.Hstore.{Entry}
 use Rattle.pgp_types.specs.Part.{shown}
 use Rattle.pgp_types.proofs.HstoreLemmas.{entry_item}
-use Rattle.pgp_c.proofs.Compound.{entry_long, entry_placed}
+use Rattle.pgp_c.specs.Listings.{IsColumnInside}
+use Rattle.pgp_c.proofs.Compound.{column_inside, entry_long, entry_placed, key_inside}
 use Rattle.pgp_c.proofs.hstore.EntriesListed.read.Goals as goal
 
 pub returns-in_err-key-clause-refused : goal.returns-in_err-key-clause-refused
@@ -33,3 +34,12 @@ pub returns-clause-shorter : goal.returns-clause-shorter
 returns-clause-shorter c =
     let each : IsBytes c.args.rest.now = λ i. omega (arith, c.type_inv.rest i) in
     omega (arith, entry_long c.args.rest.now c.in_ok-key.more.now _ (entry_item.part.found c.args.rest.now _ c.in_ok-key.more.now each c.in_ok-key.ensures))
+
+pub returns-clause-inside : goal.returns-clause-inside
+returns-clause-inside c size within =
+    let each : IsBytes c.args.rest.now = λ i. omega (arith, c.type_inv.rest i) in
+    let x : Entry = (c.in_ok-key.key.now, shown c.in_ok-key.value) in
+    let b = entry_item.part.found c.args.rest.now x c.in_ok-key.more.now each c.in_ok-key.ensures in (
+      omega (arith, within, key_inside c.args.rest.now c.in_ok-key.more.now x b),
+      subst (λ v. IsColumnInside size v) (sym c.column_before-value.ensures) (column_inside (shown c.in_ok-key.value) _ size (omega (arith, within))),
+    )

@@ -4,7 +4,7 @@ use Rattle.pgp_base.specs.Wire.{IsBytes}
 use Rattle.pgp_message.specs.ItemReading.{error_field_at}
 use Rattle.pgp_message.specs.Items.{ErrorPart, ErrorFieldSpelled, ErrorFieldRefused}
 use Rattle.pgp_message.proofs.ErrorFieldLemmas.{error_field_reader, error_field_falls}
-use Rattle.pgp_c.proofs.Listings.{reader_found, error_value_item}
+use Rattle.pgp_c.proofs.Listings.{reader_found, error_value_fits, error_value_item}
 use Rattle.pgp_c.proofs.report.ErrorFieldsListed.read.Goals as goal
 
 pub returns-in_err-code-clause-refused : goal.returns-in_err-code-clause-refused
@@ -24,3 +24,9 @@ returns-clause-item c bytes stands =
 
 pub returns-clause-shorter : goal.returns-clause-shorter
 returns-clause-shorter c = error_field_falls c.args.rest.now _ c.in_ok-code.more.now c.in_ok-code.ensures
+
+pub returns-clause-inside : goal.returns-clause-inside
+returns-clause-inside c size within =
+    let each : IsBytes c.args.rest.now = λ i. omega (arith, c.type_inv.rest i) in
+    let x : ErrorPart = record { code = c.in_ok-code.code; value = c.in_ok-code.value.now } in
+    omega (arith, within, error_value_fits c.args.rest.now x c.in_ok-code.more.now each c.in_ok-code.ensures)
