@@ -2,7 +2,7 @@
 
 use crate::data::{append, is_data};
 use crate::fault::Fault;
-use crate::shown::Shown;
+use crate::shown::{Show, Shown};
 use crate::walks::show_walk;
 use pgp_base::Error;
 use pgp_message::{
@@ -15,33 +15,32 @@ use pgp_types::{
 use std::alloc::Global;
 use std::ops;
 
-fn show_place(place: Option<ops::Range<usize>>, out: &mut Shown) -> Result<(), Fault> {
-    match place {
-        Some(place) => {
-            let text = format!(in out.alloc(); "{}..{}", place.start, place.end)?;
-            out.word(text.as_str())
+/// The place of a column's value, or null.
+impl Show for Option<ops::Range<usize>> {
+    fn show(self, out: &mut Shown) -> Result<(), Fault> {
+        match self {
+            Some(place) => {
+                let text = format!(in out.alloc(); "{}..{}", place.start, place.end)?;
+                out.word(text.as_str())
+            }
+            None => out.word("null"),
         }
-        None => out.word("null"),
     }
 }
 
 fn show_row(body: &DataRowBody<&[u8]>, out: &mut Shown) -> Result<(), Fault> {
-    show_walk(
-        body.ranges(),
-        body.ranges(),
-        |place: Option<ops::Range<usize>>, out: &mut Shown| show_place(place, out),
-        body.buffer().len(),
-        out,
-    )?;
+    show_walk(body.ranges(), body.ranges(), body.buffer().len(), out)?;
     match body.index(out.alloc()) {
         Ok(index) => out.number(index.len()),
         Err(e) => out.number(e),
     }
 }
 
-fn show_column(column: Field<'_>, out: &mut Shown) -> Result<(), Fault> {
-    out.nullable(Some(column.name().as_bytes()))?;
-    out.number(column.type_oid())
+impl Show for Field<'_> {
+    fn show(self, out: &mut Shown) -> Result<(), Fault> {
+        out.nullable(Some(self.name().as_bytes()))?;
+        out.number(self.type_oid())
+    }
 }
 
 fn show_columns(
@@ -49,13 +48,7 @@ fn show_columns(
     most: usize,
     out: &mut Shown,
 ) -> Result<(), Fault> {
-    show_walk(
-        body.fields(),
-        body.fields(),
-        |column: Field<'_>, out: &mut Shown| show_column(column, out),
-        most,
-        out,
-    )
+    show_walk(body.fields(), body.fields(), most, out)
 }
 
 fn show_options(
@@ -64,13 +57,7 @@ fn show_options(
     out: &mut Shown,
 ) -> Result<(), Fault> {
     out.number(body.version())?;
-    show_walk(
-        body.options(),
-        body.options(),
-        |name: &str, out: &mut Shown| out.nullable(Some(name.as_bytes())),
-        most,
-        out,
-    )
+    show_walk(body.options(), body.options(), most, out)
 }
 
 /// A message that was read, with so many bytes at the most in its body.
@@ -90,7 +77,9 @@ fn show_message(
 
 /// A body behind its tag and length.
 fn show_body(tag: u8, body: &[u8], out: &mut Shown) -> Result<(), Fault> {
-    let len = u32::try_from(body.len().saturating_add(4)).map_err(|_| Fault::Data)?;
+    let Ok(len) = u32::try_from(body.len().saturating_add(4)) else {
+        return Err(Fault::Data);
+    };
     let mut frame = Vec::from_slice(out.alloc(), &[tag])?;
     frame.extend_from_slice(&len.to_be_bytes())?;
     frame.extend_from_slice(body)?;
@@ -100,51 +89,40 @@ fn show_body(tag: u8, body: &[u8], out: &mut Shown) -> Result<(), Fault> {
     shown
 }
 
-fn show_dimension(dimension: ArrayDimension, out: &mut Shown) -> Result<(), Fault> {
-    out.number(dimension.len)?;
-    out.number(dimension.lower_bound)
-}
-
-fn show_array(array: Array<'_>, most: usize, out: &mut Shown) -> Result<(), Fault> {
-    show_walk(
-        array.dimensions(),
-        array.dimensions(),
-        |dimension: ArrayDimension, out: &mut Shown| show_dimension(dimension, out),
-        most,
-        out,
-    )?;
-    show_walk(
-        array.values(),
-        array.values(),
-        |value: Option<&[u8]>, out: &mut Shown| out.nullable(value),
-        most,
-        out,
-    )
-}
-
-fn show_pair(pair: (&str, Option<&str>), out: &mut Shown) -> Result<(), Fault> {
-    let (key, value) = pair;
-    out.nullable(Some(key.as_bytes()))?;
-    match value {
-        Some(value) => out.nullable(Some(value.as_bytes())),
-        None => out.nullable(None),
+impl Show for ArrayDimension {
+    fn show(self, out: &mut Shown) -> Result<(), Fault> {
+        out.number(self.len)?;
+        out.number(self.lower_bound)
     }
 }
 
-fn show_point(point: Point, out: &mut Shown) -> Result<(), Fault> {
-    out.nullable(Some(&point.x().to_be_bytes()))?;
-    out.nullable(Some(&point.y().to_be_bytes()))
+fn show_array(array: Array<'_>, most: usize, out: &mut Shown) -> Result<(), Fault> {
+    show_walk(array.dimensions(), array.dimensions(), most, out)?;
+    show_walk(array.values(), array.values(), most, out)
+}
+
+/// A key and its value.
+impl Show for (&str, Option<&str>) {
+    fn show(self, out: &mut Shown) -> Result<(), Fault> {
+        let (key, value) = self;
+        key.show(out)?;
+        match value {
+            Some(value) => value.show(out),
+            None => out.nullable(None),
+        }
+    }
+}
+
+impl Show for Point {
+    fn show(self, out: &mut Shown) -> Result<(), Fault> {
+        out.nullable(Some(&self.x().to_be_bytes()))?;
+        out.nullable(Some(&self.y().to_be_bytes()))
+    }
 }
 
 fn show_path(path: Path<'_>, most: usize, out: &mut Shown) -> Result<(), Fault> {
     out.word(if path.closed() { "closed" } else { "open" })?;
-    show_walk(
-        path.points(),
-        path.points(),
-        |point: Point, out: &mut Shown| show_point(point, out),
-        most,
-        out,
-    )
+    show_walk(path.points(), path.points(), most, out)
 }
 
 fn show_side(side: RangeBound<Option<&[u8]>>, out: &mut Shown) -> Result<(), Fault> {
@@ -205,13 +183,7 @@ fn read_array(bytes: &[u8], out: &mut Shown) -> Result<(), Fault> {
 
 fn read_hstore(bytes: &[u8], out: &mut Shown) -> Result<(), Fault> {
     match (hstore_from_sql(bytes), hstore_from_sql(bytes)) {
-        (Ok(pairs), Ok(again)) => show_walk(
-            pairs,
-            again,
-            |pair: (&str, Option<&str>), out: &mut Shown| show_pair(pair, out),
-            bytes.len(),
-            out,
-        ),
+        (Ok(pairs), Ok(again)) => show_walk(pairs, again, bytes.len(), out),
         (Err(e), _) | (_, Err(e)) => out.number(e),
     }
 }

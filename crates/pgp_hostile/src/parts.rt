@@ -1,12 +1,9 @@
 //! What the bodies of a server's messages hold, part by part.
 
-use crate::sum::{Sum, add_walk};
+use crate::sum::{Sum, Summed, add_walk};
 use bytes::Bytes;
 use pgp_base::Error;
-use pgp_message::{
-    ColumnFormats, DataRowRanges, ErrorField, ErrorFields, Field, Fields, Message, Parameters,
-    ProtocolOptions, RowIndex, SaslMechanisms,
-};
+use pgp_message::{ColumnFormats, DataRowRanges, ErrorField, Field, Message, RowIndex};
 use std::ops::Range;
 
 /// A message whose parts can be added to a sum, wherever it keeps them.
@@ -14,13 +11,16 @@ pub(crate) trait Parts {
     fn add_parts(&self, sum: &mut Sum);
 }
 
-fn add_place(place: Option<Range<usize>>, sum: &mut Sum) {
-    match place {
-        Some(place) => {
-            sum.plain(&place.start.to_be_bytes());
-            sum.plain(&place.end.to_be_bytes());
+/// The place of a column's value, or null.
+impl Summed for Option<Range<usize>> {
+    fn add_to(self, sum: &mut Sum) {
+        match self {
+            Some(place) => {
+                sum.plain(&place.start.to_be_bytes());
+                sum.plain(&place.end.to_be_bytes());
+            }
+            None => sum.plain(&usize::MAX.to_be_bytes()),
         }
-        None => sum.plain(&usize::MAX.to_be_bytes()),
     }
 }
 
@@ -42,11 +42,7 @@ fn add_row(
     index: Result<RowIndex<'_>, Error>,
     sum: &mut Sum,
 ) {
-    add_walk(
-        ranges,
-        |place: Option<Range<usize>>, sum: &mut Sum| add_place(place, sum),
-        sum,
-    );
+    add_walk(ranges, sum);
     sum.bytes(buffer);
     match index {
         Ok(index) => add_values(&index, sum),
@@ -54,53 +50,25 @@ fn add_row(
     }
 }
 
-fn add_column(column: Field<'_>, sum: &mut Sum) {
-    sum.bytes(column.name().as_bytes());
-    sum.plain(&column.table_oid().to_be_bytes());
-    sum.plain(&column.column_id().to_be_bytes());
-    sum.plain(&column.type_oid().to_be_bytes());
-    sum.plain(&column.type_size().to_be_bytes());
-    sum.plain(&column.type_modifier().to_be_bytes());
-    sum.plain(&column.format().to_be_bytes());
-}
-
-fn add_columns(columns: Fields<'_>, sum: &mut Sum) {
-    add_walk(
-        columns,
-        |column: Field<'_>, sum: &mut Sum| add_column(column, sum),
-        sum,
-    );
+impl Summed for Field<'_> {
+    fn add_to(self, sum: &mut Sum) {
+        sum.bytes(self.name().as_bytes());
+        sum.plain(&self.table_oid().to_be_bytes());
+        sum.plain(&self.column_id().to_be_bytes());
+        sum.plain(&self.type_oid().to_be_bytes());
+        sum.plain(&self.type_size().to_be_bytes());
+        sum.plain(&self.type_modifier().to_be_bytes());
+        sum.plain(&self.format().to_be_bytes());
+    }
 }
 
 /// A field of an error: its letter, its text, and the bytes of that.
-fn add_field(field: ErrorField<'_>, sum: &mut Sum) {
-    sum.plain(&[field.type_()]);
-    sum.text(field.value());
-    sum.bytes(field.value_bytes());
-}
-
-fn add_fields(fields: ErrorFields<'_>, sum: &mut Sum) {
-    add_walk(
-        fields,
-        |field: ErrorField<'_>, sum: &mut Sum| add_field(field, sum),
-        sum,
-    );
-}
-
-fn add_mechanisms(mechanisms: SaslMechanisms<'_>, sum: &mut Sum) {
-    add_walk(
-        mechanisms,
-        |name: &str, sum: &mut Sum| sum.bytes(name.as_bytes()),
-        sum,
-    );
-}
-
-fn add_options(options: ProtocolOptions<'_>, sum: &mut Sum) {
-    add_walk(
-        options,
-        |name: &str, sum: &mut Sum| sum.bytes(name.as_bytes()),
-        sum,
-    );
+impl Summed for ErrorField<'_> {
+    fn add_to(self, sum: &mut Sum) {
+        sum.plain(&[self.type_()]);
+        sum.text(self.value());
+        sum.bytes(self.value_bytes());
+    }
 }
 
 /// A key: its bytes, and its number, if it is one.
@@ -111,21 +79,23 @@ fn add_key(number: Option<i32>, bytes: &[u8], sum: &mut Sum) {
     }
 }
 
-fn add_types(types: Parameters<'_>, sum: &mut Sum) {
-    add_walk(
-        types,
-        |oid: u32, sum: &mut Sum| sum.plain(&oid.to_be_bytes()),
-        sum,
-    );
+/// A type.
+impl Summed for u32 {
+    fn add_to(self, sum: &mut Sum) {
+        sum.plain(&self.to_be_bytes());
+    }
+}
+
+/// A format.
+impl Summed for u16 {
+    fn add_to(self, sum: &mut Sum) {
+        sum.plain(&self.to_be_bytes());
+    }
 }
 
 fn add_copy(format: u8, columns: ColumnFormats<'_>, sum: &mut Sum) {
     sum.plain(&[format]);
-    add_walk(
-        columns,
-        |format: u16, sum: &mut Sum| sum.plain(&format.to_be_bytes()),
-        sum,
-    );
+    add_walk(columns, sum);
 }
 
 /// The parts of a message of a log-in, or of one of another kind.
@@ -134,7 +104,7 @@ macro_rules! login_parts {
         match $message {
             Message::AuthenticationGssContinue(body) => $sum.bytes(body.data()),
             Message::AuthenticationMd5Password(body) => $sum.plain(&body.salt()),
-            Message::AuthenticationSasl(body) => add_mechanisms(body.mechanisms(), $sum),
+            Message::AuthenticationSasl(body) => add_walk(body.mechanisms(), $sum),
             Message::AuthenticationSaslContinue(body) => $sum.bytes(body.data()),
             Message::AuthenticationSaslFinal(body) => $sum.bytes(body.data()),
             Message::BackendKeyData(body) => {
@@ -143,7 +113,7 @@ macro_rules! login_parts {
             }
             Message::NegotiateProtocolVersion(body) => {
                 $sum.plain(&body.version().to_be_bytes());
-                add_options(body.options(), $sum);
+                add_walk(body.options(), $sum);
             }
             other => $others(other, $sum),
         }
@@ -158,8 +128,8 @@ macro_rules! query_parts {
             Message::DataRow(body) => {
                 add_row(body.ranges(), body.buffer(), body.index($sum.alloc()), $sum);
             }
-            Message::ParameterDescription(body) => add_types(body.parameters(), $sum),
-            Message::RowDescription(body) => add_columns(body.fields(), $sum),
+            Message::ParameterDescription(body) => add_walk(body.parameters(), $sum),
+            Message::RowDescription(body) => add_walk(body.fields(), $sum),
             Message::ReadyForQuery(body) => $sum.plain(&[body.status()]),
             other => $others(other, $sum),
         }
@@ -173,8 +143,8 @@ macro_rules! other_parts {
             Message::CopyData(body) => $sum.bytes(body.data()),
             Message::CopyInResponse(body) => add_copy(body.format(), body.column_formats(), $sum),
             Message::CopyOutResponse(body) => add_copy(body.format(), body.column_formats(), $sum),
-            Message::ErrorResponse(body) => add_fields(body.fields(), $sum),
-            Message::NoticeResponse(body) => add_fields(body.fields(), $sum),
+            Message::ErrorResponse(body) => add_walk(body.fields(), $sum),
+            Message::NoticeResponse(body) => add_walk(body.fields(), $sum),
             Message::NotificationResponse(body) => {
                 $sum.plain(&body.process_id().to_be_bytes());
                 $sum.text(body.channel());

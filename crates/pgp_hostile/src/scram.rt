@@ -32,7 +32,10 @@ fn begun(alloc: Global) -> Result<ScramSha256<Global>, Fault> {
         return Err(Fault::Data);
     }
     let binding = ChannelBinding::unsupported();
-    ScramSha256::with_nonce(alloc, PASSWORD, binding, nonce, &NoPrep).map_err(|_| Fault::Memory)
+    match ScramSha256::with_nonce(alloc, PASSWORD, binding, nonce, &NoPrep) {
+        Ok(client) => Ok(client),
+        Err(_) => Err(Fault::Memory),
+    }
 }
 
 /// How steps ended, by name, and the sum of the places that their refusals tell.
@@ -101,7 +104,9 @@ impl<'a> Exchange<'a> {
         let Some(last) = client.message() else {
             return Ok(false);
         };
-        let last = str::from_utf8(last).map_err(|_| Fault::Data)?;
+        let Ok(last) = str::from_utf8(last) else {
+            return Err(Fault::Data);
+        };
         self.server.accepts(self.alloc, BARE, first, last)
     }
 
@@ -113,7 +118,9 @@ impl<'a> Exchange<'a> {
         client: &mut ScramSha256<Global>,
         ends: &mut Ends,
     ) -> Result<(), Fault> {
-        let first = str::from_utf8(first).map_err(|_| Fault::Data)?;
+        let Ok(first) = str::from_utf8(first) else {
+            return Err(Fault::Data);
+        };
         let is_accepted = self.is_accepted(first, client)?;
         let name = name_of(self.alloc, &client.finish(self.answer.as_bytes()))?;
         let text = format!(in self.alloc; "Ok {is_accepted} {name}")?;

@@ -63,15 +63,19 @@ impl Changes {
     }
 }
 
+/// Whether the results of these numbers are the same, as far as both have them.
+fn are_same(from: usize, to: usize, before: &Reading, came: &Reading) -> bool {
+    for (at, (one, other)) in before.entries.iter().zip(&came.entries).enumerate() {
+        if from <= at && at < to && !one.is_same(other) {
+            return false;
+        }
+    }
+    true
+}
+
 /// Whether so many results in front are the same.
 fn is_front_same(count: usize, before: &Reading, came: &Reading) -> bool {
-    came.entries.len() >= count
-        && before
-            .entries
-            .iter()
-            .zip(&came.entries)
-            .take(count)
-            .all(|(one, other)| one.is_same(other))
+    came.entries.len() >= count && are_same(0, count, before, came)
 }
 
 /// Whether the results from this one on are the same, and nothing is left.
@@ -79,12 +83,7 @@ fn is_back_same(at: usize, before: &Reading, came: &Reading) -> bool {
     came.entries.len() == before.entries.len()
         && !came.is_stopped
         && came.rest == 0
-        && before
-            .entries
-            .iter()
-            .zip(&came.entries)
-            .skip(at)
-            .all(|(one, other)| one.is_same(other))
+        && are_same(at, usize::MAX, before, came)
 }
 
 /// Reads the bytes, in place and as a stream of two pieces.

@@ -4,6 +4,11 @@ use crate::fault::Fault;
 use std::alloc::Global;
 use std::fmt::Display;
 
+/// An item of a list, which is shown as words.
+pub(crate) trait Show {
+    fn show(self, out: &mut Shown) -> Result<(), Fault>;
+}
+
 /// Words that are written one behind the other.
 #[derive(Drop)]
 pub(crate) struct Shown {
@@ -51,5 +56,17 @@ impl Shown {
                 self.word(digits.as_str())
             }
         }
+    }
+}
+
+impl Show for Option<&[u8]> {
+    fn show(self, out: &mut Shown) -> Result<(), Fault> {
+        out.nullable(self)
+    }
+}
+
+impl Show for &str {
+    fn show(self, out: &mut Shown) -> Result<(), Fault> {
+        out.nullable(Some(self.as_bytes()))
     }
 }

@@ -85,15 +85,28 @@ impl Sum {
 /// More items than any list here has.
 const MOST: usize = 1000;
 
+/// An item of a list, which is added to a sum.
+pub(crate) trait Summed {
+    fn add_to(self, sum: &mut Sum);
+}
+
+/// A name.
+impl Summed for &str {
+    fn add_to(self, sum: &mut Sum) {
+        sum.bytes(self.as_bytes());
+    }
+}
+
 /// Adds the items of a walk and its end. Each has a byte before it: 1 for an item, 0 for the end, 2 for a refusal.
-fn add_items<W: FallibleIterator, F: Fn(W::Item, &mut Sum)>(walk: &mut W, add: &F, sum: &mut Sum)
-    requires { F.IsAlwaysCallable add.now }
+fn add_items<W: FallibleIterator>(walk: &mut W, sum: &mut Sum)
+where
+    W::Item: Summed,
 {
     for _ in 0..MOST {
         match walk.next() {
             Ok(Some(item)) => {
                 sum.plain(&[1]);
-                add(item, sum);
+                item.add_to(sum);
             }
             Ok(None) => {
                 sum.plain(&[0]);
@@ -131,17 +144,12 @@ fn add_announced<W: FallibleIterator>(walk: &W, sum: &mut Sum) {
 }
 
 /// Adds a walk: what it announces, its items, and its end, which is asked for three times more.
-pub(crate) fn add_walk<W: FallibleIterator + Drop, F: Fn(W::Item, &mut Sum) + Drop>(
-    mut walk: W,
-    add: F,
-    sum: &mut Sum,
-)
+pub(crate) fn add_walk<W: FallibleIterator + Drop>(mut walk: W, sum: &mut Sum)
 where
-    W::Item: Drop,
-    requires { F.IsAlwaysCallable add }
+    W::Item: Summed + Drop,
 {
     add_announced(&walk, sum);
-    add_items(&mut walk, &add, sum);
+    add_items(&mut walk, sum);
     for _ in 0..3 {
         add_end(&mut walk, sum);
     }

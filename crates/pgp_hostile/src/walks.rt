@@ -1,7 +1,7 @@
 //! A walk over a list whose lengths may be false: it ends, stays at its end, and asks for no memory by what is announced.
 
 use crate::fault::Fault;
-use crate::shown::Shown;
+use crate::shown::{Show, Shown};
 use linked_list_allocator::LocalHeap;
 use pgp_base::{Error, FallibleIterator};
 use pgp_test_alloc::Refusing;
@@ -14,18 +14,18 @@ const MANY: u64 = 1_000_000;
 const HEAP: usize = 4096;
 
 /// Shows the items, and how the walk ends: `many` where more come than there are bytes.
-fn show_items<W: FallibleIterator, F: Fn(W::Item, &mut Shown) -> Result<(), Fault>>(
+fn show_items<W: FallibleIterator>(
     walk: &mut W,
-    show: &F,
     most: usize,
     out: &mut Shown,
 ) -> Result<(u64, Option<Error>), Fault>
-    requires { F.IsAlwaysCallable show.now }
+where
+    W::Item: Show,
 {
     let mut came = 0u64;
     for _ in 0..most.saturating_add(1) {
         match walk.next() {
-            Ok(Some(item)) => show(item, out)?,
+            Ok(Some(item)) => item.show(out)?,
             Ok(None) => return Ok((came, None)),
             Err(e) => return Ok((came, Some(e))),
         }
@@ -69,17 +69,18 @@ where
 
 /// Shows a walk over so many bytes: what it announces, its items, and its end. `unsteady` stands behind it where it doesn't stay
 /// at its end, and `greedy` where `collect` asks for more memory than the items need. The second walk is the same.
-pub(crate) fn show_walk<
-    W: FallibleIterator + Drop,
-    F: Fn(W::Item, &mut Shown) -> Result<(), Fault> + Drop,
->(mut walk: W, again: W, show: F, most: usize, out: &mut Shown) -> Result<(), Fault>
+pub(crate) fn show_walk<W: FallibleIterator + Drop>(
+    mut walk: W,
+    again: W,
+    most: usize,
+    out: &mut Shown,
+) -> Result<(), Fault>
 where
-    W::Item: Drop,
-    requires { F.IsAlwaysCallable show }
+    W::Item: Show + Drop,
 {
     out.number(walk.size_hint().0)?;
     out.word("[")?;
-    let (came, end) = show_items(&mut walk, &show, most, out)?;
+    let (came, end) = show_items(&mut walk, most, out)?;
     out.word("]")?;
     match end {
         None => out.word("end")?,

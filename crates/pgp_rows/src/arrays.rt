@@ -2,7 +2,7 @@
 
 use crate::codec::Codec;
 use crate::fault::Fault;
-use crate::shown::{Shown, show_walk};
+use crate::shown::{Show, Shown, show_walk};
 use crate::word::{Word, Words};
 use pgp_base::{Buffer, Error, IsNull};
 use pgp_types::{ArrayDimension, array_from_sql, array_to_sql};
@@ -54,9 +54,11 @@ fn write_array<B: Buffer>(alloc: Global, words: &mut Words<'_>, buf: &mut B) -> 
     Ok(())
 }
 
-fn show_dimension(dimension: ArrayDimension, out: &mut Shown) -> Result<(), Fault> {
-    out.number(dimension.len)?;
-    out.number(dimension.lower_bound)
+impl Show for ArrayDimension {
+    fn show(self, out: &mut Shown) -> Result<(), Fault> {
+        out.number(self.len)?;
+        out.number(self.lower_bound)
+    }
 }
 
 #[derive(Drop)]
@@ -79,15 +81,7 @@ impl Codec for Arrays {
         let array = array_from_sql(bytes)?;
         out.number(array.element_type())?;
         out.word(if array.has_nulls() { "nulls" } else { "full" })?;
-        show_walk(
-            array.dimensions(),
-            |dimension: ArrayDimension, out: &mut Shown| show_dimension(dimension, out),
-            out,
-        )?;
-        show_walk(
-            array.values(),
-            |value: Option<&[u8]>, out: &mut Shown| out.nullable(value),
-            out,
-        )
+        show_walk(array.dimensions(), out)?;
+        show_walk(array.values(), out)
     }
 }

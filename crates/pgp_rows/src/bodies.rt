@@ -1,13 +1,10 @@
 //! What the bodies of a server's messages hold, part by part.
 
 use crate::fault::Fault;
-use crate::shown::{Shown, show_walk};
+use crate::shown::{Show, Shown, show_walk};
 use bytes::Bytes;
 use pgp_base::Error;
-use pgp_message::{
-    ColumnFormats, DataRowRanges, ErrorField, ErrorFields, Field, Fields, Message, Parameters,
-    ProtocolOptions, RowIndex, SaslMechanisms,
-};
+use pgp_message::{ColumnFormats, DataRowRanges, ErrorField, Field, Message, RowIndex};
 use std::ops::Range;
 
 /// A message whose parts can be shown, wherever it keeps them.
@@ -15,13 +12,16 @@ pub trait Parts {
     fn show_parts(&self, out: &mut Shown) -> Result<(), Fault>;
 }
 
-fn show_place(place: Option<Range<usize>>, out: &mut Shown) -> Result<(), Fault> {
-    match place {
-        Some(place) => {
-            let text = format!(in out.alloc(); "{}..{}", place.start, place.end)?;
-            out.word(text.as_str())
+/// The place of a column's value, or `null`.
+impl Show for Option<Range<usize>> {
+    fn show(self, out: &mut Shown) -> Result<(), Fault> {
+        match self {
+            Some(place) => {
+                let text = format!(in out.alloc(); "{}..{}", place.start, place.end)?;
+                out.word(text.as_str())
+            }
+            None => out.word("null"),
         }
-        None => out.word("null"),
     }
 }
 
@@ -47,11 +47,7 @@ fn show_row(
     index: Result<RowIndex<'_>, Error>,
     out: &mut Shown,
 ) -> Result<(), Fault> {
-    show_walk(
-        ranges,
-        |place: Option<Range<usize>>, out: &mut Shown| show_place(place, out),
-        out,
-    )?;
+    show_walk(ranges, out)?;
     out.bytes(buffer)?;
     match index {
         Ok(index) => show_values(&index, out),
@@ -59,49 +55,26 @@ fn show_row(
     }
 }
 
-fn show_column(column: Field<'_>, out: &mut Shown) -> Result<(), Fault> {
-    out.text(column.name())?;
-    out.number(column.table_oid())?;
-    out.number(column.column_id())?;
-    out.number(column.type_oid())?;
-    out.number(column.type_size())?;
-    out.number(column.type_modifier())?;
-    out.number(column.format())
-}
-
-fn show_columns(columns: Fields<'_>, out: &mut Shown) -> Result<(), Fault> {
-    show_walk(
-        columns,
-        |column: Field<'_>, out: &mut Shown| show_column(column, out),
-        out,
-    )
+/// A column of a row.
+impl Show for Field<'_> {
+    fn show(self, out: &mut Shown) -> Result<(), Fault> {
+        out.text(self.name())?;
+        out.number(self.table_oid())?;
+        out.number(self.column_id())?;
+        out.number(self.type_oid())?;
+        out.number(self.type_size())?;
+        out.number(self.type_modifier())?;
+        out.number(self.format())
+    }
 }
 
 /// A field of an error: its letter, its text, and the bytes of that.
-fn show_field(field: ErrorField<'_>, out: &mut Shown) -> Result<(), Fault> {
-    out.bytes(&[field.type_()])?;
-    out.text_or_refusal(field.value())?;
-    out.bytes(field.value_bytes())
-}
-
-fn show_fields(fields: ErrorFields<'_>, out: &mut Shown) -> Result<(), Fault> {
-    show_walk(
-        fields,
-        |field: ErrorField<'_>, out: &mut Shown| show_field(field, out),
-        out,
-    )
-}
-
-fn show_mechanisms(mechanisms: SaslMechanisms<'_>, out: &mut Shown) -> Result<(), Fault> {
-    show_walk(
-        mechanisms,
-        |name: &str, out: &mut Shown| out.text(name),
-        out,
-    )
-}
-
-fn show_options(options: ProtocolOptions<'_>, out: &mut Shown) -> Result<(), Fault> {
-    show_walk(options, |name: &str, out: &mut Shown| out.text(name), out)
+impl Show for ErrorField<'_> {
+    fn show(self, out: &mut Shown) -> Result<(), Fault> {
+        out.bytes(&[self.type_()])?;
+        out.text_or_refusal(self.value())?;
+        out.bytes(self.value_bytes())
+    }
 }
 
 /// A key: its number, and its bytes.
@@ -113,17 +86,9 @@ fn show_key(number: Option<i32>, bytes: &[u8], out: &mut Shown) -> Result<(), Fa
     out.bytes(bytes)
 }
 
-fn show_types(types: Parameters<'_>, out: &mut Shown) -> Result<(), Fault> {
-    show_walk(types, |oid: u32, out: &mut Shown| out.number(oid), out)
-}
-
 fn show_copy(format: u8, columns: ColumnFormats<'_>, out: &mut Shown) -> Result<(), Fault> {
     out.number(format)?;
-    show_walk(
-        columns,
-        |format: u16, out: &mut Shown| out.number(format),
-        out,
-    )
+    show_walk(columns, out)
 }
 
 fn show_texts(
@@ -141,7 +106,7 @@ macro_rules! login_parts {
         match $message {
             Message::AuthenticationGssContinue(body) => $out.bytes(body.data()),
             Message::AuthenticationMd5Password(body) => $out.bytes(&body.salt()),
-            Message::AuthenticationSasl(body) => show_mechanisms(body.mechanisms(), $out),
+            Message::AuthenticationSasl(body) => show_walk(body.mechanisms(), $out),
             Message::AuthenticationSaslContinue(body) => $out.bytes(body.data()),
             Message::AuthenticationSaslFinal(body) => $out.bytes(body.data()),
             Message::BackendKeyData(body) => {
@@ -150,7 +115,7 @@ macro_rules! login_parts {
             }
             Message::NegotiateProtocolVersion(body) => {
                 $out.number(body.version())?;
-                show_options(body.options(), $out)
+                show_walk(body.options(), $out)
             }
             other => $others(other, $out),
         }
@@ -165,8 +130,8 @@ macro_rules! query_parts {
             Message::DataRow(body) => {
                 show_row(body.ranges(), body.buffer(), body.index($out.alloc()), $out)
             }
-            Message::ParameterDescription(body) => show_types(body.parameters(), $out),
-            Message::RowDescription(body) => show_columns(body.fields(), $out),
+            Message::ParameterDescription(body) => show_walk(body.parameters(), $out),
+            Message::RowDescription(body) => show_walk(body.fields(), $out),
             Message::ReadyForQuery(body) => $out.bytes(&[body.status()]),
             other => $others(other, $out),
         }
@@ -180,8 +145,8 @@ macro_rules! other_parts {
             Message::CopyData(body) => $out.bytes(body.data()),
             Message::CopyInResponse(body) => show_copy(body.format(), body.column_formats(), $out),
             Message::CopyOutResponse(body) => show_copy(body.format(), body.column_formats(), $out),
-            Message::ErrorResponse(body) => show_fields(body.fields(), $out),
-            Message::NoticeResponse(body) => show_fields(body.fields(), $out),
+            Message::ErrorResponse(body) => show_walk(body.fields(), $out),
+            Message::NoticeResponse(body) => show_walk(body.fields(), $out),
             Message::NotificationResponse(body) => {
                 $out.number(body.process_id())?;
                 show_texts(body.channel(), body.message(), $out)

@@ -1,26 +1,17 @@
 //! What a server reads of a client: each message as the words of the call that writes it.
 
 use crate::fault::Fault;
-use crate::shown::{Shown, show_walk};
+use crate::shown::{Show, Shown, show_walk};
 use pgp_frontend::ProtocolVersion;
-use pgp_server::{AnyMessage, ClientMessage, Formats, OtherMessage, StartupParameters, Values};
+use pgp_server::{AnyMessage, ClientMessage, OtherMessage, StartupParameters};
 
-/// Shows formats.
-fn show_formats(formats: Formats<'_>, out: &mut Shown) -> Result<(), Fault> {
-    show_walk(
-        formats,
-        |format: i16, out: &mut Shown| out.number(format),
-        out,
-    )
-}
-
-/// Shows values, each as bytes or `null`.
-fn show_values(values: Values<'_>, out: &mut Shown) -> Result<(), Fault> {
-    show_walk(
-        values,
-        |value: Option<&[u8]>, out: &mut Shown| out.nullable(value),
-        out,
-    )
+/// The name and the value of a startup packet's parameter, two words.
+impl Show for (&[u8], &[u8]) {
+    fn show(self, out: &mut Shown) -> Result<(), Fault> {
+        let (name, value) = self;
+        out.bytes(name)?;
+        out.bytes(value)
+    }
 }
 
 /// Shows the version, and the names and values, two words each.
@@ -34,19 +25,7 @@ fn show_startup(
         ProtocolVersion::V3_0 => out.word("3.0")?,
         ProtocolVersion::V3_2 => out.word("3.2")?,
     }
-    show_parameters(parameters, out)
-}
-
-/// Shows names and values, two words each.
-fn show_parameters(parameters: StartupParameters<'_>, out: &mut Shown) -> Result<(), Fault> {
-    show_walk(
-        parameters,
-        |pair: (&[u8], &[u8]), out: &mut Shown| {
-            out.bytes(pair.0)?;
-            out.bytes(pair.1)
-        },
-        out,
-    )
+    show_walk(parameters, out)
 }
 
 /// Shows a call with these bytes as its words.
@@ -69,9 +48,9 @@ fn show_details(message: ClientMessage<'_>, out: &mut Shown) -> Result<(), Fault
             result_formats,
         } => {
             show_bytes("bind", &[portal, statement], out)?;
-            show_formats(formats, out)?;
-            show_values(values, out)?;
-            show_formats(result_formats, out)
+            show_walk(formats, out)?;
+            show_walk(values, out)?;
+            show_walk(result_formats, out)
         }
         ClientMessage::Parse {
             name,
@@ -79,7 +58,7 @@ fn show_details(message: ClientMessage<'_>, out: &mut Shown) -> Result<(), Fault
             param_types,
         } => {
             show_bytes("parse", &[name, query], out)?;
-            show_walk(param_types, |id: u32, out: &mut Shown| out.number(id), out)
+            show_walk(param_types, out)
         }
         ClientMessage::Execute { portal, max_rows } => {
             show_bytes("execute", &[portal], out)?;
@@ -112,8 +91,8 @@ fn show_other(message: OtherMessage<'_>, out: &mut Shown) -> Result<(), Fault> {
         } => {
             out.word("function_call")?;
             out.number(function)?;
-            show_formats(formats, out)?;
-            show_values(arguments, out)?;
+            show_walk(formats, out)?;
+            show_walk(arguments, out)?;
             out.number(result_format)
         }
         OtherMessage::SaslInitialWithoutResponse { mechanism } => {
@@ -123,7 +102,7 @@ fn show_other(message: OtherMessage<'_>, out: &mut Shown) -> Result<(), Fault> {
         OtherMessage::StartupOther { minor, parameters } => {
             out.word("startup_message_minor")?;
             out.number(minor)?;
-            show_parameters(parameters, out)
+            show_walk(parameters, out)
         }
     }
 }

@@ -97,13 +97,23 @@ fn in_room<C: Codec>(
     Ok(out)
 }
 
+/// Whether the memory behind so many bytes is as it was.
+fn is_untouched(room: &[u8], size: usize) -> bool {
+    for byte in room.iter().skip(size) {
+        if *byte != 0xff {
+            return false;
+        }
+    }
+    true
+}
+
 /// A call whose bytes fit exactly is not refused, and behind them the memory is as it was.
 fn fits<C: Codec>(alloc: Global, name: &str, words: &[Word], bytes: &[u8]) -> Result<(), Fault> {
     let mut room = vec![in alloc; 0xffu8; bytes.len().saturating_add(8)]?;
     let mut came = in_room::<C>(alloc, name, words, bytes.len(), &mut room)?;
     let mut wanted = Shown::new(alloc);
     wanted.bytes(bytes)?;
-    if room.iter().skip(bytes.len()).any(|byte| *byte != 0xff) {
+    if !is_untouched(&room, bytes.len()) {
         came.word("and more")?;
     }
     same(wanted.as_str(), came)
@@ -121,7 +131,7 @@ fn needs_its_room<C: Codec>(
     };
     let mut room = vec![in alloc; 0xffu8; bytes.len().saturating_add(8)]?;
     let mut came = in_room::<C>(alloc, name, words, size, &mut room)?;
-    if room.iter().skip(size).any(|byte| *byte != 0xff) {
+    if !is_untouched(&room, size) {
         came.word("and more")?;
     }
     same("OutOfMemory \"\"", came)

@@ -2,7 +2,7 @@
 
 use crate::codec::Codec;
 use crate::fault::{Fault, done};
-use crate::shown::{Shown, show_walk};
+use crate::shown::{Show, Shown, show_walk};
 use crate::word::{Word, Words};
 use pgp_base::Buffer;
 use pgp_types::{hstore_from_sql, hstore_to_sql, varbit_from_sql, varbit_to_sql};
@@ -50,11 +50,15 @@ fn write_hstore<B: Buffer>(alloc: Global, words: &mut Words<'_>, buf: &mut B) ->
     done(hstore_to_sql(pairs.iter().copied(), buf))
 }
 
-fn show_entry(entry: (&str, Option<&str>), out: &mut Shown) -> Result<(), Fault> {
-    out.text(entry.0)?;
-    match entry.1 {
-        Some(value) => out.text(value),
-        None => out.word("null"),
+/// A key and its value.
+impl Show for (&str, Option<&str>) {
+    fn show(self, out: &mut Shown) -> Result<(), Fault> {
+        let (key, value) = self;
+        out.text(key)?;
+        match value {
+            Some(value) => out.text(value),
+            None => out.word("null"),
+        }
     }
 }
 
@@ -78,11 +82,7 @@ impl Codec for Lists {
     fn read(name: &str, bytes: &[u8], out: &mut Shown) -> Result<(), Fault> {
         match name {
             "varbit" => show_varbit(bytes, out),
-            "hstore" => show_walk(
-                hstore_from_sql(bytes)?,
-                |entry: (&str, Option<&str>), out: &mut Shown| show_entry(entry, out),
-                out,
-            ),
+            "hstore" => show_walk(hstore_from_sql(bytes)?, out),
             _ => Err(Fault::Row),
         }
     }

@@ -37,10 +37,10 @@ impl<'a> Row<'a> {
 
     /// Whether the result is a refusal: its name begins with a capital.
     pub fn is_refusal(&self) -> bool {
-        self.right
-            .chars()
-            .next()
-            .is_some_and(|first| first.is_ascii_uppercase())
+        match self.right.chars().next() {
+            Some(first) => first.is_ascii_uppercase(),
+            None => false,
+        }
     }
 
     /// The bytes of the result.

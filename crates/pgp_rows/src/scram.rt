@@ -3,7 +3,7 @@
 use crate::fault::Fault;
 use crate::row::Row;
 use crate::shown::{Shown, same};
-use crate::word::Words;
+use crate::word::{Words, text_of};
 use pgp_auth::authentication::sasl::{
     ChannelBinding, NoPrep, SaslPrep, ScramError, ScramSha256, is_nonce,
 };
@@ -28,7 +28,10 @@ fn client_of<P: SaslPrep>(
     if !is_nonce(&nonce) {
         return Err(Fault::Row);
     }
-    ScramSha256::with_nonce(alloc, password, binding, nonce, prep).map_err(|_| Fault::Memory)
+    match ScramSha256::with_nonce(alloc, password, binding, nonce, prep) {
+        Ok(client) => Ok(client),
+        Err(_) => Err(Fault::Memory),
+    }
 }
 
 /// A channel binding: `unsupported`, `unrequested`, or the hash of the server's certificate.
@@ -75,7 +78,7 @@ fn show_outcome(
 /// Shows the text that the client sends next, or `over`, and how many codes were made until then.
 fn show_message(client: &ScramSha256<Global>, out: &mut Shown) -> Result<(), Fault> {
     match client.message() {
-        Some(text) => out.text(str::from_utf8(text).map_err(|_| Fault::Row)?)?,
+        Some(text) => out.text(text_of(text)?)?,
         None => out.word("over")?,
     }
     out.number(client.hmacs())

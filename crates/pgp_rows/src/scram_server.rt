@@ -3,7 +3,7 @@
 use crate::fault::Fault;
 use crate::row::Row;
 use crate::shown::{Shown, same};
-use crate::word::Words;
+use crate::word::{Words, text_of};
 use pgp_auth::authentication::sasl::{
     ChannelOffer, ScramServer, ServerError, StoredVerifier, VerifierError, is_nonce,
 };
@@ -47,7 +47,10 @@ fn read_served<'w>(words: &mut Words<'w>) -> Result<Served<'w>, Fault> {
 fn verifier_of(alloc: Global, served: &Served<'_>) -> Result<StoredVerifier<Global>, Fault> {
     match served.secret {
         Some(secret) => Ok(StoredVerifier::mock(alloc, secret, served.verifier)?),
-        None => StoredVerifier::parse(alloc, served.verifier).map_err(|_| Fault::Row),
+        None => match StoredVerifier::parse(alloc, served.verifier) {
+            Ok(verifier) => Ok(verifier),
+            Err(_) => Err(Fault::Row),
+        },
     }
 }
 
@@ -70,7 +73,7 @@ fn server_of(alloc: Global, served: &Served<'_>) -> Result<ScramServer<Global>, 
 
 /// Shows a text of the server.
 fn show_text(text: &[u8], out: &mut Shown) -> Result<(), Fault> {
-    out.text(str::from_utf8(text).map_err(|_| Fault::Row)?)
+    out.text(text_of(text)?)
 }
 
 /// Each further step is out of turn. Else `not over` is shown.

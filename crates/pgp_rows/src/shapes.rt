@@ -2,7 +2,7 @@
 
 use crate::codec::Codec;
 use crate::fault::{Fault, done};
-use crate::shown::{Shown, show_walk};
+use crate::shown::{Show, Shown, show_walk};
 use crate::word::{Word, Words};
 use pgp_base::Buffer;
 use pgp_types::{
@@ -46,25 +46,23 @@ fn write_path<B: Buffer>(alloc: Global, words: &mut Words<'_>, buf: &mut B) -> R
     done(path_to_sql(is_closed, points.iter().copied(), buf))
 }
 
-fn show_point(point: Point, out: &mut Shown) -> Result<(), Fault> {
-    out.bytes(&point.x().to_be_bytes())?;
-    out.bytes(&point.y().to_be_bytes())
+impl Show for Point {
+    fn show(self, out: &mut Shown) -> Result<(), Fault> {
+        out.bytes(&self.x().to_be_bytes())?;
+        out.bytes(&self.y().to_be_bytes())
+    }
 }
 
 fn show_box(bytes: &[u8], out: &mut Shown) -> Result<(), Fault> {
     let shape = box_from_sql(bytes)?;
-    show_point(shape.upper_right(), out)?;
-    show_point(shape.lower_left(), out)
+    shape.upper_right().show(out)?;
+    shape.lower_left().show(out)
 }
 
 fn show_path(bytes: &[u8], out: &mut Shown) -> Result<(), Fault> {
     let path = path_from_sql(bytes)?;
     out.word(if path.closed() { "closed" } else { "open" })?;
-    show_walk(
-        path.points(),
-        |point: Point, out: &mut Shown| show_point(point, out),
-        out,
-    )
+    show_walk(path.points(), out)
 }
 
 #[derive(Drop)]
@@ -87,7 +85,7 @@ impl Codec for Shapes {
 
     fn read(name: &str, bytes: &[u8], out: &mut Shown) -> Result<(), Fault> {
         match name {
-            "point" => show_point(point_from_sql(bytes)?, out),
+            "point" => point_from_sql(bytes)?.show(out),
             "box" => show_box(bytes, out),
             "path" => show_path(bytes, out),
             _ => Err(Fault::Row),

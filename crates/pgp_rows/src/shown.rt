@@ -5,6 +5,11 @@ use pgp_base::{Error, FallibleIterator};
 use std::alloc::Global;
 use std::fmt::Display;
 
+/// An item of a list, which is shown as words.
+pub trait Show {
+    fn show(self, out: &mut Shown) -> Result<(), Fault>;
+}
+
 /// Words that are written one behind the other.
 #[derive(Drop)]
 pub struct Shown {
@@ -98,6 +103,41 @@ impl Shown {
     }
 }
 
+/// Bytes, or `null`.
+impl Show for Option<&[u8]> {
+    fn show(self, out: &mut Shown) -> Result<(), Fault> {
+        out.nullable(self)
+    }
+}
+
+/// A text.
+impl Show for &str {
+    fn show(self, out: &mut Shown) -> Result<(), Fault> {
+        out.text(self)
+    }
+}
+
+/// A type.
+impl Show for u32 {
+    fn show(self, out: &mut Shown) -> Result<(), Fault> {
+        out.number(self)
+    }
+}
+
+/// A format.
+impl Show for u16 {
+    fn show(self, out: &mut Shown) -> Result<(), Fault> {
+        out.number(self)
+    }
+}
+
+/// A format.
+impl Show for i16 {
+    fn show(self, out: &mut Shown) -> Result<(), Fault> {
+        out.number(self)
+    }
+}
+
 /// Has to be what came.
 pub fn same(wanted: &str, came: Shown) -> Result<(), Fault> {
     if came.as_str() == wanted {
@@ -111,16 +151,13 @@ pub fn same(wanted: &str, came: Shown) -> Result<(), Fault> {
 const MOST: usize = 1000;
 
 /// Shows the items and the refusal that ends them, and tells how many items came.
-fn show_items<W: FallibleIterator, F: Fn(W::Item, &mut Shown) -> Result<(), Fault>>(
-    walk: &mut W,
-    show: &F,
-    out: &mut Shown,
-) -> Result<usize, Fault>
-    requires { F.IsAlwaysCallable show.now }
+fn show_items<W: FallibleIterator>(walk: &mut W, out: &mut Shown) -> Result<usize, Fault>
+where
+    W::Item: Show,
 {
     for came in 0..MOST {
         match walk.next() {
-            Ok(Some(item)) => show(item, out)?,
+            Ok(Some(item)) => item.show(out)?,
             Ok(None) => return Ok(came),
             Err(e) => {
                 out.refusal(e)?;
@@ -145,17 +182,13 @@ where
 
 /// Shows a walk as a list, `[ .. ]`; behind it `of` and how many were announced, where that isn't how many came; and
 /// `unsteady` where the end isn't answered again.
-pub fn show_walk<
-    W: FallibleIterator + Drop,
-    F: Fn(W::Item, &mut Shown) -> Result<(), Fault> + Drop,
->(mut walk: W, show: F, out: &mut Shown) -> Result<(), Fault>
+pub fn show_walk<W: FallibleIterator + Drop>(mut walk: W, out: &mut Shown) -> Result<(), Fault>
 where
-    W::Item: Drop,
-    requires { F.IsAlwaysCallable show }
+    W::Item: Show + Drop,
 {
     let announced = walk.size_hint();
     out.word("[")?;
-    let came = show_items(&mut walk, &show, out)?;
+    let came = show_items(&mut walk, out)?;
     out.word("]")?;
     match announced {
         (least, Some(most)) if least == came && most == came => {}

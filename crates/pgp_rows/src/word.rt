@@ -5,6 +5,14 @@ use crate::shown::Shown;
 use std::alloc::{AllocError, Global};
 use std::str::FromStr;
 
+/// The text that the bytes are.
+pub fn text_of(bytes: &[u8]) -> Result<&str, Fault> {
+    match str::from_utf8(bytes) {
+        Ok(text) => Ok(text),
+        Err(_) => Err(Fault::Row),
+    }
+}
+
 /// A word: as it is written, and the bytes that it stands for, if it is a quoted text or hex digits.
 #[derive(Drop)]
 pub struct Word {
@@ -29,7 +37,7 @@ impl Word {
 
     /// A text.
     pub fn text(&self) -> Result<&str, Fault> {
-        str::from_utf8(self.bytes()?).map_err(|_| Fault::Row)
+        text_of(self.bytes()?)
     }
 
     /// Shows it as a part of a message is shown: a text as its bytes.
@@ -116,6 +124,16 @@ pub fn joined(alloc: Global, words: &[Word]) -> Result<Vec<u8>, Fault> {
     Ok(bytes)
 }
 
+/// Where the first `]` stands.
+fn end_of_list(words: &[Word]) -> Option<usize> {
+    for (at, word) in words.iter().enumerate() {
+        if word.is("]") {
+            return Some(at);
+        }
+    }
+    None
+}
+
 /// Words that are read from the left.
 #[derive(Drop)]
 pub struct Words<'w> {
@@ -167,11 +185,7 @@ impl<'w> Words<'w> {
     /// The words of a list, `[ .. ]`.
     pub fn list(&mut self) -> Result<&'w [Word], Fault> {
         self.expect("[")?;
-        let at = self
-            .rest
-            .iter()
-            .position(|word| word.is("]"))
-            .ok_or(Fault::Row)?;
+        let at = end_of_list(self.rest).ok_or(Fault::Row)?;
         let (items, rest) = self.rest.split_at_checked(at).ok_or(Fault::Row)?;
         self.rest = rest;
         self.expect("]")?;

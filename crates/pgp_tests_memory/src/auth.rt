@@ -16,6 +16,7 @@ use pgp_test_alloc::Refusing;
 use rand_core::SeedableRng;
 use rand_pcg::Pcg32;
 use std::alloc::{Allocator, Global};
+use std::process::Abort;
 use std::test::Fail;
 
 const SALT: [u8; 16] = [1, 2, 3, 4, 5, 6, 7, 8, 9, 10, 11, 12, 13, 14, 15, 16];
@@ -81,6 +82,32 @@ fn text_of<A: Allocator + Copy>(
     }
 }
 
+// How often the call was refused memory before it made this text.
+fn refusals_of_text(
+    rt: &impl Abort,
+    alloc: Global,
+    prep: &SaslPrepRfc4013,
+    call: Call,
+    ample: &str,
+) -> u64 {
+    let mut refusals = 0u64;
+    for number in 1..100u64 {
+        let heap = Refusing::new(alloc, number);
+        match text_of(&heap, prep, call) {
+            Ok(text) => {
+                same(rt, text.as_str(), ample);
+                holds(rt, heap.until_refusal.get() != 0);
+            }
+            Err(e) => same(rt, e, Error::OutOfMemory),
+        }
+        if heap.until_refusal.get() != 0 {
+            break;
+        }
+        refusals = number;
+    }
+    refusals
+}
+
 // Each call asks for memory as often as is said here: once for its text, and a mapping for its own, SASLprep twice.
 #[test]
 fn texts_with_each_allocation_refused(rt: HostRuntime) -> Result<(), Fail> {
@@ -97,21 +124,7 @@ fn texts_with_each_allocation_refused(rt: HostRuntime) -> Result<(), Fail> {
     let prep = SaslPrepRfc4013::new(rt.alloc());
     for (call, asked) in calls {
         let ample = text_of(rt.alloc(), &prep, call)?;
-        let mut refusals = 0u64;
-        for number in 1..100u64 {
-            let heap = Refusing::new(rt.alloc(), number);
-            match text_of(&heap, &prep, call) {
-                Ok(text) => {
-                    same(&rt, text.as_str(), ample.as_str());
-                    holds(&rt, heap.until_refusal.get() != 0);
-                }
-                Err(e) => same(&rt, e, Error::OutOfMemory),
-            }
-            if heap.until_refusal.get() != 0 {
-                break;
-            }
-            refusals = number;
-        }
+        let refusals = refusals_of_text(&rt, rt.alloc(), &prep, call, ample.as_str());
         same_at(&rt, call, refusals, asked);
     }
     Ok(())
@@ -195,6 +208,36 @@ fn end_of<A: Allocator + Copy>(alloc: A, course: Course) -> Result<(u8, u8, u64)
     Ok((updated, finished, client.hmacs()))
 }
 
+// How often an exchange was refused memory before it came to this end.
+fn refusals_of_exchange(
+    rt: &impl Abort,
+    alloc: Global,
+    course: Course,
+    ample: (u8, u8, u64),
+) -> u64 {
+    let mut refusals = 0u64;
+    for number in 1..100u64 {
+        let heap = Refusing::new(alloc, number);
+        match end_of(&heap, course) {
+            Ok((0, finished, hmacs)) => {
+                let is_refused = heap.until_refusal.get() == 0;
+                let end = if is_refused { (0, 1, 3) } else { ample };
+                same_at(rt, number, (0, finished, hmacs), end);
+            }
+            Ok((updated, finished, hmacs)) => {
+                same_at(rt, number, (updated, finished), (1, 2));
+                holds_at(rt, number, hmacs == 0 || hmacs == 3);
+            }
+            Err(e) => same_at(rt, number, e.number(), 1),
+        }
+        if heap.until_refusal.get() != 0 {
+            break;
+        }
+        refusals = number;
+    }
+    refusals
+}
+
 // Beside the refusals of memory an exchange comes to the same end. A refused `update` ends it, so that
 // `finish` isn't due.
 #[test]
@@ -210,26 +253,7 @@ fn exchanges_with_each_allocation_refused(rt: HostRuntime) -> Result<(), Fail> {
             is_drawn,
             server_final,
         };
-        let mut refusals = 0u64;
-        for number in 1..100u64 {
-            let heap = Refusing::new(rt.alloc(), number);
-            match end_of(&heap, course) {
-                Ok((0, finished, hmacs)) => {
-                    let is_refused = heap.until_refusal.get() == 0;
-                    let end = if is_refused { (0, 1, 3) } else { ample };
-                    same_at(&rt, number, (0, finished, hmacs), end);
-                }
-                Ok((updated, finished, hmacs)) => {
-                    same_at(&rt, number, (updated, finished), (1, 2));
-                    holds_at(&rt, number, hmacs == 0 || hmacs == 3);
-                }
-                Err(e) => same_at(&rt, number, e.number(), 1),
-            }
-            if heap.until_refusal.get() != 0 {
-                break;
-            }
-            refusals = number;
-        }
+        let refusals = refusals_of_exchange(&rt, rt.alloc(), course, ample);
         holds_at(&rt, refusals, 10 <= refusals);
     }
     Ok(())

@@ -7,7 +7,8 @@ use pgp_auth::authentication::sasl::{
 };
 use pgp_base::Error;
 use pgp_test_alloc::Refusing;
-use std::alloc::{AllocError, Allocator};
+use std::alloc::{AllocError, Allocator, Global};
+use std::process::Abort;
 
 // Of the password `pencil`; the keys are python3's.
 const STORED: &[u8] =
@@ -90,20 +91,25 @@ fn end_of<A: Allocator + Copy>(alloc: A, is_mock: bool) -> End {
     }
 }
 
+// How often the exchange was refused memory before it came to its end.
+fn refusals_of_server(rt: &impl Abort, alloc: Global, is_mock: bool) -> u64 {
+    let mut refusals = 0u64;
+    for number in 1..100u64 {
+        let heap = Refusing::new(alloc, number);
+        let end = end_of(&heap, is_mock);
+        if heap.until_refusal.get() != 0 {
+            same_at(rt, number, end, End::Whole(!is_mock));
+            break;
+        }
+        holds(rt, end == End::Begin || end == End::First);
+        refusals = number;
+    }
+    refusals
+}
+
 #[test]
 fn servers_with_each_allocation_refused(rt: HostRuntime) {
     for is_mock in [false, true] {
-        let mut refusals = 0u64;
-        for number in 1..100u64 {
-            let heap = Refusing::new(rt.alloc(), number);
-            let end = end_of(&heap, is_mock);
-            if heap.until_refusal.get() != 0 {
-                same_at(&rt, number, end, End::Whole(!is_mock));
-                break;
-            }
-            holds(&rt, end == End::Begin || end == End::First);
-            refusals = number;
-        }
-        holds(&rt, 3 <= refusals);
+        holds(&rt, 3 <= refusals_of_server(&rt, rt.alloc(), is_mock));
     }
 }

@@ -10,6 +10,7 @@ use pgp_base::{
 use pgp_frontend::CopyData;
 use pgp_test_alloc::Refusing;
 use std::alloc::{AllocError, Allocator, Global};
+use std::process::Abort;
 use std::test::Fail;
 
 const SYNC: &[u8; 5] = b"S\0\0\0\x04";
@@ -47,26 +48,37 @@ fn full<A: Allocator + Copy>(alloc: A) -> Result<BytesMut<A>, AllocError> {
     Ok(buf)
 }
 
+// How often the writer was refused memory before these bytes stood there.
+fn refusals_of(
+    rt: &impl Abort,
+    alloc: Global,
+    writer: u32,
+    ample: &[u8],
+) -> Result<u64, AllocError> {
+    let mut refusals = 0u64;
+    for number in 1..1000u64 {
+        let heap = Refusing::new(alloc, 0);
+        let mut buf: BytesMut<&Refusing<Global>> = full(&heap)?;
+        heap.until_refusal.set(number);
+        let answer = write(writer, &mut buf);
+        if heap.until_refusal.get() != 0 {
+            same_at(rt, writer, answer, Ok(()));
+            same_at(rt, writer, buf.as_slice(), ample);
+            break;
+        }
+        same_at(rt, writer, answer, Err(Error::OutOfMemory));
+        same_at(rt, writer, buf.as_slice(), SYNC.as_slice());
+        refusals = number;
+    }
+    Ok(refusals)
+}
+
 #[test]
 fn writers_with_each_allocation_refused(rt: HostRuntime) -> Result<(), Fail> {
     for writer in 0..WRITERS {
         let mut ample = full(rt.alloc())?;
         same_at(&rt, writer, write(writer, &mut ample), Ok(()));
-        let mut refusals = 0u64;
-        for number in 1..1000u64 {
-            let heap = Refusing::new(rt.alloc(), 0);
-            let mut buf: BytesMut<&Refusing<Global>> = full(&heap)?;
-            heap.until_refusal.set(number);
-            let answer = write(writer, &mut buf);
-            if heap.until_refusal.get() != 0 {
-                same_at(&rt, writer, answer, Ok(()));
-                same_at(&rt, writer, buf.as_slice(), ample.as_slice());
-                break;
-            }
-            same_at(&rt, writer, answer, Err(Error::OutOfMemory));
-            same_at(&rt, writer, buf.as_slice(), SYNC.as_slice());
-            refusals = number;
-        }
+        let refusals = refusals_of(&rt, rt.alloc(), writer, ample.as_slice())?;
         holds_at(&rt, writer, refusals >= 1 && refusals < 100);
     }
     Ok(())

@@ -131,13 +131,21 @@ impl Sums {
         }
     }
 
-    /// Adds a message that was read in place.
-    fn add_in_place(&mut self, message: &Message<&[u8]>) {
-        match message {
-            Message::CopyData(body) => self.add(body.data()),
-            Message::CommandComplete(body) => self.add(body.tag().unwrap_or("").as_bytes()),
-            _ => self.add(b""),
+    /// Adds a message that was read in place, and tells whether there was one.
+    fn add_in_place(
+        &mut self,
+        read: &Result<Option<Message<&[u8]>>, Error>,
+    ) -> Result<bool, Error> {
+        match read {
+            Ok(Some(Message::CopyData(body))) => self.add(body.data()),
+            Ok(Some(Message::CommandComplete(body))) => {
+                self.add(body.tag().unwrap_or("").as_bytes())
+            }
+            Ok(Some(_)) => self.add(b""),
+            Ok(None) => return Ok(false),
+            Err(e) => return Err(*e),
         }
+        Ok(true)
     }
 }
 
@@ -145,11 +153,12 @@ impl Sums {
 fn add_in_place(bytes: &[u8], sums: &mut Sums) -> Result<usize, Error> {
     let mut messages = Messages::new(bytes);
     for _ in 0..bytes.len() {
-        let Some(message) = messages.next()? else {
+        let read = messages.next();
+        let is_added = sums.add_in_place(&read);
+        drop(read);
+        if !is_added? {
             break;
-        };
-        sums.add_in_place(&message);
-        drop(message);
+        }
     }
     Ok(messages.rest().len())
 }

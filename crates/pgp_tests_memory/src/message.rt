@@ -2,7 +2,7 @@
 #![tactic(auto, using(pgp_base::proofs::Parts::held_steps))]
 
 use crate::checks::{holds, same};
-use crate::reads::{buffer, count, is_copy, is_some, next_row};
+use crate::reads::{Read, buffer, count, is_copy, is_some, next_row};
 use bytes::{Bytes, BytesMut};
 use pgp_base::Error;
 use pgp_message::{DataRowBody, FrameParser, Message, Messages, RowPlaces, read_frames};
@@ -101,6 +101,27 @@ fn bare_frames_ask_for_no_memory(rt: HostRuntime) -> Result<(), Fail> {
     Ok(())
 }
 
+// How often a frame was refused memory before its message was read.
+fn refusals_of_frame(rt: &impl Abort, alloc: Global, frame: &[u8]) -> Result<u64, Error> {
+    let mut refusals = 0u64;
+    for number in 1..100u64 {
+        let heap = Refusing::new(alloc, 0);
+        let mut buf = buffer(&heap, frame)?;
+        heap.until_refusal.set(number);
+        let answer = is_message(&mut buf);
+        if heap.until_refusal.get() != 0 {
+            same(rt, answer, Ok(true));
+            holds(rt, buf.is_empty());
+            break;
+        }
+        same(rt, answer, Err(Error::OutOfMemory));
+        same(rt, buf.as_slice(), frame);
+        same(rt, is_message(&mut buf), Ok(true));
+        refusals = number;
+    }
+    Ok(refusals)
+}
+
 // A key and an answer about versions keep bytes of their frames: a refused frame stays, and is taken once memory is there.
 #[test]
 fn keys_and_versions_with_each_allocation_refused(rt: HostRuntime) -> Result<(), Fail> {
@@ -110,23 +131,7 @@ fn keys_and_versions_with_each_allocation_refused(rt: HostRuntime) -> Result<(),
         b"\x76\0\0\0\x13\0\x03\0\0\0\0\0\x01_pq_.x\0",
     ];
     for frame in frames {
-        let mut refusals = 0u64;
-        for number in 1..100u64 {
-            let heap = Refusing::new(rt.alloc(), 0);
-            let mut buf = buffer(&heap, frame)?;
-            heap.until_refusal.set(number);
-            let answer = is_message(&mut buf);
-            if heap.until_refusal.get() != 0 {
-                same(&rt, answer, Ok(true));
-                holds(&rt, buf.is_empty());
-                break;
-            }
-            same(&rt, answer, Err(Error::OutOfMemory));
-            same(&rt, buf.as_slice(), frame);
-            same(&rt, is_message(&mut buf), Ok(true));
-            refusals = number;
-        }
-        holds(&rt, refusals > 0);
+        holds(&rt, refusals_of_frame(&rt, rt.alloc(), frame)? > 0);
     }
     Ok(())
 }
@@ -193,26 +198,27 @@ fn clone_with_each_allocation_refused(rt: HostRuntime) -> Result<(), Fail> {
     Ok(())
 }
 
-// How many items the walk over the message's body collects.
-fn collected<A: Allocator + Copy>(alloc: A, message: &Message) -> Result<usize, Error> {
-    match message {
-        Message::CopyInResponse(body) => count(alloc, body.column_formats()),
-        Message::ParameterDescription(body) => count(alloc, body.parameters()),
-        Message::DataRow(body) => count(alloc, body.ranges()),
-        Message::RowDescription(body) => count(alloc, body.fields()),
-        Message::ErrorResponse(body) => count(alloc, body.fields()),
-        Message::AuthenticationSasl(body) => count(alloc, body.mechanisms()),
-        Message::NegotiateProtocolVersion(body) => count(alloc, body.options()),
-        _ => Err(Error::UnknownTag(0)),
+// How many items the walk over the body of the message that was read collects.
+fn collected<A: Allocator + Copy>(alloc: A, read: &Read<Global>) -> Result<usize, Error> {
+    match read {
+        Ok(Some(Message::CopyInResponse(body))) => count(alloc, body.column_formats()),
+        Ok(Some(Message::ParameterDescription(body))) => count(alloc, body.parameters()),
+        Ok(Some(Message::DataRow(body))) => count(alloc, body.ranges()),
+        Ok(Some(Message::RowDescription(body))) => count(alloc, body.fields()),
+        Ok(Some(Message::ErrorResponse(body))) => count(alloc, body.fields()),
+        Ok(Some(Message::AuthenticationSasl(body))) => count(alloc, body.mechanisms()),
+        Ok(Some(Message::NegotiateProtocolVersion(body))) => count(alloc, body.options()),
+        Ok(_) => Err(Error::UnknownTag(0)),
+        Err(e) => Err(*e),
     }
 }
 
 // How often the walk's list was refused memory before it was collected.
-fn refusals_of(rt: &impl Abort, alloc: Global, message: &Message, len: usize) -> u64 {
+fn refusals_of(rt: &impl Abort, alloc: Global, read: &Read<Global>, len: usize) -> u64 {
     let mut refusals = 0u64;
     for number in 1..100u64 {
         let heap = Refusing::new(alloc, number);
-        let answer = collected(&heap, message);
+        let answer = collected(&heap, read);
         if heap.until_refusal.get() != 0 {
             same(rt, answer, Ok(len));
             break;
@@ -246,11 +252,9 @@ const LISTS: [(&[u8], usize); 7] = [
 fn collect_with_each_allocation_refused(rt: HostRuntime) -> Result<(), Fail> {
     for (frame, len) in LISTS {
         let mut buf = buffer(rt.alloc(), frame)?;
-        let Some(message) = Message::parse(&mut buf)? else {
-            panic!(rt; "no message");
-        };
-        let refusals = refusals_of(&rt, rt.alloc(), &message, len);
-        drop(message);
+        let read = Message::parse(&mut buf);
+        let refusals = refusals_of(&rt, rt.alloc(), &read, len);
+        drop(read);
         holds(&rt, refusals > 0);
     }
     Ok(())
@@ -424,11 +428,9 @@ fn a_long_row_is_copied(rt: HostRuntime) -> Result<(), Fail> {
 fn a_long_list_is_collected(rt: HostRuntime) -> Result<(), Fail> {
     let mut buf = long(rt.alloc(), b"\x44\0\x03\xa9\x86\xea\x60", 240_000, 0xff)?;
     same(&rt, columns(rt.alloc(), buf.as_slice()), Ok(60_000));
-    let Some(message) = Message::parse(&mut buf)? else {
-        panic!(rt; "no message");
-    };
-    let items = collected(rt.alloc(), &message);
-    drop(message);
+    let read = Message::parse(&mut buf);
+    let items = collected(rt.alloc(), &read);
+    drop(read);
     same(&rt, items, Ok(60_000));
     Ok(())
 }

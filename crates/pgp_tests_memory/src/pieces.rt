@@ -32,7 +32,12 @@ fn mark<S: Storage>(read: &Result<Message<S>, Error>) -> u8 {
 
 /// Whether these are the first results of that stream.
 fn are_first<S: Storage>(results: &[Result<Message<S>, Error>]) -> bool {
-    results.len() <= MARKS.len() && results.iter().zip(MARKS).all(|(r, m)| mark(r) == *m)
+    for (result, wanted) in results.iter().zip(MARKS) {
+        if mark(result) != *wanted {
+            return false;
+        }
+    }
+    results.len() <= MARKS.len()
 }
 
 /// Whether these are all results of that stream.

@@ -10,7 +10,8 @@ use pgp_base::{BindError, Buffer, Error, IsNull};
 use pgp_frontend::bind;
 use pgp_test_alloc::Refusing;
 use pgp_types::{ArrayDimension, RangeBound, array_to_sql, range_to_sql};
-use std::alloc::Global;
+use std::alloc::{AllocError, Global};
+use std::process::Abort;
 use std::test::Fail;
 
 // A message that stands in the buffer already.
@@ -132,6 +133,21 @@ fn write_own<B: Buffer>(writer: u32, buf: &mut B) -> Told {
     }
 }
 
+// Who tells of the first growth that a buffer with this room asks for, which is refused; nobody, where none was asked for.
+fn told_in(rt: &impl Abort, alloc: Global, writer: u32, room: usize) -> Result<Told, AllocError> {
+    let heap = Refusing::new(alloc, 0);
+    let mut buf: BytesMut<&Refusing<Global>> = BytesMut::with_capacity(&heap, room)?;
+    buf.extend_from_slice(SYNC)?;
+    heap.until_refusal.set(1);
+    let told = write_own(writer, &mut buf);
+    let is_refused = heap.until_refusal.get() == 0;
+    holds_at(rt, room, told != Told::Nobody || !is_refused);
+    if is_refused {
+        same(rt, buf.as_slice(), SYNC);
+    }
+    Ok(told)
+}
+
 // The serializer's want of memory is told as its own refusal, the writer's as a serialization. Buffers of many lengths have
 // each growth come at their end, so that both are met.
 #[test]
@@ -140,18 +156,11 @@ fn a_serializer_without_memory_is_told_apart(rt: HostRuntime) -> Result<(), Fail
         let mut by_serializer = 0u32;
         let mut by_writer = 0u32;
         for room in 5..200usize {
-            let heap = Refusing::new(rt.alloc(), 0);
-            let mut buf: BytesMut<&Refusing<Global>> = BytesMut::with_capacity(&heap, room)?;
-            buf.extend_from_slice(SYNC)?;
-            heap.until_refusal.set(1);
-            match write_own(writer, &mut buf) {
-                Told::Nobody => holds(&rt, heap.until_refusal.get() != 0),
+            match told_in(&rt, rt.alloc(), writer, room)? {
+                Told::Nobody => {}
                 Told::Serializer => by_serializer = by_serializer.saturating_add(1),
                 Told::Writer => by_writer = by_writer.saturating_add(1),
-                Told::Other => panic!(rt; "writer {writer}, room {room}"),
-            }
-            if heap.until_refusal.get() == 0 {
-                same(&rt, buf.as_slice(), SYNC);
+                Told::Other => holds_at(&rt, room, false),
             }
         }
         holds_at(&rt, writer, by_serializer > 5);

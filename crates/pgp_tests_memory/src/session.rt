@@ -7,7 +7,8 @@ use pgp_base::{BindError, Buffer, Error, IsNull, put_u32};
 use pgp_frontend::{CopyData, ProtocolVersion};
 use pgp_test_alloc::Refusing;
 use postgres_protocol::session::ClientStream;
-use std::alloc::Global;
+use std::alloc::{AllocError, Global};
+use std::process::Abort;
 use std::test::Fail;
 
 /// A startup packet with no parameters.
@@ -99,61 +100,78 @@ fn call<B: Buffer>(number: usize, stream: &mut ClientStream<B>) -> Result<(), Er
     }
 }
 
+/// How often the request was refused memory. Made again it comes to these bytes.
+fn refusals_of_request(rt: &impl Abort, alloc: Global, request: usize, ample: &[u8]) -> u64 {
+    let mut refusals = 0u64;
+    for number in 1..100u64 {
+        let heap = Refusing::new(alloc, 0);
+        let mut stream: ClientStream<BytesMut<&Refusing<Global>>> = ClientStream::new(&heap);
+        heap.until_refusal.set(number);
+        let answer = begin(request, &mut stream);
+        if heap.until_refusal.get() != 0 {
+            same_at(rt, request, answer, Ok(()));
+            break;
+        }
+        same_at(rt, request, answer, Err(Error::OutOfMemory));
+        holds(rt, stream.bytes().is_empty());
+        holds(rt, !stream.is_open());
+        same_at(rt, request, begin(request, &mut stream), Ok(()));
+        same(rt, stream.is_open(), (2..5).contains(&request));
+        same_at(rt, request, stream.bytes(), ample);
+        refusals = number;
+    }
+    refusals
+}
+
 /// A refused call changes neither the bytes nor the phase, and can be made again.
 #[test]
 fn requests_with_each_allocation_refused(rt: HostRuntime) -> Result<(), Fail> {
     for request in 0..REQUESTS {
         let mut ample = ClientStream::new(rt.alloc());
         same_at(&rt, request, begin(request, &mut ample), Ok(()));
-        let mut refusals = 0u64;
-        for number in 1..100u64 {
-            let heap = Refusing::new(rt.alloc(), 0);
-            let mut stream: ClientStream<BytesMut<&Refusing<Global>>> = ClientStream::new(&heap);
-            heap.until_refusal.set(number);
-            let answer = begin(request, &mut stream);
-            if heap.until_refusal.get() != 0 {
-                same_at(&rt, request, answer, Ok(()));
-                break;
-            }
-            same_at(&rt, request, answer, Err(Error::OutOfMemory));
-            holds(&rt, stream.bytes().is_empty());
-            holds(&rt, !stream.is_open());
-            same_at(&rt, request, begin(request, &mut stream), Ok(()));
-            same(&rt, stream.is_open(), (2..5).contains(&request));
-            same_at(&rt, request, stream.bytes(), ample.bytes());
-            refusals = number;
-        }
+        let refusals = refusals_of_request(&rt, rt.alloc(), request, ample.bytes());
         holds_at(&rt, request, refusals > 0);
     }
     Ok(())
 }
 
-/// The same in a session, whose stream has no room left.
+/// How often a call was refused memory, in a session whose stream has no room left. Made again it comes to these bytes.
+fn refusals_of_call(
+    rt: &impl Abort,
+    alloc: Global,
+    what: usize,
+    ample: &[u8],
+) -> Result<u64, AllocError> {
+    let mut refusals = 0u64;
+    for number in 1..100u64 {
+        let heap = Refusing::new(alloc, 0);
+        let buf: BytesMut<&Refusing<Global>> = BytesMut::with_capacity(&heap, STARTUP.len())?;
+        let mut stream = ClientStream::over(buf);
+        same(rt, begin(3, &mut stream), Ok(()));
+        heap.until_refusal.set(number);
+        let answer = call(what, &mut stream);
+        if heap.until_refusal.get() != 0 {
+            same_at(rt, what, answer, Ok(()));
+            break;
+        }
+        same_at(rt, what, answer, Err(Error::OutOfMemory));
+        same_at(rt, what, stream.bytes(), STARTUP.as_slice());
+        holds(rt, stream.is_open());
+        same_at(rt, what, call(what, &mut stream), Ok(()));
+        same_at(rt, what, stream.bytes(), ample);
+        refusals = number;
+    }
+    Ok(refusals)
+}
+
+/// The same in a session.
 #[test]
 fn calls_with_each_allocation_refused(rt: HostRuntime) -> Result<(), Fail> {
     for what in 0..CALLS {
         let mut ample = ClientStream::new(rt.alloc());
         same(&rt, begin(3, &mut ample), Ok(()));
         same_at(&rt, what, call(what, &mut ample), Ok(()));
-        let mut refusals = 0u64;
-        for number in 1..100u64 {
-            let heap = Refusing::new(rt.alloc(), 0);
-            let buf: BytesMut<&Refusing<Global>> = BytesMut::with_capacity(&heap, STARTUP.len())?;
-            let mut stream = ClientStream::over(buf);
-            same(&rt, begin(3, &mut stream), Ok(()));
-            heap.until_refusal.set(number);
-            let answer = call(what, &mut stream);
-            if heap.until_refusal.get() != 0 {
-                same_at(&rt, what, answer, Ok(()));
-                break;
-            }
-            same_at(&rt, what, answer, Err(Error::OutOfMemory));
-            same_at(&rt, what, stream.bytes(), STARTUP.as_slice());
-            holds(&rt, stream.is_open());
-            same_at(&rt, what, call(what, &mut stream), Ok(()));
-            same_at(&rt, what, stream.bytes(), ample.bytes());
-            refusals = number;
-        }
+        let refusals = refusals_of_call(&rt, rt.alloc(), what, ample.bytes())?;
         holds_at(&rt, what, refusals > 0);
     }
     Ok(())

@@ -5,7 +5,8 @@ use crate::reads::count;
 use pgp_base::{Error, FallibleIterator};
 use pgp_test_alloc::Refusing;
 use pgp_types::{array_from_sql, hstore_from_sql, path_from_sql};
-use std::alloc::Allocator;
+use std::alloc::{Allocator, Global};
+use std::process::Abort;
 use std::test::Fail;
 
 // The array announces 2,147,483,647 elements, and none stands there: no memory is asked for.
@@ -41,21 +42,26 @@ const POINTS: &[u8] =
 const LIST: &[u8] =
     b"\0\0\0\x05\0\0\0\x01\0\0\0\x17\0\0\0\x01\0\0\0\x01\0\0\0\x05\0\0\0\x01\0\0\0\x01\0\0\0\x01\0\0\0\x01\0\0\0\x01\0\0\0\x01\0\0\0\x01\xff\xff\xff\xff\xff\xff\xff\xff\xff\xff\xff\xff\xff\xff\xff\xff\xff\xff\xff\xff";
 
+// How often the list was refused memory before its five items were collected.
+fn refusals_of(rt: &impl Abort, alloc: Global, walk: u32) -> u64 {
+    let mut refusals = 0u64;
+    for number in 1..100u64 {
+        let heap = Refusing::new(alloc, number);
+        let answer = collected(&heap, walk);
+        if heap.until_refusal.get() != 0 {
+            same(rt, answer, Ok(5));
+            break;
+        }
+        same(rt, answer, Err(Error::OutOfMemory));
+        refusals = number;
+    }
+    refusals
+}
+
 // Each walk of five items hands them out, or is refused memory.
 #[test]
 fn collect_with_each_allocation_refused(rt: HostRuntime) {
     for walk in 0..4u32 {
-        let mut refusals = 0u64;
-        for number in 1..100u64 {
-            let heap = Refusing::new(rt.alloc(), number);
-            let answer = collected(&heap, walk);
-            if heap.until_refusal.get() != 0 {
-                same(&rt, answer, Ok(5));
-                break;
-            }
-            same(&rt, answer, Err(Error::OutOfMemory));
-            refusals = number;
-        }
-        holds_at(&rt, walk, refusals > 0);
+        holds_at(&rt, walk, refusals_of(&rt, rt.alloc(), walk) > 0);
     }
 }

@@ -5,7 +5,9 @@ use crate::checks::{holds, same};
 use crate::reads::{buffer, row};
 use bytes::{Bytes, BytesMut};
 use pgp_base::{Error, FallibleIterator};
-use pgp_message::{FrameParser, Header, Message, Messages, RowPlaces, Storage, read_frames};
+use pgp_message::{
+    FrameParser, Header, Message, Messages, RowIndex, RowPlaces, Storage, read_frames,
+};
 use std::alloc::Global;
 use std::process::Abort;
 use std::test::Fail;
@@ -305,16 +307,44 @@ fn a_message_is_kept_while_the_reader_goes_on(rt: HostRuntime) -> Result<(), Fai
     Ok(())
 }
 
+/// The three columns in each order, each time with a place behind the last one.
+const ORDERS: [[usize; 4]; 6] = [
+    [0, 1, 2, 3],
+    [0, 2, 1, 4],
+    [1, 0, 2, 3],
+    [1, 2, 0, 4],
+    [2, 0, 1, usize::MAX],
+    [2, 1, 0, usize::MAX],
+];
+
+/// The columns of `ROW`, asked in this order.
+fn are_at_hand(rt: &impl Abort, index: &RowIndex<'_>, order: &[usize]) {
+    let values = [Some(b"a".as_slice()), None, Some(b"".as_slice())];
+    let places = [Some(4..5usize), None, Some(13..13usize)];
+    for column in order {
+        same(rt, index.value(*column), values.get(*column).copied());
+        same(rt, index.range(*column).as_ref(), places.get(*column));
+    }
+}
+
 #[test]
 fn any_column_of_a_row_is_at_hand(rt: HostRuntime) -> Result<(), Fail> {
     let row = row(rt.alloc(), ROW)?;
     let index = row.index(rt.alloc())?;
     same(&rt, index.len(), 3);
-    let values = [Some(b"a".as_slice()), None, Some(b"".as_slice())];
-    let places = [Some(4..5usize), None, Some(13..13usize)];
-    for column in [2usize, 0, 1, 3, 4, usize::MAX] {
-        same(&rt, index.value(column), values.get(column).copied());
-        same(&rt, index.range(column).as_ref(), places.get(column));
+    for order in &ORDERS {
+        are_at_hand(&rt, &index, order);
+    }
+    Ok(())
+}
+
+#[test]
+fn the_columns_at_hand_are_those_of_the_walk(rt: HostRuntime) -> Result<(), Fail> {
+    let row = row(rt.alloc(), ROW)?;
+    let index = row.index(rt.alloc())?;
+    let mut ranges = row.ranges();
+    for column in 0..4usize {
+        same(&rt, ranges.next(), Ok(index.range(column)));
     }
     Ok(())
 }
