@@ -25,9 +25,10 @@ pub fn nullable_at(bytes: &[u8], past_end: Error) -> Result<(Option<&[u8]>, &[u8
     ensures { Answers (λ x. (shown x.0, x.1.now)) result (nullable_at past_end bytes.now) }
 {
     let (len, rest) = int32_at(bytes)?;
-    let Ok(len) = usize::try_from(len) else {
+    if len < 0 {
         return Ok((None, rest));
-    };
+    }
+    let len = len as usize;
     if rest.len() < len {
         return Err(past_end);
     }
@@ -41,9 +42,10 @@ pub fn sized_at(bytes: &[u8], wrong: Error) -> Result<(&[u8], &[u8]), Error>
     ensures { Answers (λ x. (x.0.now, x.1.now)) result (sized_at wrong bytes.now) }
 {
     let (len, rest) = int32_at(bytes)?;
-    let Ok(len) = usize::try_from(len) else {
+    if len < 0 {
         return Err(wrong);
-    };
+    }
+    let len = len as usize;
     if rest.len() < len {
         return Err(wrong);
     }
