@@ -1,5 +1,5 @@
 -- The phase in which a message without lists may come.
-use Rattle.std.proofs.Common.{◌≡◌, Bool, false, refl, inr}
+use Rattle.std.proofs.Common.{◌≡◌, false, refl, inr}
 use Rattle.pgp_frontend.specs.ClientRun.{MayCome, is_startup}
 use Rattle.pgp_c.specs.declared.message.PlainMessage.{PlainMessage}
 use Rattle.pgp_c.specs.declared.message.PlainMessage.TheVariants.{CancelRequest, Close, CopyDone, CopyFail, Describe, Execute, Flush, PasswordMessage, Query, SaslInitialResponse, SaslResponse, SslRequest, Sync, Terminate}

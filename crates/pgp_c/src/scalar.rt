@@ -13,15 +13,18 @@ use pgp_base::{Buffer, Error, Window};
 pub enum Scalar {
     Bool(bool),
     Date(i32),
+    EmptyRange,
     Float4(u32),
     Float8(u64),
     Int2(i16),
     Int4(i32),
     Int8(i64),
     Lsn(u64),
+    Macaddr([u8; 6]),
     Oid(u32),
     Time(i64),
     Timestamp(i64),
+    Uuid([u8; 16]),
 }
 
 /// Writes the value to the front of the memory.
@@ -46,14 +49,17 @@ fn append<B: Buffer>(value: &Scalar, buf: &mut B) -> Result<(), Error>
     match value {
         Scalar::Bool(value) => pgp_types::bool_to_sql(*value, buf),
         Scalar::Date(days) => pgp_types::date_to_sql(*days, buf),
+        Scalar::EmptyRange => pgp_types::empty_range_to_sql(buf),
         Scalar::Float4(bits) => pgp_types::float4_to_sql(*bits, buf),
         Scalar::Float8(bits) => pgp_types::float8_to_sql(*bits, buf),
         Scalar::Int2(value) => pgp_types::int2_to_sql(*value, buf),
         Scalar::Int4(value) => pgp_types::int4_to_sql(*value, buf),
         Scalar::Int8(value) => pgp_types::int8_to_sql(*value, buf),
         Scalar::Lsn(value) => pgp_types::lsn_to_sql(*value, buf),
+        Scalar::Macaddr(octets) => pgp_types::macaddr_to_sql(*octets, buf),
         Scalar::Oid(value) => pgp_types::oid_to_sql(*value, buf),
         Scalar::Time(time) => pgp_types::time_to_sql(*time, buf),
         Scalar::Timestamp(time) => pgp_types::timestamp_to_sql(*time, buf),
+        Scalar::Uuid(octets) => pgp_types::uuid_to_sql(*octets, buf),
     }
 }

@@ -109,7 +109,10 @@ pub extern "C" fn pgp_stream_sasl_initial_response(
     ensures why { result ≢ 0 → stream.old.is_open ≡ true → Why (SaslInitialResponse mechanism.now response.now) (free stream.old) result }
     ensures kept { result ≢ 0 → Keeps stream.old stream.new }
 {
-    add(stream, &PlainMessage::SaslInitialResponse(mechanism, response))
+    add(
+        stream,
+        &PlainMessage::SaslInitialResponse(mechanism, response),
+    )
 }
 
 /// A later text of a SASL exchange.

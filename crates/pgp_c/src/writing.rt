@@ -112,7 +112,11 @@ pub extern "C" fn pgp_cancel_request(
     ensures sent { result ≡ 0 → Sent (CancelRequest process_id secret_key.now) out.old out.new written.new }
     ensures refused { result ≢ 0 → NotSent (CancelRequest process_id secret_key.now) out.old written.new result }
 {
-    send(&PlainMessage::CancelRequest(process_id, secret_key), out, written)
+    send(
+        &PlainMessage::CancelRequest(process_id, secret_key),
+        out,
+        written,
+    )
 }
 
 /// A password, or the answer to an MD5 request.
@@ -135,7 +139,11 @@ pub extern "C" fn pgp_sasl_initial_response(
     ensures sent { result ≡ 0 → Sent (SaslInitialResponse mechanism.now response.now) out.old out.new written.new }
     ensures refused { result ≢ 0 → NotSent (SaslInitialResponse mechanism.now response.now) out.old written.new result }
 {
-    send(&PlainMessage::SaslInitialResponse(mechanism, response), out, written)
+    send(
+        &PlainMessage::SaslInitialResponse(mechanism, response),
+        out,
+        written,
+    )
 }
 
 /// A later text of a SASL exchange.
