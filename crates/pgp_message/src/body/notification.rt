@@ -37,6 +37,8 @@ impl<S: Storage> Model for NotificationResponseBody<S> {
 }
 
 impl<S: Storage> NotificationResponseBody<S> {
+    // The hint keeps its answer out of memory, which the loop around it would clear for each message of any kind.
+    #[inline(always)]
     #[tactic(auto, unfolding(crate::specs::Reading::notification_of))]
     pub(crate) fn read(mut payload: S) -> Result<NotificationResponseBody<S>, Error>
         ensures { result ≡ notification_of (S.bytes payload) }

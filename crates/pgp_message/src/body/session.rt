@@ -69,6 +69,8 @@ impl<S: Storage> Model for ParameterStatusBody<S> {
 }
 
 impl<S: Storage> ParameterStatusBody<S> {
+    // The hint keeps its answer out of memory, which the loop around it would clear for each message of any kind.
+    #[inline(always)]
     #[tactic(auto, unfolding(crate::specs::Reading::setting_of))]
     pub(crate) fn read(mut payload: S) -> Result<ParameterStatusBody<S>, Error>
         ensures { result ≡ setting_of (S.bytes payload) }
