@@ -18,13 +18,11 @@ use Rattle.pgp_base.specs.declared.number.IsNull.TheVariants.{No}
 use Rattle.pgp_base.proofs.Causes.{counts_of, count_fits, either_left, either_right, either_first, either_then, first-append, first_here}
 use Rattle.pgp_base.proofs.Needs.{counted_length, flat_more, nullable_least, sized_wants, counted_wants}
 use Rattle.pgp_base.proofs.Parts.{wants_here, wants_more}
-use Rattle.pgp_frontend.proofs.Needs.{int16_length, bind_length, joined_more, framed_wants}
+use Rattle.pgp_frontend.proofs.Causes.{count_more, either_more, parts_first}
+use Rattle.pgp_frontend.proofs.Needs.{int16_length, null_length, bind_length, joined_more, framed_wants}
 use Rattle.pgp_frontend.specs.ClientMessage.{ClientMessage, Bind}
 use Rattle.pgp_frontend.specs.Given.{Arrived, Serves, before_values, BindWhole, BindSoFar, BindRefused, ValuesUpTo}
 use Rattle.pgp_frontend.specs.Payload.{Text, Int16s, parts, parts_cause, joined, bytes_of, cause}
-use Rattle.postgres_protocol.proofs.BindLemmas.{null_length, parts_first}
-use Rattle.postgres_protocol.proofs.Rooms.{count_more}
-use Rattle.postgres_protocol.proofs.StartupPairs.{either_more}
 use Rattle.pgp_c.specs.declared.listing.PgpValue.{PgpValue}
 use Rattle.pgp_c.specs.Lists.{error_of, value_of, Puts}
 use Rattle.pgp_c.proofs.Lists.{one, all_made, fused, same_bind}

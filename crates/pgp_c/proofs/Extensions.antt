@@ -4,7 +4,7 @@ use Rattle.std.specs.Prelude.{◌≢◌, min, if◌then◌else◌}
 use Rattle.std.specs.List.{AllByRecursion, list_all}
 use Rattle.std.proofs.lemmas.Bool.{ltb-true}
 use Rattle.std.proofs.lemmas.List.Elements.{All-from_recursion}
-use Rattle.std.proofs.Math.Seq.{take-append_seam, take-append-add, take-length, drop-append_seam}
+use Rattle.std.proofs.Math.Seq.{take-append_seam, take-append-add, drop-append_seam}
 use Rattle.std.proofs.lemmas.List.{append-nil, length-append, append_assoc, length-drop, length-take, drop-append-le, drop-drop, take-append-drop}
 use Rattle.pgp_base.proofs.Parts.{length-uint32}
 use Rattle.pgp_base.specs.Wire.{uint32}
@@ -161,10 +161,3 @@ no_room m s code past one = inl (one, omega (arith, drop_past s.len s.room.now p
 
 pub no_room_for_head : (len : ℕ) (s : PgpStream) → length s.room.now < s.len → WhyNoHead len (free s) 1
 no_room_for_head len s past = inl (refl, omega (arith, drop_past s.len s.room.now past))
-
--- the memory that a call was handed is what stands behind what was to be sent
-pub why_same : (m n : ClientMessage) (s : PgpStream) (out : List ℕ) (code : ℕ) → n ≡ m → out ≡ take (length s.room.now - s.len) (drop s.len s.room.now) → Why n out code → Why m (free s) code
-why_same m n s out code is part why =
-    let count : length s.room.now - s.len ≡ length (drop s.len s.room.now) = sym (length-drop s.len s.room.now) in
-    let all : out ≡ free s = part ∙ (ap (λ k. take k (drop s.len s.room.now)) count ∙ take-length (drop s.len s.room.now)) in
-    subst (λ l. Why m l code) all (subst (λ k. Why k out code) is why)

@@ -9,6 +9,7 @@ mod Listings
 mod Lists
 mod Openings
 mod Pairs
+mod Plain
 mod Putting
 mod Sending
 mod BindRefusals

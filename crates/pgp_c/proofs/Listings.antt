@@ -1,11 +1,12 @@
 -- The items that are read at the front stand at their places among the bytes.
-use Rattle.std.proofs.Common.{◌≡◌, ℕ, ◌+◌, ◌<◌, ◌≤◌, List, [], ◌∷◌, ◌++◌, length, take, drop, Result, Ok, Err, refl, sym, ap, subst, ◌∙◌, arith}
+use Rattle.std.proofs.Common.{◌≡◌, ℕ, ◌+◌, ◌<◌, ◌≤◌, List, [], ◌∷◌, ◌++◌, length, take, drop, Option, Some, None, Result, Ok, Err, refl, sym, ap, subst, ◌∙◌, arith}
 use Rattle.std.proofs.lemmas.List.{length-append, take-append-drop, append_assoc}
 use Rattle.std.proofs.Math.Seq.{drop-append_seam, take-append_seam}
 use Rattle.pgp_base.specs.Grammar.{StandsAt, IsReader}
-use Rattle.pgp_base.specs.PartReading.{text_at}
+use Rattle.pgp_base.specs.PartReading.{◌>>=◌, text_at}
 use Rattle.pgp_base.specs.Wire.{IsBytes, text}
 use Rattle.pgp_base.specs.declared.error.Error.{Error}
+use Rattle.pgp_base.specs.declared.error.Error.TheVariants.{UnexpectedEof}
 use Rattle.pgp_message.specs.ItemReading.{error_field_at, field_at, numbers_at}
 use Rattle.pgp_message.specs.Items.{ErrorPart, FieldPart}
 use Rattle.pgp_message.proofs.ErrorFieldLemmas.{error_field_reader}
@@ -65,3 +66,10 @@ field_of_parts rest name behind r text numbers = rw text numbers
 pub field_of_no_text : (rest : List ℕ) (e : Error) → text_at rest ≡ Err e → field_at rest ≡ Err e
 unfolding field_at
 field_of_no_text rest e text = rw text refl
+
+-- a number alone is an item
+pub number_whole : {A : Type 0} (read : Option (A × List ℕ)) (x : A × List ℕ) → read ≡ Some x → (read >>= λ x. Ok x) ≡ Ok x
+number_whole read x is = rw is refl
+
+pub number_short : {A : Type 0} (read : Option (A × List ℕ)) (e : Error) → (e ≡ UnexpectedEof) × (read ≡ None) → (read >>= λ (x : A × List ℕ). Ok x) ≡ Err e
+number_short read e is = rw (is.0, is.1) refl

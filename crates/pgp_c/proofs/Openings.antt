@@ -22,7 +22,7 @@ use Rattle.pgp_frontend.specs.Given.{Arrived, StartupWhole, StartupSoFar, Refuse
 use Rattle.pgp_frontend.specs.Payload.{Int32, version_code, pair, pair_cause, parts, parts_cause, bytes_of, cause}
 use Rattle.pgp_frontend.specs.declared.startup.ProtocolVersion.{ProtocolVersion}
 use Rattle.pgp_frontend.proofs.Needs.{startup_length}
-use Rattle.postgres_protocol.proofs.StepLemmas.{all_given, some_given}
+use Rattle.pgp_frontend.proofs.Lists.{all_given, some_given}
 use Rattle.pgp_c.specs.declared.opening.PgpPair.{PgpPair}
 use Rattle.pgp_c.specs.Opening.{pair_of}
 

@@ -16,7 +16,7 @@ use Rattle.pgp_base.proofs.Needs.{wants_window}
 use Rattle.pgp_base.proofs.Windows.{window_size, window_written}
 use Rattle.pgp_frontend.specs.ClientMessage.{ClientMessage}
 use Rattle.pgp_frontend.specs.Payload.{bytes_of, cause, IsInRange}
-use Rattle.postgres_protocol.proofs.Rooms.{never_memory}
+use Rattle.pgp_frontend.proofs.Causes.{never_memory}
 use Rattle.pgp_c.specs.Sending.{Sent, NotSent}
 use Rattle.pgp_c.specs.Values.{Wrote, Lacks}
 
@@ -93,5 +93,8 @@ lacked p q is w old name new e code told why code_is none = subst (λ k. Lacks k
   | inr some ↦ absurd (no_cause e some)
 ])
 
-pub sent_same : (m n : ClientMessage) → n ≡ m → (old new : List ℕ) (told : ℕ) → Sent n old new told → Sent m old new told
-sent_same m n is old new told sent = subst (λ k. Sent k old new told) is sent
+pub wrote_same : (p q : List ℕ) → q ≡ p → (old new : List ℕ) (told : ℕ) → Wrote q old new told → Wrote p old new told
+wrote_same p q is old new told wrote = subst (λ l. Wrote l old new told) is wrote
+
+pub lacks_same : (p q : List ℕ) → q ≡ p → (old : List ℕ) (told code : ℕ) → Lacks q old told code → Lacks p old told code
+lacks_same p q is old told code lacks = subst (λ l. Lacks l old told code) is lacks

@@ -7,7 +7,9 @@ pub mod Opening
 pub mod PartPlaces
 pub mod Parts
 pub mod Places
+pub mod Plain
 pub mod Putting
+pub mod Scalars
 pub mod Sending
 pub mod Streams
 pub mod Values

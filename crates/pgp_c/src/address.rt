@@ -5,8 +5,8 @@ ghost use Rattle.pgp_types.specs.Format.{Reads};
 ghost use Rattle.pgp_types.specs.Network.{macaddr, uuid};
 ghost use Rattle.pgp_c.specs.Values.{Wrote, Lacks, Refuses};
 
-use crate::status::{failed, refused, sent};
-use pgp_base::Window;
+use crate::scalar::{Scalar, put};
+use crate::status::{failed, refused};
 
 /// Writes a `uuid`, which has 16 bytes.
 #[unsafe(no_mangle)]
@@ -14,13 +14,8 @@ pub extern "C" fn pgp_put_uuid(id: &[u8], out: &mut [u8], written: &mut usize) -
     ensures wrote { result ≡ 0 → Reads uuid id.now (Ok id.now) × Wrote id.now out.old out.new written.new }
     ensures refused { result ≢ 0 → (written.new ≡ 0) × (Refuses uuid id.now result ⊎ Lacks id.now out.old written.new result) }
 {
-    let id = match pgp_types::uuid_from_sql(id) {
-        Ok(id) => id,
-        Err(e) => return refused(e, written),
-    };
-    let mut window = Window::new(out);
-    match pgp_types::uuid_to_sql(id, &mut window) {
-        Ok(()) => sent(&window, written),
+    match pgp_types::uuid_from_sql(id) {
+        Ok(octets) => put(&Scalar::Uuid(octets), out, written),
         Err(e) => refused(e, written),
     }
 }
@@ -43,13 +38,8 @@ pub extern "C" fn pgp_put_macaddr(address: &[u8], out: &mut [u8], written: &mut 
     ensures wrote { result ≡ 0 → Reads macaddr address.now (Ok address.now) × Wrote address.now out.old out.new written.new }
     ensures refused { result ≢ 0 → (written.new ≡ 0) × (Refuses macaddr address.now result ⊎ Lacks address.now out.old written.new result) }
 {
-    let address = match pgp_types::macaddr_from_sql(address) {
-        Ok(address) => address,
-        Err(e) => return refused(e, written),
-    };
-    let mut window = Window::new(out);
-    match pgp_types::macaddr_to_sql(address, &mut window) {
-        Ok(()) => sent(&window, written),
+    match pgp_types::macaddr_from_sql(address) {
+        Ok(octets) => put(&Scalar::Macaddr(octets), out, written),
         Err(e) => refused(e, written),
     }
 }

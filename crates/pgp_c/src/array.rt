@@ -2,7 +2,6 @@
 #![tactic(auto, using(pgp_base::proofs::Parts::held_steps))]
 
 ghost use Rattle.std.specs.Prelude.{◌≡◌, ◌≢◌, ◌⊎◌, ◌++◌, ◌≤◌, ◌<◌, length, Some, None, OnOk, IfErr};
-ghost use Rattle.std.specs.List.{list_all};
 ghost use Rattle.pgp_base.specs.Cause.{Wants, WantsMemory};
 ghost use Rattle.pgp_base.specs.Held.{◌⊕◌};
 ghost use Rattle.pgp_base.specs.PartReading.{Answers};
@@ -12,7 +11,7 @@ ghost use Rattle.pgp_types.specs.Part.{nullable};
 ghost use Rattle.pgp_c.specs.Compound.{IsArrayIn, dimension, value_in};
 ghost use Rattle.pgp_c.specs.Listings.{IsColumnInside};
 ghost use Rattle.pgp_c.specs.PartPlaces.{dimension_at};
-ghost use Rattle.pgp_c.specs.Putting.{IsNoList, elements_cause, elements_of, flag_in, has_value, head_of, list_of};
+ghost use Rattle.pgp_c.specs.Putting.{IsNoList, elements_cause, elements_of, flag_in, head_of, list_of};
 ghost use Rattle.pgp_c.specs.Values.{Lacks, Refuses, Wrote};
 ghost use Rattle.pgp_c.specs.Walks.{IsEnded, RefusesItem, Takes};
 
@@ -235,19 +234,10 @@ fn put_elements<B: Buffer>(elements: &[PgpValue<'_>], buf: &mut B) -> Result<(),
 fn flag(elements: &[PgpValue<'_>]) -> u32
     ensures { result ≡ flag_in elements.now }
 {
-    if are_values(elements) { 0 } else { 1 }
-}
-
-/// No element is null.
-fn are_values(elements: &[PgpValue<'_>]) -> bool
-    ensures { result ≡ list_all has_value elements.now }
-{
-    elements.iter().all(|value| has_value(value))
-}
-
-/// The value is no null.
-fn has_value(value: &PgpValue<'_>) -> bool
-    ensures { result ≡ has_value value.now }
-{
-    !value.is_null
+    for value in elements {
+        if value.is_null {
+            return 1;
+        }
+    }
+    0
 }

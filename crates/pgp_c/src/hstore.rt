@@ -162,7 +162,12 @@ pub extern "C" fn pgp_put_hstore(
 fn all_texts(pairs: &[PgpKeyValue<'_>]) -> bool
     ensures { result ≡ list_all are_texts pairs.now }
 {
-    pairs.iter().all(|pair| are_texts(pair))
+    for pair in pairs {
+        if !are_texts(pair) {
+            return false;
+        }
+    }
+    true
 }
 
 /// The key and the value are text, or the value is a null.

@@ -1,8 +1,6 @@
 //! The numbers of a list, read where they stand, one after another: types of parameters, and formats of columns.
 
 ghost use Rattle.std.specs.Prelude.{◌≡◌, ◌≢◌};
-ghost use Rattle.pgp_base.specs.PartReading.{Answers};
-ghost use Rattle.pgp_message.specs.ItemReading.{format_at, type_at};
 ghost use Rattle.pgp_message.specs.Items.{FormatSpelled, FormatRefused, TypeSpelled, TypeRefused};
 ghost use Rattle.pgp_c.specs.Walks.{IsEnded, RefusesItem, Takes};
 
@@ -52,7 +50,7 @@ impl Listed for Types {
     ghost Inside = { λ size value. ⊤ };
 
     fn read(_at: usize, rest: &[u8]) -> Result<(&[u8], u32), Error> {
-        let (number, more) = type_at(rest)?;
+        let (number, more) = oid_at(rest)?;
         Ok((more, number))
     }
 }
@@ -77,23 +75,7 @@ impl Listed for Formats {
     ghost Inside = { λ size value. ⊤ };
 
     fn read(_at: usize, rest: &[u8]) -> Result<(&[u8], u16), Error> {
-        let (number, more) = format_at(rest)?;
+        let (number, more) = uint16_at(rest)?;
         Ok((more, number))
     }
-}
-
-/// The type at the front.
-fn type_at(bytes: &[u8]) -> Result<(u32, &[u8]), Error>
-    ensures { Answers (λ x. (x.0, x.1.now)) result (type_at bytes.now) }
-{
-    let (number, rest) = oid_at(bytes)?;
-    Ok((number, rest))
-}
-
-/// The format at the front.
-fn format_at(bytes: &[u8]) -> Result<(u16, &[u8]), Error>
-    ensures { Answers (λ x. (x.0, x.1.now)) result (format_at bytes.now) }
-{
-    let (number, rest) = uint16_at(bytes)?;
-    Ok((number, rest))
 }

@@ -65,14 +65,12 @@ fn open(
 fn are_named(parameters: &[PgpPair<'_>]) -> bool
     ensures { result ≡ list_all is_named parameters.now }
 {
-    parameters.iter().all(|pair| named(pair))
-}
-
-/// The name isn't empty.
-fn named(pair: &PgpPair<'_>) -> bool
-    ensures { result ≡ is_named pair.now }
-{
-    !pair.name.is_empty()
+    for pair in parameters {
+        if pair.name.is_empty() {
+            return false;
+        }
+    }
+    true
 }
 
 /// The name and the value.

@@ -16,6 +16,7 @@ ghost use Rattle.pgp_c.specs.Values.{Lacks, Refuses, Wrote};
 use crate::listing::PgpValue;
 use crate::part::{column_before, put_value};
 use crate::row::PgpColumn;
+use crate::scalar::{Scalar, put};
 use crate::status::{failed, no_kind, refused, sent};
 use pgp_base::{Buffer, Error, Window, put_u8};
 use pgp_types::{Range, RangeBound};
@@ -122,11 +123,7 @@ pub extern "C" fn pgp_put_empty_range(out: &mut [u8], written: &mut usize) -> u3
     ensures wrote { result ≡ 0 → Wrote (range.written empty) out.old out.new written.new }
     ensures lacks { result ≢ 0 → Lacks (range.written empty) out.old written.new result }
 {
-    let mut window = Window::new(out);
-    match pgp_types::empty_range_to_sql(&mut window) {
-        Ok(()) => sent(&window, written),
-        Err(e) => refused(e, written),
-    }
+    put(&Scalar::EmptyRange, out, written)
 }
 
 /// Writes a range between two sides, of any type.

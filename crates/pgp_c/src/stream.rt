@@ -8,17 +8,14 @@ ghost use Rattle.pgp_frontend.specs.declared.startup.ProtocolVersion.{ProtocolVe
 ghost use Rattle.pgp_c.specs.Lists.{value_of};
 ghost use Rattle.pgp_c.specs.Copying.{WhyNoHead};
 ghost use Rattle.pgp_c.specs.Opening.{pair_of, WhyStartup};
+ghost use Rattle.pgp_c.specs.Plain.{comes_open, message_of};
 ghost use Rattle.pgp_c.specs.Sending.{Why};
 ghost use Rattle.pgp_c.specs.Streams.{Extends, ExtendsByHead, Keeps, free};
 
 use crate::copying::pgp_copy_data_head;
 use crate::listing::{PgpValue, pgp_bind, pgp_parse};
+use crate::message::{PlainMessage, comes_open, send};
 use crate::opening::{PgpPair, pgp_startup};
-use crate::writing::{
-    pgp_cancel_request, pgp_close, pgp_copy_done, pgp_copy_fail, pgp_describe, pgp_execute,
-    pgp_flush, pgp_password_message, pgp_query, pgp_sasl_initial_response, pgp_sasl_response,
-    pgp_ssl_request, pgp_sync, pgp_terminate,
-};
 
 /// The answer where a message may not come: no startup packet was written, or one was.
 const WRONG_PHASE: u32 = 32;
@@ -42,17 +39,7 @@ pub extern "C" fn pgp_stream_ssl_request(stream: &mut PgpStream<'_>) -> u32
     ensures why { result ≢ 0 → stream.old.is_open ≡ false → Why SslRequest (free stream.old) result }
     ensures kept { result ≢ 0 → Keeps stream.old stream.new }
 {
-    let len = stream.len;
-    if stream.is_open != false {
-        return WRONG_PHASE;
-    }
-    if len > stream.room.len() {
-        return NO_ROOM;
-    }
-    let mut added = 0;
-    let code = pgp_ssl_request(&mut stream.room[len..], &mut added);
-    stream.len = len.saturating_add(added);
-    code
+    add(stream, &PlainMessage::SslRequest)
 }
 
 /// Asks for the end of what another session runs, by the number and the key of its BackendKeyData.
@@ -67,17 +54,7 @@ pub extern "C" fn pgp_stream_cancel_request(
     ensures why { result ≢ 0 → stream.old.is_open ≡ false → Why (CancelRequest process_id secret_key.now) (free stream.old) result }
     ensures kept { result ≢ 0 → Keeps stream.old stream.new }
 {
-    let len = stream.len;
-    if stream.is_open != false {
-        return WRONG_PHASE;
-    }
-    if len > stream.room.len() {
-        return NO_ROOM;
-    }
-    let mut added = 0;
-    let code = pgp_cancel_request(process_id, secret_key, &mut stream.room[len..], &mut added);
-    stream.len = len.saturating_add(added);
-    code
+    add(stream, &PlainMessage::CancelRequest(process_id, secret_key))
 }
 
 /// Opens a session of this version with these names and values.
@@ -117,17 +94,7 @@ pub extern "C" fn pgp_stream_password_message(stream: &mut PgpStream<'_>, passwo
     ensures why { result ≢ 0 → stream.old.is_open ≡ true → Why (PasswordMessage password.now) (free stream.old) result }
     ensures kept { result ≢ 0 → Keeps stream.old stream.new }
 {
-    let len = stream.len;
-    if stream.is_open != true {
-        return WRONG_PHASE;
-    }
-    if len > stream.room.len() {
-        return NO_ROOM;
-    }
-    let mut added = 0;
-    let code = pgp_password_message(password, &mut stream.room[len..], &mut added);
-    stream.len = len.saturating_add(added);
-    code
+    add(stream, &PlainMessage::PasswordMessage(password))
 }
 
 /// The choice of a SASL mechanism, and the first text of its exchange.
@@ -142,17 +109,10 @@ pub extern "C" fn pgp_stream_sasl_initial_response(
     ensures why { result ≢ 0 → stream.old.is_open ≡ true → Why (SaslInitialResponse mechanism.now response.now) (free stream.old) result }
     ensures kept { result ≢ 0 → Keeps stream.old stream.new }
 {
-    let len = stream.len;
-    if stream.is_open != true {
-        return WRONG_PHASE;
-    }
-    if len > stream.room.len() {
-        return NO_ROOM;
-    }
-    let mut added = 0;
-    let code = pgp_sasl_initial_response(mechanism, response, &mut stream.room[len..], &mut added);
-    stream.len = len.saturating_add(added);
-    code
+    add(
+        stream,
+        &PlainMessage::SaslInitialResponse(mechanism, response),
+    )
 }
 
 /// A later text of a SASL exchange.
@@ -163,17 +123,7 @@ pub extern "C" fn pgp_stream_sasl_response(stream: &mut PgpStream<'_>, response:
     ensures why { result ≢ 0 → stream.old.is_open ≡ true → Why (SaslResponse response.now) (free stream.old) result }
     ensures kept { result ≢ 0 → Keeps stream.old stream.new }
 {
-    let len = stream.len;
-    if stream.is_open != true {
-        return WRONG_PHASE;
-    }
-    if len > stream.room.len() {
-        return NO_ROOM;
-    }
-    let mut added = 0;
-    let code = pgp_sasl_response(response, &mut stream.room[len..], &mut added);
-    stream.len = len.saturating_add(added);
-    code
+    add(stream, &PlainMessage::SaslResponse(response))
 }
 
 /// A query of any number of statements.
@@ -184,17 +134,7 @@ pub extern "C" fn pgp_stream_query(stream: &mut PgpStream<'_>, text: &[u8]) -> u
     ensures why { result ≢ 0 → stream.old.is_open ≡ true → Why (Query text.now) (free stream.old) result }
     ensures kept { result ≢ 0 → Keeps stream.old stream.new }
 {
-    let len = stream.len;
-    if stream.is_open != true {
-        return WRONG_PHASE;
-    }
-    if len > stream.room.len() {
-        return NO_ROOM;
-    }
-    let mut added = 0;
-    let code = pgp_query(text, &mut stream.room[len..], &mut added);
-    stream.len = len.saturating_add(added);
-    code
+    add(stream, &PlainMessage::Query(text))
 }
 
 /// Prepares a statement of this name, with the types of its first parameters.
@@ -267,17 +207,7 @@ pub extern "C" fn pgp_stream_describe(stream: &mut PgpStream<'_>, variant: u8, n
     ensures why { result ≢ 0 → stream.old.is_open ≡ true → Why (Describe variant name.now) (free stream.old) result }
     ensures kept { result ≢ 0 → Keeps stream.old stream.new }
 {
-    let len = stream.len;
-    if stream.is_open != true {
-        return WRONG_PHASE;
-    }
-    if len > stream.room.len() {
-        return NO_ROOM;
-    }
-    let mut added = 0;
-    let code = pgp_describe(variant, name, &mut stream.room[len..], &mut added);
-    stream.len = len.saturating_add(added);
-    code
+    add(stream, &PlainMessage::Describe(variant, name))
 }
 
 /// Runs a portal, for at most so many rows; 0 is no limit.
@@ -292,17 +222,7 @@ pub extern "C" fn pgp_stream_execute(
     ensures why { result ≢ 0 → stream.old.is_open ≡ true → Why (Execute portal.now max_rows) (free stream.old) result }
     ensures kept { result ≢ 0 → Keeps stream.old stream.new }
 {
-    let len = stream.len;
-    if stream.is_open != true {
-        return WRONG_PHASE;
-    }
-    if len > stream.room.len() {
-        return NO_ROOM;
-    }
-    let mut added = 0;
-    let code = pgp_execute(portal, max_rows, &mut stream.room[len..], &mut added);
-    stream.len = len.saturating_add(added);
-    code
+    add(stream, &PlainMessage::Execute(portal, max_rows))
 }
 
 /// Closes a statement (`S`) or a portal (`P`).
@@ -313,17 +233,7 @@ pub extern "C" fn pgp_stream_close(stream: &mut PgpStream<'_>, variant: u8, name
     ensures why { result ≢ 0 → stream.old.is_open ≡ true → Why (Close variant name.now) (free stream.old) result }
     ensures kept { result ≢ 0 → Keeps stream.old stream.new }
 {
-    let len = stream.len;
-    if stream.is_open != true {
-        return WRONG_PHASE;
-    }
-    if len > stream.room.len() {
-        return NO_ROOM;
-    }
-    let mut added = 0;
-    let code = pgp_close(variant, name, &mut stream.room[len..], &mut added);
-    stream.len = len.saturating_add(added);
-    code
+    add(stream, &PlainMessage::Close(variant, name))
 }
 
 /// Asks for what the server holds back.
@@ -334,17 +244,7 @@ pub extern "C" fn pgp_stream_flush(stream: &mut PgpStream<'_>) -> u32
     ensures why { result ≢ 0 → stream.old.is_open ≡ true → Why Flush (free stream.old) result }
     ensures kept { result ≢ 0 → Keeps stream.old stream.new }
 {
-    let len = stream.len;
-    if stream.is_open != true {
-        return WRONG_PHASE;
-    }
-    if len > stream.room.len() {
-        return NO_ROOM;
-    }
-    let mut added = 0;
-    let code = pgp_flush(&mut stream.room[len..], &mut added);
-    stream.len = len.saturating_add(added);
-    code
+    add(stream, &PlainMessage::Flush)
 }
 
 /// Ends a series of extended queries.
@@ -355,17 +255,7 @@ pub extern "C" fn pgp_stream_sync(stream: &mut PgpStream<'_>) -> u32
     ensures why { result ≢ 0 → stream.old.is_open ≡ true → Why Sync (free stream.old) result }
     ensures kept { result ≢ 0 → Keeps stream.old stream.new }
 {
-    let len = stream.len;
-    if stream.is_open != true {
-        return WRONG_PHASE;
-    }
-    if len > stream.room.len() {
-        return NO_ROOM;
-    }
-    let mut added = 0;
-    let code = pgp_sync(&mut stream.room[len..], &mut added);
-    stream.len = len.saturating_add(added);
-    code
+    add(stream, &PlainMessage::Sync)
 }
 
 /// The head of a message with so many bytes of data, which the caller sends behind what is pending.
@@ -397,17 +287,7 @@ pub extern "C" fn pgp_stream_copy_done(stream: &mut PgpStream<'_>) -> u32
     ensures why { result ≢ 0 → stream.old.is_open ≡ true → Why CopyDone (free stream.old) result }
     ensures kept { result ≢ 0 → Keeps stream.old stream.new }
 {
-    let len = stream.len;
-    if stream.is_open != true {
-        return WRONG_PHASE;
-    }
-    if len > stream.room.len() {
-        return NO_ROOM;
-    }
-    let mut added = 0;
-    let code = pgp_copy_done(&mut stream.room[len..], &mut added);
-    stream.len = len.saturating_add(added);
-    code
+    add(stream, &PlainMessage::CopyDone)
 }
 
 /// Gives a copy up, with a text for the server's report.
@@ -418,17 +298,7 @@ pub extern "C" fn pgp_stream_copy_fail(stream: &mut PgpStream<'_>, reason: &[u8]
     ensures why { result ≢ 0 → stream.old.is_open ≡ true → Why (CopyFail reason.now) (free stream.old) result }
     ensures kept { result ≢ 0 → Keeps stream.old stream.new }
 {
-    let len = stream.len;
-    if stream.is_open != true {
-        return WRONG_PHASE;
-    }
-    if len > stream.room.len() {
-        return NO_ROOM;
-    }
-    let mut added = 0;
-    let code = pgp_copy_fail(reason, &mut stream.room[len..], &mut added);
-    stream.len = len.saturating_add(added);
-    code
+    add(stream, &PlainMessage::CopyFail(reason))
 }
 
 /// The end of the session.
@@ -439,15 +309,26 @@ pub extern "C" fn pgp_stream_terminate(stream: &mut PgpStream<'_>) -> u32
     ensures why { result ≢ 0 → stream.old.is_open ≡ true → Why Terminate (free stream.old) result }
     ensures kept { result ≢ 0 → Keeps stream.old stream.new }
 {
+    add(stream, &PlainMessage::Terminate)
+}
+
+/// Adds a message without lists, where it may come.
+#[inline(always)]
+fn add(stream: &mut PgpStream<'_>, message: &PlainMessage<'_>) -> u32
+    ensures added { result ≡ 0 → Extends (message_of message.now) stream.old stream.new }
+    ensures phase { stream.old.is_open ≢ comes_open message.now → result ≡ 32 }
+    ensures why { result ≢ 0 → stream.old.is_open ≡ comes_open message.now → Why (message_of message.now) (free stream.old) result }
+    ensures kept { result ≢ 0 → Keeps stream.old stream.new }
+{
     let len = stream.len;
-    if stream.is_open != true {
+    if stream.is_open != comes_open(message) {
         return WRONG_PHASE;
     }
     if len > stream.room.len() {
         return NO_ROOM;
     }
     let mut added = 0;
-    let code = pgp_terminate(&mut stream.room[len..], &mut added);
+    let code = send(message, &mut stream.room[len..], &mut added);
     stream.len = len.saturating_add(added);
     code
 }

@@ -6,8 +6,8 @@ ghost use Rattle.pgp_types.specs.Scalar.{bool, int2, int4, int8, oid, lsn, float
 ghost use Rattle.pgp_types.specs.Time.{date, time, timestamp};
 ghost use Rattle.pgp_c.specs.Values.{Wrote, Lacks, Refuses};
 
-use crate::status::{failed, refused, sent};
-use pgp_base::Window;
+use crate::scalar::{Scalar, put};
+use crate::status::failed;
 
 /// Writes a `bool`.
 #[unsafe(no_mangle)]
@@ -15,11 +15,7 @@ pub extern "C" fn pgp_put_bool(value: bool, out: &mut [u8], written: &mut usize)
     ensures wrote { result ≡ 0 → Wrote (bool.written value) out.old out.new written.new }
     ensures lacks { result ≢ 0 → Lacks (bool.written value) out.old written.new result }
 {
-    let mut window = Window::new(out);
-    match pgp_types::bool_to_sql(value, &mut window) {
-        Ok(()) => sent(&window, written),
-        Err(e) => refused(e, written),
-    }
+    put(&Scalar::Bool(value), out, written)
 }
 
 /// Reads a `bool`, from all of the bytes.
@@ -44,11 +40,7 @@ pub extern "C" fn pgp_put_int2(value: i16, out: &mut [u8], written: &mut usize) 
     ensures wrote { result ≡ 0 → Wrote (int2.written value) out.old out.new written.new }
     ensures lacks { result ≢ 0 → Lacks (int2.written value) out.old written.new result }
 {
-    let mut window = Window::new(out);
-    match pgp_types::int2_to_sql(value, &mut window) {
-        Ok(()) => sent(&window, written),
-        Err(e) => refused(e, written),
-    }
+    put(&Scalar::Int2(value), out, written)
 }
 
 /// Reads an `int2`, from all of the bytes.
@@ -73,11 +65,7 @@ pub extern "C" fn pgp_put_int4(value: i32, out: &mut [u8], written: &mut usize) 
     ensures wrote { result ≡ 0 → Wrote (int4.written value) out.old out.new written.new }
     ensures lacks { result ≢ 0 → Lacks (int4.written value) out.old written.new result }
 {
-    let mut window = Window::new(out);
-    match pgp_types::int4_to_sql(value, &mut window) {
-        Ok(()) => sent(&window, written),
-        Err(e) => refused(e, written),
-    }
+    put(&Scalar::Int4(value), out, written)
 }
 
 /// Reads an `int4`, from all of the bytes.
@@ -102,11 +90,7 @@ pub extern "C" fn pgp_put_int8(value: i64, out: &mut [u8], written: &mut usize) 
     ensures wrote { result ≡ 0 → Wrote (int8.written value) out.old out.new written.new }
     ensures lacks { result ≢ 0 → Lacks (int8.written value) out.old written.new result }
 {
-    let mut window = Window::new(out);
-    match pgp_types::int8_to_sql(value, &mut window) {
-        Ok(()) => sent(&window, written),
-        Err(e) => refused(e, written),
-    }
+    put(&Scalar::Int8(value), out, written)
 }
 
 /// Reads an `int8`, from all of the bytes.
@@ -131,11 +115,7 @@ pub extern "C" fn pgp_put_oid(value: u32, out: &mut [u8], written: &mut usize) -
     ensures wrote { result ≡ 0 → Wrote (oid.written value) out.old out.new written.new }
     ensures lacks { result ≢ 0 → Lacks (oid.written value) out.old written.new result }
 {
-    let mut window = Window::new(out);
-    match pgp_types::oid_to_sql(value, &mut window) {
-        Ok(()) => sent(&window, written),
-        Err(e) => refused(e, written),
-    }
+    put(&Scalar::Oid(value), out, written)
 }
 
 /// Reads an `oid`, from all of the bytes.
@@ -160,11 +140,7 @@ pub extern "C" fn pgp_put_lsn(value: u64, out: &mut [u8], written: &mut usize) -
     ensures wrote { result ≡ 0 → Wrote (lsn.written value) out.old out.new written.new }
     ensures lacks { result ≢ 0 → Lacks (lsn.written value) out.old written.new result }
 {
-    let mut window = Window::new(out);
-    match pgp_types::lsn_to_sql(value, &mut window) {
-        Ok(()) => sent(&window, written),
-        Err(e) => refused(e, written),
-    }
+    put(&Scalar::Lsn(value), out, written)
 }
 
 /// Reads a `pg_lsn`, from all of the bytes.
@@ -189,11 +165,7 @@ pub extern "C" fn pgp_put_float4(value: u32, out: &mut [u8], written: &mut usize
     ensures wrote { result ≡ 0 → Wrote (float4.written value) out.old out.new written.new }
     ensures lacks { result ≢ 0 → Lacks (float4.written value) out.old written.new result }
 {
-    let mut window = Window::new(out);
-    match pgp_types::float4_to_sql(value, &mut window) {
-        Ok(()) => sent(&window, written),
-        Err(e) => refused(e, written),
-    }
+    put(&Scalar::Float4(value), out, written)
 }
 
 /// Reads a `float4`, as its bits, from all of the bytes.
@@ -218,11 +190,7 @@ pub extern "C" fn pgp_put_float8(value: u64, out: &mut [u8], written: &mut usize
     ensures wrote { result ≡ 0 → Wrote (float8.written value) out.old out.new written.new }
     ensures lacks { result ≢ 0 → Lacks (float8.written value) out.old written.new result }
 {
-    let mut window = Window::new(out);
-    match pgp_types::float8_to_sql(value, &mut window) {
-        Ok(()) => sent(&window, written),
-        Err(e) => refused(e, written),
-    }
+    put(&Scalar::Float8(value), out, written)
 }
 
 /// Reads a `float8`, as its bits, from all of the bytes.
@@ -247,11 +215,7 @@ pub extern "C" fn pgp_put_timestamp(value: i64, out: &mut [u8], written: &mut us
     ensures wrote { result ≡ 0 → Wrote (timestamp.written value) out.old out.new written.new }
     ensures lacks { result ≢ 0 → Lacks (timestamp.written value) out.old written.new result }
 {
-    let mut window = Window::new(out);
-    match pgp_types::timestamp_to_sql(value, &mut window) {
-        Ok(()) => sent(&window, written),
-        Err(e) => refused(e, written),
-    }
+    put(&Scalar::Timestamp(value), out, written)
 }
 
 /// Reads a `timestamp`, from all of the bytes.
@@ -276,11 +240,7 @@ pub extern "C" fn pgp_put_time(value: i64, out: &mut [u8], written: &mut usize) 
     ensures wrote { result ≡ 0 → Wrote (time.written value) out.old out.new written.new }
     ensures lacks { result ≢ 0 → Lacks (time.written value) out.old written.new result }
 {
-    let mut window = Window::new(out);
-    match pgp_types::time_to_sql(value, &mut window) {
-        Ok(()) => sent(&window, written),
-        Err(e) => refused(e, written),
-    }
+    put(&Scalar::Time(value), out, written)
 }
 
 /// Reads a `time`, from all of the bytes.
@@ -305,11 +265,7 @@ pub extern "C" fn pgp_put_date(value: i32, out: &mut [u8], written: &mut usize) 
     ensures wrote { result ≡ 0 → Wrote (date.written value) out.old out.new written.new }
     ensures lacks { result ≢ 0 → Lacks (date.written value) out.old written.new result }
 {
-    let mut window = Window::new(out);
-    match pgp_types::date_to_sql(value, &mut window) {
-        Ok(()) => sent(&window, written),
-        Err(e) => refused(e, written),
-    }
+    put(&Scalar::Date(value), out, written)
 }
 
 /// Reads a `date`, from all of the bytes.

@@ -1,5 +1,5 @@
 -- How many bytes messages take, and growths that were refused on the way.
-use Rattle.std.proofs.Common.{◌≡◌, ℕ, ℤ, ◌+◌, ◌≤◌, List, [], ◌∷◌, ◌++◌, length, Option, Some, None, ap, ◌∙◌, arith, length-append, rules}
+use Rattle.std.proofs.Common.{◌≡◌, ℕ, ℤ, negsuc, ◌+◌, ◌≤◌, List, [], ◌∷◌, ◌++◌, length, Option, Some, None, ap, ◌∙◌, arith, length-append, rules}
 use Rattle.std.specs.Prelude.{FitsSigned}
 use Rattle.std.specs.Int.{w32}
 use Rattle.std.proofs.lemmas.List.{append-nil}
@@ -26,6 +26,9 @@ int16_length z = ap length (int16_spelled z) ∙ length-uint16 _
 
 pub int32_length : (z : ℤ) → length (int32 z) ≡ 4
 int32_length z = ap length (int32_spelled z) ∙ length-uint32 _
+
+pub null_length : length (nullable None) ≡ 4
+null_length = int32_length (negsuc 0)
 
 pub joined_more : (ps : List Part) (p : Part) → length (joined (ps ++ p ∷ [])) ≡ length (joined ps) + length (spelling p)
 joined_more ps p = flat_more spelling ps p

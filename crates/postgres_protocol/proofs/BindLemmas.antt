@@ -1,5 +1,5 @@
 -- The message that binds one value, and the one that binds an array of steps.
-use Rattle.std.proofs.Common.{◌≡◌, ℕ, ◌+◌, ◌≤◌, ℤ, pos, negsuc, List, [], ◌∷◌, ◌++◌, length, take, Option, Some, None, Result, Ok, Err, MutBor, refl, sym, ap, subst, ◌∙◌, inl, inr, arith}
+use Rattle.std.proofs.Common.{◌≡◌, ℕ, ◌+◌, ◌≤◌, ℤ, pos, List, [], ◌∷◌, ◌++◌, length, take, Option, Some, None, Result, Ok, Err, MutBor, refl, sym, ap, subst, ◌∙◌, inl, inr, arith}
 use Rattle.std.specs.Prelude.{map, ◌⊎◌}
 use Rattle.std.specs.List.{flat_map}
 use Rattle.std.proofs.lemmas.List.{append-nil}
@@ -13,11 +13,11 @@ use Rattle.pgp_base.specs.Wire.{uint16, uint32, int16, nullable, counted}
 use Rattle.pgp_base.specs.Cause.{Cause, Wants, either}
 use Rattle.pgp_base.specs.Held.{Held, ◌⊕◌}
 use Rattle.pgp_base.specs.Calls.{value_of, Puts, Gives, Runs}
-use Rattle.pgp_base.proofs.Causes.{either_first}
 use Rattle.pgp_base.proofs.Needs.{flat_more, counted_length, nullable_least, sized_wants, counted_wants}
 use Rattle.pgp_base.proofs.Parts.{nothing_more, wants_more}
+use Rattle.pgp_frontend.proofs.Causes.{parts_first}
 use Rattle.pgp_frontend.proofs.Fields.{cause_front}
-use Rattle.pgp_frontend.proofs.Needs.{int32_length, bind_length, joined_more, framed_wants}
+use Rattle.pgp_frontend.proofs.Needs.{null_length, bind_length, joined_more, framed_wants}
 use Rattle.pgp_frontend.specs.ClientMessage.{ClientMessage, Bind}
 use Rattle.pgp_frontend.specs.Payload.{Part, Text, Int16s, Values, part_cause, parts, parts_cause, joined, bytes_of, cause}
 use Rattle.pgp_frontend.specs.Given.{Arrived, Serves, before_values, BindWhole, BindSoFar, BindRefused, WritesBind}
@@ -33,10 +33,6 @@ use Rattle.postgres_protocol.proofs.StepLemmas.{same_more}
 
 only_one : (vs : List (Option (List ℕ))) (v w : Option (List ℕ)) → vs ≡ [] → v ≡ w → vs ++ v ∷ [] ≡ w ∷ []
 only_one vs v w e f = rw (e, f) refl
-
--- a cause of the parts is one of the message
-pub parts_first : (m : ClientMessage) (e : Error) → parts_cause (parts m) ≡ Some e → cause m ≡ Some e
-parts_first m e h = either_first (parts_cause (parts m)) _ e h
 
 module _ (to : Target) where
   -- the parts up to the value, and all of them
@@ -81,9 +77,6 @@ module _ (to : Target) where
   null_alone fs vs e f = rw (e, f) (names_last (part_cause (Text to.portal)) (part_cause (Text to.statement)))
 
 -- ---- growths that the message of one value needs
-
-pub null_length : length (nullable None) ≡ 4
-null_length = int32_length (negsuc 0)
 
 -- of a list that came none or all of it did so far
 asked_all : {A : Type 0} (given : List A → Option A → Type 0) (all : List A) → ((xs : List A) → given xs None → xs ≡ all) → ((xs : List A) (x : A) → given xs (Some x) → xs ++ x ∷ [] ≡ all)

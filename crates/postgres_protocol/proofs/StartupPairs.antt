@@ -16,6 +16,7 @@ use Rattle.pgp_frontend.specs.Given.{Arrived, shown, shown_pairs}
 use Rattle.pgp_frontend.specs.declared.startup.ProtocolVersion.{ProtocolVersion}
 use Rattle.pgp_frontend.specs.Payload.{Part, Int32, version_code, pair, pair_cause, parts_cause, bytes_of, cause}
 use Rattle.pgp_base.proofs.Parts.{wants_more}
+use Rattle.pgp_frontend.proofs.Causes.{either_more}
 use Rattle.pgp_frontend.proofs.Needs.{startup_length}
 
 -- ---- the items of a list, one after another
@@ -66,10 +67,6 @@ startup_wants v all xs old so_far w =
     wants_more old _ _ (omega (arith, front, less, some, whole, length-append (flat_map pair (map shown xs)) (0 ∷ []), length-append (flat_map pair (map shown all)) (0 ∷ []))) w
 
 -- ---- the first cause of the first pairs is that of the packet
-
-pub either_more : (c a b : Cause) (e : Error) → (a ≡ Some e → b ≡ Some e) → either c a ≡ Some e → either c b ≡ Some e
-either_more (Some d) a b e more h = h
-either_more None a b e more h = more h
 
 either_left : (c : Cause) (e : Error) → either c None ≡ Some e → c ≡ Some e
 either_left (Some d) e h = h

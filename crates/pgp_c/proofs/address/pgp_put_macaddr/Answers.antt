@@ -1,18 +1,12 @@
-use Rattle.std.proofs.Common.{rules, refl, sym, subst, inr}
+use Rattle.std.proofs.Common.{refl, sym, subst, inr}
 use Rattle.pgp_types.specs.Format.{IsBlock}
-use Rattle.pgp_c.proofs.Sending.{wrote, lacked}
+use Rattle.pgp_c.proofs.Sending.{wrote_same, lacks_same}
 use Rattle.pgp_c.proofs.address.pgp_put_macaddr.Goals as goal
 
-pub returns-in-Ok-macaddr_to_sql-clause-wrote : goal.returns-in-Ok-macaddr_to_sql-clause-wrote
-returns-in-Ok-macaddr_to_sql-clause-wrote c z =
-    let k = c.in-Ok.ensures in (
-      (subst (λ l. IsBlock 6 l) (sym k.1) k.0, refl),
-      wrote c.args.address.now c.in-Ok.address (sym k.1) c.new-window.result c.macaddr_to_sql.new.buf c.args.out.now _ c.new-window.ensures c.in-Ok-macaddr_to_sql.ensures.1 _ (search rules) _ c.sent.ensures.told,
-    )
+pub returns-in-Ok-clause-wrote : goal.returns-in-Ok-clause-wrote
+returns-in-Ok-clause-wrote c z =
+    let k = c.in-Ok.ensures in ((subst (λ l. IsBlock 6 l) (sym k.1) k.0, refl), wrote_same c.args.address.now c.in-Ok.octets (sym k.1) c.args.out.now _ _ (c.put.ensures.wrote z))
 
-pub returns-in-Err-macaddr_to_sql-clause-refused : goal.returns-in-Err-macaddr_to_sql-clause-refused
-returns-in-Err-macaddr_to_sql-clause-refused c z =
-    let k = c.in-Ok.ensures in (
-      c.refused-in-Err-macaddr_to_sql.ensures.told,
-      inr (lacked c.args.address.now c.in-Ok.address (sym k.1) c.new-window.result c.args.out.now _ c.new-window.ensures c.in-Err-macaddr_to_sql.e _ _ c.in-Err-macaddr_to_sql.ensures.0 c.refused-in-Err-macaddr_to_sql.ensures.code c.refused-in-Err-macaddr_to_sql.ensures.told),
-    )
+pub returns-in-Ok-clause-refused : goal.returns-in-Ok-clause-refused
+returns-in-Ok-clause-refused c z =
+    let lacks = c.put.ensures.lacks z in (lacks.length_is, inr (lacks_same c.args.address.now c.in-Ok.octets (sym c.in-Ok.ensures.1) c.args.out.now _ _ lacks))

@@ -1,8 +1,0 @@
-use Rattle.std.proofs.Common.{rules, refl, true}
-use Rattle.pgp_frontend.specs.ClientMessage.{Close}
-use Rattle.pgp_c.proofs.Extensions.{extends, parts_of}
-use Rattle.pgp_c.proofs.stream.pgp_stream_close.Goals as goal
-
-pub returns-clause-added : goal.returns-clause-added
-returns-clause-added c z =
-    extends (Close c.args.variant c.args.name.now) c.args.stream.now _ c.pgp_close-code.new.out _ c.pgp_close-code.new.written _ _ refl c.if-len-stream.false (c.pgp_close-code.ensures.sent z) c.saturating_add-stream.ensures (search rules) (search rules) (parts_of c.args.stream.now) true (search rules) (λ e. absurd cc) refl

@@ -1,0 +1,25 @@
+-- Private: the values of a fixed size, as one type.
+use Rattle.std.specs.Prelude.{ℕ, List}
+use Rattle.pgp_types.specs.Network.{macaddr, uuid}
+use Rattle.pgp_types.specs.Range.{empty, range}
+use Rattle.pgp_types.specs.Scalar.{bool, int2, int4, int8, oid, lsn, float4, float8}
+use Rattle.pgp_types.specs.Time.{date, time, timestamp}
+use Rattle.pgp_c.specs.declared.scalar.Scalar.{Scalar}
+use Rattle.pgp_c.specs.declared.scalar.Scalar.TheVariants.{Bool, Date, EmptyRange, Float4, Float8, Int2, Int4, Int8, Lsn, Macaddr, Oid, Time, Timestamp, Uuid}
+
+-- the bytes that are written
+abbrev pub spelled : Scalar → List ℕ
+spelled (Bool b) = bool.written b
+spelled (Date days) = date.written days
+spelled EmptyRange = range.written empty
+spelled (Float4 bits) = float4.written bits
+spelled (Float8 bits) = float8.written bits
+spelled (Int2 n) = int2.written n
+spelled (Int4 n) = int4.written n
+spelled (Int8 n) = int8.written n
+spelled (Lsn n) = lsn.written n
+spelled (Macaddr octets) = macaddr.written octets
+spelled (Oid n) = oid.written n
+spelled (Time t) = time.written t
+spelled (Timestamp t) = timestamp.written t
+spelled (Uuid octets) = uuid.written octets

@@ -1,0 +1,65 @@
+//! The values of a fixed size: what writes each of them stands once.
+
+ghost use Rattle.std.specs.Prelude.{◌≡◌, ◌≢◌, None};
+ghost use Rattle.pgp_base.specs.Cause.{Writes};
+ghost use Rattle.pgp_c.specs.Scalars.{spelled};
+ghost use Rattle.pgp_c.specs.Values.{Lacks, Wrote};
+
+use crate::status::{refused, sent};
+use pgp_base::{Buffer, Error, Window};
+
+/// A value of a fixed size; one of a `float4` or a `float8` by its bits.
+#[derive(Clone, Copy)]
+pub enum Scalar {
+    Bool(bool),
+    Date(i32),
+    EmptyRange,
+    Float4(u32),
+    Float8(u64),
+    Int2(i16),
+    Int4(i32),
+    Int8(i64),
+    Lsn(u64),
+    Macaddr([u8; 6]),
+    Oid(u32),
+    Time(i64),
+    Timestamp(i64),
+    Uuid([u8; 16]),
+}
+
+/// Writes the value to the front of the memory.
+// The hints carry the speed: an export names its type, so that of the choice nothing is left in it.
+#[inline(always)]
+pub fn put(value: &Scalar, out: &mut [u8], written: &mut usize) -> u32
+    ensures wrote { result ≡ 0 → Wrote (spelled value.now) out.old out.new written.new }
+    ensures lacks { result ≢ 0 → Lacks (spelled value.now) out.old written.new result }
+{
+    let mut window = Window::new(out);
+    match append(value, &mut window) {
+        Ok(()) => sent(&window, written),
+        Err(e) => refused(e, written),
+    }
+}
+
+/// Appends the value.
+#[inline(always)]
+fn append<B: Buffer>(value: &Scalar, buf: &mut B) -> Result<(), Error>
+    ensures { Writes (spelled value.now) None B.Lacks (B.held buf.old) (B.held buf.new) result }
+{
+    match value {
+        Scalar::Bool(value) => pgp_types::bool_to_sql(*value, buf),
+        Scalar::Date(days) => pgp_types::date_to_sql(*days, buf),
+        Scalar::EmptyRange => pgp_types::empty_range_to_sql(buf),
+        Scalar::Float4(bits) => pgp_types::float4_to_sql(*bits, buf),
+        Scalar::Float8(bits) => pgp_types::float8_to_sql(*bits, buf),
+        Scalar::Int2(value) => pgp_types::int2_to_sql(*value, buf),
+        Scalar::Int4(value) => pgp_types::int4_to_sql(*value, buf),
+        Scalar::Int8(value) => pgp_types::int8_to_sql(*value, buf),
+        Scalar::Lsn(value) => pgp_types::lsn_to_sql(*value, buf),
+        Scalar::Macaddr(octets) => pgp_types::macaddr_to_sql(*octets, buf),
+        Scalar::Oid(value) => pgp_types::oid_to_sql(*value, buf),
+        Scalar::Time(time) => pgp_types::time_to_sql(*time, buf),
+        Scalar::Timestamp(time) => pgp_types::timestamp_to_sql(*time, buf),
+        Scalar::Uuid(octets) => pgp_types::uuid_to_sql(*octets, buf),
+    }
+}
