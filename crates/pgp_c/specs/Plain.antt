@@ -1,4 +1,4 @@
--- The messages without lists, as C hands them over.
+-- Private: the messages without lists, as one type.
 use Rattle.std.specs.Prelude.{Bool, true, false}
 use Rattle.pgp_frontend.specs.ClientMessage.{ClientMessage}
 use Rattle.pgp_frontend.specs.ClientMessage as client

@@ -1,4 +1,4 @@
--- The values of a fixed size, as C hands them over.
+-- Private: the values of a fixed size, as one type.
 use Rattle.std.specs.Prelude.{ℕ, List}
 use Rattle.pgp_types.specs.Network.{macaddr, uuid}
 use Rattle.pgp_types.specs.Range.{empty, range}

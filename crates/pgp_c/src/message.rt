@@ -1,13 +1,14 @@
-//! The messages whose parts are texts, bytes and numbers: what writes each of them stands once, for the exports of one message and for a stream's.
+//! The messages whose parts are texts, bytes and numbers, as one type: so what adds a message to a stream stands once.
 
 ghost use Rattle.std.specs.Prelude.{◌≡◌, ◌≢◌};
-ghost use Rattle.pgp_frontend.specs.Payload.{WritesMessage};
 ghost use Rattle.pgp_c.specs.Plain.{comes_open, message_of};
 ghost use Rattle.pgp_c.specs.Sending.{Sent, NotSent};
 
-use crate::status::{refused, sent};
-use pgp_base::{Buffer, Error, Window};
-use pgp_frontend::over_bytes;
+use crate::writing::{
+    pgp_cancel_request, pgp_close, pgp_copy_done, pgp_copy_fail, pgp_describe, pgp_execute,
+    pgp_flush, pgp_password_message, pgp_query, pgp_sasl_initial_response, pgp_sasl_response,
+    pgp_ssl_request, pgp_sync, pgp_terminate,
+};
 
 /// A message without lists, of the caller's texts and bytes.
 #[derive(Clone, Copy)]
@@ -29,41 +30,29 @@ pub enum PlainMessage<'a> {
 }
 
 /// Writes the message to the front of the memory.
-// The hints carry the speed: an export names its message, so that of the choice nothing is left in it.
+// The hint carries the speed, here and below: an export names its message, so that of the choice nothing is left in it.
 #[inline(always)]
 pub fn send(message: &PlainMessage<'_>, out: &mut [u8], written: &mut usize) -> u32
     ensures sent { result ≡ 0 → Sent (message_of message.now) out.old out.new written.new }
     ensures refused { result ≢ 0 → NotSent (message_of message.now) out.old written.new result }
 {
-    let mut window = Window::new(out);
-    match write(message, &mut window) {
-        Ok(()) => sent(&window, written),
-        Err(e) => refused(e, written),
-    }
-}
-
-/// Appends the message.
-#[inline(always)]
-fn write<B: Buffer>(message: &PlainMessage<'_>, buf: &mut B) -> Result<(), Error>
-    ensures { WritesMessage (message_of message.now) B.Lacks (B.held buf.old) (B.held buf.new) result }
-{
     match message {
-        PlainMessage::CancelRequest(id, key) => pgp_frontend::cancel_request_key(*id, key, buf),
-        PlainMessage::Close(variant, name) => over_bytes::close(*variant, name, buf),
-        PlainMessage::CopyDone => pgp_frontend::copy_done(buf),
-        PlainMessage::CopyFail(reason) => over_bytes::copy_fail(reason, buf),
-        PlainMessage::Describe(variant, name) => over_bytes::describe(*variant, name, buf),
-        PlainMessage::Execute(portal, rows) => over_bytes::execute(portal, *rows, buf),
-        PlainMessage::Flush => pgp_frontend::flush(buf),
-        PlainMessage::PasswordMessage(text) => pgp_frontend::password_message(text, buf),
-        PlainMessage::Query(text) => over_bytes::query(text, buf),
+        PlainMessage::CancelRequest(id, key) => pgp_cancel_request(*id, key, out, written),
+        PlainMessage::Close(variant, name) => pgp_close(*variant, name, out, written),
+        PlainMessage::CopyDone => pgp_copy_done(out, written),
+        PlainMessage::CopyFail(reason) => pgp_copy_fail(reason, out, written),
+        PlainMessage::Describe(variant, name) => pgp_describe(*variant, name, out, written),
+        PlainMessage::Execute(portal, rows) => pgp_execute(portal, *rows, out, written),
+        PlainMessage::Flush => pgp_flush(out, written),
+        PlainMessage::PasswordMessage(text) => pgp_password_message(text, out, written),
+        PlainMessage::Query(text) => pgp_query(text, out, written),
         PlainMessage::SaslInitialResponse(mechanism, text) => {
-            over_bytes::sasl_initial_response(mechanism, text, buf)
+            pgp_sasl_initial_response(mechanism, text, out, written)
         }
-        PlainMessage::SaslResponse(text) => pgp_frontend::sasl_response(text, buf),
-        PlainMessage::SslRequest => pgp_frontend::ssl_request(buf),
-        PlainMessage::Sync => pgp_frontend::sync(buf),
-        PlainMessage::Terminate => pgp_frontend::terminate(buf),
+        PlainMessage::SaslResponse(text) => pgp_sasl_response(text, out, written),
+        PlainMessage::SslRequest => pgp_ssl_request(out, written),
+        PlainMessage::Sync => pgp_sync(out, written),
+        PlainMessage::Terminate => pgp_terminate(out, written),
     }
 }
 

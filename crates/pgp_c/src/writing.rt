@@ -4,7 +4,9 @@ ghost use Rattle.std.specs.Prelude.{◌≡◌, ◌≢◌};
 ghost use Rattle.pgp_frontend.specs.ClientMessage.{CancelRequest, Close, CopyDone, CopyFail, Describe, Execute, Flush, PasswordMessage, Query, SaslInitialResponse, SaslResponse, SslRequest, Sync, Terminate};
 ghost use Rattle.pgp_c.specs.Sending.{Sent, NotSent};
 
-use crate::message::{PlainMessage, send};
+use crate::status::{refused, sent};
+use pgp_base::Window;
+use pgp_frontend::over_bytes;
 
 /// A query of any number of statements.
 #[unsafe(no_mangle)]
@@ -12,7 +14,11 @@ pub extern "C" fn pgp_query(text: &[u8], out: &mut [u8], written: &mut usize) ->
     ensures sent { result ≡ 0 → Sent (Query text.now) out.old out.new written.new }
     ensures refused { result ≢ 0 → NotSent (Query text.now) out.old written.new result }
 {
-    send(&PlainMessage::Query(text), out, written)
+    let mut window = Window::new(out);
+    match over_bytes::query(text, &mut window) {
+        Ok(()) => sent(&window, written),
+        Err(e) => refused(e, written),
+    }
 }
 
 /// The end of the session.
@@ -21,7 +27,11 @@ pub extern "C" fn pgp_terminate(out: &mut [u8], written: &mut usize) -> u32
     ensures sent { result ≡ 0 → Sent Terminate out.old out.new written.new }
     ensures refused { result ≢ 0 → NotSent Terminate out.old written.new result }
 {
-    send(&PlainMessage::Terminate, out, written)
+    let mut window = Window::new(out);
+    match pgp_frontend::terminate(&mut window) {
+        Ok(()) => sent(&window, written),
+        Err(e) => refused(e, written),
+    }
 }
 
 /// Closes a statement (`S`) or a portal (`P`).
@@ -30,7 +40,11 @@ pub extern "C" fn pgp_close(variant: u8, name: &[u8], out: &mut [u8], written: &
     ensures sent { result ≡ 0 → Sent (Close variant name.now) out.old out.new written.new }
     ensures refused { result ≢ 0 → NotSent (Close variant name.now) out.old written.new result }
 {
-    send(&PlainMessage::Close(variant, name), out, written)
+    let mut window = Window::new(out);
+    match over_bytes::close(variant, name, &mut window) {
+        Ok(()) => sent(&window, written),
+        Err(e) => refused(e, written),
+    }
 }
 
 /// Asks what a statement (`S`) or a portal (`P`) gives.
@@ -39,7 +53,11 @@ pub extern "C" fn pgp_describe(variant: u8, name: &[u8], out: &mut [u8], written
     ensures sent { result ≡ 0 → Sent (Describe variant name.now) out.old out.new written.new }
     ensures refused { result ≢ 0 → NotSent (Describe variant name.now) out.old written.new result }
 {
-    send(&PlainMessage::Describe(variant, name), out, written)
+    let mut window = Window::new(out);
+    match over_bytes::describe(variant, name, &mut window) {
+        Ok(()) => sent(&window, written),
+        Err(e) => refused(e, written),
+    }
 }
 
 /// Runs a portal, for at most so many rows; 0 is no limit.
@@ -53,7 +71,11 @@ pub extern "C" fn pgp_execute(
     ensures sent { result ≡ 0 → Sent (Execute portal.now max_rows) out.old out.new written.new }
     ensures refused { result ≢ 0 → NotSent (Execute portal.now max_rows) out.old written.new result }
 {
-    send(&PlainMessage::Execute(portal, max_rows), out, written)
+    let mut window = Window::new(out);
+    match over_bytes::execute(portal, max_rows, &mut window) {
+        Ok(()) => sent(&window, written),
+        Err(e) => refused(e, written),
+    }
 }
 
 /// Ends a series of extended queries.
@@ -62,7 +84,11 @@ pub extern "C" fn pgp_sync(out: &mut [u8], written: &mut usize) -> u32
     ensures sent { result ≡ 0 → Sent Sync out.old out.new written.new }
     ensures refused { result ≢ 0 → NotSent Sync out.old written.new result }
 {
-    send(&PlainMessage::Sync, out, written)
+    let mut window = Window::new(out);
+    match pgp_frontend::sync(&mut window) {
+        Ok(()) => sent(&window, written),
+        Err(e) => refused(e, written),
+    }
 }
 
 /// Asks for what the server holds back.
@@ -71,7 +97,11 @@ pub extern "C" fn pgp_flush(out: &mut [u8], written: &mut usize) -> u32
     ensures sent { result ≡ 0 → Sent Flush out.old out.new written.new }
     ensures refused { result ≢ 0 → NotSent Flush out.old written.new result }
 {
-    send(&PlainMessage::Flush, out, written)
+    let mut window = Window::new(out);
+    match pgp_frontend::flush(&mut window) {
+        Ok(()) => sent(&window, written),
+        Err(e) => refused(e, written),
+    }
 }
 
 /// The end of the data of a copy.
@@ -80,7 +110,11 @@ pub extern "C" fn pgp_copy_done(out: &mut [u8], written: &mut usize) -> u32
     ensures sent { result ≡ 0 → Sent CopyDone out.old out.new written.new }
     ensures refused { result ≢ 0 → NotSent CopyDone out.old written.new result }
 {
-    send(&PlainMessage::CopyDone, out, written)
+    let mut window = Window::new(out);
+    match pgp_frontend::copy_done(&mut window) {
+        Ok(()) => sent(&window, written),
+        Err(e) => refused(e, written),
+    }
 }
 
 /// Gives a copy up, with a text for the server's report.
@@ -89,7 +123,11 @@ pub extern "C" fn pgp_copy_fail(reason: &[u8], out: &mut [u8], written: &mut usi
     ensures sent { result ≡ 0 → Sent (CopyFail reason.now) out.old out.new written.new }
     ensures refused { result ≢ 0 → NotSent (CopyFail reason.now) out.old written.new result }
 {
-    send(&PlainMessage::CopyFail(reason), out, written)
+    let mut window = Window::new(out);
+    match over_bytes::copy_fail(reason, &mut window) {
+        Ok(()) => sent(&window, written),
+        Err(e) => refused(e, written),
+    }
 }
 
 /// Asks for an encrypted session.
@@ -98,7 +136,11 @@ pub extern "C" fn pgp_ssl_request(out: &mut [u8], written: &mut usize) -> u32
     ensures sent { result ≡ 0 → Sent SslRequest out.old out.new written.new }
     ensures refused { result ≢ 0 → NotSent SslRequest out.old written.new result }
 {
-    send(&PlainMessage::SslRequest, out, written)
+    let mut window = Window::new(out);
+    match pgp_frontend::ssl_request(&mut window) {
+        Ok(()) => sent(&window, written),
+        Err(e) => refused(e, written),
+    }
 }
 
 /// Asks for the end of what another session runs, by the number and the key of its BackendKeyData.
@@ -112,11 +154,11 @@ pub extern "C" fn pgp_cancel_request(
     ensures sent { result ≡ 0 → Sent (CancelRequest process_id secret_key.now) out.old out.new written.new }
     ensures refused { result ≢ 0 → NotSent (CancelRequest process_id secret_key.now) out.old written.new result }
 {
-    send(
-        &PlainMessage::CancelRequest(process_id, secret_key),
-        out,
-        written,
-    )
+    let mut window = Window::new(out);
+    match pgp_frontend::cancel_request_key(process_id, secret_key, &mut window) {
+        Ok(()) => sent(&window, written),
+        Err(e) => refused(e, written),
+    }
 }
 
 /// A password, or the answer to an MD5 request.
@@ -125,7 +167,11 @@ pub extern "C" fn pgp_password_message(password: &[u8], out: &mut [u8], written:
     ensures sent { result ≡ 0 → Sent (PasswordMessage password.now) out.old out.new written.new }
     ensures refused { result ≢ 0 → NotSent (PasswordMessage password.now) out.old written.new result }
 {
-    send(&PlainMessage::PasswordMessage(password), out, written)
+    let mut window = Window::new(out);
+    match pgp_frontend::password_message(password, &mut window) {
+        Ok(()) => sent(&window, written),
+        Err(e) => refused(e, written),
+    }
 }
 
 /// The choice of a SASL mechanism, and the first text of its exchange.
@@ -139,11 +185,11 @@ pub extern "C" fn pgp_sasl_initial_response(
     ensures sent { result ≡ 0 → Sent (SaslInitialResponse mechanism.now response.now) out.old out.new written.new }
     ensures refused { result ≢ 0 → NotSent (SaslInitialResponse mechanism.now response.now) out.old written.new result }
 {
-    send(
-        &PlainMessage::SaslInitialResponse(mechanism, response),
-        out,
-        written,
-    )
+    let mut window = Window::new(out);
+    match over_bytes::sasl_initial_response(mechanism, response, &mut window) {
+        Ok(()) => sent(&window, written),
+        Err(e) => refused(e, written),
+    }
 }
 
 /// A later text of a SASL exchange.
@@ -152,5 +198,9 @@ pub extern "C" fn pgp_sasl_response(response: &[u8], out: &mut [u8], written: &m
     ensures sent { result ≡ 0 → Sent (SaslResponse response.now) out.old out.new written.new }
     ensures refused { result ≢ 0 → NotSent (SaslResponse response.now) out.old written.new result }
 {
-    send(&PlainMessage::SaslResponse(response), out, written)
+    let mut window = Window::new(out);
+    match pgp_frontend::sasl_response(response, &mut window) {
+        Ok(()) => sent(&window, written),
+        Err(e) => refused(e, written),
+    }
 }
