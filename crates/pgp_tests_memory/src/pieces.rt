@@ -2,12 +2,11 @@
 //! message formats of the PostgreSQL manual.
 
 use crate::checks::{holds, holds_at, same};
+use crate::turns::{DONE, Tried, Turn, WRONG, refusals_of};
 use pgp_base::{Error, Memory};
 use pgp_message::{Message, Storage};
-use pgp_test_alloc::Refusing;
 use postgres_protocol::session::{StreamParser, parse_stream};
-use std::alloc::{AllocError, Global};
-use std::process::Abort;
+use std::alloc::{AllocError, Allocator, Global};
 use std::test::Fail;
 
 /// AuthenticationSASL, RowDescription, DataRow, ErrorResponse, a ReadyForQuery with a byte too many,
@@ -100,80 +99,79 @@ fn read_two<A: Memory>(
     answer
 }
 
-/// How often a parser of these two pieces was refused memory before it had all. One that is refused has failed, and what it
-/// read until then are the stream's first results.
-fn refusals_of_parser(
-    rt: &impl Abort,
-    alloc: Global,
-    pieces: [&[u8]; 2],
+/// What is left of that stream behind its last result.
+const REST: &[u8] = b"Z\0\0\0\x03";
+
+/// Two pieces for a parser. One that is refused memory has failed, and what it read until then are the stream's first results.
+#[derive(Clone, Copy)]
+struct Fed<'a> {
+    pieces: [&'a [u8]; 2],
     is_taken: bool,
-) -> Result<u64, Error> {
-    let mut refusals = 0u64;
-    for number in 1..1000u64 {
-        let heap = Refusing::new(alloc, 0);
-        let mut parser: StreamParser<&Refusing<Global>> = StreamParser::new(&heap);
-        let mut marks = Vec::new(alloc);
-        heap.until_refusal.set(number);
-        let answer = read_two(&mut parser, pieces, is_taken, &mut marks);
-        holds(rt, MARKS.starts_with(marks.as_slice()));
-        same(rt, parser.failed(), answer.is_err());
-        if answer.is_ok() {
-            same(rt, marks.as_slice(), MARKS);
-            holds(rt, parser.stopped());
-            same(rt, parser.rest(), b"Z\0\0\0\x03".as_slice());
-            same(rt, parser.headers(), 7);
-        } else {
-            same(rt, answer, Err(Error::OutOfMemory));
-            refusals = refusals.saturating_add(1);
-        }
-        if heap.until_refusal.get() != 0 {
-            break;
+    /// Where the marks of the results are kept.
+    memory: Global,
+}
+
+/// Whether a parser has all of that stream.
+fn has_all<A: Memory>(parser: &StreamParser<A>, marks: &[u8]) -> bool {
+    marks == MARKS && parser.stopped() && parser.rest() == REST && parser.headers() == 7
+}
+
+impl Tried for Fed<'_> {
+    fn outcome<A: Allocator + Copy>(&self, alloc: A, turn: Turn<'_>) -> Result<usize, Error> {
+        let mut parser = StreamParser::new(alloc);
+        let mut marks = Vec::new(self.memory);
+        turn.begin();
+        match read_two(&mut parser, self.pieces, self.is_taken, &mut marks) {
+            Ok(()) if !parser.failed() && has_all(&parser, marks.as_slice()) => Ok(DONE),
+            Err(e) if parser.failed() && MARKS.starts_with(marks.as_slice()) => Err(e),
+            _ => Ok(WRONG),
         }
     }
-    Ok(refusals)
 }
 
 /// The stream in two pieces, cut at each place.
 #[test]
-fn pieces_with_each_allocation_refused(rt: HostRuntime) -> Result<(), Fail> {
+fn pieces_with_each_allocation_refused(rt: HostRuntime) {
     for cut in 0..102usize {
         let (front, back) = HOSTILE.split_at(cut);
         for is_taken in [false, true] {
-            let refusals = refusals_of_parser(&rt, rt.alloc(), [front, back], is_taken)?;
-            holds_at(&rt, cut, refusals > 2);
+            let fed = Fed {
+                pieces: [front, back],
+                is_taken,
+                memory: rt.alloc(),
+            };
+            let refusals = refusals_of(&rt, rt.alloc(), &fed, Ok(DONE));
+            holds_at(&rt, cut, refusals.told > 2);
         }
     }
-    Ok(())
 }
 
-/// How often `parse_stream` was refused memory before it had all.
-fn refusals_of_stream(rt: &impl Abort, alloc: Global, pieces: [&[u8]; 2]) -> u64 {
-    let mut refusals = 0u64;
-    for number in 1..1000u64 {
-        let heap = Refusing::new(alloc, number);
-        match parse_stream(&heap, &pieces) {
-            Ok(parsed) => {
-                holds(rt, are_all(parsed.results()));
-                holds(rt, parsed.stopped());
-                same(rt, parsed.rest(), b"Z\0\0\0\x03".as_slice());
-            }
-            Err(e) => {
-                same(rt, e, Error::OutOfMemory);
-                refusals = refusals.saturating_add(1);
-            }
-        }
-        if heap.until_refusal.get() != 0 {
-            break;
-        }
+/// Two pieces for `parse_stream`.
+#[derive(Clone, Copy)]
+struct Parsed<'a> {
+    pieces: [&'a [u8]; 2],
+}
+
+impl Tried for Parsed<'_> {
+    fn outcome<A: Allocator + Copy>(&self, alloc: A, turn: Turn<'_>) -> Result<usize, Error> {
+        turn.begin();
+        let parsed = parse_stream(alloc, &self.pieces)?;
+        let is_whole = are_all(parsed.results()) && parsed.stopped() && parsed.rest() == REST;
+        Ok(if is_whole { DONE } else { WRONG })
     }
-    refusals
 }
 
 #[test]
 fn parse_stream_with_each_allocation_refused(rt: HostRuntime) {
     for cut in 0..102usize {
         let (front, back) = HOSTILE.split_at(cut);
-        let refusals = refusals_of_stream(&rt, rt.alloc(), [front, back]);
-        holds_at(&rt, cut, refusals > 2);
+        let parsed = Parsed {
+            pieces: [front, back],
+        };
+        holds_at(
+            &rt,
+            cut,
+            refusals_of(&rt, rt.alloc(), &parsed, Ok(DONE)).told > 2,
+        );
     }
 }
