@@ -5,8 +5,10 @@ use crate::fault::Fault;
 use crate::reading::{Entry, Reading};
 use crate::sum::Sum;
 use crate::tally::Tally;
-use crate::ways::{Way, read, read_in_place};
+use crate::text::Text;
+use crate::ways::{Way, read};
 use std::alloc::Global;
+use std::ops::Range;
 
 /// What the changes of one frame came to.
 #[derive(Drop)]
@@ -34,17 +36,18 @@ impl Changes {
         }
     }
 
-    fn add(&mut self, is_alone: bool, entry: &Entry) -> Result<(), Fault> {
-        let label = entry.label(self.alloc)?;
+    fn add(&mut self, is_alone: bool, entry: &Entry) {
+        let mut label = Text::new(self.alloc);
+        entry.show(&mut label);
         if is_alone {
-            self.alone.add(label.as_str())
+            self.alone.add(label.as_str());
         } else {
-            self.more.add(label.as_str())
+            self.more.add(label.as_str());
         }
     }
 
     /// Adds what came in the place of the frame of this number and behind it.
-    fn add_reading(&mut self, at: usize, before: &Reading, came: &Reading) -> Result<(), Fault> {
+    fn add_reading(&mut self, at: usize, before: &Reading, came: &Reading) {
         self.streams = self.streams.saturating_add(1);
         self.sum.plain(&came.value().to_be_bytes());
         if !is_front_same(at, before, came) {
@@ -53,10 +56,10 @@ impl Changes {
         let is_alone = is_back_same(at.saturating_add(1), before, came);
         let most = if is_alone { 1 } else { usize::MAX };
         for entry in came.entries.iter().skip(at).take(most) {
-            self.add(is_alone, entry)?;
+            self.add(is_alone, entry);
         }
         match is_alone {
-            true => Ok(()),
+            true => {}
             false if came.is_stopped => self.more.add("stopped"),
             false => self.more.add("waits"),
         }
@@ -94,13 +97,14 @@ fn add_stream(
     bytes: &[u8],
     changes: &mut Changes,
 ) -> Result<(), Fault> {
-    let in_place = read_in_place(changes.alloc, bytes)?;
+    let in_place = read(changes.alloc, Way::InPlace, &[bytes])?.value();
     let (front, back) = bytes.split_at_checked(cut).ok_or(Fault::Data)?;
-    let (came, _) = read(changes.alloc, Way::Whole, &[front, back])?;
-    if in_place.value() != came.value() {
+    let came = read(changes.alloc, Way::Whole, &[front, back])?;
+    if in_place != came.value() {
         changes.wrong = changes.wrong.saturating_add(1);
     }
-    changes.add_reading(at, before, &came)
+    changes.add_reading(at, before, &came);
+    Ok(())
 }
 
 /// Replaces the byte at this place by each value in turn. The stream is cut before it.
@@ -126,37 +130,52 @@ fn replace(
     Ok(())
 }
 
-/// What the changes of one frame came to, as a line.
-fn line(at: usize, changes: &Changes, before: &Reading) -> Result<String, Fault> {
-    let alloc = changes.alloc;
-    let name = match before.entries.get(at) {
-        Some(entry) => entry.label(alloc)?,
-        None => return Err(Fault::Data),
+/// Shows what the changes of one frame came to.
+fn show_changes(changes: &Changes, out: &mut Text) {
+    out.push(": ");
+    out.show(changes.streams);
+    out.push(" streams, ");
+    out.show(changes.wrong);
+    out.push(" wrong, ");
+    out.hex(&changes.sum.value().to_be_bytes());
+    out.push("\n  alone: ");
+    changes.alone.show(out);
+    out.push("\n  more: ");
+    changes.more.show(out);
+    out.push("\n");
+}
+
+/// The frame of this number, from this place to its end, with each byte replaced.
+fn show_frame(
+    at: usize,
+    places: Range<usize>,
+    before: &Reading,
+    bytes: &mut Vec<u8>,
+    out: &mut Text,
+) -> Result<(), Fault> {
+    let mut changes = Changes::new(out.alloc());
+    for place in places {
+        replace(place, at, before, bytes, &mut changes)?;
+    }
+    let Some(entry) = before.entries.get(at) else {
+        return Err(Fault::Data);
     };
-    let alone = changes.alone.text()?;
-    let more = changes.more.text()?;
-    let streams = changes.streams;
-    let wrong = changes.wrong;
-    let sum = changes.sum.value();
-    let number = at.saturating_add(1);
-    Ok(format!(in alloc;
-        "{number} {name}: {streams} streams, {wrong} wrong, {sum:016x}\n  alone: {alone}\n  more: {more}\n"
-    )?)
+    out.show(at.saturating_add(1));
+    out.push(" ");
+    entry.show(out);
+    show_changes(&changes, out);
+    Ok(())
 }
 
 /// Reads the session of this text with each byte replaced.
 pub(crate) fn run(alloc: Global, text: &str) -> Result<String, Fault> {
     let mut frames = Frames::parse(alloc, text)?;
-    let before = read_in_place(alloc, frames.bytes.as_slice())?;
-    let mut out = String::new(alloc);
+    let before = read(alloc, Way::InPlace, &[frames.bytes.as_slice()])?;
+    let mut out = Text::new(alloc);
     let mut start = 0usize;
     for (at, end) in frames.ends.iter().enumerate() {
-        let mut changes = Changes::new(alloc);
-        for place in start..*end {
-            replace(place, at, &before, &mut frames.bytes, &mut changes)?;
-        }
-        out.push_str(line(at, &changes, &before)?.as_str())?;
+        show_frame(at, start..*end, &before, &mut frames.bytes, &mut out)?;
         start = *end;
     }
-    Ok(out)
+    out.whole()
 }

@@ -1,0 +1,108 @@
+//! Texts that grow, mostly as words with one space between them.
+
+use crate::fault::Fault;
+use pgp_base::Memory;
+use std::alloc::Global;
+use std::fmt::Display;
+
+/// An item of a list, which is shown as words.
+pub(crate) trait Show {
+    fn show(self, out: &mut Text);
+}
+
+/// A text that grows. Where a growth is refused something is missing, and the text is never whole again: so no call before
+/// the last has to tell of it.
+#[derive(Drop)]
+pub(crate) struct Text {
+    alloc: Global,
+    text: String,
+    is_cut: bool,
+}
+
+impl Text {
+    pub(crate) fn new(alloc: Global) -> Text {
+        Text {
+            alloc,
+            text: String::new(alloc),
+            is_cut: false,
+        }
+    }
+
+    pub(crate) fn alloc(&self) -> Global {
+        self.alloc
+    }
+
+    pub(crate) fn as_str(&self) -> &str {
+        self.text.as_str()
+    }
+
+    /// The text, if nothing of it is missing.
+    pub(crate) fn whole(self) -> Result<String, Fault> {
+        match self.is_cut {
+            false => Ok(self.text),
+            true => Err(Fault::Memory),
+        }
+    }
+
+    /// Something is missing.
+    pub(crate) fn cut(&mut self) {
+        self.is_cut = true;
+    }
+
+    pub(crate) fn push(&mut self, more: &str) {
+        self.is_cut |= self.text.push_str(more).is_err();
+    }
+
+    /// A number, or whatever has a text.
+    pub(crate) fn show<N: Display + Drop>(&mut self, n: N) {
+        self.is_cut |= Global::push_shown(&mut self.text, n).is_err();
+    }
+
+    /// Bytes as hex digits.
+    pub(crate) fn hex(&mut self, bytes: &[u8]) {
+        match hex::encode(self.alloc, bytes) {
+            Ok(digits) => self.push(digits.as_str()),
+            Err(_) => self.cut(),
+        }
+    }
+
+    /// A space, but for the first word.
+    fn space(&mut self) {
+        if !self.text.is_empty() {
+            self.push(" ");
+        }
+    }
+
+    pub(crate) fn word(&mut self, word: &str) {
+        self.space();
+        self.push(word);
+    }
+
+    /// A number as a word.
+    pub(crate) fn number<N: Display + Drop>(&mut self, n: N) {
+        self.space();
+        self.show(n);
+    }
+
+    /// Bytes as hex digits, or none as `""`, or `null`.
+    pub(crate) fn nullable(&mut self, bytes: Option<&[u8]>) {
+        self.space();
+        match bytes {
+            None => self.push("null"),
+            Some([]) => self.push("\"\""),
+            Some(bytes) => self.hex(bytes),
+        }
+    }
+}
+
+impl Show for Option<&[u8]> {
+    fn show(self, out: &mut Text) {
+        out.nullable(self)
+    }
+}
+
+impl Show for &str {
+    fn show(self, out: &mut Text) {
+        out.nullable(Some(self.as_bytes()))
+    }
+}
