@@ -174,60 +174,88 @@ fn framed(alloc: Global, tag: u8, body: &[u8]) -> Result<Vec<u8>, Fault> {
     Ok(frame)
 }
 
-fn show_body(tag: u8, body: &[u8], out: &mut Text) -> Result<(), Fault> {
-    let frame = framed(out.alloc(), tag, body)?;
-    let read = Messages::new(frame.as_slice()).next();
-    show_message(&read, body.len(), out);
-    drop(read);
-    Ok(())
+/// A body behind its tag and length, read in place.
+fn read_body(tag: u8, body: &[u8], out: &mut Text) {
+    match framed(out.alloc(), tag, body) {
+        Ok(frame) => {
+            let read = Messages::new(frame.as_slice()).next();
+            show_message(&read, body.len(), out);
+            drop(read);
+        }
+        Err(fault) => out.fail(Some(fault)),
+    }
 }
 
 /// Reads the bytes as the call of this name does.
-fn read(call: &str, bytes: &[u8], out: &mut Text) -> Result<(), Fault> {
+fn read(call: &str, bytes: &[u8], out: &mut Text) {
     match call {
-        "row" => return show_body(b'D', bytes, out),
-        "columns" => return show_body(b'T', bytes, out),
-        "options" => return show_body(b'v', bytes, out),
+        "row" => read_body(b'D', bytes, out),
+        "columns" => read_body(b'T', bytes, out),
+        "options" => read_body(b'v', bytes, out),
         "array" => read_array(bytes, out),
         "hstore" => read_hstore(bytes, out),
         "path" => read_path(bytes, out),
         "range" => read_range(bytes, out),
         "varbit" => read_varbit(bytes, out),
-        _ => return Err(Fault::Data),
+        _ => out.fail(Some(Fault::Data)),
     }
-    Ok(())
+}
+
+/// A row: a call, the digits of its bytes, and what it comes to.
+#[derive(Clone, Copy)]
+struct Row<'a> {
+    call: &'a str,
+    digits: &'a str,
+    result: &'a str,
+}
+
+fn row_of(line: &str) -> Option<Row<'_>> {
+    let (left, result) = line.split_once(" = ")?;
+    let (call, digits) = left.split_once(' ')?;
+    Some(Row {
+        call,
+        digits,
+        result,
+    })
+}
+
+/// What the row comes to.
+fn outcome(alloc: Global, row: Row<'_>) -> Text {
+    let mut out = Text::new(alloc);
+    let mut bytes = Vec::new(alloc);
+    match append(alloc, row.digits, &mut bytes) {
+        Ok(()) => read(row.call, bytes.as_slice(), &mut out),
+        Err(fault) => out.fail(Some(fault)),
+    }
+    out
 }
 
 /// Shows the row and what it comes to, where that isn't what it says.
-fn show_difference(row: &str, out: &mut Text) -> Result<(), Fault> {
-    let alloc = out.alloc();
-    let (left, right) = row.split_once(" = ").ok_or(Fault::Data)?;
-    let (call, digits) = left.split_once(' ').ok_or(Fault::Data)?;
-    let mut bytes = Vec::new(alloc);
-    append(alloc, digits, &mut bytes)?;
-    let mut came = Text::new(alloc);
-    read(call, bytes.as_slice(), &mut came)?;
-    if came.as_str() != right {
-        out.push(row);
+fn show_difference(line: &str, out: &mut Text) {
+    let Some(row) = row_of(line) else {
+        out.fail(Some(Fault::Data));
+        return;
+    };
+    let came = outcome(out.alloc(), row);
+    if came.as_str() != row.result {
+        out.push(line);
         out.push("\n    came to: ");
         out.push(came.as_str());
         out.push("\n");
     }
-    Ok(())
+    out.fail(came.fault());
 }
 
 /// Runs the rows of this text, and tells those that aren't right.
-pub(crate) fn run(alloc: Global, text: &str) -> Result<String, Fault> {
-    let mut out = Text::new(alloc);
+pub(crate) fn run(text: &str, out: &mut Text) {
     let mut rows = 0u64;
-    for row in text.lines() {
-        if is_data(row) {
+    for line in text.lines() {
+        if is_data(line) {
             rows = rows.saturating_add(1);
-            show_difference(row, &mut out)?;
+            show_difference(line, out);
         }
     }
     out.push("lengths.rows: ");
     out.show(rows);
     out.push(" rows\n");
-    out.whole()
 }

@@ -18,8 +18,8 @@ mod walks;
 mod ways;
 
 use fault::Fault;
-use std::alloc::Global;
 use std::{fs, io};
+use text::Text;
 
 /// A part of what is printed.
 #[derive(Clone, Copy)]
@@ -43,13 +43,13 @@ impl Part {
         }
     }
 
-    /// Its lines, over the text of that file.
-    fn lines(self, alloc: Global, text: &str) -> Result<String, Fault> {
+    /// Shows its lines, over the text of that file.
+    fn show(self, text: &str, out: &mut Text) {
         match self {
-            Part::Lengths => lengths::run(alloc, text),
-            Part::Cuts => cuts::run(alloc, text),
-            Part::Session => session::run(alloc, text),
-            Part::Scram => scram::run(alloc, text),
+            Part::Lengths => lengths::run(text, out),
+            Part::Cuts => cuts::run(text, out),
+            Part::Session => session::run(text, out),
+            Part::Scram => scram::run(text, out),
         }
     }
 }
@@ -66,7 +66,9 @@ fn print_lines(rt: &impl Print, lines: Result<String, Fault>) -> io::Result<()> 
 fn main(rt: HostRuntime) -> io::Result<()> {
     for part in Part::ALL {
         let text = fs::read_to_string(&rt, part.file())?;
-        print_lines(&rt, part.lines(rt.alloc(), text.as_str()))?;
+        let mut lines = Text::new(rt.alloc());
+        part.show(text.as_str(), &mut lines);
+        print_lines(&rt, lines.whole())?;
     }
     Ok(())
 }

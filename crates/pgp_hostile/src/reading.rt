@@ -56,8 +56,8 @@ pub(crate) struct Reading {
     /// How many headers were read, where that is counted.
     pub(crate) headers: Option<u64>,
     sum: Sum,
-    /// Whether an entry is missing, since memory was refused.
-    is_cut: bool,
+    /// Why something is missing, where it is.
+    pub(crate) fault: Option<Fault>,
 }
 
 impl Reading {
@@ -69,7 +69,7 @@ impl Reading {
             rest: 0,
             headers: None,
             sum: Sum::new(alloc),
-            is_cut: false,
+            fault: None,
         }
     }
 
@@ -79,7 +79,9 @@ impl Reading {
 
     fn add(&mut self, kind: Kind, sum: u64) {
         self.sum.plain(&sum.to_be_bytes());
-        self.is_cut |= self.entries.push(Entry { kind, sum }).is_err();
+        if self.entries.push(Entry { kind, sum }).is_err() {
+            self.fault = Some(Fault::Memory);
+        }
     }
 
     fn add_message<S: Storage>(&mut self, message: &Message<S>)
@@ -136,14 +138,6 @@ impl Reading {
         self.sum.bytes(rest);
     }
 
-    /// What was read, if nothing of it is missing.
-    pub(crate) fn whole(self) -> Result<Reading, Fault> {
-        match self.is_cut {
-            false => Ok(self),
-            true => Err(Fault::Memory),
-        }
-    }
-
     /// The sum of all of it.
     pub(crate) fn value(&self) -> u64 {
         self.sum.value()
@@ -166,5 +160,6 @@ impl Reading {
             out.show(headers);
         }
         out.push(":");
+        out.fail(self.fault);
     }
 }

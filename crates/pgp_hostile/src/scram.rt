@@ -80,7 +80,7 @@ impl Ends {
         self.places = self.places.saturating_add(place_of(outcome));
         let mut name = Text::new(self.alloc);
         show_end(outcome, &mut name);
-        self.tally.add(name.as_str());
+        self.tally.add_text(&name);
     }
 
     /// Shows what the changes of a byte came to.
@@ -112,6 +112,15 @@ impl Changed {
     }
 }
 
+/// An exchange with this last text.
+fn add_last(last: &[u8], client: &mut ScramSha256<Global>, ends: &mut Ends) {
+    if client.update(FIRST.as_bytes()).is_err() {
+        ends.tally.fail(Some(Fault::Data));
+    }
+    let outcome = client.finish(last);
+    ends.add(client.message().is_some(), &outcome);
+}
+
 /// An exchange that can be changed: its server, and the server's last text.
 #[derive(Clone, Copy)]
 struct Exchange<'a> {
@@ -141,64 +150,52 @@ impl<'a> Exchange<'a> {
         text.number(is_accepted);
         text.push(" ");
         show_end(&client.finish(self.answer.as_bytes()), &mut text);
-        ends.tally.add(text.as_str());
+        ends.tally.add_text(&text);
     }
 
     /// An exchange with this first text.
-    fn add_first(&self, first: &[u8], ends: &mut Ends) -> Result<(), Fault> {
-        let mut client = begun(self.alloc)?;
+    fn add_first(&self, first: &[u8], client: &mut ScramSha256<Global>, ends: &mut Ends) {
         let outcome = client.update(first);
         match outcome.is_ok() {
-            true => self.add_taken(first, &mut client, ends),
+            true => self.add_taken(first, client, ends),
             false => ends.add(client.message().is_some(), &outcome),
         }
-        Ok(())
     }
 
-    /// An exchange with this last text.
-    fn add_last(&self, last: &[u8], ends: &mut Ends) -> Result<(), Fault> {
-        let mut client = begun(self.alloc)?;
-        if client.update(FIRST.as_bytes()).is_err() {
-            return Err(Fault::Data);
+    /// An exchange with this text in the place of one of the server's.
+    fn add(&self, changed: Changed, text: &[u8], ends: &mut Ends) {
+        match begun(self.alloc) {
+            Ok(mut client) => match changed {
+                Changed::First => self.add_first(text, &mut client, ends),
+                Changed::Last => add_last(text, &mut client, ends),
+            },
+            Err(fault) => ends.tally.fail(Some(fault)),
         }
-        let outcome = client.finish(last);
-        ends.add(client.message().is_some(), &outcome);
-        Ok(())
     }
 
     /// The text with the byte at this place replaced by each other value.
-    fn replace(
-        &self,
-        changed: Changed,
-        place: usize,
-        text: &str,
-        ends: &mut Ends,
-    ) -> Result<(), Fault> {
-        let mut bytes = Vec::from_slice(self.alloc, text.as_bytes())?;
+    fn replace(&self, changed: Changed, place: usize, text: &str, ends: &mut Ends) {
+        let Ok(mut bytes) = Vec::from_slice(self.alloc, text.as_bytes()) else {
+            ends.tally.fail(Some(Fault::Memory));
+            return;
+        };
         for new in 0..=255u8 {
-            match bytes.get_mut(place) {
-                Some(byte) => *byte = new,
-                None => return Err(Fault::Data),
+            if let Some(byte) = bytes.get_mut(place) {
+                *byte = new;
             }
-            if bytes.as_slice() == text.as_bytes() {
-                continue;
-            }
-            match changed {
-                Changed::First => self.add_first(bytes.as_slice(), ends)?,
-                Changed::Last => self.add_last(bytes.as_slice(), ends)?,
+            if bytes.as_slice() != text.as_bytes() {
+                self.add(changed, bytes.as_slice(), ends);
             }
         }
-        Ok(())
     }
 
     /// Shows what the changes of each byte come to, a line each.
-    fn show_changes(&self, changed: Changed, text: &str, out: &mut Text) -> Result<(), Fault> {
+    fn show_changes(&self, changed: Changed, text: &str, out: &mut Text) {
         for place in 0..text.len() {
             let mut ends = Ends::new(self.alloc);
-            self.replace(changed, place, text, &mut ends)?;
+            self.replace(changed, place, text, &mut ends);
             ends.show(changed.name(), place, out);
         }
-        Ok(())
     }
 
     /// A step, the last one, `finish`, or the other: how it ended.
@@ -217,29 +214,29 @@ impl<'a> Exchange<'a> {
 
     /// The steps in any order, of which the bits say which is the last one, `finish`. Behind each: how it ended, whether
     /// there is a text to send, and how many codes were made.
-    fn show_turns(&self, turns: u8, out: &mut Text) -> Result<(), Fault> {
-        let mut client = begun(self.alloc)?;
+    fn show_turns(&self, turns: u8, client: &mut ScramSha256<Global>, out: &mut Text) {
         out.push("turns");
         for turn in 0..4u32 {
-            self.step((turns >> turn) % 2 == 1, &mut client, out);
+            self.step((turns >> turn) % 2 == 1, client, out);
             out.number(client.message().is_some());
             out.number(client.hmacs());
         }
         out.push("\n");
-        Ok(())
     }
 
     /// The exchange as it is, with each byte replaced, and its steps out of turn.
-    fn run(&self, out: &mut Text) -> Result<(), Fault> {
+    fn show(&self, out: &mut Text) {
         let mut ends = Ends::new(self.alloc);
-        self.add_first(FIRST.as_bytes(), &mut ends)?;
+        self.add(Changed::First, FIRST.as_bytes(), &mut ends);
         ends.show("unchanged", 0, out);
-        self.show_changes(Changed::First, FIRST, out)?;
-        self.show_changes(Changed::Last, self.answer, out)?;
+        self.show_changes(Changed::First, FIRST, out);
+        self.show_changes(Changed::Last, self.answer, out);
         for turns in 0..16u8 {
-            self.show_turns(turns, out)?;
+            match begun(self.alloc) {
+                Ok(mut client) => self.show_turns(turns, &mut client, out),
+                Err(fault) => out.fail(Some(fault)),
+            }
         }
-        Ok(())
     }
 }
 
@@ -256,16 +253,25 @@ fn keys_of(alloc: Global, text: &str) -> Result<Server, Fault> {
     Ok(Server::new(*stored, *server))
 }
 
+/// Shows the exchange of this server.
+fn show_exchange(server: Server, out: &mut Text) {
+    match server.answer(out.alloc(), SENT) {
+        Ok(answer) => {
+            let exchange = Exchange {
+                alloc: out.alloc(),
+                server,
+                answer: answer.as_str(),
+            };
+            exchange.show(out);
+        }
+        Err(_) => out.fail(Some(Fault::Memory)),
+    }
+}
+
 /// Runs the exchange of the server that holds the keys of this text.
-pub(crate) fn run(alloc: Global, keys: &str) -> Result<String, Fault> {
-    let server = keys_of(alloc, keys)?;
-    let answer = server.answer(alloc, SENT)?;
-    let exchange = Exchange {
-        alloc,
-        server,
-        answer: answer.as_str(),
-    };
-    let mut out = Text::new(alloc);
-    exchange.run(&mut out)?;
-    out.whole()
+pub(crate) fn run(keys: &str, out: &mut Text) {
+    match keys_of(out.alloc(), keys) {
+        Ok(server) => show_exchange(server, out),
+        Err(fault) => out.fail(Some(fault)),
+    }
 }

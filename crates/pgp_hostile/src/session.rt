@@ -40,9 +40,9 @@ impl Changes {
         let mut label = Text::new(self.alloc);
         entry.show(&mut label);
         if is_alone {
-            self.alone.add(label.as_str());
+            self.alone.add_text(&label);
         } else {
-            self.more.add(label.as_str());
+            self.more.add_text(&label);
         }
     }
 
@@ -50,6 +50,7 @@ impl Changes {
     fn add_reading(&mut self, at: usize, before: &Reading, came: &Reading) {
         self.streams = self.streams.saturating_add(1);
         self.sum.plain(&came.value().to_be_bytes());
+        self.more.fail(came.fault);
         if !is_front_same(at, before, came) {
             self.wrong = self.wrong.saturating_add(1);
         }
@@ -89,45 +90,33 @@ fn is_back_same(at: usize, before: &Reading, came: &Reading) -> bool {
         && are_same(at, usize::MAX, before, came)
 }
 
-/// Reads the bytes, in place and as a stream of two pieces.
-fn add_stream(
-    at: usize,
-    cut: usize,
-    before: &Reading,
-    bytes: &[u8],
-    changes: &mut Changes,
-) -> Result<(), Fault> {
-    let in_place = read(changes.alloc, Way::InPlace, &[bytes])?.value();
-    let (front, back) = bytes.split_at_checked(cut).ok_or(Fault::Data)?;
-    let came = read(changes.alloc, Way::Whole, &[front, back])?;
+/// Reads the bytes, in place and as a stream that is cut at this place.
+fn add_stream(at: usize, cut: usize, before: &Reading, bytes: &[u8], changes: &mut Changes) {
+    let in_place = read(changes.alloc, Way::InPlace, &[bytes]).value();
+    let Some((front, back)) = bytes.split_at_checked(cut) else {
+        return;
+    };
+    let came = read(changes.alloc, Way::Whole, &[front, back]);
     if in_place != came.value() {
         changes.wrong = changes.wrong.saturating_add(1);
     }
     changes.add_reading(at, before, &came);
-    Ok(())
 }
 
 /// Replaces the byte at this place by each value in turn. The stream is cut before it.
-fn replace(
-    place: usize,
-    at: usize,
-    before: &Reading,
-    bytes: &mut Vec<u8>,
-    changes: &mut Changes,
-) -> Result<(), Fault> {
+fn replace(place: usize, at: usize, before: &Reading, bytes: &mut Vec<u8>, changes: &mut Changes) {
     let Some(old) = bytes.get(place).copied() else {
-        return Err(Fault::Data);
+        return;
     };
     for new in [0, 1, 127, 128, 255, old.wrapping_add(1)] {
         if let Some(byte) = bytes.get_mut(place) {
             *byte = new;
         }
-        add_stream(at, place, before, bytes.as_slice(), changes)?;
+        add_stream(at, place, before, bytes.as_slice(), changes);
     }
     if let Some(byte) = bytes.get_mut(place) {
         *byte = old;
     }
-    Ok(())
 }
 
 /// Shows what the changes of one frame came to.
@@ -145,37 +134,40 @@ fn show_changes(changes: &Changes, out: &mut Text) {
     out.push("\n");
 }
 
-/// The frame of this number, from this place to its end, with each byte replaced.
+/// The frame of this number, which stands at these places, with each byte replaced.
 fn show_frame(
     at: usize,
     places: Range<usize>,
     before: &Reading,
     bytes: &mut Vec<u8>,
     out: &mut Text,
-) -> Result<(), Fault> {
+) {
     let mut changes = Changes::new(out.alloc());
     for place in places {
-        replace(place, at, before, bytes, &mut changes)?;
+        replace(place, at, before, bytes, &mut changes);
     }
-    let Some(entry) = before.entries.get(at) else {
-        return Err(Fault::Data);
-    };
     out.show(at.saturating_add(1));
     out.push(" ");
-    entry.show(out);
+    if let Some(entry) = before.entries.get(at) {
+        entry.show(out);
+    }
     show_changes(&changes, out);
-    Ok(())
+}
+
+fn show_frames(frames: &mut Frames, out: &mut Text) {
+    let before = read(out.alloc(), Way::InPlace, &[frames.bytes.as_slice()]);
+    out.fail(before.fault);
+    let mut start = 0usize;
+    for (at, end) in frames.ends.iter().enumerate() {
+        show_frame(at, start..*end, &before, &mut frames.bytes, out);
+        start = *end;
+    }
 }
 
 /// Reads the session of this text with each byte replaced.
-pub(crate) fn run(alloc: Global, text: &str) -> Result<String, Fault> {
-    let mut frames = Frames::parse(alloc, text)?;
-    let before = read(alloc, Way::InPlace, &[frames.bytes.as_slice()])?;
-    let mut out = Text::new(alloc);
-    let mut start = 0usize;
-    for (at, end) in frames.ends.iter().enumerate() {
-        show_frame(at, start..*end, &before, &mut frames.bytes, &mut out)?;
-        start = *end;
+pub(crate) fn run(text: &str, out: &mut Text) {
+    match Frames::parse(out.alloc(), text) {
+        Ok(mut frames) => show_frames(&mut frames, out),
+        Err(fault) => out.fail(Some(fault)),
     }
-    out.whole()
 }

@@ -1,5 +1,6 @@
 //! How often each thing came.
 
+use crate::fault::Fault;
 use crate::text::Text;
 use std::alloc::{AllocError, Global};
 
@@ -15,8 +16,8 @@ struct Count {
 pub(crate) struct Tally {
     alloc: Global,
     counts: Vec<Count>,
-    /// Whether a name is missing, since memory was refused.
-    is_cut: bool,
+    /// Why a name is missing, where one is.
+    fault: Option<Fault>,
 }
 
 impl Tally {
@@ -24,8 +25,13 @@ impl Tally {
         Tally {
             alloc,
             counts: Vec::new(alloc),
-            is_cut: false,
+            fault: None,
         }
+    }
+
+    /// Something is missing, where there is a fault.
+    pub(crate) fn fail(&mut self, fault: Option<Fault>) {
+        self.fault = self.fault.or(fault);
     }
 
     /// The name came for the first time.
@@ -42,7 +48,15 @@ impl Tally {
                 return;
             }
         }
-        self.is_cut |= self.insert(name).is_err();
+        if self.insert(name).is_err() {
+            self.fault = Some(Fault::Memory);
+        }
+    }
+
+    /// The text came once more.
+    pub(crate) fn add_text(&mut self, name: &Text) {
+        self.add(name.as_str());
+        self.fail(name.fault());
     }
 
     /// Shows the names and how often each came, with a comma between two.
@@ -54,8 +68,6 @@ impl Tally {
             out.number(known.count);
             before = ", ";
         }
-        if self.is_cut {
-            out.cut();
-        }
+        out.fail(self.fault);
     }
 }

@@ -10,13 +10,12 @@ pub(crate) trait Show {
     fn show(self, out: &mut Text);
 }
 
-/// A text that grows. Where a growth is refused something is missing, and the text is never whole again: so no call before
-/// the last has to tell of it.
+/// A text that grows. It remembers why something of it is missing, where it does: so no call before the last has to tell.
 #[derive(Drop)]
 pub(crate) struct Text {
     alloc: Global,
     text: String,
-    is_cut: bool,
+    fault: Option<Fault>,
 }
 
 impl Text {
@@ -24,7 +23,7 @@ impl Text {
         Text {
             alloc,
             text: String::new(alloc),
-            is_cut: false,
+            fault: None,
         }
     }
 
@@ -38,31 +37,40 @@ impl Text {
 
     /// The text, if nothing of it is missing.
     pub(crate) fn whole(self) -> Result<String, Fault> {
-        match self.is_cut {
-            false => Ok(self.text),
-            true => Err(Fault::Memory),
+        match self.fault {
+            None => Ok(self.text),
+            Some(fault) => Err(fault),
         }
     }
 
-    /// Something is missing.
-    pub(crate) fn cut(&mut self) {
-        self.is_cut = true;
+    /// Why something is missing, where it does.
+    pub(crate) fn fault(&self) -> Option<Fault> {
+        self.fault
+    }
+
+    /// Something is missing, where there is a fault.
+    pub(crate) fn fail(&mut self, fault: Option<Fault>) {
+        self.fault = self.fault.or(fault);
     }
 
     pub(crate) fn push(&mut self, more: &str) {
-        self.is_cut |= self.text.push_str(more).is_err();
+        if self.text.push_str(more).is_err() {
+            self.fault = Some(Fault::Memory);
+        }
     }
 
     /// A number, or whatever has a text.
     pub(crate) fn show<N: Display + Drop>(&mut self, n: N) {
-        self.is_cut |= Global::push_shown(&mut self.text, n).is_err();
+        if Global::push_shown(&mut self.text, n).is_err() {
+            self.fault = Some(Fault::Memory);
+        }
     }
 
     /// Bytes as hex digits.
     pub(crate) fn hex(&mut self, bytes: &[u8]) {
         match hex::encode(self.alloc, bytes) {
             Ok(digits) => self.push(digits.as_str()),
-            Err(_) => self.cut(),
+            Err(_) => self.fault = Some(Fault::Memory),
         }
     }
 

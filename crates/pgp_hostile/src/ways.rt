@@ -1,4 +1,4 @@
-//! Each way to read a stream that comes in pieces.
+//! Each way to read a stream that comes in pieces, and one to read it in place.
 
 use crate::fault::Fault;
 use crate::reading::Reading;
@@ -10,7 +10,7 @@ use std::alloc::Global;
 /// More frames than a stream here has.
 const MOST: usize = 1000;
 
-/// A way to read a stream that comes in pieces.
+/// A way to read a stream.
 #[derive(Clone, Copy)]
 pub(crate) enum Way {
     /// `parse_stream`.
@@ -28,13 +28,13 @@ pub(crate) enum Way {
 }
 
 impl Way {
-    /// The ways in which a stream can come in pieces.
-    pub(crate) const IN_PIECES: [Way; 5] = [
+    pub(crate) const ALL: [Way; 6] = [
         Way::Whole,
         Way::Fed,
         Way::Taken,
         Way::Parsed,
         Way::Remembered,
+        Way::InPlace,
     ];
 
     pub(crate) fn name(self) -> &'static str {
@@ -50,42 +50,33 @@ impl Way {
 }
 
 /// By `parse_stream`.
-fn whole(pieces: &[&[u8]], out: &mut Reading) -> Result<(), Fault> {
-    let parsed = parse_stream(out.alloc(), pieces)?;
-    out.add_results(parsed.results());
-    out.is_stopped = parsed.stopped();
-    out.end(parsed.rest());
-    Ok(())
+fn whole(pieces: &[&[u8]], out: &mut Reading) {
+    match parse_stream(out.alloc(), pieces) {
+        Ok(parsed) => {
+            out.add_results(parsed.results());
+            out.is_stopped = parsed.stopped();
+            out.end(parsed.rest());
+        }
+        Err(_) => out.fault = Some(Fault::Memory),
+    }
 }
 
-/// Feeds the pieces to a parser, whose results stay or are taken behind each piece.
-fn feed(
-    parser: &mut StreamParser,
-    pieces: &[&[u8]],
-    is_taken: bool,
-    out: &mut Reading,
-) -> Result<(), Fault> {
+/// By a parser that is fed, whose results stay or are taken behind each piece.
+fn fed(pieces: &[&[u8]], is_taken: bool, out: &mut Reading) {
+    let mut parser = StreamParser::new(out.alloc());
     for piece in pieces {
-        if parser.failed() {
-            return Err(Fault::Memory);
+        if parser.failed() || parser.feed(piece).is_err() {
+            out.fault = Some(Fault::Memory);
+            return;
         }
-        parser.feed(piece)?;
         if is_taken {
             out.add_results(parser.take().as_slice());
         }
     }
-    Ok(())
-}
-
-/// By a parser that is fed.
-fn fed(pieces: &[&[u8]], is_taken: bool, out: &mut Reading) -> Result<(), Fault> {
-    let mut parser = StreamParser::new(out.alloc());
-    feed(&mut parser, pieces, is_taken, out)?;
     out.add_results(parser.results());
     out.is_stopped = parser.stopped();
     out.headers = Some(parser.headers());
     out.end(parser.rest());
-    Ok(())
 }
 
 /// Takes what can be taken, by `Message::parse` or by a parser that goes on.
@@ -105,18 +96,18 @@ fn drain(parser: &mut FrameParser, is_remembered: bool, buf: &mut BytesMut, out:
 }
 
 /// By repeated taking from a buffer. A parser that remembers headers counts them.
-fn drained(pieces: &[&[u8]], is_remembered: bool, out: &mut Reading) -> Result<(), Fault> {
+fn drained(pieces: &[&[u8]], is_remembered: bool, out: &mut Reading) {
     let mut parser = FrameParser::new();
     let mut buf = BytesMut::new(out.alloc());
     for piece in pieces {
-        buf.extend_from_slice(piece)?;
-        if !out.is_stopped {
+        if buf.extend_from_slice(piece).is_err() {
+            out.fault = Some(Fault::Memory);
+        } else if !out.is_stopped {
             drain(&mut parser, is_remembered, &mut buf, out);
         }
     }
     out.headers = is_remembered.then_some(parser.headers());
     out.end(buf.as_slice());
-    Ok(())
 }
 
 /// In place, by `Messages`.
@@ -134,15 +125,15 @@ fn in_place(bytes: &[u8], out: &mut Reading) {
 }
 
 /// Reads the pieces this way.
-pub(crate) fn read(alloc: Global, way: Way, pieces: &[&[u8]]) -> Result<Reading, Fault> {
+pub(crate) fn read(alloc: Global, way: Way, pieces: &[&[u8]]) -> Reading {
     let mut out = Reading::new(alloc);
     match way {
-        Way::Whole => whole(pieces, &mut out)?,
-        Way::Fed => fed(pieces, false, &mut out)?,
-        Way::Taken => fed(pieces, true, &mut out)?,
-        Way::Parsed => drained(pieces, false, &mut out)?,
-        Way::Remembered => drained(pieces, true, &mut out)?,
+        Way::Whole => whole(pieces, &mut out),
+        Way::Fed => fed(pieces, false, &mut out),
+        Way::Taken => fed(pieces, true, &mut out),
+        Way::Parsed => drained(pieces, false, &mut out),
+        Way::Remembered => drained(pieces, true, &mut out),
         Way::InPlace => in_place(pieces.first().copied().unwrap_or(b""), &mut out),
     }
-    out.whole()
+    out
 }
