@@ -10,7 +10,7 @@ use pgp_message::{Message, Storage};
 use std::alloc::Global;
 
 /// What a frame was read as.
-#[derive(Clone, Copy, PartialEq)]
+#[derive(Clone, Copy)]
 enum Kind {
     /// A message of this name, and the first refusal among its texts and lists.
     Message(&'static str, Option<Error>),

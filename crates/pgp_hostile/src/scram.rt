@@ -240,6 +240,13 @@ impl<'a> Exchange<'a> {
     }
 }
 
+/// The server that holds the two keys that stand here.
+fn server_of(keys: &[u8]) -> Option<Server> {
+    let (stored, rest) = keys.split_first_chunk::<32>()?;
+    let (server, _) = rest.split_first_chunk::<32>()?;
+    Some(Server::new(*stored, *server))
+}
+
 /// The keys of a file: two lines of 64 digits.
 fn keys_of(alloc: Global, text: &str) -> Result<Server, Fault> {
     let mut bytes = Vec::new(alloc);
@@ -248,9 +255,7 @@ fn keys_of(alloc: Global, text: &str) -> Result<Server, Fault> {
             append(alloc, line, &mut bytes)?;
         }
     }
-    let (stored, rest) = bytes.split_first_chunk::<32>().ok_or(Fault::Data)?;
-    let (server, _) = rest.split_first_chunk::<32>().ok_or(Fault::Data)?;
-    Ok(Server::new(*stored, *server))
+    server_of(bytes.as_slice()).ok_or(Fault::Data)
 }
 
 /// Shows the exchange of this server.

@@ -67,27 +67,32 @@ impl Changes {
     }
 }
 
-/// Whether the results of these numbers are the same, as far as both have them.
-fn are_same(from: usize, to: usize, before: &Reading, came: &Reading) -> bool {
-    for (at, (one, other)) in before.entries.iter().zip(&came.entries).enumerate() {
-        if from <= at && at < to && !one.is_same(other) {
+/// Whether there are as many results here as there, each the same.
+fn are_same(before: &[Entry], came: &[Entry]) -> bool {
+    for (one, other) in before.iter().zip(came) {
+        if !one.is_same(other) {
             return false;
         }
     }
-    true
+    before.len() == came.len()
 }
 
 /// Whether so many results in front are the same.
 fn is_front_same(count: usize, before: &Reading, came: &Reading) -> bool {
-    came.entries.len() >= count && are_same(0, count, before, came)
+    match (before.entries.get(..count), came.entries.get(..count)) {
+        (Some(before), Some(came)) => are_same(before, came),
+        _ => false,
+    }
 }
 
 /// Whether the results from this one on are the same, and nothing is left.
 fn is_back_same(at: usize, before: &Reading, came: &Reading) -> bool {
-    came.entries.len() == before.entries.len()
-        && !came.is_stopped
-        && came.rest == 0
-        && are_same(at, usize::MAX, before, came)
+    match (before.entries.get(at..), came.entries.get(at..)) {
+        (Some(before), Some(back)) => {
+            !came.is_stopped && came.rest == 0 && are_same(before, back)
+        }
+        _ => false,
+    }
 }
 
 /// Reads the bytes, in place and as a stream that is cut at this place.

@@ -15,7 +15,7 @@ use pgp_base::{Error, Memory};
 use pgp_saslprep::SaslPrepRfc4013;
 use rand_core::SeedableRng;
 use rand_pcg::Pcg32;
-use std::alloc::{Allocator, Global};
+use std::alloc::{AllocError, Allocator, Global};
 use std::test::Fail;
 
 const SALT: [u8; 16] = [1, 2, 3, 4, 5, 6, 7, 8, 9, 10, 11, 12, 13, 14, 15, 16];
@@ -143,24 +143,37 @@ const PASSWORD: &[u8] = b"p\xc3\xa4ssword";
 const LONG_FINAL: &[u8] =
     b"v=AAAAAAAAAAAAAAAAAAAAAAAAAAAAAAAAAAAAAAAAAAAAAAAAAAAAAAAAAAAAAAAAAAAAAAAAAAAAAAAAAAAAAAAAAAAAAAAAAAAAAAAAAAAAAAAAAAAAAAAAAAAAAA==";
 
-fn begun<A: Allocator + Copy>(alloc: A, is_drawn: bool) -> Result<ScramSha256<A>, ScramError<A>> {
-    let signature = Vec::from_slice(alloc, b"a hash")?;
-    let binding = ChannelBinding::tls_server_end_point(signature);
+// The client, or whether there was no memory for it.
+fn made<A: Allocator + Copy>(
+    client: Result<ScramSha256<A>, ScramError<A>>,
+) -> Result<ScramSha256<A>, Error> {
+    match client {
+        Ok(client) => Ok(client),
+        Err(ScramError::OutOfMemory) => Err(Error::OutOfMemory),
+        Err(_) => Err(Error::InvalidCount),
+    }
+}
+
+const NONCE: &str = "9IZ2O01zb9IgiIZ1WJ/zgpJB";
+
+fn begun<A: Allocator + Copy>(alloc: A, is_drawn: bool) -> Result<ScramSha256<A>, Error> {
+    let binding = ChannelBinding::tls_server_end_point(Vec::from_slice(alloc, b"a hash")?);
     if is_drawn {
-        return ScramSha256::new(alloc, PASSWORD, binding, &ToX, &mut Pcg32::seed_from_u64(1));
+        let mut rng = Pcg32::seed_from_u64(1);
+        return made(ScramSha256::new(alloc, PASSWORD, binding, &ToX, &mut rng));
     }
-    let nonce = String::from_str(alloc, "9IZ2O01zb9IgiIZ1WJ/zgpJB")?;
+    let nonce = String::from_str(alloc, NONCE)?;
     if !is_nonce(&nonce) {
-        return Err(ScramError::WrongState);
+        return Err(Error::InvalidCount);
     }
-    ScramSha256::with_nonce(alloc, PASSWORD, binding, nonce, &ToX)
+    made(ScramSha256::with_nonce(alloc, PASSWORD, binding, nonce, &ToX))
 }
 
 // The server's first text for a client's first text: its nonce goes on, and it has a salt and a count.
 fn server_first<A: Allocator + Copy>(
     alloc: A,
     client: &ScramSha256<A>,
-) -> Result<Vec<u8, A>, ScramError<A>> {
+) -> Result<Vec<u8, A>, AllocError> {
     let message = client.message().unwrap_or(b"");
     let nonce = &message[message.len().saturating_sub(24)..];
     let mut text = Vec::from_slice(alloc, b"r=")?;
@@ -203,24 +216,16 @@ struct Exchange<'a> {
     ample: (u8, u8, u64),
 }
 
-impl Exchange<'_> {
-    fn steps<A: Allocator + Copy>(&self, alloc: A) -> Result<Option<(u8, u8, u64)>, ScramError<A>> {
-        let mut client = begun(alloc, self.is_drawn)?;
-        let first = server_first(alloc, &client)?;
-        Ok(steps(&mut client, first.as_slice(), self.server_final))
-    }
-}
-
 impl Tried for Exchange<'_> {
     // A refused `update` ends it, so that `finish` isn't due. A refused `finish` is told.
     fn outcome<A: Allocator + Copy>(&self, alloc: A, turn: Turn<'_>) -> Result<usize, Error> {
         turn.begin();
-        match self.steps(alloc) {
-            Ok(Some(steps)) if steps == self.ample => Ok(DONE),
-            Ok(Some((0, 1, 3) | (1, 2, 0) | (1, 2, 3))) => Err(Error::OutOfMemory),
-            Ok(_) => Ok(WRONG),
-            Err(e) if e.number() == 1 => Err(Error::OutOfMemory),
-            Err(_) => Ok(WRONG),
+        let mut client = begun(alloc, self.is_drawn)?;
+        let first = server_first(alloc, &client)?;
+        match steps(&mut client, first.as_slice(), self.server_final) {
+            Some(steps) if steps == self.ample => Ok(DONE),
+            Some((0, 1, 3) | (1, 2, 0) | (1, 2, 3)) => Err(Error::OutOfMemory),
+            _ => Ok(WRONG),
         }
     }
 }
@@ -263,7 +268,7 @@ fn nonces_are_drawn_anew(rt: HostRuntime) -> Result<(), Fail> {
 
 // A client with a mapping for which there is no memory: the number of its refusal.
 fn unmapped(alloc: Global, password: &[u8]) -> Result<u8, Error> {
-    let nonce = String::from_str(alloc, "9IZ2O01zb9IgiIZ1WJ/zgpJB")?;
+    let nonce = String::from_str(alloc, NONCE)?;
     if !is_nonce(&nonce) {
         return Err(Error::InvalidCount);
     }
@@ -283,22 +288,16 @@ struct Last<'a> {
     text: &'a [u8],
 }
 
-impl Last<'_> {
+impl Tried for Last<'_> {
     // The number of its refusal. The turn begins behind the first text.
-    fn refusal<A: Allocator + Copy>(&self, alloc: A, turn: Turn<'_>) -> Result<u8, ScramError<A>> {
+    fn outcome<A: Allocator + Copy>(&self, alloc: A, turn: Turn<'_>) -> Result<usize, Error> {
         let mut client = begun(alloc, false)?;
         let first = server_first(alloc, &client)?;
-        client.update(&first)?;
+        let updated = number(client.update(&first));
         turn.begin();
-        Ok(number(client.finish(self.text)))
-    }
-}
-
-impl Tried for Last<'_> {
-    fn outcome<A: Allocator + Copy>(&self, alloc: A, turn: Turn<'_>) -> Result<usize, Error> {
-        match self.refusal(alloc, turn) {
-            Ok(number) => Ok(usize::from(number)),
-            Err(_) => Ok(WRONG),
+        match updated {
+            0 => Ok(usize::from(number(client.finish(self.text)))),
+            _ => Ok(WRONG),
         }
     }
 }

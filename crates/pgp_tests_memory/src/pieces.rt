@@ -5,9 +5,8 @@ use crate::checks::{holds, holds_at, same};
 use crate::turns::{DONE, Tried, Turn, WRONG, refusals_of};
 use pgp_base::{Error, Memory};
 use pgp_message::{Message, Storage};
-use postgres_protocol::session::{StreamParser, parse_stream};
+use postgres_protocol::session::{Parsed, StreamParser, parse_stream};
 use std::alloc::{AllocError, Allocator, Global};
-use std::test::Fail;
 
 /// AuthenticationSASL, RowDescription, DataRow, ErrorResponse, a ReadyForQuery with a byte too many,
 /// ParseComplete, and a length fault.
@@ -29,56 +28,20 @@ fn mark<S: Storage>(read: &Result<Message<S>, Error>) -> u8 {
     }
 }
 
-/// Whether these are the first results of that stream.
-fn are_first<S: Storage>(results: &[Result<Message<S>, Error>]) -> bool {
+/// Whether these are all results of that stream.
+fn are_all<S: Storage>(results: &[Result<Message<S>, Error>]) -> bool {
     for (result, wanted) in results.iter().zip(MARKS) {
         if mark(result) != *wanted {
             return false;
         }
     }
-    results.len() <= MARKS.len()
+    results.len() == MARKS.len()
 }
 
-/// Whether these are all results of that stream.
-fn are_all<S: Storage>(results: &[Result<Message<S>, Error>]) -> bool {
-    results.len() == MARKS.len() && are_first(results)
-}
-
-/// Feeds the pieces.
-fn feed(parser: &mut StreamParser, pieces: &[&[u8]]) -> Result<(), Error> {
-    for piece in pieces {
-        if !parser.failed() {
-            parser.feed(piece)?;
-        }
-    }
-    Ok(())
-}
-
-/// Results are handed out once, and none is lost.
-#[test]
-fn taken_after_each_byte(rt: HostRuntime) -> Result<(), Fail> {
-    let mut parser = StreamParser::new(rt.alloc());
-    let mut marks = Vec::new(rt.alloc());
-    for byte in &HOSTILE {
-        feed(&mut parser, &[&[*byte]])?;
-        for read in &parser.take() {
-            marks.push(mark(read))?;
-        }
-        holds(&rt, parser.results().is_empty());
-    }
-    same(&rt, marks.as_slice(), MARKS);
-    same(&rt, parser.headers(), 7);
-    holds(&rt, parser.stopped());
-    feed(&mut parser, &[b"1\0\0\0\x04"])?;
-    holds(&rt, parser.take().is_empty());
-    same(&rt, parser.rest(), b"Z\0\0\0\x031\0\0\0\x04".as_slice());
-    Ok(())
-}
-
-/// Feeds two pieces to a parser. The marks of what is read go onto the list, behind each piece where the results are taken.
-fn read_two<A: Memory>(
+/// Feeds pieces to a parser. The marks of what is read go onto the list, behind each piece where the results are taken.
+fn read_pieces<A: Memory>(
     parser: &mut StreamParser<A>,
-    pieces: [&[u8]; 2],
+    pieces: &[&[u8]],
     is_taken: bool,
     marks: &mut Vec<u8>,
 ) -> Result<(), Error> {
@@ -88,19 +51,42 @@ fn read_two<A: Memory>(
             answer = parser.feed(piece);
         }
         if is_taken && answer.is_ok() {
-            for read in &parser.take() {
-                marks.push(mark(read)).map_err(AllocError::from)?;
-            }
+            push_marks(parser.take().as_slice(), marks)?;
         }
     }
-    for read in parser.results() {
-        marks.push(mark(read)).map_err(AllocError::from)?;
-    }
+    push_marks(parser.results(), marks)?;
     answer
+}
+
+/// The marks of these results go onto the list.
+fn push_marks<S: Storage>(
+    results: &[Result<Message<S>, Error>],
+    marks: &mut Vec<u8>,
+) -> Result<(), AllocError> {
+    for read in results {
+        marks.push(mark(read))?;
+    }
+    Ok(())
 }
 
 /// What is left of that stream behind its last result.
 const REST: &[u8] = b"Z\0\0\0\x03";
+
+/// Results are handed out once, and none is lost.
+#[test]
+fn taken_after_each_byte(rt: HostRuntime) {
+    let mut parser = StreamParser::new(rt.alloc());
+    let mut marks = Vec::new(rt.alloc());
+    for byte in &HOSTILE {
+        let read = read_pieces(&mut parser, &[&[*byte]], true, &mut marks);
+        same(&rt, read, Ok(()));
+    }
+    holds(&rt, has_all(&parser, marks.as_slice()));
+    let read = read_pieces(&mut parser, &[b"1\0\0\0\x04"], true, &mut marks);
+    same(&rt, read, Ok(()));
+    same(&rt, marks.as_slice(), MARKS);
+    same(&rt, parser.rest(), b"Z\0\0\0\x031\0\0\0\x04".as_slice());
+}
 
 /// Two pieces for a parser. One that is refused memory has failed, and what it read until then are the stream's first results.
 #[derive(Clone, Copy)]
@@ -121,7 +107,7 @@ impl Tried for Fed<'_> {
         let mut parser = StreamParser::new(alloc);
         let mut marks = Vec::new(self.memory);
         turn.begin();
-        match read_two(&mut parser, self.pieces, self.is_taken, &mut marks) {
+        match read_pieces(&mut parser, &self.pieces, self.is_taken, &mut marks) {
             Ok(()) if !parser.failed() && has_all(&parser, marks.as_slice()) => Ok(DONE),
             Err(e) if parser.failed() && MARKS.starts_with(marks.as_slice()) => Err(e),
             _ => Ok(WRONG),
@@ -146,18 +132,22 @@ fn pieces_with_each_allocation_refused(rt: HostRuntime) {
     }
 }
 
+/// Whether all of that stream was read.
+fn is_all<A: Memory>(parsed: &Parsed<A>) -> bool {
+    are_all(parsed.results()) && parsed.stopped() && parsed.rest() == REST
+}
+
 /// Two pieces for `parse_stream`.
 #[derive(Clone, Copy)]
-struct Parsed<'a> {
+struct InTwo<'a> {
     pieces: [&'a [u8]; 2],
 }
 
-impl Tried for Parsed<'_> {
+impl Tried for InTwo<'_> {
     fn outcome<A: Allocator + Copy>(&self, alloc: A, turn: Turn<'_>) -> Result<usize, Error> {
         turn.begin();
         let parsed = parse_stream(alloc, &self.pieces)?;
-        let is_whole = are_all(parsed.results()) && parsed.stopped() && parsed.rest() == REST;
-        Ok(if is_whole { DONE } else { WRONG })
+        Ok(if is_all(&parsed) { DONE } else { WRONG })
     }
 }
 
@@ -165,13 +155,13 @@ impl Tried for Parsed<'_> {
 fn parse_stream_with_each_allocation_refused(rt: HostRuntime) {
     for cut in 0..102usize {
         let (front, back) = HOSTILE.split_at(cut);
-        let parsed = Parsed {
+        let in_two = InTwo {
             pieces: [front, back],
         };
         holds_at(
             &rt,
             cut,
-            refusals_of(&rt, rt.alloc(), &parsed, Ok(DONE)).told > 2,
+            refusals_of(&rt, rt.alloc(), &in_two, Ok(DONE)).told > 2,
         );
     }
 }
