@@ -216,17 +216,31 @@ struct Exchange<'a> {
     ample: (u8, u8, u64),
 }
 
-impl Tried for Exchange<'_> {
+impl Exchange<'_> {
+    fn end<A: Allocator + Copy>(
+        &self,
+        alloc: A,
+        client: &mut ScramSha256<A>,
+    ) -> Result<usize, Error> {
+        let first = server_first(alloc, client)?;
+        self.told(steps(client, first.as_slice(), self.server_final))
+    }
+
     // A refused `update` ends it, so that `finish` isn't due. A refused `finish` is told.
-    fn outcome<A: Allocator + Copy>(&self, alloc: A, turn: Turn<'_>) -> Result<usize, Error> {
-        turn.begin();
-        let mut client = begun(alloc, self.is_drawn)?;
-        let first = server_first(alloc, &client)?;
-        match steps(&mut client, first.as_slice(), self.server_final) {
+    fn told(&self, steps: Option<(u8, u8, u64)>) -> Result<usize, Error> {
+        match steps {
             Some(steps) if steps == self.ample => Ok(DONE),
             Some((0, 1, 3) | (1, 2, 0) | (1, 2, 3)) => Err(Error::OutOfMemory),
             _ => Ok(WRONG),
         }
+    }
+}
+
+impl Tried for Exchange<'_> {
+    fn outcome<A: Allocator + Copy>(&self, alloc: A, turn: Turn<'_>) -> Result<usize, Error> {
+        turn.begin();
+        let mut client = begun(alloc, self.is_drawn)?;
+        self.end(alloc, &mut client)
     }
 }
 
@@ -288,17 +302,30 @@ struct Last<'a> {
     text: &'a [u8],
 }
 
-impl Tried for Last<'_> {
+impl Last<'_> {
     // The number of its refusal. The turn begins behind the first text.
+    fn refusal<A: Allocator + Copy>(
+        &self,
+        alloc: A,
+        client: &mut ScramSha256<A>,
+        turn: Turn<'_>,
+    ) -> Result<usize, Error> {
+        let first = server_first(alloc, client)?;
+        let updated = number(client.update(first.as_slice()));
+        turn.begin();
+        let finished = number(client.finish(self.text));
+        Ok(if updated == 0 {
+            usize::from(finished)
+        } else {
+            WRONG
+        })
+    }
+}
+
+impl Tried for Last<'_> {
     fn outcome<A: Allocator + Copy>(&self, alloc: A, turn: Turn<'_>) -> Result<usize, Error> {
         let mut client = begun(alloc, false)?;
-        let first = server_first(alloc, &client)?;
-        let updated = number(client.update(&first));
-        turn.begin();
-        match updated {
-            0 => Ok(usize::from(number(client.finish(self.text)))),
-            _ => Ok(WRONG),
-        }
+        self.refusal(alloc, &mut client, turn)
     }
 }
 
