@@ -9,7 +9,7 @@ use pgp_message::{
     DataRowBody, Field, Message, Messages, NegotiateProtocolVersionBody, RowDescriptionBody,
 };
 use pgp_types::{
-    Array, ArrayDimension, Path, Point, Range, RangeBound, array_from_sql, hstore_from_sql,
+    Array, ArrayDimension, Path, Point, Range, RangeBound, Varbit, array_from_sql, hstore_from_sql,
     path_from_sql, range_from_sql, varbit_from_sql,
 };
 use std::alloc::Global;
@@ -124,43 +124,9 @@ fn show_range(range: Range<'_>, out: &mut Text) {
     }
 }
 
-/// What a range is read as.
-fn read_range(bytes: &[u8], out: &mut Text) {
-    match range_from_sql(bytes) {
-        Ok(range) => show_range(range, out),
-        Err(e) => out.number(e),
-    }
-}
-
-fn read_varbit(bytes: &[u8], out: &mut Text) {
-    match varbit_from_sql(bytes) {
-        Ok(bits) => {
-            out.number(bits.len());
-            out.nullable(Some(bits.bytes()))
-        }
-        Err(e) => out.number(e),
-    }
-}
-
-fn read_path(bytes: &[u8], out: &mut Text) {
-    match path_from_sql(bytes) {
-        Ok(path) => show_path(path, bytes.len(), out),
-        Err(e) => out.number(e),
-    }
-}
-
-fn read_array(bytes: &[u8], out: &mut Text) {
-    match array_from_sql(bytes) {
-        Ok(array) => show_array(array, bytes.len(), out),
-        Err(e) => out.number(e),
-    }
-}
-
-fn read_hstore(bytes: &[u8], out: &mut Text) {
-    match (hstore_from_sql(bytes), hstore_from_sql(bytes)) {
-        (Ok(pairs), Ok(again)) => show_walk(pairs, again, bytes.len(), out),
-        (Err(e), _) | (_, Err(e)) => out.number(e),
-    }
+fn show_varbit(bits: Varbit<'_>, out: &mut Text) {
+    out.number(bits.len());
+    out.nullable(Some(bits.bytes()));
 }
 
 /// A body behind its tag and length.
@@ -187,18 +153,20 @@ fn read_body(tag: u8, body: &[u8], out: &mut Text) {
 }
 
 /// Reads the bytes as the call of this name does.
-fn read(call: &str, bytes: &[u8], out: &mut Text) {
+fn read(call: &str, bytes: &[u8], out: &mut Text) -> Result<(), Error> {
+    let most = bytes.len();
     match call {
         "row" => read_body(b'D', bytes, out),
         "columns" => read_body(b'T', bytes, out),
         "options" => read_body(b'v', bytes, out),
-        "array" => read_array(bytes, out),
-        "hstore" => read_hstore(bytes, out),
-        "path" => read_path(bytes, out),
-        "range" => read_range(bytes, out),
-        "varbit" => read_varbit(bytes, out),
+        "array" => show_array(array_from_sql(bytes)?, most, out),
+        "hstore" => show_walk(hstore_from_sql(bytes)?, hstore_from_sql(bytes)?, most, out),
+        "path" => show_path(path_from_sql(bytes)?, most, out),
+        "range" => show_range(range_from_sql(bytes)?, out),
+        "varbit" => show_varbit(varbit_from_sql(bytes)?, out),
         _ => out.fail(Some(Fault::Data)),
     }
+    Ok(())
 }
 
 /// A row: a call, the digits of its bytes, and what it comes to.
@@ -223,9 +191,9 @@ fn row_of(line: &str) -> Option<Row<'_>> {
 fn outcome(alloc: Global, row: Row<'_>) -> Text {
     let mut out = Text::new(alloc);
     let mut bytes = Vec::new(alloc);
-    match append(alloc, row.digits, &mut bytes) {
-        Ok(()) => read(row.call, bytes.as_slice(), &mut out),
-        Err(fault) => out.fail(Some(fault)),
+    out.fail(append(alloc, row.digits, &mut bytes).err());
+    if let Err(e) = read(row.call, bytes.as_slice(), &mut out) {
+        out.number(e);
     }
     out
 }

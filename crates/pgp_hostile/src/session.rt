@@ -36,16 +36,6 @@ impl Changes {
         }
     }
 
-    fn add(&mut self, is_alone: bool, entry: &Entry) {
-        let mut label = Text::new(self.alloc);
-        entry.show(&mut label);
-        if is_alone {
-            self.alone.add_text(&label);
-        } else {
-            self.more.add_text(&label);
-        }
-    }
-
     /// Adds what came in the place of the frame of this number and behind it.
     fn add_reading(&mut self, at: usize, before: &Reading, came: &Reading) {
         self.streams = self.streams.saturating_add(1);
@@ -54,17 +44,27 @@ impl Changes {
         if !is_front_same(at, before, came) {
             self.wrong = self.wrong.saturating_add(1);
         }
-        let is_alone = is_back_same(at.saturating_add(1), before, came);
-        let most = if is_alone { 1 } else { usize::MAX };
-        for entry in came.entries.iter().skip(at).take(most) {
-            self.add(is_alone, entry);
-        }
-        match is_alone {
-            true => {}
-            false if came.is_stopped => self.more.add("stopped"),
-            false => self.more.add("waits"),
+        if !is_back_same(at.saturating_add(1), before, came) {
+            self.add_more(at, came);
+        } else if let Some(entry) = came.entries.get(at) {
+            add_entry(&mut self.alone, entry);
         }
     }
+
+    /// Adds what was read from this number on, and how it ended.
+    fn add_more(&mut self, at: usize, came: &Reading) {
+        for entry in came.entries.iter().skip(at) {
+            add_entry(&mut self.more, entry);
+        }
+        self.more
+            .add(if came.is_stopped { "stopped" } else { "waits" });
+    }
+}
+
+fn add_entry(tally: &mut Tally, entry: &Entry) {
+    let mut label = Text::new(tally.alloc());
+    entry.show(&mut label);
+    tally.add_text(&label);
 }
 
 /// Whether there are as many results here as there, each the same.

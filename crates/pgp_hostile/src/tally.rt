@@ -29,6 +29,10 @@ impl Tally {
         }
     }
 
+    pub(crate) fn alloc(&self) -> Global {
+        self.alloc
+    }
+
     /// Something is missing, where there is a fault.
     pub(crate) fn fail(&mut self, fault: Option<Fault>) {
         self.fault = self.fault.or(fault);
