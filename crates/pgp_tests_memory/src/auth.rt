@@ -4,7 +4,7 @@
 ghost use Rattle.std.specs.Prelude.{Some, [], ◌∷◌};
 
 use crate::checks::{holds, same};
-use crate::turns::{DONE, Tried, Turn, WRONG, refused};
+use crate::turns::{DONE, MANY, Tried, Turn, WRONG, refuse_each, refused};
 use pgp_auth::authentication::md5_hash;
 use pgp_auth::authentication::sasl::{
     ChannelBinding, NoPrep, SaslPrep, ScramError, ScramSha256, is_nonce,
@@ -244,23 +244,41 @@ impl Tried for Exchange<'_> {
     }
 }
 
+const LONG: Exchange<'static> = Exchange {
+    is_drawn: false,
+    server_final: LONG_FINAL,
+    ample: (0, 12, 5),
+};
+
 // Beside the refusals of memory an exchange comes to the same end.
 #[test]
 fn exchanges_with_each_allocation_refused(rt: HostRuntime) {
     let exchanges = [
-        (true, LONG_FINAL, (0, 12, 5)),
-        (false, LONG_FINAL, (0, 12, 5)),
-        (false, b"e=other-error".as_slice(), (0, 11, 3)),
-        (false, b"v=AAAA".as_slice(), (0, 12, 5)),
+        (
+            Exchange {
+                is_drawn: true,
+                ..LONG
+            },
+            Ok(DONE),
+        ),
+        (LONG, Ok(DONE)),
+        (
+            Exchange {
+                server_final: b"e=other-error",
+                ample: (0, 11, 3),
+                ..LONG
+            },
+            Ok(DONE),
+        ),
+        (
+            Exchange {
+                server_final: b"v=AAAA",
+                ..LONG
+            },
+            Ok(DONE),
+        ),
     ];
-    for (is_drawn, server_final, ample) in exchanges {
-        let exchange = Exchange {
-            is_drawn,
-            server_final,
-            ample,
-        };
-        holds(&rt, 10 <= refused(&rt, rt.alloc(), &exchange, Ok(DONE)));
-    }
+    refuse_each(&rt, rt.alloc(), 10..MANY, &exchanges);
 }
 
 // The client's first text with a nonce that the generator draws.
@@ -298,9 +316,7 @@ fn a_client_tells_of_a_mapping_without_memory(rt: HostRuntime) {
 
 // A server's last text.
 #[derive(Clone, Copy)]
-struct Last<'a> {
-    text: &'a [u8],
-}
+struct Last<'a>(&'a [u8]);
 
 impl Last<'_> {
     // The number of its refusal. The turn begins behind the first text.
@@ -313,7 +329,7 @@ impl Last<'_> {
         let first = server_first(alloc, client)?;
         let updated = number(client.update(first.as_slice()));
         turn.begin();
-        let finished = number(client.finish(self.text));
+        let finished = number(client.finish(self.0));
         Ok(if updated == 0 {
             usize::from(finished)
         } else {
@@ -332,15 +348,16 @@ impl Tried for Last<'_> {
 // A text of the length of a signature is compared in no memory of its own.
 #[test]
 fn a_signature_is_compared_without_memory(rt: HostRuntime) {
-    let texts: [(&[u8], usize); 6] = [
-        (b"v=U+ppxD5XUKtradnv8e2MkeupiA8FU87Sg8CXzXHDAzw=", 12),
-        (b"v=AAAA", 12),
-        (b"v=A", 10),
-        (b"v=AA==,x", 6),
-        (b"\xff", 3),
-        (b"", 4),
+    let texts = [
+        (
+            Last(b"v=U+ppxD5XUKtradnv8e2MkeupiA8FU87Sg8CXzXHDAzw="),
+            Ok(12),
+        ),
+        (Last(b"v=AAAA"), Ok(12)),
+        (Last(b"v=A"), Ok(10)),
+        (Last(b"v=AA==,x"), Ok(6)),
+        (Last(b"\xff"), Ok(3)),
+        (Last(b""), Ok(4)),
     ];
-    for (text, answer) in texts {
-        same(&rt, refused(&rt, rt.alloc(), &Last { text }, Ok(answer)), 0);
-    }
+    refuse_each(&rt, rt.alloc(), 0..1, &texts);
 }

@@ -1,8 +1,7 @@
 //! The server's side of SCRAM, with each allocation refused in turn: the exchange of RFC 7677.
 #![tactic(auto, using(pgp_base::proofs::Parts::held_steps))]
 
-use crate::checks::holds;
-use crate::turns::{Tried, Turn, WRONG, refused};
+use crate::turns::{MANY, Tried, Turn, WRONG, refuse_each};
 use pgp_auth::authentication::sasl::{
     ChannelOffer, ScramServer, ServerError, StoredVerifier, VerifierError, is_nonce,
 };
@@ -74,8 +73,9 @@ impl Tried for Exchange {
 
 #[test]
 fn servers_with_each_allocation_refused(rt: HostRuntime) {
-    for (is_mock, end) in [(false, ACCEPTED), (true, REFUSED)] {
-        let exchange = Exchange { is_mock };
-        holds(&rt, 3 <= refused(&rt, rt.alloc(), &exchange, Ok(end)));
-    }
+    let exchanges = [
+        (Exchange { is_mock: false }, Ok(ACCEPTED)),
+        (Exchange { is_mock: true }, Ok(REFUSED)),
+    ];
+    refuse_each(&rt, rt.alloc(), 3..MANY, &exchanges);
 }

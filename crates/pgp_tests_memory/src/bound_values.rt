@@ -32,11 +32,14 @@ impl Tried for Values {
         let row = next_row(&mut buf)?;
         turn.begin();
         let values = row_int4(alloc, &row)?;
-        let wanted = [Some(Ok(5)), None, Some(Err(Error::UnexpectedEof))];
-        match values.as_slice() == wanted.as_slice() {
-            true => Ok(values.len()),
-            false => Ok(0),
-        }
+        Ok(good_values(values.as_slice()))
+    }
+}
+
+fn good_values(values: &[Option<Result<i32, Error>>]) -> usize {
+    match values {
+        [Some(Ok(5)), None, Some(Err(Error::UnexpectedEof))] => 3,
+        _ => 0,
     }
 }
 

@@ -3,7 +3,7 @@
 
 use crate::checks::{holds, same};
 use crate::reads::{Read, WAITS, buffer, count, next_row, read_as};
-use crate::turns::{DONE, Tried, Turn, WRONG, refusals_of, refused};
+use crate::turns::{DONE, MANY, Tried, Turn, WRONG, refusals_of, refuse_each, refused};
 use bytes::{Bytes, BytesMut};
 use pgp_base::Error;
 use pgp_message::{DataRowBody, FrameParser, Message, Messages, RowPlaces, read_frames};
@@ -46,17 +46,26 @@ impl Frame<'_> {
     }
 }
 
-impl Tried for Frame<'_> {
+impl Frame<'_> {
     // A refused frame is taken once memory is there.
-    fn outcome<A: Allocator + Copy>(&self, alloc: A, turn: Turn<'_>) -> Result<usize, Error> {
-        let mut buf = buffer(alloc, self.bytes)?;
-        let mut parser = FrameParser::new();
-        turn.begin();
-        let came = self.read(&mut parser, &mut buf);
-        match came.is_err() && !buf.is_empty() && self.read(&mut parser, &mut buf) != Ok(DONE) {
+    fn read_again<A: Allocator + Copy>(
+        &self,
+        parser: &mut FrameParser,
+        buf: &mut BytesMut<A>,
+    ) -> Result<usize, Error> {
+        let came = self.read(parser, buf);
+        match came.is_err() && !buf.is_empty() && self.read(parser, buf) != Ok(DONE) {
             true => Ok(WRONG),
             false => came,
         }
+    }
+}
+
+impl Tried for Frame<'_> {
+    fn outcome<A: Allocator + Copy>(&self, alloc: A, turn: Turn<'_>) -> Result<usize, Error> {
+        let mut buf = buffer(alloc, self.bytes)?;
+        turn.begin();
+        self.read_again(&mut FrameParser::new(), &mut buf)
     }
 }
 
@@ -102,35 +111,37 @@ fn plain(bytes: &[u8]) -> Frame<'_> {
 // A message that keeps no bytes of its frame asks for no memory, and neither does a frame of no message.
 #[test]
 fn bare_frames_ask_for_no_memory(rt: HostRuntime) {
-    let frames: [(&[u8], Result<usize, Error>); 8] = [
-        (b"\x31\0\0\0\x04", Ok(DONE)),
-        (b"\x5a\0\0\0\x05I", Ok(DONE)),
-        (b"\x52\0\0\0\x08\0\0\0\0", Ok(DONE)),
-        (b"\x52\0\0\0\x0c\0\0\0\x05\x01\x02\x03\x04", Ok(DONE)),
-        (b"\x5a\0\0\0\x06I\0", Err(Error::NotDrained)),
-        (b"\x57\0\0\0\x06ab", Err(Error::UnknownTag(0x57))),
+    let frames = [
+        (plain(b"\x31\0\0\0\x04"), Ok(DONE)),
+        (plain(b"\x5a\0\0\0\x05I"), Ok(DONE)),
+        (plain(b"\x52\0\0\0\x08\0\0\0\0"), Ok(DONE)),
+        (plain(b"\x52\0\0\0\x0c\0\0\0\x05\x01\x02\x03\x04"), Ok(DONE)),
+        (plain(b"\x5a\0\0\0\x06I\0"), Err(Error::NotDrained)),
+        (plain(b"\x57\0\0\0\x06ab"), Err(Error::UnknownTag(0x57))),
         (
-            b"\x52\0\0\0\x08\0\0\0\x63",
+            plain(b"\x52\0\0\0\x08\0\0\0\x63"),
             Err(Error::UnknownAuthentication(99)),
         ),
-        (b"\x52\0\0\0\x06\0\0", Err(Error::UnexpectedEof)),
+        (plain(b"\x52\0\0\0\x06\0\0"), Err(Error::UnexpectedEof)),
     ];
-    for (bytes, answer) in frames {
-        same(&rt, refused(&rt, rt.alloc(), &plain(bytes), answer), 0);
-    }
+    refuse_each(&rt, rt.alloc(), 0..1, &frames);
 }
 
 // A key and an answer about versions keep bytes of their frames: a refused frame stays, and is taken once memory is there.
 #[test]
 fn keys_and_versions_with_each_allocation_refused(rt: HostRuntime) {
-    let frames: [&[u8]; 3] = [
-        b"\x4b\0\0\0\x0c\0\0\0\x01\0\0\0\x02",
-        b"\x4b\0\0\0\x0d\0\0\0\x01\x01\x02\x03\x04\x05",
-        b"\x76\0\0\0\x13\0\x03\0\0\0\0\0\x01_pq_.x\0",
+    let frames = [
+        (plain(b"\x4b\0\0\0\x0c\0\0\0\x01\0\0\0\x02"), Ok(DONE)),
+        (
+            plain(b"\x4b\0\0\0\x0d\0\0\0\x01\x01\x02\x03\x04\x05"),
+            Ok(DONE),
+        ),
+        (
+            plain(b"\x76\0\0\0\x13\0\x03\0\0\0\0\0\x01_pq_.x\0"),
+            Ok(DONE),
+        ),
     ];
-    for frame in frames {
-        holds(&rt, refused(&rt, rt.alloc(), &plain(frame), Ok(DONE)) > 0);
-    }
+    refuse_each(&rt, rt.alloc(), 1..MANY, &frames);
 }
 
 // What is made of frames that came.
@@ -251,33 +262,39 @@ fn items<A: Allocator + Copy>(alloc: A, turn: Turn<'_>, frame: &[u8]) -> Result<
     came
 }
 
-const LISTS: [(&[u8], usize); 7] = [
-    (b"\x47\0\0\0\x11\0\0\x05\0\x01\0\x01\0\x01\0\x01\0\x01", 5),
+const LISTS: [(Made<'static>, Result<usize, Error>); 7] = [
     (
-        b"\x74\0\0\0\x1a\0\x05\0\0\0\x17\0\0\0\x17\0\0\0\x17\0\0\0\x17\0\0\0\x17",
-        5,
+        Made::Items(b"\x47\0\0\0\x11\0\0\x05\0\x01\0\x01\0\x01\0\x01\0\x01"),
+        Ok(5),
     ),
     (
-        b"\x44\0\0\0\x1a\0\x05\xff\xff\xff\xff\xff\xff\xff\xff\xff\xff\xff\xff\xff\xff\xff\xff\xff\xff\xff\xff",
-        5,
+        Made::Items(b"\x74\0\0\0\x1a\0\x05\0\0\0\x17\0\0\0\x17\0\0\0\x17\0\0\0\x17\0\0\0\x17"),
+        Ok(5),
     ),
     (
-        b"\x54\0\0\0\x1a\0\x01a\0\0\0\0\0\0\0\0\0\0\x17\0\x04\xff\xff\xff\xff\0\0",
-        1,
+        Made::Items(
+            b"\x44\0\0\0\x1a\0\x05\xff\xff\xff\xff\xff\xff\xff\xff\xff\xff\xff\xff\xff\xff\xff\xff\xff\xff\xff\xff",
+        ),
+        Ok(5),
     ),
-    (b"\x45\0\0\0\x14Sa\0Cb\0Mc\0Dd\0He\0\0", 5),
-    (b"\x52\0\0\0\x13\0\0\0\x0aa\0b\0c\0d\0e\0\0", 5),
-    (b"\x76\0\0\0\x16\0\x03\0\0\0\0\0\x05a\0b\0c\0d\0e\0", 5),
+    (
+        Made::Items(b"\x54\0\0\0\x1a\0\x01a\0\0\0\0\0\0\0\0\0\0\x17\0\x04\xff\xff\xff\xff\0\0"),
+        Ok(1),
+    ),
+    (Made::Items(b"\x45\0\0\0\x14Sa\0Cb\0Mc\0Dd\0He\0\0"), Ok(5)),
+    (
+        Made::Items(b"\x52\0\0\0\x13\0\0\0\x0aa\0b\0c\0d\0e\0\0"),
+        Ok(5),
+    ),
+    (
+        Made::Items(b"\x76\0\0\0\x16\0\x03\0\0\0\0\0\x05a\0b\0c\0d\0e\0"),
+        Ok(5),
+    ),
 ];
 
 #[test]
 fn collect_with_each_allocation_refused(rt: HostRuntime) {
-    for (frame, len) in LISTS {
-        holds(
-            &rt,
-            refused(&rt, rt.alloc(), &Made::Items(frame), Ok(len)) > 0,
-        );
-    }
+    refuse_each(&rt, rt.alloc(), 1..MANY, &LISTS);
 }
 
 // How many columns the table of the first message has, which has to be a row.
@@ -291,22 +308,17 @@ fn columns<A: Allocator + Copy>(alloc: A, bytes: &[u8]) -> Result<usize, Error> 
 // The table of a short row is one allocation, that of a row without columns none, and neither one of a row that is cut.
 #[test]
 fn index_with_each_allocation_refused(rt: HostRuntime) {
-    let tables: [(&[u8], Result<usize, Error>, u64); 3] = [
+    let five =
+        b"\x44\0\0\0\x1a\0\x05\xff\xff\xff\xff\xff\xff\xff\xff\xff\xff\xff\xff\xff\xff\xff\xff\xff\xff\xff\xff";
+    refuse_each(&rt, rt.alloc(), 1..2, &[(Made::Table(five), Ok(5))]);
+    let others = [
+        (Made::Table(b"\x44\0\0\0\x06\0\0"), Ok(0)),
         (
-            b"\x44\0\0\0\x1a\0\x05\xff\xff\xff\xff\xff\xff\xff\xff\xff\xff\xff\xff\xff\xff\xff\xff\xff\xff\xff\xff",
-            Ok(5),
-            1,
-        ),
-        (b"\x44\0\0\0\x06\0\0", Ok(0), 0),
-        (
-            b"\x44\0\0\0\x0a\xff\xff\0\0\0\x05",
+            Made::Table(b"\x44\0\0\0\x0a\xff\xff\0\0\0\x05"),
             Err(Error::UnexpectedEof),
-            0,
         ),
     ];
-    for (row, len, asked) in tables {
-        same(&rt, refused(&rt, rt.alloc(), &Made::Table(row), len), asked);
-    }
+    refuse_each(&rt, rt.alloc(), 0..1, &others);
 }
 
 // How many columns the first message has, which has to be a row, by a table in this memory.

@@ -1,7 +1,7 @@
 //! A longer stream of a server, cut in many ways, and with each allocation refused in turn. Its bytes are from the
 //! message formats of the PostgreSQL manual.
 
-use crate::checks::{holds, holds_at, same};
+use crate::checks::{holds, same};
 use crate::turns::{DONE, Tried, Turn, WRONG, refusals_of};
 use pgp_base::{Error, Memory};
 use pgp_message::{Message, Storage};
@@ -102,16 +102,26 @@ fn has_all<A: Memory>(parser: &StreamParser<A>, marks: &[u8]) -> bool {
     marks == MARKS && parser.stopped() && parser.rest() == REST && parser.headers() == 7
 }
 
+impl Fed<'_> {
+    fn end<A: Allocator + Copy>(
+        &self,
+        parser: &mut StreamParser<A>,
+        marks: &mut Vec<u8>,
+    ) -> Result<usize, Error> {
+        match read_pieces(parser, &self.pieces, self.is_taken, marks) {
+            Ok(()) if !parser.failed() && has_all(parser, marks.as_slice()) => Ok(DONE),
+            Err(e) if parser.failed() && MARKS.starts_with(marks.as_slice()) => Err(e),
+            _ => Ok(WRONG),
+        }
+    }
+}
+
 impl Tried for Fed<'_> {
     fn outcome<A: Allocator + Copy>(&self, alloc: A, turn: Turn<'_>) -> Result<usize, Error> {
         let mut parser = StreamParser::new(alloc);
         let mut marks = Vec::new(self.memory);
         turn.begin();
-        match read_pieces(&mut parser, &self.pieces, self.is_taken, &mut marks) {
-            Ok(()) if !parser.failed() && has_all(&parser, marks.as_slice()) => Ok(DONE),
-            Err(e) if parser.failed() && MARKS.starts_with(marks.as_slice()) => Err(e),
-            _ => Ok(WRONG),
-        }
+        self.end(&mut parser, &mut marks)
     }
 }
 
@@ -127,7 +137,7 @@ fn pieces_with_each_allocation_refused(rt: HostRuntime) {
                 memory: rt.alloc(),
             };
             let refusals = refusals_of(&rt, rt.alloc(), &fed, Ok(DONE));
-            holds_at(&rt, cut, refusals.told > 2);
+            same(&rt, (cut, refusals.told > 2), (cut, true));
         }
     }
 }
@@ -158,10 +168,7 @@ fn parse_stream_with_each_allocation_refused(rt: HostRuntime) {
         let in_two = InTwo {
             pieces: [front, back],
         };
-        holds_at(
-            &rt,
-            cut,
-            refusals_of(&rt, rt.alloc(), &in_two, Ok(DONE)).told > 2,
-        );
+        let refusals = refusals_of(&rt, rt.alloc(), &in_two, Ok(DONE));
+        same(&rt, (cut, refusals.told > 2), (cut, true));
     }
 }

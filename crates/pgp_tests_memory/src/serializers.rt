@@ -4,7 +4,7 @@
 ghost use Rattle.pgp_base.specs.Calls.{KeepsValue};
 ghost use Rattle.pgp_base.specs.Held.{items_held};
 
-use crate::checks::{holds_at, same};
+use crate::checks::same;
 use crate::writers::SYNC;
 use bytes::BytesMut;
 use pgp_base::{BindError, Buffer, Error, IsNull};
@@ -12,7 +12,6 @@ use pgp_frontend::bind;
 use pgp_test_alloc::Refusing;
 use pgp_types::{ArrayDimension, RangeBound, array_to_sql, range_to_sql};
 use std::alloc::{AllocError, Global};
-use std::test::Fail;
 
 // What the serializers here answer where they are refused memory.
 const OWN: u8 = 77;
@@ -165,10 +164,11 @@ fn tellers_of(alloc: Global, writer: u32) -> Result<(u32, u32), AllocError> {
 // The serializer's want of memory is told as its own refusal, the writer's as a serialization. Buffers of many lengths have
 // each growth come at their end, so that both are met.
 #[test]
-fn a_serializer_without_memory_is_told_apart(rt: HostRuntime) -> Result<(), Fail> {
+fn a_serializer_without_memory_is_told_apart(rt: HostRuntime) {
     for writer in 0..3u32 {
-        let (by_serializer, by_writer) = tellers_of(rt.alloc(), writer)?;
-        holds_at(&rt, writer, by_serializer > 5 && by_writer > 5);
+        let told = tellers_of(rt.alloc(), writer);
+        let is_told =
+            matches!(told, Ok((by_serializer, by_writer)) if by_serializer > 5 && by_writer > 5);
+        same(&rt, (writer, is_told), (writer, true));
     }
-    Ok(())
 }

@@ -1,10 +1,11 @@
 //! Calls over a memory that refuses one request: the first in the first turn, then the second, until a turn meets no refusal.
 
-use crate::checks::{holds, same, same_at};
+use crate::checks::{holds, same};
 use pgp_base::Error;
 use pgp_test_alloc::Refusing;
 use std::alloc::{Allocator, Global};
 use std::cell::Cell;
+use std::ops::Range;
 use std::process::Abort;
 
 /// What a call comes to that leaves something otherwise than it has to be. No test wants it.
@@ -48,7 +49,7 @@ pub(crate) fn refusals_of<T: Tried>(
     end: Result<usize, Error>,
 ) -> Refusals {
     let mut told = 0u64;
-    for asked in 0..1000u64 {
+    for asked in 0..MANY {
         let heap = Refusing::new(alloc, 0);
         let turn = Turn {
             until_refusal: &heap.until_refusal,
@@ -56,12 +57,12 @@ pub(crate) fn refusals_of<T: Tried>(
         };
         let came = tried.outcome(&heap, turn);
         if heap.until_refusal.get() != 0 {
-            same_at(rt, asked, came, end);
+            same(rt, (asked, came), (asked, end));
             return Refusals { asked, told };
         }
         match came {
             Err(Error::OutOfMemory) => told = told.saturating_add(1),
-            _ => same_at(rt, asked, came, end),
+            _ => same(rt, (asked, came), (asked, end)),
         }
     }
     holds(rt, false);
@@ -79,3 +80,18 @@ pub(crate) fn refused<T: Tried>(
     same(rt, refusals.told, refusals.asked);
     refusals.asked
 }
+
+/// Each of these comes to its end, and so many requests are refused before, each of which is told.
+pub(crate) fn refuse_each<T: Tried>(
+    rt: &impl Abort,
+    alloc: Global,
+    asked: Range<u64>,
+    cases: &[(T, Result<usize, Error>)],
+) {
+    for (tried, end) in cases {
+        holds(rt, asked.contains(&refused(rt, alloc, tried, *end)));
+    }
+}
+
+/// More requests than any case makes.
+pub(crate) const MANY: u64 = 1000;

@@ -1,8 +1,8 @@
 //! The walks over values, with each allocation refused in turn. The writers of values are tried by their rows (`pgp_rows`).
 
-use crate::checks::{holds, same};
+use crate::checks::same;
 use crate::reads::count;
-use crate::turns::{Tried, Turn, refused};
+use crate::turns::{MANY, Tried, Turn, refuse_each, refused};
 use pgp_base::Error;
 use pgp_types::{array_from_sql, hstore_from_sql, path_from_sql};
 use std::alloc::Allocator;
@@ -53,12 +53,10 @@ const LIST: &[u8] =
 #[test]
 fn collect_with_each_allocation_refused(rt: HostRuntime) {
     let walks = [
-        Walk::Pairs(PAIRS),
-        Walk::Points(POINTS),
-        Walk::Dimensions(LIST),
-        Walk::Elements(LIST),
+        (Walk::Pairs(PAIRS), Ok(5)),
+        (Walk::Points(POINTS), Ok(5)),
+        (Walk::Dimensions(LIST), Ok(5)),
+        (Walk::Elements(LIST), Ok(5)),
     ];
-    for walk in walks {
-        holds(&rt, refused(&rt, rt.alloc(), &walk, Ok(5)) > 0);
-    }
+    refuse_each(&rt, rt.alloc(), 1..MANY, &walks);
 }
