@@ -4,7 +4,9 @@ use crate::checks::holds;
 use crate::reads::{buffer, next_row};
 use crate::turns::{Tried, Turn, refused};
 use crate::writers::{Writer, refused_writer};
+use bytes::Bytes;
 use pgp_base::Error;
+use pgp_message::DataRowBody;
 use postgres_protocol::laws::{Step, row_int4};
 use std::alloc::Allocator;
 use std::test::Fail;
@@ -31,9 +33,12 @@ impl Tried for Values {
         let mut buf = buffer(alloc, ROW)?;
         let row = next_row(&mut buf)?;
         turn.begin();
-        let values = row_int4(alloc, &row)?;
-        Ok(good_values(values.as_slice()))
+        count_of(alloc, &row)
     }
+}
+
+fn count_of<A: Allocator + Copy>(alloc: A, row: &DataRowBody<Bytes<A>>) -> Result<usize, Error> {
+    Ok(good_values(row_int4(alloc, row)?.as_slice()))
 }
 
 fn good_values(values: &[Option<Result<i32, Error>>]) -> usize {

@@ -114,7 +114,8 @@ impl Draws {
 /// Appends a piece of a copy, and a CommandComplete behind it.
 fn put_piece(data: &[u8], out: &mut Vec<u8>) -> Result<(), AllocError> {
     out.extend_from_slice(&[b'd', 0, 0])?;
-    out.extend_from_slice(&(data.len() as u16).wrapping_add(4).to_be_bytes())?;
+    let len = u16::try_from(data.len()).unwrap_or(0);
+    out.extend_from_slice(&len.wrapping_add(4).to_be_bytes())?;
     out.extend_from_slice(data)?;
     out.extend_from_slice(b"C\0\0\0\x0bCOPY 1\0")
 }

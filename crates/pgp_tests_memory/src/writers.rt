@@ -77,15 +77,21 @@ struct Written<'a> {
     ample: &'a [u8],
 }
 
-impl Tried for Written<'_> {
-    fn outcome<A: Allocator + Copy>(&self, alloc: A, turn: Turn<'_>) -> Result<usize, Error> {
-        let mut buf = full(alloc)?;
-        turn.begin();
-        match write(self.writer, &mut buf) {
+impl Written<'_> {
+    fn write<B: Buffer>(&self, buf: &mut B) -> Result<usize, Error> {
+        match write(self.writer, buf) {
             Ok(()) if buf.as_slice() == self.ample => Ok(DONE),
             Err(e) if buf.as_slice() == SYNC => Err(e),
             _ => Ok(WRONG),
         }
+    }
+}
+
+impl Tried for Written<'_> {
+    fn outcome<A: Allocator + Copy>(&self, alloc: A, turn: Turn<'_>) -> Result<usize, Error> {
+        let mut buf = full(alloc)?;
+        turn.begin();
+        self.write(&mut buf)
     }
 }
 
