@@ -4,7 +4,7 @@ use pgp_base::Error;
 use std::alloc::AllocError;
 
 /// Why a run stopped.
-#[derive(Drop)]
+#[derive(Clone, Copy)]
 pub(crate) enum Fault {
     /// The data is not written as README.md says.
     Data,

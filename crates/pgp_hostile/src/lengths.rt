@@ -2,14 +2,14 @@
 
 use crate::data::{append, is_data};
 use crate::fault::Fault;
-use crate::shown::{Show, Shown};
+use crate::text::{Show, Text};
 use crate::walks::show_walk;
 use pgp_base::Error;
 use pgp_message::{
     DataRowBody, Field, Message, Messages, NegotiateProtocolVersionBody, RowDescriptionBody,
 };
 use pgp_types::{
-    Array, ArrayDimension, Path, Point, Range, RangeBound, array_from_sql, hstore_from_sql,
+    Array, ArrayDimension, Path, Point, Range, RangeBound, Varbit, array_from_sql, hstore_from_sql,
     path_from_sql, range_from_sql, varbit_from_sql,
 };
 use std::alloc::Global;
@@ -17,19 +17,20 @@ use std::ops;
 
 /// The place of a column's value, or null.
 impl Show for Option<ops::Range<usize>> {
-    fn show(self, out: &mut Shown) -> Result<(), Fault> {
+    fn show(self, out: &mut Text) {
         match self {
             Some(place) => {
-                let text = format!(in out.alloc(); "{}..{}", place.start, place.end)?;
-                out.word(text.as_str())
+                out.number(place.start);
+                out.push("..");
+                out.show(place.end);
             }
             None => out.word("null"),
         }
     }
 }
 
-fn show_row(body: &DataRowBody<&[u8]>, out: &mut Shown) -> Result<(), Fault> {
-    show_walk(body.ranges(), body.ranges(), body.buffer().len(), out)?;
+fn show_row(body: &DataRowBody<&[u8]>, out: &mut Text) {
+    show_walk(body.ranges(), body.ranges(), body.buffer().len(), out);
     match body.index(out.alloc()) {
         Ok(index) => out.number(index.len()),
         Err(e) => out.number(e),
@@ -37,75 +38,49 @@ fn show_row(body: &DataRowBody<&[u8]>, out: &mut Shown) -> Result<(), Fault> {
 }
 
 impl Show for Field<'_> {
-    fn show(self, out: &mut Shown) -> Result<(), Fault> {
-        out.nullable(Some(self.name().as_bytes()))?;
+    fn show(self, out: &mut Text) {
+        out.nullable(Some(self.name().as_bytes()));
         out.number(self.type_oid())
     }
 }
 
-fn show_columns(
-    body: &RowDescriptionBody<&[u8]>,
-    most: usize,
-    out: &mut Shown,
-) -> Result<(), Fault> {
+fn show_columns(body: &RowDescriptionBody<&[u8]>, most: usize, out: &mut Text) {
     show_walk(body.fields(), body.fields(), most, out)
 }
 
-fn show_options(
-    body: &NegotiateProtocolVersionBody<&[u8]>,
-    most: usize,
-    out: &mut Shown,
-) -> Result<(), Fault> {
-    out.number(body.version())?;
+fn show_options(body: &NegotiateProtocolVersionBody<&[u8]>, most: usize, out: &mut Text) {
+    out.number(body.version());
     show_walk(body.options(), body.options(), most, out)
 }
 
 /// A message that was read, with so many bytes at the most in its body.
-fn show_message(
-    read: &Result<Option<Message<&[u8]>>, Error>,
-    most: usize,
-    out: &mut Shown,
-) -> Result<(), Fault> {
+fn show_message(read: &Result<Option<Message<&[u8]>>, Error>, most: usize, out: &mut Text) {
     match read {
         Ok(Some(Message::DataRow(row))) => show_row(row, out),
         Ok(Some(Message::RowDescription(columns))) => show_columns(columns, most, out),
         Ok(Some(Message::NegotiateProtocolVersion(answer))) => show_options(answer, most, out),
-        Ok(_) => Err(Fault::Data),
+        Ok(_) => out.word("another message"),
         Err(e) => out.number(*e),
     }
 }
 
-/// A body behind its tag and length.
-fn show_body(tag: u8, body: &[u8], out: &mut Shown) -> Result<(), Fault> {
-    let Ok(len) = u32::try_from(body.len().saturating_add(4)) else {
-        return Err(Fault::Data);
-    };
-    let mut frame = Vec::from_slice(out.alloc(), &[tag])?;
-    frame.extend_from_slice(&len.to_be_bytes())?;
-    frame.extend_from_slice(body)?;
-    let read = Messages::new(frame.as_slice()).next();
-    let shown = show_message(&read, body.len(), out);
-    drop(read);
-    shown
-}
-
 impl Show for ArrayDimension {
-    fn show(self, out: &mut Shown) -> Result<(), Fault> {
-        out.number(self.len)?;
+    fn show(self, out: &mut Text) {
+        out.number(self.len);
         out.number(self.lower_bound)
     }
 }
 
-fn show_array(array: Array<'_>, most: usize, out: &mut Shown) -> Result<(), Fault> {
-    show_walk(array.dimensions(), array.dimensions(), most, out)?;
+fn show_array(array: Array<'_>, most: usize, out: &mut Text) {
+    show_walk(array.dimensions(), array.dimensions(), most, out);
     show_walk(array.values(), array.values(), most, out)
 }
 
 /// A key and its value.
 impl Show for (&str, Option<&str>) {
-    fn show(self, out: &mut Shown) -> Result<(), Fault> {
+    fn show(self, out: &mut Text) {
         let (key, value) = self;
-        key.show(out)?;
+        key.show(out);
         match value {
             Some(value) => value.show(out),
             None => out.nullable(None),
@@ -114,124 +89,141 @@ impl Show for (&str, Option<&str>) {
 }
 
 impl Show for Point {
-    fn show(self, out: &mut Shown) -> Result<(), Fault> {
-        out.nullable(Some(&self.x().to_be_bytes()))?;
+    fn show(self, out: &mut Text) {
+        out.nullable(Some(&self.x().to_be_bytes()));
         out.nullable(Some(&self.y().to_be_bytes()))
     }
 }
 
-fn show_path(path: Path<'_>, most: usize, out: &mut Shown) -> Result<(), Fault> {
-    out.word(if path.closed() { "closed" } else { "open" })?;
+fn show_path(path: Path<'_>, most: usize, out: &mut Text) {
+    out.word(if path.closed() { "closed" } else { "open" });
     show_walk(path.points(), path.points(), most, out)
 }
 
-fn show_side(side: RangeBound<Option<&[u8]>>, out: &mut Shown) -> Result<(), Fault> {
+fn show_side(side: RangeBound<Option<&[u8]>>, out: &mut Text) {
     match side {
         RangeBound::Inclusive(bytes) => {
-            out.word("in")?;
+            out.word("in");
             out.nullable(bytes)
         }
         RangeBound::Exclusive(bytes) => {
-            out.word("ex")?;
+            out.word("ex");
             out.nullable(bytes)
         }
         RangeBound::Unbounded => out.word("none"),
     }
 }
 
-fn show_range(range: Range<'_>, out: &mut Shown) -> Result<(), Fault> {
+fn show_range(range: Range<'_>, out: &mut Text) {
     match range {
         Range::Empty => out.word("empty"),
         Range::Nonempty(lower, upper) => {
-            show_side(lower, out)?;
+            show_side(lower, out);
             show_side(upper, out)
         }
     }
 }
 
-/// What a range is read as.
-fn read_range(bytes: &[u8], out: &mut Shown) -> Result<(), Fault> {
-    match range_from_sql(bytes) {
-        Ok(range) => show_range(range, out),
-        Err(e) => out.number(e),
-    }
+fn show_varbit(bits: Varbit<'_>, out: &mut Text) {
+    out.number(bits.len());
+    out.nullable(Some(bits.bytes()));
 }
 
-fn read_varbit(bytes: &[u8], out: &mut Shown) -> Result<(), Fault> {
-    match varbit_from_sql(bytes) {
-        Ok(bits) => {
-            out.number(bits.len())?;
-            out.nullable(Some(bits.bytes()))
+/// A body behind its tag and length.
+fn framed(alloc: Global, tag: u8, body: &[u8]) -> Result<Vec<u8>, Fault> {
+    let Ok(len) = u32::try_from(body.len().saturating_add(4)) else {
+        return Err(Fault::Data);
+    };
+    let mut frame = Vec::from_slice(alloc, &[tag])?;
+    frame.extend_from_slice(&len.to_be_bytes())?;
+    frame.extend_from_slice(body)?;
+    Ok(frame)
+}
+
+/// A body behind its tag and length, read in place.
+fn read_body(tag: u8, body: &[u8], out: &mut Text) {
+    match framed(out.alloc(), tag, body) {
+        Ok(frame) => {
+            let read = Messages::new(frame.as_slice()).next();
+            show_message(&read, body.len(), out);
+            drop(read);
         }
-        Err(e) => out.number(e),
-    }
-}
-
-fn read_path(bytes: &[u8], out: &mut Shown) -> Result<(), Fault> {
-    match path_from_sql(bytes) {
-        Ok(path) => show_path(path, bytes.len(), out),
-        Err(e) => out.number(e),
-    }
-}
-
-fn read_array(bytes: &[u8], out: &mut Shown) -> Result<(), Fault> {
-    match array_from_sql(bytes) {
-        Ok(array) => show_array(array, bytes.len(), out),
-        Err(e) => out.number(e),
-    }
-}
-
-fn read_hstore(bytes: &[u8], out: &mut Shown) -> Result<(), Fault> {
-    match (hstore_from_sql(bytes), hstore_from_sql(bytes)) {
-        (Ok(pairs), Ok(again)) => show_walk(pairs, again, bytes.len(), out),
-        (Err(e), _) | (_, Err(e)) => out.number(e),
+        Err(fault) => out.fail(Some(fault)),
     }
 }
 
 /// Reads the bytes as the call of this name does.
-fn read(call: &str, bytes: &[u8], out: &mut Shown) -> Result<(), Fault> {
+fn read(call: &str, bytes: &[u8], out: &mut Text) -> Result<(), Error> {
+    let most = bytes.len();
     match call {
-        "row" => show_body(b'D', bytes, out),
-        "columns" => show_body(b'T', bytes, out),
-        "options" => show_body(b'v', bytes, out),
-        "array" => read_array(bytes, out),
-        "hstore" => read_hstore(bytes, out),
-        "path" => read_path(bytes, out),
-        "range" => read_range(bytes, out),
-        "varbit" => read_varbit(bytes, out),
-        _ => Err(Fault::Data),
+        "row" => read_body(b'D', bytes, out),
+        "columns" => read_body(b'T', bytes, out),
+        "options" => read_body(b'v', bytes, out),
+        "array" => show_array(array_from_sql(bytes)?, most, out),
+        "hstore" => show_walk(hstore_from_sql(bytes)?, hstore_from_sql(bytes)?, most, out),
+        "path" => show_path(path_from_sql(bytes)?, most, out),
+        "range" => show_range(range_from_sql(bytes)?, out),
+        "varbit" => show_varbit(varbit_from_sql(bytes)?, out),
+        _ => out.fail(Some(Fault::Data)),
     }
+    Ok(())
 }
 
-/// What a row comes to, where that isn't what it says.
-fn difference(alloc: Global, row: &str) -> Result<Option<Shown>, Fault> {
-    let (left, right) = row.split_once(" = ").ok_or(Fault::Data)?;
-    let (call, digits) = left.split_once(' ').ok_or(Fault::Data)?;
+/// A row: a call, the digits of its bytes, and what it comes to.
+#[derive(Clone, Copy)]
+struct Row<'a> {
+    call: &'a str,
+    digits: &'a str,
+    result: &'a str,
+}
+
+fn row_of(line: &str) -> Option<Row<'_>> {
+    let (left, result) = line.split_once(" = ")?;
+    let (call, digits) = left.split_once(' ')?;
+    Some(Row {
+        call,
+        digits,
+        result,
+    })
+}
+
+/// What the row comes to.
+fn outcome(alloc: Global, row: Row<'_>) -> Text {
+    let mut out = Text::new(alloc);
     let mut bytes = Vec::new(alloc);
-    append(alloc, digits, &mut bytes)?;
-    let mut out = Shown::new(alloc);
-    read(call, bytes.as_slice(), &mut out)?;
-    match out.as_str() == right {
-        true => Ok(None),
-        false => Ok(Some(out)),
+    out.fail(append(alloc, row.digits, &mut bytes).err());
+    if let Err(e) = read(row.call, bytes.as_slice(), &mut out) {
+        out.number(e);
     }
+    out
+}
+
+/// Shows the row and what it comes to, where that isn't what it says.
+fn show_difference(line: &str, out: &mut Text) {
+    let Some(row) = row_of(line) else {
+        out.fail(Some(Fault::Data));
+        return;
+    };
+    let came = outcome(out.alloc(), row);
+    if came.as_str() != row.result {
+        out.push(line);
+        out.push("\n    came to: ");
+        out.push(came.as_str());
+        out.push("\n");
+    }
+    out.fail(came.fault());
 }
 
 /// Runs the rows of this text, and tells those that aren't right.
-pub(crate) fn run(alloc: Global, text: &str) -> Result<String, Fault> {
-    let mut out = String::new(alloc);
+pub(crate) fn run(text: &str, out: &mut Text) {
     let mut rows = 0u64;
-    for row in text.lines() {
-        if !is_data(row) {
-            continue;
-        }
-        rows = rows.saturating_add(1);
-        if let Some(came) = difference(alloc, row)? {
-            let line = format!(in alloc; "{row}\n    came to: {}\n", came.as_str())?;
-            out.push_str(line.as_str())?;
+    for line in text.lines() {
+        if is_data(line) {
+            rows = rows.saturating_add(1);
+            show_difference(line, out);
         }
     }
-    let last = format!(in alloc; "lengths.rows: {rows} rows\n")?;
-    out.push_str(last.as_str())?;
-    Ok(out)
+    out.push("lengths.rows: ");
+    out.show(rows);
+    out.push(" rows\n");
 }

@@ -11,19 +11,52 @@ mod reading;
 mod scram;
 mod server;
 mod session;
-mod shown;
 mod sum;
 mod tally;
+mod text;
 mod walks;
 mod ways;
 
 use fault::Fault;
-use std::alloc::Global;
 use std::{fs, io};
+use text::Text;
+
+/// A part of what is printed.
+#[derive(Clone, Copy)]
+enum Part {
+    Lengths,
+    Cuts,
+    Session,
+    Scram,
+}
+
+impl Part {
+    const ALL: [Part; 4] = [Part::Lengths, Part::Cuts, Part::Session, Part::Scram];
+
+    /// The file of its data.
+    fn file(self) -> &'static str {
+        match self {
+            Part::Lengths => "lengths.rows",
+            Part::Cuts => "stream.hex",
+            Part::Session => "session.hex",
+            Part::Scram => "keys.hex",
+        }
+    }
+
+    /// Shows its lines, over the text of that file.
+    fn show(self, text: &str, out: &mut Text) {
+        match self {
+            Part::Lengths => lengths::run(text, out),
+            Part::Cuts => cuts::run(text, out),
+            Part::Session => session::run(text, out),
+            Part::Scram => scram::run(text, out),
+        }
+    }
+}
 
 /// Prints the lines of a part, or why there are none.
-fn print_part(rt: &impl Print, part: Result<String, Fault>) -> io::Result<()> {
-    match part {
+fn print_lines(rt: &impl Print, lines: Result<String, Fault>) -> io::Result<()> {
+    match lines {
         Ok(text) => print!(rt; "{text}"),
         Err(Fault::Data) => println!(rt; "wrong data"),
         Err(Fault::Memory) => println!(rt; "no memory"),
@@ -31,12 +64,11 @@ fn print_part(rt: &impl Print, part: Result<String, Fault>) -> io::Result<()> {
 }
 
 fn main(rt: HostRuntime) -> io::Result<()> {
-    let rows = fs::read_to_string(&rt, "lengths.rows")?;
-    print_part(&rt, lengths::run(rt.alloc(), &rows))?;
-    let stream = fs::read_to_string(&rt, "stream.hex")?;
-    print_part(&rt, cuts::run(rt.alloc(), &stream))?;
-    let session = fs::read_to_string(&rt, "session.hex")?;
-    print_part(&rt, session::run(rt.alloc(), &session))?;
-    let keys = fs::read_to_string(&rt, "keys.hex")?;
-    print_part(&rt, scram::run(rt.alloc(), &keys))
+    for part in Part::ALL {
+        let text = fs::read_to_string(&rt, part.file())?;
+        let mut lines = Text::new(rt.alloc());
+        part.show(text.as_str(), &mut lines);
+        print_lines(&rt, lines.whole())?;
+    }
+    Ok(())
 }

@@ -4,12 +4,13 @@ use crate::fault::Fault;
 use crate::names::name_of;
 use crate::parts::Parts;
 use crate::sum::Sum;
+use crate::text::Text;
 use pgp_base::Error;
 use pgp_message::{Message, Storage};
-use std::alloc::{AllocError, Global};
+use std::alloc::Global;
 
 /// What a frame was read as.
-#[derive(Clone, Copy, PartialEq)]
+#[derive(Clone, Copy)]
 enum Kind {
     /// A message of this name, and the first refusal among its texts and lists.
     Message(&'static str, Option<Error>),
@@ -24,12 +25,17 @@ pub(crate) struct Entry {
 }
 
 impl Entry {
-    /// The message's name and what is wrong inside, or the refusal.
-    pub(crate) fn label(&self, alloc: Global) -> Result<String, AllocError> {
+    /// Shows the message's name and what is wrong inside, or the refusal.
+    pub(crate) fn show(&self, out: &mut Text) {
         match self.kind {
-            Kind::Message(name, None) => String::from_str(alloc, name),
-            Kind::Message(name, Some(e)) => format!(in alloc; "{name} with {e}"),
-            Kind::Refused(e) => format!(in alloc; "{e}"),
+            Kind::Message(name, flaw) => {
+                out.push(name);
+                if let Some(flaw) = flaw {
+                    out.push(" with ");
+                    out.show(flaw);
+                }
+            }
+            Kind::Refused(e) => out.show(e),
         }
     }
 
@@ -47,7 +53,11 @@ pub(crate) struct Reading {
     pub(crate) is_stopped: bool,
     /// How many bytes are left.
     pub(crate) rest: usize,
+    /// How many headers were read, where that is counted.
+    pub(crate) headers: Option<u64>,
     sum: Sum,
+    /// Why something is missing, where it is.
+    pub(crate) fault: Option<Fault>,
 }
 
 impl Reading {
@@ -57,7 +67,9 @@ impl Reading {
             entries: Vec::new(alloc),
             is_stopped: false,
             rest: 0,
+            headers: None,
             sum: Sum::new(alloc),
+            fault: None,
         }
     }
 
@@ -65,15 +77,14 @@ impl Reading {
         self.alloc
     }
 
-    fn add(&mut self, kind: Kind, sum: u64) -> Result<(), Fault> {
+    fn add(&mut self, kind: Kind, sum: u64) {
         self.sum.plain(&sum.to_be_bytes());
-        self.entries
-            .push(Entry { kind, sum })
-            .map_err(AllocError::from)?;
-        Ok(())
+        if self.entries.push(Entry { kind, sum }).is_err() {
+            self.fault = Some(Fault::Memory);
+        }
     }
 
-    pub(crate) fn add_message<S: Storage>(&mut self, message: &Message<S>) -> Result<(), Fault>
+    fn add_message<S: Storage>(&mut self, message: &Message<S>)
     where
         Message<S>: Parts,
     {
@@ -81,39 +92,43 @@ impl Reading {
         let mut sum = Sum::new(self.alloc);
         sum.bytes(name.as_bytes());
         message.add_parts(&mut sum);
-        self.add(Kind::Message(name, sum.flaw()), sum.value())
+        self.add(Kind::Message(name, sum.flaw()), sum.value());
     }
 
-    pub(crate) fn add_refusal(&mut self, refusal: Error) -> Result<(), Fault> {
+    fn add_refusal(&mut self, refusal: Error) {
         let mut sum = Sum::new(self.alloc);
         sum.refusal(refusal);
-        self.add(Kind::Refused(refusal), sum.value())
+        self.add(Kind::Refused(refusal), sum.value());
+    }
+
+    /// Adds results that a parser has.
+    pub(crate) fn add_results<S: Storage>(&mut self, results: &[Result<Message<S>, Error>])
+    where
+        Message<S>: Parts,
+    {
+        for result in results {
+            match result {
+                Ok(message) => self.add_message(message),
+                Err(e) => self.add_refusal(*e),
+            }
+        }
     }
 
     /// Adds what was read, and tells whether reading goes on. A length fault is no result: it stops the stream.
-    pub(crate) fn add_step<S: Storage>(
-        &mut self,
-        read: Result<Option<Message<S>>, Error>,
-    ) -> Result<bool, Fault>
+    pub(crate) fn add_step<S: Storage>(&mut self, read: &Result<Option<Message<S>>, Error>) -> bool
     where
         Message<S>: Parts,
     {
         match read {
-            Ok(Some(message)) => {
-                self.add_message(&message)?;
-                drop(message);
-                Ok(true)
-            }
-            Ok(None) => Ok(false),
+            Ok(Some(message)) => self.add_message(message),
+            Ok(None) => return false,
             Err(Error::InvalidLength) => {
                 self.is_stopped = true;
-                Ok(false)
+                return false;
             }
-            Err(e) => {
-                self.add_refusal(e)?;
-                Ok(true)
-            }
+            Err(e) => self.add_refusal(*e),
         }
+        true
     }
 
     /// Adds what is left behind the results.
@@ -128,14 +143,23 @@ impl Reading {
         self.sum.value()
     }
 
-    /// The results by name, with a space between two, and whether a length fault stopped it.
-    pub(crate) fn label(&self) -> Result<String, Fault> {
-        let mut text = String::new(self.alloc);
+    /// Shows the results by name, with a space between two, whether a length fault stopped it, what is left, the sum and the
+    /// headers, where they are counted.
+    pub(crate) fn show(&self, out: &mut Text) {
         for entry in &self.entries {
-            text.push_str(entry.label(self.alloc)?.as_str())?;
-            text.push(' ')?;
+            entry.show(out);
+            out.push(" ");
         }
-        text.push_str(if self.is_stopped { "stopped" } else { "waits" })?;
-        Ok(text)
+        out.push(if self.is_stopped { "stopped" } else { "waits" });
+        out.push(", rest ");
+        out.show(self.rest);
+        out.push(", ");
+        out.hex(&self.value().to_be_bytes());
+        if let Some(headers) = self.headers {
+            out.push(", headers ");
+            out.show(headers);
+        }
+        out.push(":");
+        out.fail(self.fault);
     }
 }

@@ -4,6 +4,7 @@ use crate::data::{append, is_data};
 use crate::fault::Fault;
 use crate::server::{Server, Texts};
 use crate::tally::Tally;
+use crate::text::Text;
 use pgp_auth::authentication::sasl::{ChannelBinding, NoPrep, ScramError, ScramSha256, is_nonce};
 use std::alloc::Global;
 
@@ -54,11 +55,11 @@ fn place_of(outcome: &Result<(), ScramError>) -> usize {
     }
 }
 
-/// The name of how a step ended.
-fn name_of(alloc: Global, outcome: &Result<(), ScramError>) -> Result<String, Fault> {
+/// Shows the name of how a step ended.
+fn show_end(outcome: &Result<(), ScramError>, out: &mut Text) {
     match outcome {
-        Ok(()) => Ok(String::from_str(alloc, "Ok")?),
-        Err(e) => Ok(format!(in alloc; "{e}")?),
+        Ok(()) => out.push("Ok"),
+        Err(e) => out.show(e),
     }
 }
 
@@ -71,15 +72,27 @@ impl Ends {
         }
     }
 
-    fn add(&mut self, outcome: &Result<(), ScramError>) -> Result<(), Fault> {
+    /// Adds a step's end. `goes on` comes before it where there is a text to send.
+    fn add(&mut self, has_text: bool, outcome: &Result<(), ScramError>) {
+        if has_text {
+            self.tally.add("goes on");
+        }
         self.places = self.places.saturating_add(place_of(outcome));
-        self.tally.add(name_of(self.alloc, outcome)?.as_str())
+        let mut name = Text::new(self.alloc);
+        show_end(outcome, &mut name);
+        self.tally.add_text(&name);
     }
 
-    fn line(&self, what: &str, place: usize) -> Result<String, Fault> {
-        let text = self.tally.text()?;
-        let places = self.places;
-        Ok(format!(in self.alloc; "{what} {place}: {text}; places {places}\n")?)
+    /// Shows what the changes of a byte came to.
+    fn show(&self, what: &str, place: usize, out: &mut Text) {
+        out.push(what);
+        out.push(" ");
+        out.show(place);
+        out.push(": ");
+        self.tally.show(out);
+        out.push("; places ");
+        out.show(self.places);
+        out.push("\n");
     }
 }
 
@@ -88,6 +101,24 @@ impl Ends {
 enum Changed {
     First,
     Last,
+}
+
+impl Changed {
+    fn name(self) -> &'static str {
+        match self {
+            Changed::First => "first",
+            Changed::Last => "last",
+        }
+    }
+}
+
+/// An exchange with this last text.
+fn add_last(last: &[u8], client: &mut ScramSha256<Global>, ends: &mut Ends) {
+    if client.update(FIRST.as_bytes()).is_err() {
+        ends.tally.fail(Some(Fault::Data));
+    }
+    let outcome = client.finish(last);
+    ends.add(client.message().is_some(), &outcome);
 }
 
 /// An exchange that can be changed: its server, and the server's last text.
@@ -100,134 +131,120 @@ struct Exchange<'a> {
 
 impl<'a> Exchange<'a> {
     /// Whether the server that sent this text takes what the client answers.
-    fn is_accepted(&self, first: &str, client: &ScramSha256<Global>) -> Result<bool, Fault> {
-        let Some(last) = client.message() else {
-            return Ok(false);
-        };
-        let Ok(last) = str::from_utf8(last) else {
-            return Err(Fault::Data);
-        };
-        self.server.accepts(self.alloc, BARE, first, last)
+    fn is_accepted(&self, first: &str, client: &ScramSha256<Global>) -> bool {
+        match str::from_utf8(client.message().unwrap_or(b"")) {
+            Ok(last) => self.server.accepts(self.alloc, BARE, first, last),
+            Err(_) => false,
+        }
     }
 
     /// A client that took this first text: whether the server takes its answer, and how it ends with the last text of
     /// the exchange that wasn't changed.
-    fn add_taken(
-        &self,
-        first: &[u8],
-        client: &mut ScramSha256<Global>,
-        ends: &mut Ends,
-    ) -> Result<(), Fault> {
-        let Ok(first) = str::from_utf8(first) else {
-            return Err(Fault::Data);
+    fn add_taken(&self, first: &[u8], client: &mut ScramSha256<Global>, ends: &mut Ends) {
+        let is_accepted = match str::from_utf8(first) {
+            Ok(first) => self.is_accepted(first, client),
+            Err(_) => false,
         };
-        let is_accepted = self.is_accepted(first, client)?;
-        let name = name_of(self.alloc, &client.finish(self.answer.as_bytes()))?;
-        let text = format!(in self.alloc; "Ok {is_accepted} {name}")?;
-        ends.tally.add(text.as_str())
+        let mut text = Text::new(self.alloc);
+        text.push("Ok");
+        text.number(is_accepted);
+        text.push(" ");
+        show_end(&client.finish(self.answer.as_bytes()), &mut text);
+        ends.tally.add_text(&text);
     }
 
     /// An exchange with this first text.
-    fn add_first(&self, first: &[u8], ends: &mut Ends) -> Result<(), Fault> {
-        let mut client = begun(self.alloc)?;
+    fn add_first(&self, first: &[u8], client: &mut ScramSha256<Global>, ends: &mut Ends) {
         let outcome = client.update(first);
-        if outcome.is_ok() {
-            return self.add_taken(first, &mut client, ends);
+        match outcome.is_ok() {
+            true => self.add_taken(first, client, ends),
+            false => ends.add(client.message().is_some(), &outcome),
         }
-        if client.message().is_some() {
-            ends.tally.add("goes on")?;
-        }
-        ends.add(&outcome)
     }
 
-    /// An exchange with this last text.
-    fn add_last(&self, last: &[u8], ends: &mut Ends) -> Result<(), Fault> {
-        let mut client = begun(self.alloc)?;
-        if client.update(FIRST.as_bytes()).is_err() {
-            return Err(Fault::Data);
+    /// An exchange with this text in the place of one of the server's.
+    fn add(&self, changed: Changed, text: &[u8], ends: &mut Ends) {
+        match begun(self.alloc) {
+            Ok(mut client) => match changed {
+                Changed::First => self.add_first(text, &mut client, ends),
+                Changed::Last => add_last(text, &mut client, ends),
+            },
+            Err(fault) => ends.tally.fail(Some(fault)),
         }
-        let outcome = client.finish(last);
-        if client.message().is_some() {
-            ends.tally.add("goes on")?;
-        }
-        ends.add(&outcome)
     }
 
     /// The text with the byte at this place replaced by each other value.
-    fn replace(
-        &self,
-        changed: Changed,
-        place: usize,
-        text: &str,
-        ends: &mut Ends,
-    ) -> Result<(), Fault> {
-        let mut bytes = Vec::from_slice(self.alloc, text.as_bytes())?;
+    fn replace(&self, changed: Changed, place: usize, text: &str, ends: &mut Ends) {
+        let Ok(mut bytes) = Vec::from_slice(self.alloc, text.as_bytes()) else {
+            ends.tally.fail(Some(Fault::Memory));
+            return;
+        };
         for new in 0..=255u8 {
-            match bytes.get_mut(place) {
-                Some(byte) => *byte = new,
-                None => return Err(Fault::Data),
+            if let Some(byte) = bytes.get_mut(place) {
+                *byte = new;
             }
-            if bytes.as_slice() == text.as_bytes() {
-                continue;
-            }
-            match changed {
-                Changed::First => self.add_first(bytes.as_slice(), ends)?,
-                Changed::Last => self.add_last(bytes.as_slice(), ends)?,
+            if bytes.as_slice() != text.as_bytes() {
+                self.add(changed, bytes.as_slice(), ends);
             }
         }
-        Ok(())
     }
 
-    /// What the changes of each byte come to, a line each.
-    fn add_lines(&self, changed: Changed, text: &str, out: &mut String) -> Result<(), Fault> {
-        let what = match changed {
-            Changed::First => "first",
-            Changed::Last => "last",
-        };
+    /// Shows what the changes of each byte come to, a line each.
+    fn show_changes(&self, changed: Changed, text: &str, out: &mut Text) {
         for place in 0..text.len() {
             let mut ends = Ends::new(self.alloc);
-            self.replace(changed, place, text, &mut ends)?;
-            out.push_str(ends.line(what, place)?.as_str())?;
+            self.replace(changed, place, text, &mut ends);
+            ends.show(changed.name(), place, out);
         }
-        Ok(())
+    }
+
+    /// A step, the last one, `finish`, or the other: how it ended.
+    fn step(&self, is_last: bool, client: &mut ScramSha256<Global>, out: &mut Text) {
+        match is_last {
+            true => {
+                out.push(", finish ");
+                show_end(&client.finish(self.answer.as_bytes()), out);
+            }
+            false => {
+                out.push(", update ");
+                show_end(&client.update(FIRST.as_bytes()), out);
+            }
+        }
     }
 
     /// The steps in any order, of which the bits say which is the last one, `finish`. Behind each: how it ended, whether
     /// there is a text to send, and how many codes were made.
-    fn in_turns(&self, turns: u8, out: &mut String) -> Result<(), Fault> {
-        let mut client = begun(self.alloc)?;
-        out.push_str("turns")?;
+    fn show_turns(&self, turns: u8, client: &mut ScramSha256<Global>, out: &mut Text) {
+        out.push("turns");
         for turn in 0..4u32 {
-            let is_last = (turns >> turn) % 2 == 1;
-            let outcome = match is_last {
-                true => client.finish(self.answer.as_bytes()),
-                false => client.update(FIRST.as_bytes()),
-            };
-            let step = if is_last { "finish" } else { "update" };
-            let name = name_of(self.alloc, &outcome)?;
-            drop(outcome);
-            let has_text = client.message().is_some();
-            let hmacs = client.hmacs();
-            let shown = format!(in self.alloc; ", {step} {name} {has_text} {hmacs}")?;
-            out.push_str(shown.as_str())?;
+            self.step((turns >> turn) % 2 == 1, client, out);
+            out.number(client.message().is_some());
+            out.number(client.hmacs());
         }
-        out.push('\n')?;
-        Ok(())
+        out.push("\n");
     }
 
     /// The exchange as it is, with each byte replaced, and its steps out of turn.
-    fn run(&self) -> Result<String, Fault> {
-        let mut out = String::new(self.alloc);
+    fn show(&self, out: &mut Text) {
         let mut ends = Ends::new(self.alloc);
-        self.add_first(FIRST.as_bytes(), &mut ends)?;
-        out.push_str(ends.line("unchanged", 0)?.as_str())?;
-        self.add_lines(Changed::First, FIRST, &mut out)?;
-        self.add_lines(Changed::Last, self.answer, &mut out)?;
+        self.add(Changed::First, FIRST.as_bytes(), &mut ends);
+        ends.show("unchanged", 0, out);
+        self.show_changes(Changed::First, FIRST, out);
+        self.show_changes(Changed::Last, self.answer, out);
         for turns in 0..16u8 {
-            self.in_turns(turns, &mut out)?;
+            match begun(self.alloc) {
+                Ok(mut client) => self.show_turns(turns, &mut client, out),
+                Err(fault) => out.fail(Some(fault)),
+            }
         }
-        Ok(out)
     }
+}
+
+/// The server that holds the two keys that stand here.
+fn server_of(keys: &[u8]) -> Option<Server> {
+    let (stored, rest) = keys.split_first_chunk::<32>()?;
+    let (server, _) = rest.split_first_chunk::<32>()?;
+    Some(Server::new(*stored, *server))
 }
 
 /// The keys of a file: two lines of 64 digits.
@@ -238,19 +255,28 @@ fn keys_of(alloc: Global, text: &str) -> Result<Server, Fault> {
             append(alloc, line, &mut bytes)?;
         }
     }
-    let (stored, rest) = bytes.split_first_chunk::<32>().ok_or(Fault::Data)?;
-    let (server, _) = rest.split_first_chunk::<32>().ok_or(Fault::Data)?;
-    Ok(Server::new(*stored, *server))
+    server_of(bytes.as_slice()).ok_or(Fault::Data)
+}
+
+/// Shows the exchange of this server.
+fn show_exchange(server: Server, out: &mut Text) {
+    match server.answer(out.alloc(), SENT) {
+        Ok(answer) => {
+            let exchange = Exchange {
+                alloc: out.alloc(),
+                server,
+                answer: answer.as_str(),
+            };
+            exchange.show(out);
+        }
+        Err(_) => out.fail(Some(Fault::Memory)),
+    }
 }
 
 /// Runs the exchange of the server that holds the keys of this text.
-pub(crate) fn run(alloc: Global, keys: &str) -> Result<String, Fault> {
-    let server = keys_of(alloc, keys)?;
-    let answer = server.answer(alloc, SENT)?;
-    let exchange = Exchange {
-        alloc,
-        server,
-        answer: answer.as_str(),
-    };
-    exchange.run()
+pub(crate) fn run(keys: &str, out: &mut Text) {
+    match keys_of(out.alloc(), keys) {
+        Ok(server) => show_exchange(server, out),
+        Err(fault) => out.fail(Some(fault)),
+    }
 }

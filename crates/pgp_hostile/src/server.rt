@@ -1,6 +1,5 @@
 //! A server of SCRAM-SHA-256 that holds a verifier, after RFC 5802: with the client it shares the digest alone.
 
-use crate::fault::Fault;
 use base64::engine::general_purpose::STANDARD;
 use sha2::{Digest, Sha256};
 use std::alloc::{AllocError, Global};
@@ -65,30 +64,23 @@ impl Server {
     }
 
     /// Whether the server that sent this first text takes the client's last one.
-    pub(crate) fn accepts(
-        &self,
-        alloc: Global,
-        bare: &str,
-        first: &str,
-        last: &str,
-    ) -> Result<bool, Fault> {
+    pub(crate) fn accepts(&self, alloc: Global, bare: &str, first: &str, last: &str) -> bool {
         let Some((front, proof)) = last.rsplit_once(",p=") else {
-            return Ok(false);
+            return false;
         };
         let Some((nonce, _)) = first.split_once(",s=") else {
-            return Ok(false);
+            return false;
         };
-        if front.strip_prefix("c=biws,") != Some(nonce) {
-            return Ok(false);
-        }
         let texts = Texts {
             bare,
             first,
             last: front,
         };
         match STANDARD.decode(alloc, proof.as_bytes()) {
-            Ok(proof) => Ok(self.is_proved(proof.as_slice(), texts)),
-            Err(_) => Ok(false),
+            Ok(proof) if front.strip_prefix("c=biws,") == Some(nonce) => {
+                self.is_proved(proof.as_slice(), texts)
+            }
+            _ => false,
         }
     }
 

@@ -5,8 +5,10 @@ use crate::fault::Fault;
 use crate::reading::{Entry, Reading};
 use crate::sum::Sum;
 use crate::tally::Tally;
-use crate::ways::{Way, read, read_in_place};
+use crate::text::Text;
+use crate::ways::{Way, read};
 use std::alloc::Global;
+use std::ops::Range;
 
 /// What the changes of one frame came to.
 #[derive(Drop)]
@@ -34,129 +36,143 @@ impl Changes {
         }
     }
 
-    fn add(&mut self, is_alone: bool, entry: &Entry) -> Result<(), Fault> {
-        let label = entry.label(self.alloc)?;
-        if is_alone {
-            self.alone.add(label.as_str())
-        } else {
-            self.more.add(label.as_str())
-        }
-    }
-
     /// Adds what came in the place of the frame of this number and behind it.
-    fn add_reading(&mut self, at: usize, before: &Reading, came: &Reading) -> Result<(), Fault> {
+    fn add_reading(&mut self, at: usize, before: &Reading, came: &Reading) {
         self.streams = self.streams.saturating_add(1);
         self.sum.plain(&came.value().to_be_bytes());
+        self.more.fail(came.fault);
         if !is_front_same(at, before, came) {
             self.wrong = self.wrong.saturating_add(1);
         }
-        let is_alone = is_back_same(at.saturating_add(1), before, came);
-        let most = if is_alone { 1 } else { usize::MAX };
-        for entry in came.entries.iter().skip(at).take(most) {
-            self.add(is_alone, entry)?;
+        if !is_back_same(at.saturating_add(1), before, came) {
+            self.add_more(at, came);
+        } else if let Some(entry) = came.entries.get(at) {
+            add_entry(&mut self.alone, entry);
         }
-        match is_alone {
-            true => Ok(()),
-            false if came.is_stopped => self.more.add("stopped"),
-            false => self.more.add("waits"),
+    }
+
+    /// Adds what was read from this number on, and how it ended.
+    fn add_more(&mut self, at: usize, came: &Reading) {
+        for entry in came.entries.iter().skip(at) {
+            add_entry(&mut self.more, entry);
         }
+        self.more
+            .add(if came.is_stopped { "stopped" } else { "waits" });
     }
 }
 
-/// Whether the results of these numbers are the same, as far as both have them.
-fn are_same(from: usize, to: usize, before: &Reading, came: &Reading) -> bool {
-    for (at, (one, other)) in before.entries.iter().zip(&came.entries).enumerate() {
-        if from <= at && at < to && !one.is_same(other) {
+fn add_entry(tally: &mut Tally, entry: &Entry) {
+    let mut label = Text::new(tally.alloc());
+    entry.show(&mut label);
+    tally.add_text(&label);
+}
+
+/// Whether there are as many results here as there, each the same.
+fn are_same(before: &[Entry], came: &[Entry]) -> bool {
+    for (one, other) in before.iter().zip(came) {
+        if !one.is_same(other) {
             return false;
         }
     }
-    true
+    before.len() == came.len()
 }
 
 /// Whether so many results in front are the same.
 fn is_front_same(count: usize, before: &Reading, came: &Reading) -> bool {
-    came.entries.len() >= count && are_same(0, count, before, came)
+    match (before.entries.get(..count), came.entries.get(..count)) {
+        (Some(before), Some(came)) => are_same(before, came),
+        _ => false,
+    }
 }
 
 /// Whether the results from this one on are the same, and nothing is left.
 fn is_back_same(at: usize, before: &Reading, came: &Reading) -> bool {
-    came.entries.len() == before.entries.len()
-        && !came.is_stopped
-        && came.rest == 0
-        && are_same(at, usize::MAX, before, came)
+    match (before.entries.get(at..), came.entries.get(at..)) {
+        (Some(before), Some(back)) => {
+            !came.is_stopped && came.rest == 0 && are_same(before, back)
+        }
+        _ => false,
+    }
 }
 
-/// Reads the bytes, in place and as a stream of two pieces.
-fn add_stream(
-    at: usize,
-    cut: usize,
-    before: &Reading,
-    bytes: &[u8],
-    changes: &mut Changes,
-) -> Result<(), Fault> {
-    let in_place = read_in_place(changes.alloc, bytes)?;
-    let (front, back) = bytes.split_at_checked(cut).ok_or(Fault::Data)?;
-    let (came, _) = read(changes.alloc, Way::Whole, &[front, back])?;
-    if in_place.value() != came.value() {
+/// Reads the bytes, in place and as a stream that is cut at this place.
+fn add_stream(at: usize, cut: usize, before: &Reading, bytes: &[u8], changes: &mut Changes) {
+    let in_place = read(changes.alloc, Way::InPlace, &[bytes]).value();
+    let Some((front, back)) = bytes.split_at_checked(cut) else {
+        return;
+    };
+    let came = read(changes.alloc, Way::Whole, &[front, back]);
+    if in_place != came.value() {
         changes.wrong = changes.wrong.saturating_add(1);
     }
-    changes.add_reading(at, before, &came)
+    changes.add_reading(at, before, &came);
 }
 
 /// Replaces the byte at this place by each value in turn. The stream is cut before it.
-fn replace(
-    place: usize,
-    at: usize,
-    before: &Reading,
-    bytes: &mut Vec<u8>,
-    changes: &mut Changes,
-) -> Result<(), Fault> {
+fn replace(place: usize, at: usize, before: &Reading, bytes: &mut Vec<u8>, changes: &mut Changes) {
     let Some(old) = bytes.get(place).copied() else {
-        return Err(Fault::Data);
+        return;
     };
     for new in [0, 1, 127, 128, 255, old.wrapping_add(1)] {
         if let Some(byte) = bytes.get_mut(place) {
             *byte = new;
         }
-        add_stream(at, place, before, bytes.as_slice(), changes)?;
+        add_stream(at, place, before, bytes.as_slice(), changes);
     }
     if let Some(byte) = bytes.get_mut(place) {
         *byte = old;
     }
-    Ok(())
 }
 
-/// What the changes of one frame came to, as a line.
-fn line(at: usize, changes: &Changes, before: &Reading) -> Result<String, Fault> {
-    let alloc = changes.alloc;
-    let name = match before.entries.get(at) {
-        Some(entry) => entry.label(alloc)?,
-        None => return Err(Fault::Data),
-    };
-    let alone = changes.alone.text()?;
-    let more = changes.more.text()?;
-    let streams = changes.streams;
-    let wrong = changes.wrong;
-    let sum = changes.sum.value();
-    let number = at.saturating_add(1);
-    Ok(format!(in alloc;
-        "{number} {name}: {streams} streams, {wrong} wrong, {sum:016x}\n  alone: {alone}\n  more: {more}\n"
-    )?)
+/// Shows what the changes of one frame came to.
+fn show_changes(changes: &Changes, out: &mut Text) {
+    out.push(": ");
+    out.show(changes.streams);
+    out.push(" streams, ");
+    out.show(changes.wrong);
+    out.push(" wrong, ");
+    out.hex(&changes.sum.value().to_be_bytes());
+    out.push("\n  alone: ");
+    changes.alone.show(out);
+    out.push("\n  more: ");
+    changes.more.show(out);
+    out.push("\n");
+}
+
+/// The frame of this number, which stands at these places, with each byte replaced.
+fn show_frame(
+    at: usize,
+    places: Range<usize>,
+    before: &Reading,
+    bytes: &mut Vec<u8>,
+    out: &mut Text,
+) {
+    let mut changes = Changes::new(out.alloc());
+    for place in places {
+        replace(place, at, before, bytes, &mut changes);
+    }
+    out.show(at.saturating_add(1));
+    out.push(" ");
+    if let Some(entry) = before.entries.get(at) {
+        entry.show(out);
+    }
+    show_changes(&changes, out);
+}
+
+fn show_frames(frames: &mut Frames, out: &mut Text) {
+    let before = read(out.alloc(), Way::InPlace, &[frames.bytes.as_slice()]);
+    out.fail(before.fault);
+    let mut start = 0usize;
+    for (at, end) in frames.ends.iter().enumerate() {
+        show_frame(at, start..*end, &before, &mut frames.bytes, out);
+        start = *end;
+    }
 }
 
 /// Reads the session of this text with each byte replaced.
-pub(crate) fn run(alloc: Global, text: &str) -> Result<String, Fault> {
-    let mut frames = Frames::parse(alloc, text)?;
-    let before = read_in_place(alloc, frames.bytes.as_slice())?;
-    let mut out = String::new(alloc);
-    let mut start = 0usize;
-    for (at, end) in frames.ends.iter().enumerate() {
-        let mut changes = Changes::new(alloc);
-        for place in start..*end {
-            replace(place, at, &before, &mut frames.bytes, &mut changes)?;
-        }
-        out.push_str(line(at, &changes, &before)?.as_str())?;
-        start = *end;
+pub(crate) fn run(text: &str, out: &mut Text) {
+    match Frames::parse(out.alloc(), text) {
+        Ok(mut frames) => show_frames(&mut frames, out),
+        Err(fault) => out.fail(Some(fault)),
     }
-    Ok(out)
 }

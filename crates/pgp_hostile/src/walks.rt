@@ -1,7 +1,6 @@
 //! A walk over a list whose lengths may be false: it ends, stays at its end, and asks for no memory by what is announced.
 
-use crate::fault::Fault;
-use crate::shown::{Show, Shown};
+use crate::text::{Show, Text};
 use linked_list_allocator::LocalHeap;
 use pgp_base::{Error, FallibleIterator};
 use pgp_test_alloc::Refusing;
@@ -13,26 +12,26 @@ const MANY: u64 = 1_000_000;
 /// How many bytes a list may take here. None has more than ten items.
 const HEAP: usize = 4096;
 
-/// Shows the items, and how the walk ends: `many` where more come than there are bytes.
+/// Shows the items, and how the walk ends: `many` where more come than there are bytes. Answers how many came.
 fn show_items<W: FallibleIterator>(
     walk: &mut W,
     most: usize,
-    out: &mut Shown,
-) -> Result<(u64, Option<Error>), Fault>
+    out: &mut Text,
+) -> (u64, Option<Error>)
 where
     W::Item: Show,
 {
     let mut came = 0u64;
     for _ in 0..most.saturating_add(1) {
         match walk.next() {
-            Ok(Some(item)) => item.show(out)?,
-            Ok(None) => return Ok((came, None)),
-            Err(e) => return Ok((came, Some(e))),
+            Ok(Some(item)) => item.show(out),
+            Ok(None) => return (came, None),
+            Err(e) => return (came, Some(e)),
         }
         came = came.saturating_add(1);
     }
-    out.word("many")?;
-    Ok((came, None))
+    out.word("many");
+    (came, None)
 }
 
 /// Whether the walk answers this end, and announces no more.
@@ -54,17 +53,19 @@ fn is_modest<W: FallibleIterator + Drop>(
     walk: W,
     came: u64,
     end: Option<Error>,
-) -> Result<bool, Fault>
+) -> bool
 where
     W::Item: Drop,
 {
-    let heap = LocalHeap::new(alloc, HEAP)?;
+    let Ok(heap) = LocalHeap::new(alloc, HEAP) else {
+        return false;
+    };
     let counted = Refusing::new(&heap, MANY);
     let is_same = match walk.collect(&counted) {
         Ok(list) => end.is_none() && list.len() as u64 == came,
         Err(e) => end == Some(e),
     };
-    Ok(is_same && MANY.saturating_sub(came) <= counted.until_refusal.get())
+    is_same && MANY.saturating_sub(came) <= counted.until_refusal.get()
 }
 
 /// Shows a walk over so many bytes: what it announces, its items, and its end. `unsteady` stands behind it where it doesn't stay
@@ -73,26 +74,25 @@ pub(crate) fn show_walk<W: FallibleIterator + Drop>(
     mut walk: W,
     again: W,
     most: usize,
-    out: &mut Shown,
-) -> Result<(), Fault>
+    out: &mut Text,
+)
 where
     W::Item: Show + Drop,
 {
-    out.number(walk.size_hint().0)?;
-    out.word("[")?;
-    let (came, end) = show_items(&mut walk, most, out)?;
-    out.word("]")?;
+    out.number(walk.size_hint().0);
+    out.word("[");
+    let (came, end) = show_items(&mut walk, most, out);
+    out.word("]");
     match end {
-        None => out.word("end")?,
-        Some(e) => out.number(e)?,
+        None => out.word("end"),
+        Some(e) => out.number(e),
     }
     for _ in 0..3 {
         if !is_at_end(&mut walk, end) {
-            out.word("unsteady")?;
+            out.word("unsteady");
         }
     }
-    if !is_modest(out.alloc(), again, came, end)? {
-        out.word("greedy")?;
+    if !is_modest(out.alloc(), again, came, end) {
+        out.word("greedy");
     }
-    Ok(())
 }

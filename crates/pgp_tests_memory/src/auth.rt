@@ -3,7 +3,8 @@
 
 ghost use Rattle.std.specs.Prelude.{Some, [], ◌∷◌};
 
-use crate::checks::{holds, holds_at, same, same_at};
+use crate::checks::{holds, same};
+use crate::turns::{DONE, MANY, Tried, Turn, WRONG, refuse_each, refused};
 use pgp_auth::authentication::md5_hash;
 use pgp_auth::authentication::sasl::{
     ChannelBinding, NoPrep, SaslPrep, ScramError, ScramSha256, is_nonce,
@@ -12,11 +13,9 @@ use pgp_auth::escape::{escape_identifier, escape_literal};
 use pgp_auth::password::{md5, scram_sha_256, scram_sha_256_salt};
 use pgp_base::{Error, Memory};
 use pgp_saslprep::SaslPrepRfc4013;
-use pgp_test_alloc::Refusing;
 use rand_core::SeedableRng;
 use rand_pcg::Pcg32;
-use std::alloc::{Allocator, Global};
-use std::process::Abort;
+use std::alloc::{AllocError, Allocator, Global};
 use std::test::Fail;
 
 const SALT: [u8; 16] = [1, 2, 3, 4, 5, 6, 7, 8, 9, 10, 11, 12, 13, 14, 15, 16];
@@ -48,7 +47,7 @@ impl SaslPrep for NoMemory {
     }
 }
 
-#[derive(Debug, Clone, Copy)]
+#[derive(Clone, Copy)]
 enum Call {
     Literal,
     Identifier,
@@ -82,30 +81,24 @@ fn text_of<A: Allocator + Copy>(
     }
 }
 
-// How often the call was refused memory before it made this text.
-fn refusals_of_text(
-    rt: &impl Abort,
-    alloc: Global,
-    prep: &SaslPrepRfc4013,
+// A call, and the text that it makes.
+#[derive(Clone, Copy)]
+struct Text<'a> {
+    prep: &'a SaslPrepRfc4013,
     call: Call,
-    ample: &str,
-) -> u64 {
-    let mut refusals = 0u64;
-    for number in 1..100u64 {
-        let heap = Refusing::new(alloc, number);
-        match text_of(&heap, prep, call) {
-            Ok(text) => {
-                same(rt, text.as_str(), ample);
-                holds(rt, heap.until_refusal.get() != 0);
-            }
-            Err(e) => same(rt, e, Error::OutOfMemory),
-        }
-        if heap.until_refusal.get() != 0 {
-            break;
-        }
-        refusals = number;
+    ample: &'a str,
+}
+
+impl Tried for Text<'_> {
+    fn outcome<A: Allocator + Copy>(&self, alloc: A, turn: Turn<'_>) -> Result<usize, Error> {
+        turn.begin();
+        let text = text_of(alloc, self.prep, self.call)?;
+        Ok(if text.as_str() == self.ample {
+            DONE
+        } else {
+            WRONG
+        })
     }
-    refusals
 }
 
 // Each call asks for memory as often as is said here: once for its text, and a mapping for its own, SASLprep twice.
@@ -124,55 +117,70 @@ fn texts_with_each_allocation_refused(rt: HostRuntime) -> Result<(), Fail> {
     let prep = SaslPrepRfc4013::new(rt.alloc());
     for (call, asked) in calls {
         let ample = text_of(rt.alloc(), &prep, call)?;
-        let refusals = refusals_of_text(&rt, rt.alloc(), &prep, call, ample.as_str());
-        same_at(&rt, call, refusals, asked);
+        let text = Text {
+            prep: &prep,
+            call,
+            ample: ample.as_str(),
+        };
+        same(&rt, refused(&rt, rt.alloc(), &text, Ok(DONE)), asked);
     }
     Ok(())
 }
 
+// Whether the verifier of this password is the same by the mapping without memory and by none.
+fn is_raw(alloc: Global, password: &[u8]) -> Result<bool, Error> {
+    let mapped = scram_sha_256_salt(alloc, password, SALT, &NoMemory)?;
+    let raw = scram_sha_256_salt(alloc, password, SALT, &NoPrep)?;
+    Ok(mapped.as_str() == raw.as_str())
+}
+
 #[test]
-fn a_mapping_without_memory_is_told(rt: HostRuntime) -> Result<(), Fail> {
-    let told = scram_sha_256_salt(rt.alloc(), b"\xc3\xa9", SALT, &NoMemory);
-    holds(&rt, matches!(&told, Err(Error::OutOfMemory)));
-    let not_asked = scram_sha_256_salt(rt.alloc(), b"secret", SALT, &NoMemory)?;
-    let raw = scram_sha_256_salt(rt.alloc(), b"secret", SALT, &NoPrep)?;
-    same(&rt, not_asked.as_str(), raw.as_str());
-    Ok(())
+fn a_mapping_without_memory_is_told(rt: HostRuntime) {
+    same(
+        &rt,
+        is_raw(rt.alloc(), b"\xc3\xa9"),
+        Err(Error::OutOfMemory),
+    );
+    same(&rt, is_raw(rt.alloc(), b"secret"), Ok(true));
 }
 
 const PASSWORD: &[u8] = b"p\xc3\xa4ssword";
-
-const FIRST: &[u8] = b"r=9IZ2O01zb9IgiIZ1WJ/zgpJBjx,s=fs3IXBy7U7+IvVjZ,i=1";
 
 // 94 bytes that aren't the signature, in base64.
 const LONG_FINAL: &[u8] =
     b"v=AAAAAAAAAAAAAAAAAAAAAAAAAAAAAAAAAAAAAAAAAAAAAAAAAAAAAAAAAAAAAAAAAAAAAAAAAAAAAAAAAAAAAAAAAAAAAAAAAAAAAAAAAAAAAAAAAAAAAAAAAAAAAA==";
 
-// How an exchange begins, and how far it goes.
-#[derive(Debug, Clone, Copy)]
-struct Course<'a> {
-    is_drawn: bool,
-    server_final: &'a [u8],
+// The client, or whether there was no memory for it.
+fn made<A: Allocator + Copy>(
+    client: Result<ScramSha256<A>, ScramError<A>>,
+) -> Result<ScramSha256<A>, Error> {
+    match client {
+        Ok(client) => Ok(client),
+        Err(ScramError::OutOfMemory) => Err(Error::OutOfMemory),
+        Err(_) => Err(Error::InvalidCount),
+    }
 }
 
-fn begun<A: Allocator + Copy>(alloc: A, is_drawn: bool) -> Result<ScramSha256<A>, ScramError<A>> {
-    let signature = Vec::from_slice(alloc, b"a hash")?;
-    let binding = ChannelBinding::tls_server_end_point(signature);
+const NONCE: &str = "9IZ2O01zb9IgiIZ1WJ/zgpJB";
+
+fn begun<A: Allocator + Copy>(alloc: A, is_drawn: bool) -> Result<ScramSha256<A>, Error> {
+    let binding = ChannelBinding::tls_server_end_point(Vec::from_slice(alloc, b"a hash")?);
     if is_drawn {
-        return ScramSha256::new(alloc, PASSWORD, binding, &ToX, &mut Pcg32::seed_from_u64(1));
+        let mut rng = Pcg32::seed_from_u64(1);
+        return made(ScramSha256::new(alloc, PASSWORD, binding, &ToX, &mut rng));
     }
-    let nonce = String::from_str(alloc, "9IZ2O01zb9IgiIZ1WJ/zgpJB")?;
+    let nonce = String::from_str(alloc, NONCE)?;
     if !is_nonce(&nonce) {
-        return Err(ScramError::WrongState);
+        return Err(Error::InvalidCount);
     }
-    ScramSha256::with_nonce(alloc, PASSWORD, binding, nonce, &ToX)
+    made(ScramSha256::with_nonce(alloc, PASSWORD, binding, nonce, &ToX))
 }
 
 // The server's first text for a client's first text: its nonce goes on, and it has a salt and a count.
 fn server_first<A: Allocator + Copy>(
     alloc: A,
     client: &ScramSha256<A>,
-) -> Result<Vec<u8, A>, ScramError<A>> {
+) -> Result<Vec<u8, A>, AllocError> {
     let message = client.message().unwrap_or(b"");
     let nonce = &message[message.len().saturating_sub(24)..];
     let mut text = Vec::from_slice(alloc, b"r=")?;
@@ -181,7 +189,7 @@ fn server_first<A: Allocator + Copy>(
     Ok(text)
 }
 
-fn number<T, A: Allocator>(outcome: &Result<T, ScramError<A>>) -> u8 {
+fn number<T: Drop, A: Allocator>(outcome: Result<T, ScramError<A>>) -> u8 {
     match outcome {
         Ok(_) => 0,
         Err(e) => e.number(),
@@ -189,135 +197,159 @@ fn number<T, A: Allocator>(outcome: &Result<T, ScramError<A>>) -> u8 {
 }
 
 // The numbers of `update`'s refusal and of `finish`'s, and the HMACs that were made. There is a text to send behind an
-// `update` that isn't refused alone.
-fn end_of<A: Allocator + Copy>(alloc: A, course: Course) -> Result<(u8, u8, u64), ScramError<A>> {
-    let mut client = begun(alloc, course.is_drawn)?;
-    let first = server_first(alloc, &client)?;
-    let updated = number(&client.update(&first));
+// `update` that isn't refused alone; then the exchange is over.
+fn steps<A: Allocator + Copy>(
+    client: &mut ScramSha256<A>,
+    first: &[u8],
+    server_final: &[u8],
+) -> Option<(u8, u8, u64)> {
+    let updated = number(client.update(first));
     if client.message().is_some() != (updated == 0) {
-        return Err(ScramError::WrongState);
+        return None;
     }
-    let finished = number(&client.finish(course.server_final));
-    let over = (
-        number(&client.update(&first)),
-        number(&client.finish(b"v=")),
-    );
-    if client.message().is_some() || over != (2, 2) {
-        return Err(ScramError::WrongState);
+    let finished = number(client.finish(server_final));
+    let over = (number(client.update(first)), number(client.finish(b"v=")));
+    match client.message().is_none() && over == (2, 2) {
+        true => Some((updated, finished, client.hmacs())),
+        false => None,
     }
-    Ok((updated, finished, client.hmacs()))
 }
 
-// How often an exchange was refused memory before it came to this end.
-fn refusals_of_exchange(
-    rt: &impl Abort,
-    alloc: Global,
-    course: Course,
+// How an exchange begins and how far it goes, and its steps with ample memory.
+#[derive(Clone, Copy)]
+struct Exchange<'a> {
+    is_drawn: bool,
+    server_final: &'a [u8],
     ample: (u8, u8, u64),
-) -> u64 {
-    let mut refusals = 0u64;
-    for number in 1..100u64 {
-        let heap = Refusing::new(alloc, number);
-        match end_of(&heap, course) {
-            Ok((0, finished, hmacs)) => {
-                let is_refused = heap.until_refusal.get() == 0;
-                let end = if is_refused { (0, 1, 3) } else { ample };
-                same_at(rt, number, (0, finished, hmacs), end);
-            }
-            Ok((updated, finished, hmacs)) => {
-                same_at(rt, number, (updated, finished), (1, 2));
-                holds_at(rt, number, hmacs == 0 || hmacs == 3);
-            }
-            Err(e) => same_at(rt, number, e.number(), 1),
-        }
-        if heap.until_refusal.get() != 0 {
-            break;
-        }
-        refusals = number;
-    }
-    refusals
 }
 
-// Beside the refusals of memory an exchange comes to the same end. A refused `update` ends it, so that
-// `finish` isn't due.
-#[test]
-fn exchanges_with_each_allocation_refused(rt: HostRuntime) -> Result<(), Fail> {
-    let courses = [
-        (true, LONG_FINAL, (0, 12, 5)),
-        (false, LONG_FINAL, (0, 12, 5)),
-        (false, b"e=other-error".as_slice(), (0, 11, 3)),
-        (false, b"v=AAAA".as_slice(), (0, 12, 5)),
-    ];
-    for (is_drawn, server_final, ample) in courses {
-        let course = Course {
-            is_drawn,
-            server_final,
-        };
-        let refusals = refusals_of_exchange(&rt, rt.alloc(), course, ample);
-        holds_at(&rt, refusals, 10 <= refusals);
+impl Exchange<'_> {
+    fn end<A: Allocator + Copy>(
+        &self,
+        alloc: A,
+        client: &mut ScramSha256<A>,
+    ) -> Result<usize, Error> {
+        let first = server_first(alloc, client)?;
+        self.told(steps(client, first.as_slice(), self.server_final))
     }
-    Ok(())
+
+    // A refused `update` ends it, so that `finish` isn't due. A refused `finish` is told.
+    fn told(&self, steps: Option<(u8, u8, u64)>) -> Result<usize, Error> {
+        match steps {
+            Some(steps) if steps == self.ample => Ok(DONE),
+            Some((0, 1, 3) | (1, 2, 0) | (1, 2, 3)) => Err(Error::OutOfMemory),
+            _ => Ok(WRONG),
+        }
+    }
+}
+
+impl Tried for Exchange<'_> {
+    fn outcome<A: Allocator + Copy>(&self, alloc: A, turn: Turn<'_>) -> Result<usize, Error> {
+        turn.begin();
+        let mut client = begun(alloc, self.is_drawn)?;
+        self.end(alloc, &mut client)
+    }
+}
+
+const LONG: Exchange<'static> = Exchange {
+    is_drawn: false,
+    server_final: LONG_FINAL,
+    ample: (0, 12, 5),
+};
+
+// Beside the refusals of memory an exchange comes to the same end.
+#[test]
+fn exchanges_with_each_allocation_refused(rt: HostRuntime) {
+    let exchanges = [
+        (
+            Exchange {
+                is_drawn: true,
+                ..LONG
+            },
+            Ok(DONE),
+        ),
+        (LONG, Ok(DONE)),
+        (
+            Exchange {
+                server_final: b"e=other-error",
+                ample: (0, 11, 3),
+                ..LONG
+            },
+            Ok(DONE),
+        ),
+        (
+            Exchange {
+                server_final: b"v=AAAA",
+                ..LONG
+            },
+            Ok(DONE),
+        ),
+    ];
+    refuse_each(&rt, rt.alloc(), 10..MANY, &exchanges);
+}
+
+// The client's first text with a nonce that the generator draws.
+fn drawn(alloc: Global, rng: &mut Pcg32) -> Result<ScramSha256, ScramError> {
+    ScramSha256::new(alloc, PASSWORD, ChannelBinding::unsupported(), &NoPrep, rng)
 }
 
 // A generator's stream makes a client's nonce, of 24 characters, and another one the next time.
 #[test]
 fn nonces_are_drawn_anew(rt: HostRuntime) -> Result<(), Fail> {
-    let alloc = rt.alloc();
     let mut rng = Pcg32::seed_from_u64(1);
-    let one = ScramSha256::new(
-        alloc,
-        PASSWORD,
-        ChannelBinding::unsupported(),
-        &NoPrep,
-        &mut rng,
-    )?;
-    let other = ScramSha256::new(
-        alloc,
-        PASSWORD,
-        ChannelBinding::unsupported(),
-        &NoPrep,
-        &mut rng,
-    )?;
+    let one = drawn(rt.alloc(), &mut rng)?;
+    let other = drawn(rt.alloc(), &mut rng)?;
     same(&rt, one.message().unwrap_or(b"").len(), 32);
     same(&rt, other.message().unwrap_or(b"").len(), 32);
     holds(&rt, one.message() != other.message());
     Ok(())
 }
 
-// A client with a mapping for which there is no memory, and the password `é`.
-fn unmapped<A: Allocator + Copy>(
-    alloc: A,
-    password: &[u8],
-) -> Result<ScramSha256<A>, ScramError<A>> {
-    let nonce = String::from_str(alloc, "9IZ2O01zb9IgiIZ1WJ/zgpJB")?;
+// A client with a mapping for which there is no memory: the number of its refusal.
+fn unmapped(alloc: Global, password: &[u8]) -> Result<u8, Error> {
+    let nonce = String::from_str(alloc, NONCE)?;
     if !is_nonce(&nonce) {
-        return Err(ScramError::WrongState);
+        return Err(Error::InvalidCount);
     }
-    ScramSha256::with_nonce(
-        alloc,
-        password,
-        ChannelBinding::unsupported(),
-        nonce,
-        &NoMemory,
-    )
+    let binding = ChannelBinding::unsupported();
+    Ok(number(ScramSha256::with_nonce(alloc, password, binding, nonce, &NoMemory)))
 }
 
 #[test]
 fn a_client_tells_of_a_mapping_without_memory(rt: HostRuntime) {
-    same(&rt, number(&unmapped(rt.alloc(), b"\xc3\xa9")), 1);
-    same(&rt, number(&unmapped(rt.alloc(), b"secret")), 0);
+    same(&rt, unmapped(rt.alloc(), b"\xc3\xa9"), Ok(1));
+    same(&rt, unmapped(rt.alloc(), b"secret"), Ok(0));
 }
 
-// The number of the refusal of this last text, where no request of memory is granted behind the first text.
-fn refusal_of_last<'a>(
-    heap: &'a Refusing<Global>,
-    text: &[u8],
-) -> Result<u8, ScramError<&'a Refusing<Global>>> {
-    let mut client = begun(heap, false)?;
-    let first = server_first(heap, &client)?;
-    client.update(&first)?;
-    heap.until_refusal.set(1);
-    Ok(number(&client.finish(text)))
+// A server's last text.
+#[derive(Clone, Copy)]
+struct Last<'a>(&'a [u8]);
+
+impl Last<'_> {
+    // The number of its refusal. The turn begins behind the first text.
+    fn refusal<A: Allocator + Copy>(
+        &self,
+        alloc: A,
+        client: &mut ScramSha256<A>,
+        turn: Turn<'_>,
+    ) -> Result<usize, Error> {
+        let first = server_first(alloc, client)?;
+        let updated = number(client.update(first.as_slice()));
+        turn.begin();
+        let finished = number(client.finish(self.0));
+        Ok(if updated == 0 {
+            usize::from(finished)
+        } else {
+            WRONG
+        })
+    }
+}
+
+impl Tried for Last<'_> {
+    fn outcome<A: Allocator + Copy>(&self, alloc: A, turn: Turn<'_>) -> Result<usize, Error> {
+        let mut client = begun(alloc, false)?;
+        self.refusal(alloc, &mut client, turn)
+    }
 }
 
 // A text of the length of a signature is compared in no memory of its own.
@@ -325,21 +357,14 @@ fn refusal_of_last<'a>(
 fn a_signature_is_compared_without_memory(rt: HostRuntime) {
     let texts = [
         (
-            b"v=U+ppxD5XUKtradnv8e2MkeupiA8FU87Sg8CXzXHDAzw=".as_slice(),
-            12,
+            Last(b"v=U+ppxD5XUKtradnv8e2MkeupiA8FU87Sg8CXzXHDAzw="),
+            Ok(12),
         ),
-        (b"v=AAAA".as_slice(), 12),
-        (b"v=A".as_slice(), 10),
-        (b"v=AA==,x".as_slice(), 6),
-        (b"\xff".as_slice(), 3),
-        (b"".as_slice(), 4),
+        (Last(b"v=AAAA"), Ok(12)),
+        (Last(b"v=A"), Ok(10)),
+        (Last(b"v=AA==,x"), Ok(6)),
+        (Last(b"\xff"), Ok(3)),
+        (Last(b""), Ok(4)),
     ];
-    for (text, answer) in texts {
-        let heap = Refusing::new(rt.alloc(), 0);
-        match refusal_of_last(&heap, text) {
-            Ok(told) => same(&rt, told, answer),
-            Err(e) => same(&rt, e.number(), 0),
-        }
-        same(&rt, heap.until_refusal.get(), 1);
-    }
+    refuse_each(&rt, rt.alloc(), 0..1, &texts);
 }

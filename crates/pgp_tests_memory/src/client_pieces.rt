@@ -4,7 +4,7 @@ use crate::checks::{holds, same};
 use pgp_test_alloc::Refusing;
 use postgres_protocol::session::{ClientParser, Limits, ParserError};
 use std::alloc::Allocator;
-use std::test::Fail;
+use std::process::Abort;
 
 /// A Query and a Sync.
 const WHOLE: &[u8; 19] = b"Q\0\0\0\x0dSELECT 2\0S\0\0\0\x04";
@@ -26,39 +26,49 @@ fn next_len<A: Allocator + Copy>(
     }
 }
 
+/// Asks for what the piece gives, as often as there are answers.
+fn ask<A: Allocator + Copy>(
+    rt: &impl Abort,
+    parser: &mut ClientParser<A>,
+    piece: &mut &[u8],
+    answers: &[Result<Option<usize>, ParserError>],
+) {
+    for answer in answers {
+        same(rt, next_len(parser, piece), *answer);
+    }
+}
+
 /// Whole messages are read, though the first request is refused; at a cut one it is, and the piece stays. Asked again, it goes on.
 #[test]
-fn cut_messages_alone_want_memory(rt: HostRuntime) -> Result<(), Fail> {
+fn cut_messages_alone_want_memory(rt: HostRuntime) {
     let alloc = Refusing::new(rt.alloc(), 1);
     let mut parser = ClientParser::resume(&alloc, UNLIMITED, true);
     let mut piece = WHOLE.as_slice();
-    same(&rt, next_len(&mut parser, &mut piece), Ok(Some(14)));
-    same(&rt, next_len(&mut parser, &mut piece), Ok(Some(5)));
-    same(&rt, next_len(&mut parser, &mut piece), Ok(None));
+    let whole = [Ok(Some(14)), Ok(Some(5)), Ok(None)];
+    ask(&rt, &mut parser, &mut piece, &whole);
     same(&rt, alloc.until_refusal.get(), 1);
 
     let (front, back) = WHOLE.split_at(9);
     let mut piece = front;
-    same(
+    ask(
         &rt,
-        next_len(&mut parser, &mut piece),
-        Err(ParserError::OutOfMemory),
+        &mut parser,
+        &mut piece,
+        &[Err(ParserError::OutOfMemory)],
     );
     same(&rt, piece, front);
     holds(&rt, parser.rest().is_empty());
-    same(&rt, next_len(&mut parser, &mut piece), Ok(None));
+    ask(&rt, &mut parser, &mut piece, &[Ok(None)]);
     same(&rt, parser.rest(), front);
 
     let mut piece = back;
-    same(&rt, next_len(&mut parser, &mut piece), Ok(Some(14)));
-    same(&rt, next_len(&mut parser, &mut piece), Ok(Some(5)));
+    ask(&rt, &mut parser, &mut piece, &[Ok(Some(14)), Ok(Some(5))]);
     holds(&rt, piece.is_empty());
-    Ok(())
 }
 
 /// A message past the limit is refused before any memory is asked for.
 #[test]
-fn no_memory_past_the_limit(rt: HostRuntime) -> Result<(), Fail> {
+fn no_memory_past_the_limit(rt: HostRuntime) {
     let alloc = Refusing::new(rt.alloc(), 1);
     let limits = Limits {
         opening: 10_000,
@@ -66,12 +76,12 @@ fn no_memory_past_the_limit(rt: HostRuntime) -> Result<(), Fail> {
     };
     let mut parser = ClientParser::resume(&alloc, limits, true);
     let mut piece = b"Q\0\0\0\x65SELECT".as_slice();
-    same(
+    ask(
         &rt,
-        next_len(&mut parser, &mut piece),
-        Err(ParserError::TooLong(101)),
+        &mut parser,
+        &mut piece,
+        &[Err(ParserError::TooLong(101))],
     );
     same(&rt, piece.len(), 11);
     same(&rt, alloc.until_refusal.get(), 1);
-    Ok(())
 }

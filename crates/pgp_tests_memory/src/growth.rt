@@ -1,12 +1,12 @@
 //! A parser of a long stream, over a heap that is much smaller than the stream.
 
-use crate::checks::{holds, holds_at, same};
+use crate::checks::{holds, same};
 use bytes::Bytes;
 use linked_list_allocator::LocalHeap;
 use pgp_base::Error;
 use pgp_message::{Message, Messages};
 use postgres_protocol::session::StreamParser;
-use std::alloc::{AllocError, Allocator, Global};
+use std::alloc::{AllocError, Allocator};
 use std::test::Fail;
 
 /// How many bytes the heap has. A thousand pieces are six times as many.
@@ -26,24 +26,52 @@ fn feed(parser: &mut StreamParser<&LocalHeap>, bytes: &[u8]) -> Result<(), Error
     parser.feed(bytes)
 }
 
+/// Feeds a thousand pieces, and takes the two results behind each: how much of the heap was used at the most, or nothing where
+/// something else came.
+fn most_used(parser: &mut StreamParser<&LocalHeap>, heap: &LocalHeap) -> Result<usize, Error> {
+    let mut most = 0usize;
+    for _ in 0..1000 {
+        feed(parser, PIECE)?;
+        if parser.take().len() != 2 || parser.rest() != FRONT.as_slice() {
+            return Err(Error::NotDrained);
+        }
+        most = heap.used().max(most);
+    }
+    Ok(most)
+}
+
+/// How much of the heap was used by the second thousand of pieces and by the fourth.
+fn used_by_four_thousand(
+    parser: &mut StreamParser<&LocalHeap>,
+    heap: &LocalHeap,
+) -> Result<(usize, usize), Error> {
+    feed(parser, FRONT)?;
+    most_used(parser, heap)?;
+    let second = most_used(parser, heap)?;
+    most_used(parser, heap)?;
+    Ok((second, most_used(parser, heap)?))
+}
+
 /// Four thousand pieces: what is held behind each `take` grows no more, and no request of memory is refused
 /// on the way.
 #[test]
 fn parser_that_is_taken_from_does_not_grow(rt: HostRuntime) -> Result<(), Fail> {
     let heap = LocalHeap::new(rt.alloc(), HEAP)?;
     let mut parser = StreamParser::new(&heap);
-    feed(&mut parser, FRONT)?;
-    let mut most = [0usize; 4];
-    for held in &mut most {
-        for _ in 0..1000 {
-            feed(&mut parser, PIECE)?;
-            same(&rt, parser.take().len(), 2);
-            same(&rt, parser.rest(), FRONT.as_slice());
-            *held = heap.used().max(*held);
-        }
-    }
+    let used = used_by_four_thousand(&mut parser, &heap);
+    holds(
+        &rt,
+        matches!(used, Ok((second, fourth)) if fourth <= second),
+    );
     same(&rt, parser.headers(), 8001);
-    holds_at(&rt, most[1], most[3] <= most[1]);
+    Ok(())
+}
+
+/// Feeds four thousand pieces, and takes nothing.
+fn feed_four_thousand(parser: &mut StreamParser<&LocalHeap>) -> Result<(), Error> {
+    for _ in 0..4000 {
+        feed(parser, PIECE)?;
+    }
     Ok(())
 }
 
@@ -52,14 +80,12 @@ fn parser_that_is_taken_from_does_not_grow(rt: HostRuntime) -> Result<(), Fail> 
 fn parser_that_is_not_taken_from_grows(rt: HostRuntime) -> Result<(), Fail> {
     let heap = LocalHeap::new(rt.alloc(), HEAP)?;
     let mut parser = StreamParser::new(&heap);
-    feed(&mut parser, FRONT)?;
-    let mut answer = Ok(());
-    for _ in 0..4000 {
-        if answer.is_ok() {
-            answer = feed(&mut parser, PIECE);
-        }
-    }
-    same(&rt, answer, Err(Error::OutOfMemory));
+    same(&rt, feed(&mut parser, FRONT), Ok(()));
+    same(
+        &rt,
+        feed_four_thousand(&mut parser),
+        Err(Error::OutOfMemory),
+    );
     holds(&rt, parser.failed());
     Ok(())
 }
@@ -85,36 +111,44 @@ impl Draws {
     }
 }
 
+/// Appends a piece of a copy, and a CommandComplete behind it.
+fn put_piece(data: &[u8], out: &mut Vec<u8>) -> Result<(), AllocError> {
+    out.extend_from_slice(&[b'd', 0, 0])?;
+    let len = u16::try_from(data.len()).unwrap_or(0);
+    out.extend_from_slice(&len.wrapping_add(4).to_be_bytes())?;
+    out.extend_from_slice(data)?;
+    out.extend_from_slice(b"C\0\0\0\x0bCOPY 1\0")
+}
+
 /// Pieces of a copy whose lengths are drawn, the longest among them, each with a CommandComplete behind it.
-fn long_stream(alloc: Global) -> Result<Vec<u8>, AllocError> {
-    let block = vec![in alloc; 0xa5u8; MOST]?;
+fn put_pieces(block: &[u8; MOST], out: &mut Vec<u8>) -> Result<(), AllocError> {
     let mut draws = Draws(1);
-    let mut out = Vec::new(alloc);
     let mut len = MOST;
     for _ in 0..LONG {
         if out.len() >= LONG {
             break;
         }
-        let Some(data) = block.get(..len) else {
-            return Ok(out);
-        };
-        out.extend_from_slice(&[b'd', 0, 0])?;
-        out.extend_from_slice(&(len as u16).wrapping_add(4).to_be_bytes())?;
-        out.extend_from_slice(data)?;
-        out.extend_from_slice(b"C\0\0\0\x0bCOPY 1\0")?;
+        put_piece(block.get(..len).unwrap_or(b""), out)?;
         len = draws.below(MOST + 1);
     }
-    Ok(out)
+    Ok(())
 }
 
 /// How many results there were, and a sum over their bytes and their places.
-#[derive(Debug, Clone, Copy, PartialEq)]
+#[derive(Clone, Copy)]
 struct Sums {
     results: u64,
     bytes: u64,
 }
 
 impl Sums {
+    fn new() -> Sums {
+        Sums {
+            results: 0,
+            bytes: 0,
+        }
+    }
+
     fn add(&mut self, bytes: &[u8]) {
         self.results = self.results.wrapping_add(1);
         for byte in bytes {
@@ -149,8 +183,9 @@ impl Sums {
     }
 }
 
-/// Adds the messages of the bytes, read in place, and answers how many bytes are left.
-fn add_in_place(bytes: &[u8], sums: &mut Sums) -> Result<usize, Error> {
+/// The sums of the messages of the bytes, read in place, if no bytes are left.
+fn sums_in_place(bytes: &[u8]) -> Result<Sums, Error> {
+    let mut sums = Sums::new();
     let mut messages = Messages::new(bytes);
     for _ in 0..bytes.len() {
         let read = messages.next();
@@ -160,7 +195,10 @@ fn add_in_place(bytes: &[u8], sums: &mut Sums) -> Result<usize, Error> {
             break;
         }
     }
-    Ok(messages.rest().len())
+    match messages.rest() {
+        [] => Ok(sums),
+        _ => Err(Error::NotDrained),
+    }
 }
 
 /// Feeds the bytes in pieces of 1 to 5,000, and takes the results behind each.
@@ -186,26 +224,30 @@ fn add_in_pieces(
     Ok(())
 }
 
+/// The same of a parser that is fed the bytes in pieces, if it holds no bytes in the end, and counted as many headers.
+fn sums_in_pieces(heap: &LocalHeap, bytes: &[u8]) -> Result<Sums, Error> {
+    let mut sums = Sums::new();
+    let mut parser = StreamParser::new(heap);
+    add_in_pieces(&mut parser, bytes, &mut sums)?;
+    match parser.rest().is_empty() && parser.headers() == sums.results {
+        true => Ok(sums),
+        false => Err(Error::NotDrained),
+    }
+}
+
+/// Whether the same comes in pieces, over a small heap, as from all of it in place: more than 1,000 results.
+fn is_read_alike(heap: &LocalHeap, bytes: &[u8]) -> Result<bool, Error> {
+    let whole = sums_in_place(bytes)?;
+    let pieces = sums_in_pieces(heap, bytes)?;
+    Ok(pieces.results == whole.results && pieces.bytes == whole.bytes && whole.results > 1000)
+}
+
 /// Ten megabytes of frames of up to 32 KiB, over a heap of 64 KiB: the same comes as from all of it in place.
 #[test]
 fn a_long_stream_in_little_memory(rt: HostRuntime) -> Result<(), Fail> {
-    let bytes = long_stream(rt.alloc())?;
-    let mut whole = Sums {
-        results: 0,
-        bytes: 0,
-    };
-    let mut pieces = whole;
-    same(&rt, add_in_place(bytes.as_slice(), &mut whole), Ok(0));
+    let mut bytes = Vec::new(rt.alloc());
+    put_pieces(&[0xa5; MOST], &mut bytes)?;
     let heap = LocalHeap::new(rt.alloc(), LONG_HEAP)?;
-    let mut parser = StreamParser::new(&heap);
-    same(
-        &rt,
-        add_in_pieces(&mut parser, bytes.as_slice(), &mut pieces),
-        Ok(()),
-    );
-    holds(&rt, parser.rest().is_empty());
-    same(&rt, parser.headers(), pieces.results);
-    same(&rt, pieces, whole);
-    holds(&rt, whole.results > 1000);
+    same(&rt, is_read_alike(&heap, bytes.as_slice()), Ok(true));
     Ok(())
 }

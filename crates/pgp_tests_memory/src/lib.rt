@@ -26,4 +26,8 @@ mod serializers;
 #[cfg(test)]
 mod session;
 #[cfg(test)]
+mod turns;
+#[cfg(test)]
 mod types;
+#[cfg(test)]
+mod writers;

@@ -2,138 +2,173 @@
 #![tactic(auto, using(pgp_base::proofs::Parts::held_steps))]
 
 use crate::checks::{holds, same};
-use crate::reads::{Read, buffer, count, is_copy, is_some, next_row};
+use crate::reads::{Read, WAITS, buffer, count, next_row, read_as};
+use crate::turns::{DONE, MANY, Tried, Turn, WRONG, refusals_of, refuse_each, refused};
 use bytes::{Bytes, BytesMut};
 use pgp_base::Error;
 use pgp_message::{DataRowBody, FrameParser, Message, Messages, RowPlaces, read_frames};
 use pgp_test_alloc::Refusing;
 use std::alloc::{AllocError, Allocator, Global};
 use std::process::Abort;
-use std::test::Fail;
 
-// Whether the message at the front brings these bytes of a copy.
-fn is_copy_of<A: Allocator + Copy>(
-    buf: &mut BytesMut<A>,
-    data: &[u8],
-) -> Result<Option<bool>, Error> {
-    let read = Message::parse(buf);
-    let answer = is_copy(&read, data);
-    drop(read);
-    answer
+// A frame, and how it is read.
+#[derive(Clone, Copy)]
+struct Frame<'a> {
+    bytes: &'a [u8],
+    // What a copy brings; any other message has none.
+    data: Option<&'a [u8]>,
+    // How many headers a `FrameParser` counts that reads it; 0 where `Message::parse` does.
+    headers: u64,
 }
 
-// A refused frame stays, and is taken once memory is there.
-#[test]
-fn parse_with_each_allocation_refused(rt: HostRuntime) -> Result<(), Fail> {
-    let frame: &[u8] = b"\x64\0\0\0\x06ab";
-    let mut refusals = 0u64;
-    for number in 1..100u64 {
-        let heap = Refusing::new(rt.alloc(), 0);
-        let mut buf = buffer(&heap, frame)?;
-        heap.until_refusal.set(number);
-        let answer = is_copy_of(&mut buf, b"ab");
-        if heap.until_refusal.get() != 0 {
-            same(&rt, answer, Ok(Some(true)));
-            holds(&rt, buf.is_empty());
-            break;
+impl Frame<'_> {
+    // Reads the front once. A frame that isn't taken stays as it is, and of any other nothing is left.
+    fn read<A: Allocator + Copy>(
+        &self,
+        parser: &mut FrameParser,
+        buf: &mut BytesMut<A>,
+    ) -> Result<usize, Error> {
+        let read = match self.headers {
+            0 => Message::parse(buf),
+            _ if parser.fits(buf) => parser.parse(buf),
+            _ => Err(Error::InvalidCount),
+        };
+        let came = read_as(&read, self.data);
+        drop(read);
+        let left = match came {
+            Ok(WAITS) | Err(Error::OutOfMemory) => self.bytes,
+            _ => b"",
+        };
+        match buf.as_slice() == left && parser.headers() == self.headers {
+            true => came,
+            false => Ok(WRONG),
         }
-        same(&rt, answer, Err(Error::OutOfMemory));
-        same(&rt, buf.as_slice(), frame);
-        same(&rt, is_copy_of(&mut buf, b"ab"), Ok(Some(true)));
-        refusals = number;
     }
-    holds(&rt, refusals > 0);
-    Ok(())
+}
+
+impl Frame<'_> {
+    // A refused frame is taken once memory is there.
+    fn read_again<A: Allocator + Copy>(
+        &self,
+        parser: &mut FrameParser,
+        buf: &mut BytesMut<A>,
+    ) -> Result<usize, Error> {
+        let came = self.read(parser, buf);
+        match came.is_err() && !buf.is_empty() && self.read(parser, buf) != Ok(DONE) {
+            true => Ok(WRONG),
+            false => came,
+        }
+    }
+}
+
+impl Tried for Frame<'_> {
+    fn outcome<A: Allocator + Copy>(&self, alloc: A, turn: Turn<'_>) -> Result<usize, Error> {
+        let mut buf = buffer(alloc, self.bytes)?;
+        turn.begin();
+        self.read_again(&mut FrameParser::new(), &mut buf)
+    }
+}
+
+const COPY: Frame<'static> = Frame {
+    bytes: b"\x64\0\0\0\x06ab",
+    data: Some(b"ab"),
+    headers: 0,
+};
+
+#[test]
+fn parse_with_each_allocation_refused(rt: HostRuntime) {
+    holds(&rt, refused(&rt, rt.alloc(), &COPY, Ok(DONE)) > 0);
+}
+
+// The frame's header is remembered.
+#[test]
+fn parser_with_each_allocation_refused(rt: HostRuntime) {
+    let copy = Frame { headers: 1, ..COPY };
+    holds(&rt, refused(&rt, rt.alloc(), &copy, Ok(DONE)) > 0);
 }
 
 // Room for what is missing is asked for, and a refusal of it is not told.
 #[test]
-fn unfinished_frame_with_each_allocation_refused(rt: HostRuntime) -> Result<(), Fail> {
-    let front: &[u8] = b"\x64\0\x0f\x42\x40\0";
-    let mut refusals = 0u64;
-    for number in 1..100u64 {
-        let heap = Refusing::new(rt.alloc(), 0);
-        let mut buf = buffer(&heap, front)?;
-        heap.until_refusal.set(number);
-        same(&rt, is_copy_of(&mut buf, b""), Ok(None));
-        same(&rt, buf.as_slice(), front);
-        if heap.until_refusal.get() != 0 {
-            break;
-        }
-        refusals = number;
-    }
-    holds(&rt, refusals > 0);
-    Ok(())
+fn unfinished_frame_with_each_allocation_refused(rt: HostRuntime) {
+    let front = Frame {
+        bytes: b"\x64\0\x0f\x42\x40\0",
+        ..COPY
+    };
+    let refusals = refusals_of(&rt, rt.alloc(), &front, Ok(WAITS));
+    same(&rt, refusals.told, 0);
+    holds(&rt, refusals.asked > 0);
 }
 
-// Whether a message stands at the front, which is removed.
-fn is_message<A: Allocator + Copy>(buf: &mut BytesMut<A>) -> Result<bool, Error> {
-    let read = Message::parse(buf);
-    let answer = is_some(&read);
-    drop(read);
-    answer
+// A frame of no copy.
+fn plain(bytes: &[u8]) -> Frame<'_> {
+    Frame {
+        bytes,
+        data: None,
+        headers: 0,
+    }
 }
 
 // A message that keeps no bytes of its frame asks for no memory, and neither does a frame of no message.
 #[test]
-fn bare_frames_ask_for_no_memory(rt: HostRuntime) -> Result<(), Fail> {
-    let frames: [(&[u8], Result<bool, Error>); 8] = [
-        (b"\x31\0\0\0\x04", Ok(true)),
-        (b"\x5a\0\0\0\x05I", Ok(true)),
-        (b"\x52\0\0\0\x08\0\0\0\0", Ok(true)),
-        (b"\x52\0\0\0\x0c\0\0\0\x05\x01\x02\x03\x04", Ok(true)),
-        (b"\x5a\0\0\0\x06I\0", Err(Error::NotDrained)),
-        (b"\x57\0\0\0\x06ab", Err(Error::UnknownTag(0x57))),
+fn bare_frames_ask_for_no_memory(rt: HostRuntime) {
+    let frames = [
+        (plain(b"\x31\0\0\0\x04"), Ok(DONE)),
+        (plain(b"\x5a\0\0\0\x05I"), Ok(DONE)),
+        (plain(b"\x52\0\0\0\x08\0\0\0\0"), Ok(DONE)),
+        (plain(b"\x52\0\0\0\x0c\0\0\0\x05\x01\x02\x03\x04"), Ok(DONE)),
+        (plain(b"\x5a\0\0\0\x06I\0"), Err(Error::NotDrained)),
+        (plain(b"\x57\0\0\0\x06ab"), Err(Error::UnknownTag(0x57))),
         (
-            b"\x52\0\0\0\x08\0\0\0\x63",
+            plain(b"\x52\0\0\0\x08\0\0\0\x63"),
             Err(Error::UnknownAuthentication(99)),
         ),
-        (b"\x52\0\0\0\x06\0\0", Err(Error::UnexpectedEof)),
+        (plain(b"\x52\0\0\0\x06\0\0"), Err(Error::UnexpectedEof)),
     ];
-    for (bytes, answer) in frames {
-        let heap = Refusing::new(rt.alloc(), 0);
-        let mut buf = buffer(&heap, bytes)?;
-        heap.until_refusal.set(1);
-        same(&rt, is_message(&mut buf), answer);
-        holds(&rt, buf.is_empty());
-        holds(&rt, heap.until_refusal.get() != 0);
-    }
-    Ok(())
-}
-
-// How often a frame was refused memory before its message was read.
-fn refusals_of_frame(rt: &impl Abort, alloc: Global, frame: &[u8]) -> Result<u64, Error> {
-    let mut refusals = 0u64;
-    for number in 1..100u64 {
-        let heap = Refusing::new(alloc, 0);
-        let mut buf = buffer(&heap, frame)?;
-        heap.until_refusal.set(number);
-        let answer = is_message(&mut buf);
-        if heap.until_refusal.get() != 0 {
-            same(rt, answer, Ok(true));
-            holds(rt, buf.is_empty());
-            break;
-        }
-        same(rt, answer, Err(Error::OutOfMemory));
-        same(rt, buf.as_slice(), frame);
-        same(rt, is_message(&mut buf), Ok(true));
-        refusals = number;
-    }
-    Ok(refusals)
+    refuse_each(&rt, rt.alloc(), 0..1, &frames);
 }
 
 // A key and an answer about versions keep bytes of their frames: a refused frame stays, and is taken once memory is there.
 #[test]
-fn keys_and_versions_with_each_allocation_refused(rt: HostRuntime) -> Result<(), Fail> {
-    let frames: [&[u8]; 3] = [
-        b"\x4b\0\0\0\x0c\0\0\0\x01\0\0\0\x02",
-        b"\x4b\0\0\0\x0d\0\0\0\x01\x01\x02\x03\x04\x05",
-        b"\x76\0\0\0\x13\0\x03\0\0\0\0\0\x01_pq_.x\0",
+fn keys_and_versions_with_each_allocation_refused(rt: HostRuntime) {
+    let frames = [
+        (plain(b"\x4b\0\0\0\x0c\0\0\0\x01\0\0\0\x02"), Ok(DONE)),
+        (
+            plain(b"\x4b\0\0\0\x0d\0\0\0\x01\x01\x02\x03\x04\x05"),
+            Ok(DONE),
+        ),
+        (
+            plain(b"\x76\0\0\0\x13\0\x03\0\0\0\0\0\x01_pq_.x\0"),
+            Ok(DONE),
+        ),
     ];
-    for frame in frames {
-        holds(&rt, refusals_of_frame(&rt, rt.alloc(), frame)? > 0);
+    refuse_each(&rt, rt.alloc(), 1..MANY, &frames);
+}
+
+// What is made of frames that came.
+#[derive(Clone, Copy)]
+enum Made<'a> {
+    // The results of whole frames, each the end of the command `A`.
+    Results(&'a [u8]),
+    // The copy of a row, which holds these bytes of its frame.
+    Copy(&'a [u8]),
+    // The items of a body's list.
+    Items(&'a [u8]),
+    // The table of a row.
+    Table(&'a [u8]),
+}
+
+impl Tried for Made<'_> {
+    fn outcome<A: Allocator + Copy>(&self, alloc: A, turn: Turn<'_>) -> Result<usize, Error> {
+        match self {
+            Made::Results(frames) => results(alloc, turn, frames),
+            Made::Copy(frame) => copied(alloc, turn, frame),
+            Made::Items(frame) => items(alloc, turn, frame),
+            Made::Table(row) => {
+                turn.begin();
+                columns(alloc, row)
+            }
+        }
     }
-    Ok(())
 }
 
 /// Reads the whole frames of the bytes onto a list.
@@ -159,47 +194,52 @@ fn ends_of_a<A: Allocator>(list: &[Result<Message<Bytes<A>>, Error>]) -> usize {
     count
 }
 
-// A refused reading of frames leaves what the first ones gave.
-#[test]
-fn read_frames_with_each_allocation_refused(rt: HostRuntime) -> Result<(), Fail> {
-    let frames: &[u8] = b"C\0\0\0\x06A\0C\0\0\0\x06A\0C\0\0\0\x06A\0";
-    let mut refusals = 0u64;
-    for number in 1..100u64 {
-        let heap = Refusing::new(rt.alloc(), number);
-        let mut list = Vec::new(&heap);
-        let read = read_found(&heap, frames, &mut list);
-        same(&rt, ends_of_a(list.as_slice()), list.len());
-        if read.is_ok() {
-            same(&rt, list.len(), 3);
-            break;
-        }
-        refusals = number;
+// How many results the frames have. A refused reading leaves what the first ones gave.
+fn results<A: Allocator + Copy>(alloc: A, turn: Turn<'_>, frames: &[u8]) -> Result<usize, Error> {
+    turn.begin();
+    let mut list = Vec::new(alloc);
+    let read = read_found(alloc, frames, &mut list);
+    let count = ends_of_a(list.as_slice());
+    match read {
+        _ if count != list.len() => Ok(WRONG),
+        Ok(()) => Ok(count),
+        Err(_) => Err(Error::OutOfMemory),
     }
-    holds(&rt, refusals > 1);
-    Ok(())
+}
+
+#[test]
+fn read_frames_with_each_allocation_refused(rt: HostRuntime) {
+    let frames = Made::Results(b"C\0\0\0\x06A\0C\0\0\0\x06A\0C\0\0\0\x06A\0");
+    holds(&rt, refused(&rt, rt.alloc(), &frames, Ok(3)) > 1);
 }
 
 // Whether a row's copy holds these bytes.
-fn cloned<A: Allocator + Copy>(row: &DataRowBody<Bytes<A>>, buffer: &[u8]) -> Result<bool, Error> {
-    let copy = row.clone()?;
-    Ok(copy.buffer() == buffer)
+fn cloned<A: Allocator + Copy>(row: &DataRowBody<Bytes<A>>, buffer: &[u8]) -> Result<usize, Error> {
+    match row.clone()?.buffer() == buffer {
+        true => Ok(DONE),
+        false => Ok(WRONG),
+    }
+}
+
+fn copied<A: Allocator + Copy>(alloc: A, turn: Turn<'_>, frame: &[u8]) -> Result<usize, Error> {
+    let mut buf = buffer(alloc, frame)?;
+    let row = next_row(&mut buf)?;
+    turn.begin();
+    cloned(&row, frame.get(7..).unwrap_or(b""))
 }
 
 // A row shares the bytes of its frame already, so that its copy asks for no memory.
 #[test]
-fn clone_with_each_allocation_refused(rt: HostRuntime) -> Result<(), Fail> {
-    let frame: &[u8] = b"\x44\0\0\0\x13\0\x03\0\0\0\x01\x61\xff\xff\xff\xff\0\0\0\0";
-    let heap = Refusing::new(rt.alloc(), 0);
-    let mut buf = buffer(&heap, frame)?;
-    let row = next_row(&mut buf)?;
-    heap.until_refusal.set(1);
-    same(&rt, cloned(&row, &frame[7..]), Ok(true));
-    holds(&rt, heap.until_refusal.get() != 0);
-    Ok(())
+fn clone_with_each_allocation_refused(rt: HostRuntime) {
+    let row = Made::Copy(b"\x44\0\0\0\x13\0\x03\0\0\0\x01\x61\xff\xff\xff\xff\0\0\0\0");
+    same(&rt, refused(&rt, rt.alloc(), &row, Ok(DONE)), 0);
 }
 
 // How many items the walk over the body of the message that was read collects.
-fn collected<A: Allocator + Copy>(alloc: A, read: &Read<Global>) -> Result<usize, Error> {
+fn collected<A: Allocator + Copy, R: Allocator + Copy>(
+    alloc: A,
+    read: &Read<R>,
+) -> Result<usize, Error> {
     match read {
         Ok(Some(Message::CopyInResponse(body))) => count(alloc, body.column_formats()),
         Ok(Some(Message::ParameterDescription(body))) => count(alloc, body.parameters()),
@@ -213,96 +253,48 @@ fn collected<A: Allocator + Copy>(alloc: A, read: &Read<Global>) -> Result<usize
     }
 }
 
-// How often the walk's list was refused memory before it was collected.
-fn refusals_of(rt: &impl Abort, alloc: Global, read: &Read<Global>, len: usize) -> u64 {
-    let mut refusals = 0u64;
-    for number in 1..100u64 {
-        let heap = Refusing::new(alloc, number);
-        let answer = collected(&heap, read);
-        if heap.until_refusal.get() != 0 {
-            same(rt, answer, Ok(len));
-            break;
-        }
-        same(rt, answer, Err(Error::OutOfMemory));
-        refusals = number;
-    }
-    refusals
+fn items<A: Allocator + Copy>(alloc: A, turn: Turn<'_>, frame: &[u8]) -> Result<usize, Error> {
+    let mut buf = buffer(alloc, frame)?;
+    let read = Message::parse(&mut buf);
+    turn.begin();
+    let came = collected(alloc, &read);
+    drop(read);
+    came
 }
 
-const LISTS: [(&[u8], usize); 7] = [
-    (b"\x47\0\0\0\x11\0\0\x05\0\x01\0\x01\0\x01\0\x01\0\x01", 5),
+const LISTS: [(Made<'static>, Result<usize, Error>); 7] = [
     (
-        b"\x74\0\0\0\x1a\0\x05\0\0\0\x17\0\0\0\x17\0\0\0\x17\0\0\0\x17\0\0\0\x17",
-        5,
+        Made::Items(b"\x47\0\0\0\x11\0\0\x05\0\x01\0\x01\0\x01\0\x01\0\x01"),
+        Ok(5),
     ),
     (
-        b"\x44\0\0\0\x1a\0\x05\xff\xff\xff\xff\xff\xff\xff\xff\xff\xff\xff\xff\xff\xff\xff\xff\xff\xff\xff\xff",
-        5,
+        Made::Items(b"\x74\0\0\0\x1a\0\x05\0\0\0\x17\0\0\0\x17\0\0\0\x17\0\0\0\x17\0\0\0\x17"),
+        Ok(5),
     ),
     (
-        b"\x54\0\0\0\x1a\0\x01a\0\0\0\0\0\0\0\0\0\0\x17\0\x04\xff\xff\xff\xff\0\0",
-        1,
+        Made::Items(
+            b"\x44\0\0\0\x1a\0\x05\xff\xff\xff\xff\xff\xff\xff\xff\xff\xff\xff\xff\xff\xff\xff\xff\xff\xff\xff\xff",
+        ),
+        Ok(5),
     ),
-    (b"\x45\0\0\0\x14Sa\0Cb\0Mc\0Dd\0He\0\0", 5),
-    (b"\x52\0\0\0\x13\0\0\0\x0aa\0b\0c\0d\0e\0\0", 5),
-    (b"\x76\0\0\0\x16\0\x03\0\0\0\0\0\x05a\0b\0c\0d\0e\0", 5),
+    (
+        Made::Items(b"\x54\0\0\0\x1a\0\x01a\0\0\0\0\0\0\0\0\0\0\x17\0\x04\xff\xff\xff\xff\0\0"),
+        Ok(1),
+    ),
+    (Made::Items(b"\x45\0\0\0\x14Sa\0Cb\0Mc\0Dd\0He\0\0"), Ok(5)),
+    (
+        Made::Items(b"\x52\0\0\0\x13\0\0\0\x0aa\0b\0c\0d\0e\0\0"),
+        Ok(5),
+    ),
+    (
+        Made::Items(b"\x76\0\0\0\x16\0\x03\0\0\0\0\0\x05a\0b\0c\0d\0e\0"),
+        Ok(5),
+    ),
 ];
 
 #[test]
-fn collect_with_each_allocation_refused(rt: HostRuntime) -> Result<(), Fail> {
-    for (frame, len) in LISTS {
-        let mut buf = buffer(rt.alloc(), frame)?;
-        let read = Message::parse(&mut buf);
-        let refusals = refusals_of(&rt, rt.alloc(), &read, len);
-        drop(read);
-        holds(&rt, refusals > 0);
-    }
-    Ok(())
-}
-
-// Whether the message at the front brings these bytes of a copy, by a parser that goes on.
-fn is_next_copy_of<A: Allocator + Copy>(
-    parser: &mut FrameParser,
-    buf: &mut BytesMut<A>,
-    data: &[u8],
-) -> Result<Option<bool>, Error> {
-    if !parser.fits(buf) {
-        return Err(Error::InvalidCount);
-    }
-    let read = parser.parse(buf);
-    let answer = is_copy(&read, data);
-    drop(read);
-    answer
-}
-
-// A refused frame stays, its header is remembered, and it is taken once memory is there.
-#[test]
-fn parser_with_each_allocation_refused(rt: HostRuntime) -> Result<(), Fail> {
-    let frame: &[u8] = b"\x64\0\0\0\x06ab";
-    let mut refusals = 0u64;
-    for number in 1..100u64 {
-        let heap = Refusing::new(rt.alloc(), 0);
-        let mut buf = buffer(&heap, frame)?;
-        let mut parser = FrameParser::new();
-        heap.until_refusal.set(number);
-        let answer = is_next_copy_of(&mut parser, &mut buf, b"ab");
-        if heap.until_refusal.get() != 0 {
-            same(&rt, answer, Ok(Some(true)));
-            holds(&rt, buf.is_empty());
-            break;
-        }
-        same(&rt, answer, Err(Error::OutOfMemory));
-        same(&rt, buf.as_slice(), frame);
-        same(
-            &rt,
-            is_next_copy_of(&mut parser, &mut buf, b"ab"),
-            Ok(Some(true)),
-        );
-        same(&rt, parser.headers(), 1);
-        refusals = number;
-    }
-    holds(&rt, refusals > 0);
-    Ok(())
+fn collect_with_each_allocation_refused(rt: HostRuntime) {
+    refuse_each(&rt, rt.alloc(), 1..MANY, &LISTS);
 }
 
 // How many columns the table of the first message has, which has to be a row.
@@ -313,38 +305,20 @@ fn columns<A: Allocator + Copy>(alloc: A, bytes: &[u8]) -> Result<usize, Error> 
     }
 }
 
-// How often the table of a row was refused memory before it was made.
-fn refusals_of_table(rt: &impl Abort, alloc: Global, row: &[u8], len: usize) -> u64 {
-    let mut refusals = 0u64;
-    for number in 1..100u64 {
-        let heap = Refusing::new(alloc, number);
-        let answer = columns(&heap, row);
-        if heap.until_refusal.get() != 0 {
-            same(rt, answer, Ok(len));
-            break;
-        }
-        same(rt, answer, Err(Error::OutOfMemory));
-        refusals = number;
-    }
-    refusals
-}
-
-// The table of a short row is one allocation, that of a row without columns none.
+// The table of a short row is one allocation, that of a row without columns none, and neither one of a row that is cut.
 #[test]
-fn index_with_each_allocation_refused(rt: HostRuntime) -> Result<(), Fail> {
+fn index_with_each_allocation_refused(rt: HostRuntime) {
     let five =
         b"\x44\0\0\0\x1a\0\x05\xff\xff\xff\xff\xff\xff\xff\xff\xff\xff\xff\xff\xff\xff\xff\xff\xff\xff\xff\xff";
-    same(&rt, refusals_of_table(&rt, rt.alloc(), five, 5), 1);
-    same(
-        &rt,
-        refusals_of_table(&rt, rt.alloc(), b"\x44\0\0\0\x06\0\0", 0),
-        0,
-    );
-    let cut = b"\x44\0\0\0\x0a\xff\xff\0\0\0\x05";
-    let heap = Refusing::new(rt.alloc(), 1);
-    same(&rt, columns(&heap, cut), Err(Error::UnexpectedEof));
-    holds(&rt, heap.until_refusal.get() != 0);
-    Ok(())
+    refuse_each(&rt, rt.alloc(), 1..2, &[(Made::Table(five), Ok(5))]);
+    let others = [
+        (Made::Table(b"\x44\0\0\0\x06\0\0"), Ok(0)),
+        (
+            Made::Table(b"\x44\0\0\0\x0a\xff\xff\0\0\0\x05"),
+            Err(Error::UnexpectedEof),
+        ),
+    ];
+    refuse_each(&rt, rt.alloc(), 0..1, &others);
 }
 
 // How many columns the first message has, which has to be a row, by a table in this memory.
@@ -358,79 +332,97 @@ fn columns_again<A: Allocator + Copy>(
     }
 }
 
+// Makes the table of each of these rows, which has so many columns or is refused.
+fn make_tables<A: Allocator + Copy>(
+    rt: &impl Abort,
+    places: &mut RowPlaces<A>,
+    rows: &[(&[u8], Result<usize, Error>)],
+) {
+    for (row, len) in rows {
+        same(rt, columns_again(places, row), *len);
+    }
+}
+
 // A table that is made again asks for memory once, also where another row was refused in between.
 #[test]
-fn a_table_is_made_again_without_memory(rt: HostRuntime) -> Result<(), Fail> {
-    let two = b"\x44\0\0\0\x0e\0\x02\xff\xff\xff\xff\xff\xff\xff\xff";
-    let one = b"\x44\0\0\0\x0b\0\x01\0\0\0\x01\x7a";
-    let cut = b"\x44\0\0\0\x0a\0\x02\xff\xff\xff\xff";
+fn a_table_is_made_again_without_memory(rt: HostRuntime) {
+    let two = b"\x44\0\0\0\x0e\0\x02\xff\xff\xff\xff\xff\xff\xff\xff".as_slice();
+    let one = b"\x44\0\0\0\x0b\0\x01\0\0\0\x01\x7a".as_slice();
+    let cut = b"\x44\0\0\0\x0a\0\x02\xff\xff\xff\xff".as_slice();
     let heap = Refusing::new(rt.alloc(), 1);
     let mut places = RowPlaces::new(&heap);
-    same(
-        &rt,
-        columns_again(&mut places, two),
-        Err(Error::OutOfMemory),
-    );
-    same(&rt, columns_again(&mut places, two), Ok(2));
+    let first = [(two, Err(Error::OutOfMemory)), (two, Ok(2))];
+    make_tables(&rt, &mut places, &first);
     heap.until_refusal.set(1);
-    for row in [one.as_slice(), two.as_slice()] {
-        same(
-            &rt,
-            columns_again(&mut places, cut),
-            Err(Error::UnexpectedEof),
-        );
-        holds(&rt, columns_again(&mut places, row).is_ok());
-    }
+    let again = [
+        (cut, Err(Error::UnexpectedEof)),
+        (one, Ok(1)),
+        (cut, Err(Error::UnexpectedEof)),
+        (two, Ok(2)),
+    ];
+    make_tables(&rt, &mut places, &again);
     same(&rt, heap.until_refusal.get(), 1);
-    Ok(())
 }
 
 // Front, and so many bytes of this value behind it.
-fn long(alloc: Global, front: &[u8], len: usize, byte: u8) -> Result<BytesMut, Error> {
+fn long(alloc: Global, front: &[u8], more: usize, byte: u8) -> Result<BytesMut, Error> {
     let mut buf = buffer(alloc, front)?;
-    let block = [byte; 1000];
-    for _ in 0..len / 1000 {
-        buf.extend_from_slice(&block)?;
-    }
-    buf.extend_from_slice(&block[..len % 1000])?;
+    buf.resize(front.len().saturating_add(more), byte)?;
     Ok(buf)
+}
+
+// What becomes of a frame of 2 MB, read as a copy.
+fn read_long(alloc: Global) -> Result<usize, Error> {
+    let mut buf = long(alloc, b"\x64\0\x20\0\x04", 2_097_152, 7)?;
+    let data = long(alloc, b"", 2_097_152, 7)?;
+    let copy = Frame {
+        data: Some(data.as_slice()),
+        ..COPY
+    };
+    copy.read(&mut FrameParser::new(), &mut buf)
 }
 
 // With ample memory a frame of 2 MB is read.
 #[test]
-fn a_long_frame_is_read(rt: HostRuntime) -> Result<(), Fail> {
-    let mut buf = long(rt.alloc(), b"\x64\0\x20\0\x04", 2_097_152, 7)?;
-    let data = long(rt.alloc(), b"", 2_097_152, 7)?;
-    same(&rt, is_copy_of(&mut buf, data.as_slice()), Ok(Some(true)));
-    holds(&rt, buf.is_empty());
-    Ok(())
+fn a_long_frame_is_read(rt: HostRuntime) {
+    same(&rt, read_long(rt.alloc()), Ok(DONE));
 }
 
 // How long the buffers of a row and of its copy are.
-fn row_and_copy(buf: &mut BytesMut) -> Result<(usize, usize), Error> {
-    let row = next_row(buf)?;
+fn row_and_copy(alloc: Global, front: &[u8], len: usize) -> Result<(usize, usize), Error> {
+    let mut buf = long(alloc, front, len, 7)?;
+    let row = next_row(&mut buf)?;
     Ok((row.buffer().len(), row.clone()?.buffer().len()))
 }
 
 // With ample memory rows of 300 bytes and of 1 MB are read, and copied.
 #[test]
-fn a_long_row_is_copied(rt: HostRuntime) -> Result<(), Fail> {
-    let mut short = long(rt.alloc(), b"\x44\0\0\x01\x32\0\x01\0\0\x01\x28", 296, 7)?;
-    same(&rt, row_and_copy(&mut short), Ok((300, 300)));
-    let front = b"\x44\0\x10\0\x06\0\x01\0\x0f\xff\xfc";
-    let mut row = long(rt.alloc(), front, 1_048_572, 7)?;
-    same(&rt, row_and_copy(&mut row), Ok((1_048_576, 1_048_576)));
-    Ok(())
+fn a_long_row_is_copied(rt: HostRuntime) {
+    let rows: [(&[u8], usize, usize); 2] = [
+        (b"\x44\0\0\x01\x32\0\x01\0\0\x01\x28", 296, 300),
+        (
+            b"\x44\0\x10\0\x06\0\x01\0\x0f\xff\xfc",
+            1_048_572,
+            1_048_576,
+        ),
+    ];
+    for (front, more, len) in rows {
+        same(&rt, row_and_copy(rt.alloc(), front, more), Ok((len, len)));
+    }
+}
+
+// How many columns the table and the list of a row of 60,000 nulls have.
+fn long_list(alloc: Global) -> Result<(usize, usize), Error> {
+    let mut buf = long(alloc, b"\x44\0\x03\xa9\x86\xea\x60", 240_000, 0xff)?;
+    let tabulated = columns(alloc, buf.as_slice())?;
+    let read = Message::parse(&mut buf);
+    let items = collected(alloc, &read);
+    drop(read);
+    Ok((tabulated, items?))
 }
 
 // With ample memory a row of 60,000 nulls is walked, collected and tabulated.
 #[test]
-fn a_long_list_is_collected(rt: HostRuntime) -> Result<(), Fail> {
-    let mut buf = long(rt.alloc(), b"\x44\0\x03\xa9\x86\xea\x60", 240_000, 0xff)?;
-    same(&rt, columns(rt.alloc(), buf.as_slice()), Ok(60_000));
-    let read = Message::parse(&mut buf);
-    let items = collected(rt.alloc(), &read);
-    drop(read);
-    same(&rt, items, Ok(60_000));
-    Ok(())
+fn a_long_list_is_collected(rt: HostRuntime) {
+    same(&rt, long_list(rt.alloc()), Ok((60_000, 60_000)));
 }

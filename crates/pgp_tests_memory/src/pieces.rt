@@ -1,14 +1,12 @@
 //! A longer stream of a server, cut in many ways, and with each allocation refused in turn. Its bytes are from the
 //! message formats of the PostgreSQL manual.
 
-use crate::checks::{holds, holds_at, same};
+use crate::checks::{holds, same};
+use crate::turns::{DONE, Tried, Turn, WRONG, refusals_of};
 use pgp_base::{Error, Memory};
 use pgp_message::{Message, Storage};
-use pgp_test_alloc::Refusing;
-use postgres_protocol::session::{StreamParser, parse_stream};
-use std::alloc::{AllocError, Global};
-use std::process::Abort;
-use std::test::Fail;
+use postgres_protocol::session::{Parsed, StreamParser, parse_stream};
+use std::alloc::{AllocError, Allocator, Global};
 
 /// AuthenticationSASL, RowDescription, DataRow, ErrorResponse, a ReadyForQuery with a byte too many,
 /// ParseComplete, and a length fault.
@@ -30,56 +28,20 @@ fn mark<S: Storage>(read: &Result<Message<S>, Error>) -> u8 {
     }
 }
 
-/// Whether these are the first results of that stream.
-fn are_first<S: Storage>(results: &[Result<Message<S>, Error>]) -> bool {
+/// Whether these are all results of that stream.
+fn are_all<S: Storage>(results: &[Result<Message<S>, Error>]) -> bool {
     for (result, wanted) in results.iter().zip(MARKS) {
         if mark(result) != *wanted {
             return false;
         }
     }
-    results.len() <= MARKS.len()
+    results.len() == MARKS.len()
 }
 
-/// Whether these are all results of that stream.
-fn are_all<S: Storage>(results: &[Result<Message<S>, Error>]) -> bool {
-    results.len() == MARKS.len() && are_first(results)
-}
-
-/// Feeds the pieces.
-fn feed(parser: &mut StreamParser, pieces: &[&[u8]]) -> Result<(), Error> {
-    for piece in pieces {
-        if !parser.failed() {
-            parser.feed(piece)?;
-        }
-    }
-    Ok(())
-}
-
-/// Results are handed out once, and none is lost.
-#[test]
-fn taken_after_each_byte(rt: HostRuntime) -> Result<(), Fail> {
-    let mut parser = StreamParser::new(rt.alloc());
-    let mut marks = Vec::new(rt.alloc());
-    for byte in &HOSTILE {
-        feed(&mut parser, &[&[*byte]])?;
-        for read in &parser.take() {
-            marks.push(mark(read))?;
-        }
-        holds(&rt, parser.results().is_empty());
-    }
-    same(&rt, marks.as_slice(), MARKS);
-    same(&rt, parser.headers(), 7);
-    holds(&rt, parser.stopped());
-    feed(&mut parser, &[b"1\0\0\0\x04"])?;
-    holds(&rt, parser.take().is_empty());
-    same(&rt, parser.rest(), b"Z\0\0\0\x031\0\0\0\x04".as_slice());
-    Ok(())
-}
-
-/// Feeds two pieces to a parser. The marks of what is read go onto the list, behind each piece where the results are taken.
-fn read_two<A: Memory>(
+/// Feeds pieces to a parser. The marks of what is read go onto the list, behind each piece where the results are taken.
+fn read_pieces<A: Memory>(
     parser: &mut StreamParser<A>,
-    pieces: [&[u8]; 2],
+    pieces: &[&[u8]],
     is_taken: bool,
     marks: &mut Vec<u8>,
 ) -> Result<(), Error> {
@@ -89,91 +51,124 @@ fn read_two<A: Memory>(
             answer = parser.feed(piece);
         }
         if is_taken && answer.is_ok() {
-            for read in &parser.take() {
-                marks.push(mark(read)).map_err(AllocError::from)?;
-            }
+            push_marks(parser.take().as_slice(), marks)?;
         }
     }
-    for read in parser.results() {
-        marks.push(mark(read)).map_err(AllocError::from)?;
-    }
+    push_marks(parser.results(), marks)?;
     answer
 }
 
-/// How often a parser of these two pieces was refused memory before it had all. One that is refused has failed, and what it
-/// read until then are the stream's first results.
-fn refusals_of_parser(
-    rt: &impl Abort,
-    alloc: Global,
-    pieces: [&[u8]; 2],
-    is_taken: bool,
-) -> Result<u64, Error> {
-    let mut refusals = 0u64;
-    for number in 1..1000u64 {
-        let heap = Refusing::new(alloc, 0);
-        let mut parser: StreamParser<&Refusing<Global>> = StreamParser::new(&heap);
-        let mut marks = Vec::new(alloc);
-        heap.until_refusal.set(number);
-        let answer = read_two(&mut parser, pieces, is_taken, &mut marks);
-        holds(rt, MARKS.starts_with(marks.as_slice()));
-        same(rt, parser.failed(), answer.is_err());
-        if answer.is_ok() {
-            same(rt, marks.as_slice(), MARKS);
-            holds(rt, parser.stopped());
-            same(rt, parser.rest(), b"Z\0\0\0\x03".as_slice());
-            same(rt, parser.headers(), 7);
-        } else {
-            same(rt, answer, Err(Error::OutOfMemory));
-            refusals = refusals.saturating_add(1);
-        }
-        if heap.until_refusal.get() != 0 {
-            break;
-        }
-    }
-    Ok(refusals)
-}
-
-/// The stream in two pieces, cut at each place.
-#[test]
-fn pieces_with_each_allocation_refused(rt: HostRuntime) -> Result<(), Fail> {
-    for cut in 0..102usize {
-        let (front, back) = HOSTILE.split_at(cut);
-        for is_taken in [false, true] {
-            let refusals = refusals_of_parser(&rt, rt.alloc(), [front, back], is_taken)?;
-            holds_at(&rt, cut, refusals > 2);
-        }
+/// The marks of these results go onto the list.
+fn push_marks<S: Storage>(
+    results: &[Result<Message<S>, Error>],
+    marks: &mut Vec<u8>,
+) -> Result<(), AllocError> {
+    for read in results {
+        marks.push(mark(read))?;
     }
     Ok(())
 }
 
-/// How often `parse_stream` was refused memory before it had all.
-fn refusals_of_stream(rt: &impl Abort, alloc: Global, pieces: [&[u8]; 2]) -> u64 {
-    let mut refusals = 0u64;
-    for number in 1..1000u64 {
-        let heap = Refusing::new(alloc, number);
-        match parse_stream(&heap, &pieces) {
-            Ok(parsed) => {
-                holds(rt, are_all(parsed.results()));
-                holds(rt, parsed.stopped());
-                same(rt, parsed.rest(), b"Z\0\0\0\x03".as_slice());
-            }
-            Err(e) => {
-                same(rt, e, Error::OutOfMemory);
-                refusals = refusals.saturating_add(1);
-            }
-        }
-        if heap.until_refusal.get() != 0 {
-            break;
+/// What is left of that stream behind its last result.
+const REST: &[u8] = b"Z\0\0\0\x03";
+
+/// Results are handed out once, and none is lost.
+#[test]
+fn taken_after_each_byte(rt: HostRuntime) {
+    let mut parser = StreamParser::new(rt.alloc());
+    let mut marks = Vec::new(rt.alloc());
+    for byte in &HOSTILE {
+        let read = read_pieces(&mut parser, &[&[*byte]], true, &mut marks);
+        same(&rt, read, Ok(()));
+    }
+    holds(&rt, has_all(&parser, marks.as_slice()));
+    let read = read_pieces(&mut parser, &[b"1\0\0\0\x04"], true, &mut marks);
+    same(&rt, read, Ok(()));
+    same(&rt, marks.as_slice(), MARKS);
+    same(&rt, parser.rest(), b"Z\0\0\0\x031\0\0\0\x04".as_slice());
+}
+
+/// Two pieces for a parser. One that is refused memory has failed, and what it read until then are the stream's first results.
+#[derive(Clone, Copy)]
+struct Fed<'a> {
+    pieces: [&'a [u8]; 2],
+    is_taken: bool,
+    /// Where the marks of the results are kept.
+    memory: Global,
+}
+
+/// Whether a parser has all of that stream.
+fn has_all<A: Memory>(parser: &StreamParser<A>, marks: &[u8]) -> bool {
+    marks == MARKS && parser.stopped() && parser.rest() == REST && parser.headers() == 7
+}
+
+impl Fed<'_> {
+    fn end<A: Allocator + Copy>(
+        &self,
+        parser: &mut StreamParser<A>,
+        marks: &mut Vec<u8>,
+    ) -> Result<usize, Error> {
+        match read_pieces(parser, &self.pieces, self.is_taken, marks) {
+            Ok(()) if !parser.failed() && has_all(parser, marks.as_slice()) => Ok(DONE),
+            Err(e) if parser.failed() && MARKS.starts_with(marks.as_slice()) => Err(e),
+            _ => Ok(WRONG),
         }
     }
-    refusals
+}
+
+impl Tried for Fed<'_> {
+    fn outcome<A: Allocator + Copy>(&self, alloc: A, turn: Turn<'_>) -> Result<usize, Error> {
+        let mut parser = StreamParser::new(alloc);
+        let mut marks = Vec::new(self.memory);
+        turn.begin();
+        self.end(&mut parser, &mut marks)
+    }
+}
+
+/// The stream in two pieces, cut at each place.
+#[test]
+fn pieces_with_each_allocation_refused(rt: HostRuntime) {
+    for cut in 0..102usize {
+        let (front, back) = HOSTILE.split_at(cut);
+        for is_taken in [false, true] {
+            let fed = Fed {
+                pieces: [front, back],
+                is_taken,
+                memory: rt.alloc(),
+            };
+            let refusals = refusals_of(&rt, rt.alloc(), &fed, Ok(DONE));
+            same(&rt, (cut, refusals.told > 2), (cut, true));
+        }
+    }
+}
+
+/// Whether all of that stream was read.
+fn is_all<A: Memory>(parsed: &Parsed<A>) -> bool {
+    are_all(parsed.results()) && parsed.stopped() && parsed.rest() == REST
+}
+
+/// Two pieces for `parse_stream`.
+#[derive(Clone, Copy)]
+struct InTwo<'a> {
+    pieces: [&'a [u8]; 2],
+}
+
+impl Tried for InTwo<'_> {
+    fn outcome<A: Allocator + Copy>(&self, alloc: A, turn: Turn<'_>) -> Result<usize, Error> {
+        turn.begin();
+        let parsed = parse_stream(alloc, &self.pieces)?;
+        Ok(if is_all(&parsed) { DONE } else { WRONG })
+    }
 }
 
 #[test]
 fn parse_stream_with_each_allocation_refused(rt: HostRuntime) {
     for cut in 0..102usize {
         let (front, back) = HOSTILE.split_at(cut);
-        let refusals = refusals_of_stream(&rt, rt.alloc(), [front, back]);
-        holds_at(&rt, cut, refusals > 2);
+        let in_two = InTwo {
+            pieces: [front, back],
+        };
+        let refusals = refusals_of(&rt, rt.alloc(), &in_two, Ok(DONE));
+        same(&rt, (cut, refusals.told > 2), (cut, true));
     }
 }

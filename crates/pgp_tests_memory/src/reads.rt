@@ -1,6 +1,7 @@
 //! What was read, looked at in place: a `match` that takes a message apart by value has a case for what is left of each other one,
 //! which is dear to prove.
 
+use crate::turns::{DONE, WRONG};
 use bytes::{Bytes, BytesMut};
 use pgp_base::{Error, FallibleIterator};
 use pgp_message::{DataRowBody, Message};
@@ -9,6 +10,9 @@ use std::alloc::Allocator;
 /// What a reader of shared bytes answers.
 pub(crate) type Read<A> = Result<Option<Message<Bytes<A>>>, Error>;
 
+/// What a reader comes to that waits for more bytes.
+pub(crate) const WAITS: usize = 0;
+
 /// A buffer that holds these bytes.
 pub(crate) fn buffer<A: Allocator + Copy>(alloc: A, bytes: &[u8]) -> Result<BytesMut<A>, Error> {
     let mut buf = BytesMut::new(alloc);
@@ -16,25 +20,18 @@ pub(crate) fn buffer<A: Allocator + Copy>(alloc: A, bytes: &[u8]) -> Result<Byte
     Ok(buf)
 }
 
-/// Whether the message is a copy that brings these bytes.
-pub(crate) fn is_copy<A: Allocator + Copy>(
+/// `DONE` at a copy that brings these bytes, or where none are told at any other message.
+pub(crate) fn read_as<A: Allocator + Copy>(
     read: &Read<A>,
-    data: &[u8],
-) -> Result<Option<bool>, Error> {
-    match read {
-        Ok(Some(Message::CopyData(body))) => Ok(Some(body.data() == data)),
-        Ok(Some(_)) => Ok(Some(false)),
-        Ok(None) => Ok(None),
-        Err(e) => Err(*e),
-    }
-}
-
-/// Whether a message was read.
-pub(crate) fn is_some<A: Allocator + Copy>(read: &Read<A>) -> Result<bool, Error> {
-    match read {
-        Ok(message) => Ok(message.is_some()),
-        Err(e) => Err(*e),
-    }
+    data: Option<&[u8]>,
+) -> Result<usize, Error> {
+    let is_wanted = match read {
+        Ok(Some(Message::CopyData(body))) => data == Some(body.data()),
+        Ok(Some(_)) => data.is_none(),
+        Ok(None) => return Ok(WAITS),
+        Err(e) => return Err(*e),
+    };
+    Ok(if is_wanted { DONE } else { WRONG })
 }
 
 /// The row that was read, which shares its bytes.

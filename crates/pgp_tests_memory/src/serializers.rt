@@ -4,54 +4,52 @@
 ghost use Rattle.pgp_base.specs.Calls.{KeepsValue};
 ghost use Rattle.pgp_base.specs.Held.{items_held};
 
-use crate::checks::{holds, holds_at, same};
+use crate::checks::same;
+use crate::writers::SYNC;
 use bytes::BytesMut;
 use pgp_base::{BindError, Buffer, Error, IsNull};
 use pgp_frontend::bind;
 use pgp_test_alloc::Refusing;
 use pgp_types::{ArrayDimension, RangeBound, array_to_sql, range_to_sql};
 use std::alloc::{AllocError, Global};
-use std::process::Abort;
-use std::test::Fail;
-
-// A message that stands in the buffer already.
-const SYNC: &[u8] = b"S\0\0\0\x04";
 
 // What the serializers here answer where they are refused memory.
 const OWN: u8 = 77;
 
-// The values of a message, of which the serializer refuses the k-th, behind the bytes that it has appended.
-#[test]
-fn bind_with_each_value_refused(rt: HostRuntime) -> Result<(), Fail> {
-    for k in 1..6u32 {
-        let mut buf = BytesMut::new(rt.alloc());
-        buf.append(SYNC)?;
-        let mut calls = 0u32;
-        let answer = bind(
-            "portal",
-            "statement",
-            Some(1i16),
-            1..6u32,
-            |n: u32, buf: &mut BytesMut| -> Result<IsNull, u32>
-                ensures { KeepsValue result (items_held buf.entry.now.items) (items_held buf.exit.now.items) }
-            {
-                calls = calls.saturating_add(1);
-                if buf.append(b"abc").is_err() || n == k {
-                    return Err(n);
-                }
-                Ok(IsNull::No)
-            },
-            Some(1i16),
-            &mut buf,
-        );
-        holds(
-            &rt,
-            matches!(&answer, Err(BindError::Conversion(e)) if *e == k),
-        );
-        same(&rt, calls, k);
-        same(&rt, buf.as_slice(), SYNC);
+// How often a serializer is called that refuses the k-th of five values, behind the bytes that it has appended; 0 where its
+// refusal isn't told, or the buffer doesn't keep its bytes.
+fn calls_until(alloc: Global, k: u32) -> Result<u32, AllocError> {
+    let mut buf = BytesMut::new(alloc);
+    buf.append(SYNC)?;
+    let mut calls = 0u32;
+    let answer = bind(
+        "portal",
+        "statement",
+        Some(1i16),
+        1..6u32,
+        |n: u32, buf: &mut BytesMut| -> Result<IsNull, u32>
+            ensures { KeepsValue result (items_held buf.entry.now.items) (items_held buf.exit.now.items) }
+        {
+            calls = calls.saturating_add(1);
+            if buf.append(b"abc").is_err() || n == k {
+                return Err(n);
+            }
+            Ok(IsNull::No)
+        },
+        Some(1i16),
+        &mut buf,
+    );
+    match answer {
+        Err(BindError::Conversion(e)) if e == k && buf.as_slice() == SYNC => Ok(calls),
+        _ => Ok(0),
     }
-    Ok(())
+}
+
+#[test]
+fn bind_with_each_value_refused(rt: HostRuntime) {
+    for k in 1..6u32 {
+        same(&rt, calls_until(rt.alloc(), k), Ok(k));
+    }
 }
 
 // Appends twenty bytes, or answers its own number.
@@ -108,7 +106,7 @@ fn range_own<B: Buffer>(buf: &mut B) -> Result<(), BindError<u8>> {
 }
 
 // Whose growth was refused.
-#[derive(Debug, Clone, Copy, PartialEq)]
+#[derive(Clone, Copy)]
 enum Told {
     Nobody,
     Serializer,
@@ -134,37 +132,43 @@ fn write_own<B: Buffer>(writer: u32, buf: &mut B) -> Told {
 }
 
 // Who tells of the first growth that a buffer with this room asks for, which is refused; nobody, where none was asked for.
-fn told_in(rt: &impl Abort, alloc: Global, writer: u32, room: usize) -> Result<Told, AllocError> {
+fn told_in(alloc: Global, writer: u32, room: usize) -> Result<Told, AllocError> {
     let heap = Refusing::new(alloc, 0);
     let mut buf: BytesMut<&Refusing<Global>> = BytesMut::with_capacity(&heap, room)?;
     buf.extend_from_slice(SYNC)?;
     heap.until_refusal.set(1);
     let told = write_own(writer, &mut buf);
     let is_refused = heap.until_refusal.get() == 0;
-    holds_at(rt, room, told != Told::Nobody || !is_refused);
-    if is_refused {
-        same(rt, buf.as_slice(), SYNC);
+    match told {
+        Told::Nobody if is_refused => Ok(Told::Other),
+        _ if is_refused && buf.as_slice() != SYNC => Ok(Told::Other),
+        _ => Ok(told),
     }
-    Ok(told)
+}
+
+// How often the serializer told of the refused growth, and how often the writer; never, where another answer came.
+fn tellers_of(alloc: Global, writer: u32) -> Result<(u32, u32), AllocError> {
+    let mut by_serializer = 0u32;
+    let mut by_writer = 0u32;
+    for room in 5..200usize {
+        match told_in(alloc, writer, room)? {
+            Told::Nobody => {}
+            Told::Serializer => by_serializer = by_serializer.saturating_add(1),
+            Told::Writer => by_writer = by_writer.saturating_add(1),
+            Told::Other => return Ok((0, 0)),
+        }
+    }
+    Ok((by_serializer, by_writer))
 }
 
 // The serializer's want of memory is told as its own refusal, the writer's as a serialization. Buffers of many lengths have
 // each growth come at their end, so that both are met.
 #[test]
-fn a_serializer_without_memory_is_told_apart(rt: HostRuntime) -> Result<(), Fail> {
+fn a_serializer_without_memory_is_told_apart(rt: HostRuntime) {
     for writer in 0..3u32 {
-        let mut by_serializer = 0u32;
-        let mut by_writer = 0u32;
-        for room in 5..200usize {
-            match told_in(&rt, rt.alloc(), writer, room)? {
-                Told::Nobody => {}
-                Told::Serializer => by_serializer = by_serializer.saturating_add(1),
-                Told::Writer => by_writer = by_writer.saturating_add(1),
-                Told::Other => holds_at(&rt, room, false),
-            }
-        }
-        holds_at(&rt, writer, by_serializer > 5);
-        holds_at(&rt, writer, by_writer > 5);
+        let told = tellers_of(rt.alloc(), writer);
+        let is_told =
+            matches!(told, Ok((by_serializer, by_writer)) if by_serializer > 5 && by_writer > 5);
+        same(&rt, (writer, is_told), (writer, true));
     }
-    Ok(())
 }

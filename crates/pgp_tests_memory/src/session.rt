@@ -1,24 +1,31 @@
 //! A client's stream, with each allocation refused in turn.
 #![tactic(auto, using(pgp_base::proofs::Parts::held_steps))]
 
-use crate::checks::{holds, holds_at, same, same_at};
+use crate::checks::holds;
+use crate::turns::{DONE, Tried, Turn, WRONG, refused};
 use bytes::BytesMut;
 use pgp_base::{BindError, Buffer, Error, IsNull, put_u32};
 use pgp_frontend::{CopyData, ProtocolVersion};
-use pgp_test_alloc::Refusing;
 use postgres_protocol::session::ClientStream;
-use std::alloc::{AllocError, Global};
+use std::alloc::{Allocator, Global};
 use std::process::Abort;
 use std::test::Fail;
 
 /// A startup packet with no parameters.
-const STARTUP: &[u8; 9] = b"\0\0\0\x09\0\x03\0\0\0";
+const STARTUP: &[u8] = b"\0\0\0\x09\0\x03\0\0\0";
 
 /// Calls that come before a session.
 const REQUESTS: usize = 6;
 
 /// Calls that come in a session.
 const CALLS: usize = 15;
+
+/// A call, by whether it comes in a session and its number.
+#[derive(Clone, Copy)]
+enum Step {
+    Request(usize),
+    InSession(usize),
+}
 
 /// The refusal of a call, whoever refused. The serializer here is only refused memory.
 fn plain(answer: Result<(), BindError<Error>>) -> Result<(), Error> {
@@ -100,79 +107,105 @@ fn call<B: Buffer>(number: usize, stream: &mut ClientStream<B>) -> Result<(), Er
     }
 }
 
-/// How often the request was refused memory. Made again it comes to these bytes.
-fn refusals_of_request(rt: &impl Abort, alloc: Global, request: usize, ample: &[u8]) -> u64 {
-    let mut refusals = 0u64;
-    for number in 1..100u64 {
-        let heap = Refusing::new(alloc, 0);
-        let mut stream: ClientStream<BytesMut<&Refusing<Global>>> = ClientStream::new(&heap);
-        heap.until_refusal.set(number);
-        let answer = begin(request, &mut stream);
-        if heap.until_refusal.get() != 0 {
-            same_at(rt, request, answer, Ok(()));
-            break;
-        }
-        same_at(rt, request, answer, Err(Error::OutOfMemory));
-        holds(rt, stream.bytes().is_empty());
-        holds(rt, !stream.is_open());
-        same_at(rt, request, begin(request, &mut stream), Ok(()));
-        same(rt, stream.is_open(), (2..5).contains(&request));
-        same_at(rt, request, stream.bytes(), ample);
-        refusals = number;
+/// Makes the call.
+fn make<B: Buffer>(step: Step, stream: &mut ClientStream<B>) -> Result<(), Error> {
+    match step {
+        Step::Request(number) => begin(number, stream),
+        Step::InSession(number) => call(number, stream),
     }
-    refusals
+}
+
+/// A stream in which the call can be made: new, or of a session, with no room left.
+fn stream_for<A: Allocator + Copy>(
+    alloc: A,
+    step: Step,
+) -> Result<ClientStream<BytesMut<A>>, Error> {
+    match step {
+        Step::Request(_) => Ok(ClientStream::new(alloc)),
+        Step::InSession(_) => {
+            let buf = BytesMut::with_capacity(alloc, STARTUP.len())?;
+            let mut stream = ClientStream::over(buf);
+            begin(3, &mut stream)?;
+            Ok(stream)
+        }
+    }
+}
+
+/// A call, and what stands there behind it.
+#[derive(Clone, Copy)]
+struct Made<'a> {
+    step: Step,
+    ample: &'a [u8],
+}
+
+impl Made<'_> {
+    /// Whether the stream is as it was before the call.
+    fn is_before<B: Buffer>(&self, stream: &ClientStream<B>) -> bool {
+        match self.step {
+            Step::Request(_) => stream.bytes().is_empty() && !stream.is_open(),
+            Step::InSession(_) => stream.bytes() == STARTUP && stream.is_open(),
+        }
+    }
+
+    /// Whether the stream is as it has to be behind the call.
+    fn is_behind<B: Buffer>(&self, stream: &ClientStream<B>) -> bool {
+        let is_open = match self.step {
+            Step::Request(number) => (2..5).contains(&number),
+            Step::InSession(_) => true,
+        };
+        stream.bytes() == self.ample && stream.is_open() == is_open
+    }
+
+    /// Makes the call, and once more where it is refused.
+    fn end<B: Buffer>(&self, stream: &mut ClientStream<B>) -> Result<usize, Error> {
+        let first = make(self.step, stream);
+        if first.is_err() && (!self.is_before(stream) || make(self.step, stream).is_err()) {
+            return Ok(WRONG);
+        }
+        match first {
+            _ if !self.is_behind(stream) => Ok(WRONG),
+            Ok(()) => Ok(DONE),
+            Err(e) => Err(e),
+        }
+    }
+}
+
+impl Tried for Made<'_> {
+    fn outcome<A: Allocator + Copy>(&self, alloc: A, turn: Turn<'_>) -> Result<usize, Error> {
+        let mut stream = stream_for(alloc, self.step)?;
+        turn.begin();
+        self.end(&mut stream)
+    }
+}
+
+/// How often the call was refused memory. Made again it comes to the bytes that it comes to with ample memory.
+fn refused_call(rt: &impl Abort, alloc: Global, step: Step) -> Result<u64, Error> {
+    let mut stream = stream_for(alloc, step)?;
+    make(step, &mut stream)?;
+    let ample = stream.bytes();
+    Ok(refused(rt, alloc, &Made { step, ample }, Ok(DONE)))
 }
 
 /// A refused call changes neither the bytes nor the phase, and can be made again.
 #[test]
 fn requests_with_each_allocation_refused(rt: HostRuntime) -> Result<(), Fail> {
-    for request in 0..REQUESTS {
-        let mut ample = ClientStream::new(rt.alloc());
-        same_at(&rt, request, begin(request, &mut ample), Ok(()));
-        let refusals = refusals_of_request(&rt, rt.alloc(), request, ample.bytes());
-        holds_at(&rt, request, refusals > 0);
+    for number in 0..REQUESTS {
+        holds(
+            &rt,
+            refused_call(&rt, rt.alloc(), Step::Request(number))? > 0,
+        );
     }
     Ok(())
-}
-
-/// How often a call was refused memory, in a session whose stream has no room left. Made again it comes to these bytes.
-fn refusals_of_call(
-    rt: &impl Abort,
-    alloc: Global,
-    what: usize,
-    ample: &[u8],
-) -> Result<u64, AllocError> {
-    let mut refusals = 0u64;
-    for number in 1..100u64 {
-        let heap = Refusing::new(alloc, 0);
-        let buf: BytesMut<&Refusing<Global>> = BytesMut::with_capacity(&heap, STARTUP.len())?;
-        let mut stream = ClientStream::over(buf);
-        same(rt, begin(3, &mut stream), Ok(()));
-        heap.until_refusal.set(number);
-        let answer = call(what, &mut stream);
-        if heap.until_refusal.get() != 0 {
-            same_at(rt, what, answer, Ok(()));
-            break;
-        }
-        same_at(rt, what, answer, Err(Error::OutOfMemory));
-        same_at(rt, what, stream.bytes(), STARTUP.as_slice());
-        holds(rt, stream.is_open());
-        same_at(rt, what, call(what, &mut stream), Ok(()));
-        same_at(rt, what, stream.bytes(), ample);
-        refusals = number;
-    }
-    Ok(refusals)
 }
 
 /// The same in a session.
 #[test]
 fn calls_with_each_allocation_refused(rt: HostRuntime) -> Result<(), Fail> {
-    for what in 0..CALLS {
-        let mut ample = ClientStream::new(rt.alloc());
-        same(&rt, begin(3, &mut ample), Ok(()));
-        same_at(&rt, what, call(what, &mut ample), Ok(()));
-        let refusals = refusals_of_call(&rt, rt.alloc(), what, ample.bytes())?;
-        holds_at(&rt, what, refusals > 0);
+    for number in 0..CALLS {
+        holds(
+            &rt,
+            refused_call(&rt, rt.alloc(), Step::InSession(number))? > 0,
+        );
     }
     Ok(())
 }
@@ -181,38 +214,44 @@ fn calls_with_each_allocation_refused(rt: HostRuntime) -> Result<(), Fail> {
 const SESSION: &[u8] =
     b"\0\0\0\x14\0\x03\0\0user\0alice\0\0Q\0\0\0\x0dSELECT 1\0S\0\0\0\x04X\0\0\0\x04";
 
-/// Makes a call of that session.
-fn say<B: Buffer>(step: usize, stream: &mut ClientStream<B>) -> Result<(), Error> {
-    match step {
-        0 => begin(2, stream),
-        1 => call(6, stream),
-        2 => call(7, stream),
-        _ => call(8, stream),
+/// The calls of that session.
+const SAID: [Step; 4] = [
+    Step::Request(2),
+    Step::InSession(6),
+    Step::InSession(7),
+    Step::InSession(8),
+];
+
+/// How many calls of that session were refused, each of which is made again.
+fn made_again<B: Buffer>(stream: &mut ClientStream<B>) -> Result<usize, Error> {
+    let mut again = 0usize;
+    for said in SAID {
+        if make(said, stream).is_err() {
+            again = again.saturating_add(1);
+            make(said, stream)?;
+        }
+    }
+    Ok(again)
+}
+
+/// That session, in which each refused call is made again.
+struct Session;
+
+impl Tried for Session {
+    fn outcome<A: Allocator + Copy>(&self, alloc: A, turn: Turn<'_>) -> Result<usize, Error> {
+        let mut stream = ClientStream::new(alloc);
+        turn.begin();
+        let again = made_again(&mut stream);
+        match again {
+            Ok(0) if stream.bytes() == SESSION => Ok(DONE),
+            Ok(1) if stream.bytes() == SESSION => Err(Error::OutOfMemory),
+            _ => Ok(WRONG),
+        }
     }
 }
 
 /// Where each call that is refused memory is made again, the session's bytes are the same.
 #[test]
-fn a_session_with_each_allocation_refused(rt: HostRuntime) -> Result<(), Fail> {
-    let mut refusals = 0u64;
-    for number in 1..100u64 {
-        let heap = Refusing::new(rt.alloc(), number);
-        let mut stream: ClientStream<BytesMut<&Refusing<Global>>> = ClientStream::new(&heap);
-        let mut again = 0u64;
-        for step in 0..4usize {
-            if say(step, &mut stream).is_err() {
-                again = again.saturating_add(1);
-                same(&rt, say(step, &mut stream), Ok(()));
-            }
-        }
-        same(&rt, stream.bytes(), SESSION);
-        if heap.until_refusal.get() != 0 {
-            same(&rt, again, 0);
-            break;
-        }
-        same(&rt, again, 1);
-        refusals = number;
-    }
-    holds_at(&rt, refusals, refusals > 1);
-    Ok(())
+fn a_session_with_each_allocation_refused(rt: HostRuntime) {
+    holds(&rt, refused(&rt, rt.alloc(), &Session, Ok(DONE)) > 1);
 }
