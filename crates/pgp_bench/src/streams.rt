@@ -100,3 +100,26 @@ fn weight_in_place(message: &Message<&[u8]>) -> u64 {
         _ => 1,
     }
 }
+
+/// The same of messages that are told in place, where none of them is a row or an error: another kind weighs 1.
+///
+/// # Errors
+///
+/// Those of `read`, but never `OutOfMemory`.
+#[inline(never)]
+pub(crate) fn read_answers_in_place(bytes: &[u8]) -> Result<u64, Error> {
+    let mut messages = Messages::new(bytes);
+    let mut sum = 0u64;
+    'messages: while let Some(message) = messages.next()? {
+        sum = sum.wrapping_add(answer_in_place(&message));
+    }
+    Ok(sum)
+}
+
+#[inline(always)]
+fn answer_in_place(message: &Message<&[u8]>) -> u64 {
+    match message {
+        Message::CommandComplete(body) => length_of(body.tag()),
+        _ => 1,
+    }
+}

@@ -6,7 +6,7 @@ use crate::escapes::{identifiers, literals};
 use crate::input::Input;
 use crate::keys::keys;
 use crate::pieces::feed;
-use crate::streams::{read, read_copied, read_in_place};
+use crate::streams::{read, read_answers_in_place, read_copied, read_in_place};
 use crate::values::{inet4s, inet6s, int4s, texts};
 use crate::writers::write;
 use pgp_base::Error;
@@ -211,11 +211,10 @@ pub(crate) fn sum_of(
 ) -> Result<u64, Error> {
     match work {
         Work::Bare | Work::Tiny | Work::Kept | Work::Row | Work::Fields => read(&mut input.stream),
-        Work::TinyInPlace
-        | Work::RowInPlace
-        | Work::BareInPlace
-        | Work::Row59InPlace
-        | Work::Complete38InPlace => read_in_place(input.stream.as_slice()),
+        Work::RowInPlace | Work::Row59InPlace => read_in_place(input.stream.as_slice()),
+        Work::TinyInPlace | Work::BareInPlace | Work::Complete38InPlace => {
+            read_answers_in_place(input.stream.as_slice())
+        }
         Work::ClientBind | Work::ClientQuery | Work::ClientSync => {
             read_client(input.stream.as_slice())
         }

@@ -22,16 +22,10 @@ use Rattle.pgp_frontend.proofs.Needs.{int16_length, bind_length, joined_more, fr
 use Rattle.pgp_frontend.specs.ClientMessage.{ClientMessage, Bind}
 use Rattle.pgp_frontend.specs.Given.{Arrived, Serves, before_values, BindWhole, BindSoFar, BindRefused, ValuesUpTo}
 use Rattle.pgp_frontend.specs.Payload.{Text, Int16s, parts, parts_cause, joined, bytes_of, cause}
-use Rattle.postgres_protocol.proofs.BindLemmas.{null_length, parts_first}
-use Rattle.postgres_protocol.proofs.Rooms.{count_more}
-use Rattle.postgres_protocol.proofs.StartupPairs.{either_more}
+use Rattle.pgp_frontend.proofs.CauseLemmas.{null_length, parts_first, last_cause, count_more, either_more}
 use Rattle.pgp_c.specs.declared.listing.PgpValue.{PgpValue}
 use Rattle.pgp_c.specs.Lists.{error_of, value_of, Puts}
 use Rattle.pgp_c.proofs.Lists.{one, all_made, fused, same_bind}
-
-last_cause : (c : Cause) (e : Error) → either c None ≡ Some e → c ≡ Some e
-last_cause (Some d) e h = h
-last_cause None e h = cc
 
 no_cause : (e : Error) → (let c : Cause = None in c ≡ Some e) → ⊥
 no_cause e h = cc

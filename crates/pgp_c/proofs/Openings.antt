@@ -22,13 +22,10 @@ use Rattle.pgp_frontend.specs.Given.{Arrived, StartupWhole, StartupSoFar, Refuse
 use Rattle.pgp_frontend.specs.Payload.{Int32, version_code, pair, pair_cause, parts, parts_cause, bytes_of, cause}
 use Rattle.pgp_frontend.specs.declared.startup.ProtocolVersion.{ProtocolVersion}
 use Rattle.pgp_frontend.proofs.Needs.{startup_length}
-use Rattle.postgres_protocol.proofs.StepLemmas.{all_given, some_given}
+use Rattle.pgp_frontend.proofs.CauseLemmas.{last_cause}
+use Rattle.pgp_frontend.proofs.GivenLemmas.{all_given, some_given}
 use Rattle.pgp_c.specs.declared.opening.PgpPair.{PgpPair}
 use Rattle.pgp_c.specs.Opening.{pair_of}
-
-last_cause : (c : Cause) (e : Error) → either c None ≡ Some e → c ≡ Some e
-last_cause (Some d) e h = h
-last_cause None e h = cc
 
 refused_pairs : (c d : Cause) (e : Error) → c ≡ Some e → either (either None (either c None)) d ≡ Some e
 refused_pairs c d e h = rw h refl

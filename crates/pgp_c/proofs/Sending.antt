@@ -16,7 +16,7 @@ use Rattle.pgp_base.proofs.Needs.{wants_window}
 use Rattle.pgp_base.proofs.Windows.{window_size, window_written}
 use Rattle.pgp_frontend.specs.ClientMessage.{ClientMessage}
 use Rattle.pgp_frontend.specs.Payload.{bytes_of, cause, IsInRange}
-use Rattle.postgres_protocol.proofs.Rooms.{never_memory}
+use Rattle.pgp_frontend.proofs.CauseLemmas.{never_memory}
 use Rattle.pgp_c.specs.Sending.{Sent, NotSent}
 use Rattle.pgp_c.specs.Values.{Wrote, Lacks}
 

@@ -1,11 +1,14 @@
 pub mod ClientRuns
 pub mod BindLemmas
+pub mod CauseLemmas
 pub mod Fields
 pub mod Fitting
 pub mod Frames
+pub mod GivenLemmas
 pub mod Keys
 pub mod Needs
 pub mod PairLemmas
+pub mod ParseLemmas
 pub mod Shapes
 pub mod Readings
 pub mod Texts

@@ -23,7 +23,7 @@ use Rattle.pgp_types.specs.Format.{Plain}
 use Rattle.pgp_types.specs.Scalar.{int4}
 use Rattle.postgres_protocol.specs.ArraySteps.{array_of}
 use Rattle.postgres_protocol.specs.OneValue.{BindsOne}
-use Rattle.postgres_protocol.proofs.BindLemmas.{null_length}
+use Rattle.pgp_frontend.proofs.CauseLemmas.{null_length}
 use Rattle.postgres_protocol.proofs.StepLemmas.{array_length, head_wants, element_wants}
 use Rattle.pgp_uses.specs.Arrays.{BindsInt4s, PutsInt4s, int4_array}
 use Rattle.pgp_uses.specs.Server.{refusal_of}

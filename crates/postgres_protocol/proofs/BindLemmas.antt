@@ -16,6 +16,7 @@ use Rattle.pgp_base.specs.Calls.{value_of, Puts, Gives, Runs}
 use Rattle.pgp_base.proofs.Causes.{either_first}
 use Rattle.pgp_base.proofs.Needs.{flat_more, counted_length, nullable_least, sized_wants, counted_wants}
 use Rattle.pgp_base.proofs.Parts.{nothing_more, wants_more}
+use Rattle.pgp_frontend.proofs.CauseLemmas.{null_length, parts_first}
 use Rattle.pgp_frontend.proofs.Fields.{cause_front}
 use Rattle.pgp_frontend.proofs.Needs.{int32_length, bind_length, joined_more, framed_wants}
 use Rattle.pgp_frontend.specs.ClientMessage.{ClientMessage, Bind}
@@ -33,10 +34,6 @@ use Rattle.postgres_protocol.proofs.StepLemmas.{same_more}
 
 only_one : (vs : List (Option (List ℕ))) (v w : Option (List ℕ)) → vs ≡ [] → v ≡ w → vs ++ v ∷ [] ≡ w ∷ []
 only_one vs v w e f = rw (e, f) refl
-
--- a cause of the parts is one of the message
-pub parts_first : (m : ClientMessage) (e : Error) → parts_cause (parts m) ≡ Some e → cause m ≡ Some e
-parts_first m e h = either_first (parts_cause (parts m)) _ e h
 
 module _ (to : Target) where
   -- the parts up to the value, and all of them
@@ -81,9 +78,6 @@ module _ (to : Target) where
   null_alone fs vs e f = rw (e, f) (names_last (part_cause (Text to.portal)) (part_cause (Text to.statement)))
 
 -- ---- growths that the message of one value needs
-
-pub null_length : length (nullable None) ≡ 4
-null_length = int32_length (negsuc 0)
 
 -- of a list that came none or all of it did so far
 asked_all : {A : Type 0} (given : List A → Option A → Type 0) (all : List A) → ((xs : List A) → given xs None → xs ≡ all) → ((xs : List A) (x : A) → given xs (Some x) → xs ++ x ∷ [] ≡ all)

@@ -23,7 +23,9 @@ use Rattle.pgp_base.proofs.Parts.{length-uint32, wants_more}
 use Rattle.pgp_frontend.specs.ClientMessage.{ClientMessage, Parse}
 use Rattle.pgp_frontend.specs.Payload.{Part, Byte, Int32, Text, Int16s, Oids, Values, Sized, Rest, Key, Pairs, pair_cause, part_cause, parts, joined, parts_cause, bytes_of, cause}
 use Rattle.pgp_frontend.specs.Given.{Arrived, ParseWhole, ParseSoFar}
+use Rattle.pgp_frontend.proofs.CauseLemmas.{never_memory, count_more, null_length, parts_first, either_more}
 use Rattle.pgp_frontend.proofs.Needs.{parse_length, bind_length}
+use Rattle.pgp_frontend.proofs.ParseLemmas.{parse_refused}
 use Rattle.pgp_types.specs.declared.array.ArrayDimension.{ArrayDimension}
 use Rattle.pgp_types.specs.Array.{array_bytes, array_cause}
 use Rattle.postgres_protocol.specs.declared.laws.array.Step.{Step}
@@ -31,63 +33,7 @@ use Rattle.postgres_protocol.specs.declared.laws.array.Step.TheVariants.{Append,
 use Rattle.postgres_protocol.specs.ArraySteps.{gives, Give, RefusesAt, array_of, binding, StepRefuses, ElementsWant, HasCause, IsTooLong, BindWants, BindRefused, BindsArray}
 use Rattle.postgres_protocol.specs.ClientStream.{Sent, IsAdded, Adds, AddsMessage, AddsGiven}
 use Rattle.postgres_protocol.specs.Rooms.{HasRoom, LacksRoom, GoesByRoom, IsWant, BindsByRoom}
-use Rattle.postgres_protocol.proofs.BindLemmas.{null_length, parts_first}
 use Rattle.postgres_protocol.proofs.StepLemmas.{array_length}
-use Rattle.postgres_protocol.proofs.StartupPairs.{either_more}
-
--- ---- no message has want of memory as its cause
-
-never_none : (let c : Cause = None in c ≡ Some OutOfMemory) → ⊥
-never_none h = cc
-
-never_null : (b : Bool) → (let c : Cause = if b then Some EmbeddedNull else None in c ≡ Some OutOfMemory) → ⊥
-never_null true h = cc
-never_null false h = cc
-
-never_large : (b : Bool) → (let c : Cause = if b then None else Some TooLarge in c ≡ Some OutOfMemory) → ⊥
-never_large true h = cc
-never_large false h = cc
-
-never_size : (b d : Bool) → (let c : Cause = if b then (if d then None else Some InvalidSize) else Some InvalidSize in c ≡ Some OutOfMemory) → ⊥
-never_size true true h = cc
-never_size true false h = cc
-never_size false d h = cc
-
-never_either : (c d : Cause) → (c ≡ Some OutOfMemory → ⊥) → (d ≡ Some OutOfMemory → ⊥) → either c d ≡ Some OutOfMemory → ⊥
-never_either (Some e) d p q h = p h
-never_either None d p q h = q h
-
-never_first : {A : Type 0} (of : A → Cause) → ((x : A) → of x ≡ Some OutOfMemory → ⊥) → (xs : List A) → first (map of xs) ≡ Some OutOfMemory → ⊥
-never_first of p [] h = never_none h
-never_first of p (x ∷ xs) h = never_either (of x) (first (map of xs)) (p x) (never_first of p xs) h
-
-never_text : (z : List ℕ) → text_cause z ≡ Some OutOfMemory → ⊥
-never_text z h = never_null (list_any (λ byte. byte == 0) z) h
-
-never_length : (n : ℕ) → length_cause n ≡ Some OutOfMemory → ⊥
-never_length n h = never_large (nat_le n 2147483647) h
-
-never_count : (n : ℕ) → count_cause n ≡ Some OutOfMemory → ⊥
-never_count n h = never_large (nat_le n 65535) h
-
-never_value : (v : Option (List ℕ)) → nullable_cause v ≡ Some OutOfMemory → ⊥
-never_value None h = never_none h
-never_value (Some z) h = never_length (length z) h
-
-never_part : (p : Part) → part_cause p ≡ Some OutOfMemory → ⊥
-never_part (Byte n) h = never_none h
-never_part (Int32 z) h = never_none h
-never_part (Text z) h = never_text z h
-never_part (Int16s zs) h = never_count (length zs) h
-never_part (Oids ns) h = never_count (length ns) h
-never_part (Values vs) h = never_either (first (map nullable_cause (take 65535 vs))) (count_cause (length vs)) (never_first nullable_cause never_value (take 65535 vs)) (never_count (length vs)) h
-never_part (Sized z) h = never_length (length z) h
-never_part (Rest z) h = never_none h
-never_part (Key z) h = never_size (nat_le 4 (length z)) (nat_le (length z) 256) h
-never_part (Pairs ps) h = never_first pair_cause (λ p. never_either (text_cause p.0) (text_cause p.1) (never_text p.0) (never_text p.1)) ps h
-
-pub never_memory : (m : ClientMessage) → cause m ≡ Some OutOfMemory → ⊥
-never_memory m h = never_either (parts_cause (parts m)) (length_cause (length (joined (parts m)) + 4)) (never_first part_cause never_part (parts m)) (never_length (length (joined (parts m)) + 4)) h
 
 -- ---- one message
 
@@ -142,73 +88,11 @@ module _ (m : ClientMessage) (old new : Sent Window) where
 
 -- ---- a statement with a list of types
 
-last_cause : (c : Cause) (e : Error) → either c None ≡ Some e → c ≡ Some e
-last_cause (Some d) e h = h
-last_cause None e h = cc
-
-never_some : (e : Error) → (let c : Cause = None in c ≡ Some e) → ⊥
-never_some e h = cc
-
--- a count past its field stays past it
-large_alone : (b : Bool) (e : Error) → (let c : Cause = if b then None else Some TooLarge in c ≡ Some e) → Some TooLarge ≡ Some e
-large_alone true e h = cc
-large_alone false e h = h
-
-large_at : (b : Bool) → b ≡ false → (let c : Cause = if b then None else Some TooLarge in c ≡ Some TooLarge)
-large_at b h = rw h refl
-
-pub count_more : (n m : ℕ) (e : Error) → n ≤ m → count_cause n ≡ Some e → count_cause m ≡ Some e
-count_more n m e few h = elim (cases_Bool (nat_le m 65535)) [
-  | inl t ↦ let k : None ≡ Some e = sym (count_fits n (omega (arith, few, leb-true m 65535 t))) ∙ h in absurd cc
-  | inr f ↦ large_at (nat_le m 65535) f ∙ large_alone (nat_le n 65535) e h
-]
-
-oids_length : (ts : List ℕ) → length (flat_map oid ts) ≡ 4 * length ts
-oids_length [] = refl
-oids_length (t ∷ ts) = let more = oids_length ts in omega (arith, more, length-append (oid t) (flat_map oid ts), length-uint32 t)
-
-module _ (name query : List ℕ) (all : List ℕ) where
-  parse_longer : (ts : List ℕ) → length ts ≤ length all → length (bytes_of (Parse name query ts)) ≤ length (bytes_of (Parse name query all))
-  parse_longer ts few = omega (arith, few, parse_length name query ts, parse_length name query all, counted_length oid ts, counted_length oid all, oids_length ts, oids_length all)
-
-  message_cause : (c d a b : Cause) (e : Error) → (a ≡ Some e → b ≡ Some e) → either c (either d (either a None)) ≡ Some e → either c (either d (either b None)) ≡ Some e
-  message_cause c d a b e more h = either_more c (either d (either a None)) (either d (either b None)) e (λ i. either_more d (either a None) (either b None) e (λ j. either_first b None e (more (last_cause a e j))) i) h
-
-  module _ (types : List ℕ → Option ℕ → Type 0) (all_types : (xs : List ℕ) → types xs None → xs ≡ all) (some_types : (xs : List ℕ) (x : ℕ) → types xs (Some x) → (more : List ℕ) × (all ≡ xs ++ x ∷ more)) where
-    -- those that came so far are no more than all
-    front_few : (xs : List ℕ) (x : ℕ) → types xs (Some x) → length (xs ++ x ∷ []) ≤ length all
-    front_few xs x came = let k = some_types xs x came in omega (arith, ap length k.1, length-append xs (x ∷ []), length-append xs (x ∷ k.0))
-
-    asked_few : (before : List ℕ) (next : Option ℕ) (xs : List ℕ) → types before next → xs ≡ before ++ option_to_list next → length xs ≤ length all
-    asked_few before None xs came are = omega (arith, ap length are, ap length (all_types before came), length-append before [])
-    asked_few before (Some x) xs came are = omega (arith, ap length are, front_few before x came)
-
-    few : (xs : List ℕ) → Arrived types Oids xs → length xs ≤ length all
-    few xs (inl none) = omega (arith, ap length none)
-    few xs (inr came) = asked_few came.before came.next xs came.came came.are
-
-    -- a cause of those that came so far is one of all
-    so_far_cause : (m : ClientMessage) (e : Error) → ParseSoFar name query types m → parts_cause (parts m) ≡ Some e → cause (Parse name query all) ≡ Some e
-    so_far_cause m e s c =
-        parts_first (Parse name query all) e (message_cause (text_cause name) (text_cause query) (count_cause (length s.0)) (count_cause (length all)) e (count_more (length s.0) (length all) e (few s.0 s.1)) (ap (λ (m : ClientMessage). parts_cause (parts m)) (sym s.2) ∙ c))
-
-    pub parse_adds : {B K : Type 0} (held : B → Held K) (lacks : Held K → ℕ → Type 0) (old new : Sent B) (r : Result (Unit {0}) Error)
-        → AddsGiven held (ParseWhole name query types) (ParseSoFar name query types) lacks old new r → AddsMessage held (Parse name query all) lacks old new r
-    parse_adds held lacks old new (Ok done) a = (a.0, a.1.2 ∙ ap (λ ts. Parse name query ts) (all_types a.1.0 a.1.1), a.2)
-    parse_adds held lacks old new (Err e) a = (
-      elim a.0 [
-        | inl k ↦
-            let so_far = k.1 in
-            elim k.2 [
-              | inl memory ↦
-                  let size : length (bytes_of k.0) ≡ length (bytes_of (Parse name query so_far.0)) = ap (λ m. length (bytes_of m)) so_far.2 in
-                  inl (memory.0, wants_more (held old.buf) _ _ (omega (arith, size, parse_longer so_far.0 (few so_far.0 so_far.1))) memory.1)
-              | inr c ↦ inr (so_far_cause k.0 e so_far c)
-            ]
-        | inr r ↦ inr (ap (λ ts. cause (Parse name query ts)) (sym (all_types r.1.0 r.1.1)) ∙ (ap cause (sym r.1.2) ∙ r.3))
-      ],
-      a.1,
-    )
+module _ (name query all : List ℕ) (types : List ℕ → Option ℕ → Type 0) (all_types : (xs : List ℕ) → types xs None → xs ≡ all) (some_types : (xs : List ℕ) (x : ℕ) → types xs (Some x) → (more : List ℕ) × (all ≡ xs ++ x ∷ more)) where
+  pub parse_adds : {B K : Type 0} (held : B → Held K) (lacks : Held K → ℕ → Type 0) (old new : Sent B) (r : Result (Unit {0}) Error)
+      → AddsGiven held (ParseWhole name query types) (ParseSoFar name query types) lacks old new r → AddsMessage held (Parse name query all) lacks old new r
+  parse_adds held lacks old new (Ok done) a = (a.0, a.1.2 ∙ ap (λ ts. Parse name query ts) (all_types a.1.0 a.1.1), a.2)
+  parse_adds held lacks old new (Err e) a = (parse_refused name query all types all_types some_types lacks (held old.buf) e a.0, a.1)
 
 -- ---- an array
 

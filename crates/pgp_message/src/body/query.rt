@@ -35,6 +35,7 @@ impl<S: Storage> Model for CommandCompleteBody<S> {
 }
 
 impl<S: Storage> CommandCompleteBody<S> {
+    #[inline(always)]
     #[tactic(auto, unfolding(crate::specs::Reading::string_of))]
     pub(crate) fn read(mut payload: S) -> Result<CommandCompleteBody<S>, Error>
         ensures { result ≡ string_of (S.bytes payload) }

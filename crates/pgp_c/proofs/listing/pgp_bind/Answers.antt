@@ -6,7 +6,7 @@ use Rattle.pgp_base.specs.Calls.{Came}
 use Rattle.pgp_base.specs.Error.{number_of}
 use Rattle.pgp_base.specs.Window.{window_held, window_lacks}
 use Rattle.pgp_frontend.specs.ClientMessage.{Bind}
-use Rattle.postgres_protocol.proofs.StepLemmas.{all_given, some_given, all_same as same_given, some_same}
+use Rattle.pgp_frontend.proofs.GivenLemmas.{all_given, some_given, all_same as same_given, some_same}
 use Rattle.pgp_c.specs.declared.listing.PgpValue.{PgpValue}
 use Rattle.pgp_c.specs.Lists.{error_of, value_of}
 use Rattle.pgp_c.proofs.BindRefusals.{bind_refused}

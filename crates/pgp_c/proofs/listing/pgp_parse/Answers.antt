@@ -7,9 +7,8 @@ use Rattle.pgp_c.proofs.Lists.{all_same}
 use Rattle.pgp_base.specs.Calls.{Came}
 use Rattle.pgp_base.specs.Window.{window_held, window_lacks}
 use Rattle.pgp_base.specs.declared.window.Window.{Window}
-use Rattle.postgres_protocol.specs.ClientStream.{Sent as Shown}
-use Rattle.postgres_protocol.proofs.Rooms.{parse_adds}
-use Rattle.postgres_protocol.proofs.StepLemmas.{all_same as all_given, some_same}
+use Rattle.pgp_frontend.proofs.ParseLemmas.{parse_refused}
+use Rattle.pgp_frontend.proofs.GivenLemmas.{all_same as all_given, some_same}
 use Rattle.pgp_c.proofs.Sending.{sends, refuses}
 use Rattle.pgp_c.proofs.listing.pgp_parse.Goals as goal
 
@@ -31,10 +30,9 @@ returns-in-Err-clause-refused c z =
     let all = c.args.types.now in
     let source = c.copied.result in
     let road : YieldsList (copies fronts) (λ x. x) source all = YieldsList-from_copied (YieldsList-from_slice all cc) in
-    let shown : Shown Window = record { buf = c.new-window.result; opened = false } in
-    let adds = parse_adds c.args.name.now c.args.query.now all (Came FromItself (copies fronts) source)
+    let why = parse_refused c.args.name.now c.args.query.now all (Came FromItself (copies fronts) source)
     (λ xs k. all_given FromItself (copies fronts) source all (λ it from. subst (λ s. YieldsList (copies fronts) (λ x. x) s all) (sym from) road) xs k)
     (λ xs x k. some_same FromItself (copies fronts) source all (λ it from. subst (λ s. YieldsList (copies fronts) (λ x. x) s all) (sym from) road) xs x k)
-    window_held window_lacks shown shown (Err c.in-Err.e) (c.in-Err.ensures.0, record { left = record { bytes = refl; kept = refl }; opened = refl }) in
+    window_lacks (window_held c.new-window.result) c.in-Err.e c.in-Err.ensures.0 in
     refuses (Parse c.args.name.now c.args.query.now all) (Parse c.args.name.now c.args.query.now all) refl
-    c.new-window.result c.args.out.now _ c.new-window.ensures c.in-Err.e _ _ adds.0 c.refused.ensures.code c.refused.ensures.told
+    c.new-window.result c.args.out.now _ c.new-window.ensures c.in-Err.e _ _ why c.refused.ensures.code c.refused.ensures.told

@@ -12,7 +12,7 @@ use Rattle.std.specs.Option.{option_len}
 use Rattle.std.specs.declared.iter.Once.{Once}
 use Rattle.std.proofs.lemmas.Iterator.{YieldsList-from_slice}
 use Rattle.std.proofs.lemmas.Iterator.Adapters.{YieldsList-from_once}
-use Rattle.postgres_protocol.proofs.StepLemmas.{all_given, some_given, all_same, some_same, first_of_one}
+use Rattle.pgp_frontend.proofs.GivenLemmas.{all_given, some_given, all_same, some_same, first_of_one}
 use Rattle.pgp_uses.proofs.Lists.{array_ok, array_refused}
 use Rattle.pgp_uses.proofs.arrays.put_array.Goals as goal
 

@@ -9,7 +9,7 @@ use Rattle.pgp_base.specs.Held.{Held}
 use Rattle.pgp_frontend.specs.Given.{ParseWhole}
 use Rattle.postgres_protocol.specs.ClientStream.{Sent, IsAdded}
 use Rattle.pgp_types.specs.Scalar.{int4}
-use Rattle.postgres_protocol.proofs.StepLemmas.{all_same, some_same, none_of_none}
+use Rattle.pgp_frontend.proofs.GivenLemmas.{all_same, some_same, none_of_none}
 use Rattle.std.specs.Prelude.{pos}
 use Rattle.pgp_uses.specs.Asking.{AreAdded, named_bound}
 use Rattle.pgp_uses.proofs.Asking.{none_yet, one_more, stops, parse_refused, bound_is, bind_left, bind_blames}

@@ -4,7 +4,7 @@ use Rattle.std.specs.Option.{option_len}
 use Rattle.std.specs.declared.iter.Once.{Once}
 use Rattle.std.proofs.lemmas.Iterator.Adapters.{YieldsList-from_once}
 use Rattle.pgp_base.specs.Calls.{Came}
-use Rattle.postgres_protocol.proofs.StepLemmas.{all_same, some_same, first_of_one}
+use Rattle.pgp_frontend.proofs.GivenLemmas.{all_same, some_same, first_of_one}
 use Rattle.pgp_uses.proofs.Asking.{named_binds}
 use Rattle.pgp_uses.proofs.session.bind_named.Goals as goal
 

@@ -5,7 +5,7 @@ use Rattle.std.specs.declared.iter.Once.{Once}
 use Rattle.std.proofs.lemmas.Iterator.Adapters.{YieldsList-from_once}
 use Rattle.pgp_base.specs.Calls.{Came}
 use Rattle.postgres_protocol.specs.OneValue.{unnamed}
-use Rattle.postgres_protocol.proofs.StepLemmas.{all_same, some_same, first_of_one, none_of_none}
+use Rattle.pgp_frontend.proofs.GivenLemmas.{all_same, some_same, first_of_one, none_of_none}
 use Rattle.postgres_protocol.proofs.BindLemmas.{one_binds}
 use Rattle.postgres_protocol.proofs.laws.array.bind_one.Goals as goal
 

@@ -6,7 +6,7 @@ use Rattle.pgp_base.specs.Calls.{Came}
 use Rattle.pgp_base.specs.Window.{window_held, window_lacks}
 use Rattle.pgp_frontend.specs.ClientMessage.{Parse}
 use Rattle.postgres_protocol.proofs.Rooms.{message_by_room, parse_adds}
-use Rattle.postgres_protocol.proofs.StepLemmas.{all_same, some_same}
+use Rattle.pgp_frontend.proofs.GivenLemmas.{all_same, some_same}
 use Rattle.postgres_protocol.proofs.laws.window.statement_in_a_window.Goals as goal
 
 -- an iterator is made of itself

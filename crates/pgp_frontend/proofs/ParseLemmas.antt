@@ -1,0 +1,59 @@
+-- A statement with the types that an iterator over a list gave.
+use Rattle.std.proofs.Common.{◌≡◌, ℕ, ◌+◌, ◌*◌, ◌≤◌, List, [], ◌∷◌, ◌++◌, length, Option, Some, None, refl, sym, ap, ◌∙◌, inl, inr, arith, length-append}
+use Rattle.std.specs.Prelude.{◌⊎◌}
+use Rattle.std.specs.List.{flat_map}
+use Rattle.std.specs.Option.{option_to_list}
+use Rattle.pgp_base.specs.Wire.{oid}
+use Rattle.pgp_base.specs.Cause.{Cause, either, text_cause, count_cause, Wants, WantsMemory}
+use Rattle.pgp_base.specs.Held.{Held}
+use Rattle.pgp_base.specs.declared.error.Error.{Error}
+use Rattle.pgp_base.proofs.Causes.{either_first}
+use Rattle.pgp_base.proofs.Needs.{counted_length}
+use Rattle.pgp_base.proofs.Parts.{length-uint32, wants_more}
+use Rattle.pgp_frontend.specs.ClientMessage.{ClientMessage, Parse}
+use Rattle.pgp_frontend.specs.Payload.{Oids, parts, parts_cause, bytes_of, cause}
+use Rattle.pgp_frontend.specs.Given.{Arrived, ParseWhole, ParseSoFar, Refused}
+use Rattle.pgp_frontend.proofs.CauseLemmas.{last_cause, either_more, parts_first, count_more}
+use Rattle.pgp_frontend.proofs.Needs.{parse_length}
+
+oids_length : (ts : List ℕ) → length (flat_map oid ts) ≡ 4 * length ts
+oids_length [] = refl
+oids_length (t ∷ ts) = let more = oids_length ts in omega (arith, more, length-append (oid t) (flat_map oid ts), length-uint32 t)
+
+module _ (name query : List ℕ) (all : List ℕ) where
+  parse_longer : (ts : List ℕ) → length ts ≤ length all → length (bytes_of (Parse name query ts)) ≤ length (bytes_of (Parse name query all))
+  parse_longer ts few = omega (arith, few, parse_length name query ts, parse_length name query all, counted_length oid ts, counted_length oid all, oids_length ts, oids_length all)
+
+  message_cause : (c d a b : Cause) (e : Error) → (a ≡ Some e → b ≡ Some e) → either c (either d (either a None)) ≡ Some e → either c (either d (either b None)) ≡ Some e
+  message_cause c d a b e more h = either_more c (either d (either a None)) (either d (either b None)) e (λ i. either_more d (either a None) (either b None) e (λ j. either_first b None e (more (last_cause a e j))) i) h
+
+  module _ (types : List ℕ → Option ℕ → Type 0) (all_types : (xs : List ℕ) → types xs None → xs ≡ all) (some_types : (xs : List ℕ) (x : ℕ) → types xs (Some x) → (more : List ℕ) × (all ≡ xs ++ x ∷ more)) where
+    -- those that came so far are no more than all
+    front_few : (xs : List ℕ) (x : ℕ) → types xs (Some x) → length (xs ++ x ∷ []) ≤ length all
+    front_few xs x came = let k = some_types xs x came in omega (arith, ap length k.1, length-append xs (x ∷ []), length-append xs (x ∷ k.0))
+
+    asked_few : (before : List ℕ) (next : Option ℕ) (xs : List ℕ) → types before next → xs ≡ before ++ option_to_list next → length xs ≤ length all
+    asked_few before None xs came are = omega (arith, ap length are, ap length (all_types before came), length-append before [])
+    asked_few before (Some x) xs came are = omega (arith, ap length are, front_few before x came)
+
+    few : (xs : List ℕ) → Arrived types Oids xs → length xs ≤ length all
+    few xs (inl none) = omega (arith, ap length none)
+    few xs (inr came) = asked_few came.before came.next xs came.came came.are
+
+    -- a cause of those that came so far is one of all
+    so_far_cause : (m : ClientMessage) (e : Error) → ParseSoFar name query types m → parts_cause (parts m) ≡ Some e → cause (Parse name query all) ≡ Some e
+    so_far_cause m e s c =
+        parts_first (Parse name query all) e (message_cause (text_cause name) (text_cause query) (count_cause (length s.0)) (count_cause (length all)) e (count_more (length s.0) (length all) e (few s.0 s.1)) (ap (λ (m : ClientMessage). parts_cause (parts m)) (sym s.2) ∙ c))
+
+    -- why a call was refused is why the message of all is
+    pub parse_refused : {K : Type 0} (lacks : Held K → ℕ → Type 0) (old : Held K) (e : Error) → Refused (ParseWhole name query types) (ParseSoFar name query types) lacks old e
+        → WantsMemory (Wants lacks old (length (bytes_of (Parse name query all)))) e ⊎ (cause (Parse name query all) ≡ Some e)
+    parse_refused lacks old e (inl k) =
+        let so_far = k.1 in
+        elim k.2 [
+          | inl memory ↦
+              let size : length (bytes_of k.0) ≡ length (bytes_of (Parse name query so_far.0)) = ap (λ m. length (bytes_of m)) so_far.2 in
+              inl (memory.0, wants_more old _ _ (omega (arith, size, parse_longer so_far.0 (few so_far.0 so_far.1))) memory.1)
+          | inr c ↦ inr (so_far_cause k.0 e so_far c)
+        ]
+    parse_refused lacks old e (inr r) = inr (ap (λ ts. cause (Parse name query ts)) (sym (all_types r.1.0 r.1.1)) ∙ (ap cause (sym r.1.2) ∙ r.3))
