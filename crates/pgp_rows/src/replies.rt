@@ -97,6 +97,39 @@ fn write_negotiation<B: Buffer>(
     done(negotiate_protocol_version(version, &options, buf))
 }
 
+/// A message that is a list of fields.
+fn write_fields<B: Buffer>(
+    alloc: Global,
+    name: &str,
+    list: &[Word],
+    buf: &mut B,
+) -> Result<(), Fault> {
+    let fields = fields(alloc, list)?;
+    if name == "error_response" {
+        return done(error_response(&fields, buf));
+    }
+    done(notice_response(&fields, buf))
+}
+
+/// A message that is a list.
+fn write_listed<B: Buffer>(
+    alloc: Global,
+    name: &str,
+    list: &[Word],
+    buf: &mut B,
+) -> Result<(), Fault> {
+    match name {
+        "authentication_sasl" => done(authentication_sasl(&texts(alloc, list)?, buf)),
+        "data_row" => done(data_row(&elements(alloc, list)?, buf)),
+        "error_response" | "notice_response" => write_fields(alloc, name, list, buf),
+        "parameter_description" => {
+            done(parameter_description(&numbers::<u32>(alloc, list)?, buf))
+        }
+        "row_description" => done(row_description(&columns(alloc, list)?, buf)),
+        _ => Err(Fault::Row),
+    }
+}
+
 /// A message with a list.
 fn write_list<B: Buffer>(
     alloc: Global,
@@ -105,18 +138,9 @@ fn write_list<B: Buffer>(
     buf: &mut B,
 ) -> Result<(), Fault> {
     match name {
-        "authentication_sasl" => done(authentication_sasl(&texts(alloc, words.list()?)?, buf)),
         "copy_in_response" | "copy_out_response" => write_copy(alloc, name, words, buf),
-        "data_row" => done(data_row(&elements(alloc, words.list()?)?, buf)),
-        "error_response" => done(error_response(&fields(alloc, words.list()?)?, buf)),
         "negotiate_protocol_version" => write_negotiation(alloc, words, buf),
-        "notice_response" => done(notice_response(&fields(alloc, words.list()?)?, buf)),
-        "parameter_description" => {
-            let types = numbers::<u32>(alloc, words.list()?)?;
-            done(parameter_description(&types, buf))
-        }
-        "row_description" => done(row_description(&columns(alloc, words.list()?)?, buf)),
-        _ => Err(Fault::Row),
+        _ => write_listed(alloc, name, words.list()?, buf),
     }
 }
 
