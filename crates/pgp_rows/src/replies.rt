@@ -3,7 +3,7 @@
 use crate::arrays::elements;
 use crate::client::{letter, numbers};
 use crate::codec::{Codec, check_written};
-use crate::fault::{Fault, done};
+use crate::fault::{Fault, add, done};
 use crate::row::Row;
 use crate::shown::Shown;
 use crate::word::{Word, Words};
@@ -20,13 +20,13 @@ use pgp_reply::{
     parameter_description, parameter_status, parse_complete, portal_suspended, ready_for_query,
     row_description,
 };
-use std::alloc::{AllocError, Global};
+use std::alloc::Global;
 
 /// The texts of a list.
 fn texts(alloc: Global, list: &[Word]) -> Result<Vec<&[u8]>, Fault> {
     let mut texts = Vec::new(alloc);
     for word in list {
-        texts.push(word.bytes()?).map_err(AllocError::from)?;
+        add(&mut texts, word.bytes()?)?;
     }
     Ok(texts)
 }
@@ -38,9 +38,7 @@ fn fields(alloc: Global, list: &[Word]) -> Result<Vec<ErrorField<'_>>, Fault> {
         let mut words = Words::new(pair);
         let code = letter(&mut words)?;
         let value = words.bytes()?;
-        fields
-            .push(ErrorField { code, value })
-            .map_err(AllocError::from)?;
+        add(&mut fields, ErrorField { code, value })?;
     }
     Ok(fields)
 }
@@ -62,7 +60,7 @@ fn column(part: &[Word]) -> Result<Column<'_>, Fault> {
 fn columns(alloc: Global, list: &[Word]) -> Result<Vec<Column<'_>>, Fault> {
     let mut columns = Vec::new(alloc);
     for part in list.chunks(7) {
-        columns.push(column(part)?).map_err(AllocError::from)?;
+        add(&mut columns, column(part)?)?;
     }
     Ok(columns)
 }
