@@ -58,8 +58,10 @@ fn forwards(
         let left = reader.rest().len();
         match grammar.next(&mut reader, kinds.first()) {
             Ok(Some((message, stood))) => {
-                is_forwarded(alloc, &message, stood)?;
+                let forwarded = is_forwarded(alloc, &message, stood);
                 kinds.pass(&message);
+                drop(message);
+                forwarded?;
             }
             Ok(None) => return Ok(()),
             Err(_) => {
