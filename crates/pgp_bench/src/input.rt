@@ -70,19 +70,21 @@ fn unit(work: Work) -> &'static [u8] {
 }
 
 // So many units, one behind another.
-fn put_units(unit: &[u8], count: u32, all: &mut BytesMut) -> Result<(), AllocError> {
+fn stream(alloc: Global, unit: &[u8], count: u32) -> Result<BytesMut, AllocError> {
+    let mut all = BytesMut::new(alloc);
     for _round in 0..count {
         all.extend_from_slice(unit)?;
     }
-    Ok(())
+    Ok(all)
 }
 
 // A long text of one piece, again and again.
-fn put_long(piece: &str, all: &mut String) -> Result<(), AllocError> {
+fn long(alloc: Global, piece: &str) -> Result<String, AllocError> {
+    let mut all = String::new(alloc);
     for _round in 0..PIECES {
         all.push_str(piece)?;
     }
-    Ok(())
+    Ok(all)
 }
 
 impl Input {
@@ -92,25 +94,17 @@ impl Input {
     ///
     /// `AllocError` where there is no memory for it.
     pub(crate) fn new(alloc: Global, work: Work, count: u32) -> Result<Input, AllocError> {
-        let mut input = Input {
-            stream: BytesMut::new(alloc),
+        let stream = stream(alloc, unit(work), count)?;
+        let plain = long(alloc, "ab")?;
+        let quotes = long(alloc, "a'")?;
+        Ok(Input {
+            stream,
             buf: BytesMut::new(alloc),
-            name: String::new(alloc),
-            short: String::new(alloc),
-            quote: String::new(alloc),
-            plain: String::new(alloc),
-            quotes: String::new(alloc),
-        };
-        put_units(unit(work), count, &mut input.stream)?;
-        input.put_texts()?;
-        Ok(input)
-    }
-
-    fn put_texts(&mut self) -> Result<(), AllocError> {
-        self.name.push_str("s1")?;
-        self.short.push_str("0123456789abcdef")?;
-        self.quote.push_str("0123456789'bcdef0123456789abcdef")?;
-        put_long("ab", &mut self.plain)?;
-        put_long("a'", &mut self.quotes)
+            name: String::from_str(alloc, "s1")?,
+            short: String::from_str(alloc, "0123456789abcdef")?,
+            quote: String::from_str(alloc, "0123456789'bcdef0123456789abcdef")?,
+            plain,
+            quotes,
+        })
     }
 }

@@ -87,33 +87,18 @@ fn time_given(rt: &HostRuntime) -> io::Result<()> {
     time_way(rt, "feed", Work::FeedRow, &mut input)
 }
 
-/// What the work's answers come to, and in how many nanoseconds.
-fn timed(
-    rt: &HostRuntime,
-    work: Work,
-    input: &mut Input,
-    units: u32,
-) -> io::Result<Result<(u64, u128), Error>> {
-    let start = Instant::now(rt)?;
-    let answer = sum_of(rt.alloc(), work, input, units);
-    let nanos = start.elapsed(rt)?.as_nanos();
-    match answer {
-        Ok(sum) => Ok(Ok((sum, nanos))),
-        Err(e) => Ok(Err(e)),
-    }
-}
-
 fn time_way(rt: &HostRuntime, name: &str, work: Work, input: &mut Input) -> io::Result<()> {
     let mut least = u128::MAX;
     let mut weight = 0u64;
     for _ in 0..TURNS {
-        match timed(rt, work, input, 0)? {
-            Ok((sum, nanos)) => {
-                weight = sum;
-                least = least.min(nanos);
-            }
+        let start = Instant::now(rt)?;
+        let answer = sum_of(rt.alloc(), work, input, 0);
+        let nanos = start.elapsed(rt)?.as_nanos();
+        match answer {
+            Ok(sum) => weight = sum,
             Err(e) => return refused(rt, name, e),
         }
+        least = least.min(nanos);
     }
     let micros = least / 1000;
     println!(rt; "{name} {micros} {weight}")
@@ -125,24 +110,15 @@ fn time(rt: &HostRuntime, work: Work) -> io::Result<()> {
     let units = work.units();
     let mut least = u128::MAX;
     for _ in 0..TURNS {
-        match timed_once(rt, work, units)? {
-            Ok(nanos) => least = least.min(nanos),
-            Err(e) => return refused(rt, name, e),
+        let mut input = Input::new(rt.alloc(), work, units)?;
+        let start = Instant::now(rt)?;
+        let answer = sum_of(rt.alloc(), work, &mut input, units);
+        let nanos = start.elapsed(rt)?.as_nanos();
+        if let Err(e) = answer {
+            return refused(rt, name, e);
         }
+        least = least.min(nanos);
     }
-    print_least(rt, name, least, units)
-}
-
-/// In how many nanoseconds so many units are done, on an input of their own.
-fn timed_once(rt: &HostRuntime, work: Work, units: u32) -> io::Result<Result<u128, Error>> {
-    let mut input = Input::new(rt.alloc(), work, units)?;
-    match timed(rt, work, &mut input, units)? {
-        Ok((_, nanos)) => Ok(Ok(nanos)),
-        Err(e) => Ok(Err(e)),
-    }
-}
-
-fn print_least(rt: &HostRuntime, name: &str, least: u128, units: u32) -> io::Result<()> {
     let hundredths = least.saturating_mul(100) / units.max(1) as u128;
     let whole = hundredths / 100;
     let rest = hundredths % 100;
