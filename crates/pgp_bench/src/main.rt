@@ -31,23 +31,31 @@ const FEW: u32 = 8;
 const TURNS: u32 = 5;
 
 fn main(rt: HostRuntime) -> io::Result<()> {
-    let mut words = Vec::new(rt.alloc());
-    for word in env::args(&rt)?.skip(1) {
-        words.push(word)?;
-    }
+    let words: Vec<String> = env::args(&rt)?.skip(1).collect(rt.alloc())?;
+    run(&rt, &words)
+}
+
+/// Does what the words ask for.
+fn run(rt: &HostRuntime, words: &[String]) -> io::Result<()> {
     if !words.is_empty() && words[0].as_str() == "stdin" {
-        return time_given(&rt);
+        return time_given(rt);
     }
-    for work in Work::ALL {
+    for work in &Work::ALL {
         if words.is_empty() {
-            time(&rt, work)?;
+            time(rt, *work)?;
         }
-        for word in &words {
-            if word.as_str() == "check" {
-                check(&rt, work)?;
-            } else if work.name().starts_with(word.as_str()) {
-                time(&rt, work)?;
-            }
+        run_work(rt, *work, words)?;
+    }
+    Ok(())
+}
+
+/// Does what the words ask for with this work.
+fn run_work(rt: &HostRuntime, work: Work, words: &[String]) -> io::Result<()> {
+    for word in words {
+        if word.as_str() == "check" {
+            check(rt, work)?;
+        } else if work.name().starts_with(word.as_str()) {
+            time(rt, work)?;
         }
     }
     Ok(())

@@ -15,7 +15,9 @@ use std::ops::Range;
 pub(crate) fn read(buf: &mut BytesMut) -> Result<u64, Error> {
     let mut sum = 0u64;
     'messages: while let Some(message) = Message::parse(buf)? {
-        sum = sum.wrapping_add(weight(&message));
+        let weight = weight(&message);
+        drop(message);
+        sum = sum.wrapping_add(weight);
     }
     Ok(sum)
 }

@@ -13,7 +13,7 @@ use pgp_base::Error;
 use std::alloc::Global;
 
 /// What is timed.
-#[derive(Debug, Clone, Copy, PartialEq, Eq)]
+#[derive(Clone, Copy)]
 pub(crate) enum Work {
     /// `ParseComplete`, parsed.
     Bare,

@@ -1,12 +1,12 @@
 //! Arrays, whose elements are bytes.
 
 use crate::codec::Codec;
-use crate::fault::Fault;
+use crate::fault::{Fault, add};
 use crate::shown::{Show, Shown, show_walk};
 use crate::word::{Word, Words};
 use pgp_base::{Buffer, Error, IsNull};
 use pgp_types::{ArrayDimension, array_from_sql, array_to_sql};
-use std::alloc::{AllocError, Global};
+use std::alloc::Global;
 
 /// The dimensions of a list, two numbers each.
 fn dimensions(alloc: Global, list: &[Word]) -> Result<Vec<ArrayDimension>, Fault> {
@@ -15,9 +15,7 @@ fn dimensions(alloc: Global, list: &[Word]) -> Result<Vec<ArrayDimension>, Fault
         let mut words = Words::new(pair);
         let len = words.number()?;
         let lower_bound = words.number()?;
-        dimensions
-            .push(ArrayDimension { len, lower_bound })
-            .map_err(AllocError::from)?;
+        add(&mut dimensions, ArrayDimension { len, lower_bound })?;
     }
     Ok(dimensions)
 }
@@ -26,7 +24,7 @@ fn dimensions(alloc: Global, list: &[Word]) -> Result<Vec<ArrayDimension>, Fault
 pub fn elements<'w>(alloc: Global, list: &'w [Word]) -> Result<Vec<Option<&'w [u8]>>, Fault> {
     let mut elements = Vec::new(alloc);
     for word in list {
-        elements.push(word.nullable()?).map_err(AllocError::from)?;
+        add(&mut elements, word.nullable()?)?;
     }
     Ok(elements)
 }

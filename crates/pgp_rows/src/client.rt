@@ -2,7 +2,7 @@
 
 use crate::arrays::elements;
 use crate::codec::Codec;
-use crate::fault::{Fault, done};
+use crate::fault::{Fault, add, done};
 use crate::shown::Shown;
 use crate::word::{Word, Words};
 use pgp_base::{Buffer, Error, IsNull};
@@ -11,7 +11,7 @@ use pgp_frontend::{
     copy_fail, describe, execute, flush, parse, password_message, query, sasl_initial_response,
     sasl_response, ssl_request, startup_message, startup_message_version, sync, terminate,
 };
-use std::alloc::{AllocError, Global};
+use std::alloc::Global;
 use std::num::ParseIntError;
 use std::str::FromStr;
 
@@ -23,7 +23,7 @@ pub fn numbers<N: FromStr<Err = ParseIntError> + Drop>(
     let mut numbers = Vec::new(alloc);
     for word in list.chunks(1) {
         let number = Words::new(word).number::<N>()?;
-        numbers.push(number).map_err(AllocError::from)?;
+        add(&mut numbers, number)?;
     }
     Ok(numbers)
 }
@@ -35,7 +35,7 @@ fn parameters<'w>(alloc: Global, list: &'w [Word]) -> Result<Vec<(&'w str, &'w s
         let mut words = Words::new(pair);
         let name = words.text()?;
         let value = words.text()?;
-        pairs.push((name, value)).map_err(AllocError::from)?;
+        add(&mut pairs, (name, value))?;
     }
     Ok(pairs)
 }

@@ -2,7 +2,7 @@
 
 use crate::client_parts::show_any;
 use crate::client_steps::{Grammar, Kinds};
-use crate::fault::Fault;
+use crate::fault::{Fault, add};
 use crate::row::Row;
 use crate::shown::{Shown, same};
 use crate::word::{Word, Words, joined, words_of};
@@ -11,7 +11,7 @@ use pgp_base::{Error, Window};
 use pgp_server::{
     AnyMessage, ClientError, ClientMessages, PasswordKind, forward_any, read_session,
 };
-use std::alloc::{AllocError, Global};
+use std::alloc::Global;
 
 /// More messages than a row has.
 const MOST: usize = 100;
@@ -58,8 +58,10 @@ fn forwards(
         let left = reader.rest().len();
         match grammar.next(&mut reader, kinds.first()) {
             Ok(Some((message, stood))) => {
-                is_forwarded(alloc, &message, stood)?;
+                let forwarded = is_forwarded(alloc, &message, stood);
                 kinds.pass(&message);
+                drop(message);
+                forwarded?;
             }
             Ok(None) => return Ok(()),
             Err(_) => {
@@ -172,7 +174,7 @@ fn kinds_of(alloc: Global, list: &[Word]) -> Result<Vec<PasswordKind>, Fault> {
         } else {
             return Err(Fault::Row);
         };
-        kinds.push(kind).map_err(AllocError::from)?;
+        add(&mut kinds, kind)?;
     }
     Ok(kinds)
 }

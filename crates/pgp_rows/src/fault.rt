@@ -50,3 +50,11 @@ pub fn done(answer: Result<(), Error>) -> Result<(), Fault> {
         Err(e) => Err(Fault::Refused(e)),
     }
 }
+
+/// Adds an item to a list.
+pub fn add<T: Drop>(list: &mut Vec<T>, item: T) -> Result<(), Fault> {
+    match list.push(item) {
+        Ok(()) => Ok(()),
+        Err(_) => Err(Fault::Memory),
+    }
+}

@@ -1,12 +1,12 @@
 //! Bit strings, and lists of keys and values.
 
 use crate::codec::Codec;
-use crate::fault::{Fault, done};
+use crate::fault::{Fault, add, done};
 use crate::shown::{Show, Shown, show_walk};
 use crate::word::{Word, Words};
 use pgp_base::Buffer;
 use pgp_types::{hstore_from_sql, hstore_to_sql, varbit_from_sql, varbit_to_sql};
-use std::alloc::{AllocError, Global};
+use std::alloc::Global;
 
 fn write_varbit<B: Buffer>(words: &mut Words<'_>, buf: &mut B) -> Result<(), Fault> {
     let len = words.number()?;
@@ -40,7 +40,7 @@ fn pairs<'w>(alloc: Global, list: &'w [Word]) -> Result<Vec<(&'w str, Option<&'w
         let mut words = Words::new(pair);
         let key = words.text()?;
         let value = text_or_null(&mut words)?;
-        pairs.push((key, value)).map_err(AllocError::from)?;
+        add(&mut pairs, (key, value))?;
     }
     Ok(pairs)
 }

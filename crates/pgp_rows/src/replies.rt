@@ -3,7 +3,7 @@
 use crate::arrays::elements;
 use crate::client::{letter, numbers};
 use crate::codec::{Codec, check_written};
-use crate::fault::{Fault, done};
+use crate::fault::{Fault, add, done};
 use crate::row::Row;
 use crate::shown::Shown;
 use crate::word::{Word, Words};
@@ -20,13 +20,13 @@ use pgp_reply::{
     parameter_description, parameter_status, parse_complete, portal_suspended, ready_for_query,
     row_description,
 };
-use std::alloc::{AllocError, Global};
+use std::alloc::Global;
 
 /// The texts of a list.
 fn texts(alloc: Global, list: &[Word]) -> Result<Vec<&[u8]>, Fault> {
     let mut texts = Vec::new(alloc);
     for word in list {
-        texts.push(word.bytes()?).map_err(AllocError::from)?;
+        add(&mut texts, word.bytes()?)?;
     }
     Ok(texts)
 }
@@ -38,9 +38,7 @@ fn fields(alloc: Global, list: &[Word]) -> Result<Vec<ErrorField<'_>>, Fault> {
         let mut words = Words::new(pair);
         let code = letter(&mut words)?;
         let value = words.bytes()?;
-        fields
-            .push(ErrorField { code, value })
-            .map_err(AllocError::from)?;
+        add(&mut fields, ErrorField { code, value })?;
     }
     Ok(fields)
 }
@@ -62,7 +60,7 @@ fn column(part: &[Word]) -> Result<Column<'_>, Fault> {
 fn columns(alloc: Global, list: &[Word]) -> Result<Vec<Column<'_>>, Fault> {
     let mut columns = Vec::new(alloc);
     for part in list.chunks(7) {
-        columns.push(column(part)?).map_err(AllocError::from)?;
+        add(&mut columns, column(part)?)?;
     }
     Ok(columns)
 }
@@ -97,6 +95,39 @@ fn write_negotiation<B: Buffer>(
     done(negotiate_protocol_version(version, &options, buf))
 }
 
+/// A message that is a list of fields.
+fn write_fields<B: Buffer>(
+    alloc: Global,
+    name: &str,
+    list: &[Word],
+    buf: &mut B,
+) -> Result<(), Fault> {
+    let fields = fields(alloc, list)?;
+    if name == "error_response" {
+        return done(error_response(&fields, buf));
+    }
+    done(notice_response(&fields, buf))
+}
+
+/// A message that is a list.
+fn write_listed<B: Buffer>(
+    alloc: Global,
+    name: &str,
+    list: &[Word],
+    buf: &mut B,
+) -> Result<(), Fault> {
+    match name {
+        "authentication_sasl" => done(authentication_sasl(&texts(alloc, list)?, buf)),
+        "data_row" => done(data_row(&elements(alloc, list)?, buf)),
+        "error_response" | "notice_response" => write_fields(alloc, name, list, buf),
+        "parameter_description" => {
+            done(parameter_description(&numbers::<u32>(alloc, list)?, buf))
+        }
+        "row_description" => done(row_description(&columns(alloc, list)?, buf)),
+        _ => Err(Fault::Row),
+    }
+}
+
 /// A message with a list.
 fn write_list<B: Buffer>(
     alloc: Global,
@@ -105,18 +136,9 @@ fn write_list<B: Buffer>(
     buf: &mut B,
 ) -> Result<(), Fault> {
     match name {
-        "authentication_sasl" => done(authentication_sasl(&texts(alloc, words.list()?)?, buf)),
         "copy_in_response" | "copy_out_response" => write_copy(alloc, name, words, buf),
-        "data_row" => done(data_row(&elements(alloc, words.list()?)?, buf)),
-        "error_response" => done(error_response(&fields(alloc, words.list()?)?, buf)),
         "negotiate_protocol_version" => write_negotiation(alloc, words, buf),
-        "notice_response" => done(notice_response(&fields(alloc, words.list()?)?, buf)),
-        "parameter_description" => {
-            let types = numbers::<u32>(alloc, words.list()?)?;
-            done(parameter_description(&types, buf))
-        }
-        "row_description" => done(row_description(&columns(alloc, words.list()?)?, buf)),
-        _ => Err(Fault::Row),
+        _ => write_listed(alloc, name, words.list()?, buf),
     }
 }
 

@@ -57,21 +57,30 @@ fn show_detail(refusal: &ScramError, out: &mut Shown) -> Result<(), Fault> {
     }
 }
 
+/// Shows the name of a refusal, and what it says beside it.
+fn show_refusal(refusal: &ScramError, out: &mut Shown) -> Result<(), Fault> {
+    let name = format!(in out.alloc(); "{refusal}")?;
+    out.word(name.as_str())?;
+    show_detail(refusal, out)
+}
+
+/// Shows how a step ended.
+fn show_step(outcome: &Result<(), ScramError>, out: &mut Shown) -> Result<(), Fault> {
+    match outcome {
+        Ok(()) => out.word("ok"),
+        Err(refusal) => show_refusal(refusal, out),
+    }
+}
+
 /// Shows how a step ended, and how many codes were made until then.
 fn show_outcome(
     outcome: Result<(), ScramError>,
     client: &ScramSha256<Global>,
     out: &mut Shown,
 ) -> Result<(), Fault> {
-    match outcome {
-        Ok(()) => out.word("ok")?,
-        Err(refusal) => {
-            let name = format!(in out.alloc(); "{refusal}")?;
-            out.word(name.as_str())?;
-            show_detail(&refusal, out)?;
-            drop(refusal);
-        }
-    }
+    let shown = show_step(&outcome, out);
+    drop(outcome);
+    shown?;
     out.number(client.hmacs())
 }
 
@@ -111,6 +120,25 @@ fn show_end(client: &mut ScramSha256<Global>, out: &mut Shown) -> Result<(), Fau
     }
 }
 
+/// Shows how a step on the server's last text ends, behind which there is nothing to send and each step is out of turn.
+fn show_last(client: &mut ScramSha256<Global>, text: &[u8], out: &mut Shown) -> Result<(), Fault> {
+    show_outcome(client.finish(text), client, out)?;
+    show_text_left(client, false, out)?;
+    show_end(client, out)
+}
+
+/// `FIRST FINAL`: the client's texts, and how it ends.
+fn show_steps(
+    client: &mut ScramSha256<Global>,
+    words: &mut Words<'_>,
+    out: &mut Shown,
+) -> Result<(), Fault> {
+    show_message(client, out)?;
+    show_outcome(client.update(words.bytes()?), client, out)?;
+    show_message(client, out)?;
+    show_last(client, words.bytes()?, out)
+}
+
 /// `exchange PASSWORD BINDING NONCE FIRST FINAL`: the client's texts, and how it ends.
 pub fn show_exchange<P: SaslPrep>(
     alloc: Global,
@@ -121,12 +149,7 @@ pub fn show_exchange<P: SaslPrep>(
     let password = words.bytes()?;
     let binding = binding_of(alloc, words)?;
     let mut client = client_of(alloc, password, binding, words.text()?, prep)?;
-    show_message(&client, out)?;
-    show_outcome(client.update(words.bytes()?), &client, out)?;
-    show_message(&client, out)?;
-    show_outcome(client.finish(words.bytes()?), &client, out)?;
-    show_text_left(&client, false, out)?;
-    show_end(&mut client, out)
+    show_steps(&mut client, words, out)
 }
 
 /// The client of the Rust crate's tests.
@@ -140,32 +163,37 @@ fn known_client(alloc: Global) -> Result<ScramSha256<Global>, Fault> {
     )
 }
 
+/// Shows how a step on the server's first text ends, behind which each further step is out of turn.
+fn show_first(client: &mut ScramSha256<Global>, text: &[u8], out: &mut Shown) -> Result<(), Fault> {
+    let outcome = client.update(text);
+    let is_answered = outcome.is_ok();
+    show_outcome(outcome, client, out)?;
+    show_text_left(client, is_answered, out)?;
+    show_end(client, out)
+}
+
 /// `update FIRST`: the Rust crate's client gets a first text.
 fn show_update(alloc: Global, words: &mut Words<'_>, out: &mut Shown) -> Result<(), Fault> {
-    let mut client = known_client(alloc)?;
-    let outcome = client.update(words.bytes()?);
-    let is_answered = outcome.is_ok();
-    show_outcome(outcome, &client, out)?;
-    show_text_left(&client, is_answered, out)?;
-    show_end(&mut client, out)
+    let text = words.bytes()?;
+    show_first(&mut known_client(alloc)?, text, out)
 }
 
 /// `answer FIRST`: what the Rust crate's client answers to a first text.
 fn show_answer(alloc: Global, words: &mut Words<'_>, out: &mut Shown) -> Result<(), Fault> {
+    let text = words.bytes()?;
     let mut client = known_client(alloc)?;
-    show_outcome(client.update(words.bytes()?), &client, out)?;
+    show_outcome(client.update(text), &client, out)?;
     show_message(&client, out)
 }
 
 /// `finish FINAL`: the Rust crate's client gets a last text behind a first one with one round.
 fn show_finish(alloc: Global, words: &mut Words<'_>, out: &mut Shown) -> Result<(), Fault> {
+    let text = words.bytes()?;
     let mut client = known_client(alloc)?;
     if client.update(ONE_ROUND).is_err() {
         return Err(Fault::Row);
     }
-    show_outcome(client.finish(words.bytes()?), &client, out)?;
-    show_text_left(&client, false, out)?;
-    show_end(&mut client, out)
+    show_last(&mut client, text, out)
 }
 
 /// Shows what a call comes to.

@@ -87,24 +87,50 @@ fn show_end(server: &mut ScramServer<Global>, out: &mut Shown) -> Result<(), Fau
     }
 }
 
+/// Shows the server's answer to a first text, and tells whether the exchange goes on.
+fn show_first(
+    server: &mut ScramServer<Global>,
+    text: &[u8],
+    out: &mut Shown,
+) -> Result<bool, Fault> {
+    match server.first(text) {
+        Ok(answer) => {
+            show_text(&answer, out)?;
+            Ok(true)
+        }
+        Err(e) => {
+            out.number(e)?;
+            Ok(false)
+        }
+    }
+}
+
+/// Shows the server's answer to a final text.
+fn show_final(server: &mut ScramServer<Global>, text: &[u8], out: &mut Shown) -> Result<(), Fault> {
+    match server.finish(text) {
+        Ok(answer) => show_text(&answer, out),
+        Err(e) => out.number(e),
+    }
+}
+
+/// `FIRST FINAL`: the server's texts, or its refusal.
+fn show_steps(
+    server: &mut ScramServer<Global>,
+    words: &mut Words<'_>,
+    out: &mut Shown,
+) -> Result<(), Fault> {
+    let first = words.bytes()?;
+    let last = words.bytes()?;
+    if show_first(server, first, out)? {
+        show_final(server, last, out)?;
+    }
+    show_end(server, out)
+}
+
 /// `serve SERVED FIRST FINAL`: the server's texts, or its refusal.
 fn show_serve(alloc: Global, words: &mut Words<'_>, out: &mut Shown) -> Result<(), Fault> {
     let mut server = server_of(alloc, &read_served(words)?)?;
-    let first = words.bytes()?;
-    let last = words.bytes()?;
-    let answer = match server.first(first) {
-        Ok(answer) => answer,
-        Err(e) => {
-            out.number(e)?;
-            return show_end(&mut server, out);
-        }
-    };
-    show_text(&answer, out)?;
-    match server.finish(last) {
-        Ok(text) => show_text(&text, out)?,
-        Err(e) => out.number(e)?,
-    }
-    show_end(&mut server, out)
+    show_steps(&mut server, words, out)
 }
 
 /// How often each outcome came.

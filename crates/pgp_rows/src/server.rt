@@ -40,8 +40,9 @@ where
 {
     match read {
         Ok(Some(message)) => {
-            show_message(&message, out)?;
+            let shown = show_message(&message, out);
             drop(message);
+            shown?;
             Ok(true)
         }
         Ok(None) => Ok(false),
@@ -160,20 +161,32 @@ fn at_each_cut(alloc: Global, bytes: &[u8], wanted: &str) -> Result<(), Fault> {
     Ok(())
 }
 
+/// A way to read all of a server's bytes.
+#[derive(Clone, Copy)]
+enum Way {
+    Parse,
+    InPlace,
+    Rows,
+    Bytes,
+}
+
+/// The bytes, read so, come to this.
+fn comes_to(alloc: Global, way: Way, bytes: &[u8], wanted: &str) -> Result<(), Fault> {
+    let mut out = Shown::new(alloc);
+    match way {
+        Way::Parse => by_parse(bytes, &mut out)?,
+        Way::InPlace => in_place(bytes, &mut out)?,
+        Way::Rows => by_rows(bytes, &mut out)?,
+        Way::Bytes => by_bytes(bytes, &mut out)?,
+    }
+    same(wanted, out)
+}
+
 /// A row of a server's bytes.
 pub fn check_server(alloc: Global, row: &Row<'_>) -> Result<(), Fault> {
     let bytes = joined(alloc, &words_of(alloc, row.left)?)?;
-    let mut out = Shown::new(alloc);
-    by_parse(&bytes, &mut out)?;
-    same(row.right, out)?;
-    let mut out = Shown::new(alloc);
-    in_place(&bytes, &mut out)?;
-    same(row.right, out)?;
-    let mut out = Shown::new(alloc);
-    by_rows(&bytes, &mut out)?;
-    same(row.right, out)?;
-    let mut out = Shown::new(alloc);
-    by_bytes(&bytes, &mut out)?;
-    same(row.right, out)?;
+    for way in [Way::Parse, Way::InPlace, Way::Rows, Way::Bytes] {
+        comes_to(alloc, way, &bytes, row.right)?;
+    }
     at_each_cut(alloc, &bytes, row.right)
 }

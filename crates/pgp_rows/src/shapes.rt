@@ -1,14 +1,14 @@
 //! Points, boxes and paths. A coordinate is told as its eight bytes.
 
 use crate::codec::Codec;
-use crate::fault::{Fault, done};
+use crate::fault::{Fault, add, done};
 use crate::shown::{Show, Shown, show_walk};
 use crate::word::{Word, Words};
 use pgp_base::Buffer;
 use pgp_types::{
     Point, box_from_sql, box_to_sql, path_from_sql, path_to_sql, point_from_sql, point_to_sql,
 };
-use std::alloc::{AllocError, Global};
+use std::alloc::Global;
 
 fn coordinate(words: &mut Words<'_>) -> Result<u64, Fault> {
     Ok(u64::from_be_bytes(words.block()?))
@@ -35,7 +35,7 @@ fn points(alloc: Global, list: &[Word]) -> Result<Vec<(u64, u64)>, Fault> {
         let mut words = Words::new(pair);
         let x = coordinate(&mut words)?;
         let y = coordinate(&mut words)?;
-        points.push((x, y)).map_err(AllocError::from)?;
+        add(&mut points, (x, y))?;
     }
     Ok(points)
 }

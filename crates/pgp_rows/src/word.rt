@@ -1,6 +1,6 @@
 //! The words of a row.
 
-use crate::fault::Fault;
+use crate::fault::{Fault, add};
 use crate::shown::Shown;
 use std::alloc::{AllocError, Global};
 use std::str::FromStr;
@@ -65,8 +65,7 @@ fn unescape(text: &str, out: &mut Vec<u8>) -> Result<(), Fault> {
             out.extend_from_slice(piece.as_bytes())?;
         } else {
             let (digits, rest) = piece.split_at_checked(2).ok_or(Fault::Row)?;
-            out.push(u8::from_str_radix(digits, 16)?)
-                .map_err(AllocError::from)?;
+            add(out, u8::from_str_radix(digits, 16)?)?;
             out.extend_from_slice(rest.as_bytes())?;
         }
         is_first = false;
@@ -106,7 +105,7 @@ pub fn words_of(alloc: Global, text: &str) -> Result<Vec<Word>, Fault> {
     let mut is_quoted = false;
     for piece in text.split('"') {
         if is_quoted {
-            words.push(quoted(alloc, piece)?).map_err(AllocError::from)?;
+            add(&mut words, quoted(alloc, piece)?)?;
         } else {
             put_bare(alloc, piece, &mut words)?;
         }

@@ -2,7 +2,11 @@
 #![tactic(auto)]
 
 #[cfg(test)]
+mod checks;
+#[cfg(test)]
 mod failing;
+#[cfg(test)]
+mod process;
 #[cfg(test)]
 mod trace;
 #[cfg(test)]

@@ -1,10 +1,10 @@
 //! What no clause says: that the listing comes, whatever fails and wherever the stream is cut. Expected lines are after the message
 //! formats of the PostgreSQL manual.
 
+use crate::checks::{holds, refused_more, same};
 use crate::failing::{FailingReader, FailingWriter, PieceReader};
 use crate::trace_objects::{ANSWER_OBJECTS, ANSWERS, OBJECTS, OPEN_OBJECTS};
 use crate::trace_session::{LATER, LATER_LINES, LINES, OPEN_LINES, OTHER, OTHER_LINES, SESSION};
-use pgp_base::Memory;
 use pgp_line::style::{Form, Style};
 use pgp_program::fault::Fault;
 use pgp_server::PasswordKind;
@@ -12,8 +12,9 @@ use pgp_test_alloc::Refusing;
 use pgp_trace::run::run;
 use pgp_trace::side::Side;
 use pgp_trace::stream::list;
+use std::alloc::Global;
+use std::io::Read;
 use std::process::Abort;
-use std::test::Fail;
 
 /// A setting, a state and a key, and the front of another state.
 const STREAM: &[u8] =
@@ -36,21 +37,48 @@ const SHORT: Style = Style {
     secrets: false,
 };
 
+/// The bytes of this side, in pieces behind the bytes whose bits are set, come to these lines.
+fn lists(rt: &impl Abort, alloc: Global, side: Side<'_>, bytes: &[u8], cuts: u16, lines: &str) {
+    let mut input = PieceReader {
+        rest: bytes,
+        cuts,
+        interrupted: false,
+    };
+    let mut output = Vec::new(alloc);
+    let answer = list(alloc, SHORT, side, &mut input, &mut output);
+    same(rt, answer, Ok(()));
+    holds(rt, output.as_slice() == lines.as_bytes());
+}
+
 #[test]
 fn a_stream_is_listed_however_it_is_cut(rt: HostRuntime) {
     for cuts in 0..512u16 {
-        let mut input = PieceReader {
-            rest: STREAM,
-            cuts: cuts << 6,
-            interrupted: false,
-        };
-        let mut output = Vec::new(rt.alloc());
-        assert_eq!(rt;
-            list(rt.alloc(), SHORT, Side::Server, &mut input, &mut output),
-            Ok(())
-        );
-        assert!(rt; output.as_slice() == ALL.as_bytes());
+        lists(&rt, rt.alloc(), Side::Server, STREAM, cuts << 6, ALL);
     }
+}
+
+/// What a run of the program comes to: its status, what it writes, and what it says on standard error.
+#[derive(Clone, Copy)]
+struct Outcome<'a> {
+    status: u8,
+    written: &'a str,
+    told: &'a str,
+}
+
+/// The program on these words and this input comes to this.
+fn comes_to<R: Read>(
+    rt: &impl Abort,
+    alloc: Global,
+    words: &[&str],
+    input: &mut R,
+    wanted: &Outcome<'_>,
+) {
+    let mut output = Vec::new(alloc);
+    let mut errors = Vec::new(alloc);
+    let status = run(alloc, words, input, &mut output, &mut errors);
+    same(rt, status, wanted.status);
+    holds(rt, output.as_slice() == wanted.written.as_bytes());
+    holds(rt, errors.as_slice() == wanted.told.as_bytes());
 }
 
 /// The lines of the frames that are whole in so many bytes of the stream.
@@ -66,23 +94,17 @@ fn lines_of(end: usize) -> &'static str {
 #[test]
 fn what_came_whole_is_listed_where_a_read_fails(rt: HostRuntime) {
     for end in 0..=30usize {
+        let wanted = Outcome {
+            status: 1,
+            written: lines_of(end),
+            told: "pgtrace: read failed\n",
+        };
         for step in [1usize, 7] {
-            let mut output = Vec::new(rt.alloc());
-            let mut errors = Vec::new(rt.alloc());
             let mut input = FailingReader {
                 rest: &STREAM[..end],
                 step,
             };
-            let status = run(
-                rt.alloc(),
-                &["server"],
-                &mut input,
-                &mut output,
-                &mut errors,
-            );
-            assert_eq!(rt; status, 1);
-            assert!(rt; output.as_slice() == lines_of(end).as_bytes());
-            assert!(rt; errors.as_slice() == b"pgtrace: read failed\n".as_slice());
+            comes_to(&rt, rt.alloc(), &["server"], &mut input, &wanted);
         }
     }
 }
@@ -96,29 +118,55 @@ fn a_failing_writer_took_a_front(rt: HostRuntime) {
             taken: Vec::new(rt.alloc()),
         };
         let answer = list(rt.alloc(), SHORT, Side::Server, &mut input, &mut output);
-        assert_eq!(rt; answer, Err(Fault::Write));
-        assert!(rt; output.taken.as_slice() == &ALL.as_bytes()[..left]);
+        same(&rt, answer, Err(Fault::Write));
+        holds(&rt, output.taken.as_slice() == &ALL.as_bytes()[..left]);
     }
+}
+
+/// Lists the bytes of this side where the request of memory of this number is refused, and answers whether that came: a front of the
+/// lines is written then, and else all of them.
+fn is_refused(
+    rt: &impl Abort,
+    alloc: Global,
+    side: Side<'_>,
+    bytes: &[u8],
+    number: u64,
+    lines: &str,
+) -> bool {
+    let heap = Refusing::new(alloc, number);
+    let mut input = bytes;
+    let mut output = Vec::new(alloc);
+    let answer = list(&heap, SHORT, side, &mut input, &mut output);
+    let is_refused = heap.until_refusal.get() == 0;
+    if is_refused {
+        same(rt, answer, Err(Fault::Memory));
+        holds(rt, lines.as_bytes().starts_with(output.as_slice()));
+    } else {
+        same(rt, answer, Ok(()));
+        holds(rt, output.as_slice() == lines.as_bytes());
+    }
+    is_refused
+}
+
+/// How many requests of memory a listing makes, each of which is refused in turn.
+fn refusals_of(rt: &impl Abort, alloc: Global, side: Side<'_>, bytes: &[u8], lines: &str) -> u64 {
+    let mut refusals = 0u64;
+    for number in 1..1000u64 {
+        if !is_refused(rt, alloc, side, bytes, number, lines) {
+            break;
+        }
+        refusals = number;
+    }
+    refusals
 }
 
 #[test]
 fn each_allocation_is_refused(rt: HostRuntime) {
-    let mut refusals = 0u64;
-    for number in 1..1000u64 {
-        let heap = Refusing::new(rt.alloc(), number);
-        let mut input = STREAM;
-        let mut output = Vec::new(rt.alloc());
-        let answer = list(&heap, SHORT, Side::Server, &mut input, &mut output);
-        if heap.until_refusal.get() != 0 {
-            assert_eq!(rt; answer, Ok(()));
-            assert!(rt; output.as_slice() == ALL.as_bytes());
-            break;
-        }
-        assert_eq!(rt; answer, Err(Fault::Memory));
-        assert!(rt; ALL.as_bytes().starts_with(output.as_slice()));
-        refusals = number;
-    }
-    assert!(rt; refusals > 2, "{refusals}");
+    refused_more(
+        &rt,
+        refusals_of(&rt, rt.alloc(), Side::Server, STREAM, ALL),
+        2,
+    );
 }
 
 const OPEN: &str =
@@ -142,13 +190,13 @@ fn words_decide_what_runs(rt: HostRuntime) {
         (&["Server"], 2, "", USAGE),
     ];
     for (words, status, written, told) in runs {
+        let wanted = Outcome {
+            status,
+            written,
+            told,
+        };
         let mut input = STREAM;
-        let mut output = Vec::new(rt.alloc());
-        let mut errors = Vec::new(rt.alloc());
-        let answer = run(rt.alloc(), words, &mut input, &mut output, &mut errors);
-        assert_eq!(rt; answer, status);
-        assert!(rt; output.as_slice() == written.as_bytes());
-        assert!(rt; errors.as_slice() == told.as_bytes());
+        comes_to(&rt, rt.alloc(), words, &mut input, &wanted);
     }
 }
 
@@ -164,47 +212,26 @@ const CLIENT_UNTOLD: &str =
 
 #[test]
 fn a_clients_stream_is_listed_however_it_is_cut(rt: HostRuntime) {
+    let side = Side::Client {
+        opened: false,
+        kinds: &[PasswordKind::Password],
+    };
     for cuts in 0..512u16 {
-        let mut input = PieceReader {
-            rest: CLIENT,
-            cuts: cuts << 4,
-            interrupted: false,
-        };
-        let side = Side::Client {
-            opened: false,
-            kinds: &[PasswordKind::Password],
-        };
-        let mut output = Vec::new(rt.alloc());
-        assert_eq!(rt;
-            list(rt.alloc(), SHORT, side, &mut input, &mut output),
-            Ok(())
-        );
-        assert!(rt; output.as_slice() == CLIENT_ALL.as_bytes());
+        lists(&rt, rt.alloc(), side, CLIENT, cuts << 4, CLIENT_ALL);
     }
 }
 
 #[test]
 fn each_allocation_of_a_clients_listing_is_refused(rt: HostRuntime) {
-    let mut refusals = 0u64;
-    for number in 1..1000u64 {
-        let heap = Refusing::new(rt.alloc(), number);
-        let mut input = CLIENT;
-        let side = Side::Client {
-            opened: false,
-            kinds: &[],
-        };
-        let mut output = Vec::new(rt.alloc());
-        let answer = list(&heap, SHORT, side, &mut input, &mut output);
-        if heap.until_refusal.get() != 0 {
-            assert_eq!(rt; answer, Ok(()));
-            assert!(rt; output.as_slice() == CLIENT_UNTOLD.as_bytes());
-            break;
-        }
-        assert_eq!(rt; answer, Err(Fault::Memory));
-        assert!(rt; CLIENT_UNTOLD.as_bytes().starts_with(output.as_slice()));
-        refusals = number;
-    }
-    assert!(rt; refusals > 2, "{refusals}");
+    let side = Side::Client {
+        opened: false,
+        kinds: &[],
+    };
+    refused_more(
+        &rt,
+        refusals_of(&rt, rt.alloc(), side, CLIENT, CLIENT_UNTOLD),
+        2,
+    );
 }
 
 /// The kinds of the session's first four messages of tag `p`.
@@ -248,14 +275,14 @@ const JSON_KINDS: &[&str] = &[
 ];
 
 /// Runs the program on these words and bytes: it writes these lines, and nothing else.
-fn writes<A: Memory>(rt: &impl Abort, alloc: A, words: &[&str], bytes: &[u8], lines: &str) {
+fn writes(rt: &impl Abort, alloc: Global, words: &[&str], bytes: &[u8], lines: &str) {
+    let wanted = Outcome {
+        status: 0,
+        written: lines,
+        told: "",
+    };
     let mut input = bytes;
-    let mut output = Vec::new(alloc);
-    let mut errors = Vec::new(alloc);
-    let status = run(alloc, words, &mut input, &mut output, &mut errors);
-    assert_eq!(rt; status, 0);
-    assert!(rt; output.as_slice() == lines.as_bytes());
-    assert!(rt; errors.is_empty());
+    comes_to(rt, alloc, words, &mut input, &wanted);
 }
 
 #[test]

@@ -1,41 +1,15 @@
+use crate::checks::{holds, refused_more, same};
 use crate::failing::{FailingReader, FailingWriter, PieceReader};
+use crate::process::Words;
 use pgp_program::fault::Fault;
 use pgp_test_alloc::Refusing;
 use pgp_wire::backend::backend;
 use pgp_wire::fault::complaint;
 use pgp_wire::run::{run, run_own};
 use std::alloc::Global;
-use std::env::FillError;
-use std::rt::Env;
+use std::io::Read;
+use std::process::Abort;
 use std::test::Fail;
-
-/// The words of a process, the first of which is its name.
-#[derive(Drop)]
-struct Words {
-    words: &'static [&'static [u8]],
-}
-
-impl Env for Words {
-    fn arg(&self, i: usize, buf: &mut [u8]) -> Result<usize, FillError> {
-        let Some(word) = self.words.get(i) else {
-            return Err(FillError::NotPresent);
-        };
-        let n = word.len();
-        if buf.len() < n {
-            return Err(FillError::TooLong);
-        }
-        buf[..n].copy_from_slice(word);
-        Ok(n)
-    }
-
-    fn var(&self, _name: &str, _buf: &mut [u8]) -> Result<usize, FillError> {
-        Err(FillError::NotPresent)
-    }
-
-    fn var_at(&self, _i: usize, _buf: &mut [u8]) -> Result<usize, FillError> {
-        Err(FillError::NotPresent)
-    }
-}
 
 const FRAMES: [(&[u8], &str); 32] = [
     (b"1\x00\x00\x00\x04", "ParseComplete"),
@@ -114,14 +88,15 @@ const FRAMES: [(&[u8], &str); 32] = [
     ),
 ];
 
-fn listed(alloc: Global, mut input: &[u8]) -> Result<Vec<u8>, Fault> {
+/// The engine lists this input so.
+fn lists<R: Read>(rt: &impl Abort, alloc: Global, input: &mut R, lines: &[u8]) {
     let mut output = Vec::new(alloc);
-    backend(alloc, &mut input, &mut output)?;
-    Ok(output)
+    same(rt, backend(alloc, input, &mut output), Ok(0));
+    same(rt, output.as_slice(), lines);
 }
 
 #[test]
-fn engine_reads_all_and_lists_each_frame(rt: HostRuntime) -> Result<(), Fail> {
+fn engine_reads_all_and_lists_each_frame(rt: HostRuntime) {
     let rows: [(&[u8], &str); 4] = [
         (
             b"\x5a\0\0\0\x06\x49\0\x31\0\0\0\x04",
@@ -134,55 +109,69 @@ fn engine_reads_all_and_lists_each_frame(rt: HostRuntime) -> Result<(), Fail> {
             "fault 5\nfault 6\nfault 7\nrest 2\n",
         ),
     ];
-    for (input, output) in rows {
-        assert_eq!(rt; listed(rt.alloc(), input)?.as_slice(), output.as_bytes());
+    for (mut input, lines) in rows {
+        lists(&rt, rt.alloc(), &mut input, lines.as_bytes());
     }
-    Ok(())
 }
 
 #[test]
 fn engine_writes_all_32_names(rt: HostRuntime) -> Result<(), Fail> {
     let mut input = Vec::new(rt.alloc());
     let mut names = String::new(rt.alloc());
-    for (frame, name) in FRAMES {
+    for (frame, name) in &FRAMES {
         input.extend_from_slice(frame)?;
         names.push_str(name)?;
         names.push_str("\n")?;
     }
     names.push_str("rest 0\n")?;
-    assert_eq!(rt;
-        listed(rt.alloc(), input.as_slice())?.as_slice(),
-        names.as_bytes()
-    );
+    lists(&rt, rt.alloc(), &mut input.as_slice(), names.as_bytes());
     Ok(())
 }
 
 /// Four frames: two of them a message without a body.
 const FOUR: &[u8] = b"\x31\0\0\0\x04\x5a\0\0\0\x05I\x64\0\0\0\x06ab\x31\0\0\0\x04";
 
+/// What a run of the program comes to: its status, what it writes, and what it says on standard error.
+#[derive(Clone, Copy)]
+struct Outcome<'a> {
+    status: u8,
+    written: &'a str,
+    told: &'a str,
+}
+
+/// The program on these words and this input comes to this.
+fn comes_to<R: Read>(
+    rt: &impl Abort,
+    alloc: Global,
+    words: &[&str],
+    input: &mut R,
+    wanted: &Outcome<'_>,
+) {
+    let mut output = Vec::new(alloc);
+    let mut errors = Vec::new(alloc);
+    let status = run(alloc, words, input, &mut output, &mut errors);
+    same(rt, status, wanted.status);
+    same(rt, output.as_slice(), wanted.written.as_bytes());
+    same(rt, errors.as_slice(), wanted.told.as_bytes());
+}
+
+/// A read fails: nothing is written.
+const UNREAD: Outcome<'static> = Outcome {
+    status: 1,
+    written: "",
+    told: "pgwire: read failed\n",
+};
+
 // The frames that came whole before the read failed are not listed.
 #[test]
 fn lines_are_not_written_where_a_read_fails(rt: HostRuntime) {
     for end in 0..=23usize {
         for step in [1usize, 7] {
-            let mut output = Vec::new(rt.alloc());
-            let mut errors = Vec::new(rt.alloc());
             let mut input = FailingReader {
                 rest: &FOUR[..end],
                 step,
             };
-            assert_eq!(rt;
-                run(
-                    rt.alloc(),
-                    &["backend"],
-                    &mut input,
-                    &mut output,
-                    &mut errors
-                ),
-                1
-            );
-            assert!(rt; output.is_empty());
-            assert_eq!(rt; errors.as_slice(), b"pgwire: read failed\n".as_slice());
+            comes_to(&rt, rt.alloc(), &["backend"], &mut input, &UNREAD);
         }
     }
 }
@@ -196,11 +185,11 @@ fn engine_lists_a_stream_however_it_is_cut(rt: HostRuntime) {
             cuts,
             interrupted: false,
         };
-        let mut output = Vec::new(rt.alloc());
-        assert_eq!(rt; backend(rt.alloc(), &mut input, &mut output), Ok(0));
-        assert_eq!(rt;
-            output.as_slice(),
-            b"ParseComplete\nstopped rest 5\n".as_slice()
+        lists(
+            &rt,
+            rt.alloc(),
+            &mut input,
+            b"ParseComplete\nstopped rest 5\n",
         );
     }
 }
@@ -215,35 +204,34 @@ fn engine_lists_a_long_stream(rt: HostRuntime) -> Result<(), Fail> {
         lines.extend_from_slice(b"ParseComplete\n")?;
     }
     lines.extend_from_slice(b"rest 0\n")?;
-    let output = listed(rt.alloc(), input.as_slice())?;
-    assert_eq!(rt; output.len(), 1_120_007);
-    assert!(rt; output.as_slice() == lines.as_slice());
+    let mut output = Vec::new(rt.alloc());
+    backend(rt.alloc(), &mut input.as_slice(), &mut output)?;
+    same(&rt, output.len(), 1_120_007);
+    holds(&rt, output.as_slice() == lines.as_slice());
     Ok(())
+}
+
+/// A listing of 21 bytes.
+const LISTING: &[u8; 21] = b"ParseComplete\nrest 0\n";
+
+/// Lists into a writer that fails once it took so many bytes: this is answered.
+fn is_written(rt: &impl Abort, alloc: Global, left: usize, answer: Result<u8, Fault>) {
+    let mut input: &[u8] = b"\x31\0\0\0\x04";
+    let mut output = FailingWriter {
+        left,
+        taken: Vec::new(alloc),
+    };
+    same(rt, backend(alloc, &mut input, &mut output), answer);
+    same(rt, output.taken.as_slice(), &LISTING[..left.min(21)]);
 }
 
 #[test]
 fn engine_writes_with_a_fault(rt: HostRuntime) {
     // the listing has 21 bytes, and then comes the flush
-    let listing = b"ParseComplete\nrest 0\n";
     for left in 0..=21usize {
-        let mut input: &[u8] = b"\x31\0\0\0\x04";
-        let mut output = FailingWriter {
-            left,
-            taken: Vec::new(rt.alloc()),
-        };
-        assert_eq!(rt;
-            backend(rt.alloc(), &mut input, &mut output),
-            Err(Fault::Write)
-        );
-        assert_eq!(rt; output.taken.as_slice(), &listing[..left]);
+        is_written(&rt, rt.alloc(), left, Err(Fault::Write));
     }
-    let mut input: &[u8] = b"\x31\0\0\0\x04";
-    let mut output = FailingWriter {
-        left: 22,
-        taken: Vec::new(rt.alloc()),
-    };
-    assert_eq!(rt; backend(rt.alloc(), &mut input, &mut output), Ok(0));
-    assert_eq!(rt; output.taken.as_slice(), listing.as_slice());
+    is_written(&rt, rt.alloc(), 22, Ok(0));
 }
 
 const USAGE: &str =
@@ -288,15 +276,13 @@ fn words_decide_what_runs(rt: HostRuntime) {
         (&["escape", "literal"], 2, "", USAGE),
     ];
     for (words, status, written, told) in runs {
+        let wanted = Outcome {
+            status,
+            written,
+            told,
+        };
         let mut input: &[u8] = b"\x31\0\0\0\x04";
-        let mut output = Vec::new(rt.alloc());
-        let mut errors = Vec::new(rt.alloc());
-        assert_eq!(rt;
-            run(rt.alloc(), words, &mut input, &mut output, &mut errors),
-            status
-        );
-        assert_eq!(rt; output.as_slice(), written.as_bytes());
-        assert_eq!(rt; errors.as_slice(), told.as_bytes());
+        comes_to(&rt, rt.alloc(), words, &mut input, &wanted);
     }
 }
 
@@ -343,12 +329,10 @@ fn words_of_the_process_decide_what_runs(rt: HostRuntime) {
         let mut input: &[u8] = b"";
         let mut output = Vec::new(rt.alloc());
         let mut errors = Vec::new(rt.alloc());
-        assert_eq!(rt;
-            run_own(rt.alloc(), &env, &mut input, &mut output, &mut errors),
-            status
-        );
-        assert_eq!(rt; output.as_slice(), written);
-        assert_eq!(rt; errors.as_slice(), told.as_bytes());
+        let answer = run_own(rt.alloc(), &env, &mut input, &mut output, &mut errors);
+        same(&rt, answer, status);
+        same(&rt, output.as_slice(), written);
+        same(&rt, errors.as_slice(), told.as_bytes());
     }
 }
 
@@ -365,56 +349,45 @@ fn words_are_not_read_with_each_allocation_refused(rt: HostRuntime) {
         let mut errors = Vec::new(rt.alloc());
         let status = run_own(&heap, &env, &mut input, &mut output, &mut errors);
         if heap.until_refusal.get() != 0 {
-            assert_eq!(rt; status, 0);
-            assert_eq!(rt; output.as_slice(), b"'f''oo'\n".as_slice());
+            same(&rt, status, 0);
+            same(&rt, output.as_slice(), b"'f''oo'\n".as_slice());
             break;
         }
-        assert_eq!(rt; status, 1);
-        assert!(rt; output.is_empty());
-        assert_eq!(rt; errors.as_slice(), b"pgwire: out of memory\n".as_slice());
+        same(&rt, status, 1);
+        holds(&rt, output.is_empty());
+        same(
+            &rt,
+            errors.as_slice(),
+            b"pgwire: out of memory\n".as_slice(),
+        );
         refusals = number;
     }
-    assert!(rt; refusals > 4, "{refusals}");
+    refused_more(&rt, refusals, 4);
 }
 
 #[test]
 fn faults_are_told(rt: HostRuntime) {
-    let mut output = Vec::new(rt.alloc());
-    let mut errors = Vec::new(rt.alloc());
     let mut input = FailingReader {
         rest: b"111",
         step: 1,
     };
-    assert_eq!(rt;
-        run(
-            rt.alloc(),
-            &["backend"],
-            &mut input,
-            &mut output,
-            &mut errors
-        ),
-        1
-    );
-    assert!(rt; output.is_empty());
-    assert_eq!(rt; errors.as_slice(), b"pgwire: read failed\n".as_slice());
+    comes_to(&rt, rt.alloc(), &["backend"], &mut input, &UNREAD);
     let mut errors = Vec::new(rt.alloc());
     let mut input: &[u8] = b"";
     let mut output = FailingWriter {
         left: 2,
         taken: Vec::new(rt.alloc()),
     };
-    assert_eq!(rt;
-        run(
-            rt.alloc(),
-            &["backend"],
-            &mut input,
-            &mut output,
-            &mut errors
-        ),
-        1
+    let status = run(
+        rt.alloc(),
+        &["backend"],
+        &mut input,
+        &mut output,
+        &mut errors,
     );
-    assert_eq!(rt; errors.as_slice(), b"pgwire: write failed\n".as_slice());
-    assert_eq!(rt; complaint(Fault::Memory), "pgwire: out of memory\n");
+    same(&rt, status, 1);
+    same(&rt, errors.as_slice(), b"pgwire: write failed\n".as_slice());
+    same(&rt, complaint(Fault::Memory), "pgwire: out of memory\n");
 }
 
 #[test]
@@ -430,18 +403,39 @@ fn engine_writes_nothing_with_each_allocation_refused(rt: HostRuntime) {
         let refused = heap.until_refusal.get() == 0;
         // room that is asked for ahead may be refused and passed over
         if answer.is_ok() || !refused {
-            assert_eq!(rt; answer, Ok(0));
-            assert_eq!(rt; output.as_slice(), lines.as_bytes());
+            same(&rt, answer, Ok(0));
+            same(&rt, output.as_slice(), lines.as_bytes());
         } else {
-            assert_eq!(rt; answer, Err(Fault::Memory));
-            assert!(rt; output.is_empty());
+            same(&rt, answer, Err(Fault::Memory));
+            holds(&rt, output.is_empty());
             refusals = number;
         }
         if !refused {
             break;
         }
     }
-    assert!(rt; refusals > 2, "{refusals}");
+    refused_more(&rt, refusals, 2);
+}
+
+/// How many requests of memory a run on these words makes, each of which is refused in turn.
+fn refusals_of(rt: &impl Abort, alloc: Global, words: &[&str]) -> u64 {
+    let mut refusals = 0u64;
+    for number in 1..1000u64 {
+        let heap = Refusing::new(alloc, number);
+        let mut input: &[u8] = b"";
+        let mut output = Vec::new(alloc);
+        let mut errors = Vec::new(alloc);
+        let status = run(&heap, words, &mut input, &mut output, &mut errors);
+        if heap.until_refusal.get() != 0 {
+            same(rt, status, 0);
+            break;
+        }
+        same(rt, status, 1);
+        holds(rt, output.is_empty());
+        same(rt, errors.as_slice(), b"pgwire: out of memory\n".as_slice());
+        refusals = number;
+    }
+    refusals
 }
 
 #[test]
@@ -452,22 +446,6 @@ fn texts_are_not_printed_with_each_allocation_refused(rt: HostRuntime) {
         &["escape", "identifier", "f\"oo"],
     ];
     for words in commands {
-        let mut refusals = 0u64;
-        for number in 1..1000u64 {
-            let heap = Refusing::new(rt.alloc(), number);
-            let mut input: &[u8] = b"";
-            let mut output = Vec::new(rt.alloc());
-            let mut errors = Vec::new(rt.alloc());
-            let status = run(&heap, words, &mut input, &mut output, &mut errors);
-            if heap.until_refusal.get() != 0 {
-                assert_eq!(rt; status, 0);
-                break;
-            }
-            assert_eq!(rt; status, 1);
-            assert!(rt; output.is_empty());
-            assert_eq!(rt; errors.as_slice(), b"pgwire: out of memory\n".as_slice());
-            refusals = number;
-        }
-        assert!(rt; refusals >= 1, "{refusals}");
+        refused_more(&rt, refusals_of(&rt, rt.alloc(), words), 0);
     }
 }

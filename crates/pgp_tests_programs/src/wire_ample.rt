@@ -1,11 +1,11 @@
 //! Large inputs with ample memory: none is refused for its size. Expected digits are from the message formats of the
 //! PostgreSQL manual.
 
+use crate::checks::{holds, same};
+use crate::process::Words;
 use pgp_wire::client::client;
 use pgp_wire::run::run_own;
 use std::alloc::{AllocError, Global};
-use std::env::FillError;
-use std::rt::Env;
 use std::test::Fail;
 
 /// The piece again and again, between two ends.
@@ -42,7 +42,7 @@ fn a_script_of_a_megabyte_is_sent(rt: HostRuntime) -> Result<(), Fail> {
         62_500,
         "\n",
     )?;
-    assert!(rt; answers(rt.alloc(), &script, &sent, 0));
+    holds(&rt, answers(rt.alloc(), &script, &sent, 0));
     Ok(())
 }
 
@@ -57,7 +57,7 @@ fn a_line_of_a_megabyte_is_sent(rt: HostRuntime) -> Result<(), Fail> {
         100_000,
         "00\n",
     )?;
-    assert!(rt; answers(rt.alloc(), &script, &sent, 0));
+    holds(&rt, answers(rt.alloc(), &script, &sent, 0));
     Ok(())
 }
 
@@ -72,47 +72,18 @@ fn a_line_of_a_thousand_names_is_sent(rt: HostRuntime) -> Result<(), Fail> {
         1000,
         "00\n",
     )?;
-    assert!(rt; answers(rt.alloc(), &script, &sent, 0));
+    holds(&rt, answers(rt.alloc(), &script, &sent, 0));
     Ok(())
 }
 
 #[test]
 fn a_line_behind_two_thousand_is_refused(rt: HostRuntime) -> Result<(), Fail> {
     let script = joined(rt.alloc(), "startup\n", "sync\n", 1999, "hello\nquery x\n")?;
-    assert!(rt; answers(rt.alloc(), &script, "line 2001: wrong words\n", 1));
+    holds(
+        &rt,
+        answers(rt.alloc(), &script, "line 2001: wrong words\n", 1),
+    );
     Ok(())
-}
-
-/// A process that is to print this text as an identifier.
-#[derive(Drop)]
-struct Identifier<'a> {
-    text: &'a str,
-}
-
-impl Env for Identifier<'_> {
-    fn arg(&self, i: usize, buf: &mut [u8]) -> Result<usize, FillError> {
-        let word = match i {
-            0 => "pgwire",
-            1 => "escape",
-            2 => "identifier",
-            3 => self.text,
-            _ => return Err(FillError::NotPresent),
-        };
-        let n = word.len();
-        if buf.len() < n {
-            return Err(FillError::TooLong);
-        }
-        buf[..n].copy_from_slice(word.as_bytes());
-        Ok(n)
-    }
-
-    fn var(&self, _name: &str, _buf: &mut [u8]) -> Result<usize, FillError> {
-        Err(FillError::NotPresent)
-    }
-
-    fn var_at(&self, _i: usize, _buf: &mut [u8]) -> Result<usize, FillError> {
-        Err(FillError::NotPresent)
-    }
 }
 
 // A word of 100,000 bytes, half of them quotes.
@@ -123,17 +94,11 @@ fn a_long_word_is_an_identifier(rt: HostRuntime) -> Result<(), Fail> {
     let mut input: &[u8] = b"";
     let mut output = Vec::new(rt.alloc());
     let mut errors = Vec::new(rt.alloc());
-    assert_eq!(rt;
-        run_own(
-            rt.alloc(),
-            &Identifier { text: &text },
-            &mut input,
-            &mut output,
-            &mut errors
-        ),
-        0
-    );
-    assert!(rt; output.as_slice() == line.as_bytes());
-    assert!(rt; errors.is_empty());
+    let words: [&[u8]; 4] = [b"pgwire", b"escape", b"identifier", text.as_bytes()];
+    let env = Words { words: &words };
+    let status = run_own(rt.alloc(), &env, &mut input, &mut output, &mut errors);
+    same(&rt, status, 0);
+    holds(&rt, output.as_slice() == line.as_bytes());
+    holds(&rt, errors.is_empty());
     Ok(())
 }

@@ -4,7 +4,7 @@
 ghost use Rattle.std.specs.Prelude.{ℕ, ◌+◌, ◌%◌, ◌^◌, Some};
 ghost use Rattle.rand_core.specs.Steps.{stream_of, steps_u32};
 
-use crate::checks::{holds, same};
+use crate::checks::{holds, same, same_at};
 use bytes::BytesMut;
 use pgp_base::Window;
 use pgp_uses::arrays::{ArrayError, bind_int4s, list_of};
@@ -14,7 +14,7 @@ use pgp_uses::filter::{FilterError, pass};
 use pgp_uses::login::{begin, equals, respond, set_password};
 use pgp_uses::recorder::record;
 use pgp_uses::rows::{ColumnError, int4_column, text_column};
-use pgp_uses::scram_login::{LoginEvent, LoginFault, LoginPhase, ScramLogin};
+use pgp_uses::scram_login::{LoginEvent, LoginFault, LoginPhase, SaslStorage, ScramLogin};
 use pgp_uses::server::answer;
 use pgp_uses::session::{AskError, ask_named, one_query};
 use pgp_uses::streams::{completed, frame_count, front_row};
@@ -31,6 +31,8 @@ use rand_core::Rng;
 use rand_core::utils::{self, NextWord};
 use std::alloc::Global;
 use std::marker::Model;
+use std::ops::Range;
+use std::process::Abort;
 use std::test::Fail;
 
 const QUERY: &[u8; 14] = b"Q\x00\x00\x00\x0dSELECT 1\x00";
@@ -186,22 +188,23 @@ fn columns_of_a_row(rt: HostRuntime) -> Result<(), Fail> {
 const DESCRIBED: &[u8] =
     b"S\0\0\0\x16server_version\x0016\0Z\0\0\0\x05IT\0\0\0\x32\0\x02id\0\0\0\x40\0\0\x01\0\0\0\x17\0\x04\xff\xff\xff\xff\0\0name\0\0\0\x40\0\0\x02\0\0\0\x19\xff\xff\xff\xff\xff\xff\0\0C\0\0\0\x0dSELECT 0\0";
 
-#[test]
-fn columns_have_names(rt: HostRuntime) -> Result<(), Fail> {
-    match column_names(rt.alloc(), DESCRIBED) {
-        Ok(names) => same(&rt, names.as_slice(), ["id", "name"].as_slice()),
-        Err(e) => same(&rt, e, NamesError::NoDescription),
+/// The columns of the first description in these bytes have these names, or are refused so.
+fn has_names(rt: &impl Abort, alloc: Global, bytes: &[u8], wanted: Result<&[&str], NamesError>) {
+    match column_names(alloc, bytes) {
+        Ok(names) => same(rt, Ok(names.as_slice()), wanted),
+        Err(e) => same(rt, Err(e), wanted),
     }
-    let none = column_names(rt.alloc(), &DESCRIBED[..29]);
-    holds(&rt, matches!(&none, Err(NamesError::NoDescription)));
+}
+
+#[test]
+fn columns_have_names(rt: HostRuntime) {
+    has_names(&rt, rt.alloc(), DESCRIBED, Ok(&["id", "name"]));
+    let none = Err(NamesError::NoDescription);
+    has_names(&rt, rt.alloc(), &DESCRIBED[..29], none);
     // The second column announces more than there is.
     let short = b"T\0\0\0\x1b\0\x02id\0\0\0\x40\0\0\x01\0\0\0\x17\0\x04\xff\xff\xff\xff\0\0";
-    let cut = column_names(rt.alloc(), short);
-    holds(
-        &rt,
-        matches!(&cut, Err(NamesError::Refused(Error::UnexpectedEof))),
-    );
-    Ok(())
+    let cut = Err(NamesError::Refused(Error::UnexpectedEof));
+    has_names(&rt, rt.alloc(), short, cut);
 }
 
 #[test]
@@ -239,18 +242,29 @@ fn one_value_is_bound(rt: HostRuntime) -> Result<(), Fail> {
     Ok(())
 }
 
+/// What is recorded of these bytes: the places of the frames, where the rest begins, and whether the record stopped there.
+fn is_recorded(
+    rt: &impl Abort,
+    alloc: Global,
+    bytes: &[u8],
+    places: &[Range<usize>],
+    rest: (usize, bool),
+) {
+    match record(alloc, bytes) {
+        Ok(all) => {
+            same(rt, all.places.as_slice(), places);
+            same(rt, (all.rest, all.stopped), rest);
+        }
+        Err(_) => holds(rt, false),
+    }
+}
+
 #[test]
-fn frames_are_recorded(rt: HostRuntime) -> Result<(), Fail> {
-    let all = record(rt.alloc(), ROW)?;
-    same(&rt, all.places.as_slice(), [0..25usize, 25..31].as_slice());
-    same(&rt, (all.rest, all.stopped), (31, false));
-    let cut = record(rt.alloc(), &ROW[..30])?;
-    same(&rt, cut.places.as_slice(), [0..25usize].as_slice());
-    same(&rt, (cut.rest, cut.stopped), (25, false));
-    let fault = record(rt.alloc(), b"?\x00\x00\x00\x041\x00\x00\x00\x03")?;
-    same(&rt, fault.places.as_slice(), [0..5usize].as_slice());
-    same(&rt, (fault.rest, fault.stopped), (5, true));
-    Ok(())
+fn frames_are_recorded(rt: HostRuntime) {
+    is_recorded(&rt, rt.alloc(), ROW, &[0..25, 25..31], (31, false));
+    is_recorded(&rt, rt.alloc(), &ROW[..30], &[0..25], (25, false));
+    let wrong = b"?\x00\x00\x00\x041\x00\x00\x00\x03";
+    is_recorded(&rt, rt.alloc(), wrong, &[0..5], (5, true));
 }
 
 #[test]
@@ -303,12 +317,8 @@ fn a_challenge_is_answered(rt: HostRuntime) -> Result<(), Fail> {
         &NoPrep,
     )?;
     let mut out = BytesMut::new(rt.alloc());
-    let answered = respond(
-        b"r=9IZ2O01zb9IgiIZ1WJ/zgpJBjx/oIRLs02gGSHcw1KEty3eY,s=fs3IXBy7U7+IvVjZ,i=4096",
-        &mut client,
-        &mut out,
-    );
-    holds(&rt, answered.is_ok());
+    let first = b"r=9IZ2O01zb9IgiIZ1WJ/zgpJBjx/oIRLs02gGSHcw1KEty3eY,s=fs3IXBy7U7+IvVjZ,i=4096";
+    holds(&rt, respond(first, &mut client, &mut out).is_ok());
     same(
         &rt,
         out.as_slice(),
@@ -411,38 +421,43 @@ fn taken(bytes: &[u8], client: &mut Client<'_, BytesMut>) -> Option<Result<Event
     }
 }
 
+/// A message of the server, and what a client makes of it.
+type Step<'a> = (&'a [u8], Result<Event, StepError>);
+
+/// The client gets these messages one after another.
+fn takes(rt: &impl Abort, client: &mut Client<'_, BytesMut>, steps: &[Step<'_>]) {
+    for (place, (bytes, told)) in steps.iter().enumerate() {
+        same_at(rt, place, taken(bytes, client), Some(*told));
+    }
+}
+
+const ADMITTED: &[u8] = b"R\x00\x00\x00\x08\x00\x00\x00\x00";
+
+const ERROR: &[u8] = b"E\x00\x00\x00\x05\x00";
+
+/// What comes before the query's answer is complete.
+const ANSWERED: &[Step<'static>] = &[
+    (READY, Err(StepError::Unexpected)),
+    (ADMITTED, Ok(Event::Admitted)),
+    (ADMITTED, Err(StepError::Unexpected)),
+    (b"S\x00\x00\x00\x08a\x00b\x00", Ok(Event::Noted)),
+    (READY, Ok(Event::Asked)),
+    (ROW, Ok(Event::Row)),
+    (b"C\x00\x00\x00\x0dSELECT 1\x00", Ok(Event::Noted)),
+    (ERROR, Ok(Event::Failed)),
+];
+
+/// What comes behind it.
+const ENDED: &[Step<'static>] = &[(READY, Ok(Event::Ended)), (ROW, Err(StepError::Unexpected))];
+
 /// Start-up, one query and its answer, each message as the manual's message formats spell it.
 #[test]
 fn a_client_asks_one_query(rt: HostRuntime) -> Result<(), Fail> {
     let stream = ClientStream::<BytesMut>::new(rt.alloc());
     let mut client = Client::open("alice", "SELECT 1", stream)?;
-    let login = b"R\x00\x00\x00\x08\x00\x00\x00\x00";
-    same(
-        &rt,
-        taken(READY, &mut client),
-        Some(Err(StepError::Unexpected)),
-    );
-    same(&rt, taken(login, &mut client), Some(Ok(Event::Admitted)));
-    same(
-        &rt,
-        taken(login, &mut client),
-        Some(Err(StepError::Unexpected)),
-    );
-    let setting = b"S\x00\x00\x00\x08a\x00b\x00";
-    same(&rt, taken(setting, &mut client), Some(Ok(Event::Noted)));
-    same(&rt, taken(READY, &mut client), Some(Ok(Event::Asked)));
-    same(&rt, taken(ROW, &mut client), Some(Ok(Event::Row)));
-    let complete = b"C\x00\x00\x00\x0dSELECT 1\x00";
-    same(&rt, taken(complete, &mut client), Some(Ok(Event::Noted)));
-    let error = b"E\x00\x00\x00\x05\x00";
-    same(&rt, taken(error, &mut client), Some(Ok(Event::Failed)));
+    takes(&rt, &mut client, ANSWERED);
     same(&rt, client.phase, Phase::Querying);
-    same(&rt, taken(READY, &mut client), Some(Ok(Event::Ended)));
-    same(
-        &rt,
-        taken(ROW, &mut client),
-        Some(Err(StepError::Unexpected)),
-    );
+    takes(&rt, &mut client, ENDED);
     same(
         &rt,
         client.out.bytes(),
@@ -451,57 +466,52 @@ fn a_client_asks_one_query(rt: HostRuntime) -> Result<(), Fail> {
     Ok(())
 }
 
+/// Answers about versions, before the log-in.
+const VERSIONS: &[Step<'static>] = &[
+    (b"v\0\0\0\x0c\0\x03\0\0\0\0\0\0", Ok(Event::Noted)),
+    (b"v\0\0\0\x0c\0\x03\0\x02\0\0\0\0", Ok(Event::Noted)),
+    (
+        b"v\0\0\0\x0c\0\x02\xff\xff\0\0\0\0",
+        Err(StepError::Unexpected),
+    ),
+    (
+        b"v\0\0\0\x0c\xff\xff\xff\xff\0\0\0\0",
+        Err(StepError::Unexpected),
+    ),
+];
+
+/// The log-in, and an answer behind it.
+const LATE: &[Step<'static>] = &[
+    (ADMITTED, Ok(Event::Admitted)),
+    (b"v\0\0\0\x0c\0\x03\0\0\0\0\0\0", Err(StepError::Unexpected)),
+];
+
 /// With an answer about versions a client goes on where that is 3.0 or above, before its log-in alone.
 #[test]
 fn a_client_hears_of_a_version(rt: HostRuntime) -> Result<(), Fail> {
     let stream = ClientStream::<BytesMut>::new(rt.alloc());
     let mut client = Client::open("alice", "SELECT 1", stream)?;
-    for (version, told) in [
-        (b"v\0\0\0\x0c\0\x03\0\0\0\0\0\0", Ok(Event::Noted)),
-        (b"v\0\0\0\x0c\0\x03\0\x02\0\0\0\0", Ok(Event::Noted)),
-        (
-            b"v\0\0\0\x0c\0\x02\xff\xff\0\0\0\0",
-            Err(StepError::Unexpected),
-        ),
-        (
-            b"v\0\0\0\x0c\xff\xff\xff\xff\0\0\0\0",
-            Err(StepError::Unexpected),
-        ),
-    ] {
-        same(&rt, taken(version.as_slice(), &mut client), Some(told));
+    for step in VERSIONS.chunks(1) {
+        takes(&rt, &mut client, step);
         same(&rt, client.phase, Phase::LoggingIn);
     }
-    let login = b"R\0\0\0\x08\0\0\0\0";
-    same(&rt, taken(login, &mut client), Some(Ok(Event::Admitted)));
-    let late = b"v\0\0\0\x0c\0\x03\0\0\0\0\0\0";
-    same(
-        &rt,
-        taken(late, &mut client),
-        Some(Err(StepError::Unexpected)),
-    );
+    takes(&rt, &mut client, LATE);
     Ok(())
 }
+
+/// A query that no message can hold is refused where it is to be sent.
+const UNSENT: &[Step<'static>] = &[
+    (ADMITTED, Ok(Event::Admitted)),
+    (READY, Err(StepError::Unsent(Error::EmbeddedNull))),
+];
 
 #[test]
 fn a_client_is_refused(rt: HostRuntime) -> Result<(), Fail> {
     let stream = ClientStream::<BytesMut>::new(rt.alloc());
     let mut client = Client::open("alice", "a\0b", stream)?;
-    same(
-        &rt,
-        taken(b"R\x00\x00\x00\x08\x00\x00\x00\x00", &mut client),
-        Some(Ok(Event::Admitted)),
-    );
-    same(
-        &rt,
-        taken(READY, &mut client),
-        Some(Err(StepError::Unsent(Error::EmbeddedNull))),
-    );
+    takes(&rt, &mut client, UNSENT);
     same(&rt, client.phase, Phase::Starting);
-    same(
-        &rt,
-        taken(b"E\x00\x00\x00\x05\x00", &mut client),
-        Some(Ok(Event::Refused)),
-    );
+    takes(&rt, &mut client, &[(ERROR, Ok(Event::Refused))]);
     same(&rt, client.phase, Phase::Over);
     Ok(())
 }
@@ -593,77 +603,80 @@ fn opened(rt: &HostRuntime) -> Result<ScramLogin<Global, BytesMut>, Fail> {
     Ok(ScramLogin::open("alice", exchange, stream)?)
 }
 
-/// What a log-in makes of the message at the front of a server's bytes.
-fn heard(
-    bytes: &[u8],
-    login: &mut ScramLogin<Global, BytesMut>,
-) -> Option<Result<LoginEvent, LoginFault>> {
-    if !login.out.is_open() {
-        return None;
+/// What a log-in tells of a message, without the text that a refusal holds.
+#[derive(Debug, Clone, Copy, PartialEq, Eq)]
+enum Told {
+    Event(LoginEvent),
+    Unexpected,
+    NotOffered,
+    /// The server's signature is another.
+    Unverified,
+    /// Another refusal, or no message.
+    Other,
+}
+
+fn told_of(answer: &Result<LoginEvent, LoginFault>) -> Told {
+    match answer {
+        Ok(event) => Told::Event(*event),
+        Err(LoginFault::Unexpected) => Told::Unexpected,
+        Err(LoginFault::NotOffered) => Told::NotOffered,
+        Err(LoginFault::Scram(ScramError::Verification)) => Told::Unverified,
+        Err(_) => Told::Other,
     }
+}
+
+/// What a log-in makes of a message.
+fn step<S: SaslStorage + Drop>(
+    login: &mut ScramLogin<Global, BytesMut>,
+    message: &Message<S>,
+) -> Told {
+    if !login.out.is_open() {
+        return Told::Other;
+    }
+    let answer = login.step(message);
+    let told = told_of(&answer);
+    drop(answer);
+    told
+}
+
+/// What a log-in makes of the message at the front of a server's bytes.
+fn heard(bytes: &[u8], login: &mut ScramLogin<Global, BytesMut>) -> Told {
     let mut messages = Messages::new(bytes);
     match messages.next() {
         Ok(Some(message)) => {
-            let told = login.step(&message);
+            let told = step(login, &message);
             drop(message);
-            Some(told)
+            told
         }
-        _ => None,
+        _ => Told::Other,
     }
 }
+
+/// The log-in gets these messages one after another, and tells this of each.
+fn hears(rt: &impl Abort, login: &mut ScramLogin<Global, BytesMut>, steps: &[(&[u8], Told)]) {
+    for (place, (bytes, told)) in steps.iter().enumerate() {
+        same_at(rt, place, heard(bytes, login), *told);
+    }
+}
+
+/// An exchange, and messages that have no place in it.
+const PROVED: &[(&[u8], Told)] = &[
+    (WELCOME, Told::Unexpected),
+    (OFFER, Told::Event(LoginEvent::Began)),
+    (WELCOME, Told::Unexpected),
+    (OFFER, Told::Unexpected),
+    (CHALLENGE, Told::Event(LoginEvent::Replied)),
+    (WELCOME, Told::Unexpected),
+    (OUTCOME, Told::Event(LoginEvent::Verified)),
+    (OUTCOME, Told::Unexpected),
+    (WELCOME, Told::Event(LoginEvent::Admitted)),
+];
 
 /// The texts of the Rust crate's own test, in messages of the manual's formats.
 #[test]
 fn a_password_is_proved(rt: HostRuntime) -> Result<(), Fail> {
     let mut login = opened(&rt)?;
-    holds(
-        &rt,
-        matches!(
-            heard(WELCOME, &mut login),
-            Some(Err(LoginFault::Unexpected))
-        ),
-    );
-    holds(
-        &rt,
-        matches!(heard(OFFER, &mut login), Some(Ok(LoginEvent::Began))),
-    );
-    holds(
-        &rt,
-        matches!(
-            heard(WELCOME, &mut login),
-            Some(Err(LoginFault::Unexpected))
-        ),
-    );
-    holds(
-        &rt,
-        matches!(heard(OFFER, &mut login), Some(Err(LoginFault::Unexpected))),
-    );
-    holds(
-        &rt,
-        matches!(heard(CHALLENGE, &mut login), Some(Ok(LoginEvent::Replied))),
-    );
-    holds(
-        &rt,
-        matches!(
-            heard(WELCOME, &mut login),
-            Some(Err(LoginFault::Unexpected))
-        ),
-    );
-    holds(
-        &rt,
-        matches!(heard(OUTCOME, &mut login), Some(Ok(LoginEvent::Verified))),
-    );
-    holds(
-        &rt,
-        matches!(
-            heard(OUTCOME, &mut login),
-            Some(Err(LoginFault::Unexpected))
-        ),
-    );
-    holds(
-        &rt,
-        matches!(heard(WELCOME, &mut login), Some(Ok(LoginEvent::Admitted))),
-    );
+    hears(&rt, &mut login, PROVED);
     same(&rt, login.phase, LoginPhase::Done);
     same(
         &rt,
@@ -673,107 +686,78 @@ fn a_password_is_proved(rt: HostRuntime) -> Result<(), Fail> {
     Ok(())
 }
 
-/// What a log-in makes of the message at the front of a server's bytes, which keeps its frame.
+/// The same of a message that keeps its frame.
 fn heard_whole(
-    rt: &HostRuntime,
+    alloc: Global,
     bytes: &[u8],
     login: &mut ScramLogin<Global, BytesMut>,
-) -> Result<Option<Result<LoginEvent, LoginFault>>, Fail> {
-    if !login.out.is_open() {
-        return Ok(None);
-    }
-    let mut read = BytesMut::new(rt.alloc());
+) -> Result<Told, Error> {
+    let mut read = BytesMut::new(alloc);
     read.extend_from_slice(bytes)?;
     match Message::parse(&mut read) {
         Ok(Some(message)) => {
-            let told = login.step(&message);
+            let told = step(login, &message);
             drop(message);
-            Ok(Some(told))
+            Ok(told)
         }
-        _ => Ok(None),
+        _ => Ok(Told::Other),
     }
 }
+
+/// The exchange alone.
+const ALONE: &[(&[u8], LoginEvent)] = &[
+    (OFFER, LoginEvent::Began),
+    (CHALLENGE, LoginEvent::Replied),
+    (OUTCOME, LoginEvent::Verified),
+    (WELCOME, LoginEvent::Admitted),
+];
 
 /// The same exchange, by messages that keep their frames.
 #[test]
 fn a_password_is_proved_to_frames(rt: HostRuntime) -> Result<(), Fail> {
     let mut login = opened(&rt)?;
-    let began = heard_whole(&rt, OFFER, &mut login)?;
-    holds(&rt, matches!(began, Some(Ok(LoginEvent::Began))));
-    drop(began);
-    let replied = heard_whole(&rt, CHALLENGE, &mut login)?;
-    holds(&rt, matches!(replied, Some(Ok(LoginEvent::Replied))));
-    drop(replied);
-    let verified = heard_whole(&rt, OUTCOME, &mut login)?;
-    holds(&rt, matches!(verified, Some(Ok(LoginEvent::Verified))));
-    drop(verified);
-    let admitted = heard_whole(&rt, WELCOME, &mut login)?;
-    holds(&rt, matches!(admitted, Some(Ok(LoginEvent::Admitted))));
-    drop(admitted);
+    for (bytes, event) in ALONE {
+        let told = heard_whole(rt.alloc(), bytes, &mut login);
+        same(&rt, told, Ok(Told::Event(*event)));
+    }
     same(&rt, login.phase, LoginPhase::Done);
     Ok(())
 }
 
+/// Offers without SCRAM-SHA-256, one that has no end, messages out of place, and another signature.
+const REFUSED: &[(&[u8], Told)] = &[
+    (
+        b"R\x00\x00\x00\x1c\x00\x00\x00\x0aSCRAM-SHA-256-PLUS\x00\x00",
+        Told::NotOffered,
+    ),
+    (
+        b"R\x00\x00\x00\x16\x00\x00\x00\x0aSCRAM-SHA-256\x00",
+        Told::NotOffered,
+    ),
+    (CHALLENGE, Told::Unexpected),
+    (OFFER, Told::Event(LoginEvent::Began)),
+    (OUTCOME, Told::Unexpected),
+    (CHALLENGE, Told::Event(LoginEvent::Replied)),
+    (
+        b"R\x00\x00\x00\x36\x00\x00\x00\x0cv=V+ppxD5XUKtradnv8e2MkeupiA8FU87Sg8CXzXHDAzw=",
+        Told::Unverified,
+    ),
+    (WELCOME, Told::Unexpected),
+];
+
 #[test]
 fn a_log_in_is_refused(rt: HostRuntime) -> Result<(), Fail> {
     let mut login = opened(&rt)?;
-    let plus = b"R\x00\x00\x00\x1c\x00\x00\x00\x0aSCRAM-SHA-256-PLUS\x00\x00";
-    holds(
-        &rt,
-        matches!(heard(plus, &mut login), Some(Err(LoginFault::NotOffered))),
-    );
-    let endless = b"R\x00\x00\x00\x16\x00\x00\x00\x0aSCRAM-SHA-256\x00";
-    holds(
-        &rt,
-        matches!(
-            heard(endless, &mut login),
-            Some(Err(LoginFault::NotOffered))
-        ),
-    );
-    holds(
-        &rt,
-        matches!(
-            heard(CHALLENGE, &mut login),
-            Some(Err(LoginFault::Unexpected))
-        ),
-    );
-    holds(
-        &rt,
-        matches!(heard(OFFER, &mut login), Some(Ok(LoginEvent::Began))),
-    );
-    holds(
-        &rt,
-        matches!(
-            heard(OUTCOME, &mut login),
-            Some(Err(LoginFault::Unexpected))
-        ),
-    );
-    holds(
-        &rt,
-        matches!(heard(CHALLENGE, &mut login), Some(Ok(LoginEvent::Replied))),
-    );
-    let other = b"R\x00\x00\x00\x36\x00\x00\x00\x0cv=V+ppxD5XUKtradnv8e2MkeupiA8FU87Sg8CXzXHDAzw=";
-    holds(
-        &rt,
-        matches!(
-            heard(other, &mut login),
-            Some(Err(LoginFault::Scram(ScramError::Verification)))
-        ),
-    );
-    holds(
-        &rt,
-        matches!(
-            heard(WELCOME, &mut login),
-            Some(Err(LoginFault::Unexpected))
-        ),
-    );
+    hears(&rt, &mut login, REFUSED);
     same(&rt, login.phase, LoginPhase::Over);
-    let mut failed = opened(&rt)?;
-    let error = b"E\x00\x00\x00\x05\x00";
-    holds(
-        &rt,
-        matches!(heard(error, &mut failed), Some(Ok(LoginEvent::Refused))),
-    );
-    same(&rt, failed.phase, LoginPhase::Over);
+    Ok(())
+}
+
+#[test]
+fn a_log_in_is_refused_by_an_error(rt: HostRuntime) -> Result<(), Fail> {
+    let mut login = opened(&rt)?;
+    let told = heard(ERROR, &mut login);
+    same(&rt, told, Told::Event(LoginEvent::Refused));
+    same(&rt, login.phase, LoginPhase::Over);
     Ok(())
 }

@@ -9,7 +9,7 @@ use postgres_protocol::message::reply;
 use std::alloc::{AllocError, Global};
 
 /// How an answer goes on.
-#[derive(Debug, Clone, Copy, PartialEq, Eq)]
+#[derive(Clone, Copy)]
 pub(crate) enum Went {
     /// It ended as the script says, by a tag.
     Well,
@@ -73,32 +73,54 @@ fn value_in(
     }
 }
 
-/// The values of a row in the formats that are wanted; `None` where this server doesn't write one of them.
-fn values_in(
+/// Adds a value in the format that is wanted, or answers that this server doesn't write it.
+fn add_value(
+    alloc: Global,
+    column: &Column,
+    format: i16,
+    value: &Option<Vec<u8>>,
+    values: &mut Vec<Option<Vec<u8>>>,
+) -> Result<bool, AllocError> {
+    let Some(text) = value else {
+        values.push(None)?;
+        return Ok(true);
+    };
+    match value_in(alloc, column, format, text)? {
+        Some(bytes) => values.push(Some(bytes))?,
+        None => return Ok(false),
+    }
+    Ok(true)
+}
+
+/// Adds the values of a row in the formats that are wanted, or answers that this server doesn't write one of them.
+fn add_values(
     alloc: Global,
     columns: &[Column],
     formats: &[i16],
     row: &[Option<Vec<u8>>],
-) -> Result<Option<Vec<Option<Vec<u8>>>>, AllocError> {
-    let mut values = Vec::new(alloc);
+    values: &mut Vec<Option<Vec<u8>>>,
+) -> Result<bool, AllocError> {
     for (column, value) in columns.iter().zip(row) {
-        let Some(text) = value else {
-            values.push(None)?;
-            continue;
-        };
-        match value_in(alloc, column, format_of(formats, values.len()), text)? {
-            Some(bytes) => values.push(Some(bytes))?,
-            None => return Ok(None),
+        let format = format_of(formats, values.len());
+        if !add_value(alloc, column, format, value, values)? {
+            return Ok(false);
         }
     }
-    Ok(Some(values))
+    Ok(true)
+}
+
+fn slice_of(value: &Option<Vec<u8>>) -> Option<&[u8]> {
+    match value {
+        Some(bytes) => Some(bytes.as_slice()),
+        None => None,
+    }
 }
 
 /// The values, lent out.
 fn lent(alloc: Global, values: &[Option<Vec<u8>>]) -> Result<Vec<Option<&[u8]>>, AllocError> {
     let mut list = Vec::new(alloc);
     for value in values {
-        list.push(value.as_ref().map(|bytes| bytes.as_slice()))?;
+        list.push(slice_of(value))?;
     }
     Ok(list)
 }
@@ -106,6 +128,22 @@ fn lent(alloc: Global, values: &[Option<Vec<u8>>]) -> Result<Vec<Option<&[u8]>>,
 /// Appends a row of these values.
 fn put_values(alloc: Global, values: &[Option<Vec<u8>>], out: &mut BytesMut) -> Result<(), Fault> {
     Ok(reply::data_row(&lent(alloc, values)?, out)?)
+}
+
+/// Appends a row, or answers that this server doesn't write one of its values.
+fn put_row(
+    alloc: Global,
+    statement: &Statement,
+    formats: &[i16],
+    row: &[Option<Vec<u8>>],
+    out: &mut BytesMut,
+) -> Result<bool, Fault> {
+    let mut values = Vec::new(alloc);
+    if !add_values(alloc, &statement.columns, formats, row, &mut values)? {
+        return Ok(false);
+    }
+    put_values(alloc, &values, out)?;
+    Ok(true)
 }
 
 /// Appends the rows from this place on, at most so many, and answers the place behind them; `None` behind the error of a value that
@@ -119,12 +157,9 @@ fn put_rows(
 ) -> Result<Option<usize>, Fault> {
     let mut at = range.0;
     for row in statement.rows.iter().skip(range.0).take(range.1) {
-        match values_in(alloc, &statement.columns, formats, row)? {
-            Some(values) => put_values(alloc, &values, out)?,
-            None => {
-                refuse(Refusal::NotSupported, out)?;
-                return Ok(None);
-            }
+        if !put_row(alloc, statement, formats, row, out)? {
+            refuse(Refusal::NotSupported, out)?;
+            return Ok(None);
         }
         at = at.saturating_add(1);
     }
@@ -158,7 +193,7 @@ fn put_end(statement: &Statement, out: &mut BytesMut) -> Result<Went, Fault> {
 }
 
 /// How far the rows of a portal are sent.
-#[derive(Debug, Clone, Copy, PartialEq, Eq)]
+#[derive(Clone, Copy)]
 pub(crate) struct Progress {
     /// So many rows were sent.
     pub(crate) sent: usize,

@@ -5,7 +5,7 @@ use bytes::BytesMut;
 use postgres_protocol::message::reply::{self, ErrorField};
 
 /// Why a request is refused, by its SQLSTATE (PostgreSQL manual, appendix "PostgreSQL Error Codes").
-#[derive(Debug, Clone, Copy, PartialEq, Eq)]
+#[derive(Clone, Copy)]
 pub(crate) enum Refusal {
     /// `42601`: the script has no such statement.
     NotScripted,

@@ -6,7 +6,8 @@ use crate::fault::Fault;
 use crate::host::Host;
 use crate::session::Session;
 use bytes::BytesMut;
-use pgp_uses::serving::{Denial, Serving, ServingEvent, ServingPhase, startup_names};
+use pgp_base::Error;
+use pgp_uses::serving::{Denial, Serving, ServingEvent, ServingPhase, StartupNames, startup_names};
 use postgres_protocol::message::client::{
     AnyMessage, ClientFrame, ClientMessage, ClientParser, Limits, ParserError,
 };
@@ -17,6 +18,19 @@ const LIMITS: Limits = Limits {
     opening: 10_000,
     tagged: 1 << 26,
 };
+
+/// The names of a startup packet; `None` of another message.
+fn names_of(message: AnyMessage<'_>) -> Option<StartupNames<'_>> {
+    match message {
+        AnyMessage::Ours(ClientMessage::Startup { parameters, .. }) => {
+            Some(startup_names(parameters))
+        }
+        other => {
+            drop(other);
+            None
+        }
+    }
+}
 
 /// A client's connection.
 #[derive(Drop)]
@@ -49,10 +63,10 @@ impl<'h> Connection<'h> {
 
     /// Asks the user that the startup packet names for the proof.
     fn ask(&mut self, message: AnyMessage<'_>, out: &mut BytesMut) -> Result<(), Fault> {
-        let AnyMessage::Ours(ClientMessage::Startup { parameters, .. }) = message else {
+        let Some(names) = names_of(message) else {
             return self.reject(out);
         };
-        let Some(user) = startup_names(parameters).user else {
+        let Some(user) = names.user else {
             return Ok(self.serving.deny(Denial::NotAllowed, out)?);
         };
         let exchange = self.host.exchange(self.alloc, user)?;
@@ -62,13 +76,27 @@ impl<'h> Connection<'h> {
         Ok(())
     }
 
+    /// Appends what is said behind a message of which nothing more is asked.
+    fn go_on(
+        &mut self,
+        heard: Result<ServingEvent, Error>,
+        out: &mut BytesMut,
+    ) -> Result<(), Fault> {
+        match heard? {
+            ServingEvent::LoggedIn => self.session.welcome(out),
+            _ => Ok(()),
+        }
+    }
+
     /// Takes a message, and appends what is answered.
     fn take(&mut self, message: AnyMessage<'_>, out: &mut BytesMut) -> Result<(), Fault> {
-        match self.serving.step(&message, out)? {
-            ServingEvent::Named => self.ask(message, out),
-            ServingEvent::LoggedIn => self.session.welcome(out),
-            ServingEvent::Requested => self.session.answer(message, out),
-            _ => Ok(()),
+        match self.serving.step(&message, out) {
+            Ok(ServingEvent::Named) => self.ask(message, out),
+            Ok(ServingEvent::Requested) => self.session.answer(message, out),
+            other => {
+                drop(message);
+                self.go_on(other, out)
+            }
         }
     }
 

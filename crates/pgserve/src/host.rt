@@ -9,7 +9,7 @@ use postgres_protocol::authentication::sasl::{
 use std::alloc::Global;
 
 /// A server, before a client is connected.
-#[derive(Drop)]
+#[derive(Clone, Copy)]
 pub(crate) struct Host<'h> {
     user: &'h str,
     verifier: &'h str,
@@ -36,18 +36,22 @@ impl<'h> Host<'h> {
         }
     }
 
+    /// The verifier of this user, or one that stands for the verifier of a user who isn't there.
+    fn verifier(&self, alloc: Global, user: &[u8]) -> Result<StoredVerifier, Fault> {
+        if user == self.user.as_bytes() {
+            verifier_of(alloc, self.verifier)
+        } else {
+            Ok(StoredVerifier::mock(alloc, self.verifier.as_bytes(), user)?)
+        }
+    }
+
     /// The exchange with a user of this name. One who isn't there is asked like the one who is, and refused in the end.
     ///
     /// # Errors
     ///
     /// `Verifier` and `Nonce` where the words have another form.
     pub(crate) fn exchange(&self, alloc: Global, user: &[u8]) -> Result<ScramServer, Fault> {
-        let known = verifier_of(alloc, self.verifier)?;
-        let verifier = if user == self.user.as_bytes() {
-            known
-        } else {
-            StoredVerifier::mock(alloc, self.verifier.as_bytes(), user)?
-        };
+        let verifier = self.verifier(alloc, user)?;
         let nonce = String::from_str(alloc, self.nonce)?;
         if !is_nonce(&nonce) {
             return Err(Fault::Nonce);

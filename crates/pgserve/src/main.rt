@@ -18,15 +18,29 @@ mod words;
 
 use fault::Fault;
 use host::Host;
+use script::{Script, script_of};
 use std::process::ExitCode;
 use std::{fs, io};
+use words::Words;
+
+/// The script of this path.
+fn read_script(rt: &HostRuntime, path: &str) -> Result<Script, Fault> {
+    match fs::read_to_string(rt, path) {
+        Ok(text) => script_of(rt.alloc(), &text),
+        Err(_) => Err(Fault::Script(0)),
+    }
+}
 
 /// Serves the client that is connected.
 fn serve(rt: &HostRuntime, words: &[String]) -> Result<(), Fault> {
     let words = words::words_of(rt.alloc(), words)?;
-    let text = fs::read_to_string(rt, words.script).map_err(|_| Fault::Script(0))?;
-    let script = script::script_of(rt.alloc(), &text)?;
-    let host = Host::new(&words, &script);
+    let script = read_script(rt, words.script)?;
+    serve_script(rt, &words, &script)
+}
+
+/// The same with this script.
+fn serve_script(rt: &HostRuntime, words: &Words<'_>, script: &Script) -> Result<(), Fault> {
+    let host = Host::new(words, script);
     // A verifier or a nonce that isn't one is told before a client comes.
     drop(host.exchange(rt.alloc(), words.user.as_bytes())?);
     stream::run(rt.alloc(), &host, &mut rt.reader(), &mut io::writer(rt))

@@ -25,23 +25,23 @@ impl<T: Drop> Names<T> {
     }
 
     fn place(&self, name: &[u8]) -> Option<usize> {
-        self.entries
-            .iter()
-            .position(|entry| entry.name.as_slice() == name)
+        for (place, entry) in self.entries.iter().enumerate() {
+            if entry.name.as_slice() == name {
+                return Some(place);
+            }
+        }
+        None
     }
 
     pub(crate) fn find(&self, name: &[u8]) -> Option<&T> {
-        match self.place(name) {
-            Some(place) => self.entries.get(place).map(|entry| &entry.value),
-            None => None,
-        }
+        let entry = self.entries.get(self.place(name)?)?;
+        Some(&entry.value)
     }
 
     pub(crate) fn find_mut(&mut self, name: &[u8]) -> Option<&mut T> {
-        match self.place(name) {
-            Some(place) => self.entries.get_mut(place).map(|entry| &mut entry.value),
-            None => None,
-        }
+        let place = self.place(name)?;
+        let entry = self.entries.get_mut(place)?;
+        Some(&mut entry.value)
     }
 
     /// Forgets what stands under the name.

@@ -71,9 +71,22 @@ impl Script {
     /// The place of the statement of this text.
     pub(crate) fn find(&self, text: &[u8]) -> Option<usize> {
         let text = trimmed(text);
-        self.statements
-            .iter()
-            .position(|statement| statement.text.as_slice() == text)
+        for (place, statement) in self.statements.iter().enumerate() {
+            if statement.text.as_slice() == text {
+                return Some(place);
+            }
+        }
+        None
+    }
+
+    /// The line of the first statement whose end isn't said.
+    fn open_line(&self) -> Option<usize> {
+        for statement in &self.statements {
+            if matches!(statement.end, End::Open) {
+                return Some(statement.line);
+            }
+        }
+        None
     }
 }
 
@@ -114,16 +127,29 @@ fn value_of(alloc: Global, text: &str) -> Result<Option<Option<Vec<u8>>>, AllocE
     }
 }
 
-/// The values of this line, between which tabs stand.
-fn row_of(alloc: Global, line: &str) -> Result<Option<Vec<Option<Vec<u8>>>>, AllocError> {
-    let mut values = Vec::new(alloc);
+/// Adds the values of this line, between which tabs stand, and answers whether each is one.
+fn add_values(
+    alloc: Global,
+    line: &str,
+    values: &mut Vec<Option<Vec<u8>>>,
+) -> Result<bool, AllocError> {
     for text in line.split('\t') {
-        let Some(value) = value_of(alloc, text)? else {
-            return Ok(None);
-        };
-        values.push(value)?;
+        match value_of(alloc, text)? {
+            Some(value) => values.push(value)?,
+            None => return Ok(false),
+        }
     }
-    Ok(Some(values))
+    Ok(true)
+}
+
+/// Whether it is five letters or digits.
+fn is_code(code: &str) -> bool {
+    for byte in code.bytes() {
+        if !byte.is_ascii_alphanumeric() {
+            return false;
+        }
+    }
+    code.len() == 5
 }
 
 /// The report of this line: five letters or digits, a space, and the message.
@@ -131,7 +157,7 @@ fn report_of(alloc: Global, line: &str) -> Result<Option<Report>, AllocError> {
     let Some((code, message)) = line.split_once(' ') else {
         return Ok(None);
     };
-    if code.len() != 5 || !code.bytes().all(|byte| byte.is_ascii_alphanumeric()) {
+    if !is_code(code) {
         return Ok(None);
     }
     match unescaped(alloc, message)? {
@@ -156,13 +182,12 @@ fn status_of(word: &str) -> Option<u8> {
 impl Statement {
     /// Adds a row, which has a value for each column.
     fn add_row(&mut self, alloc: Global, line: &str) -> Result<bool, AllocError> {
-        match row_of(alloc, line)? {
-            Some(row) if row.len() == self.columns.len() => {
-                self.rows.push(row)?;
-                Ok(true)
-            }
-            _ => Ok(false),
+        let mut row = Vec::new(alloc);
+        if !add_values(alloc, line, &mut row)? || row.len() != self.columns.len() {
+            return Ok(false);
         }
+        self.rows.push(row)?;
+        Ok(true)
     }
 
     /// Adds a column; rows stand behind all of them.
@@ -196,14 +221,23 @@ impl Statement {
         }
     }
 
-    /// How the answer ends.
-    fn set_end(&mut self, end: Option<End>) -> bool {
-        match end {
-            Some(end) => {
-                self.end = end;
-                true
+    fn set_tag(&mut self, alloc: Global, line: &str) -> Result<bool, AllocError> {
+        match unescaped(alloc, line)? {
+            Some(tag) => {
+                self.end = End::Tag(tag);
+                Ok(true)
             }
-            None => false,
+            None => Ok(false),
+        }
+    }
+
+    fn set_error(&mut self, alloc: Global, line: &str) -> Result<bool, AllocError> {
+        match report_of(alloc, line)? {
+            Some(report) => {
+                self.end = End::Error(report);
+                Ok(true)
+            }
+            None => Ok(false),
         }
     }
 
@@ -224,8 +258,8 @@ impl Statement {
             "column" => self.add_column(alloc, rest),
             "row" => self.add_row(alloc, rest),
             "notice" => self.add_notice(alloc, rest),
-            "tag" => Ok(self.set_end(unescaped(alloc, rest)?.map(End::Tag))),
-            "error" => Ok(self.set_end(report_of(alloc, rest)?.map(End::Error))),
+            "tag" => self.set_tag(alloc, rest),
+            "error" => self.set_error(alloc, rest),
             "status" => Ok(self.set_status(rest)),
             _ => Ok(false),
         }
@@ -269,6 +303,21 @@ fn read_line(
     }
 }
 
+/// Reads the lines.
+fn read_lines(alloc: Global, script: &mut Script, text: &str) -> Result<(), Fault> {
+    let mut number = 0usize;
+    for line in text.lines() {
+        number = number.saturating_add(1);
+        if !read_line(alloc, script, number, line)? {
+            return Err(Fault::Script(number));
+        }
+    }
+    match script.open_line() {
+        Some(line) => Err(Fault::Script(line)),
+        None => Ok(()),
+    }
+}
+
 /// The script of this text.
 ///
 /// # Errors
@@ -278,19 +327,6 @@ pub(crate) fn script_of(alloc: Global, text: &str) -> Result<Script, Fault> {
     let mut script = Script {
         statements: Vec::new(alloc),
     };
-    let mut number = 0usize;
-    for line in text.lines() {
-        number = number.saturating_add(1);
-        if !read_line(alloc, &mut script, number, line)? {
-            return Err(Fault::Script(number));
-        }
-    }
-    match script
-        .statements
-        .iter()
-        .find(|statement| matches!(statement.end, End::Open))
-    {
-        Some(statement) => Err(Fault::Script(statement.line)),
-        None => Ok(script),
-    }
+    read_lines(alloc, &mut script, text)?;
+    Ok(script)
 }

@@ -127,7 +127,7 @@ impl<'h> Session<'h> {
         }
     }
 
-    /// Binds a statement to so many values.
+    /// Binds a statement to so many values, unless requests are passed over.
     fn bind(
         &mut self,
         portal: &[u8],
@@ -136,6 +136,9 @@ impl<'h> Session<'h> {
         formats: Formats<'_>,
         out: &mut BytesMut,
     ) -> Result<(), Fault> {
+        if self.is_skipping {
+            return Ok(());
+        }
         let Some(prepared) = self.prepared.find(name).copied() else {
             return self.fail(Refusal::NoStatement, out);
         };
@@ -203,7 +206,7 @@ impl<'h> Session<'h> {
             most,
             out,
         )?;
-        if progress.went == Went::Wrong {
+        if matches!(progress.went, Went::Wrong) {
             self.is_skipping = true;
         }
         self.leave(statement);
@@ -230,26 +233,37 @@ impl<'h> Session<'h> {
         Ok(reply::close_complete(out)?)
     }
 
-    /// Answers a request of an extended query.
-    fn extended(&mut self, message: ClientMessage<'_>, out: &mut BytesMut) -> Result<(), Fault> {
+    /// Answers a request of an extended query that is no Bind.
+    fn extended(&mut self, message: &ClientMessage<'_>, out: &mut BytesMut) -> Result<(), Fault> {
         match message {
             ClientMessage::Parse { name, query, .. } => self.parse(name, query, out),
-            ClientMessage::Bind {
-                portal,
-                statement,
-                values,
-                result_formats,
-                ..
-            } => self.bind(portal, statement, values.size_hint().0, result_formats, out),
             ClientMessage::Describe {
                 variant: b'S',
                 name,
             } => self.describe_statement(name, out),
             ClientMessage::Describe { name, .. } => self.describe_portal(name, out),
-            ClientMessage::Execute { portal, max_rows } => self.execute(portal, max_rows, out),
-            ClientMessage::Close { variant, name } => self.close(variant, name, out),
+            ClientMessage::Execute { portal, max_rows } => self.execute(portal, *max_rows, out),
+            ClientMessage::Close { variant, name } => self.close(*variant, name, out),
             // What belongs to a copy is passed over, as PostgreSQL does outside of one.
             _ => Ok(()),
+        }
+    }
+
+    /// Appends what is answered to a request that is no Bind.
+    fn answer_in_place(
+        &mut self,
+        message: &AnyMessage<'_>,
+        out: &mut BytesMut,
+    ) -> Result<(), Fault> {
+        match message {
+            AnyMessage::Ours(ClientMessage::Sync) => self.sync(out),
+            _ if self.is_skipping => Ok(()),
+            AnyMessage::Ours(ClientMessage::Query(text)) => self.query(text, out),
+            AnyMessage::Ours(message) => self.extended(message, out),
+            AnyMessage::Other(_) => {
+                refuse(Refusal::NotSupported, out)?;
+                self.ready(out)
+            }
         }
     }
 
@@ -264,13 +278,19 @@ impl<'h> Session<'h> {
         out: &mut BytesMut,
     ) -> Result<(), Fault> {
         match message {
-            AnyMessage::Ours(ClientMessage::Sync) => self.sync(out),
-            _ if self.is_skipping => Ok(()),
-            AnyMessage::Ours(ClientMessage::Query(text)) => self.query(text, out),
-            AnyMessage::Ours(message) => self.extended(message, out),
-            AnyMessage::Other(_) => {
-                refuse(Refusal::NotSupported, out)?;
-                self.ready(out)
+            AnyMessage::Ours(
+                ClientMessage::Bind {
+                    portal,
+                    statement,
+                    values,
+                    result_formats,
+                    ..
+                },
+            ) => self.bind(portal, statement, values.size_hint().0, result_formats, out),
+            other => {
+                let answer = self.answer_in_place(&other, out);
+                drop(other);
+                answer
             }
         }
     }

@@ -4,6 +4,7 @@ use crate::connection::{Connection, parser, take_piece};
 use crate::fault::Fault;
 use crate::host::Host;
 use bytes::BytesMut;
+use postgres_protocol::message::client::ClientParser;
 use std::alloc::Global;
 use std::io::{ErrorKind, Read, Write};
 
@@ -34,8 +35,10 @@ fn put<W: Write>(bytes: &[u8], output: &mut W) -> Result<(), Fault> {
     if bytes.is_empty() {
         return Ok(());
     }
-    output.write_all(bytes).map_err(|_| Fault::Write)?;
-    output.flush().map_err(|_| Fault::Write)
+    if output.write_all(bytes).is_err() || output.flush().is_err() {
+        return Err(Fault::Write);
+    }
+    Ok(())
 }
 
 /// Serves a client to the end of its bytes, or of its session.
@@ -52,11 +55,22 @@ pub(crate) fn run<R: Read, W: Write>(
     let mut parser = parser(alloc);
     let mut connection = Connection::new(alloc, host);
     let mut out = BytesMut::new(alloc);
+    pass(&mut parser, &mut connection, &mut out, input, output)
+}
+
+/// The same with what the connection keeps: its parser, and memory for answers.
+fn pass<R: Read, W: Write>(
+    parser: &mut ClientParser<Global>,
+    connection: &mut Connection<'_>,
+    out: &mut BytesMut,
+    input: &mut R,
+    output: &mut W,
+) -> Result<(), Fault> {
     let mut piece = [0u8; PIECE];
     for _ in 0..u64::MAX {
         let n = read(input, &mut piece)?;
-        let taken = take_piece(&mut parser, &mut connection, front(&piece, n), &mut out);
-        put(&out, output)?;
+        let taken = take_piece(parser, connection, front(&piece, n), out);
+        put(out, output)?;
         out.clear();
         taken?;
         if n == 0 || connection.is_over() {

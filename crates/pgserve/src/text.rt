@@ -17,23 +17,27 @@ fn escape_of(letter: u8) -> Option<u8> {
 /// stands in it, or a byte 0, which no text of a message has.
 pub(crate) fn unescaped(alloc: Global, text: &str) -> Result<Option<Vec<u8>>, AllocError> {
     let mut bytes = Vec::new(alloc);
+    let is_one = add_unescaped(text, &mut bytes)?;
+    Ok(if is_one { Some(bytes) } else { None })
+}
+
+/// Adds a text without its escapes, and answers whether it is one.
+fn add_unescaped(text: &str, bytes: &mut Vec<u8>) -> Result<bool, AllocError> {
     let mut is_escaped = false;
     for byte in text.bytes() {
-        if is_escaped {
-            let Some(byte) = escape_of(byte) else {
-                return Ok(None);
-            };
-            bytes.push(byte)?;
-            is_escaped = false;
-        } else if byte == b'\\' {
-            is_escaped = true;
-        } else if byte == 0 {
-            return Ok(None);
+        let meant = if is_escaped {
+            escape_of(byte)
         } else {
-            bytes.push(byte)?;
+            Some(byte)
+        };
+        is_escaped = !is_escaped && byte == b'\\';
+        match meant {
+            None | Some(0) => return Ok(false),
+            Some(_) if is_escaped => {}
+            Some(byte) => bytes.push(byte)?,
         }
     }
-    Ok(if is_escaped { None } else { Some(bytes) })
+    Ok(!is_escaped)
 }
 
 /// A statement without the spaces around it and the semicolon behind it.

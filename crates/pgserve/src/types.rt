@@ -3,7 +3,7 @@
 use pgp_base::Oid;
 
 /// A type.
-#[derive(Debug, Clone, Copy, PartialEq, Eq)]
+#[derive(Clone, Copy)]
 pub(crate) struct Type {
     pub(crate) oid: Oid,
     /// Bytes of a value, -1 where they aren't always as many.
@@ -37,9 +37,12 @@ const TYPES: [(&str, Oid, i16); 21] = [
 
 /// The type of this name, or of this number, of which no size is known.
 pub(crate) fn type_of(word: &str) -> Option<Type> {
-    for (name, oid, size) in TYPES {
-        if name == word {
-            return Some(Type { oid, size });
+    for (name, oid, size) in &TYPES {
+        if *name == word {
+            return Some(Type {
+                oid: *oid,
+                size: *size,
+            });
         }
     }
     match word.parse::<u32>() {

@@ -5,11 +5,10 @@
 ghost use Rattle.pgp_base.specs.Calls.{KeepsValue};
 ghost use Rattle.pgp_base.specs.Held.{items_held};
 
-use crate::checks::{holds, same};
+use crate::checks::{holds, same, same_at};
 use bytes::BytesMut;
 use pgp_base::{BindError, Error, IsNull, put_u32};
 use pgp_frontend::{bind, over_bytes, parse, sync};
-use std::test::Fail;
 
 #[test]
 fn a_parse_of_too_many_types_is_refused(rt: HostRuntime) {
@@ -25,50 +24,42 @@ fn a_parse_of_too_many_types_is_refused(rt: HostRuntime) {
     same(&rt, buf.len(), 5 + 5 + 2 + 2 + 4 * 65_535);
 }
 
-// In LATIN1 `é` is the byte E9, and `ñ` F1: what isn't UTF-8 is written as it stands.
+// The message of this number, with texts in LATIN1, where `é` is the byte E9, and `ñ` F1.
+fn write_latin1(number: usize, buf: &mut BytesMut) -> Result<(), Error> {
+    match number {
+        0 => over_bytes::query(b"S\xe9", buf),
+        1 => over_bytes::parse(b"\xf1", b"\xe9", Some(23u32), buf),
+        2 => over_bytes::close(b'S', b"\xf1", buf),
+        3 => over_bytes::describe(b'P', b"\xe9", buf),
+        4 => over_bytes::execute(b"\xe9", 0, buf),
+        5 => over_bytes::startup_message([(b"user".as_slice(), b"Ren\xe9".as_slice())], buf),
+        6 => over_bytes::copy_fail(b"no \xe9", buf),
+        _ => over_bytes::sasl_initial_response(b"\xe9", b"n", buf),
+    }
+}
+
+// What isn't UTF-8 is written as it stands.
 #[test]
-fn texts_of_another_encoding(rt: HostRuntime) -> Result<(), Fail> {
+fn texts_of_another_encoding(rt: HostRuntime) {
     let mut buf = BytesMut::new(rt.alloc());
-    over_bytes::query(b"S\xe9", &mut buf)?;
-    same(&rt, buf.as_slice(), b"Q\0\0\0\x07S\xe9\0".as_slice());
-    buf.clear();
-    over_bytes::parse(b"\xf1", b"\xe9", Some(23u32), &mut buf)?;
-    same(
-        &rt,
-        buf.as_slice(),
-        b"P\0\0\0\x0e\xf1\0\xe9\0\0\x01\0\0\0\x17".as_slice(),
-    );
-    buf.clear();
-    over_bytes::close(b'S', b"\xf1", &mut buf)?;
-    over_bytes::describe(b'P', b"\xe9", &mut buf)?;
-    over_bytes::execute(b"\xe9", 0, &mut buf)?;
-    same(
-        &rt,
-        buf.as_slice(),
-        b"C\0\0\0\x07S\xf1\0D\0\0\0\x07P\xe9\0E\0\0\0\x0a\xe9\0\0\0\0\0".as_slice(),
-    );
-    buf.clear();
-    let user = [(b"user".as_slice(), b"Ren\xe9".as_slice())];
-    over_bytes::startup_message(user, &mut buf)?;
-    same(
-        &rt,
-        buf.as_slice(),
-        b"\0\0\0\x13\0\x03\0\0user\0Ren\xe9\0\0".as_slice(),
-    );
-    buf.clear();
-    over_bytes::copy_fail(b"no \xe9", &mut buf)?;
-    over_bytes::sasl_initial_response(b"\xe9", b"n", &mut buf)?;
-    same(
-        &rt,
-        buf.as_slice(),
-        b"f\0\0\0\x09no \xe9\0p\0\0\0\x0b\xe9\0\0\0\0\x01n".as_slice(),
-    );
+    for number in 0..8usize {
+        same_at(&rt, number, write_latin1(number, &mut buf), Ok(()));
+    }
     same(
         &rt,
         over_bytes::query(b"\xe9\0", &mut buf),
         Err(Error::EmbeddedNull),
     );
-    Ok(())
+    same(
+        &rt,
+        buf.as_slice(),
+        b"Q\0\0\0\x07S\xe9\0\
+            P\0\0\0\x0e\xf1\0\xe9\0\0\x01\0\0\0\x17\
+            C\0\0\0\x07S\xf1\0D\0\0\0\x07P\xe9\0E\0\0\0\x0a\xe9\0\0\0\0\0\
+            \0\0\0\x13\0\x03\0\0user\0Ren\xe9\0\0\
+            f\0\0\0\x09no \xe9\0p\0\0\0\x0b\xe9\0\0\0\0\x01n"
+            .as_slice(),
+    );
 }
 
 // A closure without a state meets what it owes with no clause of its own: here it refuses.

@@ -1,0 +1,20 @@
+//! What a test holds to be so. Each is proved once; an assertion in the text of a test is proved there again, with all
+//! that stands around it.
+
+use std::fmt::Debug;
+use std::process::Abort;
+
+/// What came is what was wanted, else the test fails and shows both.
+pub(crate) fn same<T: PartialEq + Debug + Drop>(rt: &impl Abort, came: T, wanted: T) {
+    assert_eq!(rt; came, wanted);
+}
+
+/// What came is true, else the test fails.
+pub(crate) fn holds(rt: &impl Abort, came: bool) {
+    assert!(rt; came);
+}
+
+/// More requests of memory than so many were refused, else the test fails and shows how many.
+pub(crate) fn refused_more(rt: &impl Abort, refusals: u64, few: u64) {
+    assert!(rt; refusals > few, "{refusals}");
+}
