@@ -30,17 +30,8 @@ pub(crate) fn feed(alloc: Global, bytes: &[u8]) -> Result<u64, Error> {
 fn weigh(results: Vec<Result<Message, Error>>) -> Result<u64, Error> {
     let mut sum = 0u64;
     for item in results {
-        let weight = weight_of(&item);
-        drop(item);
-        sum = sum.wrapping_add(weight?);
+        let message = item?;
+        sum = sum.wrapping_add(weight(&message));
     }
     Ok(sum)
-}
-
-#[inline(always)]
-fn weight_of(item: &Result<Message, Error>) -> Result<u64, Error> {
-    match item {
-        Ok(message) => Ok(weight(message)),
-        Err(e) => Err(*e),
-    }
 }

@@ -15,9 +15,7 @@ use std::ops::Range;
 pub(crate) fn read(buf: &mut BytesMut) -> Result<u64, Error> {
     let mut sum = 0u64;
     'messages: while let Some(message) = Message::parse(buf)? {
-        let weight = weight(&message);
-        drop(message);
-        sum = sum.wrapping_add(weight);
+        sum = sum.wrapping_add(weight(&message));
     }
     Ok(sum)
 }
