@@ -4,7 +4,7 @@
 # `make live` tries SASLprep, and what psql, pgbench and pg_dump send, with a PostgreSQL server of this machine, which it starts and stops; pgserve with psql and pgbench; and
 # examples/record.sh, which lists a session of psql with pgtrace.
 # `make library` proves and builds the library for C (docs/C.md), `make install PREFIX=..` puts it and the program there, and
-# `make check-c` tries it from C, C++ and Python.
+# `make check-c` tries it from C, C++ and Python (`LIBRARIES=gate`, right behind `rt ci`, takes the libraries below it from there).
 # `make bench` times the works of crates/pgp_bench, `make bench WORKS=write` those whose names begin so.
 
 .PHONY: run program test edits bench live library install check-c
@@ -47,4 +47,4 @@ install:
 	@scripts/library install "$(PREFIX)"
 
 check-c:
-	@scripts/check_c
+	@scripts/check_c $(LIBRARIES)

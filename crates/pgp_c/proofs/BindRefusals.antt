@@ -18,7 +18,7 @@ use Rattle.pgp_base.specs.declared.number.IsNull.TheVariants.{No}
 use Rattle.pgp_base.proofs.Causes.{counts_of, count_fits, either_left, either_right, either_first, either_then, first-append, first_here}
 use Rattle.pgp_base.proofs.Needs.{counted_length, flat_more, nullable_least, sized_wants, counted_wants}
 use Rattle.pgp_base.proofs.Parts.{wants_here, wants_more}
-use Rattle.pgp_frontend.proofs.Causes.{count_more, either_more, parts_first}
+use Rattle.pgp_frontend.proofs.Causes.{count_more, either_more, last_cause, no_cause, parts_first}
 use Rattle.pgp_frontend.proofs.Needs.{int16_length, null_length, bind_length, joined_more, framed_wants}
 use Rattle.pgp_frontend.specs.ClientMessage.{ClientMessage, Bind}
 use Rattle.pgp_frontend.specs.Given.{Arrived, Serves, before_values, BindWhole, BindSoFar, BindRefused, ValuesUpTo}
@@ -26,13 +26,6 @@ use Rattle.pgp_frontend.specs.Payload.{Text, Int16s, parts, parts_cause, joined,
 use Rattle.pgp_c.specs.declared.listing.PgpValue.{PgpValue}
 use Rattle.pgp_c.specs.Lists.{error_of, value_of, Puts}
 use Rattle.pgp_c.proofs.Lists.{one, all_made, fused, same_bind}
-
-last_cause : (c : Cause) (e : Error) → either c None ≡ Some e → c ≡ Some e
-last_cause (Some d) e h = h
-last_cause None e h = cc
-
-no_cause : (e : Error) → (let c : Cause = None in c ≡ Some e) → ⊥
-no_cause e h = cc
 
 -- ---- a list's first items
 

@@ -21,17 +21,11 @@ use Rattle.pgp_frontend.specs.ClientMessage.{Startup}
 use Rattle.pgp_frontend.specs.Given.{Arrived, StartupWhole, StartupSoFar, Refused, shown, shown_pairs}
 use Rattle.pgp_frontend.specs.Payload.{Int32, version_code, pair, pair_cause, parts, parts_cause, bytes_of, cause}
 use Rattle.pgp_frontend.specs.declared.startup.ProtocolVersion.{ProtocolVersion}
+use Rattle.pgp_frontend.proofs.Causes.{last_cause, refused_pairs}
 use Rattle.pgp_frontend.proofs.Needs.{startup_length}
 use Rattle.pgp_frontend.proofs.Lists.{all_given, some_given}
 use Rattle.pgp_c.specs.declared.opening.PgpPair.{PgpPair}
 use Rattle.pgp_c.specs.Opening.{pair_of}
-
-last_cause : (c : Cause) (e : Error) → either c None ≡ Some e → c ≡ Some e
-last_cause (Some d) e h = h
-last_cause None e h = cc
-
-refused_pairs : (c d : Cause) (e : Error) → c ≡ Some e → either (either None (either c None)) d ≡ Some e
-refused_pairs c d e h = rw h refl
 
 module _ (v : ProtocolVersion) (all : List (List ℕ × List ℕ)) where
   module _ (xs : List (Bor (List ℕ) × Bor (List ℕ))) (more : List (List ℕ × List ℕ)) (is : all ≡ map shown xs ++ more) where

@@ -16,7 +16,7 @@ use Rattle.pgp_base.proofs.Needs.{wants_window}
 use Rattle.pgp_base.proofs.Windows.{window_size, window_written}
 use Rattle.pgp_frontend.specs.ClientMessage.{ClientMessage}
 use Rattle.pgp_frontend.specs.Payload.{bytes_of, cause, IsInRange}
-use Rattle.pgp_frontend.proofs.Causes.{never_memory}
+use Rattle.pgp_frontend.proofs.Causes.{never_memory, no_cause}
 use Rattle.pgp_c.specs.Sending.{Sent, NotSent}
 use Rattle.pgp_c.specs.Values.{Wrote, Lacks}
 
@@ -79,9 +79,6 @@ wrote p q is w v old name new put x at_last told told_is = subst (λ k. Wrote k 
 })
 
 -- a value that has no cause is refused for its length alone
-no_cause : (e : Error) → (let c : Cause = None in c ≡ Some e) → ⊥
-no_cause e h = cc
-
 pub lacked : (p q : List ℕ) → q ≡ p → (w : Window) (old : List ℕ) (name : GName) → window_held w ≡ record { bytes = []; behind = old; kept = (name, length old) }
     → (e : Error) (code told : ℕ) → WantsMemory (Wants window_lacks (window_held w) (length q)) e ⊎ (let c : Cause = None in c ≡ Some e) → code ≡ number_of e → told ≡ 0 → Lacks p old told code
 lacked p q is w old name new e code told why code_is none = subst (λ k. Lacks k old told code) is (elim why [

@@ -14,9 +14,17 @@ use Rattle.pgp_frontend.specs.Payload.{Part, Byte, Int32, Text, Int16s, Oids, Va
 pub parts_first : (m : ClientMessage) (e : Error) → parts_cause (parts m) ≡ Some e → cause m ≡ Some e
 parts_first m e h = either_first (parts_cause (parts m)) _ e h
 
+pub last_cause : (c : Cause) (e : Error) → either c None ≡ Some e → c ≡ Some e
+last_cause (Some d) e h = h
+last_cause None e h = cc
+
 pub either_more : (c a b : Cause) (e : Error) → (a ≡ Some e → b ≡ Some e) → either c a ≡ Some e → either c b ≡ Some e
 either_more (Some d) a b e more h = h
 either_more None a b e more h = more h
+
+-- the pairs' cause is that of a startup packet
+pub refused_pairs : (c d : Cause) (e : Error) → c ≡ Some e → either (either None (either c None)) d ≡ Some e
+refused_pairs c d e h = rw h refl
 
 -- a count past its field stays past it
 large_alone : (b : Bool) (e : Error) → (let c : Cause = if b then None else Some TooLarge in c ≡ Some e) → Some TooLarge ≡ Some e
@@ -31,6 +39,10 @@ count_more n m e few h = elim (cases_Bool (nat_le m 65535)) [
   | inl t ↦ let k : None ≡ Some e = sym (count_fits n (omega (arith, few, leb-true m 65535 t))) ∙ h in absurd cc
   | inr f ↦ large_at (nat_le m 65535) f ∙ large_alone (nat_le n 65535) e h
 ]
+
+-- what has no cause has no error
+pub no_cause : (e : Error) → (let c : Cause = None in c ≡ Some e) → ⊥
+no_cause e h = cc
 
 -- ---- no message has want of memory as its cause
 

@@ -17,7 +17,7 @@ use Rattle.pgp_base.proofs.Parts.{length-uint32, wants_more}
 use Rattle.pgp_frontend.specs.ClientMessage.{ClientMessage, Parse}
 use Rattle.pgp_frontend.specs.Given.{Arrived, ParseWhole, ParseSoFar, Refused}
 use Rattle.pgp_frontend.specs.Payload.{Oids, parts, parts_cause, bytes_of, cause}
-use Rattle.pgp_frontend.proofs.Causes.{parts_first, either_more, count_more}
+use Rattle.pgp_frontend.proofs.Causes.{parts_first, last_cause, either_more, count_more}
 use Rattle.pgp_frontend.proofs.Needs.{parse_length}
 
 pub yields_front : {S A B : Type 0} (steps : S → Option A → S → Type 0) (v : A → B) (s : S) (ys : List B) (xs : List A) (t : S) (x : A) (u : S)
@@ -52,10 +52,6 @@ some_same into_iter_gives next_gives source ys y xs x k =
     (m.0, m.1 ∙ ap (λ l. l ++ x ∷ m.0) (map-id xs))
 
 -- ---- a statement with a list of types
-
-last_cause : (c : Cause) (e : Error) → either c None ≡ Some e → c ≡ Some e
-last_cause (Some d) e h = h
-last_cause None e h = cc
 
 oids_length : (ts : List ℕ) → length (flat_map oid ts) ≡ 4 * length ts
 oids_length [] = refl

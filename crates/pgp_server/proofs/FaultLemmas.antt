@@ -20,6 +20,7 @@ use Rattle.pgp_frontend.specs.ClientMessage.{ClientMessage, Bind, Close, CopyDat
 use Rattle.pgp_frontend.specs.Payload.{Part, Int32, Key, Pairs, pair, parts, tag_of, kind_of, key_cause}
 use Rattle.pgp_frontend.specs.declared.startup.ProtocolVersion.TheVariants.{V3_0, V3_2}
 use Rattle.pgp_frontend.specs.Reading.{Shape, AByte, AnInt32, AText, SomeInt16s, SomeOids, SomeValues, ASized, AllBytes, AKey, SomePairs, shape}
+use Rattle.pgp_frontend.proofs.Needs.{null_length}
 use Rattle.pgp_server.specs.Content.{Content, Contents}
 use Rattle.pgp_server.specs.Faults.{IsShort, HasWrongLength, LacksSized, LacksValue, LacksItems, IsCutPair, LacksEnd, Lacks, Faulty}
 use Rattle.pgp_server.specs.Reading.{items_at, items_on, with_front, counted_at, format_at, type_at, value_at, value_after, no_null, sized_at, pair_at, all_of, pairs_at, unless, key_at, content_at, contents_at, contents_on, before, ended, made, bind_of, close_of, describe_of, execute_of, parse_of, query_of, copy_fail_of, password_of, sasl_initial_of, told_of, body_of, startup_of, cancel_of, named, by_code, by_front, packet_of}
@@ -127,9 +128,6 @@ wrong_length n rest bytes e fits whole null is =
         ]
       ]
     ]
-
-null_length : length (nullable None) ≡ 4
-null_length = ap length (sym null_spelled) ∙ length-uint32 4294967295
 
 pub value_lacks : (bytes : List ℕ) (e : Error) → IsBytes bytes → value_at bytes ≡ Err e → LacksValue bytes e
 unfolding value_at

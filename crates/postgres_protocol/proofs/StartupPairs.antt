@@ -16,7 +16,7 @@ use Rattle.pgp_frontend.specs.Given.{Arrived, shown, shown_pairs}
 use Rattle.pgp_frontend.specs.declared.startup.ProtocolVersion.{ProtocolVersion}
 use Rattle.pgp_frontend.specs.Payload.{Part, Int32, version_code, pair, pair_cause, parts_cause, bytes_of, cause}
 use Rattle.pgp_base.proofs.Parts.{wants_more}
-use Rattle.pgp_frontend.proofs.Causes.{either_more}
+use Rattle.pgp_frontend.proofs.Causes.{either_more, last_cause, refused_pairs}
 use Rattle.pgp_frontend.proofs.Needs.{startup_length}
 
 -- ---- the items of a list, one after another
@@ -68,18 +68,11 @@ startup_wants v all xs old so_far w =
 
 -- ---- the first cause of the first pairs is that of the packet
 
-either_left : (c : Cause) (e : Error) → either c None ≡ Some e → c ≡ Some e
-either_left (Some d) e h = h
-either_left None e h = cc
-
 first_front : (xs : List (Bor (List ℕ) × Bor (List ℕ))) (k : ℕ) (e : Error) → first (map pair_cause (map shown (take k xs))) ≡ Some e → first (map pair_cause (map shown xs)) ≡ Some e
 first_front [] zero e h = cc
 first_front [] (suc k) e h = cc
 first_front (x ∷ xs) zero e h = cc
 first_front (x ∷ xs) (suc k) e h = either_more (pair_cause (shown x)) (first (map pair_cause (map shown (take k xs)))) (first (map pair_cause (map shown xs))) e (first_front xs k e) h
 
-refused_pairs : (c d : Cause) (e : Error) → c ≡ Some e → either (either None (either c None)) d ≡ Some e
-refused_pairs c d e h = rw h refl
-
 pub front_refused : (v : ProtocolVersion) (all : List (Bor (List ℕ) × Bor (List ℕ))) (k : ℕ) (e : Error) → parts_cause (Int32 (version_code v) ∷ shown_pairs (take k all) ∷ []) ≡ Some e → cause (Startup v (map shown all)) ≡ Some e
-front_refused v all k e h = refused_pairs (first (map pair_cause (map shown all))) _ e (first_front all k e (either_left (first (map pair_cause (map shown (take k all)))) e h))
+front_refused v all k e h = refused_pairs (first (map pair_cause (map shown all))) _ e (first_front all k e (last_cause (first (map pair_cause (map shown (take k all)))) e h))
