@@ -123,7 +123,7 @@ pub extern "C" fn pgp_put_empty_range(out: &mut [u8], written: &mut usize) -> u3
     ensures wrote { result ≡ 0 → Wrote (range.written empty) out.old out.new written.new }
     ensures lacks { result ≢ 0 → Lacks (range.written empty) out.old written.new result }
 {
-    put(&Scalar::EmptyRange, out, written)
+    put(Scalar::EmptyRange, out, written)
 }
 
 /// Writes a range between two sides, of any type.
