@@ -1,11 +1,7 @@
--- A text that was handed over.
-use Rattle.std.proofs.Common.{◌≡◌, ℕ, List, ◌++◌, ◌<◌, length, take, drop, Some, sym, ap, subst, ◌∙◌}
-use Rattle.std.proofs.Math.Seq.{take-append_seam}
+-- A client that has answered: what it sends, and what it awaits.
+use Rattle.std.proofs.Common.{◌≡◌, ℕ, List, ◌<◌, length, Some, ap}
 use Rattle.pgp_auth.specs.ScramClient.{Client, awaited_of, message_of}
 use Rattle.pgp_c_auth.specs.Scram.{Start, AnswersIn, AnswersWith, HasAnswered, NoRoom}
-
-pub handed : (text old new : List ℕ) (told : ℕ) → told ≡ length text → new ≡ text ++ drop (length text) old → take told new ≡ text
-handed text old new told size stands = ap (λ i. take i new) size ∙ ap (λ l. take (length text) l) stands ∙ take-append_seam text (drop (length text) old)
 
 pub answers_in : (s : Start) (first text : List ℕ) (client : Client) → HasAnswered s first client → message_of client.state ≡ Some text → AnswersIn s first text
 answers_in s first text client h says = record { start = h.start; begins = h.begins; client = client; answers = h.answers; text_is = says }
