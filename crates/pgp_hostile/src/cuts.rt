@@ -84,8 +84,7 @@ fn show_ways(bytes: &[u8], out: &mut Text) {
 
 /// Reads the stream of this text in every cutting, each way.
 pub(crate) fn run(text: &str, out: &mut Text) {
-    match Frames::parse(out.alloc(), text) {
-        Ok(frames) => show_ways(frames.bytes.as_slice(), out),
-        Err(fault) => out.fail(Some(fault)),
-    }
+    let frames = Frames::parse(out.alloc(), text);
+    show_ways(frames.bytes.as_slice(), out);
+    out.fail(frames.fault);
 }

@@ -171,8 +171,7 @@ fn show_frames(frames: &mut Frames, out: &mut Text) {
 
 /// Reads the session of this text with each byte replaced.
 pub(crate) fn run(text: &str, out: &mut Text) {
-    match Frames::parse(out.alloc(), text) {
-        Ok(mut frames) => show_frames(&mut frames, out),
-        Err(fault) => out.fail(Some(fault)),
-    }
+    let mut frames = Frames::parse(out.alloc(), text);
+    show_frames(&mut frames, out);
+    out.fail(frames.fault);
 }
