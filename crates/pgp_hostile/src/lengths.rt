@@ -53,13 +53,21 @@ fn show_options(body: &NegotiateProtocolVersionBody<&[u8]>, most: usize, out: &m
     show_walk(body.options(), body.options(), most, out)
 }
 
-/// A message that was read, with so many bytes at the most in its body.
-fn show_message(read: &Result<Option<Message<&[u8]>>, Error>, most: usize, out: &mut Text) {
+/// A message, with so many bytes at the most in its body.
+fn show_message(message: &Message<&[u8]>, most: usize, out: &mut Text) {
+    match message {
+        Message::DataRow(row) => show_row(row, out),
+        Message::RowDescription(columns) => show_columns(columns, most, out),
+        Message::NegotiateProtocolVersion(answer) => show_options(answer, most, out),
+        _ => out.word("another message"),
+    }
+}
+
+/// What was read.
+fn show_read(read: &Result<Option<Message<&[u8]>>, Error>, most: usize, out: &mut Text) {
     match read {
-        Ok(Some(Message::DataRow(row))) => show_row(row, out),
-        Ok(Some(Message::RowDescription(columns))) => show_columns(columns, most, out),
-        Ok(Some(Message::NegotiateProtocolVersion(answer))) => show_options(answer, most, out),
-        Ok(_) => out.word("another message"),
+        Ok(Some(message)) => show_message(message, most, out),
+        Ok(None) => out.word("no message"),
         Err(e) => out.number(*e),
     }
 }
@@ -165,7 +173,7 @@ fn read_body(tag: u8, body: &[u8], out: &mut Text) {
     frame.add(&length_of(body));
     frame.add(body);
     let read = Messages::new(frame.bytes.as_slice()).next();
-    show_message(&read, body.len(), out);
+    show_read(&read, body.len(), out);
     drop(read);
     out.fail(frame.fault);
 }

@@ -175,18 +175,15 @@ impl<'a> Exchange<'a> {
         }
     }
 
-    /// The text with the byte at this place replaced by each other value.
-    fn replace(&self, changed: Changed, place: usize, text: &str, ends: &mut Ends) {
-        let Ok(mut bytes) = Vec::from_slice(self.alloc, text.as_bytes()) else {
-            ends.tally.fail(Some(Fault::Memory));
-            return;
-        };
+    /// These bytes of a text with the one at this place replaced by each other value.
+    fn replace(&self, changed: Changed, place: usize, bytes: &mut [u8], ends: &mut Ends) {
+        let old = bytes.get(place).copied();
         for new in 0..=255u8 {
             if let Some(byte) = bytes.get_mut(place) {
                 *byte = new;
             }
-            if bytes.as_slice() != text.as_bytes() {
-                self.add(changed, bytes.as_slice(), ends);
+            if old != Some(new) {
+                self.add(changed, bytes, ends);
             }
         }
     }
@@ -195,7 +192,10 @@ impl<'a> Exchange<'a> {
     fn show_changes(&self, changed: Changed, text: &str, out: &mut Text) {
         for place in 0..text.len() {
             let mut ends = Ends::new(self.alloc);
-            self.replace(changed, place, text, &mut ends);
+            match Vec::from_slice(self.alloc, text.as_bytes()) {
+                Ok(mut bytes) => self.replace(changed, place, bytes.as_mut_slice(), &mut ends),
+                Err(_) => ends.tally.fail(Some(Fault::Memory)),
+            }
             ends.show(changed.name(), place, out);
         }
     }

@@ -55,10 +55,7 @@ fn used_by_four_thousand(
 fn take_four_thousand(rt: &impl Abort, heap: &LocalHeap) {
     let mut parser = StreamParser::new(heap);
     let used = used_by_four_thousand(&mut parser, heap);
-    holds(
-        rt,
-        matches!(used, Ok((second, fourth)) if fourth <= second),
-    );
+    holds(rt, matches!(used, Ok((second, fourth)) if fourth <= second));
     same(rt, parser.headers(), 8001);
 }
 

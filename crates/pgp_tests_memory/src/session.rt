@@ -226,7 +226,9 @@ fn made_again<B: Buffer>(stream: &mut ClientStream<B>) -> Result<usize, Error> {
     for said in SAID {
         if make(said, stream).is_err() {
             again = again.saturating_add(1);
-            make(said, stream)?;
+            if let Err(e) = make(said, stream) {
+                return Err(e);
+            }
         }
     }
     Ok(again)
