@@ -92,12 +92,11 @@ struct Text<'a> {
 impl Tried for Text<'_> {
     fn outcome<A: Allocator + Copy>(&self, alloc: A, turn: Turn<'_>) -> Result<usize, Error> {
         turn.begin();
-        let text = text_of(alloc, self.prep, self.call)?;
-        Ok(if text.as_str() == self.ample {
-            DONE
-        } else {
-            WRONG
-        })
+        match text_of(alloc, self.prep, self.call) {
+            Ok(text) if text.as_str() == self.ample => Ok(DONE),
+            Ok(_) => Ok(WRONG),
+            Err(e) => Err(e),
+        }
     }
 }
 
@@ -171,17 +170,40 @@ fn made<A: Allocator + Copy>(
 
 const NONCE: &str = "9IZ2O01zb9IgiIZ1WJ/zgpJB";
 
+// A client whose nonce is drawn.
+fn with_drawn<A: Allocator + Copy>(
+    alloc: A,
+    binding: ChannelBinding<A>,
+) -> Result<ScramSha256<A>, Error> {
+    let mut rng = Pcg32::seed_from_u64(1);
+    made(ScramSha256::new(alloc, PASSWORD, binding, &ToX, &mut rng))
+}
+
+// A client with the nonce above.
+fn with_nonce<A: Allocator + Copy>(
+    alloc: A,
+    binding: ChannelBinding<A>,
+) -> Result<ScramSha256<A>, Error> {
+    match String::from_str(alloc, NONCE) {
+        Ok(nonce) => match is_nonce(&nonce) {
+            true => made(ScramSha256::with_nonce(alloc, PASSWORD, binding, nonce, &ToX)),
+            false => Err(Error::InvalidCount),
+        },
+        Err(_) => Err(Error::OutOfMemory),
+    }
+}
+
 fn begun<A: Allocator + Copy>(alloc: A, is_drawn: bool) -> Result<ScramSha256<A>, Error> {
-    let binding = ChannelBinding::tls_server_end_point(Vec::from_slice(alloc, b"a hash")?);
-    if is_drawn {
-        let mut rng = Pcg32::seed_from_u64(1);
-        return made(ScramSha256::new(alloc, PASSWORD, binding, &ToX, &mut rng));
+    match Vec::from_slice(alloc, b"a hash") {
+        Ok(hash) => {
+            let binding = ChannelBinding::tls_server_end_point(hash);
+            match is_drawn {
+                true => with_drawn(alloc, binding),
+                false => with_nonce(alloc, binding),
+            }
+        }
+        Err(_) => Err(Error::OutOfMemory),
     }
-    let nonce = String::from_str(alloc, NONCE)?;
-    if !is_nonce(&nonce) {
-        return Err(Error::InvalidCount);
-    }
-    made(ScramSha256::with_nonce(alloc, PASSWORD, binding, nonce, &ToX))
 }
 
 // The server's first text for a client's first text: its nonce goes on, and it has a salt and a count.
