@@ -259,8 +259,10 @@ impl Exchange<'_> {
         alloc: A,
         client: &mut ScramSha256<A>,
     ) -> Result<usize, Error> {
-        let first = server_first(alloc, client)?;
-        self.told(steps(client, first.as_slice(), self.server_final))
+        match server_first(alloc, client) {
+            Ok(first) => self.told(steps(client, first.as_slice(), self.server_final)),
+            Err(_) => Err(Error::OutOfMemory),
+        }
     }
 
     // A refused `update` ends it, so that `finish` isn't due. A refused `finish` is told.
@@ -276,8 +278,10 @@ impl Exchange<'_> {
 impl Tried for Exchange<'_> {
     fn outcome<A: Allocator + Copy>(&self, alloc: A, turn: Turn<'_>) -> Result<usize, Error> {
         turn.begin();
-        let mut client = begun(alloc, self.is_drawn)?;
-        self.end(alloc, &mut client)
+        match begun(alloc, self.is_drawn) {
+            Ok(mut client) => self.end(alloc, &mut client),
+            Err(e) => Err(e),
+        }
     }
 }
 
@@ -378,8 +382,10 @@ impl Last<'_> {
 
 impl Tried for Last<'_> {
     fn outcome<A: Allocator + Copy>(&self, alloc: A, turn: Turn<'_>) -> Result<usize, Error> {
-        let mut client = begun(alloc, false)?;
-        self.refusal(alloc, &mut client, turn)
+        match begun(alloc, false) {
+            Ok(mut client) => self.refusal(alloc, &mut client, turn),
+            Err(e) => Err(e),
+        }
     }
 }
 

@@ -70,8 +70,10 @@ struct Exchange {
 impl Tried for Exchange {
     fn outcome<A: Allocator + Copy>(&self, alloc: A, turn: Turn<'_>) -> Result<usize, Error> {
         turn.begin();
-        let mut server = begun(alloc, self.is_mock)?;
-        end_of(&mut server)
+        match begun(alloc, self.is_mock) {
+            Ok(mut server) => end_of(&mut server),
+            Err(e) => Err(e),
+        }
     }
 }
 

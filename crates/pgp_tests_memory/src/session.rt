@@ -171,9 +171,13 @@ impl Made<'_> {
 
 impl Tried for Made<'_> {
     fn outcome<A: Allocator + Copy>(&self, alloc: A, turn: Turn<'_>) -> Result<usize, Error> {
-        let mut stream = stream_for(alloc, self.step)?;
-        turn.begin();
-        self.end(&mut stream)
+        match stream_for(alloc, self.step) {
+            Ok(mut stream) => {
+                turn.begin();
+                self.end(&mut stream)
+            }
+            Err(e) => Err(e),
+        }
     }
 }
 
