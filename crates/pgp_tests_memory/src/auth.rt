@@ -185,10 +185,13 @@ fn with_nonce<A: Allocator + Copy>(
     binding: ChannelBinding<A>,
 ) -> Result<ScramSha256<A>, Error> {
     match String::from_str(alloc, NONCE) {
-        Ok(nonce) => match is_nonce(&nonce) {
-            true => made(ScramSha256::with_nonce(alloc, PASSWORD, binding, nonce, &ToX)),
-            false => Err(Error::InvalidCount),
-        },
+        Ok(nonce) => {
+            if is_nonce(&nonce) {
+                made(ScramSha256::with_nonce(alloc, PASSWORD, binding, nonce, &ToX))
+            } else {
+                Err(Error::InvalidCount)
+            }
+        }
         Err(_) => Err(Error::OutOfMemory),
     }
 }
@@ -197,9 +200,10 @@ fn begun<A: Allocator + Copy>(alloc: A, is_drawn: bool) -> Result<ScramSha256<A>
     match Vec::from_slice(alloc, b"a hash") {
         Ok(hash) => {
             let binding = ChannelBinding::tls_server_end_point(hash);
-            match is_drawn {
-                true => with_drawn(alloc, binding),
-                false => with_nonce(alloc, binding),
+            if is_drawn {
+                with_drawn(alloc, binding)
+            } else {
+                with_nonce(alloc, binding)
             }
         }
         Err(_) => Err(Error::OutOfMemory),
@@ -239,9 +243,10 @@ fn steps<A: Allocator + Copy>(
     }
     let finished = number(client.finish(server_final));
     let over = (number(client.update(first)), number(client.finish(b"v=")));
-    match client.message().is_none() && over == (2, 2) {
-        true => Some((updated, finished, client.hmacs())),
-        false => None,
+    if client.message().is_none() && over == (2, 2) {
+        Some((updated, finished, client.hmacs()))
+    } else {
+        None
     }
 }
 

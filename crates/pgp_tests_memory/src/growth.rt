@@ -232,9 +232,10 @@ fn sums_in_pieces(heap: &LocalHeap, bytes: &[u8]) -> Result<Sums, Error> {
     let mut sums = Sums::new();
     let mut parser = StreamParser::new(heap);
     add_in_pieces(&mut parser, bytes, &mut sums)?;
-    match parser.rest().is_empty() && parser.headers() == sums.results {
-        true => Ok(sums),
-        false => Err(Error::NotDrained),
+    if parser.rest().is_empty() && parser.headers() == sums.results {
+        Ok(sums)
+    } else {
+        Err(Error::NotDrained)
     }
 }
 
