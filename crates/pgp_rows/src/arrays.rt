@@ -1,40 +1,31 @@
 //! Arrays, whose elements are bytes.
 
 use crate::codec::Codec;
-use crate::fault::{Fault, add};
+use crate::fault::plain;
 use crate::shown::{Show, Shown, show_walk};
-use crate::word::{Word, Words};
+use crate::word::{Item, Words};
 use pgp_base::{Buffer, Error, IsNull};
-use pgp_types::{ArrayDimension, array_from_sql, array_to_sql};
+use pgp_types::{Array, ArrayDimension, array_from_sql, array_to_sql};
 use std::alloc::Global;
 
-/// The dimensions of a list, two numbers each.
-fn dimensions(alloc: Global, list: &[Word]) -> Result<Vec<ArrayDimension>, Fault> {
-    let mut dimensions = Vec::new(alloc);
-    for pair in list.chunks(2) {
-        let mut words = Words::new(pair);
-        let len = words.number()?;
-        let lower_bound = words.number()?;
-        add(&mut dimensions, ArrayDimension { len, lower_bound })?;
+/// The length of a dimension, and its lower bound.
+impl<'w> Item<'w> for ArrayDimension {
+    fn read(words: &mut Words<'w>) -> ArrayDimension {
+        ArrayDimension {
+            len: words.number(),
+            lower_bound: words.number(),
+        }
     }
-    Ok(dimensions)
 }
 
-/// The elements of a list.
-pub fn elements<'w>(alloc: Global, list: &'w [Word]) -> Result<Vec<Option<&'w [u8]>>, Fault> {
-    let mut elements = Vec::new(alloc);
-    for word in list {
-        add(&mut elements, word.nullable()?)?;
+fn write_array<B: Buffer>(alloc: Global, words: &mut Words<'_>, buf: &mut B) -> Result<(), Error> {
+    let element_type = words.number();
+    if !words.takes("nulls") && !words.takes("full") {
+        words.fail_row();
     }
-    Ok(elements)
-}
-
-fn write_array<B: Buffer>(alloc: Global, words: &mut Words<'_>, buf: &mut B) -> Result<(), Fault> {
-    let element_type = words.number()?;
-    let _flag = words.word()?;
-    let dimensions = dimensions(alloc, words.list()?)?;
-    let elements = elements(alloc, words.list()?)?;
-    array_to_sql(
+    let dimensions = words.list::<ArrayDimension>(alloc);
+    let elements = words.list::<Option<&[u8]>>(alloc);
+    plain(array_to_sql(
         dimensions.iter().copied(),
         element_type,
         elements.as_slice(),
@@ -48,15 +39,21 @@ fn write_array<B: Buffer>(alloc: Global, words: &mut Words<'_>, buf: &mut B) -> 
             }
         },
         buf,
-    )?;
-    Ok(())
+    ))
 }
 
 impl Show for ArrayDimension {
-    fn show(self, out: &mut Shown) -> Result<(), Fault> {
-        out.number(self.len)?;
-        out.number(self.lower_bound)
+    fn show(self, out: &mut Shown) {
+        out.number(self.len);
+        out.number(self.lower_bound);
     }
+}
+
+fn show_array(array: &Array<'_>, out: &mut Shown) {
+    out.number(array.element_type());
+    out.word(if array.has_nulls() { "nulls" } else { "full" });
+    show_walk(array.dimensions(), out);
+    show_walk(array.values(), out);
 }
 
 #[derive(Drop)]
@@ -68,18 +65,17 @@ impl Codec for Arrays {
         name: &str,
         words: &mut Words<'_>,
         buf: &mut B,
-    ) -> Result<(), Fault> {
+    ) -> Result<(), Error> {
         if name != "array" {
-            return Err(Fault::Row);
+            return words.no_call();
         }
         write_array(alloc, words, buf)
     }
 
-    fn read(_name: &str, bytes: &[u8], out: &mut Shown) -> Result<(), Fault> {
-        let array = array_from_sql(bytes)?;
-        out.number(array.element_type())?;
-        out.word(if array.has_nulls() { "nulls" } else { "full" })?;
-        show_walk(array.dimensions(), out)?;
-        show_walk(array.values(), out)
+    fn read(_name: &str, bytes: &[u8], out: &mut Shown) {
+        match array_from_sql(bytes) {
+            Ok(array) => show_array(&array, out),
+            Err(e) => out.refusal(e),
+        }
     }
 }

@@ -9,33 +9,33 @@ use std::ops::Range;
 
 /// A message whose parts can be shown, wherever it keeps them.
 pub trait Parts {
-    fn show_parts(&self, out: &mut Shown) -> Result<(), Fault>;
+    fn show_parts(&self, out: &mut Shown);
 }
 
 /// The place of a column's value, or `null`.
 impl Show for Option<Range<usize>> {
-    fn show(self, out: &mut Shown) -> Result<(), Fault> {
+    fn show(self, out: &mut Shown) {
         match self {
-            Some(place) => {
-                let text = format!(in out.alloc(); "{}..{}", place.start, place.end)?;
-                out.word(text.as_str())
-            }
+            Some(place) => match format!(in out.alloc(); "{}..{}", place.start, place.end) {
+                Ok(text) => out.word(text.as_str()),
+                Err(_) => out.fail(Fault::Memory),
+            },
             None => out.word("null"),
         }
     }
 }
 
 /// The values that a row's table has, and `more` where it has one behind its last.
-fn show_values(index: &RowIndex<'_>, out: &mut Shown) -> Result<(), Fault> {
-    out.word("[")?;
+fn show_values(index: &RowIndex<'_>, out: &mut Shown) {
+    out.word("[");
     for i in 0..index.len() {
         match index.value(i) {
-            Some(value) => out.nullable(value)?,
-            None => out.word("none")?,
+            Some(value) => out.nullable(value),
+            None => out.word("none"),
         }
     }
     if index.value(index.len()).is_some() || index.value(usize::MAX).is_some() {
-        out.word("more")?;
+        out.word("more");
     }
     out.word("]")
 }
@@ -46,9 +46,9 @@ fn show_row(
     buffer: &[u8],
     index: Result<RowIndex<'_>, Error>,
     out: &mut Shown,
-) -> Result<(), Fault> {
-    show_walk(ranges, out)?;
-    out.bytes(buffer)?;
+) {
+    show_walk(ranges, out);
+    out.bytes(buffer);
     match index {
         Ok(index) => show_values(&index, out),
         Err(e) => out.refusal(e),
@@ -57,46 +57,42 @@ fn show_row(
 
 /// A column of a row.
 impl Show for Field<'_> {
-    fn show(self, out: &mut Shown) -> Result<(), Fault> {
-        out.text(self.name())?;
-        out.number(self.table_oid())?;
-        out.number(self.column_id())?;
-        out.number(self.type_oid())?;
-        out.number(self.type_size())?;
-        out.number(self.type_modifier())?;
+    fn show(self, out: &mut Shown) {
+        out.text(self.name());
+        out.number(self.table_oid());
+        out.number(self.column_id());
+        out.number(self.type_oid());
+        out.number(self.type_size());
+        out.number(self.type_modifier());
         out.number(self.format())
     }
 }
 
 /// A field of an error: its letter, its text, and the bytes of that.
 impl Show for ErrorField<'_> {
-    fn show(self, out: &mut Shown) -> Result<(), Fault> {
-        out.bytes(&[self.type_()])?;
-        out.text_or_refusal(self.value())?;
+    fn show(self, out: &mut Shown) {
+        out.bytes(&[self.type_()]);
+        out.text_or_refusal(self.value());
         out.bytes(self.value_bytes())
     }
 }
 
 /// A key: its number, and its bytes.
-fn show_key(number: Option<i32>, bytes: &[u8], out: &mut Shown) -> Result<(), Fault> {
+fn show_key(number: Option<i32>, bytes: &[u8], out: &mut Shown) {
     match number {
-        Some(number) => out.number(number)?,
-        None => out.word("none")?,
+        Some(number) => out.number(number),
+        None => out.word("none"),
     }
     out.bytes(bytes)
 }
 
-fn show_copy(format: u8, columns: ColumnFormats<'_>, out: &mut Shown) -> Result<(), Fault> {
-    out.number(format)?;
+fn show_copy(format: u8, columns: ColumnFormats<'_>, out: &mut Shown) {
+    out.number(format);
     show_walk(columns, out)
 }
 
-fn show_texts(
-    first: Result<&str, Error>,
-    second: Result<&str, Error>,
-    out: &mut Shown,
-) -> Result<(), Fault> {
-    out.text_or_refusal(first)?;
+fn show_texts(first: Result<&str, Error>, second: Result<&str, Error>, out: &mut Shown) {
+    out.text_or_refusal(first);
     out.text_or_refusal(second)
 }
 
@@ -110,11 +106,11 @@ macro_rules! login_parts {
             Message::AuthenticationSaslContinue(body) => $out.bytes(body.data()),
             Message::AuthenticationSaslFinal(body) => $out.bytes(body.data()),
             Message::BackendKeyData(body) => {
-                $out.number(body.process_id())?;
+                $out.number(body.process_id());
                 show_key(body.secret_key(), body.secret_key_bytes(), $out)
             }
             Message::NegotiateProtocolVersion(body) => {
-                $out.number(body.version())?;
+                $out.number(body.version());
                 show_walk(body.options(), $out)
             }
             other => $others(other, $out),
@@ -148,39 +144,39 @@ macro_rules! other_parts {
             Message::ErrorResponse(body) => show_walk(body.fields(), $out),
             Message::NoticeResponse(body) => show_walk(body.fields(), $out),
             Message::NotificationResponse(body) => {
-                $out.number(body.process_id())?;
+                $out.number(body.process_id());
                 show_texts(body.channel(), body.message(), $out)
             }
             Message::ParameterStatus(body) => show_texts(body.name(), body.value(), $out),
-            _ => Ok(()),
+            _ => {}
         }
     };
 }
 
-fn other_of_shared(message: &Message<Bytes>, out: &mut Shown) -> Result<(), Fault> {
+fn other_of_shared(message: &Message<Bytes>, out: &mut Shown) {
     other_parts!(message, out)
 }
 
-fn query_of_shared(message: &Message<Bytes>, out: &mut Shown) -> Result<(), Fault> {
+fn query_of_shared(message: &Message<Bytes>, out: &mut Shown) {
     query_parts!(message, out, other_of_shared)
 }
 
 impl Parts for Message<Bytes> {
-    fn show_parts(&self, out: &mut Shown) -> Result<(), Fault> {
+    fn show_parts(&self, out: &mut Shown) {
         login_parts!(self, out, query_of_shared)
     }
 }
 
-fn other_in_place(message: &Message<&[u8]>, out: &mut Shown) -> Result<(), Fault> {
+fn other_in_place(message: &Message<&[u8]>, out: &mut Shown) {
     other_parts!(message, out)
 }
 
-fn query_in_place(message: &Message<&[u8]>, out: &mut Shown) -> Result<(), Fault> {
+fn query_in_place(message: &Message<&[u8]>, out: &mut Shown) {
     query_parts!(message, out, other_in_place)
 }
 
 impl Parts for Message<&[u8]> {
-    fn show_parts(&self, out: &mut Shown) -> Result<(), Fault> {
+    fn show_parts(&self, out: &mut Shown) {
         login_parts!(self, out, query_in_place)
     }
 }

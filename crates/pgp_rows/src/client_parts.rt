@@ -1,44 +1,38 @@
 //! What a server reads of a client: each message as the words of the call that writes it.
 
-use crate::fault::Fault;
 use crate::shown::{Show, Shown, show_walk};
 use pgp_frontend::ProtocolVersion;
 use pgp_server::{AnyMessage, ClientMessage, OtherMessage, StartupParameters};
 
 /// The name and the value of a startup packet's parameter, two words.
 impl Show for (&[u8], &[u8]) {
-    fn show(self, out: &mut Shown) -> Result<(), Fault> {
+    fn show(self, out: &mut Shown) {
         let (name, value) = self;
-        out.bytes(name)?;
+        out.bytes(name);
         out.bytes(value)
     }
 }
 
 /// Shows the version, and the names and values, two words each.
-fn show_startup(
-    version: ProtocolVersion,
-    parameters: StartupParameters<'_>,
-    out: &mut Shown,
-) -> Result<(), Fault> {
-    out.word("startup_message_version")?;
+fn show_startup(version: ProtocolVersion, parameters: StartupParameters<'_>, out: &mut Shown) {
+    out.word("startup_message_version");
     match version {
-        ProtocolVersion::V3_0 => out.word("3.0")?,
-        ProtocolVersion::V3_2 => out.word("3.2")?,
+        ProtocolVersion::V3_0 => out.word("3.0"),
+        ProtocolVersion::V3_2 => out.word("3.2"),
     }
     show_walk(parameters, out)
 }
 
 /// Shows a call with these bytes as its words.
-fn show_bytes(call: &str, words: &[&[u8]], out: &mut Shown) -> Result<(), Fault> {
-    out.word(call)?;
+fn show_bytes(call: &str, words: &[&[u8]], out: &mut Shown) {
+    out.word(call);
     for word in words {
-        out.bytes(word)?;
+        out.bytes(word);
     }
-    Ok(())
 }
 
 /// Shows a message with numbers or lists.
-fn show_details(message: ClientMessage<'_>, out: &mut Shown) -> Result<(), Fault> {
+fn show_details(message: ClientMessage<'_>, out: &mut Shown) {
     match message {
         ClientMessage::Bind {
             portal,
@@ -47,9 +41,9 @@ fn show_details(message: ClientMessage<'_>, out: &mut Shown) -> Result<(), Fault
             values,
             result_formats,
         } => {
-            show_bytes("bind", &[portal, statement], out)?;
-            show_walk(formats, out)?;
-            show_walk(values, out)?;
+            show_bytes("bind", &[portal, statement], out);
+            show_walk(formats, out);
+            show_walk(values, out);
             show_walk(result_formats, out)
         }
         ClientMessage::Parse {
@@ -57,11 +51,11 @@ fn show_details(message: ClientMessage<'_>, out: &mut Shown) -> Result<(), Fault
             query,
             param_types,
         } => {
-            show_bytes("parse", &[name, query], out)?;
+            show_bytes("parse", &[name, query], out);
             show_walk(param_types, out)
         }
         ClientMessage::Execute { portal, max_rows } => {
-            show_bytes("execute", &[portal], out)?;
+            show_bytes("execute", &[portal], out);
             out.number(max_rows)
         }
         ClientMessage::Startup {
@@ -72,16 +66,16 @@ fn show_details(message: ClientMessage<'_>, out: &mut Shown) -> Result<(), Fault
             process_id,
             secret_key,
         } => {
-            out.word("cancel_request_key")?;
-            out.number(process_id)?;
+            out.word("cancel_request_key");
+            out.number(process_id);
             out.bytes(secret_key)
         }
-        _ => Err(Fault::Row),
+        _ => out.word("no such message"),
     }
 }
 
 /// Shows a message that no call here writes, by a name of its own and its parts.
-fn show_other(message: OtherMessage<'_>, out: &mut Shown) -> Result<(), Fault> {
+fn show_other(message: OtherMessage<'_>, out: &mut Shown) {
     match message {
         OtherMessage::FunctionCall {
             function,
@@ -89,10 +83,10 @@ fn show_other(message: OtherMessage<'_>, out: &mut Shown) -> Result<(), Fault> {
             arguments,
             result_format,
         } => {
-            out.word("function_call")?;
-            out.number(function)?;
-            show_walk(formats, out)?;
-            show_walk(arguments, out)?;
+            out.word("function_call");
+            out.number(function);
+            show_walk(formats, out);
+            show_walk(arguments, out);
             out.number(result_format)
         }
         OtherMessage::SaslInitialWithoutResponse { mechanism } => {
@@ -100,15 +94,15 @@ fn show_other(message: OtherMessage<'_>, out: &mut Shown) -> Result<(), Fault> {
         }
         OtherMessage::GssEncRequest => out.word("gssenc_request"),
         OtherMessage::StartupOther { minor, parameters } => {
-            out.word("startup_message_minor")?;
-            out.number(minor)?;
+            out.word("startup_message_minor");
+            out.number(minor);
             show_walk(parameters, out)
         }
     }
 }
 
 /// Shows any message.
-pub fn show_any(message: AnyMessage<'_>, out: &mut Shown) -> Result<(), Fault> {
+pub fn show_any(message: AnyMessage<'_>, out: &mut Shown) {
     match message {
         AnyMessage::Ours(message) => show_call(message, out),
         AnyMessage::Other(message) => show_other(message, out),
@@ -116,7 +110,7 @@ pub fn show_any(message: AnyMessage<'_>, out: &mut Shown) -> Result<(), Fault> {
 }
 
 /// Shows a message.
-fn show_call(message: ClientMessage<'_>, out: &mut Shown) -> Result<(), Fault> {
+fn show_call(message: ClientMessage<'_>, out: &mut Shown) {
     match message {
         ClientMessage::Close { variant, name } => show_bytes("close", &[&[variant], name], out),
         ClientMessage::CopyData(bytes) => show_bytes("copy_data", &[bytes], out),

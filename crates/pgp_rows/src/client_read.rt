@@ -2,10 +2,10 @@
 
 use crate::client_parts::show_any;
 use crate::client_steps::{Grammar, Kinds};
-use crate::fault::{Fault, add};
+use crate::fault::Fault;
 use crate::row::Row;
-use crate::shown::{Shown, same};
-use crate::word::{Word, Words, joined, words_of};
+use crate::shown::Shown;
+use crate::word::{Item, Word, Words, words_of};
 use bytes::BytesMut;
 use pgp_base::{Error, Window};
 use pgp_server::{
@@ -16,62 +16,71 @@ use std::alloc::Global;
 /// More messages than a row has.
 const MOST: usize = 100;
 
-fn show_refusal(refusal: ClientError, out: &mut Shown) -> Result<(), Fault> {
-    match refusal {
-        ClientError::UnknownPacket(code) => {
-            out.word("UnknownPacket")?;
-            out.number(code)?;
-        }
-        ClientError::Reading(e) => out.refusal(e)?,
-    }
-    out.word(";")
+/// The bytes of a client, and how they are read.
+#[derive(Drop)]
+struct Sent<'s> {
+    grammar: Grammar,
+    opened: bool,
+    kinds: &'s [PasswordKind],
+    bytes: &'s [u8],
 }
 
-/// The message, written again, is the bytes that stood there; in memory that is a byte short it is refused.
-fn is_forwarded(alloc: Global, message: &AnyMessage<'_>, stood: &[u8]) -> Result<(), Fault> {
-    let mut buf = BytesMut::new(alloc);
-    forward_any(message, &mut buf)?;
-    let mut wanted = Shown::new(alloc);
-    wanted.bytes(stood)?;
-    let mut came = Shown::new(alloc);
-    came.bytes(buf.as_slice())?;
-    let mut room = vec![in alloc; 0u8; stood.len().saturating_sub(1)]?;
-    let mut window = Window::new(&mut room);
-    match forward_any(message, &mut window) {
-        Err(Error::OutOfMemory) => {}
-        _ => came.word("in too little memory")?,
+fn show_refusal(refusal: ClientError, out: &mut Shown) {
+    match refusal {
+        ClientError::UnknownPacket(code) => {
+            out.word("UnknownPacket");
+            out.number(code);
+        }
+        ClientError::Reading(e) => out.refusal(e),
     }
-    same(wanted.as_str(), came)
+    out.word(";");
+}
+
+/// In memory that is a byte short a message isn't forwarded. Else that is shown.
+fn needs_its_room(message: &AnyMessage<'_>, len: usize, out: &mut Shown) {
+    let Ok(mut room) = vec![in out.alloc(); 0u8; len.saturating_sub(1)] else {
+        return out.fail(Fault::Memory);
+    };
+    let mut window = Window::new(&mut room);
+    if forward_any(message, &mut window) != Err(Error::OutOfMemory) {
+        out.word("forwarded in too little memory");
+    }
+}
+
+/// The message, written again, is the bytes that stood there; in memory that is a byte short it is refused. Else that is shown.
+fn forward(message: &AnyMessage<'_>, stood: &[u8], out: &mut Shown) {
+    let mut buf = BytesMut::new(out.alloc());
+    if let Err(e) = forward_any(message, &mut buf) {
+        out.refusal(e);
+    }
+    if buf.as_slice() != stood {
+        out.word("forwarded as");
+        out.bytes(buf.as_slice());
+    }
+    needs_its_room(message, stood.len(), out);
 }
 
 /// Each message that is read is forwarded.
-fn forwards(
-    alloc: Global,
-    grammar: Grammar,
-    bytes: &[u8],
-    opened: bool,
-    kinds: &[PasswordKind],
-) -> Result<(), Fault> {
-    let mut kinds = Kinds::new(kinds);
-    let mut reader = ClientMessages::resume(bytes, opened);
+fn forward_each(sent: &Sent<'_>, out: &mut Shown) {
+    let mut kinds = Kinds::new(sent.kinds);
+    let mut reader = ClientMessages::resume(sent.bytes, sent.opened);
     for _ in 0..MOST {
         let left = reader.rest().len();
-        match grammar.next(&mut reader, kinds.first()) {
+        match sent.grammar.next(&mut reader, kinds.first()) {
             Ok(Some((message, stood))) => {
-                let forwarded = is_forwarded(alloc, &message, stood);
+                forward(&message, stood, out);
                 kinds.pass(&message);
                 drop(message);
-                forwarded?;
             }
-            Ok(None) => return Ok(()),
+            Ok(None) => return,
             Err(_) => {
                 if reader.rest().len() == left {
-                    return Ok(());
+                    return;
                 }
             }
         }
     }
-    Err(Fault::Row)
+    out.word("endless");
 }
 
 /// Shows what is read, and tells whether a refusal stopped it.
@@ -80,122 +89,119 @@ fn read_on(
     reader: &mut ClientMessages<'_>,
     kinds: &mut Kinds<'_>,
     out: &mut Shown,
-) -> Result<bool, Fault> {
+) -> bool {
     for _ in 0..MOST {
         let left = reader.rest().len();
         match grammar.next(reader, kinds.first()) {
             Ok(Some((message, _))) => {
                 kinds.pass(&message);
-                show_any(message, out)?;
-                out.word(";")?;
+                show_any(message, out);
+                out.word(";");
             }
-            Ok(None) => return Ok(false),
+            Ok(None) => return false,
             Err(e) => {
-                show_refusal(e, out)?;
+                show_refusal(e, out);
                 if reader.rest().len() == left {
-                    return Ok(true);
+                    return true;
                 }
             }
         }
     }
-    Err(Fault::Row)
+    out.word("endless");
+    true
 }
 
 /// Reads the front as far as it goes, and on from there over all bytes.
-fn in_two(
-    grammar: Grammar,
-    bytes: &[u8],
-    cut: usize,
-    opened: bool,
-    kinds: &[PasswordKind],
-    out: &mut Shown,
-) -> Result<(), Fault> {
-    let mut kinds = Kinds::new(kinds);
-    let (front, back) = bytes.split_at_checked(cut).ok_or(Fault::Row)?;
-    let mut reader = ClientMessages::resume(front, opened);
-    let is_stopped = read_on(grammar, &mut reader, &mut kinds, out)?;
-    let unread = reader.rest().len().saturating_add(back.len());
-    let at = bytes.len().saturating_sub(unread);
-    let mut reader = ClientMessages::resume(bytes.get(at..).unwrap_or(&[]), reader.is_open());
+fn in_two(sent: &Sent<'_>, cut: usize, out: &mut Shown) {
+    let mut kinds = Kinds::new(sent.kinds);
+    let front = sent.bytes.get(..cut).unwrap_or(&[]);
+    let mut reader = ClientMessages::resume(front, sent.opened);
+    let is_stopped = read_on(sent.grammar, &mut reader, &mut kinds, out);
+    let at = front.len().saturating_sub(reader.rest().len());
+    let rest = sent.bytes.get(at..).unwrap_or(&[]);
+    let mut reader = ClientMessages::resume(rest, reader.is_open());
     if !is_stopped {
-        read_on(grammar, &mut reader, &mut kinds, out)?;
+        read_on(sent.grammar, &mut reader, &mut kinds, out);
     }
-    out.word("rest")?;
-    out.bytes(reader.rest())
+    out.word("rest");
+    out.bytes(reader.rest());
 }
 
 /// All at once: what `read_session` lists begins what comes step by step.
-fn at_once(alloc: Global, bytes: &[u8], kinds: &[PasswordKind], wanted: &str) -> Result<(), Fault> {
-    let mut out = Shown::new(alloc);
-    let (messages, refusal) = read_session(alloc, kinds, bytes)?;
+fn at_once(sent: &Sent<'_>, wanted: &str, out: &mut Shown) -> Result<(), Fault> {
+    let (messages, refusal) = read_session(out.alloc(), sent.kinds, sent.bytes)?;
     for message in messages {
-        show_any(AnyMessage::Ours(message), &mut out)?;
-        out.word(";")?;
+        show_any(AnyMessage::Ours(message), out);
+        out.word(";");
     }
     if let Some(e) = refusal {
-        show_refusal(e, &mut out)?;
+        show_refusal(e, out);
     }
-    if wanted.starts_with(out.as_str()) {
-        Ok(())
-    } else {
-        Err(Fault::Differs(out.into_text()))
-    }
+    let front = wanted.get(..out.as_str().len()).unwrap_or("");
+    out.came_to(front)
 }
 
 /// Comes to this, however the bytes are cut, and each message is forwarded.
-fn comes_to(
-    alloc: Global,
+fn comes_to(sent: &Sent<'_>, wanted: &str, out: &mut Shown) -> Result<(), Fault> {
+    for cut in 0..=sent.bytes.len() {
+        in_two(sent, cut, out);
+        out.came_to(wanted)?;
+    }
+    if let (Grammar::Ours, false) = (sent.grammar, sent.opened) {
+        at_once(sent, wanted, out)?;
+    }
+    forward_each(sent, out);
+    out.came_to("")
+}
+
+/// The kind of a message of tag `p`.
+impl<'w> Item<'w> for PasswordKind {
+    fn read(words: &mut Words<'w>) -> PasswordKind {
+        if words.takes("initial") {
+            return PasswordKind::Initial;
+        }
+        if words.takes("response") {
+            return PasswordKind::Response;
+        }
+        if !words.takes("password") {
+            words.fail_row();
+        }
+        PasswordKind::Password
+    }
+}
+
+/// The words of a row behind its call: `first` or `open`, the kinds of the messages of tag `p`, and the bytes.
+fn check_sent(
     grammar: Grammar,
-    bytes: &[u8],
-    opened: bool,
-    kinds: &[PasswordKind],
+    words: &mut Words<'_>,
     wanted: &str,
+    out: &mut Shown,
 ) -> Result<(), Fault> {
-    for cut in 0..=bytes.len() {
-        let mut out = Shown::new(alloc);
-        in_two(grammar, bytes, cut, opened, kinds, &mut out)?;
-        same(wanted, out)?;
+    let opened = words.takes("open");
+    if !opened && !words.takes("first") {
+        words.fail_row();
     }
-    if let (Grammar::Ours, false) = (grammar, opened) {
-        at_once(alloc, bytes, kinds, wanted)?;
-    }
-    forwards(alloc, grammar, bytes, opened, kinds)
+    let kinds = words.list::<PasswordKind>(out.alloc());
+    let bytes = words.joined(out.alloc());
+    out.keep(words.end());
+    let sent = Sent {
+        grammar,
+        opened,
+        kinds: &kinds,
+        bytes: &bytes,
+    };
+    comes_to(&sent, wanted, out)
 }
 
-fn kinds_of(alloc: Global, list: &[Word]) -> Result<Vec<PasswordKind>, Fault> {
-    let mut kinds = Vec::new(alloc);
-    for word in list {
-        let kind = if word.is("password") {
-            PasswordKind::Password
-        } else if word.is("initial") {
-            PasswordKind::Initial
-        } else if word.is("response") {
-            PasswordKind::Response
-        } else {
-            return Err(Fault::Row);
-        };
-        add(&mut kinds, kind)?;
-    }
-    Ok(kinds)
-}
-
-/// A row of a client's bytes: `read` or `read_any`, `first` or `open`, the kinds of the messages of tag `p`, and the bytes.
-pub fn check_client_read(alloc: Global, row: &Row<'_>) -> Result<(), Fault> {
+/// A row of a client's bytes: `read` or `read_any`, and its words.
+pub fn check_client_read(alloc: Global, row: &Row<'_>, out: &mut Shown) -> Result<(), Fault> {
     let grammar = match row.call {
         "read" => Grammar::Ours,
         "read_any" => Grammar::Any,
         _ => return Err(Fault::Row),
     };
     let all = words_of(alloc, row.left)?;
-    let mut words = Words::new(&all);
-    let phase = words.word()?;
-    let opened = phase.is("open");
-    if !opened && !phase.is("first") {
-        return Err(Fault::Row);
-    }
-    let kinds = kinds_of(alloc, words.list()?)?;
-    let bytes = joined(alloc, words.rest())?;
-    comes_to(alloc, grammar, &bytes, opened, &kinds, row.right)
+    check_sent(grammar, &mut Words::new(&all), row.right, out)
 }
 
 /// The kind of the message that a call writes.
@@ -207,76 +213,85 @@ fn kind_of(call: &str) -> PasswordKind {
     }
 }
 
-/// Shows the words as a message's parts are shown.
-fn show_words(words: &[Word], out: &mut Shown) -> Result<(), Fault> {
+/// Shows a call and its words as a message and its parts are shown.
+fn show_words(call: &str, words: &[Word], out: &mut Shown) {
+    out.word(call);
     for word in words {
-        word.show(out)?;
+        word.show(out);
     }
-    Ok(())
 }
 
-/// Shows the message of a call, and tells whether it opens a session.
-fn show_written(call: &str, words: &[Word], out: &mut Shown) -> Result<bool, Fault> {
+/// Shows `cancel_request` as it is read back: its key as bytes.
+fn show_cancel(words: &[Word], out: &mut Shown) {
+    let mut words = Words::new(words);
+    out.word("cancel_request_key");
+    out.number(words.number::<i32>());
+    out.bytes(&words.number::<i32>().to_be_bytes());
+}
+
+/// Shows the message of a call, and tells whether it comes in a session.
+fn show_written(call: &str, words: &[Word], out: &mut Shown) -> bool {
     match call {
         "startup_message" => {
-            out.word("startup_message_version 3.0")?;
-            show_words(words, out)?;
-            out.word("of any")?;
+            show_words("startup_message_version 3.0", words, out);
+            out.word("of any");
         }
         "startup_message_version" => {
-            out.word(call)?;
-            show_words(words, out)?;
-            out.word("of any")?;
+            show_words(call, words, out);
+            out.word("of any");
         }
-        "cancel_request" => {
-            let mut words = Words::new(words);
-            out.word("cancel_request_key")?;
-            out.number(words.number::<i32>()?)?;
-            out.bytes(&words.number::<i32>()?.to_be_bytes())?;
-        }
-        "cancel_request_key" | "ssl_request" => {
-            out.word(call)?;
-            show_words(words, out)?;
-        }
+        "cancel_request" => show_cancel(words, out),
+        "cancel_request_key" | "ssl_request" => show_words(call, words, out),
         _ => {
-            out.word(call)?;
-            show_words(words, out)?;
-            return Ok(true);
+            show_words(call, words, out);
+            return true;
         }
     }
-    Ok(false)
+    false
 }
 
 /// Whether a startup packet has an empty name, which no server reads.
-fn has_empty_name(call: &str, words: &[Word]) -> Result<bool, Fault> {
+fn has_empty_name(call: &str, words: &[Word], alloc: Global) -> bool {
     let mut words = Words::new(words);
-    match call {
-        "startup_message" => {}
-        "startup_message_version" => {
-            words.word()?;
-        }
-        _ => return Ok(false),
+    if call != "startup_message" && call != "startup_message_version" {
+        return false;
     }
-    for pair in words.list()?.chunks(2) {
-        if Words::new(pair).bytes()?.is_empty() {
-            return Ok(true);
+    let _version = words.takes("3.0") || words.takes("3.2");
+    for (name, _) in words.list::<(&str, &str)>(alloc) {
+        if name.is_empty() {
+            return true;
         }
     }
-    Ok(false)
+    false
+}
+
+/// Shows what comes back of a call that wrote these bytes, and tells whether it comes in a session.
+fn show_read_back(call: &str, words: &[Word], bytes: &[u8], out: &mut Shown) -> bool {
+    if has_empty_name(call, words, out.alloc()) {
+        out.word("NotDrained ; rest");
+        out.bytes(bytes);
+        return false;
+    }
+    let opened = show_written(call, words, out);
+    out.word("; rest \"\"");
+    opened
 }
 
 /// What a call wrote is read back, as this call and nothing else.
-pub fn is_read_back(alloc: Global, call: &str, words: &[Word], bytes: &[u8]) -> Result<(), Fault> {
+pub fn is_read_back(alloc: Global, row: &Row<'_>, out: &mut Shown) -> Result<(), Fault> {
+    let words = words_of(alloc, row.left)?;
+    let bytes = row.wanted_bytes(alloc)?;
     let mut wanted = Shown::new(alloc);
-    let mut opened = false;
-    if has_empty_name(call, words)? {
-        wanted.word("NotDrained ; rest")?;
-        wanted.bytes(bytes)?;
-    } else {
-        opened = show_written(call, words, &mut wanted)?;
-        wanted.word("; rest \"\"")?;
+    let opened = show_read_back(row.call, &words, &bytes, &mut wanted);
+    let kinds = [kind_of(row.call)];
+    for grammar in [Grammar::Ours, Grammar::Any] {
+        let sent = Sent {
+            grammar,
+            opened,
+            kinds: &kinds,
+            bytes: &bytes,
+        };
+        comes_to(&sent, wanted.as_str(), out)?;
     }
-    let kinds = [kind_of(call)];
-    comes_to(alloc, Grammar::Ours, bytes, opened, &kinds, wanted.as_str())?;
-    comes_to(alloc, Grammar::Any, bytes, opened, &kinds, wanted.as_str())
+    Ok(())
 }

@@ -3,10 +3,10 @@
 use crate::client_read::is_read_back;
 use crate::fault::Fault;
 use crate::row::Row;
-use crate::shown::{Shown, same};
-use crate::word::{Word, Words, joined};
+use crate::shown::Shown;
+use crate::word::{Word, Words, bytes_of, words_of};
 use bytes::BytesMut;
-use pgp_base::{Buffer, Window};
+use pgp_base::{Buffer, Error, Window};
 use pgp_test_alloc::Refusing;
 use std::alloc::{AllocError, Allocator, Global};
 
@@ -18,123 +18,64 @@ pub trait Codec {
         name: &str,
         words: &mut Words<'_>,
         buf: &mut B,
-    ) -> Result<(), Fault>;
+    ) -> Result<(), Error>;
 
     /// Shows what the type of this name reads from all of the bytes.
-    fn read(name: &str, bytes: &[u8], out: &mut Shown) -> Result<(), Fault>;
+    fn read(name: &str, bytes: &[u8], out: &mut Shown);
 }
 
 /// A message that stands in the buffer already.
 const SYNC: &[u8] = b"S\0\0\0\x04";
 
-/// Appends a refusal. Any other fault is handed on.
-fn show_refusal(answer: Result<(), Fault>, out: &mut Shown) -> Result<(), Fault> {
-    match answer {
-        Err(Fault::Refused(e)) => out.refusal(e),
-        other => other,
-    }
+/// What a refusal for want of memory leaves of that.
+const LACKS_MEMORY: &str = "OutOfMemory 5300000004";
+
+/// What a call has to come to: its bytes, as they are shown, and what is shown of a buffer that held a message. It appends none where
+/// it is refused.
+#[derive(Drop)]
+struct Wanted {
+    bytes: Vec<u8>,
+    alone: Shown,
+    behind: Shown,
 }
 
-/// What is wanted behind what the buffer held: bytes, or a refusal, and then none.
-fn wanted(alloc: Global, row: &Row<'_>) -> Result<(Shown, Vec<u8>), Fault> {
-    let mut bytes = Vec::new(alloc);
-    let mut out = Shown::new(alloc);
-    bytes.extend_from_slice(SYNC)?;
-    if row.is_refusal() {
-        out.word(row.right)?;
+fn wanted_of(alloc: Global, row: &Row<'_>) -> Result<Wanted, Fault> {
+    let mut behind = Shown::new(alloc);
+    let bytes = if row.is_refusal() {
+        behind.word(row.right);
+        Vec::new(alloc)
     } else {
-        bytes.extend_from_slice(&row.wanted_bytes(alloc)?)?;
-    }
-    out.bytes(&bytes)?;
-    Ok((out, bytes))
-}
-
-/// Makes a call, which has to take all words.
-fn call<C: Codec, B: Buffer>(
-    alloc: Global,
-    name: &str,
-    words: &[Word],
-    buf: &mut B,
-) -> Result<(), Fault> {
-    let mut words = Words::new(words);
-    C::write(alloc, name, &mut words, buf)?;
-    words.end()
-}
-
-/// The call appends what the row says, or is refused so and leaves what stood there.
-fn is_written<C: Codec>(
-    alloc: Global,
-    row: &Row<'_>,
-    name: &str,
-    words: &[Word],
-) -> Result<(), Fault> {
-    let mut buf = BytesMut::new(alloc);
-    buf.extend_from_slice(SYNC)?;
-    let answer = call::<C, BytesMut>(alloc, name, words, &mut buf);
-    let mut came = Shown::new(alloc);
-    show_refusal(answer, &mut came)?;
-    came.bytes(buf.as_slice())?;
-    let (wanted, _) = wanted(alloc, row)?;
-    same(wanted.as_str(), came)
-}
-
-/// The call's answer in memory that has room for so many bytes, and that memory.
-fn in_room<C: Codec>(
-    alloc: Global,
-    name: &str,
-    words: &[Word],
-    size: usize,
-    room: &mut [u8],
-) -> Result<Shown, Fault> {
-    let mut out = Shown::new(alloc);
-    let Some(front) = room.get_mut(..size) else {
-        return Err(Fault::Row);
+        row.wanted_bytes(alloc)?
     };
-    let mut window = Window::new(front);
-    let answer = call::<C, Window<'_>>(alloc, name, words, &mut window);
-    show_refusal(answer, &mut out)?;
-    out.bytes(window.as_slice())?;
-    Ok(out)
+    behind.bytes(SYNC);
+    behind.more_bytes(&bytes);
+    let mut alone = Shown::new(alloc);
+    alone.bytes(&bytes);
+    Ok(Wanted {
+        bytes,
+        alone,
+        behind,
+    })
 }
 
-/// Whether the memory behind so many bytes is as it was.
-fn is_untouched(room: &[u8], size: usize) -> bool {
-    for byte in room.iter().skip(size) {
-        if *byte != 0xff {
-            return false;
-        }
-    }
-    true
-}
-
-/// A call whose bytes fit exactly is not refused, and behind them the memory is as it was.
-fn fits<C: Codec>(alloc: Global, name: &str, words: &[Word], bytes: &[u8]) -> Result<(), Fault> {
-    let mut room = vec![in alloc; 0xffu8; bytes.len().saturating_add(8)]?;
-    let mut came = in_room::<C>(alloc, name, words, bytes.len(), &mut room)?;
-    let mut wanted = Shown::new(alloc);
-    wanted.bytes(bytes)?;
-    if !is_untouched(&room, bytes.len()) {
-        came.word("and more")?;
-    }
-    same(wanted.as_str(), came)
-}
-
-/// In memory that is a byte short the call is refused, and behind it the memory is as it was.
-fn needs_its_room<C: Codec>(
+/// A call, its words, and what it has to come to.
+#[derive(Drop)]
+struct Case<'c> {
     alloc: Global,
-    name: &str,
-    words: &[Word],
-    bytes: &[u8],
-) -> Result<(), Fault> {
-    let Some(size) = bytes.len().checked_sub(1) else {
-        return Ok(());
-    };
-    let mut room = vec![in alloc; 0xffu8; bytes.len().saturating_add(8)]?;
-    let mut came = in_room::<C>(alloc, name, words, size, &mut room)?;
-    if !is_untouched(&room, size) {
-        came.word("and more")?;
+    name: &'c str,
+    words: &'c [Word],
+    bytes: &'c [u8],
+    alone: &'c str,
+    behind: &'c str,
+}
+
+/// Makes a call, which has to take all words, and shows its refusal.
+fn call<C: Codec, B: Buffer>(case: &Case<'_>, buf: &mut B, out: &mut Shown) {
+    let mut words = Words::new(case.words);
+    if let Err(e) = C::write(case.alloc, case.name, &mut words, buf) {
+        out.refusal(e);
     }
-    same("OutOfMemory \"\"", came)
+    out.keep(words.end());
 }
 
 /// A buffer that holds a message, and has so much room behind it.
@@ -144,23 +85,65 @@ fn with_room<A: Allocator + Copy>(alloc: A, room: usize) -> Result<BytesMut<A>, 
     Ok(buf)
 }
 
-/// What the call comes to where its request of memory of this number is refused, and whether that came.
+/// The call appends what the row says, or is refused so and leaves what stood there.
+fn is_written<C: Codec>(case: &Case<'_>, out: &mut Shown) -> Result<(), Fault> {
+    let mut buf = BytesMut::new(case.alloc);
+    if buf.extend_from_slice(SYNC).is_err() {
+        out.fail(Fault::Memory);
+    }
+    call::<C, BytesMut>(case, &mut buf, out);
+    out.bytes(buf.as_slice());
+    out.came_to(case.behind)
+}
+
+/// Whether all of the memory is as it was.
+fn is_untouched(room: &[u8]) -> bool {
+    for byte in room {
+        if *byte != 0xff {
+            return false;
+        }
+    }
+    true
+}
+
+/// Shows the call's answer in memory that has room for so many bytes, what it wrote, and whether the memory behind is as it was.
+fn show_in_room<C: Codec>(case: &Case<'_>, size: usize, room: &mut [u8], out: &mut Shown) {
+    let Some((front, back)) = room.split_at_mut_checked(size) else {
+        return out.fail(Fault::Row);
+    };
+    let mut window = Window::new(front);
+    call::<C, Window<'_>>(case, &mut window, out);
+    out.bytes(window.as_slice());
+    if !is_untouched(back) {
+        out.word("and more");
+    }
+}
+
+/// In memory that has room for so many bytes the call comes to this, and behind that the memory is as it was.
+fn fits<C: Codec>(
+    case: &Case<'_>,
+    size: usize,
+    wanted: &str,
+    out: &mut Shown,
+) -> Result<(), Fault> {
+    let mut room = vec![in case.alloc; 0xffu8; case.bytes.len().saturating_add(8)]?;
+    show_in_room::<C>(case, size, &mut room, out);
+    out.came_to(wanted)
+}
+
+/// Makes the call where its request of memory of this number is refused, and tells whether that came.
 fn refused_at<C: Codec>(
-    alloc: Global,
-    name: &str,
-    words: &[Word],
+    case: &Case<'_>,
     room: usize,
     number: u64,
-) -> Result<(Shown, bool), Fault> {
-    let heap = Refusing::new(alloc, 0);
+    out: &mut Shown,
+) -> Result<bool, Fault> {
+    let heap = Refusing::new(case.alloc, 0);
     let mut buf: BytesMut<&Refusing<Global>> = with_room(&heap, room)?;
     heap.until_refusal.set(number);
-    let answer = call::<C, BytesMut<&Refusing<Global>>>(alloc, name, words, &mut buf);
-    let is_refused = heap.until_refusal.get() == 0;
-    let mut came = Shown::new(alloc);
-    show_refusal(answer, &mut came)?;
-    came.bytes(buf.as_slice())?;
-    Ok((came, is_refused))
+    call::<C, BytesMut<&Refusing<Global>>>(case, &mut buf, out);
+    out.bytes(buf.as_slice());
+    Ok(heap.until_refusal.get() == 0)
 }
 
 /// More requests than a row's call makes.
@@ -168,97 +151,121 @@ const REQUESTS: u64 = 1000;
 
 /// In a buffer with so much room behind what it holds each request of memory is refused in turn, until all are granted: a refusal
 /// is told, and leaves what stood there. Answers how many there were.
-fn refusals_of<C: Codec>(
-    alloc: Global,
-    name: &str,
-    words: &[Word],
-    room: usize,
-    wanted: &str,
-) -> Result<u64, Fault> {
+fn refusals_of<C: Codec>(case: &Case<'_>, room: usize, out: &mut Shown) -> Result<u64, Fault> {
     for number in 1..REQUESTS {
-        let (came, is_refused) = refused_at::<C>(alloc, name, words, room, number)?;
-        if !is_refused {
-            same(wanted, came)?;
+        if !refused_at::<C>(case, room, number, out)? {
+            out.came_to(case.behind)?;
             return Ok(number - 1);
         }
-        same("OutOfMemory 5300000004", came)?;
+        out.came_to(LACKS_MEMORY)?;
     }
     Err(Fault::Row)
 }
 
 /// The same for each room that is too small. A buffer may have room for up to seven bytes more than was asked for; where more are
 /// missing, the call asks for memory.
-fn grows<C: Codec>(
-    alloc: Global,
-    row: &Row<'_>,
-    name: &str,
-    words: &[Word],
-    len: usize,
-) -> Result<(), Fault> {
-    let (wanted, _) = wanted(alloc, row)?;
+fn grows<C: Codec>(case: &Case<'_>, out: &mut Shown) -> Result<(), Fault> {
+    let len = case.bytes.len();
     for room in 0..len {
-        let refusals = refusals_of::<C>(alloc, name, words, room, wanted.as_str())?;
+        let refusals = refusals_of::<C>(case, room, out)?;
         if refusals == 0 && 7 < len - room {
-            let mut came = Shown::new(alloc);
-            came.word("asked for no memory")?;
-            return same(wanted.as_str(), came);
+            out.word("asked for no memory");
+            return Err(Fault::Differs);
         }
     }
     Ok(())
 }
 
-/// What is read from the bytes is as the text.
-fn is_read<C: Codec>(alloc: Global, name: &str, bytes: &[u8], wanted: &str) -> Result<(), Fault> {
-    let mut came = Shown::new(alloc);
-    let answer = C::read(name, bytes, &mut came);
-    show_refusal(answer, &mut came)?;
-    same(wanted, came)
+/// The call appends the bytes, wherever it appends them; in memory that is a byte short it is refused.
+fn is_written_anywhere<C: Codec>(case: &Case<'_>, out: &mut Shown) -> Result<(), Fault> {
+    let len = case.bytes.len();
+    is_written::<C>(case, out)?;
+    fits::<C>(case, len, case.alone, out)?;
+    if let Some(short) = len.checked_sub(1) {
+        fits::<C>(case, short, "OutOfMemory \"\"", out)?;
+    }
+    grows::<C>(case, out)
 }
 
-/// The call appends the bytes, wherever it appends them.
-fn writes<C: Codec>(alloc: Global, row: &Row<'_>, name: &str, words: &[Word]) -> Result<(), Fault> {
-    is_written::<C>(alloc, row, name, words)?;
+/// The call comes to what the row says.
+fn writes<C: Codec>(
+    alloc: Global,
+    row: &Row<'_>,
+    name: &str,
+    left: &str,
+    out: &mut Shown,
+) -> Result<(), Fault> {
+    let wanted = wanted_of(alloc, row)?;
+    let words = words_of(alloc, left)?;
+    let case = Case {
+        alloc,
+        name,
+        words: &words,
+        bytes: &wanted.bytes,
+        alone: wanted.alone.as_str(),
+        behind: wanted.behind.as_str(),
+    };
     if row.is_refusal() {
-        return Ok(());
+        is_written::<C>(&case, out)
+    } else {
+        is_written_anywhere::<C>(&case, out)
     }
-    let bytes = row.wanted_bytes(alloc)?;
-    fits::<C>(alloc, name, words, &bytes)?;
-    needs_its_room::<C>(alloc, name, words, &bytes)?;
-    grows::<C>(alloc, row, name, words, bytes.len())
+}
+
+/// What is read from the bytes of a text is this.
+fn is_read<C: Codec>(
+    alloc: Global,
+    name: &str,
+    bytes: &str,
+    wanted: &str,
+    out: &mut Shown,
+) -> Result<(), Fault> {
+    C::read(name, &bytes_of(alloc, bytes)?, out);
+    out.came_to(wanted)
 }
 
 /// A row of a call that only writes.
-pub fn check_written<C: Codec>(alloc: Global, row: &Row<'_>) -> Result<(), Fault> {
-    writes::<C>(alloc, row, row.call, &row.words(alloc)?)
+pub fn check_written<C: Codec>(alloc: Global, row: &Row<'_>, out: &mut Shown) -> Result<(), Fault> {
+    writes::<C>(alloc, row, row.call, row.left, out)
 }
 
 /// A row of a client's call: it appends the bytes, which a server reads back as the call, or it is refused.
-pub fn check_writer<C: Codec>(alloc: Global, row: &Row<'_>) -> Result<(), Fault> {
-    let words = row.words(alloc)?;
-    writes::<C>(alloc, row, row.call, &words)?;
+pub fn check_writer<C: Codec>(alloc: Global, row: &Row<'_>, out: &mut Shown) -> Result<(), Fault> {
+    check_written::<C>(alloc, row, out)?;
     if row.is_refusal() {
         return Ok(());
     }
-    is_read_back(alloc, row.call, &words, &row.wanted_bytes(alloc)?)
+    is_read_back(alloc, row, out)
 }
 
 /// A row of a type: `read` reads the bytes alone, `write` writes a value alone, and a type's name does both.
-pub fn check_value<C: Codec>(alloc: Global, row: &Row<'_>) -> Result<(), Fault> {
+pub fn check_value<C: Codec>(alloc: Global, row: &Row<'_>, out: &mut Shown) -> Result<(), Fault> {
+    let (name, behind) = row.front();
     match row.call {
-        "read" => {
-            let (name, bytes) = row.front();
-            let words = crate::word::words_of(alloc, bytes)?;
-            is_read::<C>(alloc, name, &joined(alloc, &words)?, row.right)
-        }
-        "write" => {
-            let (name, value) = row.front();
-            let words = crate::word::words_of(alloc, value)?;
-            writes::<C>(alloc, row, name, &words)
-        }
+        "read" => is_read::<C>(alloc, name, behind, row.right, out),
+        "write" => writes::<C>(alloc, row, name, behind, out),
         name => {
-            let words = row.words(alloc)?;
-            writes::<C>(alloc, row, name, &words)?;
-            is_read::<C>(alloc, name, &row.wanted_bytes(alloc)?, row.left)
+            check_written::<C>(alloc, row, out)?;
+            is_read::<C>(alloc, name, row.right, row.left, out)
         }
     }
+}
+
+/// The calls of a family whose answer is shown.
+pub trait Answers {
+    /// Shows what the call of this name with these words comes to.
+    fn show(alloc: Global, call: &str, words: &mut Words<'_>, out: &mut Shown);
+}
+
+/// A row of a call whose answer is shown.
+pub fn check_answer<C: Answers>(
+    alloc: Global,
+    row: &Row<'_>,
+    out: &mut Shown,
+) -> Result<(), Fault> {
+    let list = words_of(alloc, row.left)?;
+    let mut words = Words::new(&list);
+    C::show(alloc, row.call, &mut words, out);
+    out.keep(words.end());
+    out.came_to(row.right)
 }

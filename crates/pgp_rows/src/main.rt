@@ -27,15 +27,12 @@ mod texts;
 mod word;
 
 use client_read::check_client_read;
-use codec::{check_value, check_writer};
+use codec::{check_answer, check_value, check_writer};
 use fault::Fault;
-use passwords::check_password;
 use replies::check_reply;
 use row::Row;
-use saslprep::check_saslprep;
-use scram::check_scram;
-use scram_server::check_scram_server;
 use server::check_server;
+use shown::Shown;
 use std::alloc::Global;
 use std::rt::Files;
 use std::{fs, io};
@@ -85,40 +82,48 @@ const FILES: [(&str, Family); 19] = [
 ];
 
 /// Makes the call of a row.
-fn check(alloc: Global, family: Family, row: &Row<'_>) -> Result<(), Fault> {
+fn check(alloc: Global, family: Family, row: &Row<'_>, out: &mut Shown) -> Result<(), Fault> {
     match family {
-        Family::Client => check_writer::<client::Client>(alloc, row),
-        Family::ClientRead => check_client_read(alloc, row),
-        Family::Integers => check_value::<numbers::Integers>(alloc, row),
-        Family::Times => check_value::<numbers::Times>(alloc, row),
-        Family::Bits => check_value::<numbers::Bits>(alloc, row),
-        Family::Texts => check_value::<texts::Texts>(alloc, row),
-        Family::Addresses => check_value::<addresses::Addresses>(alloc, row),
-        Family::Shapes => check_value::<shapes::Shapes>(alloc, row),
-        Family::Lists => check_value::<lists::Lists>(alloc, row),
-        Family::Arrays => check_value::<arrays::Arrays>(alloc, row),
-        Family::Ranges => check_value::<ranges::Ranges>(alloc, row),
-        Family::Replies => check_reply(alloc, row),
-        Family::Server => check_server(alloc, row),
-        Family::Passwords => check_password(alloc, row),
-        Family::Scram => check_scram(alloc, row),
-        Family::ScramServer => check_scram_server(alloc, row),
-        Family::Saslprep => check_saslprep(alloc, row),
+        Family::Client => check_writer::<client::Client>(alloc, row, out),
+        Family::ClientRead => check_client_read(alloc, row, out),
+        Family::Integers => check_value::<numbers::Integers>(alloc, row, out),
+        Family::Times => check_value::<numbers::Times>(alloc, row, out),
+        Family::Bits => check_value::<numbers::Bits>(alloc, row, out),
+        Family::Texts => check_value::<texts::Texts>(alloc, row, out),
+        Family::Addresses => check_value::<addresses::Addresses>(alloc, row, out),
+        Family::Shapes => check_value::<shapes::Shapes>(alloc, row, out),
+        Family::Lists => check_value::<lists::Lists>(alloc, row, out),
+        Family::Arrays => check_value::<arrays::Arrays>(alloc, row, out),
+        Family::Ranges => check_value::<ranges::Ranges>(alloc, row, out),
+        Family::Replies => check_reply(alloc, row, out),
+        Family::Server => check_server(alloc, row, out),
+        Family::Passwords => check_answer::<passwords::Passwords>(alloc, row, out),
+        Family::Scram => check_answer::<scram::Scram>(alloc, row, out),
+        Family::ScramServer => check_answer::<scram_server::ScramServers>(alloc, row, out),
+        Family::Saslprep => check_answer::<saslprep::Prepared>(alloc, row, out),
     }
 }
 
-fn check_line(alloc: Global, family: Family, line: &str) -> Result<(), Fault> {
-    check(alloc, family, &Row::parse(line)?)
+fn check_line(alloc: Global, family: Family, line: &str, out: &mut Shown) -> Result<(), Fault> {
+    check(alloc, family, &Row::parse(line)?, out)
 }
 
-/// Tells of a line that isn't right.
-fn tell(rt: &impl Print, line: &str, fault: &Fault) -> io::Result<()> {
+/// Tells of a line that isn't right, and what came.
+fn tell(rt: &impl Print, line: &str, fault: Fault, came: &str) -> io::Result<()> {
     println!(rt; "{line}")?;
     match fault {
         Fault::Row => println!(rt; "    is no row"),
         Fault::Memory => println!(rt; "    found no memory"),
-        Fault::Refused(e) => println!(rt; "    was refused: {e}"),
-        Fault::Differs(came) => println!(rt; "    came to: {came}"),
+        Fault::Differs => println!(rt; "    came to: {came}"),
+    }
+}
+
+/// Runs a row, and tells of it where it isn't right.
+fn run_line<R: AllocGlobal + Print>(rt: &R, family: Family, line: &str) -> io::Result<()> {
+    let mut out = Shown::new(rt.alloc());
+    match check_line(rt.alloc(), family, line, &mut out) {
+        Ok(()) => Ok(()),
+        Err(fault) => tell(rt, line, fault, out.as_str()),
     }
 }
 
@@ -131,9 +136,7 @@ fn run_file<R: Files + AllocGlobal + Print>(rt: &R, name: &str, family: Family) 
             continue;
         }
         rows = rows.saturating_add(1);
-        if let Err(fault) = check_line(rt.alloc(), family, line) {
-            tell(rt, line, &fault)?;
-        }
+        run_line(rt, family, line)?;
     }
     println!(rt; "{name}: {rows} rows")
 }

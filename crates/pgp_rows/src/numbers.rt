@@ -1,10 +1,9 @@
 //! Values of a fixed size: numbers, times and floats, whose bits are told as bytes.
 
 use crate::codec::Codec;
-use crate::fault::{Fault, done};
 use crate::shown::Shown;
 use crate::word::Words;
-use pgp_base::Buffer;
+use pgp_base::{Buffer, Error};
 use pgp_types::{
     bool_from_sql, bool_to_sql, char_from_sql, char_to_sql, date_from_sql, date_to_sql,
     float4_from_sql, float4_to_sql, float8_from_sql, float8_to_sql, int2_from_sql, int2_to_sql,
@@ -22,27 +21,27 @@ impl Codec for Integers {
         name: &str,
         words: &mut Words<'_>,
         buf: &mut B,
-    ) -> Result<(), Fault> {
+    ) -> Result<(), Error> {
         match name {
-            "char" => done(char_to_sql(words.number()?, buf)),
-            "int2" => done(int2_to_sql(words.number()?, buf)),
-            "int4" => done(int4_to_sql(words.number()?, buf)),
-            "int8" => done(int8_to_sql(words.number()?, buf)),
-            "oid" => done(oid_to_sql(words.number()?, buf)),
-            "lsn" => done(lsn_to_sql(words.number()?, buf)),
-            _ => Err(Fault::Row),
+            "char" => char_to_sql(words.number(), buf),
+            "int2" => int2_to_sql(words.number(), buf),
+            "int4" => int4_to_sql(words.number(), buf),
+            "int8" => int8_to_sql(words.number(), buf),
+            "oid" => oid_to_sql(words.number(), buf),
+            "lsn" => lsn_to_sql(words.number(), buf),
+            _ => words.no_call(),
         }
     }
 
-    fn read(name: &str, bytes: &[u8], out: &mut Shown) -> Result<(), Fault> {
+    fn read(name: &str, bytes: &[u8], out: &mut Shown) {
         match name {
-            "char" => out.number(char_from_sql(bytes)?),
-            "int2" => out.number(int2_from_sql(bytes)?),
-            "int4" => out.number(int4_from_sql(bytes)?),
-            "int8" => out.number(int8_from_sql(bytes)?),
-            "oid" => out.number(oid_from_sql(bytes)?),
-            "lsn" => out.number(lsn_from_sql(bytes)?),
-            _ => Err(Fault::Row),
+            "char" => out.answer(char_from_sql(bytes)),
+            "int2" => out.answer(int2_from_sql(bytes)),
+            "int4" => out.answer(int4_from_sql(bytes)),
+            "int8" => out.answer(int8_from_sql(bytes)),
+            "oid" => out.answer(oid_from_sql(bytes)),
+            "lsn" => out.answer(lsn_from_sql(bytes)),
+            _ => out.word("no such type"),
         }
     }
 }
@@ -56,35 +55,40 @@ impl Codec for Times {
         name: &str,
         words: &mut Words<'_>,
         buf: &mut B,
-    ) -> Result<(), Fault> {
+    ) -> Result<(), Error> {
         match name {
-            "timestamp" => done(timestamp_to_sql(words.number()?, buf)),
-            "time" => done(time_to_sql(words.number()?, buf)),
-            "date" => done(date_to_sql(words.number()?, buf)),
-            _ => Err(Fault::Row),
+            "timestamp" => timestamp_to_sql(words.number(), buf),
+            "time" => time_to_sql(words.number(), buf),
+            "date" => date_to_sql(words.number(), buf),
+            _ => words.no_call(),
         }
     }
 
-    fn read(name: &str, bytes: &[u8], out: &mut Shown) -> Result<(), Fault> {
+    fn read(name: &str, bytes: &[u8], out: &mut Shown) {
         match name {
-            "timestamp" => out.number(timestamp_from_sql(bytes)?),
-            "time" => out.number(time_from_sql(bytes)?),
-            "date" => out.number(date_from_sql(bytes)?),
-            _ => Err(Fault::Row),
+            "timestamp" => out.answer(timestamp_from_sql(bytes)),
+            "time" => out.answer(time_from_sql(bytes)),
+            "date" => out.answer(date_from_sql(bytes)),
+            _ => out.word("no such type"),
         }
     }
 }
 
 /// `true` or `false`.
-fn truth(words: &mut Words<'_>) -> Result<bool, Fault> {
-    let word = words.word()?;
-    if word.is("true") {
-        Ok(true)
-    } else if word.is("false") {
-        Ok(false)
-    } else {
-        Err(Fault::Row)
+fn truth(words: &mut Words<'_>) -> bool {
+    let is_true = words.takes("true");
+    if !is_true && !words.takes("false") {
+        words.fail_row();
     }
+    is_true
+}
+
+fn float4(bytes: &[u8]) -> Result<[u8; 4], Error> {
+    Ok(float4_from_sql(bytes)?.to_be_bytes())
+}
+
+fn float8(bytes: &[u8]) -> Result<[u8; 8], Error> {
+    Ok(float8_from_sql(bytes)?.to_be_bytes())
 }
 
 #[derive(Drop)]
@@ -96,21 +100,21 @@ impl Codec for Bits {
         name: &str,
         words: &mut Words<'_>,
         buf: &mut B,
-    ) -> Result<(), Fault> {
+    ) -> Result<(), Error> {
         match name {
-            "bool" => done(bool_to_sql(truth(words)?, buf)),
-            "float4" => done(float4_to_sql(u32::from_be_bytes(words.block()?), buf)),
-            "float8" => done(float8_to_sql(u64::from_be_bytes(words.block()?), buf)),
-            _ => Err(Fault::Row),
+            "bool" => bool_to_sql(truth(words), buf),
+            "float4" => float4_to_sql(u32::from_be_bytes(words.block()), buf),
+            "float8" => float8_to_sql(u64::from_be_bytes(words.block()), buf),
+            _ => words.no_call(),
         }
     }
 
-    fn read(name: &str, bytes: &[u8], out: &mut Shown) -> Result<(), Fault> {
+    fn read(name: &str, bytes: &[u8], out: &mut Shown) {
         match name {
-            "bool" => out.number(bool_from_sql(bytes)?),
-            "float4" => out.bytes(&float4_from_sql(bytes)?.to_be_bytes()),
-            "float8" => out.bytes(&float8_from_sql(bytes)?.to_be_bytes()),
-            _ => Err(Fault::Row),
+            "bool" => out.answer(bool_from_sql(bytes)),
+            "float4" => out.block(float4(bytes)),
+            "float8" => out.block(float8(bytes)),
+            _ => out.word("no such type"),
         }
     }
 }

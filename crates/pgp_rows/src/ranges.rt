@@ -3,7 +3,7 @@
 ghost use Rattle.pgp_types.specs.RangeWriting.{KeepsBound};
 
 use crate::codec::Codec;
-use crate::fault::{Fault, done};
+use crate::fault::plain;
 use crate::shown::Shown;
 use crate::word::Words;
 use pgp_base::{Buffer, Error, IsNull};
@@ -11,29 +11,25 @@ use pgp_types::{Range, RangeBound, empty_range_to_sql, int4_to_sql, range_from_s
 use std::alloc::Global;
 
 /// A bound's number, or nothing for a null.
-fn number(words: &mut Words<'_>) -> Result<Option<i32>, Fault> {
-    let word = words.word()?;
-    match word.nullable()? {
-        None => Ok(None),
-        Some(bytes) => match bytes.split_first_chunk::<4>() {
-            Some((block, [])) => Ok(Some(i32::from_be_bytes(*block))),
-            _ => Err(Fault::Row),
-        },
+fn number(words: &mut Words<'_>) -> Option<i32> {
+    if words.takes("null") {
+        return None;
     }
+    Some(i32::from_be_bytes(words.block()))
 }
 
 /// A side: `in` and a bound, `ex` and a bound, or `none`.
-fn side(words: &mut Words<'_>) -> Result<RangeBound<Option<i32>>, Fault> {
-    let word = words.word()?;
-    if word.is("in") {
-        Ok(RangeBound::Inclusive(number(words)?))
-    } else if word.is("ex") {
-        Ok(RangeBound::Exclusive(number(words)?))
-    } else if word.is("none") {
-        Ok(RangeBound::Unbounded)
-    } else {
-        Err(Fault::Row)
+fn side(words: &mut Words<'_>) -> RangeBound<Option<i32>> {
+    if words.takes("in") {
+        return RangeBound::Inclusive(number(words));
     }
+    if words.takes("ex") {
+        return RangeBound::Exclusive(number(words));
+    }
+    if !words.takes("none") {
+        words.fail_row();
+    }
+    RangeBound::Unbounded
 }
 
 #[tactic(auto, using(pgp_base::proofs::Parts::held_steps))]
@@ -58,27 +54,26 @@ fn put_side<B: Buffer>(
     }
 }
 
-fn write_range<B: Buffer>(words: &mut Words<'_>, buf: &mut B) -> Result<(), Fault> {
-    let lower = side(words)?;
-    let upper = side(words)?;
-    range_to_sql(
+fn write_range<B: Buffer>(words: &mut Words<'_>, buf: &mut B) -> Result<(), Error> {
+    let lower = side(words);
+    let upper = side(words);
+    plain(range_to_sql(
         |buf: &mut B| put_side(lower, buf),
         |buf: &mut B| put_side(upper, buf),
         buf,
-    )?;
-    Ok(())
+    ))
 }
 
-fn show_side(side: RangeBound<Option<&[u8]>>, out: &mut Shown) -> Result<(), Fault> {
+fn show_side(side: RangeBound<Option<&[u8]>>, out: &mut Shown) {
     match side {
         RangeBound::Unbounded => out.word("none"),
         RangeBound::Inclusive(bound) => {
-            out.word("in")?;
-            out.nullable(bound)
+            out.word("in");
+            out.nullable(bound);
         }
         RangeBound::Exclusive(bound) => {
-            out.word("ex")?;
-            out.nullable(bound)
+            out.word("ex");
+            out.nullable(bound);
         }
     }
 }
@@ -92,21 +87,22 @@ impl Codec for Ranges {
         name: &str,
         words: &mut Words<'_>,
         buf: &mut B,
-    ) -> Result<(), Fault> {
+    ) -> Result<(), Error> {
         match name {
             "range" => write_range(words, buf),
-            "empty_range" => done(empty_range_to_sql(buf)),
-            _ => Err(Fault::Row),
+            "empty_range" => empty_range_to_sql(buf),
+            _ => words.no_call(),
         }
     }
 
-    fn read(_name: &str, bytes: &[u8], out: &mut Shown) -> Result<(), Fault> {
-        match range_from_sql(bytes)? {
-            Range::Empty => Ok(()),
-            Range::Nonempty(lower, upper) => {
-                show_side(lower, out)?;
-                show_side(upper, out)
+    fn read(_name: &str, bytes: &[u8], out: &mut Shown) {
+        match range_from_sql(bytes) {
+            Ok(Range::Empty) => {}
+            Ok(Range::Nonempty(lower, upper)) => {
+                show_side(lower, out);
+                show_side(upper, out);
             }
+            Err(e) => out.refusal(e),
         }
     }
 }

@@ -1,7 +1,7 @@
 //! A row: a call with its words, and what it comes to.
 
 use crate::fault::Fault;
-use crate::word::{Word, joined, words_of};
+use crate::word::bytes_of;
 use std::alloc::Global;
 
 /// A row, `CALL WORDS = RESULT`.
@@ -30,11 +30,6 @@ impl<'a> Row<'a> {
         first_word(self.left)
     }
 
-    /// The words behind the call.
-    pub fn words(&self, alloc: Global) -> Result<Vec<Word>, Fault> {
-        words_of(alloc, self.left)
-    }
-
     /// Whether the result is a refusal: its name begins with a capital.
     pub fn is_refusal(&self) -> bool {
         match self.right.chars().next() {
@@ -45,6 +40,6 @@ impl<'a> Row<'a> {
 
     /// The bytes of the result.
     pub fn wanted_bytes(&self, alloc: Global) -> Result<Vec<u8>, Fault> {
-        joined(alloc, &words_of(alloc, self.right)?)
+        bytes_of(alloc, self.right)
     }
 }

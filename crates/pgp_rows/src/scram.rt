@@ -1,9 +1,9 @@
 //! Exchanges of SCRAM-SHA-256, as the client sees them.
 
+use crate::codec::Answers;
 use crate::fault::Fault;
-use crate::row::Row;
-use crate::shown::{Shown, same};
-use crate::word::{Words, text_of};
+use crate::shown::Shown;
+use crate::word::Words;
 use pgp_auth::authentication::sasl::{
     ChannelBinding, NoPrep, SaslPrep, ScramError, ScramSha256, is_nonce,
 };
@@ -36,120 +36,99 @@ fn client_of<P: SaslPrep>(
 
 /// A channel binding: `unsupported`, `unrequested`, or the hash of the server's certificate.
 fn binding_of(alloc: Global, words: &mut Words<'_>) -> Result<ChannelBinding<Global>, Fault> {
-    let word = words.word()?;
-    if word.is("unsupported") {
-        Ok(ChannelBinding::unsupported())
-    } else if word.is("unrequested") {
-        Ok(ChannelBinding::unrequested())
-    } else {
-        let hash = Vec::from_slice(alloc, word.bytes()?)?;
-        Ok(ChannelBinding::tls_server_end_point(hash))
+    if words.takes("unsupported") {
+        return Ok(ChannelBinding::unsupported());
     }
-}
-
-/// Shows what a refusal says beside its name.
-fn show_detail(refusal: &ScramError, out: &mut Shown) -> Result<(), Fault> {
-    match refusal {
-        ScramError::UnexpectedCharacter(at) => out.number(*at),
-        ScramError::Trailing(at) => out.number(*at),
-        ScramError::Server(text) => out.text(text.as_str()),
-        _ => Ok(()),
+    if words.takes("unrequested") {
+        return Ok(ChannelBinding::unrequested());
     }
+    let hash = Vec::from_slice(alloc, words.bytes())?;
+    Ok(ChannelBinding::tls_server_end_point(hash))
 }
 
 /// Shows the name of a refusal, and what it says beside it.
-fn show_refusal(refusal: &ScramError, out: &mut Shown) -> Result<(), Fault> {
-    let name = format!(in out.alloc(); "{refusal}")?;
-    out.word(name.as_str())?;
-    show_detail(refusal, out)
-}
-
-/// Shows how a step ended.
-fn show_step(outcome: &Result<(), ScramError>, out: &mut Shown) -> Result<(), Fault> {
-    match outcome {
-        Ok(()) => out.word("ok"),
-        Err(refusal) => show_refusal(refusal, out),
+fn show_refusal(refusal: &ScramError, out: &mut Shown) {
+    match format!(in out.alloc(); "{refusal}") {
+        Ok(name) => out.word(name.as_str()),
+        Err(_) => out.fail(Fault::Memory),
+    }
+    match refusal {
+        ScramError::UnexpectedCharacter(at) | ScramError::Trailing(at) => out.number(*at),
+        ScramError::Server(text) => out.text(text.as_str()),
+        _ => {}
     }
 }
 
 /// Shows how a step ended, and how many codes were made until then.
-fn show_outcome(
-    outcome: Result<(), ScramError>,
-    client: &ScramSha256<Global>,
-    out: &mut Shown,
-) -> Result<(), Fault> {
-    let shown = show_step(&outcome, out);
+fn show_outcome(outcome: Result<(), ScramError>, client: &ScramSha256<Global>, out: &mut Shown) {
+    match &outcome {
+        Ok(()) => out.word("ok"),
+        Err(refusal) => show_refusal(refusal, out),
+    }
     drop(outcome);
-    shown?;
-    out.number(client.hmacs())
+    out.number(client.hmacs());
 }
 
 /// Shows the text that the client sends next, or `over`, and how many codes were made until then.
-fn show_message(client: &ScramSha256<Global>, out: &mut Shown) -> Result<(), Fault> {
+fn show_message(client: &ScramSha256<Global>, out: &mut Shown) {
     match client.message() {
-        Some(text) => out.text(text_of(text)?)?,
-        None => out.word("over")?,
+        Some(text) => out.text_of(text),
+        None => out.word("over"),
     }
-    out.number(client.hmacs())
+    out.number(client.hmacs());
 }
 
 /// Whether the client has a text to send is as it has to be. Else `wrong text` is shown.
-fn show_text_left(
-    client: &ScramSha256<Global>,
-    has_text: bool,
-    out: &mut Shown,
-) -> Result<(), Fault> {
-    if client.message().is_some() == has_text {
-        Ok(())
-    } else {
-        out.word("wrong text")
+fn show_text_left(client: &ScramSha256<Global>, has_text: bool, out: &mut Shown) {
+    if client.message().is_some() != has_text {
+        out.word("wrong text");
     }
 }
 
 /// Each further step is out of turn, makes no code and leaves no text. Else `not over` is shown.
-fn show_end(client: &mut ScramSha256<Global>, out: &mut Shown) -> Result<(), Fault> {
+fn show_end(client: &mut ScramSha256<Global>, out: &mut Shown) {
     let made = client.hmacs();
     let is_over = matches!(client.update(ONE_ROUND), Err(ScramError::WrongState))
         && client.message().is_none()
         && matches!(client.finish(b"v=AAAA"), Err(ScramError::WrongState))
         && client.hmacs() == made;
-    if is_over {
-        Ok(())
-    } else {
-        out.word("not over")
+    if !is_over {
+        out.word("not over");
     }
 }
 
 /// Shows how a step on the server's last text ends, behind which there is nothing to send and each step is out of turn.
-fn show_last(client: &mut ScramSha256<Global>, text: &[u8], out: &mut Shown) -> Result<(), Fault> {
-    show_outcome(client.finish(text), client, out)?;
-    show_text_left(client, false, out)?;
-    show_end(client, out)
+fn show_last(client: &mut ScramSha256<Global>, text: &[u8], out: &mut Shown) {
+    show_outcome(client.finish(text), client, out);
+    show_text_left(client, false, out);
+    show_end(client, out);
 }
 
 /// `FIRST FINAL`: the client's texts, and how it ends.
-fn show_steps(
-    client: &mut ScramSha256<Global>,
-    words: &mut Words<'_>,
-    out: &mut Shown,
-) -> Result<(), Fault> {
-    show_message(client, out)?;
-    show_outcome(client.update(words.bytes()?), client, out)?;
-    show_message(client, out)?;
-    show_last(client, words.bytes()?, out)
+fn show_steps(client: &mut ScramSha256<Global>, words: &mut Words<'_>, out: &mut Shown) {
+    show_message(client, out);
+    show_outcome(client.update(words.bytes()), client, out);
+    show_message(client, out);
+    show_last(client, words.bytes(), out);
 }
 
-/// `exchange PASSWORD BINDING NONCE FIRST FINAL`: the client's texts, and how it ends.
-pub fn show_exchange<P: SaslPrep>(
+/// The client of `PASSWORD BINDING NONCE`.
+fn told_client<P: SaslPrep>(
     alloc: Global,
     words: &mut Words<'_>,
     prep: &P,
-    out: &mut Shown,
-) -> Result<(), Fault> {
-    let password = words.bytes()?;
+) -> Result<ScramSha256<Global>, Fault> {
+    let password = words.bytes();
     let binding = binding_of(alloc, words)?;
-    let mut client = client_of(alloc, password, binding, words.text()?, prep)?;
-    show_steps(&mut client, words, out)
+    client_of(alloc, password, binding, words.text(), prep)
+}
+
+/// `exchange PASSWORD BINDING NONCE FIRST FINAL`: the client's texts, and how it ends.
+pub fn show_exchange<P: SaslPrep>(alloc: Global, words: &mut Words<'_>, prep: &P, out: &mut Shown) {
+    match told_client(alloc, words, prep) {
+        Ok(mut client) => show_steps(&mut client, words, out),
+        Err(fault) => out.fail(fault),
+    }
 }
 
 /// The client of the Rust crate's tests.
@@ -163,62 +142,57 @@ fn known_client(alloc: Global) -> Result<ScramSha256<Global>, Fault> {
     )
 }
 
-/// Shows how a step on the server's first text ends, behind which each further step is out of turn.
-fn show_first(client: &mut ScramSha256<Global>, text: &[u8], out: &mut Shown) -> Result<(), Fault> {
+/// `update FIRST`: how a step on the server's first text ends, behind which each further step is out of turn.
+fn show_update(client: &mut ScramSha256<Global>, text: &[u8], out: &mut Shown) {
     let outcome = client.update(text);
     let is_answered = outcome.is_ok();
-    show_outcome(outcome, client, out)?;
-    show_text_left(client, is_answered, out)?;
-    show_end(client, out)
+    show_outcome(outcome, client, out);
+    show_text_left(client, is_answered, out);
+    show_end(client, out);
 }
 
-/// `update FIRST`: the Rust crate's client gets a first text.
-fn show_update(alloc: Global, words: &mut Words<'_>, out: &mut Shown) -> Result<(), Fault> {
-    let text = words.bytes()?;
-    show_first(&mut known_client(alloc)?, text, out)
+/// `answer FIRST`: what the client answers to a first text.
+fn show_answer(client: &mut ScramSha256<Global>, text: &[u8], out: &mut Shown) {
+    show_outcome(client.update(text), client, out);
+    show_message(client, out);
 }
 
-/// `answer FIRST`: what the Rust crate's client answers to a first text.
-fn show_answer(alloc: Global, words: &mut Words<'_>, out: &mut Shown) -> Result<(), Fault> {
-    let text = words.bytes()?;
-    let mut client = known_client(alloc)?;
-    show_outcome(client.update(text), &client, out)?;
-    show_message(&client, out)
-}
-
-/// `finish FINAL`: the Rust crate's client gets a last text behind a first one with one round.
-fn show_finish(alloc: Global, words: &mut Words<'_>, out: &mut Shown) -> Result<(), Fault> {
-    let text = words.bytes()?;
-    let mut client = known_client(alloc)?;
+/// `finish FINAL`: the client gets a last text behind a first one with one round.
+fn show_finish(client: &mut ScramSha256<Global>, text: &[u8], out: &mut Shown) {
     if client.update(ONE_ROUND).is_err() {
-        return Err(Fault::Row);
+        out.word("no first step");
     }
-    show_last(&mut client, text, out)
+    show_last(client, text, out);
 }
 
-/// Shows what a call comes to.
-fn show_call(
-    alloc: Global,
+/// A call of the Rust crate's client with a text of the server.
+fn show_known(
+    client: &mut ScramSha256<Global>,
     call: &str,
     words: &mut Words<'_>,
     out: &mut Shown,
-) -> Result<(), Fault> {
+) {
     match call {
-        "answer" => show_answer(alloc, words, out),
-        "exchange" => show_exchange(alloc, words, &NoPrep, out),
-        "finish" => show_finish(alloc, words, out),
-        "nonce" => out.number(is_nonce(words.text()?)),
-        "update" => show_update(alloc, words, out),
-        _ => Err(Fault::Row),
+        "answer" => show_answer(client, words.bytes(), out),
+        "finish" => show_finish(client, words.bytes(), out),
+        "update" => show_update(client, words.bytes(), out),
+        _ => words.fail_row(),
     }
 }
 
-/// A row of an exchange.
-pub fn check_scram(alloc: Global, row: &Row<'_>) -> Result<(), Fault> {
-    let list = row.words(alloc)?;
-    let mut words = Words::new(&list);
-    let mut out = Shown::new(alloc);
-    show_call(alloc, row.call, &mut words, &mut out)?;
-    words.end()?;
-    same(row.right, out)
+/// The calls of a client's exchange.
+#[derive(Drop)]
+pub struct Scram;
+
+impl Answers for Scram {
+    fn show(alloc: Global, call: &str, words: &mut Words<'_>, out: &mut Shown) {
+        match call {
+            "exchange" => show_exchange(alloc, words, &NoPrep, out),
+            "nonce" => out.number(is_nonce(words.text())),
+            _ => match known_client(alloc) {
+                Ok(mut client) => show_known(&mut client, call, words, out),
+                Err(fault) => out.fail(fault),
+            },
+        }
+    }
 }

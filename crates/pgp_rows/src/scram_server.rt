@@ -1,15 +1,15 @@
 //! Exchanges of SCRAM-SHA-256, as the server sees them.
 
+use crate::codec::Answers;
 use crate::fault::Fault;
-use crate::row::Row;
-use crate::shown::{Shown, same};
-use crate::word::{Words, text_of};
+use crate::shown::Shown;
+use crate::word::Words;
 use pgp_auth::authentication::sasl::{
-    ChannelOffer, ScramServer, ServerError, StoredVerifier, VerifierError, is_nonce,
+    ChannelOffer, ScramServer, ServerError, StoredVerifier, is_nonce,
 };
 use std::alloc::Global;
 
-/// What a server serves with, and the first text of its client.
+/// What a server serves with.
 #[derive(Clone, Copy)]
 struct Served<'w> {
     secret: Option<&'w [u8]>,
@@ -21,36 +21,38 @@ struct Served<'w> {
 
 /// A stored verifier's text, or `mock SECRET USER`; `none`, `declined` or the hash of the server's certificate; the server's
 /// part of the nonce.
-fn read_served<'w>(words: &mut Words<'w>) -> Result<Served<'w>, Fault> {
-    let first = words.word()?;
-    let (secret, verifier) = if first.is("mock") {
-        (Some(words.bytes()?), words.bytes()?)
+fn read_served<'w>(words: &mut Words<'w>) -> Served<'w> {
+    let secret = if words.takes("mock") {
+        Some(words.bytes())
     } else {
-        (None, first.bytes()?)
+        None
     };
-    let offer = words.word()?;
-    let is_declined = offer.is("declined");
-    let offer = if is_declined || offer.is("none") {
+    let verifier = words.bytes();
+    let is_declined = words.takes("declined");
+    let offer = if is_declined || words.takes("none") {
         None
     } else {
-        Some(offer.bytes()?)
+        Some(words.bytes())
     };
-    Ok(Served {
+    Served {
         secret,
         verifier,
         offer,
         is_declined,
-        own: words.text()?,
-    })
+        own: words.text(),
+    }
 }
 
 fn verifier_of(alloc: Global, served: &Served<'_>) -> Result<StoredVerifier<Global>, Fault> {
-    match served.secret {
-        Some(secret) => Ok(StoredVerifier::mock(alloc, secret, served.verifier)?),
-        None => match StoredVerifier::parse(alloc, served.verifier) {
+    if let Some(secret) = served.secret {
+        return match StoredVerifier::mock(alloc, secret, served.verifier) {
             Ok(verifier) => Ok(verifier),
-            Err(_) => Err(Fault::Row),
-        },
+            Err(_) => Err(Fault::Memory),
+        };
+    }
+    match StoredVerifier::parse(alloc, served.verifier) {
+        Ok(verifier) => Ok(verifier),
+        Err(_) => Err(Fault::Row),
     }
 }
 
@@ -71,66 +73,53 @@ fn server_of(alloc: Global, served: &Served<'_>) -> Result<ScramServer<Global>, 
     Ok(ScramServer::with_nonce(verifier, offer_of(alloc, served)?, own))
 }
 
-/// Shows a text of the server.
-fn show_text(text: &[u8], out: &mut Shown) -> Result<(), Fault> {
-    out.text(text_of(text)?)
-}
-
 /// Each further step is out of turn. Else `not over` is shown.
-fn show_end(server: &mut ScramServer<Global>, out: &mut Shown) -> Result<(), Fault> {
+fn show_end(server: &mut ScramServer<Global>, out: &mut Shown) {
     let is_over = matches!(server.first(b"n,,n=,r=a"), Err(ServerError::WrongState))
         && matches!(server.finish(b""), Err(ServerError::WrongState));
-    if is_over {
-        Ok(())
-    } else {
-        out.word("not over")
+    if !is_over {
+        out.word("not over");
     }
 }
 
 /// Shows the server's answer to a first text, and tells whether the exchange goes on.
-fn show_first(
-    server: &mut ScramServer<Global>,
-    text: &[u8],
-    out: &mut Shown,
-) -> Result<bool, Fault> {
+fn show_first(server: &mut ScramServer<Global>, text: &[u8], out: &mut Shown) -> bool {
     match server.first(text) {
         Ok(answer) => {
-            show_text(&answer, out)?;
-            Ok(true)
+            out.text_of(&answer);
+            true
         }
         Err(e) => {
-            out.number(e)?;
-            Ok(false)
+            out.number(e);
+            false
         }
     }
 }
 
 /// Shows the server's answer to a final text.
-fn show_final(server: &mut ScramServer<Global>, text: &[u8], out: &mut Shown) -> Result<(), Fault> {
+fn show_final(server: &mut ScramServer<Global>, text: &[u8], out: &mut Shown) {
     match server.finish(text) {
-        Ok(answer) => show_text(&answer, out),
+        Ok(answer) => out.text_of(&answer),
         Err(e) => out.number(e),
     }
 }
 
 /// `FIRST FINAL`: the server's texts, or its refusal.
-fn show_steps(
-    server: &mut ScramServer<Global>,
-    words: &mut Words<'_>,
-    out: &mut Shown,
-) -> Result<(), Fault> {
-    let first = words.bytes()?;
-    let last = words.bytes()?;
-    if show_first(server, first, out)? {
-        show_final(server, last, out)?;
+fn show_steps(server: &mut ScramServer<Global>, words: &mut Words<'_>, out: &mut Shown) {
+    let first = words.bytes();
+    let last = words.bytes();
+    if show_first(server, first, out) {
+        show_final(server, last, out);
     }
-    show_end(server, out)
+    show_end(server, out);
 }
 
 /// `serve SERVED FIRST FINAL`: the server's texts, or its refusal.
-fn show_serve(alloc: Global, words: &mut Words<'_>, out: &mut Shown) -> Result<(), Fault> {
-    let mut server = server_of(alloc, &read_served(words)?)?;
-    show_steps(&mut server, words, out)
+fn show_serve(alloc: Global, words: &mut Words<'_>, out: &mut Shown) {
+    match server_of(alloc, &read_served(words)) {
+        Ok(mut server) => show_steps(&mut server, words, out),
+        Err(fault) => out.fail(fault),
+    }
 }
 
 /// How often each outcome came.
@@ -171,7 +160,7 @@ impl Outcomes {
         *counter = counter.saturating_add(1);
     }
 
-    fn show(&self, out: &mut Shown) -> Result<(), Fault> {
+    fn show(&self, out: &mut Shown) {
         let counts = [
             ("ok", self.ok),
             ("UnsupportedBinding", self.binding),
@@ -183,113 +172,107 @@ impl Outcomes {
         ];
         for (name, count) in counts {
             if count != 0 {
-                out.word(name)?;
-                out.number(count)?;
+                out.word(name);
+                out.number(count);
             }
         }
-        Ok(())
     }
 }
 
-/// How a first text ends.
-fn first_outcome(
-    alloc: Global,
-    served: &Served<'_>,
+/// How a first text ends; where one is told, it is taken, and the text is the final one behind it.
+fn outcome(
+    server: &mut ScramServer<Global>,
+    first: Option<&[u8]>,
     text: &[u8],
 ) -> Result<Result<(), ServerError>, Fault> {
-    let mut server = server_of(alloc, served)?;
-    match server.first(text) {
-        Ok(_) => Ok(Ok(())),
-        Err(e) => Ok(Err(e)),
-    }
-}
-
-/// How a final text ends, behind a first text that is taken.
-fn final_outcome(
-    alloc: Global,
-    served: &Served<'_>,
-    first: &[u8],
-    text: &[u8],
-) -> Result<Result<(), ServerError>, Fault> {
-    let mut server = server_of(alloc, served)?;
+    let Some(first) = first else {
+        return Ok(match server.first(text) {
+            Ok(_) => Ok(()),
+            Err(e) => Err(e),
+        });
+    };
     if server.first(first).is_err() {
         return Err(Fault::Row);
     }
-    match server.finish(text) {
-        Ok(_) => Ok(Ok(())),
-        Err(e) => Ok(Err(e)),
+    Ok(match server.finish(text) {
+        Ok(_) => Ok(()),
+        Err(e) => Err(e),
+    })
+}
+
+/// Each byte of the text replaced by each other value.
+fn count_replaced(
+    alloc: Global,
+    served: &Served<'_>,
+    first: Option<&[u8]>,
+    text: &mut [u8],
+    outcomes: &mut Outcomes,
+) -> Result<(), Fault> {
+    for at in 0..text.len() {
+        for more in 1..=255u8 {
+            let kept = text[at];
+            text[at] = kept.wrapping_add(more);
+            outcomes.add(outcome(&mut server_of(alloc, served)?, first, text)?);
+            text[at] = kept;
+        }
     }
+    Ok(())
+}
+
+/// Each byte of the text, which is copied, replaced by each other value, and how often each outcome came.
+fn show_replaced(
+    alloc: Global,
+    served: &Served<'_>,
+    first: Option<&[u8]>,
+    text: &[u8],
+    out: &mut Shown,
+) {
+    let mut outcomes = Outcomes::none();
+    match Vec::from_slice(alloc, text) {
+        Ok(mut text) => out.keep(count_replaced(alloc, served, first, &mut text, &mut outcomes)),
+        Err(_) => out.fail(Fault::Memory),
+    }
+    outcomes.show(out);
 }
 
 /// `first_replaced SERVED FIRST`: each byte of a first text replaced by each other value, and how often each outcome came.
-fn show_first_replaced(alloc: Global, words: &mut Words<'_>, out: &mut Shown) -> Result<(), Fault> {
-    let served = read_served(words)?;
-    let mut text = Vec::from_slice(alloc, words.bytes()?)?;
-    let mut outcomes = Outcomes::none();
-    for at in 0..text.len() {
-        for more in 1..=255u8 {
-            let kept = text[at];
-            text[at] = kept.wrapping_add(more);
-            outcomes.add(first_outcome(alloc, &served, &text)?);
-            text[at] = kept;
-        }
-    }
-    outcomes.show(out)
+fn show_first_replaced(alloc: Global, words: &mut Words<'_>, out: &mut Shown) {
+    let served = read_served(words);
+    show_replaced(alloc, &served, None, words.bytes(), out);
 }
 
 /// `final_replaced SERVED FIRST FINAL`: the same of a final text.
-fn show_final_replaced(alloc: Global, words: &mut Words<'_>, out: &mut Shown) -> Result<(), Fault> {
-    let served = read_served(words)?;
-    let first = words.bytes()?;
-    let mut text = Vec::from_slice(alloc, words.bytes()?)?;
-    let mut outcomes = Outcomes::none();
-    for at in 0..text.len() {
-        for more in 1..=255u8 {
-            let kept = text[at];
-            text[at] = kept.wrapping_add(more);
-            outcomes.add(final_outcome(alloc, &served, first, &text)?);
-            text[at] = kept;
-        }
-    }
-    outcomes.show(out)
+fn show_final_replaced(alloc: Global, words: &mut Words<'_>, out: &mut Shown) {
+    let served = read_served(words);
+    let first = words.bytes();
+    show_replaced(alloc, &served, Some(first), words.bytes(), out);
 }
 
 /// `stored TEXT`: the count, the salt and the two keys of a stored verifier, or `NotAVerifier`.
-fn show_stored(alloc: Global, words: &mut Words<'_>, out: &mut Shown) -> Result<(), Fault> {
-    match StoredVerifier::parse(alloc, words.bytes()?) {
+fn show_stored(alloc: Global, words: &mut Words<'_>, out: &mut Shown) {
+    match StoredVerifier::parse(alloc, words.bytes()) {
         Ok(verifier) => {
-            out.number(verifier.count)?;
-            out.bytes(verifier.salt.as_slice())?;
-            out.bytes(&verifier.stored_key)?;
-            out.bytes(&verifier.server_key)
+            out.number(verifier.count);
+            out.bytes(verifier.salt.as_slice());
+            out.bytes(&verifier.stored_key);
+            out.bytes(&verifier.server_key);
         }
-        Err(VerifierError::OutOfMemory) => Err(Fault::Memory),
         Err(e) => out.number(e),
     }
 }
 
-/// Shows what a call comes to.
-fn show_call(
-    alloc: Global,
-    call: &str,
-    words: &mut Words<'_>,
-    out: &mut Shown,
-) -> Result<(), Fault> {
-    match call {
-        "final_replaced" => show_final_replaced(alloc, words, out),
-        "first_replaced" => show_first_replaced(alloc, words, out),
-        "serve" => show_serve(alloc, words, out),
-        "stored" => show_stored(alloc, words, out),
-        _ => Err(Fault::Row),
-    }
-}
+/// The calls of a server's exchange.
+#[derive(Drop)]
+pub struct ScramServers;
 
-/// A row of a server's exchange.
-pub fn check_scram_server(alloc: Global, row: &Row<'_>) -> Result<(), Fault> {
-    let list = row.words(alloc)?;
-    let mut words = Words::new(&list);
-    let mut out = Shown::new(alloc);
-    show_call(alloc, row.call, &mut words, &mut out)?;
-    words.end()?;
-    same(row.right, out)
+impl Answers for ScramServers {
+    fn show(alloc: Global, call: &str, words: &mut Words<'_>, out: &mut Shown) {
+        match call {
+            "final_replaced" => show_final_replaced(alloc, words, out),
+            "first_replaced" => show_first_replaced(alloc, words, out),
+            "serve" => show_serve(alloc, words, out),
+            "stored" => show_stored(alloc, words, out),
+            _ => words.fail_row(),
+        }
+    }
 }

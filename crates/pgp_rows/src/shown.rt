@@ -7,14 +7,15 @@ use std::fmt::Display;
 
 /// An item of a list, which is shown as words.
 pub trait Show {
-    fn show(self, out: &mut Shown) -> Result<(), Fault>;
+    fn show(self, out: &mut Shown);
 }
 
-/// Words that are written one behind the other.
+/// Words that are written one behind the other. A fault, as no memory for one of them, is remembered, and told where they are compared.
 #[derive(Drop)]
 pub struct Shown {
     alloc: Global,
     text: String,
+    fault: Option<Fault>,
 }
 
 impl Shown {
@@ -22,6 +23,7 @@ impl Shown {
         Shown {
             alloc,
             text: String::new(alloc),
+            fault: None,
         }
     }
 
@@ -29,73 +31,145 @@ impl Shown {
         self.text.as_str()
     }
 
-    pub fn into_text(self) -> String {
-        let Shown { alloc: _, text } = self;
-        text
-    }
-
     pub fn alloc(&self) -> Global {
         self.alloc
     }
 
-    pub fn word(&mut self, word: &str) -> Result<(), Fault> {
-        if !self.text.is_empty() {
-            self.text.push(' ')?;
+    /// Remembers a fault.
+    pub fn fail(&mut self, fault: Fault) {
+        self.fault = Some(fault);
+    }
+
+    /// Remembers why something is a fault, if it is one.
+    pub fn keep(&mut self, answer: Result<(), Fault>) {
+        if let Err(fault) = answer {
+            self.fail(fault);
         }
-        self.text.push_str(word)?;
+    }
+
+    /// Has to be what came until now. It makes place for what comes next.
+    pub fn came_to(&mut self, wanted: &str) -> Result<(), Fault> {
+        if let Some(fault) = self.fault {
+            return Err(fault);
+        }
+        if self.text.as_str() != wanted {
+            return Err(Fault::Differs);
+        }
+        self.text.clear();
         Ok(())
     }
 
+    /// Appends to the last word.
+    fn put(&mut self, part: &str) {
+        if self.text.push_str(part).is_err() {
+            self.fail(Fault::Memory);
+        }
+    }
+
+    pub fn word(&mut self, word: &str) {
+        if !self.text.is_empty() {
+            self.put(" ");
+        }
+        self.put(word);
+    }
+
     /// A number, or whatever has a text.
-    pub fn number<N: Display + Drop>(&mut self, n: N) -> Result<(), Fault> {
-        let text = format!(in self.alloc; "{n}")?;
-        self.word(text.as_str())
+    pub fn number<N: Display + Drop>(&mut self, n: N) {
+        match format!(in self.alloc; "{n}") {
+            Ok(text) => self.word(text.as_str()),
+            Err(_) => self.fail(Fault::Memory),
+        }
+    }
+
+    /// Appends bytes to the last word.
+    pub fn more_bytes(&mut self, bytes: &[u8]) {
+        match hex::encode(self.alloc, bytes) {
+            Ok(digits) => self.put(digits.as_str()),
+            Err(_) => self.fail(Fault::Memory),
+        }
     }
 
     /// Bytes as hex digits, or none as `""`.
-    pub fn bytes(&mut self, bytes: &[u8]) -> Result<(), Fault> {
+    pub fn bytes(&mut self, bytes: &[u8]) {
         if bytes.is_empty() {
             return self.word("\"\"");
         }
-        let digits = hex::encode(self.alloc, bytes)?;
-        self.word(digits.as_str())
+        self.word("");
+        self.more_bytes(bytes);
     }
 
     /// Bytes, or `null`.
-    pub fn nullable(&mut self, bytes: Option<&[u8]>) -> Result<(), Fault> {
+    pub fn nullable(&mut self, bytes: Option<&[u8]>) {
         match bytes {
             Some(bytes) => self.bytes(bytes),
             None => self.word("null"),
         }
     }
 
-    /// A text in quotes: what isn't plain ASCII, a quote or a backslash is `\x` and two digits.
-    pub fn text(&mut self, text: &str) -> Result<(), Fault> {
-        self.word("\"")?;
-        for byte in text.bytes() {
-            if (0x20..0x7f).contains(&byte) && byte != b'"' && byte != b'\\' {
-                self.text.push(char::from(byte))?;
-            } else {
-                let escape = format!(in self.alloc; "\\x{byte:02x}")?;
-                self.text.push_str(escape.as_str())?;
-            }
+    /// A byte of a text: what isn't plain ASCII, a quote or a backslash is `\x` and two digits.
+    fn put_byte(&mut self, byte: u8) {
+        let is_plain = (0x20..0x7f).contains(&byte) && byte != b'"' && byte != b'\\';
+        if !is_plain {
+            self.put("\\x");
+            self.more_bytes(&[byte]);
+        } else if self.text.push(char::from(byte)).is_err() {
+            self.fail(Fault::Memory);
         }
-        self.text.push('"')?;
-        Ok(())
+    }
+
+    /// A text in quotes.
+    pub fn text(&mut self, text: &str) {
+        self.word("\"");
+        for byte in text.bytes() {
+            self.put_byte(byte);
+        }
+        self.put("\"");
+    }
+
+    /// Bytes that have to be a text.
+    pub fn text_of(&mut self, bytes: &[u8]) {
+        match str::from_utf8(bytes) {
+            Ok(text) => self.text(text),
+            Err(_) => self.word("no text"),
+        }
     }
 
     /// The name of a refusal, with the tag or the code that it carries.
-    pub fn refusal(&mut self, refusal: Error) -> Result<(), Fault> {
-        self.number(refusal)?;
+    pub fn refusal(&mut self, refusal: Error) {
+        self.number(refusal);
         match refusal {
             Error::UnknownTag(tag) => self.number(tag),
             Error::UnknownAuthentication(code) => self.number(code),
-            _ => Ok(()),
+            _ => {}
+        }
+    }
+
+    /// A number that may have been refused.
+    pub fn answer<N: Display + Drop>(&mut self, answer: Result<N, Error>) {
+        match answer {
+            Ok(n) => self.number(n),
+            Err(e) => self.refusal(e),
+        }
+    }
+
+    /// Bytes that may have been refused.
+    pub fn block<const N: usize>(&mut self, block: Result<[u8; N], Error>) {
+        match block {
+            Ok(block) => self.bytes(&block),
+            Err(e) => self.refusal(e),
+        }
+    }
+
+    /// A text that was made, or why it wasn't.
+    pub fn made(&mut self, text: Result<String, Error>) {
+        match text {
+            Ok(text) => self.text(text.as_str()),
+            Err(e) => self.refusal(e),
         }
     }
 
     /// A text that may have been refused.
-    pub fn text_or_refusal(&mut self, text: Result<&str, Error>) -> Result<(), Fault> {
+    pub fn text_or_refusal(&mut self, text: Result<&str, Error>) {
         match text {
             Ok(text) => self.text(text),
             Err(e) => self.refusal(e),
@@ -105,45 +179,36 @@ impl Shown {
 
 /// Bytes, or `null`.
 impl Show for Option<&[u8]> {
-    fn show(self, out: &mut Shown) -> Result<(), Fault> {
-        out.nullable(self)
+    fn show(self, out: &mut Shown) {
+        out.nullable(self);
     }
 }
 
 /// A text.
 impl Show for &str {
-    fn show(self, out: &mut Shown) -> Result<(), Fault> {
-        out.text(self)
+    fn show(self, out: &mut Shown) {
+        out.text(self);
     }
 }
 
 /// A type.
 impl Show for u32 {
-    fn show(self, out: &mut Shown) -> Result<(), Fault> {
-        out.number(self)
+    fn show(self, out: &mut Shown) {
+        out.number(self);
     }
 }
 
 /// A format.
 impl Show for u16 {
-    fn show(self, out: &mut Shown) -> Result<(), Fault> {
-        out.number(self)
+    fn show(self, out: &mut Shown) {
+        out.number(self);
     }
 }
 
 /// A format.
 impl Show for i16 {
-    fn show(self, out: &mut Shown) -> Result<(), Fault> {
-        out.number(self)
-    }
-}
-
-/// Has to be what came.
-pub fn same(wanted: &str, came: Shown) -> Result<(), Fault> {
-    if came.as_str() == wanted {
-        Ok(())
-    } else {
-        Err(Fault::Differs(came.into_text()))
+    fn show(self, out: &mut Shown) {
+        out.number(self);
     }
 }
 
@@ -151,56 +216,68 @@ pub fn same(wanted: &str, came: Shown) -> Result<(), Fault> {
 const MOST: usize = 1000;
 
 /// Shows the items and the refusal that ends them, and tells how many items came.
-fn show_items<W: FallibleIterator>(walk: &mut W, out: &mut Shown) -> Result<usize, Fault>
+fn show_items<W: FallibleIterator>(walk: &mut W, out: &mut Shown) -> usize
 where
     W::Item: Show,
 {
     for came in 0..MOST {
         match walk.next() {
-            Ok(Some(item)) => item.show(out)?,
-            Ok(None) => return Ok(came),
+            Ok(Some(item)) => item.show(out),
+            Ok(None) => return came,
             Err(e) => {
-                out.refusal(e)?;
-                return Ok(came);
+                out.refusal(e);
+                return came;
             }
         }
     }
-    Err(Fault::Row)
+    out.word("endless");
+    MOST
 }
 
-/// What a walk answers, if it gives no item.
-fn end_of<W: FallibleIterator>(walk: &mut W) -> Result<Result<(), Error>, Fault>
+/// What a walk answers behind its last item: whether it gives one more.
+fn end_of<W: FallibleIterator>(walk: &mut W) -> Result<bool, Error>
 where
     W::Item: Drop,
 {
     match walk.next() {
-        Ok(Some(_)) => Err(Fault::Row),
-        Ok(None) => Ok(Ok(())),
-        Err(e) => Ok(Err(e)),
+        Ok(item) => Ok(item.is_some()),
+        Err(e) => Err(e),
+    }
+}
+
+/// Whether the end is answered twice, and nothing is announced there.
+fn is_over<W: FallibleIterator>(walk: &mut W) -> bool
+where
+    W::Item: Drop,
+{
+    let end = end_of(walk);
+    end != Ok(true) && end_of(walk) == end && walk.size_hint().0 == 0
+}
+
+/// Shows how many items were announced, where that isn't how many came.
+fn show_announced(announced: (usize, Option<usize>), came: usize, out: &mut Shown) {
+    match announced {
+        (least, Some(most)) if least == came && most == came => {}
+        (0, None) => out.word("of any"),
+        (least, _) => {
+            out.word("of");
+            out.number(least);
+        }
     }
 }
 
 /// Shows a walk as a list, `[ .. ]`; behind it `of` and how many were announced, where that isn't how many came; and
 /// `unsteady` where the end isn't answered again.
-pub fn show_walk<W: FallibleIterator + Drop>(mut walk: W, out: &mut Shown) -> Result<(), Fault>
+pub fn show_walk<W: FallibleIterator + Drop>(mut walk: W, out: &mut Shown)
 where
     W::Item: Show + Drop,
 {
     let announced = walk.size_hint();
-    out.word("[")?;
-    let came = show_items(&mut walk, out)?;
-    out.word("]")?;
-    match announced {
-        (least, Some(most)) if least == came && most == came => {}
-        (0, None) => out.word("of any")?,
-        (least, _) => {
-            out.word("of")?;
-            out.number(least)?;
-        }
+    out.word("[");
+    let came = show_items(&mut walk, out);
+    out.word("]");
+    show_announced(announced, came, out);
+    if !is_over(&mut walk) {
+        out.word("unsteady");
     }
-    let end = end_of(&mut walk)?;
-    if end_of(&mut walk)? != end || walk.size_hint().0 != 0 {
-        out.word("unsteady")?;
-    }
-    Ok(())
 }

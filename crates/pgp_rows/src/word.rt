@@ -1,17 +1,11 @@
 //! The words of a row.
 
-use crate::fault::{Fault, add};
+use crate::fault::Fault;
 use crate::shown::Shown;
+use pgp_base::Error;
 use std::alloc::{AllocError, Global};
+use std::num::ParseIntError;
 use std::str::FromStr;
-
-/// The text that the bytes are.
-pub fn text_of(bytes: &[u8]) -> Result<&str, Fault> {
-    match str::from_utf8(bytes) {
-        Ok(text) => Ok(text),
-        Err(_) => Err(Fault::Row),
-    }
-}
 
 /// A word: as it is written, and the bytes that it stands for, if it is a quoted text or hex digits.
 #[derive(Drop)]
@@ -23,61 +17,47 @@ pub struct Word {
 
 impl Word {
     /// Whether it is this word, and no quoted text.
-    pub fn is(&self, word: &str) -> bool {
+    fn is(&self, word: &str) -> bool {
         !self.quoted && self.raw.as_str() == word
     }
 
-    /// The bytes of a quoted text or of hex digits.
-    pub fn bytes(&self) -> Result<&[u8], Fault> {
-        match &self.bytes {
-            Some(bytes) => Ok(bytes.as_slice()),
-            None => Err(Fault::Row),
-        }
-    }
-
-    /// A text.
-    pub fn text(&self) -> Result<&str, Fault> {
-        text_of(self.bytes()?)
-    }
-
     /// Shows it as a part of a message is shown: a text as its bytes.
-    pub fn show(&self, out: &mut Shown) -> Result<(), Fault> {
-        if self.quoted {
-            return out.bytes(self.bytes()?);
+    pub fn show(&self, out: &mut Shown) {
+        match &self.bytes {
+            Some(bytes) if self.quoted => out.bytes(bytes),
+            _ => out.word(self.raw.as_str()),
         }
-        out.word(self.raw.as_str())
-    }
-
-    /// Bytes, or `null`.
-    pub fn nullable(&self) -> Result<Option<&[u8]>, Fault> {
-        if self.is("null") {
-            return Ok(None);
-        }
-        Ok(Some(self.bytes()?))
     }
 }
 
+/// Appends what stands behind a `\x`: the byte of two digits, and the rest.
+fn unescape(piece: &str, out: &mut Vec<u8>) -> Result<(), Fault> {
+    let (digits, rest) = piece.split_at_checked(2).ok_or(Fault::Row)?;
+    let Ok(byte) = u8::from_str_radix(digits, 16) else {
+        return Err(Fault::Row);
+    };
+    out.extend_from_slice(&[byte])?;
+    out.extend_from_slice(rest.as_bytes())?;
+    Ok(())
+}
+
 /// Appends what a quoted text stands for: `\x` and two digits is a byte.
-fn unescape(text: &str, out: &mut Vec<u8>) -> Result<(), Fault> {
-    let mut is_first = true;
-    for piece in text.split("\\x") {
-        if is_first {
-            out.extend_from_slice(piece.as_bytes())?;
-        } else {
-            let (digits, rest) = piece.split_at_checked(2).ok_or(Fault::Row)?;
-            add(out, u8::from_str_radix(digits, 16)?)?;
-            out.extend_from_slice(rest.as_bytes())?;
-        }
-        is_first = false;
+fn put_quoted(text: &str, out: &mut Vec<u8>) -> Result<(), Fault> {
+    let mut pieces = text.split("\\x");
+    if let Some(front) = pieces.next() {
+        out.extend_from_slice(front.as_bytes())?;
+    }
+    for piece in pieces {
+        unescape(piece, out)?;
     }
     Ok(())
 }
 
 fn quoted(alloc: Global, text: &str) -> Result<Word, Fault> {
     let mut bytes = Vec::new(alloc);
-    unescape(text, &mut bytes)?;
+    put_quoted(text, &mut bytes)?;
     Ok(Word {
-        raw: String::from_str(alloc, text)?,
+        raw: String::new(alloc),
         quoted: true,
         bytes: Some(bytes),
     })
@@ -99,109 +79,227 @@ fn put_bare(alloc: Global, piece: &str, words: &mut Vec<Word>) -> Result<(), All
     Ok(())
 }
 
-/// The words of a text.
-pub fn words_of(alloc: Global, text: &str) -> Result<Vec<Word>, Fault> {
-    let mut words = Vec::new(alloc);
+/// Appends the words of a text.
+fn put_words(alloc: Global, text: &str, words: &mut Vec<Word>) -> Result<(), Fault> {
     let mut is_quoted = false;
     for piece in text.split('"') {
         if is_quoted {
-            add(&mut words, quoted(alloc, piece)?)?;
+            let word = quoted(alloc, piece)?;
+            if words.push(word).is_err() {
+                return Err(Fault::Memory);
+            }
         } else {
-            put_bare(alloc, piece, &mut words)?;
+            put_bare(alloc, piece, words)?;
         }
         is_quoted = !is_quoted;
     }
+    Ok(())
+}
+
+/// The words of a text.
+pub fn words_of(alloc: Global, text: &str) -> Result<Vec<Word>, Fault> {
+    let mut words = Vec::new(alloc);
+    put_words(alloc, text, &mut words)?;
     Ok(words)
 }
 
-/// The bytes of all these words.
-pub fn joined(alloc: Global, words: &[Word]) -> Result<Vec<u8>, Fault> {
-    let mut bytes = Vec::new(alloc);
-    for word in words {
-        bytes.extend_from_slice(word.bytes()?)?;
+/// The bytes of all words of a text.
+pub fn bytes_of(alloc: Global, text: &str) -> Result<Vec<u8>, Fault> {
+    let all = words_of(alloc, text)?;
+    let mut words = Words::new(&all);
+    let bytes = words.joined(alloc);
+    match words.end() {
+        Ok(()) => Ok(bytes),
+        Err(fault) => Err(fault),
     }
-    Ok(bytes)
 }
 
-/// Where the first `]` stands.
-fn end_of_list(words: &[Word]) -> Option<usize> {
-    for (at, word) in words.iter().enumerate() {
-        if word.is("]") {
-            return Some(at);
-        }
-    }
-    None
-}
-
-/// Words that are read from the left.
+/// Words that are read from the left. A word that isn't there, or is of another kind, is remembered as a fault, which the end tells.
 #[derive(Drop)]
 pub struct Words<'w> {
     rest: &'w [Word],
+    fault: Option<Fault>,
+}
+
+/// What a list of words can hold.
+pub trait Item<'w> {
+    fn read(words: &mut Words<'w>) -> Self;
 }
 
 impl<'w> Words<'w> {
     pub fn new(words: &'w [Word]) -> Words<'w> {
-        Words { rest: words }
+        Words {
+            rest: words,
+            fault: None,
+        }
     }
 
-    /// The next word.
-    pub fn word(&mut self) -> Result<&'w Word, Fault> {
-        let (word, rest) = self.rest.split_first().ok_or(Fault::Row)?;
+    /// Remembers a fault.
+    fn fail(&mut self, fault: Fault) {
+        self.fault = Some(fault);
+    }
+
+    /// The row is not written as it has to be.
+    pub fn fail_row(&mut self) {
+        self.fail(Fault::Row);
+    }
+
+    /// There is no such call.
+    pub fn no_call(&mut self) -> Result<(), Error> {
+        self.fail_row();
+        Ok(())
+    }
+
+    /// Takes the next word, if it is this one.
+    pub fn takes(&mut self, name: &str) -> bool {
+        match self.rest.split_first() {
+            Some((word, rest)) if word.is(name) => {
+                self.rest = rest;
+                true
+            }
+            _ => false,
+        }
+    }
+
+    /// The next word has to be this one.
+    fn expect(&mut self, name: &str) {
+        if !self.takes(name) {
+            self.fail_row();
+        }
+    }
+
+    fn word(&mut self) -> Option<&'w Word> {
+        let (word, rest) = self.rest.split_first()?;
         self.rest = rest;
-        Ok(word)
+        Some(word)
     }
 
-    pub fn bytes(&mut self) -> Result<&'w [u8], Fault> {
-        self.word()?.bytes()
+    /// The bytes of a quoted text or of hex digits.
+    pub fn bytes(&mut self) -> &'w [u8] {
+        if let Some(word) = self.word() {
+            if let Some(bytes) = &word.bytes {
+                return bytes.as_slice();
+            }
+        }
+        self.fail_row();
+        &[]
     }
 
-    pub fn text(&mut self) -> Result<&'w str, Fault> {
-        self.word()?.text()
+    /// Bytes, or `null`.
+    pub fn nullable(&mut self) -> Option<&'w [u8]> {
+        if self.takes("null") {
+            return None;
+        }
+        Some(self.bytes())
+    }
+
+    pub fn text(&mut self) -> &'w str {
+        match str::from_utf8(self.bytes()) {
+            Ok(text) => text,
+            Err(_) => {
+                self.fail_row();
+                ""
+            }
+        }
     }
 
     /// Exactly so many bytes.
-    pub fn block<const N: usize>(&mut self) -> Result<[u8; N], Fault> {
-        match self.bytes()?.split_first_chunk::<N>() {
-            Some((block, [])) => Ok(*block),
-            _ => Err(Fault::Row),
+    pub fn block<const N: usize>(&mut self) -> [u8; N] {
+        match self.bytes().split_first_chunk::<N>() {
+            Some((block, [])) => *block,
+            _ => {
+                self.fail_row();
+                [0; N]
+            }
         }
     }
 
-    /// The next word, which has to be this one.
-    pub fn expect(&mut self, word: &str) -> Result<(), Fault> {
-        if self.word()?.is(word) {
-            Ok(())
-        } else {
-            Err(Fault::Row)
-        }
+    /// The byte of a one-letter text.
+    pub fn letter(&mut self) -> u8 {
+        let [letter] = self.block::<1>();
+        letter
     }
 
     /// A number.
-    pub fn number<N: FromStr<Err = std::num::ParseIntError>>(&mut self) -> Result<N, Fault> {
-        Ok(self.word()?.raw.parse::<N>()?)
-    }
-
-    /// The words of a list, `[ .. ]`.
-    pub fn list(&mut self) -> Result<&'w [Word], Fault> {
-        self.expect("[")?;
-        let at = end_of_list(self.rest).ok_or(Fault::Row)?;
-        let (items, rest) = self.rest.split_at_checked(at).ok_or(Fault::Row)?;
-        self.rest = rest;
-        self.expect("]")?;
-        Ok(items)
-    }
-
-    /// What is left.
-    pub fn rest(&self) -> &'w [Word] {
-        self.rest
-    }
-
-    /// Nothing may be left.
-    pub fn end(&self) -> Result<(), Fault> {
-        if self.rest.is_empty() {
-            Ok(())
-        } else {
-            Err(Fault::Row)
+    pub fn number<N: FromStr<Err = ParseIntError> + Default>(&mut self) -> N {
+        if let Some(word) = self.word() {
+            if let Ok(number) = word.raw.parse::<N>() {
+                return number;
+            }
         }
+        self.fail_row();
+        N::default()
+    }
+
+    /// A list, `[ .. ]`.
+    pub fn list<T: Item<'w> + Drop>(&mut self, alloc: Global) -> Vec<T> {
+        let mut items = Vec::new(alloc);
+        self.expect("[");
+        for _ in 0..self.rest.len() {
+            if self.takes("]") {
+                return items;
+            }
+            let item = T::read(self);
+            if items.push(item).is_err() {
+                self.fail(Fault::Memory);
+            }
+        }
+        self.expect("]");
+        items
+    }
+
+    /// The bytes of all words that are left.
+    pub fn joined(&mut self, alloc: Global) -> Vec<u8> {
+        let mut bytes = Vec::new(alloc);
+        for _ in 0..self.rest.len() {
+            if bytes.extend_from_slice(self.bytes()).is_err() {
+                self.fail(Fault::Memory);
+            }
+        }
+        bytes
+    }
+
+    /// No fault was remembered, and nothing is left.
+    pub fn end(&self) -> Result<(), Fault> {
+        match self.fault {
+            Some(fault) => Err(fault),
+            None if self.rest.is_empty() => Ok(()),
+            None => Err(Fault::Row),
+        }
+    }
+}
+
+/// A type.
+impl<'w> Item<'w> for u32 {
+    fn read(words: &mut Words<'w>) -> u32 {
+        words.number()
+    }
+}
+
+/// A format.
+impl<'w> Item<'w> for u16 {
+    fn read(words: &mut Words<'w>) -> u16 {
+        words.number()
+    }
+}
+
+/// A format.
+impl<'w> Item<'w> for i16 {
+    fn read(words: &mut Words<'w>) -> i16 {
+        words.number()
+    }
+}
+
+/// The bytes of a text.
+impl<'w> Item<'w> for &'w [u8] {
+    fn read(words: &mut Words<'w>) -> &'w [u8] {
+        words.bytes()
+    }
+}
+
+/// Bytes, or `null`.
+impl<'w> Item<'w> for Option<&'w [u8]> {
+    fn read(words: &mut Words<'w>) -> Option<&'w [u8]> {
+        words.nullable()
     }
 }
