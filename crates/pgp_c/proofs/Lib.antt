@@ -4,6 +4,7 @@ mod Elements
 mod Copies
 mod Extensions
 mod Fronts
+mod Handed
 mod Items
 mod Listings
 mod Lists

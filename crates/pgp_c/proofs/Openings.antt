@@ -11,7 +11,7 @@ use Rattle.std.specs.Option.{option_to_list}
 use Rattle.std.proofs.lemmas.List.{append-nil, map-append}
 use Rattle.std.proofs.lemmas.List.Concat.{flat_map-append}
 use Rattle.pgp_base.specs.Calls.{Came}
-use Rattle.pgp_base.specs.Cause.{Cause, either, first, Wants, WantsMemory}
+use Rattle.pgp_base.specs.Cause.{first, Wants, WantsMemory}
 use Rattle.pgp_base.specs.Held.{Held}
 use Rattle.pgp_base.specs.Window.{window_lacks}
 use Rattle.pgp_base.specs.declared.error.Error.{Error}

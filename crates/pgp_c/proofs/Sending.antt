@@ -15,7 +15,7 @@ use Rattle.pgp_base.proofs.Fitting.{too_long}
 use Rattle.pgp_base.proofs.Needs.{wants_window}
 use Rattle.pgp_base.proofs.Windows.{window_size, window_written}
 use Rattle.pgp_frontend.specs.ClientMessage.{ClientMessage}
-use Rattle.pgp_frontend.specs.Payload.{bytes_of, cause, IsInRange}
+use Rattle.pgp_frontend.specs.Payload.{bytes_of, cause, IsInRange, WritesMessage}
 use Rattle.pgp_frontend.proofs.Causes.{never_memory, no_cause}
 use Rattle.pgp_c.specs.Sending.{Sent, NotSent}
 use Rattle.pgp_c.specs.Values.{Wrote, Lacks}
@@ -68,6 +68,21 @@ refuses m n is w old name new e code told why code_is none = subst (λ k. NotSen
     | inr some ↦ inr (not_room n e code some code_is, (e, some, code_is))
   ];
 })
+
+-- both from the core's answer, which the call behind it told
+pub sends_ended : (m n : ClientMessage) → n ≡ m → (w v : Window) (old : List ℕ) (name : GName) → window_held w ≡ record { bytes = []; behind = old; kept = (name, length old) }
+    → (r : Result (Unit {0}) Error) → WritesMessage n window_lacks (window_held w) (window_held v) r
+    → (x : List ℕ) → (name ≡ v.room.ghost_name → x ≡ v.room.now) → (told : ℕ) → (r ≡ Ok tt) × (told ≡ length (take v.len v.room.now)) → Sent m old x told
+sends_ended m n is w v old name new r writes x at_last told ended =
+    let e : WritesMessage n window_lacks (window_held w) (window_held v) (Ok tt) = subst (λ r. WritesMessage n window_lacks (window_held w) (window_held v) r) ended.0 writes in
+    sends m n is w v old name new e.0 e.1.0 e.1.1 x at_last told ended.1
+
+pub refuses_ended : (m n : ClientMessage) → n ≡ m → (w v : Window) (old : List ℕ) (name : GName) → window_held w ≡ record { bytes = []; behind = old; kept = (name, length old) }
+    → (r : Result (Unit {0}) Error) → WritesMessage n window_lacks (window_held w) (window_held v) r
+    → (code told : ℕ) → (e : Error) × (r ≡ Err e) × (code ≡ number_of e) × (told ≡ 0) → NotSent m old told code
+refuses_ended m n is w v old name new r writes code told ended =
+    let e : WritesMessage n window_lacks (window_held w) (window_held v) (Err ended.0) = subst (λ r. WritesMessage n window_lacks (window_held w) (window_held v) r) ended.1 writes in
+    refuses m n is w old name new ended.0 code told e.1.0 ended.2 ended.3
 
 -- the same for the spelling of a value
 pub wrote : (p q : List ℕ) → q ≡ p → (w v : Window) (old : List ℕ) (name : GName) → window_held w ≡ record { bytes = []; behind = old; kept = (name, length old) }

@@ -15,7 +15,7 @@ pub extern "C" fn pgp_put_uuid(id: &[u8], out: &mut [u8], written: &mut usize) -
     ensures refused { result ≢ 0 → (written.new ≡ 0) × (Refuses uuid id.now result ⊎ Lacks id.now out.old written.new result) }
 {
     match pgp_types::uuid_from_sql(id) {
-        Ok(octets) => put(&Scalar::Uuid(octets), out, written),
+        Ok(octets) => put(Scalar::Uuid(octets), out, written),
         Err(e) => refused(e, written),
     }
 }
@@ -39,7 +39,7 @@ pub extern "C" fn pgp_put_macaddr(address: &[u8], out: &mut [u8], written: &mut 
     ensures refused { result ≢ 0 → (written.new ≡ 0) × (Refuses macaddr address.now result ⊎ Lacks address.now out.old written.new result) }
 {
     match pgp_types::macaddr_from_sql(address) {
-        Ok(octets) => put(&Scalar::Macaddr(octets), out, written),
+        Ok(octets) => put(Scalar::Macaddr(octets), out, written),
         Err(e) => refused(e, written),
     }
 }

@@ -124,8 +124,10 @@ impl Listed for Dimensions {
     ghost Inside = { λ size d. ⊤ };
 
     fn read(_at: usize, rest: &[u8]) -> Result<(&[u8], PgpDimension), Error> {
-        let (dimension, more) = dimension_at(rest)?;
-        Ok((more, dimension))
+        match dimension_at(rest) {
+            Ok((dimension, more)) => Ok((more, dimension)),
+            Err(e) => Err(e),
+        }
     }
 }
 
@@ -162,8 +164,12 @@ impl Listed for Elements {
 fn dimension_at(bytes: &[u8]) -> Result<(PgpDimension, &[u8]), Error>
     ensures { Answers (λ x. ((x.0.len, x.0.lower_bound), x.1.now)) result (dimension_at bytes.now) }
 {
-    let (len, rest) = int32_at(bytes)?;
-    let (lower_bound, rest) = int32_at(rest)?;
+    let Ok((len, rest)) = int32_at(bytes) else {
+        return Err(Error::UnexpectedEof);
+    };
+    let Ok((lower_bound, rest)) = int32_at(rest) else {
+        return Err(Error::UnexpectedEof);
+    };
     Ok((PgpDimension { len, lower_bound }, rest))
 }
 
@@ -196,9 +202,10 @@ fn put_list<B: Buffer>(
     ensures cause { IfErr result (λ e. WantsMemory (Wants B.Lacks (B.held buf.old) (length (head_of element_type elements.now ++ elements_of elements.now))) e
         ⊎ ((e ≡ Error.TooLarge) × ((2147483647 < length elements.now) ⊎ (elements_cause elements.now ≡ Some e)))) }
 {
-    put_list_head(element_type, elements, buf)?;
-    put_elements(elements, buf)?;
-    Ok(())
+    match put_list_head(element_type, elements, buf) {
+        Ok(()) => put_elements(elements, buf),
+        Err(e) => Err(e),
+    }
 }
 
 /// How many dimensions there are, whether an element is null, the type, and the dimension.

@@ -1,18 +1,14 @@
 //! Bit strings.
 
-#![tactic(auto, using(pgp_base::proofs::Parts::held_steps))]
-
-ghost use Rattle.std.specs.Prelude.{◌≡◌, ◌≢◌, ◌⊎◌, ◌++◌, length, drop, Ok, Some, None, OnOk, IfErr};
-ghost use Rattle.pgp_base.specs.Cause.{length_cause, Wants, WantsMemory};
-ghost use Rattle.pgp_base.specs.Held.{◌⊕◌};
-ghost use Rattle.pgp_base.specs.Wire.{uint32};
+ghost use Rattle.std.specs.Prelude.{◌≡◌, ◌≢◌, ◌⊎◌, drop, Ok};
 ghost use Rattle.pgp_types.specs.Format.{Reads};
 ghost use Rattle.pgp_types.specs.Varbit.{varbit, IsVarbit};
 ghost use Rattle.pgp_c.specs.Compound.{IsNoVarbit};
 ghost use Rattle.pgp_c.specs.Values.{Lacks, Refuses, Wrote};
 
+use crate::part::put_counted;
 use crate::status::{failed, refused, sent};
-use pgp_base::{Buffer, Error, Window, length_field, put_u32};
+use pgp_base::{Error, Window};
 
 /// Reads how many bits a `bit varying` or a `bit` has, from all of the bytes; those that hold the bits stand from the fifth on.
 #[unsafe(no_mangle)]
@@ -45,18 +41,8 @@ pub extern "C" fn pgp_put_varbit(
         return refused(Error::InvalidSize, written);
     }
     let mut window = Window::new(out);
-    match put_bits(bits, bytes, &mut window) {
+    match put_counted(bits, bytes, &mut window) {
         Ok(()) => sent(&window, written),
         Err(e) => refused(e, written),
     }
-}
-
-/// The number of bits, and the bytes.
-fn put_bits<B: Buffer>(bits: usize, bytes: &[u8], buf: &mut B) -> Result<(), Error>
-    ensures ok { OnOk result ((length_cause bits ≡ None) × (B.held buf.new ≡ B.held buf.old ⊕ (uint32 bits ++ bytes.now))) }
-    ensures cause { IfErr result (λ e. WantsMemory (Wants B.Lacks (B.held buf.old) (length (uint32 bits ++ bytes.now))) e ⊎ (length_cause bits ≡ Some e)) }
-{
-    put_u32(buf, length_field(bits)?)?;
-    buf.append(bytes)?;
-    Ok(())
 }

@@ -81,12 +81,24 @@ fn numbers_at(name: PgpPart, bytes: &[u8]) -> Result<(PgpField, &[u8]), Error>
     ensures numbers { (text : List ℕ) → Answers (λ x. (named text x.0, x.1.now)) result (numbers_at text bytes.now) }
     ensures name { IfOk result (λ x. x.0.name ≡ name) }
 {
-    let (table_oid, rest) = oid_at(bytes)?;
-    let (column_id, rest) = int16_at(rest)?;
-    let (type_oid, rest) = oid_at(rest)?;
-    let (type_size, rest) = int16_at(rest)?;
-    let (type_modifier, rest) = int32_at(rest)?;
-    let (format, rest) = int16_at(rest)?;
+    let Ok((table_oid, rest)) = oid_at(bytes) else {
+        return Err(Error::UnexpectedEof);
+    };
+    let Ok((column_id, rest)) = int16_at(rest) else {
+        return Err(Error::UnexpectedEof);
+    };
+    let Ok((type_oid, rest)) = oid_at(rest) else {
+        return Err(Error::UnexpectedEof);
+    };
+    let Ok((type_size, rest)) = int16_at(rest) else {
+        return Err(Error::UnexpectedEof);
+    };
+    let Ok((type_modifier, rest)) = int32_at(rest) else {
+        return Err(Error::UnexpectedEof);
+    };
+    let Ok((format, rest)) = int16_at(rest) else {
+        return Err(Error::UnexpectedEof);
+    };
     let field = PgpField {
         name,
         table_oid,

@@ -18,7 +18,7 @@ ghost use Rattle.pgp_c.specs.Walks.{IsEnded, RefusesItem, Takes};
 use crate::cursor::{Listed, PgpCursor, next_counted};
 use crate::front::PgpPart;
 use crate::listing::PgpValue;
-use crate::part::{column_before, nullable_at, put_value, sized_at};
+use crate::part::{column_before, nullable_at, put_counted, put_value, sized_at};
 use crate::row::PgpColumn;
 use crate::status::{failed, refused, sent};
 use pgp_base::{Buffer, Error, FallibleIterator, Window, length_field, put_u32, text};
@@ -106,9 +106,13 @@ impl Listed for Entries {
 fn entry_at(bytes: &[u8]) -> Result<((&[u8], Option<&[u8]>), &[u8]), Error>
     ensures { Answers (λ x. ((x.0.0.now, shown x.0.1), x.1.now)) result (entry_at bytes.now) }
 {
-    let (key, rest) = key_at(bytes)?;
-    let (value, rest) = entry_value_at(rest)?;
-    Ok(((key, value), rest))
+    match key_at(bytes) {
+        Ok((key, rest)) => match entry_value_at(rest) {
+            Ok((value, rest)) => Ok(((key, value), rest)),
+            Err(e) => Err(e),
+        },
+        Err(e) => Err(e),
+    }
 }
 
 /// The key at the front, which has to be text.
@@ -192,10 +196,13 @@ fn put_list<B: Buffer>(pairs: &[PgpKeyValue<'_>], buf: &mut B) -> Result<(), Err
     ensures ok { OnOk result ((hstore.cause (map entry_of pairs.now) ≡ None) × (B.held buf.new ≡ B.held buf.old ⊕ hstore.written (map entry_of pairs.now))) }
     ensures cause { IfErr result (λ e. WantsMemory (Wants B.Lacks (B.held buf.old) (length (hstore.written (map entry_of pairs.now)))) e ⊎ (hstore.cause (map entry_of pairs.now) ≡ Some e)) }
 {
-    let count = length_field(pairs.len())?;
-    put_u32(buf, count)?;
-    put_pairs(pairs, buf)?;
-    Ok(())
+    match length_field(pairs.len()) {
+        Ok(count) => match put_u32(buf, count) {
+            Ok(()) => put_pairs(pairs, buf),
+            Err(e) => Err(e),
+        },
+        Err(e) => Err(e),
+    }
 }
 
 /// The keys and values, one after another.
@@ -214,11 +221,8 @@ fn put_pair<B: Buffer>(pair: &PgpKeyValue<'_>, buf: &mut B) -> Result<(), Error>
     ensures ok { OnOk result ((entry_cause (entry_of pair.now) ≡ None) × (B.held buf.new ≡ B.held buf.old ⊕ entry_bytes (entry_of pair.now))) }
     ensures cause { IfErr result (λ e. WantsMemory (Wants B.Lacks (B.held buf.old) (length (entry_bytes (entry_of pair.now)))) e ⊎ (entry_cause (entry_of pair.now) ≡ Some e)) }
 {
-    let key = PgpValue {
-        bytes: pair.key,
-        is_null: false,
-    };
-    put_value(&key, buf)?;
-    put_value(&pair.value, buf)?;
-    Ok(())
+    match put_counted(pair.key.len(), pair.key, buf) {
+        Ok(()) => put_value(&pair.value, buf),
+        Err(e) => Err(e),
+    }
 }

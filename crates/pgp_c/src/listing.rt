@@ -57,7 +57,7 @@ pub extern "C" fn pgp_bind(
         statement,
         formats.iter().copied(),
         values.iter(),
-        |value: &PgpValue<'_>, buf: &mut Window<'_>| put(value, buf),
+        put,
         result_formats.iter().copied(),
         &mut window,
     );

@@ -32,17 +32,17 @@ pub enum PlainMessage<'a> {
 /// Writes the message to the front of the memory.
 // The hint carries the speed, here and below: an export names its message, so that of the choice nothing is left in it.
 #[inline(always)]
-pub fn send(message: &PlainMessage<'_>, out: &mut [u8], written: &mut usize) -> u32
-    ensures sent { result ≡ 0 → Sent (message_of message.now) out.old out.new written.new }
-    ensures refused { result ≢ 0 → NotSent (message_of message.now) out.old written.new result }
+pub fn send(message: PlainMessage<'_>, out: &mut [u8], written: &mut usize) -> u32
+    ensures sent { result ≡ 0 → Sent (message_of message.entry) out.old out.new written.new }
+    ensures refused { result ≢ 0 → NotSent (message_of message.entry) out.old written.new result }
 {
     match message {
-        PlainMessage::CancelRequest(id, key) => pgp_cancel_request(*id, key, out, written),
-        PlainMessage::Close(variant, name) => pgp_close(*variant, name, out, written),
+        PlainMessage::CancelRequest(id, key) => pgp_cancel_request(id, key, out, written),
+        PlainMessage::Close(variant, name) => pgp_close(variant, name, out, written),
         PlainMessage::CopyDone => pgp_copy_done(out, written),
         PlainMessage::CopyFail(reason) => pgp_copy_fail(reason, out, written),
-        PlainMessage::Describe(variant, name) => pgp_describe(*variant, name, out, written),
-        PlainMessage::Execute(portal, rows) => pgp_execute(portal, *rows, out, written),
+        PlainMessage::Describe(variant, name) => pgp_describe(variant, name, out, written),
+        PlainMessage::Execute(portal, rows) => pgp_execute(portal, rows, out, written),
         PlainMessage::Flush => pgp_flush(out, written),
         PlainMessage::PasswordMessage(text) => pgp_password_message(text, out, written),
         PlainMessage::Query(text) => pgp_query(text, out, written),
@@ -58,22 +58,11 @@ pub fn send(message: &PlainMessage<'_>, out: &mut [u8], written: &mut usize) -> 
 
 /// Whether the message comes behind a startup packet.
 #[inline(always)]
-pub fn comes_open(message: &PlainMessage<'_>) -> bool
-    ensures { result ≡ comes_open message.now }
+pub fn comes_open(message: PlainMessage<'_>) -> bool
+    ensures { result ≡ comes_open message.entry }
 {
     match message {
         PlainMessage::CancelRequest(_, _) | PlainMessage::SslRequest => false,
-        PlainMessage::Close(_, _)
-        | PlainMessage::CopyDone
-        | PlainMessage::CopyFail(_)
-        | PlainMessage::Describe(_, _)
-        | PlainMessage::Execute(_, _)
-        | PlainMessage::Flush
-        | PlainMessage::PasswordMessage(_)
-        | PlainMessage::Query(_)
-        | PlainMessage::SaslInitialResponse(_, _)
-        | PlainMessage::SaslResponse(_)
-        | PlainMessage::Sync
-        | PlainMessage::Terminate => true,
+        _ => true,
     }
 }

@@ -59,13 +59,12 @@ impl Listed for Names {
     ghost Inside = { λ size name. IsInside size name };
 
     fn read(at: usize, rest: &[u8]) -> Result<(&[u8], PgpPart), Error> {
-        let (name, more) = text_at(rest)?;
-        Ok((
-            more,
-            PgpPart {
-                at,
-                len: name.len(),
-            },
-        ))
+        match text_at(rest) {
+            Ok((name, more)) => {
+                let len = name.len();
+                Ok((more, PgpPart { at, len }))
+            }
+            Err(e) => Err(e),
+        }
     }
 }

@@ -50,8 +50,10 @@ impl Listed for Types {
     ghost Inside = { λ size value. ⊤ };
 
     fn read(_at: usize, rest: &[u8]) -> Result<(&[u8], u32), Error> {
-        let (number, more) = oid_at(rest)?;
-        Ok((more, number))
+        match oid_at(rest) {
+            Ok((number, more)) => Ok((more, number)),
+            Err(e) => Err(e),
+        }
     }
 }
 
@@ -75,7 +77,9 @@ impl Listed for Formats {
     ghost Inside = { λ size value. ⊤ };
 
     fn read(_at: usize, rest: &[u8]) -> Result<(&[u8], u16), Error> {
-        let (number, more) = uint16_at(rest)?;
-        Ok((more, number))
+        match uint16_at(rest) {
+            Ok((number, more)) => Ok((more, number)),
+            Err(e) => Err(e),
+        }
     }
 }

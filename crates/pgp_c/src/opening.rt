@@ -54,7 +54,7 @@ fn open(
         return nameless(written);
     }
     let mut window = Window::new(out);
-    let pairs = parameters.iter().map(|pair| texts(pair));
+    let pairs = parameters.iter().map(texts);
     match over_bytes::startup_message_version(version, pairs, &mut window) {
         Ok(()) => sent(&window, written),
         Err(e) => refused(e, written),

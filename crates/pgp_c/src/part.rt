@@ -1,10 +1,10 @@
 //! A length and so many bytes: read from the left, by their places, and written.
 #![tactic(auto, using(pgp_base::proofs::Parts::held_steps))]
 
-ghost use Rattle.std.specs.Prelude.{◌≡◌, ◌⊎◌, length, Some, None, OnOk, IfErr};
-ghost use Rattle.pgp_base.specs.Cause.{Wants, WantsMemory, nullable_cause};
+ghost use Rattle.std.specs.Prelude.{◌≡◌, ◌⊎◌, ◌++◌, length, Some, None, OnOk, IfErr};
+ghost use Rattle.pgp_base.specs.Cause.{length_cause, nullable_cause, Wants, WantsMemory};
 ghost use Rattle.pgp_base.specs.Held.{◌⊕◌};
-ghost use Rattle.pgp_base.specs.Wire.{nullable};
+ghost use Rattle.pgp_base.specs.Wire.{nullable, uint32};
 ghost use Rattle.pgp_c.specs.Lists.{value_of};
 ghost use Rattle.pgp_base.specs.PartReading.{Answers};
 ghost use Rattle.pgp_types.specs.PartReading.{nullable_at, sized_at};
@@ -24,7 +24,9 @@ const NULL: u32 = 0xffff_ffff;
 pub fn nullable_at(bytes: &[u8], past_end: Error) -> Result<(Option<&[u8]>, &[u8]), Error>
     ensures { Answers (λ x. (shown x.0, x.1.now)) result (nullable_at past_end bytes.now) }
 {
-    let (len, rest) = int32_at(bytes)?;
+    let Ok((len, rest)) = int32_at(bytes) else {
+        return Err(Error::UnexpectedEof);
+    };
     if len < 0 {
         return Ok((None, rest));
     }
@@ -41,7 +43,9 @@ pub fn nullable_at(bytes: &[u8], past_end: Error) -> Result<(Option<&[u8]>, &[u8
 pub fn sized_at(bytes: &[u8], wrong: Error) -> Result<(&[u8], &[u8]), Error>
     ensures { Answers (λ x. (x.0.now, x.1.now)) result (sized_at wrong bytes.now) }
 {
-    let (len, rest) = int32_at(bytes)?;
+    let Ok((len, rest)) = int32_at(bytes) else {
+        return Err(Error::UnexpectedEof);
+    };
     if len < 0 {
         return Err(wrong);
     }
@@ -77,10 +81,33 @@ pub fn put_value<B: Buffer>(value: &PgpValue<'_>, buf: &mut B) -> Result<(), Err
     ensures cause { IfErr result (λ e. WantsMemory (Wants B.Lacks (B.held buf.old) (length (nullable (value_of value.now)))) e ⊎ (nullable_cause (value_of value.now) ≡ Some e)) }
 {
     if value.is_null {
-        put_u32(buf, NULL)?;
-        return Ok(());
+        return put_u32(buf, NULL);
     }
-    put_u32(buf, length_field(value.bytes.len())?)?;
-    buf.append(value.bytes)?;
-    Ok(())
+    put_counted(value.bytes.len(), value.bytes, buf)
+}
+
+/// Appends a count, and bytes.
+// Here and in what else is written in steps a `match` stands in the place of `?`, whose two calls cost the proof more than a step.
+pub fn put_counted<B: Buffer>(count: usize, bytes: &[u8], buf: &mut B) -> Result<(), Error>
+    ensures ok { OnOk result ((length_cause count ≡ None) × (B.held buf.new ≡ B.held buf.old ⊕ (uint32 count ++ bytes.now))) }
+    ensures cause { IfErr result (λ e. WantsMemory (Wants B.Lacks (B.held buf.old) (length (uint32 count ++ bytes.now))) e ⊎ (length_cause count ≡ Some e)) }
+{
+    match length_field(count) {
+        Ok(count) => put_behind(count, bytes, buf),
+        Err(e) => Err(e),
+    }
+}
+
+/// Appends a number, and bytes.
+fn put_behind<B: Buffer>(number: u32, bytes: &[u8], buf: &mut B) -> Result<(), Error>
+    ensures ok { OnOk result (B.held buf.new ≡ B.held buf.old ⊕ (uint32 number ++ bytes.now)) }
+    ensures cause { IfErr result (WantsMemory (Wants B.Lacks (B.held buf.old) (length (uint32 number ++ bytes.now)))) }
+{
+    match put_u32(buf, number) {
+        Ok(()) => match buf.append(bytes) {
+            Ok(()) => Ok(()),
+            Err(e) => Err(Error::from(e)),
+        },
+        Err(e) => Err(e),
+    }
 }

@@ -123,7 +123,7 @@ pub extern "C" fn pgp_put_empty_range(out: &mut [u8], written: &mut usize) -> u3
     ensures wrote { result ≡ 0 → Wrote (range.written empty) out.old out.new written.new }
     ensures lacks { result ≢ 0 → Lacks (range.written empty) out.old written.new result }
 {
-    put(&Scalar::EmptyRange, out, written)
+    put(Scalar::EmptyRange, out, written)
 }
 
 /// Writes a range between two sides, of any type.
@@ -156,10 +156,13 @@ fn put_sides<B: Buffer>(lower: &PgpSide<'_>, upper: &PgpSide<'_>, buf: &mut B) -
     ensures ok { OnOk result ((range_cause (range_of_sides lower.now upper.now) ≡ None) × (B.held buf.new ≡ B.held buf.old ⊕ range_bytes (range_of_sides lower.now upper.now))) }
     ensures cause { IfErr result (λ e. WantsMemory (Wants B.Lacks (B.held buf.old) (length (range_bytes (range_of_sides lower.now upper.now)))) e ⊎ (range_cause (range_of_sides lower.now upper.now) ≡ Some e)) }
 {
-    put_u8(buf, bit(lower, 8, 2) | bit(upper, 16, 4))?;
-    put_side(lower, buf)?;
-    put_side(upper, buf)?;
-    Ok(())
+    match put_u8(buf, bit(lower, 8, 2) | bit(upper, 16, 4)) {
+        Ok(()) => match put_side(lower, buf) {
+            Ok(()) => put_side(upper, buf),
+            Err(e) => Err(e),
+        },
+        Err(e) => Err(e),
+    }
 }
 
 /// The bit of the tag that speaks of a side.

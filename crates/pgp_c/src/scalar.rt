@@ -30,9 +30,9 @@ pub enum Scalar {
 /// Writes the value to the front of the memory.
 // The hints carry the speed: an export names its type, so that of the choice nothing is left in it.
 #[inline(always)]
-pub fn put(value: &Scalar, out: &mut [u8], written: &mut usize) -> u32
-    ensures wrote { result ≡ 0 → Wrote (spelled value.now) out.old out.new written.new }
-    ensures lacks { result ≢ 0 → Lacks (spelled value.now) out.old written.new result }
+pub fn put(value: Scalar, out: &mut [u8], written: &mut usize) -> u32
+    ensures wrote { result ≡ 0 → Wrote (spelled value) out.old out.new written.new }
+    ensures lacks { result ≢ 0 → Lacks (spelled value) out.old written.new result }
 {
     let mut window = Window::new(out);
     match append(value, &mut window) {
@@ -43,23 +43,23 @@ pub fn put(value: &Scalar, out: &mut [u8], written: &mut usize) -> u32
 
 /// Appends the value.
 #[inline(always)]
-fn append<B: Buffer>(value: &Scalar, buf: &mut B) -> Result<(), Error>
-    ensures { Writes (spelled value.now) None B.Lacks (B.held buf.old) (B.held buf.new) result }
+fn append<B: Buffer>(value: Scalar, buf: &mut B) -> Result<(), Error>
+    ensures { Writes (spelled value) None B.Lacks (B.held buf.old) (B.held buf.new) result }
 {
     match value {
-        Scalar::Bool(value) => pgp_types::bool_to_sql(*value, buf),
-        Scalar::Date(days) => pgp_types::date_to_sql(*days, buf),
+        Scalar::Bool(value) => pgp_types::bool_to_sql(value, buf),
+        Scalar::Date(days) => pgp_types::date_to_sql(days, buf),
         Scalar::EmptyRange => pgp_types::empty_range_to_sql(buf),
-        Scalar::Float4(bits) => pgp_types::float4_to_sql(*bits, buf),
-        Scalar::Float8(bits) => pgp_types::float8_to_sql(*bits, buf),
-        Scalar::Int2(value) => pgp_types::int2_to_sql(*value, buf),
-        Scalar::Int4(value) => pgp_types::int4_to_sql(*value, buf),
-        Scalar::Int8(value) => pgp_types::int8_to_sql(*value, buf),
-        Scalar::Lsn(value) => pgp_types::lsn_to_sql(*value, buf),
-        Scalar::Macaddr(octets) => pgp_types::macaddr_to_sql(*octets, buf),
-        Scalar::Oid(value) => pgp_types::oid_to_sql(*value, buf),
-        Scalar::Time(time) => pgp_types::time_to_sql(*time, buf),
-        Scalar::Timestamp(time) => pgp_types::timestamp_to_sql(*time, buf),
-        Scalar::Uuid(octets) => pgp_types::uuid_to_sql(*octets, buf),
+        Scalar::Float4(bits) => pgp_types::float4_to_sql(bits, buf),
+        Scalar::Float8(bits) => pgp_types::float8_to_sql(bits, buf),
+        Scalar::Int2(value) => pgp_types::int2_to_sql(value, buf),
+        Scalar::Int4(value) => pgp_types::int4_to_sql(value, buf),
+        Scalar::Int8(value) => pgp_types::int8_to_sql(value, buf),
+        Scalar::Lsn(value) => pgp_types::lsn_to_sql(value, buf),
+        Scalar::Macaddr(octets) => pgp_types::macaddr_to_sql(octets, buf),
+        Scalar::Oid(value) => pgp_types::oid_to_sql(value, buf),
+        Scalar::Time(time) => pgp_types::time_to_sql(time, buf),
+        Scalar::Timestamp(time) => pgp_types::timestamp_to_sql(time, buf),
+        Scalar::Uuid(octets) => pgp_types::uuid_to_sql(octets, buf),
     }
 }

@@ -1,7 +1,8 @@
 //! What a call answers, and the number of bytes that it wrote.
 
-ghost use Rattle.std.specs.Prelude.{◌≡◌, ◌≢◌, length};
+ghost use Rattle.std.specs.Prelude.{◌≡◌, ◌≢◌, Ok, Err, length};
 ghost use Rattle.pgp_base.specs.Error.{number_of};
+ghost use Rattle.pgp_base.specs.declared.error.Error.{Error as Refusal};
 ghost use Rattle.pgp_base.specs.Window.{window_held};
 
 use pgp_base::{Buffer, Error, Window};
@@ -31,6 +32,35 @@ pub fn failed(e: Error) -> u32
     ensures some { result ≢ 0 }
 {
     u32::from(e.number())
+}
+
+/// What a writer over this window answered: the message stands at the front, or nothing is to be sent.
+// The hints carry the speed, here and below.
+#[inline(always)]
+pub fn ended(answer: Result<(), Error>, window: &Window<'_>, written: &mut usize) -> u32
+    ensures sent { result ≡ 0 → (answer ≡ Ok tt) × (written.new ≡ length (window_held window.now).bytes) }
+    ensures refused { result ≢ 0 → (e : Refusal) × (answer ≡ Err e) × (result ≡ number_of e) × (written.new ≡ 0) }
+{
+    match answer {
+        Ok(()) => sent(window, written),
+        Err(e) => refused(e, written),
+    }
+}
+
+/// What a reader answered: the value is told, or nothing was read.
+#[inline(always)]
+pub fn read<T: Copy>(answer: Result<T, Error>, value: &mut T) -> u32
+    ensures read { result ≡ 0 → answer ≡ Ok value.new }
+    ensures refused { result ≢ 0 → (e : Refusal) × (answer ≡ Err e) × (result ≡ number_of e) }
+    ensures left { result ≢ 0 → value.new ≡ value.old }
+{
+    match answer {
+        Ok(read) => {
+            *value = read;
+            0
+        }
+        Err(e) => failed(e),
+    }
 }
 
 /// A name is empty, which no server reads.

@@ -39,7 +39,7 @@ pub extern "C" fn pgp_stream_ssl_request(stream: &mut PgpStream<'_>) -> u32
     ensures why { result ≢ 0 → stream.old.is_open ≡ false → Why SslRequest (free stream.old) result }
     ensures kept { result ≢ 0 → Keeps stream.old stream.new }
 {
-    add(stream, &PlainMessage::SslRequest)
+    add(stream, PlainMessage::SslRequest)
 }
 
 /// Asks for the end of what another session runs, by the number and the key of its BackendKeyData.
@@ -54,7 +54,7 @@ pub extern "C" fn pgp_stream_cancel_request(
     ensures why { result ≢ 0 → stream.old.is_open ≡ false → Why (CancelRequest process_id secret_key.now) (free stream.old) result }
     ensures kept { result ≢ 0 → Keeps stream.old stream.new }
 {
-    add(stream, &PlainMessage::CancelRequest(process_id, secret_key))
+    add(stream, PlainMessage::CancelRequest(process_id, secret_key))
 }
 
 /// Opens a session of this version with these names and values.
@@ -94,7 +94,7 @@ pub extern "C" fn pgp_stream_password_message(stream: &mut PgpStream<'_>, passwo
     ensures why { result ≢ 0 → stream.old.is_open ≡ true → Why (PasswordMessage password.now) (free stream.old) result }
     ensures kept { result ≢ 0 → Keeps stream.old stream.new }
 {
-    add(stream, &PlainMessage::PasswordMessage(password))
+    add(stream, PlainMessage::PasswordMessage(password))
 }
 
 /// The choice of a SASL mechanism, and the first text of its exchange.
@@ -111,7 +111,7 @@ pub extern "C" fn pgp_stream_sasl_initial_response(
 {
     add(
         stream,
-        &PlainMessage::SaslInitialResponse(mechanism, response),
+        PlainMessage::SaslInitialResponse(mechanism, response),
     )
 }
 
@@ -123,7 +123,7 @@ pub extern "C" fn pgp_stream_sasl_response(stream: &mut PgpStream<'_>, response:
     ensures why { result ≢ 0 → stream.old.is_open ≡ true → Why (SaslResponse response.now) (free stream.old) result }
     ensures kept { result ≢ 0 → Keeps stream.old stream.new }
 {
-    add(stream, &PlainMessage::SaslResponse(response))
+    add(stream, PlainMessage::SaslResponse(response))
 }
 
 /// A query of any number of statements.
@@ -134,7 +134,7 @@ pub extern "C" fn pgp_stream_query(stream: &mut PgpStream<'_>, text: &[u8]) -> u
     ensures why { result ≢ 0 → stream.old.is_open ≡ true → Why (Query text.now) (free stream.old) result }
     ensures kept { result ≢ 0 → Keeps stream.old stream.new }
 {
-    add(stream, &PlainMessage::Query(text))
+    add(stream, PlainMessage::Query(text))
 }
 
 /// Prepares a statement of this name, with the types of its first parameters.
@@ -207,7 +207,7 @@ pub extern "C" fn pgp_stream_describe(stream: &mut PgpStream<'_>, variant: u8, n
     ensures why { result ≢ 0 → stream.old.is_open ≡ true → Why (Describe variant name.now) (free stream.old) result }
     ensures kept { result ≢ 0 → Keeps stream.old stream.new }
 {
-    add(stream, &PlainMessage::Describe(variant, name))
+    add(stream, PlainMessage::Describe(variant, name))
 }
 
 /// Runs a portal, for at most so many rows; 0 is no limit.
@@ -222,7 +222,7 @@ pub extern "C" fn pgp_stream_execute(
     ensures why { result ≢ 0 → stream.old.is_open ≡ true → Why (Execute portal.now max_rows) (free stream.old) result }
     ensures kept { result ≢ 0 → Keeps stream.old stream.new }
 {
-    add(stream, &PlainMessage::Execute(portal, max_rows))
+    add(stream, PlainMessage::Execute(portal, max_rows))
 }
 
 /// Closes a statement (`S`) or a portal (`P`).
@@ -233,7 +233,7 @@ pub extern "C" fn pgp_stream_close(stream: &mut PgpStream<'_>, variant: u8, name
     ensures why { result ≢ 0 → stream.old.is_open ≡ true → Why (Close variant name.now) (free stream.old) result }
     ensures kept { result ≢ 0 → Keeps stream.old stream.new }
 {
-    add(stream, &PlainMessage::Close(variant, name))
+    add(stream, PlainMessage::Close(variant, name))
 }
 
 /// Asks for what the server holds back.
@@ -244,7 +244,7 @@ pub extern "C" fn pgp_stream_flush(stream: &mut PgpStream<'_>) -> u32
     ensures why { result ≢ 0 → stream.old.is_open ≡ true → Why Flush (free stream.old) result }
     ensures kept { result ≢ 0 → Keeps stream.old stream.new }
 {
-    add(stream, &PlainMessage::Flush)
+    add(stream, PlainMessage::Flush)
 }
 
 /// Ends a series of extended queries.
@@ -255,7 +255,7 @@ pub extern "C" fn pgp_stream_sync(stream: &mut PgpStream<'_>) -> u32
     ensures why { result ≢ 0 → stream.old.is_open ≡ true → Why Sync (free stream.old) result }
     ensures kept { result ≢ 0 → Keeps stream.old stream.new }
 {
-    add(stream, &PlainMessage::Sync)
+    add(stream, PlainMessage::Sync)
 }
 
 /// The head of a message with so many bytes of data, which the caller sends behind what is pending.
@@ -287,7 +287,7 @@ pub extern "C" fn pgp_stream_copy_done(stream: &mut PgpStream<'_>) -> u32
     ensures why { result ≢ 0 → stream.old.is_open ≡ true → Why CopyDone (free stream.old) result }
     ensures kept { result ≢ 0 → Keeps stream.old stream.new }
 {
-    add(stream, &PlainMessage::CopyDone)
+    add(stream, PlainMessage::CopyDone)
 }
 
 /// Gives a copy up, with a text for the server's report.
@@ -298,7 +298,7 @@ pub extern "C" fn pgp_stream_copy_fail(stream: &mut PgpStream<'_>, reason: &[u8]
     ensures why { result ≢ 0 → stream.old.is_open ≡ true → Why (CopyFail reason.now) (free stream.old) result }
     ensures kept { result ≢ 0 → Keeps stream.old stream.new }
 {
-    add(stream, &PlainMessage::CopyFail(reason))
+    add(stream, PlainMessage::CopyFail(reason))
 }
 
 /// The end of the session.
@@ -309,15 +309,15 @@ pub extern "C" fn pgp_stream_terminate(stream: &mut PgpStream<'_>) -> u32
     ensures why { result ≢ 0 → stream.old.is_open ≡ true → Why Terminate (free stream.old) result }
     ensures kept { result ≢ 0 → Keeps stream.old stream.new }
 {
-    add(stream, &PlainMessage::Terminate)
+    add(stream, PlainMessage::Terminate)
 }
 
 /// Adds a message without lists, where it may come.
 #[inline(always)]
-fn add(stream: &mut PgpStream<'_>, message: &PlainMessage<'_>) -> u32
-    ensures added { result ≡ 0 → Extends (message_of message.now) stream.old stream.new }
-    ensures phase { stream.old.is_open ≢ comes_open message.now → result ≡ 32 }
-    ensures why { result ≢ 0 → stream.old.is_open ≡ comes_open message.now → Why (message_of message.now) (free stream.old) result }
+fn add(stream: &mut PgpStream<'_>, message: PlainMessage<'_>) -> u32
+    ensures added { result ≡ 0 → Extends (message_of message.entry) stream.old stream.new }
+    ensures phase { stream.old.is_open ≢ comes_open message.entry → result ≡ 32 }
+    ensures why { result ≢ 0 → stream.old.is_open ≡ comes_open message.entry → Why (message_of message.entry) (free stream.old) result }
     ensures kept { result ≢ 0 → Keeps stream.old stream.new }
 {
     let len = stream.len;

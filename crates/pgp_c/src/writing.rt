@@ -4,7 +4,7 @@ ghost use Rattle.std.specs.Prelude.{◌≡◌, ◌≢◌};
 ghost use Rattle.pgp_frontend.specs.ClientMessage.{CancelRequest, Close, CopyDone, CopyFail, Describe, Execute, Flush, PasswordMessage, Query, SaslInitialResponse, SaslResponse, SslRequest, Sync, Terminate};
 ghost use Rattle.pgp_c.specs.Sending.{Sent, NotSent};
 
-use crate::status::{refused, sent};
+use crate::status::ended;
 use pgp_base::Window;
 use pgp_frontend::over_bytes;
 
@@ -15,10 +15,8 @@ pub extern "C" fn pgp_query(text: &[u8], out: &mut [u8], written: &mut usize) ->
     ensures refused { result ≢ 0 → NotSent (Query text.now) out.old written.new result }
 {
     let mut window = Window::new(out);
-    match over_bytes::query(text, &mut window) {
-        Ok(()) => sent(&window, written),
-        Err(e) => refused(e, written),
-    }
+    let answer = over_bytes::query(text, &mut window);
+    ended(answer, &window, written)
 }
 
 /// The end of the session.
@@ -28,10 +26,8 @@ pub extern "C" fn pgp_terminate(out: &mut [u8], written: &mut usize) -> u32
     ensures refused { result ≢ 0 → NotSent Terminate out.old written.new result }
 {
     let mut window = Window::new(out);
-    match pgp_frontend::terminate(&mut window) {
-        Ok(()) => sent(&window, written),
-        Err(e) => refused(e, written),
-    }
+    let answer = pgp_frontend::terminate(&mut window);
+    ended(answer, &window, written)
 }
 
 /// Closes a statement (`S`) or a portal (`P`).
@@ -41,10 +37,8 @@ pub extern "C" fn pgp_close(variant: u8, name: &[u8], out: &mut [u8], written: &
     ensures refused { result ≢ 0 → NotSent (Close variant name.now) out.old written.new result }
 {
     let mut window = Window::new(out);
-    match over_bytes::close(variant, name, &mut window) {
-        Ok(()) => sent(&window, written),
-        Err(e) => refused(e, written),
-    }
+    let answer = over_bytes::close(variant, name, &mut window);
+    ended(answer, &window, written)
 }
 
 /// Asks what a statement (`S`) or a portal (`P`) gives.
@@ -54,10 +48,8 @@ pub extern "C" fn pgp_describe(variant: u8, name: &[u8], out: &mut [u8], written
     ensures refused { result ≢ 0 → NotSent (Describe variant name.now) out.old written.new result }
 {
     let mut window = Window::new(out);
-    match over_bytes::describe(variant, name, &mut window) {
-        Ok(()) => sent(&window, written),
-        Err(e) => refused(e, written),
-    }
+    let answer = over_bytes::describe(variant, name, &mut window);
+    ended(answer, &window, written)
 }
 
 /// Runs a portal, for at most so many rows; 0 is no limit.
@@ -72,10 +64,8 @@ pub extern "C" fn pgp_execute(
     ensures refused { result ≢ 0 → NotSent (Execute portal.now max_rows) out.old written.new result }
 {
     let mut window = Window::new(out);
-    match over_bytes::execute(portal, max_rows, &mut window) {
-        Ok(()) => sent(&window, written),
-        Err(e) => refused(e, written),
-    }
+    let answer = over_bytes::execute(portal, max_rows, &mut window);
+    ended(answer, &window, written)
 }
 
 /// Ends a series of extended queries.
@@ -85,10 +75,8 @@ pub extern "C" fn pgp_sync(out: &mut [u8], written: &mut usize) -> u32
     ensures refused { result ≢ 0 → NotSent Sync out.old written.new result }
 {
     let mut window = Window::new(out);
-    match pgp_frontend::sync(&mut window) {
-        Ok(()) => sent(&window, written),
-        Err(e) => refused(e, written),
-    }
+    let answer = pgp_frontend::sync(&mut window);
+    ended(answer, &window, written)
 }
 
 /// Asks for what the server holds back.
@@ -98,10 +86,8 @@ pub extern "C" fn pgp_flush(out: &mut [u8], written: &mut usize) -> u32
     ensures refused { result ≢ 0 → NotSent Flush out.old written.new result }
 {
     let mut window = Window::new(out);
-    match pgp_frontend::flush(&mut window) {
-        Ok(()) => sent(&window, written),
-        Err(e) => refused(e, written),
-    }
+    let answer = pgp_frontend::flush(&mut window);
+    ended(answer, &window, written)
 }
 
 /// The end of the data of a copy.
@@ -111,10 +97,8 @@ pub extern "C" fn pgp_copy_done(out: &mut [u8], written: &mut usize) -> u32
     ensures refused { result ≢ 0 → NotSent CopyDone out.old written.new result }
 {
     let mut window = Window::new(out);
-    match pgp_frontend::copy_done(&mut window) {
-        Ok(()) => sent(&window, written),
-        Err(e) => refused(e, written),
-    }
+    let answer = pgp_frontend::copy_done(&mut window);
+    ended(answer, &window, written)
 }
 
 /// Gives a copy up, with a text for the server's report.
@@ -124,10 +108,8 @@ pub extern "C" fn pgp_copy_fail(reason: &[u8], out: &mut [u8], written: &mut usi
     ensures refused { result ≢ 0 → NotSent (CopyFail reason.now) out.old written.new result }
 {
     let mut window = Window::new(out);
-    match over_bytes::copy_fail(reason, &mut window) {
-        Ok(()) => sent(&window, written),
-        Err(e) => refused(e, written),
-    }
+    let answer = over_bytes::copy_fail(reason, &mut window);
+    ended(answer, &window, written)
 }
 
 /// Asks for an encrypted session.
@@ -137,10 +119,8 @@ pub extern "C" fn pgp_ssl_request(out: &mut [u8], written: &mut usize) -> u32
     ensures refused { result ≢ 0 → NotSent SslRequest out.old written.new result }
 {
     let mut window = Window::new(out);
-    match pgp_frontend::ssl_request(&mut window) {
-        Ok(()) => sent(&window, written),
-        Err(e) => refused(e, written),
-    }
+    let answer = pgp_frontend::ssl_request(&mut window);
+    ended(answer, &window, written)
 }
 
 /// Asks for the end of what another session runs, by the number and the key of its BackendKeyData.
@@ -155,10 +135,8 @@ pub extern "C" fn pgp_cancel_request(
     ensures refused { result ≢ 0 → NotSent (CancelRequest process_id secret_key.now) out.old written.new result }
 {
     let mut window = Window::new(out);
-    match pgp_frontend::cancel_request_key(process_id, secret_key, &mut window) {
-        Ok(()) => sent(&window, written),
-        Err(e) => refused(e, written),
-    }
+    let answer = pgp_frontend::cancel_request_key(process_id, secret_key, &mut window);
+    ended(answer, &window, written)
 }
 
 /// A password, or the answer to an MD5 request.
@@ -168,10 +146,8 @@ pub extern "C" fn pgp_password_message(password: &[u8], out: &mut [u8], written:
     ensures refused { result ≢ 0 → NotSent (PasswordMessage password.now) out.old written.new result }
 {
     let mut window = Window::new(out);
-    match pgp_frontend::password_message(password, &mut window) {
-        Ok(()) => sent(&window, written),
-        Err(e) => refused(e, written),
-    }
+    let answer = pgp_frontend::password_message(password, &mut window);
+    ended(answer, &window, written)
 }
 
 /// The choice of a SASL mechanism, and the first text of its exchange.
@@ -186,10 +162,8 @@ pub extern "C" fn pgp_sasl_initial_response(
     ensures refused { result ≢ 0 → NotSent (SaslInitialResponse mechanism.now response.now) out.old written.new result }
 {
     let mut window = Window::new(out);
-    match over_bytes::sasl_initial_response(mechanism, response, &mut window) {
-        Ok(()) => sent(&window, written),
-        Err(e) => refused(e, written),
-    }
+    let answer = over_bytes::sasl_initial_response(mechanism, response, &mut window);
+    ended(answer, &window, written)
 }
 
 /// A later text of a SASL exchange.
@@ -199,8 +173,6 @@ pub extern "C" fn pgp_sasl_response(response: &[u8], out: &mut [u8], written: &m
     ensures refused { result ≢ 0 → NotSent (SaslResponse response.now) out.old written.new result }
 {
     let mut window = Window::new(out);
-    match pgp_frontend::sasl_response(response, &mut window) {
-        Ok(()) => sent(&window, written),
-        Err(e) => refused(e, written),
-    }
+    let answer = pgp_frontend::sasl_response(response, &mut window);
+    ended(answer, &window, written)
 }

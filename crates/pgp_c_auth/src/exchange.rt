@@ -5,8 +5,7 @@ ghost use Rattle.pgp_auth.specs.Prepared.{prepared};
 ghost use Rattle.pgp_auth.specs.ScramRefusal.{Verifies};
 ghost use Rattle.pgp_c_auth.specs.Scram.{AnswersWith, NotAnswered, NoRoom, ShownRefused};
 
-use crate::deliver::deliver;
-use crate::scram::{NO_ROOM, answered, number, place};
+use crate::scram::{answered, hand_over, stopped};
 use pgp_auth::authentication::sasl::verify_signature;
 use std::alloc::Global;
 
@@ -41,10 +40,10 @@ pub extern "C" fn pgp_scram_update(
         Ok(client) => client,
         Err(code) => return code,
     };
-    let (Some(text), Some(signature)) = (client.message(), client.signature()) else {
+    let Some(signature) = client.signature() else {
         unreachable!()
     };
-    let code = deliver(text, out, written);
+    let code = hand_over(&client, out, written);
     if code == 0 {
         *kept = PgpScram { signature };
     }
@@ -65,9 +64,6 @@ pub extern "C" fn pgp_scram_finish(
     *at = 0;
     match verify_signature(alloc, &kept.signature, server_final) {
         Ok(()) => 0,
-        Err(e) => {
-            *at = place(&e);
-            number(&e)
-        }
+        Err(e) => stopped(e, at),
     }
 }

@@ -1,13 +1,15 @@
 //! The client of SCRAM-SHA-256 with nothing kept between its steps: the caller holds the nonce and the server's first text, and
 //! hands them over again.
 
-ghost use Rattle.std.specs.Prelude.{◌≡◌, ◌≢◌, ◌⊎◌, ◌<◌, List, ℕ, length, take, [], None, IfOk, IfErr, OnOk};
+ghost use Rattle.std.specs.Prelude.{◌≡◌, ◌≢◌, ◌⊎◌, ◌<◌, List, ℕ, length, take, [], None, Some, IfOk, IfErr, OnOk};
 ghost use Rattle.pgp_auth.specs.Prepared.{prepared};
+ghost use Rattle.pgp_auth.specs.ScramClient.{message_of};
 ghost use Rattle.pgp_auth.specs.ScramErrorView.{refusal};
 ghost use Rattle.pgp_c_auth.specs.Scram.{code_of, place_of, Names, NamesNone, Begins, BeginRefused, FirstText, AnswersIn, HasAnswered, NotAnswered, NoRoom, Verified, FinalRefused};
 
-use crate::deliver::deliver;
+use crate::deliver::{deliver, refused};
 use pgp_auth::authentication::sasl::{ChannelBinding, NoPrep, ScramError, ScramSha256, is_nonce};
+use pgp_base::Error;
 use std::alloc::Global;
 
 /// The number before an exchange's first refusal.
@@ -20,10 +22,10 @@ const BAD_NONCE: u32 = 80;
 const BAD_BINDING: u32 = 81;
 
 /// The answer where there is no memory or no room.
-pub const NO_ROOM: u32 = 1;
+const NO_ROOM: u32 = 1;
 
 /// The number of a refused step: want of memory as everywhere, the others behind 64.
-pub fn number(e: &ScramError<Global>) -> u32
+fn number(e: &ScramError<Global>) -> u32
     ensures code { result ≡ code_of (refusal e.now) }
     ensures some { result ≢ 0 }
 {
@@ -44,7 +46,7 @@ pub fn number(e: &ScramError<Global>) -> u32
 }
 
 /// The place in the server's text that a refusal tells; 0 where it tells none.
-pub fn place(e: &ScramError<Global>) -> usize
+fn place(e: &ScramError<Global>) -> usize
     ensures { result ≡ place_of (refusal e.now) }
 {
     match e {
@@ -60,6 +62,28 @@ pub fn place(e: &ScramError<Global>) -> usize
         | ScramError::InvalidBase64
         | ScramError::Server(_)
         | ScramError::Verification => 0,
+    }
+}
+
+/// Tells a refused step: its number is answered.
+pub fn stopped(e: ScramError<Global>, at: &mut usize) -> u32
+    ensures code { result ≡ code_of (refusal e) }
+    ensures some { result ≢ 0 }
+    ensures told { at.new ≡ place_of (refusal e) }
+{
+    *at = place(&e);
+    number(&e)
+}
+
+/// Hands over the text that the client sends.
+pub fn hand_over(client: &ScramSha256<Global>, out: &mut [u8], written: &mut usize) -> u32
+    ensures sent { result ≡ 0 → message_of client.now.state ≡ Some (take written.new out.new) }
+    ensures refused { result ≢ 0 → (result ≡ 1) × (written.new ≡ 0) × (out.new ≡ out.old) }
+    ensures longer { result ≢ 0 → (text : List ℕ) → message_of client.now.state ≡ Some text → length out.old < length text }
+{
+    match client.message() {
+        Some(text) => deliver(text, out, written),
+        None => refused(Error::OutOfMemory, written),
     }
 }
 
@@ -130,10 +154,7 @@ pub fn answered(
     match begun(alloc, password, kind, certificate, nonce) {
         Ok(mut client) => match client.update(server_first) {
             Ok(()) => Ok(client),
-            Err(e) => {
-                *at = place(&e);
-                Err(number(&e))
-            }
+            Err(e) => Err(stopped(e, at)),
         },
         Err(code) => Err(code),
     }
@@ -155,10 +176,7 @@ pub extern "C" fn pgp_scram_first(
 {
     *written = 0;
     match begun(alloc, &[], kind, certificate, nonce) {
-        Ok(client) => match client.message() {
-            Some(text) => deliver(text, out, written),
-            None => NO_ROOM,
-        },
+        Ok(client) => hand_over(&client, out, written),
         Err(code) => code,
     }
 }
@@ -183,10 +201,7 @@ pub extern "C" fn pgp_scram_final(
 {
     *written = 0;
     match answered(alloc, password, kind, certificate, nonce, server_first, at) {
-        Ok(client) => match client.message() {
-            Some(text) => deliver(text, out, written),
-            None => unreachable!(),
-        },
+        Ok(client) => hand_over(&client, out, written),
         Err(code) => code,
     }
 }
@@ -211,10 +226,7 @@ pub extern "C" fn pgp_scram_verify(
     match answered(alloc, password, kind, certificate, nonce, server_first, at) {
         Ok(mut client) => match client.finish(server_final) {
             Ok(()) => 0,
-            Err(e) => {
-                *at = place(&e);
-                number(&e)
-            }
+            Err(e) => stopped(e, at),
         },
         Err(code) => code,
     }

@@ -43,18 +43,26 @@ fn by_bytes(alloc: Global, way: Way, bytes: &[u8], tally: &mut Tally) {
     }
 }
 
-/// Shows the sum of what each front of the stream comes to, in place or this way in two halves.
+/// Adds what a front of the stream comes to, in place or this way in two halves.
+fn add_front(way: Way, front: &[u8], sum: &mut Sum, out: &mut Text) {
+    let half = front.len() / 2;
+    let reading = match way {
+        Way::InPlace => read(out.alloc(), way, &[front]),
+        _ => {
+            let (left, right) = front.split_at(half);
+            read(out.alloc(), way, &[left, right])
+        }
+    };
+    sum.plain(&reading.value().to_be_bytes());
+    out.fail(reading.fault);
+}
+
+/// Shows the sum of what each front of the stream comes to.
 fn show_fronts(way: Way, bytes: &[u8], out: &mut Text) {
     let mut sum = Sum::new(out.alloc());
     for len in 0..bytes.len().saturating_add(1) {
         let (front, _) = bytes.split_at(len);
-        let pieces = match way {
-            Way::InPlace => front.split_at(len),
-            _ => front.split_at(len / 2),
-        };
-        let reading = read(out.alloc(), way, &[pieces.0, pieces.1]);
-        sum.plain(&reading.value().to_be_bytes());
-        out.fail(reading.fault);
+        add_front(way, front, &mut sum, out);
     }
     out.push("fronts ");
     out.hex(&sum.value().to_be_bytes());
@@ -84,8 +92,7 @@ fn show_ways(bytes: &[u8], out: &mut Text) {
 
 /// Reads the stream of this text in every cutting, each way.
 pub(crate) fn run(text: &str, out: &mut Text) {
-    match Frames::parse(out.alloc(), text) {
-        Ok(frames) => show_ways(frames.bytes.as_slice(), out),
-        Err(fault) => out.fail(Some(fault)),
-    }
+    let frames = Frames::parse(out.alloc(), text);
+    show_ways(frames.bytes.as_slice(), out);
+    out.fail(frames.fault);
 }

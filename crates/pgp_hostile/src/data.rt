@@ -1,14 +1,16 @@
-//! The files of `data/`: frames as lines of hex digits.
+//! The files of `data/`: bytes as lines of hex digits.
 
 use crate::fault::Fault;
-use std::alloc::{AllocError, Global};
+use std::alloc::Global;
 
-/// Frames, one behind the other.
+/// The bytes of lines, one behind the other. It remembers why some are missing, where they are: so no call before the last has to tell.
 #[derive(Drop)]
 pub(crate) struct Frames {
+    alloc: Global,
     pub(crate) bytes: Vec<u8>,
-    /// Where each frame ends.
+    /// Where the bytes of each line end.
     pub(crate) ends: Vec<usize>,
+    pub(crate) fault: Option<Fault>,
 }
 
 /// Whether a line is data: it is neither empty nor a comment.
@@ -16,28 +18,48 @@ pub(crate) fn is_data(line: &str) -> bool {
     !line.is_empty() && !line.starts_with('#')
 }
 
-/// Appends the bytes of a line: hex digits, with spaces between them.
-pub(crate) fn append(alloc: Global, line: &str, bytes: &mut Vec<u8>) -> Result<(), Fault> {
-    for word in line.split_ascii_whitespace() {
-        match hex::decode(alloc, word) {
-            Ok(word) => bytes.extend_from_slice(word.as_slice())?,
-            Err(_) => return Err(Fault::Data),
+impl Frames {
+    pub(crate) fn new(alloc: Global) -> Frames {
+        Frames {
+            alloc,
+            bytes: Vec::new(alloc),
+            ends: Vec::new(alloc),
+            fault: None,
         }
     }
-    Ok(())
-}
 
-impl Frames {
-    /// The frames of a text, one a line.
-    pub(crate) fn parse(alloc: Global, text: &str) -> Result<Frames, Fault> {
-        let mut bytes = Vec::new(alloc);
-        let mut ends = Vec::new(alloc);
+    pub(crate) fn add(&mut self, bytes: &[u8]) {
+        if self.bytes.extend_from_slice(bytes).is_err() {
+            self.fault = Some(Fault::Memory);
+        }
+    }
+
+    /// Appends the bytes of a word of hex digits.
+    fn add_word(&mut self, word: &str) {
+        match hex::decode(self.alloc, word) {
+            Ok(bytes) => self.add(bytes.as_slice()),
+            Err(_) => self.fault = Some(Fault::Data),
+        }
+    }
+
+    /// Appends the bytes of a line: hex digits, with spaces between them.
+    fn add_line(&mut self, line: &str) {
+        for word in line.split_ascii_whitespace() {
+            self.add_word(word);
+        }
+        if self.ends.push(self.bytes.len()).is_err() {
+            self.fault = Some(Fault::Memory);
+        }
+    }
+
+    /// The bytes of a text, one frame a line.
+    pub(crate) fn parse(alloc: Global, text: &str) -> Frames {
+        let mut frames = Frames::new(alloc);
         for line in text.lines() {
             if is_data(line) {
-                append(alloc, line, &mut bytes)?;
-                ends.push(bytes.len()).map_err(AllocError::from)?;
+                frames.add_line(line);
             }
         }
-        Ok(Frames { bytes, ends })
+        frames
     }
 }

@@ -1,6 +1,6 @@
 //! Values and bodies whose lengths and counts are false.
 
-use crate::data::{append, is_data};
+use crate::data::{Frames, is_data};
 use crate::fault::Fault;
 use crate::text::{Show, Text};
 use crate::walks::show_walk;
@@ -9,8 +9,8 @@ use pgp_message::{
     DataRowBody, Field, Message, Messages, NegotiateProtocolVersionBody, RowDescriptionBody,
 };
 use pgp_types::{
-    Array, ArrayDimension, Path, Point, Range, RangeBound, Varbit, array_from_sql, hstore_from_sql,
-    path_from_sql, range_from_sql, varbit_from_sql,
+    ArrayDimension, Point, Range, RangeBound, array_from_sql, hstore_from_sql, path_from_sql,
+    range_from_sql, varbit_from_sql,
 };
 use std::alloc::Global;
 use std::ops;
@@ -53,13 +53,21 @@ fn show_options(body: &NegotiateProtocolVersionBody<&[u8]>, most: usize, out: &m
     show_walk(body.options(), body.options(), most, out)
 }
 
-/// A message that was read, with so many bytes at the most in its body.
-fn show_message(read: &Result<Option<Message<&[u8]>>, Error>, most: usize, out: &mut Text) {
+/// A message, with so many bytes at the most in its body.
+fn show_message(message: &Message<&[u8]>, most: usize, out: &mut Text) {
+    match message {
+        Message::DataRow(row) => show_row(row, out),
+        Message::RowDescription(columns) => show_columns(columns, most, out),
+        Message::NegotiateProtocolVersion(answer) => show_options(answer, most, out),
+        _ => out.word("another message"),
+    }
+}
+
+/// What was read.
+fn show_read(read: &Result<Option<Message<&[u8]>>, Error>, most: usize, out: &mut Text) {
     match read {
-        Ok(Some(Message::DataRow(row))) => show_row(row, out),
-        Ok(Some(Message::RowDescription(columns))) => show_columns(columns, most, out),
-        Ok(Some(Message::NegotiateProtocolVersion(answer))) => show_options(answer, most, out),
-        Ok(_) => out.word("another message"),
+        Ok(Some(message)) => show_message(message, most, out),
+        Ok(None) => out.word("no message"),
         Err(e) => out.number(*e),
     }
 }
@@ -71,9 +79,14 @@ impl Show for ArrayDimension {
     }
 }
 
-fn show_array(array: Array<'_>, most: usize, out: &mut Text) {
-    show_walk(array.dimensions(), array.dimensions(), most, out);
-    show_walk(array.values(), array.values(), most, out)
+fn read_array(bytes: &[u8], out: &mut Text) {
+    match array_from_sql(bytes) {
+        Ok(array) => {
+            show_walk(array.dimensions(), array.dimensions(), bytes.len(), out);
+            show_walk(array.values(), array.values(), bytes.len(), out)
+        }
+        Err(e) => out.number(e),
+    }
 }
 
 /// A key and its value.
@@ -95,117 +108,112 @@ impl Show for Point {
     }
 }
 
-fn show_path(path: Path<'_>, most: usize, out: &mut Text) {
-    out.word(if path.closed() { "closed" } else { "open" });
-    show_walk(path.points(), path.points(), most, out)
+fn read_path(bytes: &[u8], out: &mut Text) {
+    match path_from_sql(bytes) {
+        Ok(path) => {
+            out.word(if path.closed() { "closed" } else { "open" });
+            show_walk(path.points(), path.points(), bytes.len(), out)
+        }
+        Err(e) => out.number(e),
+    }
+}
+
+fn show_bound(kind: &str, bytes: Option<&[u8]>, out: &mut Text) {
+    out.word(kind);
+    out.nullable(bytes)
 }
 
 fn show_side(side: RangeBound<Option<&[u8]>>, out: &mut Text) {
     match side {
-        RangeBound::Inclusive(bytes) => {
-            out.word("in");
-            out.nullable(bytes)
-        }
-        RangeBound::Exclusive(bytes) => {
-            out.word("ex");
-            out.nullable(bytes)
-        }
+        RangeBound::Inclusive(bytes) => show_bound("in", bytes, out),
+        RangeBound::Exclusive(bytes) => show_bound("ex", bytes, out),
         RangeBound::Unbounded => out.word("none"),
     }
 }
 
-fn show_range(range: Range<'_>, out: &mut Text) {
-    match range {
-        Range::Empty => out.word("empty"),
-        Range::Nonempty(lower, upper) => {
+fn read_range(bytes: &[u8], out: &mut Text) {
+    match range_from_sql(bytes) {
+        Ok(Range::Empty) => out.word("empty"),
+        Ok(Range::Nonempty(lower, upper)) => {
             show_side(lower, out);
             show_side(upper, out)
         }
+        Err(e) => out.number(e),
     }
 }
 
-fn show_varbit(bits: Varbit<'_>, out: &mut Text) {
-    out.number(bits.len());
-    out.nullable(Some(bits.bytes()));
+fn read_varbit(bytes: &[u8], out: &mut Text) {
+    match varbit_from_sql(bytes) {
+        Ok(bits) => {
+            out.number(bits.len());
+            out.nullable(Some(bits.bytes()))
+        }
+        Err(e) => out.number(e),
+    }
 }
 
-/// A body behind its tag and length.
-fn framed(alloc: Global, tag: u8, body: &[u8]) -> Result<Vec<u8>, Fault> {
-    let Ok(len) = u32::try_from(body.len().saturating_add(4)) else {
-        return Err(Fault::Data);
-    };
-    let mut frame = Vec::from_slice(alloc, &[tag])?;
-    frame.extend_from_slice(&len.to_be_bytes())?;
-    frame.extend_from_slice(body)?;
-    Ok(frame)
+fn read_hstore(bytes: &[u8], out: &mut Text) {
+    match (hstore_from_sql(bytes), hstore_from_sql(bytes)) {
+        (Ok(pairs), Ok(again)) => show_walk(pairs, again, bytes.len(), out),
+        (Err(e), _) | (_, Err(e)) => out.number(e),
+    }
+}
+
+/// The number before a body; 0, which is refused, where the body is too long.
+fn length_of(body: &[u8]) -> [u8; 4] {
+    u32::try_from(body.len().saturating_add(4))
+        .unwrap_or(0)
+        .to_be_bytes()
 }
 
 /// A body behind its tag and length, read in place.
 fn read_body(tag: u8, body: &[u8], out: &mut Text) {
-    match framed(out.alloc(), tag, body) {
-        Ok(frame) => {
-            let read = Messages::new(frame.as_slice()).next();
-            show_message(&read, body.len(), out);
-            drop(read);
-        }
-        Err(fault) => out.fail(Some(fault)),
-    }
+    let mut frame = Frames::new(out.alloc());
+    frame.add(&[tag]);
+    frame.add(&length_of(body));
+    frame.add(body);
+    let read = Messages::new(frame.bytes.as_slice()).next();
+    show_read(&read, body.len(), out);
+    drop(read);
+    out.fail(frame.fault);
 }
 
 /// Reads the bytes as the call of this name does.
-fn read(call: &str, bytes: &[u8], out: &mut Text) -> Result<(), Error> {
-    let most = bytes.len();
+fn read(call: &str, bytes: &[u8], out: &mut Text) {
     match call {
         "row" => read_body(b'D', bytes, out),
         "columns" => read_body(b'T', bytes, out),
         "options" => read_body(b'v', bytes, out),
-        "array" => show_array(array_from_sql(bytes)?, most, out),
-        "hstore" => show_walk(hstore_from_sql(bytes)?, hstore_from_sql(bytes)?, most, out),
-        "path" => show_path(path_from_sql(bytes)?, most, out),
-        "range" => show_range(range_from_sql(bytes)?, out),
-        "varbit" => show_varbit(varbit_from_sql(bytes)?, out),
+        "array" => read_array(bytes, out),
+        "hstore" => read_hstore(bytes, out),
+        "path" => read_path(bytes, out),
+        "range" => read_range(bytes, out),
+        "varbit" => read_varbit(bytes, out),
         _ => out.fail(Some(Fault::Data)),
     }
-    Ok(())
 }
 
-/// A row: a call, the digits of its bytes, and what it comes to.
-#[derive(Clone, Copy)]
-struct Row<'a> {
-    call: &'a str,
-    digits: &'a str,
-    result: &'a str,
+/// Reads the bytes of these digits.
+fn read_digits(call: &str, digits: &str, out: &mut Text) {
+    let line = Frames::parse(out.alloc(), digits);
+    read(call, line.bytes.as_slice(), out);
+    out.fail(line.fault);
 }
 
-fn row_of(line: &str) -> Option<Row<'_>> {
-    let (left, result) = line.split_once(" = ")?;
-    let (call, digits) = left.split_once(' ')?;
-    Some(Row {
-        call,
-        digits,
-        result,
-    })
-}
-
-/// What the row comes to.
-fn outcome(alloc: Global, row: Row<'_>) -> Text {
+/// What a call and the digits of its bytes come to.
+fn outcome(alloc: Global, call: &str) -> Text {
     let mut out = Text::new(alloc);
-    let mut bytes = Vec::new(alloc);
-    out.fail(append(alloc, row.digits, &mut bytes).err());
-    if let Err(e) = read(row.call, bytes.as_slice(), &mut out) {
-        out.number(e);
+    match call.split_once(' ') {
+        Some((call, digits)) => read_digits(call, digits, &mut out),
+        None => out.fail(Some(Fault::Data)),
     }
     out
 }
 
 /// Shows the row and what it comes to, where that isn't what it says.
-fn show_difference(line: &str, out: &mut Text) {
-    let Some(row) = row_of(line) else {
-        out.fail(Some(Fault::Data));
-        return;
-    };
-    let came = outcome(out.alloc(), row);
-    if came.as_str() != row.result {
+fn show_difference(line: &str, call: &str, wanted: &str, out: &mut Text) {
+    let came = outcome(out.alloc(), call);
+    if came.as_str() != wanted {
         out.push(line);
         out.push("\n    came to: ");
         out.push(came.as_str());
@@ -214,13 +222,21 @@ fn show_difference(line: &str, out: &mut Text) {
     out.fail(came.fault());
 }
 
+/// Runs a row: a call, the digits of its bytes, and what it comes to.
+fn run_row(line: &str, out: &mut Text) {
+    match line.split_once(" = ") {
+        Some((call, wanted)) => show_difference(line, call, wanted, out),
+        None => out.fail(Some(Fault::Data)),
+    }
+}
+
 /// Runs the rows of this text, and tells those that aren't right.
 pub(crate) fn run(text: &str, out: &mut Text) {
     let mut rows = 0u64;
     for line in text.lines() {
         if is_data(line) {
             rows = rows.saturating_add(1);
-            show_difference(line, out);
+            run_row(line, out);
         }
     }
     out.push("lengths.rows: ");

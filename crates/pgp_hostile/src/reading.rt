@@ -143,15 +143,22 @@ impl Reading {
         self.sum.value()
     }
 
-    /// Shows the results by name, with a space between two, whether a length fault stopped it, what is left, the sum and the
-    /// headers, where they are counted.
-    pub(crate) fn show(&self, out: &mut Text) {
+    /// Shows the results by name, with a space behind each.
+    fn show_entries(&self, out: &mut Text) {
         for entry in &self.entries {
             entry.show(out);
             out.push(" ");
         }
-        out.push(if self.is_stopped { "stopped" } else { "waits" });
-        out.push(", rest ");
+    }
+
+    /// Shows the results, whether a length fault stopped it, what is left, the sum and the headers, where they are counted.
+    pub(crate) fn show(&self, out: &mut Text) {
+        self.show_entries(out);
+        out.push(if self.is_stopped {
+            "stopped, rest "
+        } else {
+            "waits, rest "
+        });
         out.show(self.rest);
         out.push(", ");
         out.hex(&self.value().to_be_bytes());

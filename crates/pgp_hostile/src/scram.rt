@@ -1,6 +1,6 @@
 //! An exchange of SCRAM-SHA-256 with one round, in which each byte of the server's texts is replaced.
 
-use crate::data::{append, is_data};
+use crate::data::Frames;
 use crate::fault::Fault;
 use crate::server::{Server, Texts};
 use crate::tally::Tally;
@@ -28,7 +28,9 @@ const SENT: Texts<'static> = Texts {
 
 /// A client that has sent its first text.
 fn begun(alloc: Global) -> Result<ScramSha256<Global>, Fault> {
-    let nonce = String::from_str(alloc, NONCE)?;
+    let Ok(nonce) = String::from_str(alloc, NONCE) else {
+        return Err(Fault::Memory);
+    };
     if !is_nonce(&nonce) {
         return Err(Fault::Data);
     }
@@ -173,18 +175,15 @@ impl<'a> Exchange<'a> {
         }
     }
 
-    /// The text with the byte at this place replaced by each other value.
-    fn replace(&self, changed: Changed, place: usize, text: &str, ends: &mut Ends) {
-        let Ok(mut bytes) = Vec::from_slice(self.alloc, text.as_bytes()) else {
-            ends.tally.fail(Some(Fault::Memory));
-            return;
-        };
+    /// These bytes of a text with the one at this place replaced by each other value.
+    fn replace(&self, changed: Changed, place: usize, bytes: &mut [u8], ends: &mut Ends) {
+        let old = bytes.get(place).copied();
         for new in 0..=255u8 {
             if let Some(byte) = bytes.get_mut(place) {
                 *byte = new;
             }
-            if bytes.as_slice() != text.as_bytes() {
-                self.add(changed, bytes.as_slice(), ends);
+            if old != Some(new) {
+                self.add(changed, bytes, ends);
             }
         }
     }
@@ -193,23 +192,22 @@ impl<'a> Exchange<'a> {
     fn show_changes(&self, changed: Changed, text: &str, out: &mut Text) {
         for place in 0..text.len() {
             let mut ends = Ends::new(self.alloc);
-            self.replace(changed, place, text, &mut ends);
+            match Vec::from_slice(self.alloc, text.as_bytes()) {
+                Ok(mut bytes) => self.replace(changed, place, bytes.as_mut_slice(), &mut ends),
+                Err(_) => ends.tally.fail(Some(Fault::Memory)),
+            }
             ends.show(changed.name(), place, out);
         }
     }
 
     /// A step, the last one, `finish`, or the other: how it ended.
     fn step(&self, is_last: bool, client: &mut ScramSha256<Global>, out: &mut Text) {
-        match is_last {
-            true => {
-                out.push(", finish ");
-                show_end(&client.finish(self.answer.as_bytes()), out);
-            }
-            false => {
-                out.push(", update ");
-                show_end(&client.update(FIRST.as_bytes()), out);
-            }
-        }
+        let outcome = match is_last {
+            true => client.finish(self.answer.as_bytes()),
+            false => client.update(FIRST.as_bytes()),
+        };
+        out.push(if is_last { ", finish " } else { ", update " });
+        show_end(&outcome, out);
     }
 
     /// The steps in any order, of which the bits say which is the last one, `finish`. Behind each: how it ended, whether
@@ -242,20 +240,13 @@ impl<'a> Exchange<'a> {
 
 /// The server that holds the two keys that stand here.
 fn server_of(keys: &[u8]) -> Option<Server> {
-    let (stored, rest) = keys.split_first_chunk::<32>()?;
-    let (server, _) = rest.split_first_chunk::<32>()?;
-    Some(Server::new(*stored, *server))
-}
-
-/// The keys of a file: two lines of 64 digits.
-fn keys_of(alloc: Global, text: &str) -> Result<Server, Fault> {
-    let mut bytes = Vec::new(alloc);
-    for line in text.lines() {
-        if is_data(line) {
-            append(alloc, line, &mut bytes)?;
-        }
+    let Some((stored, rest)) = keys.split_first_chunk::<32>() else {
+        return None;
+    };
+    match rest.split_first_chunk::<32>() {
+        Some((server, _)) => Some(Server::new(*stored, *server)),
+        None => None,
     }
-    server_of(bytes.as_slice()).ok_or(Fault::Data)
 }
 
 /// Shows the exchange of this server.
@@ -273,10 +264,12 @@ fn show_exchange(server: Server, out: &mut Text) {
     }
 }
 
-/// Runs the exchange of the server that holds the keys of this text.
-pub(crate) fn run(keys: &str, out: &mut Text) {
-    match keys_of(out.alloc(), keys) {
-        Ok(server) => show_exchange(server, out),
-        Err(fault) => out.fail(Some(fault)),
+/// Runs the exchange of the server that holds the keys of this text: two lines of 64 digits.
+pub(crate) fn run(text: &str, out: &mut Text) {
+    let keys = Frames::parse(out.alloc(), text);
+    match server_of(keys.bytes.as_slice()) {
+        Some(server) => show_exchange(server, out),
+        None => out.fail(Some(Fault::Data)),
     }
+    out.fail(keys.fault);
 }

@@ -45,6 +45,14 @@ fn code(key: &[u8; 32], texts: Texts<'_>) -> [u8; 32] {
     outer.finalize()
 }
 
+/// Whether the client's last text without its proof answers the server's first one: it has no binding, and the same nonce.
+fn goes_on(first: &str, last: &str) -> bool {
+    match first.split_once(",s=") {
+        Some((nonce, _)) => last.strip_prefix("c=biws,") == Some(nonce),
+        None => false,
+    }
+}
+
 impl Server {
     pub(crate) fn new(stored_key: [u8; 32], server_key: [u8; 32]) -> Server {
         Server {
@@ -63,22 +71,19 @@ impl Server {
         proof.len() == 32 && digest == self.stored_key
     }
 
+    /// Whether this is the base64 text of a proof of these texts.
+    fn is_signed(&self, alloc: Global, proof: &str, texts: Texts<'_>) -> bool {
+        match STANDARD.decode(alloc, proof.as_bytes()) {
+            Ok(proof) => self.is_proved(proof.as_slice(), texts),
+            Err(_) => false,
+        }
+    }
+
     /// Whether the server that sent this first text takes the client's last one.
     pub(crate) fn accepts(&self, alloc: Global, bare: &str, first: &str, last: &str) -> bool {
-        let Some((front, proof)) = last.rsplit_once(",p=") else {
-            return false;
-        };
-        let Some((nonce, _)) = first.split_once(",s=") else {
-            return false;
-        };
-        let texts = Texts {
-            bare,
-            first,
-            last: front,
-        };
-        match STANDARD.decode(alloc, proof.as_bytes()) {
-            Ok(proof) if front.strip_prefix("c=biws,") == Some(nonce) => {
-                self.is_proved(proof.as_slice(), texts)
+        match last.rsplit_once(",p=") {
+            Some((last, proof)) if goes_on(first, last) => {
+                self.is_signed(alloc, proof, Texts { bare, first, last })
             }
             _ => false,
         }

@@ -98,14 +98,12 @@ fn is_back_same(at: usize, before: &Reading, came: &Reading) -> bool {
 /// Reads the bytes, in place and as a stream that is cut at this place.
 fn add_stream(at: usize, cut: usize, before: &Reading, bytes: &[u8], changes: &mut Changes) {
     let in_place = read(changes.alloc, Way::InPlace, &[bytes]).value();
-    let Some((front, back)) = bytes.split_at_checked(cut) else {
-        return;
-    };
+    let (front, back) = bytes.split_at(cut.min(bytes.len()));
     let came = read(changes.alloc, Way::Whole, &[front, back]);
+    changes.add_reading(at, before, &came);
     if in_place != came.value() {
         changes.wrong = changes.wrong.saturating_add(1);
     }
-    changes.add_reading(at, before, &came);
 }
 
 /// Replaces the byte at this place by each value in turn. The stream is cut before it.
@@ -171,8 +169,7 @@ fn show_frames(frames: &mut Frames, out: &mut Text) {
 
 /// Reads the session of this text with each byte replaced.
 pub(crate) fn run(text: &str, out: &mut Text) {
-    match Frames::parse(out.alloc(), text) {
-        Ok(mut frames) => show_frames(&mut frames, out),
-        Err(fault) => out.fail(Some(fault)),
-    }
+    let mut frames = Frames::parse(out.alloc(), text);
+    show_frames(&mut frames, out);
+    out.fail(frames.fault);
 }

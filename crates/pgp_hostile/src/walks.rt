@@ -4,7 +4,7 @@ use crate::text::{Show, Text};
 use linked_list_allocator::LocalHeap;
 use pgp_base::{Error, FallibleIterator};
 use pgp_test_alloc::Refusing;
-use std::alloc::Global;
+use std::alloc::{Allocator, Global};
 
 /// More requests of memory than any list here makes.
 const MANY: u64 = 1_000_000;
@@ -47,6 +47,22 @@ where
     is_same && walk.size_hint().0 == 0
 }
 
+/// Whether `collect` in this memory comes to the same.
+fn is_collected<A: Allocator + Copy, W: FallibleIterator + Drop>(
+    alloc: A,
+    walk: W,
+    came: u64,
+    end: Option<Error>,
+) -> bool
+where
+    W::Item: Drop,
+{
+    match walk.collect(alloc) {
+        Ok(list) => end.is_none() && list.len() as u64 == came,
+        Err(e) => end == Some(e),
+    }
+}
+
 /// Whether `collect` comes to the same in little memory, and asks for it no more often than items come.
 fn is_modest<W: FallibleIterator + Drop>(
     alloc: Global,
@@ -57,15 +73,14 @@ fn is_modest<W: FallibleIterator + Drop>(
 where
     W::Item: Drop,
 {
-    let Ok(heap) = LocalHeap::new(alloc, HEAP) else {
-        return false;
-    };
-    let counted = Refusing::new(&heap, MANY);
-    let is_same = match walk.collect(&counted) {
-        Ok(list) => end.is_none() && list.len() as u64 == came,
-        Err(e) => end == Some(e),
-    };
-    is_same && MANY.saturating_sub(came) <= counted.until_refusal.get()
+    match LocalHeap::new(alloc, HEAP) {
+        Ok(heap) => {
+            let counted = Refusing::new(&heap, MANY);
+            is_collected(&counted, walk, came, end)
+                && MANY.saturating_sub(came) <= counted.until_refusal.get()
+        }
+        Err(_) => false,
+    }
 }
 
 /// Shows a walk over so many bytes: what it announces, its items, and its end. `unsteady` stands behind it where it doesn't stay

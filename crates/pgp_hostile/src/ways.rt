@@ -61,18 +61,21 @@ fn whole(pieces: &[&[u8]], out: &mut Reading) {
     }
 }
 
-/// By a parser that is fed, whose results stay or are taken behind each piece.
-fn fed(pieces: &[&[u8]], is_taken: bool, out: &mut Reading) {
-    let mut parser = StreamParser::new(out.alloc());
+/// Feeds a parser, whose results stay or are taken behind each piece.
+fn feed(parser: &mut StreamParser, pieces: &[&[u8]], is_taken: bool, out: &mut Reading) {
     for piece in pieces {
         if parser.failed() || parser.feed(piece).is_err() {
             out.fault = Some(Fault::Memory);
-            return;
-        }
-        if is_taken {
+        } else if is_taken {
             out.add_results(parser.take().as_slice());
         }
     }
+}
+
+/// By a parser that is fed.
+fn fed(pieces: &[&[u8]], is_taken: bool, out: &mut Reading) {
+    let mut parser = StreamParser::new(out.alloc());
+    feed(&mut parser, pieces, is_taken, out);
     out.add_results(parser.results());
     out.is_stopped = parser.stopped();
     out.headers = Some(parser.headers());

@@ -13,7 +13,7 @@ use Rattle.pgp_base.specs.WalkReading.{marked_run, read_on, drained}
 use Rattle.pgp_base.specs.declared.error.Error.{Error}
 use Rattle.pgp_base.specs.declared.error.Error.TheVariants.{UnknownTag, UnexpectedEof, NotDrained, InvalidValueLength}
 use Rattle.pgp_base.proofs.PartLemmas.{IsNumber, oid_number, int16_number, int32_number, uint16_number, number_takes, number_short, no_string}
-use Rattle.pgp_base.proofs.Parts.{length-uint32, null_spelled, int32_spelled}
+use Rattle.pgp_base.proofs.Parts.{null_spelled, int32_spelled}
 use Rattle.pgp_base.proofs.Prefixes.{uint32_begins}
 use Rattle.pgp_base.proofs.Strings.{string_takes, string_whole}
 use Rattle.pgp_frontend.specs.ClientMessage.{ClientMessage, Bind, Close, CopyData, CopyDone, CopyFail, Describe, Execute, Flush, Parse, PasswordMessage, Query, SaslInitialResponse, SaslResponse, Sync, Terminate, Startup, CancelRequest, SslRequest, PasswordKind, Password, Initial, Response}

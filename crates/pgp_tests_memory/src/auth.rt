@@ -16,7 +16,7 @@ use pgp_saslprep::SaslPrepRfc4013;
 use rand_core::SeedableRng;
 use rand_pcg::Pcg32;
 use std::alloc::{AllocError, Allocator, Global};
-use std::test::Fail;
+use std::process::Abort;
 
 const SALT: [u8; 16] = [1, 2, 3, 4, 5, 6, 7, 8, 9, 10, 11, 12, 13, 14, 15, 16];
 
@@ -92,18 +92,32 @@ struct Text<'a> {
 impl Tried for Text<'_> {
     fn outcome<A: Allocator + Copy>(&self, alloc: A, turn: Turn<'_>) -> Result<usize, Error> {
         turn.begin();
-        let text = text_of(alloc, self.prep, self.call)?;
-        Ok(if text.as_str() == self.ample {
-            DONE
-        } else {
-            WRONG
-        })
+        match text_of(alloc, self.prep, self.call) {
+            Ok(text) if text.as_str() == self.ample => Ok(DONE),
+            Ok(_) => Ok(WRONG),
+            Err(e) => Err(e),
+        }
+    }
+}
+
+// How often the call was refused memory before the text was there that it makes with ample memory.
+fn refused_text(rt: &impl Abort, alloc: Global, prep: &SaslPrepRfc4013, call: Call) -> u64 {
+    match text_of(alloc, prep, call) {
+        Ok(ample) => {
+            let text = Text {
+                prep,
+                call,
+                ample: ample.as_str(),
+            };
+            refused(rt, alloc, &text, Ok(DONE))
+        }
+        Err(_) => MANY,
     }
 }
 
 // Each call asks for memory as often as is said here: once for its text, and a mapping for its own, SASLprep twice.
 #[test]
-fn texts_with_each_allocation_refused(rt: HostRuntime) -> Result<(), Fail> {
+fn texts_with_each_allocation_refused(rt: HostRuntime) {
     let calls = [
         (Call::Literal, 1),
         (Call::Identifier, 1),
@@ -116,15 +130,8 @@ fn texts_with_each_allocation_refused(rt: HostRuntime) -> Result<(), Fail> {
     ];
     let prep = SaslPrepRfc4013::new(rt.alloc());
     for (call, asked) in calls {
-        let ample = text_of(rt.alloc(), &prep, call)?;
-        let text = Text {
-            prep: &prep,
-            call,
-            ample: ample.as_str(),
-        };
-        same(&rt, refused(&rt, rt.alloc(), &text, Ok(DONE)), asked);
+        same(&rt, refused_text(&rt, rt.alloc(), &prep, call), asked);
     }
-    Ok(())
 }
 
 // Whether the verifier of this password is the same by the mapping without memory and by none.
@@ -163,17 +170,44 @@ fn made<A: Allocator + Copy>(
 
 const NONCE: &str = "9IZ2O01zb9IgiIZ1WJ/zgpJB";
 
+// A client whose nonce is drawn.
+fn with_drawn<A: Allocator + Copy>(
+    alloc: A,
+    binding: ChannelBinding<A>,
+) -> Result<ScramSha256<A>, Error> {
+    let mut rng = Pcg32::seed_from_u64(1);
+    made(ScramSha256::new(alloc, PASSWORD, binding, &ToX, &mut rng))
+}
+
+// A client with the nonce above.
+fn with_nonce<A: Allocator + Copy>(
+    alloc: A,
+    binding: ChannelBinding<A>,
+) -> Result<ScramSha256<A>, Error> {
+    match String::from_str(alloc, NONCE) {
+        Ok(nonce) => {
+            if is_nonce(&nonce) {
+                made(ScramSha256::with_nonce(alloc, PASSWORD, binding, nonce, &ToX))
+            } else {
+                Err(Error::InvalidCount)
+            }
+        }
+        Err(_) => Err(Error::OutOfMemory),
+    }
+}
+
 fn begun<A: Allocator + Copy>(alloc: A, is_drawn: bool) -> Result<ScramSha256<A>, Error> {
-    let binding = ChannelBinding::tls_server_end_point(Vec::from_slice(alloc, b"a hash")?);
-    if is_drawn {
-        let mut rng = Pcg32::seed_from_u64(1);
-        return made(ScramSha256::new(alloc, PASSWORD, binding, &ToX, &mut rng));
+    match Vec::from_slice(alloc, b"a hash") {
+        Ok(hash) => {
+            let binding = ChannelBinding::tls_server_end_point(hash);
+            if is_drawn {
+                with_drawn(alloc, binding)
+            } else {
+                with_nonce(alloc, binding)
+            }
+        }
+        Err(_) => Err(Error::OutOfMemory),
     }
-    let nonce = String::from_str(alloc, NONCE)?;
-    if !is_nonce(&nonce) {
-        return Err(Error::InvalidCount);
-    }
-    made(ScramSha256::with_nonce(alloc, PASSWORD, binding, nonce, &ToX))
 }
 
 // The server's first text for a client's first text: its nonce goes on, and it has a salt and a count.
@@ -209,9 +243,10 @@ fn steps<A: Allocator + Copy>(
     }
     let finished = number(client.finish(server_final));
     let over = (number(client.update(first)), number(client.finish(b"v=")));
-    match client.message().is_none() && over == (2, 2) {
-        true => Some((updated, finished, client.hmacs())),
-        false => None,
+    if client.message().is_none() && over == (2, 2) {
+        Some((updated, finished, client.hmacs()))
+    } else {
+        None
     }
 }
 
@@ -229,8 +264,10 @@ impl Exchange<'_> {
         alloc: A,
         client: &mut ScramSha256<A>,
     ) -> Result<usize, Error> {
-        let first = server_first(alloc, client)?;
-        self.told(steps(client, first.as_slice(), self.server_final))
+        match server_first(alloc, client) {
+            Ok(first) => self.told(steps(client, first.as_slice(), self.server_final)),
+            Err(_) => Err(Error::OutOfMemory),
+        }
     }
 
     // A refused `update` ends it, so that `finish` isn't due. A refused `finish` is told.
@@ -246,8 +283,10 @@ impl Exchange<'_> {
 impl Tried for Exchange<'_> {
     fn outcome<A: Allocator + Copy>(&self, alloc: A, turn: Turn<'_>) -> Result<usize, Error> {
         turn.begin();
-        let mut client = begun(alloc, self.is_drawn)?;
-        self.end(alloc, &mut client)
+        match begun(alloc, self.is_drawn) {
+            Ok(mut client) => self.end(alloc, &mut client),
+            Err(e) => Err(e),
+        }
     }
 }
 
@@ -288,21 +327,22 @@ fn exchanges_with_each_allocation_refused(rt: HostRuntime) {
     refuse_each(&rt, rt.alloc(), 10..MANY, &exchanges);
 }
 
-// The client's first text with a nonce that the generator draws.
-fn drawn(alloc: Global, rng: &mut Pcg32) -> Result<ScramSha256, ScramError> {
-    ScramSha256::new(alloc, PASSWORD, ChannelBinding::unsupported(), &NoPrep, rng)
+// The client's first text with a nonce that the generator draws, if the text has 32 bytes.
+fn drawn(alloc: Global, rng: &mut Pcg32) -> Option<[u8; 32]> {
+    match ScramSha256::new(alloc, PASSWORD, ChannelBinding::unsupported(), &NoPrep, rng) {
+        Ok(client) => <[u8; 32]>::try_from(client.message().unwrap_or(b"")).ok(),
+        Err(_) => None,
+    }
 }
 
 // A generator's stream makes a client's nonce, of 24 characters, and another one the next time.
 #[test]
-fn nonces_are_drawn_anew(rt: HostRuntime) -> Result<(), Fail> {
+fn nonces_are_drawn_anew(rt: HostRuntime) {
     let mut rng = Pcg32::seed_from_u64(1);
-    let one = drawn(rt.alloc(), &mut rng)?;
-    let other = drawn(rt.alloc(), &mut rng)?;
-    same(&rt, one.message().unwrap_or(b"").len(), 32);
-    same(&rt, other.message().unwrap_or(b"").len(), 32);
-    holds(&rt, one.message() != other.message());
-    Ok(())
+    let one = drawn(rt.alloc(), &mut rng);
+    let other = drawn(rt.alloc(), &mut rng);
+    holds(&rt, one.is_some() && other.is_some());
+    holds(&rt, one != other);
 }
 
 // A client with a mapping for which there is no memory: the number of its refusal.
@@ -347,8 +387,10 @@ impl Last<'_> {
 
 impl Tried for Last<'_> {
     fn outcome<A: Allocator + Copy>(&self, alloc: A, turn: Turn<'_>) -> Result<usize, Error> {
-        let mut client = begun(alloc, false)?;
-        self.refusal(alloc, &mut client, turn)
+        match begun(alloc, false) {
+            Ok(mut client) => self.refusal(alloc, &mut client, turn),
+            Err(e) => Err(e),
+        }
     }
 }
 

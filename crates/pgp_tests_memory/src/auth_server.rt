@@ -29,12 +29,16 @@ fn verifier<A: Allocator + Copy>(alloc: A, is_mock: bool) -> Result<StoredVerifi
 }
 
 fn begun<A: Allocator + Copy>(alloc: A, is_mock: bool) -> Result<ScramServer<A>, Error> {
-    let nonce = String::from_str(alloc, "%hvYDpWUa2RaTCAfuxFIlj)hNlF$k0")?;
+    let Ok(nonce) = String::from_str(alloc, "%hvYDpWUa2RaTCAfuxFIlj)hNlF$k0") else {
+        return Err(Error::OutOfMemory);
+    };
     if !is_nonce(&nonce) {
         return Err(Error::InvalidCount);
     }
-    let stored = verifier(alloc, is_mock)?;
-    Ok(ScramServer::with_nonce(stored, ChannelOffer::NotOffered, nonce))
+    match verifier(alloc, is_mock) {
+        Ok(stored) => Ok(ScramServer::with_nonce(stored, ChannelOffer::NotOffered, nonce)),
+        Err(e) => Err(e),
+    }
 }
 
 // What the exchange comes to where the proof is accepted, and where it isn't.
@@ -66,8 +70,10 @@ struct Exchange {
 impl Tried for Exchange {
     fn outcome<A: Allocator + Copy>(&self, alloc: A, turn: Turn<'_>) -> Result<usize, Error> {
         turn.begin();
-        let mut server = begun(alloc, self.is_mock)?;
-        end_of(&mut server)
+        match begun(alloc, self.is_mock) {
+            Ok(mut server) => end_of(&mut server),
+            Err(e) => Err(e),
+        }
     }
 }
 

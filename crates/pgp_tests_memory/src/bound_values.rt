@@ -9,16 +9,12 @@ use pgp_base::Error;
 use pgp_message::DataRowBody;
 use postgres_protocol::laws::{Step, row_int4};
 use std::alloc::Allocator;
-use std::test::Fail;
 
 #[test]
-fn bind_array_with_each_allocation_refused(rt: HostRuntime) -> Result<(), Fail> {
+fn bind_array_with_each_allocation_refused(rt: HostRuntime) {
     let steps = [Step::Append(Vec::new(rt.alloc())), Step::Null];
-    holds(
-        &rt,
-        refused_writer(&rt, rt.alloc(), Writer::BoundArray(&steps))? > 0,
-    );
-    Ok(())
+    let refusals = refused_writer(&rt, rt.alloc(), Writer::BoundArray(&steps));
+    holds(&rt, refusals > 0);
 }
 
 /// A row of 5, a null, and a value that isn't an int4.

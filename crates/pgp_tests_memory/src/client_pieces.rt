@@ -38,32 +38,34 @@ fn ask<A: Allocator + Copy>(
     }
 }
 
-/// Whole messages are read, though the first request is refused; at a cut one it is, and the piece stays. Asked again, it goes on.
+fn read_whole<A: Allocator + Copy>(rt: &impl Abort, parser: &mut ClientParser<A>) {
+    let mut piece = WHOLE.as_slice();
+    let whole = [Ok(Some(14)), Ok(Some(5)), Ok(None)];
+    ask(rt, parser, &mut piece, &whole);
+}
+
+/// The first request is refused, and the piece stays. Asked again, it goes on.
+fn read_cut<A: Allocator + Copy>(rt: &impl Abort, parser: &mut ClientParser<A>) {
+    let (front, back) = WHOLE.split_at(9);
+    let mut piece = front;
+    ask(rt, parser, &mut piece, &[Err(ParserError::OutOfMemory)]);
+    same(rt, piece, front);
+    holds(rt, parser.rest().is_empty());
+    ask(rt, parser, &mut piece, &[Ok(None)]);
+    same(rt, parser.rest(), front);
+    let mut piece = back;
+    ask(rt, parser, &mut piece, &[Ok(Some(14)), Ok(Some(5))]);
+    holds(rt, piece.is_empty());
+}
+
+/// Whole messages are read, though the first request is refused; at a cut one it is.
 #[test]
 fn cut_messages_alone_want_memory(rt: HostRuntime) {
     let alloc = Refusing::new(rt.alloc(), 1);
     let mut parser = ClientParser::resume(&alloc, UNLIMITED, true);
-    let mut piece = WHOLE.as_slice();
-    let whole = [Ok(Some(14)), Ok(Some(5)), Ok(None)];
-    ask(&rt, &mut parser, &mut piece, &whole);
+    read_whole(&rt, &mut parser);
     same(&rt, alloc.until_refusal.get(), 1);
-
-    let (front, back) = WHOLE.split_at(9);
-    let mut piece = front;
-    ask(
-        &rt,
-        &mut parser,
-        &mut piece,
-        &[Err(ParserError::OutOfMemory)],
-    );
-    same(&rt, piece, front);
-    holds(&rt, parser.rest().is_empty());
-    ask(&rt, &mut parser, &mut piece, &[Ok(None)]);
-    same(&rt, parser.rest(), front);
-
-    let mut piece = back;
-    ask(&rt, &mut parser, &mut piece, &[Ok(Some(14)), Ok(Some(5))]);
-    holds(&rt, piece.is_empty());
+    read_cut(&rt, &mut parser);
 }
 
 /// A message past the limit is refused before any memory is asked for.

@@ -7,10 +7,9 @@ use crate::writers::{SYNC, Writer, full, refused_writer};
 use pgp_base::{Buffer, Error};
 use pgp_frontend::CopyData;
 use std::alloc::Allocator;
-use std::test::Fail;
 
 #[test]
-fn writers_with_each_allocation_refused(rt: HostRuntime) -> Result<(), Fail> {
+fn writers_with_each_allocation_refused(rt: HostRuntime) {
     let writers = [
         Writer::Cstr,
         Writer::Body,
@@ -18,10 +17,9 @@ fn writers_with_each_allocation_refused(rt: HostRuntime) -> Result<(), Fail> {
         Writer::Counted,
     ];
     for writer in writers {
-        let refusals = refused_writer(&rt, rt.alloc(), writer)?;
+        let refusals = refused_writer(&rt, rt.alloc(), writer);
         holds(&rt, refusals >= 1 && refusals < 100);
     }
-    Ok(())
 }
 
 // A piece of a copy, which is written a second time where it is refused memory.

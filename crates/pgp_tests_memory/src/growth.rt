@@ -7,7 +7,7 @@ use pgp_base::Error;
 use pgp_message::{Message, Messages};
 use postgres_protocol::session::StreamParser;
 use std::alloc::{AllocError, Allocator};
-use std::test::Fail;
+use std::process::Abort;
 
 /// How many bytes the heap has. A thousand pieces are six times as many.
 const HEAP: usize = 4096;
@@ -52,19 +52,21 @@ fn used_by_four_thousand(
     Ok((second, most_used(parser, heap)?))
 }
 
+fn take_four_thousand(rt: &impl Abort, heap: &LocalHeap) {
+    let mut parser = StreamParser::new(heap);
+    let used = used_by_four_thousand(&mut parser, heap);
+    holds(rt, matches!(used, Ok((second, fourth)) if fourth <= second));
+    same(rt, parser.headers(), 8001);
+}
+
 /// Four thousand pieces: what is held behind each `take` grows no more, and no request of memory is refused
 /// on the way.
 #[test]
-fn parser_that_is_taken_from_does_not_grow(rt: HostRuntime) -> Result<(), Fail> {
-    let heap = LocalHeap::new(rt.alloc(), HEAP)?;
-    let mut parser = StreamParser::new(&heap);
-    let used = used_by_four_thousand(&mut parser, &heap);
-    holds(
-        &rt,
-        matches!(used, Ok((second, fourth)) if fourth <= second),
-    );
-    same(&rt, parser.headers(), 8001);
-    Ok(())
+fn parser_that_is_taken_from_does_not_grow(rt: HostRuntime) {
+    match LocalHeap::new(rt.alloc(), HEAP) {
+        Ok(heap) => take_four_thousand(&rt, &heap),
+        Err(_) => holds(&rt, false),
+    }
 }
 
 /// Feeds four thousand pieces, and takes nothing.
@@ -75,19 +77,20 @@ fn feed_four_thousand(parser: &mut StreamParser<&LocalHeap>) -> Result<(), Error
     Ok(())
 }
 
+fn keep_four_thousand(rt: &impl Abort, heap: &LocalHeap) {
+    let mut parser = StreamParser::new(heap);
+    same(rt, feed(&mut parser, FRONT), Ok(()));
+    same(rt, feed_four_thousand(&mut parser), Err(Error::OutOfMemory));
+    holds(rt, parser.failed());
+}
+
 /// The heap is too small for one that isn't taken from.
 #[test]
-fn parser_that_is_not_taken_from_grows(rt: HostRuntime) -> Result<(), Fail> {
-    let heap = LocalHeap::new(rt.alloc(), HEAP)?;
-    let mut parser = StreamParser::new(&heap);
-    same(&rt, feed(&mut parser, FRONT), Ok(()));
-    same(
-        &rt,
-        feed_four_thousand(&mut parser),
-        Err(Error::OutOfMemory),
-    );
-    holds(&rt, parser.failed());
-    Ok(())
+fn parser_that_is_not_taken_from_grows(rt: HostRuntime) {
+    match LocalHeap::new(rt.alloc(), HEAP) {
+        Ok(heap) => keep_four_thousand(&rt, &heap),
+        Err(_) => holds(&rt, false),
+    }
 }
 
 /// How many bytes the long stream has at least.
@@ -229,9 +232,10 @@ fn sums_in_pieces(heap: &LocalHeap, bytes: &[u8]) -> Result<Sums, Error> {
     let mut sums = Sums::new();
     let mut parser = StreamParser::new(heap);
     add_in_pieces(&mut parser, bytes, &mut sums)?;
-    match parser.rest().is_empty() && parser.headers() == sums.results {
-        true => Ok(sums),
-        false => Err(Error::NotDrained),
+    if parser.rest().is_empty() && parser.headers() == sums.results {
+        Ok(sums)
+    } else {
+        Err(Error::NotDrained)
     }
 }
 
@@ -244,10 +248,11 @@ fn is_read_alike(heap: &LocalHeap, bytes: &[u8]) -> Result<bool, Error> {
 
 /// Ten megabytes of frames of up to 32 KiB, over a heap of 64 KiB: the same comes as from all of it in place.
 #[test]
-fn a_long_stream_in_little_memory(rt: HostRuntime) -> Result<(), Fail> {
+fn a_long_stream_in_little_memory(rt: HostRuntime) {
     let mut bytes = Vec::new(rt.alloc());
-    put_pieces(&[0xa5; MOST], &mut bytes)?;
-    let heap = LocalHeap::new(rt.alloc(), LONG_HEAP)?;
-    same(&rt, is_read_alike(&heap, bytes.as_slice()), Ok(true));
-    Ok(())
+    holds(&rt, put_pieces(&[0xa5; MOST], &mut bytes).is_ok());
+    match LocalHeap::new(rt.alloc(), LONG_HEAP) {
+        Ok(heap) => same(&rt, is_read_alike(&heap, bytes.as_slice()), Ok(true)),
+        Err(_) => holds(&rt, false),
+    }
 }

@@ -63,9 +63,13 @@ impl Frame<'_> {
 
 impl Tried for Frame<'_> {
     fn outcome<A: Allocator + Copy>(&self, alloc: A, turn: Turn<'_>) -> Result<usize, Error> {
-        let mut buf = buffer(alloc, self.bytes)?;
-        turn.begin();
-        self.read_again(&mut FrameParser::new(), &mut buf)
+        match buffer(alloc, self.bytes) {
+            Ok(mut buf) => {
+                turn.begin();
+                self.read_again(&mut FrameParser::new(), &mut buf)
+            }
+            Err(e) => Err(e),
+        }
     }
 }
 
@@ -215,9 +219,10 @@ fn read_frames_with_each_allocation_refused(rt: HostRuntime) {
 
 // Whether a row's copy holds these bytes.
 fn cloned<A: Allocator + Copy>(row: &DataRowBody<Bytes<A>>, buffer: &[u8]) -> Result<usize, Error> {
-    match row.clone()?.buffer() == buffer {
-        true => Ok(DONE),
-        false => Ok(WRONG),
+    match row.clone() {
+        Ok(copy) if copy.buffer() == buffer => Ok(DONE),
+        Ok(_) => Ok(WRONG),
+        Err(e) => Err(e),
     }
 }
 
@@ -300,7 +305,10 @@ fn collect_with_each_allocation_refused(rt: HostRuntime) {
 // How many columns the table of the first message has, which has to be a row.
 fn columns<A: Allocator + Copy>(alloc: A, bytes: &[u8]) -> Result<usize, Error> {
     match Messages::new(bytes).next_row() {
-        Some(row) => Ok(row.index(alloc)?.len()),
+        Some(row) => match row.index(alloc) {
+            Ok(index) => Ok(index.len()),
+            Err(e) => Err(e),
+        },
         None => Err(Error::InvalidCount),
     }
 }
@@ -327,7 +335,10 @@ fn columns_again<A: Allocator + Copy>(
     bytes: &[u8],
 ) -> Result<usize, Error> {
     match Messages::new(bytes).next_row() {
-        Some(row) => Ok(row.index_into(places)?.len()),
+        Some(row) => match row.index_into(places) {
+            Ok(index) => Ok(index.len()),
+            Err(e) => Err(e),
+        },
         None => Err(Error::InvalidCount),
     }
 }

@@ -6,7 +6,8 @@ use crate::turns::{DONE, Tried, Turn, WRONG, refusals_of};
 use pgp_base::{Error, Memory};
 use pgp_message::{Message, Storage};
 use postgres_protocol::session::{Parsed, StreamParser, parse_stream};
-use std::alloc::{AllocError, Allocator, Global};
+use std::alloc::{Allocator, Global};
+use std::process::Abort;
 
 /// AuthenticationSASL, RowDescription, DataRow, ErrorResponse, a ReadyForQuery with a byte too many,
 /// ParseComplete, and a length fault.
@@ -28,22 +29,41 @@ fn mark<S: Storage>(read: &Result<Message<S>, Error>) -> u8 {
     }
 }
 
-/// Whether these are all results of that stream.
-fn are_all<S: Storage>(results: &[Result<Message<S>, Error>]) -> bool {
-    for (result, wanted) in results.iter().zip(MARKS) {
-        if mark(result) != *wanted {
-            return false;
-        }
-    }
-    results.len() == MARKS.len()
+/// The results that came.
+#[derive(Clone, Copy)]
+struct Marks {
+    count: usize,
+    /// Whether they are the first results of that stream.
+    are_first: bool,
 }
 
-/// Feeds pieces to a parser. The marks of what is read go onto the list, behind each piece where the results are taken.
+impl Marks {
+    fn new() -> Marks {
+        Marks {
+            count: 0,
+            are_first: true,
+        }
+    }
+
+    fn add<S: Storage>(&mut self, results: &[Result<Message<S>, Error>]) {
+        for read in results {
+            self.are_first &= MARKS.get(self.count) == Some(&mark(read));
+            self.count = self.count.saturating_add(1);
+        }
+    }
+
+    /// Whether these are all results of that stream.
+    fn are_all(self) -> bool {
+        self.are_first && self.count == MARKS.len()
+    }
+}
+
+/// Feeds pieces to a parser. The results are added, behind each piece where they are taken.
 fn read_pieces<A: Memory>(
     parser: &mut StreamParser<A>,
     pieces: &[&[u8]],
     is_taken: bool,
-    marks: &mut Vec<u8>,
+    marks: &mut Marks,
 ) -> Result<(), Error> {
     let mut answer = Ok(());
     for piece in pieces {
@@ -51,41 +71,37 @@ fn read_pieces<A: Memory>(
             answer = parser.feed(piece);
         }
         if is_taken && answer.is_ok() {
-            push_marks(parser.take().as_slice(), marks)?;
+            marks.add(parser.take().as_slice());
         }
     }
-    push_marks(parser.results(), marks)?;
+    marks.add(parser.results());
     answer
-}
-
-/// The marks of these results go onto the list.
-fn push_marks<S: Storage>(
-    results: &[Result<Message<S>, Error>],
-    marks: &mut Vec<u8>,
-) -> Result<(), AllocError> {
-    for read in results {
-        marks.push(mark(read))?;
-    }
-    Ok(())
 }
 
 /// What is left of that stream behind its last result.
 const REST: &[u8] = b"Z\0\0\0\x03";
 
+/// Feeds that stream byte by byte, and a message behind its length fault.
+fn take_each(rt: &impl Abort, parser: &mut StreamParser) {
+    let mut marks = Marks::new();
+    for byte in &HOSTILE {
+        same(
+            rt,
+            read_pieces(parser, &[&[*byte]], true, &mut marks),
+            Ok(()),
+        );
+    }
+    holds(rt, has_all(parser, marks));
+    let read = read_pieces(parser, &[b"1\0\0\0\x04"], true, &mut marks);
+    same(rt, read, Ok(()));
+    holds(rt, marks.are_all());
+    same(rt, parser.rest(), b"Z\0\0\0\x031\0\0\0\x04".as_slice());
+}
+
 /// Results are handed out once, and none is lost.
 #[test]
 fn taken_after_each_byte(rt: HostRuntime) {
-    let mut parser = StreamParser::new(rt.alloc());
-    let mut marks = Vec::new(rt.alloc());
-    for byte in &HOSTILE {
-        let read = read_pieces(&mut parser, &[&[*byte]], true, &mut marks);
-        same(&rt, read, Ok(()));
-    }
-    holds(&rt, has_all(&parser, marks.as_slice()));
-    let read = read_pieces(&mut parser, &[b"1\0\0\0\x04"], true, &mut marks);
-    same(&rt, read, Ok(()));
-    same(&rt, marks.as_slice(), MARKS);
-    same(&rt, parser.rest(), b"Z\0\0\0\x031\0\0\0\x04".as_slice());
+    take_each(&rt, &mut StreamParser::new(rt.alloc()));
 }
 
 /// Two pieces for a parser. One that is refused memory has failed, and what it read until then are the stream's first results.
@@ -93,24 +109,19 @@ fn taken_after_each_byte(rt: HostRuntime) {
 struct Fed<'a> {
     pieces: [&'a [u8]; 2],
     is_taken: bool,
-    /// Where the marks of the results are kept.
-    memory: Global,
 }
 
 /// Whether a parser has all of that stream.
-fn has_all<A: Memory>(parser: &StreamParser<A>, marks: &[u8]) -> bool {
-    marks == MARKS && parser.stopped() && parser.rest() == REST && parser.headers() == 7
+fn has_all<A: Memory>(parser: &StreamParser<A>, marks: Marks) -> bool {
+    marks.are_all() && parser.stopped() && parser.rest() == REST && parser.headers() == 7
 }
 
 impl Fed<'_> {
-    fn end<A: Allocator + Copy>(
-        &self,
-        parser: &mut StreamParser<A>,
-        marks: &mut Vec<u8>,
-    ) -> Result<usize, Error> {
-        match read_pieces(parser, &self.pieces, self.is_taken, marks) {
-            Ok(()) if !parser.failed() && has_all(parser, marks.as_slice()) => Ok(DONE),
-            Err(e) if parser.failed() && MARKS.starts_with(marks.as_slice()) => Err(e),
+    fn end<A: Allocator + Copy>(&self, parser: &mut StreamParser<A>) -> Result<usize, Error> {
+        let mut marks = Marks::new();
+        match read_pieces(parser, &self.pieces, self.is_taken, &mut marks) {
+            Ok(()) if !parser.failed() && has_all(parser, marks) => Ok(DONE),
+            Err(e) if parser.failed() && marks.are_first => Err(e),
             _ => Ok(WRONG),
         }
     }
@@ -119,10 +130,15 @@ impl Fed<'_> {
 impl Tried for Fed<'_> {
     fn outcome<A: Allocator + Copy>(&self, alloc: A, turn: Turn<'_>) -> Result<usize, Error> {
         let mut parser = StreamParser::new(alloc);
-        let mut marks = Vec::new(self.memory);
         turn.begin();
-        self.end(&mut parser, &mut marks)
+        self.end(&mut parser)
     }
+}
+
+/// That stream in two pieces. Requests are refused, and more than two are told.
+fn refuse_at<T: Tried>(rt: &impl Abort, alloc: Global, cut: usize, tried: &T) {
+    let refusals = refusals_of(rt, alloc, tried, Ok(DONE));
+    same(rt, (cut, refusals.told > 2), (cut, true));
 }
 
 /// The stream in two pieces, cut at each place.
@@ -134,17 +150,17 @@ fn pieces_with_each_allocation_refused(rt: HostRuntime) {
             let fed = Fed {
                 pieces: [front, back],
                 is_taken,
-                memory: rt.alloc(),
             };
-            let refusals = refusals_of(&rt, rt.alloc(), &fed, Ok(DONE));
-            same(&rt, (cut, refusals.told > 2), (cut, true));
+            refuse_at(&rt, rt.alloc(), cut, &fed);
         }
     }
 }
 
 /// Whether all of that stream was read.
 fn is_all<A: Memory>(parsed: &Parsed<A>) -> bool {
-    are_all(parsed.results()) && parsed.stopped() && parsed.rest() == REST
+    let mut marks = Marks::new();
+    marks.add(parsed.results());
+    marks.are_all() && parsed.stopped() && parsed.rest() == REST
 }
 
 /// Two pieces for `parse_stream`.
@@ -156,8 +172,11 @@ struct InTwo<'a> {
 impl Tried for InTwo<'_> {
     fn outcome<A: Allocator + Copy>(&self, alloc: A, turn: Turn<'_>) -> Result<usize, Error> {
         turn.begin();
-        let parsed = parse_stream(alloc, &self.pieces)?;
-        Ok(if is_all(&parsed) { DONE } else { WRONG })
+        match parse_stream(alloc, &self.pieces) {
+            Ok(parsed) if is_all(&parsed) => Ok(DONE),
+            Ok(_) => Ok(WRONG),
+            Err(e) => Err(e),
+        }
     }
 }
 
@@ -168,7 +187,6 @@ fn parse_stream_with_each_allocation_refused(rt: HostRuntime) {
         let in_two = InTwo {
             pieces: [front, back],
         };
-        let refusals = refusals_of(&rt, rt.alloc(), &in_two, Ok(DONE));
-        same(&rt, (cut, refusals.told > 2), (cut, true));
+        refuse_at(&rt, rt.alloc(), cut, &in_two);
     }
 }

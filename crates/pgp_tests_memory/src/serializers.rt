@@ -3,6 +3,7 @@
 
 ghost use Rattle.pgp_base.specs.Calls.{KeepsValue};
 ghost use Rattle.pgp_base.specs.Held.{items_held};
+ghost use Rattle.pgp_types.specs.RangeWriting.{KeepsBound};
 
 use crate::checks::same;
 use crate::writers::SYNC;
@@ -53,7 +54,7 @@ fn bind_with_each_value_refused(rt: HostRuntime) {
 }
 
 // Appends twenty bytes, or answers its own number.
-fn put_own<B: Buffer>(buf: &mut B) -> Result<IsNull, u8>
+fn put_own<B: Buffer>(_value: u32, buf: &mut B) -> Result<IsNull, u8>
     ensures { KeepsValue result (B.held buf.old) (B.held buf.new) }
 {
     match buf.append(b"0123456789abcdefghij") {
@@ -63,15 +64,7 @@ fn put_own<B: Buffer>(buf: &mut B) -> Result<IsNull, u8>
 }
 
 fn bind_own<B: Buffer>(buf: &mut B) -> Result<(), BindError<u8>> {
-    bind(
-        "",
-        "s",
-        Some(1i16),
-        1..6u32,
-        |_: u32, buf: &mut B| -> Result<IsNull, u8> { put_own(buf) },
-        Some(1i16),
-        buf,
-    )
+    bind("", "s", Some(1i16), 1..6u32, put_own::<B>, Some(1i16), buf)
 }
 
 fn array_own<B: Buffer>(buf: &mut B) -> Result<(), BindError<u8>> {
@@ -82,27 +75,31 @@ fn array_own<B: Buffer>(buf: &mut B) -> Result<(), BindError<u8>> {
         }),
         23,
         1..6u32,
-        |_: u32, buf: &mut B| -> Result<IsNull, u8> { put_own(buf) },
+        put_own::<B>,
         buf,
     )
 }
 
+fn put_lower<B: Buffer>(buf: &mut B) -> Result<RangeBound<IsNull>, u8>
+    ensures { KeepsBound result (B.held buf.old) (B.held buf.new) }
+{
+    match buf.append(b"0123456789abcdefghij") {
+        Ok(()) => Ok(RangeBound::Inclusive(IsNull::No)),
+        Err(_) => Err(OWN),
+    }
+}
+
+fn put_upper<B: Buffer>(buf: &mut B) -> Result<RangeBound<IsNull>, u8>
+    ensures { KeepsBound result (B.held buf.old) (B.held buf.new) }
+{
+    match buf.append(b"0123456789abcdefghij") {
+        Ok(()) => Ok(RangeBound::Exclusive(IsNull::No)),
+        Err(_) => Err(OWN),
+    }
+}
+
 fn range_own<B: Buffer>(buf: &mut B) -> Result<(), BindError<u8>> {
-    range_to_sql(
-        |buf: &mut B| -> Result<RangeBound<IsNull>, u8> {
-            match buf.append(b"0123456789abcdefghij") {
-                Ok(()) => Ok(RangeBound::Inclusive(IsNull::No)),
-                Err(_) => Err(OWN),
-            }
-        },
-        |buf: &mut B| -> Result<RangeBound<IsNull>, u8> {
-            match buf.append(b"0123456789abcdefghij") {
-                Ok(()) => Ok(RangeBound::Exclusive(IsNull::No)),
-                Err(_) => Err(OWN),
-            }
-        },
-        buf,
-    )
+    range_to_sql(put_lower::<B>, put_upper::<B>, buf)
 }
 
 // Whose growth was refused.

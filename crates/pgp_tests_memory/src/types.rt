@@ -20,10 +20,22 @@ impl Tried for Walk<'_> {
     fn outcome<A: Allocator + Copy>(&self, alloc: A, turn: Turn<'_>) -> Result<usize, Error> {
         turn.begin();
         match self {
-            Walk::Pairs(value) => count(alloc, hstore_from_sql(value)?),
-            Walk::Points(value) => count(alloc, path_from_sql(value)?.points()),
-            Walk::Dimensions(value) => count(alloc, array_from_sql(value)?.dimensions()),
-            Walk::Elements(value) => count(alloc, array_from_sql(value)?.values()),
+            Walk::Pairs(value) => match hstore_from_sql(value) {
+                Ok(pairs) => count(alloc, pairs),
+                Err(e) => Err(e),
+            },
+            Walk::Points(value) => match path_from_sql(value) {
+                Ok(path) => count(alloc, path.points()),
+                Err(e) => Err(e),
+            },
+            Walk::Dimensions(value) => match array_from_sql(value) {
+                Ok(array) => count(alloc, array.dimensions()),
+                Err(e) => Err(e),
+            },
+            Walk::Elements(value) => match array_from_sql(value) {
+                Ok(array) => count(alloc, array.values()),
+                Err(e) => Err(e),
+            },
         }
     }
 }

@@ -1,6 +1,7 @@
 //! Writers, each on a buffer that holds a message and has no room left.
 #![tactic(auto, using(pgp_base::proofs::Parts::held_steps))]
 
+use crate::checks::{holds, same};
 use crate::turns::{DONE, Tried, Turn, WRONG, refused};
 use bytes::BytesMut;
 use pgp_base::{
@@ -89,20 +90,27 @@ impl Written<'_> {
 
 impl Tried for Written<'_> {
     fn outcome<A: Allocator + Copy>(&self, alloc: A, turn: Turn<'_>) -> Result<usize, Error> {
-        let mut buf = full(alloc)?;
-        turn.begin();
-        self.write(&mut buf)
+        match full(alloc) {
+            Ok(mut buf) => {
+                turn.begin();
+                self.write(&mut buf)
+            }
+            Err(_) => Err(Error::OutOfMemory),
+        }
     }
 }
 
 /// How often the writer was refused memory before the bytes stood there that it writes with ample memory.
-pub(crate) fn refused_writer(
-    rt: &impl Abort,
-    alloc: Global,
-    writer: Writer<'_>,
-) -> Result<u64, Error> {
-    let mut buf = full(alloc)?;
-    write(writer, &mut buf)?;
-    let ample = buf.as_slice();
-    Ok(refused(rt, alloc, &Written { writer, ample }, Ok(DONE)))
+pub(crate) fn refused_writer(rt: &impl Abort, alloc: Global, writer: Writer<'_>) -> u64 {
+    match full(alloc) {
+        Ok(mut buf) => {
+            same(rt, write(writer, &mut buf), Ok(()));
+            let ample = buf.as_slice();
+            refused(rt, alloc, &Written { writer, ample }, Ok(DONE))
+        }
+        Err(_) => {
+            holds(rt, false);
+            0
+        }
+    }
 }

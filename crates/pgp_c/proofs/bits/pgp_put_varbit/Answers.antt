@@ -7,7 +7,7 @@ use Rattle.pgp_c.proofs.bits.pgp_put_varbit.Goals as goal
 pub returns-in-Ok-clause-wrote : goal.returns-in-Ok-clause-wrote
 returns-in-Ok-clause-wrote c z = (
   search rules,
-  wrote (uint32 c.args.bits ++ c.args.bytes.now) (uint32 c.args.bits ++ c.args.bytes.now) refl c.new-window.result c.put_bits.new.buf c.args.out.now _ c.new-window.ensures c.in-Ok.ensures.ok.1 _ (search rules) _ c.sent.ensures.told,
+  wrote (uint32 c.args.bits ++ c.args.bytes.now) (uint32 c.args.bits ++ c.args.bytes.now) refl c.new-window.result c.put_counted.new.buf c.args.out.now _ c.new-window.ensures c.in-Ok.ensures.ok.1 _ (search rules) _ c.sent.ensures.told,
 )
 
 pub returns-in-Err-clause-refused : goal.returns-in-Err-clause-refused

@@ -1,12 +1,12 @@
 use Rattle.std.proofs.Common.{rules, refl}
 use Rattle.pgp_frontend.specs.ClientMessage.{Terminate}
-use Rattle.pgp_c.proofs.Sending.{sends, refuses}
+use Rattle.pgp_c.proofs.Sending.{sends_ended, refuses_ended}
 use Rattle.pgp_c.proofs.writing.pgp_terminate.Goals as goal
 
-pub returns-in-Ok-clause-sent : goal.returns-in-Ok-clause-sent
-returns-in-Ok-clause-sent c z =
-    sends Terminate Terminate refl c.new-window.result c.terminate.new.buf c.args.out.now _ c.new-window.ensures c.in-Ok.ensures.0 c.in-Ok.ensures.1.0 c.in-Ok.ensures.1.1 _ (search rules) _ c.sent.ensures.told
+pub returns-clause-sent : goal.returns-clause-sent
+returns-clause-sent c z =
+    sends_ended Terminate Terminate refl c.new-window.result c.terminate-answer.new.buf c.args.out.now _ c.new-window.ensures c.terminate-answer.result c.terminate-answer.ensures _ (search rules) _ (c.ended.ensures.sent z)
 
-pub returns-in-Err-clause-refused : goal.returns-in-Err-clause-refused
-returns-in-Err-clause-refused c z =
-    refuses Terminate Terminate refl c.new-window.result c.args.out.now _ c.new-window.ensures c.in-Err.e _ _ c.in-Err.ensures.1.0 c.refused.ensures.code c.refused.ensures.told
+pub returns-clause-refused : goal.returns-clause-refused
+returns-clause-refused c z =
+    refuses_ended Terminate Terminate refl c.new-window.result c.terminate-answer.new.buf c.args.out.now _ c.new-window.ensures c.terminate-answer.result c.terminate-answer.ensures _ _ (c.ended.ensures.refused z)

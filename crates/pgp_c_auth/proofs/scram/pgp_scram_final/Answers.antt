@@ -1,15 +1,13 @@
 use Rattle.std.proofs.Common.{rules, inl, inr}
-use Rattle.pgp_c_auth.proofs.Texts.{answers_handed, no_room}
+use Rattle.pgp_c_auth.proofs.Texts.{answers_in, no_room}
 use Rattle.pgp_c_auth.proofs.scram.pgp_scram_final.Goals as goal
 
-pub returns-in-Some-clause-sent : goal.returns-in-Some-clause-sent
-returns-in-Some-clause-sent c z =
-    answers_handed _ c.args.server_first.now c.in-Some.text.now c.args.out.now _ _ c.in-Ok.client c.in-Ok.ensures.ok (search rules) (c.deliver.ensures.told z) (c.deliver.ensures.stands z)
+pub returns-in-Ok-clause-sent : goal.returns-in-Ok-clause-sent
+returns-in-Ok-clause-sent c z = answers_in _ c.args.server_first.now _ c.in-Ok.client c.in-Ok.ensures.ok (c.hand_over.ensures.sent z)
 
-pub returns-in-Some-clause-why : goal.returns-in-Some-clause-why
-returns-in-Some-clause-why c z =
-    let r = c.deliver.ensures.refused z in
-    inr (no_room _ c.args.server_first.now c.in-Some.text.now c.args.out.now c.in-Ok.client _ _ c.in-Ok.ensures.ok (search rules) r.1 r.0 (search rules))
+pub returns-in-Ok-clause-why : goal.returns-in-Ok-clause-why
+returns-in-Ok-clause-why c z =
+    inr (no_room _ c.args.server_first.now c.args.out.now c.in-Ok.client _ _ c.in-Ok.ensures.ok (c.hand_over.ensures.longer z) (c.hand_over.ensures.refused z).0 (search rules))
 
 pub returns-in-Err-clause-why : goal.returns-in-Err-clause-why
 returns-in-Err-clause-why c z = inl c.in-Err.ensures.err.1

@@ -1,5 +1,4 @@
 use Rattle.std.proofs.Common.{arith}
-use Rattle.pgp_base.proofs.Parts.{if_err_at}
 use Rattle.pgp_base.specs.PartReading.{text_at}
 use Rattle.pgp_base.specs.Wire.{IsBytes}
 use Rattle.pgp_message.specs.Items.{TextSpelled, TextRefused}
@@ -7,23 +6,23 @@ use Rattle.pgp_message.proofs.TextLemmas.{text_reader}
 use Rattle.pgp_c.proofs.Listings.{reader_found, reader_shorter, text_fits, text_item}
 use Rattle.pgp_c.proofs.name.NamesListed.read.Goals as goal
 
-pub returns-in_err-name-clause-refused : goal.returns-in_err-name-clause-refused
-returns-in_err-name-clause-refused c =
+pub returns-in-Err-clause-refused : goal.returns-in-Err-clause-refused
+returns-in-Err-clause-refused c =
     let each : IsBytes c.args.rest.now = λ i. omega (arith, c.type_inv.rest i) in
-    if_err_at _ _ _ c.from_residual.ensures.1 (text_reader.refused c.args.at c.args.rest.now _ each c.in_err-name.ensures)
+    text_reader.refused c.args.at c.args.rest.now _ each c.in-Err.ensures
 
-pub returns-clause-item : goal.returns-clause-item
-returns-clause-item c bytes stands =
+pub returns-in-Ok-clause-item : goal.returns-in-Ok-clause-item
+returns-in-Ok-clause-item c bytes stands =
     let each : IsBytes c.args.rest.now = λ i. omega (arith, c.type_inv.rest i) in
-    reader_found TextSpelled TextRefused (λ place. text_at) text_reader c.args.at c.args.rest.now c.in_ok-name.name.now _ c.in_ok-name.more.now each c.in_ok-name.ensures
-    (text_item bytes c.args.rest.now c.in_ok-name.name.now c.in_ok-name.more.now c.args.at each c.in_ok-name.ensures stands)
+    reader_found TextSpelled TextRefused (λ place. text_at) text_reader c.args.at c.args.rest.now c.in-Ok.name.now _ c.in-Ok.more.now each c.in-Ok.ensures
+    (text_item bytes c.args.rest.now c.in-Ok.name.now c.in-Ok.more.now c.args.at each c.in-Ok.ensures stands)
 
-pub returns-clause-shorter : goal.returns-clause-shorter
-returns-clause-shorter c =
+pub returns-in-Ok-clause-shorter : goal.returns-in-Ok-clause-shorter
+returns-in-Ok-clause-shorter c =
     let each : IsBytes c.args.rest.now = λ i. omega (arith, c.type_inv.rest i) in
-    reader_shorter TextSpelled TextRefused (λ place. text_at) text_reader c.args.at c.args.rest.now c.in_ok-name.name.now c.in_ok-name.more.now each c.in_ok-name.ensures
+    reader_shorter TextSpelled TextRefused (λ place. text_at) text_reader c.args.at c.args.rest.now c.in-Ok.name.now c.in-Ok.more.now each c.in-Ok.ensures
 
-pub returns-clause-inside : goal.returns-clause-inside
-returns-clause-inside c size within =
+pub returns-in-Ok-clause-inside : goal.returns-in-Ok-clause-inside
+returns-in-Ok-clause-inside c size within =
     let each : IsBytes c.args.rest.now = λ i. omega (arith, c.type_inv.rest i) in
-    omega (arith, within, text_fits c.args.rest.now c.in_ok-name.name.now c.in_ok-name.more.now each c.in_ok-name.ensures)
+    omega (arith, within, text_fits c.args.rest.now c.in-Ok.name.now c.in-Ok.more.now each c.in-Ok.ensures)

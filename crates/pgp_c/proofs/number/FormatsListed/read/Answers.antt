@@ -1,5 +1,4 @@
 use Rattle.std.proofs.Common.{arith}
-use Rattle.pgp_base.proofs.Parts.{if_err_at}
 use Rattle.pgp_base.specs.PartReading.{uint16_at}
 use Rattle.pgp_base.specs.Wire.{IsBytes}
 use Rattle.pgp_message.specs.ItemReading.{format_at}
@@ -8,17 +7,17 @@ use Rattle.pgp_message.proofs.NumberLemmas.{format_reader}
 use Rattle.pgp_c.proofs.Listings.{number_short, number_whole, reader_shorter}
 use Rattle.pgp_c.proofs.number.FormatsListed.read.Goals as goal
 
-pub returns-in_err-number-clause-refused : goal.returns-in_err-number-clause-refused
-returns-in_err-number-clause-refused c =
+pub returns-in-Err-clause-refused : goal.returns-in-Err-clause-refused
+returns-in-Err-clause-refused c =
     let each : IsBytes c.args.rest.now = λ i. omega (arith, c.type_inv.rest i) in
-    if_err_at _ _ _ c.from_residual.ensures.1 (format_reader.refused c.args._at c.args.rest.now _ each (number_short (uint16_at c.args.rest.now) _ c.in_err-number.ensures))
+    format_reader.refused c.args._at c.args.rest.now _ each (number_short (uint16_at c.args.rest.now) _ c.in-Err.ensures)
 
-pub returns-clause-item : goal.returns-clause-item
-returns-clause-item c bytes stands =
+pub returns-in-Ok-clause-item : goal.returns-in-Ok-clause-item
+returns-in-Ok-clause-item c bytes stands =
     let each : IsBytes c.args.rest.now = λ i. omega (arith, c.type_inv.rest i) in
-    format_reader.found c.args._at c.args.rest.now c.in_ok-number.number c.in_ok-number.more.now each (number_whole (uint16_at c.args.rest.now) _ c.in_ok-number.ensures)
+    format_reader.found c.args._at c.args.rest.now c.in-Ok.number c.in-Ok.more.now each (number_whole (uint16_at c.args.rest.now) _ c.in-Ok.ensures)
 
-pub returns-clause-shorter : goal.returns-clause-shorter
-returns-clause-shorter c =
+pub returns-in-Ok-clause-shorter : goal.returns-in-Ok-clause-shorter
+returns-in-Ok-clause-shorter c =
     let each : IsBytes c.args.rest.now = λ i. omega (arith, c.type_inv.rest i) in
-    reader_shorter FormatSpelled FormatRefused (λ place. format_at) format_reader c.args._at c.args.rest.now c.in_ok-number.number c.in_ok-number.more.now each (number_whole (uint16_at c.args.rest.now) _ c.in_ok-number.ensures)
+    reader_shorter FormatSpelled FormatRefused (λ place. format_at) format_reader c.args._at c.args.rest.now c.in-Ok.number c.in-Ok.more.now each (number_whole (uint16_at c.args.rest.now) _ c.in-Ok.ensures)
