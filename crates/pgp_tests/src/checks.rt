@@ -1,6 +1,7 @@
 //! What a test holds to be so. Each is proved once; an assertion in the text of a test is proved there again, with all
 //! that stands around it.
 
+use pgp_base::Error;
 use std::fmt::Debug;
 use std::process::Abort;
 
@@ -17,6 +18,15 @@ pub(crate) fn same_at<T: PartialEq + Debug + Drop, P: Debug + Drop>(
     wanted: T,
 ) {
     assert_eq!(rt; came, wanted, "{place:?}");
+}
+
+/// The text that was made is the one that was wanted.
+pub(crate) fn made(rt: &impl Abort, came: Result<String, Error>, wanted: &str) {
+    let text = match &came {
+        Ok(text) => Ok(text.as_str()),
+        Err(e) => Err(*e),
+    };
+    same(rt, text, Ok(wanted));
 }
 
 /// What came is true, else the test fails.

@@ -5,7 +5,8 @@ use postgres_protocol::message::client::{
     AnyMessage, ClientError, ClientMessage, OtherMessage, PasswordKind,
 };
 use postgres_protocol::session::{ClientParser, Limits, ParserError};
-use std::test::Fail;
+use std::alloc::Global;
+use std::process::Abort;
 
 /// SSLRequest, StartupMessage, PasswordMessage, Parse, Bind, Execute, Sync, a frame with a tag that no message has, Query, Terminate.
 const SESSION: &[u8] =
@@ -41,19 +42,21 @@ fn mark(read: &Result<AnyMessage<'_>, ClientError>) -> u8 {
     }
 }
 
+/// The mark of a message with this text, or `!`.
+fn mark_of(mark: u8, text: &[u8], wanted: &[u8]) -> u8 {
+    if text == wanted { mark } else { b'!' }
+}
+
 fn ours(message: &ClientMessage<'_>) -> u8 {
     match message {
         ClientMessage::SslRequest => b'L',
         ClientMessage::Startup { .. } => b'U',
-        ClientMessage::PasswordMessage(b"secret") => b'p',
-        ClientMessage::Parse {
-            query: b"SELECT $1",
-            ..
-        } => b'P',
+        ClientMessage::PasswordMessage(password) => mark_of(b'p', password, b"secret"),
+        ClientMessage::Parse { query, .. } => mark_of(b'P', query, b"SELECT $1"),
         ClientMessage::Bind { .. } => b'B',
         ClientMessage::Execute { max_rows: 0, .. } => b'E',
         ClientMessage::Sync => b'S',
-        ClientMessage::Query(b"SELECT 2") => b'Q',
+        ClientMessage::Query(query) => mark_of(b'Q', query, b"SELECT 2"),
         ClientMessage::Terminate => b'X',
         _ => b'!',
     }
@@ -63,9 +66,11 @@ fn other(message: &OtherMessage<'_>) -> u8 {
     match message {
         OtherMessage::GssEncRequest => b'G',
         OtherMessage::StartupOther { minor: 1, .. } => b'V',
-        OtherMessage::SaslInitialWithoutResponse {
-            mechanism: b"SCRAM-SHA-256",
-        } => b'i',
+        OtherMessage::SaslInitialWithoutResponse { mechanism } => mark_of(
+            b'i',
+            mechanism,
+            b"SCRAM-SHA-256",
+        ),
         OtherMessage::FunctionCall {
             function: 256,
             result_format: 1,
@@ -75,65 +80,63 @@ fn other(message: &OtherMessage<'_>) -> u8 {
     }
 }
 
-/// Feeds a piece, and adds the marks of its messages.
-fn feed(
-    parser: &mut ClientParser,
-    kind: PasswordKind,
-    piece: &[u8],
-    marks: &mut Vec<u8>,
-) -> Result<(), Fail> {
+/// Feeds a piece, and adds the marks of its messages; without memory for one, no more are added.
+fn feed(parser: &mut ClientParser, kind: PasswordKind, piece: &[u8], marks: &mut Vec<u8>) {
     let mut rest = piece;
     for _ in 0..=MARKS.len() {
-        match parser.next(&mut rest) {
-            Ok(Some(frame)) => marks.push(mark(&frame.message(kind)))?,
-            Ok(None) => return Ok(()),
-            Err(_) => marks.push(b'#')?,
+        let mark = match parser.next(&mut rest) {
+            Ok(Some(frame)) => mark(&frame.message(kind)),
+            Ok(None) => return,
+            Err(_) => b'#',
+        };
+        if marks.push(mark).is_err() {
+            return;
         }
     }
-    Ok(())
+}
+
+/// A session that comes in two pieces has these marks.
+fn comes_in_two(
+    rt: &impl Abort,
+    alloc: Global,
+    kind: PasswordKind,
+    pieces: (&[u8], &[u8]),
+    wanted: &[u8],
+) {
+    let mut parser = ClientParser::new(alloc, UNLIMITED);
+    let mut marks = Vec::new(alloc);
+    feed(&mut parser, kind, pieces.0, &mut marks);
+    feed(&mut parser, kind, pieces.1, &mut marks);
+    same_at(rt, pieces.0.len(), marks.as_slice(), wanted);
+    holds(rt, parser.is_open() && parser.rest().is_empty());
 }
 
 #[test]
-fn every_cutting_into_two(rt: HostRuntime) -> Result<(), Fail> {
+fn every_cutting_into_two(rt: HostRuntime) {
     let kind = PasswordKind::Password;
     for cut in 0..=SESSION.len() {
-        let (front, back) = SESSION.split_at(cut);
-        let mut parser = ClientParser::new(rt.alloc(), UNLIMITED);
-        let mut marks = Vec::new(rt.alloc());
-        feed(&mut parser, kind, front, &mut marks)?;
-        feed(&mut parser, kind, back, &mut marks)?;
-        same_at(&rt, cut, marks.as_slice(), MARKS);
-        holds(&rt, parser.is_open() && parser.rest().is_empty());
+        comes_in_two(&rt, rt.alloc(), kind, SESSION.split_at(cut), MARKS);
     }
-    Ok(())
 }
 
 /// The messages that no writer here makes are read too.
 #[test]
-fn every_cutting_of_others(rt: HostRuntime) -> Result<(), Fail> {
+fn every_cutting_of_others(rt: HostRuntime) {
     let kind = PasswordKind::Initial;
     for cut in 0..=OTHERS.len() {
-        let (front, back) = OTHERS.split_at(cut);
-        let mut parser = ClientParser::new(rt.alloc(), UNLIMITED);
-        let mut marks = Vec::new(rt.alloc());
-        feed(&mut parser, kind, front, &mut marks)?;
-        feed(&mut parser, kind, back, &mut marks)?;
-        same_at(&rt, cut, marks.as_slice(), OTHER_MARKS);
-        holds(&rt, parser.is_open() && parser.rest().is_empty());
+        comes_in_two(&rt, rt.alloc(), kind, OTHERS.split_at(cut), OTHER_MARKS);
     }
-    Ok(())
 }
 
 #[test]
-fn byte_by_byte(rt: HostRuntime) -> Result<(), Fail> {
+fn byte_by_byte(rt: HostRuntime) {
     let mut parser = ClientParser::new(rt.alloc(), UNLIMITED);
     let mut marks = Vec::new(rt.alloc());
     for byte in SESSION {
-        feed(&mut parser, PasswordKind::Password, &[*byte], &mut marks)?;
+        feed(&mut parser, PasswordKind::Password, &[*byte], &mut marks);
     }
     same(&rt, marks.as_slice(), MARKS);
     holds(&rt, parser.is_open() && parser.rest().is_empty());
-    Ok(())
 }
 
 /// What a call on this piece refuses.
@@ -146,7 +149,7 @@ fn refusal(parser: &mut ClientParser, piece: &mut &[u8]) -> Option<ParserError> 
 
 /// An opening packet past the limit is refused by its header alone, also where that is cut; one at the limit is waited for.
 #[test]
-fn limit_of_opening_packets(rt: HostRuntime) -> Result<(), Fail> {
+fn limit_of_opening_packets(rt: HostRuntime) {
     let mut parser = ClientParser::new(rt.alloc(), SERVER);
     let mut piece = b"\0\0\x27\x11".as_slice();
     same(
@@ -173,12 +176,11 @@ fn limit_of_opening_packets(rt: HostRuntime) -> Result<(), Fail> {
         None,
     );
     same(&rt, parser.rest(), b"\0\0\x27\x10\0\x03".as_slice());
-    Ok(())
 }
 
 /// What stands there is no message: the bytes stay, and each call says so again.
 #[test]
-fn refusals_stay(rt: HostRuntime) -> Result<(), Fail> {
+fn refusals_stay(rt: HostRuntime) {
     let wrong: [(&[u8], bool, ParserError); 3] = [
         (
             b"\0\0\0\x07\0\x03\0\0",
@@ -204,12 +206,11 @@ fn refusals_stay(rt: HostRuntime) -> Result<(), Fail> {
         same(&rt, piece, bytes);
         holds(&rt, parser.rest().is_empty());
     }
-    Ok(())
 }
 
 /// Also where it is cut: what was held stays held, and what is in the piece stays there.
 #[test]
-fn cut_refusals_stay(rt: HostRuntime) -> Result<(), Fail> {
+fn cut_refusals_stay(rt: HostRuntime) {
     let mut parser = ClientParser::new(rt.alloc(), UNLIMITED);
     let front = b"\0\0\0\x08\0".as_slice();
     let back = b"\x04\0\0Q".as_slice();
@@ -225,5 +226,4 @@ fn cut_refusals_stay(rt: HostRuntime) -> Result<(), Fail> {
     same(&rt, piece, back);
     same(&rt, parser.rest(), front);
     holds(&rt, !parser.is_open());
-    Ok(())
 }

@@ -6,11 +6,13 @@ use pgp_base::Error;
 use pgp_message::{DataRowBody, Message};
 use std::alloc::Global;
 
-/// A buffer that holds these bytes.
-pub(crate) fn buffer(alloc: Global, bytes: &[u8]) -> Result<BytesMut, Error> {
+/// A buffer that holds these bytes. Without memory it is empty, and what is read of it is not what is wanted.
+pub(crate) fn buffer(alloc: Global, bytes: &[u8]) -> BytesMut {
     let mut buf = BytesMut::new(alloc);
-    buf.extend_from_slice(bytes)?;
-    Ok(buf)
+    if buf.extend_from_slice(bytes).is_err() {
+        buf.truncate(0);
+    }
+    buf
 }
 
 /// The row that was read, which shares its bytes.
@@ -32,7 +34,7 @@ pub(crate) fn next_row(buf: &mut BytesMut) -> Result<DataRowBody<Bytes>, Error> 
 
 /// The row that the bytes are.
 pub(crate) fn row(alloc: Global, bytes: &[u8]) -> Result<DataRowBody<Bytes>, Error> {
-    next_row(&mut buffer(alloc, bytes)?)
+    next_row(&mut buffer(alloc, bytes))
 }
 
 /// Whether a copy of these bytes was read.

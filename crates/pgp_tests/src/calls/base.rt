@@ -9,6 +9,7 @@ use pgp_base::{
     BindError, Buffer, Error, IsNull, Window, i16_from_usize, i32_from_usize, put_u8,
     u16_from_usize, write_body, write_counted, write_cstr, write_nullable,
 };
+use std::ops::Range;
 use std::test::Fail;
 
 // `?` makes a writer's own refusal from an `Error`.
@@ -28,28 +29,52 @@ fn lengths_past_their_fields_are_refused(rt: HostRuntime) {
     same(&rt, i32_from_usize(2_147_483_648), Err(Error::TooLarge));
 }
 
-#[test]
+// A value of one byte, a null, or one that is refused behind its byte.
 #[tactic(auto, using(pgp_base::proofs::Parts::held_steps))]
+fn write_value(
+    is_null: bool,
+    is_refused: bool,
+    buf: &mut BytesMut,
+) -> Result<(), BindError<Error>> {
+    let value = |buf: &mut BytesMut| -> Result<IsNull, Error> {
+        if is_null {
+            return Ok(IsNull::Yes);
+        }
+        put_u8(buf, b'a')?;
+        if is_refused {
+            return Err(Error::NotUtf8);
+        }
+        Ok(IsNull::No)
+    };
+    write_nullable(value, buf)
+}
+
+// A byte for each of these numbers, behind their count.
+#[tactic(auto, using(pgp_base::proofs::Parts::held_steps))]
+fn write_bytes(numbers: Range<u32>, buf: &mut BytesMut) -> Result<(), BindError<Error>> {
+    let item = |n: u32, buf: &mut BytesMut| put_u8(buf, (n % 256) as u8);
+    write_counted(numbers, item, buf)
+}
+
+// A text behind a length.
+#[tactic(auto, using(pgp_base::proofs::Parts::held_steps))]
+fn write_text(text: &[u8], buf: &mut BytesMut) -> Result<(), BindError<Error>> {
+    write_body(buf, |buf: &mut BytesMut| write_cstr(text, buf))
+}
+
+#[test]
 fn parts_stand_behind_a_length_or_a_count(rt: HostRuntime) {
     let mut buf = BytesMut::new(rt.alloc());
     same(&rt, write_cstr(b"a", &mut buf), Ok(()));
     same(&rt, buf.as_slice(), b"a\0".as_slice());
 
     buf.truncate(0);
-    holds(
-        &rt,
-        write_body(&mut buf, |buf: &mut BytesMut| put_u8(buf, b'a')).is_ok(),
-    );
-    same(&rt, buf.as_slice(), b"\0\0\0\x05a".as_slice());
+    same(&rt, write_text(b"a", &mut buf), Ok(()));
+    same(&rt, buf.as_slice(), b"\0\0\0\x06a\0".as_slice());
 
     buf.truncate(0);
-    let value = |buf: &mut BytesMut| -> Result<IsNull, Error> {
-        put_u8(buf, b'a')?;
-        Ok(IsNull::No)
-    };
-    holds(&rt, write_nullable(value, &mut buf).is_ok());
-    let null = |_: &mut BytesMut| -> Result<IsNull, Error> { Ok(IsNull::Yes) };
-    holds(&rt, write_nullable(null, &mut buf).is_ok());
+    same(&rt, write_value(false, false, &mut buf), Ok(()));
+    same(&rt, write_value(true, false, &mut buf), Ok(()));
     same(
         &rt,
         buf.as_slice(),
@@ -57,65 +82,60 @@ fn parts_stand_behind_a_length_or_a_count(rt: HostRuntime) {
     );
 
     buf.truncate(0);
-    let item = |n: u8, buf: &mut BytesMut| put_u8(buf, n);
-    holds(&rt, write_counted(Some(b'a'), item, &mut buf).is_ok());
+    same(&rt, write_bytes(97..98, &mut buf), Ok(()));
     same(&rt, buf.as_slice(), b"\0\x01a".as_slice());
 }
 
 #[test]
-#[tactic(auto, using(pgp_base::proofs::Parts::held_steps))]
 fn a_refusal_restores_the_buffer(rt: HostRuntime) {
     let mut buf = BytesMut::new(rt.alloc());
     same(&rt, write_cstr(b"x", &mut buf), Ok(()));
     same(&rt, write_cstr(b"a\0b", &mut buf), Err(Error::EmbeddedNull));
-    let text = write_body(&mut buf, |buf: &mut BytesMut| write_cstr(b"a\0b", buf));
-    holds(
+    same(
         &rt,
-        matches!(&text, Err(BindError::Conversion(Error::EmbeddedNull))),
+        write_text(b"a\0b", &mut buf),
+        Err(BindError::Conversion(Error::EmbeddedNull)),
     );
-    let value = |buf: &mut BytesMut| -> Result<IsNull, Error> {
-        put_u8(buf, b'a')?;
-        Err(Error::NotUtf8)
-    };
-    let value = write_nullable(value, &mut buf);
-    holds(
+    same(
         &rt,
-        matches!(&value, Err(BindError::Conversion(Error::NotUtf8))),
+        write_value(false, true, &mut buf),
+        Err(BindError::Conversion(Error::NotUtf8)),
     );
-    let item = |n: u32, buf: &mut BytesMut| put_u8(buf, (n % 256) as u8);
-    let items = write_counted(0..65_536u32, item, &mut buf);
-    holds(
+    same(
         &rt,
-        matches!(&items, Err(BindError::Serialization(Error::TooLarge))),
+        write_bytes(0..65_536, &mut buf),
+        Err(BindError::Serialization(Error::TooLarge)),
     );
     same(&rt, buf.as_slice(), b"x\0".as_slice());
 }
 
 // The text of a refusal is the name of its variant.
+const NAMES: [(Error, &str); 20] = [
+    (Error::OutOfMemory, "OutOfMemory"),
+    (Error::EmbeddedNull, "EmbeddedNull"),
+    (Error::TooLarge, "TooLarge"),
+    (Error::InvalidLength, "InvalidLength"),
+    (Error::UnknownTag(33), "UnknownTag"),
+    (Error::UnknownAuthentication(-1), "UnknownAuthentication"),
+    (Error::UnexpectedEof, "UnexpectedEof"),
+    (Error::NotDrained, "NotDrained"),
+    (Error::NotUtf8, "NotUtf8"),
+    (Error::InvalidSize, "InvalidSize"),
+    (Error::InvalidCount, "InvalidCount"),
+    (Error::InvalidKeyLength, "InvalidKeyLength"),
+    (Error::InvalidValueLength, "InvalidValueLength"),
+    (Error::InvalidDimension, "InvalidDimension"),
+    (Error::TooManyElements, "TooManyElements"),
+    (Error::InvalidBitLength, "InvalidBitLength"),
+    (Error::InvalidNetmask, "InvalidNetmask"),
+    (Error::InvalidAddressLength, "InvalidAddressLength"),
+    (Error::InvalidFamily, "InvalidFamily"),
+    (Error::InvalidVersion, "InvalidVersion"),
+];
+
 #[test]
 fn refusals_are_told_by_name(rt: HostRuntime) -> Result<(), Fail> {
-    for (refusal, name) in [
-        (Error::OutOfMemory, "OutOfMemory"),
-        (Error::EmbeddedNull, "EmbeddedNull"),
-        (Error::TooLarge, "TooLarge"),
-        (Error::InvalidLength, "InvalidLength"),
-        (Error::UnknownTag(33), "UnknownTag"),
-        (Error::UnknownAuthentication(-1), "UnknownAuthentication"),
-        (Error::UnexpectedEof, "UnexpectedEof"),
-        (Error::NotDrained, "NotDrained"),
-        (Error::NotUtf8, "NotUtf8"),
-        (Error::InvalidSize, "InvalidSize"),
-        (Error::InvalidCount, "InvalidCount"),
-        (Error::InvalidKeyLength, "InvalidKeyLength"),
-        (Error::InvalidValueLength, "InvalidValueLength"),
-        (Error::InvalidDimension, "InvalidDimension"),
-        (Error::TooManyElements, "TooManyElements"),
-        (Error::InvalidBitLength, "InvalidBitLength"),
-        (Error::InvalidNetmask, "InvalidNetmask"),
-        (Error::InvalidAddressLength, "InvalidAddressLength"),
-        (Error::InvalidFamily, "InvalidFamily"),
-        (Error::InvalidVersion, "InvalidVersion"),
-    ] {
+    for (refusal, name) in NAMES {
         let text = refusal.to_string(rt.alloc())?;
         same(&rt, text.as_str(), name);
     }

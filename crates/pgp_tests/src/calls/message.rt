@@ -1,14 +1,15 @@
 //! What no row of `pgp_rows` says of a server's messages: parsers that go on, what they remember, and what a message keeps.
 //! Expected bytes are from the message formats of the PostgreSQL manual.
 
-use crate::checks::{holds, same};
+use crate::checks::same;
 use crate::reads::{buffer, row};
 use bytes::{Bytes, BytesMut};
 use pgp_base::{Error, FallibleIterator};
 use pgp_message::{
-    FrameParser, Header, Message, Messages, RowIndex, RowPlaces, Storage, read_frames,
+    DataRowBody, FrameParser, Header, Message, Messages, RowIndex, RowPlaces, Storage, read_frames,
 };
 use std::alloc::Global;
+use std::ops::Range;
 use std::process::Abort;
 use std::test::Fail;
 
@@ -30,15 +31,6 @@ fn named<S: Storage>(
     }
 }
 
-/// The variant that came is the one that is wanted.
-fn tells(
-    rt: &impl Abort,
-    came: Result<Option<&'static str>, Error>,
-    wanted: Result<Option<&'static str>, Error>,
-) {
-    same(rt, came, wanted);
-}
-
 /// The variants that these tests tell apart.
 fn variant<S: Storage>(message: &Message<S>) -> &'static str {
     match message {
@@ -52,32 +44,37 @@ fn variant<S: Storage>(message: &Message<S>) -> &'static str {
 
 const ROW: &[u8] = b"\x44\0\0\0\x13\0\x03\0\0\0\x01\x61\xff\xff\xff\xff\0\0\0\0";
 
+/// The tag and the length of the header at the front.
+fn header(bytes: &[u8]) -> Result<Option<(u8, i32)>, Error> {
+    match Header::parse(bytes) {
+        Ok(Some(header)) => Ok(Some((header.tag(), header.len()))),
+        Ok(None) => Ok(None),
+        Err(e) => Err(e),
+    }
+}
+
 #[test]
-fn header_reads_a_signed_length(rt: HostRuntime) -> Result<(), Fail> {
-    holds(&rt, matches!(Header::parse(b"\x44\0\0\0"), Ok(None)));
-    holds(
-        &rt,
-        matches!(Header::parse(b"\x44\x80\0\0\0"), Err(Error::InvalidLength)),
-    );
-    holds(
-        &rt,
-        matches!(Header::parse(b"\x44\0\0\0\x03"), Err(Error::InvalidLength)),
-    );
-    let Ok(Some(header)) = Header::parse(b"\x44\0\0\0\x13\0") else {
-        panic!(rt; "no header");
-    };
-    same(&rt, header.tag(), 0x44);
-    same(&rt, header.len(), 19);
-    Ok(())
+fn header_reads_a_signed_length(rt: HostRuntime) {
+    same(&rt, header(b"\x44\0\0\0"), Ok(None));
+    let negative = header(b"\x44\x80\0\0\0");
+    same(&rt, negative, Err(Error::InvalidLength));
+    same(&rt, header(b"\x44\0\0\0\x03"), Err(Error::InvalidLength));
+    same(&rt, header(b"\x44\0\0\0\x13\0"), Ok(Some((0x44, 19))));
+}
+
+/// The bytes of `ROW`, by both calls.
+fn has_its_bytes(rt: &impl Abort, row: &DataRowBody<Bytes>) {
+    same(rt, row.buffer(), &ROW[7..]);
+    same(rt, row.buffer_bytes().as_slice(), row.buffer());
 }
 
 #[test]
 fn a_row_is_cloned(rt: HostRuntime) -> Result<(), Fail> {
     let first = row(rt.alloc(), ROW)?;
-    for row in [first.clone()?, first] {
-        same(&rt, row.buffer(), &ROW[7..]);
-        same(&rt, row.buffer_bytes().as_slice(), row.buffer());
-    }
+    let second = first.clone()?;
+    has_its_bytes(&rt, &second);
+    drop(second);
+    has_its_bytes(&rt, &first);
     Ok(())
 }
 
@@ -91,16 +88,14 @@ fn the_places_of_a_row_are_collected(rt: HostRuntime) -> Result<(), Fail> {
         [Some(4..5), None, Some(13..13)].as_slice(),
     );
     let cut = row(rt.alloc(), b"\x44\0\0\0\x0a\0\x01\0\0\0\x05")?;
-    holds(
-        &rt,
-        matches!(cut.ranges().collect(rt.alloc()), Err(Error::UnexpectedEof)),
-    );
+    let places = cut.ranges().collect(rt.alloc());
+    same(&rt, places.err(), Some(Error::UnexpectedEof));
     Ok(())
 }
 
 #[test]
-fn the_bytes_of_a_copy_are_handed_over(rt: HostRuntime) -> Result<(), Fail> {
-    let mut buf = buffer(rt.alloc(), b"\x64\0\0\0\x06ab")?;
+fn the_bytes_of_a_copy_are_handed_over(rt: HostRuntime) {
+    let mut buf = buffer(rt.alloc(), b"\x64\0\0\0\x06ab");
     match Message::parse(&mut buf) {
         Ok(Some(Message::CopyData(body))) => {
             same(&rt, body.into_bytes().as_slice(), b"ab".as_slice());
@@ -110,7 +105,6 @@ fn the_bytes_of_a_copy_are_handed_over(rt: HostRuntime) -> Result<(), Fail> {
             panic!(rt; "no bytes of a copy");
         }
     }
-    Ok(())
 }
 
 /// The variant of the message at the front, which is removed, by a parser that goes on.
@@ -167,7 +161,7 @@ fn read_in_pieces(
 const REFUSED_THEN_READ: &[u8] = b"\x5a\0\0\0\x06\x49\0\x31\0\0\0\x04";
 
 #[test]
-fn a_parser_reads_the_same_however_the_bytes_are_cut(rt: HostRuntime) -> Result<(), Fail> {
+fn a_parser_reads_the_same_however_the_bytes_are_cut(rt: HostRuntime) {
     let results = [Err(Error::NotDrained), Ok(Some("ParseComplete"))];
     for cuts in 0..2048u32 {
         let read = read_in_pieces(rt.alloc(), REFUSED_THEN_READ, cuts, &results);
@@ -181,11 +175,10 @@ fn a_parser_reads_the_same_however_the_bytes_are_cut(rt: HostRuntime) -> Result<
             Ok((0, 10, 1)),
         );
     }
-    Ok(())
 }
 
 #[test]
-fn the_header_of_a_long_frame_is_read_once(rt: HostRuntime) -> Result<(), Fail> {
+fn the_header_of_a_long_frame_is_read_once(rt: HostRuntime) {
     let row = [Ok(Some("DataRow"))];
     for first in 0..20u32 {
         for second in 0..20u32 {
@@ -202,7 +195,6 @@ fn the_header_of_a_long_frame_is_read_once(rt: HostRuntime) -> Result<(), Fail> 
         read_in_pieces(rt.alloc(), ROW, u32::MAX, &row),
         Ok((1, 0, 1)),
     );
-    Ok(())
 }
 
 /// What stands there in a list of results.
@@ -218,17 +210,16 @@ const FOUR_AND_A_CUT_ROW: &[u8] =
     b"\x5a\0\0\0\x06\x49\0\x31\0\0\0\x04\x43\0\0\0\x06A\0\x52\0\0\0\x08\0\0\0\0\x44\0\0\0\x13\0";
 
 #[test]
-fn whole_frames_are_found(rt: HostRuntime) -> Result<(), Fail> {
+fn whole_frames_are_found(rt: HostRuntime) {
     let mut parser = FrameParser::new();
     let found = parser.find_all(FOUR_AND_A_CUT_ROW);
     same(&rt, (found.len, found.count, found.stopped), (28, 4, false));
     same(&rt, (parser.headers(), parser.missing(6)), (5, 14));
-    Ok(())
 }
 
 // What is asserted of the parser here is what `find_all` requires next.
 #[test]
-fn a_remembered_header_is_not_counted_again(rt: HostRuntime) -> Result<(), Fail> {
+fn a_remembered_header_is_not_counted_again(rt: HostRuntime) {
     let mut parser = FrameParser::new();
     assert_eq!(rt; parser.missing(0), 5);
     let found = parser.find_all(b"\x44\0\0");
@@ -243,27 +234,24 @@ fn a_remembered_header_is_not_counted_again(rt: HostRuntime) -> Result<(), Fail>
     );
     let found = parser.find_all(ROW);
     assert_eq!(rt; (found.len, found.count, parser.headers()), (20, 1, 1));
-    Ok(())
 }
 
 #[test]
-fn a_long_frame_is_asked_for_in_parts(rt: HostRuntime) -> Result<(), Fail> {
+fn a_long_frame_is_asked_for_in_parts(rt: HostRuntime) {
     let mut parser = FrameParser::new();
     let found = parser.find_all(b"\x64\0\x0f\x42\x40");
     same(&rt, (found.len, found.count, found.stopped), (0, 0, false));
     same(&rt, parser.missing(5), 65536);
     same(&rt, parser.missing(1_000_000), 1);
     same(&rt, parser.missing(1_000_001), 1);
-    Ok(())
 }
 
 #[test]
-fn a_length_fault_ends_what_is_found(rt: HostRuntime) -> Result<(), Fail> {
+fn a_length_fault_ends_what_is_found(rt: HostRuntime) {
     let mut parser = FrameParser::new();
     let found = parser.find_all(b"\x31\0\0\0\x04\x31\0\0\0\x03\x31\0\0\0\x04");
     same(&rt, (found.len, found.count, found.stopped), (5, 1, true));
     same(&rt, parser.headers(), 2);
-    Ok(())
 }
 
 /// What the whole frames of the bytes are read as.
@@ -296,15 +284,14 @@ fn copied<'a>(read: &Result<Option<Message<&'a [u8]>>, Error>) -> Option<&'a [u8
 }
 
 #[test]
-fn a_message_is_kept_while_the_reader_goes_on(rt: HostRuntime) -> Result<(), Fail> {
+fn a_message_is_kept_while_the_reader_goes_on(rt: HostRuntime) {
     let mut messages = Messages::new(b"d\0\0\0\x06ab1\0\0\0\x04");
     let read = messages.next();
     let data = copied(&read);
     drop(read);
     same(&rt, messages.rest().len(), 5);
-    tells(&rt, named(messages.next()), Ok(Some("ParseComplete")));
+    same(&rt, named(messages.next()), Ok(Some("ParseComplete")));
     same(&rt, data, Some(b"ab".as_slice()));
-    Ok(())
 }
 
 /// The three columns in each order, each time with a place behind the last one.
@@ -355,26 +342,43 @@ const NARROW: &[u8] = b"\x44\0\0\0\x0b\0\x01\0\0\0\x01\x7a";
 /// A row of two columns, of which the second is cut short.
 const CUT: &[u8] = b"\x44\0\0\0\x0f\0\x02\0\0\0\x01\x61\0\0\0\x05";
 
+/// A value or a null, and nothing where there is no such column.
+type Value<'a> = Option<Option<&'a [u8]>>;
+
+/// How many columns a row has by a table that is made in `places`, the values of the first two, and the place of the third.
+fn tabled<'a>(
+    row: &'a DataRowBody<Bytes>,
+    places: &'a mut RowPlaces,
+) -> Result<(usize, [Value<'a>; 2], Option<Option<Range<usize>>>), Error> {
+    let columns = row.index_into(places)?;
+    Ok((
+        columns.len(),
+        [columns.value(0), columns.value(1)],
+        columns.range(2),
+    ))
+}
+
 #[test]
 fn a_table_is_made_again_for_each_row(rt: HostRuntime) -> Result<(), Fail> {
     let mut places = RowPlaces::new(rt.alloc());
     let wide = row(rt.alloc(), ROW)?;
-    let columns = wide.index_into(&mut places)?;
-    same(&rt, columns.len(), 3);
-    same(&rt, columns.value(0), Some(Some(b"a".as_slice())));
-    same(&rt, columns.value(1), Some(None));
-    same(&rt, columns.range(2), Some(Some(13..13usize)));
     let narrow = row(rt.alloc(), NARROW)?;
-    let columns = narrow.index_into(&mut places)?;
-    same(&rt, columns.len(), 1);
-    same(&rt, columns.value(0), Some(Some(b"z".as_slice())));
-    same(&rt, columns.value(1), None);
     let cut = row(rt.alloc(), CUT)?;
-    holds(
-        &rt,
-        matches!(cut.index_into(&mut places), Err(Error::UnexpectedEof)),
-    );
-    same(&rt, wide.index_into(&mut places)?.value(1), Some(None));
+    let three = Ok((
+        3,
+        [Some(Some(b"a".as_slice())), Some(None)],
+        Some(Some(13..13usize)),
+    ));
+    same(&rt, tabled(&wide, &mut places), three);
+    let one = Ok((1, [Some(Some(b"z".as_slice())), None], None));
+    same(&rt, tabled(&narrow, &mut places), one);
+    same(&rt, tabled(&cut, &mut places), Err(Error::UnexpectedEof));
+    let again = Ok((
+        3,
+        [Some(Some(b"a".as_slice())), Some(None)],
+        Some(Some(13..13usize)),
+    ));
+    same(&rt, tabled(&wide, &mut places), again);
     Ok(())
 }
 

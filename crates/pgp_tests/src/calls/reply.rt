@@ -31,10 +31,10 @@ const NAMELESS: Column<'static> = Column {
 fn a_row_of_too_many_values_is_refused(rt: HostRuntime) -> Result<(), Fail> {
     let values = vec![in rt.alloc(); None; MANY]?;
     let mut buf = BytesMut::new(rt.alloc());
-    ready_for_query(b'I', &mut buf)?;
+    same(&rt, ready_for_query(b'I', &mut buf), Ok(()));
     same(&rt, data_row(&values, &mut buf), Err(Error::TooLarge));
     same(&rt, buf.as_slice(), READY);
-    data_row(&values[1..], &mut buf)?;
+    same(&rt, data_row(&values[1..], &mut buf), Ok(()));
     same(&rt, buf.len(), 6 + 7 + 4 * 65_535);
     let front = b"Z\0\0\0\x05ID\0\x04\0\x02\xff\xff".as_slice();
     holds(&rt, buf.as_slice().starts_with(front));
@@ -46,14 +46,14 @@ fn a_row_of_too_many_values_is_refused(rt: HostRuntime) -> Result<(), Fail> {
 fn too_many_columns_are_refused(rt: HostRuntime) -> Result<(), Fail> {
     let columns = vec![in rt.alloc(); NAMELESS; MANY]?;
     let mut buf = BytesMut::new(rt.alloc());
-    ready_for_query(b'I', &mut buf)?;
+    same(&rt, ready_for_query(b'I', &mut buf), Ok(()));
     same(
         &rt,
         row_description(&columns, &mut buf),
         Err(Error::TooLarge),
     );
     same(&rt, buf.as_slice(), READY);
-    row_description(&columns[1..], &mut buf)?;
+    same(&rt, row_description(&columns[1..], &mut buf), Ok(()));
     same(&rt, buf.len(), 6 + 7 + 19 * 65_535);
     let front = b"Z\0\0\0\x05IT\0\x12\xff\xf3\xff\xff".as_slice();
     holds(&rt, buf.as_slice().starts_with(front));
@@ -65,7 +65,7 @@ fn too_many_types_and_formats_are_refused(rt: HostRuntime) -> Result<(), Fail> {
     let types = vec![in rt.alloc(); 23u32; MANY]?;
     let formats = vec![in rt.alloc(); 1u16; MANY]?;
     let mut buf = BytesMut::new(rt.alloc());
-    ready_for_query(b'I', &mut buf)?;
+    same(&rt, ready_for_query(b'I', &mut buf), Ok(()));
     same(
         &rt,
         parameter_description(&types, &mut buf),
@@ -77,8 +77,8 @@ fn too_many_types_and_formats_are_refused(rt: HostRuntime) -> Result<(), Fail> {
         Err(Error::TooLarge),
     );
     same(&rt, buf.as_slice(), READY);
-    parameter_description(&types[1..], &mut buf)?;
-    copy_out_response(0, &formats[1..], &mut buf)?;
+    same(&rt, parameter_description(&types[1..], &mut buf), Ok(()));
+    same(&rt, copy_out_response(0, &formats[1..], &mut buf), Ok(()));
     same(&rt, buf.len(), 6 + 7 + 4 * 65_535 + 8 + 2 * 65_535);
     Ok(())
 }

@@ -6,7 +6,6 @@ use bytes::BytesMut;
 use pgp_base::FallibleIterator;
 use pgp_frontend::parse;
 use pgp_server::{ClientMessage, ClientMessages, PasswordKind};
-use std::test::Fail;
 
 /// How many items a count tells at the most.
 const MOST: u32 = 65_535;
@@ -26,9 +25,9 @@ fn weighed(mut walk: impl FallibleIterator<Item = u32> + Drop) -> (u32, u64) {
 
 // The numbers 0 to 65,534 come to 65,534 * 65,535 / 2.
 #[test]
-fn a_list_as_long_as_its_count_is_read(rt: HostRuntime) -> Result<(), Fail> {
+fn a_list_as_long_as_its_count_is_read(rt: HostRuntime) {
     let mut buf = BytesMut::new(rt.alloc());
-    parse("", "", 0..MOST, &mut buf)?;
+    same(&rt, parse("", "", 0..MOST, &mut buf), Ok(()));
     let mut messages = ClientMessages::resume(buf.as_slice(), true);
     match messages.next(PasswordKind::Password) {
         Ok(Some(ClientMessage::Parse { param_types, .. })) => {
@@ -37,5 +36,4 @@ fn a_list_as_long_as_its_count_is_read(rt: HostRuntime) -> Result<(), Fail> {
         _ => holds(&rt, false),
     }
     same(&rt, messages.rest(), b"".as_slice());
-    Ok(())
 }

@@ -1,40 +1,36 @@
 //! Texts of each length, escaped in blocks and character by character.
 
-use crate::checks::same_at;
+use crate::checks::{made, same_at};
 use pgp_auth::escape::{escape_identifier, escape_literal};
-use std::alloc::{AllocError, Allocator};
-use std::test::Fail;
+use std::alloc::{AllocError, Global};
+use std::process::Abort;
 
-// A text of `len` characters: without quotes, with a few, with many, mixed, or with one at either end.
-fn sample<A: Allocator + Copy>(alloc: A, kind: u32, len: usize) -> Result<String<A>, AllocError> {
-    let mut text = String::new(alloc);
-    for i in 0..len {
-        let is_end = i == 0 || i == len - 1;
-        text.push(match kind {
-            1 if i % 50 == 7 => '\'',
-            2 if i % 2 == 0 => '\'',
-            3 if i % 2 == 1 => '"',
-            4 if i % 7 == 0 || i % 7 == 3 => '\\',
-            4 if i % 7 == 1 => '\'',
-            4 if i % 7 == 4 => '"',
-            4 if i % 7 == 5 => '\u{e9}',
-            5 if is_end => '\'',
-            6 if is_end => '\\',
-            7 if is_end => '"',
-            _ => 'a',
-        })?;
+// A character of a text without quotes, with a few, with many, mixed, or with one at either end.
+fn character(kind: u32, i: usize, is_end: bool) -> char {
+    match kind {
+        1 if i % 50 == 7 => '\'',
+        2 if i % 2 == 0 => '\'',
+        3 if i % 2 == 1 => '"',
+        4 if i % 7 == 0 || i % 7 == 3 => '\\',
+        4 if i % 7 == 1 => '\'',
+        4 if i % 7 == 4 => '"',
+        4 if i % 7 == 5 => '\u{e9}',
+        5 if is_end => '\'',
+        6 if is_end => '\\',
+        7 if is_end => '"',
+        _ => 'a',
     }
-    Ok(text)
 }
 
-fn plainly_quoted<A: Allocator + Copy>(
-    alloc: A,
-    front: &str,
-    text: &str,
-    quote: char,
-    slashes: bool,
-) -> Result<String<A>, AllocError> {
-    let mut out = String::from_str(alloc, front)?;
+// Appends a text of `len` characters.
+fn put_sample(kind: u32, len: usize, text: &mut String) -> Result<(), AllocError> {
+    for i in 0..len {
+        text.push(character(kind, i, i == 0 || i == len - 1))?;
+    }
+    Ok(())
+}
+
+fn put_quoted(text: &str, quote: char, slashes: bool, out: &mut String) -> Result<(), AllocError> {
     out.push(quote)?;
     for c in text.chars() {
         if c == quote || slashes && c == '\\' {
@@ -42,27 +38,41 @@ fn plainly_quoted<A: Allocator + Copy>(
         }
         out.push(c)?;
     }
-    out.push(quote)?;
-    Ok(out)
+    out.push(quote)
+}
+
+// The text as a string constant, escaped character by character.
+fn put_literal(text: &str, out: &mut String) -> Result<(), AllocError> {
+    let slashes = text.contains('\\');
+    if slashes {
+        out.push_str(" E")?;
+    }
+    put_quoted(text, '\'', slashes, out)
+}
+
+// A text of this kind and length, escaped in both ways.
+fn is_escaped(rt: &impl Abort, alloc: Global, kind: u32, len: usize) -> Result<(), AllocError> {
+    let mut text = String::new(alloc);
+    let mut literal = String::new(alloc);
+    let mut identifier = String::new(alloc);
+    put_sample(kind, len, &mut text)?;
+    put_literal(&text, &mut literal)?;
+    put_quoted(&text, '"', false, &mut identifier)?;
+    made(rt, escape_literal(alloc, &text), &literal);
+    made(rt, escape_identifier(alloc, &text), &identifier);
+    Ok(())
 }
 
 #[test]
-fn texts_of_each_length_are_escaped(rt: HostRuntime) -> Result<(), Fail> {
-    let alloc = rt.alloc();
+fn texts_of_each_length_are_escaped(rt: HostRuntime) {
     for kind in 0..8u32 {
         for len in 0..301usize {
-            let text = sample(alloc, kind, len)?;
-            let literal = escape_literal(alloc, &text)?;
-            let by_hand = if text.contains('\\') {
-                plainly_quoted(alloc, " E", &text, '\'', true)?
-            } else {
-                plainly_quoted(alloc, "", &text, '\'', false)?
-            };
-            same_at(&rt, (kind, len), literal.as_str(), by_hand.as_str());
-            let identifier = escape_identifier(alloc, &text)?;
-            let by_hand = plainly_quoted(alloc, "", &text, '"', false)?;
-            same_at(&rt, (kind, len), identifier.as_str(), by_hand.as_str());
+            same_at(
+                &rt,
+                (kind, len),
+                is_escaped(&rt, rt.alloc(), kind, len),
+                Ok(()),
+            );
         }
     }
-    Ok(())
 }

@@ -7,7 +7,6 @@ use pgp_base::{Buffer, put_u32};
 use postgres_protocol::message::frontend::{CopyData, ProtocolVersion};
 use postgres_protocol::session::ClientStream;
 use postgres_protocol::{BindError, Error, IsNull};
-use std::test::Fail;
 
 /// A startup packet with no parameters.
 const STARTUP: &[u8] = b"\0\0\0\x09\0\x03\0\0\0";
@@ -120,7 +119,7 @@ fn refused<B: Buffer>(number: usize, stream: &mut ClientStream<B>) -> Result<(),
 }
 
 #[test]
-fn calls_before_a_session(rt: HostRuntime) -> Result<(), Fail> {
+fn calls_before_a_session(rt: HostRuntime) {
     for (number, bytes) in [
         (0usize, b"\0\0\0\x08\x04\xd2\x16\x2f".as_slice()),
         (
@@ -140,11 +139,10 @@ fn calls_before_a_session(rt: HostRuntime) -> Result<(), Fail> {
         same(&rt, stream.bytes(), bytes);
         same(&rt, stream.is_open(), (2..5).contains(&number));
     }
-    Ok(())
 }
 
 #[test]
-fn calls_in_a_session(rt: HostRuntime) -> Result<(), Fail> {
+fn calls_in_a_session(rt: HostRuntime) {
     for (number, bytes) in [
         (
             0usize,
@@ -175,12 +173,11 @@ fn calls_in_a_session(rt: HostRuntime) -> Result<(), Fail> {
         same_at(&rt, number, stream.bytes().get(9..), Some(bytes));
         holds(&rt, stream.is_open());
     }
-    Ok(())
 }
 
 /// A refused startup packet opens no session, and can be followed by one that isn't refused.
 #[test]
-fn refused_startup_packets(rt: HostRuntime) -> Result<(), Fail> {
+fn refused_startup_packets(rt: HostRuntime) {
     let mut stream = ClientStream::<BytesMut>::new(rt.alloc());
     let answer = stream.startup_message(&[("user", "al\0ice")]);
     same(&rt, answer, Err(Error::EmbeddedNull));
@@ -188,12 +185,11 @@ fn refused_startup_packets(rt: HostRuntime) -> Result<(), Fail> {
     holds(&rt, !stream.is_open());
     same(&rt, begin(3, &mut stream), Ok(()));
     holds(&rt, stream.is_open());
-    Ok(())
 }
 
 /// A refused call leaves what stood there.
 #[test]
-fn refused_calls_in_a_session(rt: HostRuntime) -> Result<(), Fail> {
+fn refused_calls_in_a_session(rt: HostRuntime) {
     let mut stream = ClientStream::<BytesMut>::new(rt.alloc());
     same(&rt, begin(3, &mut stream), Ok(()));
     for (number, e) in [
@@ -212,5 +208,4 @@ fn refused_calls_in_a_session(rt: HostRuntime) -> Result<(), Fail> {
         same_at(&rt, number, stream.bytes(), STARTUP);
         holds(&rt, stream.is_open());
     }
-    Ok(())
 }

@@ -2,11 +2,11 @@
 //! own test, the frames from the message formats of the PostgreSQL manual.
 
 use crate::checks::{holds, same};
+use crate::reads::buffer;
 use bytes::BytesMut;
 use postgres_protocol::authentication::sasl::{ChannelBinding, NoPrep, ScramSha256, is_nonce};
 use postgres_protocol::laws::sasl_exchange;
-use std::alloc::{Allocator, Global};
-use std::test::Fail;
+use std::alloc::Global;
 
 const NONCE: &str = "9IZ2O01zb9IgiIZ1WJ/zgpJB";
 
@@ -19,42 +19,36 @@ const CLIENT: &[u8] =
     b"p\0\0\0\x36SCRAM-SHA-256\0\0\0\0\x20n,,n=,r=9IZ2O01zb9IgiIZ1WJ/zgpJBp\0\0\0\x6cc=biws,r=9IZ2O01zb9IgiIZ1WJ/zgpJBjx/oIRLs02gGSHcw1KEty3eY,p=AmNKosjJzS31NTlQYNs5BTeQjdHdk7lOflDo5re2an8=";
 
 /// Whether the exchange comes to its end and leaves nothing of the two buffers. The frames are in `out`.
-fn exchanged<A: Allocator + Copy>(
-    alloc: A,
-    server_first: &[u8],
-    server_final: &[u8],
-    out: &mut BytesMut<A>,
-) -> Result<bool, Fail> {
-    let nonce = String::from_str(alloc, NONCE)?;
+fn exchanged(alloc: Global, server_first: &[u8], server_final: &[u8], out: &mut BytesMut) -> bool {
+    let mut first = buffer(alloc, server_first);
+    let mut last = buffer(alloc, server_final);
+    let Ok(nonce) = String::from_str(alloc, NONCE) else {
+        return false;
+    };
     if !is_nonce(&nonce) {
-        return Ok(false);
+        return false;
     }
     let binding = ChannelBinding::unsupported();
     let Ok(client) = ScramSha256::with_nonce(alloc, b"foobar", binding, nonce, &NoPrep) else {
-        return Ok(false);
+        return false;
     };
     let mut client = client;
-    let mut first = BytesMut::new(alloc);
-    first.extend_from_slice(server_first)?;
-    let mut last = BytesMut::new(alloc);
-    last.extend_from_slice(server_final)?;
     let answer = sasl_exchange(&mut client, "SCRAM-SHA-256", &mut first, &mut last, out);
     let over = client.message().is_none() && client.hmacs() == 4100;
-    Ok(answer.is_ok() && over && first.is_empty() && last.is_empty())
+    answer.is_ok() && over && first.is_empty() && last.is_empty()
 }
 
 #[test]
-fn texts_of_an_exchange_pass_through_messages(rt: HostRuntime) -> Result<(), Fail> {
+fn texts_of_an_exchange_pass_through_messages(rt: HostRuntime) {
     let mut out = BytesMut::new(rt.alloc());
     holds(
         &rt,
-        exchanged(rt.alloc(), SERVER_FIRST, SERVER_FINAL, &mut out)?,
+        exchanged(rt.alloc(), SERVER_FIRST, SERVER_FINAL, &mut out),
     );
     same(&rt, out.as_slice(), CLIENT);
     let mut out = BytesMut::new(rt.alloc());
     holds(
         &rt,
-        !exchanged(rt.alloc(), SERVER_FINAL, SERVER_FIRST, &mut out)?,
+        !exchanged(rt.alloc(), SERVER_FINAL, SERVER_FIRST, &mut out),
     );
-    Ok(())
 }

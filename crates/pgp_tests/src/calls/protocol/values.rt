@@ -3,13 +3,14 @@
 #![tactic(auto, using(pgp_base::proofs::Parts::held_steps))]
 
 use super::ROW;
-use crate::checks::{holds, same};
-use crate::reads::row;
+use crate::checks::same;
+use crate::reads::{buffer, row};
 use bytes::BytesMut;
 use postgres_protocol::laws::{Step, bind_array, row_int4};
 use postgres_protocol::types::ArrayDimension;
 use postgres_protocol::{BindError, Error};
 use std::alloc::{AllocError, Global};
+use std::process::Abort;
 use std::test::Fail;
 
 /// A Sync message.
@@ -34,8 +35,7 @@ fn five_and(alloc: Global, step: Step) -> Result<Vec<Step>, AllocError> {
 #[test]
 fn an_array_is_bound(rt: HostRuntime) -> Result<(), Fail> {
     let steps = five_and(rt.alloc(), Step::Null)?;
-    let mut buf = BytesMut::new(rt.alloc());
-    buf.extend_from_slice(SYNC)?;
+    let mut buf = buffer(rt.alloc(), SYNC);
     same(&rt, bind_array(&[PAIR], 23, &steps, &mut buf), Ok(()));
     same(
         &rt,
@@ -68,8 +68,7 @@ fn arrays_without_nulls(rt: HostRuntime) -> Result<(), Fail> {
 #[test]
 fn a_step_refuses(rt: HostRuntime) -> Result<(), Fail> {
     let steps = five_and(rt.alloc(), Step::Refuse(Error::InvalidSize))?;
-    let mut buf = BytesMut::new(rt.alloc());
-    buf.extend_from_slice(SYNC)?;
+    let mut buf = buffer(rt.alloc(), SYNC);
     same(
         &rt,
         bind_array(&[PAIR], 23, &steps, &mut buf),
@@ -84,40 +83,48 @@ fn read_row(alloc: Global, frame: &[u8]) -> Result<Vec<Option<Result<i32, Error>
     row_int4(alloc, &row(alloc, frame)?)
 }
 
+/// The row that the frame is has these values.
+fn has_values(rt: &impl Abort, alloc: Global, frame: &[u8], wanted: &[Option<Result<i32, Error>>]) {
+    let read = read_row(alloc, frame);
+    let values = match &read {
+        Ok(values) => Ok(values.as_slice()),
+        Err(e) => Err(*e),
+    };
+    same(rt, values, Ok(wanted));
+}
+
 #[test]
-fn rows_of_numbers(rt: HostRuntime) -> Result<(), Fail> {
-    same(
+fn rows_of_numbers(rt: HostRuntime) {
+    has_values(
         &rt,
-        read_row(rt.alloc(), &ROW)?.as_slice(),
-        [
+        rt.alloc(),
+        &ROW,
+        &[
             Some(Err(Error::UnexpectedEof)),
             None,
             Some(Err(Error::UnexpectedEof)),
-        ]
-        .as_slice(),
+        ],
     );
     let row =
         b"D\0\0\0\x23\0\x04\0\0\0\x04\0\0\0\x05\xff\xff\xff\xff\0\0\0\x04\xff\xff\xff\xfe\0\0\0\x05\0\0\0\0\0";
-    same(
+    has_values(
         &rt,
-        read_row(rt.alloc(), row)?.as_slice(),
-        [
+        rt.alloc(),
+        row,
+        &[
             Some(Ok(5)),
             None,
             Some(Ok(-2)),
             Some(Err(Error::NotDrained)),
-        ]
-        .as_slice(),
+        ],
     );
-    holds(&rt, read_row(rt.alloc(), b"D\0\0\0\x06\0\0")?.is_empty());
-    Ok(())
+    has_values(&rt, rt.alloc(), b"D\0\0\0\x06\0\0", &[]);
 }
 
 #[test]
-fn rows_that_do_not_end_well(rt: HostRuntime) -> Result<(), Fail> {
+fn rows_that_do_not_end_well(rt: HostRuntime) {
     let cut = b"D\0\0\0\x0c\0\x01\0\0\0\x04\0\0";
     same(&rt, read_row(rt.alloc(), cut), Err(Error::UnexpectedEof));
     let long = b"D\0\0\0\x07\0\0\0";
     same(&rt, read_row(rt.alloc(), long), Err(Error::NotDrained));
-    Ok(())
 }

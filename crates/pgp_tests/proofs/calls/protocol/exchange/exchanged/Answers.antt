@@ -3,4 +3,4 @@ use Rattle.pgp_auth.specs.ScramClient.{Client}
 use Rattle.pgp_tests.proofs.calls.protocol.exchange.exchanged.Goals as goal
 
 pub sasl_exchange-answer-requires : goal.sasl_exchange-answer-requires
-sasl_exchange-answer-requires g c = (_, ap (λ (k : Client). k.state) c.in-Ok.ensures.ok)
+sasl_exchange-answer-requires g = (_, ap (λ (k : Client). k.state) g.in-Ok-with_nonce.ensures.ok)
