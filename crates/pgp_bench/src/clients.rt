@@ -1,7 +1,7 @@
 //! Streams of a client's messages, read in place.
 
 use pgp_base::{Error, FallibleIterator};
-use pgp_server::{ClientError, ClientMessage, ClientMessages, PasswordKind, Values};
+use pgp_frontend_read::{ClientError, ClientMessage, ClientMessages, PasswordKind, Values};
 
 /// Reads all messages of an open connection, and sums up what each weighs.
 ///

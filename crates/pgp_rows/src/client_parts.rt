@@ -2,7 +2,7 @@
 
 use crate::shown::{Show, Shown, show_walk};
 use pgp_frontend::ProtocolVersion;
-use pgp_server::{AnyMessage, ClientMessage, OtherMessage, StartupParameters};
+use pgp_frontend_read::{AnyMessage, ClientMessage, OtherMessage, StartupParameters};
 
 /// The name and the value of a startup packet's parameter, two words.
 impl Show for (&[u8], &[u8]) {

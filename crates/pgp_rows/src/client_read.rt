@@ -8,7 +8,7 @@ use crate::shown::Shown;
 use crate::word::{Item, Word, Words, words_of};
 use bytes::BytesMut;
 use pgp_base::{Error, Window};
-use pgp_server::{
+use pgp_frontend_read::{
     AnyMessage, ClientError, ClientMessages, PasswordKind, forward_any, read_session,
 };
 use std::alloc::Global;

@@ -1,6 +1,6 @@
 //! A step along a client's bytes, by the call that a row asks for.
 
-use pgp_server::{
+use pgp_frontend_read::{
     AnyMessage, ClientError, ClientMessage, ClientMessages, OtherMessage, PasswordKind,
 };
 

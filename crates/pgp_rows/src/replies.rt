@@ -7,7 +7,7 @@ use crate::shown::Shown;
 use crate::word::{Item, Words};
 use pgp_base::{Buffer, Error};
 use pgp_message::Messages;
-use pgp_reply::{
+use pgp_message_write::{
     Column, ErrorField, authentication_cleartext_password, authentication_gss,
     authentication_gss_continue, authentication_kerberos_v5, authentication_md5_password,
     authentication_ok, authentication_sasl, authentication_sasl_continue,

@@ -2,7 +2,7 @@
 use Rattle.std.proofs.Common.{◌≡◌, ℕ, ℤ, Bool, true, false, List, [], ◌∷◌, length, Ok, ap}
 use Rattle.std.specs.Prelude.{codes}
 use Rattle.pgp_frontend.specs.ClientMessage.{CancelRequest, PasswordMessage, SaslInitialResponse, SaslResponse}
-use Rattle.pgp_server.specs.OtherMessage.{Ours}
+use Rattle.pgp_frontend_read.specs.OtherMessage.{Ours}
 use Rattle.pgp_line.specs.declared.style.Style.{Style}
 use Rattle.pgp_trace.specs.Client.{client_line, grouped}
 use Rattle.pgp_line.specs.Line.{Part, Name, Word, Number, Text, Hidden, followed}

@@ -5,13 +5,13 @@ use Rattle.pgp_base.specs.Wire.{uint32}
 use Rattle.pgp_frontend.specs.ClientMessage.{PasswordKind}
 use Rattle.pgp_frontend.specs.Payload.{framed, payload, tag_of, bytes_of}
 use Rattle.pgp_frontend.proofs.Readings.{tagged_bodies, tag_in}
-use Rattle.pgp_server.proofs.Steps.{payload_fits}
-use Rattle.pgp_server.specs.AnyStep.{AnyStep, NoOtherStands, RefusesAny, SkipsAnyFrame, StopsAtAny}
-use Rattle.pgp_server.specs.OtherMessage.{AnyMessage, Ours, Other, other_tag, other_payload, other_bytes}
-use Rattle.pgp_server.specs.Pieces.{step_of}
-use Rattle.pgp_server.specs.Step.{Unread, NoneStands, StopsAtLength}
-use Rattle.pgp_server.specs.declared.error.ClientError.{ClientError}
-use Rattle.pgp_server.specs.declared.message.PasswordKind as code
+use Rattle.pgp_frontend_read.proofs.Steps.{payload_fits}
+use Rattle.pgp_frontend_read.specs.AnyStep.{AnyStep, NoOtherStands, RefusesAny, SkipsAnyFrame, StopsAtAny}
+use Rattle.pgp_frontend_read.specs.OtherMessage.{AnyMessage, Ours, Other, other_tag, other_payload, other_bytes}
+use Rattle.pgp_frontend_read.specs.Pieces.{step_of}
+use Rattle.pgp_frontend_read.specs.Step.{Unread, NoneStands, StopsAtLength}
+use Rattle.pgp_frontend_read.specs.declared.error.ClientError.{ClientError}
+use Rattle.pgp_frontend_read.specs.declared.message.PasswordKind as code
 use Rattle.pgp_line.specs.declared.style.Style.{Style}
 use Rattle.pgp_line.specs.Line.{closing}
 use Rattle.pgp_trace.specs.Listing.{client_front}

@@ -5,17 +5,17 @@ use Rattle.std.specs.List.{concat}
 use Rattle.std.proofs.lemmas.List.{append-nil, length-append}
 use Rattle.pgp_base.specs.Wire.{uint32}
 use Rattle.pgp_frontend.specs.ClientMessage.{CancelRequest, PasswordMessage, SaslInitialResponse, SaslResponse}
-use Rattle.pgp_server.specs.AnyStep.{AnyStep}
+use Rattle.pgp_frontend_read.specs.AnyStep.{AnyStep}
 use Rattle.pgp_frontend.specs.Payload.{framed, payload, tag_of}
-use Rattle.pgp_server.specs.OtherMessage.{AnyMessage, Ours, Other, other_payload, other_tag}
-use Rattle.pgp_server.specs.Pieces.{step_of}
-use Rattle.pgp_server.specs.Step.{Unread}
-use Rattle.pgp_server.specs.declared.error.ClientError.{ClientError}
-use Rattle.pgp_server.specs.declared.message.PasswordKind as code
-use Rattle.pgp_server.proofs.AnyOneStep.{any_step_one}
-use Rattle.pgp_server.proofs.AnyRuns.{any_took}
-use Rattle.pgp_server.proofs.Fronts.{behind_length}
-use Rattle.pgp_server.proofs.Handing.{refused_behind}
+use Rattle.pgp_frontend_read.specs.OtherMessage.{AnyMessage, Ours, Other, other_payload, other_tag}
+use Rattle.pgp_frontend_read.specs.Pieces.{step_of}
+use Rattle.pgp_frontend_read.specs.Step.{Unread}
+use Rattle.pgp_frontend_read.specs.declared.error.ClientError.{ClientError}
+use Rattle.pgp_frontend_read.specs.declared.message.PasswordKind as code
+use Rattle.pgp_frontend_read.proofs.AnyOneStep.{any_step_one}
+use Rattle.pgp_frontend_read.proofs.AnyRuns.{any_took}
+use Rattle.pgp_frontend_read.proofs.Fronts.{behind_length}
+use Rattle.pgp_frontend_read.proofs.Handing.{refused_behind}
 use Rattle.pgp_line.specs.declared.style.Style.{Style}
 use Rattle.pgp_trace.specs.Client.{client_line}
 use Rattle.pgp_trace.specs.ClientSecrets.{AlikeAny, AlikeAnswers, AlikeClientFrames, AlikeClientStreams, NoClientFrames, OneClientAlike, ReadsAs}

@@ -1,7 +1,7 @@
 -- Words that ask for nothing that there is.
 use Rattle.std.proofs.Common.{◌≡◌, ◌≢◌, ℕ, List, [], ◌∷◌, length, get_or, drop, ap, subst, sym, ◌∙◌, arith}
 use Rattle.std.specs.Prelude.{codes}
-use Rattle.pgp_server.specs.declared.message.PasswordKind.{PasswordKind}
+use Rattle.pgp_frontend_read.specs.declared.message.PasswordKind.{PasswordKind}
 use Rattle.pgp_line.specs.declared.style.Style.{Style}
 use Rattle.pgp_trace.specs.Command.{AsksListing, IsOther, Server, Client, Help, Version}
 use Rattle.pgp_trace.specs.Options.{AreOptions, AreNoOptions}

@@ -3,8 +3,8 @@ use Rattle.std.proofs.Common.{ℕ, Bool, true, false, List, [], ◌∷◌, ◌++
 use Rattle.pgp_base.specs.Wire.{uint32}
 use Rattle.pgp_frontend.specs.Payload.{framed}
 use Rattle.pgp_message.specs.Stream.{IsLengthFault}
-use Rattle.pgp_server.specs.Step as client
-use Rattle.pgp_server.proofs.Refusals.{more_behind}
+use Rattle.pgp_frontend_read.specs.Step as client
+use Rattle.pgp_frontend_read.proofs.Refusals.{more_behind}
 use Rattle.pgp_trace.specs.Sides.{Side, Server, Client, Ends, IsRefusedPacket}
 
 fault_stays : (rest piece : List ℕ) → IsLengthFault rest → IsLengthFault (rest ++ piece)

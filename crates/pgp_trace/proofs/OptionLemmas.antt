@@ -6,7 +6,7 @@ use Rattle.std.proofs.lemmas.List.{append-nil, drop-drop, length-drop, length-ma
 use Rattle.std.proofs.lemmas.List.Concat.{flat_map-cons}
 use Rattle.std.proofs.lemmas.List.Folds.{list_any-append}
 use Rattle.std.proofs.lemmas.Grind.{flat_map-append}
-use Rattle.pgp_server.specs.declared.message.PasswordKind.{PasswordKind}
+use Rattle.pgp_frontend_read.specs.declared.message.PasswordKind.{PasswordKind}
 use Rattle.pgp_trace.specs.Options.{AreOptions, AreNoOptions, BeginsWithNone, is_full, is_json, is_secrets, kind_in, spelled}
 use Rattle.pgp_line.specs.Styles.{style_of}
 use Rattle.pgp_trace.specs.declared.options.Choice.{Choice}

@@ -26,8 +26,8 @@ use Rattle.std.specs.Str.{IsAscii, IsUtf8, all_scalars, chars, encode_utf8_all}
 use Rattle.std.specs.Str.Lossy.{utf8_valid_len}
 use Rattle.pgp_trace.specs.Shown.{Shows, ShowsCounted, ShowsMarked, ShowsTexts, bare, called, column_parts, field_parts, list_of, name_or, number_part, refused, text_part, type_part, value_part}
 use Rattle.pgp_line.specs.Secret.{secret}
-use Rattle.pgp_server.specs.OtherMessage.{AnyMessage}
-use Rattle.pgp_server.specs.declared.error.ClientError.{ClientError}
+use Rattle.pgp_frontend_read.specs.OtherMessage.{AnyMessage}
+use Rattle.pgp_frontend_read.specs.declared.error.ClientError.{ClientError}
 use Rattle.pgp_trace.specs.Client.{client_called, client_groups, client_line, grouped, refusal_parts}
 use Rattle.pgp_trace.specs.Listing.{GoesOn, IsLineOf, LineOf, front, client_front, client_tag}
 use Rattle.pgp_trace.specs.Sides.{Side, Server, Client, is_told}

@@ -3,9 +3,9 @@ use Rattle.std.specs.Prelude.{ℕ, pos, ℤ, ◌+◌, Bool, true, false, ◌==�
 use Rattle.pgp_frontend.specs.ClientMessage.{ClientMessage, Bind, Close, CopyData, CopyDone, CopyFail, Describe, Execute, Flush, Parse, PasswordMessage, Query, SaslInitialResponse, SaslResponse, Sync, Terminate, Startup, CancelRequest, SslRequest}
 use Rattle.pgp_frontend.specs.declared.startup.ProtocolVersion.{ProtocolVersion}
 use Rattle.pgp_frontend.specs.declared.startup.ProtocolVersion.TheVariants.{V3_0, V3_2}
-use Rattle.pgp_server.specs.OtherMessage.{AnyMessage, Ours, Other, FunctionCall, SaslInitialWithoutResponse, GssEncRequest, StartupOther}
-use Rattle.pgp_server.specs.declared.error.ClientError.{ClientError}
-use Rattle.pgp_server.specs.declared.error.ClientError.TheVariants.{UnknownPacket, Reading}
+use Rattle.pgp_frontend_read.specs.OtherMessage.{AnyMessage, Ours, Other, FunctionCall, SaslInitialWithoutResponse, GssEncRequest, StartupOther}
+use Rattle.pgp_frontend_read.specs.declared.error.ClientError.{ClientError}
+use Rattle.pgp_frontend_read.specs.declared.error.ClientError.TheVariants.{UnknownPacket, Reading}
 use Rattle.pgp_line.specs.declared.style.Style.{Style}
 use Rattle.pgp_line.specs.Line.{Part, Name, Word, Number, Text, Value, followed}
 use Rattle.pgp_trace.specs.Shown.{list_of, name_or, refused, type_part}

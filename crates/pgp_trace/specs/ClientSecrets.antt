@@ -1,11 +1,11 @@
 -- A client's messages and streams that differ in their secrets alone.
 use Rattle.std.specs.Prelude.{◌≡◌, ℕ, Bool, List, [], ◌++◌, length, Result, Ok, Err}
 use Rattle.pgp_frontend.specs.ClientMessage.{CancelRequest, PasswordMessage, SaslInitialResponse, SaslResponse}
-use Rattle.pgp_server.specs.AnyStep.{AnyStep}
-use Rattle.pgp_server.specs.OtherMessage.{AnyMessage, Ours}
-use Rattle.pgp_server.specs.Pieces.{step_of}
-use Rattle.pgp_server.specs.declared.error.ClientError.{ClientError}
-use Rattle.pgp_server.specs.declared.message.PasswordKind.{PasswordKind}
+use Rattle.pgp_frontend_read.specs.AnyStep.{AnyStep}
+use Rattle.pgp_frontend_read.specs.OtherMessage.{AnyMessage, Ours}
+use Rattle.pgp_frontend_read.specs.Pieces.{step_of}
+use Rattle.pgp_frontend_read.specs.declared.error.ClientError.{ClientError}
+use Rattle.pgp_frontend_read.specs.declared.message.PasswordKind.{PasswordKind}
 use Rattle.pgp_trace.specs.Listing.{client_tag}
 use Rattle.pgp_trace.specs.Sides.{Side, Client, expected, kinds_behind}
 

@@ -1,7 +1,7 @@
 -- What the program does for its words.
 use Rattle.std.specs.Prelude.{◌≡◌, ◌⊎◌, ℕ, false, List, [], ◌∷◌, ◌++◌, Option, IfSome, codes}
 use Rattle.std.specs.Io.KnownBytes.{Keeps, Appends, IsAtEnd}
-use Rattle.pgp_server.specs.declared.message.PasswordKind.{PasswordKind}
+use Rattle.pgp_frontend_read.specs.declared.message.PasswordKind.{PasswordKind}
 use Rattle.pgp_program.specs.declared.fault.Fault.{Fault}
 use Rattle.pgp_program.specs.declared.fault.Fault.TheVariants.{Memory, Read, Write}
 use Rattle.pgp_line.specs.declared.style.Style.{Style}

@@ -4,11 +4,11 @@ use Rattle.std.specs.Io.KnownBytes.{Appends, Consumes, IsAtEnd}
 use Rattle.pgp_base.specs.declared.error.Error.{Error}
 use Rattle.pgp_message.specs.BackendMessage.{Message, Body}
 use Rattle.pgp_message.specs.Stream.{Frame, frame_bytes, IsFrame}
-use Rattle.pgp_server.specs.AnyStep.{AnyStep}
-use Rattle.pgp_server.specs.OtherMessage.{AnyMessage}
-use Rattle.pgp_server.specs.Pieces.{step_of}
-use Rattle.pgp_server.specs.declared.error.ClientError.{ClientError}
-use Rattle.pgp_server.specs.declared.message.PasswordKind.{PasswordKind}
+use Rattle.pgp_frontend_read.specs.AnyStep.{AnyStep}
+use Rattle.pgp_frontend_read.specs.OtherMessage.{AnyMessage}
+use Rattle.pgp_frontend_read.specs.Pieces.{step_of}
+use Rattle.pgp_frontend_read.specs.declared.error.ClientError.{ClientError}
+use Rattle.pgp_frontend_read.specs.declared.message.PasswordKind.{PasswordKind}
 use Rattle.pgp_trace.specs.Client.{client_line}
 use Rattle.pgp_trace.specs.Sides.{Side, Server, Client, Ends, expected, is_told, kinds_behind}
 use Rattle.pgp_line.specs.declared.style.Form.{Form}

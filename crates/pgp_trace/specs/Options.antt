@@ -1,8 +1,8 @@
 -- The options of a listing, as words spell them.
 use Rattle.std.specs.Prelude.{◌≡◌, ◌≢◌, ℕ, Bool, true, false, List, [], ◌∷◌, ◌++◌, codes}
 use Rattle.std.specs.List.{flat_map, list_any}
-use Rattle.pgp_server.specs.declared.message.PasswordKind.{PasswordKind}
-use Rattle.pgp_server.specs.declared.message.PasswordKind.TheVariants.{Password, Initial, Response}
+use Rattle.pgp_frontend_read.specs.declared.message.PasswordKind.{PasswordKind}
+use Rattle.pgp_frontend_read.specs.declared.message.PasswordKind.TheVariants.{Password, Initial, Response}
 use Rattle.pgp_trace.specs.declared.options.Choice.{Choice}
 use Rattle.pgp_trace.specs.declared.options.Choice.TheVariants.{AsJson, Full, Secrets, Kind}
 use Rattle.pgp_line.specs.Styles.{style_of}

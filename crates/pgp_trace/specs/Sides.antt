@@ -4,11 +4,11 @@ use Rattle.pgp_frontend.specs.ClientMessage.{PasswordKind}
 use Rattle.pgp_frontend.specs.ClientMessage as grammar
 use Rattle.pgp_frontend.specs.Payload.{framed}
 use Rattle.pgp_message.specs.Stream.{IsEnding}
-use Rattle.pgp_server.specs.AnyStep.{AnyBlamesPacket}
-use Rattle.pgp_server.specs.Step as client
-use Rattle.pgp_server.specs.Views.{kind_view}
-use Rattle.pgp_server.specs.declared.error.ClientError.{ClientError}
-use Rattle.pgp_server.specs.declared.message.PasswordKind as code
+use Rattle.pgp_frontend_read.specs.AnyStep.{AnyBlamesPacket}
+use Rattle.pgp_frontend_read.specs.Step as client
+use Rattle.pgp_frontend_read.specs.Views.{kind_view}
+use Rattle.pgp_frontend_read.specs.declared.error.ClientError.{ClientError}
+use Rattle.pgp_frontend_read.specs.declared.message.PasswordKind as code
 
 -- A server's; or a client's, of which a startup packet was read or not, and whose next messages of tag `p` are of these kinds.
 pub data Side : Type 0 where

@@ -1,8 +1,8 @@
 //! The line of a client's frame.
 
 ghost use Rattle.std.specs.Prelude.{◌≡◌, ◌≤◌, ◌<◌, ◌∷◌, ◌++◌, [], length, true, IfOk, OnErr, OnOk, Ok, Err, string_bytes};
-ghost use Rattle.pgp_server.specs.AnyViews.{any_view};
-ghost use Rattle.pgp_server.specs.Views.{kind_view};
+ghost use Rattle.pgp_frontend_read.specs.AnyViews.{any_view};
+ghost use Rattle.pgp_frontend_read.specs.Views.{kind_view};
 ghost use Rattle.pgp_trace.specs.Client.{client_line, refusal_parts};
 ghost use Rattle.pgp_line.specs.Line.{closing, followed};
 ghost use Rattle.pgp_trace.specs.Listing.{client_front, client_tag};
@@ -14,9 +14,9 @@ use crate::client_names::{client_name, says_nothing};
 use crate::frame::{Next, begin_line, front_of};
 use crate::lists::put_refused;
 use pgp_base::Memory;
+use pgp_frontend_read::{AnyMessage, ClientError, ClientMessages, PasswordKind};
 use pgp_line::line::{put_called, put_end, put_signed};
 use pgp_line::style::Style;
-use pgp_server::{AnyMessage, ClientError, ClientMessages, PasswordKind};
 use std::alloc::AllocError;
 
 /// Makes the line of a client's frame at the front of the bytes, which stands at this place. Answers whether a startup packet came then, the kinds

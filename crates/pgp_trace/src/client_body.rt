@@ -1,9 +1,9 @@
 //! What the line of a client's message says behind its name.
 
 ghost use Rattle.std.specs.Prelude.{◌≡◌, ◌∷◌, [], pos, OnErr, OnOk, codes, string_bytes};
-ghost use Rattle.pgp_server.specs.AnyViews.{any_view, other_view};
-ghost use Rattle.pgp_server.specs.OtherMessage.{Other};
-ghost use Rattle.pgp_server.specs.Views.{view};
+ghost use Rattle.pgp_frontend_read.specs.AnyViews.{any_view, other_view};
+ghost use Rattle.pgp_frontend_read.specs.OtherMessage.{Other};
+ghost use Rattle.pgp_frontend_read.specs.Views.{view};
 ghost use Rattle.pgp_trace.specs.Client.{client_groups, client_value, counted, grouped, named_object, our_groups, signed_part, startup_parts, version_number};
 ghost use Rattle.pgp_line.specs.Line.{Word, Number, Text, followed};
 
@@ -13,10 +13,12 @@ use crate::client_names::object_of;
 use crate::lists::put_named;
 use pgp_base::Memory;
 use pgp_frontend::ProtocolVersion;
+use pgp_frontend_read::{
+    AnyMessage, ClientMessage, Formats, OtherMessage, StartupParameters, Values,
+};
 use pgp_line::line::{put_null, put_number, put_signed, put_text, put_word};
 use pgp_line::secret::{put_response, put_secret};
 use pgp_line::style::Style;
-use pgp_server::{AnyMessage, ClientMessage, Formats, OtherMessage, StartupParameters, Values};
 use std::alloc::AllocError;
 
 /// Adds what the message says. Where it isn't known which message of tag `p` it is, its length is told alone.

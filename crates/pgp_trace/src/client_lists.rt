@@ -2,16 +2,16 @@
 #![tactic(auto, using(crate::proofs::Items::item_more, crate::proofs::Items::items_end, crate::proofs::Items::items_fault))]
 
 ghost use Rattle.std.specs.Prelude.{◌≡◌, None, OnErr, OnOk, string_bytes};
-ghost use Rattle.pgp_server.specs.Whole.{shown};
+ghost use Rattle.pgp_frontend_read.specs.Whole.{shown};
 ghost use Rattle.pgp_trace.specs.Client.{client_value, counted, pair_parts, signed_part};
 ghost use Rattle.pgp_line.specs.Line.{followed};
 ghost use Rattle.pgp_trace.specs.Shown.{list_of, type_part};
 
 use crate::lists::put_fault;
 use pgp_base::{FallibleIterator, Memory};
+use pgp_frontend_read::{Formats, ParamTypes, StartupParameters, Values};
 use pgp_line::line::{put_null, put_number, put_signed, put_some, put_text, put_type, put_word};
 use pgp_line::style::Style;
-use pgp_server::{Formats, ParamTypes, StartupParameters, Values};
 use std::alloc::AllocError;
 
 /// Adds formats.

@@ -3,12 +3,12 @@
 ghost use Rattle.std.specs.Prelude.{◌≡◌, ℕ, List};
 ghost use Rattle.pgp_frontend.specs.ClientMessage.{SaslResponse};
 ghost use Rattle.std.specs.Option.{option_map};
-ghost use Rattle.pgp_server.specs.AnyViews.{any_view, other_view};
-ghost use Rattle.pgp_server.specs.OtherMessage.{Other, Ours};
-ghost use Rattle.pgp_server.specs.Views.{view};
+ghost use Rattle.pgp_frontend_read.specs.AnyViews.{any_view, other_view};
+ghost use Rattle.pgp_frontend_read.specs.OtherMessage.{Other, Ours};
+ghost use Rattle.pgp_frontend_read.specs.Views.{view};
 ghost use Rattle.pgp_trace.specs.Client.{client_name, client_says_nothing, object_of, our_name};
 
-use pgp_server::{AnyMessage, ClientMessage, OtherMessage};
+use pgp_frontend_read::{AnyMessage, ClientMessage, OtherMessage};
 
 /// The name of a message, where it is known which message of tag `p` it is or not.
 pub fn client_name(told: bool, message: &AnyMessage<'_>) -> &'static str

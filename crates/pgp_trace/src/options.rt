@@ -5,7 +5,7 @@ ghost use Rattle.pgp_trace.specs.Options.{AreNoOptions, AreOptions, BeginsWithNo
 ghost use Rattle.pgp_line.specs.Styles.{style_of};
 
 use pgp_base::Memory;
-use pgp_server::PasswordKind;
+use pgp_frontend_read::PasswordKind;
 use std::alloc::AllocError;
 
 /// An option of a listing.

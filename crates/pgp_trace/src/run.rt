@@ -14,12 +14,12 @@ use crate::ports::Input;
 use crate::side::Side;
 use crate::stream::list;
 use pgp_base::Memory;
+use pgp_frontend_read::PasswordKind;
 use pgp_line::style::{Style, style_of};
 use pgp_program::fault::Fault;
 use pgp_program::ports::{Output, Words};
 use pgp_program::print::put;
 use pgp_program::words::{lent, texts};
-use pgp_server::PasswordKind;
 use std::alloc::AllocError;
 
 const USAGE: &str =

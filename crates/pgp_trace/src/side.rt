@@ -1,6 +1,6 @@
 //! Whose stream is listed.
 
-use pgp_server::PasswordKind;
+use pgp_frontend_read::PasswordKind;
 
 /// Whose stream is listed, and what is known of it so far.
 #[derive(Debug, Clone, Copy)]

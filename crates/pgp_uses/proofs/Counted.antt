@@ -3,7 +3,7 @@ use Rattle.std.proofs.Common.{◌≡◌, ℕ, ◌+◌, ◌<◌, ◌≤◌, Bool,
 use Rattle.std.specs.Prelude.{if◌then◌else◌}
 use Rattle.std.proofs.lemmas.Bool.{cases_lt}
 use Rattle.pgp_message.specs.BackendMessage.{Message}
-use Rattle.pgp_server.specs.OtherMessage.{AnyMessage}
+use Rattle.pgp_frontend_read.specs.OtherMessage.{AnyMessage}
 use Rattle.pgp_uses.specs.Pooler.{awaits, waits, waits_behind, asks, status, some_one, readies, newer, last_status, IsIdle, IsCount, Saw, IsQuiet}
 use Rattle.pgp_uses.specs.declared.pooler.Session.{Session}
 

@@ -5,10 +5,10 @@ use Rattle.std.specs.List.{flat_map}
 use Rattle.pgp_base.specs.Held.{Held, ◌⊕◌}
 use Rattle.pgp_base.proofs.Parts.{nothing_more}
 use Rattle.pgp_frontend.specs.ClientMessage.{PasswordKind}
-use Rattle.pgp_server.specs.Forwards.{Forwards}
-use Rattle.pgp_server.specs.OtherMessage.{AnyMessage, any_bytes}
-use Rattle.pgp_server.specs.Step.{Unread}
-use Rattle.pgp_server.proofs.ForwardRuns.{any_stood, written_then}
+use Rattle.pgp_frontend_read.specs.Forwards.{Forwards}
+use Rattle.pgp_frontend_read.specs.OtherMessage.{AnyMessage, any_bytes}
+use Rattle.pgp_frontend_read.specs.Step.{Unread}
+use Rattle.pgp_frontend_read.proofs.ForwardRuns.{any_stood, written_then}
 use Rattle.pgp_uses.specs.Proxy.{Call, ProxiesAll, PassesOn, NoneCame, Went, Stayed, Proxies, all_forwarded}
 use Rattle.pgp_uses.specs.declared.proxy.Passed.{Passed}
 use Rattle.pgp_uses.specs.declared.proxy.Passed.TheVariants.{Forwarded, HeldBack}

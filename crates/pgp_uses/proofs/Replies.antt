@@ -6,7 +6,7 @@ use Rattle.pgp_base.specs.Held.{Held, ◌⊕◌}
 use Rattle.pgp_base.specs.Wire.{int32}
 use Rattle.pgp_base.specs.declared.error.Error.{Error}
 use Rattle.pgp_base.proofs.Parts.{cut_back, front_left, front_then, more_twice, wants_more, wants_then}
-use Rattle.pgp_reply.specs.Reply.{bytes_of, cause}
+use Rattle.pgp_message_write.specs.Reply.{bytes_of, cause}
 use Rattle.pgp_uses.specs.Serving.{admission}
 
 admission_fits : cause admission ≡ None

@@ -4,7 +4,7 @@ use Rattle.std.proofs.lemmas.List.{append-nil}
 use Rattle.pgp_base.specs.Held.{Held}
 use Rattle.pgp_base.specs.declared.error.Error.{Error}
 use Rattle.pgp_frontend.specs.ClientMessage.{ClientMessage, PasswordMessage, SaslInitialResponse, SaslResponse, Terminate, Startup, CancelRequest, SslRequest}
-use Rattle.pgp_server.specs.OtherMessage.{AnyMessage, Ours, Other, OtherMessage, FunctionCall, GssEncRequest}
+use Rattle.pgp_frontend_read.specs.OtherMessage.{AnyMessage, Ours, Other, OtherMessage, FunctionCall, GssEncRequest}
 use Rattle.pgp_uses.specs.Serving as spec
 use Rattle.pgp_uses.specs.Serving.{Due, Outcome, Comes, Steps, StepsAll, IsAsked, Knows, Proves, HasShown, IsUnderWay, IsChallenged, IsAdmitted, CameIn, NoneWanted, OneCame, OtherCame, due, ours_due, other_due, at_opening, at_password, at_first, at_final, at_open, other_at_opening, other_at_open, phase_after, password_message, first_message, final_message, scram}
 use Rattle.pgp_uses.specs.declared.serving.Denial.TheVariants.{WrongPassword, Violation}

@@ -2,7 +2,7 @@
 use Rattle.std.specs.Prelude.{◌≡◌, ◌⊎◌, ℕ, ◌+◌, ◌<◌, ◌≤◌, Bool, true, false, List, [], ◌∷◌, Option, Some, None, if◌then◌else◌}
 use Rattle.pgp_frontend.specs.ClientMessage.{Bind, Close, Describe, Execute, Parse, Query, Sync, Startup}
 use Rattle.pgp_message.specs.BackendMessage.{Message, ReadyForQuery}
-use Rattle.pgp_server.specs.OtherMessage.{AnyMessage, Ours, Other, FunctionCall, StartupOther}
+use Rattle.pgp_frontend_read.specs.OtherMessage.{AnyMessage, Ours, Other, FunctionCall, StartupOther}
 use Rattle.pgp_uses.specs.declared.pooler.Session.{Session}
 
 -- The server says in the end that it is ready, whatever comes of the message.

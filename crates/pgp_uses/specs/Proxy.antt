@@ -4,9 +4,9 @@ use Rattle.std.specs.List.{Contains, flat_map}
 use Rattle.std.specs.Borrow.{Bor}
 use Rattle.pgp_base.specs.Held.{Held, ◌⊕◌}
 use Rattle.pgp_frontend.specs.ClientMessage.{ClientMessage, Query, Parse, PasswordKind}
-use Rattle.pgp_server.specs.AnyStep.{AnyStep}
-use Rattle.pgp_server.specs.OtherMessage.{AnyMessage, Ours, Other, any_bytes}
-use Rattle.pgp_server.specs.Step.{Unread}
+use Rattle.pgp_frontend_read.specs.AnyStep.{AnyStep}
+use Rattle.pgp_frontend_read.specs.OtherMessage.{AnyMessage, Ours, Other, any_bytes}
+use Rattle.pgp_frontend_read.specs.Step.{Unread}
 use Rattle.pgp_uses.specs.declared.proxy.Passed.{Passed}
 use Rattle.pgp_uses.specs.declared.proxy.Passed.TheVariants.{Forwarded, HeldBack}
 use Rattle.pgp_uses.specs.declared.proxy.ProxyError.{ProxyError}

@@ -1,8 +1,8 @@
 -- What a server reads of a client, in the words of its grammar.
 use Rattle.std.specs.Prelude.{◌≡◌, ℕ, Bool, true, false, List, Option, Some, None, Result, Ok}
 use Rattle.pgp_frontend.specs.ClientMessage.{ClientMessage, Query, Password}
-use Rattle.pgp_server.specs.declared.error.ClientError.{ClientError}
-use Rattle.pgp_server.specs.Step.{Unread, Stands, Step}
+use Rattle.pgp_frontend_read.specs.declared.error.ClientError.{ClientError}
+use Rattle.pgp_frontend_read.specs.Step.{Unread, Stands, Step}
 
 abbrev pub is_query : Result (Option ClientMessage) ClientError → Bool
 is_query (Ok (Some (Query text))) = true

@@ -14,8 +14,8 @@ use Rattle.pgp_auth.specs.declared.scram.server_error.ServerError.{ServerError}
 use Rattle.pgp_frontend.specs.ClientMessage.{ClientMessage, PasswordMessage, SaslInitialResponse, SaslResponse, Terminate, Startup, CancelRequest, SslRequest, PasswordKind, Password, Initial, Response}
 use Rattle.pgp_message.specs.BackendMessage.{Message, Authentication, AuthenticationOk, AuthenticationSasl, AuthenticationSaslContinue, AuthenticationSaslFinal, ErrorResponse}
 use Rattle.pgp_message.specs.Items.{ErrorPart}
-use Rattle.pgp_reply.specs.Reply.{bytes_of, cause, fields_of, names_of}
-use Rattle.pgp_server.specs.OtherMessage.{AnyMessage, Ours, Other, OtherMessage, FunctionCall, GssEncRequest}
+use Rattle.pgp_message_write.specs.Reply.{bytes_of, cause, fields_of, names_of}
+use Rattle.pgp_frontend_read.specs.OtherMessage.{AnyMessage, Ours, Other, OtherMessage, FunctionCall, GssEncRequest}
 use Rattle.pgp_uses.specs.Login.{unmapped}
 use Rattle.pgp_uses.specs.declared.serving.Denial.{Denial}
 use Rattle.pgp_uses.specs.declared.serving.Denial.TheVariants.{WrongPassword, Violation, NotAllowed}

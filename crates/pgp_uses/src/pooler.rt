@@ -3,11 +3,11 @@
 
 ghost use Rattle.std.specs.Prelude.{◌≡◌, ◌<◌, ◌∷◌, ◌++◌, [], None, List, ℕ};
 ghost use Rattle.std.specs.Bool.{Decides};
-ghost use Rattle.pgp_server.specs.OtherMessage.{AnyMessage as Sent, Other, Ours};
+ghost use Rattle.pgp_frontend_read.specs.OtherMessage.{AnyMessage as Sent, Other, Ours};
 ghost use Rattle.pgp_message.specs.BackendMessage.{Message as Came};
 ghost use Rattle.pgp_message.specs.Views.{view as came_view};
-ghost use Rattle.pgp_server.specs.AnyViews.{any_view as sent_view, other_view};
-ghost use Rattle.pgp_server.specs.Views.{view};
+ghost use Rattle.pgp_frontend_read.specs.AnyViews.{any_view as sent_view, other_view};
+ghost use Rattle.pgp_frontend_read.specs.Views.{view};
 ghost use Rattle.pgp_uses.specs.Pooler.{IsIdle, IsQuiet, Saw, asks, awaits, extends, readies, status, waits};
 ghost use Rattle.pgp_uses.specs.declared.pooler.Session.{Session as Known};
 

@@ -4,10 +4,10 @@
 ghost use Rattle.std.specs.Prelude.{◌≡◌, List, Ok, option_map};
 ghost use Rattle.pgp_base.specs.Held.{Held};
 ghost use Rattle.pgp_frontend.specs.ClientMessage.{PasswordKind as Kind};
-ghost use Rattle.pgp_server.specs.AnyViews.{any_view};
-ghost use Rattle.pgp_server.specs.Forwards.{Forwards};
-ghost use Rattle.pgp_server.specs.Step.{Unread};
-ghost use Rattle.pgp_server.specs.Views.{kind_view, view};
+ghost use Rattle.pgp_frontend_read.specs.AnyViews.{any_view};
+ghost use Rattle.pgp_frontend_read.specs.Forwards.{Forwards};
+ghost use Rattle.pgp_frontend_read.specs.Step.{Unread};
+ghost use Rattle.pgp_frontend_read.specs.Views.{kind_view, view};
 ghost use Rattle.pgp_uses.specs.Proxy.{Call, IsListed, PassesOn, Proxies, ProxiesAll, all_forwarded, statement, statement_of};
 ghost use Rattle.std.specs.Bool.{Decides};
 ghost use Rattle.std.specs.Borrow.{Bor};

@@ -8,11 +8,11 @@ ghost use Rattle.std.specs.Prelude.{◌≡◌, ◌++◌, ◌∷◌, [], List, If
 ghost use Rattle.std.specs.Bool.{Decides};
 ghost use Rattle.pgp_base.specs.Cause.{WantsMemory, Writes};
 ghost use Rattle.pgp_message.specs.BackendMessage.{Authentication, AuthenticationCleartextPassword, AuthenticationMd5Password};
-ghost use Rattle.pgp_server.specs.AnyViews.{any_view, other_view};
-ghost use Rattle.pgp_server.specs.OtherMessage.{AnyMessage as Came};
-ghost use Rattle.pgp_server.specs.Views.{kind_view, view};
+ghost use Rattle.pgp_frontend_read.specs.AnyViews.{any_view, other_view};
+ghost use Rattle.pgp_frontend_read.specs.OtherMessage.{AnyMessage as Came};
+ghost use Rattle.pgp_frontend_read.specs.Views.{kind_view, view};
 ghost use Rattle.pgp_uses.specs.Serving.{Comes, First, Final, GoesOn, HasShown, IsAsked, IsNewer, Knows, NamesLast, Proves, Replies, Steps, StepsAll, Text, admission, at_final, at_first, at_open, at_opening, at_password, cause_of, due, error_of, event_of, kind_in, other_at_open, other_at_opening, other_due, ours_due, phase_after, scram_offer, seen, shown, signature, spelled, sqlstate, told};
-ghost use Rattle.pgp_reply.specs.Reply.{bytes_of, cause};
+ghost use Rattle.pgp_message_write.specs.Reply.{bytes_of, cause};
 
 use pgp_base::{Buffer, FallibleIterator, Memory, put_u8};
 use postgres_protocol::Error;

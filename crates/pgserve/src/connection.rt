@@ -1,6 +1,6 @@
 //! A connection: the log-in, and the session behind it.
 
-ghost use Rattle.pgp_server.specs.Pieces.{IsWhole};
+ghost use Rattle.pgp_frontend_read.specs.Pieces.{IsWhole};
 
 use crate::fault::Fault;
 use crate::host::Host;

@@ -2,6 +2,6 @@
 
 pub mod frontend;
 
+pub use pgp_frontend_read as client;
 pub use pgp_message as backend;
-pub use pgp_reply as reply;
-pub use pgp_server as client;
+pub use pgp_message_write as reply;

@@ -5,7 +5,7 @@
 use crate::checks::{holds, same};
 use bytes::BytesMut;
 use pgp_base::Error;
-use pgp_reply::{
+use pgp_message_write::{
     Column, copy_out_response, data_row, parameter_description, ready_for_query, row_description,
 };
 use std::test::Fail;

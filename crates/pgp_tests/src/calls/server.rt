@@ -5,7 +5,7 @@ use crate::checks::{holds, same};
 use bytes::BytesMut;
 use pgp_base::FallibleIterator;
 use pgp_frontend::parse;
-use pgp_server::{ClientMessage, ClientMessages, PasswordKind};
+use pgp_frontend_read::{ClientMessage, ClientMessages, PasswordKind};
 
 /// How many items a count tells at the most.
 const MOST: u32 = 65_535;

@@ -1,8 +1,8 @@
 use Rattle.std.proofs.Common.{rules, Some, Ok}
 use Rattle.pgp_frontend.specs.ClientMessage.{Password}
-use Rattle.pgp_server.specs.Step.{Step}
-use Rattle.pgp_server.specs.Views.{view}
-use Rattle.pgp_server.proofs.Sessions.{shorter}
+use Rattle.pgp_frontend_read.specs.Step.{Step}
+use Rattle.pgp_frontend_read.specs.Views.{view}
+use Rattle.pgp_frontend_read.proofs.Sessions.{shorter}
 use Rattle.pgp_bench.proofs.clients.sum.Goals as goal
 
 pub messages-smaller : goal.messages-smaller

@@ -1,8 +1,8 @@
 use Rattle.std.proofs.Common.{◌≡◌, ◌++◌, ◌∷◌, [], length, Some, Ok, Err, rules, refl}
 use Rattle.std.specs.Prelude.{string_bytes}
-use Rattle.pgp_server.specs.AnyStep.{AnyStep, RefusesAny}
-use Rattle.pgp_server.specs.AnyViews.{any_view}
-use Rattle.pgp_server.specs.Views.{kind_view}
+use Rattle.pgp_frontend_read.specs.AnyStep.{AnyStep, RefusesAny}
+use Rattle.pgp_frontend_read.specs.AnyViews.{any_view}
+use Rattle.pgp_frontend_read.specs.Views.{kind_view}
 use Rattle.pgp_trace.specs.Client.{client_line}
 use Rattle.pgp_line.specs.Line.{closing}
 use Rattle.pgp_trace.specs.Listing.{client_front}

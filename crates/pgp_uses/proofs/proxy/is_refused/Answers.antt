@@ -1,7 +1,7 @@
 use Rattle.std.proofs.Common.{◌≡◌, Some, rules, refl}
 use Rattle.std.proofs.lemmas.Bool.Decides.{Decides-eqb}
 use Rattle.std.proofs.lemmas.Slice.Eq.{slice_eq-Decides}
-use Rattle.pgp_server.specs.AnyViews.{any_view}
+use Rattle.pgp_frontend_read.specs.AnyViews.{any_view}
 use Rattle.pgp_uses.specs.Proxy.{statement_of}
 use Rattle.pgp_uses.proofs.Listed.{listed}
 use Rattle.pgp_uses.proofs.proxy.is_refused.Goals as goal

@@ -1,8 +1,8 @@
 use Rattle.std.proofs.Common.{◌≡◌, Bool, refl, ap, subst, ◌∙◌}
-use Rattle.pgp_server.specs.AnyStep.{RefusesAny}
-use Rattle.pgp_server.specs.Step.{Unread}
-use Rattle.pgp_server.specs.Views.{kind_view}
-use Rattle.pgp_server.proofs.Steps.{left}
+use Rattle.pgp_frontend_read.specs.AnyStep.{RefusesAny}
+use Rattle.pgp_frontend_read.specs.Step.{Unread}
+use Rattle.pgp_frontend_read.specs.Views.{kind_view}
+use Rattle.pgp_frontend_read.proofs.Steps.{left}
 use Rattle.pgp_uses.proofs.proxy.pass_on.Goals as goal
 
 pub returns-in-Err : goal.returns-in-Err

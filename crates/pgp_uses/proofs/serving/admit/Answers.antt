@@ -1,5 +1,5 @@
 use Rattle.std.proofs.Common.{Err}
-use Rattle.pgp_reply.specs.Reply.{bytes_of, cause}
+use Rattle.pgp_message_write.specs.Reply.{bytes_of, cause}
 use Rattle.pgp_uses.specs.Serving.{admission, signature}
 use Rattle.pgp_uses.proofs.Replies.{admission_said, both_said, first_unsaid, second_unsaid}
 use Rattle.pgp_uses.proofs.serving.admit.Goals as goal

@@ -1,6 +1,6 @@
 use Rattle.std.proofs.Common.{rules, codes}
 use Rattle.pgp_base.specs.Walk.{TakesItem}
-use Rattle.pgp_server.specs.Whole.{plain}
+use Rattle.pgp_frontend_read.specs.Whole.{plain}
 use Rattle.pgp_uses.proofs.StartupNames.{none_named, one_named}
 use Rattle.pgp_uses.proofs.serving.startup_names.Goals as goal
 

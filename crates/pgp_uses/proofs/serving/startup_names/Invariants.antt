@@ -1,6 +1,6 @@
 use Rattle.std.proofs.Common.{codes, length}
 use Rattle.std.specs.Prelude.{option_map}
-use Rattle.pgp_server.specs.Whole.{plain}
+use Rattle.pgp_frontend_read.specs.Whole.{plain}
 use Rattle.pgp_uses.proofs.StartupNames.{HasNamed}
 use Rattle.pgp_uses.proofs.serving.startup_names.Given as goal
 

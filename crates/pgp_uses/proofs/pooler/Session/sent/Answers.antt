@@ -1,5 +1,5 @@
 use Rattle.std.proofs.Common.{◌≡◌, ◌∙◌, true, false, arith, sym}
-use Rattle.pgp_server.specs.AnyViews.{any_view}
+use Rattle.pgp_frontend_read.specs.AnyViews.{any_view}
 use Rattle.pgp_uses.specs.Pooler.{awaits}
 use Rattle.pgp_uses.proofs.Counted.{IsNext, saw_asked, saw_sent}
 use Rattle.pgp_uses.proofs.pooler.Session.sent.Goals as goal

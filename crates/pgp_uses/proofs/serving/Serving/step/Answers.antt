@@ -1,4 +1,4 @@
-use Rattle.pgp_server.specs.AnyViews.{any_view}
+use Rattle.pgp_frontend_read.specs.AnyViews.{any_view}
 use Rattle.pgp_uses.proofs.Served.{kept_known}
 use Rattle.pgp_uses.proofs.serving.Serving.step.Goals as goal
 

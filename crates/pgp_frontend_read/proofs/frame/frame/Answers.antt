@@ -1,0 +1,25 @@
+use Rattle.std.proofs.Common.{arith, true, refl, inl, inr}
+use Rattle.pgp_base.specs.Wire.{IsBytes}
+use Rattle.pgp_frontend_read.proofs.Fronts.{length_there, fault_there, unfinished_there, whole_frame}
+use Rattle.pgp_frontend_read.proofs.frame.frame.Goals as goal
+
+pub returns-then-len-lt4 : goal.returns-then-len-lt4
+returns-then-len-lt4 c =
+    let each : IsBytes c.args.bytes.now = λ i. omega (arith, c.type_inv.bytes i) in
+    (refl, fault_there true c.args.bytes.now _ (length_there true c.args.bytes.now _ each (omega (arith, c.if-bytes-lt5.false)) c.tagged_head-tag.ensures.len) (inl (omega (arith, c.if-len-lt4.true))))
+
+pub returns-then-len-gt-MAX_LEN : goal.returns-then-len-gt-MAX_LEN
+returns-then-len-gt-MAX_LEN c =
+    let each : IsBytes c.args.bytes.now = λ i. omega (arith, c.type_inv.bytes i) in
+    (refl, fault_there true c.args.bytes.now _ (length_there true c.args.bytes.now _ each (omega (arith, c.if-bytes-lt5.false)) c.tagged_head-tag.ensures.len) (inr (omega (arith, c.if-len-gt-MAX_LEN.true))))
+
+pub returns-then-bytes-total : goal.returns-then-bytes-total
+returns-then-bytes-total c =
+    let each : IsBytes c.args.bytes.now = λ i. omega (arith, c.type_inv.bytes i) in
+    unfinished_there true c.args.bytes.now _ (length_there true c.args.bytes.now _ each (omega (arith, c.if-bytes-lt5.false)) c.tagged_head-tag.ensures.len) (omega (arith, c.if-len-lt4.false)) (omega (arith, c.if-len-gt-MAX_LEN.false)) (omega (arith, c.if-bytes-total.true))
+
+pub returns : goal.returns
+returns c =
+    let each : IsBytes c.args.bytes.now = λ i. omega (arith, c.type_inv.bytes i) in
+    whole_frame c.args.bytes.now c.split_at.result.0.now c.split_at-2.result.1.now c.split_at.result.1.now _ _ each c.split_at.ensures.front c.split_at.ensures.back (omega (arith, c.if-bytes-total.false)) (omega (arith, c.if-len-gt-MAX_LEN.false))
+    _ (omega (arith, c.if-bytes-lt5.false)) c.tagged_head-tag.ensures.len (omega (arith, c.if-len-lt4.false)) refl c.split_at-2.ensures.back c.tagged_head-tag.ensures.tag

@@ -1,0 +1,11 @@
+use Rattle.std.proofs.Common.{map, length}
+use Rattle.pgp_frontend_read.specs.Reads.{HasRead}
+use Rattle.pgp_frontend_read.specs.Views.{kind_view, view}
+use Rattle.pgp_frontend_read.proofs.session.read_on.Given as goal
+
+-- the messages so far are those of steps, and these kinds are left
+abbrev pub invariant-messages : goal.invariant-messages
+invariant-messages g l = HasRead (map kind_view l.fn.kinds) l.fn.reader (map view l.messages.items) (map kind_view l.rest) l.reader
+
+abbrev pub decreases-messages : goal.decreases-messages
+decreases-messages g l = length l.reader.bytes

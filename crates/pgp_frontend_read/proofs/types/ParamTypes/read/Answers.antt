@@ -1,0 +1,13 @@
+use Rattle.std.proofs.Common.{rules, arith, List, ℕ}
+use Rattle.std.specs.Int.{w32, from_be_bytes}
+use Rattle.pgp_frontend_read.proofs.Items.{counted_short, fixed_left, counted_fixed}
+use Rattle.pgp_frontend_read.proofs.types.ParamTypes.read.Goals as goal
+
+pub returns-then-rest-len : goal.returns-then-rest-len
+returns-then-rest-len c = counted_short 4 (λ (l : List ℕ). from_be_bytes w32 l) c.args.bytes.now c.in_ok-count.count c.in_ok-count.rest.now (search rules) (omega (arith, c.if-rest-len.true))
+
+pub invariant_of-result : goal.invariant_of-result
+invariant_of-result c = fixed_left 4 (λ (l : List ℕ). from_be_bytes w32 l) c.in_ok-count.count c.split_at.result.0.now c.new.result (search rules) (search rules)
+
+pub returns : goal.returns
+returns c = counted_fixed 4 (λ (l : List ℕ). from_be_bytes w32 l) c.args.bytes.now c.in_ok-count.count c.in_ok-count.rest.now c.split_at.result.0.now c.split_at.result.1.now c.new.result (search rules) (search rules) (search rules) (search rules)

@@ -1,0 +1,42 @@
+-- What the writer of a list appends is the message of its items.
+use Rattle.std.proofs.Common.{◌≡◌, ℕ, List, [], ◌∷◌, ◌++◌, length, map, Some, None, sym, ap, ◌∙◌, subst}
+use Rattle.std.specs.Prelude.{Result}
+use Rattle.std.specs.List.{flat_map}
+use Rattle.std.proofs.lemmas.List.{append-nil, length-map}
+use Rattle.std.proofs.lemmas.List.Folds.{flat_map-map}
+use Rattle.pgp_base.specs.Wire.{uint16, frame}
+use Rattle.pgp_base.specs.Cause.{Cause, count_cause, Writes}
+use Rattle.pgp_base.specs.Held.{Held}
+use Rattle.pgp_base.specs.declared.error.Error.{Error}
+use Rattle.pgp_base.proofs.Causes.{either_then}
+use Rattle.pgp_frontend.specs.Payload.{Part, Byte, Rest, joined, frame_cause, WritesFrame}
+use Rattle.pgp_message.specs.BackendMessage.{Message, tag_of}
+use Rattle.pgp_message_write.specs.Lists.{with_list}
+use Rattle.pgp_message_write.specs.Reply.{parts, bytes_of, WritesList}
+use Rattle.pgp_message_write.proofs.Lists.{joined-append}
+
+-- the parts ps, which are spelled as the message is, were written
+pub list_written : {K : Type 0} (m : Message) (count : Cause) (ps qs : List Part) (lacks : Held K → ℕ → Type 0) (old new : Held K) (result : Result (Unit {0}) Error)
+    → count ≡ None → ps ≡ qs → joined qs ≡ joined (parts m) → WritesFrame (Some (tag_of m)) ps lacks old new result → WritesList m count qs lacks old new result
+list_written m count ps qs lacks old new result none same spelled w =
+    subst (λ c. Writes (bytes_of m) c lacks old new result) (sym (either_then count (frame_cause qs) none))
+    (subst (λ body. Writes (frame (tag_of m) body) (frame_cause qs) lacks old new result) spelled (subst (λ ps. WritesFrame (Some (tag_of m)) ps lacks old new result) same w))
+
+-- the items behind their count
+pub counted_joined : (count : List ℕ) (items : List Part) → joined (Rest count ∷ (items ++ [])) ≡ joined (Rest count ∷ Rest (joined items) ∷ [])
+counted_joined count items = ap (λ z. count ++ z) (joined-append items [])
+
+-- the items, and a 0 byte behind them
+pub marked_joined : (items : List Part) → joined (items ++ Byte 0 ∷ []) ≡ joined (Rest (joined items ++ 0 ∷ []) ∷ [])
+marked_joined items = joined-append items (Byte 0 ∷ []) ∙ sym (append-nil (joined items ++ 0 ∷ []))
+
+-- the same of what a view makes of them
+module _ {D A : Type 0} (view : D → A) (item : A → List Part) (xs : List D) where
+  pub viewed : (head tail : List Part) → with_list head (flat_map (λ x. item (view x)) xs) tail ≡ with_list head (flat_map item (map view xs)) tail
+  viewed head tail = ap (λ items. head ++ (items ++ tail)) (sym (flat_map-map item view xs))
+
+  pub viewed_counted : with_list (Rest (uint16 (length xs)) ∷ []) (flat_map (λ x. item (view x)) xs) [] ≡ with_list (Rest (uint16 (length (map view xs))) ∷ []) (flat_map item (map view xs)) []
+  viewed_counted = viewed (Rest (uint16 (length xs)) ∷ []) [] ∙ ap (λ n. with_list (Rest (uint16 n) ∷ []) (flat_map item (map view xs)) []) (sym (length-map xs view))
+
+  pub few : count_cause (length xs) ≡ None → count_cause (length (map view xs)) ≡ None
+  few h = ap count_cause (length-map xs view) ∙ h

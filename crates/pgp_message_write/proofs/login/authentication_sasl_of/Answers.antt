@@ -1,0 +1,17 @@
+use Rattle.pgp_base.specs.Calls.{Came}
+use Rattle.pgp_base.specs.Wire.{int32}
+use Rattle.pgp_frontend.specs.Payload.{Int32}
+use Rattle.pgp_message.specs.BackendMessage.{Authentication, AuthenticationSasl}
+use Rattle.pgp_message_write.proofs.GivenLists.{marked_view, message_given}
+use Rattle.pgp_message_write.proofs.Written.{marked_joined}
+use Rattle.pgp_message_write.specs.Given.{uncounted}
+use Rattle.pgp_message_write.specs.Lists.{marked_list, text_parts}
+use Rattle.pgp_message_write.specs.Reply.{names_of}
+use Rattle.std.proofs.Common.{map, refl, ap, pos, ◌∷◌, ◌++◌}
+use Rattle.std.specs.List.{flat_map}
+use Rattle.pgp_message_write.proofs.login.authentication_sasl_of.Goals as goal
+
+pub returns : goal.returns
+returns g c =
+    message_given (Came g.I.IntoIterator.into_iter_gives g.I.IntoIter.Iterator.next_gives c.args.mechanisms) uncounted (λ all. Int32 (pos 10) ∷ marked_list (λ name. text_parts name.now) all) (λ all. Int32 (pos 10) ∷ marked_list text_parts (map (λ name. name.now) all)) 82 (λ all. Authentication (AuthenticationSasl (names_of (map (λ name. name.now) all))))
+    (λ xs. ap (λ ps. Int32 (pos 10) ∷ ps) (marked_view (λ name. name.now) text_parts xs)) (λ xs. refl) (λ xs. ap (λ z. int32 (pos 10) ++ z) (marked_joined (flat_map text_parts (map (λ name. name.now) xs)))) g.B.Buffer.Lacks (g.B.Buffer.held c.args.buf.now) _ c.given.result c.given.ensures

@@ -1,0 +1,15 @@
+use Rattle.std.proofs.Common.{map, [], ◌∷◌, None, refl}
+use Rattle.std.specs.List.{flat_map}
+use Rattle.pgp_frontend.specs.Payload.{Byte}
+use Rattle.pgp_message.specs.BackendMessage.{ErrorResponse}
+use Rattle.pgp_message_write.specs.Lists.{field_parts}
+use Rattle.pgp_message_write.specs.Reply.{fields_of}
+use Rattle.pgp_message_write.specs.Views.{shown_field}
+use Rattle.pgp_message_write.proofs.Written.{list_written, marked_joined, viewed}
+use Rattle.pgp_message_write.proofs.notice.error_response.Goals as goal
+
+pub returns : goal.returns
+returns g c =
+    let fields = c.args.fields.now in
+    let all = map shown_field fields in
+    list_written (ErrorResponse (fields_of all)) None _ _ _ _ _ c.listed.result refl (viewed shown_field field_parts fields [] (Byte 0 ∷ [])) (marked_joined (flat_map field_parts all)) c.listed.ensures

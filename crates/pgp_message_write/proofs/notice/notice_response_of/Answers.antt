@@ -1,0 +1,16 @@
+use Rattle.pgp_base.specs.Calls.{Came}
+use Rattle.pgp_message.specs.BackendMessage.{NoticeResponse}
+use Rattle.pgp_message_write.proofs.GivenLists.{marked_view, message_given}
+use Rattle.pgp_message_write.proofs.Written.{marked_joined}
+use Rattle.pgp_message_write.specs.Given.{uncounted}
+use Rattle.pgp_message_write.specs.Lists.{field_parts, marked_list}
+use Rattle.pgp_message_write.specs.Reply.{fields_of}
+use Rattle.pgp_message_write.specs.Views.{shown_field}
+use Rattle.std.proofs.Common.{map, refl}
+use Rattle.std.specs.List.{flat_map}
+use Rattle.pgp_message_write.proofs.notice.notice_response_of.Goals as goal
+
+pub returns : goal.returns
+returns g c =
+    message_given (Came g.I.IntoIterator.into_iter_gives g.I.IntoIter.Iterator.next_gives c.args.fields) uncounted (λ all. marked_list (λ x. field_parts (shown_field x)) all) (λ all. marked_list field_parts (map shown_field all)) 78 (λ all. NoticeResponse (fields_of (map shown_field all)))
+    (marked_view shown_field field_parts) (λ xs. refl) (λ xs. marked_joined (flat_map field_parts (map shown_field xs))) g.B.Buffer.Lacks (g.B.Buffer.held c.args.buf.now) _ c.given.result c.given.ensures

@@ -1,0 +1,108 @@
+//! The extended query protocol, on the server's side.
+
+ghost use Rattle.std.specs.Prelude.{length, [], ◌∷◌};
+ghost use Rattle.std.specs.Iterator.{IsFiniteIterable};
+ghost use Rattle.std.specs.List.{flat_map};
+ghost use Rattle.pgp_base.specs.Calls.{Came};
+ghost use Rattle.pgp_base.specs.Cause.{count_cause};
+ghost use Rattle.pgp_base.specs.Wire.{uint16};
+ghost use Rattle.pgp_frontend.specs.Payload.{Rest};
+ghost use Rattle.pgp_message.specs.BackendMessage.{BindComplete, CloseComplete, NoData, ParseComplete, PortalSuspended};
+ghost use Rattle.pgp_message_write.specs.Given.{WritesGiven};
+ghost use Rattle.pgp_message_write.specs.Lists.{counted_list, type_parts, with_list};
+ghost use Rattle.pgp_message_write.specs.Reply.{types_of, WritesList, WritesReply};
+
+use crate::given::{Ending, given};
+use crate::listed::{count_field, listed};
+use pgp_base::{Buffer, Error, Oid};
+use pgp_frontend::field::{Field, message};
+
+/// A statement is prepared.
+///
+/// # Errors
+///
+/// `OutOfMemory` where a growth was refused. The buffer keeps its bytes.
+pub fn parse_complete<B: Buffer>(buf: &mut B) -> Result<(), Error>
+    ensures { WritesReply ParseComplete B.Lacks (B.held buf.old) (B.held buf.new) result }
+{
+    message(b'1', &[], buf)
+}
+
+/// A portal is made.
+///
+/// # Errors
+///
+/// `OutOfMemory` where a growth was refused. The buffer keeps its bytes.
+pub fn bind_complete<B: Buffer>(buf: &mut B) -> Result<(), Error>
+    ensures { WritesReply BindComplete B.Lacks (B.held buf.old) (B.held buf.new) result }
+{
+    message(b'2', &[], buf)
+}
+
+/// A statement or a portal is closed.
+///
+/// # Errors
+///
+/// `OutOfMemory` where a growth was refused. The buffer keeps its bytes.
+pub fn close_complete<B: Buffer>(buf: &mut B) -> Result<(), Error>
+    ensures { WritesReply CloseComplete B.Lacks (B.held buf.old) (B.held buf.new) result }
+{
+    message(b'3', &[], buf)
+}
+
+/// A statement or a portal gives no rows.
+///
+/// # Errors
+///
+/// `OutOfMemory` where a growth was refused. The buffer keeps its bytes.
+pub fn no_data<B: Buffer>(buf: &mut B) -> Result<(), Error>
+    ensures { WritesReply NoData B.Lacks (B.held buf.old) (B.held buf.new) result }
+{
+    message(b'n', &[], buf)
+}
+
+/// The limit of rows that an `Execute` told is reached.
+///
+/// # Errors
+///
+/// `OutOfMemory` where a growth was refused. The buffer keeps its bytes.
+pub fn portal_suspended<B: Buffer>(buf: &mut B) -> Result<(), Error>
+    ensures { WritesReply PortalSuspended B.Lacks (B.held buf.old) (B.held buf.new) result }
+{
+    message(b's', &[], buf)
+}
+
+/// The types of a statement's parameters.
+///
+/// # Errors
+///
+/// `TooLarge` where there are more than 65,535, and `OutOfMemory` where a growth was refused. The buffer keeps its bytes.
+pub fn parameter_description<B: Buffer>(types: &[Oid], buf: &mut B) -> Result<(), Error>
+    ensures { WritesList (types_of types.now) (count_cause (length types.now))
+        (with_list (Rest (uint16 (length types.now)) ∷ []) (flat_map type_parts types.now) [])
+        B.Lacks (B.held buf.old) (B.held buf.new) result }
+{
+    let count = count_field(types.len())?;
+    listed(b't', &[Field::Rest(&count)], types, &[], buf)
+}
+
+/// The same, of types that come from an iterator.
+///
+/// # Errors
+///
+/// The first from the left of: `TooLarge` at the type past 65,535, which is not written, and `TooLarge` where the
+/// message passes the greatest `i32`. Else `OutOfMemory` where a growth was refused, which may come before any of them. The
+/// buffer keeps its bytes.
+pub fn parameter_description_of<B: Buffer, I: IntoIterator<Item = Oid> + Drop>(
+    types: I,
+    buf: &mut B,
+) -> Result<(), Error>
+where
+    I::IntoIter: Drop,
+    requires { IsFiniteIterable I.into_iter_gives I.IntoIter.can_next I.IntoIter.remaining types }
+    ensures { WritesGiven (Came I.into_iter_gives I.IntoIter.next_gives types) count_cause
+        (λ all. counted_list type_parts all) (λ all. types_of all)
+        B.Lacks (B.held buf.old) (B.held buf.new) result }
+{
+    given(b't', &[], Ending::Count, types, buf)
+}

@@ -1,0 +1,104 @@
+//! Errors and notices.
+#![tactic(auto, using(pgp_base::proofs::Parts::held_steps))]
+
+ghost use Rattle.std.specs.Prelude.{map, [], ◌∷◌, None};
+ghost use Rattle.std.specs.Iterator.{IsFiniteIterable};
+ghost use Rattle.std.specs.List.{flat_map};
+ghost use Rattle.pgp_base.specs.Calls.{Came};
+ghost use Rattle.pgp_frontend.specs.Payload.{Byte};
+ghost use Rattle.pgp_message.specs.BackendMessage.{ErrorResponse, NoticeResponse};
+ghost use Rattle.pgp_message_write.specs.Given.{uncounted, WritesGiven};
+ghost use Rattle.pgp_message_write.specs.Lists.{field_parts, marked_list, with_list};
+ghost use Rattle.pgp_message_write.specs.Reply.{fields_of, WritesList};
+ghost use Rattle.pgp_message_write.specs.Views.{shown_field};
+
+use crate::given::{Ending, given};
+use crate::item::Item;
+use crate::listed::listed;
+use pgp_base::{Buffer, Error};
+use pgp_frontend::field::{Field, put_fields};
+
+/// A field of an error or a notice.
+///
+/// PostgreSQL manual, "Error and Notice Message Fields".
+#[derive(Debug, Clone, Copy, PartialEq, Eq)]
+pub struct ErrorField<'a> {
+    /// The letter that tells what the field is: `S` severity, `C` SQLSTATE, `M` message, ...
+    pub code: u8,
+    pub value: &'a [u8],
+}
+
+impl<'a> Item for ErrorField<'a> {
+    ghost parts = { λ field. field_parts (shown_field field) };
+
+    fn put<B: Buffer>(&self, buf: &mut B) -> Result<(), Error> {
+        if self.code == 0 {
+            return Err(Error::EmbeddedNull);
+        }
+        put_fields(&[Field::Byte(self.code), Field::Text(self.value)], buf)
+    }
+}
+
+/// An error of these fields. A client awaits at least severity, SQLSTATE and message.
+///
+/// # Errors
+///
+/// `EmbeddedNull` where a code or a value has a 0 byte, `TooLarge` where the message passes the greatest `i32`, and
+/// `OutOfMemory` where a growth was refused. The buffer keeps its bytes.
+pub fn error_response<B: Buffer>(fields: &[ErrorField<'_>], buf: &mut B) -> Result<(), Error>
+    ensures { let all = map shown_field fields.now in WritesList (ErrorResponse (fields_of all)) None (with_list [] (flat_map field_parts all) (Byte 0 ∷ []))
+        B.Lacks (B.held buf.old) (B.held buf.new) result }
+{
+    listed(b'E', &[], fields, &[Field::Byte(0)], buf)
+}
+
+/// The same, of fields that come from an iterator.
+///
+/// # Errors
+///
+/// `EmbeddedNull` at the first field with a 0 byte, and `TooLarge` where the message passes the greatest `i32`. Else `OutOfMemory`
+/// where a growth was refused, which may come before any of them. The buffer keeps its bytes.
+pub fn error_response_of<'a, B: Buffer, I: IntoIterator<Item = ErrorField<'a>> + Drop>(
+    fields: I,
+    buf: &mut B,
+) -> Result<(), Error>
+where
+    I::IntoIter: Drop,
+    requires { IsFiniteIterable I.into_iter_gives I.IntoIter.can_next I.IntoIter.remaining fields }
+    ensures { WritesGiven (Came I.into_iter_gives I.IntoIter.next_gives fields) uncounted
+        (λ all. marked_list field_parts (map shown_field all)) (λ all. ErrorResponse (fields_of (map shown_field all)))
+        B.Lacks (B.held buf.old) (B.held buf.new) result }
+{
+    given(b'E', &[], Ending::Zero, fields, buf)
+}
+
+/// A notice of these fields.
+///
+/// # Errors
+///
+/// As `error_response`.
+pub fn notice_response<B: Buffer>(fields: &[ErrorField<'_>], buf: &mut B) -> Result<(), Error>
+    ensures { let all = map shown_field fields.now in WritesList (NoticeResponse (fields_of all)) None (with_list [] (flat_map field_parts all) (Byte 0 ∷ []))
+        B.Lacks (B.held buf.old) (B.held buf.new) result }
+{
+    listed(b'N', &[], fields, &[Field::Byte(0)], buf)
+}
+
+/// The same, of fields that come from an iterator.
+///
+/// # Errors
+///
+/// As `error_response_of`.
+pub fn notice_response_of<'a, B: Buffer, I: IntoIterator<Item = ErrorField<'a>> + Drop>(
+    fields: I,
+    buf: &mut B,
+) -> Result<(), Error>
+where
+    I::IntoIter: Drop,
+    requires { IsFiniteIterable I.into_iter_gives I.IntoIter.can_next I.IntoIter.remaining fields }
+    ensures { WritesGiven (Came I.into_iter_gives I.IntoIter.next_gives fields) uncounted
+        (λ all. marked_list field_parts (map shown_field all)) (λ all. NoticeResponse (fields_of (map shown_field all)))
+        B.Lacks (B.held buf.old) (B.held buf.new) result }
+{
+    given(b'N', &[], Ending::Zero, fields, buf)
+}

@@ -1,0 +1,129 @@
+//! Rows, and the columns that they have.
+#![tactic(auto, using(pgp_base::proofs::Parts::held_steps))]
+
+ghost use Rattle.std.specs.Prelude.{map, length, [], ◌∷◌};
+ghost use Rattle.std.specs.Iterator.{IsFiniteIterable};
+ghost use Rattle.std.specs.List.{flat_map};
+ghost use Rattle.pgp_base.specs.Calls.{Came};
+ghost use Rattle.pgp_base.specs.Cause.{count_cause};
+ghost use Rattle.pgp_base.specs.Wire.{uint16};
+ghost use Rattle.pgp_frontend.specs.Payload.{Rest};
+ghost use Rattle.pgp_message_write.specs.Given.{WritesGiven};
+ghost use Rattle.pgp_message_write.specs.Lists.{column_parts, counted_list, lent, value_parts, with_list};
+ghost use Rattle.pgp_message_write.specs.Reply.{description_of, row_of, WritesList};
+ghost use Rattle.pgp_message_write.specs.Views.{shown_column};
+
+use crate::given::{Ending, given};
+use crate::item::Item;
+use crate::listed::{count_field, listed};
+use pgp_base::{Buffer, Error, Oid};
+use pgp_frontend::field::{Field, put_fields};
+
+/// A column of rows.
+///
+/// PostgreSQL manual, "Message Formats", RowDescription.
+#[derive(Debug, Clone, Copy, PartialEq, Eq)]
+pub struct Column<'a> {
+    pub name: &'a [u8],
+    /// The table that it is a column of, or 0.
+    pub table_oid: Oid,
+    /// Its number there, or 0.
+    pub column_id: i16,
+    pub type_oid: Oid,
+    /// Bytes of a value, negative where they aren't always as many.
+    pub type_size: i16,
+    /// What the type makes of it; -1 is none.
+    pub type_modifier: i32,
+    /// 0 for text and 1 for binary; 0 where it isn't known yet.
+    pub format: i16,
+}
+
+impl<'a> Item for Column<'a> {
+    ghost parts = { λ column. column_parts (shown_column column) };
+
+    #[tactic(auto, unfolding(pgp_base::specs::Wire::int16, pgp_base::specs::Wire::uint32))]
+    fn put<B: Buffer>(&self, buf: &mut B) -> Result<(), Error> {
+        let fields = [
+            Field::Text(self.name),
+            Field::Rest(&self.table_oid.to_be_bytes()),
+            Field::Rest(&self.column_id.to_be_bytes()),
+            Field::Rest(&self.type_oid.to_be_bytes()),
+            Field::Rest(&self.type_size.to_be_bytes()),
+            Field::Int32(self.type_modifier),
+            Field::Rest(&self.format.to_be_bytes()),
+        ];
+        put_fields(&fields, buf)
+    }
+}
+
+/// The columns of the rows to come.
+///
+/// # Errors
+///
+/// The first of: `TooLarge` where there are more than 65,535 columns, `EmbeddedNull` where a name has a 0 byte, and `TooLarge` where the
+/// message passes the greatest `i32`. Else `OutOfMemory` where a growth was refused. The buffer keeps its bytes.
+pub fn row_description<B: Buffer>(columns: &[Column<'_>], buf: &mut B) -> Result<(), Error>
+    ensures { let all = map shown_column columns.now in WritesList (description_of all) (count_cause (length all))
+        (with_list (Rest (uint16 (length all)) ∷ []) (flat_map column_parts all) [])
+        B.Lacks (B.held buf.old) (B.held buf.new) result }
+{
+    let count = count_field(columns.len())?;
+    listed(b'T', &[Field::Rest(&count)], columns, &[], buf)
+}
+
+/// The same, of columns that come from an iterator.
+///
+/// # Errors
+///
+/// The first from the left of: `EmbeddedNull` where a name has a 0 byte, `TooLarge` at the column past 65,535, which is not written, and `TooLarge` where the
+/// message passes the greatest `i32`. Else `OutOfMemory` where a growth was refused, which may come before any of them. The
+/// buffer keeps its bytes.
+pub fn row_description_of<'a, B: Buffer, I: IntoIterator<Item = Column<'a>> + Drop>(
+    columns: I,
+    buf: &mut B,
+) -> Result<(), Error>
+where
+    I::IntoIter: Drop,
+    requires { IsFiniteIterable I.into_iter_gives I.IntoIter.can_next I.IntoIter.remaining columns }
+    ensures { WritesGiven (Came I.into_iter_gives I.IntoIter.next_gives columns) count_cause
+        (λ all. counted_list column_parts (map shown_column all)) (λ all. description_of (map shown_column all))
+        B.Lacks (B.held buf.old) (B.held buf.new) result }
+{
+    given(b'T', &[], Ending::Count, columns, buf)
+}
+
+/// A row of these values, or none for a null, each in its column's format.
+///
+/// # Errors
+///
+/// `TooLarge` where there are more than 65,535 values, or a value or the message passes the greatest `i32`, and
+/// `OutOfMemory` where a growth was refused. The buffer keeps its bytes.
+pub fn data_row<B: Buffer>(values: &[Option<&[u8]>], buf: &mut B) -> Result<(), Error>
+    ensures { let vs = map lent values.now in WritesList (row_of vs) (count_cause (length vs))
+        (with_list (Rest (uint16 (length vs)) ∷ []) (flat_map value_parts vs) [])
+        B.Lacks (B.held buf.old) (B.held buf.new) result }
+{
+    let count = count_field(values.len())?;
+    listed(b'D', &[Field::Rest(&count)], values, &[], buf)
+}
+
+/// The same, of values that come from an iterator.
+///
+/// # Errors
+///
+/// The first from the left of: `TooLarge` where a value passes the greatest `i32`, `TooLarge` at the value past 65,535, which is
+/// not written, and `TooLarge` where the message passes the greatest `i32`. Else `OutOfMemory` where a growth was refused, which
+/// may come before any of them. The buffer keeps its bytes.
+pub fn data_row_of<'a, B: Buffer, I: IntoIterator<Item = Option<&'a [u8]>> + Drop>(
+    values: I,
+    buf: &mut B,
+) -> Result<(), Error>
+where
+    I::IntoIter: Drop,
+    requires { IsFiniteIterable I.into_iter_gives I.IntoIter.can_next I.IntoIter.remaining values }
+    ensures { WritesGiven (Came I.into_iter_gives I.IntoIter.next_gives values) count_cause
+        (λ vs. counted_list value_parts (map lent vs)) (λ vs. row_of (map lent vs))
+        B.Lacks (B.held buf.old) (B.held buf.new) result }
+{
+    given(b'D', &[], Ending::Count, values, buf)
+}

@@ -1,0 +1,78 @@
+//! What a server says to any query: settings, notifications, the ends of commands.
+
+ghost use Rattle.pgp_message.specs.BackendMessage.{CommandComplete, EmptyQueryResponse, NotificationResponse, ParameterStatus, ReadyForQuery};
+ghost use Rattle.pgp_message_write.specs.Reply.{WritesReply};
+
+use pgp_base::{Buffer, Error};
+use pgp_frontend::field::{Field, message};
+
+/// A setting's value.
+///
+/// # Errors
+///
+/// `EmbeddedNull` where a text has a 0 byte, `TooLarge` where the message passes the greatest `i32`, and
+/// `OutOfMemory` where a growth was refused. The buffer keeps its bytes.
+pub fn parameter_status<B: Buffer>(name: &[u8], value: &[u8], buf: &mut B) -> Result<(), Error>
+    ensures { WritesReply (ParameterStatus (record { name = name.now; value = value.now })) B.Lacks (B.held buf.old) (B.held buf.new) result }
+{
+    message(b'S', &[Field::Text(name), Field::Text(value)], buf)
+}
+
+/// A notification by this process: its channel, and a text.
+///
+/// # Errors
+///
+/// `EmbeddedNull` where a text has a 0 byte, `TooLarge` where the message passes the greatest `i32`, and
+/// `OutOfMemory` where a growth was refused. The buffer keeps its bytes.
+pub fn notification_response<'a, B: Buffer>(
+    process_id: i32,
+    channel: &'a [u8],
+    payload: &'a [u8],
+    buf: &mut B,
+) -> Result<(), Error>
+    ensures { WritesReply (NotificationResponse (record { process_id = process_id; channel = channel.now; message = payload.now })) B.Lacks (B.held buf.old) (B.held buf.new) result }
+{
+    message(
+        b'A',
+        &[
+            Field::Int32(process_id),
+            Field::Text(channel),
+            Field::Text(payload),
+        ],
+        buf,
+    )
+}
+
+/// A command is done. The tag tells which, and how many rows it touched, as `SELECT 1`.
+///
+/// # Errors
+///
+/// `EmbeddedNull` where the tag has a 0 byte, `TooLarge` where the message passes the greatest `i32`, and
+/// `OutOfMemory` where a growth was refused. The buffer keeps its bytes.
+pub fn command_complete<B: Buffer>(tag: &[u8], buf: &mut B) -> Result<(), Error>
+    ensures { WritesReply (CommandComplete tag.now) B.Lacks (B.held buf.old) (B.held buf.new) result }
+{
+    message(b'C', &[Field::Text(tag)], buf)
+}
+
+/// The query was empty: it stands in the place of a `CommandComplete`.
+///
+/// # Errors
+///
+/// `OutOfMemory` where a growth was refused. The buffer keeps its bytes.
+pub fn empty_query_response<B: Buffer>(buf: &mut B) -> Result<(), Error>
+    ensures { WritesReply EmptyQueryResponse B.Lacks (B.held buf.old) (B.held buf.new) result }
+{
+    message(b'I', &[], buf)
+}
+
+/// The next query may come. The status is `I` outside a transaction, `T` in one and `E` in one that failed.
+///
+/// # Errors
+///
+/// `OutOfMemory` where a growth was refused. The buffer keeps its bytes.
+pub fn ready_for_query<B: Buffer>(status: u8, buf: &mut B) -> Result<(), Error>
+    ensures { WritesReply (ReadyForQuery status) B.Lacks (B.held buf.old) (B.held buf.new) result }
+{
+    message(b'Z', &[Field::Byte(status)], buf)
+}

@@ -1,5 +1,0 @@
-use Rattle.pgp_reply.proofs.ReadBack.{mechanisms_back}
-use Rattle.pgp_reply.proofs.laws.mechanisms_are_read.Goals as goal
-
-pub returns : goal.returns
-returns c = mechanisms_back

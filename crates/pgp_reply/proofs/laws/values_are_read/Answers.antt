@@ -1,5 +1,0 @@
-use Rattle.pgp_reply.proofs.ReadBack.{places_from, values_back, values_stand}
-use Rattle.pgp_reply.proofs.laws.values_are_read.Goals as goal
-
-pub returns : goal.returns
-returns c = λ vs h. (places_from 0 vs, values_back vs h, values_stand vs)

@@ -1,5 +1,0 @@
-use Rattle.pgp_server.proofs.ForwardRuns.{run_forwards, any_run_forwards}
-use Rattle.pgp_server.proofs.laws.all_that_was_read_is_forwarded.Goals as goal
-
-pub returns : goal.returns
-returns g c = record { ours = run_forwards g.B.Buffer.Lacks; either = any_run_forwards g.B.Buffer.Lacks }

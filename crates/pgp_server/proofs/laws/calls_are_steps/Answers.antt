@@ -1,5 +1,0 @@
-use Rattle.pgp_server.proofs.PieceRuns.{call_steps}
-use Rattle.pgp_server.proofs.laws.calls_are_steps.Goals as goal
-
-pub returns : goal.returns
-returns g c = call_steps g.A.Memory.Lacks

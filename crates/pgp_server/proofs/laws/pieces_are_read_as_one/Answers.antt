@@ -1,5 +1,0 @@
-use Rattle.pgp_server.proofs.Pieces.{pieces_read}
-use Rattle.pgp_server.proofs.laws.pieces_are_read_as_one.Goals as goal
-
-pub returns : goal.returns
-returns c = pieces_read

@@ -1,5 +1,0 @@
-use Rattle.pgp_server.proofs.PieceRuns.{whole_given}
-use Rattle.pgp_server.proofs.laws.pieces_give_the_whole.Goals as goal
-
-pub returns : goal.returns
-returns g c = whole_given g.A.Memory.Lacks

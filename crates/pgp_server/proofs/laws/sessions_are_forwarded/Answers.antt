@@ -1,5 +1,0 @@
-use Rattle.pgp_server.proofs.ForwardRuns.{session_forwards}
-use Rattle.pgp_server.proofs.laws.sessions_are_forwarded.Goals as goal
-
-pub returns : goal.returns
-returns g c = session_forwards g.B.Buffer.Lacks
