@@ -14,8 +14,5 @@ pub mod Prefixes
 pub mod Windows
 pub mod Spellings
 pub mod CountedWalks
-pub mod AsciiLemmas
-pub mod ZeroLemmas
-pub mod CharacterLemmas
 pub mod Needs
 pub mod Fitting

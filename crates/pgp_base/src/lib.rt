@@ -2,9 +2,7 @@
 //! parts that readers take, and walks that may fail.
 #![tactic(auto)]
 
-mod ascii;
 mod buffer;
-mod characters;
 mod counted;
 mod error;
 pub mod laws;
@@ -15,7 +13,6 @@ mod texts;
 mod walk;
 mod window;
 mod writing;
-mod zero;
 
 pub use buffer::Buffer;
 pub use counted::Counted;

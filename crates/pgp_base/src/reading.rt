@@ -6,7 +6,7 @@ ghost use Rattle.pgp_base.specs.PartReading.{Gives, Answers, byte_at, uint16_at,
 
 use crate::error::Error;
 use crate::texts::text;
-use crate::zero::first_zero;
+use pgp_text::first_zero;
 
 /// Whether a byte 0, which ends a list, stands at the front.
 pub fn is_marked(bytes: &[u8]) -> bool

@@ -13,7 +13,7 @@ ghost use Rattle.pgp_base.specs.Calls.{Adds, KeepsFront, KeepsFronts, OwesValue,
 use crate::buffer::Buffer;
 use crate::error::{BindError, Error};
 use crate::number::IsNull;
-use crate::zero::stray_zero;
+use pgp_text::stray_zero;
 use std::alloc::AllocError;
 
 /// Appends a byte.

@@ -1,6 +1,0 @@
-use Rattle.std.proofs.Common.{arith, eqb-true}
-use Rattle.pgp_base.proofs.AsciiLemmas.{ascii_of_mask}
-use Rattle.pgp_base.proofs.ascii.are_ascii_16.Goals as goal
-
-pub returns : goal.returns
-returns c none = ascii_of_mask c.args.bytes.now c.args.at 16 (omega arith) (omega arith) (eqb-true _ _ none)

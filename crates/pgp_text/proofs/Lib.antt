@@ -1,0 +1,3 @@
+pub mod AsciiLemmas
+pub mod ZeroLemmas
+pub mod CharacterLemmas
