@@ -5,7 +5,7 @@ ghost use Rattle.std.specs.Prelude.{◌≡◌};
 
 use crate::checks::{holds, same};
 use bytes::BytesMut;
-use pgp_uses::serving::{
+use pgp_session::serving::{
     Denial, Method, Serving, ServingEvent, ServingPhase, StartupNames, startup_names,
 };
 use postgres_protocol::Error;

@@ -4,8 +4,8 @@
 use crate::checks::{holds, same};
 use bytes::BytesMut;
 use pgp_base::Window;
-use pgp_uses::pooler::Session;
-use pgp_uses::proxy::{Passed, ProxyError, pass_on};
+use pgp_session::pooler::Session;
+use pgp_session::proxy::{Passed, ProxyError, pass_on};
 use pgp_uses::reading::front_query;
 use postgres_protocol::message::backend::Messages;
 use postgres_protocol::message::client::{ClientMessages, PasswordKind};

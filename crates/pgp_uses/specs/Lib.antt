@@ -1,16 +1,11 @@
 pub mod Arrays
 pub mod Asking
-pub mod Client
 pub mod Columns
 pub mod Filter
 pub mod Login
-pub mod Pooler
-pub mod Proxy
 pub mod Reading
 pub mod Recorder
 pub mod Rows
-pub mod ScramLogin
 pub mod Server
-pub mod Serving
 pub mod Streams
 pub mod Values

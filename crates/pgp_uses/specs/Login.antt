@@ -1,30 +1,21 @@
 -- What the steps of a log-in send, and the texts of commands that they make.
-use Rattle.std.specs.Prelude.{◌≡◌, ℕ, true, false, List, ◌++◌, Some, None, codes}
+use Rattle.std.specs.Prelude.{◌≡◌, ℕ, true, false, List, ◌++◌, Some, codes}
 use Rattle.pgp_base.specs.Held.{Held, ◌⊕◌}
 use Rattle.pgp_auth.specs.Lexer.{Identifier, Literal}
-use Rattle.pgp_auth.specs.Prepared.{prepared}
 use Rattle.pgp_auth.specs.ScramClient.{Client, Answers, UpdateRefused, message_of}
 use Rattle.pgp_auth.specs.ScramErrorView.{refusal}
 use Rattle.pgp_auth.specs.ScramRefusal.{OutOfMemory}
-use Rattle.pgp_frontend.specs.ClientMessage.{ClientMessage, SaslInitialResponse, SaslResponse}
+use Rattle.pgp_frontend.specs.ClientMessage.{ClientMessage, SaslResponse}
 use Rattle.pgp_frontend.specs.Payload.{bytes_of}
-use Rattle.postgres_protocol.specs.ClientStream.{RefusesMessage}
+use Rattle.pgp_session.specs.ClientStream.{RefusesMessage}
 use Rattle.pgp_uses.specs.declared.login.LoginError.{LoginError}
 use Rattle.pgp_uses.specs.declared.login.LoginError.TheVariants.{Message, Scram, Over}
-
--- a password that no mapping changes
-abbrev pub unmapped : List ℕ → List ℕ
-unmapped password = prepared (λ _. None) password
 
 -- what the exchange has to say was sent, in this message
 pub record Sends {Kept : Type 0} (message : List ℕ → ClientMessage) (client : Client) (old new : Held Kept) : Type 0 where
   pub text : List ℕ
   pub said : message_of client.state ≡ Some text
   pub sent : new ≡ old ⊕ bytes_of (message text)
-
--- the first message of the exchange
-abbrev pub initial : List ℕ → ClientMessage
-initial text = SaslInitialResponse (codes "SCRAM-SHA-256") text
 
 -- Why a log-in didn't begin behind what stood `here`: for want of memory, which `memory` tells, or the first message was refused.
 abbrev pub BeginRefused : {A K : Type 0} → ClientMessage → Type 0 → (Held K → ℕ → Type 0) → Held K → LoginError A → Type 0

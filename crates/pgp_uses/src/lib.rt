@@ -2,18 +2,13 @@
 #![tactic(auto)]
 
 pub mod arrays;
-pub mod client;
 pub mod columns;
 pub mod filter;
 pub mod login;
-pub mod pooler;
-pub mod proxy;
 pub mod reading;
 pub mod recorder;
 pub mod rows;
-pub mod scram_login;
 pub mod server;
-pub mod serving;
 pub mod session;
 pub mod streams;
 pub mod values;

@@ -11,7 +11,9 @@ ghost use Rattle.pgp_auth.specs.ScramText.{Unsupported, client_first};
 ghost use Rattle.pgp_auth.specs.Verifier.{verifier, verifier_text};
 ghost use Rattle.pgp_frontend.specs.ClientMessage.{SaslResponse};
 ghost use Rattle.pgp_saslprep.specs.SaslPrep.{prepared_bytes};
-ghost use Rattle.pgp_uses.specs.Login.{Sends, BeginRefused, RespondRefused, IsSetPassword, IsComparison, initial, unmapped};
+ghost use Rattle.pgp_uses.specs.Login.{Sends, BeginRefused, RespondRefused, IsSetPassword, IsComparison};
+ghost use Rattle.pgp_session.specs.ScramLogin.{initial};
+ghost use Rattle.pgp_session.specs.Serving.{unmapped};
 
 use pgp_base::{Buffer, Memory};
 use pgp_saslprep::SaslPrepRfc4013;

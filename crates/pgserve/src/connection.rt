@@ -7,7 +7,9 @@ use crate::host::Host;
 use crate::session::Session;
 use bytes::BytesMut;
 use pgp_base::Error;
-use pgp_uses::serving::{Denial, Serving, ServingEvent, ServingPhase, StartupNames, startup_names};
+use pgp_session::serving::{
+    Denial, Serving, ServingEvent, ServingPhase, StartupNames, startup_names,
+};
 use postgres_protocol::message::client::{
     AnyMessage, ClientFrame, ClientMessage, ClientParser, Limits, ParserError,
 };

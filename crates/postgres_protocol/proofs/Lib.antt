@@ -1,7 +1,3 @@
-pub mod Pieces
-pub mod Readings
-pub mod Additions
-pub mod StartupPairs
 pub mod RowLemmas
 pub mod StepLemmas
 pub mod BindLemmas

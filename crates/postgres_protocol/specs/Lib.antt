@@ -1,6 +1,3 @@
-pub mod ServerStream
-pub mod ServerSteps
-pub mod ClientStream
 pub mod SaslExchange
 pub mod RowValues
 pub mod ArraySteps

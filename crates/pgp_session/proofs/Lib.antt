@@ -1,0 +1,12 @@
+pub mod Pieces
+pub mod Readings
+pub mod Additions
+pub mod StartupPairs
+pub mod Counted
+pub mod Known
+pub mod Listed
+pub mod Mechanisms
+pub mod Proxied
+pub mod Replies
+pub mod Served
+pub mod StartupNames

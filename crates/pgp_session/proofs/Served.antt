@@ -1,0 +1,163 @@
+-- What is known of a session of a server stays known with each step.
+use Rattle.std.proofs.Common.{◌≡◌, ℕ, List, Result, Ok, Err, [], ◌∷◌, ◌++◌, refl, sym, subst, inl, inr, append_assoc}
+use Rattle.std.proofs.lemmas.List.{append-nil}
+use Rattle.pgp_base.specs.Held.{Held}
+use Rattle.pgp_base.specs.declared.error.Error.{Error}
+use Rattle.pgp_frontend.specs.ClientMessage.{ClientMessage, PasswordMessage, SaslInitialResponse, SaslResponse, Terminate, Startup, CancelRequest, SslRequest}
+use Rattle.pgp_frontend_read.specs.OtherMessage.{AnyMessage, Ours, Other, OtherMessage, FunctionCall, GssEncRequest}
+use Rattle.pgp_session.specs.Serving as spec
+use Rattle.pgp_session.specs.Serving.{Due, Outcome, Comes, Steps, StepsAll, IsAsked, Knows, Proves, HasShown, IsUnderWay, IsChallenged, IsAdmitted, CameIn, NoneWanted, OneCame, OtherCame, due, ours_due, other_due, at_opening, at_password, at_first, at_final, at_open, other_at_opening, other_at_open, phase_after, password_message, first_message, final_message, scram}
+use Rattle.pgp_session.specs.declared.serving.Denial.TheVariants.{WrongPassword, Violation}
+use Rattle.pgp_session.specs.declared.serving.Method.{Method}
+use Rattle.pgp_session.specs.declared.serving.Method.TheVariants as methods
+use Rattle.pgp_session.specs.declared.serving.Serving.{Serving}
+use Rattle.pgp_session.specs.declared.serving.ServingEvent.{ServingEvent}
+use Rattle.pgp_session.specs.declared.serving.ServingPhase.{ServingPhase}
+use Rattle.pgp_session.specs.declared.serving.ServingPhase.TheVariants.{Opening, Named, AwaitsPassword, AwaitsFirst, AwaitsFinal, Open, Over}
+
+-- which message in which phase is this
+IsDue : AnyMessage → ServingPhase → Due → Type 0
+IsDue m p (spec.Text text) = (m ≡ password_message text) × (p ≡ AwaitsPassword)
+IsDue m p (spec.First mechanism text) = (m ≡ Ours (SaslInitialResponse mechanism text)) × (p ≡ AwaitsFirst)
+IsDue m p (spec.Final text) = (m ≡ final_message text) × (p ≡ AwaitsFinal)
+IsDue m p spec.Asks = p ≡ Open
+IsDue m p d = Unit {0}
+
+opening_due : (m : ClientMessage) → IsDue (Ours m) Opening (at_opening m)
+unfolding IsDue
+opening_due SslRequest = tt
+opening_due (CancelRequest process_id secret_key) = tt
+opening_due (Startup version parameters) = tt
+opening_due m = tt
+
+password_due : (m : ClientMessage) → IsDue (Ours m) AwaitsPassword (at_password m)
+unfolding IsDue
+password_due (PasswordMessage text) = (refl, refl)
+password_due m = tt
+
+first_due : (m : ClientMessage) → IsDue (Ours m) AwaitsFirst (at_first m)
+unfolding IsDue
+first_due (SaslInitialResponse mechanism text) = (refl, refl)
+first_due m = tt
+
+final_due : (m : ClientMessage) → IsDue (Ours m) AwaitsFinal (at_final m)
+unfolding IsDue
+final_due (SaslResponse text) = (refl, refl)
+final_due m = tt
+
+open_due : (m : ClientMessage) → IsDue (Ours m) Open (at_open m)
+unfolding IsDue
+open_due Terminate = tt
+open_due (PasswordMessage text) = tt
+open_due (SaslInitialResponse mechanism text) = tt
+open_due (SaslResponse text) = tt
+open_due (Startup version parameters) = tt
+open_due (CancelRequest process_id secret_key) = tt
+open_due SslRequest = tt
+open_due m = refl
+
+other_opening_due : (o : OtherMessage) → IsDue (Other o) Opening (other_at_opening o)
+unfolding IsDue
+other_opening_due GssEncRequest = tt
+other_opening_due o = tt
+
+other_open_due : (o : OtherMessage) → IsDue (Other o) Open (other_at_open o)
+unfolding IsDue
+other_open_due (FunctionCall function formats arguments result_format) = refl
+other_open_due o = tt
+
+is_due : (p : ServingPhase) (m : AnyMessage) → IsDue m p (due p m)
+unfolding IsDue
+is_due Opening (Ours m) = opening_due m
+is_due Named (Ours m) = tt
+is_due AwaitsPassword (Ours m) = password_due m
+is_due AwaitsFirst (Ours m) = first_due m
+is_due AwaitsFinal (Ours m) = final_due m
+is_due Open (Ours m) = open_due m
+is_due Over (Ours m) = tt
+is_due Opening (Other o) = other_opening_due o
+is_due Named (Other o) = tt
+is_due AwaitsPassword (Other o) = tt
+is_due AwaitsFirst (Other o) = tt
+is_due AwaitsFinal (Other o) = tt
+is_due Open (Other o) = other_open_due o
+is_due Over (Other o) = tt
+
+one_more : {wanted came : List AnyMessage} (m x : AnyMessage) → m ≡ x → CameIn wanted came → CameIn (wanted ++ (x ∷ [])) (came ++ (m ∷ []))
+one_more {wanted} {came} m x e a = subst (λ (y : AnyMessage). CameIn (wanted ++ (y ∷ [])) (came ++ (m ∷ []))) e (OneCame m a)
+
+module _ {A : Type 0} (came : List AnyMessage) (m : AnyMessage) where
+  -- what was shown stays so behind another message
+  longer : (start : Method A) → HasShown start came → HasShown start (came ++ (m ∷ []))
+  longer methods.Nothing k = tt
+  longer (methods.Password stored) k = (k.0, OtherCame m k.1, k.2)
+  longer (methods.Md5 salt stored) k = (k.0, OtherCame m k.1, k.2)
+  longer (methods.Exchange server) k = (k.0, k.1, k.2, k.3, k.4, k.5, OtherCame m k.6, k.7, k.8)
+
+  -- the text that was asked for came
+  shown_text : (start : Method A) (text : List ℕ) → m ≡ password_message text → Proves start text → HasShown start (came ++ (m ∷ []))
+  shown_text methods.Nothing text e k = tt
+  shown_text (methods.Password stored) text e k = (text, one_more m (password_message text) e NoneWanted, k)
+  shown_text (methods.Md5 salt stored) text e k = (text, one_more m (password_message text) e NoneWanted, k)
+  shown_text (methods.Exchange server) text e k = absurd k
+
+  -- the exchange's first text came
+  under_way : (start new : Method A) (text answer : List ℕ) → m ≡ first_message text → IsChallenged start text new answer → IsUnderWay start (came ++ (m ∷ [])) new
+  under_way (methods.Exchange server) (methods.Exchange new) text answer e k = (text, answer, one_more m (first_message text) e NoneWanted, k)
+  under_way start new text answer e k = absurd k
+
+  -- and its final text
+  shown_proof : (start now new : Method A) (text answer : List ℕ) → m ≡ final_message text → IsUnderWay start came now → IsAdmitted now text new answer → HasShown start (came ++ (m ∷ []))
+  shown_proof (methods.Exchange server) (methods.Exchange old) (methods.Exchange new) text answer e had k =
+      (old, new, had.0, text, had.1, answer, one_more m (final_message text) e had.2, had.3, k)
+  shown_proof (methods.Exchange server) (methods.Exchange old) new text answer e had k = absurd k
+  shown_proof start now new text answer e had k = absurd had
+
+  -- what was known in the phase that the message is for
+  at : (start old : Method A) (p q : ServingPhase) → p ≡ q → Knows start came p old → Knows start came q old
+  at start old p q e k = subst (λ (r : ServingPhase). Knows start came r old) e k
+
+  on : (start : Method A) (p : ServingPhase) (d : Due) (old : Method A) (o : Outcome) (new : Method A) → IsDue m p d → Comes d old o new → Knows start came p old → Knows start (came ++ (m ∷ [])) (phase_after o) new
+  unfolding IsDue
+  on start p spec.Idle old spec.Ignored new i w k = tt
+  on start p spec.Encrypts old spec.Unencrypted new i w k = tt
+  on start p spec.Cancels old spec.Cancelled new i w k = tt
+  on start p spec.Starts old spec.Begun new i w k = tt
+  on start p spec.Asks old spec.Requested new i w k = longer start (at start old p Open i k)
+  on start p spec.Ends old spec.Ended new i w k = tt
+  on start p spec.Misplaced old (spec.Denied Violation) new i w k = tt
+  on start p (spec.Text text) old spec.Welcome new i w k =
+      shown_text start text i.0 (subst (λ (x : Method A). Proves x text) (at start old p AwaitsPassword i.1 k) w.0)
+  on start p (spec.Text text) old (spec.Denied WrongPassword) new i w k = tt
+  on start p (spec.First mechanism text) old (spec.Challenge answer) new i w k =
+      let said : m ≡ first_message text = subst (λ (x : List ℕ). m ≡ Ours (SaslInitialResponse x text)) w.0 i.0 in
+      under_way start new text answer said (subst (λ (x : Method A). IsChallenged x text new answer) (at start old p AwaitsFirst i.1 k) w.1)
+  on start p (spec.First mechanism text) old (spec.Denied Violation) new i w k = tt
+  on start p (spec.Final text) old (spec.Signed answer) new i w k = shown_proof start old new text answer i.0 (at start old p AwaitsFinal i.1 k) w
+  on start p (spec.Final text) old (spec.Denied WrongPassword) new i w k = tt
+  on start p d old o new i w k = absurd w
+
+module _ {A K : Type 0} (memory : Type 0) (lacks : Held K → ℕ → Type 0) (start : Method A) (came : List AnyMessage) (m : AnyMessage) (old new : Serving A) (before behind : Held K) where
+  pub kept_known : (r : Result ServingEvent Error) → Steps memory lacks m old new before behind r → Knows start came old.phase old.method → Knows start (came ++ (m ∷ [])) new.phase new.method
+  kept_known (Ok event) w k =
+      subst (λ (p : ServingPhase). Knows start (came ++ (m ∷ [])) p new.method) (sym w.3)
+      (on came m start old.phase (due old.phase m) old.method w.0 new.method (is_due old.phase m) w.1 k)
+  kept_known (Err e) w k = subst (λ (p : ServingPhase). Knows start (came ++ (m ∷ [])) p new.method) (sym w.0) tt
+
+module _ {A K : Type 0} (memory : Type 0) (lacks : Held K → ℕ → Type 0) (start : Method A) where
+  -- over steps one behind the other
+  all_known : (came sent : List AnyMessage) (old new : Serving A) → Knows start came old.phase old.method → StepsAll memory lacks sent old new → Knows start (came ++ sent) new.phase new.method
+  all_known came [] old new k w =
+      let kept : Knows start came new.phase new.method = subst (λ (s : Serving A). Knows start came s.phase s.method) (sym w) k in
+      rw (append-nil came) kept
+  all_known came (m ∷ ms) old new k w =
+      let next : Knows start (came ++ (m ∷ [])) w.0.phase w.0.method = kept_known memory lacks start came m old w.0 w.1 w.2 w.3 w.4 k in
+      rw (← append_assoc came (m ∷ []) ms) (all_known (came ++ (m ∷ [])) ms w.0 new next w.5)
+
+  asked_known : (asked : Serving A) → IsAsked start asked → Knows start [] asked.phase asked.method
+  asked_known asked (same, inl e) = rw e same
+  asked_known asked (same, inr e) = rw e same
+
+  pub shown_at_last : (sent : List AnyMessage) (asked now : Serving A) → IsAsked start asked → StepsAll memory lacks sent asked now → now.phase ≡ Open → HasShown start sent
+  shown_at_last sent asked now i w e =
+      subst (λ (p : ServingPhase). Knows start sent p now.method) e (all_known [] sent asked now (asked_known asked i) w)

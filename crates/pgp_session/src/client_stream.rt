@@ -1,0 +1,414 @@
+//! What a client sends, as one stream.
+
+ghost use Rattle.std.specs.Prelude.{◌≡◌, List, true, false, [], length, map};
+ghost use Rattle.pgp_base.specs.Held.{items_held};
+ghost use Rattle.pgp_base.specs.Cause.{Wants};
+ghost use Rattle.pgp_base.specs.Wire.{int32};
+ghost use Rattle.std.specs.Iterator.{IsFiniteIterable};
+ghost use Rattle.pgp_base.specs.Calls.{Came, OwesValues};
+ghost use Rattle.pgp_frontend.specs.ClientMessage.{ClientMessage, PasswordKind, CancelRequest, Close, CopyData as DataMessage, CopyDone, CopyFail, Describe, Execute, Flush, PasswordMessage, Query, SaslInitialResponse, SaslResponse, SslRequest, Startup, Sync, Terminate};
+ghost use Rattle.pgp_frontend.specs.Given.{BindWhole, BindRefused, ParseWhole, ParseSoFar, Serves, shown};
+ghost use Rattle.pgp_frontend.specs.Payload.{bytes_of};
+ghost use Rattle.pgp_frontend.specs.Reading.{IsNamed};
+ghost use Rattle.pgp_frontend.specs.ClientRun.{ClientRun, is_opened};
+ghost use Rattle.pgp_session.specs.ClientStream.{Adds, AddsGiven, AddsMessage, Reads};
+
+use bytes::{Buf, BytesMut};
+use pgp_base::{BindError, Buffer, Error, IsNull, Oid};
+use pgp_frontend as frontend;
+use pgp_frontend::{CopyData, ProtocolVersion};
+use std::alloc::{Allocator, Global};
+use std::marker::Model;
+
+/// The bytes that a client has to send. Each method adds one message, or is refused and changes nothing.
+/// Requests come first, then one startup packet, and then all other messages.
+#[derive(Drop)]
+pub struct ClientStream<B: Buffer = BytesMut> {
+    buf: B,
+    opened: bool,
+}
+
+impl<B: Buffer> Model for ClientStream<B> {
+    ghost use Rattle.pgp_session.specs.ClientStream.{Sent, Reads};
+
+    ghost Value = { Sent B };
+
+    ghost view = { λ s. record { buf = s.buf; opened = s.opened } };
+
+    ghost invariant = { λ s. Reads (B.held s.buf).bytes s.opened };
+}
+
+impl<A: Allocator + Copy> ClientStream<BytesMut<A>> {
+    /// A stream with nothing in it.
+    pub fn new(alloc: A) -> ClientStream<BytesMut<A>>
+        ensures empty { result.buf.items ≡ [] }
+        ensures closed { result.opened ≡ false }
+        ensures run { ClientRun [] [] result.buf.items }
+    {
+        ClientStream::over(BytesMut::new(alloc))
+    }
+}
+
+impl<B: Buffer> ClientStream<B> {
+    /// A stream that writes to this buffer, which is empty.
+    pub fn over(buf: B) -> ClientStream<B>
+        requires { (B.held buf).bytes ≡ [] }
+        ensures empty { result ≡ record { buf = buf; opened = false } }
+        ensures run { ClientRun [] [] (B.held result.buf).bytes }
+    {
+        ClientStream { buf, opened: false }
+    }
+
+    /// Whether the startup packet was written.
+    pub fn is_open(&self) -> bool
+        ensures opened { result ≡ self.now.opened }
+        ensures reads { (kinds : List PasswordKind) (messages : List ClientMessage) → ClientRun kinds messages (B.held self.now.buf).bytes → result ≡ is_opened messages }
+    {
+        self.opened
+    }
+
+    /// What is to be sent.
+    pub fn bytes(&self) -> &[u8]
+        ensures bytes { result.now ≡ (B.held self.now.buf).bytes }
+        ensures reads { Reads result.now self.now.opened }
+    {
+        self.buf.as_slice()
+    }
+
+    /// Asks for an encrypted session. The server answers with one byte, which is no message.
+    ///
+    /// # Errors
+    ///
+    /// `OutOfMemory` where a growth was refused. The stream stays as it is.
+    pub fn ssl_request(&mut self) -> Result<(), Error>
+        requires { self.old.opened ≡ false }
+        ensures { AddsMessage B.held SslRequest B.Lacks self.old self.new result }
+    {
+        frontend::ssl_request(&mut self.buf)
+    }
+
+    /// Asks for the end of what another session runs.
+    ///
+    /// # Errors
+    ///
+    /// `OutOfMemory` where a growth was refused. The stream stays as it is.
+    pub fn cancel_request(&mut self, process_id: i32, secret_key: i32) -> Result<(), Error>
+        requires { self.old.opened ≡ false }
+        ensures { AddsMessage B.held (CancelRequest process_id (int32 secret_key)) B.Lacks self.old self.new result }
+    {
+        frontend::cancel_request(process_id, secret_key, &mut self.buf)
+    }
+
+    /// The same by a key of any length of this project's profile of protocol 3.2; nothing is claimed of a server's 3.2.
+    ///
+    /// # Errors
+    ///
+    /// `InvalidSize` unless the key has 4 to 256 bytes, and `OutOfMemory` where a growth was refused. The stream stays as it is.
+    pub fn cancel_request_key(&mut self, process_id: i32, secret_key: &[u8]) -> Result<(), Error>
+        requires { self.old.opened ≡ false }
+        ensures { AddsMessage B.held (CancelRequest process_id secret_key.now) B.Lacks self.old self.new result }
+    {
+        frontend::cancel_request_key(process_id, secret_key, &mut self.buf)
+    }
+
+    /// Opens a session of version 3.0 with these names and values, among them `user`. No name is empty.
+    ///
+    /// # Errors
+    ///
+    /// `EmbeddedNull` where a name or a value has a 0 byte, `TooLarge` where the message passes the greatest `i32`, and
+    /// `OutOfMemory` where a growth was refused. The stream stays as it is.
+    pub fn startup_message(&mut self, parameters: &[(&str, &str)]) -> Result<(), Error>
+        requires opening { self.old.opened ≡ false }
+        requires named { IsNamed (Startup ProtocolVersion.V3_0 (map shown parameters.now)) }
+        ensures { AddsMessage B.held (Startup ProtocolVersion.V3_0 (map shown parameters.now)) B.Lacks self.old self.new result }
+    {
+        self.startup_message_version(ProtocolVersion::V3_0, parameters)
+    }
+
+    /// Opens a session of this version with these names and values, among them `user`. No name is empty.
+    ///
+    /// # Errors
+    ///
+    /// `EmbeddedNull` where a name or a value has a 0 byte, `TooLarge` where the message passes the greatest `i32`, and
+    /// `OutOfMemory` where a growth was refused. The stream stays as it is.
+    pub fn startup_message_version(
+        &mut self,
+        version: ProtocolVersion,
+        parameters: &[(&str, &str)],
+    ) -> Result<(), Error>
+        requires opening { self.old.opened ≡ false }
+        requires named { IsNamed (Startup version (map shown parameters.now)) }
+        ensures { AddsMessage B.held (Startup version (map shown parameters.now)) B.Lacks self.old self.new result }
+    {
+        match frontend::startup_message_version(
+            version,
+            parameters.iter().copied(),
+            &mut self.buf,
+        ) {
+            Ok(()) => {
+                self.opened = true;
+                Ok(())
+            }
+            Err(e) => Err(e),
+        }
+    }
+
+    /// A query of any number of statements.
+    ///
+    /// # Errors
+    ///
+    /// `EmbeddedNull` where the query has a 0 byte, `TooLarge` where the message passes the greatest `i32`, and
+    /// `OutOfMemory` where a growth was refused. The stream stays as it is.
+    pub fn query(&mut self, query: &str) -> Result<(), Error>
+        requires { self.old.opened ≡ true }
+        ensures { AddsMessage B.held (Query query.now) B.Lacks self.old self.new result }
+    {
+        frontend::query(query, &mut self.buf)
+    }
+
+    /// Ends a series of extended queries.
+    ///
+    /// # Errors
+    ///
+    /// `OutOfMemory` where a growth was refused. The stream stays as it is.
+    pub fn sync(&mut self) -> Result<(), Error>
+        requires { self.old.opened ≡ true }
+        ensures { AddsMessage B.held Sync B.Lacks self.old self.new result }
+    {
+        frontend::sync(&mut self.buf)
+    }
+
+    /// A password, or the answer to an MD5 request.
+    ///
+    /// # Errors
+    ///
+    /// `EmbeddedNull` where the password has a 0 byte, `TooLarge` where the message passes the greatest `i32`, and
+    /// `OutOfMemory` where a growth was refused. The stream stays as it is.
+    pub fn password_message(&mut self, password: &[u8]) -> Result<(), Error>
+        requires { self.old.opened ≡ true }
+        ensures { AddsMessage B.held (PasswordMessage password.now) B.Lacks self.old self.new result }
+    {
+        frontend::password_message(password, &mut self.buf)
+    }
+
+    /// The end of the session.
+    ///
+    /// # Errors
+    ///
+    /// `OutOfMemory` where a growth was refused. The stream stays as it is.
+    pub fn terminate(&mut self) -> Result<(), Error>
+        requires { self.old.opened ≡ true }
+        ensures { AddsMessage B.held Terminate B.Lacks self.old self.new result }
+    {
+        frontend::terminate(&mut self.buf)
+    }
+
+    /// Asks for what the server holds back.
+    ///
+    /// # Errors
+    ///
+    /// `OutOfMemory` where a growth was refused. The stream stays as it is.
+    pub fn flush(&mut self) -> Result<(), Error>
+        requires { self.old.opened ≡ true }
+        ensures { AddsMessage B.held Flush B.Lacks self.old self.new result }
+    {
+        frontend::flush(&mut self.buf)
+    }
+
+    /// Closes a statement (`S`) or a portal (`P`). The variant may be any byte.
+    ///
+    /// # Errors
+    ///
+    /// `EmbeddedNull` where the name has a 0 byte, `TooLarge` where the message passes the greatest `i32`, and
+    /// `OutOfMemory` where a growth was refused. The stream stays as it is.
+    pub fn close(&mut self, variant: u8, name: &str) -> Result<(), Error>
+        requires { self.old.opened ≡ true }
+        ensures { AddsMessage B.held (Close variant name.now) B.Lacks self.old self.new result }
+    {
+        frontend::close(variant, name, &mut self.buf)
+    }
+
+    /// Asks what a statement (`S`) or a portal (`P`) gives. The variant may be any byte.
+    ///
+    /// # Errors
+    ///
+    /// `EmbeddedNull` where the name has a 0 byte, `TooLarge` where the message passes the greatest `i32`, and
+    /// `OutOfMemory` where a growth was refused. The stream stays as it is.
+    pub fn describe(&mut self, variant: u8, name: &str) -> Result<(), Error>
+        requires { self.old.opened ≡ true }
+        ensures { AddsMessage B.held (Describe variant name.now) B.Lacks self.old self.new result }
+    {
+        frontend::describe(variant, name, &mut self.buf)
+    }
+
+    /// Runs a portal, for at most so many rows; 0 is no limit.
+    ///
+    /// # Errors
+    ///
+    /// `EmbeddedNull` where the portal's name has a 0 byte, `TooLarge` where the message passes the greatest `i32`,
+    /// and `OutOfMemory` where a growth was refused. The stream stays as it is.
+    pub fn execute(&mut self, portal: &str, max_rows: i32) -> Result<(), Error>
+        requires { self.old.opened ≡ true }
+        ensures { AddsMessage B.held (Execute portal.now max_rows) B.Lacks self.old self.new result }
+    {
+        frontend::execute(portal, max_rows, &mut self.buf)
+    }
+
+    /// A piece of the data of a copy.
+    ///
+    /// # Errors
+    ///
+    /// The piece itself, nothing read from it, where a growth was refused. The stream stays as it is.
+    pub fn copy_data<T: Buf + Drop>(&mut self, piece: CopyData<T>) -> Result<(), CopyData<T>>
+        requires { self.old.opened ≡ true }
+        ensures { Adds B.held (λ m. m ≡ DataMessage (T.unread piece)) (λ back. (back ≡ piece) × Wants B.Lacks (B.held self.old.buf) (length (bytes_of (DataMessage (T.unread piece))))) self.old self.new result }
+    {
+        match piece.write(&mut self.buf) {
+            Ok(()) => Ok(()),
+            Err(back) => Err(back),
+        }
+    }
+
+    /// The end of the data.
+    ///
+    /// # Errors
+    ///
+    /// `OutOfMemory` where a growth was refused. The stream stays as it is.
+    pub fn copy_done(&mut self) -> Result<(), Error>
+        requires { self.old.opened ≡ true }
+        ensures { AddsMessage B.held CopyDone B.Lacks self.old self.new result }
+    {
+        frontend::copy_done(&mut self.buf)
+    }
+
+    /// Gives the copy up, with a text for the server's report.
+    ///
+    /// # Errors
+    ///
+    /// `EmbeddedNull` where the text has a 0 byte, `TooLarge` where the message passes the greatest `i32`, and
+    /// `OutOfMemory` where a growth was refused. The stream stays as it is.
+    pub fn copy_fail(&mut self, reason: &str) -> Result<(), Error>
+        requires { self.old.opened ≡ true }
+        ensures { AddsMessage B.held (CopyFail reason.now) B.Lacks self.old self.new result }
+    {
+        frontend::copy_fail(reason, &mut self.buf)
+    }
+
+    /// The first message of a SASL exchange.
+    ///
+    /// # Errors
+    ///
+    /// `EmbeddedNull` where the mechanism has a 0 byte, `TooLarge` where the message passes the greatest `i32`, and
+    /// `OutOfMemory` where a growth was refused. The stream stays as it is.
+    pub fn sasl_initial_response(&mut self, mechanism: &str, data: &[u8]) -> Result<(), Error>
+        requires { self.old.opened ≡ true }
+        ensures { AddsMessage B.held (SaslInitialResponse mechanism.now «data».now) B.Lacks self.old self.new result }
+    {
+        frontend::sasl_initial_response(mechanism, data, &mut self.buf)
+    }
+
+    /// A later message of a SASL exchange.
+    ///
+    /// # Errors
+    ///
+    /// `TooLarge` where the message passes the greatest `i32`, and `OutOfMemory` where a growth was refused. The
+    /// stream stays as it is.
+    pub fn sasl_response(&mut self, data: &[u8]) -> Result<(), Error>
+        requires { self.old.opened ≡ true }
+        ensures { AddsMessage B.held (SaslResponse «data».now) B.Lacks self.old self.new result }
+    {
+        frontend::sasl_response(data, &mut self.buf)
+    }
+
+    /// Prepares a statement of this name. The identifiers are the types of the first parameters; 0 leaves
+    /// one to the server.
+    ///
+    /// # Errors
+    ///
+    /// The first from the left of: `EmbeddedNull` where a text has a 0 byte, `TooLarge` at the identifier past 65,535,
+    /// which is not written, `TooLarge` where the message passes the greatest `i32`. Else `OutOfMemory` where a
+    /// growth was refused, which may come before any of them. The stream stays as it is.
+    pub fn parse<I: IntoIterator<Item = Oid> + Drop>(
+        &mut self,
+        name: &str,
+        query: &str,
+        param_types: I,
+    ) -> Result<(), Error>
+    where
+        I::IntoIter: Drop,
+        requires opened { self.old.opened ≡ true }
+        requires types_end { IsFiniteIterable I.into_iter_gives I.IntoIter.can_next I.IntoIter.remaining param_types }
+        ensures { AddsGiven B.held
+            (ParseWhole name.now query.now (Came I.into_iter_gives I.IntoIter.next_gives param_types))
+            (ParseSoFar name.now query.now (Came I.into_iter_gives I.IntoIter.next_gives param_types))
+            B.Lacks self.old self.new result }
+    {
+        match frontend::parse(name, query, param_types, &mut self.buf) {
+            Ok(()) => Ok(()),
+            Err(e) => Err(e),
+        }
+    }
+
+    /// Binds values to a statement's parameters, and makes a portal of it.
+    ///
+    /// # Errors
+    ///
+    /// The first from the left of: `Serialization` of `EmbeddedNull` where a name has a 0 byte, and of `TooLarge` at
+    /// the item past 65,535 of a list, which is not written, where the bytes of a value pass the greatest `i32`, or
+    /// where the message does; `Conversion` where the serializer refused a value. Else `Serialization` of
+    /// `OutOfMemory` where a growth was refused, which may come before any of them. The stream stays as it is.
+    pub fn bind<
+        T: Drop,
+        E: Drop,
+        I: IntoIterator<Item = i16> + Drop,
+        J: IntoIterator<Item = T> + Drop,
+        F: FnMut(T, &mut B) -> Result<IsNull, E> + Drop,
+        K: IntoIterator<Item = i16> + Drop,
+    >(
+        &mut self,
+        portal: &str,
+        statement: &str,
+        formats: I,
+        values: J,
+        serializer: F,
+        result_formats: K,
+    ) -> Result<(), BindError<E>>
+    where
+        I::IntoIter: Drop,
+        J::IntoIter: Drop,
+        K::IntoIter: Drop,
+        requires opened { self.old.opened ≡ true }
+        requires formats_end { IsFiniteIterable I.into_iter_gives I.IntoIter.can_next I.IntoIter.remaining formats }
+        requires values_end { IsFiniteIterable J.into_iter_gives J.IntoIter.can_next J.IntoIter.remaining values }
+        requires result_formats_end { IsFiniteIterable K.into_iter_gives K.IntoIter.can_next K.IntoIter.remaining result_formats }
+        requires callable { F.IsAlwaysCallable serializer }
+        requires owes { OwesValues B.held F.pre F.step }
+        ensures { (last : F) × Adds B.held
+            (BindWhole portal.now statement.now
+            (Came I.into_iter_gives I.IntoIter.next_gives formats)
+            (Came J.into_iter_gives J.IntoIter.next_gives values)
+            (Serves B.held F.step serializer last)
+            (Came K.into_iter_gives K.IntoIter.next_gives result_formats)
+            (B.held self.old.buf))
+            (BindRefused portal.now statement.now
+            (Came I.into_iter_gives I.IntoIter.next_gives formats)
+            (Came J.into_iter_gives J.IntoIter.next_gives values)
+            (Serves B.held F.step serializer last)
+            (Came K.into_iter_gives K.IntoIter.next_gives result_formats)
+            (B.held self.old.buf) B.Lacks)
+            self.old self.new result }
+    {
+        match frontend::bind(
+            portal,
+            statement,
+            formats,
+            values,
+            serializer,
+            result_formats,
+            &mut self.buf,
+        ) {
+            Ok(()) => Ok(()),
+            Err(e) => Err(e),
+        }
+    }
+}

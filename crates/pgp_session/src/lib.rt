@@ -1,0 +1,16 @@
+//! State machines over messages, without input or output: what a client sends, what a server sends, the log-in of a client, and
+//! the cores of a server, of a proxy and of a pooler.
+#![tactic(auto)]
+
+pub mod client;
+mod client_stream;
+mod parsed;
+pub mod pooler;
+pub mod proxy;
+pub mod scram_login;
+pub mod serving;
+mod stream_parser;
+
+pub use client_stream::ClientStream;
+pub use parsed::{Parsed, parse_stream};
+pub use stream_parser::StreamParser;

@@ -1,0 +1,157 @@
+//! A pooler's core: it is handed the messages of both sides, and tells where a session is idle, so that the server's
+//! connection can be lent to another client.
+
+ghost use Rattle.std.specs.Prelude.{◌≡◌, ◌<◌, ◌∷◌, ◌++◌, [], None, List, ℕ};
+ghost use Rattle.std.specs.Bool.{Decides};
+ghost use Rattle.pgp_frontend_read.specs.OtherMessage.{AnyMessage as Sent, Other, Ours};
+ghost use Rattle.pgp_message.specs.BackendMessage.{Message as Came};
+ghost use Rattle.pgp_message.specs.Views.{view as came_view};
+ghost use Rattle.pgp_frontend_read.specs.AnyViews.{any_view as sent_view, other_view};
+ghost use Rattle.pgp_frontend_read.specs.Views.{view};
+ghost use Rattle.pgp_session.specs.Pooler.{IsIdle, IsQuiet, Saw, asks, awaits, extends, readies, status, waits};
+ghost use Rattle.pgp_session.specs.declared.pooler.Session.{Session as Known};
+
+use pgp_frontend_read::{AnyMessage, ClientMessage, OtherMessage};
+use pgp_message::{Message, Storage};
+
+/// What is known of a session. A startup packet, a Query, a FunctionCall and a Sync are each answered by one ReadyForQuery in the end; but a
+/// server passes over a Sync while rows are copied to it, and behind an error of an extended query all that comes before the next Sync. Behind
+/// such a message no session is told to be idle any more.
+#[derive(Debug, Clone, Copy, PartialEq, Eq)]
+pub struct Session {
+    /// How many of those came from the client, or the greatest `u64` where there were more.
+    pub asked: u64,
+    /// How many ReadyForQuerys came from the server, or the greatest `u64`.
+    pub readied: u64,
+    /// The status that the last of them told: `I` where no transaction is open.
+    pub status: Option<u8>,
+    /// Whether a part of an extended query came from the client, and nothing behind it that ends one.
+    pub unfinished: bool,
+}
+
+impl Session {
+    /// A session in which nothing was sent.
+    pub fn new() -> Session
+        ensures { Saw [] [] result }
+    {
+        Session {
+            asked: 0,
+            readied: 0,
+            status: None,
+            unfinished: false,
+        }
+    }
+
+    /// Takes note of a message that the client sent.
+    pub fn sent(&mut self, message: &AnyMessage<'_>)
+        ensures { (sent : List Sent) (came : List Came) → Saw sent came self.old → Saw (sent ++ sent_view message.now ∷ []) came self.new }
+    {
+        self.unfinished = waits(self.unfinished, message);
+        if awaits(message) {
+            self.asked = self.asked.saturating_add(1);
+        }
+    }
+
+    /// Takes note of a message that the server sent.
+    pub fn came<S: Storage>(&mut self, message: &Message<S>)
+        ensures { (sent : List Sent) (came : List Came) → Saw sent came self.old → Saw sent (came ++ came_view message.now ∷ []) self.new }
+    {
+        if let Some(status) = status(message) {
+            self.readied = self.readied.saturating_add(1);
+            self.status = Some(status);
+        }
+    }
+
+    /// Whether the session is idle behind the bytes that came: nothing of a message that isn't whole waits on the client's side nor on
+    /// the server's, every message that awaits a ReadyForQuery has it, the last of these told `I`, and no part of an extended query came
+    /// behind the last message that ends one.
+    pub fn is_idle(&self, client: &[u8], server: &[u8]) -> bool
+        ensures { Decides result (IsQuiet self.now client.now server.now) }
+    {
+        client.is_empty()
+            && server.is_empty()
+            && self.asked < u64::MAX
+            && self.asked == self.readied
+            && self.status == Some(b'I')
+            && !self.unfinished
+    }
+}
+
+/// What is told of a session that saw these messages is so: all that the client sent is answered, no part of an extended query is left
+/// without its end, and no transaction is open. Where the counts fit a `u64`, it is told exactly then.
+pub fn idle_by_messages()
+    ensures told { (sent : List Sent) (came : List Came) (session : Known) (client server : List ℕ) → Saw sent came session → IsQuiet session client server → IsIdle sent came }
+    ensures known { (sent : List Sent) (came : List Came) (session : Known) → Saw sent came session → IsIdle sent came → asks sent < 18446744073709551615 → IsQuiet session [] [] }
+{}
+
+/// Whether the server says in the end that it is ready.
+fn awaits(message: &AnyMessage<'_>) -> bool
+    ensures { result ≡ awaits (sent_view message.now) }
+{
+    match message {
+        AnyMessage::Ours(message) => ours_awaits(message),
+        AnyMessage::Other(message) => other_awaits(message),
+    }
+}
+
+fn ours_awaits(message: &ClientMessage<'_>) -> bool
+    ensures { result ≡ awaits (Ours (view message.now)) }
+{
+    match message {
+        ClientMessage::Startup { .. } | ClientMessage::Query(_) | ClientMessage::Sync => true,
+        _ => false,
+    }
+}
+
+fn other_awaits(message: &OtherMessage<'_>) -> bool
+    ensures { result ≡ awaits (Other (other_view message.now)) }
+{
+    match message {
+        OtherMessage::StartupOther { .. } | OtherMessage::FunctionCall { .. } => true,
+        _ => false,
+    }
+}
+
+/// Whether a part of an extended query waits for its end, behind a message.
+fn waits(before: bool, message: &AnyMessage<'_>) -> bool
+    ensures { result ≡ waits before (sent_view message.now) }
+{
+    if awaits(message) {
+        return false;
+    }
+    if extends(message) {
+        return true;
+    }
+    before
+}
+
+/// Whether it is a part of an extended query.
+fn extends(message: &AnyMessage<'_>) -> bool
+    ensures { result ≡ extends (sent_view message.now) }
+{
+    match message {
+        AnyMessage::Ours(message) => ours_extends(message),
+        AnyMessage::Other(_) => false,
+    }
+}
+
+fn ours_extends(message: &ClientMessage<'_>) -> bool
+    ensures { result ≡ extends (Ours (view message.now)) }
+{
+    match message {
+        ClientMessage::Parse { .. } | ClientMessage::Bind { .. } => true,
+        ClientMessage::Describe { .. } | ClientMessage::Execute { .. } => true,
+        ClientMessage::Close { .. } => true,
+        _ => false,
+    }
+}
+
+/// The status that a ReadyForQuery tells.
+fn status<S: Storage>(message: &Message<S>) -> Option<u8>
+    ensures { result ≡ status (came_view message.now) }
+{
+    match message {
+        Message::ReadyForQuery(body) => Some(body.status()),
+        _ => None,
+    }
+}

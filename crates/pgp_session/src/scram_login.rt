@@ -1,0 +1,351 @@
+//! A client's core from the startup packet to the end of a log-in with SCRAM-SHA-256: it is handed a server's
+//! messages, and tells what they come to and what is to be sent. It reads and writes nothing itself.
+
+ghost use Rattle.std.specs.Prelude.{◌≡◌, [], ◌∷◌, ◌++◌, List, codes, true, false, option_map, Contains, None, IfOk, IfErr};
+ghost use Rattle.pgp_base.specs.Items.{MarkedItems};
+ghost use Rattle.pgp_auth.specs.ScramClient.{Client as Exchange};
+ghost use Rattle.pgp_frontend.specs.ClientMessage.{Startup};
+ghost use Rattle.pgp_frontend.specs.declared.startup.ProtocolVersion.TheVariants.{V3_0};
+ghost use Rattle.pgp_message.specs.BackendMessage.{Message as BackendMessage};
+ghost use Rattle.pgp_message.specs.Items.{TextSpelled, TextRefused};
+ghost use Rattle.pgp_message.specs.Views.{view};
+ghost use Rattle.pgp_session.specs.ClientStream.{IsAdded, RefusesMessage};
+ghost use Rattle.pgp_session.specs.ScramLogin.{HearsFinal, HearsFirst, HearsOffer, Knows, Offers, Steps, is_due, heard, says, seen};
+
+use crate::client::{Client, Phase};
+use crate::client_stream::ClientStream;
+use bytes::Bytes;
+use pgp_auth::authentication::sasl::{SCRAM_SHA_256, ScramError, ScramSha256};
+use pgp_base::{Buffer, Error, FallibleIterator, Memory};
+use pgp_message::{
+    AuthenticationSaslBody, AuthenticationSaslContinueBody, AuthenticationSaslFinalBody, Message,
+    SaslMechanisms, Storage,
+};
+use std::alloc::{Allocator, Global};
+
+/// How far a log-in is.
+#[derive(Debug, Clone, Copy, PartialEq, Eq)]
+pub enum LoginPhase {
+    /// The startup packet is to be sent, and the server's mechanisms are awaited.
+    AwaitsOffer,
+    /// The exchange has begun.
+    AwaitsFirst,
+    /// The server's first text is answered.
+    AwaitsFinal,
+    /// The server has shown its signature.
+    AwaitsOk,
+    /// The log-in is done.
+    Done,
+    /// The log-in has failed.
+    Over,
+}
+
+/// What a message of the server comes to.
+#[derive(Debug, Clone, Copy, PartialEq, Eq)]
+pub enum LoginEvent {
+    /// Nothing that the log-in depends on.
+    Noted,
+    /// The server refuses the session.
+    Refused,
+    /// The exchange begins: its first text is to be sent.
+    Began,
+    /// The server's first text is answered: the final text is to be sent.
+    Replied,
+    /// The server has shown its signature.
+    Verified,
+    /// The log-in is done.
+    Admitted,
+}
+
+/// Why a step was refused.
+#[derive(Debug, Drop)]
+pub enum LoginFault<A: Allocator = Global> {
+    /// The message has no place there.
+    Unexpected,
+    /// The server doesn't offer SCRAM-SHA-256, or its list of mechanisms is cut short.
+    NotOffered,
+    /// The reply couldn't be written.
+    Unsent(Error),
+    /// The exchange refused the server's text, or memory for its own; or it was over before it began.
+    Scram(ScramError<A>),
+}
+
+/// Bytes that a message keeps, shared or in place, where what a server says in a SASL exchange can be read.
+pub trait SaslStorage: Storage + Sized {
+    /// The mechanisms, by name.
+    fn mechanisms<'m>(body: &'m AuthenticationSaslBody<Self>) -> SaslMechanisms<'m>
+        ensures items { MarkedItems TextSpelled TextRefused body.now result.items result.end };
+
+    /// The server's challenge.
+    fn challenge<'m>(body: &'m AuthenticationSaslContinueBody<Self>) -> &'m [u8]
+        ensures { result.now ≡ body.now };
+
+    /// The server's last word.
+    fn outcome<'m>(body: &'m AuthenticationSaslFinalBody<Self>) -> &'m [u8]
+        ensures { result.now ≡ body.now };
+}
+
+impl<A: Allocator> SaslStorage for Bytes<A> {
+    fn mechanisms<'m>(body: &'m AuthenticationSaslBody<Bytes<A>>) -> SaslMechanisms<'m> {
+        body.mechanisms()
+    }
+
+    fn challenge<'m>(body: &'m AuthenticationSaslContinueBody<Bytes<A>>) -> &'m [u8] {
+        body.data()
+    }
+
+    fn outcome<'m>(body: &'m AuthenticationSaslFinalBody<Bytes<A>>) -> &'m [u8] {
+        body.data()
+    }
+}
+
+impl<'a> SaslStorage for &'a [u8] {
+    fn mechanisms<'m>(body: &'m AuthenticationSaslBody<&'a [u8]>) -> SaslMechanisms<'m> {
+        body.mechanisms()
+    }
+
+    fn challenge<'m>(body: &'m AuthenticationSaslContinueBody<&'a [u8]>) -> &'m [u8] {
+        body.data()
+    }
+
+    fn outcome<'m>(body: &'m AuthenticationSaslFinalBody<&'a [u8]>) -> &'m [u8] {
+        body.data()
+    }
+}
+
+/// A log-in with SCRAM-SHA-256.
+#[derive(Drop)]
+pub struct ScramLogin<A: Allocator, B: Buffer> {
+    /// How far it is.
+    pub phase: LoginPhase,
+    /// The exchange, which has the password.
+    pub exchange: ScramSha256<A>,
+    /// What is to be sent.
+    pub out: ClientStream<B>,
+}
+
+impl<A: Memory, B: Buffer + Drop> ScramLogin<A, B> {
+    /// A log-in of this user, with an exchange that has begun: its startup packet is the first that it has to send.
+    ///
+    /// # Errors
+    ///
+    /// `EmbeddedNull` where the name has a 0 byte, `TooLarge` where it is too long for a message, and `OutOfMemory`.
+    pub fn open(
+        user: &str,
+        exchange: ScramSha256<A>,
+        mut out: ClientStream<B>,
+    ) -> Result<ScramLogin<A, B>, Error>
+        requires { out.opened ≡ false }
+        ensures sent { IfOk result (λ login. IsAdded B.held (Startup V3_0 ((codes "user", user.now) ∷ [])) out login.out) }
+        ensures opened { IfOk result (λ login. login.out.opened ≡ true) }
+        ensures phase { IfOk result (λ login. login.phase ≡ LoginPhase.AwaitsOffer) }
+        ensures exchange { IfOk result (λ login. login.exchange ≡ exchange) }
+        ensures refused { IfErr result (RefusesMessage (Startup V3_0 ((codes "user", user.now) ∷ [])) B.Lacks (B.held out.buf)) }
+    {
+        out.startup_message(&[("user", user)])?;
+        Ok(ScramLogin {
+            phase: LoginPhase::AwaitsOffer,
+            exchange,
+            out,
+        })
+    }
+
+    /// Takes the server's next message, and appends the reply if there is one. Whatever came before, where the log-in
+    /// is then `Done`, the server has shown that it holds the password's verifier.
+    ///
+    /// # Errors
+    ///
+    /// `Unexpected` where the message has no place in the phase, and `NotOffered` where the server offers no
+    /// SCRAM-SHA-256: the log-in is as it was. `Scram` where the exchange refuses the server's text, and `Unsent` of
+    /// `OutOfMemory` where the buffer's growth is refused: behind the first text of the exchange the log-in is over.
+    pub fn step<S: SaslStorage>(
+        &mut self,
+        message: &Message<S>,
+    ) -> Result<LoginEvent, LoginFault<A>>
+        requires { self.old.out.opened ≡ true }
+        ensures stepped { Steps B.held A.Lacks B.Lacks (view message.now)
+            (record { phase = self.old.phase; exchange = self.old.exchange; out = self.old.out })
+            (record { phase = self.new.phase; exchange = self.new.exchange; out = self.new.out }) result }
+        ensures known { (start : Exchange) (came : List BackendMessage)
+            → Knows start came self.old.phase self.old.exchange
+            → Knows start (came ++ (view message.now ∷ [])) self.new.phase self.new.exchange }
+        ensures opened { self.new.out.opened ≡ true }
+    {
+        self.hear(message)
+    }
+
+    /// The step, by what the message says.
+    fn hear<S: SaslStorage>(&mut self, message: &Message<S>) -> Result<LoginEvent, LoginFault<A>>
+        requires { self.old.out.opened ≡ true }
+        ensures stepped { Steps B.held A.Lacks B.Lacks (view message.now)
+            (record { phase = self.old.phase; exchange = self.old.exchange; out = self.old.out })
+            (record { phase = self.new.phase; exchange = self.new.exchange; out = self.new.out }) result }
+        ensures opened { self.new.out.opened ≡ true }
+    {
+        let Some(heard) = heard_in(self.phase, message) else {
+            return Err(LoginFault::Unexpected);
+        };
+        match heard {
+            Heard::Notice => Ok(LoginEvent::Noted),
+            Heard::Failure => {
+                self.phase = LoginPhase::Over;
+                Ok(LoginEvent::Refused)
+            }
+            Heard::Offer(body) => self.begin(body),
+            Heard::First(text) => self.reply(text),
+            Heard::Final(text) => self.verify(text),
+            Heard::Welcome => {
+                self.phase = LoginPhase::Done;
+                Ok(LoginEvent::Admitted)
+            }
+        }
+    }
+
+    /// The client's core behind the log-in, which asks this query.
+    pub fn client<'a>(self, query: &'a str) -> Client<'a, B>
+        requires { self.phase ≡ LoginPhase.Done }
+        ensures phase { result.phase ≡ Phase.Starting }
+        ensures out { result.out ≡ self.out }
+        ensures query { result.query.now ≡ query.now }
+    {
+        Client {
+            phase: Phase::Starting,
+            out: self.out,
+            query,
+        }
+    }
+
+    /// The server's mechanisms came: the exchange's first text is sent.
+    fn begin<S: SaslStorage>(
+        &mut self,
+        body: &AuthenticationSaslBody<S>,
+    ) -> Result<LoginEvent, LoginFault<A>>
+        requires { self.old.out.opened ≡ true }
+        ensures heard { HearsOffer B.held A.Lacks B.Lacks body.now
+            (record { phase = self.old.phase; exchange = self.old.exchange; out = self.old.out })
+            (record { phase = self.new.phase; exchange = self.new.exchange; out = self.new.out }) result }
+        ensures opened { self.new.out.opened ≡ true }
+    {
+        if !offers(body) {
+            return Err(LoginFault::NotOffered);
+        }
+        let Some(first) = self.exchange.message() else {
+            return Err(LoginFault::Scram(ScramError::WrongState));
+        };
+        if let Err(e) = self.out.sasl_initial_response(SCRAM_SHA_256, first) {
+            return Err(LoginFault::Unsent(e));
+        }
+        self.phase = LoginPhase::AwaitsFirst;
+        Ok(LoginEvent::Began)
+    }
+
+    /// The server's first text came: the exchange's final text is sent.
+    fn reply(&mut self, text: &[u8]) -> Result<LoginEvent, LoginFault<A>>
+        requires { self.old.out.opened ≡ true }
+        ensures heard { HearsFirst B.held A.Lacks B.Lacks text.now
+            (record { phase = self.old.phase; exchange = self.old.exchange; out = self.old.out })
+            (record { phase = self.new.phase; exchange = self.new.exchange; out = self.new.out }) result }
+        ensures opened { self.new.out.opened ≡ true }
+    {
+        self.phase = LoginPhase::Over;
+        if let Err(e) = self.exchange.update(text) {
+            return Err(LoginFault::Scram(e));
+        }
+        let Some(answer) = self.exchange.message() else {
+            return Err(LoginFault::Unexpected);
+        };
+        if let Err(e) = self.out.sasl_response(answer) {
+            return Err(LoginFault::Unsent(e));
+        }
+        self.phase = LoginPhase::AwaitsFinal;
+        Ok(LoginEvent::Replied)
+    }
+
+    /// The server's final text came, which has to show its signature.
+    fn verify(&mut self, text: &[u8]) -> Result<LoginEvent, LoginFault<A>>
+        ensures heard { HearsFinal B.held A.Lacks B.Lacks text.now
+            (record { phase = self.old.phase; exchange = self.old.exchange; out = self.old.out })
+            (record { phase = self.new.phase; exchange = self.new.exchange; out = self.new.out }) result }
+        ensures out { self.new.out ≡ self.old.out }
+    {
+        self.phase = LoginPhase::Over;
+        if let Err(e) = self.exchange.finish(text) {
+            return Err(LoginFault::Scram(e));
+        }
+        self.phase = LoginPhase::AwaitsOk;
+        Ok(LoginEvent::Verified)
+    }
+}
+
+/// What a server says to a client that logs in.
+#[derive(Drop)]
+enum Heard<'m, S: Storage> {
+    Notice,
+    Failure,
+    Offer(&'m AuthenticationSaslBody<S>),
+    First(&'m [u8]),
+    Final(&'m [u8]),
+    Welcome,
+}
+
+/// What the message says, if that is due in the phase.
+fn heard_in<'m, S: SaslStorage>(phase: LoginPhase, message: &'m Message<S>) -> Option<Heard<'m, S>>
+    ensures { option_map seen result ≡ heard phase (view message.now) }
+{
+    match said_by(message) {
+        Some(said) if is_due(phase, &said) => Some(said),
+        _ => None,
+    }
+}
+
+/// What the message says. An answer about versions says nothing here: the log-in stops at it.
+fn said_by<'m, S: SaslStorage>(message: &'m Message<S>) -> Option<Heard<'m, S>>
+    ensures { option_map seen result ≡ says (view message.now) }
+{
+    match message {
+        Message::NoticeResponse(_) => Some(Heard::Notice),
+        Message::ErrorResponse(_) => Some(Heard::Failure),
+        Message::AuthenticationSasl(body) => Some(Heard::Offer(body)),
+        Message::AuthenticationSaslContinue(body) => Some(Heard::First(S::challenge(body))),
+        Message::AuthenticationSaslFinal(body) => Some(Heard::Final(S::outcome(body))),
+        Message::AuthenticationOk => Some(Heard::Welcome),
+        _ => None,
+    }
+}
+
+/// Whether it is due in the phase.
+fn is_due<S: Storage>(phase: LoginPhase, said: &Heard<'_, S>) -> bool
+    ensures { result ≡ is_due phase (seen said.now) }
+{
+    match phase {
+        LoginPhase::Done | LoginPhase::Over => false,
+        LoginPhase::AwaitsOffer => matches!(said, Heard::Notice | Heard::Failure | Heard::Offer(_)),
+        LoginPhase::AwaitsFirst => matches!(said, Heard::Notice | Heard::Failure | Heard::First(_)),
+        LoginPhase::AwaitsFinal => matches!(said, Heard::Notice | Heard::Failure | Heard::Final(_)),
+        LoginPhase::AwaitsOk => matches!(said, Heard::Notice | Heard::Failure | Heard::Welcome),
+    }
+}
+
+/// Whether SCRAM-SHA-256 is one of the mechanisms, whose list ends well.
+fn offers<S: SaslStorage>(body: &AuthenticationSaslBody<S>) -> bool
+    ensures yes { result ≡ true → Offers body.now }
+    ensures no { result ≡ false → Offers body.now → ⊥ }
+{
+    pgp_message::laws::one_list_of_mechanisms();
+    has_scram(S::mechanisms(body))
+}
+
+/// Whether SCRAM-SHA-256 is one of the names, and the walk isn't refused.
+fn has_scram(mut names: SaslMechanisms<'_>) -> bool
+    ensures yes { result ≡ true → (names.entry.end ≡ None) × Contains names.entry.items (codes "SCRAM-SHA-256") }
+    ensures no { result ≡ false → names.entry.end ≡ None → Contains names.entry.items (codes "SCRAM-SHA-256") → ⊥ }
+{
+    let mut found = false;
+    'names: loop {
+        match names.next() {
+            Ok(Some(name)) => found |= name == SCRAM_SHA_256,
+            Ok(None) => return found,
+            Err(_) => return false,
+        }
+    }
+}

@@ -1,5 +1,0 @@
-use Rattle.pgp_uses.proofs.Counted.{quiet_is_idle, idle_is_quiet}
-use Rattle.pgp_uses.proofs.pooler.idle_by_messages.Goals as goal
-
-pub returns : goal.returns
-returns c = record { told = quiet_is_idle; known = idle_is_quiet }

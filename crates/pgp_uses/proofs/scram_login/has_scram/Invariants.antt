@@ -1,9 +1,0 @@
-use Rattle.std.proofs.Common.{length, codes}
-use Rattle.pgp_uses.proofs.Mechanisms.{HasSought}
-use Rattle.pgp_uses.proofs.scram_login.has_scram.Given as goal
-
-abbrev pub invariant-names : goal.invariant-names
-invariant-names l = HasSought (codes "SCRAM-SHA-256") l.fn.names l.found l.names
-
-abbrev pub decreases-names : goal.decreases-names
-decreases-names l = length l.names.items
