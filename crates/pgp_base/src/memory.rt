@@ -1,9 +1,10 @@
 //! What owned lists, texts and shared bytes take their memory from.
 
-ghost use Rattle.std.specs.Prelude.{◌≡◌, ◌+◌, ◌<◌, ◌≤◌, ◌∷◌, ◌++◌, [], length, take, drop, is_ok, if◌then◌else◌, string_bytes, vec_len, vec_capacity, Ok, IsOk, IfOk, IfErr, OnErr, OnOk};
+ghost use Rattle.std.specs.Prelude.{◌≡◌, ◌+◌, ◌-◌, ◌<◌, ◌≤◌, ◌∷◌, ◌++◌, [], length, take, drop, replicate, is_ok, if◌then◌else◌, string_bytes, vec_len, vec_capacity, Ok, IsOk, IfOk, IfErr, OnErr, OnOk};
 ghost use Rattle.std.specs.Char.{encode_utf8};
 ghost use Rattle.std.specs.Fmt.{AppendsText};
 ghost use Rattle.std.specs.List.{slice_range};
+ghost use Rattle.std.specs.VecDeque.{deque_len, deque_capacity};
 ghost use Rattle.base64.specs.Engines.{standard};
 ghost use Rattle.base64.specs.GeneralPurpose.{encode_of, decode_of, IsDecodeFailure};
 ghost use Rattle.hex.specs.Hex.{encode_lower};
@@ -12,6 +13,7 @@ use base64::DecodeAllocError;
 use base64::engine::general_purpose::STANDARD;
 use bytes::{Buf, BufMut, Bytes, BytesMut};
 use std::alloc::{AllocError, AllocFailed, Allocator};
+use std::collections::VecDeque;
 use std::fmt::Display;
 use std::mem;
 
@@ -53,6 +55,18 @@ pub trait Memory: Allocator + Copy {
         ensures succeeds { vec_len list.old < vec_capacity list.old → IsOk result }
         ensures lacks { OnErr result Lacks };
 
+    /// Appends an item to a queue, as `VecDeque::push_back` does.
+    ///
+    /// # Errors
+    ///
+    /// `AllocFailed` if there is no memory for it; on error the queue is unchanged and the item comes back.
+    fn push_back<T>(queue: &mut VecDeque<T, Self>, value: T) -> Result<(), AllocFailed<T>>
+        ensures items { queue.new.items ≡ (if is_ok result then queue.old.items ++ value ∷ [] else queue.old.items) }
+        ensures value_returned { IfErr result (λ y. y.value ≡ value) }
+        ensures capacity { deque_capacity queue.old ≤ deque_capacity queue.new }
+        ensures succeeds { deque_len queue.old < deque_capacity queue.old → IsOk result }
+        ensures lacks { OnErr result Lacks };
+
     /// Makes room for so many items more, as `Vec::reserve` does.
     ///
     /// # Errors
@@ -83,6 +97,7 @@ pub trait Memory: Allocator + Copy {
     ///
     /// `AllocError` where there is no memory for them.
     fn list_filled(self, byte: u8, len: usize) -> Result<Vec<u8, Self>, AllocError>
+        ensures items { IfOk result (λ v. v.items ≡ replicate len byte) }
         ensures len { IfOk result (λ v. vec_len v ≡ len) }
         ensures lacks { OnErr result Lacks };
 
@@ -92,8 +107,8 @@ pub trait Memory: Allocator + Copy {
     ///
     /// `AllocError` where there is no memory for them.
     fn resize(list: &mut Vec<u8, Self>, len: usize, byte: u8) -> Result<(), AllocError>
+        ensures items { list.new.items ≡ (if is_ok result then take len list.old.items ++ replicate (len - vec_len list.old) byte else list.old.items) }
         ensures len { OnOk result (vec_len list.new ≡ len) }
-        ensures err { OnErr result (list.new.items ≡ list.old.items) }
         ensures lacks { OnErr result Lacks };
 
     /// An empty text with room for so many bytes, as `String::with_capacity` makes it.
@@ -275,6 +290,10 @@ impl<A: Allocator + Copy> Memory for A {
 
     fn push<T>(list: &mut Vec<T, A>, value: T) -> Result<(), AllocFailed<T>> {
         list.push(value)
+    }
+
+    fn push_back<T>(queue: &mut VecDeque<T, A>, value: T) -> Result<(), AllocFailed<T>> {
+        queue.push_back(value)
     }
 
     fn reserve<T>(list: &mut Vec<T, A>, additional: usize) -> Result<(), AllocError> {
