@@ -2,12 +2,13 @@
 # `make program` proves and builds the program, which `make run` and `./pgwire` run from then on.
 # `make edits`, before a release, tries every wrong body by itself, `make edits CRATES=pgp_base` those of one crate.
 # `make live` tries SASLprep, and what psql, pgbench and pg_dump send, with a PostgreSQL server of this machine, which it starts and stops; pgserve with psql and pgbench; and
-# examples/record.sh, which lists a session of psql with pgtrace.
+# examples/record.sh, which lists a session of psql with pgtrace; binary values, and programs over them.
 # `make library` proves and builds the library for C (docs/C.md), `make install PREFIX=..` puts it and the program there, and
 # `make check-c` tries it from C, C++ and Python (`LIBRARIES=gate`, right behind `rt ci`, takes the libraries below it from there).
+# `make check-vendor` runs the commands of docs/VENDORING.md in an empty folder. `make contracts` writes docs/CONTRACTS.md from the sources.
 # `make bench` times the works of crates/pgp_bench, `make bench WORKS=write` those whose names begin so.
 
-.PHONY: run program test edits bench live library install check-c
+.PHONY: run program test edits contracts bench live library install check-c check-vendor
 
 run:
 	@scripts/sample
@@ -24,6 +25,9 @@ edits:
 	@command -v rt >/dev/null 2>&1 || { echo "make: the Rattle toolchain is missing: no command 'rt' on the PATH" >&2; exit 1; }
 	.ci/edits $(CRATES)
 
+contracts:
+	.ci/contracts --write
+
 bench:
 	@command -v rt >/dev/null 2>&1 || { echo "make: the Rattle toolchain is missing: no command 'rt' on the PATH" >&2; exit 1; }
 	cd crates/pgp_bench && rt run -- check
@@ -38,6 +42,9 @@ live:
 	@scripts/live_sessions
 	@scripts/live_serve
 	@scripts/live_trace
+	@[ -e out/c/libpostgres_protocol.so ] || scripts/library build
+	@scripts/live_values
+	@scripts/live_programs
 
 library:
 	@scripts/library build
@@ -48,3 +55,6 @@ install:
 
 check-c:
 	@scripts/check_c $(LIBRARIES)
+
+check-vendor:
+	@scripts/check_vendor

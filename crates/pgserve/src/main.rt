@@ -1,5 +1,5 @@
 //! A server for tests of drivers: it logs one client in by SCRAM-SHA-256, and answers the statements that a script names. Standard
-//! input and output are the connection. README.md says how a script is written.
+//! input and output are the connection. docs/PGSERVE.md says how a script is written.
 #![tactic(auto)]
 
 mod answer;

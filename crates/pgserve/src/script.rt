@@ -1,4 +1,4 @@
-//! A script: statements, and what the server answers to each. README.md says how it is written.
+//! A script: statements, and what the server answers to each. docs/PGSERVE.md says how it is written.
 
 use crate::fault::Fault;
 use crate::text::{trimmed, unescaped};
