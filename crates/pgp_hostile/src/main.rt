@@ -5,7 +5,6 @@ mod cuts;
 mod data;
 mod fault;
 mod lengths;
-mod names;
 mod parts;
 mod reading;
 mod scram;

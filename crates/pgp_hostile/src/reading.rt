@@ -1,7 +1,6 @@
 //! What was read of a stream, result by result.
 
 use crate::fault::Fault;
-use crate::names::name_of;
 use crate::parts::Parts;
 use crate::sum::Sum;
 use crate::text::Text;
@@ -88,7 +87,7 @@ impl Reading {
     where
         Message<S>: Parts,
     {
-        let name = name_of(message);
+        let name = message.name();
         let mut sum = Sum::new(self.alloc);
         sum.bytes(name.as_bytes());
         message.add_parts(&mut sum);

@@ -12,3 +12,4 @@ pub mod ItemReading
 pub mod FrontReading
 pub mod FrameSteps
 pub mod Rows
+pub mod Names

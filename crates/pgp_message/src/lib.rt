@@ -10,6 +10,7 @@ mod header;
 mod in_place;
 pub mod laws;
 mod message;
+mod name;
 mod parser;
 mod request;
 mod row_index;

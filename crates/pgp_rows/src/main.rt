@@ -9,9 +9,9 @@ mod client_parts;
 mod client_read;
 mod client_steps;
 mod codec;
+mod dialogue;
 mod fault;
 mod lists;
-mod names;
 mod numbers;
 mod passwords;
 mod ranges;
@@ -28,6 +28,7 @@ mod word;
 
 use client_read::check_client_read;
 use codec::{check_answer, check_value, check_writer};
+use dialogue::check_dialogue;
 use fault::Fault;
 use replies::check_reply;
 use row::Row;
@@ -42,6 +43,7 @@ use std::{fs, io};
 enum Family {
     Client,
     ClientRead,
+    Dialogue,
     Integers,
     Times,
     Bits,
@@ -59,10 +61,11 @@ enum Family {
     Saslprep,
 }
 
-const FILES: [(&str, Family); 19] = [
+const FILES: [(&str, Family); 20] = [
     ("client.rows", Family::Client),
     ("client_read.rows", Family::ClientRead),
     ("client_replaced.rows", Family::ClientRead),
+    ("dialogue.rows", Family::Dialogue),
     ("integers.rows", Family::Integers),
     ("times.rows", Family::Times),
     ("bits.rows", Family::Bits),
@@ -86,6 +89,7 @@ fn check(alloc: Global, family: Family, row: &Row<'_>, out: &mut Shown) -> Resul
     match family {
         Family::Client => check_writer::<client::Client>(alloc, row, out),
         Family::ClientRead => check_client_read(alloc, row, out),
+        Family::Dialogue => check_dialogue(alloc, row, out),
         Family::Integers => check_value::<numbers::Integers>(alloc, row, out),
         Family::Times => check_value::<numbers::Times>(alloc, row, out),
         Family::Bits => check_value::<numbers::Bits>(alloc, row, out),

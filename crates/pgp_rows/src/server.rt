@@ -2,7 +2,6 @@
 
 use crate::bodies::Parts;
 use crate::fault::Fault;
-use crate::names::name_of;
 use crate::row::Row;
 use crate::shown::Shown;
 use crate::word::bytes_of;
@@ -20,7 +19,7 @@ fn show_message<S: Storage>(message: &Message<S>, out: &mut Shown)
 where
     Message<S>: Parts,
 {
-    out.word(name_of(message));
+    out.word(message.name());
     message.show_parts(out);
     out.word(";");
 }

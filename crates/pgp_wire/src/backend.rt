@@ -3,9 +3,9 @@
 ghost use Rattle.std.specs.Prelude.{◌≡◌, ◌≢◌, ◌<◌, ◌++◌, length, false, IfOk, IfErr, OnOk, IfSome, map, string_bytes, codes, decimal};
 ghost use Rattle.std.specs.Io.KnownBytes.{IsAtEnd, Keeps};
 ghost use Rattle.std.specs.List.{flat_map};
-ghost use Rattle.pgp_message.specs.Views.{seen, view};
+ghost use Rattle.pgp_message.specs.Views.{seen};
 ghost use Rattle.pgp_program.specs.Interruptions.{GivesUp};
-ghost use Rattle.pgp_wire.specs.Output.{line, name_of, line_of, last_line, BackendOutput};
+ghost use Rattle.pgp_wire.specs.Output.{line, line_of, last_line, BackendOutput};
 ghost use Rattle.pgp_wire.specs.Listing.{ListsPiece};
 ghost use Rattle.pgp_wire.specs.Command.{Backend, Caused, IsCut, IsWritten};
 
@@ -124,7 +124,7 @@ fn list<S: Storage, A: Memory>(
 {
     for read in results {
         match read {
-            Ok(message) => put_line(name_of(message), text)?,
+            Ok(message) => put_line(message.name(), text)?,
             Err(e) => put_fault(e.number(), text)?,
         }
     }
@@ -161,44 +161,4 @@ fn list_rest<A: Memory>(stopped: bool, n: usize, text: &mut String<A>) -> Result
         A::push_shown(text, format_args!("rest {n}\n"))?;
     }
     Ok(())
-}
-
-/// The name of the message's variant.
-fn name_of<S: Storage>(message: &Message<S>) -> &'static str
-    ensures { result.now ≡ name_of (view message.now) }
-{
-    match message {
-        Message::AuthenticationCleartextPassword => "AuthenticationCleartextPassword",
-        Message::AuthenticationGss => "AuthenticationGss",
-        Message::AuthenticationGssContinue(_) => "AuthenticationGssContinue",
-        Message::AuthenticationKerberosV5 => "AuthenticationKerberosV5",
-        Message::AuthenticationMd5Password(_) => "AuthenticationMd5Password",
-        Message::AuthenticationOk => "AuthenticationOk",
-        Message::AuthenticationSasl(_) => "AuthenticationSasl",
-        Message::AuthenticationSaslContinue(_) => "AuthenticationSaslContinue",
-        Message::AuthenticationSaslFinal(_) => "AuthenticationSaslFinal",
-        Message::AuthenticationScmCredential => "AuthenticationScmCredential",
-        Message::AuthenticationSspi => "AuthenticationSspi",
-        Message::BackendKeyData(_) => "BackendKeyData",
-        Message::BindComplete => "BindComplete",
-        Message::CloseComplete => "CloseComplete",
-        Message::CommandComplete(_) => "CommandComplete",
-        Message::CopyData(_) => "CopyData",
-        Message::CopyDone => "CopyDone",
-        Message::CopyInResponse(_) => "CopyInResponse",
-        Message::CopyOutResponse(_) => "CopyOutResponse",
-        Message::DataRow(_) => "DataRow",
-        Message::EmptyQueryResponse => "EmptyQueryResponse",
-        Message::ErrorResponse(_) => "ErrorResponse",
-        Message::NegotiateProtocolVersion(_) => "NegotiateProtocolVersion",
-        Message::NoData => "NoData",
-        Message::NoticeResponse(_) => "NoticeResponse",
-        Message::NotificationResponse(_) => "NotificationResponse",
-        Message::ParameterDescription(_) => "ParameterDescription",
-        Message::ParameterStatus(_) => "ParameterStatus",
-        Message::ParseComplete => "ParseComplete",
-        Message::PortalSuspended => "PortalSuspended",
-        Message::ReadyForQuery(_) => "ReadyForQuery",
-        Message::RowDescription(_) => "RowDescription",
-    }
 }

@@ -1,0 +1,199 @@
+//! A client's requests and a server's messages.
+
+ghost use Rattle.std.specs.Prelude.{◌≡◌, ◌++◌, ◌∷◌, [], OnOk, OnErr};
+ghost use Rattle.pgp_client.specs.Talk.{shown};
+ghost use Rattle.pgp_client.specs.Telling.{start};
+ghost use Rattle.pgp_client.specs.Taking.{Moves, Takes, asked, begun, behind_copy, completes, copied, fails, first_in, follows, goes, heard, heard_at, is_idle, ready, starts_with_sync, taken};
+
+use crate::event::{Event, Refusal};
+use crate::kind::Kind;
+use crate::pending::{ends_copy, next_in};
+use crate::queue::{Full, Queue};
+use crate::request::{Asked, Request};
+use crate::stage::{Stage, begins, event_of, follows};
+use pgp_base::Memory;
+use std::collections::VecDeque;
+use std::marker::Model;
+
+/// Tells which of a server's messages belongs to which of a client's requests.
+///
+/// A client asks each request in the order in which it sends them, before it takes a message that answers one of them, and takes all
+/// messages of the server in the order in which they come; when it asks besides changes nothing. What is told of a request ends all
+/// that was asked before: of a request of which no `Last` was told by then, nothing will be, since the server passed over it behind an
+/// error.
+///
+/// Where an Execute or a Query may ask for the data of a copy, a Sync is best sent behind the CopyDone or CopyFail, and a Flush before
+/// it: a server passes over a Sync while it awaits the data, and where such a copy fails nobody can know whether it did. `take` then
+/// refuses the error as `Uncertain`, and the connection is to be closed.
+#[derive(Drop)]
+pub struct Dialogue<Q: Queue = VecDeque<Asked>> {
+    stage: Stage,
+    /// The name of the request under way.
+    name: u64,
+    pending: Q,
+}
+
+impl<Q: Queue> Model for Dialogue<Q> {
+    ghost use Rattle.pgp_client.specs.Talk.{Kept};
+
+    ghost Value = { Kept Q };
+
+    ghost view = { λ d. record { stage = d.stage; name = d.name; pending = d.pending } };
+}
+
+impl<A: Memory> Dialogue<VecDeque<Asked, A>> {
+    /// A dialogue in which nothing was asked, with a queue in memory of this allocator.
+    pub fn new(alloc: A) -> Dialogue<VecDeque<Asked, A>>
+        ensures { shown (λ q. q.items) result ≡ start }
+    {
+        Dialogue {
+            stage: Stage::Idle,
+            name: 0,
+            pending: VecDeque::new(alloc),
+        }
+    }
+}
+
+impl<Q: Queue> Dialogue<Q> {
+    /// A dialogue in which nothing was asked, with this queue, which is empty.
+    pub fn over(pending: Q) -> Dialogue<Q>
+        requires { Q.items pending ≡ [] }
+        ensures { shown Q.items result ≡ start }
+    {
+        Dialogue {
+            stage: Stage::Idle,
+            name: 0,
+            pending,
+        }
+    }
+
+    /// Whether no request awaits an answer, and no Sync is awaited behind an error.
+    pub fn is_idle(&self) -> bool
+        ensures { result ≡ is_idle (shown Q.items self.now) }
+    {
+        self.stage == Stage::Idle && self.pending.awaits_none()
+    }
+
+    /// Takes note of a request, in the order in which they are sent. The events of its answer tell this name.
+    ///
+    /// # Errors
+    ///
+    /// `Full` where the queue takes no more. Nothing changes.
+    pub fn ask(&mut self, request: Request, name: u64) -> Result<(), Full>
+        ensures ok { OnOk result (shown Q.items self.new ≡ asked (shown Q.items self.old) (record { request = request; name = name })) }
+        ensures err { OnErr result (shown Q.items self.new ≡ shown Q.items self.old) }
+        ensures full { OnErr result (Q.Refuses self.old.pending) }
+    {
+        self.pending.push(Asked { request, name })
+    }
+
+    /// Takes the server's next message, and tells to which request it belongs.
+    ///
+    /// # Errors
+    ///
+    /// From then on no message is given to a request.
+    ///
+    /// - `Unexpected` where a message of this kind has no place there.
+    /// - `Uncertain` where a copy to the server fails, and a Sync was asked before the end of its data.
+    pub fn take(&mut self, kind: Kind) -> Result<Event, Refusal>
+        ensures { Takes (taken (shown Q.items self.old) kind) result (shown Q.items self.new) }
+    {
+        if kind.is_aside() {
+            return Ok(Event::Aside);
+        }
+        self.advance();
+        self.hear(kind)
+    }
+
+    /// Goes on to the next request that is answered, where none is under way.
+    fn advance(&mut self)
+        ensures { shown Q.items self.new ≡ ready (shown Q.items self.old) }
+    {
+        match self.stage {
+            Stage::Idle => self.begin(false),
+            Stage::Skipping => self.begin(true),
+            _ => {}
+        }
+    }
+
+    /// The next request that is answered is under way, if there is one.
+    fn begin(&mut self, skipping: bool)
+        ensures { shown Q.items self.new ≡ begun self.old.stage self.old.name (first_in skipping (Q.items self.old.pending)) }
+    {
+        if let Some(next) = next_in(&mut self.pending, skipping) {
+            self.stage = begins(next.request);
+            self.name = next.name;
+        }
+    }
+
+    /// The message, where a request is under way.
+    fn hear(&mut self, kind: Kind) -> Result<Event, Refusal>
+        ensures { Takes (heard (shown Q.items self.old) kind) result (shown Q.items self.new) }
+    {
+        match heard_at(self.stage, &mut self.pending, kind) {
+            Ok(stage) => {
+                self.stage = stage;
+                Ok(event_of(stage, self.name))
+            }
+            Err(e) => {
+                self.stage = Stage::Over;
+                Err(e)
+            }
+        }
+    }
+}
+
+/// The stage behind the message. At the end of a copy to the server the requests that belong to it are dropped.
+fn heard_at<Q: Queue>(stage: Stage, pending: &mut Q, kind: Kind) -> Result<Stage, Refusal>
+    ensures { Moves (heard_at stage (Q.items pending.old) kind) result (Q.items pending.new) }
+{
+    match stage {
+        Stage::CopyingIn => copied(Stage::Answering, Stage::Failed, pending, kind),
+        Stage::TakingCopy => copied(Stage::Idle, Stage::Skipping, pending, kind),
+        _ => goes(stage, pending, kind),
+    }
+}
+
+/// The stage behind the message, in no copy to the server.
+fn goes<Q: Queue>(stage: Stage, pending: &Q, kind: Kind) -> Result<Stage, Refusal>
+    ensures { Moves (goes (follows stage kind) (Q.items pending.now)) result (Q.items pending.now) }
+{
+    match follows(stage, kind) {
+        Some(stage) => Ok(stage),
+        None => Err(Refusal::Unexpected),
+    }
+}
+
+/// The stage behind the message, in a copy to the server.
+fn copied<Q: Queue>(
+    done: Stage,
+    failed: Stage,
+    pending: &mut Q,
+    kind: Kind,
+) -> Result<Stage, Refusal>
+    ensures { Moves (copied done failed (Q.items pending.old) kind) result (Q.items pending.new) }
+{
+    match kind {
+        Kind::CommandComplete => completes(done, pending),
+        Kind::ErrorResponse => fails(failed, pending),
+        _ => Err(Refusal::Unexpected),
+    }
+}
+
+fn completes<Q: Queue>(done: Stage, pending: &mut Q) -> Result<Stage, Refusal>
+    ensures { Moves (completes done (behind_copy (Q.items pending.old))) result (Q.items pending.new) }
+{
+    if ends_copy(pending) {
+        return Ok(done);
+    }
+    Err(Refusal::Unexpected)
+}
+
+fn fails<Q: Queue>(failed: Stage, pending: &Q) -> Result<Stage, Refusal>
+    ensures { Moves (fails failed (starts_with_sync (Q.items pending.now)) (Q.items pending.now)) result (Q.items pending.now) }
+{
+    if pending.starts_with_sync() {
+        return Err(Refusal::Uncertain);
+    }
+    Ok(failed)
+}

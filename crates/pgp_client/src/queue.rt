@@ -1,0 +1,73 @@
+//! Where a dialogue keeps the requests whose answers are to come.
+
+ghost use Rattle.std.specs.Prelude.{◌≡◌, ◌++◌, ◌∷◌, [], List, None, OnErr, OnOk, option_to_list, length};
+ghost use Rattle.pgp_client.specs.Taking.{awaits_none, starts_with_sync};
+ghost use Rattle.pgp_client.specs.declared.request.Asked.{Asked as Item};
+
+use crate::request::{Asked, awaits_none, is_sync};
+use pgp_base::Memory;
+use std::collections::VecDeque;
+
+/// A queue of requests, in memory of its own or of the caller's.
+pub trait Queue {
+    /// The requests, the first first.
+    ghost items: { Self → List Item };
+
+    /// Why a request isn't taken.
+    ghost Refuses: { Self → Type 0 };
+
+    /// Adds a request behind the others, and answers whether it did. Else nothing changes.
+    fn push(&mut self, asked: Asked) -> Result<(), Full>
+        ensures ok { OnOk result (items self.new ≡ items self.old ++ asked ∷ []) }
+        ensures err { OnErr result (items self.new ≡ items self.old) }
+        ensures full { OnErr result (Refuses self.old) };
+
+    /// Takes the first request.
+    fn pop(&mut self) -> Option<Asked>
+        ensures first { items self.old ≡ option_to_list result ++ items self.new }
+        ensures none { result ≡ None → items self.new ≡ [] };
+
+    /// Whether none of them awaits an answer: all are ends of copies.
+    fn awaits_none(&self) -> bool
+        ensures { result ≡ awaits_none (items self.now) };
+
+    /// Whether the first is a Sync.
+    fn starts_with_sync(&self) -> bool
+        ensures { result ≡ starts_with_sync (items self.now) };
+}
+
+/// There is no room, or no memory, for another request.
+#[derive(Debug, Clone, Copy, PartialEq, Eq)]
+pub struct Full;
+
+impl<A: Memory> Queue for VecDeque<Asked, A> {
+    ghost items = { λ q. q.items };
+
+    ghost Refuses = { λ q. A.Lacks };
+
+    fn push(&mut self, asked: Asked) -> Result<(), Full> {
+        match A::push_back(self, asked) {
+            Ok(()) => Ok(()),
+            Err(_) => Err(Full),
+        }
+    }
+
+    fn pop(&mut self) -> Option<Asked> {
+        self.pop_front()
+    }
+
+    fn awaits_none(&self) -> bool {
+        let (first, second) = self.as_slices();
+        if !awaits_none(first) {
+            return false;
+        }
+        awaits_none(second)
+    }
+
+    fn starts_with_sync(&self) -> bool {
+        match self.front() {
+            Some(asked) => is_sync(asked.request),
+            None => false,
+        }
+    }
+}

@@ -1,0 +1,38 @@
+-- The names of a server's messages, as the code's variants are called: those of tag `R` by their code. PostgreSQL manual, "Message Formats".
+use Rattle.std.specs.Prelude.{ℕ, List, codes}
+use Rattle.pgp_message.specs.BackendMessage.{AuthenticationOk, AuthenticationKerberosV5, AuthenticationCleartextPassword, AuthenticationMd5Password, AuthenticationScmCredential, AuthenticationGss, AuthenticationGssContinue, AuthenticationSspi, AuthenticationSasl, AuthenticationSaslContinue, AuthenticationSaslFinal, Message, ParseComplete, BindComplete, CloseComplete, NotificationResponse, CommandComplete, DataRow, ErrorResponse, CopyInResponse, CopyOutResponse, EmptyQueryResponse, BackendKeyData, NegotiateProtocolVersion, NoticeResponse, Authentication, ParameterStatus, RowDescription, ReadyForQuery, CopyDone, CopyData, NoData, PortalSuspended, ParameterDescription}
+
+-- the name of a message
+abbrev pub name_of : Message → List ℕ
+name_of (Authentication AuthenticationOk) = codes "AuthenticationOk"
+name_of (Authentication AuthenticationKerberosV5) = codes "AuthenticationKerberosV5"
+name_of (Authentication AuthenticationCleartextPassword) = codes "AuthenticationCleartextPassword"
+name_of (Authentication (AuthenticationMd5Password salt)) = codes "AuthenticationMd5Password"
+name_of (Authentication AuthenticationScmCredential) = codes "AuthenticationScmCredential"
+name_of (Authentication AuthenticationGss) = codes "AuthenticationGss"
+name_of (Authentication (AuthenticationGssContinue bytes)) = codes "AuthenticationGssContinue"
+name_of (Authentication AuthenticationSspi) = codes "AuthenticationSspi"
+name_of (Authentication (AuthenticationSasl bytes)) = codes "AuthenticationSasl"
+name_of (Authentication (AuthenticationSaslContinue bytes)) = codes "AuthenticationSaslContinue"
+name_of (Authentication (AuthenticationSaslFinal bytes)) = codes "AuthenticationSaslFinal"
+name_of ParseComplete = codes "ParseComplete"
+name_of BindComplete = codes "BindComplete"
+name_of CloseComplete = codes "CloseComplete"
+name_of (NotificationResponse n) = codes "NotificationResponse"
+name_of (CommandComplete tag) = codes "CommandComplete"
+name_of (DataRow row) = codes "DataRow"
+name_of (ErrorResponse bytes) = codes "ErrorResponse"
+name_of (CopyInResponse copy) = codes "CopyInResponse"
+name_of (CopyOutResponse copy) = codes "CopyOutResponse"
+name_of EmptyQueryResponse = codes "EmptyQueryResponse"
+name_of (BackendKeyData key) = codes "BackendKeyData"
+name_of (NoticeResponse bytes) = codes "NoticeResponse"
+name_of (ParameterStatus setting) = codes "ParameterStatus"
+name_of (RowDescription row) = codes "RowDescription"
+name_of (ReadyForQuery status) = codes "ReadyForQuery"
+name_of CopyDone = codes "CopyDone"
+name_of (CopyData bytes) = codes "CopyData"
+name_of (NegotiateProtocolVersion n) = codes "NegotiateProtocolVersion"
+name_of NoData = codes "NoData"
+name_of PortalSuspended = codes "PortalSuspended"
+name_of (ParameterDescription row) = codes "ParameterDescription"
