@@ -2,6 +2,7 @@
 //! parts that readers take, and walks that may fail.
 #![tactic(auto)]
 
+pub mod big_endian;
 mod buffer;
 mod counted;
 mod error;

@@ -4,6 +4,7 @@ ghost use Rattle.std.specs.Prelude.{◌≡◌};
 ghost use Rattle.pgp_base.specs.WalkReading.{is_marked};
 ghost use Rattle.pgp_base.specs.PartReading.{Gives, Answers, byte_at, uint16_at, oid_at, int16_at, int32_at, string_at, text_at};
 
+use crate::big_endian::{u16_of, u32_of};
 use crate::error::Error;
 use crate::texts::text;
 use pgp_text::first_zero;
@@ -41,7 +42,7 @@ pub fn uint16_at(bytes: &[u8]) -> Result<(u16, &[u8]), Error>
     ensures { Gives (λ x. (x.0, x.1.now)) result (uint16_at bytes.now) }
 {
     match bytes {
-        [a, b, rest @ ..] => Ok((u16::from_be_bytes([*a, *b]), rest)),
+        [a, b, rest @ ..] => Ok((u16_of([*a, *b]), rest)),
         _ => Err(Error::UnexpectedEof),
     }
 }
@@ -55,7 +56,7 @@ pub fn oid_at(bytes: &[u8]) -> Result<(u32, &[u8]), Error>
     ensures { Gives (λ x. (x.0, x.1.now)) result (oid_at bytes.now) }
 {
     match bytes {
-        [a, b, c, d, rest @ ..] => Ok((u32::from_be_bytes([*a, *b, *c, *d]), rest)),
+        [a, b, c, d, rest @ ..] => Ok((u32_of([*a, *b, *c, *d]), rest)),
         _ => Err(Error::UnexpectedEof),
     }
 }
@@ -69,7 +70,7 @@ pub fn int16_at(bytes: &[u8]) -> Result<(i16, &[u8]), Error>
     ensures { Gives (λ x. (x.0, x.1.now)) result (int16_at bytes.now) }
 {
     match bytes {
-        [a, b, rest @ ..] => Ok((i16::from_be_bytes([*a, *b]), rest)),
+        [a, b, rest @ ..] => Ok((u16_of([*a, *b]).cast_signed(), rest)),
         _ => Err(Error::UnexpectedEof),
     }
 }
@@ -83,7 +84,7 @@ pub fn int32_at(bytes: &[u8]) -> Result<(i32, &[u8]), Error>
     ensures { Gives (λ x. (x.0, x.1.now)) result (int32_at bytes.now) }
 {
     match bytes {
-        [a, b, c, d, rest @ ..] => Ok((i32::from_be_bytes([*a, *b, *c, *d]), rest)),
+        [a, b, c, d, rest @ ..] => Ok((u32_of([*a, *b, *c, *d]).cast_signed(), rest)),
         _ => Err(Error::UnexpectedEof),
     }
 }

@@ -10,6 +10,7 @@ ghost use Rattle.pgp_base.specs.Cause.{text_cause, length_cause, nullable_cause,
 ghost use Rattle.pgp_base.specs.Held.{◌⊕◌, overwritten, Leaves, IsFrontOf};
 ghost use Rattle.pgp_base.specs.Calls.{Adds, KeepsFront, KeepsFronts, OwesValue, OwesValues, Appends, Puts, Gives, ValueRefused, value_of, length_of, null_of, WritesBody, BodyRefused, WritesValue, NullableRefused, WritesCounted, CountedRefused};
 
+use crate::big_endian::{u16_bytes, u32_bytes};
 use crate::buffer::Buffer;
 use crate::error::{BindError, Error};
 use crate::number::IsNull;
@@ -42,7 +43,7 @@ pub fn put_u16<B: Buffer>(buf: &mut B, n: u16) -> Result<(), Error>
     ensures err { OnErr result (B.held buf.new ≡ B.held buf.old) }
     ensures cause { IfErr result (WantsMemory (Wants B.Lacks (B.held buf.old) 2)) }
 {
-    buf.append(&n.to_be_bytes())?;
+    buf.append(&u16_bytes(n))?;
     Ok(())
 }
 
@@ -57,7 +58,7 @@ pub fn put_u32<B: Buffer>(buf: &mut B, n: u32) -> Result<(), Error>
     ensures err { OnErr result (B.held buf.new ≡ B.held buf.old) }
     ensures cause { IfErr result (WantsMemory (Wants B.Lacks (B.held buf.old) 4)) }
 {
-    let bytes = n.to_be_bytes();
+    let bytes = u32_bytes(n);
     buf.append(&bytes)?;
     Ok(())
 }
@@ -68,7 +69,7 @@ pub fn patch_u16<B: Buffer>(buf: &mut B, place: usize, n: u16)
     requires { place + 2 ≤ length (B.held buf.old).bytes }
     ensures { B.held buf.new ≡ overwritten (B.held buf.old) place (uint16 n) }
 {
-    buf.patch(place, &n.to_be_bytes());
+    buf.patch(place, &u16_bytes(n));
 }
 
 /// Writes a number over the four bytes at `place`.
@@ -77,7 +78,7 @@ pub fn patch_u32<B: Buffer>(buf: &mut B, place: usize, n: u32)
     requires { place + 4 ≤ length (B.held buf.old).bytes }
     ensures { B.held buf.new ≡ overwritten (B.held buf.old) place (uint32 n) }
 {
-    let bytes = n.to_be_bytes();
+    let bytes = u32_bytes(n);
     buf.patch(place, &bytes);
 }
 
