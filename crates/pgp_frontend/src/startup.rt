@@ -14,6 +14,7 @@ ghost use Rattle.pgp_frontend.specs.Putting.{ItemsRefused};
 
 use crate::field::{Field, packet, put_int32};
 use crate::text::Text;
+use pgp_base::big_endian::u32_bytes;
 use pgp_base::{Buffer, Error, finish_body, put_u8, put_u32, write_cstr};
 
 const VERSION_3_0: i32 = 196_608;
@@ -42,7 +43,7 @@ pub enum ProtocolVersion {
 pub fn cancel_request<B: Buffer>(process_id: i32, secret_key: i32, buf: &mut B) -> Result<(), Error>
     ensures { WritesMessage (CancelRequest process_id (int32 secret_key)) B.Lacks (B.held buf.old) (B.held buf.new) result }
 {
-    cancel_request_key(process_id, &secret_key.to_be_bytes(), buf)
+    cancel_request_key(process_id, &u32_bytes(secret_key.cast_unsigned()), buf)
 }
 
 /// Asks for the end of what another session runs, by the number and the key of its BackendKeyData. Keys that haven't four

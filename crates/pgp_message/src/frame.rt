@@ -7,6 +7,7 @@ ghost use Rattle.pgp_message.specs.FrontReading.{Finds, announced};
 ghost use Rattle.pgp_message.specs.Stream.{IsPartial, IsLengthFault};
 
 use pgp_base::Error;
+use pgp_base::big_endian::u32_of;
 use std::marker::Model;
 
 /// The most room that is asked for at a time.
@@ -71,7 +72,7 @@ pub fn head(bytes: &[u8]) -> (u8, u32)
     ensures each { IsBytes bytes.now }
 {
     let tag = bytes[0];
-    let len = u32::from_be_bytes([bytes[1], bytes[2], bytes[3], bytes[4]]);
+    let len = u32_of([bytes[1], bytes[2], bytes[3], bytes[4]]);
     (tag, len)
 }
 

@@ -7,6 +7,7 @@ ghost use Rattle.pgp_frontend.specs.Payload.{Part};
 ghost use Rattle.pgp_frontend.specs.Putting.{PutsParts, PartsRefused};
 ghost use Rattle.pgp_message_write.specs.Lists.{format_parts, text_parts, type_parts, value_parts, lent};
 
+use pgp_base::big_endian::{u16_bytes, u32_bytes};
 use pgp_base::{Buffer, Error};
 use pgp_frontend::field::{Field, put_fields};
 
@@ -49,7 +50,7 @@ impl Item for u16 {
 
     #[tactic(auto, unfolding(pgp_base::specs::Wire::uint16))]
     fn put<B: Buffer>(&self, buf: &mut B) -> Result<(), Error> {
-        put_fields(&[Field::Rest(&self.to_be_bytes())], buf)
+        put_fields(&[Field::Rest(&u16_bytes(*self))], buf)
     }
 }
 
@@ -59,6 +60,6 @@ impl Item for u32 {
 
     #[tactic(auto, unfolding(pgp_base::specs::Wire::uint32))]
     fn put<B: Buffer>(&self, buf: &mut B) -> Result<(), Error> {
-        put_fields(&[Field::Rest(&self.to_be_bytes())], buf)
+        put_fields(&[Field::Rest(&u32_bytes(*self))], buf)
     }
 }

@@ -12,6 +12,7 @@ ghost use Rattle.pgp_frontend.specs.View.{parts_of};
 ghost use Rattle.pgp_message_write.specs.Lists.{with_list};
 
 use crate::item::Item;
+use pgp_base::big_endian::{u16_bytes, u32_bytes};
 use pgp_base::{Buffer, Error, finish_body, put_u8, put_u32};
 use pgp_frontend::field::{Field, put_fields};
 
@@ -26,7 +27,7 @@ pub(crate) fn count_field(items: usize) -> Result<[u8; 2], Error>
     ensures err { IfErr result (λ e. count_cause items ≡ Some e) }
 {
     match u16::try_from(items) {
-        Ok(count) => Ok(count.to_be_bytes()),
+        Ok(count) => Ok(u16_bytes(count)),
         Err(_) => Err(Error::TooLarge),
     }
 }
@@ -42,7 +43,7 @@ pub(crate) fn wide_count(items: usize) -> Result<[u8; 4], Error>
     ensures err { IfErr result (λ e. length_cause items ≡ Some e) }
 {
     match i32::try_from(items) {
-        Ok(count) => Ok(count.to_be_bytes()),
+        Ok(count) => Ok(u32_bytes(count.cast_unsigned())),
         Err(_) => Err(Error::TooLarge),
     }
 }

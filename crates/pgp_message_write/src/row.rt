@@ -16,6 +16,7 @@ ghost use Rattle.pgp_message_write.specs.Views.{shown_column};
 use crate::given::{Ending, given};
 use crate::item::Item;
 use crate::listed::{count_field, listed};
+use pgp_base::big_endian::{u16_bytes, u32_bytes};
 use pgp_base::{Buffer, Error, Oid};
 use pgp_frontend::field::{Field, put_fields};
 
@@ -45,12 +46,12 @@ impl<'a> Item for Column<'a> {
     fn put<B: Buffer>(&self, buf: &mut B) -> Result<(), Error> {
         let fields = [
             Field::Text(self.name),
-            Field::Rest(&self.table_oid.to_be_bytes()),
-            Field::Rest(&self.column_id.to_be_bytes()),
-            Field::Rest(&self.type_oid.to_be_bytes()),
-            Field::Rest(&self.type_size.to_be_bytes()),
+            Field::Rest(&u32_bytes(self.table_oid)),
+            Field::Rest(&u16_bytes(self.column_id.cast_unsigned())),
+            Field::Rest(&u32_bytes(self.type_oid)),
+            Field::Rest(&u16_bytes(self.type_size.cast_unsigned())),
             Field::Int32(self.type_modifier),
-            Field::Rest(&self.format.to_be_bytes()),
+            Field::Rest(&u16_bytes(self.format.cast_unsigned())),
         ];
         put_fields(&fields, buf)
     }

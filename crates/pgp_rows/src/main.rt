@@ -24,6 +24,7 @@ mod server;
 mod shapes;
 mod shown;
 mod texts;
+mod values;
 mod word;
 
 use client_read::check_client_read;
@@ -37,6 +38,7 @@ use shown::Shown;
 use std::alloc::Global;
 use std::rt::Files;
 use std::{fs, io};
+use values::{Values, check_numeric};
 
 /// What the calls of a file are.
 #[derive(Clone, Copy)]
@@ -59,9 +61,11 @@ enum Family {
     Scram,
     ScramServer,
     Saslprep,
+    Numerics,
+    Values,
 }
 
-const FILES: [(&str, Family); 20] = [
+const FILES: [(&str, Family); 22] = [
     ("client.rows", Family::Client),
     ("client_read.rows", Family::ClientRead),
     ("client_replaced.rows", Family::ClientRead),
@@ -82,6 +86,8 @@ const FILES: [(&str, Family); 20] = [
     ("scram.rows", Family::Scram),
     ("scram_server.rows", Family::ScramServer),
     ("saslprep.rows", Family::Saslprep),
+    ("numerics.rows", Family::Numerics),
+    ("values.rows", Family::Values),
 ];
 
 /// Makes the call of a row.
@@ -105,6 +111,8 @@ fn check(alloc: Global, family: Family, row: &Row<'_>, out: &mut Shown) -> Resul
         Family::Scram => check_answer::<scram::Scram>(alloc, row, out),
         Family::ScramServer => check_answer::<scram_server::ScramServers>(alloc, row, out),
         Family::Saslprep => check_answer::<saslprep::Prepared>(alloc, row, out),
+        Family::Numerics => check_numeric(alloc, row, out),
+        Family::Values => check_value::<Values>(alloc, row, out),
     }
 }
 

@@ -3,7 +3,7 @@ pub mod Numbers
 pub mod InetLemmas
 pub mod Readings
 pub mod GeometryLemmas
-mod Appending
+pub mod Appending
 pub mod PartLemmas
 mod ArrayWrites
 pub mod ArrayLemmas

@@ -1,4 +1,4 @@
-//! What the codecs share.
+//! What codecs share: writers of bytes that append all or nothing, and readers of blocks. The codecs of other crates use them too.
 #![tactic(auto, using(pgp_base::proofs::Parts::held_steps))]
 
 ghost use Rattle.std.specs.Prelude.{◌++◌, None};
@@ -7,10 +7,14 @@ ghost use Rattle.pgp_types.specs.Format.{Reads, block, whole};
 
 use pgp_base::{Buffer, Error};
 
-// What a count can count: the greatest `i32`.
+/// The most items of a list behind a count: `i32::MAX`.
 pub const MOST_ITEMS: u32 = 0x7fff_ffff;
 
-// All of the bytes, or nothing.
+/// Appends the bytes.
+///
+/// # Errors
+///
+/// Returns `OutOfMemory` if the buffer can't grow; on error the buffer is unchanged.
 #[tactic(auto, using(pgp_base::proofs::Parts::held_steps, pgp_base::proofs::Parts::wants_now))]
 pub fn append<B: Buffer>(bytes: &[u8], buf: &mut B) -> Result<(), Error>
     ensures { Writes bytes.now None B.Lacks (B.held buf.old) (B.held buf.new) result }
@@ -19,7 +23,11 @@ pub fn append<B: Buffer>(bytes: &[u8], buf: &mut B) -> Result<(), Error>
     Ok(())
 }
 
-// All of both, or nothing.
+/// Appends both, one after the other.
+///
+/// # Errors
+///
+/// Returns `OutOfMemory` if the buffer can't grow; on error the buffer is unchanged.
 // The hint carries the speed of `inet_to_sql`.
 #[inline(always)]
 pub fn append_both<B: Buffer>(front: &[u8], rest: &[u8], buf: &mut B) -> Result<(), Error>
@@ -34,7 +42,11 @@ pub fn append_both<B: Buffer>(front: &[u8], rest: &[u8], buf: &mut B) -> Result<
     Ok(())
 }
 
-// The bytes, if there are as many as that.
+/// Returns the bytes if there are `N`.
+///
+/// # Errors
+///
+/// Returns `UnexpectedEof` if there are fewer, `NotDrained` if there are more.
 pub fn block<const N: usize>(buf: &[u8]) -> Result<[u8; N], Error>
     ensures { Reads (block N) buf.now result }
 {
@@ -45,7 +57,11 @@ pub fn block<const N: usize>(buf: &[u8]) -> Result<[u8; N], Error>
     Ok(*front)
 }
 
-// The same under another refusal.
+/// Returns the bytes if there are `N`.
+///
+/// # Errors
+///
+/// Returns `InvalidSize` if there are not.
 pub fn whole<const N: usize>(buf: &[u8]) -> Result<[u8; N], Error>
     ensures { Reads (whole N) buf.now result }
 {

@@ -9,6 +9,7 @@ ghost use Rattle.pgp_types.specs.Format.{Reads, Writes};
 ghost use Rattle.pgp_types.specs.Geometry.{IsPoint, point_bytes, point, box};
 
 use crate::codec::{append_both, block};
+use pgp_base::big_endian::{u64_bytes, u64_of};
 use pgp_base::{Buffer, Error};
 use std::marker::Model;
 
@@ -89,7 +90,7 @@ impl Box {
 pub fn point_to_sql<B: Buffer>(x: u64, y: u64, buf: &mut B) -> Result<(), Error>
     ensures { Writes point (record { x = x; y = y }) B.Lacks (B.held buf.old) result (B.held buf.new) }
 {
-    append_both(&x.to_be_bytes(), &y.to_be_bytes(), buf)
+    append_both(&u64_bytes(x), &u64_bytes(y), buf)
 }
 
 // The coordinate that eight bytes spell.
@@ -97,7 +98,7 @@ fn coordinate_of(bytes: &[u8]) -> u64
     requires { length bytes.now ≡ 8 }
     ensures { (result < 2 ^ 64) × (bytes.now ≡ uint64 result) }
 {
-    u64::from_be_bytes(bytes.try_into().unwrap())
+    u64_of(bytes.try_into().unwrap())
 }
 
 // The point that sixteen bytes spell.

@@ -2,15 +2,16 @@
 //! reads one from all of the bytes that it is given.
 //!
 //! A refused writer leaves the buffer's bytes as they were. A reader takes no memory: it borrows texts and bytes.
+//! `codec` and `part` are what codecs are made of, for crates with codecs of their own.
 #![tactic(auto)]
 
 mod array;
-mod codec;
+pub mod codec;
 mod geometry;
 mod hstore;
 pub mod laws;
 mod network;
-mod part;
+pub mod part;
 mod path;
 mod range;
 mod scalar;
@@ -35,8 +36,8 @@ pub use scalar::{
     oid_to_sql,
 };
 pub use text::{
-    lquery_from_sql, lquery_to_sql, ltree_from_sql, ltree_to_sql, ltxtquery_from_sql,
-    ltxtquery_to_sql, text_from_sql, text_to_sql,
+    label_from_sql, label_to_sql, lquery_from_sql, lquery_to_sql, ltree_from_sql, ltree_to_sql,
+    ltxtquery_from_sql, ltxtquery_to_sql, text_from_sql, text_to_sql,
 };
 pub use time::{
     date_from_sql, date_to_sql, time_from_sql, time_to_sql, timestamp_from_sql, timestamp_to_sql,

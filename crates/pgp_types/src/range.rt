@@ -17,6 +17,7 @@ ghost use Rattle.pgp_types.specs.RangeSteps.{IsValueBehind, IsSideBehind};
 
 use crate::codec::append;
 use crate::part::nullable_at;
+use pgp_base::big_endian::u32_bytes;
 use pgp_base::reading::byte_at;
 use pgp_base::{BindError, Buffer, Error, IsNull, length_field, put_u8};
 
@@ -94,7 +95,7 @@ fn insert_u32<B: Buffer>(buf: &mut B, place: usize, n: u32) -> Result<(), Error>
     ensures err { OnErr result (B.held buf.new ≡ B.held buf.old) }
     ensures cause { IfErr result (WantsMemory (Wants B.Lacks (B.held buf.old) 4)) }
 {
-    let bytes = n.to_be_bytes();
+    let bytes = u32_bytes(n);
     buf.insert(place, &bytes)?;
     Ok(())
 }

@@ -8,6 +8,7 @@ ghost use Rattle.pgp_types.specs.Format.{Reads, Writes};
 ghost use Rattle.pgp_types.specs.Scalar.{bool, bytea, char, int2, int4, int8, oid, lsn, float4, float8};
 
 use crate::codec::{append, block};
+use pgp_base::big_endian::{u16_bytes, u16_of, u32_bytes, u32_of, u64_bytes, u64_of};
 use pgp_base::{Buffer, Error, Lsn, Oid};
 
 /// Appends a `bool`.
@@ -60,14 +61,14 @@ pub fn char_from_sql(buf: &[u8]) -> Result<i8, Error>
 pub fn int2_to_sql<B: Buffer>(v: i16, buf: &mut B) -> Result<(), Error>
     ensures { Writes int2 v B.Lacks (B.held buf.old) result (B.held buf.new) }
 {
-    append(&i16::to_be_bytes(v), buf)
+    append(&u16_bytes(v.cast_unsigned()), buf)
 }
 
 /// Reads an `int2`.
 pub fn int2_from_sql(buf: &[u8]) -> Result<i16, Error>
     ensures { Reads int2 buf.now result }
 {
-    Ok(i16::from_be_bytes(block(buf)?))
+    Ok(u16_of(block(buf)?).cast_signed())
 }
 
 /// Appends an `int4`.
@@ -75,14 +76,14 @@ pub fn int2_from_sql(buf: &[u8]) -> Result<i16, Error>
 pub fn int4_to_sql<B: Buffer>(v: i32, buf: &mut B) -> Result<(), Error>
     ensures { Writes int4 v B.Lacks (B.held buf.old) result (B.held buf.new) }
 {
-    append(&i32::to_be_bytes(v), buf)
+    append(&u32_bytes(v.cast_unsigned()), buf)
 }
 
 /// Reads an `int4`.
 pub fn int4_from_sql(buf: &[u8]) -> Result<i32, Error>
     ensures { Reads int4 buf.now result }
 {
-    Ok(i32::from_be_bytes(block(buf)?))
+    Ok(u32_of(block(buf)?).cast_signed())
 }
 
 /// Appends an `int8`.
@@ -90,14 +91,14 @@ pub fn int4_from_sql(buf: &[u8]) -> Result<i32, Error>
 pub fn int8_to_sql<B: Buffer>(v: i64, buf: &mut B) -> Result<(), Error>
     ensures { Writes int8 v B.Lacks (B.held buf.old) result (B.held buf.new) }
 {
-    append(&i64::to_be_bytes(v), buf)
+    append(&u64_bytes(v.cast_unsigned()), buf)
 }
 
 /// Reads an `int8`.
 pub fn int8_from_sql(buf: &[u8]) -> Result<i64, Error>
     ensures { Reads int8 buf.now result }
 {
-    Ok(i64::from_be_bytes(block(buf)?))
+    Ok(u64_of(block(buf)?).cast_signed())
 }
 
 /// Appends an `oid`.
@@ -105,14 +106,14 @@ pub fn int8_from_sql(buf: &[u8]) -> Result<i64, Error>
 pub fn oid_to_sql<B: Buffer>(v: Oid, buf: &mut B) -> Result<(), Error>
     ensures { Writes oid v B.Lacks (B.held buf.old) result (B.held buf.new) }
 {
-    append(&Oid::to_be_bytes(v), buf)
+    append(&u32_bytes(v), buf)
 }
 
 /// Reads an `oid`.
 pub fn oid_from_sql(buf: &[u8]) -> Result<Oid, Error>
     ensures { Reads oid buf.now result }
 {
-    Ok(Oid::from_be_bytes(block(buf)?))
+    Ok(u32_of(block(buf)?))
 }
 
 /// Appends a `pg_lsn`.
@@ -120,14 +121,14 @@ pub fn oid_from_sql(buf: &[u8]) -> Result<Oid, Error>
 pub fn lsn_to_sql<B: Buffer>(v: Lsn, buf: &mut B) -> Result<(), Error>
     ensures { Writes lsn v B.Lacks (B.held buf.old) result (B.held buf.new) }
 {
-    append(&Lsn::to_be_bytes(v), buf)
+    append(&u64_bytes(v), buf)
 }
 
 /// Reads a `pg_lsn`.
 pub fn lsn_from_sql(buf: &[u8]) -> Result<Lsn, Error>
     ensures { Reads lsn buf.now result }
 {
-    Ok(Lsn::from_be_bytes(block(buf)?))
+    Ok(u64_of(block(buf)?))
 }
 
 /// Appends a `float4`, given as its bits.
@@ -135,14 +136,14 @@ pub fn lsn_from_sql(buf: &[u8]) -> Result<Lsn, Error>
 pub fn float4_to_sql<B: Buffer>(bits: u32, buf: &mut B) -> Result<(), Error>
     ensures { Writes float4 bits B.Lacks (B.held buf.old) result (B.held buf.new) }
 {
-    append(&u32::to_be_bytes(bits), buf)
+    append(&u32_bytes(bits), buf)
 }
 
 /// Reads the bits of a `float4`.
 pub fn float4_from_sql(buf: &[u8]) -> Result<u32, Error>
     ensures { Reads float4 buf.now result }
 {
-    Ok(u32::from_be_bytes(block(buf)?))
+    Ok(u32_of(block(buf)?))
 }
 
 /// Appends a `float8`, given as its bits.
@@ -150,12 +151,12 @@ pub fn float4_from_sql(buf: &[u8]) -> Result<u32, Error>
 pub fn float8_to_sql<B: Buffer>(bits: u64, buf: &mut B) -> Result<(), Error>
     ensures { Writes float8 bits B.Lacks (B.held buf.old) result (B.held buf.new) }
 {
-    append(&u64::to_be_bytes(bits), buf)
+    append(&u64_bytes(bits), buf)
 }
 
 /// Reads the bits of a `float8`.
 pub fn float8_from_sql(buf: &[u8]) -> Result<u64, Error>
     ensures { Reads float8 buf.now result }
 {
-    Ok(u64::from_be_bytes(block(buf)?))
+    Ok(u64_of(block(buf)?))
 }

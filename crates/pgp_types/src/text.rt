@@ -30,15 +30,23 @@ pub fn text_from_sql(buf: &[u8]) -> Result<&str, Error>
     pgp_base::text(buf)
 }
 
-// Appends a text behind the version of its format.
-fn label_to_sql<B: Buffer>(version: u8, v: &str, buf: &mut B) -> Result<(), Error>
+/// Appends a text after the version of its format.
+///
+/// # Errors
+///
+/// Returns `OutOfMemory` if the buffer can't grow; on error the buffer is unchanged.
+pub fn label_to_sql<B: Buffer>(version: u8, v: &str, buf: &mut B) -> Result<(), Error>
     ensures { Writes (label version) v.now B.Lacks (B.held buf.old) result (B.held buf.new) }
 {
     append_both(&[version], v.as_bytes(), buf)
 }
 
-// Reads a text behind the version of its format.
-fn label_from_sql(version: u8, buf: &[u8]) -> Result<&str, Error>
+/// Reads a text after the version of its format.
+///
+/// # Errors
+///
+/// Returns `InvalidVersion` if the first byte isn't the version, `NotUtf8` if the rest isn't UTF-8.
+pub fn label_from_sql(version: u8, buf: &[u8]) -> Result<&str, Error>
     ensures { ReadsBy (λ t. t.now) (label version) buf.now result }
 {
     match buf {

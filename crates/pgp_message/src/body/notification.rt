@@ -6,6 +6,7 @@ ghost use Rattle.pgp_message.specs.Reading.{notification_of};
 
 use crate::storage::Storage;
 use bytes::Bytes;
+use pgp_base::big_endian::u32_of;
 use pgp_base::reading::{int32_at, string_at};
 use pgp_base::{Error, text};
 use std::alloc::Allocator;
@@ -63,7 +64,7 @@ impl<S: Storage> NotificationResponseBody<S> {
         ensures { result ≡ self.now.process_id }
     {
         let bytes = self.payload.as_slice();
-        i32::from_be_bytes([bytes[0], bytes[1], bytes[2], bytes[3]])
+        u32_of([bytes[0], bytes[1], bytes[2], bytes[3]]).cast_signed()
     }
 }
 

@@ -6,5 +6,5 @@ use Rattle.pgp_frontend.proofs.startup.cancel_request.Goals as goal
 
 pub returns : goal.returns
 returns g c =
-    let key = number_key _ _ c.to_be_bytes.ensures ∙ ap int32 (to_z-of_z c.ranges.secret_key) in
+    let key = number_key _ _ c.u32_bytes.ensures ∙ ap int32 (to_z-of_z c.ranges.secret_key) in
     same_cancel g.B.Buffer.Lacks (g.B.Buffer.held c.args.buf.now) (g.B.Buffer.held c.cancel_request_key.new.buf) c.cancel_request_key.result (to_z-of_z c.ranges.process_id) key c.cancel_request_key.ensures

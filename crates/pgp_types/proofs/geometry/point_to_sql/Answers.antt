@@ -5,6 +5,6 @@ use Rattle.pgp_types.proofs.geometry.point_to_sql.Goals as goal
 
 pub returns : goal.returns
 returns g c =
-    let x : c.to_be_bytes.result ≡ uint64 c.args.x = is_uint64 _ _ c.to_be_bytes.ensures in
-    let y : c.to_be_bytes-2.result ≡ uint64 c.args.y = is_uint64 _ _ c.to_be_bytes-2.ensures in
+    let x : c.u64_bytes.result ≡ uint64 c.args.x = is_uint64 _ _ c.u64_bytes.ensures in
+    let y : c.u64_bytes-2.result ≡ uint64 c.args.y = is_uint64 _ _ c.u64_bytes-2.ensures in
     rw (← x, ← y) c.append_both.ensures

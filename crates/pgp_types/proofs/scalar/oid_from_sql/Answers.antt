@@ -3,4 +3,4 @@ use Rattle.pgp_types.proofs.Numbers.{uint32_spelling}
 use Rattle.pgp_types.proofs.scalar.oid_from_sql.Goals as goal
 
 pub returns : goal.returns
-returns c = gives uint32_spelling _ _ c.in_ok-block.ensures _ c.from_be_bytes.ensures
+returns c = gives uint32_spelling _ _ c.in_ok-block.ensures _ c.u32_of.ensures

@@ -1,0 +1,12 @@
+pub mod Numbers
+pub mod ListLemmas
+pub mod Items
+pub mod Fixed
+pub mod SnapshotLemmas
+pub mod Pairs
+pub mod DecimalLemmas
+pub mod TextLemmas
+pub mod AmountLemmas
+pub mod ParseLemmas
+pub mod MomentLemmas
+pub mod PlaceLemmas

@@ -1,0 +1,118 @@
+//! Multiranges.
+//!
+//! PostgreSQL manual, "Range Types".
+#![tactic(auto, using(pgp_base::proofs::Parts::held_steps))]
+
+ghost use Rattle.std.specs.Prelude.{◌≡◌, ◌≤◌, ◌⊎◌, ℕ, List, map, length, Some, None, OnOk, OnErr, IfOk, IfErr};
+ghost use Rattle.std.specs.Iterator.{IsFiniteIterable};
+ghost use Rattle.pgp_base.specs.Calls.{Came};
+ghost use Rattle.pgp_base.specs.Cause.{Wants, WantsMemory};
+ghost use Rattle.pgp_base.specs.Held.{◌⊕◌, IsFrontOf};
+ghost use Rattle.pgp_types.specs.Format.{Reads};
+ghost use Rattle.pgp_types.specs.Given.{WritesAll};
+ghost use Rattle.pgp_values.specs.Multirange.{member, multirange, shown_member};
+
+use crate::list::{PutItem, write_list};
+use pgp_base::{Buffer, Counted, Error, FallibleIterator, length_field, put_u32};
+use pgp_types::part::{natural_at, sized_at};
+use std::marker::Model;
+
+// The bytes of a range.
+impl<'a> PutItem for &'a [u8] {
+    ghost use Rattle.std.specs.Prelude.{ℕ, List};
+    ghost use Rattle.pgp_values.specs.Multirange.{member, shown_member};
+
+    ghost Meaning = { List ℕ };
+
+    ghost meaning = { λ x. shown_member x };
+
+    ghost item = { member };
+
+    fn put<B: Buffer>(self, buf: &mut B) -> Result<(), Error> {
+        put_member(self, buf)
+    }
+}
+
+// Appends a range's bytes behind their length. A refusal leaves what stood there as a front.
+fn put_member<B: Buffer>(bytes: &[u8], buf: &mut B) -> Result<(), Error>
+    ensures ok { OnOk result ((member.cause bytes.now ≡ None) × (B.held buf.new ≡ B.held buf.old ⊕ member.written bytes.now)) }
+    ensures err { OnErr result (IsFrontOf (B.held buf.old) (B.held buf.new)) }
+    ensures why { IfErr result (λ e. WantsMemory (Wants B.Lacks (B.held buf.old) (length (member.written bytes.now))) e ⊎ (member.cause bytes.now ≡ Some e)) }
+{
+    put_u32(buf, length_field(bytes.len())?)?;
+    buf.append(bytes)?;
+    Ok(())
+}
+
+/// Appends a multirange of these ranges, each given as the bytes that `range_to_sql` makes. A server puts them in order
+/// and joins those that touch.
+///
+/// # Errors
+///
+/// `TooLarge` where the length of a range passes the greatest `i32`, and at a range past that many, before it is
+/// written; `OutOfMemory` where the buffer is refused memory. The buffer's bytes are then as they were.
+pub fn multirange_to_sql<'a, B: Buffer, I: IntoIterator<Item = &'a [u8]> + Drop>(
+    ranges: I,
+    buf: &mut B,
+) -> Result<(), Error>
+where
+    I::IntoIter: Drop,
+    requires { IsFiniteIterable I.into_iter_gives I.IntoIter.can_next I.IntoIter.remaining ranges }
+    ensures { WritesAll (Came I.into_iter_gives I.IntoIter.next_gives ranges) multirange (λ xs. map shown_member xs) B.Lacks (B.held buf.old) result (B.held buf.new) }
+{
+    write_list(ranges, buf)
+}
+
+/// The ranges of a multirange, as the bytes that `range_from_sql` reads. One is refused with `UnexpectedEof` where its
+/// length is cut short, and `InvalidValueLength` where that is negative or passes the end; bytes behind the last are
+/// `NotDrained`.
+#[derive(Drop)]
+pub struct MultirangeRanges<'a>(Counted<'a>);
+
+impl<'a> Model for MultirangeRanges<'a> {
+    ghost use Rattle.std.specs.Prelude.{ℕ, List};
+    ghost use Rattle.pgp_base.specs.CountedRest.{walk_of};
+    ghost use Rattle.pgp_base.specs.Walk.{Walk};
+    ghost use Rattle.pgp_values.specs.ListReading.{member_at};
+
+    ghost Value = { Walk (List ℕ) };
+
+    ghost view = { λ walk. walk_of member_at walk.0 };
+}
+
+impl<'a> FallibleIterator for MultirangeRanges<'a> {
+    type Item = &'a [u8];
+
+    ghost use Rattle.std.specs.Prelude.{ℕ, List};
+    ghost use Rattle.pgp_values.specs.Multirange.{shown_member};
+
+    ghost Meaning = { List ℕ };
+
+    ghost meaning = { λ x. shown_member x };
+
+    ghost walk = { λ s. s };
+
+    fn next(&mut self) -> Result<Option<&'a [u8]>, Error> {
+        match self.0.due()? {
+            Some(buf) => self.0.take(sized_at(buf, Error::InvalidValueLength)),
+            None => Ok(None),
+        }
+    }
+
+    fn size_hint(&self) -> (usize, Option<usize>) {
+        self.0.size_hint()
+    }
+}
+
+/// Reads a multirange. Its ranges are cut out as they are asked for.
+///
+/// # Errors
+///
+/// `UnexpectedEof` where the number of ranges is cut short, and `InvalidCount` where it is negative.
+pub fn multirange_from_sql(buf: &[u8]) -> Result<MultirangeRanges<'_>, Error>
+    ensures value { Reads multirange buf.now result }
+    ensures few { IfOk result (λ w. length w.items ≤ length buf.now) }
+{
+    let (count, ranges) = natural_at(buf, Error::InvalidCount)?;
+    Ok(MultirangeRanges(Counted::new(ranges, count)))
+}

@@ -1,0 +1,197 @@
+//! The text of a decimal number, as a server writes it.
+#![tactic(auto, using(pgp_base::proofs::Parts::held_steps))]
+
+ghost use Rattle.std.specs.Prelude.{◌≡◌, ℕ, ℤ, pos, negsuc, ◌+◌, ◌-◌, ◌<◌, ◌≤◌, ◌^◌, [], ◌∷◌, length, map, None, OnOk, OnErr, IfOk, IfErr};
+ghost use Rattle.pgp_base.specs.Cause.{Wants, WantsMemory, Writes};
+ghost use Rattle.pgp_base.specs.Held.{◌⊕◌, IsFrontOf};
+ghost use Rattle.pgp_values.specs.DecimalSeen.{said};
+ghost use Rattle.pgp_values.specs.DecimalText.{decimal_at, run, leading, letter, sign_text, whole_digits, behind_point, fraction_digits, fraction_text, decimal_text, numeric_text};
+
+use crate::decimal::{Decimal, decimal_in};
+use crate::numeric::Numeric;
+use pgp_base::{Buffer, Error, put_u8};
+use pgp_types::codec::append;
+
+// The decimal digit at a place, from the first digit's first on.
+#[tactic(auto, unfolding(crate::specs::DecimalText::decimal_at))]
+fn decimal_at(d: &Decimal<'_>, place: usize) -> u16
+    ensures value { result ≡ decimal_at d.now.digits place }
+    ensures small { result < 10 }
+{
+    decimal_in(d.digit(place / 4), place % 4)
+}
+
+// How many of the first digit's four are zeros in front of it; the last is shown.
+fn leading(digit: u16) -> usize
+    ensures value { result ≡ leading digit }
+    ensures few { result < 4 }
+{
+    if digit < 10 {
+        3
+    } else if digit < 100 {
+        2
+    } else if digit < 1000 {
+        1
+    } else {
+        0
+    }
+}
+
+// Appends the letter of a decimal digit.
+fn put_digit<B: Buffer>(digit: u16, out: &mut B) -> Result<(), Error>
+    requires { digit < 10 }
+    ensures ok { OnOk result (B.held out.new ≡ B.held out.old ⊕ letter digit ∷ []) }
+    ensures err { OnErr result (B.held out.new ≡ B.held out.old) }
+    ensures cause { IfErr result (WantsMemory (Wants B.Lacks (B.held out.old) 1)) }
+{
+    put_u8(out, 48 + digit as u8)
+}
+
+// Appends so many decimal digits from a place on. A refusal leaves what stood there as a front.
+fn put_run<B: Buffer>(d: &Decimal<'_>, from: usize, count: usize, out: &mut B) -> Result<(), Error>
+    requires { from + count < 2 ^ 32 }
+    ensures ok { OnOk result (B.held out.new ≡ B.held out.old ⊕ map letter (run (decimal_at d.now.digits) from count)) }
+    ensures err { OnErr result (IsFrontOf (B.held out.old) (B.held out.new)) }
+    ensures cause { IfErr result (WantsMemory (Wants B.Lacks (B.held out.old) count)) }
+{
+    for i in 0..count {
+        put_digit(decimal_at(d, from + i), out)?;
+    }
+    Ok(())
+}
+
+// The weight of a first digit that stands before the point; else how far behind it another stands.
+fn weight_of(weight: i16) -> Result<usize, usize>
+    ensures before { IfOk result (λ k. (weight ≡ pos k) × (k < 2 ^ 15)) }
+    ensures behind { IfErr result (λ j. (weight ≡ negsuc j) × (j < 2 ^ 15)) }
+{
+    if weight < 0 {
+        return Err((-1 - weight) as usize);
+    }
+    Ok(weight as usize)
+}
+
+// Appends what stands before the point. A refusal leaves what stood there as a front.
+fn put_whole<B: Buffer>(d: &Decimal<'_>, out: &mut B) -> Result<(), Error>
+    ensures ok { OnOk result (B.held out.new ≡ B.held out.old ⊕ map letter (whole_digits d.now.weight d.now.digits)) }
+    ensures err { OnErr result (IsFrontOf (B.held out.old) (B.held out.new)) }
+    ensures cause { IfErr result (WantsMemory (Wants B.Lacks (B.held out.old) (length (map letter (whole_digits d.now.weight d.now.digits))))) }
+{
+    match weight_of(d.weight()) {
+        Ok(k) => put_before(d, k, out),
+        Err(_) => put_digit(0, out),
+    }
+}
+
+// Appends what stands before the point, the first digit too. A refusal leaves what stood there as a front.
+fn put_before<B: Buffer>(d: &Decimal<'_>, k: usize, out: &mut B) -> Result<(), Error>
+    requires { k < 2 ^ 15 }
+    ensures ok { OnOk result (B.held out.new ≡ B.held out.old ⊕ map letter (whole_digits (pos k) d.now.digits)) }
+    ensures err { OnErr result (IsFrontOf (B.held out.old) (B.held out.new)) }
+    ensures cause { IfErr result (WantsMemory (Wants B.Lacks (B.held out.old) (length (map letter (whole_digits (pos k) d.now.digits))))) }
+{
+    let from = leading(d.digit(0));
+    put_run(d, from, 4 * (k + 1) - from, out)
+}
+
+// The decimal digit of this index behind the point.
+fn behind_point(d: &Decimal<'_>, index: usize) -> u16
+    requires { index < 2 ^ 32 }
+    ensures value { result ≡ behind_point d.now.weight d.now.digits index }
+    ensures small { result < 10 }
+{
+    match weight_of(d.weight()) {
+        Ok(k) => decimal_at(d, 4 * (k + 1) + index),
+        Err(j) => behind_zeros(d, 4 * j, index),
+    }
+}
+
+// The decimal digit of this index, where so many zeros stand in front of the first.
+fn behind_zeros(d: &Decimal<'_>, zeros: usize, index: usize) -> u16
+    ensures zero { index < zeros → result ≡ 0 }
+    ensures value { zeros ≤ index → result ≡ decimal_at d.now.digits (index - zeros) }
+    ensures small { result < 10 }
+{
+    if index < zeros {
+        return 0;
+    }
+    decimal_at(d, index - zeros)
+}
+
+// Appends what stands behind the point. A refusal leaves what stood there as a front.
+fn put_places<B: Buffer>(d: &Decimal<'_>, count: usize, out: &mut B) -> Result<(), Error>
+    requires { count < 2 ^ 32 }
+    ensures ok { OnOk result (B.held out.new ≡ B.held out.old ⊕ map letter (run (behind_point d.now.weight d.now.digits) 0 count)) }
+    ensures err { OnErr result (IsFrontOf (B.held out.old) (B.held out.new)) }
+    ensures cause { IfErr result (WantsMemory (Wants B.Lacks (B.held out.old) count)) }
+{
+    for i in 0..count {
+        put_digit(behind_point(d, i), out)?;
+    }
+    Ok(())
+}
+
+// Appends the point and what stands behind it, if that is shown. A refusal leaves what stood there as a front.
+fn put_fraction<B: Buffer>(d: &Decimal<'_>, out: &mut B) -> Result<(), Error>
+    ensures ok { OnOk result (B.held out.new ≡ B.held out.old ⊕ fraction_text d.now.scale (fraction_digits d.now)) }
+    ensures err { OnErr result (IsFrontOf (B.held out.old) (B.held out.new)) }
+    ensures cause { IfErr result (WantsMemory (Wants B.Lacks (B.held out.old) (length (fraction_text d.now.scale (fraction_digits d.now))))) }
+{
+    if d.scale() == 0 {
+        return Ok(());
+    }
+    put_u8(out, b'.')?;
+    put_places(d, d.scale() as usize, out)?;
+    Ok(())
+}
+
+// Appends the sign, if there is one.
+fn put_sign<B: Buffer>(negative: bool, out: &mut B) -> Result<(), Error>
+    ensures ok { OnOk result (B.held out.new ≡ B.held out.old ⊕ sign_text negative) }
+    ensures err { OnErr result (B.held out.new ≡ B.held out.old) }
+    ensures cause { IfErr result (WantsMemory (Wants B.Lacks (B.held out.old) (length (sign_text negative)))) }
+{
+    if negative { put_u8(out, b'-') } else { Ok(()) }
+}
+
+// Appends the text of a number. A refusal leaves what stood there as a front.
+fn put_decimal<B: Buffer>(d: &Decimal<'_>, out: &mut B) -> Result<(), Error>
+    ensures ok { OnOk result (B.held out.new ≡ B.held out.old ⊕ decimal_text d.now) }
+    ensures err { OnErr result (IsFrontOf (B.held out.old) (B.held out.new)) }
+    ensures cause { IfErr result (WantsMemory (Wants B.Lacks (B.held out.old) (length (decimal_text d.now)))) }
+{
+    put_sign(d.is_negative(), out)?;
+    put_whole(d, out)?;
+    put_fraction(d, out)?;
+    Ok(())
+}
+
+// Appends the text of a number, or nothing.
+fn decimal_to_text<B: Buffer>(d: &Decimal<'_>, out: &mut B) -> Result<(), Error>
+    ensures { Writes (decimal_text d.now) None B.Lacks (B.held out.old) (B.held out.new) result }
+{
+    let start = out.len();
+    match put_decimal(d, out) {
+        Ok(()) => Ok(()),
+        Err(e) => {
+            out.truncate(start);
+            Err(e)
+        }
+    }
+}
+
+/// Appends the text of a `numeric`, as a server writes it.
+///
+/// # Errors
+///
+/// `OutOfMemory` where the buffer is refused memory. The buffer's bytes are then as they were.
+pub fn numeric_to_text<B: Buffer>(v: &Numeric<'_>, out: &mut B) -> Result<(), Error>
+    ensures { Writes (numeric_text (said v.now)) None B.Lacks (B.held out.old) (B.held out.new) result }
+{
+    match v {
+        Numeric::Finite(d) => decimal_to_text(d, out),
+        Numeric::NaN => append(b"NaN", out),
+        Numeric::PosInfinity => append(b"Infinity", out),
+        Numeric::NegInfinity => append(b"-Infinity", out),
+    }
+}

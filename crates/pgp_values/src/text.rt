@@ -1,0 +1,49 @@
+//! Documents of JSON in the server's own form, and paths in them, as texts.
+//!
+//! PostgreSQL manual, "JSON Types".
+#![tactic(auto, using(pgp_base::proofs::Parts::held_steps))]
+
+ghost use Rattle.pgp_types.specs.Format.{ReadsBy, Writes};
+ghost use Rattle.pgp_values.specs.Text.{jsonb, jsonpath};
+
+use pgp_base::{Buffer, Error};
+use pgp_types::{label_from_sql, label_to_sql};
+
+// The version of both formats.
+const VERSION: u8 = 1;
+
+/// Appends a `jsonb`, given as its JSON.
+pub fn jsonb_to_sql<B: Buffer>(v: &str, buf: &mut B) -> Result<(), Error>
+    ensures { Writes jsonb v.now B.Lacks (B.held buf.old) result (B.held buf.new) }
+{
+    label_to_sql(VERSION, v, buf)
+}
+
+/// Reads the JSON of a `jsonb`. It isn't looked at: a server sends a right one.
+///
+/// # Errors
+///
+/// `InvalidVersion` where the first byte isn't 1, and `NotUtf8` where what stands behind it isn't text.
+pub fn jsonb_from_sql(buf: &[u8]) -> Result<&str, Error>
+    ensures { ReadsBy (λ t. t.now) jsonb buf.now result }
+{
+    label_from_sql(VERSION, buf)
+}
+
+/// Appends a `jsonpath`, given as its text.
+pub fn jsonpath_to_sql<B: Buffer>(v: &str, buf: &mut B) -> Result<(), Error>
+    ensures { Writes jsonpath v.now B.Lacks (B.held buf.old) result (B.held buf.new) }
+{
+    label_to_sql(VERSION, v, buf)
+}
+
+/// Reads the text of a `jsonpath`.
+///
+/// # Errors
+///
+/// `InvalidVersion` where the first byte isn't 1, and `NotUtf8` where what stands behind it isn't text.
+pub fn jsonpath_from_sql(buf: &[u8]) -> Result<&str, Error>
+    ensures { ReadsBy (λ t. t.now) jsonpath buf.now result }
+{
+    label_from_sql(VERSION, buf)
+}

@@ -1,0 +1,80 @@
+//! Spans of time, and times of a day with a zone.
+//!
+//! PostgreSQL manual, "Date/Time Types".
+#![tactic(auto, using(pgp_base::proofs::Parts::held_steps))]
+
+ghost use Rattle.std.specs.Prelude.{◌≡◌};
+ghost use Rattle.pgp_types.specs.Format.{Reads, Writes};
+ghost use Rattle.pgp_values.specs.Time.{interval, timetz};
+
+use crate::codec::{append_three, int32_bytes, int32_of, int64_bytes, int64_of};
+use pgp_base::{Buffer, Error};
+use pgp_types::codec::{append_both, block};
+
+/// An `interval`. A server does not make days of hours, nor months of days.
+#[derive(Debug, Clone, Copy, PartialEq, Eq)]
+pub struct Interval {
+    pub microseconds: i64,
+    pub days: i32,
+    pub months: i32,
+}
+
+/// A `timetz`: the microseconds since midnight, and the seconds that its zone is west of Greenwich.
+#[derive(Debug, Clone, Copy, PartialEq, Eq)]
+pub struct TimeTz {
+    pub microseconds: i64,
+    pub zone: i32,
+}
+
+/// Appends an `interval`.
+pub fn interval_to_sql<B: Buffer>(v: Interval, buf: &mut B) -> Result<(), Error>
+    ensures { Writes interval v B.Lacks (B.held buf.old) result (B.held buf.new) }
+{
+    append_three(
+        &int64_bytes(v.microseconds),
+        &int32_bytes(v.days),
+        &int32_bytes(v.months),
+        buf,
+    )
+}
+
+/// Reads an `interval`.
+///
+/// # Errors
+///
+/// `UnexpectedEof` where there are fewer than 16 bytes, `NotDrained` where there are more.
+pub fn interval_from_sql(buf: &[u8]) -> Result<Interval, Error>
+    ensures { Reads interval buf.now result }
+{
+    let bytes: [u8; 16] = block(buf)?;
+    let (microseconds, rest) = bytes.split_at(8);
+    let (days, months) = rest.split_at(4);
+    Ok(Interval {
+        microseconds: int64_of(microseconds),
+        days: int32_of(days),
+        months: int32_of(months),
+    })
+}
+
+/// Appends a `timetz`.
+pub fn timetz_to_sql<B: Buffer>(v: TimeTz, buf: &mut B) -> Result<(), Error>
+    ensures { Writes timetz v B.Lacks (B.held buf.old) result (B.held buf.new) }
+{
+    append_both(&int64_bytes(v.microseconds), &int32_bytes(v.zone), buf)
+}
+
+/// Reads a `timetz`.
+///
+/// # Errors
+///
+/// `UnexpectedEof` where there are fewer than 12 bytes, `NotDrained` where there are more.
+pub fn timetz_from_sql(buf: &[u8]) -> Result<TimeTz, Error>
+    ensures { Reads timetz buf.now result }
+{
+    let bytes: [u8; 12] = block(buf)?;
+    let (microseconds, zone) = bytes.split_at(8);
+    Ok(TimeTz {
+        microseconds: int64_of(microseconds),
+        zone: int32_of(zone),
+    })
+}

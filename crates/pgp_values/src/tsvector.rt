@@ -1,0 +1,151 @@
+//! Texts to be searched.
+//!
+//! PostgreSQL manual, "Text Search Types".
+#![tactic(auto, using(pgp_base::proofs::Parts::held_steps))]
+
+ghost use Rattle.std.specs.Prelude.{◌≡◌, ◌⊎◌, ◌++◌, ℕ, List, map, length, Some, None, OnOk, OnErr, IfErr};
+ghost use Rattle.std.specs.Iterator.{IsFiniteIterable};
+ghost use Rattle.std.specs.List.{flat_map};
+ghost use Rattle.pgp_base.specs.Calls.{Came};
+ghost use Rattle.pgp_base.specs.Cause.{Wants, WantsMemory, count_cause};
+ghost use Rattle.pgp_base.specs.Held.{◌⊕◌, IsFrontOf};
+ghost use Rattle.pgp_base.specs.Wire.{uint16};
+ghost use Rattle.pgp_types.specs.Given.{WritesAll};
+ghost use Rattle.pgp_values.specs.Tsvector.{lexeme, tsvector, shown_lexeme};
+
+use crate::decimal::digit_at;
+use crate::list::{PutItem, write_list};
+use pgp_base::reading::{text_at, uint16_at};
+use pgp_base::{Buffer, Counted, Error, FallibleIterator, put_u16, u16_from_usize, write_cstr};
+use pgp_types::part::natural_at;
+
+// A lexeme and its places.
+impl<'a> PutItem for (&'a str, &'a [u16]) {
+    ghost use Rattle.std.specs.Prelude.{ℕ, List};
+    ghost use Rattle.pgp_values.specs.Tsvector.{lexeme, shown_lexeme};
+
+    ghost Meaning = { List ℕ × List ℕ };
+
+    ghost meaning = { λ x. shown_lexeme x };
+
+    ghost item = { lexeme };
+
+    fn put<B: Buffer>(self, buf: &mut B) -> Result<(), Error> {
+        let (text, places) = self;
+        put_lexeme(text, places, buf)
+    }
+}
+
+// Appends places behind their number. A refusal leaves what stood there as a front.
+fn put_places<B: Buffer>(places: &[u16], buf: &mut B) -> Result<(), Error>
+    ensures ok { OnOk result ((count_cause (length places.now) ≡ None) × (B.held buf.new ≡ B.held buf.old ⊕ (uint16 (length places.now) ++ flat_map uint16 places.now))) }
+    ensures err { OnErr result (IsFrontOf (B.held buf.old) (B.held buf.new)) }
+    ensures why { IfErr result (λ e. WantsMemory (Wants B.Lacks (B.held buf.old) (length (uint16 (length places.now) ++ flat_map uint16 places.now))) e ⊎ (count_cause (length places.now) ≡ Some e)) }
+{
+    let count = u16_from_usize(places.len())?;
+    put_u16(buf, count)?;
+    for i in 0..places.len() {
+        put_u16(buf, places[i])?;
+    }
+    Ok(())
+}
+
+// Appends a lexeme and its places. A refusal leaves what stood there as a front.
+fn put_lexeme<B: Buffer>(text: &str, places: &[u16], buf: &mut B) -> Result<(), Error>
+    ensures ok { OnOk result ((lexeme.cause (text.now, places.now) ≡ None) × (B.held buf.new ≡ B.held buf.old ⊕ lexeme.written (text.now, places.now))) }
+    ensures err { OnErr result (IsFrontOf (B.held buf.old) (B.held buf.new)) }
+    ensures why { IfErr result (λ e. WantsMemory (Wants B.Lacks (B.held buf.old) (length (lexeme.written (text.now, places.now)))) e ⊎ (lexeme.cause (text.now, places.now) ≡ Some e)) }
+{
+    write_cstr(text.as_bytes(), buf)?;
+    put_places(places, buf)?;
+    Ok(())
+}
+
+/// Appends a `tsvector` of these lexemes and their places. A server wants the lexemes in order, each once, of at most 2,046 bytes, and the
+/// places of each in order, from 1 to 16,383 in the lowest 14 bits, at most 255 of them.
+///
+/// # Errors
+///
+/// `EmbeddedNull` where a lexeme has a byte 0; `TooLarge` where more than 65,535 places stand with one, and at a lexeme past
+/// the greatest `i32`; `OutOfMemory` where the buffer is refused memory. The buffer's bytes are then as they were.
+pub fn tsvector_to_sql<'a, B: Buffer, I: IntoIterator<Item = (&'a str, &'a [u16])> + Drop>(
+    lexemes: I,
+    buf: &mut B,
+) -> Result<(), Error>
+where
+    I::IntoIter: Drop,
+    requires { IsFiniteIterable I.into_iter_gives I.IntoIter.can_next I.IntoIter.remaining lexemes }
+    ensures { WritesAll (Came I.into_iter_gives I.IntoIter.next_gives lexemes) tsvector (λ xs. map shown_lexeme xs) B.Lacks (B.held buf.old) result (B.held buf.new) }
+{
+    write_list(lexemes, buf)
+}
+
+/// The places of a lexeme.
+#[derive(Debug, Clone, Copy)]
+pub struct TsPositions<'a>(&'a [u8]);
+
+impl<'a> TsPositions<'a> {
+    /// How many there are.
+    pub fn len(&self) -> usize {
+        self.0.len() / 2
+    }
+
+    /// Whether there are none.
+    pub fn is_empty(&self) -> bool {
+        self.0.len() < 2
+    }
+
+    /// The place of this index, its weight in the highest two bits: 0 for D to 3 for A.
+    pub fn get(&self, index: usize) -> Option<u16> {
+        if index >= self.0.len() / 2 {
+            return None;
+        }
+        Some(digit_at(self.0, index))
+    }
+}
+
+/// The lexemes of a `tsvector`, and the places of each.
+#[derive(Drop)]
+pub struct Lexemes<'a>(Counted<'a>);
+
+impl<'a> Lexemes<'a> {
+    /// The next lexeme, or nothing at the end.
+    ///
+    /// # Errors
+    ///
+    /// `UnexpectedEof` where the lexeme's end, the number of its places or a place is missing, `NotUtf8` where it isn't text, and
+    /// `NotDrained` where bytes stand behind the last.
+    pub fn next(&mut self) -> Result<Option<(&'a str, TsPositions<'a>)>, Error> {
+        match self.0.due()? {
+            Some(buf) => self.0.take(lexeme_at(buf)),
+            None => Ok(None),
+        }
+    }
+
+    /// How many lexemes were announced and not handed out yet.
+    pub fn size_hint(&self) -> (usize, Option<usize>) {
+        self.0.size_hint()
+    }
+}
+
+// The lexeme at the front.
+fn lexeme_at(bytes: &[u8]) -> Result<((&str, TsPositions<'_>), &[u8]), Error> {
+    let (text, rest) = text_at(bytes)?;
+    let (count, rest) = uint16_at(rest)?;
+    let size = 2 * count as usize;
+    if rest.len() < size {
+        return Err(Error::UnexpectedEof);
+    }
+    let (places, rest) = rest.split_at(size);
+    Ok(((text, TsPositions(places)), rest))
+}
+
+/// Reads a `tsvector`. Its lexemes are read as they are asked for.
+///
+/// # Errors
+///
+/// `UnexpectedEof` where the number of lexemes is cut short, and `InvalidCount` where it is negative.
+pub fn tsvector_from_sql(buf: &[u8]) -> Result<Lexemes<'_>, Error> {
+    let (count, lexemes) = natural_at(buf, Error::InvalidCount)?;
+    Ok(Lexemes(Counted::new(lexemes, count)))
+}
