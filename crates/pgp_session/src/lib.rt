@@ -10,7 +10,9 @@ pub mod proxy;
 pub mod scram_login;
 pub mod serving;
 mod stream_parser;
+mod whole_stream;
 
 pub use client_stream::ClientStream;
-pub use parsed::{Parsed, parse_stream};
+pub use parsed::Parsed;
 pub use stream_parser::StreamParser;
+pub use whole_stream::parse_stream;

@@ -1,14 +1,10 @@
-//! A whole stream.
+//! What was read of a whole stream.
 
-ghost use Rattle.std.specs.Prelude.{◌≡◌, IfOk, IfErr, map};
-ghost use Rattle.std.specs.List.{flat_map};
-ghost use Rattle.pgp_base.specs.Cause.{WantsMemory};
-ghost use Rattle.pgp_message.specs.Stream.{BackendRun};
+ghost use Rattle.std.specs.Prelude.{◌≡◌, map};
 ghost use Rattle.pgp_message.specs.Views.{seen};
 
-use crate::stream_parser::StreamParser;
 use bytes::Bytes;
-use pgp_base::{Error, Memory};
+use pgp_base::Error;
 use pgp_message::Message;
 use std::alloc::{Allocator, Global};
 use std::marker::Model;
@@ -66,21 +62,4 @@ impl<A: Allocator + Copy> Parsed<A> {
     {
         self.rest.as_slice()
     }
-}
-
-/// The messages and refusals of a stream, however it is cut into pieces.
-///
-/// # Errors
-///
-/// `OutOfMemory` where memory was refused. A refused frame is no error of the call: its refusal stands among the
-/// results.
-pub fn parse_stream<A: Memory>(alloc: A, pieces: &[&[u8]]) -> Result<Parsed<A>, Error>
-    ensures run { IfOk result (λ s. BackendRun (flat_map (λ piece. piece.now) pieces.now) s.results s.stopped s.rest) }
-    ensures err { IfErr result (WantsMemory A.Lacks) }
-{
-    let mut parser = StreamParser::new(alloc);
-    for piece in pieces {
-        parser.feed(piece)?;
-    }
-    Ok(parser.into_parsed())
 }

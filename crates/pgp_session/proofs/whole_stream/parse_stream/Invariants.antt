@@ -1,7 +1,7 @@
 use Rattle.std.proofs.Common.{◌≡◌, take, [], false}
 use Rattle.std.specs.List.{flat_map}
 use Rattle.pgp_session.specs.ServerStream.{HasRead}
-use Rattle.pgp_session.proofs.parsed.parse_stream.Given as goal
+use Rattle.pgp_session.proofs.whole_stream.parse_stream.Given as goal
 
 abbrev pub invariant-loop-piece : goal.invariant-loop-piece
 invariant-loop-piece g l = record {

@@ -3,7 +3,7 @@ use Rattle.std.specs.List.{flat_map}
 use Rattle.pgp_session.specs.ServerStream.{HasRead, GoesOn}
 use Rattle.pgp_session.proofs.Pieces.{piece_more}
 use Rattle.pgp_session.proofs.Readings.{has_read_more}
-use Rattle.pgp_session.proofs.parsed.parse_stream.Goals as goal
+use Rattle.pgp_session.proofs.whole_stream.parse_stream.Goals as goal
 
 pub loop-piece-preserved : goal.loop-piece-preserved
 loop-piece-preserved g c =
