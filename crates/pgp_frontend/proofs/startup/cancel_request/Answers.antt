@@ -1,3 +1,4 @@
+use Rattle.std.specs.Int.{w32, to_be_bytes}
 use Rattle.std.proofs.Common.{ap, ◌∙◌}
 use Rattle.std.proofs.Math.Facts.{to_z-of_z}
 use Rattle.pgp_base.specs.Wire.{int32}
@@ -6,5 +7,5 @@ use Rattle.pgp_frontend.proofs.startup.cancel_request.Goals as goal
 
 pub returns : goal.returns
 returns g c =
-    let key = number_key _ _ c.u32_bytes.ensures ∙ ap int32 (to_z-of_z c.ranges.secret_key) in
+    let key = number_key _ _ (c.u32_bytes.ensures ∙ ap (to_be_bytes w32) c.cast_unsigned.ensures) ∙ ap int32 (to_z-of_z c.ranges.secret_key) in
     same_cancel g.B.Buffer.Lacks (g.B.Buffer.held c.args.buf.now) (g.B.Buffer.held c.cancel_request_key.new.buf) c.cancel_request_key.result (to_z-of_z c.ranges.process_id) key c.cancel_request_key.ensures
