@@ -137,7 +137,7 @@ runs_bytes kinds more l b c p q = (p.whole ∙ sym q.whole, p.told ∙ sym q.tol
 
 -- ---- one message more
 
-each_push : {X : Type 0} (P : X → Type 0) (xs : List X) (x : X) → AllByRecursion P xs → P x → AllByRecursion P (xs ++ x ∷ [])
+pub each_push : {X : Type 0} (P : X → Type 0) (xs : List X) (x : X) → AllByRecursion P xs → P x → AllByRecursion P (xs ++ x ∷ [])
 each_push P [] x all one = (one, tt)
 each_push P (y ∷ xs) x all one = (all.0, each_push P xs x all.1 one)
 

@@ -24,7 +24,7 @@ pub record Sends {Kept : Type 0} (message : List ℕ → ClientMessage) (client 
 
 -- the first message of the exchange
 abbrev pub initial : List ℕ → ClientMessage
-initial text = SaslInitialResponse (codes "SCRAM-SHA-256") text
+initial text = SaslInitialResponse (codes "SCRAM-SHA-256") (Some text)
 
 -- Why a log-in didn't begin behind what stood `here`: for want of memory, which `memory` tells, or the first message was refused.
 abbrev pub BeginRefused : {A K : Type 0} → ClientMessage → Type 0 → (Held K → ℕ → Type 0) → Held K → LoginError A → Type 0
