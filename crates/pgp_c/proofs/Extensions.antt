@@ -10,7 +10,7 @@ use Rattle.pgp_base.proofs.Parts.{length-uint32}
 use Rattle.pgp_base.specs.Wire.{uint32}
 use Rattle.pgp_frontend.specs.ClientMessage.{ClientMessage, CopyData, PasswordKind, Startup}
 use Rattle.pgp_frontend.specs.declared.startup.ProtocolVersion.{ProtocolVersion}
-use Rattle.pgp_frontend.specs.Payload.{bytes_of, framed, payload, tag_of}
+use Rattle.pgp_frontend.specs.Payload.{bytes_of, framed, minor_of, payload, tag_of}
 use Rattle.pgp_frontend.specs.ClientRun.{ClientRun, MayCome, kinds_of, is_startup, is_opened}
 use Rattle.pgp_frontend.proofs.ClientRuns.{run_more}
 use Rattle.pgp_c.specs.declared.opening.PgpPair.{PgpPair}
@@ -145,7 +145,7 @@ pub all_named : (ps : List PgpPair) → list_all is_named ps ≡ true → AllByR
 all_named [] h = tt
 all_named (p ∷ ps) h = let k = both (is_named p) (list_all is_named ps) h in (named_one p k.0, all_named ps k.1)
 
-pub may_open : (v : ProtocolVersion) (ps : List PgpPair) → list_all is_named ps ≡ true → MayCome (Startup v (map pair_of ps)) false
+pub may_open : (v : ProtocolVersion) (ps : List PgpPair) → list_all is_named ps ≡ true → MayCome (Startup (minor_of v) (map pair_of ps)) false
 may_open v ps h = (inl tt, All-from_recursion (λ (p : List ℕ × List ℕ). p.0 ≢ []) (map pair_of ps) (all_named ps h))
 
 -- Where more is to be sent than the memory holds, no message fits.

@@ -19,7 +19,7 @@ use Rattle.pgp_base.proofs.Causes.{either_first, first-append}
 use Rattle.pgp_base.proofs.Parts.{wants_more}
 use Rattle.pgp_frontend.specs.ClientMessage.{Startup}
 use Rattle.pgp_frontend.specs.Given.{Arrived, StartupWhole, StartupSoFar, Refused, shown, shown_pairs}
-use Rattle.pgp_frontend.specs.Payload.{Int32, version_code, pair, pair_cause, parts, parts_cause, bytes_of, cause}
+use Rattle.pgp_frontend.specs.Payload.{Int32, minor_of, version_code, pair, pair_cause, parts, parts_cause, bytes_of, cause}
 use Rattle.pgp_frontend.specs.declared.startup.ProtocolVersion.{ProtocolVersion}
 use Rattle.pgp_frontend.proofs.Causes.{last_cause, refused_pairs}
 use Rattle.pgp_frontend.proofs.Needs.{startup_length}
@@ -30,13 +30,13 @@ use Rattle.pgp_c.specs.Opening.{pair_of}
 module _ (v : ProtocolVersion) (all : List (List ℕ × List ℕ)) where
   module _ (xs : List (Bor (List ℕ) × Bor (List ℕ))) (more : List (List ℕ × List ℕ)) (is : all ≡ map shown xs ++ more) where
     -- the packet of the first pairs is no longer
-    longer : length (bytes_of (Startup v (map shown xs))) ≤ length (bytes_of (Startup v all))
+    longer : length (bytes_of (Startup (minor_of v) (map shown xs))) ≤ length (bytes_of (Startup (minor_of v) all))
     longer =
         let e : flat_map pair all ≡ flat_map pair (map shown xs) ++ flat_map pair more = ap (λ l. flat_map pair l) is ∙ flat_map-append pair (map shown xs) more in
-        omega (arith, startup_length v (map shown xs), startup_length v all, ap length e, length-append (flat_map pair (map shown xs)) (flat_map pair more), length-append (flat_map pair (map shown xs)) (0 ∷ []), length-append (flat_map pair all) (0 ∷ []))
+        omega (arith, startup_length (minor_of v) (map shown xs), startup_length (minor_of v) all, ap length e, length-append (flat_map pair (map shown xs)) (flat_map pair more), length-append (flat_map pair (map shown xs)) (0 ∷ []), length-append (flat_map pair all) (0 ∷ []))
 
     -- a cause of theirs is that of the packet
-    caused : (e : Error) → parts_cause (Int32 (version_code v) ∷ shown_pairs xs ∷ []) ≡ Some e → cause (Startup v all) ≡ Some e
+    caused : (e : Error) → parts_cause (Int32 (version_code v) ∷ shown_pairs xs ∷ []) ≡ Some e → cause (Startup (minor_of v) all) ≡ Some e
     caused e h =
         let one : first (map pair_cause (map shown xs)) ≡ Some e = last_cause (first (map pair_cause (map shown xs))) e h in
         let whole : first (map pair_cause all) ≡ Some e =
@@ -57,7 +57,7 @@ module _ (v : ProtocolVersion) (all : List (List ℕ × List ℕ)) where
     arrived xs (inl none) = (all, sym (ap (λ l. map shown l ++ all) none))
     arrived xs (inr a) = asked xs a.before a.next a.came a.are
 
-    pub startup_refused : (old : Held (GName × ℕ)) (e : Error) → Refused (StartupWhole (λ text. text.now) v given) (StartupSoFar (λ text. text.now) v given) window_lacks old e → WantsMemory (Wants window_lacks old (length (bytes_of (Startup v all)))) e ⊎ (cause (Startup v all) ≡ Some e)
+    pub startup_refused : (old : Held (GName × ℕ)) (e : Error) → Refused (StartupWhole (λ text. text.now) v given) (StartupSoFar (λ text. text.now) v given) window_lacks old e → WantsMemory (Wants window_lacks old (length (bytes_of (Startup (minor_of v) all)))) e ⊎ (cause (Startup (minor_of v) all) ≡ Some e)
     startup_refused old e (inl k) =
         let xs = k.1.0 in
         let f = arrived xs k.1.1 in
@@ -65,7 +65,7 @@ module _ (v : ProtocolVersion) (all : List (List ℕ × List ℕ)) where
           | inl memory ↦ inl (memory.0, wants_more old _ _ (let size = ap (λ m. length (bytes_of m)) k.1.2 in let long = longer xs f.0 f.1 in omega (arith, size, long)) memory.1)
           | inr c ↦ inr (caused xs f.0 f.1 e (ap (λ m. parts_cause (parts m)) (sym k.1.2) ∙ c))
         ]
-    startup_refused old e (inr r) = inr (ap (λ l. cause (Startup v l)) (sym (given_all r.1.0 r.1.1)) ∙ ap cause (sym r.1.2) ∙ r.3)
+    startup_refused old e (inr r) = inr (ap (λ l. cause (Startup (minor_of v) l)) (sym (given_all r.1.0 r.1.1)) ∙ ap cause (sym r.1.2) ∙ r.3)
 
 -- an iterator is made of itself
 abbrev FromItself : {S : Type 0} → S → S → Type 0
@@ -94,6 +94,6 @@ module _ {S F : Type 0} (steps : S → Option (Bor PgpPair) → S → Type 0) (g
   pub pairs_refused : (v : ProtocolVersion) (old : Held (GName × ℕ)) (e : Error) → Refused (StartupWhole (λ text. text.now) v (Came FromItself (maps steps g) source)) (StartupSoFar (λ text. text.now) v (Came FromItself (maps steps g) source)) window_lacks old e
       → (all : List PgpPair) → YieldsList steps (λ (x : Bor PgpPair). x.now) (map_source source) all → (f : F) → map_callee source ≡ f
       → ((x : Bor PgpPair) (r : Bor (List ℕ) × Bor (List ℕ)) (q : F) → Called g f (x, tt) r q → (q ≡ f) × (shown r ≡ pair_of x.now))
-      → WantsMemory (Wants window_lacks old (length (bytes_of (Startup v (map pair_of all))))) e ⊎ (cause (Startup v (map pair_of all)) ≡ Some e)
+      → WantsMemory (Wants window_lacks old (length (bytes_of (Startup (minor_of v) (map pair_of all))))) e ⊎ (cause (Startup (minor_of v) (map pair_of all)) ≡ Some e)
   pairs_refused v old e r all road f callee called =
       startup_refused v (map pair_of all) (Came FromItself (maps steps g) source) (all_pairs all road f callee called) (some_pairs all road f callee called) old e r

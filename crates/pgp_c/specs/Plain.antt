@@ -1,5 +1,5 @@
 -- Private: the messages without lists, as one type.
-use Rattle.std.specs.Prelude.{Bool, true, false}
+use Rattle.std.specs.Prelude.{Bool, true, false, Some}
 use Rattle.pgp_frontend.specs.ClientMessage.{ClientMessage}
 use Rattle.pgp_frontend.specs.ClientMessage as client
 use Rattle.pgp_c.specs.declared.message.PlainMessage.{PlainMessage}
@@ -16,7 +16,7 @@ message_of (Execute portal max_rows) = client.Execute portal.now max_rows
 message_of Flush = client.Flush
 message_of (PasswordMessage password) = client.PasswordMessage password.now
 message_of (Query text) = client.Query text.now
-message_of (SaslInitialResponse mechanism response) = client.SaslInitialResponse mechanism.now response.now
+message_of (SaslInitialResponse mechanism response) = client.SaslInitialResponse mechanism.now (Some response.now)
 message_of (SaslResponse response) = client.SaslResponse response.now
 message_of SslRequest = client.SslRequest
 message_of Sync = client.Sync

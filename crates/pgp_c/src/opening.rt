@@ -3,7 +3,7 @@
 ghost use Rattle.std.specs.Prelude.{◌≡◌, ◌≢◌, ◌⊎◌, List, map, true, false};
 ghost use Rattle.std.specs.List.{list_all};
 ghost use Rattle.pgp_frontend.specs.ClientMessage.{Startup};
-ghost use Rattle.pgp_frontend.specs.Payload.{version_code};
+ghost use Rattle.pgp_frontend.specs.Payload.{minor_of, version_code};
 ghost use Rattle.pgp_frontend.specs.declared.startup.ProtocolVersion.{ProtocolVersion as Version};
 ghost use Rattle.pgp_c.specs.Sending.{Sent};
 ghost use Rattle.pgp_c.specs.Opening.{is_named, pair_of, WhyPairs, WhyStartup};
@@ -28,7 +28,7 @@ pub extern "C" fn pgp_startup(
     out: &mut [u8],
     written: &mut usize,
 ) -> u32
-    ensures sent { result ≡ 0 → (v : Version) × (version_code v ≡ version) × Sent (Startup v (map pair_of parameters.now)) out.old out.new written.new }
+    ensures sent { result ≡ 0 → (v : Version) × (version_code v ≡ version) × Sent (Startup (minor_of v) (map pair_of parameters.now)) out.old out.new written.new }
     ensures named { result ≡ 0 → list_all is_named parameters.now ≡ true }
     ensures refused { result ≢ 0 → (written.new ≡ 0) × WhyStartup version parameters.now out.old result }
 {
@@ -46,7 +46,7 @@ fn open(
     out: &mut [u8],
     written: &mut usize,
 ) -> u32
-    ensures sent { result ≡ 0 → Sent (Startup version (map pair_of parameters.now)) out.old out.new written.new }
+    ensures sent { result ≡ 0 → Sent (Startup (minor_of version) (map pair_of parameters.now)) out.old out.new written.new }
     ensures named { result ≡ 0 → list_all is_named parameters.now ≡ true }
     ensures refused { result ≢ 0 → (written.new ≡ 0) × WhyPairs version parameters.now out.old result }
 {

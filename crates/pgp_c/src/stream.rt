@@ -1,9 +1,9 @@
 //! What a client sends, as one stream in memory of the caller's: a call whose phase it isn't is refused.
 #![tactic(auto, using(crate::proofs::Extensions::no_room))]
 
-ghost use Rattle.std.specs.Prelude.{◌≡◌, ◌≢◌, ◌<◌, ◌≤◌, true, false, length, map};
+ghost use Rattle.std.specs.Prelude.{◌≡◌, ◌≢◌, ◌<◌, ◌≤◌, true, false, length, map, Some};
 ghost use Rattle.pgp_frontend.specs.ClientMessage.{Bind, CancelRequest, Close, CopyDone, CopyFail, Describe, Execute, Flush, Parse, PasswordMessage, Query, SaslInitialResponse, SaslResponse, SslRequest, Startup, Sync, Terminate};
-ghost use Rattle.pgp_frontend.specs.Payload.{version_code};
+ghost use Rattle.pgp_frontend.specs.Payload.{minor_of, version_code};
 ghost use Rattle.pgp_frontend.specs.declared.startup.ProtocolVersion.{ProtocolVersion as Version};
 ghost use Rattle.pgp_c.specs.Lists.{value_of};
 ghost use Rattle.pgp_c.specs.Copying.{WhyNoHead};
@@ -64,7 +64,7 @@ pub extern "C" fn pgp_stream_startup(
     version: i32,
     parameters: &[PgpPair<'_>],
 ) -> u32
-    ensures added { result ≡ 0 → (v : Version) × (version_code v ≡ version) × Extends (Startup v (map pair_of parameters.now)) stream.old stream.new }
+    ensures added { result ≡ 0 → (v : Version) × (version_code v ≡ version) × Extends (Startup (minor_of v) (map pair_of parameters.now)) stream.old stream.new }
     ensures phase { stream.old.is_open ≢ false → result ≡ 32 }
     ensures why { result ≢ 0 → stream.old.is_open ≡ false → stream.old.len ≤ length stream.old.room.now → WhyStartup version parameters.now (free stream.old) result }
     ensures broken { stream.old.is_open ≡ false → length stream.old.room.now < stream.old.len → result ≡ 1 }
@@ -104,9 +104,9 @@ pub extern "C" fn pgp_stream_sasl_initial_response(
     mechanism: &[u8],
     response: &[u8],
 ) -> u32
-    ensures added { result ≡ 0 → Extends (SaslInitialResponse mechanism.now response.now) stream.old stream.new }
+    ensures added { result ≡ 0 → Extends (SaslInitialResponse mechanism.now (Some response.now)) stream.old stream.new }
     ensures phase { stream.old.is_open ≢ true → result ≡ 32 }
-    ensures why { result ≢ 0 → stream.old.is_open ≡ true → Why (SaslInitialResponse mechanism.now response.now) (free stream.old) result }
+    ensures why { result ≢ 0 → stream.old.is_open ≡ true → Why (SaslInitialResponse mechanism.now (Some response.now)) (free stream.old) result }
     ensures kept { result ≢ 0 → Keeps stream.old stream.new }
 {
     add(

@@ -1,6 +1,6 @@
 //! The messages whose parts are texts, bytes and numbers, each at the front of memory of the caller's.
 
-ghost use Rattle.std.specs.Prelude.{◌≡◌, ◌≢◌};
+ghost use Rattle.std.specs.Prelude.{◌≡◌, ◌≢◌, Some};
 ghost use Rattle.pgp_frontend.specs.ClientMessage.{CancelRequest, Close, CopyDone, CopyFail, Describe, Execute, Flush, PasswordMessage, Query, SaslInitialResponse, SaslResponse, SslRequest, Sync, Terminate};
 ghost use Rattle.pgp_c.specs.Sending.{Sent, NotSent};
 
@@ -158,8 +158,8 @@ pub extern "C" fn pgp_sasl_initial_response(
     out: &mut [u8],
     written: &mut usize,
 ) -> u32
-    ensures sent { result ≡ 0 → Sent (SaslInitialResponse mechanism.now response.now) out.old out.new written.new }
-    ensures refused { result ≢ 0 → NotSent (SaslInitialResponse mechanism.now response.now) out.old written.new result }
+    ensures sent { result ≡ 0 → Sent (SaslInitialResponse mechanism.now (Some response.now)) out.old out.new written.new }
+    ensures refused { result ≢ 0 → NotSent (SaslInitialResponse mechanism.now (Some response.now)) out.old written.new result }
 {
     let mut window = Window::new(out);
     let answer = over_bytes::sasl_initial_response(mechanism, response, &mut window);

@@ -108,7 +108,7 @@ module _ {F T E B K : Type 0} (held : B → Held K) (step : F → T → MutBor B
         bind_written r fs_fit rs_fit fits done = record {
           message = Bind portal statement fs vs rs;
           whole = (fs, came, (vs, served, (rs, results, refl)));
-          in_range = (tt, (tt, (fs_fit, (tt, (rs_fit, tt)))));
+          in_range = ((tt, (tt, (fs_fit, (tt, (rs_fit, tt))))), tt);
           none = frame_fits all (old ⊕ 66 ∷ []) (old ⊕ 66 ∷ [] ⊕ uint32 0) d base refl stands size all_none fits;
           appended = tagged 66 (joined all) old (old ⊕ 66 ∷ []) r refl (frame_done all (old ⊕ 66 ∷ []) (old ⊕ 66 ∷ [] ⊕ uint32 0) d base refl stands size r done);
         }

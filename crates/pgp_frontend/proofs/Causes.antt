@@ -8,7 +8,7 @@ use Rattle.pgp_base.specs.declared.error.Error.{Error}
 use Rattle.pgp_base.specs.declared.error.Error.TheVariants.{OutOfMemory, EmbeddedNull, InvalidSize, TooLarge}
 use Rattle.pgp_base.proofs.Causes.{count_fits, either_first}
 use Rattle.pgp_frontend.specs.ClientMessage.{ClientMessage}
-use Rattle.pgp_frontend.specs.Payload.{Part, Byte, Int32, Text, Int16s, Oids, Values, Sized, Rest, Key, Pairs, pair_cause, part_cause, parts, joined, parts_cause, cause}
+use Rattle.pgp_frontend.specs.Payload.{Part, Byte, Int16, Int32, Oid, Text, Int16s, Oids, Values, Nullable, Rest, Key, Pairs, pair_cause, part_cause, parts, joined, parts_cause, cause}
 
 -- a cause of the parts is one of the message
 pub parts_first : (m : ClientMessage) (e : Error) → parts_cause (parts m) ≡ Some e → cause m ≡ Some e
@@ -85,12 +85,14 @@ never_value (Some z) h = never_length (length z) h
 
 never_part : (p : Part) → part_cause p ≡ Some OutOfMemory → ⊥
 never_part (Byte n) h = never_none h
+never_part (Int16 z) h = never_none h
 never_part (Int32 z) h = never_none h
+never_part (Oid n) h = never_none h
 never_part (Text z) h = never_text z h
 never_part (Int16s zs) h = never_count (length zs) h
 never_part (Oids ns) h = never_count (length ns) h
 never_part (Values vs) h = never_either (first (map nullable_cause (take 65535 vs))) (count_cause (length vs)) (never_first nullable_cause never_value (take 65535 vs)) (never_count (length vs)) h
-never_part (Sized z) h = never_length (length z) h
+never_part (Nullable v) h = never_value v h
 never_part (Rest z) h = never_none h
 never_part (Key z) h = never_size (nat_le 4 (length z)) (nat_le (length z) 256) h
 never_part (Pairs ps) h = never_first pair_cause (λ p. never_either (text_cause p.0) (text_cause p.1) (never_text p.0) (never_text p.1)) ps h

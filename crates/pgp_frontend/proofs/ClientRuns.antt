@@ -1,19 +1,20 @@
 -- A client's bytes are read in one way, and by message more.
-use Rattle.std.proofs.Common.{◌≡◌, ◌≢◌, ℕ, Bool, true, false, List, [], ◌∷◌, ◌++◌, length, Option, Some, None, refl, sym, ap, subst, ◌∙◌, append_assoc, arith, inl, inr, ◌⊎◌}
-use Rattle.std.specs.Prelude.{is_some, ◌==◌, ◌||◌, if◌then◌else◌, option_to_list, All, slice_index}
+use Rattle.std.proofs.Common.{◌≡◌, ◌≢◌, ℕ, ◌+◌, ◌<◌, ◌≤◌, ◌^◌, Bool, true, false, List, [], ◌∷◌, ◌++◌, length, Option, Some, None, refl, sym, ap, subst, ◌∙◌, append_assoc, arith, inl, inr, ◌⊎◌}
+use Rattle.std.specs.Prelude.{is_some, ◌==◌, ◌||◌, if◌then◌else◌, option_to_list, All, FitsSigned, pos, slice_index}
+use Rattle.std.specs.Int.{w32}
 use Rattle.std.specs.List.{flat_map, AllByRecursion}
 use Rattle.std.proofs.lemmas.List.{append-nil, length-append}
 use Rattle.std.proofs.lemmas.List.Concat.{flat_map-cons}
 use Rattle.std.proofs.lemmas.Grind.{flat_map-append}
 use Rattle.std.proofs.lemmas.List.Elements.{recursion_from_All}
 use Rattle.pgp_base.specs.Wire.{uint32, int32}
-use Rattle.pgp_frontend.specs.ClientMessage.{ClientMessage, PasswordMessage, SaslInitialResponse, SaslResponse, Startup, CancelRequest, SslRequest, PasswordKind}
+use Rattle.pgp_frontend.specs.ClientMessage.{ClientMessage, PasswordMessage, SaslInitialResponse, SaslResponse, Startup, CancelRequest, SslRequest, GssEncRequest, PasswordKind}
 use Rattle.pgp_frontend.specs.Opening.{Opening}
-use Rattle.pgp_frontend.specs.declared.startup.ProtocolVersion.{ProtocolVersion}
-use Rattle.pgp_frontend.specs.declared.startup.ProtocolVersion.TheVariants.{V3_0, V3_2}
-use Rattle.pgp_frontend.specs.Payload.{tag_of, kind_of, framed, payload, bytes_of, cause, IsInRange}
+use Rattle.pgp_frontend.specs.Payload.{tag_of, kind_of, framed, payload, minor_code, bytes_of, cause, IsInRange}
 use Rattle.pgp_frontend.specs.Reading.{IsSpelled, IsNamed}
-use Rattle.pgp_frontend.proofs.Readings.{frame_read, opening_read}
+use Rattle.pgp_frontend.proofs.Readings.{frame_read, opening_read, bodies, length_fits, no_minor}
+use Rattle.pgp_base.proofs.Prefixes.{int32_begins}
+use Rattle.pgp_frontend.proofs.Needs.{framed_length, startup_length, minor_fits}
 use Rattle.pgp_frontend.specs.ClientRun.{IsRequest, IsStartup, IsTagged, AreInOrder, MayCome, kinds_of, ClientRun, is_startup, is_opened}
 
 -- ---- what the first message's bytes tell
@@ -76,6 +77,7 @@ opening : (m : ClientMessage) → IsStartup m ⊎ IsRequest m → (tag_of m ≡ 
 opening (Startup version parameters) o = (refl, refl)
 opening (CancelRequest process_id secret_key) o = (refl, refl)
 opening SslRequest o = (refl, refl)
+opening GssEncRequest o = (refl, refl)
 opening _ (inl o) = absurd o
 opening _ (inr o) = absurd o
 
@@ -135,7 +137,7 @@ runs_bytes kinds more l b c p q = (p.whole ∙ sym q.whole, p.told ∙ sym q.tol
 
 -- ---- one message more
 
-each_push : {X : Type 0} (P : X → Type 0) (xs : List X) (x : X) → AllByRecursion P xs → P x → AllByRecursion P (xs ++ x ∷ [])
+pub each_push : {X : Type 0} (P : X → Type 0) (xs : List X) (x : X) → AllByRecursion P xs → P x → AllByRecursion P (xs ++ x ∷ [])
 each_push P [] x all one = (one, tt)
 each_push P (y ∷ xs) x all one = (all.0, each_push P xs x all.1 one)
 
@@ -149,6 +151,7 @@ startup_opens _ messages s = absurd s
 request_opens : (m : ClientMessage) (messages : List ClientMessage) → IsRequest m → is_opened (m ∷ messages) ≡ is_opened messages
 request_opens (CancelRequest process_id secret_key) messages r = refl
 request_opens SslRequest messages r = refl
+request_opens GssEncRequest messages r = refl
 request_opens _ messages r = absurd r
 
 in_order : (l : List ClientMessage) (m : ClientMessage) (o : Bool) → AreInOrder l → o ≡ is_opened l → MayCome m o → AreInOrder (l ++ m ∷ [])
@@ -216,10 +219,13 @@ one_phase kinds others l m b p q = same_phase l m p.order q.order p.spelled q.sp
 -- ---- a startup packet with an empty name
 
 -- the name is empty, and so is its value but for one byte
-abbrev pub nameless : ProtocolVersion → List ℕ
-nameless version = bytes_of (Startup version (([], 120 ∷ []) ∷ []))
+abbrev no_name : ℕ → ClientMessage
+no_name minor = Startup minor (([], 120 ∷ []) ∷ [])
 
-zero_cause : (w : ProtocolVersion) (c : ℕ) (cs v : List ℕ) (ps : List (List ℕ × List ℕ)) → c ≡ 0 → cause (Startup w ((c ∷ cs, v) ∷ ps)) ≡ None → ⊥
+abbrev pub nameless : ℕ → List ℕ
+nameless minor = bytes_of (no_name minor)
+
+zero_cause : (w : ℕ) (c : ℕ) (cs v : List ℕ) (ps : List (List ℕ × List ℕ)) → c ≡ 0 → cause (Startup w ((c ∷ cs, v) ∷ ps)) ≡ None → ⊥
 zero_cause w c cs v ps e h = let k : cause (Startup w ((0 ∷ cs, v) ∷ ps)) ≡ None = subst (λ x. cause (Startup w ((x ∷ cs, v) ∷ ps)) ≡ None) e h in cc
 
 no_names : (v : List ℕ) (ps : List (List ℕ × List ℕ)) → All (λ p. p.0 ≢ []) (([], v) ∷ ps) → ⊥
@@ -228,21 +234,29 @@ no_names v ps h = (recursion_from_All (λ (p : List ℕ × List ℕ). p.0 ≢ []
 byte_of : (k : ℕ) (x y : List ℕ) → x ≡ y → slice_index x k ≡ slice_index y k
 byte_of k x y e = ap (λ l. slice_index l k) e
 
-not_first : (version : ProtocolVersion) (m : ClientMessage) (rest : List ℕ) → IsStartup m ⊎ IsRequest m → IsSpelled m → nameless version ≡ bytes_of m ++ rest → ⊥
-unfolding uint32 int32
-not_first version (Startup w []) rest o s e = let h : 12 ≡ 9 = byte_of 3 (nameless version) (bytes_of (Startup w []) ++ rest) e in omega (arith, h)
-not_first version (Startup w (([], v) ∷ ps)) rest o s e = no_names v ps s.named
-not_first version (Startup w ((c ∷ cs, v) ∷ ps)) rest o s e = let h : 0 ≡ c = byte_of 8 (nameless version) (bytes_of (Startup w ((c ∷ cs, v) ∷ ps)) ++ rest) e in zero_cause w c cs v ps (sym h) s.none
-not_first V3_0 (CancelRequest a b) rest o s e = let h : 0 ≡ 46 = byte_of 7 (nameless V3_0) (bytes_of (CancelRequest a b) ++ rest) e in omega (arith, h)
-not_first V3_2 (CancelRequest a b) rest o s e = let h : 2 ≡ 46 = byte_of 7 (nameless V3_2) (bytes_of (CancelRequest a b) ++ rest) e in omega (arith, h)
-not_first V3_0 SslRequest rest o s e = let h : 0 ≡ 47 = byte_of 7 (nameless V3_0) (bytes_of SslRequest ++ rest) e in omega (arith, h)
-not_first V3_2 SslRequest rest o s e = let h : 2 ≡ 47 = byte_of 7 (nameless V3_2) (bytes_of SslRequest ++ rest) e in omega (arith, h)
-not_first version _ rest (inl o) s e = absurd o
-not_first version _ rest (inr o) s e = absurd o
+-- a request has another code
+no_request : (minor code : ℕ) (m : ClientMessage) (body rest : List ℕ) → minor < 2 ^ 16 → 262144 ≤ code → FitsSigned w32 (pos code) → tag_of m ≡ None → payload m ≡ int32 (pos code) ++ body → IsSpelled m
+    → nameless minor ≡ bytes_of m ++ rest → ⊥
+no_request minor code m body rest small large fits untagged is s e =
+    let size : length (payload (no_name minor)) + 4 ≡ 12 = sym (framed_length (payload (no_name minor))) ∙ startup_length minor (([], 120 ∷ []) ∷ []) in
+    let whole : framed None (payload (no_name minor)) ++ [] ≡ framed None (payload m) ++ rest = append-nil (nameless minor) ∙ e ∙ ap (λ t. framed t (payload m) ++ rest) untagged in
+    let same = bodies (payload (no_name minor)) (payload m) [] rest (omega (arith, size)) (length_fits m s) whole in
+    no_minor minor code small large (int32_begins (minor_code minor) (pos code) _ body (minor_fits minor small) fits (same.0 ∙ is)).0
 
-pub no_run : (version : ProtocolVersion) (kinds : List PasswordKind) (l : List ClientMessage) → ClientRun kinds l (nameless version) → ⊥
-no_run version kinds [] run = has_bytes (Startup version (([], 120 ∷ []) ∷ [])) [] (rw (append-nil (nameless version)) run.whole)
-no_run version kinds (m ∷ l) run = not_first version m (flat_map bytes_of l) (one_of m l run.order) run.spelled.0 (run.whole ∙ flat_map-cons bytes_of m l)
+not_first : (minor : ℕ) (m : ClientMessage) (rest : List ℕ) → minor < 2 ^ 16 → IsStartup m ⊎ IsRequest m → IsSpelled m → nameless minor ≡ bytes_of m ++ rest → ⊥
+unfolding uint32 int32
+not_first minor (Startup w []) rest small o s e = let h : 12 ≡ 9 = byte_of 3 (nameless minor) (bytes_of (Startup w []) ++ rest) e in omega (arith, h)
+not_first minor (Startup w (([], v) ∷ ps)) rest small o s e = no_names v ps s.named
+not_first minor (Startup w ((c ∷ cs, v) ∷ ps)) rest small o s e = let h : 0 ≡ c = byte_of 8 (nameless minor) (bytes_of (Startup w ((c ∷ cs, v) ∷ ps)) ++ rest) e in zero_cause w c cs v ps (sym h) s.none
+not_first minor (CancelRequest a b) rest small o s e = no_request minor 80877102 (CancelRequest a b) _ rest small (omega arith) s.in_range.0.0 refl refl s e
+not_first minor SslRequest rest small o s e = no_request minor 80877103 SslRequest _ rest small (omega arith) s.in_range.0.0 refl refl s e
+not_first minor GssEncRequest rest small o s e = no_request minor 80877104 GssEncRequest _ rest small (omega arith) s.in_range.0.0 refl refl s e
+not_first minor _ rest small (inl o) s e = absurd o
+not_first minor _ rest small (inr o) s e = absurd o
+
+pub no_run : (minor : ℕ) (kinds : List PasswordKind) (l : List ClientMessage) → minor < 2 ^ 16 → ClientRun kinds l (nameless minor) → ⊥
+no_run minor kinds [] small run = has_bytes (no_name minor) [] (rw (append-nil (nameless minor)) run.whole)
+no_run minor kinds (m ∷ l) small run = not_first minor m (flat_map bytes_of l) small (one_of m l run.order) run.spelled.0 (run.whole ∙ flat_map-cons bytes_of m l)
 
 pub nothing : ClientRun [] [] []
 nothing = record { order = tt; spelled = tt; told = refl; whole = refl }

@@ -1,5 +1,5 @@
 -- How many bytes messages take, and growths that were refused on the way.
-use Rattle.std.proofs.Common.{◌≡◌, ℕ, ℤ, negsuc, ◌+◌, ◌≤◌, List, [], ◌∷◌, ◌++◌, length, Option, Some, None, ap, ◌∙◌, arith, length-append, rules}
+use Rattle.std.proofs.Common.{◌≡◌, ℕ, ℤ, negsuc, ◌+◌, ◌<◌, ◌≤◌, ◌^◌, List, [], ◌∷◌, ◌++◌, length, Option, Some, None, ap, ◌∙◌, arith, length-append}
 use Rattle.std.specs.Prelude.{FitsSigned}
 use Rattle.std.specs.Int.{w32}
 use Rattle.std.proofs.lemmas.List.{append-nil}
@@ -9,7 +9,7 @@ use Rattle.pgp_base.specs.Held.{Held, ◌⊕◌}
 use Rattle.pgp_base.proofs.Needs.{flat_more}
 use Rattle.pgp_base.proofs.Parts.{length-uint16, length-uint32, int16_spelled, int32_spelled, wants_then, more_twice}
 use Rattle.pgp_frontend.specs.ClientMessage.{Bind, Parse, Startup}
-use Rattle.pgp_frontend.specs.Payload.{Part, Int32, Text, Int16s, Oids, Values, Pairs, version_code, spelling, joined, framed, bytes_of}
+use Rattle.pgp_frontend.specs.Payload.{Part, Int32, Text, Int16s, Oids, Values, Pairs, minor_code, minor_of, spelling, joined, framed, bytes_of}
 use Rattle.pgp_frontend.specs.declared.startup.ProtocolVersion.{ProtocolVersion}
 use Rattle.pgp_frontend.specs.declared.startup.ProtocolVersion.TheVariants.{V3_0, V3_2}
 
@@ -44,16 +44,19 @@ bind_length portal statement fs vs rs =
     let t = tagged_length 66 (joined (Text portal ∷ Text statement ∷ Int16s fs ∷ Values vs ∷ Int16s rs ∷ [])) in
     omega (arith, t, e, f)
 
-pub startup_length : (v : ProtocolVersion) (ps : List (List ℕ × List ℕ)) → length (bytes_of (Startup v ps)) ≡ 8 + length (spelling (Pairs ps))
+pub startup_length : (v : ℕ) (ps : List (List ℕ × List ℕ)) → length (bytes_of (Startup v ps)) ≡ 8 + length (spelling (Pairs ps))
 startup_length v ps =
-    let e = joined_more (Int32 (version_code v) ∷ []) (Pairs ps) in
-    let t = framed_length (joined (Int32 (version_code v) ∷ Pairs ps ∷ [])) in
-    let i : length (joined (Int32 (version_code v) ∷ [])) ≡ 4 = ap length (append-nil (int32 (version_code v))) ∙ int32_length (version_code v) in
+    let e = joined_more (Int32 (minor_code v) ∷ []) (Pairs ps) in
+    let t = framed_length (joined (Int32 (minor_code v) ∷ Pairs ps ∷ [])) in
+    let i : length (joined (Int32 (minor_code v) ∷ [])) ≡ 4 = ap length (append-nil (int32 (minor_code v))) ∙ int32_length (minor_code v) in
     omega (arith, t, e, i)
 
-pub version_fits : (v : ProtocolVersion) → FitsSigned w32 (version_code v)
-version_fits V3_0 = search rules
-version_fits V3_2 = search rules
+pub minor_fits : (v : ℕ) → v < 2 ^ 16 → FitsSigned w32 (minor_code v)
+minor_fits v h = record { sfits = omega (arith, h) }
+
+pub minor_small : (v : ProtocolVersion) → minor_of v < 2 ^ 16
+minor_small V3_0 = omega arith
+minor_small V3_2 = omega arith
 
 -- Refusals.
 

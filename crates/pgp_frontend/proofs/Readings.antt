@@ -1,17 +1,16 @@
 -- A payload is read in one way, given the tag and the kind.
 use Rattle.std.proofs.Common.{◌≡◌, ◌≢◌, ℕ, ◌+◌, ◌<◌, ◌^◌, ℤ, List, [], ◌∷◌, ◌++◌, length, Option, Some, None, refl, sym, ap, ◌∙◌, append_assoc, arith, map}
 use Rattle.pgp_frontend.specs.Opening.{Opening}
-use Rattle.std.specs.Prelude.{pos, slice_index, slice_index_or, ◌==◌, if◌then◌else◌}
+use Rattle.std.specs.Prelude.{pos, ◌≤◌, FitsSigned, slice_index_or, ◌==◌, if◌then◌else◌}
+use Rattle.std.specs.Int.{w32}
 use Rattle.std.proofs.lemmas.List.{append-nil}
 use Rattle.pgp_base.specs.Wire.{int32, uint32, frame}
 use Rattle.pgp_base.specs.Cause.{length_cause}
 use Rattle.pgp_base.proofs.Causes.{either_left, either_right, fits_of}
 use Rattle.pgp_base.proofs.Prefixes.{fronts, uint32_begins, int32_begins}
-use Rattle.pgp_frontend.specs.ClientMessage.{ClientMessage, Bind, Close, CopyData, CopyDone, CopyFail, Describe, Execute, Flush, Parse, PasswordMessage, Query, SaslInitialResponse, SaslResponse, Sync, Terminate, Startup, CancelRequest, SslRequest, PasswordKind, Password, Initial, Response}
-use Rattle.pgp_frontend.specs.Payload.{Part, Byte, Int32, Text, Int16s, Oids, Values, Sized, Rest, Key, Pairs, version_code, spelling, joined, parts, payload, tag_of, kind_of, framed, bytes_of, part_cause, parts_cause, EachInRange}
-use Rattle.pgp_frontend.specs.Reading.{Shape, AByte, AnInt32, AText, SomeInt16s, SomeOids, SomeValues, ASized, AllBytes, AKey, shape, HasNames, HasSpelling, IsNamed, IsSpelled}
-use Rattle.pgp_frontend.specs.declared.startup.ProtocolVersion.{ProtocolVersion}
-use Rattle.pgp_frontend.specs.declared.startup.ProtocolVersion.TheVariants.{V3_0, V3_2}
+use Rattle.pgp_frontend.specs.ClientMessage.{ClientMessage, Bind, Close, CopyData, CopyDone, CopyFail, Describe, Execute, Flush, Parse, PasswordMessage, Query, SaslInitialResponse, SaslResponse, Sync, Terminate, Startup, CancelRequest, SslRequest, GssEncRequest, FunctionCall, PasswordKind, Password, Initial, Response}
+use Rattle.pgp_frontend.specs.Payload.{Part, Byte, Int16, Int32, Oid, Text, Int16s, Oids, Values, Nullable, Rest, Key, Pairs, minor_code, spelling, joined, parts, payload, tag_of, kind_of, framed, bytes_of, part_cause, parts_cause, EachInRange}
+use Rattle.pgp_frontend.specs.Reading.{Shape, AByte, AnInt16, AnInt32, AnOid, AText, SomeInt16s, SomeOids, SomeValues, ANullable, AllBytes, AKey, shape, HasNames, HasSpelling, IsNamed, IsSpelled}
 use Rattle.pgp_frontend.proofs.Shapes.{part_begins}
 
 abbrev pub EachHasSpelling : List Part → Type 0
@@ -36,6 +35,7 @@ each_named (CopyFail a) n = (tt, tt)
 each_named (Describe a b) n = (tt, (tt, tt))
 each_named (Execute a b) n = (tt, (tt, tt))
 each_named Flush n = tt
+each_named (FunctionCall a b c d) n = (tt, (tt, (tt, (tt, tt))))
 each_named (Parse a b c) n = (tt, (tt, (tt, tt)))
 each_named (PasswordMessage a) n = (tt, tt)
 each_named (Query a) n = (tt, tt)
@@ -46,11 +46,12 @@ each_named Terminate n = tt
 each_named (Startup v ps) n = (tt, (n, tt))
 each_named (CancelRequest a b) n = (tt, (tt, (tt, tt)))
 each_named SslRequest n = (tt, tt)
+each_named GssEncRequest n = (tt, tt)
 
 pub spelled_parts : (m : ClientMessage) → IsSpelled m → EachHasSpelling (parts m)
-spelled_parts m h = each_spelled (parts m) (either_left (parts_cause (parts m)) (length_cause (length (payload m) + 4)) h.none) h.in_range (each_named m h.named)
+spelled_parts m h = each_spelled (parts m) (either_left (parts_cause (parts m)) (length_cause (length (payload m) + 4)) h.none) h.in_range.0 (each_named m h.named)
 
-length_fits : (m : ClientMessage) → IsSpelled m → length (payload m) + 4 < 2 ^ 32
+pub length_fits : (m : ClientMessage) → IsSpelled m → length (payload m) + 4 < 2 ^ 32
 length_fits m h = omega (arith, fits_of (length (payload m) + 4) (either_right (parts_cause (parts m)) (length_cause (length (payload m) + 4)) h.none))
 
 -- all bytes that are left are only taken by the last part
@@ -94,6 +95,7 @@ plain_shapes tag =
     if tag == 67 then AByte ∷ AText ∷ [] else
     if tag == 68 then AByte ∷ AText ∷ [] else
     if tag == 69 then AText ∷ AnInt32 ∷ [] else
+    if tag == 70 then AnOid ∷ SomeInt16s ∷ SomeValues ∷ AnInt16 ∷ [] else
     if tag == 80 then AText ∷ AText ∷ SomeOids ∷ [] else
     if tag == 81 then AText ∷ [] else
     if tag == 100 then AllBytes ∷ [] else
@@ -103,18 +105,29 @@ shapes_of : Option ℕ → Option PasswordKind → List Shape
 shapes_of None kind = []
 shapes_of (Some tag) None = plain_shapes tag
 shapes_of (Some tag) (Some Password) = AText ∷ []
-shapes_of (Some tag) (Some Initial) = AText ∷ ASized ∷ []
+shapes_of (Some tag) (Some Initial) = AText ∷ ANullable ∷ []
 shapes_of (Some tag) (Some Response) = AllBytes ∷ []
 
 text_of : Part → List ℕ
 text_of (Text z) = z
-text_of (Sized z) = z
 text_of (Rest z) = z
 text_of _ = []
 
 byte_of : Part → ℕ
 byte_of (Byte n) = n
 byte_of _ = 0
+
+int16_of : Part → ℤ
+int16_of (Int16 z) = z
+int16_of _ = pos 0
+
+oid_of : Part → ℕ
+oid_of (Oid n) = n
+oid_of _ = 0
+
+nullable_of : Part → Option (List ℕ)
+nullable_of (Nullable v) = v
+nullable_of _ = None
 
 int32_of : Part → ℤ
 int32_of (Int32 z) = z
@@ -145,6 +158,7 @@ plain_message tag ps =
     if tag == 67 then Close (byte_of (part_at 0 ps)) (text_of (part_at 1 ps)) else
     if tag == 68 then Describe (byte_of (part_at 0 ps)) (text_of (part_at 1 ps)) else
     if tag == 69 then Execute (text_of (part_at 0 ps)) (int32_of (part_at 1 ps)) else
+    if tag == 70 then FunctionCall (oid_of (part_at 0 ps)) (int16s_of (part_at 1 ps)) (values_of (part_at 2 ps)) (int16_of (part_at 3 ps)) else
     if tag == 72 then Flush else
     if tag == 80 then Parse (text_of (part_at 0 ps)) (text_of (part_at 1 ps)) (oids_of (part_at 2 ps)) else
     if tag == 81 then Query (text_of (part_at 0 ps)) else
@@ -158,7 +172,7 @@ message_of : Option ℕ → Option PasswordKind → List Part → ClientMessage
 message_of None kind ps = SslRequest
 message_of (Some tag) None ps = plain_message tag ps
 message_of (Some tag) (Some Password) ps = PasswordMessage (text_of (part_at 0 ps))
-message_of (Some tag) (Some Initial) ps = SaslInitialResponse (text_of (part_at 0 ps)) (text_of (part_at 1 ps))
+message_of (Some tag) (Some Initial) ps = SaslInitialResponse (text_of (part_at 0 ps)) (nullable_of (part_at 1 ps))
 message_of (Some tag) (Some Response) ps = SaslResponse (text_of (part_at 0 ps))
 
 shapes_known : (m : ClientMessage) → tag_of m ≢ None → map shape (parts m) ≡ shapes_of (tag_of m) (kind_of m)
@@ -166,13 +180,15 @@ unfolding shapes_of plain_shapes
 shapes_known (Startup v ps) t = absurd (t refl)
 shapes_known (CancelRequest a b) t = absurd (t refl)
 shapes_known SslRequest t = absurd (t refl)
+shapes_known GssEncRequest t = absurd (t refl)
 shapes_known _ t = refl
 
 message_known : (m : ClientMessage) → tag_of m ≢ None → message_of (tag_of m) (kind_of m) (parts m) ≡ m
-unfolding message_of plain_message part_at text_of byte_of int32_of int16s_of oids_of values_of
+unfolding message_of plain_message part_at text_of byte_of int16_of int32_of oid_of nullable_of int16s_of oids_of values_of
 message_known (Startup v ps) t = absurd (t refl)
 message_known (CancelRequest a b) t = absurd (t refl)
 message_known SslRequest t = absurd (t refl)
+message_known GssEncRequest t = absurd (t refl)
 message_known _ t = refl
 
 all_last : (m : ClientMessage) → tag_of m ≢ None → TakesAllLast (parts m)
@@ -180,6 +196,7 @@ all_last (Bind a b c d e) t = ((λ z. cc), (λ z. cc), ((λ z. cc), (λ z. cc), 
 all_last (Close a b) t = ((λ z. cc), (λ z. cc), tt)
 all_last (Describe a b) t = ((λ z. cc), (λ z. cc), tt)
 all_last (Execute a b) t = ((λ z. cc), (λ z. cc), tt)
+all_last (FunctionCall a b c d) t = ((λ z. cc), (λ z. cc), ((λ z. cc), (λ z. cc), ((λ z. cc), (λ z. cc), tt)))
 all_last (Parse a b c) t = ((λ z. cc), (λ z. cc), ((λ z. cc), (λ z. cc), tt))
 all_last (SaslInitialResponse a b) t = ((λ z. cc), (λ z. cc), tt)
 all_last (Startup v ps) t = absurd (t refl)
@@ -226,58 +243,52 @@ frame_read m n x y t u f h k e =
     let r = tagged_bodies a.0 b.0 (payload m) (payload n) x y (length_fits m h) (length_fits n k) e' in
     (payload_read m n t (a.1 ∙ (ap (λ tag. Some tag) r.0 ∙ sym b.1)) f h k r.1, r.2)
 
--- Opening packets: the last byte of the code tells them apart.
+-- Opening packets: the code tells them apart.
 
-fourth : (a b x y : List ℕ) → a ++ x ≡ b ++ y → slice_index (a ++ x) 3 ≡ slice_index (b ++ y) 3
-fourth a b x y e = ap (λ bytes. slice_index bytes 3) e
+minor_is : (v w : ℕ) → minor_code v ≡ minor_code w → v ≡ w
+minor_is v w e = let same : 196608 + v ≡ 196608 + w = cc in omega (arith, same)
 
-two_versions : (x y : List ℕ) → int32 (pos 196608) ++ x ≡ int32 (pos 196610) ++ y → ⊥
-unfolding int32
-two_versions x y e = let h : 0 ≡ 2 = fourth (int32 (pos 196608)) (int32 (pos 196610)) x y e in omega (arith, h)
+-- the code of a request is that of no minor version
+pub no_minor : (v code : ℕ) → v < 2 ^ 16 → 262144 ≤ code → minor_code v ≡ pos code → ⊥
+no_minor v code small large e = let same : 196608 + v ≡ code = cc in omega (arith, same, small, large)
 
-startup_cancel : (v : ProtocolVersion) (x y : List ℕ) → int32 (version_code v) ++ x ≡ int32 (pos 80877102) ++ y → ⊥
-unfolding int32
-startup_cancel V3_0 x y e = let h : 0 ≡ 46 = fourth (int32 (pos 196608)) (int32 (pos 80877102)) x y e in omega (arith, h)
-startup_cancel V3_2 x y e = let h : 2 ≡ 46 = fourth (int32 (pos 196610)) (int32 (pos 80877102)) x y e in omega (arith, h)
+-- the version and the pairs
+same_startup : (v w : ℕ) (ps qs : List (List ℕ × List ℕ)) → IsSpelled (Startup v ps) → IsSpelled (Startup w qs) → payload (Startup v ps) ≡ payload (Startup w qs) → Startup v ps ≡ Startup w qs
+unfolding part_at pairs_of int32_of
+same_startup v w ps qs h k e =
+    let r = parts_read (parts (Startup v ps)) (parts (Startup w qs)) refl ((λ z. cc), (λ z. cc), tt) ((λ z. cc), (λ z. cc), tt) (spelled_parts (Startup v ps) h) (spelled_parts (Startup w qs) k) e in
+    let code : v ≡ w = minor_is v w (ap (λ l. int32_of (part_at 0 l)) r) in
+    ap (λ n. Startup n ps) code ∙ ap (λ l. Startup w (pairs_of (part_at 1 l))) r
 
-startup_ssl : (v : ProtocolVersion) (x y : List ℕ) → int32 (version_code v) ++ x ≡ int32 (pos 80877103) ++ y → ⊥
-unfolding int32
-startup_ssl V3_0 x y e = let h : 0 ≡ 47 = fourth (int32 (pos 196608)) (int32 (pos 80877103)) x y e in omega (arith, h)
-startup_ssl V3_2 x y e = let h : 2 ≡ 47 = fourth (int32 (pos 196610)) (int32 (pos 80877103)) x y e in omega (arith, h)
-
-cancel_ssl : (x y : List ℕ) → int32 (pos 80877102) ++ x ≡ int32 (pos 80877103) ++ y → ⊥
-unfolding int32
-cancel_ssl x y e = let h : 46 ≡ 47 = fourth (int32 (pos 80877102)) (int32 (pos 80877103)) x y e in omega (arith, h)
-
--- the pairs behind one version's code
-same_version : (v : ProtocolVersion) (ps qs : List (List ℕ × List ℕ)) → IsSpelled (Startup v ps) → IsSpelled (Startup v qs) → payload (Startup v ps) ≡ payload (Startup v qs) → Startup v ps ≡ Startup v qs
-unfolding part_at pairs_of
-same_version v ps qs h k e =
-    let r = parts_read (parts (Startup v ps)) (parts (Startup v qs)) refl ((λ z. cc), (λ z. cc), tt) ((λ z. cc), (λ z. cc), tt) (spelled_parts (Startup v ps) h) (spelled_parts (Startup v qs) k) e in
-    ap (λ l. Startup v (pairs_of (part_at 1 l))) r
+-- two requests have two codes
+apart : (c d : ℕ) (x y : List ℕ) → c < d → FitsSigned w32 (pos c) → FitsSigned w32 (pos d) → int32 (pos c) ++ x ≡ int32 (pos d) ++ y → ⊥
+apart c d x y less h k e = let f = (int32_begins (pos c) (pos d) x y h k e).0 in let same : c ≡ d = cc in omega (arith, same, less)
 
 -- the key is what is left, however long it is
 same_cancel : (a c : ℤ) (b d : List ℕ) → IsSpelled (CancelRequest a b) → IsSpelled (CancelRequest c d) → payload (CancelRequest a b) ≡ payload (CancelRequest c d) → CancelRequest a b ≡ CancelRequest c d
 same_cancel a c b d h k e =
-    let behind = (int32_begins (pos 80877102) (pos 80877102) _ _ h.in_range.0 k.in_range.0 e).1 in
-    let both = int32_begins a c _ _ h.in_range.1.0 k.in_range.1.0 behind in
+    let behind = (int32_begins (pos 80877102) (pos 80877102) _ _ h.in_range.0.0 k.in_range.0.0 e).1 in
+    let both = int32_begins a c _ _ h.in_range.0.1.0 k.in_range.0.1.0 behind in
     let key : b ≡ d = sym (append-nil b) ∙ (both.1 ∙ append-nil d) in
     ap (λ n. CancelRequest n b) both.0 ∙ ap (λ z. CancelRequest c z) key
 
 opening_payload : (m n : ClientMessage) → tag_of m ≡ None → tag_of n ≡ None → IsSpelled m → IsSpelled n → payload m ≡ payload n → m ≡ n
-unfolding part_at pairs_of int32_of
-opening_payload (Startup V3_0 ps) (Startup V3_0 qs) t u h k e = same_version V3_0 ps qs h k e
-opening_payload (Startup V3_2 ps) (Startup V3_2 qs) t u h k e = same_version V3_2 ps qs h k e
-opening_payload (Startup V3_0 ps) (Startup V3_2 qs) t u h k e = absurd (two_versions _ _ e)
-opening_payload (Startup V3_2 ps) (Startup V3_0 qs) t u h k e = absurd (two_versions _ _ (sym e))
+opening_payload (Startup v ps) (Startup w qs) t u h k e = same_startup v w ps qs h k e
 opening_payload (CancelRequest a b) (CancelRequest c d) t u h k e = same_cancel a c b d h k e
 opening_payload SslRequest SslRequest t u h k e = refl
-opening_payload (Startup v ps) (CancelRequest c d) t u h k e = absurd (startup_cancel v _ _ e)
-opening_payload (Startup v ps) SslRequest t u h k e = absurd (startup_ssl v _ _ e)
-opening_payload (CancelRequest a b) (Startup v qs) t u h k e = absurd (startup_cancel v _ _ (sym e))
-opening_payload (CancelRequest a b) SslRequest t u h k e = absurd (cancel_ssl _ _ e)
-opening_payload SslRequest (Startup v qs) t u h k e = absurd (startup_ssl v _ _ (sym e))
-opening_payload SslRequest (CancelRequest c d) t u h k e = absurd (cancel_ssl _ _ (sym e))
+opening_payload GssEncRequest GssEncRequest t u h k e = refl
+opening_payload (Startup v ps) (CancelRequest c d) t u h k e = absurd (no_minor v 80877102 h.in_range.1 (omega arith) (int32_begins _ _ _ _ h.in_range.0.0 k.in_range.0.0 e).0)
+opening_payload (Startup v ps) SslRequest t u h k e = absurd (no_minor v 80877103 h.in_range.1 (omega arith) (int32_begins _ _ _ _ h.in_range.0.0 k.in_range.0.0 e).0)
+opening_payload (Startup v ps) GssEncRequest t u h k e = absurd (no_minor v 80877104 h.in_range.1 (omega arith) (int32_begins _ _ _ _ h.in_range.0.0 k.in_range.0.0 e).0)
+opening_payload (CancelRequest a b) (Startup v qs) t u h k e = absurd (no_minor v 80877102 k.in_range.1 (omega arith) (int32_begins _ _ _ _ k.in_range.0.0 h.in_range.0.0 (sym e)).0)
+opening_payload SslRequest (Startup v qs) t u h k e = absurd (no_minor v 80877103 k.in_range.1 (omega arith) (int32_begins _ _ _ _ k.in_range.0.0 h.in_range.0.0 (sym e)).0)
+opening_payload GssEncRequest (Startup v qs) t u h k e = absurd (no_minor v 80877104 k.in_range.1 (omega arith) (int32_begins _ _ _ _ k.in_range.0.0 h.in_range.0.0 (sym e)).0)
+opening_payload (CancelRequest a b) SslRequest t u h k e = absurd (apart 80877102 80877103 _ _ (omega arith) h.in_range.0.0 k.in_range.0.0 e)
+opening_payload (CancelRequest a b) GssEncRequest t u h k e = absurd (apart 80877102 80877104 _ _ (omega arith) h.in_range.0.0 k.in_range.0.0 e)
+opening_payload SslRequest (CancelRequest c d) t u h k e = absurd (apart 80877102 80877103 _ _ (omega arith) k.in_range.0.0 h.in_range.0.0 (sym e))
+opening_payload SslRequest GssEncRequest t u h k e = absurd (apart 80877103 80877104 _ _ (omega arith) h.in_range.0.0 k.in_range.0.0 e)
+opening_payload GssEncRequest (CancelRequest c d) t u h k e = absurd (apart 80877102 80877104 _ _ (omega arith) k.in_range.0.0 h.in_range.0.0 (sym e))
+opening_payload GssEncRequest SslRequest t u h k e = absurd (apart 80877103 80877104 _ _ (omega arith) k.in_range.0.0 h.in_range.0.0 (sym e))
 opening_payload _ _ t u h k e = cc
 
 -- no opening packet begins another

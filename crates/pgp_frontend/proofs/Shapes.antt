@@ -8,7 +8,7 @@ use Rattle.pgp_base.specs.Wire.{int16, oid, text, nullable}
 use Rattle.pgp_base.specs.Cause.{text_cause, count_cause, nullable_cause, first}
 use Rattle.pgp_base.proofs.Causes.{either_left, either_right, counts_of}
 use Rattle.pgp_base.proofs.Prefixes.{int16_begins, int32_begins, uint32_begins, text_begins, nullable_begins, counted_begins}
-use Rattle.pgp_frontend.specs.Payload.{Part, Byte, Int32, Text, Int16s, Oids, Values, Sized, Rest, Key, Pairs, spelling, part_cause, pair, pair_cause}
+use Rattle.pgp_frontend.specs.Payload.{Part, Byte, Int16, Int32, Oid, Text, Int16s, Oids, Values, Nullable, Rest, Key, Pairs, spelling, part_cause, pair, pair_cause}
 use Rattle.pgp_frontend.specs.Reading.{AllBytes, AKey, shape, HasSpelling}
 
 -- each of what has no first cause has none
@@ -59,12 +59,14 @@ pairs_begin (p ∷ ps) (q ∷ qs) x y h k n m e =
 
 pub part_begins : (p q : Part) (x y : List ℕ) → shape p ≡ shape q → shape p ≢ AllBytes → shape p ≢ AKey → HasSpelling p → HasSpelling q → spelling p ++ x ≡ spelling q ++ y → (p ≡ q) × (x ≡ y)
 part_begins (Byte m) (Byte n) x y s r t h k e = let a : m ≡ n = cc in (ap Byte a, cc)
+part_begins (Int16 m) (Int16 n) x y s r t h k e = let u = int16_begins m n x y h.in_range k.in_range e in (ap Int16 u.0, u.1)
 part_begins (Int32 m) (Int32 n) x y s r t h k e = let u = int32_begins m n x y h.in_range k.in_range e in (ap Int32 u.0, u.1)
+part_begins (Oid m) (Oid n) x y s r t h k e = let u = uint32_begins m n x y h.in_range k.in_range e in (ap Oid u.0, u.1)
 part_begins (Text m) (Text n) x y s r t h k e = let u = text_begins m n x y h.none k.none e in (ap Text u.0, u.1)
 part_begins (Int16s m) (Int16s n) x y s r t h k e = let u = counted_begins (FitsSigned w16) int16 int16_begins m n x y (h.in_range, h.none) (k.in_range, k.none) e in (ap Int16s u.0, u.1)
 part_begins (Oids m) (Oids n) x y s r t h k e = let u = counted_begins (λ n. n < 2 ^ 32) oid uint32_begins m n x y (h.in_range, h.none) (k.in_range, k.none) e in (ap Oids u.0, u.1)
 part_begins (Values m) (Values n) x y s r t h k e = let u = counted_begins (λ v. nullable_cause v ≡ None) nullable nullable_begins m n x y (values_none m h.none) (values_none n k.none) e in (ap Values u.0, u.1)
-part_begins (Sized m) (Sized n) x y s r t h k e = let u = nullable_begins (Some m) (Some n) x y h.none k.none e in (ap Sized cc, u.1)
+part_begins (Nullable m) (Nullable n) x y s r t h k e = let u = nullable_begins m n x y h.none k.none e in (ap Nullable u.0, u.1)
 part_begins (Rest m) _ x y s r t h k e = absurd (r refl)
 part_begins (Key m) _ x y s r t h k e = absurd (t refl)
 part_begins (Pairs m) (Pairs n) x y s r t h k e =

@@ -15,7 +15,7 @@ use Rattle.pgp_base.specs.declared.error.BindError.{BindError}
 use Rattle.pgp_base.specs.declared.error.BindError.TheVariants.{Conversion, Serialization}
 use Rattle.pgp_frontend.specs.ClientMessage.{ClientMessage, Bind, Parse, Startup}
 use Rattle.pgp_frontend.specs.declared.startup.ProtocolVersion.{ProtocolVersion}
-use Rattle.pgp_frontend.specs.Payload.{Part, Text, Int16s, Oids, Values, Pairs, parts, part_cause, parts_cause, joined, cause, bytes_of, IsInRange}
+use Rattle.pgp_frontend.specs.Payload.{Part, Text, Int16s, Oids, Values, Pairs, minor_of, parts, part_cause, parts_cause, joined, cause, bytes_of, IsInRange}
 use denote.Ref.{MutBor}
 
 -- The message of all that the iterators gave, which `Whole` tells, stands behind what the buffer held, and
@@ -82,10 +82,10 @@ shown_pairs xs = Pairs (map shown xs)
 -- the startup packet of this version, and of the names and values that were given
 module _ {T : Type 0} (show : T → List ℕ) (version : ProtocolVersion) (parameters : List (T × T) → Option (T × T) → Type 0) where
   abbrev pub StartupWhole : ClientMessage → Type 0
-  StartupWhole m = (xs : List (T × T)) × parameters xs None × (m ≡ Startup version (map (shown_by show) xs))
+  StartupWhole m = (xs : List (T × T)) × parameters xs None × (m ≡ Startup (minor_of version) (map (shown_by show) xs))
 
   abbrev pub StartupSoFar : ClientMessage → Type 0
-  StartupSoFar m = (xs : List (T × T)) × Arrived parameters (pairs_by show) xs × (m ≡ Startup version (map (shown_by show) xs))
+  StartupSoFar m = (xs : List (T × T)) × Arrived parameters (pairs_by show) xs × (m ≡ Startup (minor_of version) (map (shown_by show) xs))
 
 -- `startup_message_version` of this version, and of the texts that were given
 module _ (version : ProtocolVersion) (parameters : List (Bor (List ℕ) × Bor (List ℕ)) → Option (Bor (List ℕ) × Bor (List ℕ)) → Type 0) where

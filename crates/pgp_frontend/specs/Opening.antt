@@ -1,5 +1,5 @@
 -- The packets that open a connection, which have no tag.
--- PostgreSQL manual, "Message Formats": StartupMessage, CancelRequest, SSLRequest.
+-- PostgreSQL manual, "Message Formats": StartupMessage, CancelRequest, SSLRequest, GSSENCRequest.
 use Rattle.std.specs.Prelude.{◌≡◌, ℕ, List, None}
 use Rattle.pgp_frontend.specs.ClientMessage.{ClientMessage}
 use Rattle.pgp_frontend.specs.Payload.{tag_of, bytes_of}

@@ -10,19 +10,21 @@ use Rattle.pgp_base.specs.declared.error.Error.{Error}
 use Rattle.pgp_base.specs.declared.error.Error.TheVariants.{InvalidSize}
 use Rattle.pgp_frontend.specs.declared.startup.ProtocolVersion.{ProtocolVersion}
 use Rattle.pgp_frontend.specs.declared.startup.ProtocolVersion.TheVariants.{V3_0, V3_2}
-use Rattle.pgp_frontend.specs.ClientMessage.{ClientMessage, Bind, Close, CopyData, CopyDone, CopyFail, Describe, Execute, Flush, Parse, PasswordMessage, Query, SaslInitialResponse, SaslResponse, Sync, Terminate, Startup, CancelRequest, SslRequest, PasswordKind, Password, Initial, Response}
+use Rattle.pgp_frontend.specs.ClientMessage.{ClientMessage, Bind, Close, CopyData, CopyDone, CopyFail, Describe, Execute, Flush, Parse, PasswordMessage, Query, SaslInitialResponse, SaslResponse, Sync, Terminate, Startup, CancelRequest, SslRequest, GssEncRequest, FunctionCall, PasswordKind, Password, Initial, Response}
 
 -- The parts of messages.
 pub data Part : Type 0 where
   Byte : ℕ → Part
+  Int16 : ℤ → Part
   Int32 : ℤ → Part
+  Oid : ℕ → Part
   Text : List ℕ → Part
   -- a count, and each number, identifier or value
   Int16s : List ℤ → Part
   Oids : List ℕ → Part
   Values : List (Option (List ℕ)) → Part
-  -- a length, and so many bytes
-  Sized : List ℕ → Part
+  -- a length, and so many bytes; of a null -1 alone
+  Nullable : Option (List ℕ) → Part
   -- all bytes that are left
   Rest : List ℕ → Part
   -- the same, of a cancel request's key
@@ -35,12 +37,14 @@ pair p = text p.0 ++ text p.1
 
 abbrev pub spelling : Part → List ℕ
 spelling (Byte n) = n ∷ []
+spelling (Int16 z) = int16 z
 spelling (Int32 z) = int32 z
+spelling (Oid n) = oid n
 spelling (Text z) = text z
 spelling (Int16s zs) = counted int16 zs
 spelling (Oids ns) = counted oid ns
 spelling (Values vs) = counted nullable vs
-spelling (Sized z) = nullable (Some z)
+spelling (Nullable v) = nullable v
 spelling (Rest z) = z
 spelling (Key z) = z
 spelling (Pairs ps) = flat_map pair ps ++ 0 ∷ []
@@ -54,12 +58,14 @@ key_cause n = if nat_le 4 n then (if nat_le n 256 then None else Some InvalidSiz
 
 abbrev pub part_cause : Part → Cause
 part_cause (Byte n) = None
+part_cause (Int16 z) = None
 part_cause (Int32 z) = None
+part_cause (Oid n) = None
 part_cause (Text z) = text_cause z
 part_cause (Int16s zs) = count_cause (length zs)
 part_cause (Oids ns) = count_cause (length ns)
 part_cause (Values vs) = counted_cause nullable_cause vs
-part_cause (Sized z) = length_cause (length z)
+part_cause (Nullable v) = nullable_cause v
 part_cause (Rest z) = None
 part_cause (Key z) = key_cause (length z)
 part_cause (Pairs ps) = first (map pair_cause ps)
@@ -67,7 +73,9 @@ part_cause (Pairs ps) = first (map pair_cause ps)
 -- the numbers are in their fields' ranges
 abbrev pub InRange : Part → Type 0
 InRange (Byte n) = n < 256
+InRange (Int16 z) = FitsSigned w16 z
 InRange (Int32 z) = FitsSigned w32 z
+InRange (Oid n) = n < 2 ^ 32
 InRange (Int16s zs) = All (FitsSigned w16) zs
 InRange (Oids ns) = All (λ n. n < 2 ^ 32) ns
 InRange _ = Unit {0}
@@ -87,6 +95,7 @@ tag_of (CopyFail message) = Some 102
 tag_of (Describe variant name) = Some 68
 tag_of (Execute portal max_rows) = Some 69
 tag_of Flush = Some 72
+tag_of (FunctionCall function formats arguments result_format) = Some 70
 tag_of (Parse name query param_types) = Some 80
 tag_of (PasswordMessage password) = Some 112
 tag_of (Query query) = Some 81
@@ -94,9 +103,10 @@ tag_of (SaslInitialResponse mechanism response) = Some 112
 tag_of (SaslResponse response) = Some 112
 tag_of Sync = Some 83
 tag_of Terminate = Some 88
-tag_of (Startup version parameters) = None
+tag_of (Startup minor parameters) = None
 tag_of (CancelRequest process_id secret_key) = None
 tag_of SslRequest = None
+tag_of GssEncRequest = None
 
 -- which of the messages of tag `p` it is
 abbrev pub kind_of : ClientMessage → Option PasswordKind
@@ -105,10 +115,17 @@ kind_of (SaslInitialResponse mechanism response) = Some Initial
 kind_of (SaslResponse response) = Some Response
 kind_of _ = None
 
--- the number of a version of the protocol; that of 3.2 is this project's profile
+-- the number of a minor version of protocol 3
+abbrev pub minor_code : ℕ → ℤ
+minor_code minor = pos (196608 + minor)
+
+-- the minor versions that are written; 3.2 is this project's profile
+abbrev pub minor_of : ProtocolVersion → ℕ
+minor_of V3_0 = 0
+minor_of V3_2 = 2
+
 abbrev pub version_code : ProtocolVersion → ℤ
-version_code V3_0 = pos 196608
-version_code V3_2 = pos 196610
+version_code version = minor_code (minor_of version)
 
 abbrev pub parts : ClientMessage → List Part
 parts (Bind portal statement formats values result_formats) = Text portal ∷ Text statement ∷ Int16s formats ∷ Values values ∷ Int16s result_formats ∷ []
@@ -119,17 +136,19 @@ parts (CopyFail message) = Text message ∷ []
 parts (Describe variant name) = Byte variant ∷ Text name ∷ []
 parts (Execute portal max_rows) = Text portal ∷ Int32 max_rows ∷ []
 parts Flush = []
+parts (FunctionCall function formats arguments result_format) = Oid function ∷ Int16s formats ∷ Values arguments ∷ Int16 result_format ∷ []
 parts (Parse name query param_types) = Text name ∷ Text query ∷ Oids param_types ∷ []
 parts (PasswordMessage password) = Text password ∷ []
 parts (Query query) = Text query ∷ []
-parts (SaslInitialResponse mechanism response) = Text mechanism ∷ Sized response ∷ []
+parts (SaslInitialResponse mechanism response) = Text mechanism ∷ Nullable response ∷ []
 parts (SaslResponse response) = Rest response ∷ []
 parts Sync = []
 parts Terminate = []
 -- the codes: a version's number, and what stands in the place of one
-parts (Startup version parameters) = Int32 (version_code version) ∷ Pairs parameters ∷ []
+parts (Startup minor parameters) = Int32 (minor_code minor) ∷ Pairs parameters ∷ []
 parts (CancelRequest process_id secret_key) = Int32 (pos 80877102) ∷ Int32 process_id ∷ Key secret_key ∷ []
 parts SslRequest = Int32 (pos 80877103) ∷ []
+parts GssEncRequest = Int32 (pos 80877104) ∷ []
 
 -- these parts, one after another
 abbrev pub joined : List Part → List ℕ
@@ -158,8 +177,13 @@ frame_cause ps = either (parts_cause ps) (length_cause (length (joined ps) + 4))
 abbrev pub cause : ClientMessage → Cause
 cause m = frame_cause (parts m)
 
+-- a minor version has 16 bits
+abbrev pub HasMinor : ClientMessage → Type 0
+HasMinor (Startup minor parameters) = minor < 2 ^ 16
+HasMinor _ = Unit {0}
+
 abbrev pub IsInRange : ClientMessage → Type 0
-IsInRange m = EachInRange (parts m)
+IsInRange m = EachInRange (parts m) × HasMinor m
 
 -- A writer of these parts behind this tag: it appends the frame, and there is no cause; or it leaves
 -- the bytes, and is refused for want of the memory that the frame needs, or for the first cause.

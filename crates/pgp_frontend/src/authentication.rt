@@ -1,6 +1,7 @@
 //! The answers to an authentication request. All have the tag `p`.
 #![tactic(auto, using(pgp_base::proofs::Parts::held_steps))]
 
+ghost use Rattle.std.specs.Prelude.{Some};
 ghost use Rattle.pgp_frontend.specs.ClientMessage.{PasswordMessage, SaslInitialResponse, SaslResponse};
 ghost use Rattle.pgp_frontend.specs.Payload.{WritesMessage};
 
@@ -31,7 +32,7 @@ pub fn sasl_initial_response<B: Buffer>(
     data: &[u8],
     buf: &mut B,
 ) -> Result<(), Error>
-    ensures { WritesMessage (SaslInitialResponse mechanism.now «data».now) B.Lacks (B.held buf.old) (B.held buf.new) result }
+    ensures { WritesMessage (SaslInitialResponse mechanism.now (Some «data».now)) B.Lacks (B.held buf.old) (B.held buf.new) result }
 {
     over_bytes::sasl_initial_response(mechanism.as_bytes(), data, buf)
 }

@@ -179,7 +179,7 @@ pub fn sasl_initial_response<B: Buffer>(
     data: &[u8],
     buf: &mut B,
 ) -> Result<(), Error>
-    ensures { WritesMessage (SaslInitialResponse mechanism.now «data».now) B.Lacks (B.held buf.old) (B.held buf.new) result }
+    ensures { WritesMessage (SaslInitialResponse mechanism.now (Some «data».now)) B.Lacks (B.held buf.old) (B.held buf.new) result }
 {
     message(b'p', &[Field::Text(mechanism), Field::Sized(data)], buf)
 }

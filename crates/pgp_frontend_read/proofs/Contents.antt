@@ -14,12 +14,12 @@ use Rattle.pgp_base.proofs.PartLemmas.{IsNumber, int16_number, int32_number, oid
 use Rattle.pgp_base.proofs.Spellings.{no_cause, without_zero}
 use Rattle.pgp_base.proofs.Strings.{string_takes, string_front, string_whole, some_is}
 use Rattle.pgp_frontend.specs.Payload.{Values, key_cause, pair, pair_cause, spelling, part_cause, joined}
-use Rattle.pgp_frontend.specs.Reading.{Shape, AByte, AnInt32, AText, SomeInt16s, SomeOids, SomeValues, ASized, AllBytes, AKey, SomePairs, HasSpelling}
+use Rattle.pgp_frontend.specs.Reading.{Shape, AByte, AnInt16, AnInt32, AnOid, AText, SomeInt16s, SomeOids, SomeValues, ANullable, AllBytes, AKey, SomePairs, HasSpelling}
 use Rattle.pgp_frontend.proofs.Readings.{EachHasSpelling}
 use Rattle.pgp_frontend.proofs.ValueLemmas.{values_fit}
 use Rattle.pgp_frontend_read.specs.Faults.{IsPair, TakesAll}
 use Rattle.pgp_frontend_read.specs.Content.{Content, Contents, Then, part, parts_of}
-use Rattle.pgp_frontend_read.specs.Reading.{content_at, contents_at, contents_on, before, ended, counted_at, items_at, format_at, type_at, value_at, sized_at, no_null, unless, key_at}
+use Rattle.pgp_frontend_read.specs.Reading.{content_at, contents_at, contents_on, before, ended, counted_at, items_at, format_at, type_at, value_at, unless, key_at}
 use Rattle.pgp_frontend_read.proofs.Items.{IsItem, ok, ok_is, items_found, items_again, bytes_behind}
 use Rattle.pgp_frontend_read.proofs.PairLemmas.{pairs_found, pairs_again}
 use Rattle.pgp_frontend_read.proofs.ValueLemmas.{bound, HasLength, value_item}
@@ -103,11 +103,6 @@ pub record Found (s : Shape) (bytes : List ℕ) (x : Content s) (rest : List ℕ
   pub spelled : HasSpelling (part s x)
   pub whole : bytes ≡ spelling (part s x) ++ rest
 
-no_null_found : (r : Result (Option (List ℕ) × List ℕ) Error) (z rest : List ℕ) → no_null r ≡ Ok (z, rest) → r ≡ Ok (Some z, rest)
-no_null_found (Ok (Some y, more)) z rest e = ap (λ (p : List ℕ × List ℕ). ok (Some p.0, p.1)) (ok_is (y, more) (z, rest) e)
-no_null_found (Ok (None, more)) z rest e = absurd cc
-no_null_found (Err f) z rest e = absurd cc
-
 byte_found : (bytes : List ℕ) (x : ℕ × List ℕ) → byte_at bytes ≡ Some x → bytes ≡ x.0 ∷ x.1
 byte_found [] x e = absurd cc
 byte_found (b ∷ bytes) x e = ap (λ (p : ℕ × List ℕ). p.0 ∷ p.1) (some_is (b, bytes) x e)
@@ -136,7 +131,6 @@ unfolding key_at
 key_again x rest h none = rw (none, append-nil x) (unless_none (key_cause (length x)) x h)
 
 pub content_found : (s : Shape) (bytes : List ℕ) (x : Content s) (rest : List ℕ) → IsBytes bytes → content_at s bytes ≡ Ok (x, rest) → Found s bytes x rest
-unfolding sized_at
 content_found AByte bytes x rest h e =
     let b = bound (byte_at bytes) given (x, rest) e in
     let is = byte_found bytes (x, rest) (b.1 ∙ ap (λ (p : ℕ × List ℕ). Some p) (ok_is b.0 (x, rest) b.2)) in
@@ -144,6 +138,12 @@ content_found AByte bytes x rest h e =
     record { spelled = record { none = refl; in_range = omega (arith, each 0); named = tt }; whole = is }
 content_found AnInt32 bytes x rest h e =
     let f = (number_item 4 (FitsSigned w32) int32 (λ l. cast_signed w32 (from_be_bytes w32 l)) int32_number).found bytes x rest h e in
+    record { spelled = record { none = refl; in_range = f.0; named = tt }; whole = f.1 }
+content_found AnInt16 bytes x rest h e =
+    let f = (number_item 2 (FitsSigned w16) int16 (λ l. cast_signed w16 (from_be_bytes w16 l)) int16_number).found bytes x rest h e in
+    record { spelled = record { none = refl; in_range = f.0; named = tt }; whole = f.1 }
+content_found AnOid bytes x rest h e =
+    let f = (number_item 4 (λ n. n < 2 ^ 32) oid (λ l. from_be_bytes w32 l) oid_number).found bytes x rest h e in
     record { spelled = record { none = refl; in_range = f.0; named = tt }; whole = f.1 }
 content_found AText bytes x rest h e =
     let b = bound (string_at bytes) given (x, rest) e in
@@ -158,8 +158,8 @@ content_found SomeOids bytes x rest h e =
 content_found SomeValues bytes x rest h e =
     let f = counted_stands HasLength nullable value_at value_item bytes x rest h e in
     record { spelled = record { none = values_fit x f.count (firsts_none x f.has); in_range = tt; named = tt }; whole = f.whole }
-content_found ASized bytes x rest h e =
-    let f = value_item.found bytes (Some x) rest h (no_null_found (value_at bytes) x rest e) in
+content_found ANullable bytes x rest h e =
+    let f = value_item.found bytes x rest h e in
     record { spelled = record { none = f.0; in_range = tt; named = tt }; whole = f.1 }
 content_found AllBytes bytes x rest h e =
     let is = ok_is (bytes, []) (x, rest) e in
@@ -184,16 +184,17 @@ content_all SomePairs bytes x rest e t = (pairs_found bytes x rest e).1
 content_all _ bytes x rest e t = absurd t
 
 pub content_again : (s : Shape) (x : Content s) (rest : List ℕ) → HasSpelling (part s x) → (TakesAll s → rest ≡ []) → content_at s (spelling (part s x) ++ rest) ≡ Ok (x, rest)
-unfolding sized_at
 content_again AByte x rest h none = refl
 content_again AnInt32 x rest h none = (number_item 4 (FitsSigned w32) int32 (λ l. cast_signed w32 (from_be_bytes w32 l)) int32_number).again x rest h.in_range
+content_again AnInt16 x rest h none = (number_item 2 (FitsSigned w16) int16 (λ l. cast_signed w16 (from_be_bytes w16 l)) int16_number).again x rest h.in_range
+content_again AnOid x rest h none = (number_item 4 (λ n. n < 2 ^ 32) oid (λ l. from_be_bytes w32 l) oid_number).again x rest h.in_range
 content_again AText x rest h none = ap (λ o. o >>= given) (string_front x rest (without_zero x h.none))
 content_again SomeInt16s x rest h none =
     counted_again (FitsSigned w16) int16 format_at (number_item 2 (FitsSigned w16) int16 (λ l. cast_signed w16 (from_be_bytes w16 l)) int16_number) x rest (recursion_from_All (FitsSigned w16) x h.in_range) (counts_of (length x) h.none)
 content_again SomeOids x rest h none =
     counted_again (λ n. n < 2 ^ 32) oid type_at (number_item 4 (λ n. n < 2 ^ 32) oid (λ l. from_be_bytes w32 l) oid_number) x rest (recursion_from_All (λ n. n < 2 ^ 32) x h.in_range) (counts_of (length x) h.none)
 content_again SomeValues x rest h none = let v = values_have x h.none in counted_again HasLength nullable value_at value_item x rest v.0 v.1
-content_again ASized x rest h none = ap no_null (value_item.again (Some x) rest h.none)
+content_again ANullable x rest h none = value_item.again x rest h.none
 content_again AllBytes x rest h none = rw (none tt, append-nil x) refl
 content_again AKey x rest h none = key_again x rest h.none (none tt)
 content_again SomePairs x rest h none =

@@ -1,10 +1,10 @@
 -- Why a body is refused: what the code tells is what the grammar says.
-use Rattle.std.proofs.Common.{◌≡◌, ◌≢◌, ℕ, ℤ, pos, zero, suc, ◌<◌, ◌≤◌, ◌^◌, true, false, List, [], ◌∷◌, ◌++◌, length, map, Option, Some, None, Result, Ok, Err, refl, sym, ap, subst, ◌∙◌, append_assoc, arith, inl, inr, FitsSigned, length-append}
-use Rattle.std.specs.Prelude.{◌==◌, ◌⊎◌, nat_lt, IfSome}
+use Rattle.std.proofs.Common.{◌≡◌, ◌≢◌, ℕ, ℤ, pos, zero, suc, ◌+◌, ◌-◌, ◌<◌, ◌≤◌, ◌^◌, true, false, List, [], ◌∷◌, ◌++◌, length, map, Option, Some, None, Result, Ok, Err, refl, sym, ap, subst, ◌∙◌, append_assoc, arith, inl, inr, FitsSigned, length-append}
+use Rattle.std.specs.Prelude.{◌==◌, ◌⊎◌, nat_lt, nat_le, IfSome}
 use Rattle.std.specs.Int.{w16, w32, from_be_bytes, cast_signed, cast_unsigned}
 use Rattle.std.specs.List.{flat_map, AllByRecursion}
-use Rattle.std.proofs.lemmas.Bool.{eqb-true, eq-eqb, ltb-true, ltb-false}
-use Rattle.std.proofs.lemmas.Int.{of_z-to_z}
+use Rattle.std.proofs.lemmas.Bool.{eqb-true, eq-eqb, ltb-true, ltb-false, leb-true}
+use Rattle.std.proofs.lemmas.Int.{to_z_pos, of_z-to_z}
 use borrow.Author.Gap.{read_sfits}
 use Rattle.pgp_base.specs.Wire.{IsBytes, oid, int16, int32, uint16, uint32, text, nullable}
 use Rattle.pgp_base.specs.Cause.{Cause}
@@ -16,20 +16,19 @@ use Rattle.pgp_base.proofs.PartLemmas.{IsNumber, oid_number, int16_number, int32
 use Rattle.pgp_base.proofs.Parts.{null_spelled, int32_spelled}
 use Rattle.pgp_base.proofs.Prefixes.{uint32_begins}
 use Rattle.pgp_base.proofs.Strings.{string_takes, string_whole}
-use Rattle.pgp_frontend.specs.ClientMessage.{ClientMessage, Bind, Close, CopyData, CopyDone, CopyFail, Describe, Execute, Flush, Parse, PasswordMessage, Query, SaslInitialResponse, SaslResponse, Sync, Terminate, Startup, CancelRequest, SslRequest, PasswordKind, Password, Initial, Response}
-use Rattle.pgp_frontend.specs.Payload.{Part, Int32, Key, Pairs, pair, parts, tag_of, kind_of, key_cause}
-use Rattle.pgp_frontend.specs.declared.startup.ProtocolVersion.TheVariants.{V3_0, V3_2}
-use Rattle.pgp_frontend.specs.Reading.{Shape, AByte, AnInt32, AText, SomeInt16s, SomeOids, SomeValues, ASized, AllBytes, AKey, SomePairs, shape}
+use Rattle.pgp_frontend.specs.ClientMessage.{ClientMessage, Bind, Close, CopyData, CopyDone, CopyFail, Describe, Execute, Flush, Parse, PasswordMessage, Query, SaslInitialResponse, SaslResponse, Sync, Terminate, Startup, CancelRequest, SslRequest, GssEncRequest, FunctionCall, PasswordKind, Password, Initial, Response}
+use Rattle.pgp_frontend.specs.Payload.{Part, Int32, Key, Pairs, pair, parts, tag_of, kind_of, key_cause, HasMinor}
+use Rattle.pgp_frontend.specs.Reading.{Shape, AByte, AnInt16, AnInt32, AnOid, AText, SomeInt16s, SomeOids, SomeValues, ANullable, AllBytes, AKey, SomePairs, shape}
 use Rattle.pgp_frontend.proofs.Needs.{null_length}
 use Rattle.pgp_frontend_read.specs.Content.{Content, Contents}
 use Rattle.pgp_frontend_read.specs.Faults.{IsShort, HasWrongLength, LacksSized, LacksValue, LacksItems, IsCutPair, LacksEnd, Lacks, Faulty}
-use Rattle.pgp_frontend_read.specs.Reading.{items_at, items_on, with_front, counted_at, format_at, type_at, value_at, value_after, no_null, sized_at, pair_at, all_of, pairs_at, unless, key_at, content_at, contents_at, contents_on, before, ended, made, bind_of, close_of, describe_of, execute_of, parse_of, query_of, copy_fail_of, password_of, sasl_initial_of, told_of, body_of, startup_of, cancel_of, named, by_code, by_front, packet_of}
+use Rattle.pgp_frontend_read.specs.Reading.{items_at, items_on, with_front, counted_at, format_at, type_at, value_at, value_after, pair_at, all_of, pairs_at, unless, key_at, content_at, contents_at, contents_on, before, ended, made, bind_of, close_of, describe_of, execute_of, function_call_of, parse_of, query_of, copy_fail_of, password_of, sasl_initial_of, told_of, body_of, startup_of, cancel_of, named, by_code, by_front, packet_of}
 use Rattle.pgp_frontend_read.specs.Step.{BlamesFrame, BlamesPacket}
 use Rattle.pgp_frontend_read.specs.declared.error.ClientError.{ClientError}
 use Rattle.pgp_frontend_read.specs.declared.error.ClientError.TheVariants.{UnknownPacket, Reading}
 use Rattle.pgp_frontend_read.proofs.Items.{IsItem, ok, bytes_behind}
 use Rattle.pgp_frontend_read.proofs.Contents.{content_found, content_all, number_item}
-use Rattle.pgp_frontend_read.proofs.Forms.{code_3_0, code_3_2, cancel_code, ssl_code}
+use Rattle.pgp_frontend_read.proofs.Forms.{plain_code, version_there}
 use Rattle.pgp_frontend_read.proofs.PairLemmas.{pair_found}
 use Rattle.pgp_frontend_read.proofs.ValueLemmas.{HasLength, value_item, chosen}
 
@@ -38,7 +37,7 @@ use Rattle.pgp_frontend_read.proofs.ValueLemmas.{HasLength, value_item, chosen}
 abbrev refusal : {A : Type 0} → Error → Result A Error
 refusal e = Err e
 
-pub refusal_is : {A : Type 0} (d e : Error) → refusal {A = A} d ≡ Err e → d ≡ e
+refusal_is : {A : Type 0} (d e : Error) → refusal {A = A} d ≡ Err e → d ≡ e
 refusal_is d e h = cc
 
 no_refusal : {A : Type 0} (x : A) (e : Error) → ok x ≡ Err e → ⊥
@@ -52,14 +51,14 @@ given_err : {A : Type 0} (o : Option A) (e : Error) → (o >>= λ x. Ok x) ≡ E
 given_err None e h = (refl, sym (refusal_is UnexpectedEof e h))
 given_err (Some x) e h = absurd (no_refusal x e h)
 
-pub made_err : {X Y : Type 0} (f : X → Y) (r : Result X Error) (e : Error) → made f r ≡ Err e → r ≡ Err e
+made_err : {X Y : Type 0} (f : X → Y) (r : Result X Error) (e : Error) → made f r ≡ Err e → r ≡ Err e
 made_err f (Ok x) e h = absurd (no_refusal (f x) e h)
 made_err f (Err d) e h = ap refusal (refusal_is d e h)
 
 -- ---- numbers
 
 module _ {A : Type 0} (n : ℕ) (Fits : A → Type 0) (spell : A → List ℕ) (value : List ℕ → A) (number : IsNumber n Fits spell value) where
-  pub number_lacks : (bytes : List ℕ) (e : Error) → (front_at n value bytes >>= λ x. Ok x) ≡ Err e → IsShort n bytes e
+  number_lacks : (bytes : List ℕ) (e : Error) → (front_at n value bytes >>= λ x. Ok x) ≡ Err e → IsShort n bytes e
   number_lacks bytes e h =
       let g = given_err (front_at n value bytes) e h in
       (number_short n Fits spell value number bytes g.0, g.1)
@@ -129,7 +128,7 @@ wrong_length n rest bytes e fits whole null is =
       ]
     ]
 
-pub value_lacks : (bytes : List ℕ) (e : Error) → IsBytes bytes → value_at bytes ≡ Err e → LacksValue bytes e
+value_lacks : (bytes : List ℕ) (e : Error) → IsBytes bytes → value_at bytes ≡ Err e → LacksValue bytes e
 unfolding value_at
 value_lacks bytes e h is =
     elim (bind_err (oid_at bytes) (λ len. value_after len.0 len.1) e is) [
@@ -149,20 +148,6 @@ value_lacks bytes e h is =
             )
           ]
     ]
-
-sized_lacks : (bytes : List ℕ) (e : Error) → IsBytes bytes → sized_at bytes ≡ Err e → LacksSized bytes e
-unfolding sized_at
-sized_lacks bytes e h is = by_value (value_at bytes) refl
-  where
-    by_value : (r : Result (Option (List ℕ) × List ℕ) Error) → value_at bytes ≡ r → LacksSized bytes e
-    by_value (Ok (Some z, rest)) reads = absurd (no_refusal _ e (ap no_null (sym reads) ∙ is))
-    by_value (Ok (None, rest)) reads =
-        let found = value_item.found bytes None rest h reads in
-        let name : InvalidValueLength ≡ e = refusal_is InvalidValueLength e (ap no_null (sym reads) ∙ is) in
-        inr (record { len = 4294967295; rest = rest; fits = omega arith; whole = found.1 ∙ ap (λ l. l ++ rest) (sym null_spelled); wrong = inl (omega arith, sym name) })
-    by_value (Err d) reads =
-        let same : d ≡ e = refusal_is d e (ap no_null (sym reads) ∙ is) in
-        (value_lacks bytes e h (reads ∙ ap refusal same)).0
 
 -- ---- pairs
 
@@ -231,10 +216,12 @@ no_byte : (bytes : List ℕ) → byte_at bytes ≡ None → length bytes < 1
 no_byte [] e = omega arith
 no_byte (b ∷ bytes) e = absurd cc
 
-pub content_lacks : (s : Shape) (bytes : List ℕ) (e : Error) → IsBytes bytes → content_at s bytes ≡ Err e → Lacks s bytes e
+content_lacks : (s : Shape) (bytes : List ℕ) (e : Error) → IsBytes bytes → content_at s bytes ≡ Err e → Lacks s bytes e
 unfolding key_at
 content_lacks AByte bytes e h is = let g = given_err (byte_at bytes) e is in (no_byte bytes g.0, g.1)
 content_lacks AnInt32 bytes e h is = number_lacks 4 (FitsSigned w32) int32 (λ l. cast_signed w32 (from_be_bytes w32 l)) int32_number bytes e is
+content_lacks AnInt16 bytes e h is = number_lacks 2 (FitsSigned w16) int16 (λ l. cast_signed w16 (from_be_bytes w16 l)) int16_number bytes e is
+content_lacks AnOid bytes e h is = number_lacks 4 (λ n. n < 2 ^ 32) oid (λ l. from_be_bytes w32 l) oid_number bytes e is
 content_lacks AText bytes e h is = let g = given_err (string_at bytes) e is in (no_string bytes g.0, g.1)
 content_lacks SomeInt16s bytes e h is =
     counted_lacks (FitsSigned w16) int16 format_at (IsShort 2) (number_item 2 (FitsSigned w16) int16 (λ l. cast_signed w16 (from_be_bytes w16 l)) int16_number)
@@ -243,20 +230,20 @@ content_lacks SomeOids bytes e h is =
     counted_lacks (λ n. n < 2 ^ 32) oid type_at (IsShort 4) (number_item 4 (λ n. n < 2 ^ 32) oid (λ l. from_be_bytes w32 l) oid_number)
     (λ b d k i. number_lacks 4 (λ n. n < 2 ^ 32) oid (λ l. from_be_bytes w32 l) oid_number b d i) bytes e h is
 content_lacks SomeValues bytes e h is = counted_lacks HasLength nullable value_at LacksValue value_item value_lacks bytes e h is
-content_lacks ASized bytes e h is = sized_lacks bytes e h is
+content_lacks ANullable bytes e h is = value_lacks bytes e h is
 content_lacks AllBytes bytes e h is = no_refusal _ e is
 content_lacks AKey bytes e h is = unless_err (key_cause (length bytes)) bytes e is
 content_lacks SomePairs bytes e h is = pairs_lack bytes e is
 
-pub ended_err : {A : Type 0} (x : A) (bytes : List ℕ) (e : Error) → ended x bytes ≡ Err e → (bytes ≢ []) × (e ≡ NotDrained)
+ended_err : {A : Type 0} (x : A) (bytes : List ℕ) (e : Error) → ended x bytes ≡ Err e → (bytes ≢ []) × (e ≡ NotDrained)
 ended_err x [] e is = absurd (no_refusal x e is)
 ended_err x (b ∷ bytes) e is = ((λ z. cc), sym (refusal_is NotDrained e is))
 
-pub before_err : {A B : Type 0} (x : A) (r : Result B Error) (e : Error) → before x r ≡ Err e → r ≡ Err e
+before_err : {A B : Type 0} (x : A) (r : Result B Error) (e : Error) → before x r ≡ Err e → r ≡ Err e
 before_err x (Ok y) e is = absurd cc
 before_err x (Err d) e is = ap refusal (refusal_is d e is)
 
-pub contents_faulty : (shapes : List Shape) (bytes : List ℕ) (e : Error) → IsBytes bytes → contents_at shapes bytes ≡ Err e → Faulty shapes bytes e
+contents_faulty : (shapes : List Shape) (bytes : List ℕ) (e : Error) → IsBytes bytes → contents_at shapes bytes ≡ Err e → Faulty shapes bytes e
 contents_faulty [] bytes e h is = ended_err tt bytes e is
 contents_faulty (s ∷ shapes) bytes e h is = by_part (λ b k i. contents_faulty shapes b e k i) (content_at s bytes) refl
   where
@@ -285,7 +272,7 @@ module _ (kind : PasswordKind) (tag n : ℕ) (bytes : List ℕ) (e : Error) (h :
 told_blamed : (kind : PasswordKind) (tag : ℕ) (bytes : List ℕ) (e : Error) → IsBytes bytes → (tag == 112) ≡ true → told_of kind bytes ≡ Err e → BlamesFrame kind tag bytes (Reading e)
 unfolding password_of sasl_initial_of
 told_blamed Password tag bytes e h is refused = form_blamed Password tag 112 bytes e h (PasswordMessage []) (λ c. PasswordMessage c.first) refl refl is refused
-told_blamed Initial tag bytes e h is refused = form_blamed Initial tag 112 bytes e h (SaslInitialResponse [] []) (λ c. SaslInitialResponse c.first c.rest.first) refl refl is refused
+told_blamed Initial tag bytes e h is refused = form_blamed Initial tag 112 bytes e h (SaslInitialResponse [] None) (λ c. SaslInitialResponse c.first c.rest.first) refl refl is refused
 told_blamed Response tag bytes e h is refused = absurd (no_refusal _ e refused)
 
 not_here : (tag n : ℕ) → (tag == n) ≡ false → (let x : Option ℕ = Some n in x ≢ Some tag)
@@ -296,11 +283,12 @@ not_here tag n is e =
     cc
 
 -- none of these tags
-pub record NoTag (tag : ℕ) : Type 0 where
+record NoTag (tag : ℕ) : Type 0 where
   pub b : (tag == 66) ≡ false
   pub c : (tag == 67) ≡ false
   pub d : (tag == 68) ≡ false
   pub e : (tag == 69) ≡ false
+  pub call : (tag == 70) ≡ false
   pub h : (tag == 72) ≡ false
   pub p : (tag == 80) ≡ false
   pub q : (tag == 81) ≡ false
@@ -311,11 +299,12 @@ pub record NoTag (tag : ℕ) : Type 0 where
   pub fail : (tag == 102) ≡ false
   pub password : (tag == 112) ≡ false
 
-pub no_message : (tag : ℕ) → NoTag tag → (m : ClientMessage) → tag_of m ≢ Some tag
+no_message : (tag : ℕ) → NoTag tag → (m : ClientMessage) → tag_of m ≢ Some tag
 no_message tag n (Bind a b c d e) = not_here tag 66 n.b
 no_message tag n (Close a b) = not_here tag 67 n.c
 no_message tag n (Describe a b) = not_here tag 68 n.d
 no_message tag n (Execute a b) = not_here tag 69 n.e
+no_message tag n (FunctionCall a b c d) = not_here tag 70 n.call
 no_message tag n Flush = not_here tag 72 n.h
 no_message tag n (Parse a b c) = not_here tag 80 n.p
 no_message tag n (Query a) = not_here tag 81 n.q
@@ -330,9 +319,10 @@ no_message tag n (SaslResponse a) = not_here tag 112 n.password
 no_message tag n (Startup v a) = λ e. cc
 no_message tag n (CancelRequest a b) = λ e. cc
 no_message tag n SslRequest = λ e. cc
+no_message tag n GssEncRequest = λ e. cc
 
 pub body_blames : (kind : PasswordKind) (tag : ℕ) (bytes : List ℕ) (e : Error) → IsBytes bytes → body_of kind tag bytes ≡ Err e → BlamesFrame kind tag bytes (Reading e)
-unfolding body_of bind_of close_of describe_of execute_of parse_of query_of copy_fail_of
+unfolding body_of bind_of close_of describe_of execute_of function_call_of parse_of query_of copy_fail_of
 body_blames kind tag bytes e each is =
     elim (chosen (tag == 66) _ _ _ is) [
       | inl y ↦ form_blamed kind tag 66 bytes e each (Bind [] [] [] [] []) (λ c. Bind c.first c.rest.first c.rest.rest.first c.rest.rest.rest.first c.rest.rest.rest.rest.first) refl tt y.0 y.1
@@ -342,27 +332,30 @@ body_blames kind tag bytes e each is =
           | inl y ↦ form_blamed kind tag 68 bytes e each (Describe 0 []) (λ c. Describe c.first c.rest.first) refl tt y.0 y.1
           | inr d ↦ elim (chosen (tag == 69) _ _ _ d.1) [
             | inl y ↦ form_blamed kind tag 69 bytes e each (Execute [] (pos 0)) (λ c. Execute c.first c.rest.first) refl tt y.0 y.1
-            | inr f ↦ elim (chosen (tag == 72) _ _ _ f.1) [
-              | inl y ↦ faulty_body kind tag 72 bytes e each Flush refl tt y.0 (ended_err Flush bytes e y.1)
-              | inr h ↦ elim (chosen (tag == 80) _ _ _ h.1) [
-                | inl y ↦ form_blamed kind tag 80 bytes e each (Parse [] [] []) (λ c. Parse c.first c.rest.first c.rest.rest.first) refl tt y.0 y.1
-                | inr p ↦ elim (chosen (tag == 81) _ _ _ p.1) [
-                  | inl y ↦ form_blamed kind tag 81 bytes e each (Query []) (λ c. Query c.first) refl tt y.0 y.1
-                  | inr q ↦ elim (chosen (tag == 83) _ _ _ q.1) [
-                    | inl y ↦ faulty_body kind tag 83 bytes e each Sync refl tt y.0 (ended_err Sync bytes e y.1)
-                    | inr s ↦ elim (chosen (tag == 88) _ _ _ s.1) [
-                      | inl y ↦ faulty_body kind tag 88 bytes e each Terminate refl tt y.0 (ended_err Terminate bytes e y.1)
-                      | inr x ↦ elim (chosen (tag == 99) _ _ _ x.1) [
-                        | inl y ↦ faulty_body kind tag 99 bytes e each CopyDone refl tt y.0 (ended_err CopyDone bytes e y.1)
-                        | inr done ↦ elim (chosen (tag == 100) _ _ _ done.1) [
-                          | inl y ↦ absurd (no_refusal _ e y.1)
-                          | inr copy ↦ elim (chosen (tag == 102) _ _ _ copy.1) [
-                            | inl y ↦ form_blamed kind tag 102 bytes e each (CopyFail []) (λ c. CopyFail c.first) refl tt y.0 y.1
-                            | inr fail ↦ elim (chosen (tag == 112) _ _ _ fail.1) [
-                              | inl y ↦ told_blamed kind tag bytes e each y.0 y.1
-                              | inr last ↦
-                                  let none : NoTag tag = record { b = b.0; c = c.0; d = d.0; e = f.0; h = h.0; p = p.0; q = q.0; s = s.0; x = x.0; done = done.0; copy = copy.0; fail = fail.0; password = last.0 } in
-                                  inl (ap (λ (x : Error). Reading x) (sym (refusal_is (UnknownTag tag) e last.1)), no_message tag none)
+            | inr f ↦ elim (chosen (tag == 70) _ _ _ f.1) [
+              | inl y ↦ form_blamed kind tag 70 bytes e each (FunctionCall 0 [] [] (pos 0)) (λ c. FunctionCall c.first c.rest.first c.rest.rest.first c.rest.rest.rest.first) refl tt y.0 y.1
+              | inr call ↦ elim (chosen (tag == 72) _ _ _ call.1) [
+                | inl y ↦ faulty_body kind tag 72 bytes e each Flush refl tt y.0 (ended_err Flush bytes e y.1)
+                | inr h ↦ elim (chosen (tag == 80) _ _ _ h.1) [
+                  | inl y ↦ form_blamed kind tag 80 bytes e each (Parse [] [] []) (λ c. Parse c.first c.rest.first c.rest.rest.first) refl tt y.0 y.1
+                  | inr p ↦ elim (chosen (tag == 81) _ _ _ p.1) [
+                    | inl y ↦ form_blamed kind tag 81 bytes e each (Query []) (λ c. Query c.first) refl tt y.0 y.1
+                    | inr q ↦ elim (chosen (tag == 83) _ _ _ q.1) [
+                      | inl y ↦ faulty_body kind tag 83 bytes e each Sync refl tt y.0 (ended_err Sync bytes e y.1)
+                      | inr s ↦ elim (chosen (tag == 88) _ _ _ s.1) [
+                        | inl y ↦ faulty_body kind tag 88 bytes e each Terminate refl tt y.0 (ended_err Terminate bytes e y.1)
+                        | inr x ↦ elim (chosen (tag == 99) _ _ _ x.1) [
+                          | inl y ↦ faulty_body kind tag 99 bytes e each CopyDone refl tt y.0 (ended_err CopyDone bytes e y.1)
+                          | inr done ↦ elim (chosen (tag == 100) _ _ _ done.1) [
+                            | inl y ↦ absurd (no_refusal _ e y.1)
+                            | inr copy ↦ elim (chosen (tag == 102) _ _ _ copy.1) [
+                              | inl y ↦ form_blamed kind tag 102 bytes e each (CopyFail []) (λ c. CopyFail c.first) refl tt y.0 y.1
+                              | inr fail ↦ elim (chosen (tag == 112) _ _ _ fail.1) [
+                                | inl y ↦ told_blamed kind tag bytes e each y.0 y.1
+                                | inr last ↦
+                                    let none : NoTag tag = record { b = b.0; c = c.0; d = d.0; e = f.0; call = call.0; h = h.0; p = p.0; q = q.0; s = s.0; x = x.0; done = done.0; copy = copy.0; fail = fail.0; password = last.0 } in
+                                    inl (ap (λ (x : Error). Reading x) (sym (refusal_is (UnknownTag tag) e last.1)), no_message tag none)
+                              ]
                             ]
                           ]
                         ]
@@ -383,35 +376,40 @@ named_err : (r : Result ClientMessage Error) (e : ClientError) → named r ≡ E
 named_err (Ok m) e is = absurd cc
 named_err (Err d) e is = (d, refl, cc)
 
-module _ (payload rest : List ℕ) (code n : ℕ) (e : ClientError) (h : IsBytes rest) (whole : payload ≡ oid code ++ rest) (is : (code == n) ≡ true) (spelled : oid n ≡ int32 (pos n)) where
+module _ (payload rest : List ℕ) (code n : ℕ) (e : ClientError) (h : IsBytes rest) (whole : payload ≡ oid code ++ rest) (is : code ≡ n) (small : n < 2 ^ 31) where
   -- behind the code of this message
-  faulty_packet : (m : ClientMessage) (others : List Part) → tag_of m ≡ None → parts m ≡ Int32 (pos n) ∷ others → (d : Error) → e ≡ Reading d → Faulty (map shape others) rest d → BlamesPacket payload e
-  faulty_packet m others t are d name faulty =
-      inr (record { message = m; untagged = t; code = pos n; others = others; are = are; rest = rest; whole = whole ∙ ap (λ k. oid k ++ rest) (eqb-true code n is) ∙ ap (λ l. l ++ rest) spelled; fault = d; faulty = faulty; name = name })
+  faulty_packet : (m : ClientMessage) (others : List Part) → tag_of m ≡ None → HasMinor m → parts m ≡ Int32 (pos n) ∷ others → (d : Error) → e ≡ Reading d → Faulty (map shape others) rest d → BlamesPacket payload e
+  faulty_packet m others t minor are d name faulty =
+      inr (record { message = m; untagged = t; minor = minor; code = pos n; others = others; are = are; rest = rest; whole = whole ∙ ap (λ k. oid k ++ rest) is ∙ ap (λ l. l ++ rest) (plain_code n small); fault = d; faulty = faulty; name = name })
 
-  packet_blamed : (m : ClientMessage) (others : List Part) (make : Contents (map shape others) → ClientMessage) → tag_of m ≡ None → parts m ≡ Int32 (pos n) ∷ others
+  packet_blamed : (m : ClientMessage) (others : List Part) (make : Contents (map shape others) → ClientMessage) → tag_of m ≡ None → HasMinor m → parts m ≡ Int32 (pos n) ∷ others
       → named (made make (contents_at (map shape others) rest)) ≡ Err e → BlamesPacket payload e
-  packet_blamed m others make t are refused =
+  packet_blamed m others make t minor are refused =
       let r = named_err (made make (contents_at (map shape others) rest)) e refused in
-      faulty_packet m others t are r.0 r.2 (contents_faulty (map shape others) rest r.0 h (made_err make (contents_at (map shape others) rest) r.0 r.1))
+      faulty_packet m others t minor are r.0 r.2 (contents_faulty (map shape others) rest r.0 h (made_err make (contents_at (map shape others) rest) r.0 r.1))
 
 head_is : (a b : ℤ) (ps qs : List Part) → Int32 a ∷ ps ≡ Int32 b ∷ qs → a ≡ b
 head_is a b ps qs e = cc
 
-not_code : (code n : ℕ) → code < 2 ^ 32 → (code == n) ≡ false → cast_unsigned w32 (pos n) ≡ n → pos n ≡ cast_signed w32 code → ⊥
-not_code code n fits is small same =
-    let e : n ≡ code = sym small ∙ ap (cast_unsigned w32) same ∙ of_z-to_z w32 code fits in
-    let k : true ≡ false = sym (eq-eqb code n (sym e)) ∙ is in
-    cc
+not_code : (code n : ℕ) → code < 2 ^ 32 → n < 2 ^ 31 → code ≢ n → pos n ≡ cast_signed w32 code → ⊥
+not_code code n fits small other same =
+    let signed : cast_signed w32 n ≡ cast_signed w32 code = to_z_pos w32 n small ∙ same in
+    other (sym (of_z-to_z w32 code fits) ∙ ap (cast_unsigned w32) (sym signed) ∙ of_z-to_z w32 n (omega (arith, small)))
+
+apart : (code n : ℕ) → (code == n) ≡ false → code ≢ n
+apart code n is same = let k : true ≡ false = sym (eq-eqb code n same) ∙ is in cc
 
 -- no opening packet has the code
-module _ (code : ℕ) (fits : code < 2 ^ 32) (a : (code == 196608) ≡ false) (b : (code == 196610) ≡ false) (c : (code == 80877102) ≡ false) (d : (code == 80877103) ≡ false) where
-  no_packet : (m : ClientMessage) (ps : List Part) → tag_of m ≡ None → parts m ≢ Int32 (cast_signed w32 code) ∷ ps
-  no_packet (Startup V3_0 x) ps t e = not_code code 196608 fits a refl (head_is _ _ _ _ e)
-  no_packet (Startup V3_2 x) ps t e = not_code code 196610 fits b refl (head_is _ _ _ _ e)
-  no_packet (CancelRequest x y) ps t e = not_code code 80877102 fits c refl (head_is _ _ _ _ e)
-  no_packet SslRequest ps t e = not_code code 80877103 fits d refl (head_is _ _ _ _ e)
-  no_packet _ ps t e = cc
+module _ (code : ℕ) (fits : code < 2 ^ 32) (a : (code == 80877102) ≡ false) (b : (code == 80877103) ≡ false) (c : (code == 80877104) ≡ false) (outside : (code < 196608) ⊎ (262144 ≤ code)) where
+  no_version : (minor : ℕ) → minor < 2 ^ 16 → code ≢ 196608 + minor
+  no_version minor small same = elim outside [ inl low ↦ omega (arith, low, same) | inr high ↦ omega (arith, high, same, small) ]
+
+  no_packet : (m : ClientMessage) (ps : List Part) → tag_of m ≡ None → HasMinor m → parts m ≢ Int32 (cast_signed w32 code) ∷ ps
+  no_packet (Startup v x) ps t minor e = not_code code (196608 + v) fits (omega (arith, minor)) (no_version v minor) (head_is _ _ _ _ e)
+  no_packet (CancelRequest x y) ps t minor e = not_code code 80877102 fits (omega arith) (apart code 80877102 a) (head_is _ _ _ _ e)
+  no_packet SslRequest ps t minor e = not_code code 80877103 fits (omega arith) (apart code 80877103 b) (head_is _ _ _ _ e)
+  no_packet GssEncRequest ps t minor e = not_code code 80877104 fits (omega arith) (apart code 80877104 c) (head_is _ _ _ _ e)
+  no_packet _ ps t minor e = cc
 
 pub signed_code : (code : ℕ) → code < 2 ^ 32 → oid code ≡ int32 (cast_signed w32 code)
 signed_code code fits = sym (int32_spelled (cast_signed w32 code) ∙ ap uint32 (of_z-to_z w32 code fits))
@@ -422,27 +420,38 @@ unknown code = Err (UnknownPacket (cast_signed w32 code))
 unknown_is : (code : ℕ) (e : ClientError) → unknown code ≡ Err e → e ≡ UnknownPacket (cast_signed w32 code)
 unknown_is code e is = cc
 
-pub code_blames : (payload : List ℕ) (code : ℕ) (rest : List ℕ) (e : ClientError) → IsBytes rest → code < 2 ^ 32 → payload ≡ oid code ++ rest → by_code code rest ≡ Err e → BlamesPacket payload e
+unknown_blamed : (payload : List ℕ) (code : ℕ) (rest : List ℕ) (e : ClientError) → code < 2 ^ 32 → payload ≡ oid code ++ rest
+    → ((m : ClientMessage) (ps : List Part) → tag_of m ≡ None → HasMinor m → parts m ≢ Int32 (cast_signed w32 code) ∷ ps) → unknown code ≡ Err e → BlamesPacket payload e
+unknown_blamed payload code rest e fits whole none is = inl (record {
+  code = cast_signed w32 code;
+  rest = rest;
+  fits = read_sfits w32 code;
+  whole = whole ∙ ap (λ l. l ++ rest) (signed_code code fits);
+  unknown = none;
+  name = unknown_is code e is;
+})
+
+code_blames : (payload : List ℕ) (code : ℕ) (rest : List ℕ) (e : ClientError) → IsBytes rest → code < 2 ^ 32 → payload ≡ oid code ++ rest → by_code code rest ≡ Err e → BlamesPacket payload e
 unfolding by_code startup_of cancel_of
 code_blames payload code rest e h fits whole is =
-    elim (chosen (code == 196608) _ _ _ is) [
-      | inl y ↦ packet_blamed payload rest code 196608 e h whole y.0 code_3_0 (Startup V3_0 []) (Pairs [] ∷ []) (λ c. Startup V3_0 c.first) refl refl y.1
-      | inr a ↦ elim (chosen (code == 196610) _ _ _ a.1) [
-        | inl y ↦ packet_blamed payload rest code 196610 e h whole y.0 code_3_2 (Startup V3_2 []) (Pairs [] ∷ []) (λ c. Startup V3_2 c.first) refl refl y.1
-        | inr b ↦ elim (chosen (code == 80877102) _ _ _ b.1) [
-          | inl y ↦ packet_blamed payload rest code 80877102 e h whole y.0 cancel_code (CancelRequest (pos 0) []) (Int32 (pos 0) ∷ Key [] ∷ []) (λ c. CancelRequest c.first c.rest.first) refl refl y.1
-          | inr c ↦ elim (chosen (code == 80877103) _ _ _ c.1) [
-            | inl y ↦
-                let r = named_err (ended SslRequest rest) e y.1 in
-                faulty_packet payload rest code 80877103 e h whole y.0 ssl_code SslRequest [] refl refl r.0 r.2 (ended_err SslRequest rest r.0 r.1)
-            | inr d ↦ inl (record {
-              code = cast_signed w32 code;
-              rest = rest;
-              fits = read_sfits w32 code;
-              whole = whole ∙ ap (λ l. l ++ rest) (signed_code code fits);
-              unknown = no_packet code fits a.0 b.0 c.0 d.0;
-              name = unknown_is code e d.1;
-            })
+    elim (chosen (code == 80877102) _ _ _ is) [
+      | inl y ↦ packet_blamed payload rest code 80877102 e h whole (eqb-true code 80877102 y.0) (omega arith) (CancelRequest (pos 0) []) (Int32 (pos 0) ∷ Key [] ∷ []) (λ c. CancelRequest c.first c.rest.first) refl tt refl y.1
+      | inr a ↦ elim (chosen (code == 80877103) _ _ _ a.1) [
+        | inl y ↦
+            let r = named_err (ended SslRequest rest) e y.1 in
+            faulty_packet payload rest code 80877103 e h whole (eqb-true code 80877103 y.0) (omega arith) SslRequest [] refl tt refl r.0 r.2 (ended_err SslRequest rest r.0 r.1)
+        | inr b ↦ elim (chosen (code == 80877104) _ _ _ b.1) [
+          | inl y ↦
+              let r = named_err (ended GssEncRequest rest) e y.1 in
+              faulty_packet payload rest code 80877104 e h whole (eqb-true code 80877104 y.0) (omega arith) GssEncRequest [] refl tt refl r.0 r.2 (ended_err GssEncRequest rest r.0 r.1)
+          | inr c ↦ elim (chosen (nat_lt code 196608) _ _ _ c.1) [
+            | inl low ↦ unknown_blamed payload code rest e fits whole (no_packet code fits a.0 b.0 c.0 (inl (ltb-true code 196608 low.0))) low.1
+            | inr from ↦ elim (chosen (nat_le 262144 code) _ _ _ from.1) [
+              | inl high ↦ unknown_blamed payload code rest e fits whole (no_packet code fits a.0 b.0 c.0 (inr (leb-true 262144 code high.0))) high.1
+              | inr below ↦
+                  let v = version_there code from.0 below.0 in
+                  packet_blamed payload rest code (196608 + (code - 196608)) e h whole v.are (omega (arith, v.small)) (Startup (code - 196608) []) (Pairs [] ∷ []) (λ c. Startup (code - 196608) c.first) refl v.small refl below.1
+            ]
           ]
         ]
       ]

@@ -6,11 +6,8 @@ use Rattle.pgp_base.proofs.Parts.{nothing_more, more_twice}
 use Rattle.pgp_frontend.specs.ClientMessage.{ClientMessage, PasswordKind}
 use Rattle.pgp_frontend.specs.ClientRun.{ClientRun}
 use Rattle.pgp_frontend.specs.Payload.{bytes_of}
-use Rattle.pgp_frontend_read.specs.AnyReads.{AnyHasRead, any_kinds_behind}
-use Rattle.pgp_frontend_read.specs.AnyStep.{AnyStep}
-use Rattle.pgp_frontend_read.specs.Forwards.{Forwards, WritesAll, WritesAllOf}
-use Rattle.pgp_frontend_read.specs.OtherMessage.{AnyMessage, Ours, Other, any_bytes, WritesAny}
-use Rattle.pgp_frontend_read.specs.Reads.{HasRead, next_kind, kinds_behind}
+use Rattle.pgp_frontend_read.specs.Forwards.{Forwards, WritesAll}
+use Rattle.pgp_frontend_read.specs.Reads.{HasRead, kinds_behind}
 use Rattle.pgp_frontend_read.specs.Step.{Unread}
 
 -- ---- what was read
@@ -19,15 +16,6 @@ all_read : (kinds rest : List PasswordKind) (from here : Unread) (messages : Lis
 all_read kinds rest from here [] h = sym (ap (λ (u : Unread). u.bytes) h.1)
 all_read kinds rest from here (m ∷ messages) h =
     h.1.stands.whole ∙ ap (λ l. bytes_of m ++ l) (all_read (kinds_behind m kinds) rest h.0 here messages h.2) ∙ sym (append_assoc (bytes_of m) (flat_map bytes_of messages) here.bytes)
-
-pub any_stood : (kind : PasswordKind) (from next : Unread) (x : AnyMessage) → AnyStep kind from (Ok (Some x)) next → from.bytes ≡ any_bytes x ++ next.bytes
-any_stood kind from next (Ours m) step = step.stands.whole
-any_stood kind from next (Other o) step = step.stands.whole
-
-all_of_read : (kinds rest : List PasswordKind) (from here : Unread) (messages : List AnyMessage) → AnyHasRead kinds from messages rest here → from.bytes ≡ flat_map any_bytes messages ++ here.bytes
-all_of_read kinds rest from here [] h = sym (ap (λ (u : Unread). u.bytes) h.1)
-all_of_read kinds rest from here (x ∷ messages) h =
-    any_stood (next_kind kinds) from h.0 x h.1 ∙ ap (λ l. any_bytes x ++ l) (all_of_read (any_kinds_behind x kinds) rest h.0 here messages h.2) ∙ sym (append_assoc (any_bytes x) (flat_map any_bytes messages) here.bytes)
 
 -- ---- what was written
 
@@ -40,19 +28,8 @@ module _ {K : Type 0} (lacks : Held K → ℕ → Type 0) where
   all_written [] old new w = w ∙ sym (nothing_more old)
   all_written (m ∷ messages) old new w = written_then old w.0 new (bytes_of m) (flat_map bytes_of messages) w.1.1.1 (all_written messages w.0 new w.2)
 
-  any_written : (x : AnyMessage) (old new : Held K) → WritesAny x lacks old new (Ok tt) → new ≡ old ⊕ any_bytes x
-  any_written (Ours m) old new w = w.1.1
-  any_written (Other o) old new w = w.1
-
-  all_of_written : (messages : List AnyMessage) (old new : Held K) → WritesAllOf lacks messages old new → new ≡ old ⊕ flat_map any_bytes messages
-  all_of_written [] old new w = w ∙ sym (nothing_more old)
-  all_of_written (x ∷ messages) old new w = written_then old w.0 new (any_bytes x) (flat_map any_bytes messages) (any_written x old w.0 w.1) (all_of_written messages w.0 new w.2)
-
   pub run_forwards : (kinds rest : List PasswordKind) (from here : Unread) (messages : List ClientMessage) (old new : Held K) → HasRead kinds from messages rest here → WritesAll lacks messages old new → Forwards lacks from.bytes here.bytes old new (Ok tt)
   run_forwards kinds rest from here messages old new h w = record { stood = flat_map bytes_of messages; whole = all_read kinds rest from here messages h; appends = all_written messages old new w }
-
-  pub any_run_forwards : (kinds rest : List PasswordKind) (from here : Unread) (messages : List AnyMessage) (old new : Held K) → AnyHasRead kinds from messages rest here → WritesAllOf lacks messages old new → Forwards lacks from.bytes here.bytes old new (Ok tt)
-  any_run_forwards kinds rest from here messages old new h w = record { stood = flat_map any_bytes messages; whole = all_of_read kinds rest from here messages h; appends = all_of_written messages old new w }
 
   pub session_forwards : (kinds : List PasswordKind) (messages : List ClientMessage) (bytes : List ℕ) (old new : Held K) → ClientRun kinds messages bytes → WritesAll lacks messages old new → new ≡ old ⊕ bytes
   session_forwards kinds messages bytes old new run w = all_written messages old new w ∙ ap (λ l. old ⊕ l) (sym run.whole)

@@ -4,30 +4,28 @@ use Rattle.std.specs.Prelude.{◌||◌}
 use Rattle.std.proofs.lemmas.List.{append-nil}
 use Rattle.pgp_base.specs.Wire.{uint32}
 use Rattle.pgp_base.proofs.Parts.{length-uint32}
-use Rattle.pgp_frontend.specs.ClientMessage.{PasswordKind, Password}
+use Rattle.pgp_frontend.specs.ClientMessage.{ClientMessage, PasswordKind, Password}
+use Rattle.pgp_frontend.specs.ClientRun.{is_startup}
 use Rattle.pgp_frontend.specs.Payload.{framed, payload, tag_of, bytes_of}
 use Rattle.pgp_frontend.proofs.Readings.{tagged_bodies, tag_in}
-use Rattle.pgp_frontend_read.specs.AnyStep.{AnyStep, AnyStands, RefusesAny}
-use Rattle.pgp_frontend_read.specs.AnyViews.{any_view, read_any}
-use Rattle.pgp_frontend_read.specs.OtherMessage.{AnyMessage, Ours, Other, any_is_startup, other_tag, other_payload, other_bytes}
-use Rattle.pgp_frontend_read.specs.Step.{Unread, BeginsWithLength}
+use Rattle.pgp_frontend_read.specs.Step.{Unread, BeginsWithLength, Stands, Refuses, Step}
+use Rattle.pgp_frontend_read.specs.Views.{view, read}
 use Rattle.pgp_frontend_read.specs.Pieces.{IsWhole, HandsOut, step_of}
 use Rattle.pgp_frontend_read.specs.Holding.{HasSize, IsReadAs, IsFrameOf}
 use Rattle.pgp_frontend_read.specs.declared.client_frame.ClientFrame.{ClientFrame}
 use Rattle.pgp_frontend_read.specs.declared.error.ClientError.{ClientError}
-use Rattle.pgp_frontend_read.specs.declared.other.AnyMessage as code
-use Rattle.pgp_frontend_read.proofs.AnyOneStep.{any_step_one}
-use Rattle.pgp_frontend_read.proofs.AnyRuns.{any_took}
+use Rattle.pgp_frontend_read.specs.declared.message.ClientMessage as code
+use Rattle.pgp_frontend_read.proofs.Pieces.{took}
+use Rattle.pgp_frontend_read.proofs.Runs.{stands_read}
 use Rattle.pgp_frontend_read.proofs.Fronts.{behind_length}
 use Rattle.pgp_frontend_read.proofs.Headers.{one_length, not_partial, begins_behind}
 use Rattle.pgp_frontend_read.proofs.Steps.{left, payload_fits}
 
 -- ---- a step, with bytes behind it
 
-pub refused_behind : (kind : PasswordKind) (old new : Unread) (e : ClientError) (more : List ℕ) → RefusesAny kind old e new → RefusesAny kind (left (old.bytes ++ more) old.opened) e (left (new.bytes ++ more) new.opened)
+pub refused_behind : (kind : PasswordKind) (old new : Unread) (e : ClientError) (more : List ℕ) → Refuses kind old e new → Refuses kind (left (old.bytes ++ more) old.opened) e (left (new.bytes ++ more) new.opened)
 refused_behind kind old new e more r = record {
   none = λ m others rest s. r.none m (more ++ others) rest (record { expected = s.expected; spelled = s.spelled; whole = sym (append_assoc old.bytes more others) ∙ s.whole });
-  no_other = λ o others rest s. r.no_other o (more ++ others) rest (record { expected = s.expected; formed = s.formed; whole = sym (append_assoc old.bytes more others) ∙ s.whole });
   left = elim r.left [
     | inl at ↦ inl (record {
       name = at.name;
@@ -57,25 +55,9 @@ refused_behind kind old new e more r = record {
   ];
 }
 
-step_behind : (kind : PasswordKind) (old new : Unread) (r : Result AnyMessage ClientError) (more : List ℕ) → AnyStep kind old (step_of r) new → AnyStep kind (left (old.bytes ++ more) old.opened) (step_of r) (left (new.bytes ++ more) new.opened)
-step_behind kind old new (Ok x) more step = any_took kind old new x more step
+step_behind : (kind : PasswordKind) (old new : Unread) (r : Result ClientMessage ClientError) (more : List ℕ) → Step kind old (step_of r) new → Step kind (left (old.bytes ++ more) old.opened) (step_of r) (left (new.bytes ++ more) new.opened)
+step_behind kind old new (Ok x) more step = took kind old new x more step
 step_behind kind old new (Err e) more step = refused_behind kind old new e more step
-
--- ---- what stands is read
-
-taken : (kind : PasswordKind) (opened : Bool) (bytes rest : List ℕ) (x : AnyMessage) → AnyStands kind opened bytes x rest → AnyStep kind (left bytes opened) (Ok (Some x)) (left rest (opened || any_is_startup x))
-taken kind opened bytes rest (Ours m) s = record { stands = s; phase = refl }
-taken kind opened bytes rest (Other o) s = record { stands = s; phase = refl }
-
-any_stands_read : (kind : PasswordKind) (opened : Bool) (bytes rest : List ℕ) (x : AnyMessage) (r : Result (Option AnyMessage) ClientError) (new : Unread)
-    → AnyStands kind opened bytes x rest → AnyStep kind (left bytes opened) r new → (r ≡ Ok (Some x)) × (new ≡ left rest (opened || any_is_startup x))
-any_stands_read kind opened bytes rest x r new s step =
-    let same = any_step_one kind (left bytes opened) (left rest (opened || any_is_startup x)) new (Ok (Some x)) r (taken kind opened bytes rest x s) step in
-    (sym same.0, sym same.1)
-
-phase_is : (kind : PasswordKind) (old new : Unread) (x : AnyMessage) → AnyStep kind old (Ok (Some x)) new → new.opened ≡ (old.opened || any_is_startup x)
-phase_is kind old new (Ours m) t = t.phase
-phase_is kind old new (Other o) t = t.phase
 
 -- ---- a message's bytes
 
@@ -94,14 +76,14 @@ frame_whole bytes h =
     let len : h.len ≡ length h.begins.rest + 4 = omega (arith, h.all, behind_length true bytes h.len h.begins) in
     (t.0, h.begins.rest, h.begins.parts ∙ t.1 ∙ ap (λ n. t.0 ∷ uint32 n ++ h.begins.rest) len, omega (arith, len, h.fits))
 
-refused_phase : (kind : PasswordKind) (bytes : List ℕ) (e : ClientError) (phase : Bool) → RefusesAny kind (left bytes true) e (left [] phase) → phase ≡ true
+refused_phase : (kind : PasswordKind) (bytes : List ℕ) (e : ClientError) (phase : Bool) → Refuses kind (left bytes true) e (left [] phase) → phase ≡ true
 refused_phase kind bytes e phase r = elim r.left [
   | inl at ↦ ap (λ (u : Unread). u.opened) at.same
   | inr other ↦ elim other [ inl skips ↦ skips.same | inr stops ↦ let k : true ≡ false = stops.phase in cc ]
 ]
 
-frame_phase : (kind : PasswordKind) (bytes : List ℕ) (r : Result AnyMessage ClientError) (phase : Bool) → AnyStep kind (left bytes true) (step_of r) (left [] phase) → phase ≡ true
-frame_phase kind bytes (Ok x) phase step = phase_is kind (left bytes true) (left [] phase) x step
+frame_phase : (kind : PasswordKind) (bytes : List ℕ) (r : Result ClientMessage ClientError) (phase : Bool) → Step kind (left bytes true) (step_of r) (left [] phase) → phase ≡ true
+frame_phase kind bytes (Ok x) phase step = step.phase
 frame_phase kind bytes (Err e) phase step = refused_phase kind bytes e phase step
 
 pub frame_read : (bytes : List ℕ) → HasSize true bytes (length bytes) → IsReadAs true bytes true
@@ -116,31 +98,27 @@ module _ (bytes : List ℕ) (h : HasSize false bytes (length bytes)) where
       let len = one_length false bytes h.len (length body + 4) h.begins (packet_begins body rest bytes whole fits) in
       none_left rest (omega (arith, h.all, len, ap length whole, length-append (framed None body) rest, length-append (uint32 (length body + 4)) body, length-uint32 (length body + 4)))
 
-  stands_any : (x : AnyMessage) (new : Unread) → AnyStep Password (left bytes false) (Ok (Some x)) new → (kind : PasswordKind) → AnyStands kind false bytes x []
-  stands_any (Ours m) new t kind =
+  stands_any : (m : ClientMessage) (new : Unread) → Step Password (left bytes false) (Ok (Some m)) new → (kind : PasswordKind) → Stands kind false bytes m []
+  stands_any m new t kind =
       let none : new.bytes ≡ [] = nothing_behind (payload m) new.bytes (t.stands.whole ∙ ap (λ o. framed o (payload m) ++ new.bytes) t.stands.expected) (payload_fits m t.stands.spelled) in
       record { expected = t.stands.expected; spelled = t.stands.spelled; whole = t.stands.whole ∙ ap (λ l. bytes_of m ++ l) none }
-  stands_any (Other o) new t kind =
-      let none : new.bytes ≡ [] = nothing_behind (other_payload o) new.bytes (t.stands.whole ∙ ap (λ x. framed x (other_payload o) ++ new.bytes) t.stands.expected) t.stands.formed.fits in
-      record { expected = t.stands.expected; formed = t.stands.formed; whole = t.stands.whole ∙ ap (λ l. other_bytes o ++ l) none }
 
-  packet_read : (x : AnyMessage) (new : Unread) → AnyStep Password (left bytes false) (Ok (Some x)) new → IsReadAs false bytes new.opened
+  packet_read : (x : ClientMessage) (new : Unread) → Step Password (left bytes false) (Ok (Some x)) new → IsReadAs false bytes new.opened
   packet_read x new t = record {
     whole = (x, stands_any x new t);
     steps = λ kind r phase step.
-        let s = any_stands_read kind false bytes [] x (step_of r) (left [] phase) (stands_any x new t kind) step in
-        ap (λ (u : Unread). u.opened) s.1 ∙ sym (phase_is Password (left bytes false) new x t);
+        let s = stands_read kind false bytes [] x (step_of r) (left [] phase) (stands_any x new t kind) step in
+        ap (λ (u : Unread). u.opened) s.1 ∙ sym t.phase;
   }
 
-  pub packet_opened : (o : Option code.AnyMessage) (new : Unread) → AnyStep Password (left bytes false) (read_any (Ok o)) new → IsReadAs false bytes new.opened
-  packet_opened (Some m) new step = packet_read (any_view m) new step
+  pub packet_opened : (o : Option code.ClientMessage) (new : Unread) → Step Password (left bytes false) (read (Ok o)) new → IsReadAs false bytes new.opened
+  packet_opened (Some m) new step = packet_read (view m) new step
   packet_opened None new step = absurd (not_partial false bytes (length bytes) h (omega arith) step.0)
 
 -- a packet that is refused is left, whatever kind is told
-pub packet_refused : (bytes : List ℕ) (e : ClientError) (new : Unread) → RefusesAny Password (left bytes false) e new → (kind : PasswordKind) → RefusesAny kind (left bytes false) e (left bytes false)
+pub packet_refused : (bytes : List ℕ) (e : ClientError) (new : Unread) → Refuses Password (left bytes false) e new → (kind : PasswordKind) → Refuses kind (left bytes false) e (left bytes false)
 packet_refused bytes e new r kind = record {
   none = λ m more rest s. r.none m more rest (record { expected = s.expected; spelled = s.spelled; whole = s.whole });
-  no_other = λ o more rest s. r.no_other o more rest (record { expected = s.expected; formed = s.formed; whole = s.whole });
   left = elim r.left [
     | inl at ↦ inl (record { name = at.name; fault = at.fault; same = refl })
     | inr other ↦ elim other [
@@ -158,21 +136,21 @@ hands_out opened bytes rest frame now h f = record {
   whole = rw (f.phase, f.same) h.whole;
   first = ap (λ l. l ++ rest) (sym f.same);
   steps = λ kind r read.
-      let alone : AnyStep kind (left bytes opened) (step_of r) (left [] read.0) =
-      subst (λ b. AnyStep kind (left b opened) (step_of r) (left [] read.0)) f.same (subst (λ (o : Bool). AnyStep kind (left frame.bytes.now o) (step_of r) (left [] read.0)) f.phase read.1) in
-      let all : AnyStep kind (left (bytes ++ rest) opened) (step_of r) (left rest read.0) = step_behind kind (left bytes opened) (left [] read.0) r rest alone in
-      subst (λ (o : Bool). AnyStep kind (left (bytes ++ rest) opened) (step_of r) (left rest o)) (h.steps kind r read.0 alone) all;
+      let alone : Step kind (left bytes opened) (step_of r) (left [] read.0) =
+      subst (λ b. Step kind (left b opened) (step_of r) (left [] read.0)) f.same (subst (λ (o : Bool). Step kind (left frame.bytes.now o) (step_of r) (left [] read.0)) f.phase read.1) in
+      let all : Step kind (left (bytes ++ rest) opened) (step_of r) (left rest read.0) = step_behind kind (left bytes opened) (left [] read.0) r rest alone in
+      subst (λ (o : Bool). Step kind (left (bytes ++ rest) opened) (step_of r) (left rest o)) (h.steps kind r read.0 alone) all;
 }
 
 -- ---- a message's bytes are read as a whole
 
-abbrev silence : Result (Option AnyMessage) ClientError
+abbrev silence : Result (Option ClientMessage) ClientError
 silence = Ok None
 
-abbrev answered : AnyMessage → Result (Option AnyMessage) ClientError
+abbrev answered : ClientMessage → Result (Option ClientMessage) ClientError
 answered x = Ok (Some x)
 
-answer_none : (x : AnyMessage) → silence ≡ answered x → ⊥
+answer_none : (x : ClientMessage) → silence ≡ answered x → ⊥
 answer_none x e = cc
 
 module _ (kind : PasswordKind) (bytes : List ℕ) (tag : ℕ) (body : List ℕ) (whole : bytes ≡ framed (Some tag) body) (fits : length body + 4 < 2 ^ 31) where
@@ -194,15 +172,12 @@ module _ (kind : PasswordKind) (bytes : List ℕ) (tag : ℕ) (body : List ℕ) 
       let same = tagged_bodies tag t body other [] rest (omega (arith, fits)) (omega (arith, small)) meet in
       sym same.2
 
-  taken_whole : (x : AnyMessage) (new : Unread) → AnyStep kind (left bytes true) (Ok (Some x)) new → new.bytes ≡ []
-  taken_whole (Ours m) new step =
+  taken_whole : (m : ClientMessage) (new : Unread) → Step kind (left bytes true) (Ok (Some m)) new → new.bytes ≡ []
+  taken_whole m new step =
       let t = tag_in (tag_of m) step.stands.expected.0 in
       no_bytes t.0 (payload m) new.bytes (payload_fits m step.stands.spelled) (step.stands.whole ∙ ap (λ o. framed o (payload m) ++ new.bytes) t.1)
-  taken_whole (Other o) new step =
-      let t = tag_in (other_tag o) step.stands.expected.0 in
-      no_bytes t.0 (other_payload o) new.bytes step.stands.formed.fits (step.stands.whole ∙ ap (λ x. framed x (other_payload o) ++ new.bytes) t.1)
 
-  passed_whole : (e : ClientError) (new : Unread) → RefusesAny kind (left bytes true) e new → new.bytes ≡ []
+  passed_whole : (e : ClientError) (new : Unread) → Refuses kind (left bytes true) e new → new.bytes ≡ []
   passed_whole e new r = elim r.left [
     | inl at ↦
         let same = one_length true bytes at.fault.len (length body + 4) at.fault.begins frame_begins in
@@ -213,17 +188,17 @@ module _ (kind : PasswordKind) (bytes : List ℕ) (tag : ℕ) (body : List ℕ) 
     ]
   ]
 
-none_behind : (kind : PasswordKind) (opened : Bool) (bytes : List ℕ) (r : Result AnyMessage ClientError) (new : Unread) → IsWhole opened bytes → AnyStep kind (left bytes opened) (step_of r) new → new.bytes ≡ []
-none_behind kind false bytes r new w step = ap (λ (u : Unread). u.bytes) (any_stands_read kind false bytes [] w.0 (step_of r) new (w.1 kind) step).1
+none_behind : (kind : PasswordKind) (opened : Bool) (bytes : List ℕ) (r : Result ClientMessage ClientError) (new : Unread) → IsWhole opened bytes → Step kind (left bytes opened) (step_of r) new → new.bytes ≡ []
+none_behind kind false bytes r new w step = ap (λ (u : Unread). u.bytes) (stands_read kind false bytes [] w.0 (step_of r) new (w.1 kind) step).1
 none_behind kind true bytes (Ok x) new w step = taken_whole kind bytes w.0 w.1 w.2 w.3 x new step
 none_behind kind true bytes (Err e) new w step = passed_whole kind bytes w.0 w.1 w.2 w.3 e new step
 
-pub frame_steps : (kind : PasswordKind) (opened : Bool) (bytes : List ℕ) (r : Result AnyMessage ClientError) (new : Unread) → IsWhole opened bytes → AnyStep kind (left bytes opened) (step_of r) new
-    → (phase : Bool) × AnyStep kind (left bytes opened) (step_of r) (left [] phase)
+pub frame_steps : (kind : PasswordKind) (opened : Bool) (bytes : List ℕ) (r : Result ClientMessage ClientError) (new : Unread) → IsWhole opened bytes → Step kind (left bytes opened) (step_of r) new
+    → (phase : Bool) × Step kind (left bytes opened) (step_of r) (left [] phase)
 frame_steps kind opened bytes r new w step =
     let all : new ≡ left [] new.opened = ap (λ b. left b new.opened) (none_behind kind opened bytes r new w step) in
-    (new.opened, subst (λ (u : Unread). AnyStep kind (left bytes opened) (step_of r) u) all step)
+    (new.opened, subst (λ (u : Unread). Step kind (left bytes opened) (step_of r) u) all step)
 
-pub frame_there : (kind : PasswordKind) (opened : Bool) (bytes : List ℕ) (new : Unread) → IsWhole opened bytes → AnyStep kind (left bytes opened) (Ok None) new → ⊥
-frame_there kind false bytes new w step = answer_none w.0 (any_stands_read kind false bytes [] w.0 (Ok None) new (w.1 kind) step).0
+pub frame_there : (kind : PasswordKind) (opened : Bool) (bytes : List ℕ) (new : Unread) → IsWhole opened bytes → Step kind (left bytes opened) (Ok None) new → ⊥
+frame_there kind false bytes new w step = answer_none w.0 (stands_read kind false bytes [] w.0 (Ok None) new (w.1 kind) step).0
 frame_there kind true bytes new w step = not_partial true bytes (length bytes) (frame_size kind bytes w.0 w.1 w.2 w.3) (omega arith) step.0

@@ -16,8 +16,7 @@ use Rattle.pgp_frontend_read.specs.declared.parser_error.ParserError.TheVariants
 use Rattle.pgp_frontend_read.proofs.Fronts.{behind_length}
 use Rattle.pgp_frontend_read.proofs.Handing.{refused_behind, hands_out}
 use Rattle.pgp_frontend_read.proofs.Headers.{size_front, size_least, partial_cut, held_most}
-use Rattle.pgp_frontend_read.proofs.AnySteps.{any_fault}
-use Rattle.pgp_frontend_read.proofs.Steps.{left}
+use Rattle.pgp_frontend_read.proofs.Steps.{left, step_fault}
 
 abbrev pub waiting : List ℕ → Bool → Limits → Waiting
 waiting bytes opened limits = record { bytes = bytes; opened = opened; limits = limits }
@@ -132,7 +131,7 @@ module _ (lacks : Type 0) (limits : Limits) (opened : Bool) where
       subst (λ (d : ParserError). Parses lacks (waiting held opened limits) piece (Err d) (waiting held opened limits) piece) (sym x.1) (record { limits = refl; answer = (x.2, record { held = refl; in_piece = refl }) })
   size_refused held piece e (inr x) =
       subst (λ (d : ParserError). Parses lacks (waiting held opened limits) piece (Err d) (waiting held opened limits) piece) (sym x.0)
-      (record { limits = refl; answer = (x.1, λ kind. any_fault kind opened (held ++ piece) InvalidLength (refl, x.2), record { held = refl; in_piece = refl }) })
+      (record { limits = refl; answer = (x.1, λ kind. step_fault kind opened (held ++ piece) InvalidLength (refl, x.2), record { held = refl; in_piece = refl }) })
 
   pub piece_taken : (piece rest : List ℕ) (frame : ClientFrame) (now : Bool) → IsWithin limits (left piece opened) → TakesOff opened piece (Ok frame) now rest
       → Parses lacks (waiting [] opened limits) piece (Ok (Some frame)) (waiting [] now limits) rest

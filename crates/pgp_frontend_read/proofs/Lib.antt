@@ -17,13 +17,6 @@ pub mod Rewritten
 pub mod OneFault
 pub mod OneStep
 pub mod Pieces
-pub mod WideContents
-pub mod AnyForms
-pub mod AnyPackets
-pub mod AnySteps
-pub mod AnyRewritten
-pub mod AnyOneStep
-pub mod AnyRuns
 pub mod Handing
 pub mod Holdings
 pub mod PieceRuns

@@ -3,7 +3,7 @@ use Rattle.std.proofs.Common.{◌≡◌, ◌≢◌, ℕ, zero, suc, ◌<◌, ◌
 use Rattle.std.specs.Prelude.{◌==◌, ◌⊎◌, nat_lt}
 use Rattle.std.specs.Int.{w16, w32, from_be_bytes, cast_signed}
 use Rattle.std.specs.List.{flat_map, AllByRecursion}
-use Rattle.std.proofs.lemmas.Bool.{ne_eqb, eq-eqb, eqb-true, lt-ltb, le-ltb}
+use Rattle.std.proofs.lemmas.Bool.{ne_eqb, lt-ltb, le-ltb}
 use Rattle.std.proofs.lemmas.List.{length-append}
 use Rattle.pgp_base.specs.Wire.{oid, int16, int32, uint16, uint32, text, nullable}
 use Rattle.pgp_base.specs.Cause.{Cause}
@@ -15,9 +15,9 @@ use Rattle.pgp_base.proofs.PartLemmas.{IsNumber, oid_number, int16_number, int32
 use Rattle.pgp_base.proofs.Parts.{null_spelled}
 use Rattle.pgp_base.proofs.Strings.{string_front}
 use Rattle.pgp_frontend.specs.Payload.{pair, key_cause}
-use Rattle.pgp_frontend.specs.Reading.{Shape, AByte, AnInt32, AText, SomeInt16s, SomeOids, SomeValues, ASized, AllBytes, AKey, SomePairs}
-use Rattle.pgp_frontend_read.specs.Faults.{IsShort, LacksSized, LacksValue, LacksItems, IsPair, IsCutPair, LacksEnd, Lacks, Faulty}
-use Rattle.pgp_frontend_read.specs.Reading.{items_at, items_on, with_front, counted_at, format_at, type_at, value_at, value_after, no_null, sized_at, pair_at, all_of, pairs_at, unless, key_at, content_at, contents_at, contents_on, before}
+use Rattle.pgp_frontend.specs.Reading.{Shape, AByte, AnInt16, AnInt32, AnOid, AText, SomeInt16s, SomeOids, SomeValues, ANullable, AllBytes, AKey, SomePairs}
+use Rattle.pgp_frontend_read.specs.Faults.{IsShort, LacksValue, LacksItems, IsPair, IsCutPair, LacksEnd, Lacks, Faulty}
+use Rattle.pgp_frontend_read.specs.Reading.{items_at, items_on, with_front, counted_at, format_at, type_at, value_at, value_after, pair_at, all_of, pairs_at, unless, key_at, content_at, contents_at, contents_on, before}
 use Rattle.pgp_frontend_read.proofs.Items.{IsItem}
 use Rattle.pgp_frontend_read.proofs.Contents.{content_again, number_item}
 use Rattle.pgp_frontend_read.proofs.PairLemmas.{pair_again, marked_by}
@@ -47,7 +47,7 @@ module _ {V : Type 0} (Has : V → Type 0) (spell : V → List ℕ) (read : List
       ap (λ o. o >>= λ n. items_at read n.0 n.1) some ∙ items_err l.count l.items l.rest e l.have l.few (again l.rest e l.lacks)
 
 module _ {A : Type 0} (n : ℕ) (Fits : A → Type 0) (spell : A → List ℕ) (value : List ℕ → A) (number : IsNumber n Fits spell value) where
-  pub number_err : (bytes : List ℕ) (e : Error) → IsShort n bytes e → (front_at n value bytes >>= λ x. Ok x) ≡ Err e
+  number_err : (bytes : List ℕ) (e : Error) → IsShort n bytes e → (front_at n value bytes >>= λ x. Ok x) ≡ Err e
   number_err bytes e short = ap (λ o. o >>= λ x. Ok x) (short_number n Fits spell value number bytes short.0) ∙ ap refusal (sym short.1)
 
 -- ---- values
@@ -73,28 +73,11 @@ unfolding value_at
 no_length bytes e short =
     ap (λ o. o >>= λ len. value_after len.0 len.1) (short_number 4 (λ n. n < 2 ^ 32) oid (λ l. from_be_bytes w32 l) oid_number bytes short.0) ∙ ap refusal (sym short.1)
 
-pub value_err : (bytes : List ℕ) (e : Error) → LacksValue bytes e → value_at bytes ≡ Err e
+value_err : (bytes : List ℕ) (e : Error) → LacksValue bytes e → value_at bytes ≡ Err e
 value_err bytes e (inl short, none) = no_length bytes e short
 value_err bytes e (inr l, none) =
     let null : l.len ≢ 4294967295 = λ same. none l.rest (l.whole ∙ ap (λ n. uint32 n ++ l.rest) same ∙ ap (λ x. x ++ l.rest) null_spelled) in
     length_read bytes l.len l.rest l.fits l.whole ∙ after_err l.len l.rest e null l.wrong
-
-sized_err : (bytes : List ℕ) (e : Error) → LacksSized bytes e → sized_at bytes ≡ Err e
-unfolding sized_at
-sized_err bytes e (inl short) = ap no_null (no_length bytes e short)
-sized_err bytes e (inr l) = by_null (l.len == 4294967295) refl
-  where
-    null_err : l.len ≡ 4294967295 → ((2 ^ 31 ≤ l.len) × (e ≡ InvalidValueLength)) ⊎ ((l.len < 2 ^ 31) × IsShort l.len l.rest e) → no_null (value_after 4294967295 l.rest) ≡ Err e
-    null_err same (inl large) = ap refusal (sym large.1)
-    null_err same (inr short) = absurd (omega (arith, same, short.0))
-
-    by_null : (b : Bool) → (l.len == 4294967295) ≡ b → no_null (value_at bytes) ≡ Err e
-    by_null true is =
-        let same = eqb-true l.len 4294967295 is in
-        ap no_null (length_read bytes l.len l.rest l.fits l.whole ∙ ap (λ n. value_after n l.rest) same) ∙ null_err same l.wrong
-    by_null false is =
-        let null : l.len ≢ 4294967295 = λ same. let k : true ≡ false = sym (eq-eqb l.len 4294967295 same) ∙ is in cc in
-        ap no_null (length_read bytes l.len l.rest l.fits l.whole ∙ after_err l.len l.rest e null l.wrong)
 
 -- ---- pairs
 
@@ -153,10 +136,12 @@ byte_err : (bytes : List ℕ) (e : Error) → IsShort 1 bytes e → content_at A
 byte_err [] e short = ap refusal (sym short.1)
 byte_err (b ∷ bytes) e short = absurd (omega (arith, short.0))
 
-pub lacks_err : (s : Shape) (bytes : List ℕ) (e : Error) → Lacks s bytes e → content_at s bytes ≡ Err e
+lacks_err : (s : Shape) (bytes : List ℕ) (e : Error) → Lacks s bytes e → content_at s bytes ≡ Err e
 unfolding key_at
 lacks_err AByte bytes e l = byte_err bytes e l
 lacks_err AnInt32 bytes e l = number_err 4 (FitsSigned w32) int32 (λ l. cast_signed w32 (from_be_bytes w32 l)) int32_number bytes e l
+lacks_err AnInt16 bytes e l = number_err 2 (FitsSigned w16) int16 (λ l. cast_signed w16 (from_be_bytes w16 l)) int16_number bytes e l
+lacks_err AnOid bytes e l = number_err 4 (λ n. n < 2 ^ 32) oid (λ l. from_be_bytes w32 l) oid_number bytes e l
 lacks_err AText bytes e l = ap (λ o. o >>= λ x. Ok x) (string_none bytes l.0) ∙ ap refusal (sym l.1)
 lacks_err SomeInt16s bytes e l =
     counted_err (FitsSigned w16) int16 format_at (number_item 2 (FitsSigned w16) int16 (λ l. cast_signed w16 (from_be_bytes w16 l)) int16_number) (IsShort 2)
@@ -165,7 +150,7 @@ lacks_err SomeOids bytes e l =
     counted_err (λ n. n < 2 ^ 32) oid type_at (number_item 4 (λ n. n < 2 ^ 32) oid (λ l. from_be_bytes w32 l) oid_number) (IsShort 4)
     (λ b d. number_err 4 (λ n. n < 2 ^ 32) oid (λ l. from_be_bytes w32 l) oid_number b d) bytes e l
 lacks_err SomeValues bytes e l = counted_err HasLength nullable value_at value_item LacksValue value_err bytes e l
-lacks_err ASized bytes e l = sized_err bytes e l
+lacks_err ANullable bytes e l = value_err bytes e l
 lacks_err AllBytes bytes e l = absurd l
 lacks_err AKey bytes e l = unless_some (key_cause (length bytes)) bytes e l
 lacks_err SomePairs bytes e l = pairs_err bytes e l

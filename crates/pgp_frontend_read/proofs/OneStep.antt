@@ -1,27 +1,26 @@
 -- A step has one answer.
-use Rattle.std.proofs.Common.{◌≡◌, ◌≢◌, ℕ, ℤ, pos, ◌+◌, ◌<◌, ◌≤◌, ◌^◌, Bool, true, false, List, [], ◌∷◌, ◌++◌, length, map, Option, Some, None, Result, Ok, Err, refl, sym, ap, subst, ◌∙◌, append_assoc, arith, inl, inr, length-append}
-use Rattle.std.specs.Prelude.{◌==◌, ◌⊎◌, ◌||◌, IfSome}
+use Rattle.std.proofs.Common.{◌≡◌, ◌≢◌, ℕ, ℤ, pos, ◌+◌, ◌-◌, ◌<◌, ◌≤◌, ◌^◌, Bool, true, false, List, [], ◌∷◌, ◌++◌, length, map, Option, Some, None, Result, Ok, Err, refl, sym, ap, subst, ◌∙◌, append_assoc, arith, inl, inr, length-append}
+use Rattle.std.specs.Prelude.{◌==◌, ◌⊎◌, ◌||◌, IfSome, nat_lt, nat_le}
 use Rattle.std.specs.Int.{w32, cast_signed, cast_unsigned}
-use Rattle.std.proofs.lemmas.Bool.{ne_eqb}
-use Rattle.std.proofs.lemmas.Int.{to_z-of_z}
+use Rattle.std.proofs.lemmas.Bool.{ne_eqb, cases_Bool}
+use Rattle.std.proofs.lemmas.Int.{to_z_pos, to_z-of_z}
 use mir.Facts.{Fits-of_z}
 use Rattle.pgp_base.specs.Wire.{oid, int32, uint32}
 use Rattle.pgp_base.specs.declared.error.Error.{Error}
 use Rattle.pgp_base.specs.declared.error.Error.TheVariants.{UnknownTag}
 use Rattle.pgp_base.proofs.Parts.{length-uint32, int32_spelled}
 use Rattle.pgp_base.proofs.Prefixes.{fronts, uint32_begins}
-use Rattle.pgp_frontend.specs.ClientMessage.{ClientMessage, Bind, Close, CopyData, CopyDone, CopyFail, Describe, Execute, Flush, Parse, PasswordMessage, Query, SaslInitialResponse, SaslResponse, Sync, Terminate, Startup, CancelRequest, SslRequest, PasswordKind, Password, Initial}
-use Rattle.pgp_frontend.specs.declared.startup.ProtocolVersion.TheVariants.{V3_0, V3_2}
-use Rattle.pgp_frontend.specs.Payload.{Part, Int32, Key, Pairs, parts, framed, tag_of, kind_of}
-use Rattle.pgp_frontend.specs.Reading.{Shape, AByte, AnInt32, AText, SomeInt16s, SomeOids, SomeValues, ASized, AllBytes, AKey, SomePairs, shape}
+use Rattle.pgp_frontend.specs.ClientMessage.{ClientMessage, Bind, Close, CopyData, CopyDone, CopyFail, Describe, Execute, Flush, Parse, PasswordMessage, Query, SaslInitialResponse, SaslResponse, Sync, Terminate, Startup, CancelRequest, SslRequest, GssEncRequest, FunctionCall, PasswordKind, Password, Initial}
+use Rattle.pgp_frontend.specs.Payload.{Part, Int32, Key, Pairs, minor_code, parts, framed, tag_of, kind_of, HasMinor}
+use Rattle.pgp_frontend.specs.Reading.{Shape, AByte, AnInt16, AnInt32, AnOid, AText, SomeInt16s, SomeOids, SomeValues, ANullable, AllBytes, AKey, SomePairs, shape}
 use Rattle.pgp_frontend.proofs.Readings.{bodies, tagged_bodies}
 use Rattle.pgp_frontend_read.specs.Content.{Contents}
 use Rattle.pgp_frontend_read.specs.Faults.{Faulty}
-use Rattle.pgp_frontend_read.specs.Reading.{contents_at, made, ended, bind_of, close_of, describe_of, execute_of, parse_of, query_of, copy_fail_of, password_of, sasl_initial_of, told_of, body_of, startup_of, cancel_of, named, by_code, packet_of}
+use Rattle.pgp_frontend_read.specs.Reading.{contents_at, made, ended, bind_of, close_of, describe_of, execute_of, function_call_of, parse_of, query_of, copy_fail_of, password_of, sasl_initial_of, told_of, body_of, startup_of, cancel_of, named, by_code, packet_of}
 use Rattle.pgp_frontend_read.specs.Step.{Unread, least, BeginsWithLength, BlamesFrame, IsUnknownPacket, BlamesPacket, SkipsFrame, StopsAt, StopsAtLength, Refuses, Step}
 use Rattle.pgp_frontend_read.specs.declared.error.ClientError.{ClientError}
 use Rattle.pgp_frontend_read.specs.declared.error.ClientError.TheVariants.{UnknownPacket, Reading}
-use Rattle.pgp_frontend_read.proofs.Forms.{coded, code_3_0, code_3_2, cancel_code, ssl_code}
+use Rattle.pgp_frontend_read.proofs.Forms.{coded, plain_code, version_there, version_read}
 use Rattle.pgp_frontend_read.proofs.OneFault.{faulty_err}
 use Rattle.pgp_frontend_read.proofs.Steps.{left}
 use Rattle.pgp_frontend_read.proofs.Runs.{stands_read}
@@ -51,16 +50,17 @@ password_read : (kind : PasswordKind) (bytes : List ℕ) (e : Error) → Passwor
 unfolding password_of
 password_read kind bytes e k f = rw (← k) (form_read (AText ∷ []) (λ c. PasswordMessage c.first) bytes e f)
 
-initial_read : (kind : PasswordKind) (bytes : List ℕ) (e : Error) → Initial ≡ kind → Faulty (AText ∷ ASized ∷ []) bytes e → told_of kind bytes ≡ Err e
+initial_read : (kind : PasswordKind) (bytes : List ℕ) (e : Error) → Initial ≡ kind → Faulty (AText ∷ ANullable ∷ []) bytes e → told_of kind bytes ≡ Err e
 unfolding sasl_initial_of
-initial_read kind bytes e k f = rw (← k) (form_read (AText ∷ ASized ∷ []) (λ c. SaslInitialResponse c.first c.rest.first) bytes e f)
+initial_read kind bytes e k f = rw (← k) (form_read (AText ∷ ANullable ∷ []) (λ c. SaslInitialResponse c.first c.rest.first) bytes e f)
 
-pub faulty_read : (kind : PasswordKind) (m : ClientMessage) (tag : ℕ) (bytes : List ℕ) (e : Error) → tag_of m ≡ Some tag → IfSome (kind_of m) (λ k. k ≡ kind) → Faulty (map shape (parts m)) bytes e → body_of kind tag bytes ≡ Err e
-unfolding body_of bind_of close_of describe_of execute_of parse_of query_of copy_fail_of
+faulty_read : (kind : PasswordKind) (m : ClientMessage) (tag : ℕ) (bytes : List ℕ) (e : Error) → tag_of m ≡ Some tag → IfSome (kind_of m) (λ k. k ≡ kind) → Faulty (map shape (parts m)) bytes e → body_of kind tag bytes ≡ Err e
+unfolding body_of bind_of close_of describe_of execute_of function_call_of parse_of query_of copy_fail_of
 faulty_read kind (Bind a b c d g) tag bytes e t k f = rw (← some_is 66 tag t) (form_read (AText ∷ AText ∷ SomeInt16s ∷ SomeValues ∷ SomeInt16s ∷ []) (λ c. Bind c.first c.rest.first c.rest.rest.first c.rest.rest.rest.first c.rest.rest.rest.rest.first) bytes e f)
 faulty_read kind (Close a b) tag bytes e t k f = rw (← some_is 67 tag t) (form_read (AByte ∷ AText ∷ []) (λ c. Close c.first c.rest.first) bytes e f)
 faulty_read kind (Describe a b) tag bytes e t k f = rw (← some_is 68 tag t) (form_read (AByte ∷ AText ∷ []) (λ c. Describe c.first c.rest.first) bytes e f)
 faulty_read kind (Execute a b) tag bytes e t k f = rw (← some_is 69 tag t) (form_read (AText ∷ AnInt32 ∷ []) (λ c. Execute c.first c.rest.first) bytes e f)
+faulty_read kind (FunctionCall a b c d) tag bytes e t k f = rw (← some_is 70 tag t) (form_read (AnOid ∷ SomeInt16s ∷ SomeValues ∷ AnInt16 ∷ []) (λ c. FunctionCall c.first c.rest.first c.rest.rest.first c.rest.rest.rest.first) bytes e f)
 faulty_read kind Flush tag bytes e t k f = rw (← some_is 72 tag t) (ended_read Flush bytes e f)
 faulty_read kind (Parse a b c) tag bytes e t k f = rw (← some_is 80 tag t) (form_read (AText ∷ AText ∷ SomeOids ∷ []) (λ c. Parse c.first c.rest.first c.rest.rest.first) bytes e f)
 faulty_read kind (Query a) tag bytes e t k f = rw (← some_is 81 tag t) (form_read (AText ∷ []) (λ c. Query c.first) bytes e f)
@@ -75,8 +75,9 @@ faulty_read kind (SaslResponse a) tag bytes e t k f = absurd (no_fault bytes e f
 faulty_read kind (Startup v a) tag bytes e t k f = absurd cc
 faulty_read kind (CancelRequest a b) tag bytes e t k f = absurd cc
 faulty_read kind SslRequest tag bytes e t k f = absurd cc
+faulty_read kind GssEncRequest tag bytes e t k f = absurd cc
 
-pub unknown_read : (kind : PasswordKind) (tag : ℕ) (bytes : List ℕ) → ((m : ClientMessage) → tag_of m ≢ Some tag) → body_of kind tag bytes ≡ Err (UnknownTag tag)
+unknown_read : (kind : PasswordKind) (tag : ℕ) (bytes : List ℕ) → ((m : ClientMessage) → tag_of m ≢ Some tag) → body_of kind tag bytes ≡ Err (UnknownTag tag)
 unfolding body_of
 unknown_read kind tag bytes none =
     rw (
@@ -84,6 +85,7 @@ unknown_read kind tag bytes none =
       other 67 (Close 0 []) refl,
       other 68 (Describe 0 []) refl,
       other 69 (Execute [] (pos 0)) refl,
+      other 70 (FunctionCall 0 [] [] (pos 0)) refl,
       other 72 Flush refl,
       other 80 (Parse [] [] []) refl,
       other 81 (Query []) refl,
@@ -117,67 +119,80 @@ record IsPart (code : ℤ) (others : List Part) (c : ℤ) (ps : List Part) : Typ
 parts_are : (code c : ℤ) (others ps : List Part) → Int32 c ∷ ps ≡ Int32 code ∷ others → IsPart code others c ps
 parts_are code c others ps e = record { code_is = cc; others_are = cc }
 
-pub known_read : (m : ClientMessage) (code : ℤ) (others : List Part) (payload rest : List ℕ) (d : Error) → tag_of m ≡ None → parts m ≡ Int32 code ∷ others → payload ≡ int32 code ++ rest → Faulty (map shape others) rest d → packet_of payload ≡ Err (Reading d)
+known_read : (m : ClientMessage) (code : ℤ) (others : List Part) (payload rest : List ℕ) (d : Error) → tag_of m ≡ None → HasMinor m → parts m ≡ Int32 code ∷ others → payload ≡ int32 code ++ rest → Faulty (map shape others) rest d → packet_of payload ≡ Err (Reading d)
 unfolding by_code startup_of cancel_of
-known_read (Startup V3_0 ps) code others payload rest d t are whole f =
-    let p = parts_are code (pos 196608) others _ are in
+known_read (Startup v ps) code others payload rest d t minor are whole f =
+    let p = parts_are code (minor_code v) others _ are in
     let faulty : Faulty (SomePairs ∷ []) rest d = subst (λ (o : List Part). Faulty (map shape o) rest d) (sym p.others_are) f in
-    packet_form_read 196608 payload rest _ d (omega arith) (whole ∙ ap (λ c. int32 c ++ rest) (sym p.code_is) ∙ ap (λ l. l ++ rest) (sym code_3_0)) refl (form_read (SomePairs ∷ []) (λ c. Startup V3_0 c.first) rest d faulty)
-known_read (Startup V3_2 ps) code others payload rest d t are whole f =
-    let p = parts_are code (pos 196610) others _ are in
-    let faulty : Faulty (SomePairs ∷ []) rest d = subst (λ (o : List Part). Faulty (map shape o) rest d) (sym p.others_are) f in
-    packet_form_read 196610 payload rest _ d (omega arith) (whole ∙ ap (λ c. int32 c ++ rest) (sym p.code_is) ∙ ap (λ l. l ++ rest) (sym code_3_2)) refl (form_read (SomePairs ∷ []) (λ c. Startup V3_2 c.first) rest d faulty)
-known_read (CancelRequest a b) code others payload rest d t are whole f =
+    packet_form_read (196608 + v) payload rest _ d (omega (arith, minor)) (whole ∙ ap (λ c. int32 c ++ rest) (sym p.code_is) ∙ ap (λ l. l ++ rest) (sym (plain_code (196608 + v) (omega (arith, minor)))))
+    (version_read (196608 + v) v rest (record { are = refl; small = minor })) (form_read (SomePairs ∷ []) (λ c. Startup v c.first) rest d faulty)
+known_read (CancelRequest a b) code others payload rest d t minor are whole f =
     let p = parts_are code (pos 80877102) others _ are in
     let faulty : Faulty (AnInt32 ∷ AKey ∷ []) rest d = subst (λ (o : List Part). Faulty (map shape o) rest d) (sym p.others_are) f in
-    packet_form_read 80877102 payload rest _ d (omega arith) (whole ∙ ap (λ c. int32 c ++ rest) (sym p.code_is) ∙ ap (λ l. l ++ rest) (sym cancel_code)) refl (form_read (AnInt32 ∷ AKey ∷ []) (λ c. CancelRequest c.first c.rest.first) rest d faulty)
-known_read SslRequest code others payload rest d t are whole f =
+    packet_form_read 80877102 payload rest _ d (omega arith) (whole ∙ ap (λ c. int32 c ++ rest) (sym p.code_is) ∙ ap (λ l. l ++ rest) (sym (plain_code 80877102 (omega arith)))) refl (form_read (AnInt32 ∷ AKey ∷ []) (λ c. CancelRequest c.first c.rest.first) rest d faulty)
+known_read SslRequest code others payload rest d t minor are whole f =
     let p = parts_are code (pos 80877103) others _ are in
     let faulty : Faulty [] rest d = subst (λ (o : List Part). Faulty (map shape o) rest d) (sym p.others_are) f in
-    packet_form_read 80877103 payload rest _ d (omega arith) (whole ∙ ap (λ c. int32 c ++ rest) (sym p.code_is) ∙ ap (λ l. l ++ rest) (sym ssl_code)) refl (ended_read SslRequest rest d faulty)
-known_read _ code others payload rest d t are whole f = absurd cc
+    packet_form_read 80877103 payload rest _ d (omega arith) (whole ∙ ap (λ c. int32 c ++ rest) (sym p.code_is) ∙ ap (λ l. l ++ rest) (sym (plain_code 80877103 (omega arith)))) refl (ended_read SslRequest rest d faulty)
+known_read GssEncRequest code others payload rest d t minor are whole f =
+    let p = parts_are code (pos 80877104) others _ are in
+    let faulty : Faulty [] rest d = subst (λ (o : List Part). Faulty (map shape o) rest d) (sym p.others_are) f in
+    packet_form_read 80877104 payload rest _ d (omega arith) (whole ∙ ap (λ c. int32 c ++ rest) (sym p.code_is) ∙ ap (λ l. l ++ rest) (sym (plain_code 80877104 (omega arith)))) refl (ended_read GssEncRequest rest d faulty)
+known_read _ code others payload rest d t minor are whole f = absurd cc
 
 abbrev unknown : ℤ → Result ClientMessage ClientError
 unknown code = Err (UnknownPacket code)
 
-pub unknown_packet : (payload : List ℕ) (e : ClientError) → IsUnknownPacket payload e → packet_of payload ≡ Err e
+-- the code is none of these
+outside : (n : ℕ) (rest : List ℕ) → (n == 80877102) ≡ false → (n == 80877103) ≡ false → (n == 80877104) ≡ false → ((minor : ℕ) → minor < 2 ^ 16 → n ≢ 196608 + minor) → by_code n rest ≡ unknown (cast_signed w32 n)
 unfolding by_code
+outside n rest a b c none =
+    elim (cases_Bool (nat_lt n 196608)) [
+      | inl low ↦ rw (a, b, c, low) refl
+      | inr from ↦ elim (cases_Bool (nat_le 262144 n)) [
+        | inl high ↦ rw (a, b, c, from, high) refl
+        | inr below ↦ let v = version_there n from below in absurd (none (n - 196608) v.small v.are)
+      ]
+    ]
+
+unknown_packet : (payload : List ℕ) (e : ClientError) → IsUnknownPacket payload e → packet_of payload ≡ Err e
 unknown_packet payload e u =
     let n : ℕ = cast_unsigned w32 u.code in
     let back : cast_signed w32 n ≡ u.code = to_z-of_z w32 u.code u.fits in
     let whole : payload ≡ oid n ++ u.rest = u.whole ∙ ap (λ l. l ++ u.rest) (int32_spelled u.code) in
     let read : by_code n u.rest ≡ unknown u.code =
-    rw (
-      other n 196608 (Startup V3_0 []) (Pairs [] ∷ []) back refl refl refl,
-      other n 196610 (Startup V3_2 []) (Pairs [] ∷ []) back refl refl refl,
-      other n 80877102 (CancelRequest (pos 0) []) (Int32 (pos 0) ∷ Key [] ∷ []) back refl refl refl,
-      other n 80877103 SslRequest [] back refl refl refl,
-    ) (ap unknown back) in
+    outside n u.rest (other n 80877102 (CancelRequest (pos 0) []) (Int32 (pos 0) ∷ Key [] ∷ []) back refl tt refl refl) (other n 80877103 SslRequest [] back refl tt refl refl) (other n 80877104 GssEncRequest [] back refl tt refl refl) (version n back)
+    ∙ ap unknown back in
     coded n u.rest payload (Err e) (omega (arith, Fits-of_z u.fits)) whole (read ∙ ap (λ (x : ClientError). Err x) (sym u.name))
   where
-    other : (n k : ℕ) (m : ClientMessage) (ps : List Part) → cast_signed w32 n ≡ u.code → tag_of m ≡ None → parts m ≡ Int32 (pos k) ∷ ps → cast_signed w32 k ≡ pos k → (n == k) ≡ false
-    other n k m ps back t are small = ne_eqb n k (λ same. u.unknown m ps t (are ∙ ap (λ c. Int32 c ∷ ps) (sym small ∙ ap (cast_signed w32) (sym same) ∙ back)))
+    other : (n k : ℕ) (m : ClientMessage) (ps : List Part) → cast_signed w32 n ≡ u.code → tag_of m ≡ None → HasMinor m → parts m ≡ Int32 (pos k) ∷ ps → cast_signed w32 k ≡ pos k → (n == k) ≡ false
+    other n k m ps back t minor are small = ne_eqb n k (λ same. u.unknown m ps t minor (are ∙ ap (λ c. Int32 c ∷ ps) (sym small ∙ ap (cast_signed w32) (sym same) ∙ back)))
+
+    version : (n : ℕ) → cast_signed w32 n ≡ u.code → (minor : ℕ) → minor < 2 ^ 16 → n ≢ 196608 + minor
+    version n back minor small same =
+        let code : minor_code minor ≡ u.code = sym (to_z_pos w32 (196608 + minor) (omega (arith, small))) ∙ ap (cast_signed w32) (sym same) ∙ back in
+        u.unknown (Startup minor []) (Pairs [] ∷ []) refl small (ap (λ c. Int32 c ∷ Pairs [] ∷ []) code)
 
 packet_read : (payload : List ℕ) (e : ClientError) → BlamesPacket payload e → packet_of payload ≡ Err e
 packet_read payload e (inl unknown) = unknown_packet payload e unknown
 packet_read payload e (inr faulty) =
-    known_read faulty.message faulty.code faulty.others payload faulty.rest faulty.fault faulty.untagged faulty.are faulty.whole faulty.faulty ∙ ap (λ (x : ClientError). Err x) (sym faulty.name)
+    known_read faulty.message faulty.code faulty.others payload faulty.rest faulty.fault faulty.untagged faulty.minor faulty.are faulty.whole faulty.faulty ∙ ap (λ (x : ClientError). Err x) (sym faulty.name)
 
 -- ---- lengths
 
-pub two_lengths : (opened : Bool) (bytes : List ℕ) (m n : ℕ) → BeginsWithLength opened bytes m → BeginsWithLength opened bytes n → m ≡ n
+two_lengths : (opened : Bool) (bytes : List ℕ) (m n : ℕ) → BeginsWithLength opened bytes m → BeginsWithLength opened bytes n → m ≡ n
 two_lengths opened bytes m n b c =
     let same : b.front ++ (uint32 m ++ b.rest) ≡ c.front ++ (uint32 n ++ c.rest) = sym (append_assoc b.front (uint32 m) b.rest) ∙ sym b.parts ∙ c.parts ∙ append_assoc c.front (uint32 n) c.rest in
     let f = fronts b.front c.front (uint32 m ++ b.rest) (uint32 n ++ c.rest) (b.at ∙ sym c.at) same in
     (uint32_begins m n b.rest c.rest b.fits c.fits f.1).0
 
-pub frame_length : (tag : ℕ) (payload rest bytes : List ℕ) → bytes ≡ framed (Some tag) payload ++ rest → length payload + 4 < 2 ^ 31 → BeginsWithLength true bytes (length payload + 4)
+frame_length : (tag : ℕ) (payload rest bytes : List ℕ) → bytes ≡ framed (Some tag) payload ++ rest → length payload + 4 < 2 ^ 31 → BeginsWithLength true bytes (length payload + 4)
 frame_length tag payload rest bytes whole fits = record { front = tag ∷ []; rest = payload ++ rest; at = refl; fits = omega (arith, fits); parts = whole ∙ append_assoc (tag ∷ uint32 (length payload + 4)) payload rest }
 
-pub packet_length : (payload rest bytes : List ℕ) → bytes ≡ framed None payload ++ rest → length payload + 4 < 2 ^ 31 → BeginsWithLength false bytes (length payload + 4)
+packet_length : (payload rest bytes : List ℕ) → bytes ≡ framed None payload ++ rest → length payload + 4 < 2 ^ 31 → BeginsWithLength false bytes (length payload + 4)
 packet_length payload rest bytes whole fits = record { front = []; rest = payload ++ rest; at = refl; fits = omega (arith, fits); parts = whole ∙ append_assoc (uint32 (length payload + 4)) payload rest }
 
-pub code_bytes : (payload rest : List ℕ) (code : ℤ) → payload ≡ int32 code ++ rest → 4 ≤ length payload
+code_bytes : (payload rest : List ℕ) (code : ℤ) → payload ≡ int32 code ++ rest → 4 ≤ length payload
 code_bytes payload rest code whole = omega (arith, ap length whole, length-append (int32 code) rest, ap length (int32_spelled code), length-uint32 (cast_unsigned w32 code))
 
 has_code : (payload : List ℕ) (e : ClientError) → BlamesPacket payload e → 4 ≤ length payload
@@ -199,7 +214,7 @@ fault_packet old new here d e a b =
 
 -- ---- one answer
 
-pub unread_is : (a b : Unread) → a.bytes ≡ b.bytes → a.opened ≡ b.opened → a ≡ b
+unread_is : (a b : Unread) → a.bytes ≡ b.bytes → a.opened ≡ b.opened → a ≡ b
 unread_is a b e f = ap (λ x. left x a.opened) e ∙ ap (λ (o : Bool). left b.bytes o) f
 
 same_fault : (d e : Error) → refusal d ≡ refusal e → d ≡ e
@@ -211,7 +226,7 @@ refused e = Err e
 same_refusal : (d e : ClientError) → refused d ≡ refused e → d ≡ e
 same_refusal d e h = cc
 
-pub both_phases : (o : Bool) → o ≡ true → o ≡ false → ⊥
+both_phases : (o : Bool) → o ≡ true → o ≡ false → ⊥
 both_phases true e f = cc
 both_phases false e f = cc
 

@@ -3,101 +3,92 @@ use Rattle.std.proofs.Common.{◌≡◌, ℕ, false, List, [], ◌∷◌, ◌++�
 use Rattle.std.specs.List.{flat_map}
 use Rattle.pgp_frontend.specs.ClientMessage.{ClientMessage, PasswordKind}
 use Rattle.pgp_frontend.specs.ClientRun.{ClientRun}
-use Rattle.pgp_frontend_read.specs.AnyReads.{AnyReads, AnyHasRead, IsAnyEnd, IsAllReadAsOurs, any_kinds_behind}
-use Rattle.pgp_frontend_read.specs.AnyStep.{AnyStep}
-use Rattle.pgp_frontend_read.specs.OtherMessage.{AnyMessage}
-use Rattle.pgp_frontend_read.specs.Reads.{next_kind}
-use Rattle.pgp_frontend_read.specs.Step.{Unread}
+use Rattle.pgp_frontend_read.specs.Reads.{Reads, HasRead, IsEnd, IsAllRead, next_kind, kinds_behind}
+use Rattle.pgp_frontend_read.specs.Step.{Unread, Step}
 use Rattle.pgp_frontend_read.specs.Pieces.{Waiting, unread}
 use Rattle.pgp_frontend_read.specs.PieceReads.{Came, Gives, ReadsPiece, ReadsPieces, messages_of, piece_of}
 use Rattle.pgp_frontend_read.specs.declared.error.ClientError.{ClientError}
-use Rattle.pgp_frontend_read.proofs.AnyOneStep.{any_step_one}
-use Rattle.pgp_frontend_read.proofs.AnyRuns.{any_took, any_session_read}
+use Rattle.pgp_frontend_read.proofs.OneStep.{step_one}
+use Rattle.pgp_frontend_read.proofs.Pieces.{pieces_read}
+use Rattle.pgp_frontend_read.proofs.Runs.{session_read}
 use Rattle.pgp_frontend_read.proofs.Steps.{left}
 use Rattle.std.proofs.lemmas.List.{append-nil}
 
 same_unread : (old new : Waiting) (piece rest : List ℕ) → new ≡ old → rest ≡ piece → unread new rest ≡ unread old piece
 same_unread old new piece rest w p = ap (λ (w : Waiting). unread w rest) w ∙ ap (unread old) p
 
-pub call_steps : (lacks : Type 0) (kind : PasswordKind) (old new : Waiting) (piece rest : List ℕ) (r : Result (Option AnyMessage) ClientError) → Gives lacks kind old piece r new rest → AnyStep kind (unread old piece) r (unread new rest)
+pub call_steps : (lacks : Type 0) (kind : PasswordKind) (old new : Waiting) (piece rest : List ℕ) (r : Result (Option ClientMessage) ClientError) → Gives lacks kind old piece r new rest → Step kind (unread old piece) r (unread new rest)
 call_steps lacks kind old new piece rest (Ok (Some m)) x = x.found.1.steps kind (Ok m) x.told
 call_steps lacks kind old new piece rest (Ok None) x = (x.1, x.2)
 call_steps lacks kind old new piece rest (Err e) (inl x) = x.found.1.steps kind (Err e) x.told
-call_steps lacks kind old new piece rest (Err e) (inr x) = subst (λ (u : Unread). AnyStep kind (unread old piece) (Err e) u) (sym (same_unread old new piece rest x.2.held x.2.in_piece)) (x.1 kind)
+call_steps lacks kind old new piece rest (Err e) (inr x) = subst (λ (u : Unread). Step kind (unread old piece) (Err e) u) (sym (same_unread old new piece rest x.2.held x.2.in_piece)) (x.1 kind)
 
 -- one piece is read as its bytes behind those that are held
-pub piece_read : (lacks : Type 0) (kinds rest : List PasswordKind) (old new : Waiting) (piece behind : List ℕ) (messages : List AnyMessage) (end : Result (Option AnyMessage) ClientError)
-    → ReadsPiece lacks kinds old piece messages end rest new behind → AnyReads kinds (unread old piece) messages end (unread new behind)
+pub piece_read : (lacks : Type 0) (kinds rest : List PasswordKind) (old new : Waiting) (piece behind : List ℕ) (messages : List ClientMessage) (end : Result (Option ClientMessage) ClientError)
+    → ReadsPiece lacks kinds old piece messages end rest new behind → Reads kinds (unread old piece) messages end (unread new behind)
 piece_read lacks kinds rest old new piece behind [] end x = (call_steps lacks (next_kind kinds) old new piece behind end x.0, x.1)
 piece_read lacks kinds rest old new piece behind (m ∷ messages) end x =
-    (unread x.0 x.1, call_steps lacks (next_kind kinds) old x.0 piece x.1 (Ok (Some m)) x.2, piece_read lacks (any_kinds_behind m kinds) rest x.0 new x.1 behind messages end x.3)
+    (unread x.0 x.1, call_steps lacks (next_kind kinds) old x.0 piece x.1 (Ok (Some m)) x.2, piece_read lacks (kinds_behind m kinds) rest x.0 new x.1 behind messages end x.3)
 
 -- and as far as its messages go
-piece_has_read : (lacks : Type 0) (kinds rest : List PasswordKind) (old new : Waiting) (piece behind : List ℕ) (messages : List AnyMessage)
-    → ReadsPiece lacks kinds old piece messages (Ok None) rest new behind → AnyHasRead kinds (unread old piece) messages rest (left new.bytes new.opened)
+piece_has_read : (lacks : Type 0) (kinds rest : List PasswordKind) (old new : Waiting) (piece behind : List ℕ) (messages : List ClientMessage)
+    → ReadsPiece lacks kinds old piece messages (Ok None) rest new behind → HasRead kinds (unread old piece) messages rest (left new.bytes new.opened)
 piece_has_read lacks kinds rest old new piece behind [] x =
     let none : unread new behind ≡ left new.bytes new.opened = ap (λ l. left (new.bytes ++ l) new.opened) x.0.3 ∙ ap (λ l. left l new.opened) (append-nil new.bytes) in
     (x.2, sym none ∙ x.0.2)
 piece_has_read lacks kinds rest old new piece behind (m ∷ messages) x =
-    (unread x.0 x.1, call_steps lacks (next_kind kinds) old x.0 piece x.1 (Ok (Some m)) x.2, piece_has_read lacks (any_kinds_behind m kinds) rest x.0 new x.1 behind messages x.3)
+    (unread x.0 x.1, call_steps lacks (next_kind kinds) old x.0 piece x.1 (Ok (Some m)) x.2, piece_has_read lacks (kinds_behind m kinds) rest x.0 new x.1 behind messages x.3)
 
-any_pieces_read : (kinds rest : List PasswordKind) (old here new : Unread) (more : List ℕ) (messages others : List AnyMessage) (end : Result (Option AnyMessage) ClientError)
-    → AnyHasRead kinds old messages rest here → AnyReads rest (left (here.bytes ++ more) here.opened) others end new → AnyReads kinds (left (old.bytes ++ more) old.opened) (messages ++ others) end new
-any_pieces_read kinds rest old here new more [] others end h r =
-    subst (λ (u : Unread). AnyReads kinds (left (u.bytes ++ more) u.opened) others end new) h.1 (subst (λ ks. AnyReads ks (left (here.bytes ++ more) here.opened) others end new) h.0 r)
-any_pieces_read kinds rest old here new more (x ∷ messages) others end h r =
-    (left (h.0.bytes ++ more) h.0.opened, any_took (next_kind kinds) old h.0 x more h.1, any_pieces_read (any_kinds_behind x kinds) rest h.0 here new more messages others end h.2 r)
-
-pub pieces_read_on : (lacks : Type 0) (kinds others : List PasswordKind) (old here : Waiting) (new : Unread) (came : List Came) (last : List ℕ) (messages : List AnyMessage) (end : Result (Option AnyMessage) ClientError)
-    → ReadsPieces lacks kinds old came others here → AnyReads others (unread here last) messages end new
-    → AnyReads kinds (unread old (flat_map piece_of came ++ last)) (flat_map messages_of came ++ messages) end new
+pub pieces_read_on : (lacks : Type 0) (kinds others : List PasswordKind) (old here : Waiting) (new : Unread) (came : List Came) (last : List ℕ) (messages : List ClientMessage) (end : Result (Option ClientMessage) ClientError)
+    → ReadsPieces lacks kinds old came others here → Reads others (unread here last) messages end new
+    → Reads kinds (unread old (flat_map piece_of came ++ last)) (flat_map messages_of came ++ messages) end new
 pieces_read_on lacks kinds others old here new [] last messages end x r =
-    subst (λ (w : Waiting). AnyReads kinds (unread w last) messages end new) x.1 (subst (λ ks. AnyReads ks (unread here last) messages end new) x.0 r)
+    subst (λ (w : Waiting). Reads kinds (unread w last) messages end new) x.1 (subst (λ ks. Reads ks (unread here last) messages end new) x.0 r)
 pieces_read_on lacks kinds others old here new (p ∷ came) last messages end x r =
-    let on : AnyReads x.0 (unread x.1 (flat_map piece_of came ++ last)) (flat_map messages_of came ++ messages) end new = pieces_read_on lacks x.0 others x.1 here new came last messages end x.4 r in
-    let front : AnyHasRead kinds (unread old p.piece) p.messages x.0 (left x.1.bytes x.1.opened) = piece_has_read lacks kinds x.0 old x.1 p.piece x.2 p.messages x.3 in
-    let all : AnyReads kinds (left ((old.bytes ++ p.piece) ++ (flat_map piece_of came ++ last)) old.opened) (p.messages ++ (flat_map messages_of came ++ messages)) end new =
-    any_pieces_read kinds x.0 (unread old p.piece) (left x.1.bytes x.1.opened) new (flat_map piece_of came ++ last) p.messages (flat_map messages_of came ++ messages) end front on in
+    let on : Reads x.0 (unread x.1 (flat_map piece_of came ++ last)) (flat_map messages_of came ++ messages) end new = pieces_read_on lacks x.0 others x.1 here new came last messages end x.4 r in
+    let front : HasRead kinds (unread old p.piece) p.messages x.0 (left x.1.bytes x.1.opened) = piece_has_read lacks kinds x.0 old x.1 p.piece x.2 p.messages x.3 in
+    let all : Reads kinds (left ((old.bytes ++ p.piece) ++ (flat_map piece_of came ++ last)) old.opened) (p.messages ++ (flat_map messages_of came ++ messages)) end new =
+    pieces_read kinds x.0 (unread old p.piece) (left x.1.bytes x.1.opened) new (flat_map piece_of came ++ last) p.messages (flat_map messages_of came ++ messages) end front on in
     let bytes : (old.bytes ++ p.piece) ++ (flat_map piece_of came ++ last) ≡ old.bytes ++ (p.piece ++ flat_map piece_of came ++ last) =
     append_assoc old.bytes p.piece (flat_map piece_of came ++ last) ∙ ap (λ l. old.bytes ++ l) (sym (append_assoc p.piece (flat_map piece_of came) last)) in
-    subst (λ ms. AnyReads kinds (unread old (p.piece ++ flat_map piece_of came ++ last)) ms end new) (sym (append_assoc p.messages (flat_map messages_of came) messages))
-    (subst (λ l. AnyReads kinds (left l old.opened) (p.messages ++ (flat_map messages_of came ++ messages)) end new) bytes all)
+    subst (λ ms. Reads kinds (unread old (p.piece ++ flat_map piece_of came ++ last)) ms end new) (sym (append_assoc p.messages (flat_map messages_of came) messages))
+    (subst (λ l. Reads kinds (left l old.opened) (p.messages ++ (flat_map messages_of came ++ messages)) end new) bytes all)
 
 -- ---- bytes are read in one way
 
-is_message : (m : AnyMessage) (r : Result (Option AnyMessage) ClientError) → r ≡ Ok (Some m) → IsAnyEnd r → ⊥
-is_message m r e h = subst IsAnyEnd e h
+is_message : (m : ClientMessage) (r : Result (Option ClientMessage) ClientError) → r ≡ Ok (Some m) → IsEnd r → ⊥
+is_message m r e h = subst IsEnd e h
 
-abbrev answered : AnyMessage → Result (Option AnyMessage) ClientError
+abbrev answered : ClientMessage → Result (Option ClientMessage) ClientError
 answered m = Ok (Some m)
 
-same_message : (m n : AnyMessage) → answered m ≡ answered n → m ≡ n
+same_message : (m n : ClientMessage) → answered m ≡ answered n → m ≡ n
 same_message m n e = cc
 
-pub record Same (all messages : List AnyMessage) (result end : Result (Option AnyMessage) ClientError) (behind new : Unread) : Type 0 where
+pub record Same (all messages : List ClientMessage) (result end : Result (Option ClientMessage) ClientError) (behind new : Unread) : Type 0 where
   pub messages_are : all ≡ messages
   pub end_is : result ≡ end
   pub left_is : behind ≡ new
 
-cons : (m n : AnyMessage) (l k : List AnyMessage) → m ≡ n → l ≡ k → m ∷ l ≡ n ∷ k
+cons : (m n : ClientMessage) (l k : List ClientMessage) → m ≡ n → l ≡ k → m ∷ l ≡ n ∷ k
 cons m n l k e f = rw (e, f) refl
 
-pub reads_one : (kinds : List PasswordKind) (old new behind : Unread) (all messages : List AnyMessage) (result end : Result (Option AnyMessage) ClientError)
-    → AnyReads kinds old all result behind → AnyReads kinds old messages end new → Same all messages result end behind new
-reads_one kinds old new behind [] [] result end x y = let s = any_step_one (next_kind kinds) old behind new result end x.0 y.0 in record { messages_are = refl; end_is = s.0; left_is = s.1 }
+pub reads_one : (kinds : List PasswordKind) (old new behind : Unread) (all messages : List ClientMessage) (result end : Result (Option ClientMessage) ClientError)
+    → Reads kinds old all result behind → Reads kinds old messages end new → Same all messages result end behind new
+reads_one kinds old new behind [] [] result end x y = let s = step_one (next_kind kinds) old behind new result end x.0 y.0 in record { messages_are = refl; end_is = s.0; left_is = s.1 }
 reads_one kinds old new behind [] (n ∷ messages) result end x y =
-    let s = any_step_one (next_kind kinds) old behind y.0 result (Ok (Some n)) x.0 y.1 in absurd (is_message n result s.0 x.1)
+    let s = step_one (next_kind kinds) old behind y.0 result (Ok (Some n)) x.0 y.1 in absurd (is_message n result s.0 x.1)
 reads_one kinds old new behind (m ∷ all) [] result end x y =
-    let s = any_step_one (next_kind kinds) old new x.0 end (Ok (Some m)) y.0 x.1 in absurd (is_message m end s.0 y.1)
+    let s = step_one (next_kind kinds) old new x.0 end (Ok (Some m)) y.0 x.1 in absurd (is_message m end s.0 y.1)
 reads_one kinds old new behind (m ∷ all) (n ∷ messages) result end x y =
-    let s = any_step_one (next_kind kinds) old x.0 y.0 (Ok (Some m)) (Ok (Some n)) x.1 y.1 in
+    let s = step_one (next_kind kinds) old x.0 y.0 (Ok (Some m)) (Ok (Some n)) x.1 y.1 in
     let same : m ≡ n = same_message m n s.0 in
-    let on : AnyReads (any_kinds_behind n kinds) y.0 all result behind = subst (λ (u : Unread). AnyReads (any_kinds_behind n kinds) u all result behind) s.1 (subst (λ k. AnyReads (any_kinds_behind k kinds) x.0 all result behind) same x.2) in
-    let more = reads_one (any_kinds_behind n kinds) y.0 new behind all messages result end on y.2 in
+    let on : Reads (kinds_behind n kinds) y.0 all result behind = subst (λ (u : Unread). Reads (kinds_behind n kinds) u all result behind) s.1 (subst (λ k. Reads (kinds_behind k kinds) x.0 all result behind) same x.2) in
+    let more = reads_one (kinds_behind n kinds) y.0 new behind all messages result end on y.2 in
     record { messages_are = cons m n all messages same more.messages_are; end_is = more.end_is; left_is = more.left_is }
 
-pub whole_given : (lacks : Type 0) (kinds others rest : List PasswordKind) (old here new : Waiting) (came : List Came) (last behind : List ℕ) (messages all : List AnyMessage) (end result : Result (Option AnyMessage) ClientError) (after : Unread)
-    → ReadsPieces lacks kinds old came others here → ReadsPiece lacks others here last messages end rest new behind → AnyReads kinds (unread old (flat_map piece_of came ++ last)) all result after
+pub whole_given : (lacks : Type 0) (kinds others rest : List PasswordKind) (old here new : Waiting) (came : List Came) (last behind : List ℕ) (messages all : List ClientMessage) (end result : Result (Option ClientMessage) ClientError) (after : Unread)
+    → ReadsPieces lacks kinds old came others here → ReadsPiece lacks others here last messages end rest new behind → Reads kinds (unread old (flat_map piece_of came ++ last)) all result after
     → (all ≡ flat_map messages_of came ++ messages) × (result ≡ end) × (after ≡ unread new behind)
 whole_given lacks kinds others rest old here new came last behind messages all end result after x y r =
     let on = piece_read lacks others rest here new last behind messages end y in
@@ -105,13 +96,13 @@ whole_given lacks kinds others rest old here new came last behind messages all e
     let same = reads_one kinds (unread old (flat_map piece_of came ++ last)) (unread new behind) after all (flat_map messages_of came ++ messages) result end r pieces in
     (same.messages_are, same.end_is, same.left_is)
 
--- the pieces of a session of our messages
-pub session_in_pieces : (lacks : Type 0) (kinds others rest : List PasswordKind) (old here new : Waiting) (came : List Came) (last behind : List ℕ) (messages : List ClientMessage) (read : List AnyMessage) (end : Result (Option AnyMessage) ClientError)
+-- the pieces of a session
+pub session_in_pieces : (lacks : Type 0) (kinds others rest : List PasswordKind) (old here new : Waiting) (came : List Came) (last behind : List ℕ) (messages read : List ClientMessage) (end : Result (Option ClientMessage) ClientError)
     → old.bytes ≡ [] → old.opened ≡ false → ReadsPieces lacks kinds old came others here → ReadsPiece lacks others here last read end rest new behind → ClientRun kinds messages (flat_map piece_of came ++ last)
-    → IsAllReadAsOurs messages (flat_map messages_of came ++ read) end (unread new behind)
+    → IsAllRead messages (flat_map messages_of came ++ read) end (unread new behind)
 session_in_pieces lacks kinds others rest old here new came last behind messages read end none closed x y run =
     let on = piece_read lacks others rest here new last behind read end y in
     let pieces = pieces_read_on lacks kinds others old here (unread new behind) came last read end x on in
     let first : unread old (flat_map piece_of came ++ last) ≡ left (flat_map piece_of came ++ last) false = ap (λ l. left (l ++ (flat_map piece_of came ++ last)) old.opened) none ∙ ap (left (flat_map piece_of came ++ last)) closed in
-    any_session_read kinds messages (flat_map messages_of came ++ read) (flat_map piece_of came ++ last) end (unread new behind) run
-    (subst (λ (u : Unread). AnyReads kinds u (flat_map messages_of came ++ read) end (unread new behind)) first pieces)
+    session_read kinds messages (flat_map messages_of came ++ read) (flat_map piece_of came ++ last) end (unread new behind) run
+    (subst (λ (u : Unread). Reads kinds u (flat_map messages_of came ++ read) end (unread new behind)) first pieces)

@@ -1,13 +1,16 @@
 -- Parts that are written as the bytes that stand for them: the same frame comes of it.
-use Rattle.std.proofs.Common.{◌≡◌, ℕ, ℤ, ◌+◌, List, [], ◌∷◌, ◌++◌, length, Option, Some, None, Result, Ok, Err, refl, sym, ap, subst, ◌∙◌, append_assoc, inl, inr}
+use Rattle.std.proofs.Common.{◌≡◌, ℕ, ℤ, ◌+◌, ◌<◌, ◌^◌, List, [], ◌∷◌, ◌++◌, length, Option, Some, None, Result, Ok, Err, refl, sym, ap, subst, ◌∙◌, append_assoc, arith, inl, inr, FitsSigned}
+use Rattle.std.specs.Int.{w16, w32, cast_signed}
+use Rattle.std.proofs.lemmas.Int.{to_z_pos}
+use Rattle.pgp_base.specs.Wire.{int16, int32}
 use Rattle.pgp_base.specs.Held.{Held}
 use Rattle.pgp_base.specs.Cause.{Writes, either, length_cause}
 use Rattle.pgp_base.specs.declared.error.Error.{Error}
-use Rattle.pgp_frontend.specs.ClientMessage.{ClientMessage, Bind, Parse, Startup, PasswordKind}
-use Rattle.pgp_frontend.specs.Payload.{Part, Rest, Text, Int16s, Oids, Values, Pairs, Int32, spelling, part_cause, parts_cause, joined, framed, version_code, WritesFrame, WritesMessage, bytes_of, cause}
+use Rattle.pgp_frontend.specs.ClientMessage.{ClientMessage, Bind, FunctionCall, Parse, Startup, PasswordKind}
+use Rattle.pgp_frontend.specs.Payload.{Part, Rest, Text, Int16, Int16s, Oid, Oids, Values, Pairs, Int32, spelling, part_cause, parts_cause, joined, framed, minor_code, WritesFrame, WritesMessage, bytes_of, cause}
 use Rattle.pgp_frontend.specs.Reading.{HasSpelling}
-use Rattle.pgp_frontend.specs.declared.startup.ProtocolVersion.{ProtocolVersion}
-use Rattle.pgp_frontend.proofs.Needs.{version_fits}
+use Rattle.pgp_frontend.proofs.Needs.{minor_fits}
+use Rattle.pgp_frontend_read.proofs.FaultLemmas.{signed_code}
 use Rattle.pgp_frontend_read.specs.Forwards.{Appends, Forwards}
 use Rattle.pgp_frontend_read.specs.Step.{Step, Unread}
 
@@ -29,10 +32,11 @@ same_list p count items ps qs h e s = record {
   cause = rw h.none s.cause;
 }
 
-same_bytes : (p : Part) (bytes : List ℕ) (ps qs : List Part) → HasSpelling p → bytes ≡ spelling p → Same ps qs → Same (Rest bytes ∷ ps) (p ∷ qs)
-same_bytes p bytes ps qs h e s = record {
-  bytes = ap (λ l. l ++ joined ps) e ∙ ap (λ l. spelling p ++ l) s.bytes;
-  cause = rw h.none s.cause;
+-- a part in the place of another with the same bytes, of which none has a cause
+same_spelling : (p q : Part) (ps qs : List Part) → part_cause p ≡ None → part_cause q ≡ None → spelling p ≡ spelling q → Same ps qs → Same (p ∷ ps) (q ∷ qs)
+same_spelling p q ps qs c d e s = record {
+  bytes = ap (λ l. l ++ joined ps) e ∙ ap (λ l. spelling q ++ l) s.bytes;
+  cause = rw (c, d) s.cause;
 }
 
 module _ {K : Type 0} (lacks : Held K → ℕ → Type 0) (old new : Held K) (result : Result (Unit {0}) Error) where
@@ -50,19 +54,32 @@ module _ {K : Type 0} (lacks : Held K → ℕ → Type 0) (old new : Held K) (re
       let values = same_list (Values vs) c d (Rest e ∷ Rest f ∷ []) (Int16s rs ∷ []) hv ev last in
       let lists = same_list (Int16s fs) a b (Rest c ∷ Rest d ∷ Rest e ∷ Rest f ∷ []) (Values vs ∷ Int16s rs ∷ []) hf ef values in
       let texts = same_part (Text portal) _ _ (same_part (Text statement) _ _ lists) in
-      ((tt, (tt, (hf.in_range, (tt, (hr.in_range, tt))))), same_frame (Some 66) _ _ texts w)
+      (((tt, (tt, (hf.in_range, (tt, (hr.in_range, tt))))), tt), same_frame (Some 66) _ _ texts w)
 
   pub writes_parse : (name query a b : List ℕ) (ts : List ℕ) → HasSpelling (Oids ts) → a ++ b ≡ spelling (Oids ts)
       → WritesFrame (Some 80) (Text name ∷ Text query ∷ Rest a ∷ Rest b ∷ []) lacks old new result → WritesMessage (Parse name query ts) lacks old new result
   writes_parse name query a b ts h e w =
       let texts = same_part (Text name) _ _ (same_part (Text query) _ _ (same_list (Oids ts) a b [] [] h e same_none)) in
-      ((tt, (tt, (h.in_range, tt))), same_frame (Some 80) _ _ texts w)
+      (((tt, (tt, (h.in_range, tt))), tt), same_frame (Some 80) _ _ texts w)
 
-  pub writes_startup : (version : ProtocolVersion) (bytes : List ℕ) (ps : List (List ℕ × List ℕ)) → HasSpelling (Pairs ps) → bytes ≡ spelling (Pairs ps)
-      → WritesFrame None (Int32 (version_code version) ∷ Rest bytes ∷ []) lacks old new result → WritesMessage (Startup version ps) lacks old new result
-  writes_startup version bytes ps h e w =
-      let all = same_part (Int32 (version_code version)) _ _ (same_bytes (Pairs ps) bytes [] [] h e same_none) in
-      ((version_fits version, (tt, tt)), same_frame None _ _ all w)
+  pub writes_function_call : (function : ℕ) (a b c d r : List ℕ) (fs : List ℤ) (vs : List (Option (List ℕ))) (format : ℤ)
+      → function < 2 ^ 32 → HasSpelling (Int16s fs) → a ++ b ≡ spelling (Int16s fs) → HasSpelling (Values vs) → c ++ d ≡ spelling (Values vs) → FitsSigned w16 format → r ≡ int16 format
+      → WritesFrame (Some 70) (Int32 (cast_signed w32 function) ∷ Rest a ∷ Rest b ∷ Rest c ∷ Rest d ∷ Rest r ∷ []) lacks old new result
+      → WritesMessage (FunctionCall function fs vs format) lacks old new result
+  writes_function_call function a b c d r fs vs format small hf ef hv ev fits er w =
+      let last = same_spelling (Rest r) (Int16 format) [] [] refl refl er same_none in
+      let values = same_list (Values vs) c d (Rest r ∷ []) (Int16 format ∷ []) hv ev last in
+      let lists = same_list (Int16s fs) a b (Rest c ∷ Rest d ∷ Rest r ∷ []) (Values vs ∷ Int16 format ∷ []) hf ef values in
+      let all = same_spelling (Int32 (cast_signed w32 function)) (Oid function) _ _ refl refl (sym (signed_code function small)) lists in
+      (((small, (hf.in_range, (tt, (fits, tt)))), tt), same_frame (Some 70) _ _ all w)
+
+  pub writes_startup : (minor : ℕ) (bytes : List ℕ) (ps : List (List ℕ × List ℕ)) → minor < 2 ^ 16 → HasSpelling (Pairs ps) → bytes ≡ spelling (Pairs ps)
+      → WritesFrame None (Int32 (cast_signed w32 (196608 + minor)) ∷ Rest bytes ∷ []) lacks old new result → WritesMessage (Startup minor ps) lacks old new result
+  writes_startup minor bytes ps small h e w =
+      let one = same_spelling (Rest bytes) (Pairs ps) [] [] refl h.none e same_none in
+      let code : cast_signed w32 (196608 + minor) ≡ minor_code minor = to_z_pos w32 (196608 + minor) (omega (arith, small)) in
+      let all = same_spelling (Int32 (cast_signed w32 (196608 + minor))) (Int32 (minor_code minor)) _ _ refl refl (ap int32 code) one in
+      (((minor_fits minor small, (tt, tt)), small), same_frame None _ _ all w)
 
 module _ {K : Type 0} (lacks : Held K → ℕ → Type 0) (m : ClientMessage) (old new : Held K) where
   written_appends : (result : Result (Unit {0}) Error) → cause m ≡ None → WritesMessage m lacks old new result → Appends lacks (bytes_of m) old new result

@@ -6,7 +6,7 @@ use Rattle.std.proofs.lemmas.List.{append-nil, drop_at}
 use Rattle.pgp_base.specs.Wire.{uint32}
 use Rattle.pgp_frontend_read.specs.declared.error.ClientError.{ClientError}
 use Rattle.pgp_base.proofs.Parts.{length-uint32}
-use Rattle.pgp_frontend.specs.ClientMessage.{ClientMessage, Startup, CancelRequest, SslRequest, PasswordKind}
+use Rattle.pgp_frontend.specs.ClientMessage.{ClientMessage, Startup, CancelRequest, SslRequest, GssEncRequest, PasswordKind}
 use Rattle.pgp_frontend.specs.Opening.{Opening}
 use Rattle.pgp_frontend.specs.Payload.{framed, payload, tag_of, kind_of, bytes_of}
 use Rattle.pgp_frontend.specs.Reading.{IsSpelled}
@@ -19,7 +19,7 @@ use Rattle.pgp_frontend_read.proofs.Steps.{partial_none, left}
 
 -- ---- one message stands at the front
 
-pub same_kind : (kind : PasswordKind) (a b : Option PasswordKind) → is_some a ≡ is_some b → IfSome a (λ k. k ≡ kind) → IfSome b (λ k. k ≡ kind) → a ≡ b
+same_kind : (kind : PasswordKind) (a b : Option PasswordKind) → is_some a ≡ is_some b → IfSome a (λ k. k ≡ kind) → IfSome b (λ k. k ≡ kind) → a ≡ b
 same_kind kind None None e h k = refl
 same_kind kind None (Some y) e h k = cc
 same_kind kind (Some x) None e h k = cc
@@ -96,9 +96,10 @@ pub record RunFrom (opened : Bool) (kinds : List PasswordKind) (messages : List 
   pub whole : bytes ≡ flat_map bytes_of messages
 
 untagged : (m : ClientMessage) → IsStartup m ⊎ IsRequest m → tag_of m ≡ None
-untagged (Startup version parameters) o = refl
+untagged (Startup minor parameters) o = refl
 untagged (CancelRequest process_id secret_key) o = refl
 untagged SslRequest o = refl
+untagged GssEncRequest o = refl
 untagged _ (inl o) = absurd o
 untagged _ (inr o) = absurd o
 
@@ -118,6 +119,7 @@ opens _ s = absurd s
 asks : (m : ClientMessage) → IsRequest m → is_startup m ≡ false
 asks (CancelRequest a b) s = refl
 asks SslRequest s = refl
+asks GssEncRequest s = refl
 asks _ s = absurd s
 
 order_behind : (opened : Bool) (m : ClientMessage) (messages : List ClientMessage) → InOrder opened (m ∷ messages) → InOrder (opened || is_startup m) messages

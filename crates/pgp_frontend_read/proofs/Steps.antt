@@ -9,10 +9,9 @@ use Rattle.pgp_base.proofs.Causes.{either_right, fits_of}
 use Rattle.pgp_base.proofs.Parts.{length-uint32}
 use Rattle.pgp_base.proofs.PartLemmas.{IsBytes-take}
 use Rattle.pgp_base.proofs.Prefixes.{fronts, uint32_begins}
-use Rattle.pgp_frontend.specs.ClientMessage.{ClientMessage, Startup, CancelRequest, SslRequest, PasswordKind}
+use Rattle.pgp_frontend.specs.ClientMessage.{ClientMessage, Startup, CancelRequest, SslRequest, GssEncRequest, PasswordKind}
 use Rattle.pgp_frontend.specs.Payload.{framed, payload, parts, parts_cause, tag_of, bytes_of}
 use Rattle.pgp_frontend.specs.Reading.{IsSpelled}
-use Rattle.pgp_frontend.specs.declared.startup.ProtocolVersion.TheVariants.{V3_0, V3_2}
 use Rattle.pgp_frontend.specs.ClientRun.{is_startup}
 use Rattle.pgp_frontend_read.specs.Reading.{body_of, packet_of}
 use Rattle.pgp_frontend_read.specs.Step.{Unread, IsExpected, Stands, NoneStands, place, least, BeginsWithLength, IsLengthFault, IsPartial, Takes, Refuses, IsFront}
@@ -48,10 +47,10 @@ framed_so kind false m (Some t) e x = let k : Some t ≡ None = sym e ∙ x in a
 -- an opening packet has a code
 coded : (m : ClientMessage) → tag_of m ≡ None → 4 ≤ length (payload m)
 unfolding int32
-coded (Startup V3_0 ps) t = omega arith
-coded (Startup V3_2 ps) t = omega arith
+coded (Startup v ps) t = omega arith
 coded (CancelRequest a b) t = omega arith
 coded SslRequest t = omega arith
+coded GssEncRequest t = omega arith
 coded _ t = absurd cc
 
 enough : (kind : PasswordKind) (opened : Bool) (m : ClientMessage) → IsExpected kind opened m → least opened ≤ length (payload m) + 4

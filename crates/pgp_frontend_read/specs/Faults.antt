@@ -7,7 +7,7 @@ use Rattle.pgp_base.specs.Cause.{nullable_cause}
 use Rattle.pgp_base.specs.declared.error.Error.{Error}
 use Rattle.pgp_base.specs.declared.error.Error.TheVariants.{UnexpectedEof, NotDrained, InvalidValueLength}
 use Rattle.pgp_frontend.specs.Payload.{pair, spelling, key_cause}
-use Rattle.pgp_frontend.specs.Reading.{Shape, AByte, AnInt32, AText, SomeInt16s, SomeOids, SomeValues, ASized, AllBytes, AKey, SomePairs, HasSpelling}
+use Rattle.pgp_frontend.specs.Reading.{Shape, AByte, AnInt16, AnInt32, AnOid, AText, SomeInt16s, SomeOids, SomeValues, ANullable, AllBytes, AKey, SomePairs, HasSpelling}
 use Rattle.pgp_frontend_read.specs.Content.{Content, part}
 
 -- fewer bytes than these are left
@@ -65,12 +65,14 @@ pub record LacksEnd (bytes : List ℕ) (e : Error) : Type 0 where
 -- no part of this shape stands there
 abbrev pub Lacks : Shape → List ℕ → Error → Type 0
 Lacks AByte bytes e = IsShort 1 bytes e
+Lacks AnInt16 bytes e = IsShort 2 bytes e
 Lacks AnInt32 bytes e = IsShort 4 bytes e
+Lacks AnOid bytes e = IsShort 4 bytes e
 Lacks AText bytes e = HasNoZero bytes × (e ≡ UnexpectedEof)
 Lacks SomeInt16s bytes e = LacksItems (FitsSigned w16) int16 (IsShort 2) bytes e
 Lacks SomeOids bytes e = LacksItems (λ n. n < 2 ^ 32) oid (IsShort 4) bytes e
 Lacks SomeValues bytes e = LacksItems (λ v. nullable_cause v ≡ None) nullable LacksValue bytes e
-Lacks ASized bytes e = LacksSized bytes e
+Lacks ANullable bytes e = LacksValue bytes e
 Lacks AllBytes bytes e = ⊥
 Lacks AKey bytes e = key_cause (length bytes) ≡ Some e
 Lacks SomePairs bytes e = LacksEnd bytes e

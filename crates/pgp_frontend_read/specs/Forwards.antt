@@ -5,7 +5,6 @@ use Rattle.pgp_base.specs.Held.{Held, ◌⊕◌, Leaves}
 use Rattle.pgp_base.specs.declared.error.Error.{Error}
 use Rattle.pgp_frontend.specs.ClientMessage.{ClientMessage}
 use Rattle.pgp_frontend.specs.Payload.{WritesMessage}
-use Rattle.pgp_frontend_read.specs.OtherMessage.{AnyMessage, WritesAny}
 
 -- These bytes are appended; or there is no memory that they need, and the buffer keeps its own.
 abbrev pub Appends : {K : Type 0} → (Held K → ℕ → Type 0) → List ℕ → Held K → Held K → Result (Unit {0}) Error → Type 0
@@ -22,7 +21,3 @@ pub record Forwards {K : Type 0} (lacks : Held K → ℕ → Type 0) (bytes left
 abbrev pub WritesAll : {K : Type 0} → (Held K → ℕ → Type 0) → List ClientMessage → Held K → Held K → Type 0
 WritesAll lacks [] old new = new ≡ old
 WritesAll {K} lacks (m ∷ messages) old new = (here : Held K) × WritesMessage m lacks old here (Ok tt) × WritesAll lacks messages here new
-
-abbrev pub WritesAllOf : {K : Type 0} → (Held K → ℕ → Type 0) → List AnyMessage → Held K → Held K → Type 0
-WritesAllOf lacks [] old new = new ≡ old
-WritesAllOf {K} lacks (x ∷ messages) old new = (here : Held K) × WritesAny x lacks old here (Ok tt) × WritesAllOf lacks messages here new

@@ -1,9 +1,7 @@
 -- Private: how much of a message a parser holds, as the code counts it. What a call comes to is `Pieces`.
 use Rattle.std.specs.Prelude.{◌≡◌, ◌≢◌, ◌⊎◌, ℕ, ◌+◌, ◌-◌, ◌<◌, ◌≤◌, ◌^◌, Bool, true, false, List, [], ◌++◌, length, take, drop, Option, Some, None, Result, Ok, Err, nat_le}
-use Rattle.pgp_frontend.specs.ClientMessage.{PasswordKind}
-use Rattle.pgp_frontend_read.specs.AnyStep.{AnyStep}
-use Rattle.pgp_frontend_read.specs.OtherMessage.{AnyMessage}
-use Rattle.pgp_frontend_read.specs.Step.{BeginsWithLength, IsLengthFault, IsPartial, place, least}
+use Rattle.pgp_frontend.specs.ClientMessage.{ClientMessage, PasswordKind}
+use Rattle.pgp_frontend_read.specs.Step.{Step, BeginsWithLength, IsLengthFault, IsPartial, place, least}
 use Rattle.pgp_frontend_read.specs.Pieces.{IsTooLong, IsWithin, IsWhole, step_of}
 use Rattle.pgp_frontend_read.specs.declared.client_frame.ClientFrame.{ClientFrame}
 use Rattle.pgp_frontend_read.specs.declared.error.ClientError.{ClientError}
@@ -66,13 +64,13 @@ pub record Fills (size : ℕ) (old piece new left : List ℕ) : Type 0 where
 -- The bytes are those of one message, and behind it the connection is in this phase, whatever the message is read as.
 pub record IsReadAs (opened : Bool) (bytes : List ℕ) (now : Bool) : Type 0 where
   pub whole : IsWhole opened bytes
-  pub steps : (kind : PasswordKind) (result : Result AnyMessage ClientError) (phase : Bool) → AnyStep kind (record { bytes = bytes; opened = opened }) (step_of result) (record { bytes = []; opened = phase }) → phase ≡ now
+  pub steps : (kind : PasswordKind) (result : Result ClientMessage ClientError) (phase : Bool) → Step kind (record { bytes = bytes; opened = opened }) (step_of result) (record { bytes = []; opened = phase }) → phase ≡ now
 
 -- whatever kind is told, a step refuses what stands there, and passes nothing
 pub record IsLeft (opened : Bool) (bytes : List ℕ) (e : ParserError) : Type 0 where
   pub cause : ClientError
   pub name : e ≡ Refused cause
-  pub steps : (kind : PasswordKind) → AnyStep kind (record { bytes = bytes; opened = opened }) (Err cause) (record { bytes = bytes; opened = opened })
+  pub steps : (kind : PasswordKind) → Step kind (record { bytes = bytes; opened = opened }) (Err cause) (record { bytes = bytes; opened = opened })
 
 -- the phase behind the message; an opening packet that is no message is left
 abbrev pub Opens : Bool → List ℕ → Result Bool ParserError → Type 0

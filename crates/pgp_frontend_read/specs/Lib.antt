@@ -1,12 +1,7 @@
-pub mod AnyReading
-pub mod AnyReads
-pub mod AnyStep
-pub mod AnyViews
 pub mod Content
 pub mod Faults
 pub mod Forwards
 pub mod Holding
-pub mod OtherMessage
 pub mod PieceReads
 pub mod Pieces
 pub mod Reading
@@ -14,4 +9,3 @@ pub mod Reads
 pub mod Step
 pub mod Views
 pub mod Whole
-pub mod WideFaults

@@ -1,10 +1,8 @@
 -- A client's bytes that come in pieces: what a parser answers of the bytes that it holds and of a piece behind them.
 use Rattle.std.specs.Prelude.{◌≡◌, ◌≢◌, ◌⊎◌, ℕ, ◌+◌, ◌<◌, ◌^◌, Bool, true, false, List, [], ◌++◌, length, Option, Some, None, Result, Ok, Err}
-use Rattle.pgp_frontend.specs.ClientMessage.{PasswordKind}
+use Rattle.pgp_frontend.specs.ClientMessage.{ClientMessage, PasswordKind}
 use Rattle.pgp_frontend.specs.Payload.{framed}
-use Rattle.pgp_frontend_read.specs.AnyStep.{AnyStep, AnyStands}
-use Rattle.pgp_frontend_read.specs.OtherMessage.{AnyMessage}
-use Rattle.pgp_frontend_read.specs.Step.{Unread, BeginsWithLength, IsPartial}
+use Rattle.pgp_frontend_read.specs.Step.{Unread, Stands, Step, BeginsWithLength, IsPartial}
 use Rattle.pgp_frontend_read.specs.declared.client_frame.ClientFrame.{ClientFrame}
 use Rattle.pgp_frontend_read.specs.declared.error.ClientError.{ClientError}
 use Rattle.pgp_frontend_read.specs.declared.limits.Limits.{Limits}
@@ -26,23 +24,23 @@ unread waiting piece = record { bytes = waiting.bytes ++ piece; opened = waiting
 -- The bytes are a tagged frame, whatever its tag is, or an opening packet that is a message.
 abbrev pub IsWhole : Bool → List ℕ → Type 0
 IsWhole true bytes = (tag : ℕ) × (payload : List ℕ) × (bytes ≡ framed (Some tag) payload) × (length payload + 4 < 2 ^ 31)
-IsWhole false bytes = (x : AnyMessage) × ((kind : PasswordKind) → AnyStands kind false bytes x [])
+IsWhole false bytes = (x : ClientMessage) × ((kind : PasswordKind) → Stands kind false bytes x [])
 
 -- a message or a refusal, as the answer of a step
-abbrev pub step_of : Result AnyMessage ClientError → Result (Option AnyMessage) ClientError
+abbrev pub step_of : Result ClientMessage ClientError → Result (Option ClientMessage) ClientError
 step_of (Ok x) = Ok (Some x)
 step_of (Err e) = Err e
 
 -- Told this kind, a step takes the message's bytes, or passes them with this refusal.
-abbrev pub ReadsFrame : PasswordKind → ClientFrame → Result AnyMessage ClientError → Type 0
-ReadsFrame kind frame result = (phase : Bool) × AnyStep kind (record { bytes = frame.bytes.now; opened = frame.opened }) (step_of result) (record { bytes = []; opened = phase })
+abbrev pub ReadsFrame : PasswordKind → ClientFrame → Result ClientMessage ClientError → Type 0
+ReadsFrame kind frame result = (phase : Bool) × Step kind (record { bytes = frame.bytes.now; opened = frame.opened }) (step_of result) (record { bytes = []; opened = phase })
 
 -- The first bytes are those of one message, and what they are read as is a step of the server.
 pub record HandsOut (old : Unread) (frame : ClientFrame) (new : Unread) : Type 0 where
   pub phase : frame.opened ≡ old.opened
   pub whole : IsWhole frame.opened frame.bytes.now
   pub first : old.bytes ≡ frame.bytes.now ++ new.bytes
-  pub steps : (kind : PasswordKind) (result : Result AnyMessage ClientError) → ReadsFrame kind frame result → AnyStep kind old (step_of result) new
+  pub steps : (kind : PasswordKind) (result : Result ClientMessage ClientError) → ReadsFrame kind frame result → Step kind old (step_of result) new
 
 -- ---- limits
 
@@ -76,7 +74,7 @@ pub record Stays (old : Waiting) (piece : List ℕ) (new : Waiting) (left : List
 abbrev pub Answer : Type 0 → Waiting → List ℕ → Result (Option ClientFrame) ParserError → Waiting → List ℕ → Type 0
 Answer lacks old piece (Ok (Some frame)) new left = IsWithin old.limits (unread old piece) × HandsOut (unread old piece) frame (unread new left) × (new.bytes ≡ [])
 Answer lacks old piece (Ok None) new left = IsWithin old.limits (unread old piece) × IsPartial old.opened (old.bytes ++ piece) × (unread new left ≡ unread old piece) × (left ≡ [])
-Answer lacks old piece (Err (Refused e)) new left = IsWithin old.limits (unread old piece) × ((kind : PasswordKind) → AnyStep kind (unread old piece) (Err e) (unread old piece)) × Stays old piece new left
+Answer lacks old piece (Err (Refused e)) new left = IsWithin old.limits (unread old piece) × ((kind : PasswordKind) → Step kind (unread old piece) (Err e) (unread old piece)) × Stays old piece new left
 Answer lacks old piece (Err (TooLong len)) new left = IsTooLong old.limits (unread old piece) len × Stays old piece new left
 Answer lacks old piece (Err OutOfMemory) new left = lacks × IsWithin old.limits (unread old piece) × IsCut old piece × Stays old piece new left
 

@@ -1,16 +1,14 @@
 -- Private: reading a message from the left, as the code does it. What stands there in the grammar's terms is `Step`.
-use Rattle.std.specs.Prelude.{◌≡◌, ℕ, ℤ, zero, suc, List, [], ◌∷◌, length, take, drop, Option, Some, None, Result, Ok, Err, nat_lt, ◌==◌, if◌then◌else◌}
+use Rattle.std.specs.Prelude.{◌≡◌, ℕ, ℤ, zero, suc, ◌-◌, List, [], ◌∷◌, length, take, drop, Option, Some, None, Result, Ok, Err, nat_lt, nat_le, ◌==◌, if◌then◌else◌}
 use Rattle.pgp_base.specs.declared.error.Error.{Error}
 use Rattle.pgp_base.specs.declared.error.Error.TheVariants.{UnknownTag, UnexpectedEof, NotDrained, InvalidValueLength}
 use Rattle.std.specs.Int.{w32, cast_signed}
 use Rattle.pgp_base.specs.Cause.{Cause}
 use Rattle.pgp_base.specs.PartReading.{◌>>=◌, byte_at, uint16_at, oid_at, int16_at, int32_at, string_at}
 use Rattle.pgp_base.specs.WalkReading.{marked_run}
-use Rattle.pgp_frontend.specs.ClientMessage.{ClientMessage, Bind, Close, CopyData, CopyDone, CopyFail, Describe, Execute, Flush, Parse, PasswordMessage, Query, SaslInitialResponse, SaslResponse, Sync, Terminate, Startup, CancelRequest, SslRequest, PasswordKind, Password, Initial, Response}
+use Rattle.pgp_frontend.specs.ClientMessage.{ClientMessage, Bind, Close, CopyData, CopyDone, CopyFail, Describe, Execute, Flush, Parse, PasswordMessage, Query, SaslInitialResponse, SaslResponse, Sync, Terminate, Startup, CancelRequest, SslRequest, GssEncRequest, FunctionCall, PasswordKind, Password, Initial, Response}
 use Rattle.pgp_frontend.specs.Payload.{key_cause}
-use Rattle.pgp_frontend.specs.declared.startup.ProtocolVersion.{ProtocolVersion}
-use Rattle.pgp_frontend.specs.declared.startup.ProtocolVersion.TheVariants.{V3_0, V3_2}
-use Rattle.pgp_frontend.specs.Reading.{Shape, AByte, AnInt32, AText, SomeInt16s, SomeOids, SomeValues, ASized, AllBytes, AKey, SomePairs}
+use Rattle.pgp_frontend.specs.Reading.{Shape, AByte, AnInt16, AnInt32, AnOid, AText, SomeInt16s, SomeOids, SomeValues, ANullable, AllBytes, AKey, SomePairs}
 use Rattle.pgp_frontend_read.specs.Content.{Content, Contents, Then}
 use Rattle.pgp_frontend_read.specs.declared.error.ClientError.{ClientError}
 use Rattle.pgp_frontend_read.specs.declared.error.ClientError.TheVariants.{UnknownPacket, Reading}
@@ -77,15 +75,6 @@ AreLeft read left = items_at read left.count left.bytes ≡ Ok (items_of read le
 unfoldable pub counted_at : {V : Type 0} → (List ℕ → Result (V × List ℕ) Error) → List ℕ → Result (List V × List ℕ) Error
 counted_at read bytes = uint16_at bytes >>= λ n. items_at read n.0 n.1
 
--- a value that isn't null
-abbrev pub no_null : Result (Option (List ℕ) × List ℕ) Error → Result (List ℕ × List ℕ) Error
-no_null (Ok (Some z, rest)) = Ok (z, rest)
-no_null (Ok (None, rest)) = Err InvalidValueLength
-no_null (Err e) = Err e
-
-unfoldable pub sized_at : List ℕ → Result (List ℕ × List ℕ) Error
-sized_at bytes = no_null (value_at bytes)
-
 abbrev pub all_of : {V : Type 0} → List V × Option Error → Result (List V × List ℕ) Error
 all_of (xs, None) = Ok (xs, [])
 all_of (xs, Some e) = Err e
@@ -107,12 +96,14 @@ key_at bytes = unless (key_cause (length bytes)) bytes
 
 abbrev pub content_at : (s : Shape) → List ℕ → Result (Content s × List ℕ) Error
 content_at AByte bytes = byte_at bytes >>= λ x. Ok x
+content_at AnInt16 bytes = int16_at bytes >>= λ x. Ok x
 content_at AnInt32 bytes = int32_at bytes >>= λ x. Ok x
+content_at AnOid bytes = oid_at bytes >>= λ x. Ok x
 content_at AText bytes = string_at bytes >>= λ x. Ok x
 content_at SomeInt16s bytes = counted_at format_at bytes
 content_at SomeOids bytes = counted_at type_at bytes
 content_at SomeValues bytes = counted_at value_at bytes
-content_at ASized bytes = sized_at bytes
+content_at ANullable bytes = value_at bytes
 content_at AllBytes bytes = Ok (bytes, [])
 content_at AKey bytes = key_at bytes
 content_at SomePairs bytes = pairs_at bytes
@@ -155,6 +146,10 @@ describe_of payload = made (λ c. Describe c.first c.rest.first) (contents_at (A
 unfoldable pub execute_of : List ℕ → Result ClientMessage Error
 execute_of payload = made (λ c. Execute c.first c.rest.first) (contents_at (AText ∷ AnInt32 ∷ []) payload)
 
+unfoldable pub function_call_of : List ℕ → Result ClientMessage Error
+function_call_of payload = made (λ c. FunctionCall c.first c.rest.first c.rest.rest.first c.rest.rest.rest.first)
+    (contents_at (AnOid ∷ SomeInt16s ∷ SomeValues ∷ AnInt16 ∷ []) payload)
+
 unfoldable pub parse_of : List ℕ → Result ClientMessage Error
 parse_of payload = made (λ c. Parse c.first c.rest.first c.rest.rest.first) (contents_at (AText ∷ AText ∷ SomeOids ∷ []) payload)
 
@@ -168,7 +163,7 @@ unfoldable pub password_of : List ℕ → Result ClientMessage Error
 password_of payload = made (λ c. PasswordMessage c.first) (contents_at (AText ∷ []) payload)
 
 unfoldable pub sasl_initial_of : List ℕ → Result ClientMessage Error
-sasl_initial_of payload = made (λ c. SaslInitialResponse c.first c.rest.first) (contents_at (AText ∷ ASized ∷ []) payload)
+sasl_initial_of payload = made (λ c. SaslInitialResponse c.first c.rest.first) (contents_at (AText ∷ ANullable ∷ []) payload)
 
 -- what follows the tag `p`
 abbrev pub told_of : PasswordKind → List ℕ → Result ClientMessage Error
@@ -183,6 +178,7 @@ body_of kind tag payload =
     if tag == 67 then close_of payload else
     if tag == 68 then describe_of payload else
     if tag == 69 then execute_of payload else
+    if tag == 70 then function_call_of payload else
     if tag == 72 then ended Flush payload else
     if tag == 80 then parse_of payload else
     if tag == 81 then query_of payload else
@@ -196,8 +192,8 @@ body_of kind tag payload =
 
 -- ---- opening packets
 
-unfoldable pub startup_of : ProtocolVersion → List ℕ → Result ClientMessage Error
-startup_of version rest = made (λ c. Startup version c.first) (contents_at (SomePairs ∷ []) rest)
+unfoldable pub startup_of : ℕ → List ℕ → Result ClientMessage Error
+startup_of minor rest = made (λ c. Startup minor c.first) (contents_at (SomePairs ∷ []) rest)
 
 unfoldable pub cancel_of : List ℕ → Result ClientMessage Error
 cancel_of rest = made (λ c. CancelRequest c.first c.rest.first) (contents_at (AnInt32 ∷ AKey ∷ []) rest)
@@ -207,14 +203,15 @@ abbrev pub named : Result ClientMessage Error → Result ClientMessage ClientErr
 named (Ok m) = Ok m
 named (Err e) = Err (Reading e)
 
--- what follows each code
+-- what follows each code; those of protocol 3 begin at 196608, those behind it at 262144
 unfoldable pub by_code : ℕ → List ℕ → Result ClientMessage ClientError
 by_code code rest =
-    if code == 196608 then named (startup_of V3_0 rest) else
-    if code == 196610 then named (startup_of V3_2 rest) else
     if code == 80877102 then named (cancel_of rest) else
     if code == 80877103 then named (ended SslRequest rest) else
-    Err (UnknownPacket (cast_signed w32 code))
+    if code == 80877104 then named (ended GssEncRequest rest) else
+    if nat_lt code 196608 then Err (UnknownPacket (cast_signed w32 code)) else
+    if nat_le 262144 code then Err (UnknownPacket (cast_signed w32 code)) else
+    named (startup_of (code - 196608) rest)
 
 abbrev pub by_front : Option (ℕ × List ℕ) → Result ClientMessage ClientError
 by_front None = Err (Reading UnexpectedEof)

@@ -6,7 +6,7 @@ use Rattle.pgp_base.specs.Wire.{uint32, int32}
 use Rattle.pgp_base.specs.declared.error.Error.{Error}
 use Rattle.pgp_base.specs.declared.error.Error.TheVariants.{InvalidLength, UnknownTag}
 use Rattle.pgp_frontend.specs.ClientMessage.{ClientMessage, PasswordKind}
-use Rattle.pgp_frontend.specs.Payload.{Part, Int32, parts, tag_of, kind_of, framed, bytes_of}
+use Rattle.pgp_frontend.specs.Payload.{Part, Int32, parts, tag_of, kind_of, framed, bytes_of, HasMinor}
 use Rattle.pgp_frontend.specs.Reading.{shape, IsSpelled}
 use Rattle.pgp_frontend.specs.ClientRun.{is_startup}
 use Rattle.pgp_frontend_read.specs.Faults.{Faulty}
@@ -96,13 +96,14 @@ pub record IsUnknownPacket (payload : List ℕ) (e : ClientError) : Type 0 where
   pub rest : List ℕ
   pub fits : FitsSigned w32 code
   pub whole : payload ≡ int32 code ++ rest
-  pub unknown : (m : ClientMessage) (ps : List Part) → tag_of m ≡ None → parts m ≢ Int32 code ∷ ps
+  pub unknown : (m : ClientMessage) (ps : List Part) → tag_of m ≡ None → HasMinor m → parts m ≢ Int32 code ∷ ps
   pub name : e ≡ UnknownPacket code
 
 -- An opening packet has the code that the payload begins with, and what follows isn't parts of its shapes.
 pub record HasFaultyPacket (payload : List ℕ) (e : ClientError) : Type 0 where
   pub message : ClientMessage
   pub untagged : tag_of message ≡ None
+  pub minor : HasMinor message
   pub code : ℤ
   pub others : List Part
   pub are : parts message ≡ Int32 code ∷ others

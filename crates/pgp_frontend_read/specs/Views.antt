@@ -2,12 +2,13 @@
 use Rattle.std.specs.Prelude.{ℕ, List, Option, Some, None, Result, Ok, Err}
 use Rattle.std.specs.Borrow.{Bor}
 use Rattle.pgp_base.specs.declared.error.Error.{Error}
+use Rattle.pgp_frontend_read.specs.Whole.{shown}
 use Rattle.pgp_frontend_read.specs.declared.error.ClientError.{ClientError}
 use Rattle.pgp_frontend_read.specs.declared.message.ClientMessage as code
 use Rattle.pgp_frontend_read.specs.declared.message.ClientMessage.TheVariants as variants
 use Rattle.pgp_frontend_read.specs.declared.message.PasswordKind as code_kind
 use Rattle.pgp_frontend_read.specs.declared.message.PasswordKind.TheVariants as kinds
-use Rattle.pgp_frontend.specs.ClientMessage.{ClientMessage, Bind, Close, CopyData, CopyDone, CopyFail, Describe, Execute, Flush, Parse, PasswordMessage, Query, SaslInitialResponse, SaslResponse, Sync, Terminate, Startup, CancelRequest, SslRequest, PasswordKind, Password, Initial, Response}
+use Rattle.pgp_frontend.specs.ClientMessage.{ClientMessage, Bind, Close, CopyData, CopyDone, CopyFail, Describe, Execute, Flush, Parse, PasswordMessage, Query, SaslInitialResponse, SaslResponse, Sync, Terminate, Startup, CancelRequest, SslRequest, GssEncRequest, FunctionCall, PasswordKind, Password, Initial, Response}
 
 abbrev pub kind_view : code_kind.PasswordKind → PasswordKind
 kind_view kinds.Password = Password
@@ -23,16 +24,18 @@ view (variants.CopyFail message) = CopyFail message.now
 view (variants.Describe variant name) = Describe variant name.now
 view (variants.Execute portal max_rows) = Execute portal.now max_rows
 view variants.Flush = Flush
+view (variants.FunctionCall function formats arguments result_format) = FunctionCall function formats arguments result_format
 view (variants.Parse name query param_types) = Parse name.now query.now param_types
 view (variants.PasswordMessage password) = PasswordMessage password.now
 view (variants.Query query) = Query query.now
-view (variants.SaslInitialResponse mechanism response) = SaslInitialResponse mechanism.now response.now
+view (variants.SaslInitialResponse mechanism response) = SaslInitialResponse mechanism.now (shown response)
 view (variants.SaslResponse response) = SaslResponse response.now
 view variants.Sync = Sync
 view variants.Terminate = Terminate
-view (variants.Startup version parameters) = Startup version parameters
+view (variants.Startup minor parameters) = Startup minor parameters
 view (variants.CancelRequest process_id secret_key) = CancelRequest process_id secret_key.now
 view variants.SslRequest = SslRequest
+view variants.GssEncRequest = GssEncRequest
 
 -- the result of a body
 abbrev pub seen : Result code.ClientMessage Error → Result ClientMessage Error

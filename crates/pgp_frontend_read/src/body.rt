@@ -1,7 +1,7 @@
 //! What follows each tag, and what follows each code.
 
 ghost use Rattle.std.specs.Prelude.{◌≡◌};
-ghost use Rattle.pgp_frontend_read.specs.Reading.{bind_of, close_of, describe_of, execute_of, parse_of, query_of, copy_fail_of, password_of, sasl_initial_of, told_of, body_of, startup_of, cancel_of, named, by_code, packet_of, ended};
+ghost use Rattle.pgp_frontend_read.specs.Reading.{bind_of, close_of, describe_of, execute_of, function_call_of, parse_of, query_of, copy_fail_of, password_of, sasl_initial_of, told_of, body_of, startup_of, cancel_of, named, by_code, packet_of, ended};
 ghost use Rattle.pgp_frontend_read.specs.Views.{view, seen, told, kind_view};
 
 use crate::error::ClientError;
@@ -10,10 +10,9 @@ use crate::key::key_at;
 use crate::message::{ClientMessage, PasswordKind};
 use crate::pairs::StartupParameters;
 use crate::types::ParamTypes;
-use crate::values::{Values, sized_at};
+use crate::values::{Values, value_at};
 use pgp_base::Error;
-use pgp_base::reading::{byte_at, int32_at, oid_at, string_at};
-use pgp_frontend::ProtocolVersion;
+use pgp_base::reading::{byte_at, int16_at, int32_at, oid_at, string_at};
 
 /// The message of a frame, told which kind of tag `p` is expected.
 ///
@@ -29,6 +28,7 @@ pub fn body(kind: PasswordKind, tag: u8, payload: &[u8]) -> Result<ClientMessage
         b'C' => close(payload),
         b'D' => describe(payload),
         b'E' => execute(payload),
+        b'F' => function_call(payload),
         b'H' => ended(payload, ClientMessage::Flush),
         b'P' => parse(payload),
         b'Q' => query(payload),
@@ -111,6 +111,25 @@ fn execute(payload: &[u8]) -> Result<ClientMessage<'_>, Error>
     ended(rest, ClientMessage::Execute { portal, max_rows })
 }
 
+#[tactic(auto, unfolding(crate::specs::Reading::function_call_of))]
+fn function_call(payload: &[u8]) -> Result<ClientMessage<'_>, Error>
+    ensures { seen result ≡ function_call_of payload.now }
+{
+    let (function, rest) = oid_at(payload)?;
+    let (formats, rest) = Formats::read(rest)?;
+    let (arguments, rest) = Values::read(rest)?;
+    let (result_format, rest) = int16_at(rest)?;
+    ended(
+        rest,
+        ClientMessage::FunctionCall {
+            function,
+            formats,
+            arguments,
+            result_format,
+        },
+    )
+}
+
 #[tactic(auto, unfolding(crate::specs::Reading::parse_of))]
 fn parse(payload: &[u8]) -> Result<ClientMessage<'_>, Error>
     ensures { seen result ≡ parse_of payload.now }
@@ -157,7 +176,7 @@ fn sasl_initial(payload: &[u8]) -> Result<ClientMessage<'_>, Error>
     ensures { seen result ≡ sasl_initial_of payload.now }
 {
     let (mechanism, rest) = string_at(payload)?;
-    let (response, rest) = sized_at(rest)?;
+    let (response, rest) = value_at(rest)?;
     ended(
         rest,
         ClientMessage::SaslInitialResponse {
@@ -167,15 +186,18 @@ fn sasl_initial(payload: &[u8]) -> Result<ClientMessage<'_>, Error>
     )
 }
 
-/// The code of a startup packet of version 3.0.
+/// The code of a startup packet of version 3.0, the first of protocol 3.
 pub const VERSION_3_0: u32 = 196_608;
 
-/// The code of one of version 3.2.
-pub const VERSION_3_2: u32 = 196_610;
+/// The code behind that of the last minor version of protocol 3.
+const VERSION_4_0: u32 = 262_144;
 
 const CANCEL_REQUEST: u32 = 80_877_102;
 
 const SSL_REQUEST: u32 = 80_877_103;
+
+/// The code of the question for encryption by GSSAPI.
+pub const GSSENC_REQUEST: u32 = 80_877_104;
 
 /// The opening packet behind its length.
 ///
@@ -193,20 +215,17 @@ pub fn packet(payload: &[u8]) -> Result<ClientMessage<'_>, ClientError>
 }
 
 /// What follows each code.
-///
-/// # Errors
-///
-/// `UnknownPacket` where no packet has the code; `UnexpectedEof`, `InvalidSize`, `NotDrained`.
 #[tactic(auto, unfolding(crate::specs::Reading::by_code))]
-pub fn by_code(code: u32, rest: &[u8]) -> Result<ClientMessage<'_>, ClientError>
+fn by_code(code: u32, rest: &[u8]) -> Result<ClientMessage<'_>, ClientError>
     ensures { told result ≡ by_code code rest.now }
 {
     match code {
-        VERSION_3_0 => named(startup(ProtocolVersion::V3_0, rest)),
-        VERSION_3_2 => named(startup(ProtocolVersion::V3_2, rest)),
         CANCEL_REQUEST => named(cancel(rest)),
         SSL_REQUEST => named(ended(rest, ClientMessage::SslRequest)),
-        _ => Err(ClientError::UnknownPacket(code.cast_signed())),
+        GSSENC_REQUEST => named(ended(rest, ClientMessage::GssEncRequest)),
+        _ if code < VERSION_3_0 => Err(ClientError::UnknownPacket(code.cast_signed())),
+        _ if code >= VERSION_4_0 => Err(ClientError::UnknownPacket(code.cast_signed())),
+        _ => named(startup((code - VERSION_3_0) as u16, rest)),
     }
 }
 
@@ -221,14 +240,11 @@ fn named<'a>(body: Result<ClientMessage<'a>, Error>) -> Result<ClientMessage<'a>
 }
 
 #[tactic(auto, unfolding(crate::specs::Reading::startup_of))]
-fn startup(version: ProtocolVersion, rest: &[u8]) -> Result<ClientMessage<'_>, Error>
-    ensures { seen result ≡ startup_of version rest.now }
+fn startup(minor: u16, rest: &[u8]) -> Result<ClientMessage<'_>, Error>
+    ensures { seen result ≡ startup_of minor rest.now }
 {
     let parameters = StartupParameters::read(rest)?;
-    Ok(ClientMessage::Startup {
-        version,
-        parameters,
-    })
+    Ok(ClientMessage::Startup { minor, parameters })
 }
 
 #[tactic(auto, unfolding(crate::specs::Reading::cancel_of))]

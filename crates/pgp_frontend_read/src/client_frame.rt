@@ -2,13 +2,11 @@
 
 ghost use Rattle.std.specs.Prelude.{◌≡◌};
 ghost use Rattle.pgp_frontend_read.specs.Pieces.{IsWhole, ReadsFrame};
-ghost use Rattle.pgp_frontend_read.specs.AnyViews.{any_told};
-ghost use Rattle.pgp_frontend_read.specs.Views.{kind_view};
+ghost use Rattle.pgp_frontend_read.specs.Views.{kind_view, told};
 
 use crate::error::ClientError;
-use crate::message::PasswordKind;
+use crate::message::{ClientMessage, PasswordKind};
 use crate::messages::ClientMessages;
-use crate::other::AnyMessage;
 
 /// The bytes of one message, as a `ClientParser` found them by their length. Who passes a message on unchanged writes these.
 #[derive(Drop)]
@@ -25,18 +23,18 @@ impl<'a> ClientFrame<'a> {
         self.bytes
     }
 
-    /// The message, of either sort. `kind` tells which message of tag `p` is expected; for all others it tells nothing.
+    /// The message. `kind` tells which message of tag `p` is expected; for all others it tells nothing.
     ///
     /// # Errors
     ///
-    /// `UnknownTag`, or the fault of what follows the tag, as `ClientMessages::next_any` tells it. The parser has passed the message. An
+    /// `UnknownTag`, or the fault of what follows the tag, as `ClientMessages::next` tells it. The parser has passed the message. An
     /// opening packet isn't refused here: the parser has read it.
-    pub fn message(&self, kind: PasswordKind) -> Result<AnyMessage<'a>, ClientError>
+    pub fn message(&self, kind: PasswordKind) -> Result<ClientMessage<'a>, ClientError>
         requires { IsWhole self.now.opened self.now.bytes.now }
-        ensures { ReadsFrame (kind_view kind) self.now (any_told result) }
+        ensures { ReadsFrame (kind_view kind) self.now (told result) }
     {
         let mut messages = ClientMessages::resume(self.bytes, self.opened);
-        match messages.next_any(kind) {
+        match messages.next(kind) {
             Ok(Some(message)) => Ok(message),
             Ok(None) => unreachable!(),
             Err(e) => Err(e),

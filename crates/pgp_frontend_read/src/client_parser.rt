@@ -96,7 +96,7 @@ impl<A: Memory> ClientParser<A> {
     ///
     /// - `TooLong`: the header announces a length past the limit. No memory was asked for.
     /// - `Refused`: `InvalidLength`, where no message has the length that stands there; or an opening packet stands there that is no
-    ///   message, with what `ClientMessages::next_any` tells of it.
+    ///   message, with what `ClientMessages::next` tells of it.
     /// - `OutOfMemory`, of a message that is cut.
     pub fn next<'s, 'p: 's>(
         &'s mut self,
@@ -343,7 +343,7 @@ fn phase_behind(opened: bool, bytes: &[u8]) -> Result<bool, ParserError>
         return Ok(true);
     }
     let mut messages = ClientMessages::new(bytes);
-    match messages.next_any(PasswordKind::Password) {
+    match messages.next(PasswordKind::Password) {
         Ok(_) => Ok(messages.is_open()),
         Err(e) => Err(ParserError::Refused(e)),
     }

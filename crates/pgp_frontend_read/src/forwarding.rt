@@ -1,24 +1,25 @@
 //! A message that was read, written again.
 
 ghost use Rattle.std.specs.Prelude.{◌≡◌, [], ◌∷◌, Some};
-ghost use Rattle.pgp_frontend.specs.ClientMessage.{Bind, Parse, Startup};
-ghost use Rattle.pgp_frontend.specs.Payload.{Byte, Text, version_code, WritesFrame, WritesMessage};
+ghost use Rattle.pgp_frontend.specs.ClientMessage.{Bind, FunctionCall, Parse, SaslInitialResponse, Startup};
+ghost use Rattle.pgp_frontend.specs.Payload.{Byte, Text, WritesFrame, WritesMessage};
 ghost use Rattle.pgp_frontend_read.specs.Views.{view};
+ghost use Rattle.pgp_frontend_read.specs.Whole.{shown};
 
-use crate::body::{VERSION_3_0, VERSION_3_2};
+use crate::body::{GSSENC_REQUEST, VERSION_3_0};
 use crate::formats::Formats;
 use crate::message::ClientMessage;
 use crate::pairs::StartupParameters;
 use crate::types::ParamTypes;
 use crate::values::Values;
-use pgp_base::{Buffer, Error};
+use pgp_base::{Buffer, Error, Oid};
 use pgp_frontend::field::{Field, message as tagged, packet};
 use pgp_frontend::{
-    ProtocolVersion, cancel_request_key, copy_done, flush, password_message, sasl_response,
-    ssl_request, sync, terminate,
+    cancel_request_key, copy_done, flush, password_message, sasl_response, ssl_request, sync,
+    terminate,
 };
 
-/// Appends the message as its writer spells it: the bytes that stood where it was read. Of a list that was walked it is
+/// Appends the message: the bytes that stood where it was read. Of a list that was walked it is
 /// what is left.
 ///
 /// # Errors
@@ -46,6 +47,12 @@ pub fn forward<B: Buffer>(message: &ClientMessage<'_>, buf: &mut B) -> Result<()
             tagged(b'E', &[Field::Text(portal), Field::Int32(*max_rows)], buf)
         }
         ClientMessage::Flush => flush(buf),
+        ClientMessage::FunctionCall {
+            function,
+            formats,
+            arguments,
+            result_format,
+        } => function_call(*function, formats, arguments, *result_format, buf),
         ClientMessage::Parse {
             name,
             query,
@@ -56,19 +63,17 @@ pub fn forward<B: Buffer>(message: &ClientMessage<'_>, buf: &mut B) -> Result<()
         ClientMessage::SaslInitialResponse {
             mechanism,
             response,
-        } => tagged(b'p', &[Field::Text(mechanism), Field::Sized(response)], buf),
+        } => sasl_initial(mechanism, *response, buf),
         ClientMessage::SaslResponse(response) => sasl_response(response, buf),
         ClientMessage::Sync => sync(buf),
         ClientMessage::Terminate => terminate(buf),
-        ClientMessage::Startup {
-            version,
-            parameters,
-        } => startup(*version, parameters, buf),
+        ClientMessage::Startup { minor, parameters } => startup(*minor, parameters, buf),
         ClientMessage::CancelRequest {
             process_id,
             secret_key,
         } => cancel_request_key(*process_id, secret_key, buf),
         ClientMessage::SslRequest => ssl_request(buf),
+        ClientMessage::GssEncRequest => packet(&[Field::Int32(GSSENC_REQUEST.cast_signed())], buf),
     }
 }
 
@@ -129,28 +134,58 @@ fn parse<'a, B: Buffer>(
     )
 }
 
-fn startup<B: Buffer>(
-    version: ProtocolVersion,
-    parameters: &StartupParameters<'_>,
+fn function_call<'a, B: Buffer>(
+    function: Oid,
+    formats: &Formats<'a>,
+    arguments: &Values<'a>,
+    result_format: i16,
     buf: &mut B,
 ) -> Result<(), Error>
-    ensures { WritesMessage (Startup version parameters.now) B.Lacks (B.held buf.old) (B.held buf.new) result }
+    ensures { WritesMessage (FunctionCall function formats.now arguments.now result_format) B.Lacks (B.held buf.old) (B.held buf.new) result }
 {
-    packet(
+    let (formats_count, formats_items) = formats.spelled();
+    let (arguments_count, arguments_items) = arguments.spelled();
+    tagged(
+        b'F',
         &[
-            Field::Int32(code_of(version)),
-            Field::Rest(parameters.spelled()),
+            Field::Int32(function.cast_signed()),
+            Field::Rest(&formats_count),
+            Field::Rest(formats_items),
+            Field::Rest(&arguments_count),
+            Field::Rest(arguments_items),
+            Field::Rest(&result_format.to_be_bytes()),
         ],
         buf,
     )
 }
 
-/// The version's number.
-fn code_of(version: ProtocolVersion) -> i32
-    ensures { result ≡ version_code version }
+/// Without a response -1 stands in the place of its length.
+fn sasl_initial<B: Buffer>(
+    mechanism: &[u8],
+    response: Option<&[u8]>,
+    buf: &mut B,
+) -> Result<(), Error>
+    ensures { WritesMessage (SaslInitialResponse mechanism.now (shown response.entry)) B.Lacks (B.held buf.old) (B.held buf.new) result }
 {
-    match version {
-        ProtocolVersion::V3_0 => VERSION_3_0.cast_signed(),
-        ProtocolVersion::V3_2 => VERSION_3_2.cast_signed(),
+    match response {
+        Some(response) => tagged(b'p', &[Field::Text(mechanism), Field::Sized(response)], buf),
+        None => tagged(b'p', &[Field::Text(mechanism), Field::Int32(-1)], buf),
     }
+}
+
+fn startup<B: Buffer>(
+    minor: u16,
+    parameters: &StartupParameters<'_>,
+    buf: &mut B,
+) -> Result<(), Error>
+    ensures { WritesMessage (Startup minor parameters.now) B.Lacks (B.held buf.old) (B.held buf.new) result }
+{
+    let code = VERSION_3_0 + u32::from(minor);
+    packet(
+        &[
+            Field::Int32(code.cast_signed()),
+            Field::Rest(parameters.spelled()),
+        ],
+        buf,
+    )
 }

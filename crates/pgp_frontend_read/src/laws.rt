@@ -5,15 +5,11 @@ ghost use Rattle.pgp_base.specs.declared.error.Error.{Error};
 ghost use Rattle.pgp_base.specs.Held.{Held, ◌⊕◌};
 ghost use Rattle.pgp_frontend.specs.Payload.{WritesMessage};
 ghost use Rattle.pgp_frontend.specs.Reading.{Shape};
-ghost use Rattle.pgp_frontend_read.specs.Forwards.{Forwards, WritesAll, WritesAllOf};
+ghost use Rattle.pgp_frontend_read.specs.Forwards.{Forwards, WritesAll};
 ghost use Rattle.pgp_frontend_read.specs.Faults.{Faulty};
 ghost use Rattle.pgp_frontend_read.specs.declared.error.ClientError.{ClientError as Refusal};
 ghost use Rattle.pgp_frontend.specs.ClientMessage.{ClientMessage as Message, PasswordKind as Kind};
 ghost use Rattle.pgp_frontend.specs.ClientRun.{ClientRun, is_startup};
-ghost use Rattle.pgp_frontend_read.specs.AnyStep.{AnyStep, OtherStands};
-ghost use Rattle.pgp_frontend_read.specs.OtherMessage as any;
-ghost use Rattle.pgp_frontend_read.specs.OtherMessage.{AnyMessage, OtherMessage as Other, Ours, WritesAny, is_other_startup};
-ghost use Rattle.pgp_frontend_read.specs.AnyReads.{AnyHasRead, AnyReads, IsAllReadAsOurs};
 ghost use Rattle.pgp_frontend_read.specs.Step.{IsPartial, Stands, Step, Unread};
 ghost use Rattle.pgp_frontend_read.specs.Reads.{HasRead, Reads, ReadsSession, IsAllRead};
 ghost use Rattle.std.specs.List.{flat_map};
@@ -87,85 +83,36 @@ pub fn what_was_read_is_forwarded<B: Buffer>()
         Step kind before (Ok (Some m)) after → WritesMessage m B.Lacks old new result → Forwards B.Lacks before.bytes after.bytes old new result }
 {}
 
-/// Where our messages alone are read, those that read the others too read the same: this message, and what is left is the
-/// same.
-pub fn any_reads_alike()
-    ensures { (kind : Kind) (old new other : Unread) (m : Message) (result : Result (Option AnyMessage) Refusal) →
-        Step kind old (Ok (Some m)) new → AnyStep kind old result other → (result ≡ Ok (Some (Ours m))) × (other ≡ new) }
-{}
-
-/// One of the others that stands at the front is read, and no other answer is given.
-pub fn others_that_stand_are_read()
-    ensures { (kind : Kind) (opened : Bool) (bytes rest : List ℕ) (o : Other) (result : Result (Option AnyMessage) Refusal) (new : Unread) →
-        OtherStands kind opened bytes o rest → AnyStep kind (record { bytes = bytes; opened = opened }) result new →
-        (result ≡ Ok (Some (any.Other o))) × (new ≡ record { bytes = rest; opened = opened || is_other_startup o }) }
-{}
-
-/// A step that reads the others too has one answer: what is read or why nothing is, and what is left.
-pub fn any_one_answer()
-    ensures { (kind : Kind) (old new other : Unread) (result another : Result (Option AnyMessage) Refusal) →
-        AnyStep kind old result new → AnyStep kind old another other → (result ≡ another) × (new ≡ other) }
-{}
-
-/// So what a client's session is, as the grammar of our messages says, is read as exactly these messages, and then the server
-/// waits for more.
-pub fn any_reads_sessions_alike()
-    ensures { (kinds : List Kind) (messages : List Message) (all : List AnyMessage) (bytes : List ℕ) (end : Result (Option AnyMessage) Refusal) (new : Unread) →
-        ClientRun kinds messages bytes → AnyReads kinds (record { bytes = bytes; opened = false }) all end new → IsAllReadAsOurs messages all end new }
-{}
-
-/// What was read of any message stands when bytes come.
-pub fn any_message_stands()
-    ensures { (kind : Kind) (old new later : Unread) (more : List ℕ) (x : AnyMessage) (result : Result (Option AnyMessage) Refusal) →
-        AnyStep kind old (Ok (Some x)) new → AnyStep kind (record { bytes = old.bytes ++ more; opened = old.opened }) result later →
-        (result ≡ Ok (Some x)) × (later ≡ record { bytes = new.bytes ++ more; opened = new.opened }) }
-{}
-
-/// A refusal of any message stays when bytes come.
-pub fn any_refusals_stay()
-    ensures { (kind : Kind) (old new later : Unread) (e : Refusal) (more : List ℕ) (result : Result (Option AnyMessage) Refusal) →
-        AnyStep kind old (Err e) new → AnyStep kind (record { bytes = old.bytes ++ more; opened = old.opened }) result later → IsErr result }
-{}
-
-/// What a proxy writes for any message that it read are the bytes that stood there, and want of the memory that these need is
-/// the one refusal.
-pub fn any_message_is_forwarded<B: Buffer>()
-    ensures { (kind : Kind) (before after : Unread) (x : AnyMessage) (old new : Held B.Kept) (result : Result (Unit {0}) Error) →
-        AnyStep kind before (Ok (Some x)) after → WritesAny x B.Lacks old new result → Forwards B.Lacks before.bytes after.bytes old new result }
-{}
-
-/// What a call of a `ClientParser` gives, with the message of what it hands out, is the step of a server that reads the others
-/// too, over the bytes that are held and the piece behind them.
+/// What a call of a `ClientParser` gives, with the message of what it hands out, is the step of a server over the
+/// bytes that are held and the piece behind them.
 pub fn calls_are_steps<A: Memory>()
-    ensures { (kind : Kind) (old new : Waiting) (piece left : List ℕ) (result : Result (Option AnyMessage) Refusal) →
-        Gives A.Lacks kind old piece result new left → AnyStep kind (unread old piece) result (unread new left) }
+    ensures { (kind : Kind) (old new : Waiting) (piece left : List ℕ) (result : Result (Option Message) Refusal) →
+        Gives A.Lacks kind old piece result new left → Step kind (unread old piece) result (unread new left) }
 {}
 
 /// So, however a client's connection is cut into pieces: the messages that came while each was fed, and those that came of the
 /// last, with what ended them, are what the bytes as a whole give, and all that they give.
 pub fn pieces_give_the_whole<A: Memory>()
-    ensures { (kinds others rest : List Kind) (old here new : Waiting) (came : List Came) (last left : List ℕ) (messages all : List AnyMessage)
-        (end result : Result (Option AnyMessage) Refusal) (behind : Unread) →
+    ensures { (kinds others rest : List Kind) (old here new : Waiting) (came : List Came) (last left : List ℕ) (messages all : List Message)
+        (end result : Result (Option Message) Refusal) (behind : Unread) →
         ReadsPieces A.Lacks kinds old came others here → ReadsPiece A.Lacks others here last messages end rest new left →
-        AnyReads kinds (unread old (flat_map piece_of came ++ last)) all result behind →
+        Reads kinds (unread old (flat_map piece_of came ++ last)) all result behind →
         (all ≡ flat_map messages_of came ++ messages) × (result ≡ end) × (behind ≡ unread new left) }
 {}
 
-/// And where the pieces are those of a session, as the grammar of our messages says: exactly its messages came, and the parser
+/// And where the pieces are those of a session, as the grammar says: exactly its messages came, and the parser
 /// waits for more.
 pub fn pieces_of_sessions_are_read<A: Memory>()
-    ensures { (kinds others rest : List Kind) (old here new : Waiting) (came : List Came) (last left : List ℕ) (messages : List Message) (all : List AnyMessage)
-        (end : Result (Option AnyMessage) Refusal) →
+    ensures { (kinds others rest : List Kind) (old here new : Waiting) (came : List Came) (last left : List ℕ) (messages all : List Message)
+        (end : Result (Option Message) Refusal) →
         old.bytes ≡ [] → old.opened ≡ false → ReadsPieces A.Lacks kinds old came others here → ReadsPiece A.Lacks others here last all end rest new left →
-        ClientRun kinds messages (flat_map piece_of came ++ last) → IsAllReadAsOurs messages (flat_map messages_of came ++ all) end (unread new left) }
+        ClientRun kinds messages (flat_map piece_of came ++ last) → IsAllRead messages (flat_map messages_of came ++ all) end (unread new left) }
 {}
 
 /// What a proxy writes for all messages that it read are the bytes that stood there.
 pub fn all_that_was_read_is_forwarded<B: Buffer>()
-    ensures ours { (kinds rest : List Kind) (from here : Unread) (messages : List Message) (old new : Held B.Kept) →
+    ensures { (kinds rest : List Kind) (from here : Unread) (messages : List Message) (old new : Held B.Kept) →
         HasRead kinds from messages rest here → WritesAll B.Lacks messages old new → Forwards B.Lacks from.bytes here.bytes old new (Ok tt) }
-    ensures either { (kinds rest : List Kind) (from here : Unread) (messages : List AnyMessage) (old new : Held B.Kept) →
-        AnyHasRead kinds from messages rest here → WritesAllOf B.Lacks messages old new → Forwards B.Lacks from.bytes here.bytes old new (Ok tt) }
 {}
 
 /// So what it writes for the messages of a whole session are the session's bytes.

@@ -1,9 +1,6 @@
 //! The server's side: what a client sends, read where it stands.
 #![tactic(auto)]
 
-mod any_body;
-mod any_forwarding;
-mod any_step;
 mod body;
 mod client_frame;
 mod client_parser;
@@ -18,14 +15,12 @@ mod limits;
 mod listed;
 mod message;
 mod messages;
-mod other;
 mod pairs;
 mod parser_error;
 mod session;
 mod types;
 mod values;
 
-pub use any_forwarding::forward_any;
 pub use client_frame::ClientFrame;
 pub use client_parser::ClientParser;
 pub use error::ClientError;
@@ -34,7 +29,6 @@ pub use forwarding::forward;
 pub use limits::Limits;
 pub use message::{ClientMessage, PasswordKind};
 pub use messages::ClientMessages;
-pub use other::{AnyMessage, OtherMessage};
 pub use pairs::StartupParameters;
 pub use parser_error::ParserError;
 pub use session::read_session;

@@ -4,7 +4,7 @@ use crate::formats::Formats;
 use crate::pairs::StartupParameters;
 use crate::types::ParamTypes;
 use crate::values::Values;
-use pgp_frontend::ProtocolVersion;
+use pgp_base::Oid;
 
 /// Which message of tag `p` a server expects. Their bytes don't tell it.
 #[derive(Debug, Clone, Copy, PartialEq, Eq)]
@@ -48,6 +48,15 @@ pub enum ClientMessage<'a> {
         max_rows: i32,
     },
     Flush,
+    FunctionCall {
+        /// The function's object identifier.
+        function: Oid,
+        /// The arguments' formats: one for each, one for all, or none where all are texts. Their number isn't tested.
+        formats: Formats<'a>,
+        arguments: Values<'a>,
+        /// 0 text, 1 binary; any other number is read too.
+        result_format: i16,
+    },
     Parse {
         name: &'a [u8],
         query: &'a [u8],
@@ -57,15 +66,17 @@ pub enum ClientMessage<'a> {
     Query(&'a [u8]),
     SaslInitialResponse {
         mechanism: &'a [u8],
-        response: &'a [u8],
+        /// None where -1 stands in the place of its length.
+        response: Option<&'a [u8]>,
     },
     /// All bytes, as of a GSSResponse.
     SaslResponse(&'a [u8]),
     Sync,
     Terminate,
-    /// The version that the client asks for, and its names and values.
+    /// The startup packet of protocol 3.
     Startup {
-        version: ProtocolVersion,
+        /// The minor version that the client asks for.
+        minor: u16,
         parameters: StartupParameters<'a>,
     },
     CancelRequest {
@@ -74,4 +85,6 @@ pub enum ClientMessage<'a> {
         secret_key: &'a [u8],
     },
     SslRequest,
+    /// The question whether the connection may be encrypted by GSSAPI.
+    GssEncRequest,
 }

@@ -2,18 +2,14 @@
 
 ghost use Rattle.std.specs.Prelude.{◌≡◌, true, false};
 ghost use Rattle.pgp_frontend.specs.ClientMessage.{PasswordKind as Kind};
-ghost use Rattle.pgp_frontend_read.specs.AnyStep.{AnyStep, AnyTakesWithBytes};
-ghost use Rattle.pgp_frontend_read.specs.AnyViews.{read_any, read_any_with_bytes};
 ghost use Rattle.pgp_frontend_read.specs.Step.{Step, TakesWithBytes};
 ghost use Rattle.pgp_frontend_read.specs.Views.{kind_view, read, read_with_bytes, view};
 ghost use Rattle.pgp_frontend.specs.ClientRun.{is_startup};
 
-use crate::any_step::{any_opening, any_tagged};
 use crate::body::{body, packet};
 use crate::error::ClientError;
 use crate::frame::{frame, packet_front};
 use crate::message::{ClientMessage, PasswordKind};
-use crate::other::AnyMessage;
 use std::marker::Model;
 
 /// Reads the messages of a client in place: nothing is copied, and no memory is asked for. Before a startup packet
@@ -93,27 +89,6 @@ impl<'a> ClientMessages<'a> {
         read
     }
 
-    /// As `next`, and reads the messages too that no writer here makes: a call of a function, the first message of a SASL exchange
-    /// that has no response, the question for GSS encryption, and a startup packet of another minor version of protocol 3.
-    ///
-    /// # Errors
-    ///
-    /// As `next`. Where the first message of a SASL exchange is expected, the length -1 is no fault; and a packet whose code is
-    /// a version of protocol 3 is refused for what follows the code alone.
-    pub fn next_any(&mut self, kind: PasswordKind) -> Result<Option<AnyMessage<'a>>, ClientError>
-        ensures { AnyStep (kind_view kind) self.old (read_any result) self.new }
-    {
-        if self.opened {
-            let (read, rest) = any_tagged(kind, self.rest);
-            self.rest = rest;
-            return read;
-        }
-        let (read, rest, is_open) = any_opening(self.rest);
-        self.rest = rest;
-        self.opened = is_open;
-        read
-    }
-
     /// As `next`, with the bytes of the message beside it: who passes a message on unchanged writes these.
     ///
     /// # Errors
@@ -127,28 +102,6 @@ impl<'a> ClientMessages<'a> {
     {
         let before = self.rest;
         match self.next(kind) {
-            Ok(Some(message)) => {
-                let (bytes, _) = before.split_at(before.len() - self.rest.len());
-                Ok(Some((message, bytes)))
-            }
-            Ok(None) => Ok(None),
-            Err(e) => Err(e),
-        }
-    }
-
-    /// As `next_any`, with the bytes of the message beside it.
-    ///
-    /// # Errors
-    ///
-    /// As `next_any`.
-    pub fn next_any_with_bytes(
-        &mut self,
-        kind: PasswordKind,
-    ) -> Result<Option<(AnyMessage<'a>, &'a [u8])>, ClientError>
-        ensures { AnyTakesWithBytes (kind_view kind) self.old (read_any_with_bytes result) self.new }
-    {
-        let before = self.rest;
-        match self.next_any(kind) {
             Ok(Some(message)) => {
                 let (bytes, _) = before.split_at(before.len() - self.rest.len());
                 Ok(Some((message, bytes)))

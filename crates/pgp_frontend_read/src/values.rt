@@ -5,7 +5,7 @@ ghost use Rattle.pgp_base.specs.PartReading.{Answers};
 ghost use Rattle.pgp_frontend.specs.Payload as part;
 ghost use Rattle.pgp_frontend.specs.Payload.{spelling};
 ghost use Rattle.pgp_frontend.specs.Reading.{HasSpelling};
-ghost use Rattle.pgp_frontend_read.specs.Reading.{value_at, counted_at, items_at, sized_at};
+ghost use Rattle.pgp_frontend_read.specs.Reading.{value_at, counted_at, items_at};
 ghost use Rattle.pgp_frontend_read.specs.Whole.{RestOf, shown, whole};
 
 use crate::listed::{Item, Listed};
@@ -121,19 +121,3 @@ fn behind_values(count: u16, bytes: &[u8]) -> Result<&[u8], Error>
 
 /// The length that stands for a null.
 const NULL: u32 = 0xffff_ffff;
-
-/// A value that isn't null, and the bytes behind it.
-///
-/// # Errors
-///
-/// `UnexpectedEof` where it is cut short, and `InvalidValueLength` for a length that is negative.
-#[tactic(auto, unfolding(crate::specs::Reading::sized_at))]
-pub(crate) fn sized_at(bytes: &[u8]) -> Result<(&[u8], &[u8]), Error>
-    ensures { Answers (λ x. (x.0.now, x.1.now)) result (sized_at bytes.now) }
-{
-    match value_at(bytes) {
-        Ok((Some(value), rest)) => Ok((value, rest)),
-        Ok((None, _)) => Err(Error::InvalidValueLength),
-        Err(e) => Err(e),
-    }
-}

@@ -4,7 +4,7 @@ use Rattle.std.specs.Prelude.{ℕ, negsuc, pos, List, [], ◌∷◌, ◌++◌, l
 use Rattle.std.specs.List.{flat_map}
 use Rattle.std.specs.Borrow.{Bor}
 use Rattle.pgp_base.specs.Wire.{int16, int32, uint16, oid}
-use Rattle.pgp_frontend.specs.Payload.{Part, Byte, Int32, Text, Sized, Rest}
+use Rattle.pgp_frontend.specs.Payload.{Part, Byte, Int32, Text, Nullable, Rest}
 use Rattle.pgp_message.specs.Items.{FieldPart, ErrorPart}
 
 -- the parts before a list, those of its items, and those behind it
@@ -29,7 +29,7 @@ lent (Some bytes) = Some bytes.now
 -- a value of a row: -1 for a null
 abbrev pub value_parts : Option (List ℕ) → List Part
 value_parts None = Int32 (negsuc 0) ∷ []
-value_parts (Some bytes) = Sized bytes ∷ []
+value_parts (Some bytes) = Nullable (Some bytes) ∷ []
 
 abbrev pub text_parts : List ℕ → List Part
 text_parts z = Text z ∷ []

@@ -1,8 +1,7 @@
-//! What a server reads of a client: each message as the words of the call that writes it.
+//! What a server reads of a client: each message as the words of the call that writes it, or by a name of its own where none does.
 
 use crate::shown::{Show, Shown, show_walk};
-use pgp_frontend::ProtocolVersion;
-use pgp_frontend_read::{AnyMessage, ClientMessage, OtherMessage, StartupParameters};
+use pgp_frontend_read::{ClientMessage, StartupParameters};
 
 /// The name and the value of a startup packet's parameter, two words.
 impl Show for (&[u8], &[u8]) {
@@ -14,11 +13,14 @@ impl Show for (&[u8], &[u8]) {
 }
 
 /// Shows the version, and the names and values, two words each.
-fn show_startup(version: ProtocolVersion, parameters: StartupParameters<'_>, out: &mut Shown) {
-    out.word("startup_message_version");
-    match version {
-        ProtocolVersion::V3_0 => out.word("3.0"),
-        ProtocolVersion::V3_2 => out.word("3.2"),
+fn show_startup(minor: u16, parameters: StartupParameters<'_>, out: &mut Shown) {
+    match minor {
+        0 => out.word("startup_message_version 3.0"),
+        2 => out.word("startup_message_version 3.2"),
+        minor => {
+            out.word("startup_message_minor");
+            out.number(minor)
+        }
     }
     show_walk(parameters, out)
 }
@@ -58,10 +60,19 @@ fn show_details(message: ClientMessage<'_>, out: &mut Shown) {
             show_bytes("execute", &[portal], out);
             out.number(max_rows)
         }
-        ClientMessage::Startup {
-            version,
-            parameters,
-        } => show_startup(version, parameters, out),
+        ClientMessage::FunctionCall {
+            function,
+            formats,
+            arguments,
+            result_format,
+        } => {
+            out.word("function_call");
+            out.number(function);
+            show_walk(formats, out);
+            show_walk(arguments, out);
+            out.number(result_format)
+        }
+        ClientMessage::Startup { minor, parameters } => show_startup(minor, parameters, out),
         ClientMessage::CancelRequest {
             process_id,
             secret_key,
@@ -74,43 +85,16 @@ fn show_details(message: ClientMessage<'_>, out: &mut Shown) {
     }
 }
 
-/// Shows a message that no call here writes, by a name of its own and its parts.
-fn show_other(message: OtherMessage<'_>, out: &mut Shown) {
-    match message {
-        OtherMessage::FunctionCall {
-            function,
-            formats,
-            arguments,
-            result_format,
-        } => {
-            out.word("function_call");
-            out.number(function);
-            show_walk(formats, out);
-            show_walk(arguments, out);
-            out.number(result_format)
-        }
-        OtherMessage::SaslInitialWithoutResponse { mechanism } => {
-            show_bytes("sasl_initial_without_response", &[mechanism], out)
-        }
-        OtherMessage::GssEncRequest => out.word("gssenc_request"),
-        OtherMessage::StartupOther { minor, parameters } => {
-            out.word("startup_message_minor");
-            out.number(minor);
-            show_walk(parameters, out)
-        }
-    }
-}
-
-/// Shows any message.
-pub fn show_any(message: AnyMessage<'_>, out: &mut Shown) {
-    match message {
-        AnyMessage::Ours(message) => show_call(message, out),
-        AnyMessage::Other(message) => show_other(message, out),
+/// Shows the first message of a SASL exchange.
+fn show_sasl_initial(mechanism: &[u8], response: Option<&[u8]>, out: &mut Shown) {
+    match response {
+        Some(response) => show_bytes("sasl_initial_response", &[mechanism, response], out),
+        None => show_bytes("sasl_initial_without_response", &[mechanism], out),
     }
 }
 
 /// Shows a message.
-fn show_call(message: ClientMessage<'_>, out: &mut Shown) {
+pub fn show_call(message: ClientMessage<'_>, out: &mut Shown) {
     match message {
         ClientMessage::Close { variant, name } => show_bytes("close", &[&[variant], name], out),
         ClientMessage::CopyData(bytes) => show_bytes("copy_data", &[bytes], out),
@@ -131,11 +115,12 @@ fn show_call(message: ClientMessage<'_>, out: &mut Shown) {
         ClientMessage::SaslInitialResponse {
             mechanism,
             response,
-        } => { show_bytes("sasl_initial_response", &[mechanism, response], out) }
+        } => show_sasl_initial(mechanism, response, out),
         ClientMessage::SaslResponse(response) => show_bytes("sasl_response", &[response], out),
         ClientMessage::Sync => out.word("sync"),
         ClientMessage::Terminate => out.word("terminate"),
         ClientMessage::SslRequest => out.word("ssl_request"),
+        ClientMessage::GssEncRequest => out.word("gssenc_request"),
         other => show_details(other, out),
     }
 }

@@ -1,7 +1,7 @@
 //! What a client sends, read: whole, from each front on, and cut at each place.
 
-use crate::client_parts::show_any;
-use crate::client_steps::{Grammar, Kinds};
+use crate::client_parts::show_call;
+use crate::client_steps::Kinds;
 use crate::fault::Fault;
 use crate::row::Row;
 use crate::shown::Shown;
@@ -9,7 +9,7 @@ use crate::word::{Item, Word, Words, words_of};
 use bytes::BytesMut;
 use pgp_base::{Error, Window};
 use pgp_frontend_read::{
-    AnyMessage, ClientError, ClientMessages, PasswordKind, forward_any, read_session,
+    ClientError, ClientMessage, ClientMessages, PasswordKind, forward, read_session,
 };
 use std::alloc::Global;
 
@@ -19,7 +19,6 @@ const MOST: usize = 100;
 /// The bytes of a client, and how they are read.
 #[derive(Drop)]
 struct Sent<'s> {
-    grammar: Grammar,
     opened: bool,
     kinds: &'s [PasswordKind],
     bytes: &'s [u8],
@@ -37,20 +36,20 @@ fn show_refusal(refusal: ClientError, out: &mut Shown) {
 }
 
 /// In memory that is a byte short a message isn't forwarded. Else that is shown.
-fn needs_its_room(message: &AnyMessage<'_>, len: usize, out: &mut Shown) {
+fn needs_its_room(message: &ClientMessage<'_>, len: usize, out: &mut Shown) {
     let Ok(mut room) = vec![in out.alloc(); 0u8; len.saturating_sub(1)] else {
         return out.fail(Fault::Memory);
     };
     let mut window = Window::new(&mut room);
-    if forward_any(message, &mut window) != Err(Error::OutOfMemory) {
+    if forward(message, &mut window) != Err(Error::OutOfMemory) {
         out.word("forwarded in too little memory");
     }
 }
 
 /// The message, written again, is the bytes that stood there; in memory that is a byte short it is refused. Else that is shown.
-fn forward(message: &AnyMessage<'_>, stood: &[u8], out: &mut Shown) {
+fn forwards(message: &ClientMessage<'_>, stood: &[u8], out: &mut Shown) {
     let mut buf = BytesMut::new(out.alloc());
-    if let Err(e) = forward_any(message, &mut buf) {
+    if let Err(e) = forward(message, &mut buf) {
         out.refusal(e);
     }
     if buf.as_slice() != stood {
@@ -66,9 +65,9 @@ fn forward_each(sent: &Sent<'_>, out: &mut Shown) {
     let mut reader = ClientMessages::resume(sent.bytes, sent.opened);
     for _ in 0..MOST {
         let left = reader.rest().len();
-        match sent.grammar.next(&mut reader, kinds.first()) {
+        match reader.next_with_bytes(kinds.first()) {
             Ok(Some((message, stood))) => {
-                forward(&message, stood, out);
+                forwards(&message, stood, out);
                 kinds.pass(&message);
                 drop(message);
             }
@@ -84,18 +83,13 @@ fn forward_each(sent: &Sent<'_>, out: &mut Shown) {
 }
 
 /// Shows what is read, and tells whether a refusal stopped it.
-fn read_on(
-    grammar: Grammar,
-    reader: &mut ClientMessages<'_>,
-    kinds: &mut Kinds<'_>,
-    out: &mut Shown,
-) -> bool {
+fn read_on(reader: &mut ClientMessages<'_>, kinds: &mut Kinds<'_>, out: &mut Shown) -> bool {
     for _ in 0..MOST {
         let left = reader.rest().len();
-        match grammar.next(reader, kinds.first()) {
-            Ok(Some((message, _))) => {
+        match reader.next(kinds.first()) {
+            Ok(Some(message)) => {
                 kinds.pass(&message);
-                show_any(message, out);
+                show_call(message, out);
                 out.word(";");
             }
             Ok(None) => return false,
@@ -116,12 +110,12 @@ fn in_two(sent: &Sent<'_>, cut: usize, out: &mut Shown) {
     let mut kinds = Kinds::new(sent.kinds);
     let front = sent.bytes.get(..cut).unwrap_or(&[]);
     let mut reader = ClientMessages::resume(front, sent.opened);
-    let is_stopped = read_on(sent.grammar, &mut reader, &mut kinds, out);
+    let is_stopped = read_on(&mut reader, &mut kinds, out);
     let at = front.len().saturating_sub(reader.rest().len());
     let rest = sent.bytes.get(at..).unwrap_or(&[]);
     let mut reader = ClientMessages::resume(rest, reader.is_open());
     if !is_stopped {
-        read_on(sent.grammar, &mut reader, &mut kinds, out);
+        read_on(&mut reader, &mut kinds, out);
     }
     out.word("rest");
     out.bytes(reader.rest());
@@ -131,7 +125,7 @@ fn in_two(sent: &Sent<'_>, cut: usize, out: &mut Shown) {
 fn at_once(sent: &Sent<'_>, wanted: &str, out: &mut Shown) -> Result<(), Fault> {
     let (messages, refusal) = read_session(out.alloc(), sent.kinds, sent.bytes)?;
     for message in messages {
-        show_any(AnyMessage::Ours(message), out);
+        show_call(message, out);
         out.word(";");
     }
     if let Some(e) = refusal {
@@ -147,7 +141,7 @@ fn comes_to(sent: &Sent<'_>, wanted: &str, out: &mut Shown) -> Result<(), Fault>
         in_two(sent, cut, out);
         out.came_to(wanted)?;
     }
-    if let (Grammar::Ours, false) = (sent.grammar, sent.opened) {
+    if !sent.opened {
         at_once(sent, wanted, out)?;
     }
     forward_each(sent, out);
@@ -171,12 +165,7 @@ impl<'w> Item<'w> for PasswordKind {
 }
 
 /// The words of a row behind its call: `first` or `open`, the kinds of the messages of tag `p`, and the bytes.
-fn check_sent(
-    grammar: Grammar,
-    words: &mut Words<'_>,
-    wanted: &str,
-    out: &mut Shown,
-) -> Result<(), Fault> {
+fn check_sent(words: &mut Words<'_>, wanted: &str, out: &mut Shown) -> Result<(), Fault> {
     let opened = words.takes("open");
     if !opened && !words.takes("first") {
         words.fail_row();
@@ -185,7 +174,6 @@ fn check_sent(
     let bytes = words.joined(out.alloc());
     out.keep(words.end());
     let sent = Sent {
-        grammar,
         opened,
         kinds: &kinds,
         bytes: &bytes,
@@ -193,15 +181,13 @@ fn check_sent(
     comes_to(&sent, wanted, out)
 }
 
-/// A row of a client's bytes: `read` or `read_any`, and its words.
+/// A row of a client's bytes: `read` or `read_any`, which is the same, and its words.
 pub fn check_client_read(alloc: Global, row: &Row<'_>, out: &mut Shown) -> Result<(), Fault> {
-    let grammar = match row.call {
-        "read" => Grammar::Ours,
-        "read_any" => Grammar::Any,
-        _ => return Err(Fault::Row),
-    };
+    if row.call != "read" && row.call != "read_any" {
+        return Err(Fault::Row);
+    }
     let all = words_of(alloc, row.left)?;
-    check_sent(grammar, &mut Words::new(&all), row.right, out)
+    check_sent(&mut Words::new(&all), row.right, out)
 }
 
 /// The kind of the message that a call writes.
@@ -284,14 +270,10 @@ pub fn is_read_back(alloc: Global, row: &Row<'_>, out: &mut Shown) -> Result<(),
     let mut wanted = Shown::new(alloc);
     let opened = show_read_back(row.call, &words, &bytes, &mut wanted);
     let kinds = [kind_of(row.call)];
-    for grammar in [Grammar::Ours, Grammar::Any] {
-        let sent = Sent {
-            grammar,
-            opened,
-            kinds: &kinds,
-            bytes: &bytes,
-        };
-        comes_to(&sent, wanted.as_str(), out)?;
-    }
-    Ok(())
+    let sent = Sent {
+        opened,
+        kinds: &kinds,
+        bytes: &bytes,
+    };
+    comes_to(&sent, wanted.as_str(), out)
 }

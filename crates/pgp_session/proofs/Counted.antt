@@ -3,11 +3,11 @@ use Rattle.std.proofs.Common.{◌≡◌, ℕ, ◌+◌, ◌<◌, ◌≤◌, Bool,
 use Rattle.std.specs.Prelude.{if◌then◌else◌}
 use Rattle.std.proofs.lemmas.Bool.{cases_lt}
 use Rattle.pgp_message.specs.BackendMessage.{Message}
-use Rattle.pgp_frontend_read.specs.OtherMessage.{AnyMessage}
+use Rattle.pgp_frontend.specs.ClientMessage.{ClientMessage}
 use Rattle.pgp_session.specs.Pooler.{awaits, waits, waits_behind, asks, status, some_one, readies, newer, last_status, IsIdle, IsCount, Saw, IsQuiet}
 use Rattle.pgp_session.specs.declared.pooler.Session.{Session}
 
-asks_more : (sent : List AnyMessage) (m : AnyMessage) → asks (sent ++ m ∷ []) ≡ asks sent + (if awaits m then 1 else 0)
+asks_more : (sent : List ClientMessage) (m : ClientMessage) → asks (sent ++ m ∷ []) ≡ asks sent + (if awaits m then 1 else 0)
 asks_more [] m = omega arith
 asks_more (n ∷ sent) m = omega (arith, asks_more sent m)
 
@@ -19,7 +19,7 @@ status_more : (before : Option ℕ) (came : List Message) (m : Message) → last
 status_more before [] m = refl
 status_more before (n ∷ came) m = status_more (newer before (status n)) came m
 
-waits_more : (before : Bool) (sent : List AnyMessage) (m : AnyMessage) → waits_behind before (sent ++ m ∷ []) ≡ waits (waits_behind before sent) m
+waits_more : (before : Bool) (sent : List ClientMessage) (m : ClientMessage) → waits_behind before (sent ++ m ∷ []) ≡ waits (waits_behind before sent) m
 waits_more before [] m = refl
 waits_more before (n ∷ sent) m = waits_more (waits before n) sent m
 
@@ -40,16 +40,16 @@ one_more n k count more (inr is) grown next = inr (next.full (omega (arith, is.0
 same_count : (n count more : ℕ) → IsCount n count → more ≡ count → IsCount n more
 same_count n count more h e = rw e h
 
-module _ (sent : List AnyMessage) (came : List Message) (session : Session) (saw : Saw sent came session) where
-  told_waits : (m : AnyMessage) (now : Bool) → now ≡ waits session.unfinished m → now ≡ waits_behind false (sent ++ m ∷ [])
+module _ (sent : List ClientMessage) (came : List Message) (session : Session) (saw : Saw sent came session) where
+  told_waits : (m : ClientMessage) (now : Bool) → now ≡ waits session.unfinished m → now ≡ waits_behind false (sent ++ m ∷ [])
   told_waits m now is = is ∙ ap (λ (b : Bool). waits b m) saw.unfinished ∙ sym (waits_more false sent m)
 
-  pub saw_asked : (m : AnyMessage) (k : ℕ) (now : Bool) → awaits m ≡ true → now ≡ waits session.unfinished m → IsNext session.asked k → Saw (sent ++ m ∷ []) came (record { asked = k; readied = session.readied; status = session.status; unfinished = now })
+  pub saw_asked : (m : ClientMessage) (k : ℕ) (now : Bool) → awaits m ≡ true → now ≡ waits session.unfinished m → IsNext session.asked k → Saw (sent ++ m ∷ []) came (record { asked = k; readied = session.readied; status = session.status; unfinished = now })
   saw_asked m k now awaited is next =
       let more : asks (sent ++ m ∷ []) ≡ asks sent + 1 = asks_more sent m ∙ ap (λ (b : Bool). asks sent + (if b then 1 else 0)) awaited in
       record { asked = one_more session.asked k (asks sent) (asks (sent ++ m ∷ [])) saw.asked more next; readied = saw.readied; status = saw.status; unfinished = told_waits m now is }
 
-  pub saw_sent : (m : AnyMessage) (now : Bool) → awaits m ≡ false → now ≡ waits session.unfinished m → Saw (sent ++ m ∷ []) came (record { asked = session.asked; readied = session.readied; status = session.status; unfinished = now })
+  pub saw_sent : (m : ClientMessage) (now : Bool) → awaits m ≡ false → now ≡ waits session.unfinished m → Saw (sent ++ m ∷ []) came (record { asked = session.asked; readied = session.readied; status = session.status; unfinished = now })
   saw_sent m now other is =
       let same : asks (sent ++ m ∷ []) ≡ asks sent + 0 = asks_more sent m ∙ ap (λ (b : Bool). asks sent + (if b then 1 else 0)) other in
       record { asked = same_count session.asked (asks sent) (asks (sent ++ m ∷ [])) saw.asked (omega (arith, same)); readied = saw.readied; status = saw.status; unfinished = told_waits m now is }
@@ -82,13 +82,13 @@ has_count : (n count : ℕ) → IsCount n count → count < 18446744073709551615
 has_count n count (inl is) low = is.0
 has_count n count (inr is) low = absurd (omega (arith, is.1, low))
 
-pub quiet_is_idle : (sent : List AnyMessage) (came : List Message) (session : Session) (client server : List ℕ) → Saw sent came session → IsQuiet session client server → IsIdle sent came
+pub quiet_is_idle : (sent : List ClientMessage) (came : List Message) (session : Session) (client server : List ℕ) → Saw sent came session → IsQuiet session client server → IsIdle sent came
 quiet_is_idle sent came session client server saw quiet =
     let asked = is_count session.asked (asks sent) saw.asked quiet.counted in
     let readied = is_count session.readied (readies came) saw.readied (omega (arith, quiet.counted, quiet.answered)) in
     record { answered = omega (arith, asked, readied, quiet.answered); finished = sym saw.unfinished ∙ quiet.finished; idle = sym saw.status ∙ quiet.idle }
 
-pub idle_is_quiet : (sent : List AnyMessage) (came : List Message) (session : Session) → Saw sent came session → IsIdle sent came → asks sent < 18446744073709551615 → IsQuiet session [] []
+pub idle_is_quiet : (sent : List ClientMessage) (came : List Message) (session : Session) → Saw sent came session → IsIdle sent came → asks sent < 18446744073709551615 → IsQuiet session [] []
 idle_is_quiet sent came session saw idle low =
     let asked = has_count session.asked (asks sent) saw.asked low in
     let readied = has_count session.readied (readies came) saw.readied (omega (arith, idle.answered, low)) in

@@ -4,17 +4,17 @@ use Rattle.std.specs.Borrow.{Bor}
 use Rattle.std.specs.List.{flat_map}
 use Rattle.pgp_base.specs.Held.{Held, ◌⊕◌}
 use Rattle.pgp_base.proofs.Parts.{nothing_more}
-use Rattle.pgp_frontend.specs.ClientMessage.{PasswordKind}
+use Rattle.pgp_frontend.specs.ClientMessage.{ClientMessage, PasswordKind}
+use Rattle.pgp_frontend.specs.Payload.{bytes_of}
 use Rattle.pgp_frontend_read.specs.Forwards.{Forwards}
-use Rattle.pgp_frontend_read.specs.OtherMessage.{AnyMessage, any_bytes}
 use Rattle.pgp_frontend_read.specs.Step.{Unread}
-use Rattle.pgp_frontend_read.proofs.ForwardRuns.{any_stood, written_then}
+use Rattle.pgp_frontend_read.proofs.ForwardRuns.{written_then}
 use Rattle.pgp_session.specs.Proxy.{Call, ProxiesAll, PassesOn, NoneCame, Went, Stayed, Proxies, all_forwarded}
 use Rattle.pgp_session.specs.declared.proxy.Passed.{Passed}
 use Rattle.pgp_session.specs.declared.proxy.Passed.TheVariants.{Forwarded, HeldBack}
 
-read_then : (from here next : Unread) (x : AnyMessage) (rest : List ℕ) → from.bytes ≡ any_bytes x ++ here.bytes → here.bytes ≡ rest ++ next.bytes → from.bytes ≡ (any_bytes x ++ rest) ++ next.bytes
-read_then from here next x rest e f = e ∙ ap (λ l. any_bytes x ++ l) f ∙ sym (append_assoc (any_bytes x) rest next.bytes)
+read_then : (from here next : Unread) (x : ClientMessage) (rest : List ℕ) → from.bytes ≡ bytes_of x ++ here.bytes → here.bytes ≡ rest ++ next.bytes → from.bytes ≡ (bytes_of x ++ rest) ++ next.bytes
+read_then from here next x rest e f = e ∙ ap (λ l. bytes_of x ++ l) f ∙ sym (append_assoc (bytes_of x) rest next.bytes)
 
 module _ {K : Type 0} (refused : List (Bor (List ℕ))) (lacks : Held K → ℕ → Type 0) where
   one_more : (kind : PasswordKind) (passed : Passed) (from here next : Unread) (old held new : Held K) → Proxies refused kind lacks from old (Ok (Some passed)) here held → PassesOn refused here held next new → PassesOn refused from old next new
@@ -22,15 +22,15 @@ module _ {K : Type 0} (refused : List (Bor (List ℕ))) (lacks : Held K → ℕ 
     came = p.0 ∷ more.came;
     went = p.0 ∷ more.went;
     are = Went p.0 p.2 more.are;
-    read = read_then from here next p.0 (flat_map any_bytes more.came) (any_stood kind from here p.0 p.1) more.read;
-    written = written_then old held new (any_bytes p.0) (flat_map any_bytes more.went) p.3 more.written;
+    read = read_then from here next p.0 (flat_map bytes_of more.came) p.1.stands.whole more.read;
+    written = written_then old held new (bytes_of p.0) (flat_map bytes_of more.went) p.3 more.written;
   }
   one_more kind HeldBack from here next old held new p more = record {
     came = p.0 ∷ more.came;
     went = more.went;
     are = Stayed p.0 p.2 more.are;
-    read = read_then from here next p.0 (flat_map any_bytes more.came) (any_stood kind from here p.0 p.1) more.read;
-    written = more.written ∙ ap (λ (h : Held K). h ⊕ flat_map any_bytes more.went) p.3;
+    read = read_then from here next p.0 (flat_map bytes_of more.came) p.1.stands.whole more.read;
+    written = more.written ∙ ap (λ (h : Held K). h ⊕ flat_map bytes_of more.went) p.3;
   }
 
   pub calls_pass : (calls : List Call) (from next : Unread) (old new : Held K) → ProxiesAll refused lacks calls from old next new → PassesOn refused from old next new
@@ -43,7 +43,7 @@ module _ {K : Type 0} (refused : List (Bor (List ℕ))) (lacks : Held K → ℕ 
       let more = all_pass kinds p.0 next p.1 new p.3 in
       let step = p.2 in
       record {
-        stood = any_bytes step.0 ++ more.stood;
-        whole = read_then from p.0 next step.0 more.stood (any_stood kind from p.0 step.0 step.1) more.whole;
-        appends = written_then old p.1 new (any_bytes step.0) more.stood step.3 more.appends;
+        stood = bytes_of step.0 ++ more.stood;
+        whole = read_then from p.0 next step.0 more.stood step.1.stands.whole more.whole;
+        appends = written_then old p.1 new (bytes_of step.0) more.stood step.3 more.appends;
       }

@@ -1,12 +1,12 @@
 -- What is known of a session of a server stays known with each step.
-use Rattle.std.proofs.Common.{◌≡◌, ℕ, List, Result, Ok, Err, [], ◌∷◌, ◌++◌, refl, sym, subst, inl, inr, append_assoc}
+use Rattle.std.proofs.Common.{◌≡◌, ℕ, Bool, true, false, List, Some, Result, Ok, Err, [], ◌∷◌, ◌++◌, refl, sym, subst, inl, inr, append_assoc}
+use Rattle.std.specs.Prelude.{◌==◌, if◌then◌else◌}
 use Rattle.std.proofs.lemmas.List.{append-nil}
 use Rattle.pgp_base.specs.Held.{Held}
 use Rattle.pgp_base.specs.declared.error.Error.{Error}
-use Rattle.pgp_frontend.specs.ClientMessage.{ClientMessage, PasswordMessage, SaslInitialResponse, SaslResponse, Terminate, Startup, CancelRequest, SslRequest}
-use Rattle.pgp_frontend_read.specs.OtherMessage.{AnyMessage, Ours, Other, OtherMessage, FunctionCall, GssEncRequest}
+use Rattle.pgp_frontend.specs.ClientMessage.{ClientMessage, PasswordMessage, SaslInitialResponse, SaslResponse, Terminate, Startup, CancelRequest, SslRequest, GssEncRequest}
 use Rattle.pgp_session.specs.Serving as spec
-use Rattle.pgp_session.specs.Serving.{Due, Outcome, Comes, Steps, StepsAll, IsAsked, Knows, Proves, HasShown, IsUnderWay, IsChallenged, IsAdmitted, CameIn, NoneWanted, OneCame, OtherCame, due, ours_due, other_due, at_opening, at_password, at_first, at_final, at_open, other_at_opening, other_at_open, phase_after, password_message, first_message, final_message, scram}
+use Rattle.pgp_session.specs.Serving.{Due, Outcome, Comes, Steps, StepsAll, IsAsked, Knows, Proves, HasShown, IsUnderWay, IsChallenged, IsAdmitted, CameIn, NoneWanted, OneCame, OtherCame, due, starts, at_opening, at_password, at_first, at_final, at_open, phase_after, password_message, first_message, final_message, scram}
 use Rattle.pgp_session.specs.declared.serving.Denial.TheVariants.{WrongPassword, Violation}
 use Rattle.pgp_session.specs.declared.serving.Method.{Method}
 use Rattle.pgp_session.specs.declared.serving.Method.TheVariants as methods
@@ -16,77 +16,71 @@ use Rattle.pgp_session.specs.declared.serving.ServingPhase.{ServingPhase}
 use Rattle.pgp_session.specs.declared.serving.ServingPhase.TheVariants.{Opening, Named, AwaitsPassword, AwaitsFirst, AwaitsFinal, Open, Over}
 
 -- which message in which phase is this
-IsDue : AnyMessage → ServingPhase → Due → Type 0
+IsDue : ClientMessage → ServingPhase → Due → Type 0
 IsDue m p (spec.Text text) = (m ≡ password_message text) × (p ≡ AwaitsPassword)
-IsDue m p (spec.First mechanism text) = (m ≡ Ours (SaslInitialResponse mechanism text)) × (p ≡ AwaitsFirst)
+IsDue m p (spec.First mechanism text) = (m ≡ SaslInitialResponse mechanism (Some text)) × (p ≡ AwaitsFirst)
 IsDue m p (spec.Final text) = (m ≡ final_message text) × (p ≡ AwaitsFinal)
 IsDue m p spec.Asks = p ≡ Open
 IsDue m p d = Unit {0}
 
-opening_due : (m : ClientMessage) → IsDue (Ours m) Opening (at_opening m)
+starts_due : (m : ClientMessage) (minor : ℕ) → IsDue m Opening (starts minor)
+unfolding IsDue
+starts_due m minor = by (minor == 0) (minor == 2)
+  where
+    by : (a b : Bool) → IsDue m Opening (if a then spec.Starts else (if b then spec.Starts else spec.Misplaced))
+    by true b = tt
+    by false true = tt
+    by false false = tt
+
+opening_due : (m : ClientMessage) → IsDue m Opening (at_opening m)
 unfolding IsDue
 opening_due SslRequest = tt
 opening_due (CancelRequest process_id secret_key) = tt
-opening_due (Startup version parameters) = tt
+opening_due GssEncRequest = tt
+opening_due (Startup minor parameters) = starts_due (Startup minor parameters) minor
 opening_due m = tt
 
-password_due : (m : ClientMessage) → IsDue (Ours m) AwaitsPassword (at_password m)
+password_due : (m : ClientMessage) → IsDue m AwaitsPassword (at_password m)
 unfolding IsDue
 password_due (PasswordMessage text) = (refl, refl)
 password_due m = tt
 
-first_due : (m : ClientMessage) → IsDue (Ours m) AwaitsFirst (at_first m)
+first_due : (m : ClientMessage) → IsDue m AwaitsFirst (at_first m)
 unfolding IsDue
-first_due (SaslInitialResponse mechanism text) = (refl, refl)
+first_due (SaslInitialResponse mechanism (Some text)) = (refl, refl)
 first_due m = tt
 
-final_due : (m : ClientMessage) → IsDue (Ours m) AwaitsFinal (at_final m)
+final_due : (m : ClientMessage) → IsDue m AwaitsFinal (at_final m)
 unfolding IsDue
 final_due (SaslResponse text) = (refl, refl)
 final_due m = tt
 
-open_due : (m : ClientMessage) → IsDue (Ours m) Open (at_open m)
+open_due : (m : ClientMessage) → IsDue m Open (at_open m)
 unfolding IsDue
 open_due Terminate = tt
 open_due (PasswordMessage text) = tt
-open_due (SaslInitialResponse mechanism text) = tt
+open_due (SaslInitialResponse mechanism response) = tt
 open_due (SaslResponse text) = tt
-open_due (Startup version parameters) = tt
+open_due (Startup minor parameters) = tt
 open_due (CancelRequest process_id secret_key) = tt
 open_due SslRequest = tt
+open_due GssEncRequest = tt
 open_due m = refl
 
-other_opening_due : (o : OtherMessage) → IsDue (Other o) Opening (other_at_opening o)
+is_due : (p : ServingPhase) (m : ClientMessage) → IsDue m p (due p m)
 unfolding IsDue
-other_opening_due GssEncRequest = tt
-other_opening_due o = tt
+is_due Opening m = opening_due m
+is_due Named m = tt
+is_due AwaitsPassword m = password_due m
+is_due AwaitsFirst m = first_due m
+is_due AwaitsFinal m = final_due m
+is_due Open m = open_due m
+is_due Over m = tt
 
-other_open_due : (o : OtherMessage) → IsDue (Other o) Open (other_at_open o)
-unfolding IsDue
-other_open_due (FunctionCall function formats arguments result_format) = refl
-other_open_due o = tt
+one_more : {wanted came : List ClientMessage} (m x : ClientMessage) → m ≡ x → CameIn wanted came → CameIn (wanted ++ (x ∷ [])) (came ++ (m ∷ []))
+one_more {wanted} {came} m x e a = subst (λ (y : ClientMessage). CameIn (wanted ++ (y ∷ [])) (came ++ (m ∷ []))) e (OneCame m a)
 
-is_due : (p : ServingPhase) (m : AnyMessage) → IsDue m p (due p m)
-unfolding IsDue
-is_due Opening (Ours m) = opening_due m
-is_due Named (Ours m) = tt
-is_due AwaitsPassword (Ours m) = password_due m
-is_due AwaitsFirst (Ours m) = first_due m
-is_due AwaitsFinal (Ours m) = final_due m
-is_due Open (Ours m) = open_due m
-is_due Over (Ours m) = tt
-is_due Opening (Other o) = other_opening_due o
-is_due Named (Other o) = tt
-is_due AwaitsPassword (Other o) = tt
-is_due AwaitsFirst (Other o) = tt
-is_due AwaitsFinal (Other o) = tt
-is_due Open (Other o) = other_open_due o
-is_due Over (Other o) = tt
-
-one_more : {wanted came : List AnyMessage} (m x : AnyMessage) → m ≡ x → CameIn wanted came → CameIn (wanted ++ (x ∷ [])) (came ++ (m ∷ []))
-one_more {wanted} {came} m x e a = subst (λ (y : AnyMessage). CameIn (wanted ++ (y ∷ [])) (came ++ (m ∷ []))) e (OneCame m a)
-
-module _ {A : Type 0} (came : List AnyMessage) (m : AnyMessage) where
+module _ {A : Type 0} (came : List ClientMessage) (m : ClientMessage) where
   -- what was shown stays so behind another message
   longer : (start : Method A) → HasShown start came → HasShown start (came ++ (m ∷ []))
   longer methods.Nothing k = tt
@@ -130,14 +124,14 @@ module _ {A : Type 0} (came : List AnyMessage) (m : AnyMessage) where
       shown_text start text i.0 (subst (λ (x : Method A). Proves x text) (at start old p AwaitsPassword i.1 k) w.0)
   on start p (spec.Text text) old (spec.Denied WrongPassword) new i w k = tt
   on start p (spec.First mechanism text) old (spec.Challenge answer) new i w k =
-      let said : m ≡ first_message text = subst (λ (x : List ℕ). m ≡ Ours (SaslInitialResponse x text)) w.0 i.0 in
+      let said : m ≡ first_message text = subst (λ (x : List ℕ). m ≡ SaslInitialResponse x (Some text)) w.0 i.0 in
       under_way start new text answer said (subst (λ (x : Method A). IsChallenged x text new answer) (at start old p AwaitsFirst i.1 k) w.1)
   on start p (spec.First mechanism text) old (spec.Denied Violation) new i w k = tt
   on start p (spec.Final text) old (spec.Signed answer) new i w k = shown_proof start old new text answer i.0 (at start old p AwaitsFinal i.1 k) w
   on start p (spec.Final text) old (spec.Denied WrongPassword) new i w k = tt
   on start p d old o new i w k = absurd w
 
-module _ {A K : Type 0} (memory : Type 0) (lacks : Held K → ℕ → Type 0) (start : Method A) (came : List AnyMessage) (m : AnyMessage) (old new : Serving A) (before behind : Held K) where
+module _ {A K : Type 0} (memory : Type 0) (lacks : Held K → ℕ → Type 0) (start : Method A) (came : List ClientMessage) (m : ClientMessage) (old new : Serving A) (before behind : Held K) where
   pub kept_known : (r : Result ServingEvent Error) → Steps memory lacks m old new before behind r → Knows start came old.phase old.method → Knows start (came ++ (m ∷ [])) new.phase new.method
   kept_known (Ok event) w k =
       subst (λ (p : ServingPhase). Knows start (came ++ (m ∷ [])) p new.method) (sym w.3)
@@ -146,7 +140,7 @@ module _ {A K : Type 0} (memory : Type 0) (lacks : Held K → ℕ → Type 0) (s
 
 module _ {A K : Type 0} (memory : Type 0) (lacks : Held K → ℕ → Type 0) (start : Method A) where
   -- over steps one behind the other
-  all_known : (came sent : List AnyMessage) (old new : Serving A) → Knows start came old.phase old.method → StepsAll memory lacks sent old new → Knows start (came ++ sent) new.phase new.method
+  all_known : (came sent : List ClientMessage) (old new : Serving A) → Knows start came old.phase old.method → StepsAll memory lacks sent old new → Knows start (came ++ sent) new.phase new.method
   all_known came [] old new k w =
       let kept : Knows start came new.phase new.method = subst (λ (s : Serving A). Knows start came s.phase s.method) (sym w) k in
       rw (append-nil came) kept
@@ -158,6 +152,6 @@ module _ {A K : Type 0} (memory : Type 0) (lacks : Held K → ℕ → Type 0) (s
   asked_known asked (same, inl e) = rw e same
   asked_known asked (same, inr e) = rw e same
 
-  pub shown_at_last : (sent : List AnyMessage) (asked now : Serving A) → IsAsked start asked → StepsAll memory lacks sent asked now → now.phase ≡ Open → HasShown start sent
+  pub shown_at_last : (sent : List ClientMessage) (asked now : Serving A) → IsAsked start asked → StepsAll memory lacks sent asked now → now.phase ≡ Open → HasShown start sent
   shown_at_last sent asked now i w e =
       subst (λ (p : ServingPhase). Knows start sent p now.method) e (all_known [] sent asked now (asked_known asked i) w)

@@ -1,5 +1,5 @@
 -- The pairs of a startup packet, as an iterator gave them.
-use Rattle.std.proofs.Common.{◌≡◌, ℕ, zero, suc, ◌+◌, ◌≤◌, List, [], ◌∷◌, ◌++◌, length, take, map, Option, Some, None, refl, sym, ap, ◌∙◌, Bor, inl, inr, arith, length-append}
+use Rattle.std.proofs.Common.{◌≡◌, ℕ, zero, suc, ◌+◌, ◌≤◌, List, [], ◌∷◌, ◌++◌, length, take, map, Option, Some, None, refl, sym, ap, ◌∙◌, ◌⊎◌, Bor, inl, inr, arith, length-append}
 use Rattle.std.specs.List.{flat_map}
 use Rattle.std.specs.Iterator.{YieldsThen}
 use Rattle.std.proofs.lemmas.List.{take_more, append-nil}
@@ -14,10 +14,16 @@ use Rattle.pgp_base.specs.declared.error.Error.{Error}
 use Rattle.pgp_frontend.specs.ClientMessage.{Startup}
 use Rattle.pgp_frontend.specs.Given.{Arrived, shown, shown_pairs}
 use Rattle.pgp_frontend.specs.declared.startup.ProtocolVersion.{ProtocolVersion}
-use Rattle.pgp_frontend.specs.Payload.{Part, Int32, version_code, pair, pair_cause, parts_cause, bytes_of, cause}
+use Rattle.pgp_frontend.specs.declared.startup.ProtocolVersion.TheVariants.{V3_0, V3_2}
+use Rattle.pgp_frontend.specs.Payload.{Part, Int32, minor_code, minor_of, pair, pair_cause, parts_cause, bytes_of, cause}
 use Rattle.pgp_base.proofs.Parts.{wants_more}
 use Rattle.pgp_frontend.proofs.Causes.{either_more, last_cause, refused_pairs}
 use Rattle.pgp_frontend.proofs.Needs.{startup_length}
+
+-- the versions that are written
+pub minor_ours : (v : ProtocolVersion) → (minor_of v ≡ 0) ⊎ (minor_of v ≡ 2)
+minor_ours V3_0 = inl refl
+minor_ours V3_2 = inr refl
 
 -- ---- the items of a list, one after another
 
@@ -57,7 +63,7 @@ shorter_front (x ∷ xs) (suc k) =
     let more = shorter_front xs k in
     omega (arith, more, length-append (pair (shown x)) (flat_map pair (map shown (take k xs))), length-append (pair (shown x)) (flat_map pair (map shown xs)))
 
-pub startup_wants : {K : Type 0} {lacks : Held K → ℕ → Type 0} (v : ProtocolVersion) (all xs : List (Bor (List ℕ) × Bor (List ℕ))) (old : Held K) → (k : ℕ) × (xs ≡ take k all) → Wants lacks old (length (bytes_of (Startup v (map shown xs))))
+pub startup_wants : {K : Type 0} {lacks : Held K → ℕ → Type 0} (v : ℕ) (all xs : List (Bor (List ℕ) × Bor (List ℕ))) (old : Held K) → (k : ℕ) × (xs ≡ take k all) → Wants lacks old (length (bytes_of (Startup v (map shown xs))))
     → Wants lacks old (length (bytes_of (Startup v (map shown all))))
 startup_wants v all xs old so_far w =
     let front = ap (λ l. length (flat_map pair (map shown l))) so_far.1 in
@@ -74,5 +80,5 @@ first_front [] (suc k) e h = cc
 first_front (x ∷ xs) zero e h = cc
 first_front (x ∷ xs) (suc k) e h = either_more (pair_cause (shown x)) (first (map pair_cause (map shown (take k xs)))) (first (map pair_cause (map shown xs))) e (first_front xs k e) h
 
-pub front_refused : (v : ProtocolVersion) (all : List (Bor (List ℕ) × Bor (List ℕ))) (k : ℕ) (e : Error) → parts_cause (Int32 (version_code v) ∷ shown_pairs (take k all) ∷ []) ≡ Some e → cause (Startup v (map shown all)) ≡ Some e
+pub front_refused : (v : ℕ) (all : List (Bor (List ℕ) × Bor (List ℕ))) (k : ℕ) (e : Error) → parts_cause (Int32 (minor_code v) ∷ shown_pairs (take k all) ∷ []) ≡ Some e → cause (Startup v (map shown all)) ≡ Some e
 front_refused v all k e h = refused_pairs (first (map pair_cause (map shown all))) _ e (first_front all k e (last_cause (first (map pair_cause (map shown (take k all)))) e h))

@@ -3,7 +3,8 @@ use Rattle.std.specs.Prelude.{◌≡◌, ◌⊎◌, ℕ, Bool, true, List, [], �
 use Rattle.pgp_base.specs.Cause.{Wants, WantsMemory}
 use Rattle.pgp_base.specs.Held.{Held, ◌⊕◌, Leaves}
 use Rattle.pgp_base.specs.declared.error.Error.{Error}
-use Rattle.pgp_frontend.specs.ClientMessage.{ClientMessage, PasswordKind}
+use Rattle.std.specs.List.{AllByRecursion}
+use Rattle.pgp_frontend.specs.ClientMessage.{ClientMessage, PasswordKind, IsOurs}
 use Rattle.pgp_frontend.specs.Given.{Refused}
 use Rattle.pgp_frontend.specs.Payload.{bytes_of, cause, IsInRange}
 use Rattle.pgp_frontend.specs.ClientRun.{ClientRun, kinds_of, is_startup, is_opened}
@@ -15,9 +16,10 @@ pub record Sent (B : Type 0) : Type 0 where
 
 -- `held` says what a buffer holds.
 module _ {B Kept : Type 0} (held : B → Held Kept) where
-  -- The message has a spelling, and was added: however a server reads the bytes that stood there, it now
+  -- The message is one that the writers write, has a spelling, and was added: however a server reads the bytes that stood there, it now
   -- reads this message behind them, told its kind if it has one.
   pub record IsAdded (m : ClientMessage) (old new : Sent B) : Type 0 where
+    pub ours : IsOurs m
     pub in_range : IsInRange m
     pub none : cause m ≡ None
     pub appended : held new.buf ≡ held old.buf ⊕ bytes_of m
@@ -48,9 +50,10 @@ AddsMessage held m lacks old new result = Adds held (λ n. n ≡ m) (RefusesMess
 abbrev pub AddsGiven : {B Kept : Type 0} → (B → Held Kept) → (Whole SoFar : ClientMessage → Type 0) → (Held Kept → ℕ → Type 0) → Sent B → Sent B → Result (Unit {0}) Error → Type 0
 AddsGiven held Whole SoFar lacks old new result = Adds held Whole (Refused Whole SoFar lacks (held old.buf)) old new result
 
--- a server reads these bytes so, and a startup packet is among what it reads where the stream was opened
+-- a server reads these bytes so, as messages that the writers write, and a startup packet is among them where the stream was opened
 pub record IsRead (kinds : List PasswordKind) (messages : List ClientMessage) (bytes : List ℕ) (opened : Bool) : Type 0 where
   pub run : ClientRun kinds messages bytes
+  pub ours : AllByRecursion IsOurs messages
   pub opens : opened ≡ is_opened messages
 
 -- the bytes are read in some way

@@ -1,39 +1,37 @@
 -- When a session is idle, told by what both sides sent.
 use Rattle.std.specs.Prelude.{◌≡◌, ◌⊎◌, ℕ, ◌+◌, ◌<◌, ◌≤◌, Bool, true, false, List, [], ◌∷◌, Option, Some, None, if◌then◌else◌}
-use Rattle.pgp_frontend.specs.ClientMessage.{Bind, Close, Describe, Execute, Parse, Query, Sync, Startup}
+use Rattle.pgp_frontend.specs.ClientMessage.{ClientMessage, Bind, Close, Describe, Execute, FunctionCall, Parse, Query, Sync, Startup}
 use Rattle.pgp_message.specs.BackendMessage.{Message, ReadyForQuery}
-use Rattle.pgp_frontend_read.specs.OtherMessage.{AnyMessage, Ours, Other, FunctionCall, StartupOther}
 use Rattle.pgp_session.specs.declared.pooler.Session.{Session}
 
 -- The server says in the end that it is ready, whatever comes of the message.
-abbrev pub awaits : AnyMessage → Bool
-awaits (Ours (Startup version parameters)) = true
-awaits (Ours (Query text)) = true
-awaits (Ours Sync) = true
-awaits (Other (StartupOther minor parameters)) = true
-awaits (Other (FunctionCall function formats arguments result_format)) = true
+abbrev pub awaits : ClientMessage → Bool
+awaits (Startup minor parameters) = true
+awaits (Query text) = true
+awaits Sync = true
+awaits (FunctionCall function formats arguments result_format) = true
 awaits x = false
 
 -- A part of an extended query. What awaits a ReadyForQuery ends it.
-abbrev pub extends : AnyMessage → Bool
-extends (Ours (Parse name query types)) = true
-extends (Ours (Bind portal statement formats values result_formats)) = true
-extends (Ours (Describe variant name)) = true
-extends (Ours (Execute portal max_rows)) = true
-extends (Ours (Close variant name)) = true
+abbrev pub extends : ClientMessage → Bool
+extends (Parse name query types) = true
+extends (Bind portal statement formats values result_formats) = true
+extends (Describe variant name) = true
+extends (Execute portal max_rows) = true
+extends (Close variant name) = true
 extends x = false
 
 -- whether a part of an extended query waits for its end, behind a message
-abbrev pub waits : Bool → AnyMessage → Bool
+abbrev pub waits : Bool → ClientMessage → Bool
 waits before x = if awaits x then false else (if extends x then true else before)
 
 -- the same behind all that the client sent
-abbrev pub waits_behind : Bool → List AnyMessage → Bool
+abbrev pub waits_behind : Bool → List ClientMessage → Bool
 waits_behind before [] = before
 waits_behind before (x ∷ sent) = waits_behind (waits before x) sent
 
 -- how many of the client's messages await that
-abbrev pub asks : List AnyMessage → ℕ
+abbrev pub asks : List ClientMessage → ℕ
 asks [] = 0
 asks (x ∷ sent) = (if awaits x then 1 else 0) + asks sent
 
@@ -61,7 +59,7 @@ last_status before [] = before
 last_status before (m ∷ came) = last_status (newer before (status m)) came
 
 -- All that the client sent is answered, no part of an extended query waits for its end, and the server is in no transaction.
-pub record IsIdle (sent : List AnyMessage) (came : List Message) : Type 0 where
+pub record IsIdle (sent : List ClientMessage) (came : List Message) : Type 0 where
   pub answered : asks sent ≡ readies came
   pub finished : waits_behind false sent ≡ false
   pub idle : last_status None came ≡ Some 73
@@ -71,7 +69,7 @@ abbrev pub IsCount : ℕ → ℕ → Type 0
 IsCount n count = ((n ≡ count) × (count < 18446744073709551615)) ⊎ ((n ≡ 18446744073709551615) × (18446744073709551615 ≤ count))
 
 -- what is known of a session by these messages of both sides
-pub record Saw (sent : List AnyMessage) (came : List Message) (session : Session) : Type 0 where
+pub record Saw (sent : List ClientMessage) (came : List Message) (session : Session) : Type 0 where
   pub asked : IsCount session.asked (asks sent)
   pub readied : IsCount session.readied (readies came)
   pub status : session.status ≡ last_status None came

@@ -4,23 +4,18 @@ use Rattle.std.specs.List.{Contains, flat_map}
 use Rattle.std.specs.Borrow.{Bor}
 use Rattle.pgp_base.specs.Held.{Held, ◌⊕◌}
 use Rattle.pgp_frontend.specs.ClientMessage.{ClientMessage, Query, Parse, PasswordKind}
-use Rattle.pgp_frontend_read.specs.AnyStep.{AnyStep}
-use Rattle.pgp_frontend_read.specs.OtherMessage.{AnyMessage, Ours, Other, any_bytes}
-use Rattle.pgp_frontend_read.specs.Step.{Unread}
+use Rattle.pgp_frontend.specs.Payload.{bytes_of}
+use Rattle.pgp_frontend_read.specs.Step.{Unread, Step}
 use Rattle.pgp_session.specs.declared.proxy.Passed.{Passed}
 use Rattle.pgp_session.specs.declared.proxy.Passed.TheVariants.{Forwarded, HeldBack}
 use Rattle.pgp_session.specs.declared.proxy.ProxyError.{ProxyError}
 use Rattle.pgp_session.specs.declared.proxy.ProxyError.TheVariants.{NoMessage, OutOfMemory}
 
 -- the statement that a message brings: of a query, or of one that is to be prepared
-abbrev pub statement : ClientMessage → Option (List ℕ)
-statement (Query text) = Some text
-statement (Parse name text types) = Some text
-statement m = None
-
-abbrev pub statement_of : AnyMessage → Option (List ℕ)
-statement_of (Ours m) = statement m
-statement_of (Other o) = None
+abbrev pub statement_of : ClientMessage → Option (List ℕ)
+statement_of (Query text) = Some text
+statement_of (Parse name text types) = Some text
+statement_of m = None
 
 -- it is one of these
 abbrev pub IsListed : List (Bor (List ℕ)) → Option (List ℕ) → Type 0
@@ -30,12 +25,12 @@ IsListed refused (Some text) = Contains (map (λ (r : Bor (List ℕ)). r.now) re
 -- What a call comes to: a message is passed on byte for byte, or held back; or none stands there; or memory is refused that its bytes need,
 -- and it is still to be read.
 abbrev pub Proxies : {Kept : Type 0} → List (Bor (List ℕ)) → PasswordKind → (Held Kept → ℕ → Type 0) → Unread → Held Kept → Result (Option Passed) ProxyError → Unread → Held Kept → Type 0
-Proxies refused kind lacks from old (Ok (Some Forwarded)) next new = (x : AnyMessage) × AnyStep kind from (Ok (Some x)) next × (IsListed refused (statement_of x) → ⊥) × (new ≡ old ⊕ any_bytes x)
-Proxies refused kind lacks from old (Ok (Some HeldBack)) next new = (x : AnyMessage) × AnyStep kind from (Ok (Some x)) next × IsListed refused (statement_of x) × (new ≡ old)
-Proxies refused kind lacks from old (Ok None) next new = AnyStep kind from (Ok None) next × (new ≡ old)
-Proxies refused kind lacks from old (Err (NoMessage e)) next new = AnyStep kind from (Err e) next × (new ≡ old)
+Proxies refused kind lacks from old (Ok (Some Forwarded)) next new = (x : ClientMessage) × Step kind from (Ok (Some x)) next × (IsListed refused (statement_of x) → ⊥) × (new ≡ old ⊕ bytes_of x)
+Proxies refused kind lacks from old (Ok (Some HeldBack)) next new = (x : ClientMessage) × Step kind from (Ok (Some x)) next × IsListed refused (statement_of x) × (new ≡ old)
+Proxies refused kind lacks from old (Ok None) next new = Step kind from (Ok None) next × (new ≡ old)
+Proxies refused kind lacks from old (Err (NoMessage e)) next new = Step kind from (Err e) next × (new ≡ old)
 Proxies refused kind lacks from old (Err OutOfMemory) next new =
-    (x : AnyMessage) × (after : Unread) × AnyStep kind from (Ok (Some x)) after × (IsListed refused (statement_of x) → ⊥) × lacks old (length (any_bytes x)) × (next ≡ from) × (new ≡ old)
+    (x : ClientMessage) × (after : Unread) × Step kind from (Ok (Some x)) after × (IsListed refused (statement_of x) → ⊥) × lacks old (length (bytes_of x)) × (next ≡ from) × (new ≡ old)
 
 -- ---- calls, one behind the other
 
@@ -51,18 +46,18 @@ ProxiesAll {Kept} refused lacks (call ∷ calls) from old next new =
     (here : Unread) × (held : Held Kept) × Proxies refused call.kind lacks from old (Ok (Some call.passed)) here held × ProxiesAll refused lacks calls here held next new
 
 -- Of the messages that came those went on whose statement isn't one of these, in the order in which they came.
-pub data WentOn : List (Bor (List ℕ)) → List AnyMessage → List AnyMessage → Type 0 where
+pub data WentOn : List (Bor (List ℕ)) → List ClientMessage → List ClientMessage → Type 0 where
   NoneCame : {refused : List (Bor (List ℕ))} → WentOn refused [] []
-  Went : {refused : List (Bor (List ℕ))} {came went : List AnyMessage} (x : AnyMessage) → (IsListed refused (statement_of x) → ⊥) → WentOn refused came went → WentOn refused (x ∷ came) (x ∷ went)
-  Stayed : {refused : List (Bor (List ℕ))} {came went : List AnyMessage} (x : AnyMessage) → IsListed refused (statement_of x) → WentOn refused came went → WentOn refused (x ∷ came) went
+  Went : {refused : List (Bor (List ℕ))} {came went : List ClientMessage} (x : ClientMessage) → (IsListed refused (statement_of x) → ⊥) → WentOn refused came went → WentOn refused (x ∷ came) (x ∷ went)
+  Stayed : {refused : List (Bor (List ℕ))} {came went : List ClientMessage} (x : ClientMessage) → IsListed refused (statement_of x) → WentOn refused came went → WentOn refused (x ∷ came) went
 
 -- The bytes that were read are those of the messages that came, and those that were written are those of the messages that went on.
 pub record PassesOn {Kept : Type 0} (refused : List (Bor (List ℕ))) (from : Unread) (old : Held Kept) (next : Unread) (new : Held Kept) : Type 0 where
-  pub came : List AnyMessage
-  pub went : List AnyMessage
+  pub came : List ClientMessage
+  pub went : List ClientMessage
   pub are : WentOn refused came went
-  pub read : from.bytes ≡ flat_map any_bytes came ++ next.bytes
-  pub written : new ≡ old ⊕ flat_map any_bytes went
+  pub read : from.bytes ≡ flat_map bytes_of came ++ next.bytes
+  pub written : new ≡ old ⊕ flat_map bytes_of went
 
 -- calls that were told these kinds, each of which passed its message on
 abbrev pub forwarded : PasswordKind → Call

@@ -22,7 +22,7 @@ use Rattle.pgp_session.specs.declared.scram_login.LoginFault.TheVariants.{Unexpe
 
 -- the first message of the exchange
 abbrev pub initial : List ℕ → ClientMessage
-initial text = SaslInitialResponse (codes "SCRAM-SHA-256") text
+initial text = SaslInitialResponse (codes "SCRAM-SHA-256") (Some text)
 
 -- what a server says to a client that logs in
 pub data Said : Type 0 where

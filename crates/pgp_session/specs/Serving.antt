@@ -1,7 +1,7 @@
 -- A server's core: what a client's message comes to in each phase, what is answered, and who is let in.
 -- PostgreSQL manual, "Message Flow": "Start-up", "Canceling Requests in Progress", "Termination", "SSL Session Encryption", "GSSAPI Session
 -- Encryption"; "SASL Authentication"; "Error and Notice Message Fields"; appendix "PostgreSQL Error Codes".
-use Rattle.std.specs.Prelude.{◌≡◌, ◌≢◌, ◌⊎◌, ℕ, false, List, [], ◌∷◌, ◌++◌, Option, Some, None, Result, Ok, Err, length, codes}
+use Rattle.std.specs.Prelude.{◌≡◌, ◌≢◌, ◌⊎◌, ℕ, false, List, [], ◌∷◌, ◌++◌, Option, Some, None, Result, Ok, Err, length, codes, ◌==◌, if◌then◌else◌}
 use Rattle.pgp_base.specs.Cause.{Cause, Wants, WantsMemory, Writes}
 use Rattle.pgp_base.specs.Held.{Held, ◌⊕◌, Leaves}
 use Rattle.pgp_base.specs.declared.error.Error.{Error}
@@ -12,11 +12,10 @@ use Rattle.pgp_auth.specs.ScramServing.{Server, Challenges, FirstRefused, Admits
 use Rattle.pgp_auth.specs.Verifier.{verifier}
 use Rattle.pgp_auth.specs.declared.scram.held.StoredVerifier.{StoredVerifier}
 use Rattle.pgp_auth.specs.declared.scram.server_error.ServerError.{ServerError}
-use Rattle.pgp_frontend.specs.ClientMessage.{ClientMessage, PasswordMessage, SaslInitialResponse, SaslResponse, Terminate, Startup, CancelRequest, SslRequest, PasswordKind, Password, Initial, Response}
+use Rattle.pgp_frontend.specs.ClientMessage.{ClientMessage, PasswordMessage, SaslInitialResponse, SaslResponse, Terminate, Startup, CancelRequest, SslRequest, GssEncRequest, PasswordKind, Password, Initial, Response}
 use Rattle.pgp_message.specs.BackendMessage.{Message, Authentication, AuthenticationOk, AuthenticationSasl, AuthenticationSaslContinue, AuthenticationSaslFinal, ErrorResponse}
 use Rattle.pgp_message.specs.Items.{ErrorPart}
 use Rattle.pgp_message_write.specs.Reply.{bytes_of, cause, fields_of, names_of}
-use Rattle.pgp_frontend_read.specs.OtherMessage.{AnyMessage, Ours, Other, OtherMessage, FunctionCall, GssEncRequest}
 use Rattle.pgp_session.specs.declared.serving.Denial.{Denial}
 use Rattle.pgp_session.specs.declared.serving.Denial.TheVariants.{WrongPassword, Violation, NotAllowed}
 use Rattle.pgp_session.specs.declared.serving.Method.{Method}
@@ -70,10 +69,15 @@ pub data Due : Type 0 where
   Ends : Due
   Misplaced : Due
 
+-- the startup packet of one of the minor versions that are spoken
+abbrev pub starts : ℕ → Due
+starts minor = if minor == 0 then Starts else (if minor == 2 then Starts else Misplaced)
+
 abbrev pub at_opening : ClientMessage → Due
 at_opening SslRequest = Encrypts
+at_opening GssEncRequest = Encrypts
 at_opening (CancelRequest process_id secret_key) = Cancels
-at_opening (Startup version parameters) = Starts
+at_opening (Startup minor parameters) = starts minor
 at_opening m = Misplaced
 
 abbrev pub at_password : ClientMessage → Due
@@ -81,7 +85,7 @@ at_password (PasswordMessage text) = Text text
 at_password m = Misplaced
 
 abbrev pub at_first : ClientMessage → Due
-at_first (SaslInitialResponse mechanism text) = First mechanism text
+at_first (SaslInitialResponse mechanism (Some text)) = First mechanism text
 at_first m = Misplaced
 
 abbrev pub at_final : ClientMessage → Due
@@ -92,39 +96,22 @@ at_final m = Misplaced
 abbrev pub at_open : ClientMessage → Due
 at_open Terminate = Ends
 at_open (PasswordMessage text) = Misplaced
-at_open (SaslInitialResponse mechanism text) = Misplaced
+at_open (SaslInitialResponse mechanism response) = Misplaced
 at_open (SaslResponse text) = Misplaced
-at_open (Startup version parameters) = Misplaced
+at_open (Startup minor parameters) = Misplaced
 at_open (CancelRequest process_id secret_key) = Misplaced
 at_open SslRequest = Misplaced
+at_open GssEncRequest = Misplaced
 at_open m = Asks
 
-abbrev pub ours_due : ServingPhase → ClientMessage → Due
-ours_due Opening m = at_opening m
-ours_due Named m = Misplaced
-ours_due AwaitsPassword m = at_password m
-ours_due AwaitsFirst m = at_first m
-ours_due AwaitsFinal m = at_final m
-ours_due Open m = at_open m
-ours_due Over m = Idle
-
-abbrev pub other_at_opening : OtherMessage → Due
-other_at_opening GssEncRequest = Encrypts
-other_at_opening o = Misplaced
-
-abbrev pub other_at_open : OtherMessage → Due
-other_at_open (FunctionCall function formats arguments result_format) = Asks
-other_at_open o = Misplaced
-
-abbrev pub other_due : ServingPhase → OtherMessage → Due
-other_due Opening o = other_at_opening o
-other_due Open o = other_at_open o
-other_due Over o = Idle
-other_due phase o = Misplaced
-
-abbrev pub due : ServingPhase → AnyMessage → Due
-due phase (Ours m) = ours_due phase m
-due phase (Other o) = other_due phase o
+abbrev pub due : ServingPhase → ClientMessage → Due
+due Opening m = at_opening m
+due Named m = Misplaced
+due AwaitsPassword m = at_password m
+due AwaitsFirst m = at_first m
+due AwaitsFinal m = at_final m
+due Open m = at_open m
+due Over m = Idle
 
 -- ---- what the server decides
 
@@ -281,18 +268,18 @@ Replies m lacks old new result = Writes (bytes_of m) (cause m) lacks old new res
 
 module _ {A K : Type 0} (memory : Type 0) (lacks : Held K → ℕ → Type 0) where
   -- nothing was sent: memory was refused before it was decided, or what was decided couldn't be sent
-  abbrev pub Unanswered : AnyMessage → Serving A → Serving A → Held K → Error → Type 0
+  abbrev pub Unanswered : ClientMessage → Serving A → Serving A → Held K → Error → Type 0
   Unanswered m old new here e = WantsMemory memory e
       ⊎ ((o : Outcome) × Comes (due old.phase m) old.method o new.method × (WantsMemory (Wants lacks here (length (spelled o))) e ⊎ (cause_of o ≡ Some e)))
 
   -- What a step comes to: it is decided, and all of the answer is sent; or nothing is sent, and the session is over.
-  abbrev pub Steps : AnyMessage → Serving A → Serving A → Held K → Held K → Result ServingEvent Error → Type 0
+  abbrev pub Steps : ClientMessage → Serving A → Serving A → Held K → Held K → Result ServingEvent Error → Type 0
   Steps m old new before behind (Ok event) = (o : Outcome) × Comes (due old.phase m) old.method o new.method
       × (event ≡ event_of o) × (new.phase ≡ phase_after o) × (cause_of o ≡ None) × (behind ≡ before ⊕ spelled o)
   Steps m old new before behind (Err e) = (new.phase ≡ Over) × Leaves before behind × Unanswered m old new before e
 
   -- steps one behind the other, on these messages
-  abbrev pub StepsAll : List AnyMessage → Serving A → Serving A → Type 0
+  abbrev pub StepsAll : List ClientMessage → Serving A → Serving A → Type 0
   StepsAll [] old new = new ≡ old
   StepsAll (m ∷ ms) old new = (mid : Serving A) × (before behind : Held K) × (result : Result ServingEvent Error)
       × Steps m old mid before behind result × StepsAll ms mid new
@@ -304,23 +291,23 @@ IsAsked start s = (s.method ≡ start) × ((s.phase ≡ AwaitsPassword) ⊎ (s.p
 -- ---- a whole run
 
 -- the first messages came among the second in this order, others before, between and behind them
-pub data CameIn : List AnyMessage → List AnyMessage → Type 0 where
-  NoneWanted : {came : List AnyMessage} → CameIn [] came
-  OneCame : {wanted came : List AnyMessage} (m : AnyMessage) → CameIn wanted came → CameIn (wanted ++ (m ∷ [])) (came ++ (m ∷ []))
-  OtherCame : {wanted came : List AnyMessage} (m : AnyMessage) → CameIn wanted came → CameIn wanted (came ++ (m ∷ []))
+pub data CameIn : List ClientMessage → List ClientMessage → Type 0 where
+  NoneWanted : {came : List ClientMessage} → CameIn [] came
+  OneCame : {wanted came : List ClientMessage} (m : ClientMessage) → CameIn wanted came → CameIn (wanted ++ (m ∷ [])) (came ++ (m ∷ []))
+  OtherCame : {wanted came : List ClientMessage} (m : ClientMessage) → CameIn wanted came → CameIn wanted (came ++ (m ∷ []))
 
-abbrev pub password_message : List ℕ → AnyMessage
-password_message text = Ours (PasswordMessage text)
+abbrev pub password_message : List ℕ → ClientMessage
+password_message text = PasswordMessage text
 
-abbrev pub first_message : List ℕ → AnyMessage
-first_message text = Ours (SaslInitialResponse scram text)
+abbrev pub first_message : List ℕ → ClientMessage
+first_message text = SaslInitialResponse scram (Some text)
 
-abbrev pub final_message : List ℕ → AnyMessage
-final_message text = Ours (SaslResponse text)
+abbrev pub final_message : List ℕ → ClientMessage
+final_message text = SaslResponse text
 
 -- Among the messages that came the client showed what was asked of it. By SCRAM: two texts, of which the second shows the proof that the
 -- verifier of the exchange accepts, and the verifier isn't made up (`Admits`).
-abbrev pub HasShown : {A : Type 0} → Method A → List AnyMessage → Type 0
+abbrev pub HasShown : {A : Type 0} → Method A → List ClientMessage → Type 0
 HasShown methods.Nothing came = Unit {0}
 HasShown (methods.Password stored) came = (text : List ℕ) × CameIn (password_message text ∷ []) came × IsPasswordOf stored text
 HasShown (methods.Md5 salt stored) came = (text : List ℕ) × CameIn (password_message text ∷ []) came × AnswersStored stored.items salt text
@@ -328,13 +315,13 @@ HasShown (methods.Exchange server) came = (challenged over : Server) × (first f
     × CameIn (first_message first ∷ final_message final ∷ []) came × Challenges server first challenged answer × Admits challenged final over signed
 
 -- the client's first text was answered
-abbrev pub IsUnderWay : {A : Type 0} → Method A → List AnyMessage → Method A → Type 0
+abbrev pub IsUnderWay : {A : Type 0} → Method A → List ClientMessage → Method A → Type 0
 IsUnderWay (methods.Exchange server) came (methods.Exchange now) = (first answer : List ℕ)
     × CameIn (first_message first ∷ []) came × Challenges server first now answer
 IsUnderWay start came now = ⊥
 
 -- What is known of a session in which the client was asked for `start`, and since then sent the messages that came.
-abbrev pub Knows : {A : Type 0} → Method A → List AnyMessage → ServingPhase → Method A → Type 0
+abbrev pub Knows : {A : Type 0} → Method A → List ClientMessage → ServingPhase → Method A → Type 0
 Knows start came AwaitsPassword now = now ≡ start
 Knows start came AwaitsFirst now = now ≡ start
 Knows start came AwaitsFinal now = IsUnderWay start came now

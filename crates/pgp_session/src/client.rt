@@ -3,7 +3,6 @@
 
 ghost use Rattle.std.specs.Prelude.{◌≡◌, [], ◌∷◌, codes, true, false, IfOk, IfErr};
 ghost use Rattle.pgp_frontend.specs.ClientMessage.{Startup};
-ghost use Rattle.pgp_frontend.specs.declared.startup.ProtocolVersion.TheVariants.{V3_0};
 ghost use Rattle.pgp_message.specs.Views.{view};
 ghost use Rattle.pgp_session.specs.ClientStream.{IsAdded, RefusesMessage};
 ghost use Rattle.pgp_session.specs.Client.{Steps, at_login, at_version, at_start, at_query, event_of};
@@ -79,11 +78,11 @@ impl<'a, B: Buffer + Drop> Client<'a, B> {
         mut out: ClientStream<B>,
     ) -> Result<Client<'a, B>, Error>
         requires { out.opened ≡ false }
-        ensures sent { IfOk result (λ client. IsAdded B.held (Startup V3_0 ((codes "user", user.now) ∷ [])) out client.out) }
+        ensures sent { IfOk result (λ client. IsAdded B.held (Startup 0 ((codes "user", user.now) ∷ [])) out client.out) }
         ensures opened { IfOk result (λ client. client.out.opened ≡ true) }
         ensures phase { IfOk result (λ client. client.phase ≡ Phase.LoggingIn) }
         ensures query { IfOk result (λ client. client.query.now ≡ query.now) }
-        ensures refused { IfErr result (RefusesMessage (Startup V3_0 ((codes "user", user.now) ∷ [])) B.Lacks (B.held out.buf)) }
+        ensures refused { IfErr result (RefusesMessage (Startup 0 ((codes "user", user.now) ∷ [])) B.Lacks (B.held out.buf)) }
     {
         out.startup_message(&[("user", user)])?;
         Ok(Client {

@@ -1,6 +1,6 @@
 //! What a client sends, as one stream.
 
-ghost use Rattle.std.specs.Prelude.{◌≡◌, List, true, false, [], length, map};
+ghost use Rattle.std.specs.Prelude.{◌≡◌, List, true, false, [], length, map, Some};
 ghost use Rattle.pgp_base.specs.Held.{items_held};
 ghost use Rattle.pgp_base.specs.Cause.{Wants};
 ghost use Rattle.pgp_base.specs.Wire.{int32};
@@ -8,7 +8,7 @@ ghost use Rattle.std.specs.Iterator.{IsFiniteIterable};
 ghost use Rattle.pgp_base.specs.Calls.{Came, OwesValues};
 ghost use Rattle.pgp_frontend.specs.ClientMessage.{ClientMessage, PasswordKind, CancelRequest, Close, CopyData as DataMessage, CopyDone, CopyFail, Describe, Execute, Flush, PasswordMessage, Query, SaslInitialResponse, SaslResponse, SslRequest, Startup, Sync, Terminate};
 ghost use Rattle.pgp_frontend.specs.Given.{BindWhole, BindRefused, ParseWhole, ParseSoFar, Serves, shown};
-ghost use Rattle.pgp_frontend.specs.Payload.{bytes_of};
+ghost use Rattle.pgp_frontend.specs.Payload.{bytes_of, minor_of};
 ghost use Rattle.pgp_frontend.specs.Reading.{IsNamed};
 ghost use Rattle.pgp_frontend.specs.ClientRun.{ClientRun, is_opened};
 ghost use Rattle.pgp_session.specs.ClientStream.{Adds, AddsGiven, AddsMessage, Reads};
@@ -119,8 +119,8 @@ impl<B: Buffer> ClientStream<B> {
     /// `OutOfMemory` where a growth was refused. The stream stays as it is.
     pub fn startup_message(&mut self, parameters: &[(&str, &str)]) -> Result<(), Error>
         requires opening { self.old.opened ≡ false }
-        requires named { IsNamed (Startup ProtocolVersion.V3_0 (map shown parameters.now)) }
-        ensures { AddsMessage B.held (Startup ProtocolVersion.V3_0 (map shown parameters.now)) B.Lacks self.old self.new result }
+        requires named { IsNamed (Startup 0 (map shown parameters.now)) }
+        ensures { AddsMessage B.held (Startup 0 (map shown parameters.now)) B.Lacks self.old self.new result }
     {
         self.startup_message_version(ProtocolVersion::V3_0, parameters)
     }
@@ -137,8 +137,8 @@ impl<B: Buffer> ClientStream<B> {
         parameters: &[(&str, &str)],
     ) -> Result<(), Error>
         requires opening { self.old.opened ≡ false }
-        requires named { IsNamed (Startup version (map shown parameters.now)) }
-        ensures { AddsMessage B.held (Startup version (map shown parameters.now)) B.Lacks self.old self.new result }
+        requires named { IsNamed (Startup (minor_of version) (map shown parameters.now)) }
+        ensures { AddsMessage B.held (Startup (minor_of version) (map shown parameters.now)) B.Lacks self.old self.new result }
     {
         match frontend::startup_message_version(
             version,
@@ -302,7 +302,7 @@ impl<B: Buffer> ClientStream<B> {
     /// `OutOfMemory` where a growth was refused. The stream stays as it is.
     pub fn sasl_initial_response(&mut self, mechanism: &str, data: &[u8]) -> Result<(), Error>
         requires { self.old.opened ≡ true }
-        ensures { AddsMessage B.held (SaslInitialResponse mechanism.now «data».now) B.Lacks self.old self.new result }
+        ensures { AddsMessage B.held (SaslInitialResponse mechanism.now (Some «data».now)) B.Lacks self.old self.new result }
     {
         frontend::sasl_initial_response(mechanism, data, &mut self.buf)
     }

@@ -3,15 +3,14 @@
 
 ghost use Rattle.std.specs.Prelude.{◌≡◌, ◌<◌, ◌∷◌, ◌++◌, [], None, List, ℕ};
 ghost use Rattle.std.specs.Bool.{Decides};
-ghost use Rattle.pgp_frontend_read.specs.OtherMessage.{AnyMessage as Sent, Other, Ours};
+ghost use Rattle.pgp_frontend.specs.ClientMessage.{ClientMessage as Sent};
 ghost use Rattle.pgp_message.specs.BackendMessage.{Message as Came};
 ghost use Rattle.pgp_message.specs.Views.{view as came_view};
-ghost use Rattle.pgp_frontend_read.specs.AnyViews.{any_view as sent_view, other_view};
-ghost use Rattle.pgp_frontend_read.specs.Views.{view};
+ghost use Rattle.pgp_frontend_read.specs.Views.{view as sent_view};
 ghost use Rattle.pgp_session.specs.Pooler.{IsIdle, IsQuiet, Saw, asks, awaits, extends, readies, status, waits};
 ghost use Rattle.pgp_session.specs.declared.pooler.Session.{Session as Known};
 
-use pgp_frontend_read::{AnyMessage, ClientMessage, OtherMessage};
+use pgp_frontend_read::ClientMessage;
 use pgp_message::{Message, Storage};
 
 /// What is known of a session. A startup packet, a Query, a FunctionCall and a Sync are each answered by one ReadyForQuery in the end; but a
@@ -43,7 +42,7 @@ impl Session {
     }
 
     /// Takes note of a message that the client sent.
-    pub fn sent(&mut self, message: &AnyMessage<'_>)
+    pub fn sent(&mut self, message: &ClientMessage<'_>)
         ensures { (sent : List Sent) (came : List Came) → Saw sent came self.old → Saw (sent ++ sent_view message.now ∷ []) came self.new }
     {
         self.unfinished = waits(self.unfinished, message);
@@ -85,35 +84,18 @@ pub fn idle_by_messages()
 {}
 
 /// Whether the server says in the end that it is ready.
-fn awaits(message: &AnyMessage<'_>) -> bool
+fn awaits(message: &ClientMessage<'_>) -> bool
     ensures { result ≡ awaits (sent_view message.now) }
 {
     match message {
-        AnyMessage::Ours(message) => ours_awaits(message),
-        AnyMessage::Other(message) => other_awaits(message),
-    }
-}
-
-fn ours_awaits(message: &ClientMessage<'_>) -> bool
-    ensures { result ≡ awaits (Ours (view message.now)) }
-{
-    match message {
-        ClientMessage::Startup { .. } | ClientMessage::Query(_) | ClientMessage::Sync => true,
-        _ => false,
-    }
-}
-
-fn other_awaits(message: &OtherMessage<'_>) -> bool
-    ensures { result ≡ awaits (Other (other_view message.now)) }
-{
-    match message {
-        OtherMessage::StartupOther { .. } | OtherMessage::FunctionCall { .. } => true,
+        ClientMessage::Startup { .. } | ClientMessage::Query(_) => true,
+        ClientMessage::FunctionCall { .. } | ClientMessage::Sync => true,
         _ => false,
     }
 }
 
 /// Whether a part of an extended query waits for its end, behind a message.
-fn waits(before: bool, message: &AnyMessage<'_>) -> bool
+fn waits(before: bool, message: &ClientMessage<'_>) -> bool
     ensures { result ≡ waits before (sent_view message.now) }
 {
     if awaits(message) {
@@ -126,17 +108,8 @@ fn waits(before: bool, message: &AnyMessage<'_>) -> bool
 }
 
 /// Whether it is a part of an extended query.
-fn extends(message: &AnyMessage<'_>) -> bool
+fn extends(message: &ClientMessage<'_>) -> bool
     ensures { result ≡ extends (sent_view message.now) }
-{
-    match message {
-        AnyMessage::Ours(message) => ours_extends(message),
-        AnyMessage::Other(_) => false,
-    }
-}
-
-fn ours_extends(message: &ClientMessage<'_>) -> bool
-    ensures { result ≡ extends (Ours (view message.now)) }
 {
     match message {
         ClientMessage::Parse { .. } | ClientMessage::Bind { .. } => true,

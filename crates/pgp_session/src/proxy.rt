@@ -4,17 +4,16 @@
 ghost use Rattle.std.specs.Prelude.{◌≡◌, List, Ok, option_map};
 ghost use Rattle.pgp_base.specs.Held.{Held};
 ghost use Rattle.pgp_frontend.specs.ClientMessage.{PasswordKind as Kind};
-ghost use Rattle.pgp_frontend_read.specs.AnyViews.{any_view};
 ghost use Rattle.pgp_frontend_read.specs.Forwards.{Forwards};
 ghost use Rattle.pgp_frontend_read.specs.Step.{Unread};
 ghost use Rattle.pgp_frontend_read.specs.Views.{kind_view, view};
-ghost use Rattle.pgp_session.specs.Proxy.{Call, IsListed, PassesOn, Proxies, ProxiesAll, all_forwarded, statement, statement_of};
+ghost use Rattle.pgp_session.specs.Proxy.{Call, IsListed, PassesOn, Proxies, ProxiesAll, all_forwarded, statement_of};
 ghost use Rattle.std.specs.Bool.{Decides};
 ghost use Rattle.std.specs.Borrow.{Bor};
 ghost use Rattle.std.specs.Prelude.{ℕ};
 
 use pgp_base::Buffer;
-use pgp_frontend_read::{AnyMessage, ClientError, ClientMessage, ClientMessages, PasswordKind};
+use pgp_frontend_read::{ClientError, ClientMessage, ClientMessages, PasswordKind};
 
 /// What became of a message.
 #[derive(Debug, Clone, Copy, PartialEq, Eq)]
@@ -39,7 +38,7 @@ pub enum ProxyError {
 ///
 /// # Errors
 ///
-/// `NoMessage` as `ClientMessages::next_any` refuses: a frame that is no message isn't passed on. `OutOfMemory`; the message is
+/// `NoMessage` as `ClientMessages::next` refuses: a frame that is no message isn't passed on. `OutOfMemory`; the message is
 /// read again by the next call then.
 pub fn pass_on<B: Buffer>(
     refused: &[&[u8]],
@@ -50,7 +49,7 @@ pub fn pass_on<B: Buffer>(
     ensures { Proxies refused.now (kind_view kind) B.Lacks from.old (B.held to.old) result from.new (B.held to.new) }
 {
     let mut messages = ClientMessages::resume(from.rest(), from.is_open());
-    match messages.next_any_with_bytes(kind) {
+    match messages.next_with_bytes(kind) {
         Ok(Some((message, bytes))) => {
             if is_refused(refused, &message) {
                 *from = messages;
@@ -80,8 +79,8 @@ pub fn what_went_out_is_what_came_in<B: Buffer>()
 {}
 
 /// Whether the message brings one of these statements.
-fn is_refused(refused: &[&[u8]], message: &AnyMessage<'_>) -> bool
-    ensures { Decides result (IsListed refused.now (statement_of (any_view message.now))) }
+fn is_refused(refused: &[&[u8]], message: &ClientMessage<'_>) -> bool
+    ensures { Decides result (IsListed refused.now (statement_of (view message.now))) }
 {
     match statement_of(message) {
         Some(text) => refused.contains(&text),
@@ -90,18 +89,8 @@ fn is_refused(refused: &[&[u8]], message: &AnyMessage<'_>) -> bool
 }
 
 /// The statement that the message brings.
-fn statement_of<'a>(message: &AnyMessage<'a>) -> Option<&'a [u8]>
-    ensures { option_map (λ text. text.now) result ≡ statement_of (any_view message.now) }
-{
-    match message {
-        AnyMessage::Ours(message) => statement(message),
-        AnyMessage::Other(_) => None,
-    }
-}
-
-/// The statement that a message of ours brings.
-fn statement<'a>(message: &ClientMessage<'a>) -> Option<&'a [u8]>
-    ensures { option_map (λ text. text.now) result ≡ statement (view message.now) }
+fn statement_of<'a>(message: &ClientMessage<'a>) -> Option<&'a [u8]>
+    ensures { option_map (λ text. text.now) result ≡ statement_of (view message.now) }
 {
     match message {
         ClientMessage::Query(query) | ClientMessage::Parse { query, .. } => Some(query),

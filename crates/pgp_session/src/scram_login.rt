@@ -5,7 +5,6 @@ ghost use Rattle.std.specs.Prelude.{◌≡◌, [], ◌∷◌, ◌++◌, List, co
 ghost use Rattle.pgp_base.specs.Items.{MarkedItems};
 ghost use Rattle.pgp_auth.specs.ScramClient.{Client as Exchange};
 ghost use Rattle.pgp_frontend.specs.ClientMessage.{Startup};
-ghost use Rattle.pgp_frontend.specs.declared.startup.ProtocolVersion.TheVariants.{V3_0};
 ghost use Rattle.pgp_message.specs.BackendMessage.{Message as BackendMessage};
 ghost use Rattle.pgp_message.specs.Items.{TextSpelled, TextRefused};
 ghost use Rattle.pgp_message.specs.Views.{view};
@@ -136,11 +135,11 @@ impl<A: Memory, B: Buffer + Drop> ScramLogin<A, B> {
         mut out: ClientStream<B>,
     ) -> Result<ScramLogin<A, B>, Error>
         requires { out.opened ≡ false }
-        ensures sent { IfOk result (λ login. IsAdded B.held (Startup V3_0 ((codes "user", user.now) ∷ [])) out login.out) }
+        ensures sent { IfOk result (λ login. IsAdded B.held (Startup 0 ((codes "user", user.now) ∷ [])) out login.out) }
         ensures opened { IfOk result (λ login. login.out.opened ≡ true) }
         ensures phase { IfOk result (λ login. login.phase ≡ LoginPhase.AwaitsOffer) }
         ensures exchange { IfOk result (λ login. login.exchange ≡ exchange) }
-        ensures refused { IfErr result (RefusesMessage (Startup V3_0 ((codes "user", user.now) ∷ [])) B.Lacks (B.held out.buf)) }
+        ensures refused { IfErr result (RefusesMessage (Startup 0 ((codes "user", user.now) ∷ [])) B.Lacks (B.held out.buf)) }
     {
         out.startup_message(&[("user", user)])?;
         Ok(ScramLogin {

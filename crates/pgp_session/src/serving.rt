@@ -8,10 +8,9 @@ ghost use Rattle.std.specs.Prelude.{◌≡◌, ◌++◌, ◌∷◌, [], List, If
 ghost use Rattle.std.specs.Bool.{Decides};
 ghost use Rattle.pgp_base.specs.Cause.{WantsMemory, Writes};
 ghost use Rattle.pgp_message.specs.BackendMessage.{Authentication, AuthenticationCleartextPassword, AuthenticationMd5Password};
-ghost use Rattle.pgp_frontend_read.specs.AnyViews.{any_view, other_view};
-ghost use Rattle.pgp_frontend_read.specs.OtherMessage.{AnyMessage as Came};
+ghost use Rattle.pgp_frontend.specs.ClientMessage.{ClientMessage as Came};
 ghost use Rattle.pgp_frontend_read.specs.Views.{kind_view, view};
-ghost use Rattle.pgp_session.specs.Serving.{Comes, First, Final, GoesOn, HasShown, IsAsked, IsNewer, Knows, NamesLast, Proves, Replies, Steps, StepsAll, Text, admission, at_final, at_first, at_open, at_opening, at_password, cause_of, due, error_of, event_of, kind_in, other_at_open, other_at_opening, other_due, ours_due, phase_after, scram_offer, seen, shown, signature, spelled, sqlstate, told};
+ghost use Rattle.pgp_session.specs.Serving.{Comes, First, Final, GoesOn, HasShown, IsAsked, IsNewer, Knows, NamesLast, Proves, Replies, Steps, StepsAll, Text, admission, at_final, at_first, at_open, at_opening, at_password, cause_of, due, error_of, event_of, kind_in, phase_after, scram_offer, seen, shown, signature, spelled, sqlstate, starts, told};
 ghost use Rattle.pgp_message_write.specs.Reply.{bytes_of, cause};
 
 use pgp_auth::authentication::sasl::{
@@ -19,7 +18,7 @@ use pgp_auth::authentication::sasl::{
 };
 use pgp_auth::password::check;
 use pgp_base::{Buffer, Error, FallibleIterator, Memory, put_u8};
-use pgp_frontend_read::{AnyMessage, ClientMessage, OtherMessage, PasswordKind, StartupParameters};
+use pgp_frontend_read::{ClientMessage, PasswordKind, StartupParameters};
 use pgp_message_write::{self as reply, ErrorField};
 use std::alloc::{Allocator, Global};
 
@@ -131,12 +130,12 @@ impl<A: Memory> Serving<A> {
     /// `OutOfMemory`, and `TooLarge` where a text of the exchange is too long for a message. Nothing is appended, and the session is over.
     pub fn step<B: Buffer>(
         &mut self,
-        message: &AnyMessage<'_>,
+        message: &ClientMessage<'_>,
         out: &mut B,
     ) -> Result<ServingEvent, Error>
-        ensures stepped { Steps A.Lacks B.Lacks (any_view message.now) self.old self.new (B.held out.old) (B.held out.new) result }
+        ensures stepped { Steps A.Lacks B.Lacks (view message.now) self.old self.new (B.held out.old) (B.held out.new) result }
         ensures known { (start : Method A) (came : List Came) → Knows start came self.old.phase self.old.method
-            → Knows start (came ++ (any_view message.now ∷ [])) self.new.phase self.new.method }
+            → Knows start (came ++ (view message.now ∷ [])) self.new.phase self.new.method }
     {
         self.hear(message, out)
     }
@@ -144,10 +143,10 @@ impl<A: Memory> Serving<A> {
     /// The step, by what the message is.
     fn hear<B: Buffer>(
         &mut self,
-        message: &AnyMessage<'_>,
+        message: &ClientMessage<'_>,
         out: &mut B,
     ) -> Result<ServingEvent, Error>
-        ensures { Steps A.Lacks B.Lacks (any_view message.now) self.old self.new (B.held out.old) (B.held out.new) result }
+        ensures { Steps A.Lacks B.Lacks (view message.now) self.old self.new (B.held out.old) (B.held out.new) result }
     {
         let phase = self.phase;
         self.phase = ServingPhase::Over;
@@ -326,17 +325,8 @@ enum Outcome<A: Allocator> {
 }
 
 /// What the message is in the phase.
-fn due_in<'m>(phase: ServingPhase, message: &AnyMessage<'m>) -> Due<'m>
-    ensures { seen result ≡ due phase (any_view message.now) }
-{
-    match message {
-        AnyMessage::Ours(message) => ours_due(phase, message),
-        AnyMessage::Other(message) => other_due(phase, message),
-    }
-}
-
-fn ours_due<'m>(phase: ServingPhase, message: &ClientMessage<'m>) -> Due<'m>
-    ensures { seen result ≡ ours_due phase (view message.now) }
+fn due_in<'m>(phase: ServingPhase, message: &ClientMessage<'m>) -> Due<'m>
+    ensures { seen result ≡ due phase (view message.now) }
 {
     match phase {
         ServingPhase::Opening => at_opening(message),
@@ -349,26 +339,28 @@ fn ours_due<'m>(phase: ServingPhase, message: &ClientMessage<'m>) -> Due<'m>
     }
 }
 
-fn other_due<'m>(phase: ServingPhase, message: &OtherMessage<'m>) -> Due<'m>
-    ensures { seen result ≡ other_due phase (other_view message.now) }
-{
-    match phase {
-        ServingPhase::Opening => other_at_opening(message),
-        ServingPhase::Open => other_at_open(message),
-        ServingPhase::Over => Due::Idle,
-        _ => Due::Misplaced,
-    }
-}
-
 fn at_opening<'m>(message: &ClientMessage<'m>) -> Due<'m>
     ensures { seen result ≡ at_opening (view message.now) }
 {
     match message {
-        ClientMessage::SslRequest => Due::Encrypts,
+        ClientMessage::SslRequest | ClientMessage::GssEncRequest => Due::Encrypts,
         ClientMessage::CancelRequest { .. } => Due::Cancels,
-        ClientMessage::Startup { .. } => Due::Starts,
+        ClientMessage::Startup { minor, .. } => starts(*minor),
         _ => Due::Misplaced,
     }
+}
+
+/// What a startup packet is: its version is 3.0, or 3.2 of this project's profile.
+fn starts<'m>(minor: u16) -> Due<'m>
+    ensures { seen result ≡ starts minor }
+{
+    if minor == 0 {
+        return Due::Starts;
+    }
+    if minor == 2 {
+        return Due::Starts;
+    }
+    Due::Misplaced
 }
 
 fn at_password<'m>(message: &ClientMessage<'m>) -> Due<'m>
@@ -386,8 +378,8 @@ fn at_first<'m>(message: &ClientMessage<'m>) -> Due<'m>
     match message {
         ClientMessage::SaslInitialResponse {
             mechanism,
-            response,
-        } => Due::First(mechanism, response),
+            response: Some(text),
+        } => Due::First(mechanism, text),
         _ => Due::Misplaced,
     }
 }
@@ -411,26 +403,9 @@ fn at_open<'m>(message: &ClientMessage<'m>) -> Due<'m>
         | ClientMessage::SaslResponse(_)
         | ClientMessage::Startup { .. }
         | ClientMessage::CancelRequest { .. }
-        | ClientMessage::SslRequest => Due::Misplaced,
+        | ClientMessage::SslRequest
+        | ClientMessage::GssEncRequest => Due::Misplaced,
         _ => Due::Asks,
-    }
-}
-
-fn other_at_opening<'m>(message: &OtherMessage<'m>) -> Due<'m>
-    ensures { seen result ≡ other_at_opening (other_view message.now) }
-{
-    match message {
-        OtherMessage::GssEncRequest => Due::Encrypts,
-        _ => Due::Misplaced,
-    }
-}
-
-fn other_at_open<'m>(message: &OtherMessage<'m>) -> Due<'m>
-    ensures { seen result ≡ other_at_open (other_view message.now) }
-{
-    match message {
-        OtherMessage::FunctionCall { .. } => Due::Asks,
-        _ => Due::Misplaced,
     }
 }
 

@@ -1,9 +1,7 @@
 //! A client's connection that comes in pieces. Its bytes are from the message formats of the PostgreSQL manual.
 
 use crate::checks::{holds, same, same_at};
-use postgres_protocol::message::client::{
-    AnyMessage, ClientError, ClientMessage, OtherMessage, PasswordKind,
-};
+use postgres_protocol::message::client::{ClientError, ClientMessage, PasswordKind};
 use postgres_protocol::session::{ClientParser, Limits, ParserError};
 use std::alloc::Global;
 use std::process::Abort;
@@ -34,10 +32,9 @@ const SERVER: Limits = Limits {
     tagged: 0x3fff_ffff,
 };
 
-fn mark(read: &Result<AnyMessage<'_>, ClientError>) -> u8 {
+fn mark(read: &Result<ClientMessage<'_>, ClientError>) -> u8 {
     match read {
-        Ok(AnyMessage::Ours(message)) => ours(message),
-        Ok(AnyMessage::Other(message)) => other(message),
+        Ok(message) => ours(message),
         Err(_) => b'?',
     }
 }
@@ -50,7 +47,7 @@ fn mark_of(mark: u8, text: &[u8], wanted: &[u8]) -> u8 {
 fn ours(message: &ClientMessage<'_>) -> u8 {
     match message {
         ClientMessage::SslRequest => b'L',
-        ClientMessage::Startup { .. } => b'U',
+        ClientMessage::Startup { minor: 0, .. } => b'U',
         ClientMessage::PasswordMessage(password) => mark_of(b'p', password, b"secret"),
         ClientMessage::Parse { query, .. } => mark_of(b'P', query, b"SELECT $1"),
         ClientMessage::Bind { .. } => b'B',
@@ -58,20 +55,20 @@ fn ours(message: &ClientMessage<'_>) -> u8 {
         ClientMessage::Sync => b'S',
         ClientMessage::Query(query) => mark_of(b'Q', query, b"SELECT 2"),
         ClientMessage::Terminate => b'X',
-        _ => b'!',
+        message => other(message),
     }
 }
 
-fn other(message: &OtherMessage<'_>) -> u8 {
+/// The mark of a message that no writer here makes.
+fn other(message: &ClientMessage<'_>) -> u8 {
     match message {
-        OtherMessage::GssEncRequest => b'G',
-        OtherMessage::StartupOther { minor: 1, .. } => b'V',
-        OtherMessage::SaslInitialWithoutResponse { mechanism } => mark_of(
-            b'i',
+        ClientMessage::GssEncRequest => b'G',
+        ClientMessage::Startup { minor: 1, .. } => b'V',
+        ClientMessage::SaslInitialResponse {
             mechanism,
-            b"SCRAM-SHA-256",
-        ),
-        OtherMessage::FunctionCall {
+            response: None,
+        } => mark_of(b'i', mechanism, b"SCRAM-SHA-256"),
+        ClientMessage::FunctionCall {
             function: 256,
             result_format: 1,
             ..

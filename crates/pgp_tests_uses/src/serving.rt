@@ -12,7 +12,7 @@ use postgres_protocol::Error;
 use postgres_protocol::authentication::sasl::{
     ChannelOffer, ScramServer, StoredVerifier, is_nonce,
 };
-use postgres_protocol::message::client::{AnyMessage, ClientMessage, ClientMessages, PasswordKind};
+use postgres_protocol::message::client::{ClientMessage, ClientMessages, PasswordKind};
 use std::test::Fail;
 
 const STORED: &[u8] =
@@ -49,7 +49,6 @@ fn heard(
     message: ClientMessage<'_>,
     out: &mut BytesMut,
 ) -> Option<ServingEvent> {
-    let message = AnyMessage::Ours(message);
     let heard = serving.step(&message, out);
     drop(message);
     heard.ok()
@@ -61,7 +60,7 @@ fn read(
     from: &mut ClientMessages<'_>,
     out: &mut BytesMut,
 ) -> Option<ServingEvent> {
-    match from.next_any(serving.kind()) {
+    match from.next(serving.kind()) {
         Ok(Some(message)) => {
             let heard = serving.step(&message, out);
             drop(message);
@@ -138,7 +137,7 @@ fn a_proof_logs_a_client_in(rt: HostRuntime) -> Result<(), Fail> {
     serving.ask_scram(exchange(&rt)?, &mut out)?;
     let first = ClientMessage::SaslInitialResponse {
         mechanism: b"SCRAM-SHA-256",
-        response: FIRST,
+        response: Some(FIRST),
     };
     same(
         &rt,
@@ -167,7 +166,7 @@ fn another_proof_does_not(rt: HostRuntime) -> Result<(), Fail> {
     serving.ask_scram(exchange(&rt)?, &mut asked)?;
     let first = ClientMessage::SaslInitialResponse {
         mechanism: b"SCRAM-SHA-256",
-        response: FIRST,
+        response: Some(FIRST),
     };
     same(
         &rt,

@@ -90,7 +90,7 @@ const SERVER: &[u8; 18] = b"Z\0\0\0\x05IZ\0\0\0\x05TZ\0\0\0\x05I";
 
 /// The session takes note of the client's next message.
 fn sent(session: &mut Session, from: &mut ClientMessages<'_>) {
-    if let Ok(Some(message)) = from.next_any(PasswordKind::Password) {
+    if let Ok(Some(message)) = from.next(PasswordKind::Password) {
         session.sent(&message);
     }
 }

@@ -2,14 +2,12 @@
 use Rattle.std.proofs.Common.{◌≡◌, ℕ, ◌+◌, ◌-◌, ◌<◌, ◌≤◌, ◌^◌, Bool, true, false, List, [], ◌∷◌, ◌++◌, length, take, Option, Some, None, Result, Ok, Err, refl, sym, ap, subst, ◌∙◌, arith, length-append, inl, inr, ◌⊎◌}
 use Rattle.std.proofs.lemmas.List.{append-nil}
 use Rattle.pgp_base.specs.Wire.{uint32}
-use Rattle.pgp_frontend.specs.ClientMessage.{PasswordKind}
+use Rattle.pgp_frontend.specs.ClientMessage.{ClientMessage, PasswordKind}
 use Rattle.pgp_frontend.specs.Payload.{framed, payload, tag_of, bytes_of}
 use Rattle.pgp_frontend.proofs.Readings.{tagged_bodies, tag_in}
 use Rattle.pgp_frontend_read.proofs.Steps.{payload_fits}
-use Rattle.pgp_frontend_read.specs.AnyStep.{AnyStep, NoOtherStands, RefusesAny, SkipsAnyFrame, StopsAtAny}
-use Rattle.pgp_frontend_read.specs.OtherMessage.{AnyMessage, Ours, Other, other_tag, other_payload, other_bytes}
 use Rattle.pgp_frontend_read.specs.Pieces.{step_of}
-use Rattle.pgp_frontend_read.specs.Step.{Unread, NoneStands, StopsAtLength}
+use Rattle.pgp_frontend_read.specs.Step.{Unread, NoneStands, StopsAtLength, SkipsFrame, StopsAt, Refuses, Step}
 use Rattle.pgp_frontend_read.specs.declared.error.ClientError.{ClientError}
 use Rattle.pgp_frontend_read.specs.declared.message.PasswordKind as code
 use Rattle.pgp_line.specs.declared.style.Style.{Style}
@@ -40,16 +38,6 @@ module _ (bytes frame rest : List ℕ) (whole : bytes ≡ frame ++ rest) where
         append-nil bytes ∙ is ∙ ap (λ n. framed (Some n) body ++ rest) same.0 ∙ ap (λ l. framed (Some t.0) l ++ rest) same.1 ∙ ap (λ o. framed o (payload m) ++ rest) (sym t.1) in
         none m [] rest (record { expected = s.expected; spelled = s.spelled; whole = here })
 
-    no_other_alone : NoOtherStands kind true bytes → NoOtherStands kind true frame
-    no_other_alone none o more after s =
-        let t = tag_in (other_tag o) s.expected.0 in
-        let meet : framed (Some tag) body ++ more ≡ framed (Some t.0) (other_payload o) ++ after =
-        ap (λ l. l ++ more) (sym (one_front (framed (Some tag) body) is)) ∙ s.whole ∙ ap (λ x. framed x (other_payload o) ++ after) t.1 in
-        let same = tagged_bodies tag t.0 body (other_payload o) more after (omega (arith, fits)) (omega (arith, s.formed.fits)) meet in
-        let here : bytes ++ [] ≡ framed (other_tag o) (other_payload o) ++ rest =
-        append-nil bytes ∙ is ∙ ap (λ n. framed (Some n) body ++ rest) same.0 ∙ ap (λ l. framed (Some t.0) l ++ rest) same.1 ∙ ap (λ x. framed x (other_payload o) ++ rest) (sym t.1) in
-        none o [] rest (record { expected = s.expected; formed = s.formed; whole = here })
-
 never_same : (a b : List ℕ) → b ≡ a → length b < length a → ⊥
 never_same a b e h = absurd (omega (arith, ap length e, h))
 
@@ -58,22 +46,14 @@ no_phase true e f = absurd cc
 no_phase false e f = absurd cc
 
 -- a step that passes a frame is that of the frame by itself
-pub alone : (kind : PasswordKind) (opened now : Bool) (bytes frame rest : List ℕ) (r : Result AnyMessage ClientError) → bytes ≡ frame ++ rest → length rest < length bytes
-    → AnyStep kind (record { bytes = bytes; opened = opened }) (step_of r) (record { bytes = rest; opened = now })
-    → AnyStep kind (record { bytes = frame; opened = opened }) (step_of r) (record { bytes = []; opened = now })
-alone kind opened now bytes frame rest (Ok (Ours m)) whole less step = record {
+pub alone : (kind : PasswordKind) (opened now : Bool) (bytes frame rest : List ℕ) (r : Result ClientMessage ClientError) → bytes ≡ frame ++ rest → length rest < length bytes
+    → Step kind (record { bytes = bytes; opened = opened }) (step_of r) (record { bytes = rest; opened = now })
+    → Step kind (record { bytes = frame; opened = opened }) (step_of r) (record { bytes = []; opened = now })
+alone kind opened now bytes frame rest (Ok m) whole less step = record {
   stands = record {
     expected = step.stands.expected;
     spelled = step.stands.spelled;
     whole = one_front bytes frame rest whole (bytes_of m) step.stands.whole ∙ sym (append-nil (bytes_of m));
-  };
-  phase = step.phase;
-}
-alone kind opened now bytes frame rest (Ok (Other o)) whole less step = record {
-  stands = record {
-    expected = step.stands.expected;
-    formed = step.stands.formed;
-    whole = one_front bytes frame rest whole (other_bytes o) step.stands.whole ∙ sym (append-nil (other_bytes o));
   };
   phase = step.phase;
 }
@@ -82,10 +62,8 @@ alone kind opened now bytes frame rest (Err e) whole less step = elim step.left 
   | inr other ↦ elim other [
     | inl skips ↦
         let none : NoneStands kind true bytes = subst (λ (o : Bool). NoneStands kind o bytes) skips.phase step.none in
-        let no_other : NoOtherStands kind true bytes = subst (λ (o : Bool). NoOtherStands kind o bytes) skips.phase step.no_other in
         record {
           none = subst (λ (o : Bool). NoneStands kind o frame) (sym skips.phase) (none_alone bytes frame rest whole kind skips.tag skips.payload skips.fits skips.whole none);
-          no_other = subst (λ (o : Bool). NoOtherStands kind o frame) (sym skips.phase) (no_other_alone bytes frame rest whole kind skips.tag skips.payload skips.fits skips.whole no_other);
           left = inr (inl (record {
             tag = skips.tag;
             payload = skips.payload;
@@ -102,7 +80,7 @@ alone kind opened now bytes frame rest (Err e) whole less step = elim step.left 
 
 -- a refusal that passes nothing
 pub stopped_at : (kind : PasswordKind) (opened now : Bool) (kinds : List code.PasswordKind) (bytes rest : List ℕ) (e : ClientError) → length rest ≡ length bytes
-    → RefusesAny kind (record { bytes = bytes; opened = opened }) e (record { bytes = rest; opened = now }) → Ends (Client opened kinds) true bytes
+    → Refuses kind (record { bytes = bytes; opened = opened }) e (record { bytes = rest; opened = now }) → Ends (Client opened kinds) true bytes
 unfolding uint32
 stopped_at kind opened now kinds bytes rest e same r = elim r.left [
   | inl at ↦ inl at.fault
@@ -113,10 +91,9 @@ stopped_at kind opened now kinds bytes rest e same r = elim r.left [
 ]
 
 -- no step takes bytes back
-pub no_longer : (kind : PasswordKind) (opened now : Bool) (bytes rest : List ℕ) (r : Result AnyMessage ClientError)
-    → AnyStep kind (record { bytes = bytes; opened = opened }) (step_of r) (record { bytes = rest; opened = now }) → length rest ≤ length bytes
-no_longer kind opened now bytes rest (Ok (Ours m)) step = omega (arith, ap length step.stands.whole, length-append (bytes_of m) rest)
-no_longer kind opened now bytes rest (Ok (Other o)) step = omega (arith, ap length step.stands.whole, length-append (other_bytes o) rest)
+pub no_longer : (kind : PasswordKind) (opened now : Bool) (bytes rest : List ℕ) (r : Result ClientMessage ClientError)
+    → Step kind (record { bytes = bytes; opened = opened }) (step_of r) (record { bytes = rest; opened = now }) → length rest ≤ length bytes
+no_longer kind opened now bytes rest (Ok m) step = omega (arith, ap length step.stands.whole, length-append (bytes_of m) rest)
 no_longer kind opened now bytes rest (Err e) step = elim step.left [
   | inl at ↦ omega (arith, ap length (ap (λ (u : Unread). u.bytes) at.same))
   | inr other ↦ elim other [
@@ -143,9 +120,8 @@ behind_long : (bytes front rest : List ℕ) → 4 ≤ length front → bytes ≡
 behind_long bytes front rest long e = omega (arith, long, ap length e, length-append front rest)
 
 -- what a step says anything of but that more is awaited has a length
-pub step_long : (kind : PasswordKind) (old new : Unread) (r : Result AnyMessage ClientError) → AnyStep kind old (step_of r) new → 4 ≤ length old.bytes
-step_long kind old new (Ok (Ours m)) step = behind_long old.bytes (bytes_of m) new.bytes (framed_long (tag_of m) (payload m)) step.stands.whole
-step_long kind old new (Ok (Other o)) step = behind_long old.bytes (other_bytes o) new.bytes (framed_long (other_tag o) (other_payload o)) step.stands.whole
+pub step_long : (kind : PasswordKind) (old new : Unread) (r : Result ClientMessage ClientError) → Step kind old (step_of r) new → 4 ≤ length old.bytes
+step_long kind old new (Ok m) step = behind_long old.bytes (bytes_of m) new.bytes (framed_long (tag_of m) (payload m)) step.stands.whole
 step_long kind old new (Err e) step = elim step.left [
   | inl at ↦ begins_long old.bytes at.fault.begins.front (uint32 at.fault.len) at.fault.begins.rest (four_bytes at.fault.len) at.fault.begins.parts
   | inr other ↦ elim other [
@@ -158,10 +134,9 @@ parted : (bytes front rest : List ℕ) → bytes ≡ front ++ rest → bytes ≡
 parted bytes front rest e = e ∙ ap (λ l. l ++ rest) (sym (front_taken front rest bytes e))
 
 -- what it passed stood first
-splits : (kind : PasswordKind) (old new : Unread) (r : Result AnyMessage ClientError) → length new.bytes < length old.bytes → AnyStep kind old (step_of r) new
+splits : (kind : PasswordKind) (old new : Unread) (r : Result ClientMessage ClientError) → length new.bytes < length old.bytes → Step kind old (step_of r) new
     → old.bytes ≡ take (length old.bytes - length new.bytes) old.bytes ++ new.bytes
-splits kind old new (Ok (Ours m)) less step = parted old.bytes (bytes_of m) new.bytes step.stands.whole
-splits kind old new (Ok (Other o)) less step = parted old.bytes (other_bytes o) new.bytes step.stands.whole
+splits kind old new (Ok m) less step = parted old.bytes (bytes_of m) new.bytes step.stands.whole
 splits kind old new (Err e) less step = elim step.left [
   | inl at ↦ absurd (never_same old.bytes new.bytes (ap (λ (u : Unread). u.bytes) at.same) less)
   | inr other ↦ elim other [
@@ -171,14 +146,13 @@ splits kind old new (Err e) less step = elim step.left [
 ]
 
 -- a message takes its bytes
-pub taken_less : (kind : PasswordKind) (old new : Unread) (x : AnyMessage) → AnyStep kind old (Ok (Some x)) new → length new.bytes < length old.bytes
-taken_less kind old new (Ours m) step = omega (arith, framed_long (tag_of m) (payload m), ap length step.stands.whole, length-append (bytes_of m) new.bytes)
-taken_less kind old new (Other o) step = omega (arith, framed_long (other_tag o) (other_payload o), ap length step.stands.whole, length-append (other_bytes o) new.bytes)
+pub taken_less : (kind : PasswordKind) (old new : Unread) (x : ClientMessage) → Step kind old (Ok (Some x)) new → length new.bytes < length old.bytes
+taken_less kind old new m step = omega (arith, framed_long (tag_of m) (payload m), ap length step.stands.whole, length-append (bytes_of m) new.bytes)
 
 -- so the line of it is the line of a frame
-pub passed_line : (style : Style) (place : ℕ) (opened now : Bool) (kinds behind : List code.PasswordKind) (bytes frame rest line : List ℕ) (kind : PasswordKind) (r : Result AnyMessage ClientError)
+pub passed_line : (style : Style) (place : ℕ) (opened now : Bool) (kinds behind : List code.PasswordKind) (bytes frame rest line : List ℕ) (kind : PasswordKind) (r : Result ClientMessage ClientError)
     → kind ≡ expected kinds → length rest < length bytes
-    → AnyStep kind (record { bytes = bytes; opened = opened }) (step_of r) (record { bytes = rest; opened = now })
+    → Step kind (record { bytes = bytes; opened = opened }) (step_of r) (record { bytes = rest; opened = now })
     → frame ≡ take (length bytes - length rest) bytes → line ≡ client_line style (is_told kinds) r (client_front style place opened frame) ++ closing style ++ 10 ∷ []
     → behind ≡ kinds_behind opened frame kinds → HasLine style place (Client opened kinds) bytes rest line (Client now behind)
 passed_line style place opened now kinds behind bytes frame rest line kind r told less step is has moved =
@@ -190,7 +164,7 @@ passed_line style place opened now kinds behind bytes frame rest line kind r tol
         now = now;
         told = record {
           result = r;
-          step = subst (λ k. AnyStep k (record { bytes = frame; opened = opened }) (step_of r) (record { bytes = []; opened = now })) told (alone kind opened now bytes frame rest r whole less step);
+          step = subst (λ k. Step k (record { bytes = frame; opened = opened }) (step_of r) (record { bytes = []; opened = now })) told (alone kind opened now bytes frame rest r whole less step);
           told = has;
         };
         behind = ap (Client now) moved;
@@ -203,37 +177,37 @@ LineBehind style place opened kinds bytes rest line now behind = HasLine style p
 same_unread : (new : Unread) (rest : List ℕ) (now : Bool) → rest ≡ new.bytes → now ≡ new.opened → new ≡ left rest now
 same_unread new rest now r o = ap (λ b. left b new.opened) (sym r) ∙ ap (left rest) (sym o)
 
-pub message_passed : (style : Style) (place : ℕ) (opened now : Bool) (kinds behind : List code.PasswordKind) (bytes frame rest line : List ℕ) (kind : PasswordKind) (x : AnyMessage) (old new : Unread)
-    → old ≡ record { bytes = bytes; opened = opened } → rest ≡ new.bytes → now ≡ new.opened → kind ≡ expected kinds → AnyStep kind old (Ok (Some x)) new
+pub message_passed : (style : Style) (place : ℕ) (opened now : Bool) (kinds behind : List code.PasswordKind) (bytes frame rest line : List ℕ) (kind : PasswordKind) (x : ClientMessage) (old new : Unread)
+    → old ≡ record { bytes = bytes; opened = opened } → rest ≡ new.bytes → now ≡ new.opened → kind ≡ expected kinds → Step kind old (Ok (Some x)) new
     → frame ≡ take (length bytes - length rest) bytes → line ≡ client_line style (is_told kinds) (Ok x) (client_front style place opened frame) ++ closing style ++ 10 ∷ []
     → behind ≡ kinds_behind opened frame kinds → LineBehind style place opened kinds bytes rest line now behind
 message_passed style place opened now kinds behind bytes frame rest line kind x old new was r o told step is has moved =
-    let here : AnyStep kind (left bytes opened) (Ok (Some x)) (left rest now) =
-    subst (λ (u : Unread). AnyStep kind u (Ok (Some x)) (left rest now)) was (subst (λ (u : Unread). AnyStep kind old (Ok (Some x)) u) (same_unread new rest now r o) step) in
+    let here : Step kind (left bytes opened) (Ok (Some x)) (left rest now) =
+    subst (λ (u : Unread). Step kind u (Ok (Some x)) (left rest now)) was (subst (λ (u : Unread). Step kind old (Ok (Some x)) u) (same_unread new rest now r o) step) in
     passed_line style place opened now kinds behind bytes frame rest line kind (Ok x) told (taken_less kind (left bytes opened) (left rest now) x here) here is has moved
 
 pub refusal_passed : (style : Style) (place : ℕ) (opened now : Bool) (kinds behind : List code.PasswordKind) (bytes frame rest line : List ℕ) (kind : PasswordKind) (e : ClientError) (old new : Unread)
-    → old ≡ record { bytes = bytes; opened = opened } → rest ≡ new.bytes → now ≡ new.opened → kind ≡ expected kinds → RefusesAny kind old e new
+    → old ≡ record { bytes = bytes; opened = opened } → rest ≡ new.bytes → now ≡ new.opened → kind ≡ expected kinds → Refuses kind old e new
     → (length rest ≡ length bytes → ⊥)
     → frame ≡ take (length bytes - length rest) bytes → line ≡ client_line style (is_told kinds) (Err e) (client_front style place opened frame) ++ closing style ++ 10 ∷ []
     → behind ≡ kinds_behind opened frame kinds → LineBehind style place opened kinds bytes rest line now behind
 refusal_passed style place opened now kinds behind bytes frame rest line kind e old new was r o told step differ is has moved =
-    let here : RefusesAny kind (left bytes opened) e (left rest now) =
-    subst (λ (u : Unread). RefusesAny kind u e (left rest now)) was (subst (λ (u : Unread). RefusesAny kind old e u) (same_unread new rest now r o) step) in
+    let here : Refuses kind (left bytes opened) e (left rest now) =
+    subst (λ (u : Unread). Refuses kind u e (left rest now)) was (subst (λ (u : Unread). Refuses kind old e u) (same_unread new rest now r o) step) in
     let le : length rest ≤ length bytes = no_longer kind opened now bytes rest (Err e) here in
     let less : length rest < length bytes = omega (arith, le, differ) in
     passed_line style place opened now kinds behind bytes frame rest line kind (Err e) told less here is has moved
 
 -- where nothing was passed, no frame stands first
 ends_by : (opened : Bool) (kinds : List code.PasswordKind) (bytes rest : List ℕ) (kind : PasswordKind) (e : ClientError) (new : Unread) → rest ≡ new.bytes → length rest ≡ length bytes
-    → StopsAtLength (left bytes opened) e new ⊎ (SkipsAnyFrame kind (left bytes opened) e new ⊎ StopsAtAny (left bytes opened) e new) → Ends (Client opened kinds) true bytes
+    → StopsAtLength (left bytes opened) e new ⊎ (SkipsFrame kind (left bytes opened) e new ⊎ StopsAt (left bytes opened) e new) → Ends (Client opened kinds) true bytes
 ends_by opened kinds bytes rest kind e new r same (inl s) = inl s.fault
 ends_by opened kinds bytes rest kind e new r same (inr (inl k)) =
     absurd (omega (arith, framed_long (Some k.tag) k.payload, ap length k.whole, length-append (framed (Some k.tag) k.payload) new.bytes, ap length r, same))
 ends_by opened kinds bytes rest kind e new r same (inr (inr t)) = inr (record { phase = t.phase; payload = t.payload; rest = t.rest; fits = t.fits; whole = t.whole; error = e; blames = t.blames })
 
 pub refusal_rests : (opened : Bool) (kinds : List code.PasswordKind) (bytes rest : List ℕ) (kind : PasswordKind) (e : ClientError) (old new : Unread)
-    → old ≡ record { bytes = bytes; opened = opened } → rest ≡ new.bytes → RefusesAny kind old e new → length rest ≡ length bytes → Ends (Client opened kinds) true bytes
+    → old ≡ record { bytes = bytes; opened = opened } → rest ≡ new.bytes → Refuses kind old e new → length rest ≡ length bytes → Ends (Client opened kinds) true bytes
 refusal_rests opened kinds bytes rest kind e old new was r step same =
-    let here : RefusesAny kind (left bytes opened) e new = subst (λ (u : Unread). RefusesAny kind u e new) was step in
+    let here : Refuses kind (left bytes opened) e new = subst (λ (u : Unread). Refuses kind u e new) was step in
     ends_by opened kinds bytes rest kind e new r same here.left

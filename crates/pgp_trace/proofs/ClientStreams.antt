@@ -4,21 +4,19 @@ use Rattle.std.specs.Prelude.{◌==◌, if◌then◌else◌}
 use Rattle.std.specs.List.{concat}
 use Rattle.std.proofs.lemmas.List.{append-nil, length-append}
 use Rattle.pgp_base.specs.Wire.{uint32}
-use Rattle.pgp_frontend.specs.ClientMessage.{CancelRequest, PasswordMessage, SaslInitialResponse, SaslResponse}
-use Rattle.pgp_frontend_read.specs.AnyStep.{AnyStep}
+use Rattle.pgp_frontend.specs.ClientMessage.{ClientMessage, CancelRequest, PasswordMessage, SaslInitialResponse, SaslResponse}
 use Rattle.pgp_frontend.specs.Payload.{framed, payload, tag_of}
-use Rattle.pgp_frontend_read.specs.OtherMessage.{AnyMessage, Ours, Other, other_payload, other_tag}
 use Rattle.pgp_frontend_read.specs.Pieces.{step_of}
-use Rattle.pgp_frontend_read.specs.Step.{Unread}
+use Rattle.pgp_frontend_read.specs.Step.{Unread, Step}
 use Rattle.pgp_frontend_read.specs.declared.error.ClientError.{ClientError}
 use Rattle.pgp_frontend_read.specs.declared.message.PasswordKind as code
-use Rattle.pgp_frontend_read.proofs.AnyOneStep.{any_step_one}
-use Rattle.pgp_frontend_read.proofs.AnyRuns.{any_took}
+use Rattle.pgp_frontend_read.proofs.OneStep.{step_one}
+use Rattle.pgp_frontend_read.proofs.Pieces.{took}
 use Rattle.pgp_frontend_read.proofs.Fronts.{behind_length}
 use Rattle.pgp_frontend_read.proofs.Handing.{refused_behind}
 use Rattle.pgp_line.specs.declared.style.Style.{Style}
 use Rattle.pgp_trace.specs.Client.{client_line}
-use Rattle.pgp_trace.specs.ClientSecrets.{AlikeAny, AlikeAnswers, AlikeClientFrames, AlikeClientStreams, NoClientFrames, OneClientAlike, ReadsAs}
+use Rattle.pgp_trace.specs.ClientSecrets.{AlikeMessages, AlikeAnswers, AlikeClientFrames, AlikeClientStreams, NoClientFrames, OneClientAlike, ReadsAs}
 use Rattle.pgp_line.specs.Line.{Length, Tag, closing, followed, opening}
 use Rattle.pgp_trace.specs.Listing.{IsNextLine, LineOf, Lines, NoLines, OneLine, client_front, client_tag, place_behind}
 use Rattle.pgp_trace.specs.Secrets.{quiet}
@@ -28,38 +26,38 @@ use Rattle.pgp_trace.proofs.ClientHiding.{password, initial, response, key, unto
 
 -- ---- messages
 
-abbrev Told : Style → Bool → AnyMessage → AnyMessage → List ℕ → Type 0
+abbrev Told : Style → Bool → ClientMessage → ClientMessage → List ℕ → Type 0
 Told style told x y old = client_line (quiet style) told (Ok x) old ≡ client_line (quiet style) told (Ok y) old
 
-told_same : (style : Style) (told : Bool) (x y : AnyMessage) (old : List ℕ) → x ≡ y → Told style told x y old
+told_same : (style : Style) (told : Bool) (x y : ClientMessage) (old : List ℕ) → x ≡ y → Told style told x y old
 told_same style told x y old e = ap (λ z. client_line (quiet style) told (Ok z) old) e
 
-passwords : (style : Style) (told : Bool) (a : List ℕ) (y : AnyMessage) (old : List ℕ) → AlikeAny (Ours (PasswordMessage a)) y → Told style told (Ours (PasswordMessage a)) y old
-passwords style told a (Ours (PasswordMessage b)) old e = password style told a b old e
+passwords : (style : Style) (told : Bool) (a : List ℕ) (y : ClientMessage) (old : List ℕ) → AlikeMessages (PasswordMessage a) y → Told style told (PasswordMessage a) y old
+passwords style told a (PasswordMessage b) old e = password style told a b old e
 passwords style told a y old e = told_same style told _ y old e
 
-initials : (style : Style) (told : Bool) (m a : List ℕ) (y : AnyMessage) (old : List ℕ) → AlikeAny (Ours (SaslInitialResponse m a)) y → Told style told (Ours (SaslInitialResponse m a)) y old
-initials style told m a (Ours (SaslInitialResponse n b)) old e =
-    ap (λ k. client_line (quiet style) told (Ok (Ours (SaslInitialResponse k a))) old) e.0 ∙ initial style told n a b old e.1
+initials : (style : Style) (told : Bool) (m a : List ℕ) (y : ClientMessage) (old : List ℕ) → AlikeMessages (SaslInitialResponse m (Some a)) y → Told style told (SaslInitialResponse m (Some a)) y old
+initials style told m a (SaslInitialResponse n (Some b)) old e =
+    ap (λ k. client_line (quiet style) told (Ok (SaslInitialResponse k (Some a))) old) e.0 ∙ initial style told n a b old e.1
 initials style told m a y old e = told_same style told _ y old e
 
-responses : (style : Style) (told : Bool) (a : List ℕ) (y : AnyMessage) (old : List ℕ) → AlikeAny (Ours (SaslResponse a)) y → Told style told (Ours (SaslResponse a)) y old
-responses style true a (Ours (SaslResponse b)) old e = response style a b old e
-responses style false a (Ours (SaslResponse b)) old e = untold (quiet style) a b old e
+responses : (style : Style) (told : Bool) (a : List ℕ) (y : ClientMessage) (old : List ℕ) → AlikeMessages (SaslResponse a) y → Told style told (SaslResponse a) y old
+responses style true a (SaslResponse b) old e = response style a b old e
+responses style false a (SaslResponse b) old e = untold (quiet style) a b old e
 responses style told a y old e = told_same style told _ y old e
 
-keys : (style : Style) (told : Bool) (process : _) (a : List ℕ) (y : AnyMessage) (old : List ℕ) → AlikeAny (Ours (CancelRequest process a)) y → Told style told (Ours (CancelRequest process a)) y old
-keys style told p a (Ours (CancelRequest q b)) old e = ap (λ k. client_line (quiet style) told (Ok (Ours (CancelRequest k a))) old) e.0 ∙ key style told q a b old e.1
+keys : (style : Style) (told : Bool) (process : _) (a : List ℕ) (y : ClientMessage) (old : List ℕ) → AlikeMessages (CancelRequest process a) y → Told style told (CancelRequest process a) y old
+keys style told p a (CancelRequest q b) old e = ap (λ k. client_line (quiet style) told (Ok (CancelRequest k a)) old) e.0 ∙ key style told q a b old e.1
 keys style told p a y old e = told_same style told _ y old e
 
-told_alike : (style : Style) (told : Bool) (x y : AnyMessage) (old : List ℕ) → AlikeAny x y → Told style told x y old
-told_alike style told (Ours (PasswordMessage a)) y old e = passwords style told a y old e
-told_alike style told (Ours (SaslInitialResponse m a)) y old e = initials style told m a y old e
-told_alike style told (Ours (SaslResponse a)) y old e = responses style told a y old e
-told_alike style told (Ours (CancelRequest p a)) y old e = keys style told p a y old e
+told_alike : (style : Style) (told : Bool) (x y : ClientMessage) (old : List ℕ) → AlikeMessages x y → Told style told x y old
+told_alike style told (PasswordMessage a) y old e = passwords style told a y old e
+told_alike style told (SaslInitialResponse m (Some a)) y old e = initials style told m a y old e
+told_alike style told (SaslResponse a) y old e = responses style told a y old e
+told_alike style told (CancelRequest p a) y old e = keys style told p a y old e
 told_alike style told x y old e = told_same style told x y old e
 
-answers_alike : (style : Style) (told : Bool) (r s : Result AnyMessage ClientError) (old : List ℕ) → AlikeAnswers r s → client_line (quiet style) told r old ≡ client_line (quiet style) told s old
+answers_alike : (style : Style) (told : Bool) (r s : Result ClientMessage ClientError) (old : List ℕ) → AlikeAnswers r s → client_line (quiet style) told r old ≡ client_line (quiet style) told s old
 answers_alike style told (Ok x) (Ok y) old e = told_alike style told x y old e
 answers_alike style told (Err d) (Err e) old h = ap (λ k. client_line (quiet style) told (Err k) old) h
 answers_alike style told (Ok x) (Err e) old h = absurd h
@@ -105,9 +103,8 @@ stands_some : (f : List ℕ) (tag : Option ℕ) (body : List ℕ) → f ≡ fram
 stands_some f tag body e = omega (arith, ap length e, length-append (framed tag body) [], framed_some tag body)
 
 -- no step takes nothing
-frame_some : (opened now : Bool) (kinds : List code.PasswordKind) (f : List ℕ) (r : Result AnyMessage ClientError) → ReadsAs opened kinds f r now → 0 < length f
-frame_some opened now kinds f (Ok (Ours m)) step = stands_some f (tag_of m) (payload m) step.stands.whole
-frame_some opened now kinds f (Ok (Other o)) step = stands_some f (other_tag o) (other_payload o) step.stands.whole
+frame_some : (opened now : Bool) (kinds : List code.PasswordKind) (f : List ℕ) (r : Result ClientMessage ClientError) → ReadsAs opened kinds f r now → 0 < length f
+frame_some opened now kinds f (Ok m) step = stands_some f (tag_of m) (payload m) step.stands.whole
 frame_some opened now kinds f (Err e) step = elim step.left [
   | inl at ↦ omega (arith, behind_length opened f at.fault.len at.fault.begins)
   | inr other ↦ elim other [
@@ -117,9 +114,9 @@ frame_some opened now kinds f (Err e) step = elim step.left [
 ]
 
 -- a step, with bytes behind it
-behind : (opened now : Bool) (kinds : List code.PasswordKind) (f more : List ℕ) (r : Result AnyMessage ClientError) → ReadsAs opened kinds f r now
-    → AnyStep (expected kinds) (record { bytes = f ++ more; opened = opened }) (step_of r) (record { bytes = more; opened = now })
-behind opened now kinds f more (Ok x) step = any_took (expected kinds) (record { bytes = f; opened = opened }) (record { bytes = []; opened = now }) x more step
+behind : (opened now : Bool) (kinds : List code.PasswordKind) (f more : List ℕ) (r : Result ClientMessage ClientError) → ReadsAs opened kinds f r now
+    → Step (expected kinds) (record { bytes = f ++ more; opened = opened }) (step_of r) (record { bytes = more; opened = now })
+behind opened now kinds f more (Ok x) step = took (expected kinds) (record { bytes = f; opened = opened }) (record { bytes = []; opened = now }) x more step
 behind opened now kinds f more (Err e) step = refused_behind (expected kinds) (record { bytes = f; opened = opened }) (record { bytes = []; opened = now }) e more step
 
 same_end : (f g r : List ℕ) → f ++ r ≡ g ++ r → f ≡ g
@@ -128,14 +125,14 @@ same_end f g r e = sym (front_taken f r (f ++ r) refl) ∙ front_taken g r (f ++
 -- frames, the first at first, and the side behind them
 data Chain : Side → List (List ℕ) → Side → Type 0 where
   NoLink : {side : Side} → Chain side [] side
-  Link : {opened now : Bool} {kinds : List code.PasswordKind} {fs : List (List ℕ)} {to : Side} (f : List ℕ) (r : Result AnyMessage ClientError) → ReadsAs opened kinds f r now
+  Link : {opened now : Bool} {kinds : List code.PasswordKind} {fs : List (List ℕ)} {to : Side} (f : List ℕ) (r : Result ClientMessage ClientError) → ReadsAs opened kinds f r now
       → Chain (Client now (kinds_behind opened f kinds)) fs to → Chain (Client opened kinds) (f ∷ fs) to
 
-one_first : (opened now later : Bool) (kinds : List code.PasswordKind) (f g x y : List ℕ) (r s : Result AnyMessage ClientError) → ReadsAs opened kinds f r now → ReadsAs opened kinds g s later → f ++ x ≡ g ++ y
+one_first : (opened now later : Bool) (kinds : List code.PasswordKind) (f g x y : List ℕ) (r s : Result ClientMessage ClientError) → ReadsAs opened kinds f r now → ReadsAs opened kinds g s later → f ++ x ≡ g ++ y
     → (f ≡ g) × (x ≡ y) × (now ≡ later)
 one_first opened now later kinds f g x y r s a b e =
-    let moved = subst (λ l. AnyStep (expected kinds) (record { bytes = l; opened = opened }) (step_of r) (record { bytes = x; opened = now })) e (behind opened now kinds f x r a) in
-    let one = any_step_one (expected kinds) (record { bytes = g ++ y; opened = opened }) (record { bytes = x; opened = now }) (record { bytes = y; opened = later }) (step_of r) (step_of s) moved (behind opened later kinds g y s b) in
+    let moved = subst (λ l. Step (expected kinds) (record { bytes = l; opened = opened }) (step_of r) (record { bytes = x; opened = now })) e (behind opened now kinds f x r a) in
+    let one = step_one (expected kinds) (record { bytes = g ++ y; opened = opened }) (record { bytes = x; opened = now }) (record { bytes = y; opened = later }) (step_of r) (step_of s) moved (behind opened later kinds g y s b) in
     let rest : x ≡ y = ap (λ (u : Unread). u.bytes) one.1 in
     (same_end f g y (ap (λ l. f ++ l) (sym rest) ∙ e), rest, ap (λ (u : Unread). u.opened) one.1)
 
@@ -154,7 +151,7 @@ one_chain (_ ∷ fs) (_ ∷ gs) _ to too (Link {opened} {now} {kinds} f r reads 
     let same = one_chain fs gs (Client now (kinds_behind opened f kinds)) to too rest (subst (λ (h : Side). Chain h gs too) side more) one.1 in
     (ap (λ h. h ∷ fs) one.0 ∙ ap (λ l. g ∷ l) same.0, same.1)
 
-push : (fs : List (List ℕ)) (f : List ℕ) (r : Result AnyMessage ClientError) (side : Side) (opened now : Bool) (kinds : List code.PasswordKind) → Chain side fs (Client opened kinds) → ReadsAs opened kinds f r now
+push : (fs : List (List ℕ)) (f : List ℕ) (r : Result ClientMessage ClientError) (side : Side) (opened now : Bool) (kinds : List code.PasswordKind) → Chain side fs (Client opened kinds) → ReadsAs opened kinds f r now
     → Chain side (fs ++ f ∷ []) (Client now (kinds_behind opened f kinds))
 push [] f r _ opened now kinds NoLink reads = Link f r reads NoLink
 push (_ ∷ gs) f r _ opened now kinds (Link {opened = o} {now = n} {kinds = k} g s others rest) reads = Link g s others (push gs f r (Client n (kinds_behind o g k)) opened now kinds rest reads)
@@ -169,7 +166,7 @@ record AreChain (side to : Side) (bytes : List ℕ) : Type 0 where
   chain : Chain side frames to
   whole : bytes ≡ concat frames
 
-more_chain : {side : Side} {opened now : Bool} {kinds : List code.PasswordKind} (bytes f : List ℕ) (r : Result AnyMessage ClientError) → AreChain side (Client opened kinds) bytes → ReadsAs opened kinds f r now
+more_chain : {side : Side} {opened now : Bool} {kinds : List code.PasswordKind} (bytes f : List ℕ) (r : Result ClientMessage ClientError) → AreChain side (Client opened kinds) bytes → ReadsAs opened kinds f r now
     → AreChain side (Client now (kinds_behind opened f kinds)) (bytes ++ f)
 more_chain {side} {opened} {now} {kinds} bytes f r are reads = record {
   frames = are.frames ++ f ∷ [];
@@ -227,7 +224,7 @@ record EndsAlike (from here : Side) (bytes other f : List ℕ) : Type 0 where
   alike : AlikeClientStreams from bytes before here
   same : SideAlike here f last
 
-ends_alike : (from to : Side) (opened now : Bool) (kinds : List code.PasswordKind) (all other : List ℕ) → AlikeClientStreams from all other to → (bytes f : List ℕ) (r : Result AnyMessage ClientError)
+ends_alike : (from to : Side) (opened now : Bool) (kinds : List code.PasswordKind) (all other : List ℕ) → AlikeClientStreams from all other to → (bytes f : List ℕ) (r : Result ClientMessage ClientError)
     → AreChain from (Client opened kinds) bytes → ReadsAs opened kinds f r now → all ≡ bytes ++ f → EndsAlike from (Client opened kinds) bytes other f
 ends_alike from _ opened now kinds [] [] NoClientFrames bytes f r are reads e =
     absurd (omega (arith, ap length e, length-append bytes f, frame_some opened now kinds f r reads))

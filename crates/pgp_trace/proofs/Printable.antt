@@ -26,7 +26,7 @@ use Rattle.std.specs.Str.{IsAscii, IsUtf8, all_scalars, chars, encode_utf8_all}
 use Rattle.std.specs.Str.Lossy.{utf8_valid_len}
 use Rattle.pgp_trace.specs.Shown.{Shows, ShowsCounted, ShowsMarked, ShowsTexts, bare, called, column_parts, field_parts, list_of, name_or, number_part, refused, text_part, type_part, value_part}
 use Rattle.pgp_line.specs.Secret.{secret}
-use Rattle.pgp_frontend_read.specs.OtherMessage.{AnyMessage}
+use Rattle.pgp_frontend.specs.ClientMessage.{ClientMessage}
 use Rattle.pgp_frontend_read.specs.declared.error.ClientError.{ClientError}
 use Rattle.pgp_trace.specs.Client.{client_called, client_groups, client_line, grouped, refusal_parts}
 use Rattle.pgp_trace.specs.Listing.{GoesOn, IsLineOf, LineOf, front, client_front, client_tag}
@@ -380,7 +380,7 @@ groups : (style : Style) (line : List ℕ) (gs : List (List Part)) → IsPrinted
 groups style line [] a = a
 groups style line (ps ∷ gs) a = groups style (followed style line ps) gs (parts style line ps a)
 
-client : (style : Style) (told : Bool) (r : Result AnyMessage ClientError) (old : List ℕ) → IsPrinted old → IsPrinted (client_line style told r old)
+client : (style : Style) (told : Bool) (r : Result ClientMessage ClientError) (old : List ℕ) → IsPrinted old → IsPrinted (client_line style told r old)
 client style told (Ok x) old a = groups style (followed style old (client_called told x ∷ [])) (client_groups style told x) (parts style old (client_called told x ∷ []) a)
 client style told (Err e) old a = parts style old (refusal_parts e) a
 

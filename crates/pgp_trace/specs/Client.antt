@@ -1,9 +1,6 @@
 -- What the line of a client's message says. PostgreSQL manual, "Message Formats".
 use Rattle.std.specs.Prelude.{ℕ, pos, ℤ, ◌+◌, Bool, true, false, ◌==◌, if◌then◌else◌, List, [], ◌∷◌, length, Option, Some, None, Result, Ok, Err, codes}
-use Rattle.pgp_frontend.specs.ClientMessage.{ClientMessage, Bind, Close, CopyData, CopyDone, CopyFail, Describe, Execute, Flush, Parse, PasswordMessage, Query, SaslInitialResponse, SaslResponse, Sync, Terminate, Startup, CancelRequest, SslRequest}
-use Rattle.pgp_frontend.specs.declared.startup.ProtocolVersion.{ProtocolVersion}
-use Rattle.pgp_frontend.specs.declared.startup.ProtocolVersion.TheVariants.{V3_0, V3_2}
-use Rattle.pgp_frontend_read.specs.OtherMessage.{AnyMessage, Ours, Other, FunctionCall, SaslInitialWithoutResponse, GssEncRequest, StartupOther}
+use Rattle.pgp_frontend.specs.ClientMessage.{ClientMessage, Bind, Close, CopyData, CopyDone, CopyFail, Describe, Execute, Flush, Parse, PasswordMessage, Query, SaslInitialResponse, SaslResponse, Sync, Terminate, Startup, CancelRequest, SslRequest, GssEncRequest, FunctionCall}
 use Rattle.pgp_frontend_read.specs.declared.error.ClientError.{ClientError}
 use Rattle.pgp_frontend_read.specs.declared.error.ClientError.TheVariants.{UnknownPacket, Reading}
 use Rattle.pgp_line.specs.declared.style.Style.{Style}
@@ -15,34 +12,29 @@ use Rattle.pgp_line.specs.Secret.{response_parts, secret}
 abbrev pub some_password : List ℕ
 some_password = codes "Password, SASLInitialResponse or SASLResponse"
 
--- the name of a message of ours, where it is known which message of tag `p` it is or not
-abbrev pub our_name : Bool → ClientMessage → List ℕ
-our_name told (Bind portal statement formats values result_formats) = codes "Bind"
-our_name told (Close variant name) = codes "Close"
-our_name told (CopyData bytes) = codes "CopyData"
-our_name told CopyDone = codes "CopyDone"
-our_name told (CopyFail message) = codes "CopyFail"
-our_name told (Describe variant name) = codes "Describe"
-our_name told (Execute portal max_rows) = codes "Execute"
-our_name told Flush = codes "Flush"
-our_name told (Parse name query param_types) = codes "Parse"
-our_name told (PasswordMessage password) = codes "PasswordMessage"
-our_name told (Query query) = codes "Query"
-our_name told (SaslInitialResponse mechanism response) = codes "SASLInitialResponse"
-our_name true (SaslResponse response) = codes "SASLResponse"
-our_name false (SaslResponse response) = some_password
-our_name told Sync = codes "Sync"
-our_name told Terminate = codes "Terminate"
-our_name told (Startup version parameters) = codes "StartupMessage"
-our_name told (CancelRequest process_id secret_key) = codes "CancelRequest"
-our_name told SslRequest = codes "SSLRequest"
-
-abbrev pub client_name : Bool → AnyMessage → List ℕ
-client_name told (Ours m) = our_name told m
-client_name told (Other (FunctionCall function formats arguments result_format)) = codes "FunctionCall"
-client_name told (Other (SaslInitialWithoutResponse mechanism)) = codes "SASLInitialResponse"
-client_name told (Other GssEncRequest) = codes "GSSENCRequest"
-client_name told (Other (StartupOther minor parameters)) = codes "StartupMessage"
+-- the name of a message, where it is known which message of tag `p` it is or not
+abbrev pub client_name : Bool → ClientMessage → List ℕ
+client_name told (Bind portal statement formats values result_formats) = codes "Bind"
+client_name told (Close variant name) = codes "Close"
+client_name told (CopyData bytes) = codes "CopyData"
+client_name told CopyDone = codes "CopyDone"
+client_name told (CopyFail message) = codes "CopyFail"
+client_name told (Describe variant name) = codes "Describe"
+client_name told (Execute portal max_rows) = codes "Execute"
+client_name told Flush = codes "Flush"
+client_name told (FunctionCall function formats arguments result_format) = codes "FunctionCall"
+client_name told (Parse name query param_types) = codes "Parse"
+client_name told (PasswordMessage password) = codes "PasswordMessage"
+client_name told (Query query) = codes "Query"
+client_name told (SaslInitialResponse mechanism response) = codes "SASLInitialResponse"
+client_name true (SaslResponse response) = codes "SASLResponse"
+client_name false (SaslResponse response) = some_password
+client_name told Sync = codes "Sync"
+client_name told Terminate = codes "Terminate"
+client_name told (Startup minor parameters) = codes "StartupMessage"
+client_name told (CancelRequest process_id secret_key) = codes "CancelRequest"
+client_name told SslRequest = codes "SSLRequest"
+client_name told GssEncRequest = codes "GSSENCRequest"
 
 -- what a message is of, by its letter
 abbrev pub object_of : ℕ → Option (List ℕ)
@@ -64,56 +56,51 @@ pair_parts pair = Text pair.0 ∷ Text pair.1 ∷ []
 abbrev pub counted : {X : Type 0} → List ℕ → (X → List Part) → List X → List Part
 counted name parts items = Word name ∷ Number (pos (length items)) ∷ list_of parts items None
 
-abbrev pub version_number : ProtocolVersion → ℕ
-version_number V3_0 = 196608
-version_number V3_2 = 196610
-
 abbrev pub startup_parts : ℕ → List (List ℕ × List ℕ) → List Part
 startup_parts version parameters = Word (codes "version") ∷ Number (pos version) ∷ Word (codes "parameters") ∷ list_of pair_parts parameters None
+
+-- the first text of an exchange, if there is one
+abbrev pub first_text : Style → Option (List ℕ) → Part
+first_text style None = Value None
+first_text style (Some response) = secret style response
 
 abbrev pub named_object : ℕ → List ℕ → List Part
 named_object variant name = Word (name_or (object_of variant) variant) ∷ Text name ∷ []
 
 -- The parts of a line behind the name, in groups. Passwords, the texts of an exchange and keys are secrets.
-abbrev pub our_groups : Style → Bool → ClientMessage → List (List Part)
-our_groups style told (Bind portal statement formats values result_formats) =
+abbrev pub client_groups : Style → Bool → ClientMessage → List (List Part)
+client_groups style told (Bind portal statement formats values result_formats) =
     (Word (codes "portal") ∷ Text portal ∷ Word (codes "statement") ∷ Text statement ∷ [])
     ∷ counted (codes "formats") signed_part formats ∷ counted (codes "values") client_value values ∷ counted (codes "results") signed_part result_formats ∷ []
-our_groups style told (Close variant name) = named_object variant name ∷ []
-our_groups style told (CopyData bytes) = (Word (codes "data") ∷ Value (Some bytes) ∷ []) ∷ []
-our_groups style told (CopyFail message) = (Word (codes "message") ∷ Text message ∷ []) ∷ []
-our_groups style told (Describe variant name) = named_object variant name ∷ []
-our_groups style told (Execute portal max_rows) = (Word (codes "portal") ∷ Text portal ∷ Word (codes "rows") ∷ Number max_rows ∷ []) ∷ []
-our_groups style told (Parse name query param_types) =
-    (Word (codes "statement") ∷ Text name ∷ Word (codes "query") ∷ Text query ∷ []) ∷ counted (codes "types") type_part param_types ∷ []
-our_groups style told (PasswordMessage password) = (Word (codes "password") ∷ secret style password ∷ []) ∷ []
-our_groups style told (Query query) = (Word (codes "query") ∷ Text query ∷ []) ∷ []
-our_groups style told (SaslInitialResponse mechanism response) = (Word (codes "mechanism") ∷ Text mechanism ∷ Word (codes "data") ∷ secret style response ∷ []) ∷ []
-our_groups style told (SaslResponse response) = response_parts style told response ∷ []
-our_groups style told (Startup version parameters) = startup_parts (version_number version) parameters ∷ []
-our_groups style told (CancelRequest process_id secret_key) = (Word (codes "process") ∷ Number process_id ∷ Word (codes "key") ∷ secret style secret_key ∷ []) ∷ []
-our_groups style told m = []
-
-abbrev pub client_groups : Style → Bool → AnyMessage → List (List Part)
-client_groups style told (Ours m) = our_groups style told m
-client_groups style told (Other (FunctionCall function formats arguments result_format)) =
+client_groups style told (Close variant name) = named_object variant name ∷ []
+client_groups style told (CopyData bytes) = (Word (codes "data") ∷ Value (Some bytes) ∷ []) ∷ []
+client_groups style told (CopyFail message) = (Word (codes "message") ∷ Text message ∷ []) ∷ []
+client_groups style told (Describe variant name) = named_object variant name ∷ []
+client_groups style told (Execute portal max_rows) = (Word (codes "portal") ∷ Text portal ∷ Word (codes "rows") ∷ Number max_rows ∷ []) ∷ []
+client_groups style told (FunctionCall function formats arguments result_format) =
     (Word (codes "function") ∷ Number (pos function) ∷ [])
     ∷ counted (codes "formats") signed_part formats ∷ counted (codes "values") client_value arguments ∷ (Word (codes "result") ∷ Number result_format ∷ []) ∷ []
-client_groups style told (Other (SaslInitialWithoutResponse mechanism)) = (Word (codes "mechanism") ∷ Text mechanism ∷ Word (codes "data") ∷ Value None ∷ []) ∷ []
-client_groups style told (Other GssEncRequest) = []
-client_groups style told (Other (StartupOther minor parameters)) = startup_parts (196608 + minor) parameters ∷ []
+client_groups style told (Parse name query param_types) =
+    (Word (codes "statement") ∷ Text name ∷ Word (codes "query") ∷ Text query ∷ []) ∷ counted (codes "types") type_part param_types ∷ []
+client_groups style told (PasswordMessage password) = (Word (codes "password") ∷ secret style password ∷ []) ∷ []
+client_groups style told (Query query) = (Word (codes "query") ∷ Text query ∷ []) ∷ []
+client_groups style told (SaslInitialResponse mechanism response) = (Word (codes "mechanism") ∷ Text mechanism ∷ Word (codes "data") ∷ first_text style response ∷ []) ∷ []
+client_groups style told (SaslResponse response) = response_parts style told response ∷ []
+client_groups style told (Startup minor parameters) = startup_parts (196608 + minor) parameters ∷ []
+client_groups style told (CancelRequest process_id secret_key) = (Word (codes "process") ∷ Number process_id ∷ Word (codes "key") ∷ secret style secret_key ∷ []) ∷ []
+client_groups style told m = []
 
 -- a message of which no more is said than its name
-abbrev pub client_says_nothing : AnyMessage → Bool
-client_says_nothing (Ours CopyDone) = true
-client_says_nothing (Ours Flush) = true
-client_says_nothing (Ours Sync) = true
-client_says_nothing (Ours Terminate) = true
-client_says_nothing (Ours SslRequest) = true
-client_says_nothing (Other GssEncRequest) = true
+abbrev pub client_says_nothing : ClientMessage → Bool
+client_says_nothing CopyDone = true
+client_says_nothing Flush = true
+client_says_nothing Sync = true
+client_says_nothing Terminate = true
+client_says_nothing SslRequest = true
+client_says_nothing GssEncRequest = true
 client_says_nothing x = false
 
-abbrev pub client_called : Bool → AnyMessage → Part
+abbrev pub client_called : Bool → ClientMessage → Part
 client_called told x = Name (client_says_nothing x) (client_name told x)
 
 -- a line with these groups of parts behind it
@@ -127,6 +114,6 @@ refusal_parts (Reading e) = refused e
 refusal_parts (UnknownPacket code) = Name true (codes "packet") ∷ Number code ∷ []
 
 -- the line goes on with the name of the message and what it says, or with the refusal
-abbrev pub client_line : Style → Bool → Result AnyMessage ClientError → List ℕ → List ℕ
+abbrev pub client_line : Style → Bool → Result ClientMessage ClientError → List ℕ → List ℕ
 client_line style told (Ok x) old = grouped style (followed style old (client_called told x ∷ [])) (client_groups style told x)
 client_line style told (Err e) old = followed style old (refusal_parts e)

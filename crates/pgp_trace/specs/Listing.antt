@@ -4,9 +4,9 @@ use Rattle.std.specs.Io.KnownBytes.{Appends, Consumes, IsAtEnd}
 use Rattle.pgp_base.specs.declared.error.Error.{Error}
 use Rattle.pgp_message.specs.BackendMessage.{Message, Body}
 use Rattle.pgp_message.specs.Stream.{Frame, frame_bytes, IsFrame}
-use Rattle.pgp_frontend_read.specs.AnyStep.{AnyStep}
-use Rattle.pgp_frontend_read.specs.OtherMessage.{AnyMessage}
+use Rattle.pgp_frontend.specs.ClientMessage.{ClientMessage}
 use Rattle.pgp_frontend_read.specs.Pieces.{step_of}
+use Rattle.pgp_frontend_read.specs.Step.{Step}
 use Rattle.pgp_frontend_read.specs.declared.error.ClientError.{ClientError}
 use Rattle.pgp_frontend_read.specs.declared.message.PasswordKind.{PasswordKind}
 use Rattle.pgp_trace.specs.Client.{client_line}
@@ -53,8 +53,8 @@ client_front style place opened frame = followed style (opening style place) (Le
 
 -- The bytes are what a step of a server takes or passes that reads a client, and their line.
 pub record IsClientLine (style : Style) (place : ℕ) (opened : Bool) (kinds : List PasswordKind) (frame line : List ℕ) (now : Bool) : Type 0 where
-  pub result : Result AnyMessage ClientError
-  pub step : AnyStep (expected kinds) (record { bytes = frame; opened = opened }) (step_of result) (record { bytes = []; opened = now })
+  pub result : Result ClientMessage ClientError
+  pub step : Step (expected kinds) (record { bytes = frame; opened = opened }) (step_of result) (record { bytes = []; opened = now })
   pub told : line ≡ client_line style (is_told kinds) result (client_front style place opened frame) ++ closing style ++ 10 ∷ []
 
 pub record IsNextLine (style : Style) (place : ℕ) (opened : Bool) (kinds : List PasswordKind) (frame line : List ℕ) (to : Side) : Type 0 where

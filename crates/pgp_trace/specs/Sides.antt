@@ -4,7 +4,6 @@ use Rattle.pgp_frontend.specs.ClientMessage.{PasswordKind}
 use Rattle.pgp_frontend.specs.ClientMessage as grammar
 use Rattle.pgp_frontend.specs.Payload.{framed}
 use Rattle.pgp_message.specs.Stream.{IsEnding}
-use Rattle.pgp_frontend_read.specs.AnyStep.{AnyBlamesPacket}
 use Rattle.pgp_frontend_read.specs.Step as client
 use Rattle.pgp_frontend_read.specs.Views.{kind_view}
 use Rattle.pgp_frontend_read.specs.declared.error.ClientError.{ClientError}
@@ -42,7 +41,7 @@ pub record IsRefusedPacket (opened : Bool) (bytes : List ℕ) : Type 0 where
   pub fits : length payload + 4 < 2 ^ 31
   pub whole : bytes ≡ framed None payload ++ rest
   pub error : ClientError
-  pub blames : AnyBlamesPacket payload error
+  pub blames : client.BlamesPacket payload error
 
 -- No frame stands first: more bytes are missing; or nothing tells where the next frame begins.
 abbrev pub Ends : Side → Bool → List ℕ → Type 0

@@ -1,8 +1,7 @@
 //! The line of a client's frame.
 
 ghost use Rattle.std.specs.Prelude.{◌≡◌, ◌≤◌, ◌<◌, ◌∷◌, ◌++◌, [], length, true, IfOk, OnErr, OnOk, Ok, Err, string_bytes};
-ghost use Rattle.pgp_frontend_read.specs.AnyViews.{any_view};
-ghost use Rattle.pgp_frontend_read.specs.Views.{kind_view};
+ghost use Rattle.pgp_frontend_read.specs.Views.{kind_view, view};
 ghost use Rattle.pgp_trace.specs.Client.{client_line, refusal_parts};
 ghost use Rattle.pgp_line.specs.Line.{closing, followed};
 ghost use Rattle.pgp_trace.specs.Listing.{client_front, client_tag};
@@ -14,7 +13,7 @@ use crate::client_names::{client_name, says_nothing};
 use crate::frame::{Next, begin_line, front_of};
 use crate::lists::put_refused;
 use pgp_base::Memory;
-use pgp_frontend_read::{AnyMessage, ClientError, ClientMessages, PasswordKind};
+use pgp_frontend_read::{ClientError, ClientMessage, ClientMessages, PasswordKind};
 use pgp_line::line::{put_called, put_end, put_signed};
 use pgp_line::style::Style;
 use std::alloc::AllocError;
@@ -37,7 +36,7 @@ pub fn client_line<'a, 'b, A: Memory>(
     ensures lacks { OnErr result A.Lacks }
 {
     let mut messages = ClientMessages::resume(bytes, opened);
-    match messages.next_any(expected(kinds)) {
+    match messages.next(expected(kinds)) {
         Ok(Some(message)) => {
             let behind = messages.rest();
             let frame = front_of(bytes, behind);
@@ -109,10 +108,10 @@ fn message_line<A: Memory>(
     opened: bool,
     told: bool,
     frame: &[u8],
-    message: AnyMessage<'_>,
+    message: ClientMessage<'_>,
     line: &mut String<A>,
 ) -> Result<(), AllocError>
-    ensures line { OnOk result (string_bytes line.new ≡ client_line style told (Ok (any_view message.entry)) (client_front style place opened frame.now) ++ closing style ++ 10 ∷ []) }
+    ensures line { OnOk result (string_bytes line.new ≡ client_line style told (Ok (view message.entry)) (client_front style place opened frame.now) ++ closing style ++ 10 ∷ []) }
     ensures lacks { OnErr result A.Lacks }
 {
     begin_line(style, place, frame.len(), tag_of(opened, frame), line)?;

@@ -1,10 +1,9 @@
 //! What the line of a client's message says behind its name.
 
 ghost use Rattle.std.specs.Prelude.{◌≡◌, ◌∷◌, [], pos, OnErr, OnOk, codes, string_bytes};
-ghost use Rattle.pgp_frontend_read.specs.AnyViews.{any_view, other_view};
-ghost use Rattle.pgp_frontend_read.specs.OtherMessage.{Other};
 ghost use Rattle.pgp_frontend_read.specs.Views.{view};
-ghost use Rattle.pgp_trace.specs.Client.{client_groups, client_value, counted, grouped, named_object, our_groups, signed_part, startup_parts, version_number};
+ghost use Rattle.pgp_frontend_read.specs.Whole.{shown};
+ghost use Rattle.pgp_trace.specs.Client.{client_groups, client_value, counted, grouped, first_text, named_object, signed_part, startup_parts};
 ghost use Rattle.pgp_line.specs.Line.{Word, Number, Text, followed};
 
 use crate::body::put_copied;
@@ -12,10 +11,7 @@ use crate::client_lists::{put_formats, put_pairs, put_types, put_values};
 use crate::client_names::object_of;
 use crate::lists::put_named;
 use pgp_base::Memory;
-use pgp_frontend::ProtocolVersion;
-use pgp_frontend_read::{
-    AnyMessage, ClientMessage, Formats, OtherMessage, StartupParameters, Values,
-};
+use pgp_frontend_read::{ClientMessage, Formats, StartupParameters, Values};
 use pgp_line::line::{put_null, put_number, put_signed, put_text, put_word};
 use pgp_line::secret::{put_response, put_secret};
 use pgp_line::style::Style;
@@ -25,25 +21,10 @@ use std::alloc::AllocError;
 pub fn put_client_message<A: Memory>(
     style: Style,
     told: bool,
-    message: AnyMessage<'_>,
-    line: &mut String<A>,
-) -> Result<(), AllocError>
-    ensures says { OnOk result (string_bytes line.new ≡ grouped style (string_bytes line.old) (client_groups style told (any_view message.entry))) }
-    ensures lacks { OnErr result A.Lacks }
-{
-    match message {
-        AnyMessage::Ours(message) => put_ours(style, told, message, line),
-        AnyMessage::Other(message) => put_other(style, told, message, line),
-    }
-}
-
-fn put_ours<A: Memory>(
-    style: Style,
-    told: bool,
     message: ClientMessage<'_>,
     line: &mut String<A>,
 ) -> Result<(), AllocError>
-    ensures says { OnOk result (string_bytes line.new ≡ grouped style (string_bytes line.old) (our_groups style told (view message.entry))) }
+    ensures says { OnOk result (string_bytes line.new ≡ grouped style (string_bytes line.old) (client_groups style told (view message.entry))) }
     ensures lacks { OnErr result A.Lacks }
 {
     match message {
@@ -74,6 +55,16 @@ fn put_ours<A: Memory>(
             put_one(style, "portal", portal, line)?;
             put_integer(style, "rows", max_rows, line)
         }
+        ClientMessage::FunctionCall {
+            function,
+            formats,
+            arguments,
+            result_format,
+        } => {
+            put_unsigned(style, "function", function, line)?;
+            put_arguments(style, formats, arguments, line)?;
+            put_integer(style, "result", result_format as i32, line)
+        }
         ClientMessage::Parse {
             name,
             query,
@@ -89,49 +80,35 @@ fn put_ours<A: Memory>(
             response,
         } => {
             put_one(style, "mechanism", mechanism, line)?;
-            put_secret(style, "data", response, line)
+            put_first(style, response, line)
         }
         ClientMessage::SaslResponse(response) => put_response(style, told, response, line),
-        ClientMessage::Startup {
-            version,
-            parameters,
-        } => { put_startup(style, number_of(version), parameters, line) }
+        ClientMessage::Startup { minor, parameters } => {
+            put_startup(style, 0x30000 + minor as u32, parameters, line)
+        }
         ClientMessage::CopyDone
         | ClientMessage::Flush
+        | ClientMessage::GssEncRequest
         | ClientMessage::SslRequest
         | ClientMessage::Sync
         | ClientMessage::Terminate => Ok(()),
     }
 }
 
-fn put_other<A: Memory>(
+/// Adds the first text of an exchange, or that there is none.
+fn put_first<A: Memory>(
     style: Style,
-    told: bool,
-    message: OtherMessage<'_>,
+    response: Option<&[u8]>,
     line: &mut String<A>,
 ) -> Result<(), AllocError>
-    ensures says { OnOk result (string_bytes line.new ≡ grouped style (string_bytes line.old) (client_groups style told (Other (other_view message.entry)))) }
+    ensures parts { OnOk result (string_bytes line.new ≡ followed style (string_bytes line.old) (Word (codes "data") ∷ first_text style (shown response.entry) ∷ [])) }
     ensures lacks { OnErr result A.Lacks }
 {
-    match message {
-        OtherMessage::FunctionCall {
-            function,
-            formats,
-            arguments,
-            result_format,
-        } => {
-            put_unsigned(style, "function", function, line)?;
-            put_arguments(style, formats, arguments, line)?;
-            put_integer(style, "result", result_format as i32, line)
-        }
-        OtherMessage::SaslInitialWithoutResponse { mechanism } => {
-            put_one(style, "mechanism", mechanism, line)?;
+    match response {
+        Some(response) => put_secret(style, "data", response, line),
+        None => {
             put_word(style, "data", line)?;
             put_null(style, line)
-        }
-        OtherMessage::GssEncRequest => Ok(()),
-        OtherMessage::StartupOther { minor, parameters } => {
-            put_startup(style, 0x30000 + minor as u32, parameters, line)
         }
     }
 }
@@ -220,16 +197,6 @@ fn put_object<A: Memory>(
 {
     put_named(style, object_of(variant), variant, line)?;
     put_text(style, name, line)
-}
-
-/// The number of a version.
-fn number_of(version: ProtocolVersion) -> u32
-    ensures { result ≡ version_number version }
-{
-    match version {
-        ProtocolVersion::V3_0 => 196608,
-        ProtocolVersion::V3_2 => 196610,
-    }
 }
 
 /// Adds the version that a client asks for, and its parameters.

@@ -3,26 +3,14 @@
 ghost use Rattle.std.specs.Prelude.{◌≡◌, ℕ, List};
 ghost use Rattle.pgp_frontend.specs.ClientMessage.{SaslResponse};
 ghost use Rattle.std.specs.Option.{option_map};
-ghost use Rattle.pgp_frontend_read.specs.AnyViews.{any_view, other_view};
-ghost use Rattle.pgp_frontend_read.specs.OtherMessage.{Other, Ours};
 ghost use Rattle.pgp_frontend_read.specs.Views.{view};
-ghost use Rattle.pgp_trace.specs.Client.{client_name, client_says_nothing, object_of, our_name};
+ghost use Rattle.pgp_trace.specs.Client.{client_name, client_says_nothing, object_of};
 
-use pgp_frontend_read::{AnyMessage, ClientMessage, OtherMessage};
+use pgp_frontend_read::ClientMessage;
 
 /// The name of a message, where it is known which message of tag `p` it is or not.
-pub fn client_name(told: bool, message: &AnyMessage<'_>) -> &'static str
-    ensures { result.now ≡ client_name told (any_view message.now) }
-{
-    match message {
-        AnyMessage::Ours(message) => our_name(told, message),
-        AnyMessage::Other(message) => other_name(told, message),
-    }
-}
-
-/// The name of a message of ours.
-fn our_name(told: bool, message: &ClientMessage<'_>) -> &'static str
-    ensures { result.now ≡ our_name told (view message.now) }
+pub fn client_name(told: bool, message: &ClientMessage<'_>) -> &'static str
+    ensures { result.now ≡ client_name told (view message.now) }
 {
     match message {
         ClientMessage::Bind { .. } => "Bind",
@@ -34,6 +22,8 @@ fn our_name(told: bool, message: &ClientMessage<'_>) -> &'static str
         ClientMessage::Describe { .. } => "Describe",
         ClientMessage::Execute { .. } => "Execute",
         ClientMessage::Flush => "Flush",
+        ClientMessage::FunctionCall { .. } => "FunctionCall",
+        ClientMessage::GssEncRequest => "GSSENCRequest",
         ClientMessage::Parse { .. } => "Parse",
         ClientMessage::PasswordMessage(_) => "PasswordMessage",
         ClientMessage::Query(_) => "Query",
@@ -48,7 +38,7 @@ fn our_name(told: bool, message: &ClientMessage<'_>) -> &'static str
 
 /// The name of a message of tag `p` that is all bytes.
 fn response_name(told: bool) -> &'static str
-    ensures { (response : List ℕ) → result.now ≡ our_name told (SaslResponse response) }
+    ensures { (response : List ℕ) → result.now ≡ client_name told (SaslResponse response) }
 {
     if told {
         "SASLResponse"
@@ -57,30 +47,9 @@ fn response_name(told: bool) -> &'static str
     }
 }
 
-/// The name of one of the others.
-fn other_name(told: bool, message: &OtherMessage<'_>) -> &'static str
-    ensures { result.now ≡ client_name told (Other (other_view message.now)) }
-{
-    match message {
-        OtherMessage::FunctionCall { .. } => "FunctionCall",
-        OtherMessage::GssEncRequest => "GSSENCRequest",
-        OtherMessage::SaslInitialWithoutResponse { .. } => "SASLInitialResponse",
-        OtherMessage::StartupOther { .. } => "StartupMessage",
-    }
-}
-
 /// Whether no more is said of a message than its name.
-pub fn says_nothing(message: &AnyMessage<'_>) -> bool
-    ensures { result ≡ client_says_nothing (any_view message.now) }
-{
-    match message {
-        AnyMessage::Ours(message) => ours_says_nothing(message),
-        AnyMessage::Other(message) => other_says_nothing(message),
-    }
-}
-
-fn ours_says_nothing(message: &ClientMessage<'_>) -> bool
-    ensures { result ≡ client_says_nothing (Ours (view message.now)) }
+pub fn says_nothing(message: &ClientMessage<'_>) -> bool
+    ensures { result ≡ client_says_nothing (view message.now) }
 {
     match message {
         ClientMessage::Bind { .. } => false,
@@ -92,6 +61,8 @@ fn ours_says_nothing(message: &ClientMessage<'_>) -> bool
         ClientMessage::Describe { .. } => false,
         ClientMessage::Execute { .. } => false,
         ClientMessage::Flush => true,
+        ClientMessage::FunctionCall { .. } => false,
+        ClientMessage::GssEncRequest => true,
         ClientMessage::Parse { .. } => false,
         ClientMessage::PasswordMessage(_) => false,
         ClientMessage::Query(_) => false,
@@ -101,17 +72,6 @@ fn ours_says_nothing(message: &ClientMessage<'_>) -> bool
         ClientMessage::Startup { .. } => false,
         ClientMessage::Sync => true,
         ClientMessage::Terminate => true,
-    }
-}
-
-fn other_says_nothing(message: &OtherMessage<'_>) -> bool
-    ensures { result ≡ client_says_nothing (Other (other_view message.now)) }
-{
-    match message {
-        OtherMessage::FunctionCall { .. } => false,
-        OtherMessage::GssEncRequest => true,
-        OtherMessage::SaslInitialWithoutResponse { .. } => false,
-        OtherMessage::StartupOther { .. } => false,
     }
 }
 

@@ -1,11 +1,10 @@
 //! Laws of lines.
 
-ghost use Rattle.std.specs.Prelude.{◌≡◌, ◌∷◌, ◌++◌, [], ℕ, List, true, false, Bool, ℤ, Ok, Result, length};
+ghost use Rattle.std.specs.Prelude.{◌≡◌, ◌∷◌, ◌++◌, [], ℕ, List, true, false, Bool, ℤ, Ok, Result, Some, length};
 ghost use Rattle.pgp_base.specs.declared.error.Error.{Error};
 ghost use Rattle.pgp_message.specs.BackendMessage.{Message};
 ghost use Rattle.pgp_frontend.specs.ClientMessage.{CancelRequest, PasswordMessage, SaslInitialResponse, SaslResponse};
 ghost use Rattle.pgp_message.specs.Stream.{BackendRun};
-ghost use Rattle.pgp_frontend_read.specs.OtherMessage.{Ours};
 ghost use Rattle.pgp_frontend_read.specs.declared.message.PasswordKind.{PasswordKind};
 ghost use Rattle.pgp_trace.specs.Client.{client_line};
 ghost use Rattle.pgp_trace.specs.ClientSecrets.{AlikeClientStreams};
@@ -42,15 +41,15 @@ pub fn listings_are_runs()
 /// one is, it has the same line whatever is asked for.
 pub fn client_secrets_are_hidden()
     ensures password { (style : Style) (told : Bool) (a b old : List ℕ) → length a ≡ length b →
-        client_line (quiet style) told (Ok (Ours (PasswordMessage a))) old ≡ client_line (quiet style) told (Ok (Ours (PasswordMessage b))) old }
+        client_line (quiet style) told (Ok (PasswordMessage a)) old ≡ client_line (quiet style) told (Ok (PasswordMessage b)) old }
     ensures initial { (style : Style) (told : Bool) (mechanism a b old : List ℕ) → length a ≡ length b →
-        client_line (quiet style) told (Ok (Ours (SaslInitialResponse mechanism a))) old ≡ client_line (quiet style) told (Ok (Ours (SaslInitialResponse mechanism b))) old }
+        client_line (quiet style) told (Ok (SaslInitialResponse mechanism (Some a))) old ≡ client_line (quiet style) told (Ok (SaslInitialResponse mechanism (Some b))) old }
     ensures response { (style : Style) (a b old : List ℕ) → length a ≡ length b →
-        client_line (quiet style) true (Ok (Ours (SaslResponse a))) old ≡ client_line (quiet style) true (Ok (Ours (SaslResponse b))) old }
+        client_line (quiet style) true (Ok (SaslResponse a)) old ≡ client_line (quiet style) true (Ok (SaslResponse b)) old }
     ensures key { (style : Style) (told : Bool) (process : ℤ) (a b old : List ℕ) → length a ≡ length b →
-        client_line (quiet style) told (Ok (Ours (CancelRequest process a))) old ≡ client_line (quiet style) told (Ok (Ours (CancelRequest process b))) old }
+        client_line (quiet style) told (Ok (CancelRequest process a)) old ≡ client_line (quiet style) told (Ok (CancelRequest process b)) old }
     ensures untold { (style : Style) (a b old : List ℕ) → length a ≡ length b →
-        client_line style false (Ok (Ours (SaslResponse a))) old ≡ client_line style false (Ok (Ours (SaslResponse b))) old }
+        client_line style false (Ok (SaslResponse a)) old ≡ client_line style false (Ok (SaslResponse b)) old }
 {}
 
 /// A client's streams that differ in their secrets alone have the same lines, unless secrets are asked for.

@@ -4,7 +4,6 @@ ghost use Rattle.std.specs.Prelude.{◌≡◌, ◌⊎◌, true, [], ◌∷◌, c
 ghost use Rattle.pgp_base.specs.Calls.{OwesValues};
 ghost use Rattle.pgp_base.specs.Cause.{WantsMemory};
 ghost use Rattle.pgp_frontend.specs.ClientMessage.{Query, Startup, Terminate};
-ghost use Rattle.pgp_frontend.specs.declared.startup.ProtocolVersion.TheVariants.{V3_0};
 ghost use Rattle.pgp_frontend.specs.Payload.{cause};
 ghost use Rattle.pgp_frontend.specs.ClientRun.{ClientRun};
 ghost use Rattle.pgp_uses.specs.Asking.{AddsAll, BindsNamed, question};
@@ -27,9 +26,9 @@ pub fn one_query<A: Memory>(
     user: &str,
     query: &str,
 ) -> Result<ClientStream<BytesMut<A>>, Error>
-    ensures run { IfOk result (λ stream. ClientRun [] (Startup V3_0 ((codes "user", user.now) ∷ []) ∷ Query query.now ∷ Terminate ∷ []) stream.buf.items) }
+    ensures run { IfOk result (λ stream. ClientRun [] (Startup 0 ((codes "user", user.now) ∷ []) ∷ Query query.now ∷ Terminate ∷ []) stream.buf.items) }
     ensures refused { IfErr result (λ e. WantsMemory A.Lacks e
-        ⊎ ((cause (Startup V3_0 ((codes "user", user.now) ∷ [])) ≡ Some e) ⊎ (cause (Query query.now) ≡ Some e))) }
+        ⊎ ((cause (Startup 0 ((codes "user", user.now) ∷ [])) ≡ Some e) ⊎ (cause (Query query.now) ≡ Some e))) }
 {
     let mut stream = ClientStream::<BytesMut<A>>::new(alloc);
     stream.startup_message(&[("user", user)])?;

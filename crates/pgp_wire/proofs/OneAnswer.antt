@@ -7,8 +7,8 @@ use Rattle.std.specs.Str.{IsUtf8}
 use Rattle.hex.specs.Hex.{encode_lower}
 use Rattle.pgp_frontend.specs.declared.startup.ProtocolVersion.{ProtocolVersion}
 use Rattle.pgp_frontend.specs.declared.startup.ProtocolVersion.TheVariants.{V3_0, V3_2}
-use Rattle.pgp_frontend.specs.ClientMessage.{ClientMessage, Query, PasswordMessage, Startup, SslRequest, CancelRequest, Sync, Terminate}
-use Rattle.pgp_frontend.specs.Payload.{cause}
+use Rattle.pgp_frontend.specs.ClientMessage.{ClientMessage, Query, PasswordMessage, Startup, SslRequest, CancelRequest, GssEncRequest, Sync, Terminate}
+use Rattle.pgp_frontend.specs.Payload.{cause, minor_of}
 use Rattle.pgp_frontend.specs.Reading.{IsSpelled}
 use Rattle.pgp_message.proofs.Runs.{runs_one}
 use Rattle.pgp_frontend.specs.ClientRun.{AreInOrder, IsStartup, IsRequest, IsTagged, MayCome, is_opened}
@@ -22,42 +22,42 @@ use Rattle.pgp_wire.proofs.ScriptLemmas.{free_by, one_cut, one_word}
 
 -- ---- a line says one thing
 
-abbrev first_word : ClientMessage → List ℕ
-first_word SslRequest = codes "ssl"
-first_word Sync = codes "sync"
-first_word Terminate = codes "terminate"
-first_word (Query z) = codes "query"
-first_word (PasswordMessage z) = codes "password"
-first_word (Startup v ps) = version_word v
-first_word _ = []
+abbrev first_word : (text : List ℕ) (m : ClientMessage) → Says text m → List ℕ
+first_word text SslRequest says = codes "ssl"
+first_word text Sync says = codes "sync"
+first_word text Terminate says = codes "terminate"
+first_word text (Query z) says = codes "query"
+first_word text (PasswordMessage z) says = codes "password"
+first_word text (Startup n ps) says = version_word says.0
+first_word text _ says = []
 
 version_free : (v : ProtocolVersion) → Contains (version_word v) 32 → ⊥
 version_free V3_0 = free_by 32 (codes "startup") refl
 version_free V3_2 = free_by 32 (codes "startup32") refl
 
-word_free : (m : ClientMessage) → Contains (first_word m) 32 → ⊥
-word_free SslRequest = free_by 32 (codes "ssl") refl
-word_free Sync = free_by 32 (codes "sync") refl
-word_free Terminate = free_by 32 (codes "terminate") refl
-word_free (Query z) = free_by 32 (codes "query") refl
-word_free (PasswordMessage z) = free_by 32 (codes "password") refl
-word_free (Startup v ps) = version_free v
-word_free _ = λ h. omega (arith, h.1)
+word_free : (text : List ℕ) (m : ClientMessage) (says : Says text m) → Contains (first_word text m says) 32 → ⊥
+word_free text SslRequest says = free_by 32 (codes "ssl") refl
+word_free text Sync says = free_by 32 (codes "sync") refl
+word_free text Terminate says = free_by 32 (codes "terminate") refl
+word_free text (Query z) says = free_by 32 (codes "query") refl
+word_free text (PasswordMessage z) says = free_by 32 (codes "password") refl
+word_free text (Startup n ps) says = version_free says.0
+word_free text _ says = λ h. omega (arith, h.1)
 
-has_word : (text : List ℕ) (m : ClientMessage) → Says text m → (rest : List ℕ) × HasWord (first_word m) text rest
+has_word : (text : List ℕ) (m : ClientMessage) (says : Says text m) → (rest : List ℕ) × HasWord (first_word text m says) text rest
 has_word text SslRequest says = ([], inl (says, refl))
 has_word text Sync says = ([], inl (says, refl))
 has_word text Terminate says = ([], inl (says, refl))
 has_word text (Query z) says = (z, says)
 has_word text (PasswordMessage z) says = (z, says)
-has_word text (Startup v ps) says = (says.0, says.1)
+has_word text (Startup n ps) says = (says.2, says.3)
 has_word text _ says = absurd says
 
-same_word : (text : List ℕ) (m n : ClientMessage) → Says text m → Says text n → length (first_word m) ≡ length (first_word n)
+same_word : (text : List ℕ) (m n : ClientMessage) (a : Says text m) (b : Says text n) → length (first_word text m a) ≡ length (first_word text n b)
 same_word text m n a b =
     let (r, has) = has_word text m a in
     let (s, had) = has_word text n b in
-    ap length (one_word (first_word m) (first_word n) text r s has had (word_free m) (word_free n)).0
+    ap length (one_word (first_word text m a) (first_word text n b) text r s has had (word_free text m a) (word_free text n b)).0
 
 pair_one : (part : List ℕ) (p q : List ℕ × List ℕ) → IsPair part p → IsPair part q → p ≡ q
 pair_one part (name, value) (other, rest) a b =
@@ -76,8 +76,8 @@ one_ssl text Sync a b = let e : 3 ≡ 4 = same_word text SslRequest Sync a b in 
 one_ssl text Terminate a b = let e : 3 ≡ 9 = same_word text SslRequest Terminate a b in absurd (omega (arith, e))
 one_ssl text (Query y) a b = let e : 3 ≡ 5 = same_word text SslRequest (Query y) a b in absurd (omega (arith, e))
 one_ssl text (PasswordMessage y) a b = let e : 3 ≡ 8 = same_word text SslRequest (PasswordMessage y) a b in absurd (omega (arith, e))
-one_ssl text (Startup V3_0 qs) a b = let e : 3 ≡ 7 = same_word text SslRequest (Startup V3_0 qs) a b in absurd (omega (arith, e))
-one_ssl text (Startup V3_2 qs) a b = let e : 3 ≡ 9 = same_word text SslRequest (Startup V3_2 qs) a b in absurd (omega (arith, e))
+one_ssl text (Startup n qs) a (V3_0, is, b) = let e : 3 ≡ 7 = same_word text SslRequest (Startup n qs) a (V3_0, is, b) in absurd (omega (arith, e))
+one_ssl text (Startup n qs) a (V3_2, is, b) = let e : 3 ≡ 9 = same_word text SslRequest (Startup n qs) a (V3_2, is, b) in absurd (omega (arith, e))
 one_ssl text _ a b = absurd b
 
 one_sync : (text : List ℕ) (n : ClientMessage) → Says text Sync → Says text n → Sync ≡ n
@@ -86,8 +86,8 @@ one_sync text Sync a b = refl
 one_sync text Terminate a b = let e : 4 ≡ 9 = same_word text Sync Terminate a b in absurd (omega (arith, e))
 one_sync text (Query y) a b = let e : 4 ≡ 5 = same_word text Sync (Query y) a b in absurd (omega (arith, e))
 one_sync text (PasswordMessage y) a b = let e : 4 ≡ 8 = same_word text Sync (PasswordMessage y) a b in absurd (omega (arith, e))
-one_sync text (Startup V3_0 qs) a b = let e : 4 ≡ 7 = same_word text Sync (Startup V3_0 qs) a b in absurd (omega (arith, e))
-one_sync text (Startup V3_2 qs) a b = let e : 4 ≡ 9 = same_word text Sync (Startup V3_2 qs) a b in absurd (omega (arith, e))
+one_sync text (Startup n qs) a (V3_0, is, b) = let e : 4 ≡ 7 = same_word text Sync (Startup n qs) a (V3_0, is, b) in absurd (omega (arith, e))
+one_sync text (Startup n qs) a (V3_2, is, b) = let e : 4 ≡ 9 = same_word text Sync (Startup n qs) a (V3_2, is, b) in absurd (omega (arith, e))
 one_sync text _ a b = absurd b
 
 one_terminate : (text : List ℕ) (n : ClientMessage) → Says text Terminate → Says text n → Terminate ≡ n
@@ -96,8 +96,8 @@ one_terminate text Sync a b = let e : 9 ≡ 4 = same_word text Terminate Sync a 
 one_terminate text Terminate a b = refl
 one_terminate text (Query y) a b = let e : 9 ≡ 5 = same_word text Terminate (Query y) a b in absurd (omega (arith, e))
 one_terminate text (PasswordMessage y) a b = let e : 9 ≡ 8 = same_word text Terminate (PasswordMessage y) a b in absurd (omega (arith, e))
-one_terminate text (Startup V3_0 qs) a b = let e : 9 ≡ 7 = same_word text Terminate (Startup V3_0 qs) a b in absurd (omega (arith, e))
-one_terminate text (Startup V3_2 qs) a b = let e : 116 ≡ 115 = ap (λ l. get_or l 0 0) (one_word (codes "terminate") (codes "startup32") text [] b.0 (inl (a, refl)) b.1 (free_by 32 (codes "terminate") refl) (version_free V3_2)).0 in absurd (omega (arith, e))
+one_terminate text (Startup n qs) a (V3_0, is, b) = let e : 9 ≡ 7 = same_word text Terminate (Startup n qs) a (V3_0, is, b) in absurd (omega (arith, e))
+one_terminate text (Startup n qs) a (V3_2, is, b) = let e : 116 ≡ 115 = ap (λ l. get_or l 0 0) (one_word (codes "terminate") (codes "startup32") text [] b.0 (inl (a, refl)) b.1 (free_by 32 (codes "terminate") refl) (version_free V3_2)).0 in absurd (omega (arith, e))
 one_terminate text _ a b = absurd b
 
 one_query : (text : List ℕ) (z : List ℕ) (n : ClientMessage) → Says text (Query z) → Says text n → (Query z) ≡ n
@@ -106,8 +106,8 @@ one_query text z Sync a b = let e : 5 ≡ 4 = same_word text (Query z) Sync a b 
 one_query text z Terminate a b = let e : 5 ≡ 9 = same_word text (Query z) Terminate a b in absurd (omega (arith, e))
 one_query text z (Query y) a b = ap Query (one_word (codes "query") (codes "query") text z y a b (free_by 32 (codes "query") refl) (free_by 32 (codes "query") refl)).1
 one_query text z (PasswordMessage y) a b = let e : 5 ≡ 8 = same_word text (Query z) (PasswordMessage y) a b in absurd (omega (arith, e))
-one_query text z (Startup V3_0 qs) a b = let e : 5 ≡ 7 = same_word text (Query z) (Startup V3_0 qs) a b in absurd (omega (arith, e))
-one_query text z (Startup V3_2 qs) a b = let e : 5 ≡ 9 = same_word text (Query z) (Startup V3_2 qs) a b in absurd (omega (arith, e))
+one_query text z (Startup n qs) a (V3_0, is, b) = let e : 5 ≡ 7 = same_word text (Query z) (Startup n qs) a (V3_0, is, b) in absurd (omega (arith, e))
+one_query text z (Startup n qs) a (V3_2, is, b) = let e : 5 ≡ 9 = same_word text (Query z) (Startup n qs) a (V3_2, is, b) in absurd (omega (arith, e))
 one_query text z _ a b = absurd b
 
 one_password : (text : List ℕ) (z : List ℕ) (n : ClientMessage) → Says text (PasswordMessage z) → Says text n → (PasswordMessage z) ≡ n
@@ -116,8 +116,8 @@ one_password text z Sync a b = let e : 8 ≡ 4 = same_word text (PasswordMessage
 one_password text z Terminate a b = let e : 8 ≡ 9 = same_word text (PasswordMessage z) Terminate a b in absurd (omega (arith, e))
 one_password text z (Query y) a b = let e : 8 ≡ 5 = same_word text (PasswordMessage z) (Query y) a b in absurd (omega (arith, e))
 one_password text z (PasswordMessage y) a b = ap PasswordMessage (one_word (codes "password") (codes "password") text z y a b (free_by 32 (codes "password") refl) (free_by 32 (codes "password") refl)).1
-one_password text z (Startup V3_0 qs) a b = let e : 8 ≡ 7 = same_word text (PasswordMessage z) (Startup V3_0 qs) a b in absurd (omega (arith, e))
-one_password text z (Startup V3_2 qs) a b = let e : 8 ≡ 9 = same_word text (PasswordMessage z) (Startup V3_2 qs) a b in absurd (omega (arith, e))
+one_password text z (Startup n qs) a (V3_0, is, b) = let e : 8 ≡ 7 = same_word text (PasswordMessage z) (Startup n qs) a (V3_0, is, b) in absurd (omega (arith, e))
+one_password text z (Startup n qs) a (V3_2, is, b) = let e : 8 ≡ 9 = same_word text (PasswordMessage z) (Startup n qs) a (V3_2, is, b) in absurd (omega (arith, e))
 one_password text z _ a b = absurd b
 
 -- the words of the two versions aren't of one length
@@ -127,11 +127,12 @@ one_version text rest other V3_0 V3_2 a b = let e : 7 ≡ 9 = ap length (one_wor
 one_version text rest other V3_2 V3_0 a b = let e : 9 ≡ 7 = ap length (one_word (codes "startup32") (codes "startup") text rest other a b (version_free V3_2) (version_free V3_0)).0 in absurd (omega (arith, e))
 one_version text rest other V3_2 V3_2 a b = refl
 
-one_startup : (text : List ℕ) (v w : ProtocolVersion) (ps qs : List (List ℕ × List ℕ)) → Says text (Startup v ps) → Says text (Startup w qs) → Startup v ps ≡ Startup w qs
-one_startup text v w ps qs a b =
+one_startup : (text : List ℕ) (m n : ℕ) (ps qs : List (List ℕ × List ℕ)) → Says text (Startup m ps) → Says text (Startup n qs) → Startup m ps ≡ Startup n qs
+one_startup text m n ps qs (v, is, a) (w, are, b) =
     let rests = (one_word (version_word v) (version_word w) text a.0 b.0 a.1 b.1 (version_free v) (version_free w)).1 in
     let pairs = pairs_one (slice_split is_space b.0) ps qs (subst (λ r. ArePairs (slice_split is_space r) ps) rests a.2) b.2 in
-    ap (λ x. Startup x ps) (one_version text a.0 b.0 v w a.1 b.1) ∙ ap (λ xs. Startup w xs) pairs
+    let minors : m ≡ n = is ∙ ap minor_of (one_version text a.0 b.0 v w a.1 b.1) ∙ sym are in
+    ap (λ x. Startup x ps) minors ∙ ap (λ xs. Startup n xs) pairs
 
 pub says_one : (text : List ℕ) (m n : ClientMessage) → Says text m → Says text n → m ≡ n
 says_one text SslRequest n a b = one_ssl text n a b
@@ -159,8 +160,8 @@ says_some Sync says = let e : 0 ≡ 4 = ap length says in omega (arith, e)
 says_some Terminate says = let e : 0 ≡ 9 = ap length says in omega (arith, e)
 says_some (Query z) says = word_some 4 (codes "query") refl z says
 says_some (PasswordMessage z) says = word_some 7 (codes "password") refl z says
-says_some (Startup V3_0 ps) says = word_some 6 (codes "startup") refl says.0 says.1
-says_some (Startup V3_2 ps) says = word_some 8 (codes "startup32") refl says.0 says.1
+says_some (Startup n ps) (V3_0, is, says) = word_some 6 (codes "startup") refl says.0 says.1
+says_some (Startup n ps) (V3_2, is, says) = word_some 8 (codes "startup32") refl says.0 says.1
 says_some _ says = says
 
 -- ---- lines ask for one list of messages
@@ -196,6 +197,7 @@ startup_opens _ messages s = absurd s
 
 request_opens : (m : ClientMessage) (messages : List ClientMessage) → IsRequest m → is_opened (m ∷ messages) ≡ is_opened messages
 request_opens SslRequest messages r = refl
+request_opens GssEncRequest messages r = refl
 request_opens (CancelRequest id key) messages r = refl
 request_opens _ messages r = absurd r
 

@@ -56,7 +56,7 @@ pairs_named ([] ∷ parts) ps a = pairs_named parts ps a
 pairs_named ((b ∷ x) ∷ parts) ps (p, more, is, one, rest) = subst (AllByRecursion (λ p. p.0 ≢ [])) (sym is) (one.some, pairs_named parts more rest)
 
 pub names_it : (text : List ℕ) (m : ClientMessage) → Says text m → IsNamed m
-names_it text (Startup v ps) says = All-from_recursion (λ p. p.0 ≢ []) ps (pairs_named (slice_split is_space says.0) ps says.2)
+names_it text (Startup v ps) says = All-from_recursion (λ p. p.0 ≢ []) ps (pairs_named (slice_split is_space says.2) ps says.4)
 names_it text SslRequest says = tt
 names_it text Sync says = tt
 names_it text Terminate says = tt

@@ -2,6 +2,7 @@
 use Rattle.std.specs.Prelude.{◌≡◌, ◌≢◌, ◌⊎◌, ℕ, Bool, true, false, List, [], ◌∷◌, ◌++◌, map}
 use Rattle.pgp_frontend.specs.ClientMessage.{ClientMessage, Query, PasswordMessage, Startup, SslRequest, Sync, Terminate}
 use Rattle.pgp_frontend.specs.Given.{shown}
+use Rattle.pgp_frontend.specs.Payload.{minor_of}
 use Rattle.pgp_wire.specs.declared.script as code
 use Rattle.pgp_wire.specs.declared.script.Request.TheVariants as variants
 use Rattle.pgp_wire.specs.Script.{IsPair}
@@ -12,7 +13,7 @@ asked variants.Sync = Sync
 asked variants.Terminate = Terminate
 asked (variants.Query text) = Query text.now
 asked (variants.Password text) = PasswordMessage text.now
-asked (variants.Startup version list) = Startup version (map shown list.items)
+asked (variants.Startup version list) = Startup (minor_of version) (map shown list.items)
 
 -- the part was added if it isn't empty; or it is no name and value
 abbrev pub AddsPart : List ℕ → List (List ℕ × List ℕ) → List (List ℕ × List ℕ) → Bool → Type 0

@@ -3,6 +3,7 @@ use Rattle.std.specs.Prelude.{◌≡◌, ◌≢◌, ◌⊎◌, ℕ, ◌==◌, Bo
 use Rattle.std.specs.List.{slice_split}
 use Rattle.pgp_frontend.specs.declared.startup.ProtocolVersion.{ProtocolVersion}
 use Rattle.pgp_frontend.specs.declared.startup.ProtocolVersion.TheVariants.{V3_0, V3_2}
+use Rattle.pgp_frontend.specs.Payload.{minor_of}
 use Rattle.pgp_frontend.specs.ClientMessage.{ClientMessage, Query, PasswordMessage, Startup, SslRequest, Sync, Terminate}
 
 abbrev pub is_space : ℕ → Bool
@@ -39,5 +40,5 @@ Says line Sync = line ≡ codes "sync"
 Says line Terminate = line ≡ codes "terminate"
 Says line (Query z) = HasWord (codes "query") line z
 Says line (PasswordMessage z) = HasWord (codes "password") line z
-Says line (Startup version ps) = (rest : List ℕ) × HasWord (version_word version) line rest × ArePairs (slice_split is_space rest) ps
+Says line (Startup minor ps) = (version : ProtocolVersion) × (minor ≡ minor_of version) × (rest : List ℕ) × HasWord (version_word version) line rest × ArePairs (slice_split is_space rest) ps
 Says line _ = ⊥

@@ -23,7 +23,7 @@ size_left rest = option_map_or (λ bytes. length bytes.now + 1) rest 0
 -- a script's line that has to come before the session is open
 abbrev pub is_opening : ClientMessage → Bool
 is_opening SslRequest = true
-is_opening (Startup version parameters) = true
+is_opening (Startup minor parameters) = true
 is_opening _ = false
 
 module _ {B Kept : Type 0} (held : B → Held Kept) where

@@ -11,7 +11,7 @@ use pgp_session::serving::{
     Denial, Serving, ServingEvent, ServingPhase, StartupNames, startup_names,
 };
 use postgres_protocol::message::client::{
-    AnyMessage, ClientFrame, ClientMessage, ClientParser, Limits, ParserError,
+    ClientFrame, ClientMessage, ClientParser, Limits, ParserError,
 };
 use std::alloc::Global;
 
@@ -22,11 +22,9 @@ const LIMITS: Limits = Limits {
 };
 
 /// The names of a startup packet; `None` of another message.
-fn names_of(message: AnyMessage<'_>) -> Option<StartupNames<'_>> {
+fn names_of(message: ClientMessage<'_>) -> Option<StartupNames<'_>> {
     match message {
-        AnyMessage::Ours(ClientMessage::Startup { parameters, .. }) => {
-            Some(startup_names(parameters))
-        }
+        ClientMessage::Startup { parameters, .. } => Some(startup_names(parameters)),
         other => {
             drop(other);
             None
@@ -64,7 +62,7 @@ impl<'h> Connection<'h> {
     }
 
     /// Asks the user that the startup packet names for the proof.
-    fn ask(&mut self, message: AnyMessage<'_>, out: &mut BytesMut) -> Result<(), Fault> {
+    fn ask(&mut self, message: ClientMessage<'_>, out: &mut BytesMut) -> Result<(), Fault> {
         let Some(names) = names_of(message) else {
             return self.reject(out);
         };
@@ -91,7 +89,7 @@ impl<'h> Connection<'h> {
     }
 
     /// Takes a message, and appends what is answered.
-    fn take(&mut self, message: AnyMessage<'_>, out: &mut BytesMut) -> Result<(), Fault> {
+    fn take(&mut self, message: ClientMessage<'_>, out: &mut BytesMut) -> Result<(), Fault> {
         match self.serving.step(&message, out) {
             Ok(ServingEvent::Named) => self.ask(message, out),
             Ok(ServingEvent::Requested) => self.session.answer(message, out),

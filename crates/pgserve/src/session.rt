@@ -10,7 +10,7 @@ use crate::script::{Script, Statement};
 use crate::text::trimmed;
 use bytes::BytesMut;
 use postgres_protocol::FallibleIterator;
-use postgres_protocol::message::client::{AnyMessage, ClientMessage, Formats};
+use postgres_protocol::message::client::{ClientMessage, Formats};
 use postgres_protocol::message::reply;
 use std::alloc::Global;
 
@@ -252,18 +252,18 @@ impl<'h> Session<'h> {
     /// Appends what is answered to a request that is no Bind.
     fn answer_in_place(
         &mut self,
-        message: &AnyMessage<'_>,
+        message: &ClientMessage<'_>,
         out: &mut BytesMut,
     ) -> Result<(), Fault> {
         match message {
-            AnyMessage::Ours(ClientMessage::Sync) => self.sync(out),
+            ClientMessage::Sync => self.sync(out),
             _ if self.is_skipping => Ok(()),
-            AnyMessage::Ours(ClientMessage::Query(text)) => self.query(text, out),
-            AnyMessage::Ours(message) => self.extended(message, out),
-            AnyMessage::Other(_) => {
+            ClientMessage::Query(text) => self.query(text, out),
+            ClientMessage::FunctionCall { .. } => {
                 refuse(Refusal::NotSupported, out)?;
                 self.ready(out)
             }
+            message => self.extended(message, out),
         }
     }
 
@@ -274,19 +274,17 @@ impl<'h> Session<'h> {
     /// `Memory`, and `TooLong` where an answer of the script doesn't fit a message.
     pub(crate) fn answer(
         &mut self,
-        message: AnyMessage<'_>,
+        message: ClientMessage<'_>,
         out: &mut BytesMut,
     ) -> Result<(), Fault> {
         match message {
-            AnyMessage::Ours(
-                ClientMessage::Bind {
-                    portal,
-                    statement,
-                    values,
-                    result_formats,
-                    ..
-                },
-            ) => self.bind(portal, statement, values.size_hint().0, result_formats, out),
+            ClientMessage::Bind {
+                portal,
+                statement,
+                values,
+                result_formats,
+                ..
+            } => self.bind(portal, statement, values.size_hint().0, result_formats, out),
             other => {
                 let answer = self.answer_in_place(&other, out);
                 drop(other);

@@ -31,18 +31,18 @@ said_final old new first answer a is = ap the_text (is ∙ ap (λ (c : Client). 
 
 module _ {Kept : Type 0} (mechanism : List ℕ) (old : Client) (out_old out : Held Kept) (begun : Begun) (text : List ℕ) (due : old.state ≡ AwaitsFirst begun) (said : Some text ≡ message_of old.state) where
   -- what was said is the client's first text
-  pub first_unwritten : (memory : Type 0) (lacks : Held Kept → ℕ → Type 0) (first final : List ℕ) (e : Error) → WritesMessage (SaslInitialResponse mechanism text) lacks out_old out (Err e) → FirstUnwritten memory lacks mechanism old old first first final final out_old out e
+  pub first_unwritten : (memory : Type 0) (lacks : Held Kept → ℕ → Type 0) (first final : List ℕ) (e : Error) → WritesMessage (SaslInitialResponse mechanism (Some text)) lacks out_old out (Err e) → FirstUnwritten memory lacks mechanism old old first first final final out_old out e
   first_unwritten memory lacks first final e w = record {
     begun = begun;
     due = due;
-    refused = subst (λ (t : List ℕ). WritesMessage (SaslInitialResponse mechanism t) lacks out_old out (Err e)) (said_first old begun text due said) w;
+    refused = subst (λ (t : List ℕ). WritesMessage (SaslInitialResponse mechanism (Some t)) lacks out_old out (Err e)) (said_first old begun text due said) w;
     client = refl;
     first = refl;
     final = refl;
   }
 
-  pub sent_first : out ≡ out_old ⊕ bytes_of (SaslInitialResponse mechanism text) → SentFirst mechanism old out_old out
-  sent_first sent = record { begun = begun; due = due; sent = sent ∙ ap (λ (t : List ℕ). out_old ⊕ bytes_of (SaslInitialResponse mechanism t)) (said_first old begun text due said) }
+  pub sent_first : out ≡ out_old ⊕ bytes_of (SaslInitialResponse mechanism (Some text)) → SentFirst mechanism old out_old out
+  sent_first sent = record { begun = begun; due = due; sent = sent ∙ ap (λ (t : List ℕ). out_old ⊕ bytes_of (SaslInitialResponse mechanism (Some t))) (said_first old begun text due said) }
 
 module _ {Kept : Type 0} (mechanism : List ℕ) (old : Client) (out_old : Held Kept) (first_old first_new : List ℕ) where
   -- the text that `update` was handed is that of the message

@@ -1,6 +1,6 @@
 -- What an exchange of SCRAM-SHA-256 leaves, whose texts pass through messages, and where one stops.
 -- PostgreSQL manual, "SASL Authentication"; RFC 5802; RFC 7677.
-use Rattle.std.specs.Prelude.{◌≡◌, ◌⊎◌, ℕ, ◌+◌, max, List, Ok, Err}
+use Rattle.std.specs.Prelude.{◌≡◌, ◌⊎◌, ℕ, ◌+◌, max, List, Some, Ok, Err}
 use Rattle.pgp_base.specs.Held.{Held, ◌⊕◌}
 use Rattle.pgp_base.specs.declared.error.Error.{Error}
 use Rattle.pgp_auth.specs.Verifier.{verifier}
@@ -22,8 +22,8 @@ pub record Exchanged {Kept : Type 0} (mechanism : List ℕ) (old new : Client) (
   pub begun : Begun
   pub due : old.state ≡ AwaitsFirst begun
   pub answered : Answered
-  pub appended : out_new ≡ out_old ⊕ bytes_of (SaslInitialResponse mechanism (first_text begun)) ⊕ bytes_of (SaslResponse answered.final)
-  pub first_spelled : IsSpelled (SaslInitialResponse mechanism (first_text begun))
+  pub appended : out_new ≡ out_old ⊕ bytes_of (SaslInitialResponse mechanism (Some (first_text begun))) ⊕ bytes_of (SaslResponse answered.final)
+  pub first_spelled : IsSpelled (SaslInitialResponse mechanism (Some (first_text begun)))
   pub final_spelled : IsSpelled (SaslResponse answered.final)
   -- the server's texts are those of the messages that were taken
   pub first : List ℕ
@@ -70,7 +70,7 @@ module _ {Kept : Type 0} (mechanism : List ℕ) (old : Client) (out_old : Held K
   pub record SentFirst (out : Held Kept) : Type 0 where
     pub begun : Begun
     pub due : old.state ≡ AwaitsFirst begun
-    pub sent : out ≡ out_old ⊕ bytes_of (SaslInitialResponse mechanism (first_text begun))
+    pub sent : out ≡ out_old ⊕ bytes_of (SaslInitialResponse mechanism (Some (first_text begun)))
 
   module _ (first_old first_new : List ℕ) where
     -- then the server's first text was taken and answered
@@ -93,7 +93,7 @@ module _ {Kept : Type 0} (memory : Type 0) (lacks : Held Kept → ℕ → Type 0
   pub record FirstUnwritten (e : Error) : Type 0 where
     pub begun : Begun
     pub due : old.state ≡ AwaitsFirst begun
-    pub refused : WritesMessage (SaslInitialResponse mechanism (first_text begun)) lacks out_old out_new (Err e)
+    pub refused : WritesMessage (SaslInitialResponse mechanism (Some (first_text begun))) lacks out_old out_new (Err e)
     pub client : new ≡ old
     pub first : first_new ≡ first_old
     pub final : final_new ≡ final_old

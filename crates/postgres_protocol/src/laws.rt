@@ -1,10 +1,9 @@
 //! Laws of whole streams: what a server that knows only the grammar reads of a client's bytes. Laws of values in
 //! messages: arrays that are bound, and rows that are read.
 
-ghost use Rattle.std.specs.Prelude.{◌≡◌, ℕ, List, [], ◌∷◌, ◌++◌, None};
+ghost use Rattle.std.specs.Prelude.{◌≡◌, ℕ, ◌<◌, ◌^◌, List, [], ◌∷◌, ◌++◌, None};
 ghost use Rattle.pgp_frontend.specs.ClientMessage.{ClientMessage, PasswordKind, Startup};
 ghost use Rattle.pgp_frontend.specs.Payload.{bytes_of, cause, IsInRange};
-ghost use Rattle.pgp_frontend.specs.declared.startup.ProtocolVersion.{ProtocolVersion};
 ghost use Rattle.pgp_frontend.specs.ClientRun.{ClientRun, MayCome, is_opened, kinds_of};
 
 mod array;
@@ -44,10 +43,10 @@ pub fn one_phase()
         ClientRun kinds messages bytes → ClientRun more others bytes → is_opened messages ≡ is_opened others }
 {}
 
-/// No server reads a startup packet with an empty name, as it is written with the value `x`.
+/// No server reads a startup packet with an empty name, as it is written with the value `x`, whatever its minor version is.
 pub fn no_empty_name()
-    ensures { (version : ProtocolVersion) (kinds : List PasswordKind) (messages : List ClientMessage) →
-        ClientRun kinds messages (bytes_of (Startup version (([], 120 ∷ []) ∷ []))) → ⊥ }
+    ensures { (minor : ℕ) (kinds : List PasswordKind) (messages : List ClientMessage) → minor < 2 ^ 16 →
+        ClientRun kinds messages (bytes_of (Startup minor (([], 120 ∷ []) ∷ []))) → ⊥ }
 {}
 
 /// Later bytes change nothing that was read.

@@ -1,12 +1,12 @@
-use Rattle.std.proofs.Common.{rules, refl}
+use Rattle.std.proofs.Common.{rules, refl, Some}
 use Rattle.pgp_frontend.specs.ClientMessage.{SaslInitialResponse}
 use Rattle.pgp_c.proofs.Sending.{sends_ended, refuses_ended}
 use Rattle.pgp_c.proofs.writing.pgp_sasl_initial_response.Goals as goal
 
 pub returns-clause-sent : goal.returns-clause-sent
 returns-clause-sent c z =
-    sends_ended (SaslInitialResponse c.args.mechanism.now c.args.response.now) (SaslInitialResponse c.args.mechanism.now c.args.response.now) refl c.new-window.result c.sasl_initial_response-answer.new.buf c.args.out.now _ c.new-window.ensures c.sasl_initial_response-answer.result c.sasl_initial_response-answer.ensures _ (search rules) _ (c.ended.ensures.sent z)
+    sends_ended (SaslInitialResponse c.args.mechanism.now (Some c.args.response.now)) (SaslInitialResponse c.args.mechanism.now (Some c.args.response.now)) refl c.new-window.result c.sasl_initial_response-answer.new.buf c.args.out.now _ c.new-window.ensures c.sasl_initial_response-answer.result c.sasl_initial_response-answer.ensures _ (search rules) _ (c.ended.ensures.sent z)
 
 pub returns-clause-refused : goal.returns-clause-refused
 returns-clause-refused c z =
-    refuses_ended (SaslInitialResponse c.args.mechanism.now c.args.response.now) (SaslInitialResponse c.args.mechanism.now c.args.response.now) refl c.new-window.result c.sasl_initial_response-answer.new.buf c.args.out.now _ c.new-window.ensures c.sasl_initial_response-answer.result c.sasl_initial_response-answer.ensures _ _ (c.ended.ensures.refused z)
+    refuses_ended (SaslInitialResponse c.args.mechanism.now (Some c.args.response.now)) (SaslInitialResponse c.args.mechanism.now (Some c.args.response.now)) refl c.new-window.result c.sasl_initial_response-answer.new.buf c.args.out.now _ c.new-window.ensures c.sasl_initial_response-answer.result c.sasl_initial_response-answer.ensures _ _ (c.ended.ensures.refused z)

@@ -73,7 +73,7 @@ returns-clause-ok g c =
     record {
       message = Parse c.args.name.now c.args.query.now k.0;
       whole = (k.0, k.1, refl);
-      in_range = (tt, (tt, (k.2, tt)));
+      in_range = ((tt, (tt, (k.2, tt))), tt);
       none = frame_fits (texts ++ Oids k.0 ∷ []) (g.B.Buffer.held c.put_u8.new.buf) _ _ _ c.in_ok-put_u32.ensures.ok all c.len-base.ensures.value clean w.fits;
       appended = tagged 80 _ (g.B.Buffer.held c.args.buf.now) _ _ (c.in_ok-put_u8.ensures.ok ∙ ap (λ held. held ⊕ 80 ∷ []) c.in_ok-reserve.ensures.same) (frame_done (texts ++ Oids k.0 ∷ []) (g.B.Buffer.held c.put_u8.new.buf) _ _ _ c.in_ok-put_u32.ensures.ok all c.len-base.ensures.value _ w.ok);
     }

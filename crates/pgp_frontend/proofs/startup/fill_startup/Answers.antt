@@ -3,10 +3,10 @@ use Rattle.std.specs.Prelude.{FitsSigned}
 use Rattle.std.specs.Int.{w32}
 use Rattle.pgp_base.proofs.Parts.{if_err_at, length-uint32, wants_more, wants_then}
 use Rattle.pgp_base.specs.Wire.{uint32, int32}
-use Rattle.pgp_frontend.proofs.Needs.{int32_length, startup_length, version_fits}
+use Rattle.pgp_frontend.proofs.Needs.{int32_length, startup_length, minor_fits, minor_small}
 use Rattle.pgp_frontend.specs.ClientMessage.{Startup}
 use Rattle.pgp_frontend.specs.Given.{shown_by}
-use Rattle.pgp_frontend.specs.Payload.{Int32, Pairs, version_code, spelling}
+use Rattle.pgp_frontend.specs.Payload.{Int32, Pairs, minor_of, version_code, spelling}
 use Rattle.pgp_frontend.proofs.Fields.{cause_more, cause_here}
 use Rattle.pgp_frontend.proofs.Frames.{frame_room, frame_done, frame_fits, frame_passes}
 use Rattle.pgp_frontend.proofs.Texts.{part_more, first_part}
@@ -17,12 +17,12 @@ returns-in_err-put_pairs-clause-cause g c =
     if_err_at _ _ _ c.from_residual-in_err-put_pairs.ensures.1
     (let k = c.in_err-put_pairs.ensures.cause in
     inl (
-      Startup c.args.version (map (shown_by g.T.Text.shown) k.0),
+      Startup (minor_of c.args.version) (map (shown_by g.T.Text.shown) k.0),
       (k.0, k.1, refl),
       elim k.2 [
         | inl memory ↦ inl (
           memory.0,
-          wants_then (g.B.Buffer.held c.args.buf.now) _ (uint32 0) _ _ c.in_ok-put_u32.ensures.ok (omega (arith, startup_length c.args.version (map (shown_by g.T.Text.shown) k.0), length-uint32 0))
+          wants_then (g.B.Buffer.held c.args.buf.now) _ (uint32 0) _ _ c.in_ok-put_u32.ensures.ok (omega (arith, startup_length (minor_of c.args.version) (map (shown_by g.T.Text.shown) k.0), length-uint32 0))
               (wants_then _ _ (int32 (version_code c.args.version)) _ (4 + length (spelling (Pairs (map (shown_by g.T.Text.shown) k.0)))) c.in_ok-put_version.ensures.ok (omega (arith, int32_length (version_code c.args.version))) memory.1),
         )
         | inr refused ↦ inr (cause_here (Int32 (version_code c.args.version) ∷ []) (Pairs (map (shown_by g.T.Text.shown) k.0)) [] _ refl refused)
@@ -41,7 +41,7 @@ returns-in_err-finish_body-clause-cause g c =
     let all = part_more (Int32 (version_code c.args.version) ∷ []) (Pairs (map (shown_by g.T.Text.shown) k.0)) _ _ _ (first_part (Int32 (version_code c.args.version)) _ _ c.in_ok-put_version.ensures.ok) k.3 in
     let clean = cause_more (Int32 (version_code c.args.version) ∷ []) (Pairs (map (shown_by g.T.Text.shown) k.0)) refl k.2 in
     if_err_at _ _ _ c.from_residual-in_err-finish_body.ensures.1
-    (inr (Startup c.args.version (map (shown_by g.T.Text.shown) k.0), (k.0, k.1, refl), clean, frame_passes (Int32 (version_code c.args.version) ∷ Pairs (map (shown_by g.T.Text.shown) k.0) ∷ []) (g.B.Buffer.held c.args.buf.now) _ _ _ c.in_ok-put_u32.ensures.ok all c.len-base.ensures.value _ clean c.in_err-finish_body.ensures.cause))
+    (inr (Startup (minor_of c.args.version) (map (shown_by g.T.Text.shown) k.0), (k.0, k.1, refl), clean, frame_passes (Int32 (version_code c.args.version) ∷ Pairs (map (shown_by g.T.Text.shown) k.0) ∷ []) (g.B.Buffer.held c.args.buf.now) _ _ _ c.in_ok-put_u32.ensures.ok all c.len-base.ensures.value _ clean c.in_err-finish_body.ensures.cause))
 
 pub returns-clause-ok : goal.returns-clause-ok
 returns-clause-ok g c =
@@ -49,11 +49,11 @@ returns-clause-ok g c =
     let all = part_more (Int32 (version_code c.args.version) ∷ []) (Pairs (map (shown_by g.T.Text.shown) k.0)) _ _ _ (first_part (Int32 (version_code c.args.version)) _ _ c.in_ok-put_version.ensures.ok) k.3 in
     let clean = cause_more (Int32 (version_code c.args.version) ∷ []) (Pairs (map (shown_by g.T.Text.shown) k.0)) refl k.2 in
     let w = c.in_ok-finish_body.ensures in
-    let version : FitsSigned w32 (version_code c.args.version) = version_fits c.args.version in
+    let version : FitsSigned w32 (version_code c.args.version) = minor_fits (minor_of c.args.version) (minor_small c.args.version) in
     record {
-      message = Startup c.args.version (map (shown_by g.T.Text.shown) k.0);
+      message = Startup (minor_of c.args.version) (map (shown_by g.T.Text.shown) k.0);
       whole = (k.0, k.1, refl);
-      in_range = (version, (tt, tt));
+      in_range = ((version, (tt, tt)), minor_small c.args.version);
       none = frame_fits (Int32 (version_code c.args.version) ∷ Pairs (map (shown_by g.T.Text.shown) k.0) ∷ []) (g.B.Buffer.held c.args.buf.now) _ _ _ c.in_ok-put_u32.ensures.ok all c.len-base.ensures.value clean w.fits;
       appended = frame_done (Int32 (version_code c.args.version) ∷ Pairs (map (shown_by g.T.Text.shown) k.0) ∷ []) (g.B.Buffer.held c.args.buf.now) _ _ _ c.in_ok-put_u32.ensures.ok all c.len-base.ensures.value _ w.ok;
     }
@@ -61,10 +61,10 @@ returns-clause-ok g c =
 pub returns-in_err-put_u32-clause-cause : goal.returns-in_err-put_u32-clause-cause
 returns-in_err-put_u32-clause-cause g c =
     let memory = c.in_err-put_u32.ensures.cause in
-    if_err_at _ _ _ c.from_residual.ensures.1 (inl (Startup c.args.version [], ([], inl refl, refl), inl (memory.0, wants_more _ 4 _ (omega (arith, startup_length c.args.version [])) memory.1)))
+    if_err_at _ _ _ c.from_residual.ensures.1 (inl (Startup (minor_of c.args.version) [], ([], inl refl, refl), inl (memory.0, wants_more _ 4 _ (omega (arith, startup_length (minor_of c.args.version) [])) memory.1)))
 
 pub returns-in_err-put_version-clause-cause : goal.returns-in_err-put_version-clause-cause
 returns-in_err-put_version-clause-cause g c =
     let memory = c.in_err-put_version.ensures.cause in
     if_err_at _ _ _ c.from_residual-in_err-put_version.ensures.1
-    (inl (Startup c.args.version [], ([], inl refl, refl), inl (memory.0, wants_then (g.B.Buffer.held c.args.buf.now) _ (uint32 0) _ _ c.in_ok-put_u32.ensures.ok (omega (arith, startup_length c.args.version [], length-uint32 0, int32_length (version_code c.args.version))) memory.1)))
+    (inl (Startup (minor_of c.args.version) [], ([], inl refl, refl), inl (memory.0, wants_then (g.B.Buffer.held c.args.buf.now) _ (uint32 0) _ _ c.in_ok-put_u32.ensures.ok (omega (arith, startup_length (minor_of c.args.version) [], length-uint32 0, int32_length (version_code c.args.version))) memory.1)))

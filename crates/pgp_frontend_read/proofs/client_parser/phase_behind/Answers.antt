@@ -1,7 +1,7 @@
 use Rattle.std.proofs.Common.{rules, Bool, true, false, List, ℕ, length, Ok, refl, subst}
 use Rattle.pgp_frontend.specs.ClientMessage.{Password}
-use Rattle.pgp_frontend_read.specs.AnyStep.{AnyStep, RefusesAny}
-use Rattle.pgp_frontend_read.specs.AnyViews.{read_any}
+use Rattle.pgp_frontend_read.specs.Step.{Step, Refuses}
+use Rattle.pgp_frontend_read.specs.Views.{read}
 use Rattle.pgp_frontend_read.specs.Holding.{HasSize}
 use Rattle.pgp_frontend_read.proofs.Handing.{frame_read, packet_opened, packet_refused}
 use Rattle.pgp_frontend_read.proofs.Steps.{left}
@@ -16,11 +16,11 @@ pub returns-in-Ok : goal.returns-in-Ok
 returns-in-Ok c =
     let bytes : List ℕ = c.args.bytes.now in
     let h : HasSize false bytes (length bytes) = subst (λ (o : Bool). HasSize o bytes (length bytes)) c.if-opened.false c.requires in
-    let step : AnyStep Password (left bytes false) (read_any (Ok c.in-Ok.field-0)) c.next_any.new.self = search rules in
-    rw (c.if-opened.false, c.is_open.ensures) (packet_opened bytes h c.in-Ok.field-0 c.next_any.new.self step)
+    let step : Step Password (left bytes false) (read (Ok c.in-Ok.field-0)) c.next.new.self = search rules in
+    rw (c.if-opened.false, c.is_open.ensures) (packet_opened bytes h c.in-Ok.field-0 c.next.new.self step)
 
 pub returns-in-Err : goal.returns-in-Err
 returns-in-Err c =
     let bytes : List ℕ = c.args.bytes.now in
-    let refused : RefusesAny Password (left bytes false) c.in-Err.e c.next_any.new.self = search rules in
-    record { cause = c.in-Err.e; name = refl; steps = λ kind. rw c.if-opened.false (packet_refused bytes c.in-Err.e c.next_any.new.self refused kind) }
+    let refused : Refuses Password (left bytes false) c.in-Err.e c.next.new.self = search rules in
+    record { cause = c.in-Err.e; name = refl; steps = λ kind. rw c.if-opened.false (packet_refused bytes c.in-Err.e c.next.new.self refused kind) }

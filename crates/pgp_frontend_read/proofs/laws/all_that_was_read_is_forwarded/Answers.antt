@@ -1,5 +1,5 @@
-use Rattle.pgp_frontend_read.proofs.ForwardRuns.{run_forwards, any_run_forwards}
+use Rattle.pgp_frontend_read.proofs.ForwardRuns.{run_forwards}
 use Rattle.pgp_frontend_read.proofs.laws.all_that_was_read_is_forwarded.Goals as goal
 
 pub returns : goal.returns
-returns g c = record { ours = run_forwards g.B.Buffer.Lacks; either = any_run_forwards g.B.Buffer.Lacks }
+returns g c = run_forwards g.B.Buffer.Lacks

@@ -1,12 +1,11 @@
 use Rattle.std.proofs.Common.{[], ◌∷◌, codes, subst}
-use Rattle.pgp_frontend.specs.declared.startup.ProtocolVersion.TheVariants.{V3_0}
 use Rattle.pgp_frontend.specs.ClientMessage.{Startup, Query}
 use Rattle.pgp_frontend.specs.ClientRun.{ClientRun, kinds_of}
 use Rattle.pgp_uses.proofs.session.one_query.Goals as goal
 
 pub returns-clause-run : goal.returns-clause-run
 returns-clause-run g c =
-    let user = Startup V3_0 ((codes "user", c.args.user.now) ∷ []) in
+    let user = Startup 0 ((codes "user", c.args.user.now) ∷ []) in
     let query = Query c.args.query.now in
     let first = c.in_ok-startup_message.ensures in
     let second = c.in_ok-query.ensures in

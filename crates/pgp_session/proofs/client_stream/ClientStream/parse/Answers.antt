@@ -1,7 +1,7 @@
 use Rattle.std.proofs.Common.{ap}
 use Rattle.std.specs.Prelude.{is_some}
 use Rattle.pgp_frontend.specs.Payload.{tag_of}
-use Rattle.pgp_frontend.specs.ClientRun.{is_startup}
+use Rattle.pgp_session.proofs.Additions.{is_plain}
 use Rattle.pgp_session.proofs.Additions.{same_phase, later_added, later_stays, left, still}
 use Rattle.pgp_session.proofs.client_stream.ClientStream.parse.Goals as goal
 use Rattle.pgp_session.proofs.client_stream.ClientStream.parse.Goals.{in-Ok, in-Err}
@@ -15,7 +15,7 @@ returns g c =
     rw (← c.self.view_is) (elim c.match-parse.branch [
       | in-Ok w ↦ rw w.result-is
           (let e = w.in-Ok.ensures in
-          (e.message, e.whole, later_added held a b o c.self.invariant e.message (ap is_startup e.whole.2) (same_phase c.self.view_is c.requires.opened) (ap (λ m. is_some (tag_of m)) e.whole.2) e.in_range e.none e.appended))
+          (e.message, e.whole, later_added held a b o c.self.invariant e.message (ap is_plain e.whole.2) (same_phase c.self.view_is c.requires.opened) (ap (λ m. is_some (tag_of m)) e.whole.2) e.in_range e.none e.appended))
       | in-Err w ↦ rw w.result-is (w.in-Err.ensures.0, left held a b o c.self.invariant w.in-Err.ensures.1)
     ])
 
@@ -28,6 +28,6 @@ invariant_of-self g c =
     elim c.match-parse.branch [
       | in-Ok w ↦
           (let e = w.in-Ok.ensures in
-          later_stays held a b o c.self.invariant e.message (ap is_startup e.whole.2) (same_phase c.self.view_is c.requires.opened) (ap (λ m. is_some (tag_of m)) e.whole.2) e.in_range e.none e.appended)
+          later_stays held a b o c.self.invariant e.message (ap is_plain e.whole.2) (same_phase c.self.view_is c.requires.opened) (ap (λ m. is_some (tag_of m)) e.whole.2) e.in_range e.none e.appended)
       | in-Err w ↦ still held a b o c.self.invariant w.in-Err.ensures.1
     ]

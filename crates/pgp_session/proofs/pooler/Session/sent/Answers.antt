@@ -1,19 +1,19 @@
 use Rattle.std.proofs.Common.{◌≡◌, ◌∙◌, true, false, arith, sym}
-use Rattle.pgp_frontend_read.specs.AnyViews.{any_view}
+use Rattle.pgp_frontend_read.specs.Views.{view}
 use Rattle.pgp_session.specs.Pooler.{awaits}
 use Rattle.pgp_session.proofs.Counted.{IsNext, saw_asked, saw_sent}
 use Rattle.pgp_session.proofs.pooler.Session.sent.Goals as goal
 
 pub returns-then-awaits : goal.returns-then-awaits
 returns-then-awaits c =
-    let awaited : awaits (any_view c.args.message.now) ≡ true = sym c.awaits.ensures ∙ c.if-awaits.true in
+    let awaited : awaits (view c.args.message.now) ≡ true = sym c.awaits.ensures ∙ c.if-awaits.true in
     let next : IsNext c.args.self.now.asked c.saturating_add-self.result = record {
       below = λ low. omega (arith, c.saturating_add-self.ensures, low);
       full = λ full. omega (arith, c.saturating_add-self.ensures, full);
     } in
-    λ sent came saw. saw_asked sent came c.args.self.now saw (any_view c.args.message.now) c.saturating_add-self.result c.waits-self.result awaited c.waits-self.ensures next
+    λ sent came saw. saw_asked sent came c.args.self.now saw (view c.args.message.now) c.saturating_add-self.result c.waits-self.result awaited c.waits-self.ensures next
 
 pub returns-else-awaits : goal.returns-else-awaits
 returns-else-awaits c =
-    let other : awaits (any_view c.args.message.now) ≡ false = sym c.awaits.ensures ∙ c.if-awaits.false in
-    λ sent came saw. saw_sent sent came c.args.self.now saw (any_view c.args.message.now) c.waits-self.result other c.waits-self.ensures
+    let other : awaits (view c.args.message.now) ≡ false = sym c.awaits.ensures ∙ c.if-awaits.false in
+    λ sent came saw. saw_sent sent came c.args.self.now saw (view c.args.message.now) c.waits-self.result other c.waits-self.ensures

@@ -20,7 +20,7 @@ pub returns : goal.returns
 returns c = λ dimensions element_type vs is fits none.
     let m = binding dimensions element_type vs in
     let tagged : tag_of m ≢ None = λ e. cc in
-    let spelled : IsSpelled m = record { none = none; in_range = (tt, (tt, (one_fits, (tt, ((λ k d past. absurd (omega (arith, past))), tt))))); named = tt } in
+    let spelled : IsSpelled m = record { none = none; in_range = ((tt, (tt, (one_fits, (tt, ((λ k d past. absurd (omega (arith, past))), tt))))), tt); named = tt } in
     let back = c.arrays.ensures.of_array in
     let value = back.back (array_of dimensions element_type vs) is fits in
     record {

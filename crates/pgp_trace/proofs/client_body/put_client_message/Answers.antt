@@ -1,11 +1,11 @@
 -- Each message's calls, one behind another.
 use Rattle.std.proofs.Common.{◌≡◌, [], ◌∷◌, ap, subst, ◌∙◌}
 use Rattle.std.specs.Prelude.{codes, string_bytes, OnOk}
-use Rattle.pgp_trace.specs.Client.{client_value, counted, signed_part}
+use Rattle.pgp_trace.specs.Client.{client_value, counted, first_text, signed_part}
 use Rattle.pgp_line.specs.Line.{Word, followed}
 use Rattle.pgp_trace.specs.Shown.{type_part}
-use Rattle.pgp_line.specs.Secret.{secret}
-use Rattle.pgp_trace.proofs.client_body.put_ours.Goals as goal
+use Rattle.pgp_frontend_read.specs.Whole.{shown}
+use Rattle.pgp_trace.proofs.client_body.put_client_message.Goals as goal
 
 pub returns-in_ok-put_values-in-Bind-clause-says : goal.returns-in_ok-put_values-in-Bind-clause-says
 returns-in_ok-put_values-in-Bind-clause-says g c =
@@ -24,5 +24,5 @@ returns-in-PasswordMessage-clause-says g c = rw c.in-PasswordMessage.is c.put_se
 
 pub returns-in_ok-put_one-in-SaslInitialResponse-clause-says : goal.returns-in_ok-put_one-in-SaslInitialResponse-clause-says
 returns-in_ok-put_one-in-SaslInitialResponse-clause-says g c =
-    rw c.in-SaslInitialResponse.is (subst (λ l. OnOk c.put_secret-in-SaslInitialResponse.result (string_bytes c.put_secret-in-SaslInitialResponse.new.line ≡ followed c.args.style l (Word (codes "data") ∷ secret c.args.style c.in-SaslInitialResponse.response.now ∷ [])))
-    c.in_ok-put_one-in-SaslInitialResponse.ensures.parts c.put_secret-in-SaslInitialResponse.ensures.parts)
+    rw c.in-SaslInitialResponse.is (subst (λ l. OnOk c.put_first.result (string_bytes c.put_first.new.line ≡ followed c.args.style l (Word (codes "data") ∷ first_text c.args.style (shown c.in-SaslInitialResponse.response) ∷ [])))
+    c.in_ok-put_one-in-SaslInitialResponse.ensures.parts c.put_first.ensures.parts)
