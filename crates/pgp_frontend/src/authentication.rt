@@ -9,7 +9,7 @@ use crate::field::{Field, message};
 use crate::over_bytes;
 use pgp_base::{Buffer, Error};
 
-/// A password, or the text of its digest.
+/// PasswordMessage: a clear-text password, or the answer to an MD5 request.
 ///
 /// # Errors
 ///
@@ -21,7 +21,7 @@ pub fn password_message<B: Buffer>(password: &[u8], buf: &mut B) -> Result<(), E
     message(b'p', &[Field::Text(password)], buf)
 }
 
-/// The first message of a SASL exchange: the mechanism's name, and the client's first data.
+/// SASLInitialResponse: chooses a mechanism, and carries the client's first data.
 ///
 /// # Errors
 ///
@@ -37,7 +37,7 @@ pub fn sasl_initial_response<B: Buffer>(
     over_bytes::sasl_initial_response(mechanism.as_bytes(), data, buf)
 }
 
-/// A later message of a SASL exchange.
+/// SASLResponse: the next data of a SASL exchange.
 ///
 /// # Errors
 ///

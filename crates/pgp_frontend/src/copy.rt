@@ -84,7 +84,7 @@ fn fill<T: Buf, B: Buffer>(size: u32, buf: &mut T, out: &mut B) -> Result<(), Er
     Ok(())
 }
 
-/// The end of the data.
+/// CopyDone: ends the data of a copy.
 ///
 /// # Errors
 ///
@@ -95,7 +95,7 @@ pub fn copy_done<B: Buffer>(buf: &mut B) -> Result<(), Error>
     message(b'c', &[], buf)
 }
 
-/// Gives the copy up, with a text for the server's report.
+/// CopyFail: aborts a copy, with a message for the server's error.
 ///
 /// # Errors
 ///

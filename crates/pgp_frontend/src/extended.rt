@@ -18,7 +18,7 @@ use crate::over_bytes;
 use crate::values::put_values;
 use pgp_base::{BindError, Buffer, Error, IsNull, Oid, finish_body, put_u8, put_u32};
 
-/// Closes a statement (`S`) or a portal (`P`). The variant may be any byte.
+/// Close: closes a prepared statement (`S`) or a portal (`P`). The variant may be any byte.
 ///
 /// # Errors
 ///
@@ -30,7 +30,7 @@ pub fn close<B: Buffer>(variant: u8, name: &str, buf: &mut B) -> Result<(), Erro
     over_bytes::close(variant, name.as_bytes(), buf)
 }
 
-/// Asks what a statement (`S`) or a portal (`P`) gives. The variant may be any byte.
+/// Describe: asks for the parameters and columns of a statement (`S`), or the columns of a portal (`P`). The variant may be any byte.
 ///
 /// # Errors
 ///
@@ -42,7 +42,7 @@ pub fn describe<B: Buffer>(variant: u8, name: &str, buf: &mut B) -> Result<(), E
     over_bytes::describe(variant, name.as_bytes(), buf)
 }
 
-/// Runs a portal, for at most so many rows; 0 is no limit.
+/// Execute: executes a portal, returning at most `max_rows` rows; 0 is no limit.
 ///
 /// # Errors
 ///
@@ -54,7 +54,7 @@ pub fn execute<B: Buffer>(portal: &str, max_rows: i32, buf: &mut B) -> Result<()
     over_bytes::execute(portal.as_bytes(), max_rows, buf)
 }
 
-/// Asks for what the server holds back.
+/// Flush: asks the server to send what it has buffered.
 ///
 /// # Errors
 ///
@@ -65,7 +65,7 @@ pub fn flush<B: Buffer>(buf: &mut B) -> Result<(), Error>
     message(b'H', &[], buf)
 }
 
-/// Ends a series of extended queries.
+/// Sync: ends a series of extended queries. The server answers with ReadyForQuery.
 ///
 /// # Errors
 ///

@@ -13,7 +13,7 @@ use crate::field::{Field, message};
 use crate::startup::{ProtocolVersion, open};
 use pgp_base::{BindError, Buffer, Error, IsNull, Oid};
 
-/// A query of any number of statements.
+/// Query: runs one or more statements, separated by semicolons.
 ///
 /// # Errors
 ///
@@ -124,7 +124,7 @@ where
     }
 }
 
-/// Asks what a statement (`S`) or a portal (`P`) gives. The variant may be any byte.
+/// Describe: asks for the parameters and columns of a statement (`S`), or the columns of a portal (`P`). The variant may be any byte.
 ///
 /// # Errors
 ///
@@ -138,7 +138,7 @@ pub fn describe<B: Buffer>(variant: u8, name: &[u8], buf: &mut B) -> Result<(), 
     message(b'D', &[Field::Byte(variant), Field::Text(name)], buf)
 }
 
-/// Closes a statement (`S`) or a portal (`P`). The variant may be any byte.
+/// Close: closes a prepared statement (`S`) or a portal (`P`). The variant may be any byte.
 ///
 /// # Errors
 ///
@@ -152,7 +152,7 @@ pub fn close<B: Buffer>(variant: u8, name: &[u8], buf: &mut B) -> Result<(), Err
     message(b'C', &[Field::Byte(variant), Field::Text(name)], buf)
 }
 
-/// Runs a portal, for at most so many rows; 0 is no limit.
+/// Execute: executes a portal, returning at most `max_rows` rows; 0 is no limit.
 ///
 /// # Errors
 ///
@@ -166,7 +166,7 @@ pub fn execute<B: Buffer>(portal: &[u8], max_rows: i32, buf: &mut B) -> Result<(
     message(b'E', &[Field::Text(portal), Field::Int32(max_rows)], buf)
 }
 
-/// The first message of a SASL exchange: the mechanism's name, and the client's first data.
+/// SASLInitialResponse: chooses a mechanism, and carries the client's first data.
 ///
 /// # Errors
 ///
@@ -184,7 +184,7 @@ pub fn sasl_initial_response<B: Buffer>(
     message(b'p', &[Field::Text(mechanism), Field::Sized(data)], buf)
 }
 
-/// Gives the copy up, with a text for the server's report.
+/// CopyFail: aborts a copy, with a message for the server's error.
 ///
 /// # Errors
 ///

@@ -8,7 +8,7 @@ use crate::field::message;
 use crate::over_bytes;
 use pgp_base::{Buffer, Error};
 
-/// A query of any number of statements.
+/// Query: runs one or more statements, separated by semicolons.
 ///
 /// # Errors
 ///
@@ -20,7 +20,7 @@ pub fn query<B: Buffer>(query: &str, buf: &mut B) -> Result<(), Error>
     over_bytes::query(query.as_bytes(), buf)
 }
 
-/// The end of the session.
+/// Terminate: ends the session.
 ///
 /// # Errors
 ///

@@ -35,7 +35,7 @@ pub enum ProtocolVersion {
     V3_2,
 }
 
-/// Asks for the end of what another session runs, by the numbers of its BackendKeyData.
+/// CancelRequest: cancels another session's query, by the numbers of its BackendKeyData.
 ///
 /// # Errors
 ///
@@ -46,7 +46,7 @@ pub fn cancel_request<B: Buffer>(process_id: i32, secret_key: i32, buf: &mut B) 
     cancel_request_key(process_id, &u32_bytes(secret_key.cast_unsigned()), buf)
 }
 
-/// Asks for the end of what another session runs, by the number and the key of its BackendKeyData. Keys that haven't four
+/// CancelRequest: cancels another session's query, by the number and the key of its BackendKeyData. Keys that haven't four
 /// bytes belong to this project's profile of protocol 3.2; nothing is claimed of a server's 3.2.
 ///
 /// # Errors
@@ -69,7 +69,7 @@ pub fn cancel_request_key<B: Buffer>(
     )
 }
 
-/// Asks for an encrypted session. The server answers with one byte, which is no message.
+/// SSLRequest: asks for an encrypted session. The server answers with one byte, `S` or `N`, which is not a message.
 ///
 /// # Errors
 ///

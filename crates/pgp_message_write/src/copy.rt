@@ -17,7 +17,7 @@ use crate::listed::{count_field, listed};
 use pgp_base::{Buffer, Error};
 use pgp_frontend::field::{Field, message};
 
-/// The server awaits the data of a copy. The format is 0 for text and 1 for binary, as a whole and of each column.
+/// CopyInResponse: the server is ready for the data of a copy. The format is 0 for text and 1 for binary, as a whole and of each column.
 ///
 /// # Errors
 ///
@@ -37,7 +37,7 @@ pub fn copy_in_response<B: Buffer>(
     listed(b'G', &head, column_formats, &[], buf)
 }
 
-/// The same, of formats that come from an iterator.
+/// The same, over an iterator of formats.
 ///
 /// # Errors
 ///
@@ -65,7 +65,7 @@ where
     )
 }
 
-/// The server is to send the data of a copy, in these formats.
+/// CopyOutResponse: the server is about to send the data of a copy, in these formats.
 ///
 /// # Errors
 ///
@@ -84,7 +84,7 @@ pub fn copy_out_response<B: Buffer>(
     listed(b'H', &head, column_formats, &[], buf)
 }
 
-/// The same, of formats that come from an iterator.
+/// The same, over an iterator of formats.
 ///
 /// # Errors
 ///
@@ -110,7 +110,7 @@ where
     )
 }
 
-/// A piece of the data of a copy.
+/// CopyData: a chunk of the data of a copy.
 ///
 /// # Errors
 ///
@@ -122,7 +122,7 @@ pub fn copy_data<B: Buffer>(data: &[u8], buf: &mut B) -> Result<(), Error>
     message(b'd', &[Field::Rest(data)], buf)
 }
 
-/// The end of the data of a copy.
+/// CopyDone: the end of the data of a copy.
 ///
 /// # Errors
 ///

@@ -17,7 +17,7 @@ use crate::listed::{count_field, listed};
 use pgp_base::{Buffer, Error, Oid};
 use pgp_frontend::field::{Field, message};
 
-/// A statement is prepared.
+/// ParseComplete: a statement has been prepared.
 ///
 /// # Errors
 ///
@@ -28,7 +28,7 @@ pub fn parse_complete<B: Buffer>(buf: &mut B) -> Result<(), Error>
     message(b'1', &[], buf)
 }
 
-/// A portal is made.
+/// BindComplete: a portal has been created.
 ///
 /// # Errors
 ///
@@ -39,7 +39,7 @@ pub fn bind_complete<B: Buffer>(buf: &mut B) -> Result<(), Error>
     message(b'2', &[], buf)
 }
 
-/// A statement or a portal is closed.
+/// CloseComplete: a statement or a portal has been closed.
 ///
 /// # Errors
 ///
@@ -50,7 +50,7 @@ pub fn close_complete<B: Buffer>(buf: &mut B) -> Result<(), Error>
     message(b'3', &[], buf)
 }
 
-/// A statement or a portal gives no rows.
+/// NoData: a statement or a portal returns no rows.
 ///
 /// # Errors
 ///
@@ -61,7 +61,7 @@ pub fn no_data<B: Buffer>(buf: &mut B) -> Result<(), Error>
     message(b'n', &[], buf)
 }
 
-/// The limit of rows that an `Execute` told is reached.
+/// PortalSuspended: an Execute's limit of rows was reached.
 ///
 /// # Errors
 ///
@@ -72,7 +72,7 @@ pub fn portal_suspended<B: Buffer>(buf: &mut B) -> Result<(), Error>
     message(b's', &[], buf)
 }
 
-/// The types of a statement's parameters.
+/// ParameterDescription: the types of a statement's parameters.
 ///
 /// # Errors
 ///
@@ -86,7 +86,7 @@ pub fn parameter_description<B: Buffer>(types: &[Oid], buf: &mut B) -> Result<()
     listed(b't', &[Field::Rest(&count)], types, &[], buf)
 }
 
-/// The same, of types that come from an iterator.
+/// The same, over an iterator of types.
 ///
 /// # Errors
 ///

@@ -24,7 +24,7 @@ fn request<B: Buffer>(code: i32, details: &[u8], buf: &mut B) -> Result<(), Erro
     message(b'R', &[Field::Int32(code), Field::Rest(details)], buf)
 }
 
-/// The client is let in.
+/// AuthenticationOk: authentication succeeded.
 ///
 /// # Errors
 ///
@@ -35,7 +35,7 @@ pub fn authentication_ok<B: Buffer>(buf: &mut B) -> Result<(), Error>
     request(0, &[], buf)
 }
 
-/// Asks for Kerberos V5.
+/// AuthenticationKerberosV5: requires Kerberos V5.
 ///
 /// # Errors
 ///
@@ -46,7 +46,7 @@ pub fn authentication_kerberos_v5<B: Buffer>(buf: &mut B) -> Result<(), Error>
     request(2, &[], buf)
 }
 
-/// Asks for the password itself.
+/// AuthenticationCleartextPassword: requires a clear-text password.
 ///
 /// # Errors
 ///
@@ -57,7 +57,7 @@ pub fn authentication_cleartext_password<B: Buffer>(buf: &mut B) -> Result<(), E
     request(3, &[], buf)
 }
 
-/// Asks for a credential of the socket.
+/// AuthenticationSCMCredential: requires an SCM credentials message.
 ///
 /// # Errors
 ///
@@ -68,7 +68,7 @@ pub fn authentication_scm_credential<B: Buffer>(buf: &mut B) -> Result<(), Error
     request(6, &[], buf)
 }
 
-/// Asks for GSSAPI.
+/// AuthenticationGSS: requires GSSAPI.
 ///
 /// # Errors
 ///
@@ -79,7 +79,7 @@ pub fn authentication_gss<B: Buffer>(buf: &mut B) -> Result<(), Error>
     request(7, &[], buf)
 }
 
-/// Asks for SSPI.
+/// AuthenticationSSPI: requires SSPI.
 ///
 /// # Errors
 ///
@@ -90,7 +90,7 @@ pub fn authentication_sspi<B: Buffer>(buf: &mut B) -> Result<(), Error>
     request(9, &[], buf)
 }
 
-/// Asks for the MD5 digest of the password, with this salt.
+/// AuthenticationMD5Password: requires an MD5 password with this salt.
 ///
 /// # Errors
 ///
@@ -101,7 +101,7 @@ pub fn authentication_md5_password<B: Buffer>(salt: [u8; 4], buf: &mut B) -> Res
     request(5, &salt, buf)
 }
 
-/// Data of GSSAPI or SSPI.
+/// AuthenticationGSSContinue: data of a GSSAPI or SSPI exchange.
 ///
 /// # Errors
 ///
@@ -113,7 +113,7 @@ pub fn authentication_gss_continue<B: Buffer>(data: &[u8], buf: &mut B) -> Resul
     request(8, data, buf)
 }
 
-/// The challenge of a SASL mechanism, as SCRAM's first text of a server.
+/// AuthenticationSASLContinue: a SASL challenge, as the server's first SCRAM message.
 ///
 /// # Errors
 ///
@@ -125,7 +125,7 @@ pub fn authentication_sasl_continue<B: Buffer>(data: &[u8], buf: &mut B) -> Resu
     request(11, data, buf)
 }
 
-/// The outcome of a SASL mechanism, as SCRAM's last text.
+/// AuthenticationSASLFinal: the outcome of a SASL exchange, as the server's final SCRAM message.
 ///
 /// # Errors
 ///
@@ -157,7 +157,7 @@ pub fn authentication_sasl<B: Buffer>(mechanisms: &[&[u8]], buf: &mut B) -> Resu
     )
 }
 
-/// The same, of names that come from an iterator.
+/// The same, over an iterator of names.
 ///
 /// # Errors
 ///
@@ -218,7 +218,7 @@ pub fn negotiate_protocol_version<B: Buffer>(
     listed(b'v', &head, options, &[], buf)
 }
 
-/// The same, of options that come from an iterator.
+/// The same, over an iterator of options.
 ///
 /// # Errors
 ///

@@ -39,7 +39,7 @@ impl<'a> Item for ErrorField<'a> {
     }
 }
 
-/// An error of these fields. A client awaits at least severity, SQLSTATE and message.
+/// ErrorResponse: an error with these fields. Clients expect at least severity, SQLSTATE and message.
 ///
 /// # Errors
 ///
@@ -52,7 +52,7 @@ pub fn error_response<B: Buffer>(fields: &[ErrorField<'_>], buf: &mut B) -> Resu
     listed(b'E', &[], fields, &[Field::Byte(0)], buf)
 }
 
-/// The same, of fields that come from an iterator.
+/// The same, over an iterator of fields.
 ///
 /// # Errors
 ///
@@ -72,7 +72,7 @@ where
     given(b'E', &[], Ending::Zero, fields, buf)
 }
 
-/// A notice of these fields.
+/// NoticeResponse: a notice with these fields.
 ///
 /// # Errors
 ///
@@ -84,7 +84,7 @@ pub fn notice_response<B: Buffer>(fields: &[ErrorField<'_>], buf: &mut B) -> Res
     listed(b'N', &[], fields, &[Field::Byte(0)], buf)
 }
 
-/// The same, of fields that come from an iterator.
+/// The same, over an iterator of fields.
 ///
 /// # Errors
 ///

@@ -57,7 +57,7 @@ impl<'a> Item for Column<'a> {
     }
 }
 
-/// The columns of the rows to come.
+/// RowDescription: the columns of the rows that follow.
 ///
 /// # Errors
 ///
@@ -72,7 +72,7 @@ pub fn row_description<B: Buffer>(columns: &[Column<'_>], buf: &mut B) -> Result
     listed(b'T', &[Field::Rest(&count)], columns, &[], buf)
 }
 
-/// The same, of columns that come from an iterator.
+/// The same, over an iterator of columns.
 ///
 /// # Errors
 ///
@@ -93,7 +93,7 @@ where
     given(b'T', &[], Ending::Count, columns, buf)
 }
 
-/// A row of these values, or none for a null, each in its column's format.
+/// DataRow: a row of these values, `None` for a null, each in its column's format.
 ///
 /// # Errors
 ///
@@ -108,7 +108,7 @@ pub fn data_row<B: Buffer>(values: &[Option<&[u8]>], buf: &mut B) -> Result<(), 
     listed(b'D', &[Field::Rest(&count)], values, &[], buf)
 }
 
-/// The same, of values that come from an iterator.
+/// The same, over an iterator of values.
 ///
 /// # Errors
 ///

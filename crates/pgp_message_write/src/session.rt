@@ -6,7 +6,7 @@ ghost use Rattle.pgp_message_write.specs.Reply.{WritesReply};
 use pgp_base::{Buffer, Error};
 use pgp_frontend::field::{Field, message};
 
-/// A setting's value.
+/// ParameterStatus: the value of a run-time parameter.
 ///
 /// # Errors
 ///
@@ -18,7 +18,7 @@ pub fn parameter_status<B: Buffer>(name: &[u8], value: &[u8], buf: &mut B) -> Re
     message(b'S', &[Field::Text(name), Field::Text(value)], buf)
 }
 
-/// A notification by this process: its channel, and a text.
+/// NotificationResponse: a notification by this process, with its channel and payload.
 ///
 /// # Errors
 ///
@@ -43,7 +43,7 @@ pub fn notification_response<'a, B: Buffer>(
     )
 }
 
-/// A command is done. The tag tells which, and how many rows it touched, as `SELECT 1`.
+/// CommandComplete: a command has completed. The tag names it, and how many rows it affected, as `SELECT 1`.
 ///
 /// # Errors
 ///
@@ -55,7 +55,7 @@ pub fn command_complete<B: Buffer>(tag: &[u8], buf: &mut B) -> Result<(), Error>
     message(b'C', &[Field::Text(tag)], buf)
 }
 
-/// The query was empty: it stands in the place of a `CommandComplete`.
+/// EmptyQueryResponse: the query was empty. It replaces CommandComplete.
 ///
 /// # Errors
 ///
@@ -66,7 +66,7 @@ pub fn empty_query_response<B: Buffer>(buf: &mut B) -> Result<(), Error>
     message(b'I', &[], buf)
 }
 
-/// The next query may come. The status is `I` outside a transaction, `T` in one and `E` in one that failed.
+/// ReadyForQuery: the server is ready for the next query. The status is `I` outside a transaction, `T` in one and `E` in a failed one.
 ///
 /// # Errors
 ///

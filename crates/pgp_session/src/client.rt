@@ -60,7 +60,7 @@ pub enum StepError {
 pub struct Client<'a, B: Buffer> {
     /// How far it is.
     pub phase: Phase,
-    /// What is to be sent.
+    /// The bytes to send.
     pub out: ClientStream<B>,
     /// What it asks.
     pub query: &'a str,

@@ -39,7 +39,7 @@ impl<B: Buffer> Model for ClientStream<B> {
 }
 
 impl<A: Allocator + Copy> ClientStream<BytesMut<A>> {
-    /// A stream with nothing in it.
+    /// An empty stream.
     pub fn new(alloc: A) -> ClientStream<BytesMut<A>>
         ensures empty { result.buf.items ≡ [] }
         ensures closed { result.opened ≡ false }
@@ -50,7 +50,7 @@ impl<A: Allocator + Copy> ClientStream<BytesMut<A>> {
 }
 
 impl<B: Buffer> ClientStream<B> {
-    /// A stream that writes to this buffer, which is empty.
+    /// An empty stream that writes to this buffer, which has to be empty.
     pub fn over(buf: B) -> ClientStream<B>
         requires { (B.held buf).bytes ≡ [] }
         ensures empty { result ≡ record { buf = buf; opened = false } }
@@ -59,7 +59,7 @@ impl<B: Buffer> ClientStream<B> {
         ClientStream { buf, opened: false }
     }
 
-    /// Whether the startup packet was written.
+    /// Whether the startup packet has been written.
     pub fn is_open(&self) -> bool
         ensures opened { result ≡ self.now.opened }
         ensures reads { (kinds : List PasswordKind) (messages : List ClientMessage) → ClientRun kinds messages (B.held self.now.buf).bytes → result ≡ is_opened messages }
@@ -67,7 +67,7 @@ impl<B: Buffer> ClientStream<B> {
         self.opened
     }
 
-    /// What is to be sent.
+    /// The bytes to send.
     pub fn bytes(&self) -> &[u8]
         ensures bytes { result.now ≡ (B.held self.now.buf).bytes }
         ensures reads { Reads result.now self.now.opened }
@@ -75,7 +75,7 @@ impl<B: Buffer> ClientStream<B> {
         self.buf.as_slice()
     }
 
-    /// Asks for an encrypted session. The server answers with one byte, which is no message.
+    /// SSLRequest: asks for an encrypted session. The server answers with one byte, `S` or `N`, which is not a message.
     ///
     /// # Errors
     ///
@@ -87,7 +87,7 @@ impl<B: Buffer> ClientStream<B> {
         frontend::ssl_request(&mut self.buf)
     }
 
-    /// Asks for the end of what another session runs.
+    /// CancelRequest: cancels another session's query, by the numbers of its BackendKeyData.
     ///
     /// # Errors
     ///
@@ -153,7 +153,7 @@ impl<B: Buffer> ClientStream<B> {
         }
     }
 
-    /// A query of any number of statements.
+    /// Query: runs one or more statements, separated by semicolons.
     ///
     /// # Errors
     ///
@@ -166,7 +166,7 @@ impl<B: Buffer> ClientStream<B> {
         frontend::query(query, &mut self.buf)
     }
 
-    /// Ends a series of extended queries.
+    /// Sync: ends a series of extended queries. The server answers with ReadyForQuery.
     ///
     /// # Errors
     ///
@@ -178,7 +178,7 @@ impl<B: Buffer> ClientStream<B> {
         frontend::sync(&mut self.buf)
     }
 
-    /// A password, or the answer to an MD5 request.
+    /// PasswordMessage: a clear-text password, or the answer to an MD5 request.
     ///
     /// # Errors
     ///
@@ -191,7 +191,7 @@ impl<B: Buffer> ClientStream<B> {
         frontend::password_message(password, &mut self.buf)
     }
 
-    /// The end of the session.
+    /// Terminate: ends the session.
     ///
     /// # Errors
     ///
@@ -203,7 +203,7 @@ impl<B: Buffer> ClientStream<B> {
         frontend::terminate(&mut self.buf)
     }
 
-    /// Asks for what the server holds back.
+    /// Flush: asks the server to send what it has buffered.
     ///
     /// # Errors
     ///
@@ -215,7 +215,7 @@ impl<B: Buffer> ClientStream<B> {
         frontend::flush(&mut self.buf)
     }
 
-    /// Closes a statement (`S`) or a portal (`P`). The variant may be any byte.
+    /// Close: closes a prepared statement (`S`) or a portal (`P`). The variant may be any byte.
     ///
     /// # Errors
     ///
@@ -228,7 +228,7 @@ impl<B: Buffer> ClientStream<B> {
         frontend::close(variant, name, &mut self.buf)
     }
 
-    /// Asks what a statement (`S`) or a portal (`P`) gives. The variant may be any byte.
+    /// Describe: asks for the parameters and columns of a statement (`S`), or the columns of a portal (`P`). The variant may be any byte.
     ///
     /// # Errors
     ///
@@ -241,7 +241,7 @@ impl<B: Buffer> ClientStream<B> {
         frontend::describe(variant, name, &mut self.buf)
     }
 
-    /// Runs a portal, for at most so many rows; 0 is no limit.
+    /// Execute: executes a portal, returning at most `max_rows` rows; 0 is no limit.
     ///
     /// # Errors
     ///
@@ -254,7 +254,7 @@ impl<B: Buffer> ClientStream<B> {
         frontend::execute(portal, max_rows, &mut self.buf)
     }
 
-    /// A piece of the data of a copy.
+    /// CopyData: a chunk of the data of a copy.
     ///
     /// # Errors
     ///
@@ -269,7 +269,7 @@ impl<B: Buffer> ClientStream<B> {
         }
     }
 
-    /// The end of the data.
+    /// CopyDone: ends the data of a copy.
     ///
     /// # Errors
     ///
@@ -281,7 +281,7 @@ impl<B: Buffer> ClientStream<B> {
         frontend::copy_done(&mut self.buf)
     }
 
-    /// Gives the copy up, with a text for the server's report.
+    /// CopyFail: aborts a copy, with a message for the server's error.
     ///
     /// # Errors
     ///
@@ -294,7 +294,7 @@ impl<B: Buffer> ClientStream<B> {
         frontend::copy_fail(reason, &mut self.buf)
     }
 
-    /// The first message of a SASL exchange.
+    /// SASLInitialResponse: chooses a mechanism, and carries the client's first data.
     ///
     /// # Errors
     ///
@@ -307,7 +307,7 @@ impl<B: Buffer> ClientStream<B> {
         frontend::sasl_initial_response(mechanism, data, &mut self.buf)
     }
 
-    /// A later message of a SASL exchange.
+    /// SASLResponse: the next data of a SASL exchange.
     ///
     /// # Errors
     ///

@@ -119,7 +119,7 @@ pub struct ScramLogin<A: Allocator, B: Buffer> {
     pub phase: LoginPhase,
     /// The exchange, which has the password.
     pub exchange: ScramSha256<A>,
-    /// What is to be sent.
+    /// The bytes to send.
     pub out: ClientStream<B>,
 }
 
