@@ -8,4 +8,5 @@ pub mod session;
 
 pub use pgp_auth::{authentication, escape, password};
 pub use pgp_base::{BindError, Error, FallibleIterator, IsNull, Lsn, Oid};
+pub use pgp_client as dialogue;
 pub use pgp_types as types;
