@@ -1,16 +1,14 @@
-//! The client of SCRAM-SHA-256 with nothing kept between its steps: the caller holds the nonce and the server's first text, and
-//! hands them over again.
+//! A client of SCRAM-SHA-256 up to a step of the exchange, made anew of what the caller holds.
 
-ghost use Rattle.std.specs.Prelude.{◌≡◌, ◌≢◌, ◌⊎◌, ◌<◌, List, ℕ, length, take, [], None, Some, IfOk, IfErr, OnOk};
-ghost use Rattle.pgp_auth.specs.Prepared.{prepared};
+ghost use Rattle.std.specs.Prelude.{◌≡◌, ◌≢◌, ◌⊎◌, ◌<◌, List, ℕ, length, Some, IfOk, IfErr, OnOk};
 ghost use Rattle.pgp_auth.specs.ScramClient.{message_of};
 ghost use Rattle.pgp_auth.specs.ScramErrorView.{refusal};
-ghost use Rattle.pgp_c_auth.specs.Scram.{code_of, place_of, Names, NamesNone, Begins, BeginRefused, FirstText, AnswersIn, HasAnswered, NotAnswered, NoRoom, Verified, FinalRefused};
+ghost use Rattle.pgp_c_auth.specs.Delivering.{Delivers, NotDelivered};
+ghost use Rattle.pgp_c_auth.specs.Scram.{code_of, place_of, start, Names, NamesNone, Begins, BeginRefused, HasAnswered, NotAnswered};
 
 use crate::deliver::{deliver, refused};
 use pgp_auth::authentication::sasl::{ChannelBinding, NoPrep, ScramError, ScramSha256, is_nonce};
-use pgp_base::Error;
-use std::alloc::Global;
+use pgp_base::{Error, Memory};
 
 /// The number before an exchange's first refusal.
 const SCRAM: u32 = 64;
@@ -25,7 +23,7 @@ const BAD_BINDING: u32 = 81;
 const NO_ROOM: u32 = 1;
 
 /// The number of a refused step: want of memory as everywhere, the others behind 64.
-fn number(e: &ScramError<Global>) -> u32
+fn number<A: Memory>(e: &ScramError<A>) -> u32
     ensures code { result ≡ code_of (refusal e.now) }
     ensures some { result ≢ 0 }
 {
@@ -46,7 +44,7 @@ fn number(e: &ScramError<Global>) -> u32
 }
 
 /// The place in the server's text that a refusal tells; 0 where it tells none.
-fn place(e: &ScramError<Global>) -> usize
+fn place<A: Memory>(e: &ScramError<A>) -> usize
     ensures { result ≡ place_of (refusal e.now) }
 {
     match e {
@@ -66,7 +64,7 @@ fn place(e: &ScramError<Global>) -> usize
 }
 
 /// Tells a refused step: its number is answered.
-pub fn stopped(e: ScramError<Global>, at: &mut usize) -> u32
+pub fn stopped<A: Memory>(e: ScramError<A>, at: &mut usize) -> u32
     ensures code { result ≡ code_of (refusal e) }
     ensures some { result ≢ 0 }
     ensures told { at.new ≡ place_of (refusal e) }
@@ -76,9 +74,9 @@ pub fn stopped(e: ScramError<Global>, at: &mut usize) -> u32
 }
 
 /// Hands over the text that the client sends.
-pub fn hand_over(client: &ScramSha256<Global>, out: &mut [u8], written: &mut usize) -> u32
-    ensures sent { result ≡ 0 → message_of client.now.state ≡ Some (take written.new out.new) }
-    ensures refused { result ≢ 0 → (result ≡ 1) × (written.new ≡ 0) × (out.new ≡ out.old) }
+pub fn hand_over<A: Memory>(client: &ScramSha256<A>, out: &mut [u8], written: &mut usize) -> u32
+    ensures sent { result ≡ 0 → Delivers (λ text. message_of client.now.state ≡ Some text) out.old out.new written.new }
+    ensures refused { result ≢ 0 → (result ≡ 1) × NotDelivered out.old out.new written.new }
     ensures longer { result ≢ 0 → (text : List ℕ) → message_of client.now.state ≡ Some text → length out.old < length text }
 {
     match client.message() {
@@ -88,9 +86,9 @@ pub fn hand_over(client: &ScramSha256<Global>, out: &mut [u8], written: &mut usi
 }
 
 /// The channel binding of this number: 0 none, 1 none that was asked for, 2 `tls-server-end-point` with these bytes.
-fn binding(alloc: Global, kind: u8, certificate: &[u8]) -> Result<ChannelBinding<Global>, u32>
+fn binding<A: Memory>(alloc: A, kind: u8, certificate: &[u8]) -> Result<ChannelBinding<A>, u32>
     ensures ok { IfOk result (λ b. Names kind certificate.now b) }
-    ensures err { IfErr result (λ code. (code ≢ 0) × (((code ≡ 81) × NamesNone kind) ⊎ (code ≡ 1))) }
+    ensures err { IfErr result (λ code. (code ≢ 0) × (((code ≡ 81) × NamesNone kind) ⊎ ((code ≡ 1) × A.Lacks))) }
 {
     if kind == 0 {
         return Ok(ChannelBinding::unsupported());
@@ -101,22 +99,22 @@ fn binding(alloc: Global, kind: u8, certificate: &[u8]) -> Result<ChannelBinding
     if kind != 2 {
         return Err(BAD_BINDING);
     }
-    match Vec::from_slice(alloc, certificate) {
+    match A::list_of(alloc, certificate) {
         Ok(data) => Ok(ChannelBinding::tls_server_end_point(data)),
         Err(_) => Err(NO_ROOM),
     }
 }
 
 /// A client that has begun with this nonce.
-fn begun(
-    alloc: Global,
+pub fn begun<A: Memory>(
+    alloc: A,
     password: &[u8],
     kind: u8,
     certificate: &[u8],
     nonce: &[u8],
-) -> Result<ScramSha256<Global>, u32>
-    ensures ok { IfOk result (λ client. Begins (record { password = prepared (λ _. None) password.now; kind = kind; certificate = certificate.now; nonce = nonce.now }) client) }
-    ensures err { IfErr result (λ code. (code ≢ 0) × BeginRefused (record { password = prepared (λ _. None) password.now; kind = kind; certificate = certificate.now; nonce = nonce.now }) code) }
+) -> Result<ScramSha256<A>, u32>
+    ensures ok { IfOk result (λ client. Begins (start password.now kind certificate.now nonce.now) client) }
+    ensures err { IfErr result (λ code. (code ≢ 0) × BeginRefused A.Lacks (start password.now kind certificate.now nonce.now) code) }
 {
     let Ok(text) = pgp_base::text(nonce) else {
         return Err(BAD_NONCE);
@@ -124,7 +122,7 @@ fn begun(
     if !is_nonce(text) {
         return Err(BAD_NONCE);
     }
-    let Ok(text) = String::from_str(alloc, text) else {
+    let Ok(text) = A::text_of(alloc, text) else {
         return Err(NO_ROOM);
     };
     match binding(alloc, kind, certificate) {
@@ -137,18 +135,18 @@ fn begun(
 }
 
 /// A client that has begun with this nonce, and answered the server's first text.
-pub fn answered(
-    alloc: Global,
+pub fn answered<A: Memory>(
+    alloc: A,
     password: &[u8],
     kind: u8,
     certificate: &[u8],
     nonce: &[u8],
     server_first: &[u8],
     at: &mut usize,
-) -> Result<ScramSha256<Global>, u32>
-    ensures ok { IfOk result (λ client. HasAnswered (record { password = prepared (λ _. None) password.now; kind = kind; certificate = certificate.now; nonce = nonce.now }) server_first.now client) }
+) -> Result<ScramSha256<A>, u32>
+    ensures ok { IfOk result (λ client. HasAnswered (start password.now kind certificate.now nonce.now) server_first.now client) }
     ensures no_place { OnOk result (at.new ≡ 0) }
-    ensures err { IfErr result (λ code. (code ≢ 0) × NotAnswered (record { password = prepared (λ _. None) password.now; kind = kind; certificate = certificate.now; nonce = nonce.now }) server_first.now code at.new) }
+    ensures err { IfErr result (λ code. (code ≢ 0) × NotAnswered A.Lacks (start password.now kind certificate.now nonce.now) server_first.now code at.new) }
 {
     *at = 0;
     match begun(alloc, password, kind, certificate, nonce) {
@@ -157,77 +155,5 @@ pub fn answered(
             Err(e) => Err(stopped(e, at)),
         },
         Err(code) => Err(code),
-    }
-}
-
-/// The first text of an exchange with this nonce.
-#[unsafe(no_mangle)]
-pub extern "C" fn pgp_scram_first(
-    alloc: Global,
-    kind: u8,
-    certificate: &[u8],
-    nonce: &[u8],
-    out: &mut [u8],
-    written: &mut usize,
-) -> u32
-    ensures sent { result ≡ 0 → FirstText (record { password = []; kind = kind; certificate = certificate.now; nonce = nonce.now }) (take written.new out.new) }
-    ensures refused { result ≢ 0 → (written.new ≡ 0) × (out.new ≡ out.old) }
-    ensures why { result ≢ 0 → BeginRefused (record { password = []; kind = kind; certificate = certificate.now; nonce = nonce.now }) result }
-{
-    *written = 0;
-    match begun(alloc, &[], kind, certificate, nonce) {
-        Ok(client) => hand_over(&client, out, written),
-        Err(code) => code,
-    }
-}
-
-/// The final text: the answer to the server's first. `at` is the place in it that a refusal tells.
-#[unsafe(no_mangle)]
-pub extern "C" fn pgp_scram_final(
-    alloc: Global,
-    password: &[u8],
-    kind: u8,
-    certificate: &[u8],
-    nonce: &[u8],
-    server_first: &[u8],
-    out: &mut [u8],
-    written: &mut usize,
-    at: &mut usize,
-) -> u32
-    ensures sent { result ≡ 0 → AnswersIn (record { password = prepared (λ _. None) password.now; kind = kind; certificate = certificate.now; nonce = nonce.now }) server_first.now (take written.new out.new) }
-    ensures no_place { result ≡ 0 → at.new ≡ 0 }
-    ensures refused { result ≢ 0 → (written.new ≡ 0) × (out.new ≡ out.old) }
-    ensures why { result ≢ 0 → NotAnswered (record { password = prepared (λ _. None) password.now; kind = kind; certificate = certificate.now; nonce = nonce.now }) server_first.now result at.new ⊎ NoRoom (record { password = prepared (λ _. None) password.now; kind = kind; certificate = certificate.now; nonce = nonce.now }) server_first.now out.old result at.new }
-{
-    *written = 0;
-    match answered(alloc, password, kind, certificate, nonce, server_first, at) {
-        Ok(client) => hand_over(&client, out, written),
-        Err(code) => code,
-    }
-}
-
-/// Whether the server's final text shows its signature: 0 where it does. `at` is the place, in the text that was refused, that a
-/// refusal tells.
-#[unsafe(no_mangle)]
-pub extern "C" fn pgp_scram_verify(
-    alloc: Global,
-    password: &[u8],
-    kind: u8,
-    certificate: &[u8],
-    nonce: &[u8],
-    server_first: &[u8],
-    server_final: &[u8],
-    at: &mut usize,
-) -> u32
-    ensures verified { result ≡ 0 → Verified (record { password = prepared (λ _. None) password.now; kind = kind; certificate = certificate.now; nonce = nonce.now }) server_first.now server_final.now }
-    ensures no_place { result ≡ 0 → at.new ≡ 0 }
-    ensures why { result ≢ 0 → NotAnswered (record { password = prepared (λ _. None) password.now; kind = kind; certificate = certificate.now; nonce = nonce.now }) server_first.now result at.new ⊎ FinalRefused (record { password = prepared (λ _. None) password.now; kind = kind; certificate = certificate.now; nonce = nonce.now }) server_first.now server_final.now result at.new }
-{
-    match answered(alloc, password, kind, certificate, nonce, server_first, at) {
-        Ok(mut client) => match client.finish(server_final) {
-            Ok(()) => 0,
-            Err(e) => stopped(e, at),
-        },
-        Err(code) => code,
     }
 }
