@@ -59,7 +59,7 @@ refuses_first : (lacks : Type 0) (serving : Serving) (b : Binding) (n : List ℕ
     → FirstRefuses lacks (AwaitsFirst serving) (gs2_header b ++ first_bare n) e → (e ≡ OutOfMemory) × lacks
 refuses_first lacks serving b n e taken nonce (inl memory) = (memory.0, memory.1)
 refuses_first lacks serving b n e taken nonce (inr (inl header)) = absurd (header.1 b (first_bare n) taken refl)
-refuses_first lacks serving b n e taken nonce (inr (inr bare)) = absurd (bare.1 b [] n taken no_name nonce refl)
+refuses_first lacks serving b n e taken nonce (inr (inr bare)) = absurd (bare.2 b [] n taken no_name nonce refl)
 
 pub first_memory : {lacks : Type 0} (x : Client) (s new : Server) (e : ServerError) (m : Meeting x s) (text : List ℕ) → text ≡ first_text m.begun → FirstRefused lacks s text e new → (e ≡ OutOfMemory) × lacks
 first_memory {lacks} x s new e m text is r =

@@ -83,12 +83,19 @@ pub record Challenges (old : Server) (text : List ℕ) (new : Server) (answer : 
   pub answer_is : answer ≡ answer_of challenge
   pub new_is : new ≡ AwaitsFinal challenge
 
+-- a header that claims a binding which is taken stands at the front of the text
+pub record HasHeader (offer : Offer) (text : List ℕ) : Type 0 where
+  pub binding : Binding
+  pub rest : List ℕ
+  pub taken : IsTaken offer binding
+  pub text_is : text ≡ gs2_header binding ++ rest
+
 -- Why a server that serves so refuses a client's first text. `lacks` says that a growth was refused: memory is wanted only for a text that opens.
 abbrev pub NotOpened : Type 0 → Serving → List ℕ → ServerError → Type 0
 NotOpened lacks serving text e =
     ((e ≡ OutOfMemory) × lacks × ((c : Challenge) × Opens serving text c))
     ⊎ (((e ≡ UnsupportedBinding) × ((b : Binding) (rest : List ℕ) → IsTaken serving.offer b → text ≢ gs2_header b ++ rest))
-    ⊎ ((e ≡ InvalidFirst) × ((b : Binding) (user nonce : List ℕ) → IsTaken serving.offer b → IsUserName user → IsNonce nonce → text ≢ named_first b user nonce)))
+    ⊎ ((e ≡ InvalidFirst) × HasHeader serving.offer text × ((b : Binding) (user nonce : List ℕ) → IsTaken serving.offer b → IsUserName user → IsNonce nonce → text ≢ named_first b user nonce)))
 
 abbrev pub FirstRefuses : Type 0 → Server → List ℕ → ServerError → Type 0
 FirstRefuses lacks (AwaitsFirst serving) text e = NotOpened lacks serving text e

@@ -1,10 +1,12 @@
 -- An exchange of SCRAM-SHA-256 whose steps keep nothing.
-use Rattle.std.specs.Prelude.{◌≡◌, ◌≢◌, ◌⊎◌, ℕ, ◌+◌, ◌<◌, List, length, Some}
+use Rattle.std.specs.Prelude.{◌≡◌, ◌≢◌, ◌⊎◌, ℕ, ◌+◌, List, Some, None}
 use Rattle.std.specs.Str.{IsUtf8}
+use Rattle.pgp_auth.specs.Prepared.{prepared}
 use Rattle.pgp_auth.specs.ScramText.{IsNonce, client_first, Binding, Unsupported, Unrequested, TlsServerEndPoint}
 use Rattle.pgp_auth.specs.ScramRefusal.{Refusal, OutOfMemory, UnexpectedCharacter, Trailing}
 use Rattle.pgp_auth.specs.ScramErrorView.{number_of}
 use Rattle.pgp_auth.specs.ScramClient.{Client, fresh, awaited_of, message_of, Answers, UpdateRefused, Completes, FinishRefused, NotShown}
+use Rattle.pgp_c_auth.specs.Delivering.{IsLonger}
 
 -- this is the channel binding of the number and the bytes that C hands over
 abbrev pub Names : ℕ → List ℕ → Binding → Type 0
@@ -32,6 +34,10 @@ pub record Start : Type 0 where
   pub certificate : List ℕ
   pub nonce : List ℕ
 
+-- They are these, and no mapping is asked.
+abbrev pub start : List ℕ → ℕ → List ℕ → List ℕ → Start
+start password kind certificate nonce = record { password = prepared (λ _. None) password; kind = kind; certificate = certificate; nonce = nonce }
+
 -- a client that begins so
 pub record Begins (s : Start) (client : Client) : Type 0 where
   pub binding : Binding
@@ -44,9 +50,9 @@ pub record FirstText (s : Start) (text : List ℕ) : Type 0 where
   pub named : Names s.kind s.certificate binding
   pub is : text ≡ client_first binding s.nonce
 
--- why no client begins so: the nonce isn't text or no nonce, or the number names no binding, or memory was refused
-abbrev pub BeginRefused : Start → ℕ → Type 0
-BeginRefused s code = ((code ≡ 80) × ((¬ IsUtf8 s.nonce) ⊎ (¬ IsNonce s.nonce))) ⊎ (((code ≡ 81) × NamesNone s.kind) ⊎ (code ≡ 1))
+-- why no client begins so: the nonce isn't text or no nonce, or the number names no binding, or a growth was refused
+abbrev pub BeginRefused : Type 0 → Start → ℕ → Type 0
+BeginRefused lacks s code = ((code ≡ 80) × ((¬ IsUtf8 s.nonce) ⊎ (¬ IsNonce s.nonce))) ⊎ (((code ≡ 81) × NamesNone s.kind) ⊎ ((code ≡ 1) × lacks))
 
 -- The text is what a client that began so answers to the server's first text: a server that holds the verifier accepts it (`Answers`).
 pub record AnswersIn (s : Start) (server_first text : List ℕ) : Type 0 where
@@ -57,7 +63,7 @@ pub record AnswersIn (s : Start) (server_first text : List ℕ) : Type 0 where
   pub text_is : message_of client.state ≡ Some text
 
 -- The text is what a client that began so answers, and this is the signature that a server which holds the verifier answers to it (`Answers`).
-pub record AnswersWith (s : Start) (server_first text signature : List ℕ) : Type 0 where
+pub record AnswersWith (s : Start) (server_first signature text : List ℕ) : Type 0 where
   pub start : Client
   pub begins : Begins s start
   pub client : Client
@@ -66,18 +72,18 @@ pub record AnswersWith (s : Start) (server_first text signature : List ℕ) : Ty
   pub signature_is : awaited_of client.state ≡ Some signature
 
 -- `update` refuses the server's first text, and this is the refusal's number and place
-pub record FirstRefused (s : Start) (server_first : List ℕ) (code place : ℕ) : Type 0 where
+pub record FirstRefused (lacks : Type 0) (s : Start) (server_first : List ℕ) (code place : ℕ) : Type 0 where
   pub start : Client
   pub begins : Begins s start
   pub after : Client
   pub refusal : Refusal
-  pub refused : UpdateRefused (Unit {0}) start server_first refusal after
+  pub refused : UpdateRefused lacks start server_first refusal after
   pub code_is : code ≡ code_of refusal
   pub place_is : place ≡ place_of refusal
 
 -- why there is no client behind the server's first text
-abbrev pub NotAnswered : Start → List ℕ → ℕ → ℕ → Type 0
-NotAnswered s server_first code place = (BeginRefused s code × (place ≡ 0)) ⊎ FirstRefused s server_first code place
+abbrev pub NotAnswered : Type 0 → Start → List ℕ → ℕ → ℕ → Type 0
+NotAnswered lacks s server_first code place = (BeginRefused lacks s code × (place ≡ 0)) ⊎ FirstRefused lacks s server_first code place
 
 -- a client that began so and answered the server's first text
 pub record HasAnswered (s : Start) (server_first : List ℕ) (client : Client) : Type 0 where
@@ -87,9 +93,7 @@ pub record HasAnswered (s : Start) (server_first : List ℕ) (client : Client) :
 
 -- the answer is longer than the caller's memory
 pub record NoRoom (s : Start) (server_first old : List ℕ) (code place : ℕ) : Type 0 where
-  pub text : List ℕ
-  pub answers : AnswersIn s server_first text
-  pub longer : length old < length text
+  pub longer : IsLonger (AnswersIn s server_first) old
   pub code_is : code ≡ 1
   pub place_is : place ≡ 0
 
@@ -101,19 +105,19 @@ pub record Verified (s : Start) (server_first server_final : List ℕ) : Type 0 
   pub completes : Completes start server_first server_final client
 
 -- `finish` refuses the server's final text, and this is the refusal's number and place
-pub record FinalRefused (s : Start) (server_first server_final : List ℕ) (code place : ℕ) : Type 0 where
+pub record FinalRefused (lacks : Type 0) (s : Start) (server_first server_final : List ℕ) (code place : ℕ) : Type 0 where
   pub between : Client
   pub answered : HasAnswered s server_first between
   pub after : Client
   pub refusal : Refusal
-  pub refused : FinishRefused (Unit {0}) between server_final refusal after
+  pub refused : FinishRefused lacks between server_final refusal after
   pub code_is : code ≡ code_of refusal
   pub place_is : place ≡ place_of refusal
 
 -- the server's final text doesn't show the signature, or is refused as a client refuses it that awaits it, and this is the refusal's number
 -- and place
-pub record ShownRefused (signature text : List ℕ) (code place : ℕ) : Type 0 where
+pub record ShownRefused (lacks : Type 0) (signature text : List ℕ) (code place : ℕ) : Type 0 where
   pub refusal : Refusal
-  pub refused : NotShown (Unit {0}) signature text refusal
+  pub refused : NotShown lacks signature text refusal
   pub code_is : code ≡ code_of refusal
   pub place_is : place ≡ place_of refusal

@@ -1,15 +1,16 @@
 //! Handing bytes to a caller's memory.
 
-ghost use Rattle.std.specs.Prelude.{◌≡◌, ◌≢◌, ◌<◌, ◌++◌, length, drop};
+ghost use Rattle.std.specs.Prelude.{◌≡◌, ◌≢◌, ◌<◌, length};
 ghost use Rattle.pgp_base.specs.Error.{number_of};
+ghost use Rattle.pgp_c_auth.specs.Delivering.{Delivered, NotDelivered};
 
 use pgp_base::Error;
 
 /// Copies the bytes to the front of the memory, and tells their number; or there is no room.
 pub fn deliver(bytes: &[u8], out: &mut [u8], written: &mut usize) -> u32
-    ensures told { result ≡ 0 → written.new ≡ length bytes.now }
-    ensures stands { result ≡ 0 → out.new ≡ bytes.now ++ drop (length bytes.now) out.old }
-    ensures refused { result ≢ 0 → (result ≡ 1) × (length out.old < length bytes.now) × (written.new ≡ 0) × (out.new ≡ out.old) }
+    ensures sent { result ≡ 0 → Delivered bytes.now out.old out.new written.new }
+    ensures refused { result ≢ 0 → NotDelivered out.old out.new written.new }
+    ensures why { result ≢ 0 → (result ≡ 1) × (length out.old < length bytes.now) }
 {
     if out.len() < bytes.len() {
         return refused(Error::OutOfMemory, written);

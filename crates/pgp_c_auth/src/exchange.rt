@@ -1,12 +1,13 @@
 //! The client of SCRAM-SHA-256 that keeps what the server's final text has to show, so that the key is made once.
 
-ghost use Rattle.std.specs.Prelude.{◌≡◌, ◌≢◌, ◌⊎◌, None, take};
-ghost use Rattle.pgp_auth.specs.Prepared.{prepared};
+ghost use Rattle.std.specs.Prelude.{◌≡◌, ◌≢◌, ◌⊎◌};
 ghost use Rattle.pgp_auth.specs.ScramRefusal.{Verifies};
-ghost use Rattle.pgp_c_auth.specs.Scram.{AnswersWith, NotAnswered, NoRoom, ShownRefused};
+ghost use Rattle.pgp_c_auth.specs.Delivering.{Delivers, NotDelivered};
+ghost use Rattle.pgp_c_auth.specs.Scram.{start, AnswersWith, NotAnswered, NoRoom, ShownRefused};
 
-use crate::scram::{answered, hand_over, stopped};
+use crate::client::{answered, hand_over, stopped};
 use pgp_auth::authentication::sasl::verify_signature;
+use pgp_base::Memory;
 use std::alloc::Global;
 
 /// What is kept between the server's two texts: the signature that the second has to show.
@@ -30,10 +31,42 @@ pub extern "C" fn pgp_scram_update(
     at: &mut usize,
     kept: &mut PgpScram,
 ) -> u32
-    ensures sent { result ≡ 0 → AnswersWith (record { password = prepared (λ _. None) password.now; kind = kind; certificate = certificate.now; nonce = nonce.now }) server_first.now (take written.new out.new) kept.new.signature }
+    ensures sent { result ≡ 0 → Delivers (AnswersWith (start password.now kind certificate.now nonce.now) server_first.now kept.new.signature) out.old out.new written.new }
     ensures no_place { result ≡ 0 → at.new ≡ 0 }
-    ensures refused { result ≢ 0 → (written.new ≡ 0) × (out.new ≡ out.old) × (kept.new ≡ kept.old) }
-    ensures why { result ≢ 0 → NotAnswered (record { password = prepared (λ _. None) password.now; kind = kind; certificate = certificate.now; nonce = nonce.now }) server_first.now result at.new ⊎ NoRoom (record { password = prepared (λ _. None) password.now; kind = kind; certificate = certificate.now; nonce = nonce.now }) server_first.now out.old result at.new }
+    ensures refused { result ≢ 0 → NotDelivered out.old out.new written.new × (kept.new ≡ kept.old) }
+    ensures why { result ≢ 0 → NotAnswered (Unit {0}) (start password.now kind certificate.now nonce.now) server_first.now result at.new ⊎ NoRoom (start password.now kind certificate.now nonce.now) server_first.now out.old result at.new }
+{
+    updated(
+        alloc,
+        password,
+        kind,
+        certificate,
+        nonce,
+        server_first,
+        out,
+        written,
+        at,
+        kept,
+    )
+}
+
+/// `pgp_scram_update` with any allocator.
+pub fn updated<A: Memory>(
+    alloc: A,
+    password: &[u8],
+    kind: u8,
+    certificate: &[u8],
+    nonce: &[u8],
+    server_first: &[u8],
+    out: &mut [u8],
+    written: &mut usize,
+    at: &mut usize,
+    kept: &mut PgpScram,
+) -> u32
+    ensures sent { result ≡ 0 → Delivers (AnswersWith (start password.now kind certificate.now nonce.now) server_first.now kept.new.signature) out.old out.new written.new }
+    ensures no_place { result ≡ 0 → at.new ≡ 0 }
+    ensures refused { result ≢ 0 → NotDelivered out.old out.new written.new × (kept.new ≡ kept.old) }
+    ensures why { result ≢ 0 → NotAnswered A.Lacks (start password.now kind certificate.now nonce.now) server_first.now result at.new ⊎ NoRoom (start password.now kind certificate.now nonce.now) server_first.now out.old result at.new }
 {
     *written = 0;
     let client = match answered(alloc, password, kind, certificate, nonce, server_first, at) {
@@ -59,7 +92,15 @@ pub extern "C" fn pgp_scram_finish(
     at: &mut usize,
 ) -> u32
     ensures verified { result ≡ 0 → Verifies kept.now.signature server_final.now × (at.new ≡ 0) }
-    ensures why { result ≢ 0 → ShownRefused kept.now.signature server_final.now result at.new }
+    ensures why { result ≢ 0 → ShownRefused (Unit {0}) kept.now.signature server_final.now result at.new }
+{
+    finished(alloc, kept, server_final, at)
+}
+
+/// `pgp_scram_finish` with any allocator.
+pub fn finished<A: Memory>(alloc: A, kept: &PgpScram, server_final: &[u8], at: &mut usize) -> u32
+    ensures verified { result ≡ 0 → Verifies kept.now.signature server_final.now × (at.new ≡ 0) }
+    ensures why { result ≢ 0 → ShownRefused A.Lacks kept.now.signature server_final.now result at.new }
 {
     *at = 0;
     match verify_signature(alloc, &kept.signature, server_final) {

@@ -1,164 +1,13 @@
 //! The client of SCRAM-SHA-256 with nothing kept between its steps: the caller holds the nonce and the server's first text, and
 //! hands them over again.
 
-ghost use Rattle.std.specs.Prelude.{◌≡◌, ◌≢◌, ◌⊎◌, ◌<◌, List, ℕ, length, take, [], None, Some, IfOk, IfErr, OnOk};
-ghost use Rattle.pgp_auth.specs.Prepared.{prepared};
-ghost use Rattle.pgp_auth.specs.ScramClient.{message_of};
-ghost use Rattle.pgp_auth.specs.ScramErrorView.{refusal};
-ghost use Rattle.pgp_c_auth.specs.Scram.{code_of, place_of, Names, NamesNone, Begins, BeginRefused, FirstText, AnswersIn, HasAnswered, NotAnswered, NoRoom, Verified, FinalRefused};
+ghost use Rattle.std.specs.Prelude.{◌≡◌, ◌≢◌, ◌⊎◌, []};
+ghost use Rattle.pgp_c_auth.specs.Delivering.{Delivers, IsLonger, NotDelivered};
+ghost use Rattle.pgp_c_auth.specs.Scram.{start, BeginRefused, FirstText, AnswersIn, NotAnswered, NoRoom, Verified, FinalRefused};
 
-use crate::deliver::{deliver, refused};
-use pgp_auth::authentication::sasl::{ChannelBinding, NoPrep, ScramError, ScramSha256, is_nonce};
-use pgp_base::Error;
+use crate::client::{answered, begun, hand_over, stopped};
+use pgp_base::Memory;
 use std::alloc::Global;
-
-/// The number before an exchange's first refusal.
-const SCRAM: u32 = 64;
-
-/// The answer where the caller's nonce is none: no character, or one that is a comma or isn't printable ASCII.
-const BAD_NONCE: u32 = 80;
-
-/// The answer where a number names no channel binding.
-const BAD_BINDING: u32 = 81;
-
-/// The answer where there is no memory or no room.
-const NO_ROOM: u32 = 1;
-
-/// The number of a refused step: want of memory as everywhere, the others behind 64.
-fn number(e: &ScramError<Global>) -> u32
-    ensures code { result ≡ code_of (refusal e.now) }
-    ensures some { result ≢ 0 }
-{
-    match e {
-        ScramError::OutOfMemory => NO_ROOM,
-        ScramError::WrongState => SCRAM + 2,
-        ScramError::NotUtf8 => SCRAM + 3,
-        ScramError::UnexpectedEnd => SCRAM + 4,
-        ScramError::UnexpectedCharacter(_) => SCRAM + 5,
-        ScramError::Trailing(_) => SCRAM + 6,
-        ScramError::InvalidNumber => SCRAM + 7,
-        ScramError::InvalidNonce => SCRAM + 8,
-        ScramError::TooManyIterations => SCRAM + 9,
-        ScramError::InvalidBase64 => SCRAM + 10,
-        ScramError::Server(_) => SCRAM + 11,
-        ScramError::Verification => SCRAM + 12,
-    }
-}
-
-/// The place in the server's text that a refusal tells; 0 where it tells none.
-fn place(e: &ScramError<Global>) -> usize
-    ensures { result ≡ place_of (refusal e.now) }
-{
-    match e {
-        ScramError::UnexpectedCharacter(at) => *at,
-        ScramError::Trailing(at) => *at,
-        ScramError::OutOfMemory
-        | ScramError::WrongState
-        | ScramError::NotUtf8
-        | ScramError::UnexpectedEnd
-        | ScramError::InvalidNumber
-        | ScramError::InvalidNonce
-        | ScramError::TooManyIterations
-        | ScramError::InvalidBase64
-        | ScramError::Server(_)
-        | ScramError::Verification => 0,
-    }
-}
-
-/// Tells a refused step: its number is answered.
-pub fn stopped(e: ScramError<Global>, at: &mut usize) -> u32
-    ensures code { result ≡ code_of (refusal e) }
-    ensures some { result ≢ 0 }
-    ensures told { at.new ≡ place_of (refusal e) }
-{
-    *at = place(&e);
-    number(&e)
-}
-
-/// Hands over the text that the client sends.
-pub fn hand_over(client: &ScramSha256<Global>, out: &mut [u8], written: &mut usize) -> u32
-    ensures sent { result ≡ 0 → message_of client.now.state ≡ Some (take written.new out.new) }
-    ensures refused { result ≢ 0 → (result ≡ 1) × (written.new ≡ 0) × (out.new ≡ out.old) }
-    ensures longer { result ≢ 0 → (text : List ℕ) → message_of client.now.state ≡ Some text → length out.old < length text }
-{
-    match client.message() {
-        Some(text) => deliver(text, out, written),
-        None => refused(Error::OutOfMemory, written),
-    }
-}
-
-/// The channel binding of this number: 0 none, 1 none that was asked for, 2 `tls-server-end-point` with these bytes.
-fn binding(alloc: Global, kind: u8, certificate: &[u8]) -> Result<ChannelBinding<Global>, u32>
-    ensures ok { IfOk result (λ b. Names kind certificate.now b) }
-    ensures err { IfErr result (λ code. (code ≢ 0) × (((code ≡ 81) × NamesNone kind) ⊎ (code ≡ 1))) }
-{
-    if kind == 0 {
-        return Ok(ChannelBinding::unsupported());
-    }
-    if kind == 1 {
-        return Ok(ChannelBinding::unrequested());
-    }
-    if kind != 2 {
-        return Err(BAD_BINDING);
-    }
-    match Vec::from_slice(alloc, certificate) {
-        Ok(data) => Ok(ChannelBinding::tls_server_end_point(data)),
-        Err(_) => Err(NO_ROOM),
-    }
-}
-
-/// A client that has begun with this nonce.
-fn begun(
-    alloc: Global,
-    password: &[u8],
-    kind: u8,
-    certificate: &[u8],
-    nonce: &[u8],
-) -> Result<ScramSha256<Global>, u32>
-    ensures ok { IfOk result (λ client. Begins (record { password = prepared (λ _. None) password.now; kind = kind; certificate = certificate.now; nonce = nonce.now }) client) }
-    ensures err { IfErr result (λ code. (code ≢ 0) × BeginRefused (record { password = prepared (λ _. None) password.now; kind = kind; certificate = certificate.now; nonce = nonce.now }) code) }
-{
-    let Ok(text) = pgp_base::text(nonce) else {
-        return Err(BAD_NONCE);
-    };
-    if !is_nonce(text) {
-        return Err(BAD_NONCE);
-    }
-    let Ok(text) = String::from_str(alloc, text) else {
-        return Err(NO_ROOM);
-    };
-    match binding(alloc, kind, certificate) {
-        Ok(binding) => match ScramSha256::with_nonce(alloc, password, binding, text, &NoPrep) {
-            Ok(client) => Ok(client),
-            Err(_) => Err(NO_ROOM),
-        },
-        Err(code) => Err(code),
-    }
-}
-
-/// A client that has begun with this nonce, and answered the server's first text.
-pub fn answered(
-    alloc: Global,
-    password: &[u8],
-    kind: u8,
-    certificate: &[u8],
-    nonce: &[u8],
-    server_first: &[u8],
-    at: &mut usize,
-) -> Result<ScramSha256<Global>, u32>
-    ensures ok { IfOk result (λ client. HasAnswered (record { password = prepared (λ _. None) password.now; kind = kind; certificate = certificate.now; nonce = nonce.now }) server_first.now client) }
-    ensures no_place { OnOk result (at.new ≡ 0) }
-    ensures err { IfErr result (λ code. (code ≢ 0) × NotAnswered (record { password = prepared (λ _. None) password.now; kind = kind; certificate = certificate.now; nonce = nonce.now }) server_first.now code at.new) }
-{
-    *at = 0;
-    match begun(alloc, password, kind, certificate, nonce) {
-        Ok(mut client) => match client.update(server_first) {
-            Ok(()) => Ok(client),
-            Err(e) => Err(stopped(e, at)),
-        },
-        Err(code) => Err(code),
-    }
-}
 
 /// The first text of an exchange with this nonce.
 #[unsafe(no_mangle)]
@@ -170,9 +19,25 @@ pub extern "C" fn pgp_scram_first(
     out: &mut [u8],
     written: &mut usize,
 ) -> u32
-    ensures sent { result ≡ 0 → FirstText (record { password = []; kind = kind; certificate = certificate.now; nonce = nonce.now }) (take written.new out.new) }
-    ensures refused { result ≢ 0 → (written.new ≡ 0) × (out.new ≡ out.old) }
-    ensures why { result ≢ 0 → BeginRefused (record { password = []; kind = kind; certificate = certificate.now; nonce = nonce.now }) result }
+    ensures sent { result ≡ 0 → Delivers (FirstText (start [] kind certificate.now nonce.now)) out.old out.new written.new }
+    ensures refused { result ≢ 0 → NotDelivered out.old out.new written.new }
+    ensures why { result ≢ 0 → BeginRefused (Unit {0}) (start [] kind certificate.now nonce.now) result ⊎ ((result ≡ 1) × IsLonger (FirstText (start [] kind certificate.now nonce.now)) out.old) }
+{
+    first(alloc, kind, certificate, nonce, out, written)
+}
+
+/// `pgp_scram_first` with any allocator.
+pub fn first<A: Memory>(
+    alloc: A,
+    kind: u8,
+    certificate: &[u8],
+    nonce: &[u8],
+    out: &mut [u8],
+    written: &mut usize,
+) -> u32
+    ensures sent { result ≡ 0 → Delivers (FirstText (start [] kind certificate.now nonce.now)) out.old out.new written.new }
+    ensures refused { result ≢ 0 → NotDelivered out.old out.new written.new }
+    ensures why { result ≢ 0 → BeginRefused A.Lacks (start [] kind certificate.now nonce.now) result ⊎ ((result ≡ 1) × IsLonger (FirstText (start [] kind certificate.now nonce.now)) out.old) }
 {
     *written = 0;
     match begun(alloc, &[], kind, certificate, nonce) {
@@ -194,10 +59,40 @@ pub extern "C" fn pgp_scram_final(
     written: &mut usize,
     at: &mut usize,
 ) -> u32
-    ensures sent { result ≡ 0 → AnswersIn (record { password = prepared (λ _. None) password.now; kind = kind; certificate = certificate.now; nonce = nonce.now }) server_first.now (take written.new out.new) }
+    ensures sent { result ≡ 0 → Delivers (AnswersIn (start password.now kind certificate.now nonce.now) server_first.now) out.old out.new written.new }
     ensures no_place { result ≡ 0 → at.new ≡ 0 }
-    ensures refused { result ≢ 0 → (written.new ≡ 0) × (out.new ≡ out.old) }
-    ensures why { result ≢ 0 → NotAnswered (record { password = prepared (λ _. None) password.now; kind = kind; certificate = certificate.now; nonce = nonce.now }) server_first.now result at.new ⊎ NoRoom (record { password = prepared (λ _. None) password.now; kind = kind; certificate = certificate.now; nonce = nonce.now }) server_first.now out.old result at.new }
+    ensures refused { result ≢ 0 → NotDelivered out.old out.new written.new }
+    ensures why { result ≢ 0 → NotAnswered (Unit {0}) (start password.now kind certificate.now nonce.now) server_first.now result at.new ⊎ NoRoom (start password.now kind certificate.now nonce.now) server_first.now out.old result at.new }
+{
+    last(
+        alloc,
+        password,
+        kind,
+        certificate,
+        nonce,
+        server_first,
+        out,
+        written,
+        at,
+    )
+}
+
+/// `pgp_scram_final` with any allocator.
+pub fn last<A: Memory>(
+    alloc: A,
+    password: &[u8],
+    kind: u8,
+    certificate: &[u8],
+    nonce: &[u8],
+    server_first: &[u8],
+    out: &mut [u8],
+    written: &mut usize,
+    at: &mut usize,
+) -> u32
+    ensures sent { result ≡ 0 → Delivers (AnswersIn (start password.now kind certificate.now nonce.now) server_first.now) out.old out.new written.new }
+    ensures no_place { result ≡ 0 → at.new ≡ 0 }
+    ensures refused { result ≢ 0 → NotDelivered out.old out.new written.new }
+    ensures why { result ≢ 0 → NotAnswered A.Lacks (start password.now kind certificate.now nonce.now) server_first.now result at.new ⊎ NoRoom (start password.now kind certificate.now nonce.now) server_first.now out.old result at.new }
 {
     *written = 0;
     match answered(alloc, password, kind, certificate, nonce, server_first, at) {
@@ -219,9 +114,36 @@ pub extern "C" fn pgp_scram_verify(
     server_final: &[u8],
     at: &mut usize,
 ) -> u32
-    ensures verified { result ≡ 0 → Verified (record { password = prepared (λ _. None) password.now; kind = kind; certificate = certificate.now; nonce = nonce.now }) server_first.now server_final.now }
+    ensures verified { result ≡ 0 → Verified (start password.now kind certificate.now nonce.now) server_first.now server_final.now }
     ensures no_place { result ≡ 0 → at.new ≡ 0 }
-    ensures why { result ≢ 0 → NotAnswered (record { password = prepared (λ _. None) password.now; kind = kind; certificate = certificate.now; nonce = nonce.now }) server_first.now result at.new ⊎ FinalRefused (record { password = prepared (λ _. None) password.now; kind = kind; certificate = certificate.now; nonce = nonce.now }) server_first.now server_final.now result at.new }
+    ensures why { result ≢ 0 → NotAnswered (Unit {0}) (start password.now kind certificate.now nonce.now) server_first.now result at.new ⊎ FinalRefused (Unit {0}) (start password.now kind certificate.now nonce.now) server_first.now server_final.now result at.new }
+{
+    verified(
+        alloc,
+        password,
+        kind,
+        certificate,
+        nonce,
+        server_first,
+        server_final,
+        at,
+    )
+}
+
+/// `pgp_scram_verify` with any allocator.
+pub fn verified<A: Memory>(
+    alloc: A,
+    password: &[u8],
+    kind: u8,
+    certificate: &[u8],
+    nonce: &[u8],
+    server_first: &[u8],
+    server_final: &[u8],
+    at: &mut usize,
+) -> u32
+    ensures verified { result ≡ 0 → Verified (start password.now kind certificate.now nonce.now) server_first.now server_final.now }
+    ensures no_place { result ≡ 0 → at.new ≡ 0 }
+    ensures why { result ≢ 0 → NotAnswered A.Lacks (start password.now kind certificate.now nonce.now) server_first.now result at.new ⊎ FinalRefused A.Lacks (start password.now kind certificate.now nonce.now) server_first.now server_final.now result at.new }
 {
     match answered(alloc, password, kind, certificate, nonce, server_first, at) {
         Ok(mut client) => match client.finish(server_final) {

@@ -78,15 +78,15 @@ numbers_len name rest x after is =
     let s = six name rest x after is in
     omega (arith, front_falls 4 oid_value rest _ s.e0, front_falls 2 int16_value s.r1 _ s.e1, front_falls 4 oid_value s.r2 _ s.e2, front_falls 2 int16_value s.r3 _ s.e3, front_falls 4 int32_value s.r4 _ s.e4, front_falls 2 int16_value s.r5 _ s.e5)
 
-record TakesNumbers (name rest : List ℕ) (x : FieldPart) (after : List ℕ) : Type 0 where
-  name_is : x.name ≡ name
-  parts : rest ≡ numbers_of x ++ after
-  fits : NumbersFit x
+pub record TakesNumbers (name rest : List ℕ) (x : FieldPart) (after : List ℕ) : Type 0 where
+  pub name_is : x.name ≡ name
+  pub parts : rest ≡ numbers_of x ++ after
+  pub fits : NumbersFit x
 
 joined_numbers : (a b c d e f after : List ℕ) → a ++ (b ++ (c ++ (d ++ (e ++ (f ++ after))))) ≡ (a ++ (b ++ (c ++ (d ++ (e ++ f))))) ++ after
 joined_numbers a b c d e f after = simp append_assoc refl
 
-numbers_found : (name rest : List ℕ) (x : FieldPart) (after : List ℕ) → IsBytes rest → numbers_at name rest ≡ Ok (x, after) → TakesNumbers name rest x after
+pub numbers_found : (name rest : List ℕ) (x : FieldPart) (after : List ℕ) → IsBytes rest → numbers_at name rest ≡ Ok (x, after) → TakesNumbers name rest x after
 numbers_found name rest x after h is =
     let s = six name rest x after is in
     let a = number_takes 4 IsOid oid oid_value oid_number rest (x.table_oid, s.r1) h s.e0 in
@@ -102,7 +102,7 @@ numbers_found name rest x after h is =
       fits = record { table_oid = a.fits; column_id = b.fits; type_oid = c.fits; type_size = d.fits; type_modifier = e.fits; format = f.fits };
     }
 
-numbers_again : (x : FieldPart) (after : List ℕ) → NumbersFit x → numbers_at x.name (numbers_of x ++ after) ≡ Ok (x, after)
+pub numbers_again : (x : FieldPart) (after : List ℕ) → NumbersFit x → numbers_at x.name (numbers_of x ++ after) ≡ Ok (x, after)
 unfolding numbers_at
 numbers_again x after fits =
     let parts = sym (joined_numbers (oid x.table_oid) (int16 x.column_id) (oid x.type_oid) (int16 x.type_size) (int32 x.type_modifier) (int16 x.format) after) in
@@ -116,11 +116,11 @@ numbers_again x after fits =
     ) refl
 
 -- the numbers are refused only where they are cut short
-record CutNumbers (rest : List ℕ) (e : Error) : Type 0 where
-  is : e ≡ UnexpectedEof
-  short : length rest < 18
+pub record CutNumbers (rest : List ℕ) (e : Error) : Type 0 where
+  pub is : e ≡ UnexpectedEof
+  pub short : length rest < 18
 
-numbers_refused : (name rest : List ℕ) (e : Error) → numbers_at name rest ≡ Err e → CutNumbers rest e
+pub numbers_refused : (name rest : List ℕ) (e : Error) → numbers_at name rest ≡ Err e → CutNumbers rest e
 unfolding numbers_at
 numbers_refused name rest e is =
     elim (bind_err (oid_at rest) (after_0 name) e is) [
@@ -153,7 +153,7 @@ numbers_refused name rest e is =
           ]
     ]
 
-short_numbers : (name rest : List ℕ) → length rest < 18 → numbers_at name rest ≡ Err UnexpectedEof
+pub short_numbers : (name rest : List ℕ) → length rest < 18 → numbers_at name rest ≡ Err UnexpectedEof
 short_numbers name rest short =
     let by_result : (r : Result (FieldPart × List ℕ) Error) → numbers_at name rest ≡ r → numbers_at name rest ≡ Err UnexpectedEof =
     λ r. elim r as (λ v. numbers_at name rest ≡ v → numbers_at name rest ≡ Err UnexpectedEof) [

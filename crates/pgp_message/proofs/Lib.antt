@@ -13,6 +13,7 @@ pub mod RangeLemmas
 pub mod TableLemmas
 pub mod ColumnLemmas
 pub mod FieldLemmas
+pub mod RawLemmas
 pub mod ErrorFieldLemmas
 pub mod Headers
 pub mod FindLemmas

@@ -30,6 +30,18 @@ numbers_at name rest = do
   format ← int16_at type_modifier.1
   Ok (record { name = name; table_oid = table_oid.0; column_id = column_id.0; type_oid = type_oid.0; type_size = type_size.0; type_modifier = type_modifier.0; format = format.0 }, format.1)
 
+abbrev pub whole_string : List ℕ × List ℕ → Result (List ℕ × List ℕ) Error
+whole_string s = Ok s
+
+abbrev pub raw_string_at : List ℕ → Result (List ℕ × List ℕ) Error
+raw_string_at bytes = string_at bytes >>= whole_string
+
+abbrev pub numbers_behind : List ℕ × List ℕ → Result (FieldPart × List ℕ) Error
+numbers_behind s = numbers_at s.0 s.1
+
+unfoldable pub raw_field_at : List ℕ → Result (FieldPart × List ℕ) Error
+raw_field_at bytes = string_at bytes >>= numbers_behind
+
 abbrev pub numbers_after : Result (List ℕ × List ℕ) Error → Result (FieldPart × List ℕ) Error
 numbers_after (Ok s) = numbers_at s.0 s.1
 numbers_after (Err e) = Err e

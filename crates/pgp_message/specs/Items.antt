@@ -29,6 +29,17 @@ TextRefused rest UnexpectedEof = HasNoZero rest
 TextRefused rest NotUtf8 = BeginsWithNoText rest
 TextRefused rest e = ⊥
 
+-- Strings, text or not, of which `RawMechanisms` and `RawOptions` are lists.
+
+-- a string and the 0 that ends it
+pub record StringSpelled (place : ℕ) (x : List ℕ) (front : List ℕ) : Type 0 where
+  pub no_zero : HasNoZero x
+  pub parts : front ≡ text x
+
+abbrev pub StringRefused : List ℕ → Error → Type 0
+StringRefused rest UnexpectedEof = HasNoZero rest
+StringRefused rest e = ⊥
+
 -- Numbers, of which `ColumnFormats` and `Parameters` are lists.
 
 -- the format of a column: an Int16 that is read as unsigned
@@ -125,6 +136,25 @@ abbrev pub FieldRefused : List ℕ → Error → Type 0
 FieldRefused rest UnexpectedEof = HasNoZero rest ⊎ IsShortField rest
 FieldRefused rest NotUtf8 = BeginsWithNoText rest
 FieldRefused rest e = ⊥
+
+-- The same columns where a name may be no text, `RawFields`.
+
+pub record RawFieldSpelled (place : ℕ) (x : FieldPart) (front : List ℕ) : Type 0 where
+  pub no_zero : HasNoZero x.name
+  pub fits : NumbersFit x
+  pub parts : front ≡ text x.name ++ numbers_of x
+
+-- a name, and fewer bytes than the numbers take
+pub record IsShortRawField (rest : List ℕ) : Type 0 where
+  pub name : List ℕ
+  pub more : List ℕ
+  pub no_zero : HasNoZero name
+  pub parts : rest ≡ text name ++ more
+  pub short : length more < 18
+
+abbrev pub RawFieldRefused : List ℕ → Error → Type 0
+RawFieldRefused rest UnexpectedEof = HasNoZero rest ⊎ IsShortRawField rest
+RawFieldRefused rest e = ⊥
 
 -- The fields of an error or a notice, `ErrorFields`.
 

@@ -6,7 +6,7 @@ ghost use Rattle.pgp_base.specs.declared.error.Error.TheVariants.{UnexpectedEof}
 ghost use Rattle.pgp_base.specs.Wire.{IsBytes};
 ghost use Rattle.pgp_base.specs.OneList.{HasOneCountedList, HasOneMarkedList};
 ghost use Rattle.pgp_message.specs.BackendMessage.{Message, Body};
-ghost use Rattle.pgp_message.specs.Items.{TextSpelled, TextRefused, FormatSpelled, FormatRefused, TypeSpelled, TypeRefused, RangeSpelled, RangeRefused, FieldSpelled, FieldRefused, ErrorFieldSpelled, ErrorFieldRefused};
+ghost use Rattle.pgp_message.specs.Items.{StringSpelled, StringRefused, TextSpelled, TextRefused, FormatSpelled, FormatRefused, TypeSpelled, TypeRefused, RangeSpelled, RangeRefused, FieldSpelled, FieldRefused, RawFieldSpelled, RawFieldRefused, ErrorFieldSpelled, ErrorFieldRefused};
 ghost use Rattle.pgp_message.specs.Remembered.{Memory, Fits, header_of};
 ghost use Rattle.pgp_message.specs.Stream.{BeginsWithHeader, Frames, BackendRun, TakesFrame};
 
@@ -42,9 +42,10 @@ pub fn one_list_of_ranges()
     ensures { HasOneCountedList RangeSpelled RangeRefused }
 {}
 
-/// A row description has one list of columns.
+/// A row description has one list of columns, whether their names are text or not.
 pub fn one_list_of_columns()
-    ensures { HasOneCountedList FieldSpelled FieldRefused }
+    ensures texts { HasOneCountedList FieldSpelled FieldRefused }
+    ensures bytes { HasOneCountedList RawFieldSpelled RawFieldRefused }
 {}
 
 /// An error or a notice has one list of fields.
@@ -52,14 +53,16 @@ pub fn one_list_of_error_fields()
     ensures { HasOneMarkedList ErrorFieldSpelled ErrorFieldRefused }
 {}
 
-/// An offer of SASL mechanisms has one list of names.
+/// An offer of SASL mechanisms has one list of names, whether they are text or not.
 pub fn one_list_of_mechanisms()
-    ensures { HasOneMarkedList TextSpelled TextRefused }
+    ensures texts { HasOneMarkedList TextSpelled TextRefused }
+    ensures bytes { HasOneMarkedList StringSpelled StringRefused }
 {}
 
-/// An answer about versions has one list of options.
+/// An answer about versions has one list of options, whether they are text or not.
 pub fn one_list_of_options()
-    ensures { HasOneCountedList TextSpelled TextRefused }
+    ensures texts { HasOneCountedList TextSpelled TextRefused }
+    ensures bytes { HasOneCountedList StringSpelled StringRefused }
 {}
 
 /// Each stream is read in one way.

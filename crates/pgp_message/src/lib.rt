@@ -43,5 +43,5 @@ pub use tag::{
 };
 pub use walk::{
     ColumnFormats, DataRowRanges, ErrorField, ErrorFields, Field, Fields, Parameters,
-    ProtocolOptions, SaslMechanisms,
+    ProtocolOptions, RawField, RawFields, RawMechanisms, RawOptions, SaslMechanisms,
 };

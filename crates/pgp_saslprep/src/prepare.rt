@@ -80,7 +80,7 @@ pub fn saslprep<A: Memory, N: Nfkc>(
 /// SASLprep: the mapping of RFC 4013. A password that it refuses is used as it is, as the server does.
 ///
 /// The order of the steps is the RFC's, and that of the Rust crate `stringprep`, which normalizes by a later Unicode before it
-/// looks for what 3.2 doesn't assign. A server of PostgreSQL looks for all that it refuses before it normalizes, and refuses a
+/// looks for what 3.2 doesn't assign, and takes directions from a later one too. A server of PostgreSQL looks for all that it refuses before it normalizes, and refuses a
 /// text of which the mapping leaves nothing.
 #[derive(Clone, Copy)]
 pub struct SaslPrepRfc4013<N: Nfkc = UnicodeNfkc> {

@@ -5,6 +5,7 @@ mod arrays;
 mod auth;
 mod base;
 mod frontend;
+mod latin1;
 mod message;
 mod protocol;
 mod ranges;

@@ -1,9 +1,10 @@
 //! A client's connection where memory is refused: only a message that is cut wants any.
 
 use crate::checks::{holds, same};
+use linked_list_allocator::LocalHeap;
 use pgp_test_alloc::Refusing;
-use postgres_protocol::session::{ClientParser, Limits, ParserError};
-use std::alloc::Allocator;
+use postgres_protocol::session::{ClientParser, Limits, ParserError, read_session};
+use std::alloc::{AllocError, Allocator, Global};
 use std::process::Abort;
 
 /// A Query and a Sync.
@@ -86,4 +87,64 @@ fn no_memory_past_the_limit(rt: HostRuntime) {
     );
     same(&rt, piece.len(), 11);
     same(&rt, alloc.until_refusal.get(), 1);
+}
+
+/// A heap in which the Query below fits once, and not twice.
+const HEAP: usize = 40_960;
+
+const LETTERS: [u8; 100] = [b'a'; 100];
+
+/// Reads a Query of 30,000 bytes behind its header, in pieces of 100.
+fn read_long<A: Allocator + Copy>(rt: &impl Abort, parser: &mut ClientParser<A>) {
+    let mut piece = b"Q\0\0\x75\x34".as_slice();
+    ask(rt, parser, &mut piece, &[Ok(None)]);
+    for _ in 0..299 {
+        let mut piece = LETTERS.as_slice();
+        ask(rt, parser, &mut piece, &[Ok(None)]);
+    }
+    let mut last = LETTERS;
+    last[99] = 0;
+    let mut piece = last.as_slice();
+    ask(rt, parser, &mut piece, &[Ok(Some(30_005))]);
+}
+
+/// Ten in turn: no more is asked for than is missing of a message, and that once.
+#[test]
+fn long_messages_are_held_once(rt: HostRuntime) {
+    match LocalHeap::new(rt.alloc(), HEAP) {
+        Ok(heap) => {
+            let mut parser = ClientParser::resume(&heap, UNLIMITED, true);
+            for _ in 0..10 {
+                read_long(&rt, &mut parser);
+            }
+        }
+        Err(_) => holds(&rt, false),
+    }
+}
+
+/// A startup packet and 100 Syncs.
+fn syncs(alloc: Global) -> Result<Vec<u8>, AllocError> {
+    let mut bytes = Vec::from_slice(alloc, b"\0\0\0\x09\0\x03\0\0\0")?;
+    for _ in 0..100 {
+        bytes.extend_from_slice(b"S\0\0\0\x04")?;
+    }
+    Ok(bytes)
+}
+
+/// How many messages a session has, read over a heap of so many bytes.
+fn session_len(heap: &LocalHeap, bytes: &[u8]) -> Option<usize> {
+    match read_session(heap, &[], bytes) {
+        Ok((messages, None)) => Some(messages.len()),
+        _ => None,
+    }
+}
+
+/// The list of a session's messages takes what a list of them takes, and no more.
+#[test]
+fn a_session_is_read_in_little_memory(rt: HostRuntime) {
+    let bytes = syncs(rt.alloc()).unwrap_or(Vec::new(rt.alloc()));
+    match LocalHeap::new(rt.alloc(), HEAP) {
+        Ok(heap) => same(&rt, session_len(&heap, bytes.as_slice()), Some(101)),
+        Err(_) => holds(&rt, false),
+    }
 }

@@ -2,11 +2,11 @@
 
 ghost use Rattle.std.specs.Prelude.{◌≡◌, ◌≤◌, length, None};
 ghost use Rattle.pgp_base.specs.Items.{MarkedItems};
-ghost use Rattle.pgp_message.specs.Items.{TextSpelled, TextRefused};
+ghost use Rattle.pgp_message.specs.Items.{StringSpelled, StringRefused, TextSpelled, TextRefused};
 ghost use Rattle.pgp_message.specs.Reading.{salt_of};
 
 use crate::storage::Storage;
-use crate::walk::SaslMechanisms;
+use crate::walk::{RawMechanisms, SaslMechanisms};
 use bytes::Bytes;
 use pgp_base::Error;
 use std::alloc::Allocator;
@@ -123,6 +123,15 @@ impl<A: Allocator> AuthenticationSaslBody<Bytes<A>> {
     {
         SaslMechanisms::over(self.mechanisms.as_slice())
     }
+
+    /// The mechanisms, whose names need not be text.
+    pub fn raw_mechanisms(&self) -> RawMechanisms<'_>
+        ensures items { MarkedItems StringSpelled StringRefused self.now result.items result.end }
+        ensures announced { result.announced ≡ None }
+        ensures few { length result.items ≤ length self.now }
+    {
+        RawMechanisms::over(self.mechanisms.as_slice())
+    }
 }
 
 impl<'a> AuthenticationSaslBody<&'a [u8]> {
@@ -133,6 +142,15 @@ impl<'a> AuthenticationSaslBody<&'a [u8]> {
         ensures few { length result.items ≤ length self.now }
     {
         SaslMechanisms::over(self.mechanisms)
+    }
+
+    /// The mechanisms, whose names need not be text.
+    pub fn raw_mechanisms(&self) -> RawMechanisms<'a>
+        ensures items { MarkedItems StringSpelled StringRefused self.now result.items result.end }
+        ensures announced { result.announced ≡ None }
+        ensures few { length result.items ≤ length self.now }
+    {
+        RawMechanisms::over(self.mechanisms)
     }
 }
 

@@ -69,6 +69,23 @@ impl<S: Storage> NotificationResponseBody<S> {
 }
 
 impl<A: Allocator> NotificationResponseBody<Bytes<A>> {
+    /// The channel's name, whether it is text or not.
+    pub fn channel_bytes(&self) -> &[u8]
+        ensures { result.now ≡ self.now.channel }
+    {
+        let payload = self.payload.as_slice();
+        &payload[4..4 + self.channel_len]
+    }
+
+    /// What was said, whether it is text or not.
+    pub fn message_bytes(&self) -> &[u8]
+        ensures { result.now ≡ self.now.message }
+    {
+        let payload = self.payload.as_slice();
+        let start = self.channel_len + 5;
+        &payload[start..]
+    }
+
     /// The channel's name.
     ///
     /// # Errors
@@ -77,8 +94,7 @@ impl<A: Allocator> NotificationResponseBody<Bytes<A>> {
     pub fn channel(&self) -> Result<&str, Error>
         ensures { MatchResult result (λ text. text.now ≡ self.now.channel) (λ e. (e ≡ Error.NotUtf8) × ¬ IsUtf8 self.now.channel) }
     {
-        let payload = self.payload.as_slice();
-        text(&payload[4..4 + self.channel_len])
+        text(self.channel_bytes())
     }
 
     /// What was said.
@@ -89,13 +105,26 @@ impl<A: Allocator> NotificationResponseBody<Bytes<A>> {
     pub fn message(&self) -> Result<&str, Error>
         ensures { MatchResult result (λ text. text.now ≡ self.now.message) (λ e. (e ≡ Error.NotUtf8) × ¬ IsUtf8 self.now.message) }
     {
-        let payload = self.payload.as_slice();
-        let start = self.channel_len + 5;
-        text(&payload[start..])
+        text(self.message_bytes())
     }
 }
 
 impl<'a> NotificationResponseBody<&'a [u8]> {
+    /// The channel's name, whether it is text or not.
+    pub fn channel_bytes(&self) -> &'a [u8]
+        ensures { result.now ≡ self.now.channel }
+    {
+        &self.payload[4..4 + self.channel_len]
+    }
+
+    /// What was said, whether it is text or not.
+    pub fn message_bytes(&self) -> &'a [u8]
+        ensures { result.now ≡ self.now.message }
+    {
+        let from = self.channel_len + 5;
+        &self.payload[from..]
+    }
+
     /// The channel's name.
     ///
     /// # Errors
@@ -104,7 +133,7 @@ impl<'a> NotificationResponseBody<&'a [u8]> {
     pub fn channel(&self) -> Result<&'a str, Error>
         ensures { MatchResult result (λ text. text.now ≡ self.now.channel) (λ e. (e ≡ Error.NotUtf8) × ¬ IsUtf8 self.now.channel) }
     {
-        text(&self.payload[4..4 + self.channel_len])
+        text(self.channel_bytes())
     }
 
     /// What was said.
@@ -115,7 +144,6 @@ impl<'a> NotificationResponseBody<&'a [u8]> {
     pub fn message(&self) -> Result<&'a str, Error>
         ensures { MatchResult result (λ text. text.now ≡ self.now.message) (λ e. (e ≡ Error.NotUtf8) × ¬ IsUtf8 self.now.message) }
     {
-        let from = self.channel_len + 5;
-        text(&self.payload[from..])
+        text(self.message_bytes())
     }
 }

@@ -6,14 +6,14 @@ ghost use Rattle.std.specs.Result.{result_map_both};
 ghost use Rattle.std.specs.Str.{IsUtf8};
 ghost use Rattle.pgp_base.specs.Cause.{WantsMemory};
 ghost use Rattle.pgp_base.specs.Items.{CountedItems};
-ghost use Rattle.pgp_message.specs.Items.{RangeSpelled, RangeRefused, FieldSpelled, FieldRefused, TypeSpelled, TypeRefused};
+ghost use Rattle.pgp_message.specs.Items.{RangeSpelled, RangeRefused, FieldSpelled, FieldRefused, RawFieldSpelled, RawFieldRefused, TypeSpelled, TypeRefused};
 ghost use Rattle.pgp_message.specs.Reading.{string_of, counted_of};
 ghost use Rattle.pgp_message.specs.Table.{Tabulates, HasColumn};
 
 use crate::body::counted::CountedBytes;
 use crate::row_index::{RowColumns, RowIndex, RowPlaces, nth_value};
 use crate::storage::Storage;
-use crate::walk::{DataRowRanges, Fields, Parameters};
+use crate::walk::{DataRowRanges, Fields, Parameters, RawFields};
 use bytes::Bytes;
 use pgp_base::reading::string_at;
 use pgp_base::{Error, Memory, text};
@@ -52,6 +52,13 @@ impl<S: Storage> CommandCompleteBody<S> {
 }
 
 impl<A: Allocator> CommandCompleteBody<Bytes<A>> {
+    /// The command's tag, whether it is text or not.
+    pub fn tag_bytes(&self) -> &[u8]
+        ensures { result.now ≡ self.now }
+    {
+        self.tag.as_slice()
+    }
+
     /// The command's tag, as `SELECT 1`.
     ///
     /// # Errors
@@ -65,6 +72,13 @@ impl<A: Allocator> CommandCompleteBody<Bytes<A>> {
 }
 
 impl<'a> CommandCompleteBody<&'a [u8]> {
+    /// The command's tag, whether it is text or not.
+    pub fn tag_bytes(&self) -> &'a [u8]
+        ensures { result.now ≡ self.now }
+    {
+        self.tag
+    }
+
     /// The command's tag, as `SELECT 1`.
     ///
     /// # Errors
@@ -269,6 +283,15 @@ impl<A: Allocator> RowDescriptionBody<Bytes<A>> {
     {
         Fields::over(self.columns.storage.as_slice(), self.columns.len)
     }
+
+    /// The columns, whose names need not be text.
+    pub fn raw_fields(&self) -> RawFields<'_>
+        ensures items { CountedItems RawFieldSpelled RawFieldRefused self.now.count self.now.storage result.items result.end }
+        ensures announced { result.announced ≡ Some self.now.count }
+        ensures few { length result.items ≤ length self.now.storage }
+    {
+        RawFields::over(self.columns.storage.as_slice(), self.columns.len)
+    }
 }
 
 impl<'a> RowDescriptionBody<&'a [u8]> {
@@ -279,6 +302,15 @@ impl<'a> RowDescriptionBody<&'a [u8]> {
         ensures few { length result.items ≤ length self.now.storage }
     {
         Fields::over(self.columns.storage, self.columns.len)
+    }
+
+    /// The columns, whose names need not be text.
+    pub fn raw_fields(&self) -> RawFields<'a>
+        ensures items { CountedItems RawFieldSpelled RawFieldRefused self.now.count self.now.storage result.items result.end }
+        ensures announced { result.announced ≡ Some self.now.count }
+        ensures few { length result.items ≤ length self.now.storage }
+    {
+        RawFields::over(self.columns.storage, self.columns.len)
     }
 }
 

@@ -91,6 +91,22 @@ impl<S: Storage> ParameterStatusBody<S> {
 }
 
 impl<A: Allocator> ParameterStatusBody<Bytes<A>> {
+    /// The parameter's name, whether it is text or not.
+    pub fn name_bytes(&self) -> &[u8]
+        ensures { result.now ≡ self.now.name }
+    {
+        &self.texts.as_slice()[..self.name_len]
+    }
+
+    /// The parameter's value, whether it is text or not.
+    pub fn value_bytes(&self) -> &[u8]
+        ensures { result.now ≡ self.now.value }
+    {
+        let texts = self.texts.as_slice();
+        let start = self.name_len + 1;
+        &texts[start..]
+    }
+
     /// The parameter's name.
     ///
     /// # Errors
@@ -99,7 +115,7 @@ impl<A: Allocator> ParameterStatusBody<Bytes<A>> {
     pub fn name(&self) -> Result<&str, Error>
         ensures { MatchResult result (λ text. text.now ≡ self.now.name) (λ e. (e ≡ Error.NotUtf8) × ¬ IsUtf8 self.now.name) }
     {
-        text(&self.texts.as_slice()[..self.name_len])
+        text(self.name_bytes())
     }
 
     /// The parameter's value.
@@ -110,13 +126,26 @@ impl<A: Allocator> ParameterStatusBody<Bytes<A>> {
     pub fn value(&self) -> Result<&str, Error>
         ensures { MatchResult result (λ text. text.now ≡ self.now.value) (λ e. (e ≡ Error.NotUtf8) × ¬ IsUtf8 self.now.value) }
     {
-        let texts = self.texts.as_slice();
-        let start = self.name_len + 1;
-        text(&texts[start..])
+        text(self.value_bytes())
     }
 }
 
 impl<'a> ParameterStatusBody<&'a [u8]> {
+    /// The parameter's name, whether it is text or not.
+    pub fn name_bytes(&self) -> &'a [u8]
+        ensures { result.now ≡ self.now.name }
+    {
+        &self.texts[..self.name_len]
+    }
+
+    /// The parameter's value, whether it is text or not.
+    pub fn value_bytes(&self) -> &'a [u8]
+        ensures { result.now ≡ self.now.value }
+    {
+        let from = self.name_len + 1;
+        &self.texts[from..]
+    }
+
     /// The parameter's name.
     ///
     /// # Errors
@@ -125,7 +154,7 @@ impl<'a> ParameterStatusBody<&'a [u8]> {
     pub fn name(&self) -> Result<&'a str, Error>
         ensures { MatchResult result (λ text. text.now ≡ self.now.name) (λ e. (e ≡ Error.NotUtf8) × ¬ IsUtf8 self.now.name) }
     {
-        text(&self.texts[..self.name_len])
+        text(self.name_bytes())
     }
 
     /// The parameter's value.
@@ -136,7 +165,6 @@ impl<'a> ParameterStatusBody<&'a [u8]> {
     pub fn value(&self) -> Result<&'a str, Error>
         ensures { MatchResult result (λ text. text.now ≡ self.now.value) (λ e. (e ≡ Error.NotUtf8) × ¬ IsUtf8 self.now.value) }
     {
-        let from = self.name_len + 1;
-        text(&self.texts[from..])
+        text(self.value_bytes())
     }
 }

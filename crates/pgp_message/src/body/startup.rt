@@ -4,11 +4,11 @@
 ghost use Rattle.std.specs.Prelude.{◌≡◌, ◌≢◌, ◌≤◌, length, Some, IfSome, IfNone};
 ghost use Rattle.pgp_base.specs.Items.{CountedItems};
 ghost use Rattle.pgp_base.specs.Wire.{int32};
-ghost use Rattle.pgp_message.specs.Items.{TextSpelled, TextRefused};
+ghost use Rattle.pgp_message.specs.Items.{StringSpelled, StringRefused, TextSpelled, TextRefused};
 ghost use Rattle.pgp_message.specs.Reading.{count_at, key_data_of, negotiation_of};
 
 use crate::storage::Storage;
-use crate::walk::ProtocolOptions;
+use crate::walk::{ProtocolOptions, RawOptions};
 use bytes::Bytes;
 use pgp_base::reading::int32_at;
 use pgp_base::{Error, MAX_KEY_LEN, MIN_KEY_LEN};
@@ -159,6 +159,15 @@ impl<A: Allocator> NegotiateProtocolVersionBody<Bytes<A>> {
     {
         ProtocolOptions::over(self.options.as_slice(), self.len)
     }
+
+    /// The options, whose names need not be text.
+    pub fn raw_options(&self) -> RawOptions<'_>
+        ensures items { CountedItems StringSpelled StringRefused self.now.count self.now.options result.items result.end }
+        ensures announced { result.announced ≡ Some self.now.count }
+        ensures few { length result.items ≤ length self.now.options }
+    {
+        RawOptions::over(self.options.as_slice(), self.len)
+    }
 }
 
 impl<'a> NegotiateProtocolVersionBody<&'a [u8]> {
@@ -169,5 +178,14 @@ impl<'a> NegotiateProtocolVersionBody<&'a [u8]> {
         ensures few { length result.items ≤ length self.now.options }
     {
         ProtocolOptions::over(self.options, self.len)
+    }
+
+    /// The options, whose names need not be text.
+    pub fn raw_options(&self) -> RawOptions<'a>
+        ensures items { CountedItems StringSpelled StringRefused self.now.count self.now.options result.items result.end }
+        ensures announced { result.announced ≡ Some self.now.count }
+        ensures few { length result.items ≤ length self.now.options }
+    {
+        RawOptions::over(self.options, self.len)
     }
 }

@@ -5,7 +5,9 @@ ghost use Rattle.rand_core.specs.Steps.{stream_of, steps_u32};
 
 mod drawn;
 mod escaped;
+mod hi;
 mod mapped;
+mod met;
 
 use crate::checks::same;
 use pgp_auth::authentication::sasl::{SCRAM_SHA_256, SCRAM_SHA_256_PLUS, ScramError};

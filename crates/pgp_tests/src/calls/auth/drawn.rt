@@ -15,7 +15,7 @@ const STORED: &[u8] =
 const HASH: &[u8] = b"\x00\xff,hash";
 
 // What the client says of channel binding.
-fn binding_of(alloc: Global, number: u32) -> Result<ChannelBinding<Global>, AllocError> {
+pub(super) fn binding_of(alloc: Global, number: u32) -> Result<ChannelBinding<Global>, AllocError> {
     match number % 4 {
         0 | 1 => Ok(ChannelBinding::unsupported()),
         2 => Ok(ChannelBinding::unrequested()),
@@ -24,7 +24,7 @@ fn binding_of(alloc: Global, number: u32) -> Result<ChannelBinding<Global>, Allo
 }
 
 // What the server says of it.
-fn offer_of(alloc: Global, number: u32) -> Result<ChannelOffer<Global>, AllocError> {
+pub(super) fn offer_of(alloc: Global, number: u32) -> Result<ChannelOffer<Global>, AllocError> {
     match number % 4 {
         0 | 2 => Ok(ChannelOffer::NotOffered),
         1 => Ok(ChannelOffer::Declined),
@@ -49,13 +49,19 @@ fn client_of(
 }
 
 // Whether the client takes the server's first text.
-fn begins(server: &mut ScramServer<Global>, client: &mut ScramSha256<Global>) -> Option<bool> {
+pub(super) fn begins(
+    server: &mut ScramServer<Global>,
+    client: &mut ScramSha256<Global>,
+) -> Option<bool> {
     let answer = server.first(client.message()?).ok()?;
     Some(client.update(&answer).is_ok())
 }
 
 // Whether both are through behind that.
-fn ends(server: &mut ScramServer<Global>, client: &mut ScramSha256<Global>) -> Option<bool> {
+pub(super) fn ends(
+    server: &mut ScramServer<Global>,
+    client: &mut ScramSha256<Global>,
+) -> Option<bool> {
     match server.finish(client.message()?) {
         Ok(last) => Some(client.finish(&last).is_ok()),
         Err(_) => Some(false),
