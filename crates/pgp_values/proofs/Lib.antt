@@ -7,6 +7,8 @@ pub mod Pairs
 pub mod DecimalLemmas
 pub mod TextLemmas
 pub mod AmountLemmas
-pub mod ParseLemmas
+pub mod ScanLemmas
+pub mod GroupLemmas
+pub mod MeaningLemmas
 pub mod MomentLemmas
 pub mod PlaceLemmas
