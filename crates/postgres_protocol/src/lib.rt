@@ -9,3 +9,4 @@ pub mod session;
 pub use pgp_auth::{authentication, escape, password};
 pub use pgp_base::{BindError, Error, FallibleIterator, IsNull, Lsn, Oid};
 pub use pgp_types as types;
+pub use pgp_values as values;
