@@ -10,5 +10,7 @@ pub mod AmountLemmas
 pub mod ScanLemmas
 pub mod GroupLemmas
 pub mod MeaningLemmas
+pub mod OnceLemmas
+pub mod RoundLemmas
 pub mod MomentLemmas
 pub mod PlaceLemmas

@@ -60,15 +60,15 @@ module _ (bytes : List ℕ) (n : Bool) (w f : List ℕ) (d : Bool) (x : ℕ) (t 
         ends_append w (t.point ++ t.raised) (ends_append t.point t.raised behind)
   ]
 
-  ends_number : Ends bytes
+  pub ends_number : Ends bytes
   ends_number = rw t.all (ends_append t.sign (w ++ (t.point ++ t.raised)) ends_after)
 
-  begins_number : NotAt IsBlank bytes
+  pub begins_number : NotAt IsBlank bytes
   begins_number = rw t.all (sign_no_blank n t.sign (w ++ (t.point ++ t.raised)) t.signed (number_begins IsBlank digit_no_blank point_no_blank w f t.point t.raised t.are_whole t.pointed t.some))
 
 -- words
 
-abbrev IsLetter : ℕ → Type 0
+abbrev pub IsLetter : ℕ → Type 0
 IsLetter b = 97 ≤ lower b
 
 small_lower : (b : ℕ) → b < 65 → lower b ≡ b
@@ -106,27 +106,27 @@ pub record IsWord (bytes : List ℕ) : Type 0 where
   pub are : AllByRecursion IsLetter bytes
   pub some : bytes ≢ []
 
-nan_is : (bytes : List ℕ) → map lower bytes ≡ nan_word → IsWord bytes
+pub nan_is : (bytes : List ℕ) → map lower bytes ≡ nan_word → IsWord bytes
 nan_is bytes e = record { are = letters_of bytes nan_word e nan_letters; some = some_of bytes 110 (97 ∷ 110 ∷ []) e }
 
-inf_is : (rest : List ℕ) → (map lower rest ≡ inf_word) ⊎ (map lower rest ≡ infinity_word) → IsWord rest
+pub inf_is : (rest : List ℕ) → (map lower rest ≡ inf_word) ⊎ (map lower rest ≡ infinity_word) → IsWord rest
 inf_is rest (inl e) = record { are = letters_of rest inf_word e inf_letters; some = some_of rest 105 (110 ∷ 102 ∷ []) e }
 inf_is rest (inr e) = record { are = letters_of rest infinity_word e infinity_letters; some = some_of rest 105 (110 ∷ 102 ∷ 105 ∷ 110 ∷ 105 ∷ 116 ∷ 121 ∷ []) e }
 
 word_begins : (bytes : List ℕ) → IsWord bytes → NotAt IsBlank bytes
 word_begins bytes w = not_at_of IsLetter IsBlank bytes w.are letter_no_blank
 
-word_no_sign : (bytes : List ℕ) → IsWord bytes → NotAt IsSign bytes
+pub word_no_sign : (bytes : List ℕ) → IsWord bytes → NotAt IsSign bytes
 word_no_sign bytes w = not_at_of IsLetter IsSign bytes w.are letter_no_sign
 
 word_ends : (bytes : List ℕ) → IsWord bytes → Ends bytes
 word_ends bytes w = record { some = w.some; stops = end_of IsLetter IsBlank bytes w.are letter_no_blank }
 
-special_begins : (bytes : List ℕ) (v : Numeric) → SpecialText bytes v → NotAt IsBlank bytes
+pub special_begins : (bytes : List ℕ) (v : Numeric) → SpecialText bytes v → NotAt IsBlank bytes
 special_begins bytes v (inl w) = word_begins bytes (nan_is bytes w.0)
 special_begins bytes v (inr w) = rw w.4 (sign_no_blank w.0 w.1 w.3 w.2 (word_begins w.3 (inf_is w.3 w.5)))
 
-special_ends : (bytes : List ℕ) (v : Numeric) → SpecialText bytes v → Ends bytes
+pub special_ends : (bytes : List ℕ) (v : Numeric) → SpecialText bytes v → Ends bytes
 special_ends bytes v (inl w) = word_ends bytes (nan_is bytes w.0)
 special_ends bytes v (inr w) = rw w.4 (ends_append w.1 w.3 (word_ends w.3 (inf_is w.3 w.5)))
 
@@ -148,7 +148,7 @@ module _ (text inside : List ℕ) (t : Trimmed text inside) where
   blanked : IsBlanked text inside
   blanked = record { before = t.before; after = t.after; are_before = t.begins.are; are_after = t.are; all = t.begins.all ∙ ap (λ l. t.before ++ l) t.all }
 
-  same_inside : (other : List ℕ) → IsBlanked text other → NotAt IsBlank other → Ends other → other ≡ inside
+  pub same_inside : (other : List ℕ) → IsBlanked text other → NotAt IsBlank other → Ends other → other ≡ inside
   same_inside other b at end =
       let one = munch IsBlank b.before t.before (other ++ b.after) t.front b.are_before t.begins.are (not_at_append IsBlank other b.after end.some at) t.begins.stops (sym b.all ∙ t.begins.all) in
       munch_back IsBlank other inside b.after t.after b.are_after t.are end.stops t.stops (one.1 ∙ t.all)

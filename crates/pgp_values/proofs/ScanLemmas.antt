@@ -90,7 +90,7 @@ end_of P Q (b ∷ d ∷ l) h f = end_of P Q (d ∷ l) h.1 f
 
 -- signs
 
-digit_no_sign : (b : ℕ) → IsDigit b → IsSign b → ⊥
+pub digit_no_sign : (b : ℕ) → IsDigit b → IsSign b → ⊥
 digit_no_sign b d (inl e) = omega (arith, d.0)
 digit_no_sign b d (inr e) = omega (arith, d.0)
 
@@ -98,7 +98,7 @@ pub digit_no_blank : (b : ℕ) → IsDigit b → IsBlank b → ⊥
 digit_no_blank b d (inl e) = omega (arith, d.0)
 digit_no_blank b d (inr e) = omega (arith, d.0, e.1)
 
-point_no_sign : (b : ℕ) → b ≡ 46 → IsSign b → ⊥
+pub point_no_sign : (b : ℕ) → b ≡ 46 → IsSign b → ⊥
 point_no_sign b e (inl x) = omega arith
 point_no_sign b e (inr x) = omega arith
 
@@ -136,7 +136,7 @@ sign_no_blank true s l e h = rw e minus_no_blank
 
 -- what is marked
 
-marked_front : (d : Bool) (x : ℕ) (bytes : List ℕ) (m : MarkedText d x bytes) → SignFront bytes d m.digits
+pub marked_front : (d : Bool) (x : ℕ) (bytes : List ℕ) (m : MarkedText d x bytes) → SignFront bytes d m.digits
 marked_front d x bytes m = record { sign = m.sign; signed = m.signed; stops = λ _. not_at_of IsDigit IsSign m.digits m.are digit_no_sign; all = m.whole }
 
 pub record SameMarked (d n : Bool) (xs ds rest : List ℕ) : Type 0 where
@@ -172,7 +172,7 @@ module _ (bytes rest ds left : List ℕ) (n : Bool) (s : SignFront bytes n rest)
 pub refused_past : (bytes : List ℕ) (n : Bool) (ds : List ℕ) (e : NumericError) → e ≡ OutOfRange → 1073741823 ≤ spelled 10 (map digit_value ds) → ((x : ℕ) → x ≡ spelled 10 (map digit_value ds) → MarkedText n x bytes) → MarkedRefused bytes e
 refused_past bytes n ds e is past m = subst (MarkedRefused bytes) (sym is) (n, spelled 10 (map digit_value ds), m (spelled 10 (map digit_value ds)) refl, past)
 
-marked_no_blank : (d : Bool) (x : ℕ) (bytes : List ℕ) → MarkedText d x bytes → NotAt IsBlank bytes
+pub marked_no_blank : (d : Bool) (x : ℕ) (bytes : List ℕ) → MarkedText d x bytes → NotAt IsBlank bytes
 marked_no_blank d x bytes m = rw m.whole (sign_no_blank d m.sign m.digits m.signed (not_at_of IsDigit IsBlank m.digits m.are digit_no_blank))
 
 -- an exponent
@@ -222,11 +222,11 @@ letter_no_point : (letter : ℕ) → (letter ≡ 101) ⊎ (letter ≡ 69) → le
 letter_no_point letter (inl e) d = omega arith
 letter_no_point letter (inr e) d = omega arith
 
-exponent_digit : (d : Bool) (x : ℕ) (bytes : List ℕ) → ExponentText d x bytes → NotAt IsDigit bytes
+pub exponent_digit : (d : Bool) (x : ℕ) (bytes : List ℕ) → ExponentText d x bytes → NotAt IsDigit bytes
 exponent_digit d x bytes (inl n) = rw n.0 tt
 exponent_digit d x bytes (inr r) = rw r.all (letter_no_digit r.letter r.is)
 
-exponent_point : (d : Bool) (x : ℕ) (bytes : List ℕ) → ExponentText d x bytes → NotAt (λ b. b ≡ 46) bytes
+pub exponent_point : (d : Bool) (x : ℕ) (bytes : List ℕ) → ExponentText d x bytes → NotAt (λ b. b ≡ 46) bytes
 exponent_point d x bytes (inl n) = rw n.0 tt
 exponent_point d x bytes (inr r) = rw r.all (letter_no_point r.letter r.is)
 
@@ -235,7 +235,7 @@ exponent_point d x bytes (inr r) = rw r.all (letter_no_point r.letter r.is)
 point_no_digit : IsDigit 46 → ⊥
 point_no_digit b = omega (arith, b.0)
 
-point_digits : (fraction p x : List ℕ) → PointText fraction p → NotAt IsDigit x → NotAt IsDigit (p ++ x)
+pub point_digits : (fraction p x : List ℕ) → PointText fraction p → NotAt IsDigit x → NotAt IsDigit (p ++ x)
 point_digits fraction p x (inl e) h = rw e point_no_digit
 point_digits fraction p x (inr e) h = rw e.0 h
 

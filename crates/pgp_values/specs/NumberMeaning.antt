@@ -1,10 +1,11 @@
 -- What a text means as a numeric, and why a text is refused.
-use Rattle.std.specs.Prelude.{◌≡◌, ◌⊎◌, ℕ, ◌≤◌, List, length, Result, Ok, Err}
+use Rattle.std.specs.Prelude.{◌≡◌, ◌⊎◌, ℕ, ◌≤◌, List, length, Result, Ok, Err, ⊤}
 use Rattle.pgp_base.specs.Cause.{Wants}
 use Rattle.pgp_base.specs.Held.{Held, ◌⊕◌, Leaves}
 use Rattle.pgp_values.specs.declared.error.NumericError.{NumericError}
 use Rattle.pgp_values.specs.declared.error.NumericError.TheVariants.{OutOfMemory, InvalidText, OutOfRange}
-use Rattle.pgp_values.specs.Decimal.{Decimal, Numeric, finite, IsDecimal, IsCanonical, numeric_bytes}
+use Rattle.pgp_values.specs.Amount.{IsShown}
+use Rattle.pgp_values.specs.Decimal.{Decimal, Numeric, finite, nan, plus_infinity, minus_infinity, IsDecimal, IsCanonical, numeric_bytes}
 use Rattle.pgp_values.specs.DecimalWriting.{Told, IsNumberOf}
 use Rattle.pgp_values.specs.NumberText.{Spells, Tells, Names}
 
@@ -17,6 +18,13 @@ pub record IsValueOf (t : Told) (d : Decimal) : Type 0 where
   pub fits : IsDecimal d
   pub means : IsNumberOf t d
   pub canonical : IsCanonical d
+
+-- a value in the form that a server keeps: no digit is hidden
+abbrev pub IsKept : Numeric → Type 0
+IsKept (finite d) = IsDecimal d × (IsCanonical d × IsShown d)
+IsKept nan = ⊤
+IsKept plus_infinity = ⊤
+IsKept minus_infinity = ⊤
 
 -- its exponent passes the limit, or no numeric holds it
 abbrev pub IsPast : Told → Type 0
