@@ -14,3 +14,4 @@ pub mod OnceLemmas
 pub mod RoundLemmas
 pub mod MomentLemmas
 pub mod PlaceLemmas
+pub mod LexemeLemmas
