@@ -7,6 +7,11 @@ pub mod Pairs
 pub mod DecimalLemmas
 pub mod TextLemmas
 pub mod AmountLemmas
-pub mod ParseLemmas
+pub mod ScanLemmas
+pub mod GroupLemmas
+pub mod MeaningLemmas
+pub mod OnceLemmas
+pub mod RoundLemmas
 pub mod MomentLemmas
 pub mod PlaceLemmas
+pub mod LexemeLemmas

@@ -52,12 +52,7 @@ pub enum Numeric<'a> {
 }
 
 // Appends the numbers in front of the scale, or nothing.
-pub(crate) fn front_to_sql<B: Buffer>(
-    count: u16,
-    weight: i16,
-    sign: u16,
-    buf: &mut B,
-) -> Result<(), Error>
+fn front_to_sql<B: Buffer>(count: u16, weight: i16, sign: u16, buf: &mut B) -> Result<(), Error>
     ensures { Writes (uint16 count ++ (int16 weight ++ uint16 sign)) None B.Lacks (B.held buf.old) (B.held buf.new) result }
 {
     append_three(
@@ -69,14 +64,14 @@ pub(crate) fn front_to_sql<B: Buffer>(
 }
 
 // Appends the scale and the digits, or nothing.
-pub(crate) fn scaled_to_sql<B: Buffer>(scale: u16, digits: &[u8], buf: &mut B) -> Result<(), Error>
+fn scaled_to_sql<B: Buffer>(scale: u16, digits: &[u8], buf: &mut B) -> Result<(), Error>
     ensures { Writes (uint16 scale ++ digits.now) None B.Lacks (B.held buf.old) (B.held buf.new) result }
 {
     append_both(&uint16_bytes(scale), digits, buf)
 }
 
 // Appends a number's parts, or nothing.
-fn parts_to_sql<B: Buffer>(
+pub(crate) fn parts_to_sql<B: Buffer>(
     count: u16,
     weight: i16,
     sign: u16,

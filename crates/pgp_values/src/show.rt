@@ -1,11 +1,11 @@
 //! The text of a decimal number, as a server writes it.
 #![tactic(auto, using(pgp_base::proofs::Parts::held_steps))]
 
-ghost use Rattle.std.specs.Prelude.{◌≡◌, ℕ, ℤ, pos, negsuc, ◌+◌, ◌-◌, ◌<◌, ◌≤◌, ◌^◌, [], ◌∷◌, length, map, None, OnOk, OnErr, IfOk, IfErr};
+ghost use Rattle.std.specs.Prelude.{◌≡◌, ◌≢◌, ◌⊎◌, ℕ, ℤ, pos, negsuc, ◌+◌, ◌-◌, ◌<◌, ◌≤◌, ◌^◌, [], ◌∷◌, length, map, None, OnOk, OnErr, IfOk, IfErr};
 ghost use Rattle.pgp_base.specs.Cause.{Wants, WantsMemory, Writes};
 ghost use Rattle.pgp_base.specs.Held.{◌⊕◌, IsFrontOf};
 ghost use Rattle.pgp_values.specs.DecimalSeen.{said};
-ghost use Rattle.pgp_values.specs.DecimalText.{decimal_at, run, leading, letter, sign_text, whole_digits, behind_point, fraction_digits, fraction_text, decimal_text, numeric_text};
+ghost use Rattle.pgp_values.specs.DecimalText.{decimal_at, run, letter, sign_text, whole_digits, behind_point, fraction_digits, text_digits, has_digit, shown_sign, fraction_text, decimal_text, numeric_text};
 
 use crate::decimal::{Decimal, decimal_in};
 use crate::numeric::Numeric;
@@ -19,22 +19,6 @@ fn decimal_at(d: &Decimal<'_>, place: usize) -> u16
     ensures small { result < 10 }
 {
     decimal_in(d.digit(place / 4), place % 4)
-}
-
-// How many of the first digit's four are zeros in front of it; the last is shown.
-fn leading(digit: u16) -> usize
-    ensures value { result ≡ leading digit }
-    ensures few { result < 4 }
-{
-    if digit < 10 {
-        3
-    } else if digit < 100 {
-        2
-    } else if digit < 1000 {
-        1
-    } else {
-        0
-    }
 }
 
 // Appends the letter of a decimal digit.
@@ -83,6 +67,20 @@ fn put_whole<B: Buffer>(d: &Decimal<'_>, out: &mut B) -> Result<(), Error>
     }
 }
 
+// The first place that is shown before the point: the first that isn't 0, or the last.
+fn first_place(d: &Decimal<'_>, last: usize) -> usize
+    ensures before { (i : ℕ) → i < result → decimal_at d.now.digits i ≡ 0 }
+    ensures inside { result ≤ last }
+    ensures some { (result ≡ last) ⊎ (decimal_at d.now.digits result ≢ 0) }
+{
+    for i in 0..last {
+        if decimal_at(d, i) != 0 {
+            return i;
+        }
+    }
+    last
+}
+
 // Appends what stands before the point, the first digit too. A refusal leaves what stood there as a front.
 fn put_before<B: Buffer>(d: &Decimal<'_>, k: usize, out: &mut B) -> Result<(), Error>
     requires { k < 2 ^ 15 }
@@ -90,8 +88,9 @@ fn put_before<B: Buffer>(d: &Decimal<'_>, k: usize, out: &mut B) -> Result<(), E
     ensures err { OnErr result (IsFrontOf (B.held out.old) (B.held out.new)) }
     ensures cause { IfErr result (WantsMemory (Wants B.Lacks (B.held out.old) (length (map letter (whole_digits (pos k) d.now.digits))))) }
 {
-    let from = leading(d.digit(0));
-    put_run(d, from, 4 * (k + 1) - from, out)
+    let last = 4 * k + 3;
+    let from = first_place(d, last);
+    put_run(d, from, last + 1 - from, out)
 }
 
 // The decimal digit of this index behind the point.
@@ -145,6 +144,69 @@ fn put_fraction<B: Buffer>(d: &Decimal<'_>, out: &mut B) -> Result<(), Error>
     Ok(())
 }
 
+// Whether one of the first places isn't 0.
+fn has_digit_to(d: &Decimal<'_>, count: usize) -> bool
+    ensures { result ≡ has_digit (run (decimal_at d.now.digits) 0 count) }
+{
+    for i in 0..count {
+        if decimal_at(d, i) != 0 {
+            return true;
+        }
+    }
+    false
+}
+
+// Whether a digit before the point isn't 0, where the first digit stands there.
+fn has_before(d: &Decimal<'_>, k: usize) -> bool
+    requires { k < 2 ^ 15 }
+    ensures { result ≡ has_digit (whole_digits (pos k) d.now.digits) }
+{
+    has_digit_to(d, 4 * (k + 1))
+}
+
+// Whether a digit before the point isn't 0.
+fn has_whole(d: &Decimal<'_>) -> bool
+    ensures { result ≡ has_digit (whole_digits d.now.weight d.now.digits) }
+{
+    match weight_of(d.weight()) {
+        Ok(k) => has_before(d, k),
+        Err(_) => false,
+    }
+}
+
+// Whether a digit behind the point isn't 0, of those that are shown.
+fn has_fraction(d: &Decimal<'_>) -> bool
+    ensures { result ≡ has_digit (fraction_digits d.now) }
+{
+    for i in 0..d.scale() as usize {
+        if behind_point(d, i) != 0 {
+            return true;
+        }
+    }
+    false
+}
+
+// Whether a digit that is shown isn't 0.
+fn shows_digit(d: &Decimal<'_>) -> bool
+    ensures { result ≡ has_digit (text_digits d.now) }
+{
+    if has_whole(d) {
+        return true;
+    }
+    has_fraction(d)
+}
+
+// Whether a minus is shown.
+fn shows_minus(d: &Decimal<'_>) -> bool
+    ensures { result ≡ shown_sign d.now }
+{
+    if d.is_negative() {
+        shows_digit(d)
+    } else {
+        false
+    }
+}
+
 // Appends the sign, if there is one.
 fn put_sign<B: Buffer>(negative: bool, out: &mut B) -> Result<(), Error>
     ensures ok { OnOk result (B.held out.new ≡ B.held out.old ⊕ sign_text negative) }
@@ -160,7 +222,7 @@ fn put_decimal<B: Buffer>(d: &Decimal<'_>, out: &mut B) -> Result<(), Error>
     ensures err { OnErr result (IsFrontOf (B.held out.old) (B.held out.new)) }
     ensures cause { IfErr result (WantsMemory (Wants B.Lacks (B.held out.old) (length (decimal_text d.now)))) }
 {
-    put_sign(d.is_negative(), out)?;
+    put_sign(shows_minus(d), out)?;
     put_whole(d, out)?;
     put_fraction(d, out)?;
     Ok(())
@@ -180,11 +242,12 @@ fn decimal_to_text<B: Buffer>(d: &Decimal<'_>, out: &mut B) -> Result<(), Error>
     }
 }
 
-/// Appends the text of a `numeric`, as a server writes it.
+/// Appends the text of a `numeric`, as a server shows it that has read it: places past the scale are cut off, and so are
+/// zeros in front.
 ///
 /// # Errors
 ///
-/// `OutOfMemory` where the buffer is refused memory. The buffer's bytes are then as they were.
+/// Returns `OutOfMemory` if the buffer can't grow; on error the buffer is unchanged.
 pub fn numeric_to_text<B: Buffer>(v: &Numeric<'_>, out: &mut B) -> Result<(), Error>
     ensures { Writes (numeric_text (said v.now)) None B.Lacks (B.held out.old) (B.held out.new) result }
 {

@@ -3,21 +3,25 @@
 //! PostgreSQL manual, "Text Search Types".
 #![tactic(auto, using(pgp_base::proofs::Parts::held_steps))]
 
-ghost use Rattle.std.specs.Prelude.{◌≡◌, ◌⊎◌, ◌++◌, ℕ, List, map, length, Some, None, OnOk, OnErr, IfErr};
+ghost use Rattle.std.specs.Prelude.{◌≡◌, ◌↔◌, ◌≤◌, ◌⊎◌, ◌++◌, ℕ, List, true, map, length, Some, None, OnOk, OnErr, IfOk, IfErr};
 ghost use Rattle.std.specs.Iterator.{IsFiniteIterable};
 ghost use Rattle.std.specs.List.{flat_map};
 ghost use Rattle.pgp_base.specs.Calls.{Came};
 ghost use Rattle.pgp_base.specs.Cause.{Wants, WantsMemory, count_cause};
 ghost use Rattle.pgp_base.specs.Held.{◌⊕◌, IsFrontOf};
 ghost use Rattle.pgp_base.specs.Wire.{uint16};
+ghost use Rattle.pgp_base.specs.PartReading.{Answers};
+ghost use Rattle.pgp_types.specs.Format.{Reads};
 ghost use Rattle.pgp_types.specs.Given.{WritesAll};
-ghost use Rattle.pgp_values.specs.Tsvector.{lexeme, tsvector, shown_lexeme};
+ghost use Rattle.pgp_values.specs.ListReading.{places_at, lexeme_at};
+ghost use Rattle.pgp_values.specs.Tsvector.{lexeme, tsvector, shown_lexeme, PlaceAt};
 
 use crate::decimal::digit_at;
 use crate::list::{PutItem, write_list};
 use pgp_base::reading::{text_at, uint16_at};
 use pgp_base::{Buffer, Counted, Error, FallibleIterator, put_u16, u16_from_usize, write_cstr};
 use pgp_types::part::natural_at;
+use std::marker::Model;
 
 // A lexeme and its places.
 impl<'a> PutItem for (&'a str, &'a [u16]) {
@@ -81,63 +85,105 @@ where
 }
 
 /// The places of a lexeme.
-#[derive(Debug, Clone, Copy)]
+#[derive(Drop)]
 pub struct TsPositions<'a>(&'a [u8]);
+
+impl<'a> Model for TsPositions<'a> {
+    ghost use Rattle.std.specs.Prelude.{ℕ, List};
+    ghost use Rattle.pgp_values.specs.DecimalReading.{pairs};
+
+    ghost Value = { List ℕ };
+
+    ghost view = { λ p. pairs p.0.now };
+}
 
 impl<'a> TsPositions<'a> {
     /// How many there are.
-    pub fn len(&self) -> usize {
+    pub fn len(&self) -> usize
+        ensures { result ≡ length self.now }
+    {
         self.0.len() / 2
     }
 
     /// Whether there are none.
-    pub fn is_empty(&self) -> bool {
-        self.0.len() < 2
+    pub fn is_empty(&self) -> bool
+        ensures { result ≡ true ↔ length self.now ≡ 0 }
+    {
+        self.len() == 0
     }
 
     /// The place of this index, its weight in the highest two bits: 0 for D to 3 for A.
-    pub fn get(&self, index: usize) -> Option<u16> {
-        if index >= self.0.len() / 2 {
+    pub fn get(&self, index: usize) -> Option<u16>
+        ensures { PlaceAt self.now index result }
+    {
+        if index >= self.len() {
             return None;
         }
         Some(digit_at(self.0, index))
     }
 }
 
-/// The lexemes of a `tsvector`, and the places of each.
+/// The lexemes of a `tsvector`, and the places of each. One is refused with `UnexpectedEof` where its end, the number of
+/// its places or a place is missing, and `NotUtf8` where it isn't text; bytes behind the last are `NotDrained`.
 #[derive(Drop)]
 pub struct Lexemes<'a>(Counted<'a>);
 
-impl<'a> Lexemes<'a> {
-    /// The next lexeme, or nothing at the end.
-    ///
-    /// # Errors
-    ///
-    /// `UnexpectedEof` where the lexeme's end, the number of its places or a place is missing, `NotUtf8` where it isn't text, and
-    /// `NotDrained` where bytes stand behind the last.
-    pub fn next(&mut self) -> Result<Option<(&'a str, TsPositions<'a>)>, Error> {
+impl<'a> Model for Lexemes<'a> {
+    ghost use Rattle.std.specs.Prelude.{ℕ, List};
+    ghost use Rattle.pgp_base.specs.CountedRest.{walk_of};
+    ghost use Rattle.pgp_base.specs.Walk.{Walk};
+    ghost use Rattle.pgp_values.specs.ListReading.{lexeme_at};
+
+    ghost Value = { Walk (List ℕ × List ℕ) };
+
+    ghost view = { λ walk. walk_of lexeme_at walk.0 };
+}
+
+impl<'a> FallibleIterator for Lexemes<'a> {
+    type Item = (&'a str, TsPositions<'a>);
+
+    ghost use Rattle.std.specs.Prelude.{ℕ, List};
+
+    ghost Meaning = { List ℕ × List ℕ };
+
+    ghost meaning = { λ x. (x.0.now, x.1) };
+
+    ghost walk = { λ s. s };
+
+    fn next(&mut self) -> Result<Option<(&'a str, TsPositions<'a>)>, Error> {
         match self.0.due()? {
             Some(buf) => self.0.take(lexeme_at(buf)),
             None => Ok(None),
         }
     }
 
-    /// How many lexemes were announced and not handed out yet.
-    pub fn size_hint(&self) -> (usize, Option<usize>) {
+    fn size_hint(&self) -> (usize, Option<usize>) {
         self.0.size_hint()
     }
 }
 
-// The lexeme at the front.
-fn lexeme_at(bytes: &[u8]) -> Result<((&str, TsPositions<'_>), &[u8]), Error> {
-    let (text, rest) = text_at(bytes)?;
-    let (count, rest) = uint16_at(rest)?;
-    let size = 2 * count as usize;
+// The places at the front.
+#[tactic(auto, unfolding(crate::specs::ListReading::places_at))]
+fn places_at(bytes: &[u8]) -> Result<(TsPositions<'_>, &[u8]), Error>
+    ensures { Answers (λ x. (x.0, x.1.now)) result (places_at bytes.now) }
+{
+    let (count, rest) = uint16_at(bytes)?;
+    let size = count as usize + count as usize;
     if rest.len() < size {
         return Err(Error::UnexpectedEof);
     }
     let (places, rest) = rest.split_at(size);
-    Ok(((text, TsPositions(places)), rest))
+    Ok((TsPositions(places), rest))
+}
+
+// The lexeme at the front.
+#[tactic(auto, unfolding(crate::specs::ListReading::lexeme_at))]
+fn lexeme_at(bytes: &[u8]) -> Result<((&str, TsPositions<'_>), &[u8]), Error>
+    ensures { Answers (λ x. ((x.0.0.now, x.0.1), x.1.now)) result (lexeme_at bytes.now) }
+{
+    let (text, rest) = text_at(bytes)?;
+    let (places, rest) = places_at(rest)?;
+    Ok(((text, places), rest))
 }
 
 /// Reads a `tsvector`. Its lexemes are read as they are asked for.
@@ -145,7 +191,10 @@ fn lexeme_at(bytes: &[u8]) -> Result<((&str, TsPositions<'_>), &[u8]), Error> {
 /// # Errors
 ///
 /// `UnexpectedEof` where the number of lexemes is cut short, and `InvalidCount` where it is negative.
-pub fn tsvector_from_sql(buf: &[u8]) -> Result<Lexemes<'_>, Error> {
+pub fn tsvector_from_sql(buf: &[u8]) -> Result<Lexemes<'_>, Error>
+    ensures value { Reads tsvector buf.now result }
+    ensures few { IfOk result (λ w. length w.items ≤ length buf.now) }
+{
     let (count, lexemes) = natural_at(buf, Error::InvalidCount)?;
     Ok(Lexemes(Counted::new(lexemes, count)))
 }

@@ -10,3 +10,4 @@ pub use pgp_auth::{authentication, escape, password};
 pub use pgp_base::{BindError, Error, FallibleIterator, IsNull, Lsn, Oid};
 pub use pgp_client as dialogue;
 pub use pgp_types as types;
+pub use pgp_values as values;

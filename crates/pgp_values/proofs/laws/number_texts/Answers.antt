@@ -1,0 +1,12 @@
+use Rattle.pgp_values.specs.DecimalText.{numeric_text}
+use Rattle.pgp_values.proofs.RoundLemmas.{one_meaning, kept_means}
+use Rattle.pgp_values.proofs.laws.number_texts.Goals as goal
+
+pub returns-clause-one : goal.returns-clause-one
+returns-clause-one c = one_meaning
+
+pub returns-clause-back : goal.returns-clause-back
+returns-clause-back c = kept_means
+
+pub returns-clause-round : goal.returns-clause-round
+returns-clause-round c v w kept means = one_meaning (numeric_text v) v w (kept_means v kept) means

@@ -1,0 +1,7 @@
+use Rattle.std.proofs.Common.{take}
+use Rattle.std.specs.List.{AllByRecursion}
+use Rattle.pgp_values.specs.NumberText.{IsDigit}
+use Rattle.pgp_values.proofs.scan.digits_at.Given as goal
+
+abbrev pub invariant-loop-i : goal.invariant-loop-i
+invariant-loop-i l = AllByRecursion IsDigit (take l.i l.bytes)

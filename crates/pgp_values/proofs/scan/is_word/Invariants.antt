@@ -1,0 +1,6 @@
+use Rattle.std.proofs.Common.{◌≡◌, map, take}
+use Rattle.pgp_values.specs.NumberText.{lower}
+use Rattle.pgp_values.proofs.scan.is_word.Given as goal
+
+abbrev pub invariant-loop-i : goal.invariant-loop-i
+invariant-loop-i l = map lower (take l.i l.bytes) ≡ take l.i l.word

@@ -1,0 +1,6 @@
+use Rattle.std.proofs.Common.{◌≡◌, ◌<◌, ℕ}
+use Rattle.pgp_values.specs.DecimalText.{decimal_at}
+use Rattle.pgp_values.proofs.show.has_digit_to.Given as goal
+
+abbrev pub invariant-loop-i : goal.invariant-loop-i
+invariant-loop-i l = (k : ℕ) → k < l.i → decimal_at l.d.digits k ≡ 0

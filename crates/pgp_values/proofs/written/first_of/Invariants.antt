@@ -1,0 +1,7 @@
+use Rattle.std.proofs.Common.{◌++◌, map}
+use Rattle.pgp_values.specs.DecimalWriting.{digit_value}
+use Rattle.pgp_values.specs.NumberGroups.{NoneTo}
+use Rattle.pgp_values.proofs.written.first_of.Given as goal
+
+abbrev pub invariant-loop-i : goal.invariant-loop-i
+invariant-loop-i l = NoneTo l.i (map digit_value (l.w.whole.now ++ l.w.fraction.now))
