@@ -25,7 +25,7 @@ use Rattle.pgp_auth.proofs.FirstTexts.{from_bind, fault_bind, expected-ok, ended
 use Rattle.pgp_auth.proofs.Patterns.{scan, scanned_begins, scanned_leaves}
 use Rattle.pgp_auth.proofs.Runs.{front_passes}
 
--- a run that was read stands behind its word
+-- a run that was read stands after its word
 record RunRead (want : List ℕ) (test : ℕ → Bool) (s t : List ℕ) : Type 0 where
   whole : s ≡ want ++ t
   chars : AllPass test t

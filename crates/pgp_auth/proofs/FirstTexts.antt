@@ -1,4 +1,4 @@
--- What `read_first` reads is a server's first text, and what it refuses has the fault that is named.
+-- What `read_first` reads is a server's first text, and what it rejects has the fault that is named.
 use Rattle.std.proofs.Common.{◌≡◌, ◌≢◌, ◌^◌, ◌==◌, nat_lt, ℕ, ◌-◌, ◌<◌, Bool, true, false, List, [], ◌∷◌, ◌++◌, length, codes, refl, sym, ap, ◌∙◌, arith, append-nil, cond, subst}
 use Rattle.std.proofs.lemmas.List.{take-append-drop}
 use Rattle.std.proofs.lemmas.Bool.{eqb-true, ltb-true}
@@ -21,7 +21,7 @@ pub from_bind : {A B E : Type 0} (P : Type 0) (r : Result A E) (f : A → Result
 from_bind P (Ok x) f y h k = k x refl h
 from_bind P (Err e) f y h k = cc
 
--- the first or the second step of a chain that is refused
+-- the first or the second step of a chain that is rejected
 pub fault_bind : {A B E : Type 0} (P : Type 0) (r : Result A E) (f : A → Result B E) (e : E) → (r >>= f) ≡ Err e
     → (r ≡ Err e → P) → ((x : A) → r ≡ Ok x → f x ≡ Err e → P) → P
 fault_bind P (Ok x) f e h k l = l x refl h

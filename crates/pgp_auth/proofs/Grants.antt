@@ -1,4 +1,4 @@
--- What a client grants meets its conditions, and what it doesn't is refused by the first cause.
+-- What a client grants meets its conditions, and what it doesn't is rejected by the first cause.
 use Rattle.std.proofs.Common.{◌≡◌, ◌≢◌, ℕ, zero, suc, ◌<◌, ◌≤◌, nat_le, nat_lt, nat_eq, ◌&&◌, Bool, true, false, cond, List, [], ◌∷◌, ◌++◌, length, drop, codes, get_or, refl, sym, subst, ◌∙◌, arith, inl, inr}
 use Rattle.std.specs.Prelude.{◌⊎◌}
 use Rattle.std.specs.List.{starts_with, AllPass, list_all}
@@ -214,7 +214,7 @@ meets_granted c m n s i g =
     let few : nat_le i 100000 ≡ true = grind (arith, nat_tests, g.few) in
     rw (u, read, begins, few, shown) refl
 
--- ---- a text that isn't granted is refused by its first cause
+-- ---- a text that isn't granted is rejected by its first cause
 
 utf8_no : (m : List ℕ) → is_utf8 m ≡ false → ¬ IsUtf8 m
 utf8_no m no_ text = true_is_not_false (sym (is_utf8-from_IsUtf8 m text) ∙ no_)

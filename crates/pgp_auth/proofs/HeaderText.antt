@@ -1,4 +1,4 @@
--- The base64 text of a GS2 header and that of the data behind it stand side by side: each header is a whole
+-- The base64 text of a GS2 header and that of the data after it stand side by side: each header is a whole
 -- number of groups of three bytes.
 use Rattle.std.proofs.Common.{◌≡◌, ℕ, ◌+◌, ◌-◌, ◌*◌, ◌%◌, List, ◌++◌, length, replicate, refl, ◌∙◌, ap}
 use Rattle.std.proofs.Math.Nat.{mul-add-mod_self_left}

@@ -18,7 +18,7 @@ never_accepted serving between new first answer last signature yes_ h d =
     let made_up : h.challenge.is_mock ≡ true = h.opens.mock_is ∙ (sym (ap (λ (s : Serving). s.is_mock) one) ∙ yes_) in
     not_both h.challenge.is_mock made_up real
 
--- ---- a refusal is that of a server which has a verifier
+-- ---- an error is that of a server which has a verifier
 
 as_refused : (c : Challenge) (text stored server : List ℕ) (e : ServerError) → ShowsNoProof c text stored → RefusesProof c text e → RefusesProof (as_known c stored server) text e
 as_refused c text stored server _ none (other_exchange front auth x no_) = other_exchange front auth x no_

@@ -1,4 +1,4 @@
--- A server's text is refused for one cause, and a server makes one signature.
+-- A server's text is rejected for one cause, and a server makes one signature.
 use Rattle.std.proofs.Common.{◌≡◌, ◌≢◌, ◌==◌, ℕ, zero, suc, ◌<◌, Bool, true, false, cond, List, [], ◌∷◌, ◌++◌, length, codes, refl, sym, ap, ◌∙◌, arith, append-nil, inl, inr}
 use Rattle.std.specs.Str.{is_utf8, IsUtf8, IsAscii}
 use Rattle.std.proofs.lemmas.Str.{is_utf8-from_IsUtf8, IsUtf8-from_is_utf8, IsUtf8-from_ascii}
@@ -213,7 +213,7 @@ pub shows_not_other : (s signature : List ℕ) → Verifies signature s → Show
 shows_not_other s signature v o =
     o.differs (same_bytes o.bytes signature (outcome s) (shows_outcome s o.shown o.bytes o.text_is o.shows) (shows_outcome s v.shown signature v.text_is v.shows))
 
--- the text that shows the signature is refused for want of memory alone, where it is long
+-- the text that shows the signature is refused for lack of memory alone, where it is long
 long_final : (s shown far : List ℕ) → ServerFinal s shown → ServerFinal s far → 64 < length far → 64 < length shown
 long_final s shown far a b lt =
     let same : far ≡ shown = append_cancel_left (codes "v=") far shown (sym b.text_is ∙ a.text_is) in

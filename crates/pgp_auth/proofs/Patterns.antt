@@ -94,7 +94,7 @@ scan_same s runs rest e =
     let same : s ≡ record { runs = runs; rest = rest } = cc in
     (ap (λ (x : Scan). x.runs) same, ap (λ (x : Scan). x.rest) same)
 
--- the case of a scan behind a run
+-- the case of a scan after a run
 from_added : (P : Type 0) (front : List ℕ) (r : Result Scan (List ℕ)) (runs : List (List ℕ)) (rest : List ℕ) → add_run front r ≡ scan_of runs rest
     → ((s : Scan) → r ≡ Ok s → front ∷ s.runs ≡ runs → s.rest ≡ rest → P) → P
 from_added P front (Ok s) runs rest e k =

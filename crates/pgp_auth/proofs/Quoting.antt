@@ -52,7 +52,7 @@ doubled_run q s (suc at) (c ∷ z) lt none here = elim (cases_Bool (is_doubled q
 abbrev pub Found : ℕ → Bool → List ℕ → ℕ → Type 0
 Found q s z at = NoneBefore (Passes (is_doubled q s) z) 0 (length z) at × Passes (is_doubled q s) z at
 
--- a text may be cut behind it
+-- a text may be cut after it
 pub cut_behind : (q : ℕ) (s : Bool) (bytes z : List ℕ) (at : ℕ) → bytes ≡ z → q < 128 → IsUtf8 bytes → Found q s bytes at → IsCharBoundary z (at + 1)
 cut_behind q s bytes z at same low utf8 found =
     let here = rw same at found in

@@ -6,7 +6,7 @@ use Rattle.std.proofs.lemmas.List.Elements.{All-head, All-tail}
 use Rattle.std.specs.Prelude.{Option, Some, None, option_map, slice_get}
 use Rattle.pgp_auth.specs.Lexer.{Body, empty, join, two_quotes, two_slashes, itself, Quoted, Literal, plain, escape, NeedsNoEscape}
 
--- what a scan from behind the first quote finds: what was read, and what follows the last quote
+-- what a scan from after the first quote finds: what was read, and what follows the last quote
 put : ℕ → Option (List ℕ × List ℕ) → Option (List ℕ × List ℕ)
 put c r = option_map (λ p. (c ∷ p.0, p.1)) r
 

@@ -99,7 +99,7 @@ expects_of c front auth name chars bytes fits front_is auth_is = record {
   auth_is = auth_is;
 }
 
--- ---- what is refused isn't accepted
+-- ---- what is rejected isn't accepted
 
 same_bytes : (r : Result (List ℕ) DecodeError) (x y : List ℕ) → r ≡ Ok x → r ≡ Ok y → x ≡ y
 same_bytes r x y a b = cc

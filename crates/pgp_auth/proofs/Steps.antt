@@ -124,7 +124,7 @@ pub finish_refused : {A : Type 0} (lacks : Type 0) (r : Result (Unit {0}) (Scram
 finish_refused lacks (Ok u) old new text answered before due same over v = tt
 finish_refused lacks (Err e) old new text answered before due same over v = record { why = rw (due, ← same) v; over = over }
 
--- what the fields tell of the value
+-- what the fields report the value
 pub due_of : (old inside : Client) (x : State) → inside ≡ old → inside.state ≡ x → old.state ≡ x
 due_of old inside x same is = rw (← same) is
 

@@ -215,7 +215,7 @@ client_made p salt s k h d n a b c e = rw (a, b, c, e) refl
 pub server_made : (p salt s k h : List ℕ) (n : ℕ) → h ≡ mac k (codes "Server Key") → k ≡ salted p s n → s ≡ salt → h ≡ mac (salted p salt n) (codes "Server Key")
 server_made p salt s k h n b c e = rw (b, c, e) refl
 
--- what a comparison of the keys tells: how far each is from the password's
+-- what a comparison of the keys says: how far each is from the password's
 abbrev pub IsOf : Bool → Verifier → List ℕ → Type 0
 IsOf made_up v p = (made_up ≡ false) × (v ≡ verifier p v.salt v.count)
 

@@ -16,7 +16,7 @@ abbrev pub EndsRun : (ℕ → Bool) → List ℕ → Type 0
 EndsRun test [] = ⊤
 EndsRun test (c ∷ text) = test c ≡ false
 
--- the text begins with the parts: its runs there, each as long as it can be, and what stands behind
+-- the text begins with the parts: its runs there, each as long as it can be, and what stands after
 pub data Begins : List Part → List ℕ → List (List ℕ) → List ℕ → Type 0 where
   here : {rest : List ℕ} → Begins [] rest [] rest
   character : {c : ℕ} {parts : List Part} {text rest : List ℕ} {runs : List (List ℕ)}

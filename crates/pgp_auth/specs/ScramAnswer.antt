@@ -19,7 +19,7 @@ client_proof key auth = xor_bytes (client_key key) (mac (sha256 (client_key key)
 abbrev pub final_front : Begun → List ℕ → List ℕ
 final_front begun nonce = without_proof (gs2_header begun.binding) (binding_data begun.binding) nonce
 
--- what the client answers what was granted with, and the HMACs before and after
+-- what the client returns what was granted with, and the HMACs before and after
 pub record AnswersGranted (begun : Begun) (text : List ℕ) (g : Granted) (answered : Answered) (before after : ℕ) : Type 0 where
   pub key_is : answered.key ≡ salted begun.password g.salt g.count
   pub auth_is : answered.auth ≡ auth_message (first_bare begun.nonce) text (final_front begun g.nonce)

@@ -79,14 +79,14 @@ pub record MadeSome (client_nonce text : List ℕ) (before after : ℕ) : Type 0
   pub at_most : after ≤ before + (max count 1 + 2)
 
 -- why `update` refuses in a state, and the HMACs before and after it. It takes memory for the salt and what
--- comes behind it, so no cause gives way to want of memory but a salt that isn't base64.
+-- comes after it, so no cause gives way to lack of memory but a salt that isn't base64.
 abbrev pub UpdateRefuses : Type 0 → State → List ℕ → Refusal → ℕ → ℕ → Type 0
 UpdateRefuses lacks (AwaitsFirst begun) text e before after =
     (RefusesFirst begun.nonce text e × (after ≡ before)) ⊎ ((e ≡ OutOfMemory) × lacks × Admitted begun.nonce text × ((after ≡ before) ⊎ MadeSome begun.nonce text before after))
 UpdateRefuses lacks (AwaitsFinal answered) text e before after = (e ≡ WrongState) × (after ≡ before)
 UpdateRefuses lacks Over text e before after = (e ≡ WrongState) × (after ≡ before)
 
--- a refused `update` ends the exchange
+-- a rejected `update` ends the exchange
 pub record UpdateRefused (lacks : Type 0) (old : Client) (text : List ℕ) (e : Refusal) (new : Client) : Type 0 where
   pub why : UpdateRefuses lacks old.state text e old.hmacs new.hmacs
   pub over : new.state ≡ Over
@@ -99,7 +99,7 @@ pub record Finished (old : Client) (text : List ℕ) (new : Client) : Type 0 whe
   pub over : new.state ≡ Over
   pub hmacs : new.hmacs ≡ old.hmacs + 2
 
--- an `update` and a `finish` that were Ok, one behind the other
+-- an `update` and a `finish` that were Ok, one after the other
 pub record Completes (old : Client) (server_first server_final : List ℕ) (new : Client) : Type 0 where
   pub between : Client
   pub answers : Answers old server_first between
@@ -111,7 +111,7 @@ pub data TakesMemory (text : List ℕ) : Type 0 where
   long : {shown : List ℕ} → ServerFinal text shown → 64 < length shown → TakesMemory text
 
 -- why `finish` refuses a text in the place of this signature, and the HMACs before and after it. `lacks` says
--- that a growth was refused.
+-- that an allocation failed.
 abbrev pub NotVerified : Type 0 → List ℕ → List ℕ → Refusal → ℕ → ℕ → Type 0
 NotVerified lacks signature text e before after =
     (RefusesFinal text e × (after ≡ before))
@@ -127,7 +127,7 @@ FinishRefuses lacks (AwaitsFinal answered) text e before after = NotVerified lac
 FinishRefuses lacks (AwaitsFirst begun) text e before after = (e ≡ WrongState) × (after ≡ before)
 FinishRefuses lacks Over text e before after = (e ≡ WrongState) × (after ≡ before)
 
--- a refused `finish` ends the exchange
+-- a rejected `finish` ends the exchange
 pub record FinishRefused (lacks : Type 0) (old : Client) (text : List ℕ) (e : Refusal) (new : Client) : Type 0 where
   pub why : FinishRefuses lacks old.state text e old.hmacs new.hmacs
   pub over : new.state ≡ Over

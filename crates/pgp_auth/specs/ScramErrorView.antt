@@ -1,4 +1,4 @@
--- The code's refusals as those of the definitions.
+-- The code's errors as those of the definitions.
 use Rattle.std.specs.Prelude.{ℕ, [], string_bytes}
 use Rattle.pgp_auth.specs.declared.scram.error.ScramError.{ScramError}
 use Rattle.pgp_auth.specs.declared.scram.error.ScramError.TheVariants as code
@@ -18,7 +18,7 @@ refusal code.InvalidBase64 = InvalidBase64
 refusal (code.Server reason) = Server (string_bytes reason)
 refusal code.Verification = Verification
 
--- the numbers of the refusals
+-- the numbers of the errors
 abbrev pub number_of : Refusal → ℕ
 number_of OutOfMemory = 1
 number_of WrongState = 2

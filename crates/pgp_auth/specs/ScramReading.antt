@@ -86,7 +86,7 @@ grant_read client_nonce (Err f) = Err (refusal_of f)
 unfoldable pub grant : List ℕ → List ℕ → Result Granted Refusal
 grant client_nonce text = if is_utf8 text then grant_read client_nonce (read_first text) else Err NotUtf8
 
--- one run behind two characters, and nothing behind it
+-- one run after two characters, and nothing after it
 unfoldable pub read_run : List ℕ → (ℕ → Bool) → List ℕ → Result (List ℕ) Fault
 read_run want test s = do
   a ← expected (length s) want s

@@ -1,5 +1,5 @@
 -- Why a client refuses a server's text. The causes are in order: each stands with the conditions under
--- which none comes before it. Want of memory isn't one of them.
+-- which none comes before it. Lack of memory isn't one of them.
 use Rattle.std.specs.Prelude.{◌≡◌, ◌≢◌, ℕ, ◌-◌, ◌<◌, ◌≤◌, List, [], ◌∷◌, ◌++◌, length, codes}
 use Rattle.std.specs.List.{AllPass}
 use Rattle.std.specs.Str.{IsUtf8}
@@ -54,7 +54,7 @@ pub record Meets (client_nonce text nonce salt : List ℕ) (count : ℕ) : Type 
   pub few : count ≤ 100000
   pub shows : Shows salt_text salt
 
--- why a client with this nonce refuses a server's first text
+-- why a client with this nonce rejects a server's first text
 pub data RefusesFirst (client_nonce text : List ℕ) : Refusal → Type 0 where
   not_utf8 : ¬ IsUtf8 text → RefusesFirst client_nonce text NotUtf8
   other : {rest : List ℕ} → IsUtf8 text → Leaves server_first_parts text rest
@@ -90,7 +90,7 @@ pub data FinalForm : List ℕ → List Part → Type 0 where
   error : {text : List ℕ} → FinalForm (101 ∷ text) error_parts
   verifier : {text : List ℕ} → ((rest : List ℕ) → text ≢ 101 ∷ rest) → FinalForm text server_final_parts
 
--- why a client refuses a server's final text, whatever signature it awaits
+-- why a client rejects a server's final text, whatever signature it awaits
 pub data RefusesFinal (text : List ℕ) : Refusal → Type 0 where
   not_utf8 : ¬ IsUtf8 text → RefusesFinal text NotUtf8
   other : {parts : List Part} {rest : List ℕ} → IsUtf8 text → FinalForm text parts → Leaves parts text rest

@@ -90,7 +90,7 @@ pub record HasHeader (offer : Offer) (text : List ℕ) : Type 0 where
   pub taken : IsTaken offer binding
   pub text_is : text ≡ gs2_header binding ++ rest
 
--- Why a server that serves so refuses a client's first text. `lacks` says that a growth was refused: memory is wanted only for a text that opens.
+-- Why a server that serves so refuses a client's first text. `lacks` says that an allocation failed: memory is wanted only for a text that opens.
 abbrev pub NotOpened : Type 0 → Serving → List ℕ → ServerError → Type 0
 NotOpened lacks serving text e =
     ((e ≡ OutOfMemory) × lacks × ((c : Challenge) × Opens serving text c))
@@ -102,7 +102,7 @@ FirstRefuses lacks (AwaitsFirst serving) text e = NotOpened lacks serving text e
 FirstRefuses lacks (AwaitsFinal c) text e = e ≡ WrongState
 FirstRefuses lacks Over text e = e ≡ WrongState
 
--- a refused `first` ends the exchange
+-- a rejected `first` ends the exchange
 pub record FirstRefused (lacks : Type 0) (old : Server) (text : List ℕ) (e : ServerError) (new : Server) : Type 0 where
   pub why : FirstRefuses lacks old text e
   pub over : new ≡ Over
@@ -130,7 +130,7 @@ pub record Admits (old : Server) (text : List ℕ) (new : Server) (answer : List
 abbrev pub ExpectsOf : Challenge → List ℕ → List ℕ → Type 0
 ExpectsOf c front auth = Expects c.binding (first_of c) (answer_of c) front auth
 
--- why a client's final text is refused
+-- why a client's final text is rejected
 pub data RefusesProof (c : Challenge) (text : List ℕ) : ServerError → Type 0 where
   other_exchange : (front auth : List ℕ) → ExpectsOf c front auth → ((shown : List ℕ) → text ≢ with_proof front shown) → RefusesProof c text OtherExchange
   no_proof : (front auth shown : List ℕ) → ExpectsOf c front auth → text ≡ with_proof front shown
@@ -150,7 +150,7 @@ FinalRefuses (AwaitsFirst serving) text e = e ≡ WrongState
 FinalRefuses (AwaitsFinal c) text e = NotAdmitted c text e
 FinalRefuses Over text e = e ≡ WrongState
 
--- a refused `finish` ends the exchange
+-- a rejected `finish` ends the exchange
 pub record FinalRefused (old : Server) (text : List ℕ) (e : ServerError) (new : Server) : Type 0 where
   pub why : FinalRefuses old text e
   pub over : new ≡ Over

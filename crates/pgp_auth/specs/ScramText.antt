@@ -91,7 +91,7 @@ with_proof text proof_text = text ++ codes ",p=" ++ proof_text
 abbrev pub auth_message : List ℕ → List ℕ → List ℕ → List ℕ
 auth_message bare server_first final = bare ++ codes "," ++ server_first ++ codes "," ++ final
 
--- the number that digits name behind those that name n
+-- the number that digits name after those that name n
 unfoldable pub number_from : ℕ → List ℕ → ℕ
 number_from n [] = n
 number_from n (digit ∷ digits) = number_from (n * 10 + (digit - 48)) digits

@@ -16,7 +16,7 @@ pub record StoredParts : Type 0 where
 abbrev pub pieces_of : Pieces → StoredParts
 pieces_of p = record { count = p.count; salt = p.salt.now; stored = p.stored.now; server = p.server.now }
 
--- what stands behind the name, in a text of n bytes
+-- what stands after the name, in a text of n bytes
 unfoldable pub read_parts : ℕ → List ℕ → Result StoredParts Fault
 read_parts n a = do
   i ← count_of (front_of is_digit a)

@@ -14,7 +14,7 @@ pub mod sasl;
 ///
 /// # Errors
 ///
-/// `OutOfMemory` where memory for the text is refused.
+/// Returns `OutOfMemory` if memory for the text can't be allocated.
 pub fn md5_hash<A: Memory>(
     alloc: A,
     username: &[u8],

@@ -131,7 +131,7 @@ fn push_blocks<A: Memory>(out: &mut Vec<u8, A>, input: &[u8], form: Form) -> Res
     push_block(out, rest, form)
 }
 
-// The text with the input behind it as `push_doubled` appends it, by blocks.
+// The text with the input after it as `push_doubled` appends it, by blocks.
 fn with_blocks<A: Memory>(out: String<A>, input: &str, form: Form) -> Result<String<A>, Error>
     requires { form.quote < 128 }
     ensures ok { IfOk result (λ t. string_bytes t ≡ string_bytes out ++ doubled form.quote form.slashes input.now) }
@@ -189,12 +189,12 @@ fn quoted<A: Memory>(alloc: A, input: &str, form: Form) -> Result<String<A>, Err
 }
 
 /// The input as a string constant, between `'`. Where it has a backslash, the constant is of the form
-/// ` E'..'`, with a space in front, so that it may stand right behind a word. Either form is read as the
+/// ` E'..'`, with a space in front, so that it may stand right after a word. Either form is read as the
 /// input whatever `standard_conforming_strings` says (manual, 4.1.2.1 and 4.1.2.2).
 ///
 /// # Errors
 ///
-/// `OutOfMemory` where memory for the text is refused.
+/// Returns `OutOfMemory` if memory for the text can't be allocated.
 #[tactic(auto, using(crate::proofs::Quoting::escape_reads, crate::proofs::Quoting::plain_reads))]
 pub fn escape_literal<A: Memory>(alloc: A, input: &str) -> Result<String<A>, Error>
     ensures standard { IfOk result (λ t. Literal true (string_bytes t) input.now) }
@@ -208,12 +208,12 @@ pub fn escape_literal<A: Memory>(alloc: A, input: &str) -> Result<String<A>, Err
     }
 }
 
-/// The input as a quoted identifier, between `"`. A server refuses an empty identifier, and cuts one that
+/// The input as a quoted identifier, between `"`. A server rejects an empty identifier, and cuts one that
 /// is longer than its limit, which is 63 bytes by default (manual, 4.1.1).
 ///
 /// # Errors
 ///
-/// `OutOfMemory` where memory for the text is refused.
+/// Returns `OutOfMemory` if memory for the text can't be allocated.
 #[tactic(auto, using(crate::proofs::Quoting::identifier_reads))]
 pub fn escape_identifier<A: Memory>(alloc: A, input: &str) -> Result<String<A>, Error>
     ensures ok { IfOk result (λ t. Identifier (string_bytes t) input.now) }

@@ -24,7 +24,7 @@ use crate::authentication::sasl::{
 use pgp_base::Memory;
 
 /// What follows a string constant, unless it begins with a quote, changes neither where the constant
-/// ends nor what it is read as. (A quote right behind it would be read as a part of it.)
+/// ends nor what it is read as. (A quote right after it would be read as a part of it.)
 pub fn literal_ends_once()
     ensures { (on : Bool) (t u r s y x : List ℕ) → Literal on t y → Literal on u x →
         slice_get r 0 ≢ Some single_quote → slice_get s 0 ≢ Some single_quote → t ++ r ≡ u ++ s → (t ≡ u) × (y ≡ x) }
@@ -36,7 +36,7 @@ pub fn identifier_ends_once()
         slice_get r 0 ≢ Some double_quote → slice_get s 0 ≢ Some double_quote → t ++ r ≡ u ++ s → (t ≡ u) × (y ≡ x) }
 {}
 
-/// A text has one string constant of each form: what `escape_literal` answers is determined.
+/// A text has one string constant of each form: what `escape_literal` returns is determined.
 pub fn one_literal_of_each_form()
     ensures { (on : Bool) (t u z : List ℕ) → Literal on t z → Literal on u z → (IsPlain t ↔ IsPlain u) → t ≡ u }
 {}
@@ -87,7 +87,7 @@ pub fn numbers_differ()
 {}
 
 /// A server's first text either meets the client's conditions, with one nonce, one salt and one count,
-/// or has one cause of refusal.
+/// or has one cause of error.
 pub fn first_text_is_answered_in_one_way()
     ensures some { (client_nonce text : List ℕ) →
         ((nonce salt : List ℕ) × (count : ℕ) × Meets client_nonce text nonce salt count) ⊎ ((e : Refusal) × RefusesFirst client_nonce text e) }
@@ -97,7 +97,7 @@ pub fn first_text_is_answered_in_one_way()
     ensures admitted { (c text : List ℕ) (e : Refusal) → Admitted c text → RefusesFirst c text e → e ≡ InvalidBase64 }
 {}
 
-/// A server's final text shows the signature, shows other bytes, or has one cause of refusal.
+/// A server's final text shows the signature, shows other bytes, or has one cause of error.
 pub fn final_text_is_answered_in_one_way()
     ensures some { (text signature : List ℕ) → Verifies signature text ⊎ (ShowsOther signature text ⊎ ((e : Refusal) × RefusesFinal text e)) }
     ensures refused { (text : List ℕ) (d e : Refusal) → RefusesFinal text d → RefusesFinal text e → d ≡ e }
@@ -106,7 +106,7 @@ pub fn final_text_is_answered_in_one_way()
     ensures one { (text signature : List ℕ) → Verifies signature text → ¬ ShowsOther signature text }
 {}
 
-/// A text that shows the signature is refused for want of memory alone, and only where its base64 has
+/// A text that shows the signature is refused for lack of memory alone, and only where its base64 has
 /// more than 64 characters.
 pub fn signature_is_refused_for_memory_alone<A: Memory>()
     ensures { (text signature : List ℕ) (e : Refusal) (before after : ℕ) (v : Verifies signature text) →
@@ -137,9 +137,9 @@ pub fn mock_is_never_accepted()
         Challenges (AwaitsFirst serving) first between answer → ¬ Admits between last new signature }
 {}
 
-/// A client can't tell by the server's texts and refusals that a verifier is made up: the answer to its first text is that of a
-/// server which has a verifier of the same salt and count, and a final text that shows no proof of its key is refused by
-/// the same causes.
+/// A client can't tell by the server's texts and errors that a verifier is made up: the answer to its first text is that of a
+/// server which has a verifier of the same salt and count, and a final text that shows no proof of its key is rejected by the
+/// same causes.
 pub fn mock_is_told_alike()
     ensures answer { (c : Challenge) (stored_key server_key : List ℕ) → answer_of c ≡ answer_of (as_known c stored_key server_key) }
     ensures refusal { (c : Challenge) (text stored_key server_key : List ℕ) (e : ServerError) → c.is_mock ≡ true → ShowsNoProof c text stored_key →
@@ -147,7 +147,7 @@ pub fn mock_is_told_alike()
 {}
 
 /// Both ways: the server that holds the verifier of the client's password accepts the text that `update`
-/// makes, and `finish` accepts the text that this server answers, and can't refuse it.
+/// makes, and `finish` accepts the text that this server answers, and can't reject it.
 pub fn both_ways<A: Memory>()
     ensures { (old new : Client) (text signature : List ℕ) (a : Answers old text new) →
         Signs (verifier a.begun.password a.salt a.count) a.begun.binding (first_text a.begun) text signature →
@@ -161,7 +161,7 @@ pub fn both_ways<A: Memory>()
 ///
 /// # Errors
 ///
-/// `OutOfMemory` where `update` is refused memory.
+/// Returns `OutOfMemory` if `update` can't allocate.
 pub fn exchange<A: Memory>(
     client: &mut ScramSha256<A>,
     server_first: &[u8],
@@ -181,7 +181,7 @@ pub fn exchange<A: Memory>(
 ///
 /// # Errors
 ///
-/// `OutOfMemory` of either side.
+/// Returns `OutOfMemory` from either side.
 pub fn ends_meet<A: Memory>(
     client: &mut ScramSha256<A>,
     server: &mut ScramServer<A>,

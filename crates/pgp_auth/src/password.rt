@@ -32,8 +32,8 @@ const VERIFIER_LEN: usize = 133;
 ///
 /// # Errors
 ///
-/// `OutOfMemory` where memory for the text, or the mapping's own, is refused. The generator has given its
-/// 16 bytes then too.
+/// Returns `OutOfMemory` if memory for the text, or the mapping's own, can't be allocated. The generator
+/// has given its 16 bytes then too.
 pub fn scram_sha_256<A: Memory, P: SaslPrep, R: Rng>(
     alloc: A,
     password: &[u8],
@@ -55,7 +55,7 @@ pub fn scram_sha_256<A: Memory, P: SaslPrep, R: Rng>(
 ///
 /// # Errors
 ///
-/// `OutOfMemory` where memory for the text, or the mapping's own, is refused.
+/// Returns `OutOfMemory` if memory for the text, or the mapping's own, can't be allocated.
 pub fn scram_sha_256_salt<A: Memory, P: SaslPrep>(
     alloc: A,
     password: &[u8],
@@ -112,7 +112,7 @@ fn text_of<A: Memory>(
 ///
 /// # Errors
 ///
-/// `OutOfMemory` where memory for the text is refused.
+/// Returns `OutOfMemory` if memory for the text can't be allocated.
 pub fn md5<A: Memory>(alloc: A, password: &[u8], username: &str) -> Result<String<A>, Error>
     ensures ok { IfOk result (λ t. string_bytes t ≡ md5_verifier password.now username.now) }
     ensures memory { IfErr result (WantsMemory A.Lacks) }

@@ -14,7 +14,7 @@ IsBytes-after front after bytes e h i =
     let at : get_or after i 0 ≡ get_or bytes (length front + i) 0 = sym (ap (λ l. get_or l (length front + i) 0) e ∙ get_or-append-add front after i 0) in
     rw at (h (length front + i))
 
--- a refusal of an item is not that bytes are left
+-- an error of an item is not that bytes are left
 cut_end : {V : Type 0} (Spelled : ℕ → V → List ℕ → Type 0) (Refused : List ℕ → Error → Type 0) (n k place : ℕ) (rest : List ℕ) (e : Error)
     → e ≢ NotDrained → k < n → IsCut Spelled Refused place rest e → CountedEnd Spelled Refused n k place rest (Some e)
 cut_end Spelled Refused n k place rest NotDrained own lt cut = absurd (own refl)
@@ -72,7 +72,7 @@ pub differ : {A : Type 0} (x : A) (e : Error) → ok x ≡ Err e → ⊥
 differ x e h = absurd cc
 
 module _ {V : Type 0} (Spelled : ℕ → V → List ℕ → Type 0) (Refused : List ℕ → Error → Type 0) (read : ℕ → List ℕ → Result (V × List ℕ) Error) (reads : IsReader Spelled Refused read) where
-  -- a refusal of the reader is why no item stands there
+  -- an error of the reader is why no item stands there
   pub is_cut : (place : ℕ) (bytes : List ℕ) (e : Error) → IsBytes bytes → read place bytes ≡ Err e → IsCut Spelled Refused place bytes e
   is_cut place bytes e h r = record {
     none = λ x front after whole spelled. differ (x, after) e (sym (ap (read place) whole ∙ reads.again place x front after spelled) ∙ r);

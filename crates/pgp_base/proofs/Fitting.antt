@@ -12,7 +12,7 @@ use Rattle.pgp_base.specs.declared.error.Error.{Error}
 use Rattle.pgp_base.specs.declared.error.Error.TheVariants.{OutOfMemory}
 use Rattle.pgp_base.proofs.Needs.{wants_window}
 
--- what stands in a window behind a writer is within the caller's memory
+-- what stands in a window after a writer is within the caller's memory
 within : (old new : Window) (z : List ℕ) → window_held new ≡ window_held old ⊕ z → length (window_held old).bytes + length z ≤ (window_held old).kept.1
 unfolding lengthened
 within old new z e =

@@ -46,7 +46,7 @@ module _ {V : Type 0} (Spelled : ℕ → V → List ℕ → Type 0) (Refused : L
   drained_end place [] = none_there (Unmarked Spelled) Ended place (0 ∷ []) None refl
   drained_end place (b ∷ rest) = none_there (Unmarked Spelled) Ended place (0 ∷ b ∷ rest) (Some NotDrained) (b ∷ rest, refl, λ e. cc)
 
-  -- where no mark stands, an item or a refusal
+  -- where no mark stands, an item or an error
   unmarked_found : (total k place : ℕ) (bytes : List ℕ) → IsBytes bytes → place + length bytes ≡ total → ((more : List ℕ) → bytes ≢ 0 ∷ more)
       → ((place : ℕ) (after : List ℕ) → IsBytes after → place + length after ≡ total → length after < length bytes
       → Items (Unmarked Spelled) Ended place after (marked_run (left_of read total) k after).0 (marked_run (left_of read total) k after).1)

@@ -30,7 +30,7 @@ pub nullable_least : (v : Option (List ℕ)) → 4 ≤ length (nullable v)
 nullable_least None = omega (arith, ap length (int32_spelled (negsuc 0)), length-uint32 (cast_unsigned w32 (negsuc 0)))
 nullable_least (Some z) = omega (arith, sized_length z)
 
--- Refusals.
+-- Errors.
 
 pub if_err_map : {T E : Type 0} (r : Result T E) (P Q : E → Type 0) → ((e : E) → P e → Q e) → IfErr r P → IfErr r Q
 if_err_map (Ok x) P Q f p = tt
@@ -52,16 +52,16 @@ module _ {K : Type 0} {lacks : Held K → ℕ → Type 0} where
   refused_then a b p n m e C h k (inl w) = inl (memory_then a b p n m e h k w)
   refused_then a b p n m e C h k (inr c) = inr c
 
-  -- a writer hands on a refusal for want of memory
+  -- a writer hands on an error for lack of memory
   pub writes_memory : (r : Result (Unit {0}) Error) (x : Error) (p : List ℕ) (cause : Cause) (old new : Held K) → IsErr r → IsErrAnd r (λ e. e ≡ x) → WantsMemory (Wants lacks old (length p)) x → Leaves old new → Writes p cause lacks old new r
   writes_memory (Ok u) x p cause old new is h w l = let e : false ≡ true = is in cc
   writes_memory (Err e) x p cause old new is h w l = (inl (h ∙ w.0, w.1), l)
 
-  -- behind the length of bytes
+  -- after the length of bytes
   pub sized_wants : (z : List ℕ) (s : ℕ) (a b : Held K) → b ≡ a ⊕ uint32 s → Wants lacks b (length z) → Wants lacks a (length (nullable (Some z)))
   sized_wants z s a b h w = let size = sized_length z in wants_then a b (uint32 s) (length z) _ h (omega (arith, size, length-uint32 s)) w
 
-  -- behind a count's place, and the items before
+  -- after a count's place, and the items before
   pub counted_wants : {A : Type 0} (f : A → List ℕ) (xs : List A) (x : A) (old b : Held K) (n : ℕ) → b ≡ old ⊕ uint16 0 ⊕ flat_map f xs → n ≤ length (f x) → Wants lacks b n → Wants lacks old (length (counted f (xs ++ x ∷ [])))
   counted_wants f xs x old b n h k w =
       wants_then old b (uint16 0 ++ flat_map f xs) n _ (h ∙ more_twice old (uint16 0) (flat_map f xs))

@@ -29,7 +29,7 @@ pub null_spelled : uint32 4294967295 ≡ nullable None
 unfolding uint32 int32
 null_spelled = refl
 
--- Bytes behind what a buffer holds.
+-- Bytes after what a buffer holds.
 
 module _ {K : Type 0} where
   pub more_bytes : (h : Held K) (p : List ℕ) → (h ⊕ p).bytes ≡ h.bytes ++ p
@@ -121,7 +121,7 @@ module _ {K : Type 0} where
   pub front_left : (a b : Held K) → Leaves a b → IsFrontOf a b
   front_left a b e = record { more = []; bytes = e.bytes ∙ sym (append-nil a.bytes); kept = e.kept }
 
-  -- behind what was appended, a call was refused with more bytes
+  -- after what was appended, a call was rejected with more bytes
   pub front_refused : (a b d : Held K) (p q : List ℕ) → b ≡ a ⊕ p → (d.bytes ≡ b.bytes ++ q) × (d.kept ≡ b.kept) → IsFrontOf a d
   front_refused a b d p q e f = front_then a b d p e (record { more = q; bytes = f.0; kept = f.1 })
 
@@ -148,7 +148,7 @@ module _ {K : Type 0} {lacks : Held K → ℕ → Type 0} where
   pub wants_more : (a : Held K) (n m : ℕ) → n ≤ m → Wants lacks a n → Wants lacks a m
   wants_more a n m h w = record { here = w.here; more = w.more; front = w.front; within = omega (arith, h, w.within); refused = w.refused }
 
-  -- behind what was appended
+  -- after what was appended
   pub wants_then : (a b : Held K) (p : List ℕ) (n m : ℕ) → b ≡ a ⊕ p → length p + n ≤ m → Wants lacks b n → Wants lacks a m
   wants_then a b p n m e h w =
       let s : length b.bytes ≡ length a.bytes + length p = ap (λ h. length h.bytes) e ∙ (ap length (more_bytes a p) ∙ length-append a.bytes p) in
@@ -161,7 +161,7 @@ pub on_err : {T E : Type 0} (r : Result T E) (P : Type 0) → P → OnErr r P
 on_err (Ok x) P p = tt
 on_err (Err e) P p = p
 
--- a writer's refusal for want of memory
+-- a writer's error for lack of memory
 pub writes_out : {K : Type 0} (r : Result (Unit {0}) Error) (p : List ℕ) (cause : Cause) (lacks : Held K → ℕ → Type 0) (old new : Held K) → IsErr r → IsErrAnd r (λ e. e ≡ OutOfMemory) → Wants lacks old (length p) → Leaves old new → Writes p cause lacks old new r
 writes_out (Ok x) p cause lacks old new is h w l = let e : false ≡ true = is in cc
 writes_out (Err e) p cause lacks old new is h w l = (inl (h, w), l)
@@ -221,7 +221,7 @@ Runs-length makes spelling here f [] (w ∷ vs) t r = absurd r
 Runs-length makes spelling here f (y ∷ xs) [] t r = absurd r
 Runs-length makes spelling here f (y ∷ xs) (w ∷ vs) t r = ap suc (Runs-length makes spelling (here ⊕ spelling w) r.0 xs vs t r.2)
 
--- the bytes of a value, behind which nothing stands yet
+-- the bytes of a value, after which nothing stands yet
 pub none_sized : {K : Type 0} (a : Held K) (p : List ℕ) (b d : Held K) (base : ℕ) → b ≡ a ⊕ uint32 0 → d ≡ b ⊕ p → base ≡ length a.bytes → p ≡ [] → length d.bytes ≡ base + 4
 none_sized a p b d base e f h i = omega (arith, sized4 a p b d e f, ap length i)
 
@@ -242,7 +242,7 @@ pub null_again : (null : IsNull) (bytes : List ℕ) → null ≡ null_of (value_
 null_again Yes bytes = refl
 null_again No bytes = refl
 
--- a value whose bytes pass the length's field is refused
+-- a value whose bytes pass the length's field is rejected
 pub value_refused : {F T E B K : Type 0} (held : B → Held K) (step : F → T → MutBor B → Result IsNull E → MutBor B → F → Type 0) (lacks : Held K → ℕ → Type 0) (here b : Held K) (f : F) (x : T) (u : F) (e : Error) (null : IsNull) (p q : List ℕ)
     → null ≡ No → q ≡ p → length_cause (length q) ≡ Some e → b ≡ here ⊕ uint32 0 → Puts held step b f x (Ok null) p u → ValueRefused held step lacks here f x (Serialization e) u
 value_refused {K = K} held step lacks here b f x u e null p q n s c h put =
@@ -255,7 +255,7 @@ pub nullable_refused : {F E B K : Type 0} (held : B → Held K) (post : F → Mu
     → null ≡ No → q ≡ p → length_cause (length q) ≡ Some e → b ≡ old ⊕ uint32 0 → Appends held post b f (Ok null) p → NullableRefused held post lacks f old (Serialization e)
 nullable_refused held post lacks old b f e null p q n s c h put = value_refused held (once post) lacks old b f tt f e null p q n s c h put
 
--- a body whose bytes pass the length's field is refused
+-- a body whose bytes pass the length's field is rejected
 pub body_refused : {F E B K : Type 0} (held : B → Held K) (post : F → MutBor B → Result (Unit {0}) E → MutBor B → Type 0) (lacks : Held K → ℕ → Type 0) (old b : Held K) (f : F) (e : Error) (p : List ℕ) (n : ℕ)
     → n ≡ length p + 4 → length_cause n ≡ Some e → b ≡ old ⊕ uint32 0 → Appends held post b f (Ok tt) p → BodyRefused held post lacks f old (Serialization e)
 body_refused {K = K} held post lacks old b f e p n k c h put =

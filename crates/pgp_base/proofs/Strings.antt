@@ -28,7 +28,7 @@ with_first_some : (b : ℕ) (o : Option (List ℕ × List ℕ)) (x : List ℕ ×
 with_first_some b None x e = absurd cc
 with_first_some b (Some y) x e = (y, refl, some_is (b ∷ y.0, y.1) x e)
 
--- a string is a text with no 0, and a 0 behind it
+-- a string is a text with no 0, and a 0 after it
 pub record IsString (bytes text rest : List ℕ) : Type 0 where
   pub parts : bytes ≡ text ++ 0 ∷ rest
   pub no_zero : HasNoZero text

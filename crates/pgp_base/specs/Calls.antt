@@ -12,12 +12,12 @@ use Rattle.pgp_base.specs.declared.error.BindError.{BindError}
 use Rattle.pgp_base.specs.declared.error.BindError.TheVariants.{Conversion, Serialization}
 use denote.Ref.{MutBor}
 
--- what a closure may do to a buffer: append, and where it is refused use more of what stands behind the bytes
+-- what a closure may do to a buffer: append, and where it is refused use more of what stands after the bytes
 abbrev pub Keeps : {X E K : Type 0} → Result X E → Held K → Held K → Type 0
 Keeps (Ok x) old new = (p : List ℕ) × (new ≡ old ⊕ p)
 Keeps (Err e) old new = IsFrontOf old new
 
--- the same, and where it answers a null it appends nothing
+-- the same, and where it returns a null it appends nothing
 abbrev pub KeepsValue : {E K : Type 0} → Result IsNull E → Held K → Held K → Type 0
 KeepsValue (Ok Yes) old new = new ≡ old
 KeepsValue (Ok No) old new = (p : List ℕ) × (new ≡ old ⊕ p)
@@ -41,7 +41,7 @@ module _ {F T E B K : Type 0} (held : B → Held K) (pre : F → T → MutBor B 
   abbrev pub OwesValues : Type 0
   OwesValues = (f f' : F) (x : T) (b b' : MutBor B) (r : Result IsNull E) → pre f x b → step f x b r b' f' → KeepsValue r (held b.now) (held b'.now)
 
--- what a call did to a buffer: it appended p; or it was refused, with p behind the bytes that stood there
+-- what a call did to a buffer: it appended p; or it was refused, with p after the bytes that stood there
 abbrev pub Adds : {X E K : Type 0} → Result X E → List ℕ → Held K → Held K → Type 0
 Adds (Ok x) p old new = new ≡ old ⊕ p
 Adds (Err e) p old new = (new.bytes ≡ old.bytes ++ p) × (new.kept ≡ old.kept)
@@ -49,7 +49,7 @@ Adds (Err e) p old new = (new.bytes ≡ old.bytes ++ p) × (new.kept ≡ old.kep
 -- What a call of a closure did. `here` is what the buffer held at the call.
 
 module _ {F T X E B K : Type 0} (held : B → Held K) (step : F → T → MutBor B → Result X E → MutBor B → F → Type 0) where
-  -- a call of f at x answered r, put p behind that, and left f'
+  -- a call of f at x answered r, put p after that, and left f'
   pub record Puts (here : Held K) (f : F) (x : T) (r : Result X E) (p : List ℕ) (f' : F) : Type 0 where
     pub before : MutBor B
     pub after : MutBor B
@@ -62,7 +62,7 @@ abbrev pub once : {F B R : Type 0} → (F → B → R → B → Type 0) → F �
 once post f x b r b' f' = post f b r b'
 
 module _ {F X E B K : Type 0} (held : B → Held K) (post : F → MutBor B → Result X E → MutBor B → Type 0) where
-  -- its call answered r and put p behind `here`
+  -- its call answered r and put p after `here`
   abbrev pub Appends : Held K → F → Result X E → List ℕ → Type 0
   Appends here f r p = Puts held (once post) here f tt r p f
 
@@ -82,7 +82,7 @@ length_of Yes bytes = uint32 4294967295
 length_of No bytes = uint32 (length bytes)
 
 module _ {F T E B K : Type 0} (held : B → Held K) (step : F → T → MutBor B → Result IsNull E → MutBor B → F → Type 0) where
-  -- a call of f at x, behind the place of the value's length, gave the value v, and left f'
+  -- a call of f at x, after the place of the value's length, gave the value v, and left f'
   pub record Gives (here : Held K) (f : F) (x : T) (v : Option (List ℕ)) (f' : F) : Type 0 where
     pub null : IsNull
     pub bytes : List ℕ
@@ -90,18 +90,18 @@ module _ {F T E B K : Type 0} (held : B → Held K) (step : F → T → MutBor B
     pub value : v ≡ value_of null bytes
     pub fits : nullable_cause v ≡ None
 
-  -- Why the value of x was refused: the serializer refused, or its bytes pass the length's field. Or the four bytes
-  -- of its length don't fit, and it wasn't called.
+  -- Why the value of x was rejected: the serializer rejected, or its bytes pass the length's field. Or the four
+  -- bytes of its length don't fit, and it wasn't called.
   abbrev pub ValueRefused : (Held K → ℕ → Type 0) → Held K → F → T → BindError E → F → Type 0
   ValueRefused lacks here f x (Conversion e) f' = (p : List ℕ) × Puts held step (here ⊕ uint32 0) f x (Err e) p f'
   ValueRefused lacks here f x (Serialization e) f' = (WantsMemory (Wants lacks here 4) e × (f' ≡ f)) ⊎ ((p : List ℕ) × Puts held step (here ⊕ uint32 0) f x (Ok No) p f' × (length_cause (length p) ≡ Some e))
 
 module _ {F T E B K : Type 0} (held : B → Held K) (step : F → T → MutBor B → Result (Unit {0}) E → MutBor B → F → Type 0) where
-  -- a call of f at x succeeded with p behind that
+  -- a call of f at x succeeded with p after that
   abbrev pub Wrote : Held K → F → T → List ℕ → F → Type 0
   Wrote here f x p f' = Puts held step here f x (Ok tt) p f'
 
--- From f, and with `here` in the buffer, calls made each of vs of each of xs, in order, each behind
+-- From f, and with `here` in the buffer, calls made each of vs of each of xs, in order, each after
 -- the spellings of those before it, and left t.
 module _ {F T V K : Type 0} (makes : Held K → F → T → V → F → Type 0) (spelling : V → List ℕ) where
   abbrev pub Runs : Held K → F → List T → List V → F → Type 0
@@ -131,29 +131,30 @@ SoFar given xs = (xs ≡ []) ⊎ Asked given xs
 -- What the writers over closures come to. `old` is what the buffer held before the call.
 
 module _ {F E B K : Type 0} (held : B → Held K) (post : F → MutBor B → Result (Unit {0}) E → MutBor B → Type 0) where
-  -- the body that f wrote behind the place of its length
+  -- the body that f wrote after the place of its length
   pub record WritesBody (f : F) (old new : Held K) : Type 0 where
     pub body : List ℕ
     pub put : Appends held post (old ⊕ uint32 0) f (Ok tt) body
     pub fits : length_cause (length body + 4) ≡ None
     pub appended : new ≡ old ⊕ uint32 (length body + 4) ⊕ body
 
-  -- why a body was refused: f refused, or its bytes pass the length's field, or the four bytes of its length don't fit
+  -- why a body was rejected: f rejected, or its bytes pass the length's field, or the four bytes of its length don't
+  -- fit
   abbrev pub BodyRefused : (Held K → ℕ → Type 0) → F → Held K → BindError E → Type 0
   BodyRefused lacks f old (Conversion e) = (p : List ℕ) × Appends held post (old ⊕ uint32 0) f (Err e) p
   BodyRefused lacks f old (Serialization e) = WantsMemory (Wants lacks old 4) e ⊎ ((p : List ℕ) × Appends held post (old ⊕ uint32 0) f (Ok tt) p × (length_cause (length p + 4) ≡ Some e))
 
 module _ {F E B K : Type 0} (held : B → Held K) (post : F → MutBor B → Result IsNull E → MutBor B → Type 0) where
-  -- the value that f made behind the place of its length
+  -- the value that f made after the place of its length
   abbrev pub WritesValue : F → Held K → Held K → Type 0
   WritesValue f old new = (v : Option (List ℕ)) × Gives held (once post) old f tt v f × (new ≡ old ⊕ nullable v)
 
-  -- why it was refused
+  -- why it was rejected
   abbrev pub NullableRefused : (Held K → ℕ → Type 0) → F → Held K → BindError E → Type 0
   NullableRefused lacks f old e = ValueRefused held (once post) lacks old f tt e f
 
 module _ {F T E B K : Type 0} (held : B → Held K) (step : F → T → MutBor B → Result (Unit {0}) E → MutBor B → F → Type 0) {U S : Type 0} (into_iter_gives : U → S → Type 0) (next_gives : S → Option T → S → Type 0) where
-  -- the items that came, each written behind the place of the count and the items before it, which left `last`
+  -- the items that came, each written after the place of the count and the items before it, which left `last`
   pub record WritesCounted (source : U) (f last : F) (old new : Held K) : Type 0 where
     pub xs : List T
     pub came : Came into_iter_gives next_gives source xs None
@@ -162,8 +163,8 @@ module _ {F T E B K : Type 0} (held : B → Held K) (step : F → T → MutBor B
     pub fits : count_cause (length xs) ≡ None
     pub appended : new ≡ old ⊕ counted (λ p. p) parts
 
-  -- Behind items that were written, one came past the count's field, and the serializer wasn't called at
-  -- it; or the serializer refused one.
+  -- After items that were written, one came past the count's field, and the serializer wasn't called at
+  -- it; or the serializer rejected one.
   pub record CountedStops (source : U) (f last : F) (old : Held K) (e : BindError E) : Type 0 where
     pub xs : List T
     pub x : T
@@ -173,6 +174,7 @@ module _ {F T E B K : Type 0} (held : B → Held K) (step : F → T → MutBor B
     pub runs : Runs (Wrote held step) (λ p. p) (old ⊕ uint16 0) f xs parts at
     pub cause : ((length xs ≡ 65535) × (e ≡ Serialization TooLarge) × (last ≡ at)) ⊎ ((length xs < 65535) × ((p : List ℕ) × (why : E) × (e ≡ Conversion why) × Puts held step (old ⊕ uint16 0 ⊕ flat_map (λ p. p) parts) at x (Err why) p last))
 
-  -- why the items were refused: there; or the two bytes of the count don't fit, and the serializer wasn't called
+  -- why the items were rejected: there; or the two bytes of the count don't fit, and the serializer wasn't
+  -- called
   abbrev pub CountedRefused : (Held K → ℕ → Type 0) → U → F → F → Held K → BindError E → Type 0
   CountedRefused lacks source f last old e = ((e ≡ Serialization OutOfMemory) × Wants lacks old 2 × (last ≡ f)) ⊎ CountedStops source f last old e

@@ -5,7 +5,7 @@ use Rattle.pgp_base.specs.Held.{Held, ◌⊕◌, IsFrontOf, Leaves}
 use Rattle.pgp_base.specs.declared.error.Error.{Error}
 use Rattle.pgp_base.specs.declared.error.Error.TheVariants.{OutOfMemory, EmbeddedNull, TooLarge}
 
--- the refusal of what has no spelling; none where it has one
+-- the error of what has no spelling; none where it has one
 abbrev pub Cause : Type 0
 Cause = Option Error
 
@@ -36,12 +36,12 @@ abbrev pub nullable_cause : Option (List ℕ) → Cause
 nullable_cause None = None
 nullable_cause (Some bytes) = length_cause (length bytes)
 
--- a count past its field stands behind the last item that it can count
+-- a count past its field stands after the last item that it can count
 abbrev pub counted_cause : {A : Type 0} → (A → Cause) → List A → Cause
 counted_cause of xs = either (first (map of (take 65535 xs))) (count_cause (length xs))
 
--- `needed` bytes behind those of `old` met a refused growth: one by `more`, while the buffer held `here`, which is `old`
--- and more behind it, and both together take no more than they do. `lacks` is what a buffer's refusal says.
+-- `needed` bytes after those of `old` met a refused growth: one by `more`, while the buffer held `here`, which is `old`
+-- and more after it, and both together take no more than they do. `lacks` is what a buffer's error says.
 pub record Wants {Kept : Type 0} (lacks : Held Kept → ℕ → Type 0) (old : Held Kept) (needed : ℕ) : Type 0 where
   pub here : Held Kept
   pub more : ℕ
@@ -49,7 +49,7 @@ pub record Wants {Kept : Type 0} (lacks : Held Kept → ℕ → Type 0) (old : H
   pub within : length here.bytes + more ≤ length old.bytes + needed
   pub refused : lacks here more
 
--- the refusal for want of memory, which comes only where a growth was refused: `lacks` says which
+-- the error for lack of memory, which comes only where an allocation failed: `lacks` says which
 abbrev pub WantsMemory : Type 0 → Error → Type 0
 WantsMemory lacks e = (e ≡ OutOfMemory) × lacks
 

@@ -11,8 +11,8 @@ use Rattle.pgp_base.specs.WalkReading.{left_of}
 abbrev pub fresh : List ℕ → ℕ → Rest
 fresh bytes n = record { bytes = bytes; remaining = n; failed = None }
 
--- What a reader itself tells of its items: these bytes spell x where it reads x from them, whatever follows; and
--- it refuses bytes so, wherever they stand.
+-- What a reader itself reports its items: these bytes spell x where it reads x from them, whatever follows; and
+-- it rejects bytes so, wherever they stand.
 abbrev pub SpelledFor : {V : Type 0} → (ℕ → List ℕ → Result (V × List ℕ) Error) → ℕ → V → List ℕ → Type 0
 SpelledFor read place x front = (after : List ℕ) → read place (front ++ after) ≡ Ok (x, after)
 

@@ -10,7 +10,7 @@ pub record StandsAt {V : Type 0} (Spelled : ℕ → V → List ℕ → Type 0) (
   pub whole : bytes ≡ front ++ after
   pub spelled : Spelled place x front
 
--- A reader and a grammar are the same: what is read is spelled so, and what is spelled so is read; likewise each refusal.
+-- A reader and a grammar are the same: what is read is spelled so, and what is spelled so is read; likewise each error.
 pub record IsReader {V : Type 0} (Spelled : ℕ → V → List ℕ → Type 0) (Refused : List ℕ → Error → Type 0) (read : ℕ → List ℕ → Result (V × List ℕ) Error) : Type 0 where
   pub found : (place : ℕ) (bytes : List ℕ) (x : V) (after : List ℕ) → IsBytes bytes → read place bytes ≡ Ok (x, after) → StandsAt Spelled place bytes x after
   pub again : (place : ℕ) (x : V) (front after : List ℕ) → Spelled place x front → read place (front ++ after) ≡ Ok (x, after)

@@ -16,7 +16,7 @@ abbrev pub Gives : {X Y : Type 0} → (X → Y) → Result X Error → Option Y 
 Gives view (Ok x) read = read ≡ Some (view x)
 Gives view (Err e) read = (e ≡ UnexpectedEof) × (read ≡ None)
 
--- likewise where reading tells its refusals
+-- likewise where reading says its errors
 abbrev pub Answers : {X Y : Type 0} → (X → Y) → Result X Error → Result Y Error → Type 0
 Answers view (Ok x) read = read ≡ Ok (view x)
 Answers view (Err e) read = read ≡ Err e

@@ -10,7 +10,7 @@ use Rattle.pgp_base.specs.Wire.{IsBytes, HasNoZero, text}
 abbrev pub BeginsNoOther : {A : Type 0} → (A → Type 0) → (A → List ℕ) → Type 0
 BeginsNoOther {A} Has spelling = (x y : A) (more rest : List ℕ) → Has x → Has y → spelling x ++ more ≡ spelling y ++ rest → (x ≡ y) × (more ≡ rest)
 
--- A reader of a part gives what is spelled at the front of the bytes, and what is left behind that spelling;
+-- A reader of a part gives what is spelled at the front of the bytes, and what is left after that spelling;
 -- and nothing exactly where no spelling stands there.
 pub record ReadsSpelling {A : Type 0} (Has : A → Type 0) (spelling : A → List ℕ) (read : List ℕ → Option (A × List ℕ)) : Type 0 where
   pub found : (bytes : List ℕ) (x : A) (rest : List ℕ) → IsBytes bytes → read bytes ≡ Some (x, rest) → Has x × (bytes ≡ spelling x ++ rest)
@@ -22,7 +22,7 @@ pub record TextStands (bytes z rest : List ℕ) : Type 0 where
   pub has : text_cause z ≡ None
   pub whole : bytes ≡ text z ++ rest
 
--- A reader of UTF-8 texts gives a text that is UTF-8, refuses one that isn't, and finds the bytes cut short
+-- A reader of UTF-8 texts gives a text that is UTF-8, rejects one that isn't, and finds the bytes cut short
 -- exactly where they hold no 0.
 pub record ReadsTexts (read : List ℕ → Result (List ℕ × List ℕ) Error) : Type 0 where
   pub found : (bytes z rest : List ℕ) → read bytes ≡ Ok (z, rest) → TextStands bytes z rest × IsUtf8 z

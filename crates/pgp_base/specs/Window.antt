@@ -8,7 +8,7 @@ use Rattle.pgp_base.specs.declared.window.Window.{Window}
 abbrev pub place : MutBor (List ℕ) → GName × ℕ
 place room = (room.ghost_name, length room.now)
 
--- the bytes are the first of the caller's, and the others stand behind them
+-- the bytes are the first of the caller's, and the others stand after them
 abbrev pub window_held : Window → Held (GName × ℕ)
 window_held w = record { bytes = take w.len w.room.now; behind = drop w.len w.room.now; kept = place w.room }
 

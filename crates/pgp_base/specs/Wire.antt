@@ -30,7 +30,7 @@ oid n = uint32 n
 
 -- Parts of messages.
 
--- a text, which has no 0 byte, and a 0 byte behind it
+-- a text, which has no 0 byte, and a 0 byte after it
 abbrev pub text : List ℕ → List ℕ
 text z = z ++ 0 ∷ []
 

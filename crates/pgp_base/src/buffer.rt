@@ -12,7 +12,7 @@ pub trait Buffer {
     /// What no call changes, as whose memory the bytes stand in.
     ghost Kept: { Type 0 };
 
-    /// The bytes that it holds, what stands behind them, and what no call changes.
+    /// The bytes that it holds, what stands after them, and what no call changes.
     ghost held: { Self → Held Kept };
 
     /// A growth by so many bytes was refused while the buffer held that.
@@ -31,7 +31,7 @@ pub trait Buffer {
     ///
     /// # Errors
     ///
-    /// `AllocError` where there is no memory for them.
+    /// Returns `AllocError` if the allocation fails.
     fn reserve(&mut self, additional: usize) -> Result<(), AllocError>
         ensures same { held self.new ≡ held self.old }
         ensures lacks { OnErr result (Lacks (held self.old) additional) };
@@ -40,7 +40,7 @@ pub trait Buffer {
     ///
     /// # Errors
     ///
-    /// `AllocError` where there is no memory for it.
+    /// Returns `AllocError` if the allocation fails.
     fn append(&mut self, more: &[u8]) -> Result<(), AllocError>
         ensures ok { OnOk result (held self.new ≡ held self.old ⊕ more.now) }
         ensures err { OnErr result (held self.new ≡ held self.old) }
@@ -51,7 +51,7 @@ pub trait Buffer {
     ///
     /// # Errors
     ///
-    /// `AllocError` where there is no memory for it.
+    /// Returns `AllocError` if the allocation fails.
     fn append_from<T: Buf>(&mut self, more: &mut T) -> Result<(), AllocError>
         ensures ok { OnOk result (held self.new ≡ held self.old ⊕ T.unread more.old) }
         ensures drained { OnOk result (T.unread more.new ≡ []) }
@@ -59,18 +59,18 @@ pub trait Buffer {
         ensures kept { OnErr result (more.new ≡ more.old) }
         ensures lacks { OnErr result (Lacks (held self.old) (length (T.unread more.old))) };
 
-    /// Puts all of `more` at `place`, and what stood there behind it; or changes nothing.
+    /// Puts all of `more` at `place`, and what stood there after it; or changes nothing.
     ///
     /// # Errors
     ///
-    /// `AllocError` where there is no memory for it.
+    /// Returns `AllocError` if the allocation fails.
     fn insert(&mut self, place: usize, more: &[u8]) -> Result<(), AllocError>
         requires { place ≤ length (held self.old).bytes }
         ensures ok { OnOk result (held self.new ≡ inserted (held self.old) place more.now) }
         ensures err { OnErr result (held self.new ≡ held self.old) }
         ensures lacks { OnErr result (Lacks (held self.old) (length more.now)) };
 
-    /// Cuts what stands past `len`. In memory of the caller's it stands there still, behind the bytes.
+    /// Cuts what stands past `len`. In memory of the caller's it stands there still, after the bytes.
     fn truncate(&mut self, len: usize)
         ensures bytes { (held self.new).bytes ≡ take len (held self.old).bytes }
         ensures behind { StaysBehind len (held self.old) (held self.new) }
@@ -82,7 +82,7 @@ pub trait Buffer {
         ensures { held self.new ≡ overwritten (held self.old) place over.now };
 }
 
-// Moves the last `count` bytes to `place`, and those that stood there behind them.
+// Moves the last `count` bytes to `place`, and those that stood there after them.
 pub(crate) fn move_last(all: &mut [u8], place: usize, count: usize)
     requires { place + count ≤ length all.old }
     ensures { (front last : List ℕ) → all.old ≡ front ++ last → length last ≡ count → all.new ≡ take place front ++ last ++ drop place front }

@@ -1,4 +1,4 @@
-//! The refusals of all calls.
+//! The errors of all calls.
 
 ghost use Rattle.std.specs.Prelude.{◌≡◌};
 ghost use Rattle.pgp_base.specs.Error.{number_of};
@@ -6,13 +6,13 @@ ghost use Rattle.pgp_base.specs.Error.{number_of};
 use std::alloc::AllocError;
 use thiserror::Error as DeriveError;
 
-/// Why a call was refused.
+/// Why a call was rejected.
 #[derive(Debug, Clone, Copy, PartialEq, Eq, DeriveError)]
 pub enum Error {
-    /// A growth was refused memory.
+    /// An allocation failed.
     #[error("OutOfMemory")]
     OutOfMemory,
-    /// A text that is written with a 0 byte behind it has a 0 byte itself.
+    /// A text that is written with a 0 byte after it has a 0 byte itself.
     #[error("EmbeddedNull")]
     EmbeddedNull,
     /// A count or a length passes its field.
@@ -30,7 +30,7 @@ pub enum Error {
     /// A part is cut short, or a string has no 0 byte.
     #[error("UnexpectedEof")]
     UnexpectedEof,
-    /// Bytes stand behind a complete body, list or value.
+    /// Bytes stand after a complete body, list or value.
     #[error("NotDrained")]
     NotDrained,
     /// A text is not UTF-8.
@@ -51,7 +51,7 @@ pub enum Error {
     /// The length of a dimension is negative.
     #[error("InvalidDimension")]
     InvalidDimension,
-    /// The product of the dimensions passes the greatest `i32`.
+    /// The product of the dimensions exceeds `i32::MAX`.
     #[error("TooManyElements")]
     TooManyElements,
     /// The length of a bit string is negative.
@@ -72,8 +72,8 @@ pub enum Error {
 }
 
 impl Error {
-    /// The number of the refusal, from 1 to 20, in the order of the variants. It doesn't tell the
-    /// tag or the code that two of them carry.
+    /// The number of the error, from 1 to 20, in the order of the variants. It doesn't tell the tag
+    /// or the code that two of them carry.
     pub fn number(&self) -> u8
         ensures { result ≡ number_of self.now }
     {
@@ -112,12 +112,12 @@ impl From<AllocError> for Error {
     }
 }
 
-/// Why a call that asks a serializer was refused: by the serializer, or by the call itself.
+/// Why a call that asks a serializer was rejected: by the serializer, or by the call itself.
 #[derive(Debug, Clone, Copy, PartialEq, Eq, Drop)]
 pub enum BindError<E> {
-    /// The serializer's own refusal.
+    /// The serializer's own error.
     Conversion(E),
-    /// The call's refusal.
+    /// The call's error.
     Serialization(Error),
 }
 

@@ -20,7 +20,7 @@ ghost use Rattle.pgp_base.specs.Walk.{TakesFront, EndsStay, hint_of};
 
 use crate::walk::FallibleIterator;
 
-/// The numbers tell the variants apart.
+/// The numbers distinguish the variants.
 pub fn numbers_differ()
     ensures { (d e : Error) → number_of d ≡ number_of e → plain d ≡ plain e }
 {}
@@ -37,7 +37,7 @@ pub fn what_fits_is_written()
         → IfErr result (λ e. ((e ≡ Error.OutOfMemory) × window_lacks (window_held old) (length spelling)) ⊎ (cause ≡ Some e)) }
 {}
 
-/// A walk at its end gives the same answer for ever.
+/// An iterator at its end gives the same answer forever.
 pub fn ends_stay<W: FallibleIterator>()
     ensures { EndsStay W.meaning }
 {}
@@ -62,7 +62,7 @@ pub fn values_begin_no_other()
     ensures { BeginsNoOther (λ v. nullable_cause v ≡ None) nullable }
 {}
 
-/// A counted list ends behind its last item.
+/// A counted list ends after its last item.
 pub fn counted_lists_begin_no_other()
     ensures int16s { BeginsNoOther (λ zs. All (FitsSigned w16) zs × (count_cause (length zs) ≡ None)) (counted int16) }
     ensures oids { BeginsNoOther (λ ns. All (λ n. n < 2 ^ 32) ns × (count_cause (length ns) ≡ None)) (counted oid) }
@@ -82,8 +82,8 @@ pub fn parts_are_read_as_written()
     ensures no_marks { (bytes more : List ℕ) → is_marked bytes ≡ false → bytes ≢ 0 ∷ more }
 {}
 
-/// A `Counted` is the walk that the grammar of its items tells: it begins as the one over the whole buffer,
-/// and `due` with `take` behind it is one call of `next`.
+/// A `Counted` is the iterator that the grammar of its items describes: it begins as the one over the whole
+/// buffer, and `due` with `take` after it is one call of `next`.
 pub fn counted_walks_are_walked<T, V>()
     ensures begins { (read : ℕ → List ℕ → Result (V × List ℕ) Error) (n : ℕ) (buffer : List ℕ)
         → IsReader (SpelledFor read) (RefusedBy read) read → IsBytes buffer → BeginsWalk read n buffer }

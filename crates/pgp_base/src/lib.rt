@@ -1,5 +1,5 @@
-//! What every crate of the port stands on: refusals, numbers, the buffer that writers append to, the
-//! parts that readers take, and walks that may fail.
+//! What every crate of the port stands on: errors, numbers, the buffer that writers append to, the
+//! parts that readers take, and fallible iterators.
 #![tactic(auto)]
 
 pub mod big_endian;

@@ -17,17 +17,17 @@ use std::collections::VecDeque;
 use std::fmt::Display;
 use std::mem;
 
-/// An allocator, any of std's, that tells of its refusals: a call here does what the call of std does, and where it
-/// fails, a growth was refused.
+/// An allocator, any of std's, that reports its errors: a call here does what the call of std does, and where it
+/// fails, an allocation failed.
 pub trait Memory: Allocator + Copy {
-    /// A growth was refused to a collection over such an allocator.
+    /// An allocation failed in a collection over such an allocator.
     ghost Lacks: { Type 0 };
 
     /// An empty list with room for so many items, as `Vec::with_capacity` makes it.
     ///
     /// # Errors
     ///
-    /// `AllocError` where there is no memory for them.
+    /// Returns `AllocError` if the allocation fails.
     fn list_with_capacity<T>(self, capacity: usize) -> Result<Vec<T, Self>, AllocError>
         ensures items { IfOk result (λ v. v.items ≡ []) }
         ensures capacity { IfOk result (λ v. vec_capacity v ≡ capacity) }
@@ -38,7 +38,7 @@ pub trait Memory: Allocator + Copy {
     ///
     /// # Errors
     ///
-    /// `AllocError` where there is no memory for them.
+    /// Returns `AllocError` if the allocation fails.
     fn list_of<T: Copy>(self, items: &[T]) -> Result<Vec<T, Self>, AllocError>
         ensures items { IfOk result (λ v. v.items ≡ items.now) }
         ensures lacks { OnErr result Lacks };
@@ -47,7 +47,7 @@ pub trait Memory: Allocator + Copy {
     ///
     /// # Errors
     ///
-    /// `AllocFailed` where there is no memory for it.
+    /// Returns `AllocFailed` if the allocation fails.
     fn push<T>(list: &mut Vec<T, Self>, value: T) -> Result<(), AllocFailed<T>>
         ensures items { list.new.items ≡ (if is_ok result then list.old.items ++ value ∷ [] else list.old.items) }
         ensures value_returned { IfErr result (λ y. y.value ≡ value) }
@@ -59,7 +59,8 @@ pub trait Memory: Allocator + Copy {
     ///
     /// # Errors
     ///
-    /// `AllocFailed` if there is no memory for it; on error the queue is unchanged and the item comes back.
+    /// Returns `AllocFailed` if there is no memory for it; on error the queue is unchanged and the item
+    /// comes back.
     fn push_back<T>(queue: &mut VecDeque<T, Self>, value: T) -> Result<(), AllocFailed<T>>
         ensures items { queue.new.items ≡ (if is_ok result then queue.old.items ++ value ∷ [] else queue.old.items) }
         ensures value_returned { IfErr result (λ y. y.value ≡ value) }
@@ -71,7 +72,7 @@ pub trait Memory: Allocator + Copy {
     ///
     /// # Errors
     ///
-    /// `AllocError` where there is no memory for them.
+    /// Returns `AllocError` if the allocation fails.
     fn reserve<T>(list: &mut Vec<T, Self>, additional: usize) -> Result<(), AllocError>
         ensures items { list.new.items ≡ list.old.items }
         ensures len { vec_len list.new ≡ vec_len list.old }
@@ -84,7 +85,7 @@ pub trait Memory: Allocator + Copy {
     ///
     /// # Errors
     ///
-    /// `AllocError` where there is no memory for them.
+    /// Returns `AllocError` if the allocation fails.
     fn extend<T: Copy>(list: &mut Vec<T, Self>, more: &[T]) -> Result<(), AllocError>
         ensures items { list.new.items ≡ (if is_ok result then list.old.items ++ more.now else list.old.items) }
         ensures capacity { vec_capacity list.old ≤ vec_capacity list.new }
@@ -95,7 +96,7 @@ pub trait Memory: Allocator + Copy {
     ///
     /// # Errors
     ///
-    /// `AllocError` where there is no memory for them.
+    /// Returns `AllocError` if the allocation fails.
     fn list_filled(self, byte: u8, len: usize) -> Result<Vec<u8, Self>, AllocError>
         ensures items { IfOk result (λ v. v.items ≡ replicate len byte) }
         ensures len { IfOk result (λ v. vec_len v ≡ len) }
@@ -105,7 +106,7 @@ pub trait Memory: Allocator + Copy {
     ///
     /// # Errors
     ///
-    /// `AllocError` where there is no memory for them.
+    /// Returns `AllocError` if the allocation fails.
     fn resize(list: &mut Vec<u8, Self>, len: usize, byte: u8) -> Result<(), AllocError>
         ensures items { list.new.items ≡ (if is_ok result then take len list.old.items ++ replicate (len - vec_len list.old) byte else list.old.items) }
         ensures len { OnOk result (vec_len list.new ≡ len) }
@@ -115,7 +116,7 @@ pub trait Memory: Allocator + Copy {
     ///
     /// # Errors
     ///
-    /// `AllocError` where there is no memory for them.
+    /// Returns `AllocError` if the allocation fails.
     fn text_with_capacity(self, capacity: usize) -> Result<String<Self>, AllocError>
         ensures bytes { IfOk result (λ t. string_bytes t ≡ []) }
         ensures lacks { OnErr result Lacks };
@@ -124,7 +125,7 @@ pub trait Memory: Allocator + Copy {
     ///
     /// # Errors
     ///
-    /// `AllocError` where there is no memory for it.
+    /// Returns `AllocError` if the allocation fails.
     fn text_of(self, text: &str) -> Result<String<Self>, AllocError>
         ensures bytes { IfOk result (λ t. string_bytes t ≡ text.now) }
         ensures lacks { OnErr result Lacks };
@@ -133,7 +134,7 @@ pub trait Memory: Allocator + Copy {
     ///
     /// # Errors
     ///
-    /// `AllocError` where there is no memory for it.
+    /// Returns `AllocError` if the allocation fails.
     fn push_str(text: &mut String<Self>, more: &str) -> Result<(), AllocError>
         ensures bytes { string_bytes text.new ≡ (if is_ok result then string_bytes text.old ++ more.now else string_bytes text.old) }
         ensures lacks { OnErr result Lacks };
@@ -142,7 +143,7 @@ pub trait Memory: Allocator + Copy {
     ///
     /// # Errors
     ///
-    /// `AllocError` where there is no memory for it.
+    /// Returns `AllocError` if the allocation fails.
     fn push_char(text: &mut String<Self>, more: char) -> Result<(), AllocError>
         ensures bytes { string_bytes text.new ≡ (if is_ok result then string_bytes text.old ++ encode_utf8 more else string_bytes text.old) }
         ensures lacks { OnErr result Lacks };
@@ -151,7 +152,7 @@ pub trait Memory: Allocator + Copy {
     ///
     /// # Errors
     ///
-    /// `AllocError` where there is no memory for it.
+    /// Returns `AllocError` if the allocation fails.
     fn push_shown<D: Display + Drop>(text: &mut String<Self>, value: D) -> Result<(), AllocError>
         ensures bytes { OnOk result (AppendsText (string_bytes text.old) (string_bytes text.new) (D.output value)) }
         ensures lacks { OnErr result Lacks };
@@ -160,7 +161,7 @@ pub trait Memory: Allocator + Copy {
     ///
     /// # Errors
     ///
-    /// `AllocError` where there is no memory for them.
+    /// Returns `AllocError` if the allocation fails.
     fn hex_of(self, bytes: &[u8]) -> Result<String<Self>, AllocError>
         ensures ok { IfOk result (λ text. string_bytes text ≡ encode_lower bytes.now) }
         ensures lacks { OnErr result Lacks };
@@ -169,17 +170,17 @@ pub trait Memory: Allocator + Copy {
     ///
     /// # Errors
     ///
-    /// `AllocError` where there is no memory for it.
+    /// Returns `AllocError` if the allocation fails.
     fn push_base64(text: &mut String<Self>, bytes: &[u8]) -> Result<(), AllocError>
         ensures ok { OnOk result (string_bytes text.new ≡ string_bytes text.old ++ encode_of standard bytes.now) }
         ensures err { OnErr result (string_bytes text.new ≡ string_bytes text.old) }
         ensures lacks { OnErr result Lacks };
 
-    /// The bytes that a base64 text shows, as `decode` of base64's `STANDARD` answers them.
+    /// The bytes that a base64 text shows, as `decode` of base64's `STANDARD` returns them.
     ///
     /// # Errors
     ///
-    /// Those of `decode`; `OutOfMemory` where there is no memory for the bytes.
+    /// Those of `decode`; `OutOfMemory` if there is no memory for the bytes.
     fn base64_shown(self, text: &[u8]) -> Result<Vec<u8, Self>, DecodeAllocError>
         ensures ok { IfOk result (λ v. decode_of standard text.now ≡ Ok v.items) }
         ensures err { IfErr result (λ e. IsDecodeFailure standard text.now e) }
@@ -189,7 +190,7 @@ pub trait Memory: Allocator + Copy {
     ///
     /// # Errors
     ///
-    /// `AllocError` where there is no memory for it.
+    /// Returns `AllocError` if the allocation fails.
     fn shared_of(self, bytes: &[u8]) -> Result<Bytes<Self>, AllocError>
         ensures ok { IfOk result (λ b. b ≡ bytes.now) }
         ensures lacks { OnErr result Lacks };
@@ -198,7 +199,8 @@ pub trait Memory: Allocator + Copy {
     ///
     /// # Errors
     ///
-    /// `AllocError` where there is no memory for the count of owners. The list keeps its bytes then.
+    /// Returns `AllocError` if there is no memory for the count of owners. The list keeps its bytes
+    /// then.
     fn share(list: &mut Vec<u8, Self>) -> Result<Bytes<Self>, AllocError>
         ensures ok { IfOk result (λ b. b ≡ list.old.items) }
         ensures taken { OnOk result (list.new.items ≡ []) }
@@ -209,7 +211,7 @@ pub trait Memory: Allocator + Copy {
     ///
     /// # Errors
     ///
-    /// `AllocError` where there is no memory for it.
+    /// Returns `AllocError` if the allocation fails.
     fn clone_shared(bytes: &Bytes<Self>) -> Result<Bytes<Self>, AllocError>
         ensures ok { IfOk result (λ b. b ≡ bytes.now) }
         ensures lacks { OnErr result Lacks };
@@ -218,7 +220,7 @@ pub trait Memory: Allocator + Copy {
     ///
     /// # Errors
     ///
-    /// `AllocError` where there is no memory for it.
+    /// Returns `AllocError` if the allocation fails.
     fn slice_shared(
         bytes: &Bytes<Self>,
         start: usize,
@@ -233,7 +235,7 @@ pub trait Memory: Allocator + Copy {
     ///
     /// # Errors
     ///
-    /// `AllocError` where there is no memory for their owners. The buffer stays as it is.
+    /// Returns `AllocError` if there is no memory for their owners. The buffer stays as it is.
     fn freeze_to(buf: &mut BytesMut<Self>, at: usize) -> Result<Bytes<Self>, AllocError>
         requires { at ≤ length buf.old.items }
         ensures front { IfOk result (λ b. b ≡ take at buf.old.items) }
@@ -245,7 +247,7 @@ pub trait Memory: Allocator + Copy {
     ///
     /// # Errors
     ///
-    /// `AllocError` where there is no memory for them.
+    /// Returns `AllocError` if the allocation fails.
     fn reserve_bytes(buf: &mut BytesMut<Self>, additional: usize) -> Result<(), AllocError>
         ensures items { buf.new.items ≡ buf.old.items }
         ensures lacks { OnErr result Lacks }
@@ -255,7 +257,7 @@ pub trait Memory: Allocator + Copy {
     ///
     /// # Errors
     ///
-    /// `AllocError` where there is no memory for them.
+    /// Returns `AllocError` if the allocation fails.
     fn append(buf: &mut BytesMut<Self>, more: &[u8]) -> Result<(), AllocError>
         ensures ok { OnOk result (buf.new.items ≡ buf.old.items ++ more.now) }
         ensures err { OnErr result (buf.new.items ≡ buf.old.items) }
@@ -266,7 +268,7 @@ pub trait Memory: Allocator + Copy {
     ///
     /// # Errors
     ///
-    /// `AllocError` where there is no memory for it.
+    /// Returns `AllocError` if the allocation fails.
     fn append_from<T: Buf>(buf: &mut BytesMut<Self>, more: &mut T) -> Result<(), AllocError>
         ensures ok { OnOk result (buf.new.items ≡ buf.old.items ++ T.unread more.old) }
         ensures drained { OnOk result (T.unread more.new ≡ []) }
@@ -276,7 +278,7 @@ pub trait Memory: Allocator + Copy {
         ensures some { OnErr result (0 < length (T.unread more.old)) };
 }
 
-/// Of its refusals nothing is said: any growth may be refused.
+/// Of its errors nothing is said: any growth may be refused.
 impl<A: Allocator + Copy> Memory for A {
     ghost Lacks = { Unit {0} };
 

@@ -23,7 +23,7 @@ pub fn is_marked(bytes: &[u8]) -> bool
 ///
 /// # Errors
 ///
-/// `UnexpectedEof` where no byte is left.
+/// Returns `UnexpectedEof` if no byte is left.
 pub fn byte_at(bytes: &[u8]) -> Result<(u8, &[u8]), Error>
     ensures { Gives (λ x. (x.0, x.1.now)) result (byte_at bytes.now) }
 {
@@ -37,7 +37,7 @@ pub fn byte_at(bytes: &[u8]) -> Result<(u8, &[u8]), Error>
 ///
 /// # Errors
 ///
-/// `UnexpectedEof` where fewer than two bytes are left.
+/// Returns `UnexpectedEof` if fewer than two bytes are left.
 pub fn uint16_at(bytes: &[u8]) -> Result<(u16, &[u8]), Error>
     ensures { Gives (λ x. (x.0, x.1.now)) result (uint16_at bytes.now) }
 {
@@ -51,7 +51,7 @@ pub fn uint16_at(bytes: &[u8]) -> Result<(u16, &[u8]), Error>
 ///
 /// # Errors
 ///
-/// `UnexpectedEof` where fewer than four bytes are left.
+/// Returns `UnexpectedEof` if fewer than four bytes are left.
 pub fn oid_at(bytes: &[u8]) -> Result<(u32, &[u8]), Error>
     ensures { Gives (λ x. (x.0, x.1.now)) result (oid_at bytes.now) }
 {
@@ -65,7 +65,7 @@ pub fn oid_at(bytes: &[u8]) -> Result<(u32, &[u8]), Error>
 ///
 /// # Errors
 ///
-/// `UnexpectedEof` where fewer than two bytes are left.
+/// Returns `UnexpectedEof` if fewer than two bytes are left.
 pub fn int16_at(bytes: &[u8]) -> Result<(i16, &[u8]), Error>
     ensures { Gives (λ x. (x.0, x.1.now)) result (int16_at bytes.now) }
 {
@@ -79,7 +79,7 @@ pub fn int16_at(bytes: &[u8]) -> Result<(i16, &[u8]), Error>
 ///
 /// # Errors
 ///
-/// `UnexpectedEof` where fewer than four bytes are left.
+/// Returns `UnexpectedEof` if fewer than four bytes are left.
 pub fn int32_at(bytes: &[u8]) -> Result<(i32, &[u8]), Error>
     ensures { Gives (λ x. (x.0, x.1.now)) result (int32_at bytes.now) }
 {
@@ -93,7 +93,7 @@ pub fn int32_at(bytes: &[u8]) -> Result<(i32, &[u8]), Error>
 ///
 /// # Errors
 ///
-/// `UnexpectedEof` where no byte 0 is left.
+/// Returns `UnexpectedEof` if no byte 0 is left.
 // The hint carries the speed of messages with short texts: else what is read goes through memory.
 #[inline(always)]
 pub fn string_at(bytes: &[u8]) -> Result<(&[u8], &[u8]), Error>
@@ -112,8 +112,8 @@ pub fn string_at(bytes: &[u8]) -> Result<(&[u8], &[u8]), Error>
 ///
 /// # Errors
 ///
-/// `UnexpectedEof` where no byte 0 is left, whatever the bytes are; else `NotUtf8` where those before the
-/// first 0 are not UTF-8.
+/// Returns `UnexpectedEof` if no byte 0 is left, whatever the bytes are; otherwise `NotUtf8` if those
+/// before the first 0 are not UTF-8.
 #[tactic(auto, unfolding(crate::specs::PartReading::text_at))]
 pub fn text_at(bytes: &[u8]) -> Result<(&str, &[u8]), Error>
     ensures { Answers (λ x. (x.0.now, x.1.now)) result (text_at bytes.now) }

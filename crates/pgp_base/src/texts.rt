@@ -10,7 +10,7 @@ use std::str;
 ///
 /// # Errors
 ///
-/// `NotUtf8` where they aren't UTF-8.
+/// Returns `NotUtf8` if they aren't UTF-8.
 #[inline(always)]
 pub fn text(bytes: &[u8]) -> Result<&str, Error>
     ensures { MatchResult result (λ text. (text.now ≡ bytes.now) × IsUtf8 bytes.now) (λ e. (e ≡ Error.NotUtf8) × ¬ IsUtf8 bytes.now) }

@@ -1,4 +1,4 @@
-//! Walks that may fail.
+//! Fallible iterators.
 
 ghost use Rattle.std.specs.Prelude.{◌≡◌, ℕ, List, Option, Result, map, IfOk, IfErr, ◌⊎◌};
 ghost use Rattle.pgp_base.specs.declared.error.Error.{Error};
@@ -7,7 +7,7 @@ ghost use Rattle.pgp_base.specs.Walk.{Walk, TakesFront, CollectsFrom, RefusesFro
 use crate::error::Error;
 use crate::memory::Memory;
 
-/// A walk over a list of items, which ends or is refused.
+/// An iterator over a list of items, which ends or fails.
 pub trait FallibleIterator {
     type Item;
 
@@ -16,15 +16,15 @@ pub trait FallibleIterator {
 
     ghost meaning: { Self.Item → Meaning };
 
-    /// The items that are left, and the end behind them.
+    /// The items that are left, and the end after them.
     ghost walk: { Self → Walk Meaning };
 
-    /// The next item, or nothing at the end. At the end the same answer comes for ever.
+    /// The next item, or nothing at the end. At the end the same answer comes forever.
     ///
     /// # Errors
     ///
-    /// Why the walk was refused, where its list ends so: an item is cut short or has another fault, or bytes
-    /// are left behind the last.
+    /// Why the iterator was rejected, where its list ends so: an item is cut short or has another fault, or
+    /// bytes are left after the last.
     fn next(&mut self) -> Result<Option<Self::Item>, Error>
         ensures { TakesFront meaning (walk self.old) result (walk self.new) };
 
@@ -36,7 +36,7 @@ pub trait FallibleIterator {
     ///
     /// # Errors
     ///
-    /// The walk's own refusal where its list ends with one, or `OutOfMemory` where a growth of the `Vec` was
+    /// The iterator's own error where its list ends with one, or `OutOfMemory` if a growth of the `Vec` was
     /// refused.
     final fn collect<A: Memory>(mut self, alloc: A) -> Result<Vec<Self::Item, A>, Error>
     where

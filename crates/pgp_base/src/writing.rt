@@ -1,4 +1,4 @@
-//! What every writer is made of: numbers, texts, and parts that stand behind a length or a count.
+//! What every writer is made of: numbers, texts, and parts that stand after a length or a count.
 //!
 //! A refused `write_` function leaves the buffer's bytes. A refused `put_` function, a step of a
 //! writer, leaves them as a front of what stands there then, and the writer cuts back.
@@ -21,7 +21,7 @@ use std::alloc::AllocError;
 ///
 /// # Errors
 ///
-/// `OutOfMemory` where a growth was refused.
+/// Returns `OutOfMemory` if the buffer can't grow.
 #[tactic(auto, using(crate::proofs::Parts::wants_now))]
 pub fn put_u8<B: Buffer>(buf: &mut B, n: u8) -> Result<(), Error>
     ensures ok { OnOk result (B.held buf.new ≡ B.held buf.old ⊕ n ∷ []) }
@@ -36,7 +36,7 @@ pub fn put_u8<B: Buffer>(buf: &mut B, n: u8) -> Result<(), Error>
 ///
 /// # Errors
 ///
-/// `OutOfMemory` where a growth was refused.
+/// Returns `OutOfMemory` if the buffer can't grow.
 #[tactic(auto, unfolding(crate::specs::Wire::uint16), using(crate::proofs::Parts::wants_now))]
 pub fn put_u16<B: Buffer>(buf: &mut B, n: u16) -> Result<(), Error>
     ensures ok { OnOk result (B.held buf.new ≡ B.held buf.old ⊕ uint16 n) }
@@ -51,7 +51,7 @@ pub fn put_u16<B: Buffer>(buf: &mut B, n: u16) -> Result<(), Error>
 ///
 /// # Errors
 ///
-/// `OutOfMemory` where a growth was refused.
+/// Returns `OutOfMemory` if the buffer can't grow.
 #[tactic(auto, unfolding(crate::specs::Wire::uint32), using(crate::proofs::Parts::wants_now))]
 pub fn put_u32<B: Buffer>(buf: &mut B, n: u32) -> Result<(), Error>
     ensures ok { OnOk result (B.held buf.new ≡ B.held buf.old ⊕ uint32 n) }
@@ -95,8 +95,8 @@ fn put_end<B: Buffer>(buf: &mut B) -> Result<(), AllocError>
 ///
 /// # Errors
 ///
-/// `EmbeddedNull` where the text has a 0 byte itself, and `OutOfMemory` where a growth was refused. The
-/// buffer keeps its bytes.
+/// Returns `EmbeddedNull` if the text has a 0 byte itself, and `OutOfMemory` if the buffer can't grow.
+/// On error the buffer is unchanged.
 // The hint carries the speed of messages with short texts.
 #[inline(always)]
 #[tactic(auto, using(crate::proofs::Causes::text_holds_zero))]
@@ -117,7 +117,7 @@ pub fn write_cstr<B: Buffer>(bytes: &[u8], buf: &mut B) -> Result<(), Error>
     }
 }
 
-// Calls `f`, and says what the call put behind the bytes that stood there.
+// Calls `f`, and says what the call put after the bytes that stood there.
 fn append_by<B: Buffer, X, E, F: FnOnce(&mut B) -> Result<X, E>>(f: F, buf: &mut B) -> Result<X, E>
     requires callable { F.IsAlwaysCallable f }
     requires keeps { KeepsFront B.held F.pre F.post f }
@@ -188,7 +188,7 @@ pub fn length_field(size: usize) -> Result<u32, Error>
 ///
 /// # Errors
 ///
-/// `TooLarge` where the length passes the greatest `i32`. The buffer is as it was.
+/// Returns `TooLarge` if the length exceeds `i32::MAX`. On error the buffer is unchanged.
 pub fn finish_body<B: Buffer>(buf: &mut B, base: usize) -> Result<(), Error>
     requires { base + 4 ≤ length (B.held buf.old).bytes }
     ensures ok { OnOk result (B.held buf.new
@@ -226,13 +226,12 @@ fn finish_value<B: Buffer>(buf: &mut B, base: usize, null: IsNull) -> Result<(),
     }
 }
 
-/// Appends the value that the serializer makes of `x`: its length and its bytes, or a null. It tells
-/// which.
+/// Appends the value that the serializer makes of `x`: its length and its bytes, or a null. It reports which.
 ///
 /// # Errors
 ///
-/// `Conversion` where the serializer refused. `Serialization` of `TooLarge` where its bytes pass the length's
-/// field, and of `OutOfMemory` where a growth was refused, and then it was not called. What the buffer
+/// Returns `Conversion` if the serializer failed. `Serialization` of `TooLarge` if its bytes pass the
+/// length's field, and of `OutOfMemory` if the buffer can't grow, and then it was not called. What the buffer
 /// held stays as a front.
 #[tactic(auto, using(crate::proofs::Parts::held_steps))]
 pub fn put_value<B: Buffer, T: Drop, E: Drop, F: FnMut(T, &mut B) -> Result<IsNull, E>>(
@@ -287,8 +286,8 @@ fn fill_body<B: Buffer, E: Drop, F: FnOnce(&mut B) -> Result<(), E>>(
 ///
 /// # Errors
 ///
-/// `Conversion` where `f` refused. `Serialization` of `TooLarge` where the length passes the greatest `i32`, and
-/// of `OutOfMemory` where a growth was refused. The buffer keeps its bytes.
+/// Returns `Conversion` if `f` failed. `Serialization` of `TooLarge` if the length exceeds `i32::MAX`, and of
+/// `OutOfMemory` if the buffer can't grow. On error the buffer is unchanged.
 #[tactic(auto, using(crate::proofs::Parts::held_steps))]
 pub fn write_body<B: Buffer, E: Drop, F: FnOnce(&mut B) -> Result<(), E>>(
     buf: &mut B,
@@ -334,13 +333,13 @@ fn fill_nullable<B: Buffer, E: Drop, F: FnOnce(&mut B) -> Result<IsNull, E>>(
     }
 }
 
-/// Appends a value that may be null: its length and the bytes that the serializer appends, or -1
-/// where it answers that the value is null.
+/// Appends a value that may be null: its length and the bytes that the serializer appends, or -1 where it
+/// returns that the value is null.
 ///
 /// # Errors
 ///
-/// `Conversion` where the serializer refused. `Serialization` of `TooLarge` where its bytes pass the greatest
-/// `i32`, and of `OutOfMemory` where a growth was refused. The buffer keeps its bytes.
+/// Returns `Conversion` if the serializer failed. `Serialization` of `TooLarge` if its bytes exceed
+/// `i32::MAX`, and of `OutOfMemory` if the buffer can't grow. On error the buffer is unchanged.
 #[tactic(auto, using(crate::proofs::Parts::held_steps))]
 pub fn write_nullable<B: Buffer, E: Drop, F: FnOnce(&mut B) -> Result<IsNull, E>>(
     serializer: F,
@@ -399,9 +398,9 @@ where
 ///
 /// # Errors
 ///
-/// `Conversion` where the serializer refused an item. `Serialization` of `TooLarge` at the item past 65,535, for
-/// which the serializer is not called, and of `OutOfMemory` where a growth was refused, before it was
-/// called at all. The buffer keeps its bytes.
+/// Returns `Conversion` if the serializer failed an item. `Serialization` of `TooLarge` at the item past 65,535,
+/// for which the serializer is not called, and of `OutOfMemory` if the buffer can't grow, before it was called
+/// at all. On error the buffer is unchanged.
 #[tactic(auto, using(crate::proofs::Parts::held_steps))]
 pub fn write_counted<
     B: Buffer,

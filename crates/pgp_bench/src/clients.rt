@@ -7,7 +7,7 @@ use pgp_frontend_read::{ClientError, ClientMessage, ClientMessages, PasswordKind
 ///
 /// # Errors
 ///
-/// The refusal of the first frame that holds no message, or of a length below 4.
+/// The error of the first frame that holds no message, or of a length below 4.
 #[inline(never)]
 pub(crate) fn read_client(bytes: &[u8]) -> Result<u64, Error> {
     let mut messages = ClientMessages::resume(bytes, true);

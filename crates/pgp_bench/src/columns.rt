@@ -11,7 +11,7 @@ const COLUMNS: usize = 8;
 ///
 /// # Errors
 ///
-/// The refusal of the first frame that holds no message or of the first row that can't be walked, or `OutOfMemory`.
+/// The error of the first frame that holds no message or of the first row that can't be walked, or `OutOfMemory`.
 #[inline(never)]
 pub(crate) fn by_index(alloc: Global, bytes: &[u8]) -> Result<u64, Error> {
     let mut messages = Messages::new(bytes);

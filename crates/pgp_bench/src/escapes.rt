@@ -8,7 +8,7 @@ use std::alloc::Global;
 ///
 /// # Errors
 ///
-/// `OutOfMemory` where memory for one of them is refused.
+/// Returns `OutOfMemory` if memory for one of them can't be allocated.
 #[inline(never)]
 pub(crate) fn literals(alloc: Global, text: &str, count: u32) -> Result<u64, Error> {
     let mut sum = 0u64;
@@ -22,7 +22,7 @@ pub(crate) fn literals(alloc: Global, text: &str, count: u32) -> Result<u64, Err
 ///
 /// # Errors
 ///
-/// `OutOfMemory` where memory for one of them is refused.
+/// Returns `OutOfMemory` if memory for one of them can't be allocated.
 #[inline(never)]
 pub(crate) fn identifiers(alloc: Global, text: &str, count: u32) -> Result<u64, Error> {
     let mut sum = 0u64;

@@ -69,7 +69,7 @@ fn unit(work: Work) -> &'static [u8] {
     }
 }
 
-// So many units, one behind another.
+// So many units, one after another.
 fn stream(alloc: Global, unit: &[u8], count: u32) -> Result<BytesMut, AllocError> {
     let mut all = BytesMut::new(alloc);
     for _round in 0..count {
@@ -92,7 +92,7 @@ impl Input {
     ///
     /// # Errors
     ///
-    /// `AllocError` where there is no memory for it.
+    /// Returns `AllocError` if the allocation fails.
     pub(crate) fn new(alloc: Global, work: Work, count: u32) -> Result<Input, AllocError> {
         let stream = stream(alloc, unit(work), count)?;
         let plain = long(alloc, "ab")?;

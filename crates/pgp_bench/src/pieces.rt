@@ -13,7 +13,7 @@ const PIECE: usize = 8192;
 ///
 /// # Errors
 ///
-/// `OutOfMemory`, or the first refusal that was taken.
+/// Returns `OutOfMemory`, or the first error that was taken.
 #[inline(never)]
 pub(crate) fn feed(alloc: Global, bytes: &[u8]) -> Result<u64, Error> {
     let mut parser = StreamParser::new(alloc);

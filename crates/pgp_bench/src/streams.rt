@@ -10,7 +10,7 @@ use std::ops::Range;
 ///
 /// # Errors
 ///
-/// The refusal of the first frame that holds no message, of a length below 4, or `OutOfMemory`.
+/// The error of the first frame that holds no message, of a length below 4, or `OutOfMemory`.
 #[inline(never)]
 pub(crate) fn read(buf: &mut BytesMut) -> Result<u64, Error> {
     let mut sum = 0u64;
@@ -101,7 +101,8 @@ fn weight_in_place(message: &Message<&[u8]>) -> u64 {
     }
 }
 
-/// The same of messages that are told in place, where none of them is a row or an error: another kind weighs 1.
+/// The same of messages that are reported in place, where none of them is a row or an error: another kind
+/// weighs 1.
 ///
 /// # Errors
 ///

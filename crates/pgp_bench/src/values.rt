@@ -20,7 +20,7 @@ fn int4(n: i32, buf: &mut BytesMut) -> Result<i32, Error> {
 ///
 /// # Errors
 ///
-/// `OutOfMemory` where the buffer can't grow.
+/// Returns `OutOfMemory` if the buffer can't grow.
 #[inline(never)]
 pub(crate) fn int4s(buf: &mut BytesMut, count: u32) -> Result<u64, Error> {
     let mut sum = 0u64;
@@ -34,7 +34,7 @@ pub(crate) fn int4s(buf: &mut BytesMut, count: u32) -> Result<u64, Error> {
 ///
 /// # Errors
 ///
-/// `OutOfMemory` where the buffer can't grow.
+/// Returns `OutOfMemory` if the buffer can't grow.
 #[inline(never)]
 pub(crate) fn inet4s(buf: &mut BytesMut, count: u32) -> Result<u64, Error> {
     inets(IpAddr::V4(Ipv4Addr::LOCALHOST), 32, buf, count)
@@ -44,7 +44,7 @@ pub(crate) fn inet4s(buf: &mut BytesMut, count: u32) -> Result<u64, Error> {
 ///
 /// # Errors
 ///
-/// `OutOfMemory` where the buffer can't grow.
+/// Returns `OutOfMemory` if the buffer can't grow.
 #[inline(never)]
 pub(crate) fn inet6s(buf: &mut BytesMut, count: u32) -> Result<u64, Error> {
     inets(IpAddr::V6(Ipv6Addr::LOCALHOST), 128, buf, count)
@@ -78,7 +78,7 @@ fn text_len(text: &str, buf: &mut BytesMut) -> Result<usize, Error> {
 ///
 /// # Errors
 ///
-/// `OutOfMemory` where the buffer can't grow.
+/// Returns `OutOfMemory` if the buffer can't grow.
 #[inline(never)]
 pub(crate) fn texts(input: &mut Input, count: u32) -> Result<u64, Error> {
     let Input { buf, short, .. } = input;

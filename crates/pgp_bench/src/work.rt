@@ -197,7 +197,7 @@ impl Work {
     }
 }
 
-/// Does the work as often as the count says, and answers a sum made of the answers, so that no work
+/// Does the work as often as the count says, and returns a sum made of the answers, so that no work
 /// can be left out.
 ///
 /// # Errors

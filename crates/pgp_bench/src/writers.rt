@@ -12,7 +12,7 @@ use pgp_types::int4_to_sql;
 /// How many messages stand in the buffer before it is cleared.
 const TOGETHER: u32 = 1000;
 
-/// Writes the message of this work again and again, and answers how many bytes that were, with those that stood in the
+/// Writes the message of this work again and again, and returns how many bytes that were, with those that stood in the
 /// buffer before.
 ///
 /// # Errors

@@ -155,7 +155,7 @@ module _ (p s : List ℕ) (fs : List ℤ) (ws : List (Option (List ℕ))) (rs : 
   results_caused ts e t h =
       parts_first m e (either_more (text_cause p) _ _ e (λ i. either_more (text_cause s) _ _ e (λ j. either_more (count_cause (length fs)) _ _ e (λ k. either_more (counted_cause nullable_cause ws) _ _ e (λ l. either_first (count_cause (length rs)) None e (count_more (length ts) (length rs) e t (last_cause (count_cause (length ts)) e l))) k) j) i) h)
 
-  -- a growth behind the values so far, for a value of the list
+  -- a growth after the values so far, for a value of the list
   value_wants : {K : Type 0} (lacks : Held K → ℕ → Type 0) (old b : Held K) (us : List (Option (List ℕ))) (z : List ℕ) (more : List (Option (List ℕ))) → ws ≡ us ++ Some z ∷ more → b ≡ before_values old p s fs ⊕ flat_map nullable us ⊕ uint32 0
       → lacks b (length z) → Wants lacks old (length (bytes_of m))
   value_wants lacks old b us z more are is l =

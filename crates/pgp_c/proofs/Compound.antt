@@ -125,7 +125,7 @@ begins_hstore bytes n end w (m, rest, b, walk) hint last =
     let left : rest_of bytes 4 end ≡ rest = rest_after b.front rest bytes 4 end b.whole size last in
     subst (λ k. Begins entry_count bytes k (rest_of bytes 4 end)) (sym told) (record { front = b.front; whole = b.whole ∙ ap (λ l. b.front ++ l) (sym left); spelled = b.spelled })
 
--- the bytes behind the number of bits
+-- the bytes after the number of bits
 pub bits_behind : (bytes : List ℕ) (v : Varbit) → VarbitReads bytes (Ok v) → VarbitReads bytes (Ok (record { len = v.len; bytes = drop 4 bytes }))
 bits_behind bytes v reads =
     let b = reads.0 in
@@ -133,7 +133,7 @@ bits_behind bytes v reads =
     let cut : drop 4 bytes ≡ v.bytes = ap (λ k. drop k bytes) (sym size) ∙ (ap (λ l. drop (length b.front) l) b.whole ∙ drop-append_seam b.front v.bytes) in
     subst (λ l. VarbitReads bytes (Ok (record { len = v.len; bytes = l }))) (sym cut) reads
 
--- the dimensions and the elements behind a head
+-- the dimensions and the elements after a head
 dimensions_length : (ds : List ArrayDimension) → length (flat_map dimension_bytes ds) ≡ 8 * length ds
 dimensions_length [] = refl
 dimensions_length (d ∷ ds) =
@@ -240,7 +240,7 @@ dimension_own bytes (inr (x, rest, b, cut)) = let e : NotDrained ≡ UnexpectedE
 pub dimension_reader : IsReader (λ place. dimension.Spelled) dimension.Refused (λ place. dimension_at)
 dimension_reader = part_reader (then_part (fixed_is int32_spelling) (fixed_is int32_spelling)) (λ x front s. omega (arith, ap length s.whole, length-append s.first s.second, ap length s.one.1, int32_number.len x.0)) dimension_own
 
--- a length that passes its field, and the number of that refusal
+-- a length that passes its field, and the number of that error
 abbrev code_of : Cause → ℕ
 code_of None = 0
 code_of (Some e) = number_of e

@@ -18,7 +18,7 @@ use Rattle.pgp_c.specs.Copying.{copy_head, SentHead, NoHead}
 use Rattle.pgp_c.specs.Values.{Wrote}
 use Rattle.pgp_c.proofs.Sending.{wrote}
 
--- any data of this length behind the head are the message of these data
+-- any data of this length after the head are the message of these data
 message : (len : ℕ) → len ≤ 2147483643 → (bytes : List ℕ) → length bytes ≡ len → (cause (CopyData bytes) ≡ None) × (bytes_of (CopyData bytes) ≡ copy_head len ++ bytes)
 message len few bytes size =
     let whole : bytes ++ [] ≡ bytes = append-nil bytes in
@@ -48,7 +48,7 @@ head_lacks len w old name new e code told memory code_is none =
     let empty : length (window_held w).bytes ≡ 0 = ap (λ (h : Held (GName × ℕ)). length h.bytes) new in
     record { length_is = none; why = inl (code_is ∙ ap number_of memory.0, omega (arith, long, room, empty)) }
 
--- a refusal behind the tag
+-- an error after the tag
 pub then_head : {K : Type 0} (lacks : Held K → ℕ → Type 0) (old mid : Held K) (r : Result (Unit {0}) Error) → mid ≡ old ⊕ (100 ∷ []) → IfErr r (WantsMemory (Wants lacks mid 4)) → IfErr r (WantsMemory (Wants lacks old 5))
 then_head lacks old mid (Ok done) e h = tt
 then_head lacks old mid (Err x) e h = memory_then old mid (100 ∷ []) 4 5 x e (omega arith) h

@@ -17,7 +17,7 @@ use Rattle.pgp_types.proofs.PartLemmas.{int32_pos, signed_fits}
 use Rattle.pgp_c.proofs.Putting.{either_large, value_large}
 use Rattle.pgp_c.specs.declared.listing.PgpValue.{PgpValue}
 
--- two parts, one behind the other
+-- two parts, one after the other
 pub then_more : {K : Type 0} (old h k : Held K) (p q : List ℕ) → h ≡ old ⊕ p → k ≡ h ⊕ q → k ≡ old ⊕ (p ++ q)
 then_more old h k p q e f = f ∙ (ap (λ x. x ⊕ q) e ∙ more_twice old p q)
 

@@ -21,14 +21,14 @@ use Rattle.pgp_c.specs.Sending.{Sent, Why}
 use Rattle.pgp_c.specs.Values.{Wrote}
 use Rattle.pgp_c.specs.Streams.{Extends, ExtendsByHead, free}
 
--- what a call was handed of the memory, and what lies behind that
+-- what a call was handed of the memory, and what lies after that
 pub parts_of : (s : PgpStream) → take (length s.room.now - s.len) (drop s.len s.room.now) ++ drop (length s.room.now - s.len) (drop s.len s.room.now) ≡ drop s.len s.room.now
 parts_of s = take-append-drop (length s.room.now - s.len) (drop s.len s.room.now)
 
 min_left : (a b : ℕ) → a ≤ b → min a b ≡ a
 min_left a b le = omega (arith, le)
 
--- bytes that were written behind what was to be sent
+-- bytes that were written after what was to be sent
 module _ (z : List ℕ) (old : PgpStream) (mid out post : List ℕ) (told n : ℕ) (room : MutBor (List ℕ)) (is : room.now ≡ take old.len old.room.now ++ (out ++ post)) (within : old.len ≤ length old.room.now) (wrote : Wrote z mid out told) (sum : n ≡ min (old.len + told) 18446744073709551615) (same : length out ≡ length old.room.now - old.len) (bound : length old.room.now < 2 ^ 63) (parts : mid ++ post ≡ drop old.len old.room.now) where
   fits : old.len + told ≤ 18446744073709551615
   fits = omega (arith, within, same, bound, wrote.length_is, ap length wrote.stands, length-append z (drop (length z) mid))
@@ -52,7 +52,7 @@ module _ (z : List ℕ) (old : PgpStream) (mid out post : List ℕ) (told n : �
   within_room : n ≤ length old.room.now
   within_room = omega (arith, len, within, same, wrote.fits, wrote.length_is, ap length wrote.stands, length-append z (drop (length z) mid), length-drop (length z) mid)
 
-  -- the memory behind what is to be sent is as it was
+  -- the memory after what is to be sent is as it was
   rest_out : drop told (out ++ post) ≡ drop told (drop old.len old.room.now)
   rest_out =
       ap (λ i. drop i (out ++ post)) wrote.length_is

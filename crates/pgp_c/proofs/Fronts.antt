@@ -1,4 +1,4 @@
--- The parts of a message stand where they are told to.
+-- The parts of a message stand where they are reported to.
 use Rattle.std.proofs.Common.{◌≡◌, ℕ, ℤ, pos, ◌+◌, ◌-◌, ◌≤◌, List, [], ◌∷◌, ◌++◌, length, take, drop, Option, Some, None, Result, Ok, Err, refl, sym, ap, ◌∙◌, subst, arith}
 use Rattle.std.specs.Prelude.{◌≢◌}
 use Rattle.std.proofs.Math.Seq.{take-append_seam, drop-append_seam}
@@ -25,7 +25,7 @@ module _ (bytes new : List ℕ) (f : Frame) (whole : bytes ≡ frame_bytes f ++ 
   unfolding uint32
   head_length = refl
 
-  -- what stands behind the header and the front of the payload
+  -- what stands after the header and the front of the payload
   behind : (front rest : List ℕ) (n : ℕ) → f.payload ≡ front ++ rest → n ≡ 5 + length front → drop n bytes ≡ rest ++ new
   behind front rest n pay at =
       let e : bytes ≡ (head ++ front) ++ (rest ++ new) =
@@ -96,11 +96,11 @@ module _ (bytes new : List ℕ) (f : Frame) (whole : bytes ≡ frame_bytes f ++ 
     unfolding uint16
     formats_fit format count b pay = behind_fits (format ∷ uint16 count) b 8 pay refl
 
-    -- the payload is the parts, with nothing behind them
+    -- the payload is the parts, with nothing after them
     alone : (m : Message) → f.payload ≡ payload_of m ++ [] → f.payload ≡ payload_of m
     alone m e = e ∙ append-nil (payload_of m)
 
-    -- what stands behind the code of a request
+    -- what stands after the code of a request
     detail : (code : ℕ) (b : List ℕ) → f.payload ≡ (int32 (pos code) ++ b) ++ [] → take (frame - 9) (drop 9 bytes) ≡ b
     detail code b e = last (int32 (pos code)) b 9 frame is (e ∙ append-nil (int32 (pos code) ++ b)) (ap (λ n. 5 + n) (sym (int32_number.len (pos code))))
 
@@ -193,7 +193,7 @@ inside bytes new (Authentication AuthenticationGss) frame is t = (omega arith, o
 inside bytes new (Authentication AuthenticationSspi) frame is t = (omega arith, omega arith)
 inside bytes new m frame is t = (omega arith, omega arith)
 
--- what is left is what stands behind the frame
+-- what is left is what stands after the frame
 left : (bytes new : List ℕ) → (e : Error) → TakesFrame bytes (Err e) new → drop (length bytes - length new) bytes ≡ new
 left bytes new e t =
     let count : length bytes - length new ≡ length (frame_bytes t.first) = omega (arith, ap length t.whole, length-append (frame_bytes t.first) new) in
@@ -214,7 +214,7 @@ rest_is bytes new (Err errors.InvalidLength) s = none_left bytes new s.1
 rest_is bytes new (Err errors.OutOfMemory) s = absurd s.1
 rest_is bytes new (Err e) s = left bytes new e s
 
--- the parts that are told
+-- the parts that are reported
 abbrev pub parts_told : List ℕ → ℕ → Result (Option Message) Error → PgpParts
 parts_told bytes frame (Ok (Some m)) = place m bytes frame
 parts_told bytes frame r = no_parts

@@ -14,7 +14,7 @@ use Rattle.pgp_message.proofs.TextLemmas.{text_reader}
 use Rattle.pgp_c.specs.Walks.{StandsFrom}
 use Rattle.pgp_c.proofs.Walks.{drop-drop}
 
--- a part of the bytes that stand from a place on stands behind what comes before it
+-- a part of the bytes that stand from a place on stands after what comes before it
 pub part_stands : (bytes rest before x more : List ℕ) (at : ℕ) → StandsFrom bytes at rest → rest ≡ before ++ (x ++ more) → take (length x) (drop (at + length before) bytes) ≡ x
 part_stands bytes rest before x more at stands parts =
     let tail = drop (length rest) (drop at bytes) in
@@ -58,7 +58,7 @@ error_value_fits rest x more each is =
     let s = error_field_reader.found 0 rest x more each is in
     omega (arith, ap length s.whole, length-append s.front more, ap length s.spelled.parts, length-append x.value (0 ∷ []))
 
--- a column's description: the name, and the numbers behind it
+-- a column's description: the name, and the numbers after it
 pub field_of_parts : (rest name behind : List ℕ) (r : Result (FieldPart × List ℕ) Error) → text_at rest ≡ Ok (name, behind) → numbers_at name behind ≡ r → field_at rest ≡ r
 unfolding field_at
 field_of_parts rest name behind r text numbers = rw text numbers

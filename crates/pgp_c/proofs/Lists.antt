@@ -20,7 +20,7 @@ keeps p lacks old new (Ok Yes) d = d.1
 keeps p lacks old new (Ok No) d = (p.bytes.now, d.1)
 keeps p lacks old new (Err e) d = front_same old new d.2
 
--- what stands behind the same bytes is the same
+-- what stands after the same bytes is the same
 same_more : {K : Type 0} (a b : Held K) (p q : List ℕ) → b ≡ a ⊕ p → b ≡ a ⊕ q → p ≡ q
 same_more a b p q e f = append_cancel_left a.bytes p q (sym (more_bytes a p) ∙ (ap (λ h. h.bytes) (sym e ∙ f) ∙ more_bytes a q))
 

@@ -45,7 +45,7 @@ sends m n is w v old name new range none wrote x at_last told told_is = subst (�
   stands = window_written w v old (bytes_of n) name (length old) new wrote x at_last;
 })
 
--- 1 is the number of want of memory alone, which no message has as its cause
+-- 1 is the number of lack of memory alone, which no message has as its cause
 is_memory : (e : Error) → plain e ≡ plain OutOfMemory → e ≡ OutOfMemory
 is_memory (UnknownTag tag) h = cc
 is_memory (UnknownAuthentication code) h = cc
@@ -54,7 +54,7 @@ is_memory e h = h
 pub not_room : (m : ClientMessage) (e : Error) (code : ℕ) → cause m ≡ Some e → code ≡ number_of e → code ≢ 1
 not_room m e code some code_is one = never_memory m (some ∙ ap (λ (e : Error). Some e) (is_memory e (same_number e OutOfMemory (sym code_is ∙ one))))
 
--- the core's refusal, as its number
+-- the core's error, as its number
 pub refuses : (m n : ClientMessage) → n ≡ m → (w : Window) (old : List ℕ) (name : GName) → window_held w ≡ record { bytes = []; behind = old; kept = (name, length old) }
     → (e : Error) (code told : ℕ) → WantsMemory (Wants window_lacks (window_held w) (length (bytes_of n))) e ⊎ (cause n ≡ Some e) → code ≡ number_of e → told ≡ 0 → NotSent m old told code
 refuses m n is w old name new e code told why code_is none = subst (λ k. NotSent k old told code) is (record {
@@ -69,7 +69,7 @@ refuses m n is w old name new e code told why code_is none = subst (λ k. NotSen
   ];
 })
 
--- both from the core's answer, which the call behind it told
+-- both from the core's answer, which the call after it reported
 pub sends_ended : (m n : ClientMessage) → n ≡ m → (w v : Window) (old : List ℕ) (name : GName) → window_held w ≡ record { bytes = []; behind = old; kept = (name, length old) }
     → (r : Result (Unit {0}) Error) → WritesMessage n window_lacks (window_held w) (window_held v) r
     → (x : List ℕ) → (name ≡ v.room.ghost_name → x ≡ v.room.now) → (told : ℕ) → (r ≡ Ok tt) × (told ≡ length (take v.len v.room.now)) → Sent m old x told
@@ -93,7 +93,7 @@ wrote p q is w v old name new put x at_last told told_is = subst (λ k. Wrote k 
   stands = window_written w v old q name (length old) new put x at_last;
 })
 
--- a value that has no cause is refused for its length alone
+-- a value that has no cause is rejected for its length alone
 pub lacked : (p q : List ℕ) → q ≡ p → (w : Window) (old : List ℕ) (name : GName) → window_held w ≡ record { bytes = []; behind = old; kept = (name, length old) }
     → (e : Error) (code told : ℕ) → WantsMemory (Wants window_lacks (window_held w) (length q)) e ⊎ (let c : Cause = None in c ≡ Some e) → code ≡ number_of e → told ≡ 0 → Lacks p old told code
 lacked p q is w old name new e code told why code_is none = subst (λ k. Lacks k old told code) is (elim why [

@@ -50,7 +50,7 @@ drop-drop n zero xs = let e : n ≡ 0 + n = omega arith in ap (λ k. drop k xs) 
 drop-drop n (suc m) [] = drop_none n ∙ sym (drop_none (suc m + n))
 drop-drop n (suc m) (x ∷ xs) = let e : suc m + n ≡ suc (m + n) = omega arith in drop-drop n m xs ∙ ap (λ k. drop k (x ∷ xs)) (sym e)
 
--- what is left behind an item
+-- what is left after an item
 behind : (bytes : List ℕ) (at end n : ℕ) → at ≤ end → end ≤ length bytes → n ≤ end - at → rest_of bytes (at + n) end ≡ drop n (take (end - at) (drop at bytes))
 behind bytes at end n low high few =
     let count : end - at ≡ n + (end - (at + n)) = omega (arith, low, few) in

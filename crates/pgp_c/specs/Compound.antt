@@ -49,7 +49,7 @@ pub record IsInetOf (bytes : List ℕ) (netmask : ℕ) (v : Inet) : Type 0 where
   pub address : octets v.addr ≡ bytes
   pub same : v.netmask ≡ netmask
 
--- why there is none, and the refusal's number
+-- why there is none, and the error's number
 abbrev pub IsNoInet : List ℕ → ℕ → ℕ → Type 0
 IsNoInet bytes netmask code = ((code ≡ 18) × IsNoAddress bytes) ⊎ ((code ≡ 17) × ((length bytes ≡ 4) ⊎ (length bytes ≡ 16)) × (8 * length bytes < netmask))
 
@@ -69,7 +69,7 @@ IsEntryInside size e = IsInside size e.key × IsColumnInside size e.value
 abbrev pub BeginsHstore : List ℕ → PgpCursor → Type 0
 BeginsHstore bytes c = Begins entry_count bytes c.left (rest bytes c)
 
--- Cursors are at the dimensions and at the elements that stand behind the head of an array.
+-- Cursors are at the dimensions and at the elements that stand after the head of an array.
 pub record IsArrayIn (bytes : List ℕ) (a : PgpArray) : Type 0 where
   pub front : Front bytes
   pub count : length front.dimensions ≡ front.count

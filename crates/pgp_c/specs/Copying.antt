@@ -8,7 +8,7 @@ use Rattle.pgp_frontend.specs.Payload.{bytes_of, cause}
 abbrev pub copy_head : ℕ → List ℕ
 copy_head len = 100 ∷ uint32 (len + 4)
 
--- The head stands at the front of the memory, which is as it was behind it. With any data of this length behind the head, they are the
+-- The head stands at the front of the memory, which is as it was after it. With any data of this length after the head, they are the
 -- message of these data, which has no cause.
 pub record SentHead (len : ℕ) (old new : List ℕ) (told : ℕ) : Type 0 where
   pub length_is : told ≡ 5

@@ -1,4 +1,4 @@
--- What is told of the front of a server's stream.
+-- What is reported of the front of a server's stream.
 use Rattle.std.specs.Prelude.{◌≡◌, ◌≢◌, ℕ, ◌≤◌, List, ◌∷◌, length, drop, Option, Some, None, Result, Ok, Err}
 use Rattle.pgp_base.specs.Error.{number_of}
 use Rattle.pgp_base.specs.declared.error.Error.{Error}
@@ -21,8 +21,8 @@ abbrev pub ShowsAll : List ℕ → Result (Option Message) Error → PgpMessage 
 ShowsAll bytes (Ok (Some m)) p = Shows bytes m p.parts
 ShowsAll bytes r p = p.parts ≡ no_parts
 
--- One step along the stream takes the frame; its result is told by the code and the kind, and the message's parts are those that
--- stand at their places among the bytes, inside the frame. The tag is the first byte of what was taken.
+-- One step along the stream takes the frame; its result is reported by the code and the kind, and the message's parts are those
+-- that stand at their places among the bytes, inside the frame. The tag is the first byte of what was taken.
 pub record Told (bytes : List ℕ) (message : PgpMessage) (code : ℕ) : Type 0 where
   pub result : Result (Option Message) Error
   pub step : Step ⊥ bytes result (drop message.frame bytes)

@@ -19,7 +19,7 @@ Puts v lacks old new (Ok Yes) = (v.is_null ≡ true) × (new ≡ old)
 Puts v lacks old new (Ok No) = (v.is_null ≡ false) × (new ≡ old ⊕ v.bytes.now)
 Puts v lacks old new (Err e) = (v.is_null ≡ false) × WantsMemory (lacks old (length v.bytes.now)) e × (new ≡ old)
 
--- the refusal, whether the serializer's or the writer's
+-- the error, whether the serializer's or the writer's
 abbrev pub error_of : BindError Error → Error
 error_of (Conversion e) = e
 error_of (Serialization e) = e

@@ -58,14 +58,14 @@ IsInside size p = p.at + p.len ≤ size
 abbrev pub One : List ℕ → PgpParts → List ℕ → Type 0
 One bytes p what = (p ≡ record no_parts { first = p.first }) × (stands bytes p.first ≡ what)
 
--- a count and what stands behind it, and nothing else
+-- a count and what stands after it, and nothing else
 abbrev pub Counts : List ℕ → PgpParts → CountedBytes → Type 0
 Counts bytes p c = (p ≡ record no_parts { first = p.first; count = c.count }) × (stands bytes p.first ≡ c.storage)
 
 abbrev pub Copies : List ℕ → PgpParts → CopyFormats → Type 0
 Copies bytes p c = (p ≡ record no_parts { first = p.first; count = c.count; byte = c.format }) × (stands bytes p.first ≡ c.storage)
 
--- The parts of the message stand at their places, its numbers are told, and all else is 0.
+-- The parts of the message stand at their places, its numbers are reported, and all else is 0.
 abbrev pub Shows : List ℕ → Message → PgpParts → Type 0
 Shows bytes (CommandComplete tag) p = One bytes p tag
 Shows bytes (ErrorResponse b) p = One bytes p b

@@ -6,7 +6,7 @@ use Rattle.pgp_c.specs.declared.front.PgpPart.{PgpPart}
 use Rattle.pgp_c.specs.declared.front.PgpParts.{PgpParts}
 use Rattle.pgp_c.specs.Parts.{part, no_parts}
 
--- the places of two strings: what is read at the first place is the first of them and what stands behind it
+-- the places of two strings: what is read at the first place is the first of them and what stands after it
 abbrev pub first_of : ℕ → Option (List ℕ × List ℕ) → PgpPart
 first_of at None = part 0 0
 first_of at (Some s) = part at (length s.0)

@@ -22,7 +22,7 @@ message_of SslRequest = client.SslRequest
 message_of Sync = client.Sync
 message_of Terminate = client.Terminate
 
--- it comes behind a startup packet, and not before one
+-- it comes after a startup packet, and not before one
 abbrev pub comes_open : PlainMessage → Bool
 comes_open (CancelRequest process_id secret_key) = false
 comes_open SslRequest = false

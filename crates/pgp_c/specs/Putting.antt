@@ -45,7 +45,7 @@ are_texts p = is_utf8 p.key.now && (p.value.is_null || is_utf8 p.value.bytes.now
 abbrev pub IsNoHstore : List PgpKeyValue → ℕ → Type 0
 IsNoHstore pairs code = ((code ≡ 9) × (list_all are_texts pairs ≡ false)) ⊎ ((code ≡ 3) × (hstore.cause (map entry_of pairs) ≡ Some TooLarge))
 
--- Private: what the code writes behind their number, and their first cause.
+-- Private: what the code writes after their number, and their first cause.
 abbrev pub pairs_bytes : List PgpKeyValue → List ℕ
 pairs_bytes pairs = flat_map entry_bytes (map entry_of pairs)
 

@@ -4,7 +4,8 @@ use Rattle.pgp_base.specs.Error.{number_of}
 use Rattle.pgp_base.specs.declared.error.Error.{Error}
 use Rattle.pgp_types.specs.Format.{Format, Reads}
 
--- the spelling fits, stands at the front of the memory, and its length is told; behind it the memory is as it was
+-- the spelling fits, stands at the front of the memory, and its length is reported; after it the memory is as it
+-- was
 pub record Wrote (spelling old new : List ℕ) (told : ℕ) : Type 0 where
   pub length_is : told ≡ length spelling
   pub fits : length spelling ≤ length old
@@ -16,7 +17,7 @@ pub record Lacks (spelling old : List ℕ) (told code : ℕ) : Type 0 where
   pub code_is : code ≡ 1
   pub longer : length old < length spelling
 
--- the bytes are refused as this type, and this is the refusal's number
+-- the bytes are rejected as this type, and this is the error's number
 pub record Refuses {V R : Type 0} (f : Format V R) (bytes : List ℕ) (code : ℕ) : Type 0 where
   pub error : Error
   pub reads : Reads f bytes (Err error)

@@ -16,7 +16,7 @@ rest bytes c = rest_of bytes c.at c.end
 abbrev pub StandsFrom : List ℕ → ℕ → List ℕ → Type 0
 StandsFrom bytes at part = take (length part) (drop at bytes) ≡ part
 
--- An item of this grammar was taken from the front of what is left, and what is left is what stands behind it.
+-- An item of this grammar was taken from the front of what is left, and what is left is what stands after it.
 pub record Passes {V : Type 0} (Spelled : ℕ → V → List ℕ → Type 0) (bytes : List ℕ) (before after : PgpCursor) (x : V) : Type 0 where
   pub front : List ℕ
   pub spelled : Spelled before.at x front
@@ -32,7 +32,7 @@ Takes Spelled bytes before after x = Passes Spelled bytes before after x × (aft
 abbrev pub IsEnded : List ℕ → PgpCursor → Type 0
 IsEnded bytes c = (c.left ≡ 0) × (rest bytes c ≡ [])
 
--- bytes are left behind the last item, or no item stands there
+-- bytes are left after the last item, or no item stands there
 abbrev pub RefusesItem : (List ℕ → Error → Type 0) → List ℕ → PgpCursor → ℕ → Type 0
 RefusesItem Refused bytes c code = ((c.left ≡ 0) × (rest bytes c ≢ []) × (code ≡ 8)) ⊎ ((e : Error) × (c.left ≢ 0) × Refused (rest bytes c) e × (code ≡ number_of e))
 
@@ -44,7 +44,7 @@ TakesMarked Spelled bytes before after x = Passes (Unmarked Spelled) bytes befor
 abbrev pub IsMarkedEnd : List ℕ → PgpCursor → Type 0
 IsMarkedEnd bytes c = rest bytes c ≡ 0 ∷ []
 
--- bytes are left behind the byte 0, or neither it nor an item stands there
+-- bytes are left after the byte 0, or neither it nor an item stands there
 abbrev pub RefusesMarked : (List ℕ → Error → Type 0) → List ℕ → PgpCursor → ℕ → Type 0
 RefusesMarked Refused bytes c code = ((more : List ℕ) × (rest bytes c ≡ 0 ∷ more) × (more ≢ []) × (code ≡ 8))
     ⊎ ((e : Error) × ((more : List ℕ) → rest bytes c ≢ 0 ∷ more) × Refused (rest bytes c) e × (code ≡ number_of e))

@@ -33,7 +33,7 @@ pub extern "C" fn pgp_copy_data(bytes: &[u8], out: &mut [u8], written: &mut usiz
     }
 }
 
-/// The head of a message with so many bytes of data, which stand behind it.
+/// The head of a message with so many bytes of data, which stand after it.
 #[unsafe(no_mangle)]
 pub extern "C" fn pgp_copy_data_head(len: usize, out: &mut [u8], written: &mut usize) -> u32
     ensures sent { result ≡ 0 → SentHead len out.old out.new written.new }

@@ -1,4 +1,4 @@
-//! Walks over lists that stand in the caller's bytes, by a cursor that the caller holds.
+//! Iterators over lists that stand in the caller's bytes, by a cursor that the caller holds.
 
 ghost use Rattle.std.specs.Prelude.{◌≡◌, ◌≢◌, ◌+◌, ◌<◌, ◌≤◌, ◌^◌, ℕ, List, [], length, None, IfSome, IfOk, IfErr};
 ghost use Rattle.pgp_base.specs.Grammar.{StandsAt};
@@ -9,10 +9,11 @@ use crate::status::failed;
 use pgp_base::Error;
 use pgp_base::reading::is_marked;
 
-/// The answer at the end of a walk.
+/// The answer at the end of an iterator.
 const DONE: u32 = 101;
 
-/// How far a walk is: the place of the next item, the place behind the last, and how many items are to come.
+/// How far an iterator is: the place of the next item, the place after the last, and how many items are to
+/// come.
 #[repr(C)]
 #[derive(Clone, Copy)]
 pub struct PgpCursor {
@@ -35,11 +36,11 @@ pub trait Listed {
 
     ghost Refused: { List ℕ → Refusal → Type 0 };
 
-    /// All places that the item tells lie before this one.
+    /// All places that the item says lie before this one.
     ghost Inside: { ℕ → Self.Item → Type 0 };
 
-    /// What stands behind the item at the front of what is left, which begins at this place; and the item.
-    // In this order no number of the item lies where a refusal would, so that it is stored whole.
+    /// What stands after the item at the front of what is left, which begins at this place; and the item.
+    // In this order no number of the item lies where an error would, so that it is stored whole.
     ///
     /// # Errors
     ///
@@ -67,8 +68,8 @@ pub fn next_counted<L: Listed>(bytes: &[u8], cursor: &mut PgpCursor, item: &mut 
 }
 
 /// The next item of such a list, of which this is left.
-// The hint carries the speed of walks: where nothing is left because the cursor's places are none, no item is read, and where something is
-// left, the places are compared by branches, which the reading needn't wait for.
+// The hint carries the speed of iterators: where nothing is left because the cursor's places are none, no item is read, and where
+// something is left, the places are compared by branches, which the reading needn't wait for.
 #[inline(always)]
 fn next_in<L: Listed>(rest: &[u8], cursor: &mut PgpCursor, item: &mut L::Item) -> u32
     requires { cursor.old.at + length rest.now < 2 ^ 64 }

@@ -75,7 +75,7 @@ impl Listed for Fields {
     }
 }
 
-/// The numbers behind a column's name.
+/// The numbers after a column's name.
 #[tactic(auto, unfolding(pgp_message::specs::ItemReading::numbers_at))]
 fn numbers_at(name: PgpPart, bytes: &[u8]) -> Result<(PgpField, &[u8]), Error>
     ensures numbers { (text : List ℕ) → Answers (λ x. (named text x.0, x.1.now)) result (numbers_at text bytes.now) }

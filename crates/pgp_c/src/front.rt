@@ -11,7 +11,7 @@ use pgp_base::FallibleIterator;
 use pgp_base::reading::string_at;
 use pgp_message::{Message, Messages};
 
-/// The answer where bytes are missing to a whole frame.
+/// The answer where bytes are missing to a complete frame.
 const MORE: u32 = 100;
 
 /// The number of a row's kind.
@@ -39,7 +39,7 @@ pub struct PgpMessage {
     pub tag: u8,
 }
 
-/// The parts of a message, as far as its kind has them; else they are 0.
+/// The parts of a message, as far as its kind has them; otherwise they are 0.
 #[repr(C)]
 #[derive(Clone, Copy)]
 pub struct PgpParts {
@@ -56,7 +56,8 @@ pub extern "C" fn pgp_front(bytes: &[u8], message: &mut PgpMessage) -> u32
     ensures { Told bytes.now message.new result }
 {
     let mut messages = Messages::new(bytes);
-    // Rows come by the thousand. By a way of their own no row goes through memory before it is told.
+    // Rows come by the thousand. By a way of their own no row goes through memory before it is
+    // reported.
     if let Some(row) = messages.next_row() {
         let frame = bytes.len() - messages.rest().len();
         let parts = counted(row.ranges().size_hint().0, frame);
@@ -78,7 +79,7 @@ pub extern "C" fn pgp_front(bytes: &[u8], message: &mut PgpMessage) -> u32
     }
 }
 
-/// Tells what stands at the front.
+/// Says what stands at the front.
 fn told(
     frame: usize,
     kind: u8,
@@ -231,7 +232,7 @@ fn one(at: usize, len: usize) -> PgpParts
     }
 }
 
-/// A count, and what stands behind it.
+/// A count, and what stands after it.
 fn counted(count: usize, frame: usize) -> PgpParts
     ensures { result ≡ record no_parts { first = part 7 (frame - 7); count = count } }
 {
@@ -245,7 +246,7 @@ fn counted(count: usize, frame: usize) -> PgpParts
     }
 }
 
-/// A format, a count, and what stands behind it.
+/// A format, a count, and what stands after it.
 fn copied(byte: u8, count: usize, frame: usize) -> PgpParts
     ensures { result ≡ record no_parts { first = part 8 (frame - 8); count = count; byte = byte } }
 {

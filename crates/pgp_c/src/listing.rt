@@ -67,7 +67,7 @@ pub extern "C" fn pgp_bind(
     }
 }
 
-/// The refusal, whether the serializer's or the writer's.
+/// The error, whether the serializer's or the writer's.
 fn error_of(e: BindError<Error>) -> Error
     ensures { result ≡ error_of e }
 {

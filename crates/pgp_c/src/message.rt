@@ -56,7 +56,7 @@ pub fn send(message: PlainMessage<'_>, out: &mut [u8], written: &mut usize) -> u
     }
 }
 
-/// Whether the message comes behind a startup packet.
+/// Whether the message comes after a startup packet.
 #[inline(always)]
 pub fn comes_open(message: PlainMessage<'_>) -> bool
     ensures { result ≡ comes_open message.entry }

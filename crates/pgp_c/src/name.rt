@@ -38,7 +38,7 @@ pub extern "C" fn pgp_option_next(bytes: &[u8], cursor: &mut PgpCursor, name: &m
     next_counted::<Names>(bytes, cursor, name)
 }
 
-/// Texts, each with a 0 behind it.
+/// Texts, each with a 0 after it.
 struct Names;
 
 impl Listed for Names {

@@ -19,7 +19,7 @@ use pgp_base::{Buffer, Error, length_field, put_u32};
 /// The length of a null.
 const NULL: u32 = 0xffff_ffff;
 
-/// A value behind its length, or a null; refused where the length passes the end.
+/// A value after its length, or a null; rejected where the length passes the end.
 #[tactic(auto, unfolding(pgp_types::specs::PartReading::nullable_at))]
 pub fn nullable_at(bytes: &[u8], past_end: Error) -> Result<(Option<&[u8]>, &[u8]), Error>
     ensures { Answers (λ x. (shown x.0, x.1.now)) result (nullable_at past_end bytes.now) }
@@ -38,7 +38,7 @@ pub fn nullable_at(bytes: &[u8], past_end: Error) -> Result<(Option<&[u8]>, &[u8
     Ok((Some(value), rest))
 }
 
-/// A length, and so many bytes; refused where the length is negative or passes the end.
+/// A length, and so many bytes; rejected where the length is negative or passes the end.
 #[tactic(auto, unfolding(pgp_types::specs::PartReading::sized_at, pgp_types::specs::PartReading::natural_at))]
 pub fn sized_at(bytes: &[u8], wrong: Error) -> Result<(&[u8], &[u8]), Error>
     ensures { Answers (λ x. (x.0.now, x.1.now)) result (sized_at wrong bytes.now) }
@@ -74,7 +74,7 @@ pub fn column_before(value: Option<&[u8]>, end: usize) -> PgpColumn
     }
 }
 
-/// Appends a value behind its length, or a null.
+/// Appends a value after its length, or a null.
 #[tactic(auto, using(pgp_base::proofs::Parts::null_spelled, pgp_base::proofs::Parts::held_steps))]
 pub fn put_value<B: Buffer>(value: &PgpValue<'_>, buf: &mut B) -> Result<(), Error>
     ensures ok { OnOk result ((nullable_cause (value_of value.now) ≡ None) × (B.held buf.new ≡ B.held buf.old ⊕ nullable (value_of value.now))) }

@@ -1,4 +1,4 @@
-//! What a call answers, and the number of bytes that it wrote.
+//! What a call returns, and the number of bytes that it wrote.
 
 ghost use Rattle.std.specs.Prelude.{◌≡◌, ◌≢◌, Ok, Err, length};
 ghost use Rattle.pgp_base.specs.Error.{number_of};
@@ -47,7 +47,7 @@ pub fn ended(answer: Result<(), Error>, window: &Window<'_>, written: &mut usize
     }
 }
 
-/// What a reader answered: the value is told, or nothing was read.
+/// What a reader answered: the value is reported, or nothing was read.
 #[inline(always)]
 pub fn read<T: Copy>(answer: Result<T, Error>, value: &mut T) -> u32
     ensures read { result ≡ 0 → answer ≡ Ok value.new }

@@ -258,7 +258,7 @@ pub extern "C" fn pgp_stream_sync(stream: &mut PgpStream<'_>) -> u32
     add(stream, PlainMessage::Sync)
 }
 
-/// The head of a message with so many bytes of data, which the caller sends behind what is pending.
+/// The head of a message with so many bytes of data, which the caller sends after what is pending.
 #[unsafe(no_mangle)]
 pub extern "C" fn pgp_stream_copy_data_head(stream: &mut PgpStream<'_>, data_len: usize) -> u32
     ensures added { result ≡ 0 → ExtendsByHead data_len stream.old stream.new }

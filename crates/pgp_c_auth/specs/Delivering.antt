@@ -1,7 +1,8 @@
 -- What is handed over in memory of the caller's.
 use Rattle.std.specs.Prelude.{◌≡◌, ◌⊎◌, ℕ, ◌<◌, ◌≤◌, List, ◌++◌, length, drop}
 
--- The text fits into the memory, stands at its front, and its length is told; behind it the memory is as it was.
+-- The text fits into the memory, stands at its front, and its length is reported; after it the memory is as it
+-- was.
 pub record Delivered (text old new : List ℕ) (told : ℕ) : Type 0 where
   pub length_is : told ≡ length text
   pub fits : length text ≤ length old
@@ -23,6 +24,6 @@ pub record IsLonger (Is : List ℕ → Type 0) (old : List ℕ) : Type 0 where
   pub is : Is text
   pub longer : length old < length text
 
--- Why 1 is answered: a growth was refused, or the text is longer than the memory.
+-- Why 1 is answered: an allocation failed, or the text is longer than the memory.
 abbrev pub LacksRoom : Type 0 → (List ℕ → Type 0) → List ℕ → Type 0
 LacksRoom lacks Is old = lacks ⊎ IsLonger Is old

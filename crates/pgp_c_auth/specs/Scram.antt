@@ -16,12 +16,12 @@ Names kind certificate b = ((kind ≡ 0) × (b ≡ Unsupported)) ⊎ (((kind ≡
 abbrev pub NamesNone : ℕ → Type 0
 NamesNone kind = (kind ≢ 0) × (kind ≢ 1) × (kind ≢ 2)
 
--- a refusal's number: want of memory is 1 as everywhere, the others follow 64
+-- an error's number: lack of memory is 1 as everywhere, the others follow 64
 abbrev pub code_of : Refusal → ℕ
 code_of OutOfMemory = 1
 code_of e = 64 + number_of e
 
--- the place in the server's text that a refusal tells; 0 where it tells none
+-- the place in the server's text that an error says; 0 where it says none
 abbrev pub place_of : Refusal → ℕ
 place_of (UnexpectedCharacter at) = at
 place_of (Trailing at) = at
@@ -50,7 +50,7 @@ pub record FirstText (s : Start) (text : List ℕ) : Type 0 where
   pub named : Names s.kind s.certificate binding
   pub is : text ≡ client_first binding s.nonce
 
--- why no client begins so: the nonce isn't text or no nonce, or the number names no binding, or a growth was refused
+-- why no client begins so: the nonce isn't text or no nonce, or the number names no binding, or an allocation failed
 abbrev pub BeginRefused : Type 0 → Start → ℕ → Type 0
 BeginRefused lacks s code = ((code ≡ 80) × ((¬ IsUtf8 s.nonce) ⊎ (¬ IsNonce s.nonce))) ⊎ (((code ≡ 81) × NamesNone s.kind) ⊎ ((code ≡ 1) × lacks))
 
@@ -71,7 +71,7 @@ pub record AnswersWith (s : Start) (server_first signature text : List ℕ) : Ty
   pub text_is : message_of client.state ≡ Some text
   pub signature_is : awaited_of client.state ≡ Some signature
 
--- `update` refuses the server's first text, and this is the refusal's number and place
+-- `update` rejects the server's first text, and this is the error's number and place
 pub record FirstRefused (lacks : Type 0) (s : Start) (server_first : List ℕ) (code place : ℕ) : Type 0 where
   pub start : Client
   pub begins : Begins s start
@@ -81,7 +81,7 @@ pub record FirstRefused (lacks : Type 0) (s : Start) (server_first : List ℕ) (
   pub code_is : code ≡ code_of refusal
   pub place_is : place ≡ place_of refusal
 
--- why there is no client behind the server's first text
+-- why there is no client after the server's first text
 abbrev pub NotAnswered : Type 0 → Start → List ℕ → ℕ → ℕ → Type 0
 NotAnswered lacks s server_first code place = (BeginRefused lacks s code × (place ≡ 0)) ⊎ FirstRefused lacks s server_first code place
 
@@ -104,7 +104,7 @@ pub record Verified (s : Start) (server_first server_final : List ℕ) : Type 0 
   pub client : Client
   pub completes : Completes start server_first server_final client
 
--- `finish` refuses the server's final text, and this is the refusal's number and place
+-- `finish` rejects the server's final text, and this is the error's number and place
 pub record FinalRefused (lacks : Type 0) (s : Start) (server_first server_final : List ℕ) (code place : ℕ) : Type 0 where
   pub between : Client
   pub answered : HasAnswered s server_first between
@@ -114,7 +114,7 @@ pub record FinalRefused (lacks : Type 0) (s : Start) (server_first server_final 
   pub code_is : code ≡ code_of refusal
   pub place_is : place ≡ place_of refusal
 
--- the server's final text doesn't show the signature, or is refused as a client refuses it that awaits it, and this is the refusal's number
+-- the server's final text doesn't show the signature, or is rejected as a client rejects it that awaits it, and this is the error's number
 -- and place
 pub record ShownRefused (lacks : Type 0) (signature text : List ℕ) (code place : ℕ) : Type 0 where
   pub refusal : Refusal

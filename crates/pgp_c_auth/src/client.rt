@@ -10,7 +10,7 @@ use crate::deliver::{deliver, refused};
 use pgp_auth::authentication::sasl::{ChannelBinding, NoPrep, ScramError, ScramSha256, is_nonce};
 use pgp_base::{Error, Memory};
 
-/// The number before an exchange's first refusal.
+/// The number before an exchange's first error.
 const SCRAM: u32 = 64;
 
 /// The answer where the caller's nonce is none: no character, or one that is a comma or isn't printable ASCII.
@@ -22,7 +22,7 @@ const BAD_BINDING: u32 = 81;
 /// The answer where there is no memory or no room.
 const NO_ROOM: u32 = 1;
 
-/// The number of a refused step: want of memory as everywhere, the others behind 64.
+/// The number of a refused step: lack of memory as everywhere, the others after 64.
 fn number<A: Memory>(e: &ScramError<A>) -> u32
     ensures code { result ≡ code_of (refusal e.now) }
     ensures some { result ≢ 0 }
@@ -43,7 +43,7 @@ fn number<A: Memory>(e: &ScramError<A>) -> u32
     }
 }
 
-/// The place in the server's text that a refusal tells; 0 where it tells none.
+/// The place in the server's text that an error says; 0 where it says none.
 fn place<A: Memory>(e: &ScramError<A>) -> usize
     ensures { result ≡ place_of (refusal e.now) }
 {
@@ -63,7 +63,7 @@ fn place<A: Memory>(e: &ScramError<A>) -> usize
     }
 }
 
-/// Tells a refused step: its number is answered.
+/// Says a rejected step: its number is answered.
 pub fn stopped<A: Memory>(e: ScramError<A>, at: &mut usize) -> u32
     ensures code { result ≡ code_of (refusal e) }
     ensures some { result ≢ 0 }

@@ -6,7 +6,7 @@ ghost use Rattle.pgp_c_auth.specs.Delivering.{Delivered, NotDelivered};
 
 use pgp_base::Error;
 
-/// Copies the bytes to the front of the memory, and tells their number; or there is no room.
+/// Copies the bytes to the front of the memory, and says their number; or there is no room.
 pub fn deliver(bytes: &[u8], out: &mut [u8], written: &mut usize) -> u32
     ensures sent { result ≡ 0 → Delivered bytes.now out.old out.new written.new }
     ensures refused { result ≢ 0 → NotDelivered out.old out.new written.new }

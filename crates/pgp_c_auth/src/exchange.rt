@@ -83,7 +83,7 @@ pub fn updated<A: Memory>(
     code
 }
 
-/// Whether the server's final text shows the signature that is awaited: 0 where it does. `at` is the place in it that a refusal tells.
+/// Whether the server's final text shows the signature that is awaited: 0 where it does. `at` is the place in it that an error says.
 #[unsafe(no_mangle)]
 pub extern "C" fn pgp_scram_finish(
     alloc: Global,

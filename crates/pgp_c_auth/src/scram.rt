@@ -46,7 +46,7 @@ pub fn first<A: Memory>(
     }
 }
 
-/// The final text: the answer to the server's first. `at` is the place in it that a refusal tells.
+/// The final text: the answer to the server's first. `at` is the place in it that an error says.
 #[unsafe(no_mangle)]
 pub extern "C" fn pgp_scram_final(
     alloc: Global,
@@ -101,8 +101,8 @@ pub fn last<A: Memory>(
     }
 }
 
-/// Whether the server's final text shows its signature: 0 where it does. `at` is the place, in the text that was refused, that a
-/// refusal tells.
+/// Whether the server's final text shows its signature: 0 where it does. `at` is the place, in the text that was rejected, that
+/// an error says.
 #[unsafe(no_mangle)]
 pub extern "C" fn pgp_scram_verify(
     alloc: Global,

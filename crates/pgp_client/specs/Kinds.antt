@@ -55,7 +55,7 @@ request_of CopyDone = Some requests.CopyDone
 request_of (CopyFail reason) = Some requests.CopyFail
 request_of m = None
 
--- the same by a tag, and by the first byte behind the length
+-- the same by a tag, and by the first byte after the length
 abbrev pub request_of_tag : ℕ → ℕ → Option Request
 request_of_tag tag first =
     if tag == 0x51 then Some requests.Query

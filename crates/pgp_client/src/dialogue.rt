@@ -15,16 +15,16 @@ use pgp_base::Memory;
 use std::collections::VecDeque;
 use std::marker::Model;
 
-/// Tells which of a server's messages belongs to which of a client's requests.
+/// Says which of a server's messages belongs to which of a client's requests.
 ///
 /// A client asks each request in the order in which it sends them, before it takes a message that answers one of them, and takes all
-/// messages of the server in the order in which they come; when it asks besides changes nothing. What is told of a request ends all
-/// that was asked before: of a request of which no `Last` was told by then, nothing will be, since the server passed over it behind an
-/// error.
+/// messages of the server in the order in which they come; when it asks besides changes nothing. What is reported of a request ends
+/// all that was asked before: of a request of which no `Last` was reported by then, nothing will be, since the server passed over it
+/// after an error.
 ///
-/// Where an Execute or a Query may ask for the data of a copy, a Sync is best sent behind the CopyDone or CopyFail, and a Flush before
+/// Where an Execute or a Query may ask for the data of a copy, a Sync is best sent after the CopyDone or CopyFail, and a Flush before
 /// it: a server passes over a Sync while it awaits the data, and where such a copy fails nobody can know whether it did. `take` then
-/// refuses the error as `Uncertain`, and the connection is to be closed.
+/// rejects the error as `Uncertain`, and the connection is to be closed.
 #[derive(Drop)]
 pub struct Dialogue<Q: Queue = VecDeque<Asked>> {
     stage: Stage,
@@ -67,7 +67,7 @@ impl<Q: Queue> Dialogue<Q> {
         }
     }
 
-    /// Whether no request awaits an answer, and no Sync is awaited behind an error.
+    /// Whether no request awaits an answer, and no Sync is awaited after an error.
     pub fn is_idle(&self) -> bool
         ensures { result ≡ is_idle (shown Q.items self.now) }
     {
@@ -78,7 +78,7 @@ impl<Q: Queue> Dialogue<Q> {
     ///
     /// # Errors
     ///
-    /// `Full` where the queue takes no more. Nothing changes.
+    /// Returns `Full` if the queue takes no more. On error nothing changes.
     pub fn ask(&mut self, request: Request, name: u64) -> Result<(), Full>
         ensures ok { OnOk result (shown Q.items self.new ≡ asked (shown Q.items self.old) (record { request = request; name = name })) }
         ensures err { OnErr result (shown Q.items self.new ≡ shown Q.items self.old) }
@@ -87,14 +87,14 @@ impl<Q: Queue> Dialogue<Q> {
         self.pending.push(Asked { request, name })
     }
 
-    /// Takes the server's next message, and tells to which request it belongs.
+    /// Takes the server's next message, and says to which request it belongs.
     ///
     /// # Errors
     ///
     /// From then on no message is given to a request.
     ///
-    /// - `Unexpected` where a message of this kind has no place there.
-    /// - `Uncertain` where a copy to the server fails, and a Sync was asked before the end of its data.
+    /// - `Unexpected` if a message of this kind has no place there.
+    /// - `Uncertain` if a copy to the server fails, and a Sync was asked before the end of its data.
     pub fn take(&mut self, kind: Kind) -> Result<Event, Refusal>
         ensures { Takes (taken (shown Q.items self.old) kind) result (shown Q.items self.new) }
     {
@@ -143,7 +143,7 @@ impl<Q: Queue> Dialogue<Q> {
     }
 }
 
-/// The stage behind the message. At the end of a copy to the server the requests that belong to it are dropped.
+/// The stage after the message. At the end of a copy to the server the requests that belong to it are dropped.
 fn heard_at<Q: Queue>(stage: Stage, pending: &mut Q, kind: Kind) -> Result<Stage, Refusal>
     ensures { Moves (heard_at stage (Q.items pending.old) kind) result (Q.items pending.new) }
 {
@@ -154,7 +154,7 @@ fn heard_at<Q: Queue>(stage: Stage, pending: &mut Q, kind: Kind) -> Result<Stage
     }
 }
 
-/// The stage behind the message, in no copy to the server.
+/// The stage after the message, in no copy to the server.
 fn goes<Q: Queue>(stage: Stage, pending: &Q, kind: Kind) -> Result<Stage, Refusal>
     ensures { Moves (goes (follows stage kind) (Q.items pending.now)) result (Q.items pending.now) }
 {
@@ -164,7 +164,7 @@ fn goes<Q: Queue>(stage: Stage, pending: &Q, kind: Kind) -> Result<Stage, Refusa
     }
 }
 
-/// The stage behind the message, in a copy to the server.
+/// The stage after the message, in a copy to the server.
 fn copied<Q: Queue>(
     done: Stage,
     failed: Stage,

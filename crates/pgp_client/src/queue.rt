@@ -16,7 +16,7 @@ pub trait Queue {
     /// Why a request isn't taken.
     ghost Refuses: { Self → Type 0 };
 
-    /// Adds a request behind the others, and answers whether it did. Else nothing changes.
+    /// Adds a request after the others, and returns whether it did. Otherwise nothing changes.
     fn push(&mut self, asked: Asked) -> Result<(), Full>
         ensures ok { OnOk result (items self.new ≡ items self.old ++ asked ∷ []) }
         ensures err { OnErr result (items self.new ≡ items self.old) }

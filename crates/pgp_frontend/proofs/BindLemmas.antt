@@ -1,4 +1,4 @@
--- What `bind` wrote, or why it refused, from what its steps did.
+-- What `bind` wrote, or why it rejected, from what its steps did.
 use Rattle.std.proofs.Common.{◌≡◌, ℕ, ℤ, ◌+◌, ◌-◌, ◌≤◌, List, [], ◌∷◌, sym, Result, Option, Some, None, refl, ap, subst, inl, inr, MutBor, length, arith, length-append}
 use Rattle.std.specs.Prelude.{FitsSigned, All}
 use Rattle.std.specs.Int.{w16}

@@ -44,7 +44,7 @@ count_more n m e few h = elim (cases_Bool (nat_le m 65535)) [
 pub no_cause : (e : Error) → (let c : Cause = None in c ≡ Some e) → ⊥
 no_cause e h = cc
 
--- ---- no message has want of memory as its cause
+-- ---- no message has lack of memory as its cause
 
 never_none : (let c : Cause = None in c ≡ Some OutOfMemory) → ⊥
 never_none h = cc

@@ -33,7 +33,7 @@ same_tag None b p q x y t u e = absurd (t refl)
 same_tag (Some a) None p q x y t u e = absurd (u refl)
 same_tag (Some a) (Some b) p q x y t u e = cc
 
--- whether a server has to be told the kind
+-- whether a server has to be given the kind
 abbrev pub is_told : Option ℕ → Bool
 is_told None = false
 is_told (Some t) = t == 112
@@ -58,7 +58,7 @@ cons x y l n m e f = rw (e, f) refl
 
 -- ---- the messages of the bytes begin those of more bytes
 
--- behind the startup packet
+-- after the startup packet
 tagged_front : (l m : List ClientMessage) (others : List PasswordKind) (c : List ℕ) → AllByRecursion IsTagged l → AllByRecursion IsTagged m → AllByRecursion IsSpelled l → AllByRecursion IsSpelled m
     → flat_map kinds_of m ≡ flat_map kinds_of l ++ others → flat_map bytes_of m ≡ flat_map bytes_of l ++ c → (n : List ClientMessage) × (m ≡ l ++ n)
 tagged_front [] m others c tl tm sl sm k e = (m, refl)

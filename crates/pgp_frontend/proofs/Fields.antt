@@ -1,4 +1,4 @@
--- A front of the fields, and the field behind it.
+-- A front of the fields, and the field after it.
 use Rattle.std.proofs.Common.{◌≡◌, ℕ, ◌+◌, ◌-◌, ◌<◌, List, [], ◌∷◌, ◌++◌, length, map, take, drop, Some, None, sym, ap, ◌∙◌, get_or, refl, arith, ◌≤◌, ◌⊎◌, inl, inr, length-append}
 use Rattle.std.proofs.lemmas.List.{take_more, map-append, take-append-drop, drop_more, take_all}
 use Rattle.pgp_base.proofs.Causes.{first_more, first_here, first-append, either_first}
@@ -56,7 +56,7 @@ pub fields_empty : {K : Type 0} (fields : List Field) (h : Held K) → length fi
 fields_empty [] h lt = (refl, sym (nothing_more h))
 fields_empty (f ∷ fs) h lt = absurd (omega arith)
 
--- the first field, and those behind it, as a pattern has them
+-- the first field, and those after it, as a pattern has them
 pub fields_behind : {K : Type 0} (result : Result (Unit {0}) Error) (fields : List Field) (d : Field) (old b c : Held K) → 0 < length fields
     → (part_cause (part_of (get_or fields 0 d)) ≡ None) × (b ≡ old ⊕ spelling (part_of (get_or fields 0 d)))
     → OnOk result ((parts_cause (parts_of (take (length fields - 1) (drop 1 fields))) ≡ None) × (c ≡ b ⊕ joined (parts_of (take (length fields - 1) (drop 1 fields)))))
@@ -84,14 +84,14 @@ module _ {K : Type 0} {lacks : Held K → ℕ → Type 0} where
   pub fields_want : (fields : List Field) (i : ℕ) (d : Field) (old b : Held K) (e : Error) → i < length fields → b ≡ old ⊕ joined (parts_of (take i fields)) → WantsMemory (Wants lacks b (length (spelling (part_of (get_or fields i d))))) e → WantsMemory (Wants lacks old (length (joined (parts_of fields)))) e
   fields_want fields i d old b e h s w = memory_then old b (joined (parts_of (take i fields))) _ _ e s (fields_need fields i d h) w
 
-  -- the first field was refused
+  -- the first field was rejected
   pub first_refused : (fields : List Field) (d : Field) (old : Held K) (e : Error) → 0 < length fields → WantsMemory (Wants lacks old (length (spelling (part_of (get_or fields 0 d))))) e ⊎ (part_cause (part_of (get_or fields 0 d)) ≡ Some e)
       → WantsMemory (Wants lacks old (length (joined (parts_of fields)))) e ⊎ (parts_cause (parts_of fields) ≡ Some e)
   first_refused [] d old e lt r = absurd (omega arith)
   first_refused (f ∷ fs) d old e lt (inl w) = inl (w.0, wants_more old _ _ (omega (arith, length-append (spelling (part_of f)) (joined (parts_of fs)))) w.1)
   first_refused (f ∷ fs) d old e lt (inr k) = inr (cause_here [] (part_of f) (parts_of fs) e refl k)
 
--- one behind it
+-- one after it
 pub later_refused : {K : Type 0} (lacks : Held K → ℕ → Type 0) (result : Result (Unit {0}) Error) (fields : List Field) (d : Field) (old b : Held K) → 0 < length fields
     → (part_cause (part_of (get_or fields 0 d)) ≡ None) × (b ≡ old ⊕ spelling (part_of (get_or fields 0 d)))
     → IfErr result (λ e. WantsMemory (Wants lacks b (length (joined (parts_of (take (length fields - 1) (drop 1 fields)))))) e ⊎ (parts_cause (parts_of (take (length fields - 1) (drop 1 fields))) ≡ Some e))

@@ -8,7 +8,7 @@ use Rattle.pgp_base.proofs.Parts.{filled4, sized4, more_twice}
 use Rattle.pgp_base.specs.declared.error.Error.{Error}
 use Rattle.pgp_frontend.specs.Payload.{Part, parts_cause, joined, frame_cause, framed}
 
--- `a` was held before the frame, `b` with the place of its length, `d` with its parts behind that
+-- `a` was held before the frame, `b` with the place of its length, `d` with its parts after that
 module _ {K : Type 0} (ps : List Part) (a b d : Held K) (base : ℕ) (e : b ≡ a ⊕ uint32 0) (f : d ≡ b ⊕ joined ps) (h : base ≡ length a.bytes) where
   size : length d.bytes - base ≡ length (joined ps) + 4
   size = omega (arith, sized4 a (joined ps) b d e f, h)
@@ -29,6 +29,6 @@ module _ {K : Type 0} (ps : List Part) (a b d : Held K) (base : ℕ) (e : b ≡ 
 pub frame_refused : (ps : List Part) (x : Error) → parts_cause ps ≡ Some x → frame_cause ps ≡ Some x
 frame_refused ps x c = either_first (parts_cause ps) (length_cause (length (joined ps) + 4)) x c
 
--- a tag, and the frame's bytes behind it
+-- a tag, and the frame's bytes after it
 pub tagged : {K : Type 0} (tag : ℕ) (body : List ℕ) (a b r : Held K) → b ≡ a ⊕ tag ∷ [] → r ≡ b ⊕ framed None body → r ≡ a ⊕ framed (Some tag) body
 tagged tag body a b r e f = f ∙ (ap (λ b. b ⊕ framed None body) e ∙ more_twice a (tag ∷ []) (framed None body))

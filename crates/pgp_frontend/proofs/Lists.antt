@@ -82,7 +82,7 @@ module _ (name query : List ℕ) (all : List ℕ) where
     so_far_cause m e s c =
         parts_first (Parse name query all) e (message_cause (text_cause name) (text_cause query) (count_cause (length s.0)) (count_cause (length all)) e (count_more (length s.0) (length all) e (few s.0 s.1)) (ap (λ (m : ClientMessage). parts_cause (parts m)) (sym s.2) ∙ c))
 
-    -- what refuses a message of the first types refuses that of all
+    -- what rejects a message of the first types rejects that of all
     pub parse_refused : {K : Type 0} (lacks : Held K → ℕ → Type 0) (old : Held K) (e : Error) → Refused (ParseWhole name query types) (ParseSoFar name query types) lacks old e
         → WantsMemory (Wants lacks old (length (bytes_of (Parse name query all)))) e ⊎ (cause (Parse name query all) ≡ Some e)
     parse_refused lacks old e (inl k) =

@@ -58,10 +58,10 @@ pub minor_small : (v : ProtocolVersion) → minor_of v < 2 ^ 16
 minor_small V3_0 = omega arith
 minor_small V3_2 = omega arith
 
--- Refusals.
+-- Errors.
 
 module _ {K : Type 0} {lacks : Held K → ℕ → Type 0} where
-  -- behind a tag, the place of the length, and parts
+  -- after a tag, the place of the length, and parts
   pub framed_wants : (tag : ℕ) (ps : List Part) (old b : Held K) (n m : ℕ) → b ≡ old ⊕ tag ∷ [] ⊕ uint32 0 ⊕ joined ps → 5 + length (joined ps) + n ≤ m → Wants lacks b n → Wants lacks old m
   framed_wants tag ps old b n m h k w =
       wants_then old b (tag ∷ (uint32 0 ++ joined ps)) n m (h ∙ (more_twice (old ⊕ tag ∷ []) (uint32 0) (joined ps) ∙ more_twice old (tag ∷ []) (uint32 0 ++ joined ps)))

@@ -36,7 +36,7 @@ module _ {T : Type 0} (show : T → List ℕ) (xs : List (T × T)) (name value :
       let step : r ≡ b ⊕ pair (shown_by show (name, value)) = h ∙ (ap (λ d. d ⊕ text v) f ∙ (more_twice b (text n) (text v) ∙ (ap (λ n. b ⊕ (text n ++ text v)) is_name ∙ ap (λ v. b ⊕ (text (show name) ++ text v)) is_value))) in
       more_parts pair a b r (map (shown_by show) xs) (shown_by show (name, value)) e step ∙ ap (λ ps. a ⊕ flat_map pair ps) (sym (map-append (shown_by show) xs ((name, value) ∷ [])))
 
-  -- what they take, with the 0 byte behind them
+  -- what they take, with the 0 byte after them
   pub pairs_length : length (flat_map pair (map (shown_by show) (xs ++ (name, value) ∷ [])) ++ 0 ∷ []) ≡ length (flat_map pair (map (shown_by show) xs)) + length n + length v + 3
   pairs_length =
       let e : length (flat_map pair (map (shown_by show) (xs ++ (name, value) ∷ []))) ≡ length (flat_map pair (map (shown_by show) xs)) + length (pair (shown_by show (name, value))) =

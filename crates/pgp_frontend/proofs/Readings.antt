@@ -243,7 +243,7 @@ frame_read m n x y t u f h k e =
     let r = tagged_bodies a.0 b.0 (payload m) (payload n) x y (length_fits m h) (length_fits n k) e' in
     (payload_read m n t (a.1 ∙ (ap (λ tag. Some tag) r.0 ∙ sym b.1)) f h k r.1, r.2)
 
--- Opening packets: the code tells them apart.
+-- Opening packets: the code distinguishes them.
 
 minor_is : (v w : ℕ) → minor_code v ≡ minor_code w → v ≡ w
 minor_is v w e = let same : 196608 + v ≡ 196608 + w = cc in omega (arith, same)

@@ -1,4 +1,4 @@
--- The values that were made have no cause, and the one behind them may.
+-- The values that were made have no cause, and the one after them may.
 use Rattle.std.proofs.Common.{◌≡◌, ℕ, ◌<◌, List, [], ◌∷◌, ◌++◌, Result, Option, Some, None, refl, sym, ap, ◌∙◌, map, take, length, length-append, arith, inl, inr, MutBor, subst}
 use Rattle.std.specs.List.{flat_map}
 use Rattle.std.proofs.lemmas.List.{map-append, take_all, take_at}
@@ -39,7 +39,7 @@ values_past vs v n h =
     either_then (first (map nullable_cause (take 65535 (vs ++ v ∷ [])))) (count_cause (length (vs ++ v ∷ []))) (ap (λ ws. first (map nullable_cause ws)) (take_at vs (v ∷ []) 65535 n) ∙ h)
     ∙ count_past (length (vs ++ v ∷ [])) (omega (arith, length-append vs (v ∷ [])))
 
--- a value that is too long behind those that fit
+-- a value that is too long after those that fit
 pub values_long : (vs : List (Option (List ℕ))) (v : Option (List ℕ)) (e : Error) → length vs < 65535 → first (map nullable_cause vs) ≡ None → nullable_cause v ≡ Some e → part_cause (Values (vs ++ v ∷ [])) ≡ Some e
 values_long vs v e n h k =
     let all = take_all 65535 (vs ++ v ∷ []) (omega (arith, length-append vs (v ∷ []))) in
@@ -47,7 +47,7 @@ values_long vs v e n h k =
     (ap (λ ws. first (map nullable_cause ws)) all ∙ (ap first (map-append nullable_cause vs (v ∷ [])) ∙ first_here (map nullable_cause vs) (nullable_cause v) [] e h k))
 
 module _ {F T E B K : Type 0} (held : B → Held K) (step : F → T → MutBor B → Result IsNull E → MutBor B → F → Type 0) {U S : Type 0} (into_iter_gives : U → S → Type 0) (next_gives : S → Option T → S → Type 0) (source : U) (f : F) (here old : Held K) (at_count : here ≡ old ⊕ uint16 0) (lacks : Held K → ℕ → Type 0) where
-  -- a value that was refused behind those that were made
+  -- a value that was rejected after those that were made
   pub value_stops : (xs : List T) (x : T) (vs : List (Option (List ℕ))) (at u : F) (b : Held K) (e : BindError E)
       → Came into_iter_gives next_gives source xs (Some x) → Runs (Gives held step) nullable here f xs vs at → length xs < 65535 → b ≡ here ⊕ flat_map nullable vs
       → ValueRefused held step lacks b at x e u → ValuesRefused (Came into_iter_gives next_gives source) (Serves held step f u) here lacks old e

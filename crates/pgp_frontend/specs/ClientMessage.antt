@@ -2,9 +2,9 @@
 -- PostgreSQL manual, "Message Formats".
 use Rattle.std.specs.Prelude.{◌≡◌, ◌⊎◌, ℕ, ℤ, List, Option, Some, None}
 
--- A text is its bytes without the 0 byte behind it, a value its bytes, or none for a null.
+-- A text is its bytes without the 0 byte after it, a value its bytes, or none for a null.
 pub data ClientMessage : Type 0 where
-  -- behind a tag
+  -- after a tag
   Bind : (portal statement : List ℕ) (formats : List ℤ) (values : List (Option (List ℕ))) (result_formats : List ℤ) → ClientMessage
   Close : (variant : ℕ) (name : List ℕ) → ClientMessage
   CopyData : (bytes : List ℕ) → ClientMessage
@@ -28,7 +28,8 @@ pub data ClientMessage : Type 0 where
   SslRequest : ClientMessage
   GssEncRequest : ClientMessage
 
--- The three messages of tag `p` aren't told apart by their bytes: the server knows which it expects.
+-- The three messages of tag `p` aren't distinguished by their bytes: the server knows which it
+-- expects.
 pub data PasswordKind : Type 0 where
   Password : PasswordKind
   Initial : PasswordKind

@@ -18,7 +18,7 @@ use Rattle.pgp_frontend.specs.declared.startup.ProtocolVersion.{ProtocolVersion}
 use Rattle.pgp_frontend.specs.Payload.{Part, Text, Int16s, Oids, Values, Pairs, minor_of, parts, part_cause, parts_cause, joined, cause, bytes_of, IsInRange}
 use denote.Ref.{MutBor}
 
--- The message of all that the iterators gave, which `Whole` tells, stands behind what the buffer held, and
+-- The message of all that the iterators gave, which `Whole` says, stands after what the buffer held, and
 -- has no cause.
 pub record Appended {K : Type 0} (Whole : ClientMessage → Type 0) (old new : Held K) : Type 0 where
   pub message : ClientMessage
@@ -27,20 +27,20 @@ pub record Appended {K : Type 0} (Whole : ClientMessage → Type 0) (old new : H
   pub none : cause message ≡ None
   pub appended : new ≡ old ⊕ bytes_of message
 
--- `SoFar` tells the message of what came so far.
+-- `SoFar` reports the message of what came so far.
 module _ (Whole SoFar : ClientMessage → Type 0) where
-  -- Why the call was refused: for want of memory that the message so far needs, or for the first cause of its parts;
+  -- Why the call was refused: for lack of memory that the message so far needs, or for the first cause of its parts;
   -- or all came, no part has a cause, and the length of the whole has.
   abbrev pub Refused : {K : Type 0} → (Held K → ℕ → Type 0) → Held K → Error → Type 0
   Refused lacks old e = ((m : ClientMessage) × SoFar m × (WantsMemory (Wants lacks old (length (bytes_of m))) e ⊎ (parts_cause (parts m) ≡ Some e)))
       ⊎ ((m : ClientMessage) × Whole m × (parts_cause (parts m) ≡ None) × (cause m ≡ Some e))
 
-  -- It appends the message of all items; or it leaves the bytes, and is refused.
+  -- It appends the message of all items; or it leaves the bytes, and is rejected.
   abbrev pub WritesGiven : {K : Type 0} → (Held K → ℕ → Type 0) → Held K → Held K → Result (Unit {0}) Error → Type 0
   WritesGiven lacks old new (Ok done) = Appended Whole old new
   WritesGiven lacks old new (Err e) = Refused lacks old e × Leaves old new
 
--- The items that came so far: those before the last have no cause, as their part tells, and it is one that came next, if
+-- The items that came so far: those before the last have no cause, as their part says, and it is one that came next, if
 -- any did.
 pub record CameUpTo {A : Type 0} (given : List A → Option A → Type 0) (part : List A → Part) (xs : List A) : Type 0 where
   pub before : List A
@@ -64,7 +64,7 @@ module _ (name query : List ℕ) (types : List ℕ → Option ℕ → Type 0) wh
   abbrev pub WritesParse : {K : Type 0} → (Held K → ℕ → Type 0) → Held K → Held K → Result (Unit {0}) Error → Type 0
   WritesParse lacks old new result = WritesGiven ParseWhole ParseSoFar lacks old new result
 
--- the bytes of a name and a value, where `show` tells the bytes of a text
+-- the bytes of a name and a value, where `show` reports the bytes of a text
 abbrev pub shown_by : {T : Type 0} → (T → List ℕ) → T × T → List ℕ × List ℕ
 shown_by show x = (show x.0, show x.1)
 
@@ -92,22 +92,22 @@ module _ (version : ProtocolVersion) (parameters : List (Bor (List ℕ) × Bor (
   abbrev pub WritesStartup : {K : Type 0} → (Held K → ℕ → Type 0) → Held K → Held K → Result (Unit {0}) Error → Type 0
   WritesStartup lacks old new result = WritesGiven (StartupWhole (λ text. text.now) version parameters) (StartupSoFar (λ text. text.now) version parameters) lacks old new result
 
--- a call of a serializer: the item, its answer, and the bytes that it put behind the place of the value's length
+-- a call of a serializer: the item, its answer, and the bytes that it put after the place of the value's length
 pub record Call (T E : Type 0) : Type 0 where
   pub item : T
   pub answer : Result IsNull E
   pub bytes : List ℕ
 
 -- What a serializer did, which began as `f` and was left as `last`. With `here` in the buffer it was called once
--- at each of xs, in order, each time behind the values before it, and made vs; and then at one item more, if a
--- call is told that made no value.
+-- at each of xs, in order, each time after the values before it, and made vs; and then at one item more, if a
+-- call is reported that made no value.
 module _ {F T E B K : Type 0} (held : B → Held K) (step : F → T → MutBor B → Result IsNull E → MutBor B → F → Type 0) (f last : F) where
   abbrev pub Serves : Held K → List T → List (Option (List ℕ)) → Option (Call T E) → Type 0
   Serves here xs vs None = Runs (Gives held step) nullable here f xs vs last
   Serves here xs vs (Some call) = (at : F) × Runs (Gives held step) nullable here f xs vs at
       × Puts held step (here ⊕ flat_map nullable vs ⊕ uint32 0) at call.item call.answer call.bytes last
 
--- The values of the items that were given, as `serves` tells what the serializer did. `here` is what the buffer
+-- The values of the items that were given, as `serves` says what the serializer did. `here` is what the buffer
 -- holds before the first of them.
 module _ {T E K : Type 0} (given : List T → Option T → Type 0) (serves : Held K → List T → List (Option (List ℕ)) → Option (Call T E) → Type 0) (here : Held K) where
   -- the serializer made vs of all items
@@ -117,7 +117,7 @@ module _ {T E K : Type 0} (given : List T → Option T → Type 0) (serves : Hel
     pub made : serves here xs vs None
 
   -- The values so far, up to the item x: the serializer made those before it. It wasn't called at x, for whose value a
-  -- null stands; or it put these bytes, and the call was refused for them.
+  -- null stands; or it put these bytes, and the call was rejected for them.
   pub record ValuesUpTo (vs : List (Option (List ℕ))) : Type 0 where
     pub xs : List T
     pub x : T
@@ -129,7 +129,7 @@ module _ {T E K : Type 0} (given : List T → Option T → Type 0) (serves : Hel
     pub made : (serves here xs before None × (value ≡ None))
         ⊎ ((length xs < 65535) × ((bytes : List ℕ) × serves here xs before (Some (record { item = x; answer = Ok No; bytes = bytes })) × (value ≡ Some bytes)))
 
-  -- the serializer refused with e
+  -- the serializer rejected with e
   pub record Converts (e : E) : Type 0 where
     pub xs : List T
     pub x : T
@@ -146,7 +146,7 @@ before_values old portal statement formats = old ⊕ 66 ∷ [] ⊕ uint32 0 ⊕ 
 -- `bind` of these texts, and of the formats and items that were given
 module _ {T E K : Type 0} (portal statement : List ℕ) (formats : List ℤ → Option ℤ → Type 0) (values : List T → Option T → Type 0)
     (serves : Held K → List T → List (Option (List ℕ)) → Option (Call T E) → Type 0) (result_formats : List ℤ → Option ℤ → Type 0) (old : Held K) where
-  -- the serializer made vs of all items, behind these formats
+  -- the serializer made vs of all items, after these formats
   abbrev pub AllServed : List ℤ → List (Option (List ℕ)) → Type 0
   AllServed fs vs = Served values serves (before_values old portal statement fs) vs
 
@@ -176,7 +176,7 @@ module _ {T E K : Type 0} (portal statement : List ℕ) (formats : List ℤ → 
   abbrev pub BindSoFar : ClientMessage → Type 0
   BindSoFar m = FormatsCame m ⊎ (ValuesCame m ⊎ ResultsCame m)
 
-  -- why the call was refused: by the serializer, or as any writer
+  -- why the call was rejected: by the serializer, or as any writer
   abbrev pub BindRefused : (Held K → ℕ → Type 0) → BindError E → Type 0
   BindRefused lacks (Conversion e) = (fs : List ℤ) × ComesToValues fs × Converts values serves (before_values old portal statement fs) e
   BindRefused lacks (Serialization e) = Refused BindWhole BindSoFar lacks old e

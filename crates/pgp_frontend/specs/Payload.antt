@@ -29,7 +29,7 @@ pub data Part : Type 0 where
   Rest : List ℕ → Part
   -- the same, of a cancel request's key
   Key : List ℕ → Part
-  -- names and values, and a 0 byte behind them
+  -- names and values, and a 0 byte after them
   Pairs : List (List ℕ × List ℕ) → Part
 
 abbrev pub pair : List ℕ × List ℕ → List ℕ
@@ -169,7 +169,7 @@ bytes_of m = framed (tag_of m) (payload m)
 abbrev pub parts_cause : List Part → Cause
 parts_cause ps = first (map part_cause ps)
 
--- a frame's own length stands behind its parts
+-- a frame's own length stands after its parts
 abbrev pub frame_cause : List Part → Cause
 frame_cause ps = either (parts_cause ps) (length_cause (length (joined ps) + 4))
 
@@ -185,7 +185,7 @@ HasMinor _ = Unit {0}
 abbrev pub IsInRange : ClientMessage → Type 0
 IsInRange m = EachInRange (parts m) × HasMinor m
 
--- A writer of these parts behind this tag: it appends the frame, and there is no cause; or it leaves
+-- A writer of these parts after this tag: it appends the frame, and there is no cause; or it leaves
 -- the bytes, and is refused for want of the memory that the frame needs, or for the first cause.
 abbrev pub WritesFrame : {K : Type 0} → Option ℕ → List Part → (Held K → ℕ → Type 0) → Held K → Held K → Result (Unit {0}) Error → Type 0
 WritesFrame tag ps lacks old new result = Writes (framed tag (joined ps)) (frame_cause ps) lacks old new result

@@ -10,7 +10,7 @@ use Rattle.pgp_frontend.specs.ClientMessage.{Bind}
 use Rattle.pgp_frontend.specs.Given.{Arrived, Call, ValuesUpTo, Converts}
 use Rattle.pgp_frontend.specs.Payload.{Part, Int16s, Values, spelling, part_cause, parts, parts_cause, joined, bytes_of}
 
--- the parts have no cause, and stand behind what was held
+-- the parts have no cause, and stand after what was held
 abbrev pub PutsParts : {K : Type 0} → List Part → Held K → Held K → Type 0
 PutsParts ps old new = (parts_cause ps ≡ None) × (new ≡ old ⊕ joined ps)
 
@@ -18,7 +18,7 @@ PutsParts ps old new = (parts_cause ps ≡ None) × (new ≡ old ⊕ joined ps)
 abbrev pub PartsRefused : {K : Type 0} → List Part → (Held K → ℕ → Type 0) → Held K → Error → Type 0
 PartsRefused ps lacks old e = WantsMemory (Wants lacks old (length (joined ps))) e ⊎ (parts_cause ps ≡ Some e)
 
--- the items that came so far were refused, in the same two ways
+-- the items that came so far were rejected, in the same two ways
 abbrev pub ItemsRefused : {K A : Type 0} → (List A → Option A → Type 0) → (List A → Part) → (Held K → ℕ → Type 0) → Held K → Error → Type 0
 ItemsRefused {A = A} given part lacks old e = (xs : List A) × Arrived given part xs × (WantsMemory (Wants lacks old (length (spelling (part xs)))) e ⊎ (part_cause (part xs) ≡ Some e))
 

@@ -13,8 +13,8 @@ use pgp_base::{Buffer, Error};
 ///
 /// # Errors
 ///
-/// `EmbeddedNull` where the password has a 0 byte, `TooLarge` where the message passes the greatest `i32`, and
-/// `OutOfMemory` where a growth was refused. The buffer keeps its bytes.
+/// Returns `EmbeddedNull` if the password has a 0 byte, `TooLarge` if the message exceeds `i32::MAX`, and
+/// `OutOfMemory` if the buffer can't grow. On error the buffer is unchanged.
 pub fn password_message<B: Buffer>(password: &[u8], buf: &mut B) -> Result<(), Error>
     ensures { WritesMessage (PasswordMessage password.now) B.Lacks (B.held buf.old) (B.held buf.new) result }
 {
@@ -25,8 +25,8 @@ pub fn password_message<B: Buffer>(password: &[u8], buf: &mut B) -> Result<(), E
 ///
 /// # Errors
 ///
-/// `EmbeddedNull` where the mechanism has a 0 byte, `TooLarge` where the message passes the greatest `i32`, and
-/// `OutOfMemory` where a growth was refused. The buffer keeps its bytes.
+/// Returns `EmbeddedNull` if the mechanism has a 0 byte, `TooLarge` if the message exceeds `i32::MAX`, and
+/// `OutOfMemory` if the buffer can't grow. On error the buffer is unchanged.
 pub fn sasl_initial_response<B: Buffer>(
     mechanism: &str,
     data: &[u8],
@@ -41,8 +41,8 @@ pub fn sasl_initial_response<B: Buffer>(
 ///
 /// # Errors
 ///
-/// `TooLarge` where the message passes the greatest `i32`, and `OutOfMemory` where a growth was refused. The
-/// buffer keeps its bytes.
+/// Returns `TooLarge` if the message exceeds `i32::MAX`, and `OutOfMemory` if the buffer can't grow. On
+/// error the buffer is unchanged.
 pub fn sasl_response<B: Buffer>(data: &[u8], buf: &mut B) -> Result<(), Error>
     ensures { WritesMessage (SaslResponse «data».now) B.Lacks (B.held buf.old) (B.held buf.new) result }
 {

@@ -35,7 +35,7 @@ impl<T: Buf + Drop> CopyData<T> {
     ///
     /// # Errors
     ///
-    /// `TooLarge` where these bytes and four pass the greatest `i32`.
+    /// Returns `TooLarge` if these bytes and four exceed `i32::MAX`.
     pub fn new(buf: T) -> Result<CopyData<T>, Error>
         ensures ok { IfOk result (λ piece. (piece ≡ buf) × (cause (DataMessage (T.unread buf)) ≡ None)) }
         ensures err { IfErr result (λ e. cause (DataMessage (T.unread buf)) ≡ Some e) }
@@ -52,7 +52,7 @@ impl<T: Buf + Drop> CopyData<T> {
     ///
     /// # Errors
     ///
-    /// Itself, nothing read from it, where a growth was refused. The buffer keeps its bytes.
+    /// Itself, nothing read from it, if the buffer can't grow. On error the buffer is unchanged.
     pub fn write<B: Buffer>(self, out: &mut B) -> Result<(), CopyData<T>>
         ensures ok { OnOk result (WritesMessage (DataMessage (T.unread self)) B.Lacks (B.held out.old) (B.held out.new) (Ok tt)) }
         ensures err { IfErr result (λ piece. (piece ≡ self) × Wants B.Lacks (B.held out.old) (length (bytes_of (DataMessage (T.unread self)))) × Leaves (B.held out.old) (B.held out.new)) }
@@ -69,7 +69,7 @@ impl<T: Buf + Drop> CopyData<T> {
     }
 }
 
-// The frame of what is left of `buf`. A refusal reads nothing, and leaves what stood there as a front.
+// The frame of what is left of `buf`. An error reads nothing, and leaves what stood there as a front.
 fn fill<T: Buf, B: Buffer>(size: u32, buf: &mut T, out: &mut B) -> Result<(), Error>
     requires { size ≡ length (T.unread buf.old) + 4 }
     ensures ok { OnOk result (B.held out.new ≡ B.held out.old ⊕ (100 ∷ uint32 size ++ T.unread buf.old)) }
@@ -88,7 +88,7 @@ fn fill<T: Buf, B: Buffer>(size: u32, buf: &mut T, out: &mut B) -> Result<(), Er
 ///
 /// # Errors
 ///
-/// `OutOfMemory` where a growth was refused. The buffer keeps its bytes.
+/// Returns `OutOfMemory` if the buffer can't grow. On error the buffer is unchanged.
 pub fn copy_done<B: Buffer>(buf: &mut B) -> Result<(), Error>
     ensures { WritesMessage CopyDone B.Lacks (B.held buf.old) (B.held buf.new) result }
 {
@@ -99,8 +99,8 @@ pub fn copy_done<B: Buffer>(buf: &mut B) -> Result<(), Error>
 ///
 /// # Errors
 ///
-/// `EmbeddedNull` where the text has a 0 byte, `TooLarge` where the message passes the greatest `i32`, and
-/// `OutOfMemory` where a growth was refused. The buffer keeps its bytes.
+/// Returns `EmbeddedNull` if the text has a 0 byte, `TooLarge` if the message exceeds `i32::MAX`, and
+/// `OutOfMemory` if the buffer can't grow. On error the buffer is unchanged.
 pub fn copy_fail<B: Buffer>(reason: &str, buf: &mut B) -> Result<(), Error>
     ensures { WritesMessage (CopyFail reason.now) B.Lacks (B.held buf.old) (B.held buf.new) result }
 {

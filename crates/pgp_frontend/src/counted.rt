@@ -1,4 +1,4 @@
-//! Counts, and the numbers that come from an iterator. A refusal leaves what stood there as a front.
+//! Counts, and the numbers that come from an iterator. An error leaves what stood there as a front.
 #![tactic(auto, using(pgp_base::proofs::Parts::held_steps))]
 
 ghost use Rattle.std.specs.Prelude.{◌≡◌, ℕ, ℤ, ◌^◌, ◌<◌, List, None, OnOk, OnErr, IfErr, All, FitsSigned};

@@ -22,8 +22,8 @@ use pgp_base::{BindError, Buffer, Error, IsNull, Oid, finish_body, put_u8, put_u
 ///
 /// # Errors
 ///
-/// `EmbeddedNull` where the name has a 0 byte, `TooLarge` where the message passes the greatest `i32`, and
-/// `OutOfMemory` where a growth was refused. The buffer keeps its bytes.
+/// Returns `EmbeddedNull` if the name has a 0 byte, `TooLarge` if the message exceeds `i32::MAX`, and
+/// `OutOfMemory` if the buffer can't grow. On error the buffer is unchanged.
 pub fn close<B: Buffer>(variant: u8, name: &str, buf: &mut B) -> Result<(), Error>
     ensures { WritesMessage (Close variant name.now) B.Lacks (B.held buf.old) (B.held buf.new) result }
 {
@@ -34,8 +34,8 @@ pub fn close<B: Buffer>(variant: u8, name: &str, buf: &mut B) -> Result<(), Erro
 ///
 /// # Errors
 ///
-/// `EmbeddedNull` where the name has a 0 byte, `TooLarge` where the message passes the greatest `i32`, and
-/// `OutOfMemory` where a growth was refused. The buffer keeps its bytes.
+/// Returns `EmbeddedNull` if the name has a 0 byte, `TooLarge` if the message exceeds `i32::MAX`, and `OutOfMemory` if the buffer
+/// can't grow. On error the buffer is unchanged.
 pub fn describe<B: Buffer>(variant: u8, name: &str, buf: &mut B) -> Result<(), Error>
     ensures { WritesMessage (Describe variant name.now) B.Lacks (B.held buf.old) (B.held buf.new) result }
 {
@@ -46,8 +46,8 @@ pub fn describe<B: Buffer>(variant: u8, name: &str, buf: &mut B) -> Result<(), E
 ///
 /// # Errors
 ///
-/// `EmbeddedNull` where the portal's name has a 0 byte, `TooLarge` where the message passes the greatest `i32`, and
-/// `OutOfMemory` where a growth was refused. The buffer keeps its bytes.
+/// Returns `EmbeddedNull` if the portal's name has a 0 byte, `TooLarge` if the message exceeds `i32::MAX`, and
+/// `OutOfMemory` if the buffer can't grow. On error the buffer is unchanged.
 pub fn execute<B: Buffer>(portal: &str, max_rows: i32, buf: &mut B) -> Result<(), Error>
     ensures { WritesMessage (Execute portal.now max_rows) B.Lacks (B.held buf.old) (B.held buf.new) result }
 {
@@ -58,7 +58,7 @@ pub fn execute<B: Buffer>(portal: &str, max_rows: i32, buf: &mut B) -> Result<()
 ///
 /// # Errors
 ///
-/// `OutOfMemory` where a growth was refused. The buffer keeps its bytes.
+/// Returns `OutOfMemory` if the buffer can't grow. On error the buffer is unchanged.
 pub fn flush<B: Buffer>(buf: &mut B) -> Result<(), Error>
     ensures { WritesMessage Flush B.Lacks (B.held buf.old) (B.held buf.new) result }
 {
@@ -69,14 +69,14 @@ pub fn flush<B: Buffer>(buf: &mut B) -> Result<(), Error>
 ///
 /// # Errors
 ///
-/// `OutOfMemory` where a growth was refused. The buffer keeps its bytes.
+/// Returns `OutOfMemory` if the buffer can't grow. On error the buffer is unchanged.
 pub fn sync<B: Buffer>(buf: &mut B) -> Result<(), Error>
     ensures { WritesMessage Sync B.Lacks (B.held buf.old) (B.held buf.new) result }
 {
     message(b'S', &[], buf)
 }
 
-// The message of a `parse`. A refusal leaves what the buffer held as a front.
+// The message of a `parse`. An error leaves what the buffer held as a front.
 pub(crate) fn fill_parse<B: Buffer, I: IntoIterator<Item = Oid> + Drop>(
     name: &[u8],
     query: &[u8],
@@ -111,9 +111,9 @@ where
 ///
 /// # Errors
 ///
-/// The first from the left of: `EmbeddedNull` where a text has a 0 byte, `TooLarge` at the identifier past 65,535,
-/// which is not written, `TooLarge` where the message passes the greatest `i32`. Else `OutOfMemory` where a
-/// growth was refused, which may come before any of them. The buffer keeps its bytes.
+/// The first from the left of: `EmbeddedNull` if a text has a 0 byte, `TooLarge` at the identifier past 65,535,
+/// which is not written, `TooLarge` if the message exceeds `i32::MAX`. Otherwise `OutOfMemory`, which may come
+/// before any of them, if the buffer can't grow. On error the buffer is unchanged.
 pub fn parse<B: Buffer, I: IntoIterator<Item = Oid> + Drop>(
     name: &str,
     query: &str,
@@ -130,7 +130,7 @@ where
     over_bytes::parse(name.as_bytes(), query.as_bytes(), param_types, buf)
 }
 
-// The message up to the values. A refusal leaves what the buffer held as a front.
+// The message up to the values. An error leaves what the buffer held as a front.
 fn fill_formats<B: Buffer, I: IntoIterator<Item = i16> + Drop>(
     portal: &[u8],
     statement: &[u8],
@@ -155,7 +155,7 @@ where
     Ok(())
 }
 
-// The message of a `bind`. A refusal leaves what the buffer held as a front.
+// The message of a `bind`. An error leaves what the buffer held as a front.
 pub(crate) fn fill_bind<
     B: Buffer,
     T: Drop,
@@ -204,17 +204,17 @@ where
     Ok(())
 }
 
-/// Binds values to a statement's parameters, and makes a portal of it. The formats are 0 for text
-/// and 1 for binary: none for all text, one for all, or one for each. The serializer appends the
-/// bytes of each value, or answers that it is null and appends nothing. It is called once an item, in order,
-/// and not at all where the names or the formats are refused.
+/// Binds values to a statement's parameters, and makes a portal of it. The formats are 0 for text and 1 for binary:
+/// none for all text, one for all, or one for each. The serializer appends the bytes of each value, or returns that
+/// it is null and appends nothing. It is called once an item, in order, and not at all where the names or the
+/// formats are rejected.
 ///
 /// # Errors
 ///
-/// The first from the left of: `Serialization` of `EmbeddedNull` where a name has a 0 byte, and of `TooLarge` at the
-/// item past 65,535 of a list, which is not written, where the bytes of a value pass the greatest `i32`,
-/// or where the message does; `Conversion` where the serializer refused a value. Else `Serialization` of
-/// `OutOfMemory` where a growth was refused, which may come before any of them. The buffer keeps its bytes.
+/// The first from the left of: `Serialization` of `EmbeddedNull` if a name has a 0 byte, and of `TooLarge` at the
+/// item past 65,535 of a list, which is not written, where the bytes of a value exceed `i32::MAX`, or where the
+/// message does; `Conversion` if the serializer failed a value. Otherwise `Serialization` of `OutOfMemory`, which
+/// may come before any of them, if the buffer can't grow. On error the buffer is unchanged.
 pub fn bind<
     B: Buffer,
     T: Drop,

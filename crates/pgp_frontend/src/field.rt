@@ -43,7 +43,7 @@ fn taken(field: &Field) -> usize
     }
 }
 
-/// How much room these fields take behind their length, and it, at most what a frame can hold.
+/// How much room these fields take after their length, and it, at most what a frame can hold.
 // The hint carries the speed of short messages.
 #[inline(always)]
 pub fn room(fields: &[Field]) -> usize
@@ -128,7 +128,7 @@ fn put_each<B: Buffer>(fields: &[Field], buf: &mut B) -> Result<(), Error>
     Ok(())
 }
 
-/// Appends the fields. A refusal leaves what stood there as a front. The first two stand ahead of the loop, so that a
+/// Appends the fields. An error leaves what stood there as a front. The first two stand ahead of the loop, so that a
 /// message of at most three fields that are known when it is compiled keeps no loop, and none of them in memory.
 // The hint carries the speed of short messages.
 #[inline(always)]

@@ -17,8 +17,8 @@ use pgp_base::{BindError, Buffer, Error, IsNull, Oid};
 ///
 /// # Errors
 ///
-/// `EmbeddedNull` where the query has a 0 byte, `TooLarge` where the message passes the greatest `i32`, and
-/// `OutOfMemory` where a growth was refused. The buffer keeps its bytes.
+/// Returns `EmbeddedNull` if the query has a 0 byte, `TooLarge` if the message exceeds `i32::MAX`, and
+/// `OutOfMemory` if the buffer can't grow. On error the buffer is unchanged.
 // The hint carries the speed of short messages.
 #[inline(always)]
 pub fn query<B: Buffer>(query: &[u8], buf: &mut B) -> Result<(), Error>
@@ -32,9 +32,9 @@ pub fn query<B: Buffer>(query: &[u8], buf: &mut B) -> Result<(), Error>
 ///
 /// # Errors
 ///
-/// The first from the left of: `EmbeddedNull` where a text has a 0 byte, `TooLarge` at the identifier past 65,535,
-/// which is not written, `TooLarge` where the message passes the greatest `i32`. Else `OutOfMemory` where a
-/// growth was refused, which may come before any of them. The buffer keeps its bytes.
+/// The first from the left of: `EmbeddedNull` if a text has a 0 byte, `TooLarge` at the identifier past 65,535,
+/// which is not written, `TooLarge` if the message exceeds `i32::MAX`. Otherwise `OutOfMemory`, which may come
+/// before any of them, if the buffer can't grow. On error the buffer is unchanged.
 // The hint carries the speed of short messages.
 #[inline(always)]
 pub fn parse<B: Buffer, I: IntoIterator<Item = Oid> + Drop>(
@@ -60,17 +60,17 @@ where
     }
 }
 
-/// Binds values to a statement's parameters, and makes a portal of it. The formats are 0 for text
-/// and 1 for binary: none for all text, one for all, or one for each. The serializer appends the
-/// bytes of each value, or answers that it is null and appends nothing. It is called once an item, in order,
-/// and not at all where the names or the formats are refused.
+/// Binds values to a statement's parameters, and makes a portal of it. The formats are 0 for text and 1 for binary:
+/// none for all text, one for all, or one for each. The serializer appends the bytes of each value, or returns that
+/// it is null and appends nothing. It is called once an item, in order, and not at all where the names or the
+/// formats are rejected.
 ///
 /// # Errors
 ///
-/// The first from the left of: `Serialization` of `EmbeddedNull` where a name has a 0 byte, and of `TooLarge` at the
-/// item past 65,535 of a list, which is not written, where the bytes of a value pass the greatest `i32`,
-/// or where the message does; `Conversion` where the serializer refused a value. Else `Serialization` of
-/// `OutOfMemory` where a growth was refused, which may come before any of them. The buffer keeps its bytes.
+/// The first from the left of: `Serialization` of `EmbeddedNull` if a name has a 0 byte, and of `TooLarge` at the
+/// item past 65,535 of a list, which is not written, where the bytes of a value exceed `i32::MAX`, or where the
+/// message does; `Conversion` if the serializer failed a value. Otherwise `Serialization` of `OutOfMemory`, which
+/// may come before any of them, if the buffer can't grow. On error the buffer is unchanged.
 // The hint carries the speed of short messages.
 #[inline(always)]
 pub fn bind<
@@ -128,8 +128,8 @@ where
 ///
 /// # Errors
 ///
-/// `EmbeddedNull` where the name has a 0 byte, `TooLarge` where the message passes the greatest `i32`, and
-/// `OutOfMemory` where a growth was refused. The buffer keeps its bytes.
+/// Returns `EmbeddedNull` if the name has a 0 byte, `TooLarge` if the message exceeds `i32::MAX`, and `OutOfMemory` if the buffer
+/// can't grow. On error the buffer is unchanged.
 // The hint carries the speed of short messages.
 #[inline(always)]
 pub fn describe<B: Buffer>(variant: u8, name: &[u8], buf: &mut B) -> Result<(), Error>
@@ -142,8 +142,8 @@ pub fn describe<B: Buffer>(variant: u8, name: &[u8], buf: &mut B) -> Result<(), 
 ///
 /// # Errors
 ///
-/// `EmbeddedNull` where the name has a 0 byte, `TooLarge` where the message passes the greatest `i32`, and
-/// `OutOfMemory` where a growth was refused. The buffer keeps its bytes.
+/// Returns `EmbeddedNull` if the name has a 0 byte, `TooLarge` if the message exceeds `i32::MAX`, and
+/// `OutOfMemory` if the buffer can't grow. On error the buffer is unchanged.
 // The hint carries the speed of short messages.
 #[inline(always)]
 pub fn close<B: Buffer>(variant: u8, name: &[u8], buf: &mut B) -> Result<(), Error>
@@ -156,8 +156,8 @@ pub fn close<B: Buffer>(variant: u8, name: &[u8], buf: &mut B) -> Result<(), Err
 ///
 /// # Errors
 ///
-/// `EmbeddedNull` where the portal's name has a 0 byte, `TooLarge` where the message passes the greatest `i32`, and
-/// `OutOfMemory` where a growth was refused. The buffer keeps its bytes.
+/// Returns `EmbeddedNull` if the portal's name has a 0 byte, `TooLarge` if the message exceeds `i32::MAX`, and
+/// `OutOfMemory` if the buffer can't grow. On error the buffer is unchanged.
 // The hint carries the speed of short messages.
 #[inline(always)]
 pub fn execute<B: Buffer>(portal: &[u8], max_rows: i32, buf: &mut B) -> Result<(), Error>
@@ -170,8 +170,8 @@ pub fn execute<B: Buffer>(portal: &[u8], max_rows: i32, buf: &mut B) -> Result<(
 ///
 /// # Errors
 ///
-/// `EmbeddedNull` where the mechanism has a 0 byte, `TooLarge` where the message passes the greatest `i32`, and
-/// `OutOfMemory` where a growth was refused. The buffer keeps its bytes.
+/// Returns `EmbeddedNull` if the mechanism has a 0 byte, `TooLarge` if the message exceeds `i32::MAX`, and
+/// `OutOfMemory` if the buffer can't grow. On error the buffer is unchanged.
 // The hint carries the speed of short messages.
 #[inline(always)]
 pub fn sasl_initial_response<B: Buffer>(
@@ -188,8 +188,8 @@ pub fn sasl_initial_response<B: Buffer>(
 ///
 /// # Errors
 ///
-/// `EmbeddedNull` where the text has a 0 byte, `TooLarge` where the message passes the greatest `i32`, and
-/// `OutOfMemory` where a growth was refused. The buffer keeps its bytes.
+/// Returns `EmbeddedNull` if the text has a 0 byte, `TooLarge` if the message exceeds `i32::MAX`, and
+/// `OutOfMemory` if the buffer can't grow. On error the buffer is unchanged.
 // The hint carries the speed of short messages.
 #[inline(always)]
 pub fn copy_fail<B: Buffer>(reason: &[u8], buf: &mut B) -> Result<(), Error>
@@ -203,8 +203,8 @@ pub fn copy_fail<B: Buffer>(reason: &[u8], buf: &mut B) -> Result<(), Error>
 ///
 /// # Errors
 ///
-/// `EmbeddedNull` where a name or a value has a 0 byte, `TooLarge` where the message passes the greatest `i32`, and
-/// `OutOfMemory` where a growth was refused. The buffer keeps its bytes.
+/// Returns `EmbeddedNull` if a name or a value has a 0 byte, `TooLarge` if the message exceeds `i32::MAX`, and
+/// `OutOfMemory` if the buffer can't grow. On error the buffer is unchanged.
 pub fn startup_message<'a, B: Buffer, I: IntoIterator<Item = (&'a [u8], &'a [u8])> + Drop>(
     parameters: I,
     buf: &mut B,
@@ -224,8 +224,8 @@ where
 ///
 /// # Errors
 ///
-/// `EmbeddedNull` where a name or a value has a 0 byte, `TooLarge` where the message passes the greatest `i32`, and
-/// `OutOfMemory` where a growth was refused. The buffer keeps its bytes.
+/// Returns `EmbeddedNull` if a name or a value has a 0 byte, `TooLarge` if the message exceeds `i32::MAX`, and
+/// `OutOfMemory` if the buffer can't grow. On error the buffer is unchanged.
 pub fn startup_message_version<'a, B: Buffer, I: IntoIterator<Item = (&'a [u8], &'a [u8])> + Drop>(
     version: ProtocolVersion,
     parameters: I,

@@ -12,8 +12,8 @@ use pgp_base::{Buffer, Error};
 ///
 /// # Errors
 ///
-/// `EmbeddedNull` where the query has a 0 byte, `TooLarge` where the message passes the greatest `i32`, and
-/// `OutOfMemory` where a growth was refused. The buffer keeps its bytes.
+/// Returns `EmbeddedNull` if the query has a 0 byte, `TooLarge` if the message exceeds `i32::MAX`, and
+/// `OutOfMemory` if the buffer can't grow. On error the buffer is unchanged.
 pub fn query<B: Buffer>(query: &str, buf: &mut B) -> Result<(), Error>
     ensures { WritesMessage (Query query.now) B.Lacks (B.held buf.old) (B.held buf.new) result }
 {
@@ -24,7 +24,7 @@ pub fn query<B: Buffer>(query: &str, buf: &mut B) -> Result<(), Error>
 ///
 /// # Errors
 ///
-/// `OutOfMemory` where a growth was refused. The buffer keeps its bytes.
+/// Returns `OutOfMemory` if the buffer can't grow. On error the buffer is unchanged.
 pub fn terminate<B: Buffer>(buf: &mut B) -> Result<(), Error>
     ensures { WritesMessage Terminate B.Lacks (B.held buf.old) (B.held buf.new) result }
 {

@@ -1,4 +1,4 @@
-//! The packets that open a connection. They have no tag: a code stands behind their length.
+//! The packets that open a connection. They have no tag: a code stands after their length.
 #![tactic(auto, using(pgp_base::proofs::Parts::held_steps))]
 
 ghost use Rattle.std.specs.Prelude.{◌≡◌, ℕ, List, length, None, OnOk, OnErr, IfErr};
@@ -39,7 +39,7 @@ pub enum ProtocolVersion {
 ///
 /// # Errors
 ///
-/// `OutOfMemory` where a growth was refused. The buffer keeps its bytes.
+/// Returns `OutOfMemory` if the buffer can't grow. On error the buffer is unchanged.
 pub fn cancel_request<B: Buffer>(process_id: i32, secret_key: i32, buf: &mut B) -> Result<(), Error>
     ensures { WritesMessage (CancelRequest process_id (int32 secret_key)) B.Lacks (B.held buf.old) (B.held buf.new) result }
 {
@@ -51,7 +51,8 @@ pub fn cancel_request<B: Buffer>(process_id: i32, secret_key: i32, buf: &mut B) 
 ///
 /// # Errors
 ///
-/// `InvalidSize` unless the key has 4 to 256 bytes, and `OutOfMemory` where a growth was refused. The buffer keeps its bytes.
+/// Returns `InvalidSize` unless the key has 4 to 256 bytes, and `OutOfMemory` if the buffer can't grow. On error the buffer
+/// is unchanged.
 pub fn cancel_request_key<B: Buffer>(
     process_id: i32,
     secret_key: &[u8],
@@ -73,14 +74,14 @@ pub fn cancel_request_key<B: Buffer>(
 ///
 /// # Errors
 ///
-/// `OutOfMemory` where a growth was refused. The buffer keeps its bytes.
+/// Returns `OutOfMemory` if the buffer can't grow. On error the buffer is unchanged.
 pub fn ssl_request<B: Buffer>(buf: &mut B) -> Result<(), Error>
     ensures { WritesMessage SslRequest B.Lacks (B.held buf.old) (B.held buf.new) result }
 {
     packet(&[Field::Int32(SSL_REQUEST)], buf)
 }
 
-// The names and values, and a 0 byte. A refusal leaves what stood there as a front.
+// The names and values, and a 0 byte. An error leaves what stood there as a front.
 fn put_pairs<B: Buffer, T: Text + Copy, I: IntoIterator<Item = (T, T)> + Drop>(
     parameters: I,
     buf: &mut B,
@@ -112,7 +113,7 @@ fn put_version<B: Buffer>(version: ProtocolVersion, buf: &mut B) -> Result<(), E
     }
 }
 
-// The packet. A refusal leaves what stood there as a front.
+// The packet. An error leaves what stood there as a front.
 fn fill_startup<B: Buffer, T: Text + Copy, I: IntoIterator<Item = (T, T)> + Drop>(
     version: ProtocolVersion,
     parameters: I,
@@ -169,8 +170,8 @@ where
 ///
 /// # Errors
 ///
-/// `EmbeddedNull` where a name or a value has a 0 byte, `TooLarge` where the message passes the greatest `i32`, and
-/// `OutOfMemory` where a growth was refused. The buffer keeps its bytes.
+/// Returns `EmbeddedNull` if a name or a value has a 0 byte, `TooLarge` if the message exceeds `i32::MAX`, and
+/// `OutOfMemory` if the buffer can't grow. On error the buffer is unchanged.
 pub fn startup_message<'a, B: Buffer, I: IntoIterator<Item = (&'a str, &'a str)> + Drop>(
     parameters: I,
     buf: &mut B,
@@ -190,8 +191,8 @@ where
 ///
 /// # Errors
 ///
-/// `EmbeddedNull` where a name or a value has a 0 byte, `TooLarge` where the message passes the greatest `i32`, and
-/// `OutOfMemory` where a growth was refused. The buffer keeps its bytes.
+/// Returns `EmbeddedNull` if a name or a value has a 0 byte, `TooLarge` if the message exceeds `i32::MAX`, and
+/// `OutOfMemory` if the buffer can't grow. On error the buffer is unchanged.
 pub fn startup_message_version<'a, B: Buffer, I: IntoIterator<Item = (&'a str, &'a str)> + Drop>(
     version: ProtocolVersion,
     parameters: I,

@@ -12,7 +12,7 @@ ghost use Rattle.pgp_frontend.specs.Putting.{ValuesRefused};
 
 use pgp_base::{BindError, Buffer, Error, IsNull, patch_u16, put_u16, put_value};
 
-/// Appends how many values there are, and each as the serializer makes it of an item. A refusal leaves
+/// Appends how many values there are, and each as the serializer makes it of an item. An error leaves
 /// what stood there as a front.
 pub fn put_values<
     B: Buffer,

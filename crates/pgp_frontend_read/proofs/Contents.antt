@@ -176,7 +176,7 @@ content_found SomePairs bytes x rest h e =
       whole = f.0.whole ∙ sym (append-nil (flat_map pair x ++ 0 ∷ [])) ∙ ap (λ l. (flat_map pair x ++ 0 ∷ []) ++ l) (sym f.1);
     }
 
--- behind a part that takes all bytes nothing is left
+-- after a part that takes all bytes nothing is left
 pub content_all : (s : Shape) (bytes : List ℕ) (x : Content s) (rest : List ℕ) → content_at s bytes ≡ Ok (x, rest) → TakesAll s → rest ≡ []
 content_all AllBytes bytes x rest e t = ap (λ (p : List ℕ × List ℕ). p.1) (sym (ok_is (bytes, []) (x, rest) e))
 content_all AKey bytes x rest e t = (key_found bytes x rest e).2

@@ -1,4 +1,4 @@
--- Why a body is refused: what the code tells is what the grammar says.
+-- Why a body is rejected: what the code says is what the grammar says.
 use Rattle.std.proofs.Common.{◌≡◌, ◌≢◌, ℕ, ℤ, pos, zero, suc, ◌+◌, ◌-◌, ◌<◌, ◌≤◌, ◌^◌, true, false, List, [], ◌∷◌, ◌++◌, length, map, Option, Some, None, Result, Ok, Err, refl, sym, ap, subst, ◌∙◌, append_assoc, arith, inl, inr, FitsSigned, length-append}
 use Rattle.std.specs.Prelude.{◌==◌, ◌⊎◌, nat_lt, nat_le, IfSome}
 use Rattle.std.specs.Int.{w16, w32, from_be_bytes, cast_signed, cast_unsigned}
@@ -32,7 +32,7 @@ use Rattle.pgp_frontend_read.proofs.Forms.{plain_code, version_there}
 use Rattle.pgp_frontend_read.proofs.PairLemmas.{pair_found}
 use Rattle.pgp_frontend_read.proofs.ValueLemmas.{HasLength, value_item, chosen}
 
--- ---- refusals of the readers' combinators
+-- ---- errors of the readers' combinators
 
 abbrev refusal : {A : Type 0} → Error → Result A Error
 refusal e = Err e
@@ -170,7 +170,7 @@ some_error d e h = cc
 no_error : (e : Error) → (let x : Option Error = None in x ≡ Some e) → ⊥
 no_error e h = cc
 
--- the pairs of a list that is refused
+-- the pairs of a list that is rejected
 module _ (go : List ℕ → List (List ℕ × List ℕ) × Option Error) (bytes : List ℕ) (e : Error) (unmarked : (more : List ℕ) → bytes ≢ 0 ∷ more) where
   pair_on : ((b : List ℕ) → length b < length bytes → (go b).1 ≡ Some e → LacksEnd b e) → (r : Result ((List ℕ × List ℕ) × List ℕ) Error) → pair_at bytes ≡ r → (read_on go r).1 ≡ Some e → LacksEnd bytes e
   pair_on on (Ok x) reads is =
@@ -377,7 +377,7 @@ named_err (Ok m) e is = absurd cc
 named_err (Err d) e is = (d, refl, cc)
 
 module _ (payload rest : List ℕ) (code n : ℕ) (e : ClientError) (h : IsBytes rest) (whole : payload ≡ oid code ++ rest) (is : code ≡ n) (small : n < 2 ^ 31) where
-  -- behind the code of this message
+  -- after the code of this message
   faulty_packet : (m : ClientMessage) (others : List Part) → tag_of m ≡ None → HasMinor m → parts m ≡ Int32 (pos n) ∷ others → (d : Error) → e ≡ Reading d → Faulty (map shape others) rest d → BlamesPacket payload e
   faulty_packet m others t minor are d name faulty =
       inr (record { message = m; untagged = t; minor = minor; code = pos n; others = others; are = are; rest = rest; whole = whole ∙ ap (λ k. oid k ++ rest) is ∙ ap (λ l. l ++ rest) (plain_code n small); fault = d; faulty = faulty; name = name })

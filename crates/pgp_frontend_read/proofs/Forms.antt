@@ -35,7 +35,7 @@ each_in_range : (ps : List Part) → EachHasSpelling ps → EachInRange ps
 each_in_range [] h = tt
 each_in_range (p ∷ ps) h = (h.0.in_range, each_in_range ps h.1)
 
--- a message behind a tag has no version
+-- a message after a tag has no version
 no_version : (m : ClientMessage) (tag : ℕ) → tag_of m ≡ Some tag → HasMinor m
 no_version (Startup v ps) tag t = absurd cc
 no_version _ tag t = tt
@@ -81,7 +81,7 @@ ended_is m n (b ∷ bytes) e = absurd cc
 
 -- ---- what follows each tag
 
--- The payload is that of a message that may come behind this tag, told this kind.
+-- The payload is that of a message that may come after this tag, given this kind.
 pub record IsBody (kind : PasswordKind) (tag : ℕ) (bytes : List ℕ) (m : ClientMessage) : Type 0 where
   pub tagged : tag_of m ≡ Some tag
   pub told : IfSome (kind_of m) (λ k. k ≡ kind)
@@ -230,7 +230,7 @@ plain_code n small =
     let signed : cast_signed w32 n ≡ pos n = to_z_pos w32 n small in
     sym (int32_spelled (pos n) ∙ ap uint32 (ap (cast_unsigned w32) (sym signed) ∙ of_z-to_z w32 n (omega (arith, small))))
 
--- behind its code
+-- after its code
 module _ (code : ℕ) (small : code < 2 ^ 31) (shapes : List Shape) (make : Contents shapes → ClientMessage)
     (are : (c : Contents shapes) → parts (make c) ≡ Int32 (pos code) ∷ parts_of shapes c) (untagged : (c : Contents shapes) → tag_of (make c) ≡ None) where
   packet_form : (named : (c : Contents shapes) → EachHasSpelling (parts_of shapes c) → IsNamed (make c)) (minor : (c : Contents shapes) → HasMinor (make c)) (bytes rest : List ℕ) (m : ClientMessage) → IsBytes rest → length bytes + 4 < 2 ^ 31 → bytes ≡ oid code ++ rest

@@ -1,4 +1,4 @@
--- Messages that were read one behind the other, written again: the same bytes.
+-- Messages that were read one after the other, written again: the same bytes.
 use Rattle.std.proofs.Common.{◌≡◌, ℕ, List, [], ◌∷◌, ◌++◌, Some, Ok, sym, ap, ◌∙◌, append_assoc}
 use Rattle.std.specs.List.{flat_map}
 use Rattle.pgp_base.specs.Held.{Held, ◌⊕◌}

@@ -27,7 +27,7 @@ length_there true (a ∷ b ∷ c ∷ d ∷ e ∷ rest) len each long is =
     record { front = a ∷ []; rest = rest; at = refl; fits = k.1; parts = ap (λ l. a ∷ l ++ rest) (sym k.0) }
 length_there opened bytes len each long is = absurd (omega (arith, long))
 
--- how much stands behind it
+-- how much stands after it
 pub behind_length : (opened : Bool) (bytes : List ℕ) (len : ℕ) (b : BeginsWithLength opened bytes len) → length bytes ≡ place opened + 4 + length b.rest
 behind_length opened bytes len b =
     omega (arith, ap length b.parts, length-append b.front (uint32 len ++ b.rest), length-append b.front (uint32 len), length-append (b.front ++ uint32 len) b.rest, length-append (uint32 len) b.rest, length-uint32 len, b.at)
@@ -56,7 +56,7 @@ cut_there bytes front payload rest place total f r p le lp =
       length_is = omega (arith, ap length p, length-drop place front, n);
     }
 
--- the payload stands behind the length
+-- the payload stands after the length
 module _ (opened : Bool) (bytes : List ℕ) (len : ℕ) (b : BeginsWithLength opened bytes len) (head payload rest : List ℕ) (cut : IsCut bytes head payload rest (place opened + 4) (len + place opened)) where
   head_is : (head ≡ b.front ++ uint32 len) × (payload ++ rest ≡ b.rest)
   head_is = fronts head (b.front ++ uint32 len) (payload ++ rest) b.rest (omega (arith, cut.head_length, length-append b.front (uint32 len), length-uint32 len, b.at)) (sym cut.whole ∙ b.parts)

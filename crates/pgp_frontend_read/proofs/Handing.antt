@@ -1,4 +1,4 @@
--- A message's bytes that are handed out: what a step makes of them, and of more behind them.
+-- A message's bytes that are handed out: what a step makes of them, and of more after them.
 use Rattle.std.proofs.Common.{◌≡◌, ℕ, ◌+◌, ◌<◌, ◌^◌, Bool, true, false, List, [], ◌∷◌, ◌++◌, length, Option, Some, None, Result, Ok, Err, refl, sym, ap, subst, ◌∙◌, append_assoc, arith, inl, inr, length-append}
 use Rattle.std.specs.Prelude.{◌||◌}
 use Rattle.std.proofs.lemmas.List.{append-nil}
@@ -21,7 +21,7 @@ use Rattle.pgp_frontend_read.proofs.Fronts.{behind_length}
 use Rattle.pgp_frontend_read.proofs.Headers.{one_length, not_partial, begins_behind}
 use Rattle.pgp_frontend_read.proofs.Steps.{left, payload_fits}
 
--- ---- a step, with bytes behind it
+-- ---- a step, with bytes after it
 
 pub refused_behind : (kind : PasswordKind) (old new : Unread) (e : ClientError) (more : List ℕ) → Refuses kind old e new → Refuses kind (left (old.bytes ++ more) old.opened) e (left (new.bytes ++ more) new.opened)
 refused_behind kind old new e more r = record {
@@ -115,7 +115,7 @@ module _ (bytes : List ℕ) (h : HasSize false bytes (length bytes)) where
   packet_opened (Some m) new step = packet_read (view m) new step
   packet_opened None new step = absurd (not_partial false bytes (length bytes) h (omega arith) step.0)
 
--- a packet that is refused is left, whatever kind is told
+-- a packet that is rejected is left, whatever kind is given
 pub packet_refused : (bytes : List ℕ) (e : ClientError) (new : Unread) → Refuses Password (left bytes false) e new → (kind : PasswordKind) → Refuses kind (left bytes false) e (left bytes false)
 packet_refused bytes e new r kind = record {
   none = λ m more rest s. r.none m more rest (record { expected = s.expected; spelled = s.spelled; whole = s.whole });
@@ -128,7 +128,7 @@ packet_refused bytes e new r kind = record {
   ];
 }
 
--- ---- handed out, with bytes behind
+-- ---- handed out, with bytes after
 
 pub hands_out : (opened : Bool) (bytes rest : List ℕ) (frame : ClientFrame) (now : Bool) → IsReadAs opened bytes now → IsFrameOf opened bytes frame → HandsOut (left (bytes ++ rest) opened) frame (left rest now)
 hands_out opened bytes rest frame now h f = record {

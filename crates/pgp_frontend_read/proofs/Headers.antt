@@ -22,7 +22,7 @@ one_length opened bytes m n b c =
     let f = fronts b.front c.front (uint32 m ++ b.rest) (uint32 n ++ c.rest) (b.at ∙ sym c.at) same in
     (uint32_begins m n b.rest c.rest b.fits c.fits f.1).0
 
--- bytes behind a header don't change it
+-- bytes after a header don't change it
 pub begins_behind : (opened : Bool) (bytes more : List ℕ) (len : ℕ) → BeginsWithLength opened bytes len → BeginsWithLength opened (bytes ++ more) len
 begins_behind opened bytes more len b = record { front = b.front; rest = b.rest ++ more; at = b.at; fits = b.fits; parts = ap (λ l. l ++ more) b.parts ∙ append_assoc (b.front ++ uint32 len) b.rest more }
 

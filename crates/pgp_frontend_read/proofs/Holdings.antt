@@ -1,4 +1,4 @@
--- What a parser holds of a message that comes in pieces, and what a call answers of it.
+-- What a parser holds of a message that comes in pieces, and what a call returns of it.
 use Rattle.std.proofs.Common.{◌≡◌, ◌≢◌, ℕ, ◌+◌, ◌<◌, ◌≤◌, Bool, true, false, List, [], ◌++◌, length, take, drop, Option, Some, None, Result, Ok, Err, refl, sym, ap, subst, ◌∙◌, append_assoc, arith, inl, inr, length-append, length-take}
 use Rattle.std.specs.Prelude.{◌⊎◌, nat_le, IfOk, IfSome}
 use Rattle.std.specs.Result.{IsErrAnd}
@@ -21,7 +21,7 @@ use Rattle.pgp_frontend_read.proofs.Steps.{left, step_fault}
 abbrev pub waiting : List ℕ → Bool → Limits → Waiting
 waiting bytes opened limits = record { bytes = bytes; opened = opened; limits = limits }
 
--- a refusal that is handed on
+-- an error that is handed on
 pub refused : {T E : Type 0} (r : Result T E) (x : E) → IsErrAnd r (λ e. e ≡ x) → r ≡ Err x
 refused (Ok y) x h = absurd h
 refused {T} {E} (Err e) x h = let err : E → Result T E = λ d. Err d in ap err h
@@ -82,7 +82,7 @@ front_size opened piece front size h most is =
     let there : HasSize opened (front ++ drop size piece) size = subst (λ l. HasSize opened l size) (sym whole) h in
     subst (HasSize opened front) (sym len) (size_front opened front (drop size piece) size (omega (arith, len, size_least opened piece size h)) there)
 
--- what is refused is so with bytes behind it
+-- what is rejected is so with bytes after it
 left_behind : (opened : Bool) (front rest : List ℕ) (e : ParserError) → IsLeft opened front e → IsLeft opened (front ++ rest) e
 left_behind opened front rest e x = record { cause = x.cause; name = x.name; steps = λ kind. refused_behind kind (left front opened) (left front opened) x.cause rest (x.steps kind) }
 
@@ -123,7 +123,7 @@ module _ (lacks : Type 0) (opened : Bool) (held piece : List ℕ) (size : Option
 pub completes_lacking : (lacks : Type 0) (opened : Bool) (held piece : List ℕ) (size : Option ℕ) (e : ParserError) (new rest : List ℕ) → Holds lacks size held piece (Err e) new rest → Completes lacks opened held piece (Err e) new rest
 completes_lacking lacks opened held piece size e new rest x = (x.2, x.3, inl (x.0, x.1, x.4))
 
--- ---- what a call answers
+-- ---- what a call returns
 
 module _ (lacks : Type 0) (limits : Limits) (opened : Bool) where
   pub size_refused : (held piece : List ℕ) (e : ParserError) → Sizes limits opened (held ++ piece) (Err e) → Parses lacks (waiting held opened limits) piece (Err e) (waiting held opened limits) piece

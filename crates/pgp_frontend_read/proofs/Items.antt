@@ -16,7 +16,7 @@ use Rattle.pgp_frontend_read.specs.Reading.{items_at, items_on, with_front, coun
 abbrev pub left : List ℕ → ℕ → Left
 left bytes n = record { bytes = bytes; count = n }
 
--- what stands behind a front is bytes too
+-- what stands after a front is bytes too
 pub bytes_behind : (bytes front rest : List ℕ) → bytes ≡ front ++ rest → IsBytes bytes → IsBytes rest
 bytes_behind bytes front rest e h =
     let r : drop (length front) bytes ≡ rest = ap (drop (length front)) e ∙ drop_at front rest (length front) refl in

@@ -1,4 +1,4 @@
--- A loop over items: one more behind those that were read.
+-- A loop over items: one more after those that were read.
 use Rattle.std.proofs.Common.{◌≡◌, ℕ, suc, ◌+◌, ◌-◌, ◌<◌, ◌≤◌, List, [], ◌∷◌, ◌++◌, length, take, Option, Some, Result, Ok, Err, refl, sym, ap, ◌∙◌, append_assoc, arith}
 use Rattle.std.specs.Prelude.{◌^◌}
 use Rattle.std.specs.Result.{IsErrAnd}
@@ -38,7 +38,7 @@ module _ {V : Type 0} where
     pub item_refused : (n i : ℕ) (bytes rest : List ℕ) (front : List V) (e : Error) → i < n → items_at read n bytes ≡ behind front (items_at read (n - i) rest) → read rest ≡ Err e → items_at read n bytes ≡ Err e
     item_refused n i bytes rest front e lt inv is = inv ∙ ap (behind front) (one_due n i rest lt ∙ ap (items_on (items_at read (n - (i + 1)))) is)
 
--- what is left behind values stands behind them
+-- what is left after values stands after them
 pub values_shorter : (n : ℕ) (bytes rest : List ℕ) (xs : List (Option (List ℕ))) → IsBytes bytes → items_at value_at n bytes ≡ Ok (xs, rest) → length rest ≤ length bytes
 values_shorter n bytes rest xs h e =
     let found = items_found HasLength nullable value_at value_item n bytes xs rest h e in
@@ -58,7 +58,7 @@ values_read bytes n here front rest xs r h u e is same =
     let w = values_alone n here front rest xs r h e is same in
     counted_found HasLength nullable value_at value_item bytes n here xs rest u e ∙ rw w refl
 
--- a refusal that is handed on
+-- an error that is handed on
 abbrev err : {A : Type 0} → Error → Result A Error
 err e = Err e
 
@@ -66,6 +66,6 @@ pub rest_err : {V B : Type 0} (bytes : B → List ℕ) (read : Result (List V ×
 rest_err bytes read (Ok rest) e h is = absurd h
 rest_err bytes read (Err d) e h is = is ∙ ap err (sym h)
 
--- behind a count stand bytes
+-- after a count stand bytes
 pub count_tail : (bytes : List ℕ) (n : ℕ) (rest : List ℕ) → IsBytes bytes → uint16_at bytes ≡ Some (n, rest) → IsBytes rest
 count_tail bytes n rest h e = (number_takes 2 (λ n. n < 2 ^ 16) uint16 (λ l. from_be_bytes w16 l) uint16_number bytes (n, rest) h e).tail

@@ -1,4 +1,4 @@
--- A body has one first fault: what the grammar tells is what the code reads.
+-- A body has one first fault: what the grammar says is what the code reads.
 use Rattle.std.proofs.Common.{◌≡◌, ◌≢◌, ℕ, zero, suc, ◌<◌, ◌≤◌, ◌^◌, Bool, true, false, List, [], ◌∷◌, ◌++◌, length, Option, Some, None, Result, Ok, Err, refl, sym, ap, ◌∙◌, append_assoc, arith, inl, inr, FitsSigned}
 use Rattle.std.specs.Prelude.{◌==◌, ◌⊎◌, nat_lt}
 use Rattle.std.specs.Int.{w16, w32, from_be_bytes, cast_signed}

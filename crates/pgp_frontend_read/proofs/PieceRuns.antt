@@ -23,7 +23,7 @@ call_steps lacks kind old new piece rest (Ok None) x = (x.1, x.2)
 call_steps lacks kind old new piece rest (Err e) (inl x) = x.found.1.steps kind (Err e) x.told
 call_steps lacks kind old new piece rest (Err e) (inr x) = subst (λ (u : Unread). Step kind (unread old piece) (Err e) u) (sym (same_unread old new piece rest x.2.held x.2.in_piece)) (x.1 kind)
 
--- one piece is read as its bytes behind those that are held
+-- one piece is read as its bytes after those that are held
 pub piece_read : (lacks : Type 0) (kinds rest : List PasswordKind) (old new : Waiting) (piece behind : List ℕ) (messages : List ClientMessage) (end : Result (Option ClientMessage) ClientError)
     → ReadsPiece lacks kinds old piece messages end rest new behind → Reads kinds (unread old piece) messages end (unread new behind)
 piece_read lacks kinds rest old new piece behind [] end x = (call_steps lacks (next_kind kinds) old new piece behind end x.0, x.1)

@@ -7,7 +7,7 @@ use Rattle.pgp_frontend_read.specs.Reads.{Reads, HasRead, next_kind, kinds_behin
 use Rattle.pgp_frontend_read.specs.declared.error.ClientError.{ClientError}
 use Rattle.pgp_frontend_read.proofs.Steps.{left}
 
--- what was read, with bytes behind it
+-- what was read, with bytes after it
 pub took : (kind : PasswordKind) (old new : Unread) (m : ClientMessage) (more : List ℕ) → Takes kind old m new → Takes kind (left (old.bytes ++ more) old.opened) m (left (new.bytes ++ more) new.opened)
 took kind old new m more t = record {
   stands = record {

@@ -1,4 +1,4 @@
--- A refusal stays: whatever comes, no message is read there, and no more bytes are waited for.
+-- An error stays: whatever comes, no message is read there, and no more bytes are waited for.
 use Rattle.std.proofs.Common.{◌≡◌, ℕ, ◌+◌, ◌<◌, ◌≤◌, ◌^◌, Bool, true, false, List, [], ◌∷◌, ◌++◌, length, Option, Some, None, Result, Ok, Err, refl, sym, ap, subst, ◌∙◌, append_assoc, arith, length-append, inl, inr}
 use Rattle.std.specs.Prelude.{IsErr}
 use Rattle.pgp_base.specs.Wire.{uint32}
@@ -11,7 +11,7 @@ use Rattle.pgp_frontend_read.proofs.Fronts.{behind_length}
 use Rattle.std.proofs.lemmas.List.{append-nil}
 use Rattle.pgp_frontend_read.proofs.Steps.{left, partial_none}
 
--- where bytes are missing, the length that stands there tells it
+-- where bytes are missing, the length that stands there reports it
 pub record TellsMissing (opened : Bool) (len behind : ℕ) : Type 0 where
   pub enough : least opened ≤ len
   pub fits : len < 2 ^ 31

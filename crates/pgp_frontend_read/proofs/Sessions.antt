@@ -1,4 +1,4 @@
--- A chain of steps: one more behind the others, and what ends it.
+-- A chain of steps: one more after the others, and what ends it.
 use Rattle.std.proofs.Common.{ℕ, ◌+◌, ◌<◌, List, [], ◌∷◌, ◌++◌, length, Option, Some, None, Result, Ok, refl, ap, subst, arith, length-append}
 use Rattle.pgp_frontend_read.specs.declared.error.ClientError.{ClientError}
 use Rattle.pgp_base.specs.Wire.{uint32}

@@ -1,4 +1,4 @@
--- Parts that were read, and nothing behind them: their bytes are their spellings.
+-- Parts that were read, and nothing after them: their bytes are their spellings.
 use Rattle.std.proofs.Common.{◌≡◌, ℕ, zero, suc, ◌<◌, ◌^◌, List, [], ◌∷◌, ◌++◌, length, Option, Result, Ok, Err, sym, ap, subst, ◌∙◌, arith}
 use Rattle.std.specs.Int.{w16, from_be_bytes, to_be_bytes}
 use Rattle.std.proofs.lemmas.List.{append-nil}

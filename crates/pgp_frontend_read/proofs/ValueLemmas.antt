@@ -19,7 +19,7 @@ pub bound : {A B : Type 0} (o : Option A) (f : A → Result B Error) (y : B) →
 bound None f y e = absurd cc
 bound (Some x) f y e = (x, refl, e)
 
--- a test that didn't refuse
+-- a test that didn't reject
 pub passed : {A : Type 0} (b : Bool) (e : Error) (r : Result A Error) (y : A) → (if b then Err e else r) ≡ Ok y → (b ≡ false) × (r ≡ Ok y)
 passed true e r y h = absurd cc
 passed false e r y h = (refl, h)

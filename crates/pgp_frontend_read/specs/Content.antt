@@ -33,7 +33,7 @@ part AllBytes z = Rest z
 part AKey z = Key z
 part SomePairs ps = Pairs ps
 
--- one thing, and what comes behind it
+-- one thing, and what comes after it
 pub record Then (A B : Type 0) : Type 0 where
   pub first : A
   pub rest : B

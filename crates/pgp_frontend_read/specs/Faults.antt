@@ -1,4 +1,4 @@
--- Why bytes aren't parts of given shapes: the first part from the left that doesn't stand there, or bytes behind the last.
+-- Why bytes aren't parts of given shapes: the first part from the left that doesn't stand there, or bytes after the last.
 use Rattle.std.specs.Prelude.{◌≡◌, ◌≢◌, ◌⊎◌, ℕ, ◌<◌, ◌≤◌, ◌^◌, List, [], ◌∷◌, ◌++◌, length, None, Some, FitsSigned}
 use Rattle.std.specs.List.{flat_map, AllByRecursion}
 use Rattle.std.specs.Int.{w16}
@@ -14,8 +14,8 @@ use Rattle.pgp_frontend_read.specs.Content.{Content, part}
 abbrev pub IsShort : ℕ → List ℕ → Error → Type 0
 IsShort n bytes e = (length bytes < n) × (e ≡ UnexpectedEof)
 
--- A length stands there, and it is negative, or fewer bytes than it tells stand behind it. The number has no sign here: from
--- 2 ^ 31 on it is a negative one.
+-- A length stands there, and it is negative, or fewer bytes than it says stand after it. The number has no sign here: from 2
+-- ^ 31 on it is a negative one.
 pub record HasWrongLength (bytes : List ℕ) (e : Error) : Type 0 where
   pub len : ℕ
   pub rest : List ℕ
@@ -31,7 +31,7 @@ LacksSized bytes e = IsShort 4 bytes e ⊎ HasWrongLength bytes e
 abbrev pub LacksValue : List ℕ → Error → Type 0
 LacksValue bytes e = LacksSized bytes e × ((rest : List ℕ) → bytes ≢ nullable None ++ rest)
 
--- A count stands there, and fewer items than it tells: behind these stands no other.
+-- A count stands there, and fewer items than it says: after these stands no other.
 pub record LacksItem {V : Type 0} (Has : V → Type 0) (spell : V → List ℕ) (Lacks : List ℕ → Error → Type 0) (bytes : List ℕ) (e : Error) : Type 0 where
   pub count : ℕ
   pub items : List V
@@ -42,7 +42,7 @@ pub record LacksItem {V : Type 0} (Has : V → Type 0) (spell : V → List ℕ) 
   pub whole : bytes ≡ uint16 count ++ (flat_map spell items ++ rest)
   pub lacks : Lacks rest e
 
--- no count stands there, or too few items behind it
+-- no count stands there, or too few items after it
 abbrev pub LacksItems : {V : Type 0} → (V → Type 0) → (V → List ℕ) → (List ℕ → Error → Type 0) → List ℕ → Error → Type 0
 LacksItems Has spell Lacks bytes e = IsShort 2 bytes e ⊎ LacksItem Has spell Lacks bytes e
 
@@ -54,7 +54,7 @@ IsPair p = HasNoZero p.0 × HasNoZero p.1 × (p.0 ≢ [])
 abbrev pub IsCutPair : List ℕ → Type 0
 IsCutPair bytes = HasNoZero bytes ⊎ ((name value : List ℕ) × HasNoZero name × (name ≢ []) × (bytes ≡ text name ++ value) × HasNoZero value)
 
--- Behind these pairs stands no other and no 0 byte that ends them, or bytes stand behind it.
+-- After these pairs stands no other and no 0 byte that ends them, or bytes stand after it.
 pub record LacksEnd (bytes : List ℕ) (e : Error) : Type 0 where
   pub pairs : List (List ℕ × List ℕ)
   pub rest : List ℕ
@@ -90,7 +90,7 @@ pub record StandsFirst (s : Shape) (bytes : List ℕ) (x : Content s) (rest : Li
   pub whole : bytes ≡ spelling (part s x) ++ rest
   pub all : TakesAll s → rest ≡ []
 
--- The parts of these shapes don't stand there, or bytes stand behind the last of them.
+-- The parts of these shapes don't stand there, or bytes stand after the last of them.
 abbrev pub Faulty : List Shape → List ℕ → Error → Type 0
 Faulty [] bytes e = (bytes ≢ []) × (e ≡ NotDrained)
 Faulty (s ∷ shapes) bytes e = Lacks s bytes e ⊎ ((x : Content s) × (rest : List ℕ) × StandsFirst s bytes x rest × Faulty shapes rest e)

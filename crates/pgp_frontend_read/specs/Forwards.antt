@@ -17,7 +17,7 @@ pub record Forwards {K : Type 0} (lacks : Held K → ℕ → Type 0) (bytes left
   pub whole : bytes ≡ stood ++ left
   pub appends : Appends lacks stood old new result
 
--- These messages are written again, one behind the other, and none is refused.
+-- These messages are written again, one after the other, and none is rejected.
 abbrev pub WritesAll : {K : Type 0} → (Held K → ℕ → Type 0) → List ClientMessage → Held K → Held K → Type 0
 WritesAll lacks [] old new = new ≡ old
 WritesAll {K} lacks (m ∷ messages) old new = (here : Held K) × WritesMessage m lacks old here (Ok tt) × WritesAll lacks messages here new

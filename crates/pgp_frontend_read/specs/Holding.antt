@@ -52,7 +52,7 @@ Sizes limits opened bytes (Err e) =
     ((len : ℕ) × (e ≡ TooLong len) × IsTooLong limits (record { bytes = bytes; opened = opened }) len)
     ⊎ ((e ≡ Refused (Reading InvalidLength)) × IsWithin limits (record { bytes = bytes; opened = opened }) × IsLengthFault opened bytes)
 
--- bytes of a piece moved behind those that are held, up to so many
+-- bytes of a piece moved after those that are held, up to so many
 pub record Fills (size : ℕ) (old piece new left : List ℕ) : Type 0 where
   pub moved : ℕ
   pub most : moved ≤ size - length old
@@ -61,18 +61,18 @@ pub record Fills (size : ℕ) (old piece new left : List ℕ) : Type 0 where
   pub rest : left ≡ drop moved piece
   pub done : (moved ≡ size - length old) ⊎ (moved ≡ length piece)
 
--- The bytes are those of one message, and behind it the connection is in this phase, whatever the message is read as.
+-- The bytes are those of one message, and after it the connection is in this phase, whatever the message is read as.
 pub record IsReadAs (opened : Bool) (bytes : List ℕ) (now : Bool) : Type 0 where
   pub whole : IsWhole opened bytes
   pub steps : (kind : PasswordKind) (result : Result ClientMessage ClientError) (phase : Bool) → Step kind (record { bytes = bytes; opened = opened }) (step_of result) (record { bytes = []; opened = phase }) → phase ≡ now
 
--- whatever kind is told, a step refuses what stands there, and passes nothing
+-- whatever kind is given, a step rejects what stands there, and passes nothing
 pub record IsLeft (opened : Bool) (bytes : List ℕ) (e : ParserError) : Type 0 where
   pub cause : ClientError
   pub name : e ≡ Refused cause
   pub steps : (kind : PasswordKind) → Step kind (record { bytes = bytes; opened = opened }) (Err cause) (record { bytes = bytes; opened = opened })
 
--- the phase behind the message; an opening packet that is no message is left
+-- the phase after the message; an opening packet that is no message is left
 abbrev pub Opens : Bool → List ℕ → Result Bool ParserError → Type 0
 Opens opened bytes (Ok now) = IsReadAs opened bytes now
 Opens opened bytes (Err e) = IsLeft opened bytes e
@@ -98,7 +98,7 @@ Holds lacks size held piece (Ok true) new left = (new ++ left ≡ held ++ piece)
 Holds lacks size held piece (Ok false) new left = (new ≡ held ++ piece) × (left ≡ []) × ((n : ℕ) → size ≡ Some n → length new < n)
 Holds lacks size held piece (Err e) new left = (e ≡ OutOfMemory) × lacks × (new ≡ held) × (left ≡ piece) × (piece ≢ [])
 
--- What is held is all of the message, and behind it the connection is in this phase; or all of the piece is held; or nothing changes,
+-- What is held is all of the message, and after it the connection is in this phase; or all of the piece is held; or nothing changes,
 -- since memory is refused or an opening packet that is no message stands there.
 abbrev pub Completes : Type 0 → Bool → List ℕ → List ℕ → Result (Option Bool) ParserError → List ℕ → List ℕ → Type 0
 Completes lacks opened held piece (Ok (Some now)) new left = (new ++ left ≡ held ++ piece) × HasSize opened new (length new) × IsReadAs opened new now

@@ -1,4 +1,4 @@
--- A client's bytes that come in pieces: what a parser answers of the bytes that it holds and of a piece behind them.
+-- A client's bytes that come in pieces: what a parser returns of the bytes that it holds and of a piece after them.
 use Rattle.std.specs.Prelude.{◌≡◌, ◌≢◌, ◌⊎◌, ℕ, ◌+◌, ◌<◌, ◌^◌, Bool, true, false, List, [], ◌++◌, length, Option, Some, None, Result, Ok, Err}
 use Rattle.pgp_frontend.specs.ClientMessage.{ClientMessage, PasswordKind}
 use Rattle.pgp_frontend.specs.Payload.{framed}
@@ -9,13 +9,13 @@ use Rattle.pgp_frontend_read.specs.declared.limits.Limits.{Limits}
 use Rattle.pgp_frontend_read.specs.declared.parser_error.ParserError.{ParserError}
 use Rattle.pgp_frontend_read.specs.declared.parser_error.ParserError.TheVariants.{Refused, TooLong, OutOfMemory}
 
--- What a parser holds: the bytes of a message that isn't whole. Whether a startup packet was read, and the limits.
+-- What a parser holds: the bytes of a partial message. Whether a startup packet was read, and the limits.
 pub record Waiting : Type 0 where
   pub bytes : List ℕ
   pub opened : Bool
   pub limits : Limits
 
--- what wasn't read yet: the bytes that are held, and a piece behind them
+-- what wasn't read yet: the bytes that are held, and a piece after them
 abbrev pub unread : Waiting → List ℕ → Unread
 unread waiting piece = record { bytes = waiting.bytes ++ piece; opened = waiting.opened }
 
@@ -26,12 +26,12 @@ abbrev pub IsWhole : Bool → List ℕ → Type 0
 IsWhole true bytes = (tag : ℕ) × (payload : List ℕ) × (bytes ≡ framed (Some tag) payload) × (length payload + 4 < 2 ^ 31)
 IsWhole false bytes = (x : ClientMessage) × ((kind : PasswordKind) → Stands kind false bytes x [])
 
--- a message or a refusal, as the answer of a step
+-- a message or an error, as the answer of a step
 abbrev pub step_of : Result ClientMessage ClientError → Result (Option ClientMessage) ClientError
 step_of (Ok x) = Ok (Some x)
 step_of (Err e) = Err e
 
--- Told this kind, a step takes the message's bytes, or passes them with this refusal.
+-- Given this kind, a step takes the message's bytes, or passes them with this error.
 abbrev pub ReadsFrame : PasswordKind → ClientFrame → Result ClientMessage ClientError → Type 0
 ReadsFrame kind frame result = (phase : Bool) × Step kind (record { bytes = frame.bytes.now; opened = frame.opened }) (step_of result) (record { bytes = []; opened = phase })
 
@@ -70,7 +70,7 @@ pub record Stays (old : Waiting) (piece : List ℕ) (new : Waiting) (left : List
   pub in_piece : left ≡ piece
 
 -- What a call comes to where these bytes are held and this piece comes, and what is held and left of the piece then. `lacks` says
--- that memory was refused. What is refused is so whatever kind is told.
+-- that memory was refused. What is refused is so whatever kind is given.
 abbrev pub Answer : Type 0 → Waiting → List ℕ → Result (Option ClientFrame) ParserError → Waiting → List ℕ → Type 0
 Answer lacks old piece (Ok (Some frame)) new left = IsWithin old.limits (unread old piece) × HandsOut (unread old piece) frame (unread new left) × (new.bytes ≡ [])
 Answer lacks old piece (Ok None) new left = IsWithin old.limits (unread old piece) × IsPartial old.opened (old.bytes ++ piece) × (unread new left ≡ unread old piece) × (left ≡ [])

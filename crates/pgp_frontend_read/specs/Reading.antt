@@ -39,7 +39,7 @@ pair_at bytes = do
 
 -- ---- lists
 
--- an item before those that the bytes behind it give
+-- an item before those that the bytes after it give
 abbrev pub with_front : {V : Type 0} → V → Result (List V × List ℕ) Error → Result (List V × List ℕ) Error
 with_front x (Ok y) = Ok (x ∷ y.0, y.1)
 with_front x (Err e) = Err e
@@ -48,7 +48,7 @@ abbrev pub items_on : {V : Type 0} → (List ℕ → Result (List V × List ℕ)
 items_on go (Ok x) = with_front x.0 (go x.1)
 items_on go (Err e) = Err e
 
--- so many items, and what is left behind them
+-- so many items, and what is left after them
 abbrev pub items_at : {V : Type 0} → (List ℕ → Result (V × List ℕ) Error) → ℕ → List ℕ → Result (List V × List ℕ) Error
 items_at read zero bytes = Ok ([], bytes)
 items_at read (suc n) bytes = items_on (items_at read n) (read bytes)
@@ -67,7 +67,7 @@ got (Err e) = []
 abbrev pub items_of : {V : Type 0} → (List ℕ → Result (V × List ℕ) Error) → Left → List V
 items_of read left = got (items_at read left.count left.bytes)
 
--- they stand there, and nothing behind them
+-- they stand there, and nothing after them
 abbrev pub AreLeft : {V : Type 0} → (List ℕ → Result (V × List ℕ) Error) → Left → Type 0
 AreLeft read left = items_at read left.count left.bytes ≡ Ok (items_of read left, [])
 
@@ -79,7 +79,7 @@ abbrev pub all_of : {V : Type 0} → List V × Option Error → Result (List V �
 all_of (xs, None) = Ok (xs, [])
 all_of (xs, Some e) = Err e
 
--- pairs up to a 0 byte, behind which nothing stands
+-- pairs up to a 0 byte, after which nothing stands
 unfoldable pub pairs_at : List ℕ → Result (List (List ℕ × List ℕ) × List ℕ) Error
 pairs_at bytes = all_of (marked_run pair_at (suc (length bytes)) bytes)
 
@@ -203,7 +203,7 @@ abbrev pub named : Result ClientMessage Error → Result ClientMessage ClientErr
 named (Ok m) = Ok m
 named (Err e) = Err (Reading e)
 
--- what follows each code; those of protocol 3 begin at 196608, those behind it at 262144
+-- what follows each code; those of protocol 3 begin at 196608, those after it at 262144
 unfoldable pub by_code : ℕ → List ℕ → Result ClientMessage ClientError
 by_code code rest =
     if code == 80877102 then named (cancel_of rest) else

@@ -1,16 +1,16 @@
--- A server that reads on and on, told the kinds of the messages of tag `p` in order.
+-- A server that reads on and on, given the kinds of the messages of tag `p` in order.
 use Rattle.std.specs.Prelude.{◌≡◌, ℕ, false, List, [], ◌∷◌, length, drop, Option, Some, None, Result, Ok, Err}
 use Rattle.pgp_frontend.specs.ClientMessage.{ClientMessage, PasswordKind, Password}
 use Rattle.pgp_frontend.specs.ClientRun.{kinds_of}
 use Rattle.pgp_frontend_read.specs.declared.error.ClientError.{ClientError}
 use Rattle.pgp_frontend_read.specs.Step.{Unread, Step}
 
--- the kind that is expected next; where none is, any may be told
+-- the kind that is expected next; where none is, any may be reported
 abbrev pub next_kind : List PasswordKind → PasswordKind
 next_kind [] = Password
 next_kind (kind ∷ kinds) = kind
 
--- the kinds that are expected behind the message
+-- the kinds that are expected after the message
 abbrev pub kinds_behind : ClientMessage → List PasswordKind → List PasswordKind
 kinds_behind m kinds = drop (length (kinds_of m)) kinds
 
@@ -30,12 +30,12 @@ pub record IsAllRead (messages others : List ClientMessage) (end : Result (Optio
   pub waits : end ≡ Ok None
   pub none : new.bytes ≡ []
 
--- what ended the reading: nothing is refused, or the first refusal
+-- what ended the reading: nothing is rejected, or the first error
 abbrev pub end_of : Option ClientError → Result (Option ClientMessage) ClientError
 end_of None = Ok None
 end_of (Some e) = Err e
 
--- Told these kinds, a server reads these messages from the front of the bytes, and then this end.
+-- Given these kinds, a server reads these messages from the front of the bytes, and then this end.
 abbrev pub ReadsSession : List PasswordKind → List ℕ → List ClientMessage → Option ClientError → Type 0
 ReadsSession kinds bytes messages end = (new : Unread) × Reads kinds (record { bytes = bytes; opened = false }) messages (end_of end) new
 

@@ -18,7 +18,7 @@ pub record Unread : Type 0 where
   pub bytes : List ℕ
   pub opened : Bool
 
--- In this phase, and told this kind, the server reads the message.
+-- In this phase, and given this kind, the server reads the message.
 abbrev pub IsExpected : PasswordKind → Bool → ClientMessage → Type 0
 IsExpected kind false m = tag_of m ≡ None
 IsExpected kind true m = (tag_of m ≢ None) × IfSome (kind_of m) (λ k. k ≡ kind)
@@ -29,12 +29,12 @@ pub record Stands (kind : PasswordKind) (opened : Bool) (bytes : List ℕ) (m : 
   pub spelled : IsSpelled m
   pub whole : bytes ≡ bytes_of m ++ rest
 
--- Whatever comes behind the bytes, no message stands at their front.
+-- Whatever comes after the bytes, no message stands at their front.
 abbrev pub NoneStands : PasswordKind → Bool → List ℕ → Type 0
 NoneStands kind opened bytes = (m : ClientMessage) (more rest : List ℕ) → Stands kind opened (bytes ++ more) m rest → ⊥
 
--- The length of a tagged message stands behind its tag, that of an opening packet stands first. It counts its own four
--- bytes, and in an opening packet a code stands behind it.
+-- The length of a tagged message stands after its tag, that of an opening packet stands first. It counts its own four
+-- bytes, and in an opening packet a code stands after it.
 abbrev pub place : Bool → ℕ
 place true = 1
 place false = 0
@@ -69,7 +69,7 @@ pub record IsUnfinished (opened : Bool) (bytes : List ℕ) : Type 0 where
   pub fits : len < 2 ^ 31
   pub missing : length begins.rest + 4 < len
 
--- too few bytes for a length, or a message that isn't whole
+-- too few bytes for a length, or a partial message
 abbrev pub IsPartial : Bool → List ℕ → Type 0
 IsPartial opened bytes = (length bytes < place opened + 4) ⊎ IsUnfinished opened bytes
 
@@ -77,7 +77,8 @@ IsPartial opened bytes = (length bytes < place opened + 4) ⊎ IsUnfinished open
 abbrev pub IsUnknownTag : ℕ → ClientError → Type 0
 IsUnknownTag tag e = (e ≡ Reading (UnknownTag tag)) × ((m : ClientMessage) → tag_of m ≢ Some tag)
 
--- A message has the tag, and may come where this kind is told; the payload isn't parts of its shapes.
+-- A message has the tag, and may come where this kind is given; the payload isn't parts of its
+-- shapes.
 pub record HasFaultyBody (kind : PasswordKind) (tag : ℕ) (payload : List ℕ) (e : ClientError) : Type 0 where
   pub message : ClientMessage
   pub tagged : tag_of message ≡ Some tag
@@ -117,7 +118,7 @@ pub record HasFaultyPacket (payload : List ℕ) (e : ClientError) : Type 0 where
 abbrev pub BlamesPacket : List ℕ → ClientError → Type 0
 BlamesPacket payload e = IsUnknownPacket payload e ⊎ HasFaultyPacket payload e
 
--- A whole frame stands first, and is passed.
+-- A complete frame stands first, and is passed.
 pub record SkipsFrame (kind : PasswordKind) (old : Unread) (e : ClientError) (new : Unread) : Type 0 where
   pub tag : ℕ
   pub payload : List ℕ

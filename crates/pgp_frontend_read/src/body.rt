@@ -14,11 +14,11 @@ use crate::values::{Values, value_at};
 use pgp_base::Error;
 use pgp_base::reading::{byte_at, int16_at, int32_at, oid_at, string_at};
 
-/// The message of a frame, told which kind of tag `p` is expected.
+/// The message of a frame, given which kind of tag `p` is expected.
 ///
 /// # Errors
 ///
-/// `UnknownTag`, `UnexpectedEof`, `NotDrained`, `InvalidValueLength`.
+/// Returns `UnknownTag`, `UnexpectedEof`, `NotDrained`, `InvalidValueLength`.
 #[tactic(auto, unfolding(crate::specs::Reading::body_of))]
 pub fn body(kind: PasswordKind, tag: u8, payload: &[u8]) -> Result<ClientMessage<'_>, Error>
     ensures { seen result ≡ body_of (kind_view kind) tag payload.now }
@@ -189,7 +189,7 @@ fn sasl_initial(payload: &[u8]) -> Result<ClientMessage<'_>, Error>
 /// The code of a startup packet of version 3.0, the first of protocol 3.
 pub const VERSION_3_0: u32 = 196_608;
 
-/// The code behind that of the last minor version of protocol 3.
+/// The code after that of the last minor version of protocol 3.
 const VERSION_4_0: u32 = 262_144;
 
 const CANCEL_REQUEST: u32 = 80_877_102;
@@ -199,11 +199,11 @@ const SSL_REQUEST: u32 = 80_877_103;
 /// The code of the question for encryption by GSSAPI.
 pub const GSSENC_REQUEST: u32 = 80_877_104;
 
-/// The opening packet behind its length.
+/// The opening packet after its length.
 ///
 /// # Errors
 ///
-/// `UnknownPacket` where no packet has the code; `UnexpectedEof`, `InvalidSize`, `NotDrained`.
+/// Returns `UnknownPacket` if no packet has the code; `UnexpectedEof`, `InvalidSize`, `NotDrained`.
 #[tactic(auto, unfolding(crate::specs::Reading::packet_of))]
 pub fn packet(payload: &[u8]) -> Result<ClientMessage<'_>, ClientError>
     ensures { told result ≡ packet_of payload.now }

@@ -23,12 +23,12 @@ impl<'a> ClientFrame<'a> {
         self.bytes
     }
 
-    /// The message. `kind` tells which message of tag `p` is expected; for all others it tells nothing.
+    /// The message. `kind` reports which message of tag `p` is expected; for all others it says nothing.
     ///
     /// # Errors
     ///
-    /// `UnknownTag`, or the fault of what follows the tag, as `ClientMessages::next` tells it. The parser has passed the message. An
-    /// opening packet isn't refused here: the parser has read it.
+    /// Returns `UnknownTag`, or the fault of what follows the tag, as `ClientMessages::next` reports it. The parser has passed the
+    /// message. An opening packet isn't rejected here: the parser has read it.
     pub fn message(&self, kind: PasswordKind) -> Result<ClientMessage<'a>, ClientError>
         requires { IsWhole self.now.opened self.now.bytes.now }
         ensures { ReadsFrame (kind_view kind) self.now (told result) }

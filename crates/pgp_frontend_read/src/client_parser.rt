@@ -63,7 +63,7 @@ impl<A: Memory> ClientParser<A> {
         }
     }
 
-    /// The bytes that came and weren't read: the front of a message that isn't whole, as far as pieces brought it that were used up.
+    /// The bytes that came and weren't read: the front of a partial message, as far as pieces brought it that were used up.
     pub fn rest(&self) -> &[u8]
         ensures { result.now ≡ self.now.bytes }
     {
@@ -87,7 +87,7 @@ impl<A: Memory> ClientParser<A> {
         self.limits
     }
 
-    /// Takes the bytes of the message at the front of what is held and of the piece behind it, and takes them off the piece; `None`
+    /// Takes the bytes of the message at the front of what is held and of the piece after it, and takes them off the piece; `None`
     /// where bytes of it are missing. Then the piece is used up, and the next call brings the next piece.
     ///
     /// # Errors
@@ -95,8 +95,8 @@ impl<A: Memory> ClientParser<A> {
     /// Nothing changes: what was held stays held, and the piece stays as it is.
     ///
     /// - `TooLong`: the header announces a length past the limit. No memory was asked for.
-    /// - `Refused`: `InvalidLength`, where no message has the length that stands there; or an opening packet stands there that is no
-    ///   message, with what `ClientMessages::next` tells of it.
+    /// - `Refused`: `InvalidLength`, if no message has the length that stands there; or an opening packet stands there that is no
+    ///   message, with what `ClientMessages::next` reports it.
     /// - `OutOfMemory`, of a message that is cut.
     pub fn next<'s, 'p: 's>(
         &'s mut self,
@@ -141,7 +141,8 @@ fn drop_read<A: Memory>(held: &mut Vec<u8, A>, read: bool)
 ///
 /// # Errors
 ///
-/// `TooLong` where it announces more than the limit, `InvalidLength` where no message has the length.
+/// Returns `TooLong` if it announces more than the limit, `InvalidLength` if no message has the
+/// length.
 fn size(
     limits: Limits,
     opened: bool,
@@ -208,7 +209,7 @@ fn length_there(opened: bool, held: &[u8], piece: &[u8]) -> u32
     ])
 }
 
-/// The byte at this place of what is held and the piece behind it.
+/// The byte at this place of what is held and the piece after it.
 fn byte_there(held: &[u8], piece: &[u8], at: usize) -> u8
     requires { at < length (held.now ++ piece.now) }
     ensures { result ≡ slice_index (held.now ++ piece.now) at }
@@ -254,7 +255,7 @@ fn is_in_piece(opened: bool, held: &[u8], piece: &[u8], size: Option<usize>) -> 
 ///
 /// # Errors
 ///
-/// `Refused` of an opening packet that is no message. It stays.
+/// Returns `Refused` of an opening packet that is no message. It stays.
 fn take_off<'p>(
     opened: &mut bool,
     size: usize,
@@ -279,13 +280,13 @@ fn take_off<'p>(
     }
 }
 
-/// Holds what the piece has of the message; where that is all of it, the phase behind the message.
+/// Holds what the piece has of the message; where that is all of it, the phase after the message.
 ///
 /// # Errors
 ///
-/// Nothing changes.
+/// On error nothing changes.
 ///
-/// - `OutOfMemory` where there is no memory for all of it, or for its header while that isn't whole.
+/// - `OutOfMemory` if there is no memory for all of it, or for its header while that isn't whole.
 /// - `Refused` of an opening packet that is no message.
 fn complete<A: Memory>(
     held: &mut Vec<u8, A>,
@@ -311,11 +312,11 @@ fn complete<A: Memory>(
     }
 }
 
-/// Moves what the piece has of the message behind the bytes that are held, and answers whether all of it is there.
+/// Moves what the piece has of the message after the bytes that are held, and returns whether all of it is there.
 ///
 /// # Errors
 ///
-/// `OutOfMemory` where there is no memory for all of it, or for its header while that isn't whole.
+/// Returns `OutOfMemory` if there is no memory for all of it, or for its header while that isn't whole.
 fn hold<A: Memory>(
     held: &mut Vec<u8, A>,
     opened: bool,
@@ -330,11 +331,11 @@ fn hold<A: Memory>(
     Ok(is_whole(held.len(), size))
 }
 
-/// Whether a startup packet was read, behind the message. An opening packet is read for that.
+/// Whether a startup packet was read, after the message. An opening packet is read for that.
 ///
 /// # Errors
 ///
-/// `Refused` of an opening packet that is no message.
+/// Returns `Refused` of an opening packet that is no message.
 fn phase_behind(opened: bool, bytes: &[u8]) -> Result<bool, ParserError>
     requires { HasSize opened bytes.now (length bytes.now) }
     ensures { Opens opened bytes.now result }
@@ -349,11 +350,11 @@ fn phase_behind(opened: bool, bytes: &[u8]) -> Result<bool, ParserError>
     }
 }
 
-/// Moves bytes of the piece behind those that are held, up to so many. Room is asked for where the piece has any.
+/// Moves bytes of the piece after those that are held, up to so many. Room is asked for where the piece has any.
 ///
 /// # Errors
 ///
-/// `AllocError` where there is no memory for that many. Nothing moves then.
+/// Returns `AllocError` if there is no memory for that many. Nothing moves then.
 fn fill<A: Memory>(held: &mut Vec<u8, A>, size: usize, piece: &mut &[u8]) -> Result<(), AllocError>
     ensures ok { OnOk result (Fills size held.old.items piece.old.now held.new.items piece.new.now) }
     ensures held { OnErr result (held.new.items ≡ held.old.items) }

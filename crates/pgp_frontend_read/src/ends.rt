@@ -1,14 +1,14 @@
-//! Walks to their ends.
+//! Reads to their ends.
 
 ghost use Rattle.pgp_frontend_read.specs.Whole.{EndsAs};
 
 use pgp_base::{Error, FallibleIterator};
 
-/// Walks to the end.
+/// Reads to the end.
 ///
 /// # Errors
 ///
-/// The walk's own refusal.
+/// The iterator's own error.
 pub fn ends<W: FallibleIterator + Drop>(mut walk: W) -> Result<(), Error>
 where
     W::Item: Drop,

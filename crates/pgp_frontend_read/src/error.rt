@@ -8,7 +8,7 @@ pub enum ClientError {
     /// No opening packet has this code. A server answers a version that it doesn't speak, as 3.1 (196609), with a
     /// NegotiateProtocolVersion, or ends the connection.
     UnknownPacket(i32),
-    /// Any other refusal: `InvalidLength` or `UnknownTag`; or, of what follows a tag or a code, `UnexpectedEof`,
+    /// Any other error: `InvalidLength` or `UnknownTag`; or, of what follows a tag or a code, `UnexpectedEof`,
     /// `InvalidValueLength`, `InvalidSize` or `NotDrained`.
     Reading(Error),
 }

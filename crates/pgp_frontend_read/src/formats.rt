@@ -25,7 +25,8 @@ impl<'a> Item<'a> for i16 {
     }
 }
 
-/// The formats of parameters or of results: 0 text, 1 binary. They all stand there, so that the walk isn't refused.
+/// The formats of parameters or of results: 0 text, 1 binary. They all stand there, so that the iterator isn't
+/// rejected.
 #[derive(Drop)]
 pub struct Formats<'a>(Listed<'a>);
 
@@ -59,11 +60,11 @@ impl FallibleIterator for Formats<'_> {
 }
 
 impl<'a> Formats<'a> {
-    /// A count and so many formats, and the bytes behind them.
+    /// A count and so many formats, and the bytes after them.
     ///
     /// # Errors
     ///
-    /// `UnexpectedEof` where they are cut short.
+    /// Returns `UnexpectedEof` if they are cut short.
     #[tactic(auto, unfolding(crate::specs::Reading::counted_at))]
     pub(crate) fn read(bytes: &'a [u8]) -> Result<(Formats<'a>, &'a [u8]), Error>
         ensures { Answers (λ x. (x.0, x.1.now)) result (counted_at format_at bytes.now) }

@@ -24,9 +24,9 @@ use pgp_frontend::{
 ///
 /// # Errors
 ///
-/// Of a message that was read `OutOfMemory` alone, where a growth was refused. Of one that was made of other parts also
-/// `EmbeddedNull` where a text has a 0 byte, `InvalidSize` unless a key has 4 to 256 bytes, and `TooLarge` where a response
-/// or the message passes the greatest `i32`. The buffer keeps its bytes.
+/// Of a message that was read `OutOfMemory` alone, if the buffer can't grow. Of one that was made of other parts also
+/// `EmbeddedNull` if a text has a 0 byte, `InvalidSize` unless a key has 4 to 256 bytes, and `TooLarge` if a response or
+/// the message exceeds `i32::MAX`. On error the buffer is unchanged.
 pub fn forward<B: Buffer>(message: &ClientMessage<'_>, buf: &mut B) -> Result<(), Error>
     ensures { WritesMessage (view message.now) B.Lacks (B.held buf.old) (B.held buf.new) result }
 {

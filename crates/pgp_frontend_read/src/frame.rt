@@ -8,11 +8,12 @@ use pgp_base::Error;
 /// The greatest length that a message may have.
 pub const MAX_LEN: u32 = 0x7fff_ffff;
 
-/// The tag and the payload of the whole frame at the front, and what follows it; `None` where none is whole.
+/// The tag and the payload of the complete frame at the front, and what follows it; `None` where none is
+/// whole.
 ///
 /// # Errors
 ///
-/// `InvalidLength` where the length is below 4 or passes the greatest `i32`.
+/// Returns `InvalidLength` if the length is below 4 or exceeds `i32::MAX`.
 pub fn frame(bytes: &[u8]) -> Result<Option<(u8, &[u8], &[u8])>, Error>
     ensures { FindsFrame bytes.now result }
 {
@@ -40,7 +41,7 @@ pub fn frame(bytes: &[u8]) -> Result<Option<(u8, &[u8], &[u8])>, Error>
 ///
 /// # Errors
 ///
-/// `InvalidLength` where the length is below 8 or passes the greatest `i32`.
+/// Returns `InvalidLength` if the length is below 8 or exceeds `i32::MAX`.
 pub fn packet_front(bytes: &[u8]) -> Result<Option<(&[u8], &[u8])>, Error>
     ensures { FindsPacket bytes.now result }
 {

@@ -10,7 +10,7 @@ use pgp_base::{Error, MAX_KEY_LEN, MIN_KEY_LEN};
 ///
 /// # Errors
 ///
-/// `InvalidSize` unless they are 4 to 256.
+/// Returns `InvalidSize` unless they are 4 to 256.
 #[tactic(auto, unfolding(crate::specs::Reading::key_at))]
 pub fn key_at(bytes: &[u8]) -> Result<&[u8], Error>
     ensures { Answers (λ x. (x.now, [])) result (key_at bytes.now) }

@@ -32,20 +32,20 @@ pub fn what_was_read_stands()
         (result ≡ Ok (Some m)) × (later ≡ record { bytes = new.bytes ++ more; opened = new.opened }) }
 {}
 
-/// What a client's session is, as the grammar says, is what a server that is told the kinds reads step by step: these
-/// messages, and then it waits for more.
+/// What a client's session is, as the grammar says, is what a server that is given the kinds reads step by step:
+/// these messages, and then it waits for more.
 pub fn sessions_are_read()
     ensures { (kinds : List Kind) (messages others : List Message) (bytes : List ℕ) (end : Result (Option Message) Refusal) (new : Unread) →
         ClientRun kinds messages bytes → Reads kinds (record { bytes = bytes; opened = false }) others end new → IsAllRead messages others end new }
 {}
 
-/// So `read_session` gives all messages of such a session, and no refusal.
+/// So `read_session` gives all messages of such a session, and no error.
 pub fn sessions_are_read_at_once()
     ensures { (kinds : List Kind) (messages others : List Message) (bytes : List ℕ) (end : Option Refusal) →
         ClientRun kinds messages bytes → ReadsSession kinds bytes others end → (others ≡ messages) × (end ≡ None) }
 {}
 
-/// A refusal stays when bytes come: no message is read there then, and no more bytes are waited for.
+/// An error stays when bytes come: no message is read there then, and no more bytes are waited for.
 pub fn refusals_stay()
     ensures { (kind : Kind) (old new later : Unread) (e : Refusal) (more : List ℕ) (result : Result (Option Message) Refusal) →
         Step kind old (Err e) new → Step kind (record { bytes = old.bytes ++ more; opened = old.opened }) result later → IsErr result }
@@ -77,14 +77,14 @@ pub fn pieces_are_read_as_one()
 {}
 
 /// What a proxy writes for a message that it read are the bytes that stood there, and want of the memory that these need is
-/// the one refusal.
+/// the one error.
 pub fn what_was_read_is_forwarded<B: Buffer>()
     ensures { (kind : Kind) (before after : Unread) (m : Message) (old new : Held B.Kept) (result : Result (Unit {0}) Error) →
         Step kind before (Ok (Some m)) after → WritesMessage m B.Lacks old new result → Forwards B.Lacks before.bytes after.bytes old new result }
 {}
 
 /// What a call of a `ClientParser` gives, with the message of what it hands out, is the step of a server over the
-/// bytes that are held and the piece behind them.
+/// bytes that are held and the piece after them.
 pub fn calls_are_steps<A: Memory>()
     ensures { (kind : Kind) (old new : Waiting) (piece left : List ℕ) (result : Result (Option Message) Refusal) →
         Gives A.Lacks kind old piece result new left → Step kind (unread old piece) result (unread new left) }

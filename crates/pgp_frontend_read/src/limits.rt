@@ -4,10 +4,10 @@ ghost use Rattle.std.specs.Prelude.{◌≡◌};
 ghost use Rattle.pgp_frontend_read.specs.Pieces.{limit_of};
 
 /// The greatest lengths that messages may announce. A length counts its own four bytes, and not the tag before it. `u32::MAX`
-/// refuses none.
+/// rejects none.
 #[derive(Debug, Clone, Copy, PartialEq, Eq)]
 pub struct Limits {
-    /// Of opening packets. PostgreSQL's own servers take 10,000 bytes behind the length and no more, which is 10,004 here.
+    /// Of opening packets. PostgreSQL's own servers take 10,000 bytes after the length and no more, which is 10,004 here.
     pub opening: u32,
     /// Of tagged messages.
     pub tagged: u32,

@@ -1,4 +1,4 @@
-//! The walk over what is left of a counted list, and its bytes.
+//! The iterator over what is left of a counted list, and its bytes.
 
 ghost use Rattle.std.specs.Prelude.{◌≡◌, ◌++◌, ℕ, List, [], Result, Ok};
 ghost use Rattle.pgp_base.specs.declared.error.Error.{Error as Refusal};
@@ -20,7 +20,7 @@ pub trait Item<'a>: Sized {
 
     ghost read: { List ℕ → Result (Meaning × List ℕ) Refusal };
 
-    /// The item at the front, and the bytes behind it.
+    /// The item at the front, and the bytes after it.
     ///
     /// # Errors
     ///

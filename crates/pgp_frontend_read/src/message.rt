@@ -17,7 +17,7 @@ pub enum PasswordKind {
     Response,
 }
 
-/// A message of a client, whose parts stand in the bytes that were read. Texts are bytes without the 0 byte behind them.
+/// A message of a client, whose parts stand in the bytes that were read. Texts are bytes without the 0 byte after them.
 ///
 /// PostgreSQL manual, "Message Formats".
 #[derive(Drop)]

@@ -13,7 +13,7 @@ use crate::message::{ClientMessage, PasswordKind};
 use std::marker::Model;
 
 /// Reads the messages of a client in place: nothing is copied, and no memory is asked for. Before a startup packet
-/// opening packets are read, behind it tagged messages.
+/// opening packets are read, after it tagged messages.
 #[derive(Drop)]
 pub struct ClientMessages<'a> {
     rest: &'a [u8],
@@ -63,18 +63,18 @@ impl<'a> ClientMessages<'a> {
         self.opened
     }
 
-    /// Takes the message at the front; `None` where bytes of it are missing. `kind` tells which message of tag `p` is
-    /// expected; for all others it tells nothing.
+    /// Takes the message at the front; `None` where bytes of it are missing. `kind` reports which message of tag `p` is
+    /// expected; for all others it says nothing.
     ///
     /// # Errors
     ///
     /// - `InvalidLength`: no message has the length that stands there, below 4 or 8 (of an opening packet) or past the greatest
     ///   `i32`. Nothing is passed.
-    /// - `UnknownTag`: a whole frame stands there, and no message has its tag. The frame is passed.
+    /// - `UnknownTag`: a complete frame stands there, and no message has its tag. The frame is passed.
     /// - `UnknownPacket`: a whole opening packet stands there, and none has its code. Nothing is passed.
-    /// - Of a message that has the tag or the code, the first fault from the left: `UnexpectedEof` where a part is cut short,
-    ///   `InvalidValueLength` where a value's length is negative and not that of a null, `InvalidSize` where a key hasn't 4 to
-    ///   256 bytes, and `NotDrained` where bytes stand behind the last part. A frame is passed, an opening packet isn't.
+    /// - Of a message that has the tag or the code, the first fault from the left: `UnexpectedEof` if a part is cut short,
+    ///   `InvalidValueLength` if a value's length is negative and not that of a null, `InvalidSize` if a key hasn't 4 to 256
+    ///   bytes, and `NotDrained` if bytes stand after the last part. A frame is passed, an opening packet isn't.
     pub fn next(&mut self, kind: PasswordKind) -> Result<Option<ClientMessage<'a>>, ClientError>
         ensures { Step (kind_view kind) self.old (read result) self.new }
     {
@@ -112,7 +112,7 @@ impl<'a> ClientMessages<'a> {
     }
 }
 
-/// A step behind the startup packet.
+/// A step after the startup packet.
 fn tagged(
     kind: PasswordKind,
     bytes: &[u8],

@@ -64,7 +64,8 @@ fn pair_at(bytes: &[u8]) -> Result<((&[u8], &[u8]), &[u8]), Error>
     Ok(((name, value), rest))
 }
 
-/// The names and values of a startup packet. They all stand there, so that the walk isn't refused.
+/// The names and values of a startup packet. They all stand there, so that the iterator isn't
+/// rejected.
 #[derive(Drop)]
 pub struct StartupParameters<'a>(PairWalk<'a>);
 
@@ -98,11 +99,12 @@ impl<'a> FallibleIterator for StartupParameters<'a> {
 }
 
 impl<'a> StartupParameters<'a> {
-    /// The names and values that all of the bytes are, and a 0 byte behind them.
+    /// The names and values that all of the bytes are, and a 0 byte after them.
     ///
     /// # Errors
     ///
-    /// `UnexpectedEof` where they are cut short, and `NotDrained` where bytes stand behind the 0 byte.
+    /// Returns `UnexpectedEof` if they are cut short, and `NotDrained` if bytes stand after the 0
+    /// byte.
     #[tactic(auto, unfolding(crate::specs::Reading::pairs_at))]
     pub(crate) fn read(bytes: &'a [u8]) -> Result<StartupParameters<'a>, Error>
         ensures { Answers (λ x. (x, [])) result (pairs_at bytes.now) }

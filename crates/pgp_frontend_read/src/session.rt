@@ -11,12 +11,12 @@ use crate::messages::ClientMessages;
 use pgp_base::Memory;
 use std::alloc::AllocError;
 
-/// The messages at the front of a client's bytes, up to where the bytes wait for more or a message is refused, and the
-/// refusal. The server is told the kinds of the messages of tag `p` in order; past the last of them it expects passwords.
+/// The messages at the front of a client's bytes, up to where the bytes wait for more or a message is rejected, and the
+/// error. The server is given the kinds of the messages of tag `p` in order; past the last of them it expects passwords.
 ///
 /// # Errors
 ///
-/// `AllocError` where the list wasn't given memory.
+/// Returns `AllocError` if the list wasn't given memory.
 pub fn read_session<'a, A: Memory>(
     alloc: A,
     kinds: &[PasswordKind],
@@ -66,7 +66,7 @@ fn next_kind(kinds: &[PasswordKind]) -> PasswordKind
     }
 }
 
-/// The kinds that are expected behind the message.
+/// The kinds that are expected after the message.
 fn kinds_behind<'k>(message: &ClientMessage, kinds: &'k [PasswordKind]) -> &'k [PasswordKind]
     ensures { map kind_view result.now ≡ kinds_behind (view message.now) (map kind_view kinds.now) }
 {
@@ -79,7 +79,7 @@ fn kinds_behind<'k>(message: &ClientMessage, kinds: &'k [PasswordKind]) -> &'k [
     }
 }
 
-/// Whether a server is told the message's kind.
+/// Whether a server is given the message's kind.
 fn is_told(message: &ClientMessage) -> bool
     ensures { result ≡ is_some (kind_of (view message.now)) }
 {

@@ -25,7 +25,8 @@ impl<'a> Item<'a> for Oid {
     }
 }
 
-/// The types of a statement's parameters, by their identifiers; 0 asks the server for one. They all stand there, so that the walk isn't refused.
+/// The types of a statement's parameters, by their identifiers; 0 asks the server for one. They all stand there, so that the iterator isn't
+/// rejected.
 #[derive(Drop)]
 pub struct ParamTypes<'a>(Listed<'a>);
 
@@ -59,11 +60,11 @@ impl FallibleIterator for ParamTypes<'_> {
 }
 
 impl<'a> ParamTypes<'a> {
-    /// A count and so many types, and the bytes behind them.
+    /// A count and so many types, and the bytes after them.
     ///
     /// # Errors
     ///
-    /// `UnexpectedEof` where they are cut short.
+    /// Returns `UnexpectedEof` if they are cut short.
     #[tactic(auto, unfolding(crate::specs::Reading::counted_at))]
     pub(crate) fn read(bytes: &'a [u8]) -> Result<(ParamTypes<'a>, &'a [u8]), Error>
         ensures { Answers (λ x. (x.0, x.1.now)) result (counted_at type_at bytes.now) }

@@ -29,7 +29,8 @@ impl<'a> Item<'a> for Option<&'a [u8]> {
 ///
 /// # Errors
 ///
-/// `UnexpectedEof` where it is cut short, and `InvalidValueLength` for a length that is negative and isn't -1.
+/// Returns `UnexpectedEof` if it is cut short, and `InvalidValueLength` for a length that is negative and
+/// isn't -1.
 #[tactic(auto, unfolding(crate::specs::Reading::value_at))]
 pub(crate) fn value_at(bytes: &[u8]) -> Result<(Option<&[u8]>, &[u8]), Error>
     ensures { Answers (λ x. (shown x.0, x.1.now)) result (value_at bytes.now) }
@@ -49,7 +50,8 @@ pub(crate) fn value_at(bytes: &[u8]) -> Result<(Option<&[u8]>, &[u8]), Error>
     Ok((Some(value), rest))
 }
 
-/// The values of a portal's parameters; `None` for a null. They all stand there, so that the walk isn't refused.
+/// The values of a portal's parameters; `None` for a null. They all stand there, so that the iterator isn't
+/// rejected.
 #[derive(Drop)]
 pub struct Values<'a>(Listed<'a>);
 
@@ -83,11 +85,12 @@ impl<'a> FallibleIterator for Values<'a> {
 }
 
 impl<'a> Values<'a> {
-    /// A count and so many values, and the bytes behind them.
+    /// A count and so many values, and the bytes after them.
     ///
     /// # Errors
     ///
-    /// `UnexpectedEof` where they are cut short, and `InvalidValueLength` for a length that is negative and isn't -1.
+    /// Returns `UnexpectedEof` if they are cut short, and `InvalidValueLength` for a length that is negative and
+    /// isn't -1.
     #[tactic(auto, unfolding(crate::specs::Reading::counted_at))]
     pub(crate) fn read(bytes: &'a [u8]) -> Result<(Values<'a>, &'a [u8]), Error>
         ensures { Answers (λ x. (x.0, x.1.now)) result (counted_at value_at bytes.now) }
@@ -107,7 +110,7 @@ impl<'a> Values<'a> {
     }
 }
 
-/// The bytes behind so many values.
+/// The bytes after so many values.
 fn behind_values(count: u16, bytes: &[u8]) -> Result<&[u8], Error>
     ensures { RestOf (λ rest. rest.now) (items_at value_at count bytes.now) result }
 {

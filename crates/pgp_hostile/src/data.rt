@@ -3,7 +3,7 @@
 use crate::fault::Fault;
 use std::alloc::Global;
 
-/// The bytes of lines, one behind the other. It remembers why some are missing, where they are: so no call before the last has to tell.
+/// The bytes of lines, one after the other. It remembers why some are missing, where they are: so no call before the last has to tell.
 #[derive(Drop)]
 pub(crate) struct Frames {
     alloc: Global,

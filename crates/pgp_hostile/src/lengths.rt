@@ -159,14 +159,14 @@ fn read_hstore(bytes: &[u8], out: &mut Text) {
     }
 }
 
-/// The number before a body; 0, which is refused, where the body is too long.
+/// The number before a body; 0, which is rejected, where the body is too long.
 fn length_of(body: &[u8]) -> [u8; 4] {
     u32::try_from(body.len().saturating_add(4))
         .unwrap_or(0)
         .to_be_bytes()
 }
 
-/// A body behind its tag and length, read in place.
+/// A body after its tag and length, read in place.
 fn read_body(tag: u8, body: &[u8], out: &mut Text) {
     let mut frame = Frames::new(out.alloc());
     frame.add(&[tag]);
@@ -230,7 +230,7 @@ fn run_row(line: &str, out: &mut Text) {
     }
 }
 
-/// Runs the rows of this text, and tells those that aren't right.
+/// Runs the rows of this text, and reports those that aren't right.
 pub(crate) fn run(text: &str, out: &mut Text) {
     let mut rows = 0u64;
     for line in text.lines() {

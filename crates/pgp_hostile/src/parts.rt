@@ -24,7 +24,7 @@ impl Summed for Option<Range<usize>> {
     }
 }
 
-/// The values that a row's table has, and one place behind its last.
+/// The values that a row's table has, and one place after its last.
 fn add_values(index: &RowIndex<'_>, sum: &mut Sum) {
     sum.plain(&index.len().to_be_bytes());
     for i in 0..index.len() {

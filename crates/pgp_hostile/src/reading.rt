@@ -11,7 +11,7 @@ use std::alloc::Global;
 /// What a frame was read as.
 #[derive(Clone, Copy)]
 enum Kind {
-    /// A message of this name, and the first refusal among its texts and lists.
+    /// A message of this name, and the first error among its texts and lists.
     Message(&'static str, Option<Error>),
     Refused(Error),
 }
@@ -24,7 +24,7 @@ pub(crate) struct Entry {
 }
 
 impl Entry {
-    /// Shows the message's name and what is wrong inside, or the refusal.
+    /// Shows the message's name and what is wrong inside, or the error.
     pub(crate) fn show(&self, out: &mut Text) {
         match self.kind {
             Kind::Message(name, flaw) => {
@@ -113,7 +113,7 @@ impl Reading {
         }
     }
 
-    /// Adds what was read, and tells whether reading goes on. A length fault is no result: it stops the stream.
+    /// Adds what was read, and says whether reading goes on. A length fault is no result: it stops the stream.
     pub(crate) fn add_step<S: Storage>(&mut self, read: &Result<Option<Message<S>>, Error>) -> bool
     where
         Message<S>: Parts,
@@ -130,7 +130,7 @@ impl Reading {
         true
     }
 
-    /// Adds what is left behind the results.
+    /// Adds what is left after the results.
     pub(crate) fn end(&mut self, rest: &[u8]) {
         self.rest = rest.len();
         self.sum.plain(&[u8::from(self.is_stopped)]);
@@ -142,7 +142,7 @@ impl Reading {
         self.sum.value()
     }
 
-    /// Shows the results by name, with a space behind each.
+    /// Shows the results by name, with a space after each.
     fn show_entries(&self, out: &mut Text) {
         for entry in &self.entries {
             entry.show(out);

@@ -41,7 +41,7 @@ fn begun(alloc: Global) -> Result<ScramSha256<Global>, Fault> {
     }
 }
 
-/// How steps ended, by name, and the sum of the places that their refusals tell.
+/// How steps ended, by name, and the sum of the places that their errors tell.
 #[derive(Drop)]
 struct Ends {
     alloc: Global,
@@ -210,7 +210,7 @@ impl<'a> Exchange<'a> {
         show_end(&outcome, out);
     }
 
-    /// The steps in any order, of which the bits say which is the last one, `finish`. Behind each: how it ended, whether
+    /// The steps in any order, of which the bits say which is the last one, `finish`. After each: how it ended, whether
     /// there is a text to send, and how many codes were made.
     fn show_turns(&self, turns: u8, client: &mut ScramSha256<Global>, out: &mut Text) {
         out.push("turns");

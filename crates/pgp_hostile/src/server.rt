@@ -20,7 +20,7 @@ pub(crate) struct Texts<'a> {
     pub(crate) last: &'a str,
 }
 
-/// A block that has each byte of the key, and of the zeros behind it, changed by this one.
+/// A block that has each byte of the key, and of the zeros after it, changed by this one.
 fn padded(key: &[u8; 32], pad: u8) -> [u8; 64] {
     let mut block = [pad; 64];
     for (byte, of_key) in block.iter_mut().zip(key) {

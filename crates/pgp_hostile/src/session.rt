@@ -36,7 +36,7 @@ impl Changes {
         }
     }
 
-    /// Adds what came in the place of the frame of this number and behind it.
+    /// Adds what came in the place of the frame of this number and after it.
     fn add_reading(&mut self, at: usize, before: &Reading, came: &Reading) {
         self.streams = self.streams.saturating_add(1);
         self.sum.plain(&came.value().to_be_bytes());

@@ -3,7 +3,7 @@
 use pgp_base::{Error, FallibleIterator};
 use std::alloc::Global;
 
-/// The FNV-1a digest, of 64 bits, of what was added, and the first refusal among it.
+/// The FNV-1a digest, of 64 bits, of what was added, and the first error among it.
 #[derive(Clone, Copy)]
 pub(crate) struct Sum {
     alloc: Global,
@@ -29,7 +29,7 @@ impl Sum {
         self.value
     }
 
-    /// The first refusal of an accessor or a walk.
+    /// The first error of an accessor or an iterator.
     pub(crate) fn flaw(&self) -> Option<Error> {
         self.flaw
     }
@@ -41,13 +41,13 @@ impl Sum {
         }
     }
 
-    /// Adds bytes, behind how many they are.
+    /// Adds bytes, after how many they are.
     pub(crate) fn bytes(&mut self, bytes: &[u8]) {
         self.plain(&bytes.len().to_be_bytes());
         self.plain(bytes);
     }
 
-    /// Adds a refusal: its number, and the tag or the code that it carries.
+    /// Adds an error: its number, and the tag or the code that it carries.
     pub(crate) fn refusal(&mut self, refusal: Error) {
         self.plain(&[refusal.number()]);
         match refusal {
@@ -57,7 +57,7 @@ impl Sum {
         }
     }
 
-    /// Adds a refusal of a part, which is remembered where it is the first.
+    /// Adds an error of a part, which is remembered where it is the first.
     pub(crate) fn part_refused(&mut self, refusal: Error) {
         self.refusal(refusal);
         if self.flaw.is_none() {
@@ -97,7 +97,8 @@ impl Summed for &str {
     }
 }
 
-/// Adds the items of a walk and its end. Each has a byte before it: 1 for an item, 0 for the end, 2 for a refusal.
+/// Adds the items of an iterator and its end. Each has a byte before it: 1 for an item, 0 for the end, 2 for an
+/// error.
 fn add_items<W: FallibleIterator>(walk: &mut W, sum: &mut Sum)
 where
     W::Item: Summed,
@@ -121,7 +122,7 @@ where
     }
 }
 
-/// Adds what a walk answers at its end.
+/// Adds what an iterator returns at its end.
 fn add_end<W: FallibleIterator>(walk: &mut W, sum: &mut Sum)
 where
     W::Item: Drop,
@@ -136,14 +137,15 @@ where
     }
 }
 
-/// Adds how many items a walk announces.
+/// Adds how many items an iterator announces.
 fn add_announced<W: FallibleIterator>(walk: &W, sum: &mut Sum) {
     let (least, most) = walk.size_hint();
     sum.plain(&least.to_be_bytes());
     sum.plain(&most.unwrap_or(usize::MAX).to_be_bytes());
 }
 
-/// Adds a walk: what it announces, its items, and its end, which is asked for three times more.
+/// Adds an iterator: what it announces, its items, and its end, which is asked for three times
+/// more.
 pub(crate) fn add_walk<W: FallibleIterator + Drop>(mut walk: W, sum: &mut Sum)
 where
     W::Item: Summed + Drop,

@@ -1,4 +1,5 @@
-//! A walk over a list whose lengths may be false: it ends, stays at its end, and asks for no memory by what is announced.
+//! An iterator over a list whose lengths may be false: it ends, stays at its end, and asks for no memory by what is
+//! announced.
 
 use crate::text::{Show, Text};
 use linked_list_allocator::LocalHeap;
@@ -12,7 +13,8 @@ const MANY: u64 = 1_000_000;
 /// How many bytes a list may take here. None has more than ten items.
 const HEAP: usize = 4096;
 
-/// Shows the items, and how the walk ends: `many` where more come than there are bytes. Answers how many came.
+/// Shows the items, and how the iterator ends: `many` where more come than there are bytes. Returns how many
+/// came.
 fn show_items<W: FallibleIterator>(
     walk: &mut W,
     most: usize,
@@ -34,7 +36,7 @@ where
     (came, None)
 }
 
-/// Whether the walk answers this end, and announces no more.
+/// Whether the iterator returns this end, and announces no more.
 fn is_at_end<W: FallibleIterator>(walk: &mut W, end: Option<Error>) -> bool
 where
     W::Item: Drop,
@@ -83,8 +85,8 @@ where
     }
 }
 
-/// Shows a walk over so many bytes: what it announces, its items, and its end. `unsteady` stands behind it where it doesn't stay
-/// at its end, and `greedy` where `collect` asks for more memory than the items need. The second walk is the same.
+/// Shows an iterator over so many bytes: what it announces, its items, and its end. `unsteady` stands after it where it doesn't
+/// stay at its end, and `greedy` where `collect` asks for more memory than the items need. The second iterator is the same.
 pub(crate) fn show_walk<W: FallibleIterator + Drop>(
     mut walk: W,
     again: W,

@@ -17,7 +17,7 @@ pub(crate) enum Way {
     Whole,
     /// A `StreamParser` whose results stay.
     Fed,
-    /// A `StreamParser` whose results are taken behind each piece.
+    /// A `StreamParser` whose results are taken after each piece.
     Taken,
     /// `Message::parse`, again and again.
     Parsed,
@@ -61,7 +61,7 @@ fn whole(pieces: &[&[u8]], out: &mut Reading) {
     }
 }
 
-/// Feeds a parser, whose results stay or are taken behind each piece.
+/// Feeds a parser, whose results stay or are taken after each piece.
 fn feed(parser: &mut StreamParser, pieces: &[&[u8]], is_taken: bool, out: &mut Reading) {
     for piece in pieces {
         if parser.failed() || parser.feed(piece).is_err() {

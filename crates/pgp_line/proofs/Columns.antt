@@ -18,7 +18,7 @@ pub filled : (n : ℕ) → repeat n (encode_utf8 32) ≡ blanks n
 filled zero = refl
 filled (suc n) = ap (λ l. l ++ repeat n (encode_utf8 32)) (encode_ascii 32 (omega arith)) ∙ ap (λ l. 32 ∷ l) (filled n)
 
--- a number behind a fill of blanks
+-- a number after a fill of blanks
 padded_right : (w n : ℕ) → padded_integral (format_spec 32 3 0 w 18446744073709551615) false [] (decimal n) ≡ right w n
 unfolding padded_integral char_count
 padded_right w n =

@@ -55,7 +55,7 @@ plain_same form (x ∷ xs) h =
 pub plain_utf8 : (xs : List ℕ) → list_all is_plain xs ≡ true → IsUtf8 xs
 plain_utf8 xs h = IsUtf8-from_ascii xs (plain_ascii xs h)
 
--- a text may be cut behind them
+-- a text may be cut after them
 pub plain_end : (text : List ℕ) (n : ℕ) → IsUtf8 text → n ≤ length text → list_all is_plain (take n text) ≡ true → IsCharBoundary text n
 plain_end text n u le h = IsCharBoundary-from_take text n u le (plain_utf8 (take n text) h)
 
@@ -112,7 +112,7 @@ whole_text form bytes u = whole_at form bytes (utf8_valid_len bytes) (utf8_valid
 
 -- ---- what a line gains
 
--- the rest of a text behind a run, and behind a character
+-- the rest of a text after a run, and after a character
 pub run_added : (form : Form) (old new text : List ℕ) (n : ℕ) → list_all is_plain (take n text) ≡ true → new ≡ old ++ take n text → new ++ escaped_text form (drop n text) ≡ old ++ escaped_text form text
 run_added form old new text n h e =
     ap (λ l. l ++ escaped_text form (drop n text)) e ∙ append_assoc old (take n text) (escaped_text form (drop n text)) ∙ ap (λ l. old ++ l) (sym (plain_split form text n h))

@@ -196,6 +196,6 @@ pub string_read : (xs rest : List ℕ) → IsUtf8 xs → content plain (escaped 
 string_read xs rest u =
     ap (λ l. content plain (l ++ 34 ∷ rest)) (whole_text Json xs u) ∙ chars_read (chars xs) rest (scalars-chars xs u) ∙ ap (λ l. Some l) (encodes-chars xs u)
 
--- and stands behind its quote
+-- and stands after its quote
 pub string_stands : (xs rest : List ℕ) → IsUtf8 xs → (rs : List ℕ) × (quoted Json xs ++ rest ≡ 34 ∷ rs) × (content plain rs ≡ Some xs)
 string_stands xs rest u = (escaped Json xs ++ 34 ∷ rest, quoted_tail Json xs rest, string_read xs rest u)

@@ -1,4 +1,4 @@
--- A line: its parts, one behind another.
+-- A line: its parts, one after another.
 use Rattle.std.specs.Prelude.{ℕ, ◌-◌, ℤ, Bool, true, false, List, [], ◌∷◌, ◌++◌, length, replicate, Option, Some, None, codes, decimal}
 use Rattle.std.specs.Fmt.{signed_decimal}
 use Rattle.std.specs.List.{flat_map}
@@ -23,12 +23,12 @@ spelt word = flat_map (escaped_byte Columns) word
 abbrev pub string : List ℕ → List ℕ
 string word = 34 ∷ (flat_map (escaped_byte Json) word ++ 34 ∷ [])
 
--- the name of a message: by itself, or at the left of 20 characters where more stands behind it
+-- the name of a message: by itself, or at the left of 20 characters where more stands after it
 abbrev pub named : Bool → List ℕ → List ℕ
 named true name = spelt name
 named false name = spelt name ++ blanks (20 - length name)
 
--- behind the number of a type its name, where each server has it
+-- after the number of a type its name, where each server has it
 abbrev pub type_name : Option (List ℕ) → List ℕ
 type_name None = []
 type_name (Some name) = 32 ∷ spelt name
@@ -43,11 +43,11 @@ pub data Part : Type 0 where
   Length : (n : ℕ) → Part
   -- the tag of a frame
   Tag : (tag : ℕ) → Part
-  -- the name of a message, behind which nothing more stands, or more
+  -- the name of a message, after which nothing more stands, or more
   Name : (alone : Bool) (name : List ℕ) → Part
-  -- the number of the refusal of a frame
+  -- the number of the error of a frame
   Refusal : (n : ℕ) → Part
-  -- a word of ours, as the name of what stands behind it
+  -- a word of ours, as the name of what stands after it
   Word : (word : List ℕ) → Part
   Number : (n : ℤ) → Part
   -- a type
@@ -87,7 +87,7 @@ json limit (Value None) = codes "null"
 json limit (Value (Some bytes)) = json_value limit bytes
 json limit (Hidden n) = codes "{\"bytes\":" ++ decimal n ++ codes "}"
 
--- a part behind others
+-- a part after others
 abbrev pub added_by : Form → ℕ → Part → List ℕ
 added_by Columns limit part = 32 ∷ shown limit part
 added_by Json limit part = 44 ∷ json limit part
@@ -95,7 +95,7 @@ added_by Json limit part = 44 ∷ json limit part
 abbrev pub added : Style → Part → List ℕ
 added style part = added_by style.form style.limit part
 
--- a line with these parts behind it
+-- a line with these parts after it
 abbrev pub followed : Style → List ℕ → List Part → List ℕ
 followed style line [] = line
 followed style line (part ∷ parts) = followed style (line ++ added style part) parts

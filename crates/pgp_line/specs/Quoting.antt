@@ -81,7 +81,7 @@ abbrev pub unprinted : Form → ℕ → List ℕ
 unprinted Columns c = flat_map (hex_escape Columns) (encode_utf8 c)
 unprinted Json c = units c
 
--- A character: a mark behind a backslash, another that is printed as it is, and what isn't by its digits.
+-- A character: a mark after a backslash, another that is printed as it is, and what isn't by its digits.
 abbrev pub escaped_char : Form → ℕ → List ℕ
 escaped_char form c = if is_mark c then 92 ∷ c ∷ [] else if is_printable c then encode_utf8 c else unprinted form c
 

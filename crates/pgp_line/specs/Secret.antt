@@ -11,7 +11,7 @@ secret_by false bytes = Hidden (length bytes)
 abbrev pub secret : Style → List ℕ → Part
 secret style bytes = secret_by style.secrets bytes
 
--- a message of tag `p` of which nothing is known is told by its length alone
+-- a message of tag `p` of which nothing is known is reported by its length alone
 abbrev pub response_parts : Style → Bool → List ℕ → List Part
 response_parts style true response = Word (codes "data") ∷ secret style response ∷ []
 response_parts style false response = Hidden (length response) ∷ []

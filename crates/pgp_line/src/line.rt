@@ -1,4 +1,4 @@
-//! The parts of a line, each behind a space, or in JSON behind a comma.
+//! The parts of a line, each after a space, or in JSON after a comma.
 
 ghost use Rattle.std.specs.Prelude.{◌≡◌, ◌∷◌, ◌++◌, [], pos, None, Some, OnErr, OnOk, string_bytes};
 ghost use Rattle.pgp_line.specs.Line.{Length, Tag, Name, Refusal, Word, Number, Oid, Text, Value, Hidden, blanks, closing, followed, json_name, named, opening, right, string, type_name};
@@ -89,7 +89,7 @@ pub fn put_type<A: Memory>(style: Style, oid: u32, line: &mut String<A>) -> Resu
     }
 }
 
-/// Adds the name of a type behind its number.
+/// Adds the name of a type after its number.
 fn put_type_name<A: Memory>(name: Option<&str>, line: &mut String<A>) -> Result<(), AllocError>
     ensures text { OnOk result (string_bytes line.new ≡ string_bytes line.old ++ type_name (option_map (λ name. name.now) name.entry)) }
     ensures lacks { OnErr result A.Lacks }
@@ -181,7 +181,7 @@ pub fn put_end<A: Memory>(style: Style, line: &mut String<A>) -> Result<(), Allo
     }
 }
 
-/// Adds the name of a message: by itself, or in a column where more stands behind it.
+/// Adds the name of a message: by itself, or in a column where more stands after it.
 pub fn put_called<A: Memory>(
     style: Style,
     alone: bool,
@@ -203,7 +203,7 @@ pub fn put_called<A: Memory>(
     }
 }
 
-/// Adds a name, and blanks where more stands behind it.
+/// Adds a name, and blanks where more stands after it.
 fn put_named<A: Memory>(alone: bool, name: &str, line: &mut String<A>) -> Result<(), AllocError>
     ensures text { OnOk result (string_bytes line.new ≡ string_bytes line.old ++ named alone name.now) }
     ensures lacks { OnErr result A.Lacks }
@@ -227,7 +227,7 @@ fn put_blanks<A: Memory>(len: usize, line: &mut String<A>) -> Result<(), AllocEr
     Ok(())
 }
 
-/// Adds the number of a frame's refusal.
+/// Adds the number of a frame's error.
 pub fn put_refusal<A: Memory>(
     style: Style,
     number: u64,

@@ -224,7 +224,7 @@ fn put_text<A: Memory>(form: Form, text: &str, line: &mut String<A>) -> Result<(
     Ok(())
 }
 
-/// Adds the characters at the front that stand as they are, at once, and gives what is behind them.
+/// Adds the characters at the front that stand as they are, at once, and gives what is after them.
 fn put_plain<'t, A: Memory>(
     form: Form,
     text: &'t str,
@@ -240,7 +240,7 @@ fn put_plain<'t, A: Memory>(
     Ok(rest)
 }
 
-/// Adds the next character, if there is one, and gives what is behind it.
+/// Adds the next character, if there is one, and gives what is after it.
 fn put_next<'t, A: Memory>(
     form: Form,
     text: &'t str,
@@ -399,7 +399,7 @@ fn put_hexes<A: Memory>(bytes: &[u8], line: &mut String<A>) -> Result<(), AllocE
     Ok(())
 }
 
-/// Adds the hex digits of a byte behind a backslash and an `x`, or behind what JSON has for it.
+/// Adds the hex digits of a byte after a backslash and an `x`, or after what JSON has for it.
 fn put_escape<A: Memory>(form: Form, byte: u8, line: &mut String<A>) -> Result<(), AllocError>
     ensures text { OnOk result (string_bytes line.new ≡ string_bytes line.old ++ hex_escape form byte) }
     ensures lacks { OnErr result A.Lacks }

@@ -1,4 +1,4 @@
--- What reading a body from the left answers is the one result that the grammar allows.
+-- What reading a body from the left returns is the one result that the grammar allows.
 use Rattle.std.specs.Prelude.{◌≤◌, ◌<◌, length, nat_lt, if◌then◌else◌}
 use Rattle.std.proofs.Common.{◌≡◌, ◌≢◌, ℕ, ℤ, Bool, true, false, pos, negsuc, arith, length-append, List, [], ◌∷◌, ◌++◌, Result, Ok, Err, refl, sym, ap, subst, ◌∙◌}
 use Rattle.std.proofs.lemmas.List.{append-nil}
@@ -196,7 +196,7 @@ found_body tag payload h =
 spelled : (tag : ℕ) (payload : List ℕ) (m : Message) (more : List ℕ) → Spells tag payload m more → body_of tag payload ≡ after m more
 spelled tag payload m more s = ap (body_of tag) s.parts ∙ ap (λ t. body_of t (payload_of m ++ more)) (sym s.tagged) ∙ body_again m more s.fits
 
--- a whole message is answered
+-- a complete message is answered
 whole_is : (m : Message) → Fits m → after m [] ≡ Ok m
 whole_is (DataRow row) fits = ap (λ (l : List ℕ). Ok (DataRow (record row { storage = l }))) (append-nil row.storage)
 whole_is (RowDescription row) fits = ap (λ (l : List ℕ). Ok (RowDescription (record row { storage = l }))) (append-nil row.storage)
@@ -221,7 +221,7 @@ whole_is CopyDone fits = refl
 whole_is NoData fits = refl
 whole_is PortalSuspended fits = refl
 
--- behind a message comes nothing, or too much
+-- after a message comes nothing, or too much
 Drains : Result Message Error → Type 0
 Drains (Ok m) = Unit {0}
 Drains (Err errors.NotDrained) = Unit {0}

@@ -98,7 +98,7 @@ byte_again b more = refl
 
 -- What is read was spelled so.
 
--- the payload is the spelling of x, and these bytes behind it
+-- the payload is the spelling of x, and these bytes after it
 pub record Holds {X : Type 0} (FitsAs : X → Type 0) (spell : X → List ℕ) (payload : List ℕ) (x : X) (more : List ℕ) : Type 0 where
   pub fits : FitsAs x
   pub parts : payload ≡ spell x ++ more

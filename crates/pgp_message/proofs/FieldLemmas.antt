@@ -26,7 +26,7 @@ int32_value l = cast_signed w32 (from_be_bytes w32 l)
 abbrev IsOid : ℕ → Type 0
 IsOid n = n < 2 ^ 32
 
--- what is read behind each number
+-- what is read after each number
 abbrev after_5 : List ℕ → ℕ × List ℕ → ℤ × List ℕ → ℕ × List ℕ → ℤ × List ℕ → ℤ × List ℕ → ℤ × List ℕ → Result (FieldPart × List ℕ) Error
 after_5 name a b c d e f = Ok (record { name = name; table_oid = a.0; column_id = b.0; type_oid = c.0; type_size = d.0; type_modifier = e.0; format = f.0 }, f.1)
 
@@ -115,7 +115,7 @@ numbers_again x after fits =
       number_again 2 (FitsSigned w16) int16 int16_value int16_number x.format after fits.format,
     ) refl
 
--- the numbers are refused only where they are cut short
+-- the numbers are rejected only where they are cut short
 pub record CutNumbers (rest : List ℕ) (e : Error) : Type 0 where
   pub is : e ≡ UnexpectedEof
   pub short : length rest < 18
@@ -188,7 +188,7 @@ again place x front after s =
     rw whole (text_reader.again place x.name (text x.name) (numbers_of x ++ after) (record { no_zero = s.no_zero; utf8 = s.utf8; parts = refl })) in
     ap numbers_after name ∙ numbers_again x after s.fits
 
--- what refuses a text refuses a field
+-- what rejects a text rejects a field
 of_name : (bytes : List ℕ) (e : Error) → TextRefused bytes e → FieldRefused bytes e
 of_name bytes UnexpectedEof h = inl h
 of_name bytes NotUtf8 h = h

@@ -71,7 +71,7 @@ pub count_one : (header : Option (ℕ × ℕ)) → count_of header ≤ 1
 count_one None = omega arith
 count_one (Some header) = omega arith
 
--- a header that is remembered is that of the first frame, or of what stands behind no frame
+-- a header that is remembered is that of the first frame, or of what stands after no frame
 known_of : (frames : List Frame) (bytes : List ℕ) (len : ℕ) (known : Option (ℕ × ℕ)) → take len bytes ≡ flat_map frame_bytes frames → len ≤ length bytes → IfSome known (λ h. header_of bytes ≡ Some h)
     → count_of known ≤ length frames + count_of (header_of (drop len bytes))
 known_of (f ∷ frames) bytes len known front within fits = omega (arith, count_one known)
@@ -92,7 +92,7 @@ finds_all bytes old new found read finds header is most counted = record { finds
 pub begins_long : (bytes : List ℕ) → BeginsWithFrame bytes → 5 ≤ length bytes
 begins_long bytes b = omega (arith, ap length b.whole, length-frame b.first b.rest)
 
--- the frame that the bytes begin with is the one that its header tells
+-- the frame that the bytes begin with is the one that its header says
 pub front_begins : (bytes : List ℕ) (tag total : ℕ) → IsBytes bytes → BeginsWithFrame bytes → tag ≡ get_or bytes 0 0 → total ≡ announced bytes + 1 → IsFront (record { tag = tag; total = total }) bytes
 front_begins bytes tag total each b tag_is total_is =
     let is : announced bytes ≡ length b.first.payload + 4 = ap announced b.whole ∙ announced_frame b.first b.rest b.fits in
@@ -107,7 +107,7 @@ frames_begin bytes n are some = begin are.frames are.whole are.each are.count
     begin [] whole each count = absurd (omega (arith, some, count))
     begin (f ∷ frames) whole each count = record { first = f; rest = flat_map frame_bytes frames; whole = whole ∙ flat_map-cons frame_bytes f frames; fits = each.0 }
 
--- behind it are the others
+-- after it are the others
 frames_left : (bytes new : List ℕ) (n : ℕ) (r : Result Message Error) → AreFrames bytes n → 0 < n → TakesFrame bytes r new → AreFrames new (n - 1)
 frames_left bytes new n r are some one = behind are.frames are.whole are.each are.count
   where

@@ -43,7 +43,7 @@ fault_is bytes fault = (omega (arith, header_length bytes fault.header), omega (
 
 -- ---- what is read is what the grammar says
 
--- the four bytes behind the tag
+-- the four bytes after the tag
 length_bytes : (a b c d e : ℕ) (rest : List ℕ) → IsBytes (a ∷ b ∷ c ∷ d ∷ e ∷ rest) → IsBytes (b ∷ c ∷ d ∷ e ∷ [])
 length_bytes a b c d e rest each = λ i. at i
   where
@@ -86,7 +86,7 @@ pub fault_there : (bytes : List ℕ) → IsBytes bytes → 5 ≤ length bytes �
 unfolding header_there
 fault_there bytes each long small = record { header = header_there bytes each long; small = small }
 
--- a fault stays where bytes are added behind
+-- a fault stays where bytes are added after
 pub fault_stays : (rest more : List ℕ) → IsLengthFault rest → IsLengthFault (rest ++ more)
 fault_stays rest more fault =
     let h = fault.header in

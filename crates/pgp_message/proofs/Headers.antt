@@ -85,7 +85,7 @@ fits_after lacks old new memory (Err errors.InvalidLength) step = subst (λ (l :
 fits_after lacks old new memory (Err errors.OutOfMemory) step = subst (λ (l : List ℕ). IfSome (header_of old) (λ header. header_of l ≡ Some header)) (sym step.2) (itself (header_of old))
 fits_after lacks old new memory (Err e) step = tt
 
--- bytes that come behind it change no header
+-- bytes that come after it change no header
 pub header_stays : (bytes more : List ℕ) (header : ℕ × ℕ) → header_of bytes ≡ Some header → header_of (bytes ++ more) ≡ Some header
 header_stays (t ∷ a ∷ b ∷ c ∷ d ∷ rest) more header e = e
 header_stays (t ∷ a ∷ b ∷ c ∷ []) more header e = cc

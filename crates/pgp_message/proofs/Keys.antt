@@ -17,7 +17,7 @@ nothing : (rest : List ℕ) → length rest < 1 → rest ≡ []
 nothing [] h = refl
 nothing (b ∷ rest) h = absurd (omega (arith, h))
 
--- a number, and nothing behind it
+-- a number, and nothing after it
 pub key_number : (bytes : List ℕ) (x : ℤ × List ℕ) → IsBytes bytes → int32_at bytes ≡ Some x → length x.1 < 1 → bytes ≡ int32 (to_z w32 (of_z w32 x.0))
 key_number bytes x h read none =
     let a = int32_takes bytes x h read in
@@ -31,7 +31,7 @@ options_none : (version count : ℤ) (options : List ℕ) (e : Error) → Err e 
 options_none version (pos m) options e h = cc
 options_none version (negsuc k) options e h = let s : e ≡ InvalidCount = cc in ap (λ x. Err x) (sym s)
 
--- what stands behind a number
+-- what stands after a number
 behind : (bytes : List ℕ) (x : ℤ × List ℕ) → int32_at bytes ≡ Some x → x.1 ≡ drop 4 bytes
 behind bytes x read =
     let a = front_takes 4 (λ l. cast_signed w32 (from_be_bytes w32 l)) bytes x read in
@@ -75,7 +75,7 @@ counted_room bytes n h = go (int32_at bytes) (λ x read. (front_takes 4 (λ l. c
 number_cut : (bytes : List ℕ) → length bytes < 4 → int32_at bytes ≡ None
 number_cut bytes short = rw (lt-ltb (length bytes) 4 short) refl
 
--- what is left behind a number
+-- what is left after a number
 left_short : (bytes : List ℕ) (x : ℤ × List ℕ) → int32_at bytes ≡ Some x → length bytes < 8 → length x.1 < 4
 left_short bytes x read short =
     let a = front_takes 4 (λ l. cast_signed w32 (from_be_bytes w32 l)) bytes x read in

@@ -18,7 +18,7 @@ one_step old x f r front t =
     let same = front_is_one (front_frame f old) t.first (drop f.total old) x front.fits t.fits (sym front.whole ∙ t.whole) in
     ap (λ (g : Frame). body_of g.tag g.payload) same.0 ∙ one_body t.first.tag t.first.payload r t.fits.payload t.body
 
--- where the bytes begin with no whole frame, none is taken
+-- where the bytes begin with no complete frame, none is taken
 pub none_taken : (old x : List ℕ) (stopped : Bool) (r : Result Message Error) → IsEnding stopped old → TakesFrame old r x → ⊥
 none_taken old x stopped r ending t = no_ending t.first x stopped t.fits (subst (IsEnding stopped) t.whole ending)
 
@@ -32,7 +32,7 @@ takes_front old new f r front rest read =
     let taken : TakesFrame old r (drop f.total old) = subst (λ (x : Result Message Error). TakesFrame old x (drop f.total old)) read (takes old (drop f.total old) (front_frame f old) front.whole front.fits) in
     subst (λ n. TakesFrame old r n) (sym rest) taken
 
--- where a front is refused there is a length fault
+-- where a front is rejected there is a length fault
 pub fault_found : (bytes : List ℕ) (e : Error) → Finds bytes (Err e) → IsLengthFault bytes
 fault_found bytes errors.InvalidLength finds = finds
 fault_found bytes e finds = absurd finds

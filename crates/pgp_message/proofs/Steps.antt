@@ -15,7 +15,7 @@ use Rattle.pgp_message.proofs.Bodies.{body_is}
 pub takes : (old new : List ℕ) (f : Frame) → old ≡ frame_bytes f ++ new → IsFrame f → TakesFrame old (body_of f.tag f.payload) new
 takes old new f whole fits = record { first = f; whole = whole; fits = fits; body = body_is f.tag f.payload fits.payload }
 
--- a refused body is a refused step
+-- a rejected body is a rejected step
 refused : (lacks : Type 0) (old new : List ℕ) (e : Error) → TakesFrame old (Err e) new → Step lacks old (Err e) new
 refused lacks old new errors.InvalidLength t = absurd t.body
 refused lacks old new errors.OutOfMemory t = absurd t.body
@@ -31,7 +31,7 @@ answers lacks old new (Ok m) (Ok o) t e = found_here lacks old new m o t e
 answers lacks old new (Ok m) (Err d) t e = absurd e
 answers {A} lacks old new (Err e) out t is = subst (λ (x : Result (Option (code.Message.Message A)) Error). Step lacks old (parsed x) new) (sym is) (refused lacks old new e t)
 
--- where no memory is wanted, a refusal that isn't a length fault is that of a frame
+-- where no memory is wanted, an error that isn't a length fault is that of a frame
 pub taken_by : (old new : List ℕ) (e : Error) → e ≢ errors.InvalidLength → Step ⊥ old (Err e) new → TakesFrame old (Err e) new
 taken_by old new errors.OutOfMemory q step = absurd step.1
 taken_by old new errors.InvalidLength q step = absurd (q refl)
@@ -45,10 +45,10 @@ steps {A} lacks old new f r out front rest read is =
     let taken : TakesFrame old (seen r) (drop f.total old) = subst (λ (x : Result Message Error). TakesFrame old x (drop f.total old)) (sym read) (takes old (drop f.total old) (front_frame f old) front.whole front.fits) in
     rw rest (answers lacks old (drop f.total old) r out taken is)
 
--- a whole frame stands there, whose message keeps bytes of it
+-- a complete frame stands there, whose message keeps bytes of it
 pub begins : (old : List ℕ) (f : Front) → IsFront f old → KeepsBytes f.tag (drop 5 (take f.total old)) → BeginsWithKept old
 begins old f front keeps = record { first = front_frame f old; rest = drop f.total old; whole = front.whole; fits = front.fits; keeps = keeps }
 
--- what stands behind the header, as it is sliced
+-- what stands after the header, as it is sliced
 pub payload_of_front : (bytes old : List ℕ) (t : ℕ) → 5 ≤ t → bytes ≡ old → take (t - 5) (drop 5 bytes) ≡ drop 5 (take t old)
 payload_of_front bytes old t least same = ap (λ l. take (t - 5) (drop 5 l)) same ∙ sym (drop-take_less old 5 t least)

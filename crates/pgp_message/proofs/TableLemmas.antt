@@ -37,7 +37,7 @@ collected_places row walk xs has all =
     let same : walk.items ≡ xs = subst (λ (l : List (Option (Range ℕ))). walk.items ≡ l) (map-id xs) (sym all.items) in
     subst (λ (l : List (Option (Range ℕ))). HasPlaces row l None) same (subst (λ (e : Option Error). HasPlaces row walk.items e) all.end has)
 
--- the refusal of a walk is the row's
+-- the error of a walk is the row's
 pub refused_places : (lacks : Type 0) (row : CountedBytes) (walk : Walk (Option (Range ℕ))) (e : Error) → HasPlaces row walk.items walk.end → RefusesFrom lacks walk e → Tabulates row lacks (Err e)
 refused_places lacks row walk e has (inr end) = inr (walk.items, subst (λ (d : Option Error). HasPlaces row walk.items d) end has)
 refused_places lacks row walk e has (inl memory) = inl memory

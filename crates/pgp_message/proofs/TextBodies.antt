@@ -19,7 +19,7 @@ pub string_is : (payload text rest new : List ℕ) → string_at payload ≡ Som
 unfolding string_of
 string_is payload text rest new s e n = let none = nil_from_length rest e in rw (s, none, n, text_is payload text rest s) refl
 
--- two strings and nothing behind them
+-- two strings and nothing after them
 both_texts : (bytes first after second end : List ℕ) → string_at bytes ≡ Some (first, after) → string_at after ≡ Some (second, end) → length end ≡ 0 → bytes ≡ (first ++ 0 ∷ second) ++ 0 ∷ []
 both_texts bytes first after second end s t e =
     let p = (string_takes bytes (first, after) s).parts in

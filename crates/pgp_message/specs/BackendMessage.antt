@@ -60,7 +60,7 @@ code_of (AuthenticationSasl bytes) = 10
 code_of (AuthenticationSaslContinue bytes) = 11
 code_of (AuthenticationSaslFinal bytes) = 12
 
--- what stands behind the code
+-- what stands after the code
 abbrev pub details_of : Request → List ℕ
 details_of AuthenticationOk = []
 details_of AuthenticationKerberosV5 = []
@@ -145,7 +145,7 @@ Fits (RowDescription row) = row.count < 2 ^ 16
 Fits (ParameterDescription row) = row.count < 2 ^ 16
 Fits m = Unit {0}
 
--- the payload is the parts of this message, and these bytes behind them
+-- the payload is the parts of this message, and these bytes after them
 pub record Spells (tag : ℕ) (payload : List ℕ) (m : Message) (more : List ℕ) : Type 0 where
   pub tagged : tag_of m ≡ tag
   pub fits : Fits m

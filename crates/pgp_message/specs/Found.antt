@@ -6,26 +6,27 @@ use Rattle.pgp_message.specs.BackendMessage.{Message}
 use Rattle.pgp_message.specs.Remembered.{Memory, header_of, count_of}
 use Rattle.pgp_message.specs.Stream.{Frame, frame_bytes, IsFrame, IsEnding, Frames}
 
--- How many bytes whole frames take, how many they are, and whether a length fault stands behind them.
+-- How many bytes complete frames take, how many they are, and whether a length fault stands after
+-- them.
 pub record Found : Type 0 where
   pub len : ℕ
   pub count : ℕ
   pub stopped : Bool
 
--- the bytes are so many whole frames, and nothing else
+-- the bytes are so many complete frames, and nothing else
 pub record AreFrames (bytes : List ℕ) (n : ℕ) : Type 0 where
   pub frames : List Frame
   pub whole : bytes ≡ flat_map frame_bytes frames
   pub each : AllByRecursion IsFrame frames
   pub count : n ≡ length frames
 
--- The first bytes are so many whole frames, and behind them stands what ends them.
+-- The first bytes are so many complete frames, and after them stands what ends them.
 pub record FindsFrames (bytes : List ℕ) (found : Found) : Type 0 where
   pub within : found.len ≤ length bytes
   pub front : AreFrames (take found.len bytes) found.count
   pub ending : IsEnding found.stopped (drop found.len bytes)
 
--- Frames were found, and the header behind them is remembered. With the header that was remembered before, those that
+-- Frames were found, and the header after them is remembered. With the header that was remembered before, those that
 -- were counted are one for each frame and that one; the count stays at the greatest u64.
 pub record FindsAll (bytes : List ℕ) (old new : Memory) (found : Found) : Type 0 where
   pub finds : FindsFrames bytes found

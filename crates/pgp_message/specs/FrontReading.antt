@@ -5,12 +5,12 @@ use Rattle.pgp_base.specs.declared.error.Error.{Error}
 use Rattle.pgp_base.specs.declared.error.Error.TheVariants as errors
 use Rattle.pgp_message.specs.Stream.{Frame, frame_bytes, IsFrame, IsPartial, IsLengthFault}
 
--- the header of a whole frame as it is used: its tag, and how many bytes the frame takes
+-- the header of a complete frame as it is used: its tag, and how many bytes the frame takes
 pub record Front : Type 0 where
   pub tag : ℕ
   pub total : ℕ
 
--- the length that the bytes announce behind their tag
+-- the length that the bytes announce after their tag
 abbrev pub announced : List ℕ → ℕ
 announced bytes = from_be_bytes w32 (take 4 (drop 1 bytes))
 

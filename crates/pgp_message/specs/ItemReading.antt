@@ -1,4 +1,4 @@
--- Private: reading an item from the left, as the code does it. What it answers is what the item's grammar says.
+-- Private: reading an item from the left, as the code does it. what it returns is what the item's grammar says.
 use Rattle.std.specs.Prelude.{ℕ, ℤ, pos, negsuc, ◌+◌, List, [], ◌∷◌, length, drop, Option, Some, None, Result, Ok, Err, nat_lt, if◌then◌else◌}
 use Rattle.std.specs.declared.ops.Range.{Range}
 use Rattle.pgp_base.specs.declared.error.Error.{Error}
@@ -19,7 +19,7 @@ range_after place (pos n) rest = if nat_lt (length rest) n then Err UnexpectedEo
 unfoldable pub range_at : ℕ → List ℕ → Result (Option (Range ℕ) × List ℕ) Error
 range_at place bytes = int32_at bytes >>= λ len. range_after place len.0 len.1
 
--- the numbers behind a name
+-- the numbers after a name
 unfoldable pub numbers_at : List ℕ → List ℕ → Result (FieldPart × List ℕ) Error
 numbers_at name rest = do
   table_oid ← oid_at rest

@@ -15,12 +15,12 @@ pub record Setting : Type 0 where
   pub name : List ℕ
   pub value : List ℕ
 
--- a count, and the bytes behind it, which only a walk reads
+-- a count, and the bytes after it, which only a walk reads
 pub record CountedBytes : Type 0 where
   pub count : ℕ
   pub storage : List ℕ
 
--- a version's number, the count of the options, and the bytes behind it, which only a walk reads
+-- a version's number, the count of the options, and the bytes after it, which only a walk reads
 pub record Negotiation : Type 0 where
   pub version : ℤ
   pub count : ℕ

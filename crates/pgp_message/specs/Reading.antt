@@ -1,4 +1,4 @@
--- Private: reading a body from the left, as the code does it. What it answers is the one result that `Body` allows.
+-- Private: reading a body from the left, as the code does it. what it returns is the one result that `Body` allows.
 use Rattle.std.specs.Prelude.{ℕ, ℤ, pos, negsuc, List, [], ◌∷◌, length, Result, Ok, Err, nat_lt, ◌==◌, if◌then◌else◌}
 use Rattle.std.specs.Int.{w32, cast_signed}
 use Rattle.pgp_base.specs.declared.error.Error.{Error}

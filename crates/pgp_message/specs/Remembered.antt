@@ -50,6 +50,6 @@ abbrev pub count_of : Option (ℕ × ℕ) → ℕ
 count_of None = 0
 count_of (Some header) = 1
 
--- how many headers were read where there are n results and this header stands behind them; at most the greatest u64
+-- how many headers were read where there are n results and this header stands after them; at most the greatest u64
 abbrev pub headers_read : ℕ → Option (ℕ × ℕ) → ℕ
 headers_read n header = min (n + count_of header) (2 ^ 64 - 1)

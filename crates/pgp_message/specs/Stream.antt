@@ -34,7 +34,7 @@ pub record IsUnfinished (bytes : List ℕ) : Type 0 where
   pub least : 4 ≤ header.len
   pub missing : length header.rest + 4 < header.len
 
--- too short for a header, or a frame that isn't whole
+-- too short for a header, or a partial frame
 abbrev pub IsPartial : List ℕ → Type 0
 IsPartial bytes = (length bytes < 5) ⊎ IsUnfinished bytes
 
@@ -74,7 +74,7 @@ pub record TakesFrame (old : List ℕ) (r : Result Message Error) (new : List �
   pub fits : IsFrame first
   pub body : Body first.tag first.payload r
 
--- the bytes begin with a whole frame
+-- the bytes begin with a complete frame
 pub record BeginsWithFrame (bytes : List ℕ) : Type 0 where
   pub first : Frame
   pub rest : List ℕ
@@ -85,13 +85,13 @@ pub record BeginsWithFrame (bytes : List ℕ) : Type 0 where
 abbrev pub keeping_tags : List ℕ
 keeping_tags = 65 ∷ 67 ∷ 68 ∷ 69 ∷ 71 ∷ 72 ∷ 75 ∷ 78 ∷ 83 ∷ 84 ∷ 100 ∷ 116 ∷ 118 ∷ []
 
--- A message of this tag keeps bytes of its frame. An authentication request (82, `R`) tells by its code: 8, or 10 to 12, which have
+-- A message of this tag keeps bytes of its frame. An authentication request (82, `R`) says by its code: 8, or 10 to 12, which have
 -- the bytes of an exchange or the names of mechanisms.
 abbrev pub KeepsBytes : ℕ → List ℕ → Type 0
 KeepsBytes tag payload = (list_any (λ t. t == tag) keeping_tags ≡ true)
     ⊎ ((tag ≡ 82) × (code : ℕ) × (rest : List ℕ) × (payload ≡ uint32 code ++ rest) × (code < 2 ^ 32) × ((code ≡ 8) ⊎ ((10 ≤ code) × (code ≤ 12))))
 
--- the bytes begin with the whole frame of such a message
+-- the bytes begin with the complete frame of such a message
 pub record BeginsWithKept (bytes : List ℕ) : Type 0 where
   pub first : Frame
   pub rest : List ℕ

@@ -19,7 +19,7 @@ pub record Table : Type 0 where
 abbrev pub HasPlaces : CountedBytes → List (Option (Range ℕ)) → Option Error → Type 0
 HasPlaces row places end = CountedItems RangeSpelled RangeRefused row.count row.storage places end
 
--- The table of a row: its list, which is finished; or why it isn't finished; or want of memory.
+-- The table of a row: its list, which is finished; or why it isn't finished; or lack of memory.
 abbrev pub Tabulates : CountedBytes → Type 0 → Result Table Error → Type 0
 Tabulates row lacks (Ok table) = (table.buffer ≡ row.storage) × HasPlaces row table.places None
 Tabulates row lacks (Err e) = WantsMemory lacks e ⊎ ((places : List (Option (Range ℕ))) × HasPlaces row places (Some e))
@@ -39,11 +39,11 @@ or_end end (Some p) = Ok (Some p)
 or_end None None = Ok None
 or_end (Some e) None = Err e
 
--- the place of a column that the list reaches, or what is behind the list where it doesn't: nothing, or the row's refusal
+-- the place of a column that the list reaches, or what is after the list where it doesn't: nothing, or the row's error
 abbrev pub place_at : List (Option (Range ℕ)) → Option Error → ℕ → Result (Option (Option (Range ℕ))) Error
 place_at places end i = or_end end (slice_get places i)
 
--- What a column of a row is answered, without a table: its value, where the list reaches it. What stands behind it isn't looked at.
+-- What a column of a row is answered, without a table: its value, where the list reaches it. What stands after it isn't looked at.
 pub record HasColumn (row : CountedBytes) (i : ℕ) (result : Result (Option (Option (List ℕ))) Error) : Type 0 where
   pub places : List (Option (Range ℕ))
   pub end : Option Error

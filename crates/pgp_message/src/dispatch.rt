@@ -1,4 +1,4 @@
-//! What the tag of a frame tells: how its message is read, and whether it keeps bytes of its frame.
+//! What the tag of a frame says: how its message is read, and whether it keeps bytes of its frame.
 
 ghost use Rattle.std.specs.Prelude.{◌≡◌, ◌≢◌, ◌<◌, ◌++◌, ◌∷◌, [], map, true, false, vec_len, vec_capacity};
 ghost use Rattle.pgp_message.specs.BackendMessage.{ReadyForQuery};
@@ -93,8 +93,8 @@ pub fn bare<S: Storage>(tag: u8, payload: &[u8]) -> Result<Message<S>, Error>
     plain(tag, payload)
 }
 
-/// What is told of a frame of which nothing is kept, where it is no authentication request: one call for each tag.
-/// A call of its own stores what it tells at once, where answers that meet behind a `match` go through memory.
+/// What is reported of a frame of which nothing is kept, where it is no authentication request: one call for each
+/// tag. A call of its own stores what it says at once, where returns that meet after a `match` go through memory.
 macro_rules! plain {
     ($tag:ident, $payload:ident, $ended:ident, $told:ident, $other:expr $(, $list:ident)?) => {
         match $tag {
@@ -122,8 +122,8 @@ fn plain<S: Storage>(tag: u8, payload: &[u8]) -> Result<Message<S>, Error>
     plain!(tag, payload, ended, identity, Err(Error::UnknownTag(tag)))
 }
 
-/// Adds the message of a frame, or its refusal, to a list that has room for it, where the tag alone tells that it keeps no
-/// bytes of its frame; else it answers false and leaves the list.
+/// Adds the message of a frame, or its error, to a list that has room for it, where the tag alone says that it keeps no
+/// bytes of its frame; otherwise it returns false and leaves the list.
 #[tactic(auto, unfolding(crate::specs::Reading::body_of, crate::specs::Reading::bare_of))]
 pub fn plain_onto<S: Storage, A: Allocator>(
     list: &mut Vec<Result<Message<S>, Error>, A>,
@@ -160,7 +160,7 @@ pub fn body<S: Storage>(tag: u8, payload: S) -> Result<Message<S>, Error>
     )
 }
 
-/// Adds that message, or its refusal, to a list that has room for it.
+/// Adds that message, or its error, to a list that has room for it.
 // The kinds that come by the thousand have calls of their own, as in `plain!`.
 #[tactic(auto, unfolding(crate::specs::Reading::body_of))]
 pub fn body_onto<S: Storage, A: Allocator>(
@@ -198,7 +198,7 @@ pub fn ended<S: Storage>(payload: &[u8], message: Message<S>) -> Result<Message<
     Ok(message)
 }
 
-/// Adds a message without parts to a list that has room for it, or its refusal where bytes are left, and answers true.
+/// Adds a message without parts to a list that has room for it, or its error where bytes are left, and returns true.
 #[inline(always)]
 fn ended_onto<S: Storage, A: Allocator>(
     list: &mut Vec<Result<Message<S>, Error>, A>,
@@ -216,7 +216,7 @@ fn ended_onto<S: Storage, A: Allocator>(
     told(list, Ok(message))
 }
 
-/// Adds what was read to a list that has room for it, and answers true: it is told.
+/// Adds what was read to a list that has room for it, and returns true: it is reported.
 #[inline(always)]
 fn told<S: Storage, A: Allocator>(
     list: &mut Vec<Result<Message<S>, Error>, A>,

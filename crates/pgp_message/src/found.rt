@@ -14,7 +14,7 @@ pub struct Found {
     pub len: usize,
     /// How many they are.
     pub count: usize,
-    /// Whether a length fault stands behind them.
+    /// Whether a length fault stands after them.
     pub stopped: bool,
 }
 
@@ -28,7 +28,7 @@ impl Model for Found {
     ghost inverse = { λ found. record { len = found.len; count = found.count; stopped = found.stopped } };
 }
 
-/// Looks for the whole frames at the front of bytes that have this header.
+/// Looks for the complete frames at the front of bytes that have this header.
 pub(crate) fn whole_frames(header: Option<(u8, u32)>, bytes: &[u8]) -> Found
     requires { header ≡ header_of bytes.now }
     ensures { FindsFrames bytes.now result }
@@ -44,7 +44,7 @@ pub(crate) fn whole_frames(header: Option<(u8, u32)>, bytes: &[u8]) -> Found
                 rest = after;
                 count += 1;
             }
-            // The header is not told: so the loop has no need of the tags.
+            // The header is not reported: so the loop has no need of the tags.
             ended => {
                 return Found {
                     len: bytes.len() - rest.len(),
@@ -56,7 +56,7 @@ pub(crate) fn whole_frames(header: Option<(u8, u32)>, bytes: &[u8]) -> Found
     }
 }
 
-/// The header behind so many bytes; behind none it is the first one, which isn't read again.
+/// The header after so many bytes; after none it is the first one, which isn't read again.
 pub(crate) fn header_behind(first: Option<(u8, u32)>, bytes: &[u8], len: usize) -> Option<(u8, u32)>
     requires first { first ≡ header_of bytes.now }
     requires within { len ≤ length bytes.now }

@@ -13,7 +13,7 @@ use std::marker::Model;
 /// The most room that is asked for at a time.
 const MAX_ROOM: usize = 65536;
 
-/// A whole frame at the front of bytes.
+/// A complete frame at the front of bytes.
 #[derive(Clone, Copy)]
 pub struct Front {
     pub tag: u8,

@@ -1,4 +1,4 @@
-//! How whole frames are read where they stand in shared bytes.
+//! How complete frames are read where they stand in shared bytes.
 
 ghost use Rattle.std.specs.Prelude.{◌≡◌, ◌<◌, ◌≤◌, drop, length, map, IfOk, OnOk, OnErr, vec_len, vec_capacity};
 ghost use Rattle.pgp_message.specs.Found.{AreFrames, TakesEach, TakesSome};
@@ -15,11 +15,11 @@ use pgp_base::{Error, Memory};
 use std::alloc::AllocError;
 
 /// Adds the messages of frames to the list, each with its tag and its payload where they stand in the shared bytes, or the
-/// refusals of their bodies. The bytes are so many whole frames, as `FrameParser::find_all` finds them.
+/// errors of their bodies. The bytes are so many complete frames, as `FrameParser::find_all` finds them.
 ///
 /// # Errors
 ///
-/// `AllocError` where memory was refused. Then the list has what the first frames gave.
+/// Returns `AllocError` if memory was refused. Then the list has what the first frames gave.
 pub fn read_frames<A: Memory>(
     frames: &Bytes<A>,
     count: usize,
@@ -38,7 +38,7 @@ pub fn read_frames<A: Memory>(
     Ok(())
 }
 
-/// Adds the message of the frame that stands at `at`, or the refusal of its body, to a list that has room for it, and answers
+/// Adds the message of the frame that stands at `at`, or the error of its body, to a list that has room for it, and returns
 /// where the frame ends.
 fn read_onto<A: Memory>(
     bytes: &Bytes<A>,

@@ -30,7 +30,7 @@ impl Header {
     ///
     /// # Errors
     ///
-    /// `InvalidLength` where the length is below 4.
+    /// Returns `InvalidLength` if the length is below 4.
     pub fn parse(buf: &[u8]) -> Result<Option<Header>, Error>
         ensures { ReadsHeader buf.now result }
     {

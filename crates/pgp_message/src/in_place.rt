@@ -44,14 +44,14 @@ impl<'a> Messages<'a> {
         self.rest
     }
 
-    /// Takes the message at the front, as `Message::parse` does; `None` where the rest begins with none that is whole.
-    /// A frame whose body is refused is passed too.
+    /// Takes the message at the front, as `Message::parse` does; `None` where the rest begins with none that is whole. A
+    /// frame whose body is rejected is passed too.
     ///
     /// # Errors
     ///
-    /// `InvalidLength` where a length below 4 is announced, with nothing passed. For the body of a frame
-    /// `UnknownTag`, `UnknownAuthentication`, `UnexpectedEof` where a part is cut short, and `NotDrained` where bytes are
-    /// left behind the last part. Never `OutOfMemory`.
+    /// Returns `InvalidLength` if a length below 4 is announced, with nothing passed. For the body of a frame
+    /// `UnknownTag`, `UnknownAuthentication`, `UnexpectedEof` if a part is cut short, and `NotDrained` if bytes are left
+    /// after the last part. Never `OutOfMemory`.
     // The hint carries the speed of messages without parts: else the answer goes through memory.
     #[inline(always)]
     pub fn next(&mut self) -> Result<Option<Message<&'a [u8]>>, Error>
@@ -69,7 +69,7 @@ impl<'a> Messages<'a> {
         body(front.tag, payload).map(Some)
     }
 
-    /// Takes the row at the front. Where no whole row stands there, nothing is passed, and `next` tells what does.
+    /// Takes the row at the front. Where no whole row stands there, nothing is passed, and `next` says what does.
     // The hint carries the speed of rows: else the row goes through memory.
     #[inline(always)]
     pub fn next_row(&mut self) -> Option<DataRowBody<&'a [u8]>>

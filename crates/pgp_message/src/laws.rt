@@ -127,7 +127,7 @@ pub fn frames_go_on()
         Frames bytes first rest → Frames (rest ++ more) second left → Frames (bytes ++ more) (first ++ second) left }
 {}
 
-/// What is remembered fits still when bytes are added behind.
+/// What is remembered fits still when bytes are added after.
 pub fn bytes_may_come()
     ensures { (memory : Memory) (bytes more : List ℕ) → Fits memory bytes → Fits memory (bytes ++ more) }
 {}

@@ -87,16 +87,16 @@ pub enum Message<S: Storage = Bytes> {
 }
 
 impl<A: Memory> Message<Bytes<A>> {
-    /// Takes the message at the front of the bytes, and removes its frame; `None` where it isn't
-    /// whole. Memory is asked for only where the message keeps bytes of its frame, and for room for a frame
-    /// that isn't whole: for what is missing, at most 65,536 bytes at a time, and a refusal of it isn't told.
+    /// Takes the message at the front of the bytes, and removes its frame; `None` where it isn't whole. Memory is asked for only
+    /// where the message keeps bytes of its frame, and for room for a partial frame: for what is missing, at most 65,536 bytes
+    /// at a time, and an error of it isn't reported.
     ///
     /// # Errors
     ///
-    /// The frame is removed for `UnknownTag`, `UnknownAuthentication`, `UnexpectedEof` where a part of the body is cut
-    /// short, `InvalidCount` where the options of a `NegotiateProtocolVersion` are fewer than none, and `NotDrained` where bytes
-    /// are left behind the last part. The bytes stay as they are for
-    /// `InvalidLength`, where a length below 4 is announced, and for `OutOfMemory`.
+    /// The frame is removed for `UnknownTag`, `UnknownAuthentication`, `UnexpectedEof` if a part of the body is cut short,
+    /// `InvalidCount` if the options of a `NegotiateProtocolVersion` are fewer than none, and `NotDrained` if bytes are left
+    /// after the last part. The bytes stay as they are for `InvalidLength`, if a length below 4 is announced, and for
+    /// `OutOfMemory`.
     pub fn parse(buf: &mut BytesMut<A>) -> Result<Option<Message<Bytes<A>>>, Error>
         ensures step { Step A.Lacks buf.old.items (parsed result) buf.new.items }
         ensures waits { IsPartial buf.old.items → result ≡ Ok None }

@@ -61,7 +61,7 @@ impl FrameParser {
     }
 
     /// Takes the message at the front of the bytes, as `Message::parse` does. Where the bytes were left, their
-    /// header is remembered for the next call; between two calls bytes may be added behind those that were left.
+    /// header is remembered for the next call; between two calls bytes may be added after those that were left.
     ///
     /// # Errors
     ///
@@ -105,8 +105,8 @@ impl FrameParser {
         room(self.header, held).max(1)
     }
 
-    /// Looks for the whole frames at the front of the bytes, and takes none. The header behind them is remembered for the
-    /// next call. The header of each frame is counted once; whoever reads the frames then reads it again.
+    /// Looks for the complete frames at the front of the bytes, and takes none. The header after them is remembered for
+    /// the next call. The header of each frame is counted once; whoever reads the frames then reads it again.
     pub fn find_all(&mut self, bytes: &[u8]) -> Found
         requires { Fits self.old bytes.now }
         ensures { FindsAll bytes.now self.old self.new result }

@@ -1,5 +1,5 @@
-//! Authentication requests, which their codes tell apart.
-//! PostgreSQL manual, "Message Formats": "AuthenticationOk" and those behind it.
+//! Authentication requests, which their codes distinguish. PostgreSQL manual, "Message Formats":
+//! "AuthenticationOk" and those after it.
 
 ghost use Rattle.std.specs.Prelude.{◌≡◌, true, false};
 ghost use Rattle.pgp_message.specs.BackendMessage.{Authentication};
@@ -52,7 +52,7 @@ pub fn request_keeps_bytes(payload: &[u8]) -> bool
     }
 }
 
-/// The message of an authentication request, which its code tells.
+/// The message of an authentication request, which its code says.
 #[tactic(auto, unfolding(crate::specs::Reading::request_of, crate::specs::Reading::by_code))]
 pub fn authentication<S: Storage>(mut payload: S) -> Result<Message<S>, Error>
     ensures { seen result ≡ made Authentication (request_of (S.bytes payload)) }

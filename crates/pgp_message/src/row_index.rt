@@ -1,4 +1,5 @@
-//! Any column of a row by its number: by a table of its own, by one that is made again for each row, or by the walk alone.
+//! Any column of a row by its number: by a table of its own, by one that is made again for each row, or by the iterator
+//! alone.
 
 ghost use Rattle.std.specs.Prelude.{◌≡◌, ◌≤◌, ◌<◌, ℕ, [], length, vec_len, vec_capacity, Option, Result, IfOk, IfErr, OnOk};
 ghost use Rattle.std.specs.List.{slice_get, slice_range, AllByRecursion};
@@ -17,8 +18,8 @@ use std::ops::Range;
 /// For how many columns more the first one asks for room, where so many were announced.
 const SHORT_ROW: usize = 16;
 
-/// Where each value of a row stands: a table that one walk over the row made, so that any column is at
-/// hand by its number. What it answers borrows the row and not the table.
+/// Where each value of a row stands: a table that one pass over the row made, so that any column is at
+/// hand by its number. what it returns borrows the row and not the table.
 #[derive(Drop)]
 pub struct RowIndex<'a, A: Allocator = Global> {
     buffer: &'a [u8],
@@ -221,7 +222,7 @@ fn places<A: Memory>(
     Ok(places)
 }
 
-/// Room for a place more, and for so many behind it as were announced, as far as a short row goes.
+/// Room for a place more, and for so many after it as were announced, as far as a short row goes.
 #[cold]
 #[inline(never)]
 fn grow<A: Memory>(places: &mut Vec<Option<Range<usize>>, A>, announced: usize) -> Result<(), Error>

@@ -48,7 +48,7 @@ pub const NO_DATA_TAG: u8 = b'n';
 /// A notice.
 pub const NOTICE_RESPONSE_TAG: u8 = b'N';
 
-/// A request for authentication, or word that there is none to come; its code tells which.
+/// A request for authentication, or word that there is none to come; its code reports which.
 pub const AUTHENTICATION_TAG: u8 = b'R';
 
 /// A portal has more rows than were asked for.

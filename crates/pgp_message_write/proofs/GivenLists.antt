@@ -38,7 +38,7 @@ module _ {D : Type 0} (parts : D → List Part) (xs : List D) (x : D) where
   pub more_refused : {K : Type 0} {lacks : Held K → ℕ → Type 0} (a b : Held K) (e : Error) → PutsParts (flat_map parts xs) a b → PartsRefused (parts x) lacks b e → PartsRefused (flat_map parts (xs ++ x ∷ [])) lacks a e
   more_refused {lacks = lacks} a b e p r = subst (λ ps. PartsRefused ps lacks a e) (sym one_more) (refused_behind (flat_map parts xs) (parts x) a b e p r)
 
--- items behind the place of their count
+-- items after the place of their count
 module _ {D K : Type 0} {lacks : Held K → ℕ → Type 0} (parts : D → List Part) (xs : List D) (old : Held K) (e : Error) where
   pub counted_refused : count_cause (length xs) ≡ None → PartsRefused (flat_map parts xs) lacks (old ⊕ uint16 0) e → WantsMemory (Wants lacks old (length (joined (counted_list parts xs)))) e ⊎ (items_cause count_cause (counted_list parts) xs ≡ Some e)
   counted_refused few (inl w) = inl (memory_then old (old ⊕ uint16 0) (uint16 0) _ _ e refl (omega (arith, length-uint16 0, length-uint16 (length xs), length-append (uint16 (length xs)) (joined (flat_map parts xs)))) w)
@@ -83,7 +83,7 @@ module _ {D A : Type 0} (view : D → A) (item : A → List Part) (xs : List D) 
   pub marked_view : marked_list (λ x. item (view x)) xs ≡ marked_list item (map view xs)
   marked_view = ap (λ ps. ps ++ Byte 0 ∷ []) (sym (flat_map-map item view xs))
 
--- items with a 0 byte behind them
+-- items with a 0 byte after them
 module _ {D : Type 0} (parts : D → List Part) (xs : List D) where
   pub marked_none : parts_cause (flat_map parts xs) ≡ None → items_cause uncounted (marked_list parts) xs ≡ None
   marked_none h = cause_behind (flat_map parts xs) (Byte 0 ∷ []) h
@@ -106,9 +106,9 @@ none_counted Zero = refl
 joined_length : (ps qs : List Part) → length (joined (ps ++ qs)) ≡ length (joined ps) + length (joined qs)
 joined_length ps qs = ap length (joined-append ps qs) ∙ length-append (joined ps) (joined qs)
 
--- A list behind other parts, in a frame.
+-- A list after other parts, in a frame.
 module _ {A : Type 0} (given : List A → Option A → Type 0) (number : ℕ → Cause) (ps : List A → List Part) {K : Type 0} {lacks : Held K → ℕ → Type 0} where
-  -- behind the place of the length and the head
+  -- after the place of the length and the head
   pub list_behind : (head : List Part) (old b d : Held K) (e : Error) → b ≡ old ⊕ uint32 0 → PutsParts head b d → SoFarRefused given number ps (λ xs. joined (ps xs)) lacks d e
       → GivenRefused given number (λ xs. head ++ ps xs) (λ xs. framed None (joined (head ++ ps xs))) lacks old e
   list_behind head old b d e place front (xs, came, why) =
@@ -125,7 +125,7 @@ module _ {A : Type 0} (given : List A → Option A → Type 0) (number : ℕ →
         ],
       )
 
-  -- the head was refused, and no item was asked for
+  -- the head was rejected, and no item was asked for
   pub head_refused : (head : List Part) (old b : Held K) (e : Error) → number 0 ≡ None → b ≡ old ⊕ uint32 0 → PartsRefused head lacks b e
       → GivenRefused given number (λ xs. head ++ ps xs) (λ xs. framed None (joined (head ++ ps xs))) lacks old e
   head_refused head old b e few place (inl memory) =

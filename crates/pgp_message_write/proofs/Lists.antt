@@ -1,4 +1,4 @@
--- Parts behind parts, and a front of a list's items with the item behind it.
+-- Parts after parts, and a front of a list's items with the item after it.
 use Rattle.std.proofs.Common.{◌≡◌, ℕ, ◌+◌, ◌<◌, List, [], ◌∷◌, ◌++◌, length, map, take, drop, Some, None, sym, ap, ◌∙◌, get_or, arith, inl, inr, length-append, subst}
 use Rattle.std.specs.List.{flat_map}
 use Rattle.std.proofs.lemmas.List.{take_more, map-append, append-nil, take-append-drop, drop_more}
@@ -33,12 +33,12 @@ module _ {K : Type 0} where
   )
 
 module _ {K : Type 0} {lacks : Held K → ℕ → Type 0} where
-  -- the first parts were refused
+  -- the first parts were rejected
   pub refused_before : (ps qs : List Part) (a : Held K) (e : Error) → PartsRefused ps lacks a e → PartsRefused (ps ++ qs) lacks a e
   refused_before ps qs a e (inl w) = inl (memory_more a _ _ e (omega (arith, ap length (joined-append ps qs), length-append (joined ps) (joined qs))) w)
   refused_before ps qs a e (inr h) = inr (cause_before ps qs e h)
 
-  -- those behind them were
+  -- those after them were
   pub refused_behind : (ps qs : List Part) (a b : Held K) (e : Error) → PutsParts ps a b → PartsRefused qs lacks b e → PartsRefused (ps ++ qs) lacks a e
   refused_behind ps qs a b e p (inl w) = inl (memory_then a b (joined ps) _ _ e p.1 (omega (arith, ap length (joined-append ps qs), length-append (joined ps) (joined qs))) w)
   refused_behind ps qs a b e p (inr h) = inr (cause_behind ps qs p.0 ∙ h)

@@ -19,7 +19,7 @@ use Rattle.pgp_message_write.proofs.Lists.{joined-append}
 abbrev spelled : {V : Type 0} → (V → List Part) → V → List ℕ
 spelled parts x = joined (parts x)
 
--- the items of a list, one behind the other
+-- the items of a list, one after the other
 each_joined : {V : Type 0} (parts : V → List Part) (xs : List V) → joined (flat_map parts xs) ≡ concat (map (spelled parts) xs)
 each_joined parts [] = refl
 each_joined parts (x ∷ xs) = joined-append (parts x) (flat_map parts xs) ∙ ap (λ z. joined (parts x) ++ z) (each_joined parts xs)
@@ -122,7 +122,7 @@ values_back vs h = record {
   ends = (as_many 0 vs, refl);
 }
 
--- what stands behind `a` and `h`
+-- what stands after `a` and `h`
 slice_here : (a h z r : List ℕ) (from to : ℕ) → from ≡ length a + length h → to ≡ from + length z → slice_range (a ++ (h ++ (z ++ r))) from to ≡ z
 slice_here a h z r from to e f =
     let behind : drop from (a ++ (h ++ (z ++ r))) ≡ z ++ r = ap (λ n. drop n (a ++ (h ++ (z ++ r)))) e ∙ (drop-append-add a (h ++ (z ++ r)) (length h) ∙ drop-append_seam h (z ++ r)) in

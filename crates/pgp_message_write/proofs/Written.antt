@@ -22,11 +22,11 @@ list_written m count ps qs lacks old new result none same spelled w =
     subst (λ c. Writes (bytes_of m) c lacks old new result) (sym (either_then count (frame_cause qs) none))
     (subst (λ body. Writes (frame (tag_of m) body) (frame_cause qs) lacks old new result) spelled (subst (λ ps. WritesFrame (Some (tag_of m)) ps lacks old new result) same w))
 
--- the items behind their count
+-- the items after their count
 pub counted_joined : (count : List ℕ) (items : List Part) → joined (Rest count ∷ (items ++ [])) ≡ joined (Rest count ∷ Rest (joined items) ∷ [])
 counted_joined count items = ap (λ z. count ++ z) (joined-append items [])
 
--- the items, and a 0 byte behind them
+-- the items, and a 0 byte after them
 pub marked_joined : (items : List Part) → joined (items ++ Byte 0 ∷ []) ≡ joined (Rest (joined items ++ 0 ∷ []) ∷ [])
 marked_joined items = joined-append items (Byte 0 ∷ []) ∙ sym (append-nil (joined items ++ 0 ∷ []))
 

@@ -1,4 +1,4 @@
--- Private: how a list tells where it ends, and what it makes of a message then.
+-- Private: how a list says where it ends, and what it makes of a message then.
 use Rattle.std.specs.Prelude.{ℕ, List, Option}
 use Rattle.pgp_base.specs.Cause.{Cause, count_cause, length_cause}
 use Rattle.pgp_base.specs.Held.{Held}
@@ -21,6 +21,6 @@ list_parts Count item xs = counted_list item xs
 list_parts WideCount item xs = wide_list item xs
 list_parts Zero item xs = marked_list item xs
 
--- the list alone was refused
+-- the list alone was rejected
 abbrev pub ListRefused : {K A : Type 0} → (List A → Option A → Type 0) → (ℕ → Cause) → (List A → List Part) → (Held K → ℕ → Type 0) → Held K → Error → Type 0
 ListRefused given number ps lacks old e = SoFarRefused given number ps (λ xs. joined (ps xs)) lacks old e

@@ -31,16 +31,18 @@ module _ {A : Type 0} (given : List A → Option A → Type 0) (number : ℕ →
 
   -- `bytes` are those of the message of these items
   module _ (bytes : List A → List ℕ) where
-    -- the items so far were refused: for want of memory that their message needs, or for its first cause
+    -- the items so far were refused: for lack of memory that their message needs, or for its first cause
     abbrev pub SoFarRefused : {K : Type 0} → (Held K → ℕ → Type 0) → Held K → Error → Type 0
     SoFarRefused lacks old e = (xs : List A) × Arrived xs × (WantsMemory (Wants lacks old (length (bytes xs))) e ⊎ (items_cause number ps xs ≡ Some e))
 
-    -- Why the call was refused: that; or all came, none has a cause, and the length of the whole has.
+    -- Why the call was rejected: that; or all came, none has a cause, and the length of the whole
+    -- has.
     abbrev pub GivenRefused : {K : Type 0} → (Held K → ℕ → Type 0) → Held K → Error → Type 0
     GivenRefused lacks old e = SoFarRefused lacks old e
         ⊎ ((xs : List A) × given xs None × (items_cause number ps xs ≡ None) × (frame_cause (ps xs) ≡ Some e))
 
-    -- It appends the message of all items, which has no cause; or it leaves the bytes, and is refused.
+    -- It appends the message of all items, which has no cause; or it leaves the bytes, and is
+    -- rejected.
     abbrev pub WritesBytes : {K : Type 0} → (Held K → ℕ → Type 0) → Held K → Held K → Result (Unit {0}) Error → Type 0
     WritesBytes lacks old new (Ok done) = (xs : List A) × given xs None × (either (number (length xs)) (frame_cause (ps xs)) ≡ None) × (new ≡ old ⊕ bytes xs)
     WritesBytes lacks old new (Err e) = GivenRefused lacks old e × Leaves old new

@@ -7,11 +7,11 @@ use Rattle.pgp_base.specs.Wire.{int16, int32, uint16, oid}
 use Rattle.pgp_frontend.specs.Payload.{Part, Byte, Int32, Text, Nullable, Rest}
 use Rattle.pgp_message.specs.Items.{FieldPart, ErrorPart}
 
--- the parts before a list, those of its items, and those behind it
+-- the parts before a list, those of its items, and those after it
 abbrev pub with_list : List Part → List Part → List Part → List Part
 with_list head items tail = head ++ (items ++ tail)
 
--- A list of such items: behind a count of two bytes; behind one of four with a sign; with a 0 byte behind it.
+-- A list of such items: after a count of two bytes; after one of four with a sign; with a 0 byte after it.
 abbrev pub counted_list : {A : Type 0} → (A → List Part) → List A → List Part
 counted_list item xs = Rest (uint16 (length xs)) ∷ flat_map item xs
 

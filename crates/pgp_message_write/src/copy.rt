@@ -21,8 +21,8 @@ use pgp_frontend::field::{Field, message};
 ///
 /// # Errors
 ///
-/// `TooLarge` where there are more than 65,535 formats or the message passes the greatest `i32`, and
-/// `OutOfMemory` where a growth was refused. The buffer keeps its bytes.
+/// Returns `TooLarge` if there are more than 65,535 formats or the message exceeds `i32::MAX`, and `OutOfMemory` if the buffer can't
+/// grow. On error the buffer is unchanged.
 pub fn copy_in_response<B: Buffer>(
     format: u8,
     column_formats: &[u16],
@@ -41,9 +41,9 @@ pub fn copy_in_response<B: Buffer>(
 ///
 /// # Errors
 ///
-/// The first from the left of: `TooLarge` at the format past 65,535, which is not written, and `TooLarge` where the
-/// message passes the greatest `i32`. Else `OutOfMemory` where a growth was refused, which may come before any of them. The
-/// buffer keeps its bytes.
+/// The first from the left of: `TooLarge` at the format past 65,535, which is not written, and `TooLarge` if the message
+/// exceeds `i32::MAX`. Otherwise `OutOfMemory`, which may come before any of them, if the buffer can't grow. On error the
+/// buffer is unchanged.
 pub fn copy_in_response_of<B: Buffer, I: IntoIterator<Item = u16> + Drop>(
     format: u8,
     column_formats: I,
@@ -114,8 +114,8 @@ where
 ///
 /// # Errors
 ///
-/// `TooLarge` where the message passes the greatest `i32`, and `OutOfMemory` where a growth was refused. The buffer keeps
-/// its bytes.
+/// Returns `TooLarge` if the message exceeds `i32::MAX`, and `OutOfMemory` if the buffer can't grow. On error the buffer
+/// is unchanged.
 pub fn copy_data<B: Buffer>(data: &[u8], buf: &mut B) -> Result<(), Error>
     ensures { WritesReply (CopyData «data».now) B.Lacks (B.held buf.old) (B.held buf.new) result }
 {
@@ -126,7 +126,7 @@ pub fn copy_data<B: Buffer>(data: &[u8], buf: &mut B) -> Result<(), Error>
 ///
 /// # Errors
 ///
-/// `OutOfMemory` where a growth was refused. The buffer keeps its bytes.
+/// Returns `OutOfMemory` if the buffer can't grow. On error the buffer is unchanged.
 pub fn copy_done<B: Buffer>(buf: &mut B) -> Result<(), Error>
     ensures { WritesReply CopyDone B.Lacks (B.held buf.old) (B.held buf.new) result }
 {

@@ -21,7 +21,7 @@ use pgp_frontend::field::{Field, message};
 ///
 /// # Errors
 ///
-/// `OutOfMemory` where a growth was refused. The buffer keeps its bytes.
+/// Returns `OutOfMemory` if the buffer can't grow. On error the buffer is unchanged.
 pub fn parse_complete<B: Buffer>(buf: &mut B) -> Result<(), Error>
     ensures { WritesReply ParseComplete B.Lacks (B.held buf.old) (B.held buf.new) result }
 {
@@ -32,7 +32,7 @@ pub fn parse_complete<B: Buffer>(buf: &mut B) -> Result<(), Error>
 ///
 /// # Errors
 ///
-/// `OutOfMemory` where a growth was refused. The buffer keeps its bytes.
+/// Returns `OutOfMemory` if the buffer can't grow. On error the buffer is unchanged.
 pub fn bind_complete<B: Buffer>(buf: &mut B) -> Result<(), Error>
     ensures { WritesReply BindComplete B.Lacks (B.held buf.old) (B.held buf.new) result }
 {
@@ -43,7 +43,7 @@ pub fn bind_complete<B: Buffer>(buf: &mut B) -> Result<(), Error>
 ///
 /// # Errors
 ///
-/// `OutOfMemory` where a growth was refused. The buffer keeps its bytes.
+/// Returns `OutOfMemory` if the buffer can't grow. On error the buffer is unchanged.
 pub fn close_complete<B: Buffer>(buf: &mut B) -> Result<(), Error>
     ensures { WritesReply CloseComplete B.Lacks (B.held buf.old) (B.held buf.new) result }
 {
@@ -54,7 +54,7 @@ pub fn close_complete<B: Buffer>(buf: &mut B) -> Result<(), Error>
 ///
 /// # Errors
 ///
-/// `OutOfMemory` where a growth was refused. The buffer keeps its bytes.
+/// Returns `OutOfMemory` if the buffer can't grow. On error the buffer is unchanged.
 pub fn no_data<B: Buffer>(buf: &mut B) -> Result<(), Error>
     ensures { WritesReply NoData B.Lacks (B.held buf.old) (B.held buf.new) result }
 {
@@ -65,7 +65,7 @@ pub fn no_data<B: Buffer>(buf: &mut B) -> Result<(), Error>
 ///
 /// # Errors
 ///
-/// `OutOfMemory` where a growth was refused. The buffer keeps its bytes.
+/// Returns `OutOfMemory` if the buffer can't grow. On error the buffer is unchanged.
 pub fn portal_suspended<B: Buffer>(buf: &mut B) -> Result<(), Error>
     ensures { WritesReply PortalSuspended B.Lacks (B.held buf.old) (B.held buf.new) result }
 {
@@ -76,7 +76,8 @@ pub fn portal_suspended<B: Buffer>(buf: &mut B) -> Result<(), Error>
 ///
 /// # Errors
 ///
-/// `TooLarge` where there are more than 65,535, and `OutOfMemory` where a growth was refused. The buffer keeps its bytes.
+/// Returns `TooLarge` if there are more than 65,535, and `OutOfMemory` if the buffer can't grow. On error the buffer is
+/// unchanged.
 pub fn parameter_description<B: Buffer>(types: &[Oid], buf: &mut B) -> Result<(), Error>
     ensures { WritesList (types_of types.now) (count_cause (length types.now))
         (with_list (Rest (uint16 (length types.now)) ∷ []) (flat_map type_parts types.now) [])
@@ -90,9 +91,9 @@ pub fn parameter_description<B: Buffer>(types: &[Oid], buf: &mut B) -> Result<()
 ///
 /// # Errors
 ///
-/// The first from the left of: `TooLarge` at the type past 65,535, which is not written, and `TooLarge` where the
-/// message passes the greatest `i32`. Else `OutOfMemory` where a growth was refused, which may come before any of them. The
-/// buffer keeps its bytes.
+/// The first from the left of: `TooLarge` at the type past 65,535, which is not written, and `TooLarge` if the message
+/// exceeds `i32::MAX`. Otherwise `OutOfMemory`, which may come before any of them, if the buffer can't grow. On error the
+/// buffer is unchanged.
 pub fn parameter_description_of<B: Buffer, I: IntoIterator<Item = Oid> + Drop>(
     types: I,
     buf: &mut B,

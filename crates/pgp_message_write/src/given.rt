@@ -18,18 +18,18 @@ use crate::item::Item;
 use pgp_base::{Buffer, Error, finish_body, patch_u16, patch_u32, put_u8, put_u16, put_u32};
 use pgp_frontend::field::{Field, put_fields};
 
-/// How a list tells where it ends.
+/// How a list says where it ends.
 #[derive(Clone, Copy)]
 pub(crate) enum Ending {
     /// By a count of two bytes before it.
     Count,
     /// By one of four bytes with a sign.
     WideCount,
-    /// By a 0 byte behind it.
+    /// By a 0 byte after it.
     Zero,
 }
 
-/// Appends how many items came, and each. A refusal leaves what stood there as a front.
+/// Appends how many items came, and each. An error leaves what stood there as a front.
 fn put_counted<T: Item + Copy, I: IntoIterator<Item = T> + Drop, B: Buffer>(
     items: I,
     buf: &mut B,
@@ -83,7 +83,7 @@ where
     Ok(())
 }
 
-/// Appends each item, and a 0 byte. A refusal leaves what stood there as a front.
+/// Appends each item, and a 0 byte. An error leaves what stood there as a front.
 fn put_marked<T: Item + Copy, I: IntoIterator<Item = T> + Drop, B: Buffer>(
     items: I,
     buf: &mut B,
@@ -102,7 +102,7 @@ where
     put_u8(buf, 0)
 }
 
-/// The list. A refusal leaves what stood there as a front.
+/// The list. An error leaves what stood there as a front.
 fn put_list<T: Item + Copy, I: IntoIterator<Item = T> + Drop, B: Buffer>(
     ending: Ending,
     items: I,

@@ -16,7 +16,7 @@ pub(crate) trait Item {
     /// What it is made of.
     ghost parts: { Self → List Part };
 
-    /// Appends it. A refusal leaves what stood there as a front.
+    /// Appends it. An error leaves what stood there as a front.
     fn put<B: Buffer>(&self, buf: &mut B) -> Result<(), Error>
         ensures ok { OnOk result (PutsParts (parts self.now) (B.held buf.old) (B.held buf.new)) }
         ensures err { OnErr result (IsFrontOf (B.held buf.old) (B.held buf.new)) }

@@ -28,12 +28,12 @@ pub fn one_reply_is_taken()
     ensures { (m : Message) (rest : List ℕ) → IsReply m → TakesFrame (bytes_of m ++ rest) (Ok m) rest }
 {}
 
-/// Replies one behind the other are read as these messages, and nothing is left.
+/// Replies one after the other are read as these messages, and nothing is left.
 pub fn streams_are_read()
     ensures { (ms : List Message) → AllByRecursion IsReply ms → BackendRun (flat_map bytes_of ms) (map Ok ms) false [] }
 {}
 
-/// The columns that were described come back by the walk over them.
+/// The columns that were described come back by the iterator over them.
 pub fn columns_are_read()
     ensures { (columns : List FieldPart) → AllByRecursion IsColumn columns →
         CountedItems FieldSpelled FieldRefused (length columns) (joined (flat_map column_parts columns)) columns None }
@@ -69,7 +69,7 @@ pub fn fields_are_read()
         MarkedItems ErrorFieldSpelled ErrorFieldRefused (fields_of fields) fields None }
 {}
 
-/// So do the values of a row: the walk gives places in the row's bytes at which they stand.
+/// So do the values of a row: the iterator gives places in the row's bytes at which they stand.
 pub fn values_are_read()
     ensures { (vs : List (Option (List ℕ))) → AllByRecursion IsRowValue vs →
         (places : List (Option (Range ℕ))) × CountedItems RangeSpelled RangeRefused (length vs) (joined (flat_map value_parts vs)) places None

@@ -1,4 +1,4 @@
-//! Messages with a list: parts, the items of a list, and parts behind them.
+//! Messages with a list: parts, the items of a list, and parts after them.
 #![tactic(auto, using(pgp_base::proofs::Parts::held_steps))]
 
 ghost use Rattle.std.specs.Prelude.{◌≡◌, ◌++◌, ◌⊎◌, Some, None, OnOk, OnErr, IfOk, IfErr, length, pos};
@@ -20,7 +20,7 @@ use pgp_frontend::field::{Field, put_fields};
 ///
 /// # Errors
 ///
-/// `TooLarge` where they can't.
+/// Returns `TooLarge` if they can't.
 #[tactic(auto, unfolding(pgp_base::specs::Wire::uint16))]
 pub(crate) fn count_field(items: usize) -> Result<[u8; 2], Error>
     ensures ok { IfOk result (λ bytes. (count_cause items ≡ None) × (bytes ≡ uint16 items)) }
@@ -36,7 +36,7 @@ pub(crate) fn count_field(items: usize) -> Result<[u8; 2], Error>
 ///
 /// # Errors
 ///
-/// `TooLarge` where they can't.
+/// Returns `TooLarge` if they can't.
 #[tactic(auto, unfolding(pgp_base::specs::Wire::int32))]
 pub(crate) fn wide_count(items: usize) -> Result<[u8; 4], Error>
     ensures ok { IfOk result (λ bytes. (length_cause items ≡ None) × (bytes ≡ int32 (pos items))) }
@@ -48,7 +48,7 @@ pub(crate) fn wide_count(items: usize) -> Result<[u8; 4], Error>
     }
 }
 
-/// Appends each item. A refusal leaves what stood there as a front.
+/// Appends each item. An error leaves what stood there as a front.
 fn put_items<I: Item, B: Buffer>(items: &[I], buf: &mut B) -> Result<(), Error>
     ensures ok { OnOk result (PutsParts (flat_map I.parts items.now) (B.held buf.old) (B.held buf.new)) }
     ensures err { OnErr result (IsFrontOf (B.held buf.old) (B.held buf.new)) }
@@ -60,7 +60,7 @@ fn put_items<I: Item, B: Buffer>(items: &[I], buf: &mut B) -> Result<(), Error>
     Ok(())
 }
 
-/// The parts, the items and the parts behind them. A refusal leaves what stood there as a front.
+/// The parts, the items and the parts after them. An error leaves what stood there as a front.
 fn put_all<I: Item, B: Buffer>(
     head: &[Field],
     items: &[I],

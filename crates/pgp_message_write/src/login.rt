@@ -17,7 +17,7 @@ use crate::listed::{listed, wide_count};
 use pgp_base::{Buffer, Error};
 use pgp_frontend::field::{Field, message};
 
-/// Appends a request for authentication: its code, and what stands behind it.
+/// Appends a request for authentication: its code, and what stands after it.
 fn request<B: Buffer>(code: i32, details: &[u8], buf: &mut B) -> Result<(), Error>
     ensures { WritesFrame (Some 82) (Int32 code ∷ Rest details.now ∷ []) B.Lacks (B.held buf.old) (B.held buf.new) result }
 {
@@ -28,7 +28,7 @@ fn request<B: Buffer>(code: i32, details: &[u8], buf: &mut B) -> Result<(), Erro
 ///
 /// # Errors
 ///
-/// `OutOfMemory` where a growth was refused. The buffer keeps its bytes.
+/// Returns `OutOfMemory` if the buffer can't grow. On error the buffer is unchanged.
 pub fn authentication_ok<B: Buffer>(buf: &mut B) -> Result<(), Error>
     ensures { WritesReply (Authentication AuthenticationOk) B.Lacks (B.held buf.old) (B.held buf.new) result }
 {
@@ -39,7 +39,7 @@ pub fn authentication_ok<B: Buffer>(buf: &mut B) -> Result<(), Error>
 ///
 /// # Errors
 ///
-/// `OutOfMemory` where a growth was refused. The buffer keeps its bytes.
+/// Returns `OutOfMemory` if the buffer can't grow. On error the buffer is unchanged.
 pub fn authentication_kerberos_v5<B: Buffer>(buf: &mut B) -> Result<(), Error>
     ensures { WritesReply (Authentication AuthenticationKerberosV5) B.Lacks (B.held buf.old) (B.held buf.new) result }
 {
@@ -50,7 +50,7 @@ pub fn authentication_kerberos_v5<B: Buffer>(buf: &mut B) -> Result<(), Error>
 ///
 /// # Errors
 ///
-/// `OutOfMemory` where a growth was refused. The buffer keeps its bytes.
+/// Returns `OutOfMemory` if the buffer can't grow. On error the buffer is unchanged.
 pub fn authentication_cleartext_password<B: Buffer>(buf: &mut B) -> Result<(), Error>
     ensures { WritesReply (Authentication AuthenticationCleartextPassword) B.Lacks (B.held buf.old) (B.held buf.new) result }
 {
@@ -61,7 +61,7 @@ pub fn authentication_cleartext_password<B: Buffer>(buf: &mut B) -> Result<(), E
 ///
 /// # Errors
 ///
-/// `OutOfMemory` where a growth was refused. The buffer keeps its bytes.
+/// Returns `OutOfMemory` if the buffer can't grow. On error the buffer is unchanged.
 pub fn authentication_scm_credential<B: Buffer>(buf: &mut B) -> Result<(), Error>
     ensures { WritesReply (Authentication AuthenticationScmCredential) B.Lacks (B.held buf.old) (B.held buf.new) result }
 {
@@ -72,7 +72,7 @@ pub fn authentication_scm_credential<B: Buffer>(buf: &mut B) -> Result<(), Error
 ///
 /// # Errors
 ///
-/// `OutOfMemory` where a growth was refused. The buffer keeps its bytes.
+/// Returns `OutOfMemory` if the buffer can't grow. On error the buffer is unchanged.
 pub fn authentication_gss<B: Buffer>(buf: &mut B) -> Result<(), Error>
     ensures { WritesReply (Authentication AuthenticationGss) B.Lacks (B.held buf.old) (B.held buf.new) result }
 {
@@ -83,7 +83,7 @@ pub fn authentication_gss<B: Buffer>(buf: &mut B) -> Result<(), Error>
 ///
 /// # Errors
 ///
-/// `OutOfMemory` where a growth was refused. The buffer keeps its bytes.
+/// Returns `OutOfMemory` if the buffer can't grow. On error the buffer is unchanged.
 pub fn authentication_sspi<B: Buffer>(buf: &mut B) -> Result<(), Error>
     ensures { WritesReply (Authentication AuthenticationSspi) B.Lacks (B.held buf.old) (B.held buf.new) result }
 {
@@ -94,7 +94,7 @@ pub fn authentication_sspi<B: Buffer>(buf: &mut B) -> Result<(), Error>
 ///
 /// # Errors
 ///
-/// `OutOfMemory` where a growth was refused. The buffer keeps its bytes.
+/// Returns `OutOfMemory` if the buffer can't grow. On error the buffer is unchanged.
 pub fn authentication_md5_password<B: Buffer>(salt: [u8; 4], buf: &mut B) -> Result<(), Error>
     ensures { WritesReply (Authentication (AuthenticationMd5Password salt)) B.Lacks (B.held buf.old) (B.held buf.new) result }
 {
@@ -105,8 +105,8 @@ pub fn authentication_md5_password<B: Buffer>(salt: [u8; 4], buf: &mut B) -> Res
 ///
 /// # Errors
 ///
-/// `TooLarge` where the message passes the greatest `i32`, and `OutOfMemory` where a growth was refused. The buffer keeps
-/// its bytes.
+/// Returns `TooLarge` if the message exceeds `i32::MAX`, and `OutOfMemory` if the buffer can't grow. On error the buffer
+/// is unchanged.
 pub fn authentication_gss_continue<B: Buffer>(data: &[u8], buf: &mut B) -> Result<(), Error>
     ensures { WritesReply (Authentication (AuthenticationGssContinue «data».now)) B.Lacks (B.held buf.old) (B.held buf.new) result }
 {
@@ -117,8 +117,8 @@ pub fn authentication_gss_continue<B: Buffer>(data: &[u8], buf: &mut B) -> Resul
 ///
 /// # Errors
 ///
-/// `TooLarge` where the message passes the greatest `i32`, and `OutOfMemory` where a growth was refused. The buffer keeps
-/// its bytes.
+/// Returns `TooLarge` if the message exceeds `i32::MAX`, and `OutOfMemory` if the buffer can't grow. On error the buffer
+/// is unchanged.
 pub fn authentication_sasl_continue<B: Buffer>(data: &[u8], buf: &mut B) -> Result<(), Error>
     ensures { WritesReply (Authentication (AuthenticationSaslContinue «data».now)) B.Lacks (B.held buf.old) (B.held buf.new) result }
 {
@@ -129,8 +129,8 @@ pub fn authentication_sasl_continue<B: Buffer>(data: &[u8], buf: &mut B) -> Resu
 ///
 /// # Errors
 ///
-/// `TooLarge` where the message passes the greatest `i32`, and `OutOfMemory` where a growth was refused. The buffer keeps
-/// its bytes.
+/// Returns `TooLarge` if the message exceeds `i32::MAX`, and `OutOfMemory` if the buffer can't grow. On error the buffer
+/// is unchanged.
 pub fn authentication_sasl_final<B: Buffer>(data: &[u8], buf: &mut B) -> Result<(), Error>
     ensures { WritesReply (Authentication (AuthenticationSaslFinal «data».now)) B.Lacks (B.held buf.old) (B.held buf.new) result }
 {
@@ -141,8 +141,8 @@ pub fn authentication_sasl_final<B: Buffer>(data: &[u8], buf: &mut B) -> Result<
 ///
 /// # Errors
 ///
-/// `EmbeddedNull` where a name has a 0 byte, `TooLarge` where the message passes the greatest `i32`, and
-/// `OutOfMemory` where a growth was refused. The buffer keeps its bytes.
+/// Returns `EmbeddedNull` if a name has a 0 byte, `TooLarge` if the message exceeds `i32::MAX`, and `OutOfMemory` if the buffer can't
+/// grow. On error the buffer is unchanged.
 pub fn authentication_sasl<B: Buffer>(mechanisms: &[&[u8]], buf: &mut B) -> Result<(), Error>
     ensures { let names = map (λ name. name.now) mechanisms.now in WritesList (Authentication (AuthenticationSasl (names_of names))) None
         (with_list (Int32 (pos 10) ∷ []) (flat_map text_parts names) (Byte 0 ∷ []))
@@ -161,8 +161,8 @@ pub fn authentication_sasl<B: Buffer>(mechanisms: &[&[u8]], buf: &mut B) -> Resu
 ///
 /// # Errors
 ///
-/// `EmbeddedNull` at the first name with a 0 byte, and `TooLarge` where the message passes the greatest `i32`. Else `OutOfMemory`
-/// where a growth was refused, which may come before any of them. The buffer keeps its bytes.
+/// Returns `EmbeddedNull` at the first name with a 0 byte, and `TooLarge` if the message exceeds `i32::MAX`. Otherwise
+/// `OutOfMemory`, which may come before any of them, if the buffer can't grow. On error the buffer is unchanged.
 pub fn authentication_sasl_of<'a, B: Buffer, I: IntoIterator<Item = &'a [u8]> + Drop>(
     mechanisms: I,
     buf: &mut B,
@@ -182,7 +182,8 @@ where
 ///
 /// # Errors
 ///
-/// `InvalidSize` unless the key has 4 to 256 bytes, and `OutOfMemory` where a growth was refused. The buffer keeps its bytes.
+/// Returns `InvalidSize` unless the key has 4 to 256 bytes, and `OutOfMemory` if the buffer can't grow. On error the buffer
+/// is unchanged.
 pub fn backend_key_data<B: Buffer>(
     process_id: i32,
     secret_key: &[u8],
@@ -202,8 +203,8 @@ pub fn backend_key_data<B: Buffer>(
 ///
 /// # Errors
 ///
-/// `TooLarge` where there are more options than the greatest `i32` or the message passes it, `EmbeddedNull` where one has a 0 byte, and
-/// `OutOfMemory` where a growth was refused. The buffer keeps its bytes.
+/// Returns `TooLarge` if there are more options than the greatest `i32` or the message passes it, `EmbeddedNull` if one has a 0 byte,
+/// and `OutOfMemory` if the buffer can't grow. On error the buffer is unchanged.
 pub fn negotiate_protocol_version<B: Buffer>(
     version: i32,
     options: &[&[u8]],
@@ -222,9 +223,9 @@ pub fn negotiate_protocol_version<B: Buffer>(
 ///
 /// # Errors
 ///
-/// The first from the left of: `EmbeddedNull` where an option has a 0 byte, `TooLarge` at the option past 2,147,483,647, which is
-/// not written, and `TooLarge` where the message passes the greatest `i32`. Else `OutOfMemory` where a growth was refused, which
-/// may come before any of them. The buffer keeps its bytes.
+/// The first from the left of: `EmbeddedNull` if an option has a 0 byte, `TooLarge` at the option past 2,147,483,647, which is
+/// not written, and `TooLarge` if the message exceeds `i32::MAX`. Otherwise `OutOfMemory`, which may come before any of them, if
+/// the buffer can't grow. On error the buffer is unchanged.
 pub fn negotiate_protocol_version_of<'a, B: Buffer, I: IntoIterator<Item = &'a [u8]> + Drop>(
     version: i32,
     options: I,

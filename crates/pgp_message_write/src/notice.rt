@@ -23,7 +23,7 @@ use pgp_frontend::field::{Field, put_fields};
 /// PostgreSQL manual, "Error and Notice Message Fields".
 #[derive(Debug, Clone, Copy, PartialEq, Eq)]
 pub struct ErrorField<'a> {
-    /// The letter that tells what the field is: `S` severity, `C` SQLSTATE, `M` message, ...
+    /// The letter that says what the field is: `S` severity, `C` SQLSTATE, `M` message, ...
     pub code: u8,
     pub value: &'a [u8],
 }
@@ -43,8 +43,8 @@ impl<'a> Item for ErrorField<'a> {
 ///
 /// # Errors
 ///
-/// `EmbeddedNull` where a code or a value has a 0 byte, `TooLarge` where the message passes the greatest `i32`, and
-/// `OutOfMemory` where a growth was refused. The buffer keeps its bytes.
+/// Returns `EmbeddedNull` if a code or a value has a 0 byte, `TooLarge` if the message exceeds `i32::MAX`, and
+/// `OutOfMemory` if the buffer can't grow. On error the buffer is unchanged.
 pub fn error_response<B: Buffer>(fields: &[ErrorField<'_>], buf: &mut B) -> Result<(), Error>
     ensures { let all = map shown_field fields.now in WritesList (ErrorResponse (fields_of all)) None (with_list [] (flat_map field_parts all) (Byte 0 ∷ []))
         B.Lacks (B.held buf.old) (B.held buf.new) result }
@@ -56,8 +56,8 @@ pub fn error_response<B: Buffer>(fields: &[ErrorField<'_>], buf: &mut B) -> Resu
 ///
 /// # Errors
 ///
-/// `EmbeddedNull` at the first field with a 0 byte, and `TooLarge` where the message passes the greatest `i32`. Else `OutOfMemory`
-/// where a growth was refused, which may come before any of them. The buffer keeps its bytes.
+/// Returns `EmbeddedNull` at the first field with a 0 byte, and `TooLarge` if the message exceeds `i32::MAX`. Otherwise
+/// `OutOfMemory`, which may come before any of them, if the buffer can't grow. On error the buffer is unchanged.
 pub fn error_response_of<'a, B: Buffer, I: IntoIterator<Item = ErrorField<'a>> + Drop>(
     fields: I,
     buf: &mut B,

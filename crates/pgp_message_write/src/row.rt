@@ -61,8 +61,8 @@ impl<'a> Item for Column<'a> {
 ///
 /// # Errors
 ///
-/// The first of: `TooLarge` where there are more than 65,535 columns, `EmbeddedNull` where a name has a 0 byte, and `TooLarge` where the
-/// message passes the greatest `i32`. Else `OutOfMemory` where a growth was refused. The buffer keeps its bytes.
+/// The first of: `TooLarge` if there are more than 65,535 columns, `EmbeddedNull` if a name has a 0 byte, and `TooLarge` if the message
+/// exceeds `i32::MAX`. Otherwise `OutOfMemory` if the buffer can't grow. On error the buffer is unchanged.
 pub fn row_description<B: Buffer>(columns: &[Column<'_>], buf: &mut B) -> Result<(), Error>
     ensures { let all = map shown_column columns.now in WritesList (description_of all) (count_cause (length all))
         (with_list (Rest (uint16 (length all)) ∷ []) (flat_map column_parts all) [])
@@ -76,9 +76,8 @@ pub fn row_description<B: Buffer>(columns: &[Column<'_>], buf: &mut B) -> Result
 ///
 /// # Errors
 ///
-/// The first from the left of: `EmbeddedNull` where a name has a 0 byte, `TooLarge` at the column past 65,535, which is not written, and `TooLarge` where the
-/// message passes the greatest `i32`. Else `OutOfMemory` where a growth was refused, which may come before any of them. The
-/// buffer keeps its bytes.
+/// The first from the left of: `EmbeddedNull` if a name has a 0 byte, `TooLarge` at the column past 65,535, which is not written, and `TooLarge` if the
+/// message exceeds `i32::MAX`. Otherwise `OutOfMemory`, which may come before any of them, if the buffer can't grow. On error the buffer is unchanged.
 pub fn row_description_of<'a, B: Buffer, I: IntoIterator<Item = Column<'a>> + Drop>(
     columns: I,
     buf: &mut B,
@@ -97,8 +96,8 @@ where
 ///
 /// # Errors
 ///
-/// `TooLarge` where there are more than 65,535 values, or a value or the message passes the greatest `i32`, and
-/// `OutOfMemory` where a growth was refused. The buffer keeps its bytes.
+/// Returns `TooLarge` if there are more than 65,535 values, or a value or the message exceeds `i32::MAX`, and
+/// `OutOfMemory` if the buffer can't grow. On error the buffer is unchanged.
 pub fn data_row<B: Buffer>(values: &[Option<&[u8]>], buf: &mut B) -> Result<(), Error>
     ensures { let vs = map lent values.now in WritesList (row_of vs) (count_cause (length vs))
         (with_list (Rest (uint16 (length vs)) ∷ []) (flat_map value_parts vs) [])
@@ -112,9 +111,9 @@ pub fn data_row<B: Buffer>(values: &[Option<&[u8]>], buf: &mut B) -> Result<(), 
 ///
 /// # Errors
 ///
-/// The first from the left of: `TooLarge` where a value passes the greatest `i32`, `TooLarge` at the value past 65,535, which is
-/// not written, and `TooLarge` where the message passes the greatest `i32`. Else `OutOfMemory` where a growth was refused, which
-/// may come before any of them. The buffer keeps its bytes.
+/// The first from the left of: `TooLarge` if a value exceeds `i32::MAX`, `TooLarge` at the value past 65,535, which is not
+/// written, and `TooLarge` if the message exceeds `i32::MAX`. Otherwise `OutOfMemory`, which may come before any of them, if the
+/// buffer can't grow. On error the buffer is unchanged.
 pub fn data_row_of<'a, B: Buffer, I: IntoIterator<Item = Option<&'a [u8]>> + Drop>(
     values: I,
     buf: &mut B,

@@ -10,8 +10,8 @@ use pgp_frontend::field::{Field, message};
 ///
 /// # Errors
 ///
-/// `EmbeddedNull` where a text has a 0 byte, `TooLarge` where the message passes the greatest `i32`, and
-/// `OutOfMemory` where a growth was refused. The buffer keeps its bytes.
+/// Returns `EmbeddedNull` if a text has a 0 byte, `TooLarge` if the message exceeds `i32::MAX`, and
+/// `OutOfMemory` if the buffer can't grow. On error the buffer is unchanged.
 pub fn parameter_status<B: Buffer>(name: &[u8], value: &[u8], buf: &mut B) -> Result<(), Error>
     ensures { WritesReply (ParameterStatus (record { name = name.now; value = value.now })) B.Lacks (B.held buf.old) (B.held buf.new) result }
 {
@@ -22,8 +22,8 @@ pub fn parameter_status<B: Buffer>(name: &[u8], value: &[u8], buf: &mut B) -> Re
 ///
 /// # Errors
 ///
-/// `EmbeddedNull` where a text has a 0 byte, `TooLarge` where the message passes the greatest `i32`, and
-/// `OutOfMemory` where a growth was refused. The buffer keeps its bytes.
+/// Returns `EmbeddedNull` if a text has a 0 byte, `TooLarge` if the message exceeds `i32::MAX`, and
+/// `OutOfMemory` if the buffer can't grow. On error the buffer is unchanged.
 pub fn notification_response<'a, B: Buffer>(
     process_id: i32,
     channel: &'a [u8],
@@ -47,8 +47,8 @@ pub fn notification_response<'a, B: Buffer>(
 ///
 /// # Errors
 ///
-/// `EmbeddedNull` where the tag has a 0 byte, `TooLarge` where the message passes the greatest `i32`, and
-/// `OutOfMemory` where a growth was refused. The buffer keeps its bytes.
+/// Returns `EmbeddedNull` if the tag has a 0 byte, `TooLarge` if the message exceeds `i32::MAX`, and
+/// `OutOfMemory` if the buffer can't grow. On error the buffer is unchanged.
 pub fn command_complete<B: Buffer>(tag: &[u8], buf: &mut B) -> Result<(), Error>
     ensures { WritesReply (CommandComplete tag.now) B.Lacks (B.held buf.old) (B.held buf.new) result }
 {
@@ -59,7 +59,7 @@ pub fn command_complete<B: Buffer>(tag: &[u8], buf: &mut B) -> Result<(), Error>
 ///
 /// # Errors
 ///
-/// `OutOfMemory` where a growth was refused. The buffer keeps its bytes.
+/// Returns `OutOfMemory` if the buffer can't grow. On error the buffer is unchanged.
 pub fn empty_query_response<B: Buffer>(buf: &mut B) -> Result<(), Error>
     ensures { WritesReply EmptyQueryResponse B.Lacks (B.held buf.old) (B.held buf.new) result }
 {
@@ -70,7 +70,7 @@ pub fn empty_query_response<B: Buffer>(buf: &mut B) -> Result<(), Error>
 ///
 /// # Errors
 ///
-/// `OutOfMemory` where a growth was refused. The buffer keeps its bytes.
+/// Returns `OutOfMemory` if the buffer can't grow. On error the buffer is unchanged.
 pub fn ready_for_query<B: Buffer>(status: u8, buf: &mut B) -> Result<(), Error>
     ensures { WritesReply (ReadyForQuery status) B.Lacks (B.held buf.old) (B.held buf.new) result }
 {

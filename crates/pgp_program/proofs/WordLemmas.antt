@@ -1,4 +1,4 @@
--- One word more, behind those that stand.
+-- One word more, after those that stand.
 use Rattle.std.proofs.Common.{◌≡◌, ℕ, suc, ◌+◌, List, [], ◌∷◌, ◌++◌, length, length-append, subst, sym, ap, ◌∙◌, arith}
 use Rattle.std.specs.Str.{IsUtf8}
 use Rattle.pgp_program.specs.Words.{TextsFrom}

@@ -5,7 +5,7 @@ use Rattle.std.specs.declared.io.Error.{Error}
 use Rattle.std.specs.declared.io.ErrorKind.TheVariants.{Interrupted}
 use Rattle.pgp_program.specs.Words.{greatest}
 
--- A call that is refused so was interrupted, one call in a row more than before it; or it failed.
+-- A call that is rejected so was interrupted, one call in a row more than before it; or it failed.
 pub record Refuses {S : Type 0} (fails : Type 0) (interrupted : S → ℕ → Type 0) (old new : S) (e : Error) : Type 0 where
   pub failed : error_kind e ≢ Interrupted → fails
   pub once : error_kind e ≡ Interrupted → interrupted new 1

@@ -70,11 +70,11 @@ pub trait Words: Env {
     /// The word at the place is longer than so many bytes.
     ghost Longer: { Self → ℕ → ℕ → Type 0 };
 
-    /// Copies the word at the place to the start of the buffer, as `arg` does, and answers its length.
+    /// Copies the word at the place to the start of the buffer, as `arg` does, and returns its length.
     ///
     /// # Errors
     ///
-    /// `NotPresent` where no word stands there, `TooLong` where the buffer is shorter than the word.
+    /// Returns `NotPresent` if no word stands there, `TooLong` if the buffer is shorter than the word.
     fn word_at(&self, place: usize, buffer: &mut [u8]) -> Result<usize, FillError>
         ensures bound { WritesAtMost result buffer.new }
         ensures word { IfOk result (λ n. Self.Stands self.now place (take n buffer.new)) }

@@ -28,7 +28,7 @@ pub fn flush<W: Output>(output: &mut W) -> Result<(), Fault>
     ensures fault { IfErr result (λ fault. fault ≡ Fault.Write) }
     ensures failed { OnErr result (GivesUp W.Fails W.Interrupted) }
 {
-    // Bounded, since each function has to end, and a writer may be interrupted for ever.
+    // Bounded, since each function has to end, and a writer may be interrupted forever.
     'tries: for _ in 0..u64::MAX {
         match output.pass_on() {
             Ok(()) => return Ok(()),
@@ -56,7 +56,7 @@ pub fn write<W: Output>(bytes: &[u8], output: &mut W) -> Result<(), Fault>
     Ok(())
 }
 
-/// Writes some of the bytes, and answers how many. A write that was interrupted is tried again; one that takes
+/// Writes some of the bytes, and returns how many. A write that was interrupted is tried again; one that takes
 /// nothing is a failure.
 fn write_some<W: Output>(bytes: &[u8], output: &mut W) -> Result<usize, Fault>
     requires { 0 < length bytes.now }
@@ -66,7 +66,7 @@ fn write_some<W: Output>(bytes: &[u8], output: &mut W) -> Result<usize, Fault>
     ensures fault { IfErr result (λ fault. fault ≡ Fault.Write) }
     ensures failed { OnErr result (GivesUp W.Fails W.Interrupted) }
 {
-    // Bounded, since each function has to end, and a writer may be interrupted for ever.
+    // Bounded, since each function has to end, and a writer may be interrupted forever.
     'tries: for _ in 0..u64::MAX {
         match output.write_some(bytes) {
             Ok(0) => return Err(Fault::Write),

@@ -11,7 +11,7 @@ use std::env::FillError;
 /// The size of the first buffer for a word; it is doubled until the word fits.
 const FIRST_SIZE: usize = 256;
 
-/// The words behind the program's name as texts, or nothing where one of them isn't UTF-8.
+/// The words after the program's name as texts, or nothing where one of them isn't UTF-8.
 ///
 /// # Errors
 ///
@@ -55,7 +55,7 @@ pub fn lent<A: Memory>(alloc: A, texts: &[String<A>]) -> Result<Vec<&str, A>, Al
     Ok(words)
 }
 
-/// The bytes of the word at the place, or nothing behind the last word.
+/// The bytes of the word at the place, or nothing after the last word.
 fn word<A: Memory, V: Words>(
     alloc: A,
     env: &V,

@@ -25,7 +25,7 @@ impl Show for Option<Range<usize>> {
     }
 }
 
-/// The values that a row's table has, and `more` where it has one behind its last.
+/// The values that a row's table has, and `more` where it has one after its last.
 fn show_values(index: &RowIndex<'_>, out: &mut Shown) {
     out.word("[");
     for i in 0..index.len() {

@@ -35,7 +35,7 @@ fn show_refusal(refusal: ClientError, out: &mut Shown) {
     out.word(";");
 }
 
-/// In memory that is a byte short a message isn't forwarded. Else that is shown.
+/// In memory that is a byte short a message isn't forwarded. Otherwise that is shown.
 fn needs_its_room(message: &ClientMessage<'_>, len: usize, out: &mut Shown) {
     let Ok(mut room) = vec![in out.alloc(); 0u8; len.saturating_sub(1)] else {
         return out.fail(Fault::Memory);
@@ -46,7 +46,8 @@ fn needs_its_room(message: &ClientMessage<'_>, len: usize, out: &mut Shown) {
     }
 }
 
-/// The message, written again, is the bytes that stood there; in memory that is a byte short it is refused. Else that is shown.
+/// The message, written again, is the bytes that stood there; in memory that is a byte short it is refused. Otherwise that is
+/// shown.
 fn forwards(message: &ClientMessage<'_>, stood: &[u8], out: &mut Shown) {
     let mut buf = BytesMut::new(out.alloc());
     if let Err(e) = forward(message, &mut buf) {
@@ -82,7 +83,7 @@ fn forward_each(sent: &Sent<'_>, out: &mut Shown) {
     out.word("endless");
 }
 
-/// Shows what is read, and tells whether a refusal stopped it.
+/// Shows what is read, and says whether an error stopped it.
 fn read_on(reader: &mut ClientMessages<'_>, kinds: &mut Kinds<'_>, out: &mut Shown) -> bool {
     for _ in 0..MOST {
         let left = reader.rest().len();
@@ -164,7 +165,7 @@ impl<'w> Item<'w> for PasswordKind {
     }
 }
 
-/// The words of a row behind its call: `first` or `open`, the kinds of the messages of tag `p`, and the bytes.
+/// The words of a row after its call: `first` or `open`, the kinds of the messages of tag `p`, and the bytes.
 fn check_sent(words: &mut Words<'_>, wanted: &str, out: &mut Shown) -> Result<(), Fault> {
     let opened = words.takes("open");
     if !opened && !words.takes("first") {
@@ -215,7 +216,7 @@ fn show_cancel(words: &[Word], out: &mut Shown) {
     out.bytes(&words.number::<i32>().to_be_bytes());
 }
 
-/// Shows the message of a call, and tells whether it comes in a session.
+/// Shows the message of a call, and says whether it comes in a session.
 fn show_written(call: &str, words: &[Word], out: &mut Shown) -> bool {
     match call {
         "startup_message" => {
@@ -251,7 +252,7 @@ fn has_empty_name(call: &str, words: &[Word], alloc: Global) -> bool {
     false
 }
 
-/// Shows what comes back of a call that wrote these bytes, and tells whether it comes in a session.
+/// Shows what comes back of a call that wrote these bytes, and says whether it comes in a session.
 fn show_read_back(call: &str, words: &[Word], bytes: &[u8], out: &mut Shown) -> bool {
     if has_empty_name(call, words, out.alloc()) {
         out.word("NotDrained ; rest");

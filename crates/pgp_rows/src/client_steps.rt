@@ -2,7 +2,7 @@
 
 use pgp_frontend_read::{ClientMessage, PasswordKind};
 
-/// Whether a server is told the message's kind.
+/// Whether a server is given the message's kind.
 fn is_told(message: &ClientMessage<'_>) -> bool {
     match message {
         ClientMessage::PasswordMessage(_) => true,
@@ -12,7 +12,7 @@ fn is_told(message: &ClientMessage<'_>) -> bool {
     }
 }
 
-/// The kinds of messages of tag `p` that are still expected, in order; behind the last of them passwords are.
+/// The kinds of messages of tag `p` that are still expected, in order; after the last of them passwords are.
 #[derive(Drop)]
 pub struct Kinds<'k> {
     rest: &'k [PasswordKind],
@@ -28,7 +28,7 @@ impl<'k> Kinds<'k> {
         self.rest.first().copied().unwrap_or(PasswordKind::Password)
     }
 
-    /// Goes on behind a message of tag `p`.
+    /// Goes on after a message of tag `p`.
     pub fn pass(&mut self, message: &ClientMessage<'_>) {
         if is_told(message) {
             self.rest = self.rest.get(1..).unwrap_or(&[]);

@@ -27,7 +27,7 @@ pub trait Codec {
 /// A message that stands in the buffer already.
 const SYNC: &[u8] = b"S\0\0\0\x04";
 
-/// What a refusal for want of memory leaves of that.
+/// What an error for lack of memory leaves of that.
 const LACKS_MEMORY: &str = "OutOfMemory 5300000004";
 
 /// What a call has to come to: its bytes, as they are shown, and what is shown of a buffer that held a message. It appends none where
@@ -69,7 +69,7 @@ struct Case<'c> {
     behind: &'c str,
 }
 
-/// Makes a call, which has to take all words, and shows its refusal.
+/// Makes a call, which has to take all words, and shows its error.
 fn call<C: Codec, B: Buffer>(case: &Case<'_>, buf: &mut B, out: &mut Shown) {
     let mut words = Words::new(case.words);
     if let Err(e) = C::write(case.alloc, case.name, &mut words, buf) {
@@ -78,14 +78,14 @@ fn call<C: Codec, B: Buffer>(case: &Case<'_>, buf: &mut B, out: &mut Shown) {
     out.keep(words.end());
 }
 
-/// A buffer that holds a message, and has so much room behind it.
+/// A buffer that holds a message, and has so much room after it.
 fn with_room<A: Allocator + Copy>(alloc: A, room: usize) -> Result<BytesMut<A>, AllocError> {
     let mut buf = BytesMut::with_capacity(alloc, SYNC.len().saturating_add(room))?;
     buf.extend_from_slice(SYNC)?;
     Ok(buf)
 }
 
-/// The call appends what the row says, or is refused so and leaves what stood there.
+/// The call appends what the row says, or is rejected so and leaves what stood there.
 fn is_written<C: Codec>(case: &Case<'_>, out: &mut Shown) -> Result<(), Fault> {
     let mut buf = BytesMut::new(case.alloc);
     if buf.extend_from_slice(SYNC).is_err() {
@@ -106,7 +106,7 @@ fn is_untouched(room: &[u8]) -> bool {
     true
 }
 
-/// Shows the call's answer in memory that has room for so many bytes, what it wrote, and whether the memory behind is as it was.
+/// Shows the call's answer in memory that has room for so many bytes, what it wrote, and whether the memory after is as it was.
 fn show_in_room<C: Codec>(case: &Case<'_>, size: usize, room: &mut [u8], out: &mut Shown) {
     let Some((front, back)) = room.split_at_mut_checked(size) else {
         return out.fail(Fault::Row);
@@ -119,7 +119,7 @@ fn show_in_room<C: Codec>(case: &Case<'_>, size: usize, room: &mut [u8], out: &m
     }
 }
 
-/// In memory that has room for so many bytes the call comes to this, and behind that the memory is as it was.
+/// In memory that has room for so many bytes the call comes to this, and after that the memory is as it was.
 fn fits<C: Codec>(
     case: &Case<'_>,
     size: usize,
@@ -131,7 +131,7 @@ fn fits<C: Codec>(
     out.came_to(wanted)
 }
 
-/// Makes the call where its request of memory of this number is refused, and tells whether that came.
+/// Makes the call where its request of memory of this number is refused, and says whether that came.
 fn refused_at<C: Codec>(
     case: &Case<'_>,
     room: usize,
@@ -149,8 +149,8 @@ fn refused_at<C: Codec>(
 /// More requests than a row's call makes.
 const REQUESTS: u64 = 1000;
 
-/// In a buffer with so much room behind what it holds each request of memory is refused in turn, until all are granted: a refusal
-/// is told, and leaves what stood there. Answers how many there were.
+/// In a buffer with so much room after what it holds each request of memory is refused in turn, until all are granted: an error
+/// is reported, and leaves what stood there. Returns how many there were.
 fn refusals_of<C: Codec>(case: &Case<'_>, room: usize, out: &mut Shown) -> Result<u64, Fault> {
     for number in 1..REQUESTS {
         if !refused_at::<C>(case, room, number, out)? {
@@ -229,7 +229,8 @@ pub fn check_written<C: Codec>(alloc: Global, row: &Row<'_>, out: &mut Shown) ->
     writes::<C>(alloc, row, row.call, row.left, out)
 }
 
-/// A row of a client's call: it appends the bytes, which a server reads back as the call, or it is refused.
+/// A row of a client's call: it appends the bytes, which a server reads back as the call, or it is
+/// rejected.
 pub fn check_writer<C: Codec>(alloc: Global, row: &Row<'_>, out: &mut Shown) -> Result<(), Fault> {
     check_written::<C>(alloc, row, out)?;
     if row.is_refusal() {

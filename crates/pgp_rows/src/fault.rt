@@ -20,7 +20,7 @@ impl From<AllocError> for Fault {
     }
 }
 
-/// The refusal of a call, whoever refused.
+/// The error of a call, whoever rejected.
 pub fn plain(answer: Result<(), BindError<Error>>) -> Result<(), Error> {
     match answer {
         Ok(()) => Ok(()),

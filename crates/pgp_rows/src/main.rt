@@ -120,7 +120,7 @@ fn check_line(alloc: Global, family: Family, line: &str, out: &mut Shown) -> Res
     check(alloc, family, &Row::parse(line)?, out)
 }
 
-/// Tells of a line that isn't right, and what came.
+/// Says of a line that isn't right, and what came.
 fn tell(rt: &impl Print, line: &str, fault: Fault, came: &str) -> io::Result<()> {
     println!(rt; "{line}")?;
     match fault {
@@ -130,7 +130,7 @@ fn tell(rt: &impl Print, line: &str, fault: Fault, came: &str) -> io::Result<()>
     }
 }
 
-/// Runs a row, and tells of it where it isn't right.
+/// Runs a row, and reports it where it isn't right.
 fn run_line<R: AllocGlobal + Print>(rt: &R, family: Family, line: &str) -> io::Result<()> {
     let mut out = Shown::new(rt.alloc());
     match check_line(rt.alloc(), family, line, &mut out) {
@@ -139,7 +139,7 @@ fn run_line<R: AllocGlobal + Print>(rt: &R, family: Family, line: &str) -> io::R
     }
 }
 
-/// Runs the rows of a file, and tells how many there were.
+/// Runs the rows of a file, and says how many there were.
 fn run_file<R: Files + AllocGlobal + Print>(rt: &R, name: &str, family: Family) -> io::Result<()> {
     let text = fs::read_to_string(rt, name)?;
     let mut rows = 0u64;

@@ -1,4 +1,4 @@
-//! Values of a fixed size: numbers, times and floats, whose bits are told as bytes.
+//! Values of a fixed size: numbers, times and floats, whose bits are reported as bytes.
 
 use crate::codec::Codec;
 use crate::shown::Shown;

@@ -167,7 +167,7 @@ impl Codec for Replies {
     }
 }
 
-/// Whether the bytes are a message of a server, with nothing behind it.
+/// Whether the bytes are a message of a server, with nothing after it.
 fn is_one_message(bytes: &[u8]) -> bool {
     let mut messages = Messages::new(bytes);
     let read = messages.next();
@@ -176,7 +176,7 @@ fn is_one_message(bytes: &[u8]) -> bool {
     is_message && messages.rest().is_empty()
 }
 
-/// A row of a server's call: it appends the bytes, which are one message, or it is refused.
+/// A row of a server's call: it appends the bytes, which are one message, or it is rejected.
 pub fn check_reply(alloc: Global, row: &Row<'_>, out: &mut Shown) -> Result<(), Fault> {
     check_written::<Replies>(alloc, row, out)?;
     if row.is_refusal() {

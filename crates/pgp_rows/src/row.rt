@@ -12,7 +12,7 @@ pub struct Row<'a> {
     pub right: &'a str,
 }
 
-/// A word, and what stands behind it.
+/// A word, and what stands after it.
 fn first_word(text: &str) -> (&str, &str) {
     text.split_once(' ').unwrap_or((text, ""))
 }
@@ -25,12 +25,12 @@ impl<'a> Row<'a> {
         Ok(Row { call, left, right })
     }
 
-    /// The first word behind the call, and what stands behind that.
+    /// The first word after the call, and what stands after that.
     pub fn front(&self) -> (&'a str, &'a str) {
         first_word(self.left)
     }
 
-    /// Whether the result is a refusal: its name begins with a capital.
+    /// Whether the result is an error: its name begins with a capital.
     pub fn is_refusal(&self) -> bool {
         match self.right.chars().next() {
             Some(first) => first.is_ascii_uppercase(),

@@ -62,7 +62,8 @@ fn count_each(
     Ok(())
 }
 
-/// `each_character`: how many texts of one character come to themselves, to another text, to nothing, and are refused.
+/// `each_character`: how many texts of one character come to themselves, to another text, to nothing, and are
+/// rejected.
 fn show_counts(alloc: Global, out: &mut Shown) {
     let mut counts = Counts {
         itself: 0,

@@ -46,7 +46,7 @@ fn binding_of(alloc: Global, words: &mut Words<'_>) -> Result<ChannelBinding<Glo
     Ok(ChannelBinding::tls_server_end_point(hash))
 }
 
-/// Shows the name of a refusal, and what it says beside it.
+/// Shows the name of an error, and what it says beside it.
 fn show_refusal(refusal: &ScramError, out: &mut Shown) {
     match format!(in out.alloc(); "{refusal}") {
         Ok(name) => out.word(name.as_str()),
@@ -78,14 +78,15 @@ fn show_message(client: &ScramSha256<Global>, out: &mut Shown) {
     out.number(client.hmacs());
 }
 
-/// Whether the client has a text to send is as it has to be. Else `wrong text` is shown.
+/// Whether the client has a text to send is as it has to be. Otherwise `wrong text` is shown.
 fn show_text_left(client: &ScramSha256<Global>, has_text: bool, out: &mut Shown) {
     if client.message().is_some() != has_text {
         out.word("wrong text");
     }
 }
 
-/// Each further step is out of turn, makes no code and leaves no text. Else `not over` is shown.
+/// Each further step is out of turn, makes no code and leaves no text. Otherwise `not over` is
+/// shown.
 fn show_end(client: &mut ScramSha256<Global>, out: &mut Shown) {
     let made = client.hmacs();
     let is_over = matches!(client.update(ONE_ROUND), Err(ScramError::WrongState))
@@ -97,7 +98,7 @@ fn show_end(client: &mut ScramSha256<Global>, out: &mut Shown) {
     }
 }
 
-/// Shows how a step on the server's last text ends, behind which there is nothing to send and each step is out of turn.
+/// Shows how a step on the server's last text ends, after which there is nothing to send and each step is out of turn.
 fn show_last(client: &mut ScramSha256<Global>, text: &[u8], out: &mut Shown) {
     show_outcome(client.finish(text), client, out);
     show_text_left(client, false, out);
@@ -142,7 +143,7 @@ fn known_client(alloc: Global) -> Result<ScramSha256<Global>, Fault> {
     )
 }
 
-/// `update FIRST`: how a step on the server's first text ends, behind which each further step is out of turn.
+/// `update FIRST`: how a step on the server's first text ends, after which each further step is out of turn.
 fn show_update(client: &mut ScramSha256<Global>, text: &[u8], out: &mut Shown) {
     let outcome = client.update(text);
     let is_answered = outcome.is_ok();
@@ -157,7 +158,7 @@ fn show_answer(client: &mut ScramSha256<Global>, text: &[u8], out: &mut Shown) {
     show_message(client, out);
 }
 
-/// `finish FINAL`: the client gets a last text behind a first one with one round.
+/// `finish FINAL`: the client gets a last text after a first one with one round.
 fn show_finish(client: &mut ScramSha256<Global>, text: &[u8], out: &mut Shown) {
     if client.update(ONE_ROUND).is_err() {
         out.word("no first step");

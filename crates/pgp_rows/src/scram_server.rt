@@ -73,7 +73,7 @@ fn server_of(alloc: Global, served: &Served<'_>) -> Result<ScramServer<Global>, 
     Ok(ScramServer::with_nonce(verifier, offer_of(alloc, served)?, own))
 }
 
-/// Each further step is out of turn. Else `not over` is shown.
+/// Each further step is out of turn. Otherwise `not over` is shown.
 fn show_end(server: &mut ScramServer<Global>, out: &mut Shown) {
     let is_over = matches!(server.first(b"n,,n=,r=a"), Err(ServerError::WrongState))
         && matches!(server.finish(b""), Err(ServerError::WrongState));
@@ -82,7 +82,7 @@ fn show_end(server: &mut ScramServer<Global>, out: &mut Shown) {
     }
 }
 
-/// Shows the server's answer to a first text, and tells whether the exchange goes on.
+/// Shows the server's answer to a first text, and says whether the exchange goes on.
 fn show_first(server: &mut ScramServer<Global>, text: &[u8], out: &mut Shown) -> bool {
     match server.first(text) {
         Ok(answer) => {
@@ -104,7 +104,7 @@ fn show_final(server: &mut ScramServer<Global>, text: &[u8], out: &mut Shown) {
     }
 }
 
-/// `FIRST FINAL`: the server's texts, or its refusal.
+/// `FIRST FINAL`: the server's texts, or its error.
 fn show_steps(server: &mut ScramServer<Global>, words: &mut Words<'_>, out: &mut Shown) {
     let first = words.bytes();
     let last = words.bytes();
@@ -114,7 +114,7 @@ fn show_steps(server: &mut ScramServer<Global>, words: &mut Words<'_>, out: &mut
     show_end(server, out);
 }
 
-/// `serve SERVED FIRST FINAL`: the server's texts, or its refusal.
+/// `serve SERVED FIRST FINAL`: the server's texts, or its error.
 fn show_serve(alloc: Global, words: &mut Words<'_>, out: &mut Shown) {
     match server_of(alloc, &read_served(words)) {
         Ok(mut server) => show_steps(&mut server, words, out),
@@ -179,7 +179,8 @@ impl Outcomes {
     }
 }
 
-/// How a first text ends; where one is told, it is taken, and the text is the final one behind it.
+/// How a first text ends; where one is reported, it is taken, and the text is the final one after
+/// it.
 fn outcome(
     server: &mut ScramServer<Global>,
     first: Option<&[u8]>,

@@ -29,7 +29,7 @@ fn show_refusal(refusal: Error, out: &mut Shown) {
     out.word(";");
 }
 
-/// Shows what was read, and tells whether reading goes on.
+/// Shows what was read, and says whether reading goes on.
 fn show_step<S: Storage>(read: Result<Option<Message<S>>, Error>, out: &mut Shown) -> bool
 where
     Message<S>: Parts,
@@ -97,7 +97,7 @@ fn in_place(bytes: &[u8], rows_alone: bool, out: &mut Shown) {
     show_rest(messages.rest(), out);
 }
 
-/// Takes what can be taken, and tells whether a length stopped it.
+/// Takes what can be taken, and says whether a length stopped it.
 fn drain(parser: &mut FrameParser, buf: &mut BytesMut, out: &mut Shown) -> bool {
     for _ in 0..MOST {
         if !parser.fits(buf) {

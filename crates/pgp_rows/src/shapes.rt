@@ -1,4 +1,4 @@
-//! Points, boxes and paths. A coordinate is told as its eight bytes.
+//! Points, boxes and paths. A coordinate is reported as its eight bytes.
 
 use crate::codec::Codec;
 use crate::shown::{Show, Shown, show_walk};

@@ -10,7 +10,8 @@ pub trait Show {
     fn show(self, out: &mut Shown);
 }
 
-/// Words that are written one behind the other. A fault, as no memory for one of them, is remembered, and told where they are compared.
+/// Words that are written one after the other. A fault, as no memory for one of them, is remembered, and reported where they are
+/// compared.
 #[derive(Drop)]
 pub struct Shown {
     alloc: Global,
@@ -134,7 +135,7 @@ impl Shown {
         }
     }
 
-    /// The name of a refusal, with the tag or the code that it carries.
+    /// The name of an error, with the tag or the code that it carries.
     pub fn refusal(&mut self, refusal: Error) {
         self.number(refusal);
         match refusal {
@@ -144,7 +145,7 @@ impl Shown {
         }
     }
 
-    /// A number that may have been refused.
+    /// A number that may have been rejected.
     pub fn answer<N: Display + Drop>(&mut self, answer: Result<N, Error>) {
         match answer {
             Ok(n) => self.number(n),
@@ -152,7 +153,7 @@ impl Shown {
         }
     }
 
-    /// Bytes that may have been refused.
+    /// Bytes that may have been rejected.
     pub fn block<const N: usize>(&mut self, block: Result<[u8; N], Error>) {
         match block {
             Ok(block) => self.bytes(&block),
@@ -168,7 +169,7 @@ impl Shown {
         }
     }
 
-    /// A text that may have been refused.
+    /// A text that may have been rejected.
     pub fn text_or_refusal(&mut self, text: Result<&str, Error>) {
         match text {
             Ok(text) => self.text(text),
@@ -215,7 +216,7 @@ impl Show for i16 {
 /// A list longer than any row's.
 const MOST: usize = 1000;
 
-/// Shows the items and the refusal that ends them, and tells how many items came.
+/// Shows the items and the error that ends them, and says how many items came.
 fn show_items<W: FallibleIterator>(walk: &mut W, out: &mut Shown) -> usize
 where
     W::Item: Show,
@@ -234,7 +235,7 @@ where
     MOST
 }
 
-/// What a walk answers behind its last item: whether it gives one more.
+/// What an iterator returns after its last item: whether it gives one more.
 fn end_of<W: FallibleIterator>(walk: &mut W) -> Result<bool, Error>
 where
     W::Item: Drop,
@@ -266,8 +267,8 @@ fn show_announced(announced: (usize, Option<usize>), came: usize, out: &mut Show
     }
 }
 
-/// Shows a walk as a list, `[ .. ]`; behind it `of` and how many were announced, where that isn't how many came; and
-/// `unsteady` where the end isn't answered again.
+/// Shows an iterator as a list, `[ .. ]`; after it `of` and how many were announced, where that isn't how many came;
+/// and `unsteady` where the end isn't answered again.
 pub fn show_walk<W: FallibleIterator + Drop>(mut walk: W, out: &mut Shown)
 where
     W::Item: Show + Drop,

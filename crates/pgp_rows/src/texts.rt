@@ -46,10 +46,10 @@ impl Codec for Texts {
 /// The longest front of ASCII that is tried.
 const FRONT: usize = 70;
 
-/// The most bytes that are tried behind it.
+/// The most bytes that are tried after it.
 const MOST: usize = 16;
 
-/// Whether the bytes are as much of a text behind each front of ASCII.
+/// Whether the bytes are as much of a text after each front of ASCII.
 fn is_steady(bytes: &[u8]) -> bool {
     let mut room = [b'a'; FRONT + MOST];
     let end = FRONT.saturating_add(bytes.len());
@@ -67,7 +67,7 @@ fn is_steady(bytes: &[u8]) -> bool {
     true
 }
 
-/// Shows what the bytes come to as a text; behind each front of ASCII they have to come to as much (else `unsteady`).
+/// Shows what the bytes come to as a text; after each front of ASCII they have to come to as much (else `unsteady`).
 fn text_behind_ascii(bytes: &[u8], out: &mut Shown) {
     if is_steady(bytes) {
         out.text_or_refusal(text_from_sql(bytes));

@@ -30,7 +30,7 @@ impl Word {
     }
 }
 
-/// Appends what stands behind a `\x`: the byte of two digits, and the rest.
+/// Appends what stands after a `\x`: the byte of two digits, and the rest.
 fn unescape(piece: &str, out: &mut Vec<u8>) -> Result<(), Fault> {
     let (digits, rest) = piece.split_at_checked(2).ok_or(Fault::Row)?;
     let Ok(byte) = u8::from_str_radix(digits, 16) else {
@@ -114,7 +114,7 @@ pub fn bytes_of(alloc: Global, text: &str) -> Result<Vec<u8>, Fault> {
     }
 }
 
-/// Words that are read from the left. A word that isn't there, or is of another kind, is remembered as a fault, which the end tells.
+/// Words that are read from the left. A word that isn't there, or is of another kind, is remembered as a fault, which the end says.
 #[derive(Drop)]
 pub struct Words<'w> {
     rest: &'w [Word],

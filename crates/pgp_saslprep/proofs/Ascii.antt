@@ -1,4 +1,4 @@
--- Texts of ASCII are prepared as they are, or refused.
+-- Texts of ASCII are prepared as they are, or rejected.
 use Rattle.std.proofs.Common.{◌≡◌, ℕ, ◌<◌, ◌≤◌, true, false, cond, List, [], ◌∷◌, refl, ap, ◌∙◌, arith, encode_utf8_all, inl, inr}
 use Rattle.std.specs.Prelude.{Some, None, option_map, unwrap_or, All}
 use Rattle.std.specs.Str.{IsAscii}
@@ -17,7 +17,7 @@ use Rattle.pgp_saslprep.proofs.Halving.{below}
 abbrev pub IsPlain : ℕ → Type 0
 IsPlain c = (32 ≤ c) × (c ≤ 126)
 
--- a table that begins behind ASCII lists none of it
+-- a table that begins after ASCII lists none of it
 no_ascii : (table : List Range) (c : ℕ) → ranges_rise 128 table ≡ true → c < 128 → in_table table c ≡ false
 no_ascii table c up low = below 128 table c up low
 
@@ -47,7 +47,7 @@ all_assigned : (text : List ℕ) → All (λ c. c < 128) text → has a_1 text �
 unfolding ranges_rise a_1
 all_assigned text low = has_none a_1 text refl low
 
--- nothing changes ASCII, but it may be refused
+-- nothing changes ASCII, but it may be rejected
 text_prepared : (text : List ℕ) → All (λ c. c < 128) text → prepared_text text ≡ cond (is_refused text) None (Some text)
 unfolding prepared_text
 text_prepared text low = rw (text_stays text low, all_assigned text low, normalize-ascii Nfkc text low) refl

@@ -51,7 +51,7 @@ below n (r ∷ rs) c up low =
     let b = p.some in
     not_here r rs c (and_left _ _ (lt-leb r.0 c (omega arith))) ∙ below (r.1 + 1) rs c p.rest (omega arith)
 
--- what lies behind a range is looked for behind it
+-- what lies after a range is looked for after it
 passed : (n : ℕ) (rs : List Range) (k c : ℕ) (d : Range) → ranges_rise n rs ≡ true → k < length rs → (get_or rs k d).1 < c → in_table rs c ≡ in_table (drop (suc k) rs) c
 passed n [] k c d up lt behind = absurd (not-suc-le-zero lt)
 passed n (r ∷ rs) zero c d up lt behind = not_here r rs c (and_right _ _ (lt-leb c r.1 behind))
@@ -64,7 +64,7 @@ passed n (r ∷ rs) (suc k) c d up lt behind =
 pub behind_one : (rs : List Range) (k c : ℕ) (d : Range) → ranges_rise 0 rs ≡ true → k < length rs → (get_or rs k d).1 < c → in_table rs c ≡ in_table (drop (k + 1) rs) c
 behind_one rs k c d up lt behind = passed 0 rs k c d up lt behind ∙ ap (λ m. in_table (drop m rs) c) (sym (add-one k))
 
--- what lies before a range isn't in it, nor behind it
+-- what lies before a range isn't in it, nor after it
 before_from : (n : ℕ) (rs : List Range) (k c : ℕ) (d : Range) → ranges_rise n rs ≡ true → k < length rs → c < (get_or rs k d).0 → in_table (drop k rs) c ≡ false
 before_from n [] k c d up lt low = absurd (not-suc-le-zero lt)
 before_from n (r ∷ rs) zero c d up lt low =
@@ -83,6 +83,6 @@ in_one [] k c d lt from upto = absurd (not-suc-le-zero lt)
 in_one (r ∷ rs) zero c d lt from upto = here r rs c (and_from _ _ (le-leb r.0 c from) (le-leb c r.1 upto))
 in_one (r ∷ rs) (suc k) c d lt from upto = later r rs c (in_one rs k c d (le_of_suc-le-suc lt) from upto)
 
--- nothing is listed behind the last range
+-- nothing is listed after the last range
 pub behind_all : (rs : List Range) (k c : ℕ) → length rs ≤ k → in_table (drop k rs) c ≡ false
 behind_all rs k c le = ap (λ l. in_table l c) (drop_of_length-le rs le) ∙ none c

@@ -13,7 +13,7 @@ module _ (text mapped : List ℕ) (mapped_utf8 : IsUtf8 mapped) (m : mapped ≡ 
   assigned : (b : Bool) → has a_1 (chars mapped) ≡ b → has a_1 (mapped_text (chars text)) ≡ b
   assigned b h = ap (λ cs. has a_1 cs) (sym mapped_chars) ∙ h
 
-  -- an unassigned code point is refused at once
+  -- an unassigned code point is rejected at once
   pub unassigned_text : has a_1 (chars mapped) ≡ true → (let none : Option (List ℕ) = None in none ≡ prepared_bytes text)
   unfolding prepared_text
   unassigned_text h = rw (assigned true h) refl

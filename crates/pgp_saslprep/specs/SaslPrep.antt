@@ -42,8 +42,8 @@ is_one_way text = not (has d_1 text) || (not (has d_2 text) && begins d_1 text &
 unfoldable pub is_refused : List ℕ → Bool
 is_refused text = is_prohibited text || not (is_one_way text) || has a_1 text
 
--- Section 2: map, normalize, refuse. What Unicode 3.2 doesn't assign is refused before the normal form too, which may be that of
--- a later Unicode and know such a code point.
+-- Section 2: map, normalize, reject. What Unicode 3.2 doesn't assign is rejected before the normal form too, which may be that
+-- of a later Unicode and know such a code point.
 unfoldable pub prepared_text : List ℕ → Option (List ℕ)
 prepared_text text =
     let mapped = mapped_text text in

@@ -1,4 +1,4 @@
-//! The last steps of RFC 4013: which texts are refused.
+//! The last steps of RFC 4013: which texts are rejected.
 
 ghost use Rattle.std.specs.Prelude.{◌≡◌, chars};
 ghost use Rattle.pgp_saslprep.specs.SaslPrep.{has, begins, ends, is_prohibited, is_one_way, is_refused};
@@ -79,7 +79,7 @@ pub(crate) fn has_unassigned(text: &str) -> bool
     has_any(tables::a_1_ranges(), text)
 }
 
-// Whether a mapped and normalized text is refused.
+// Whether a mapped and normalized text is rejected.
 #[tactic(auto, unfolding(crate::specs::SaslPrep::is_refused))]
 pub(crate) fn refuses(text: &str) -> bool
     ensures { result ≡ is_refused (chars text.now) }

@@ -12,7 +12,7 @@ use pgp_base::{Error, Memory};
 use std::alloc::{AllocError, Global};
 use unicode_normalization::to_nfkc;
 
-/// What brings a text into the normal form KC. Its memory isn't the caller's: so it tells of its own refusals.
+/// What brings a text into the normal form KC. Its memory isn't the caller's: so it reports its own errors.
 pub trait Nfkc {
     /// Memory for a normal form was refused.
     ghost Lacks: { Type 0 };
@@ -21,13 +21,13 @@ pub trait Nfkc {
     ///
     /// # Errors
     ///
-    /// `AllocError` where memory for it is refused.
+    /// Returns `AllocError` if memory for it can't be allocated.
     fn nfkc(&self, text: &str) -> Result<String, AllocError>
         ensures ok { IfOk result (λ t. string_bytes t ≡ encode_utf8_all (nfkc (chars text.now))) }
         ensures lacks { OnErr result Lacks };
 }
 
-/// The normal form KC of Unicode 18, in memory of the global allocator. Of its refusals nothing is said.
+/// The normal form KC of Unicode 18, in memory of the global allocator. Of its errors nothing is said.
 #[derive(Clone, Copy)]
 pub struct UnicodeNfkc {
     alloc: Global,
@@ -50,14 +50,14 @@ impl Nfkc for UnicodeNfkc {
     }
 }
 
-/// A text as RFC 4013 prepares it, or `None` where it refuses the text: spaces past ASCII become spaces, what is
-/// commonly mapped to nothing goes, the normal form KC follows; and the outcome is refused where it has a prohibited
-/// character, goes both ways, or has a code point that Unicode 3.2 doesn't assign, as stored strings may not. Such a code
-/// point is refused before the normal form too, as a server does: a later Unicode may have a form for it.
+/// A text as RFC 4013 prepares it, or `None` where it rejects the text: spaces past ASCII become spaces, what is commonly
+/// mapped to nothing goes, the normal form KC follows; and the outcome is rejected where it has a prohibited character,
+/// goes both ways, or has a code point that Unicode 3.2 doesn't assign, as stored strings may not. Such a code point is
+/// rejected before the normal form too, as a server does: a later Unicode may have a form for it.
 ///
 /// # Errors
 ///
-/// `OutOfMemory` where memory for the text, or for its normal form, is refused.
+/// Returns `OutOfMemory` if memory for the text, or for its normal form, can't be allocated.
 pub fn saslprep<A: Memory, N: Nfkc>(
     alloc: A,
     text: &str,
@@ -77,11 +77,11 @@ pub fn saslprep<A: Memory, N: Nfkc>(
     Ok(Some(A::text_of(alloc, &normal)?))
 }
 
-/// SASLprep: the mapping of RFC 4013. A password that it refuses is used as it is, as the server does.
+/// SASLprep: the mapping of RFC 4013. A password that it rejects is used as it is, as the server does.
 ///
-/// The order of the steps is the RFC's, and that of the Rust crate `stringprep`, which normalizes by a later Unicode before it
-/// looks for what 3.2 doesn't assign, and takes directions from a later one too. A server of PostgreSQL looks for all that it refuses before it normalizes, and refuses a
-/// text of which the mapping leaves nothing.
+/// The order of the steps is the RFC's, and that of the Rust crate `stringprep`, which normalizes by a later Unicode before it looks for what 3.2 doesn't assign, and
+/// takes directions from a later one too. A server of PostgreSQL looks for all that it rejects before it normalizes, and rejects a text of which the mapping leaves
+/// nothing.
 #[derive(Clone, Copy)]
 pub struct SaslPrepRfc4013<N: Nfkc = UnicodeNfkc> {
     form: N,

@@ -1,4 +1,4 @@
-//! What no row can say: that a normal form's want of memory is told, and what is normalized.
+//! What no row can say: that a normal form's lack of memory is reported, and what is normalized.
 
 use crate::{Nfkc, saslprep};
 use pgp_base::Error;

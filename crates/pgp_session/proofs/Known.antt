@@ -28,7 +28,7 @@ said_by (Authentication AuthenticationOk) = refl
 said_by m = tt
 
 module _ (start : Client) (came : List Message) (m : Message) where
-  -- what was known stays so behind another message
+  -- what was known stays so after another message
   longer : (p : LoginPhase) (x : Client) → Knows start came p x → Knows start (came ++ (m ∷ [])) p x
   longer AwaitsOffer x k = k
   longer AwaitsFirst x k = (k.0, k.1, OtherCame m k.2, k.3)

@@ -50,6 +50,6 @@ all_sought name from now next found h t =
     let all : from.items ≡ h.taken = h.items ∙ (ap (λ l. h.taken ++ l) t.items ∙ append-nil h.taken) in
     (sym h.end ∙ t.end, (λ e. subst (λ (l : List (List ℕ)). Contains l name) (sym all) (h.yes e), λ e c. h.no e (subst (λ (l : List (List ℕ)). Contains l name) all c)))
 
--- the walk was refused, so it doesn't end well
+-- the walk was rejected, so it doesn't end well
 pub refused_sought : (name : List ℕ) (from now next : Walk (List ℕ)) (e : Error) (found : Bool) → HasSought name from found now → IsRefused now e next → from.end ≡ None → ⊥
 refused_sought name from now next e found h t none = absurd (let both : Some e ≡ None = sym t.end ∙ (h.end ∙ none) in cc)

@@ -24,11 +24,11 @@ unfolding uint32
 stopped_long true rest fault s = omega (arith, ap length fault.header.parts, length-append (uint32 fault.header.len) fault.header.rest)
 stopped_long false rest fault s = cc
 
--- bytes that come behind a header leave it
+-- bytes that come after a header leave it
 pub header_of_more : (bytes more : List ℕ) → 5 ≤ length bytes → header_of (bytes ++ more) ≡ header_of bytes
 header_of_more bytes more h = header_stays bytes more _ (header_of_long bytes h) ∙ sym (header_of_long bytes h)
 
--- bytes came behind what was read
+-- bytes came after what was read
 frames_behind : (a old more : List ℕ) (results : List (Result Message Error)) → Frames a results old → Frames (a ++ more) results (old ++ more)
 frames_behind a old more results f = record {
   frames = f.frames;
@@ -37,7 +37,7 @@ frames_behind a old more results f = record {
   bodies = f.bodies;
 }
 
--- frames behind frames
+-- frames after frames
 frames_chained : (a b c : List ℕ) (first second : List (Result Message Error)) → Frames a first b → Frames b second c → Frames a (first ++ second) c
 frames_chained a b c first second p q =
     subst (λ l. Frames l (first ++ second) c) (append-nil a) (frames_join a [] b c first second p (subst (λ l. Frames l second c) (sym (append-nil b)) q))
@@ -102,7 +102,7 @@ completing_ends old piece left now new before mid after m n o stopped c none all
     let whole : piece ≡ read.done = read.whole ∙ ap (λ l. read.done ++ l) none ∙ append-nil read.done in
     record { takes = subst (λ l. Takes (old ++ l) new before after m o) (sym whole) read.takes; ending = all.ending; header = all.header }
 
--- a length fault stands there, and what is left of the piece is kept behind it
+-- a length fault stands there, and what is left of the piece is kept after it
 pub completing_stops : (old piece left now new kept : List ℕ) (before mid after : List (Result Message Error)) (m n o : Memory) (stopped : Bool) → Completing old piece left now before mid m n → stopped ≡ true
     → TakesAll now new mid after n o stopped → kept ≡ new ++ left → TakesAll (old ++ piece) kept before after m o true
 completing_stops old piece left now new kept before mid after m n o stopped c stops all is =
@@ -124,7 +124,7 @@ completing_fails old piece left now before mid after m n c same =
     let t = c.takes in
     record { more = t.more; grown = same ∙ t.grown; left = now ++ left; frames = subst (λ l. Frames l t.more (now ++ left)) whole (frames_behind (old ++ c.done) now left t.more t.frames) }
 
--- memory was refused behind some frames more
+-- memory was refused after some frames more
 pub completing_some : (old piece left now : List ℕ) (before mid after : List (Result Message Error)) (m n : Memory) → Completing old piece left now before mid m n → TakesSome now mid after
     → TakesSome (old ++ piece) before after
 completing_some old piece left now before mid after m n c some =
@@ -138,7 +138,7 @@ completing_some old piece left now before mid after m n c some =
       frames = subst (λ l. Frames l (t.more ++ some.more) (some.left ++ left)) whole (frames_behind (old ++ c.done) some.left left (t.more ++ some.more) frames);
     }
 
--- so many bytes of what is left are behind what is kept
+-- so many bytes of what is left are after what is kept
 pub completing_by : (old piece left after now grown : List ℕ) (before mid : List (Result Message Error)) (m n : Memory) (k : ℕ) → Completing old piece left now before mid m n → grown ≡ now ++ take k left → after ≡ drop k left
     → Completing old piece after grown before mid m n
 completing_by old piece left after now grown before mid m n k c is rest =
@@ -164,7 +164,7 @@ pub part_fails : (old piece left now : List ℕ) (before mid read : List (Result
 part_fails old piece left now before mid read m n c some =
     completing_some old piece [] (now ++ left) before mid read m n (completing_more old piece left left [] now (now ++ left) before mid m n c (sym (append-nil left)) refl) some
 
--- a part goes on only behind a frame that was completed
+-- a part goes on only after a frame that was completed
 pub part_shorter : (now grown left behind after new : List ℕ) (mid read : List (Result Message Error)) (n o : Memory) (k : ℕ) (used : ℕ) (stopped : Bool) → Moves now grown left k → behind ≡ drop k left → TakesPart grown new behind mid read n o used stopped
     → after ≡ drop used behind → 0 < length after → length after < length left
 part_shorter [] grown left behind after new mid read n o k used stopped moves is part rest more =
@@ -218,7 +218,7 @@ part_of_piece (b ∷ old) new piece before after m n stopped none all = absurd (
 pub some_of_all : (old new : List ℕ) (before after : List (Result Message Error)) (m n : Memory) (stopped : Bool) → TakesAll old new before after m n stopped → TakesSome old before after
 some_of_all old new before after m n stopped all = record { more = all.takes.more; grown = all.takes.grown; left = new; frames = all.takes.frames }
 
--- ---- the whole frames of a piece
+-- ---- the complete frames of a piece
 
 pub whole_taken : (piece kept : List ℕ) (before after : List (Result Message Error)) (m n : Memory) (found : Found) → FindsAll piece m n found
     → TakesEach (take found.len piece) found.count before after → kept ≡ drop found.len piece → TakesAll piece kept before after m n found.stopped
@@ -246,7 +246,7 @@ whole_some piece before after k some =
 
 -- ---- what is shown of a piece
 
--- a piece came behind frames that wait
+-- a piece came after frames that wait
 pub goes_on : (piece left : List ℕ) (old : Reading) (after : List (Result Message Error)) (m n : Memory) (stops : Bool)
     → old.failed ≡ false → old.stopped ≡ false → old.headers ≡ m.headers → m.header ≡ header_of old.rest
     → TakesAll (old.rest ++ piece) left old.results after m n stops
@@ -269,7 +269,7 @@ goes_on piece left old after m n stops sound waits count header all join =
           all.takes.counted before (sym count ∙ h ∙ ap (headers_read before) (sym header)) ∙ ap (λ k. headers_read k n.header) sum ∙ ap (headers_read (taken + length after)) all.header;
     }
 
--- a piece came behind a length fault
+-- a piece came after a length fault
 pub stays_stopped : (piece rest : List ℕ) (old : Reading) → old.failed ≡ false → old.stopped ≡ true → 5 ≤ length old.rest → rest ≡ old.rest ++ piece
     → ((bytes more rest : List ℕ) (results : List (Result Message Error)) → BackendRun bytes results true rest → BackendRun (bytes ++ more) results true (rest ++ more))
     → GoesOn piece old (record { results = old.results; stopped = old.stopped; rest = rest; headers = old.headers; failed = old.failed })
@@ -295,7 +295,7 @@ fails_at_once piece old new failed same grow = record {
   reads = λ bytes taken h all stopped rest run. subst (λ l. (others : List (Result Message Error)) × (all ≡ l ++ others)) (ap (λ l. taken ++ l) (sym same)) (grow bytes piece (taken ++ old.results) all old.stopped stopped old.rest rest h run);
 }
 
--- memory was refused behind some frames
+-- memory was refused after some frames
 pub fails_behind : (piece : List ℕ) (old new : Reading) → new.failed ≡ true → TakesSome (old.rest ++ piece) old.results new.results
     → ((bytes more rest left : List ℕ) (first second : List (Result Message Error)) → Frames bytes first rest → Frames (rest ++ more) second left → Frames (bytes ++ more) (first ++ second) left)
     → ((bytes more : List ℕ) (first second : List (Result Message Error)) (halts : Bool) (rest left : List ℕ) → Frames bytes first rest → BackendRun (bytes ++ more) second halts left → (others : List (Result Message Error)) × (second ≡ first ++ others))

@@ -22,7 +22,7 @@ module _ {K : Type 0} {lacks : Held K → ℕ → Type 0} where
   more_wanted n m c old e h (inl w) = inl (w.0, wants_more old n m h w.1)
   more_wanted n m c old e h (inr w) = inr w
 
-  -- the first of them was refused
+  -- the first of them was rejected
   pub first_unsaid : (a b : List ℕ) (c : Cause) (old new : Held K) (r : Result (Unit {0}) Error) (e : Error) → IsErr r → IsErrAnd r (λ x. x ≡ e) → Writes a c lacks old new (Err e) → Writes (a ++ b) c lacks old new r
   first_unsaid a b c old new (Ok done) e is h w = let f : false ≡ true = is in cc
   first_unsaid a b c old new (Err x) e is h w =

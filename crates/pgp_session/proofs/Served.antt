@@ -81,7 +81,7 @@ one_more : {wanted came : List ClientMessage} (m x : ClientMessage) → m ≡ x 
 one_more {wanted} {came} m x e a = subst (λ (y : ClientMessage). CameIn (wanted ++ (y ∷ [])) (came ++ (m ∷ []))) e (OneCame m a)
 
 module _ {A : Type 0} (came : List ClientMessage) (m : ClientMessage) where
-  -- what was shown stays so behind another message
+  -- what was shown stays so after another message
   longer : (start : Method A) → HasShown start came → HasShown start (came ++ (m ∷ []))
   longer methods.Nothing k = tt
   longer (methods.Password stored) k = (k.0, OtherCame m k.1, k.2)
@@ -139,7 +139,7 @@ module _ {A K : Type 0} (memory : Type 0) (lacks : Held K → ℕ → Type 0) (s
   kept_known (Err e) w k = subst (λ (p : ServingPhase). Knows start (came ++ (m ∷ [])) p new.method) (sym w.0) tt
 
 module _ {A K : Type 0} (memory : Type 0) (lacks : Held K → ℕ → Type 0) (start : Method A) where
-  -- over steps one behind the other
+  -- over steps one after the other
   all_known : (came sent : List ClientMessage) (old new : Serving A) → Knows start came old.phase old.method → StepsAll memory lacks sent old new → Knows start (came ++ sent) new.phase new.method
   all_known came [] old new k w =
       let kept : Knows start came new.phase new.method = subst (λ (s : Serving A). Knows start came s.phase s.method) (sym w) k in

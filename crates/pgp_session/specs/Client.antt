@@ -47,14 +47,14 @@ at_query (ParameterStatus setting) = Some Noted
 at_query (NotificationResponse n) = Some Noted
 at_query m = None
 
--- what a message tells in a phase, if the flow has a place for it there
+-- what a message says in a phase, if the flow has a place for it there
 abbrev pub event_of : Phase → Message → Option Event
 event_of LoggingIn m = at_login m
 event_of Starting m = at_start m
 event_of Querying m = at_query m
 event_of Over m = None
 
--- the phase behind it
+-- the phase after it
 abbrev pub phase_after : Phase → Event → Phase
 phase_after phase Noted = phase
 phase_after phase Admitted = Starting
@@ -64,13 +64,13 @@ phase_after phase Failed = phase
 phase_after phase Refused = Over
 phase_after phase Ended = Over
 
--- what the client then says: its query where the server is ready for it, and the end behind the answers to it
+-- what the client then says: its query where the server is ready for it, and the end after the answers to it
 abbrev pub reply_to : List ℕ → Event → Option ClientMessage
 reply_to query Asked = Some (Query query)
 reply_to query Ended = Some Terminate
 reply_to query event = None
 
--- the flow has no place for the message, or the reply couldn't be written behind what stood `here`
+-- the flow has no place for the message, or the reply couldn't be written after what stood `here`
 abbrev pub Refuses : {K : Type 0} → List ℕ → Message → (Held K → ℕ → Type 0) → Held K → Phase → StepError → Type 0
 Refuses query m lacks here phase Unexpected = event_of phase m ≡ None
 Refuses query m lacks here phase (Unsent e) = (event : Event) × (reply : ClientMessage)
@@ -88,13 +88,13 @@ module _ {B K : Type 0} (held : B → Held K) where
   Replies None old new = new ≡ old
   Replies (Some m) old new = IsAdded held m old new
 
-  -- the message told this, and the reply to it was added
+  -- the message reported this, and the reply to it was added
   pub record Tells (query : List ℕ) (m : Message) (old new : Shown B) (event : Event) : Type 0 where
     pub told : event_of old.phase m ≡ Some event
     pub phase : new.phase ≡ phase_after old.phase event
     pub sent : Replies (reply_to query event) old.out new.out
 
-  -- What a step comes to. One that is refused leaves the phase, and what was to be sent.
+  -- What a step comes to. One that is rejected leaves the phase, and what was to be sent.
   abbrev pub Steps : List ℕ → Message → (Held K → ℕ → Type 0) → Shown B → Shown B → Result Event StepError → Type 0
   Steps query m lacks old new (Ok event) = Tells query m old new event
   Steps query m lacks old new (Err e) = Refuses query m lacks (held old.out.buf) old.phase e × (new.phase ≡ old.phase) × IsLeft held old.out new.out

@@ -17,7 +17,7 @@ pub record Sent (B : Type 0) : Type 0 where
 -- `held` says what a buffer holds.
 module _ {B Kept : Type 0} (held : B → Held Kept) where
   -- The message is one that the writers write, has a spelling, and was added: however a server reads the bytes that stood there, it now
-  -- reads this message behind them, told its kind if it has one.
+  -- reads this message after them, given its kind if it has one.
   pub record IsAdded (m : ClientMessage) (old new : Sent B) : Type 0 where
     pub ours : IsOurs m
     pub in_range : IsInRange m
@@ -32,8 +32,8 @@ module _ {B Kept : Type 0} (held : B → Held Kept) where
     pub left : Leaves (held old.buf) (held new.buf)
     pub opened : new.opened ≡ old.opened
 
-  -- What each call comes to: it adds the message, which is one of `Meant`; or it is refused for a reason
-  -- that its writer has, and changes nothing.
+  -- What each call comes to: it adds the message, which is one of `Meant`; or it is rejected for a
+  -- reason that its writer has, and changes nothing.
   abbrev pub Adds : {E : Type 0} → (ClientMessage → Type 0) → (E → Type 0) → Sent B → Sent B → Result (Unit {0}) E → Type 0
   Adds Meant Refuses old new (Ok done) = (m : ClientMessage) × Meant m × IsAdded m old new
   Adds Meant Refuses old new (Err e) = Refuses e × IsLeft old new
@@ -46,7 +46,7 @@ RefusesMessage m lacks old e = WantsMemory (Wants lacks old (length (bytes_of m)
 abbrev pub AddsMessage : {B Kept : Type 0} → (B → Held Kept) → ClientMessage → (Held Kept → ℕ → Type 0) → Sent B → Sent B → Result (Unit {0}) Error → Type 0
 AddsMessage held m lacks old new result = Adds held (λ n. n ≡ m) (RefusesMessage m lacks (held old.buf)) old new result
 
--- The call adds the message of all that iterators gave, which `Whole` tells; `SoFar` tells that of what came so far.
+-- The call adds the message of all that iterators gave, which `Whole` says; `SoFar` says that of what came so far.
 abbrev pub AddsGiven : {B Kept : Type 0} → (B → Held Kept) → (Whole SoFar : ClientMessage → Type 0) → (Held Kept → ℕ → Type 0) → Sent B → Sent B → Result (Unit {0}) Error → Type 0
 AddsGiven held Whole SoFar lacks old new result = Adds held Whole (Refused Whole SoFar lacks (held old.buf)) old new result
 

@@ -1,4 +1,4 @@
--- When a session is idle, told by what both sides sent.
+-- When a session is idle, reported by what both sides sent.
 use Rattle.std.specs.Prelude.{◌≡◌, ◌⊎◌, ℕ, ◌+◌, ◌<◌, ◌≤◌, Bool, true, false, List, [], ◌∷◌, Option, Some, None, if◌then◌else◌}
 use Rattle.pgp_frontend.specs.ClientMessage.{ClientMessage, Bind, Close, Describe, Execute, FunctionCall, Parse, Query, Sync, Startup}
 use Rattle.pgp_message.specs.BackendMessage.{Message, ReadyForQuery}
@@ -21,11 +21,11 @@ extends (Execute portal max_rows) = true
 extends (Close variant name) = true
 extends x = false
 
--- whether a part of an extended query waits for its end, behind a message
+-- whether a part of an extended query waits for its end, after a message
 abbrev pub waits : Bool → ClientMessage → Bool
 waits before x = if awaits x then false else (if extends x then true else before)
 
--- the same behind all that the client sent
+-- the same after all that the client sent
 abbrev pub waits_behind : Bool → List ClientMessage → Bool
 waits_behind before [] = before
 waits_behind before (x ∷ sent) = waits_behind (waits before x) sent
@@ -35,7 +35,7 @@ abbrev pub asks : List ClientMessage → ℕ
 asks [] = 0
 asks (x ∷ sent) = (if awaits x then 1 else 0) + asks sent
 
--- the status that a message tells: that of a ReadyForQuery
+-- the status that a message says: that of a ReadyForQuery
 abbrev pub status : Message → Option ℕ
 status (ReadyForQuery s) = Some s
 status m = None
@@ -53,7 +53,7 @@ abbrev pub newer : Option ℕ → Option ℕ → Option ℕ
 newer before None = before
 newer before (Some s) = Some s
 
--- the status that the last of them told; none where none came
+-- the status that the last of them reported; none where none came
 abbrev pub last_status : Option ℕ → List Message → Option ℕ
 last_status before [] = before
 last_status before (m ∷ came) = last_status (newer before (status m)) came
@@ -75,7 +75,8 @@ pub record Saw (sent : List ClientMessage) (came : List Message) (session : Sess
   pub status : session.status ≡ last_status None came
   pub unfinished : session.unfinished ≡ waits_behind false sent
 
--- A session is told to be idle: so these counts say it, and nothing waits on either side, be it a part of an extended query or a byte of a cut message.
+-- A session is reported to be idle: so these counts say it, and nothing waits on either side, be it a part of an extended query or a byte of a cut
+-- message.
 pub record IsQuiet (session : Session) (client server : List ℕ) : Type 0 where
   pub counted : session.asked < 18446744073709551615
   pub answered : session.asked ≡ session.readied

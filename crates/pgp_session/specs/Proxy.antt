@@ -32,9 +32,9 @@ Proxies refused kind lacks from old (Err (NoMessage e)) next new = Step kind fro
 Proxies refused kind lacks from old (Err OutOfMemory) next new =
     (x : ClientMessage) × (after : Unread) × Step kind from (Ok (Some x)) after × (IsListed refused (statement_of x) → ⊥) × lacks old (length (bytes_of x)) × (next ≡ from) × (new ≡ old)
 
--- ---- calls, one behind the other
+-- ---- calls, one after the other
 
--- the kind that a call was told, and what became of the message
+-- the kind that a call was given, and what became of the message
 pub record Call : Type 0 where
   pub kind : PasswordKind
   pub passed : Passed
@@ -59,7 +59,7 @@ pub record PassesOn {Kept : Type 0} (refused : List (Bor (List ℕ))) (from : Un
   pub read : from.bytes ≡ flat_map bytes_of came ++ next.bytes
   pub written : new ≡ old ⊕ flat_map bytes_of went
 
--- calls that were told these kinds, each of which passed its message on
+-- calls that were given these kinds, each of which passed its message on
 abbrev pub forwarded : PasswordKind → Call
 forwarded kind = record { kind = kind; passed = Forwarded }
 

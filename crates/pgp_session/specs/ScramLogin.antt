@@ -43,7 +43,7 @@ says (Authentication (AuthenticationSaslFinal text)) = Some (Final text)
 says (Authentication AuthenticationOk) = Some Welcome
 says m = None
 
--- Whether it is due. Each text has its turn, and the welcome is due behind the server's signature alone.
+-- Whether it is due. Each text has its turn, and the welcome is due after the server's signature alone.
 abbrev pub is_due : LoginPhase → Said → Bool
 is_due Done said = false
 is_due Over said = false
@@ -67,7 +67,7 @@ heard phase m = if_due phase (says m)
 abbrev pub Offers : List ℕ → Type 0
 Offers mechanisms = (names : List (List ℕ)) × MarkedItems TextSpelled TextRefused mechanisms names None × Contains names (codes "SCRAM-SHA-256")
 
--- the first messages came among the second in this order, others before, between and behind them
+-- the first messages came among the second in this order, others before, between and after them
 pub data CameAmong : List Message → List Message → Type 0 where
   NoneWanted : {came : List Message} → CameAmong [] came
   OneCame : {wanted came : List Message} (m : Message) → CameAmong wanted came → CameAmong (wanted ++ (m ∷ [])) (came ++ (m ∷ []))
@@ -87,7 +87,7 @@ abbrev pub welcome : Message
 welcome = Authentication AuthenticationOk
 
 -- What is known of a log-in that began with the exchange `start`, and took the messages that came: which of them brought it
--- where it is, in their order. So behind the server's signature the two texts that complete the exchange are two that came.
+-- where it is, in their order. So after the server's signature the two texts that complete the exchange are two that came.
 abbrev pub Knows : Client → List Message → LoginPhase → Client → Type 0
 Knows start came AwaitsOffer now = now ≡ start
 Knows start came AwaitsFirst now = (mechanisms : List ℕ) × Offers mechanisms
@@ -110,7 +110,7 @@ pub record Shown (B : Type 0) : Type 0 where
 abbrev pub in_phase : {B : Type 0} → LoginPhase → Shown B → Shown B
 in_phase phase s = record { phase = phase; exchange = s.exchange; out = s.out }
 
--- `held` says what a buffer holds; `memory` is what a refusal of memory for the exchange says, `lacks` that of a growth of the buffer.
+-- `held` says what a buffer holds; `memory` is what an error of memory for the exchange says, `lacks` that of a growth of the buffer.
 module _ {B K : Type 0} (held : B → Held K) (memory : Type 0) (lacks : Held K → ℕ → Type 0) where
   -- what the exchange has to say was added, in this message
   abbrev pub Adds : (List ℕ → ClientMessage) → Client → Sent B → Sent B → Type 0
@@ -121,7 +121,7 @@ module _ {B K : Type 0} (held : B → Held K) (memory : Type 0) (lacks : Held K 
   AddsNone message exchange e old new = (text : List ℕ) × (message_of exchange.state ≡ Some text) × RefusesMessage (message text) lacks (held old.buf) e × IsLeft held old new
 
   module _ {A : Type 0} where
-    -- The mechanisms were offered. A refusal leaves the log-in as it is; the last is that the exchange was over before.
+    -- The mechanisms were offered. An error leaves the log-in as it is; the last is that the exchange was over before.
     abbrev pub HearsOffer : List ℕ → Shown B → Shown B → Result LoginEvent (LoginFault A) → Type 0
     HearsOffer mechanisms old new (Ok Began) = Offers mechanisms × (new.phase ≡ AwaitsFirst) × (new.exchange ≡ old.exchange) × Adds initial old.exchange old.out new.out
     HearsOffer mechanisms old new (Err NotOffered) = (Offers mechanisms → ⊥) × (new ≡ old)
@@ -129,14 +129,14 @@ module _ {B K : Type 0} (held : B → Held K) (memory : Type 0) (lacks : Held K 
     HearsOffer mechanisms old new (Err (Scram e)) = Offers mechanisms × (message_of old.exchange.state ≡ None) × (refusal e ≡ WrongState) × (new ≡ old)
     HearsOffer mechanisms old new result = ⊥
 
-    -- the server's first text came; a refusal ends the log-in
+    -- the server's first text came; an error ends the log-in
     abbrev pub HearsFirst : List ℕ → Shown B → Shown B → Result LoginEvent (LoginFault A) → Type 0
     HearsFirst text old new (Ok Replied) = (new.phase ≡ AwaitsFinal) × Answers old.exchange text new.exchange × Adds SaslResponse new.exchange old.out new.out
     HearsFirst text old new (Err (Unsent e)) = (new.phase ≡ Over) × Answers old.exchange text new.exchange × AddsNone SaslResponse new.exchange e old.out new.out
     HearsFirst text old new (Err (Scram e)) = (new.phase ≡ Over) × UpdateRefused memory old.exchange text (refusal e) new.exchange × (new.out ≡ old.out)
     HearsFirst text old new result = ⊥
 
-    -- the server's final text came; a refusal ends the log-in
+    -- the server's final text came; an error ends the log-in
     abbrev pub HearsFinal : List ℕ → Shown B → Shown B → Result LoginEvent (LoginFault A) → Type 0
     HearsFinal text old new (Ok Verified) = (new.phase ≡ AwaitsOk) × Finished old.exchange text new.exchange × (new.out ≡ old.out)
     HearsFinal text old new (Err (Scram e)) = (new.phase ≡ Over) × FinishRefused memory old.exchange text (refusal e) new.exchange × (new.out ≡ old.out)

@@ -27,7 +27,7 @@ pub record TakesAll (old new : List ℕ) (before after : List (Result Message Er
   pub ending : IsEnding stopped new
   pub header : n.header ≡ header_of new
 
--- So many bytes of a piece moved behind what is kept: none where nothing is kept, else at least one where one is there.
+-- So many bytes of a piece moved after what is kept: none where nothing is kept, else at least one where one is there.
 pub record Moves (old new piece : List ℕ) (moved : ℕ) : Type 0 where
   pub most : moved ≤ length piece
   pub grown : new ≡ old ++ take moved piece

@@ -7,7 +7,7 @@ use Rattle.pgp_message.specs.Remembered.{header_of, headers_read}
 use Rattle.pgp_message.specs.Stream.{BackendRun}
 
 -- What a parser of pieces shows: the results that weren't handed out yet, whether a length fault stopped
--- it, what is left to read, how many headers it has read, and whether it failed for want of memory.
+-- it, what is left to read, how many headers it has read, and whether it failed for lack of memory.
 pub record Reading : Type 0 where
   pub results : List (Result Message Error)
   pub stopped : Bool
@@ -15,7 +15,7 @@ pub record Reading : Type 0 where
   pub headers : ℕ
   pub failed : Bool
 
--- What is told of a whole stream.
+-- What is reported of a whole stream.
 pub record Told : Type 0 where
   pub results : List (Result Message Error)
   pub stopped : Bool

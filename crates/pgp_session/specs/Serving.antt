@@ -42,7 +42,7 @@ kind_in phase = Password
 
 -- ---- what a startup packet names
 
--- The value that stands behind this name, or that none does; where it stands twice, the last.
+-- The value that stands after this name, or that none does; where it stands twice, the last.
 pub data NamesLast : List ℕ → List (List ℕ × List ℕ) → Option (List ℕ) → Type 0 where
   NoneStands : {key : List ℕ} → NamesLast key [] None
   OneStands : {key value : List ℕ} {before : List (List ℕ × List ℕ)} {last : Option (List ℕ)}
@@ -92,7 +92,7 @@ abbrev pub at_final : ClientMessage → Due
 at_final (SaslResponse text) = Final text
 at_final m = Misplaced
 
--- behind the log-in: all but the messages of one, and the opening packets
+-- after the log-in: all but the messages of one, and the opening packets
 abbrev pub at_open : ClientMessage → Due
 at_open Terminate = Ends
 at_open (PasswordMessage text) = Misplaced
@@ -278,7 +278,7 @@ module _ {A K : Type 0} (memory : Type 0) (lacks : Held K → ℕ → Type 0) wh
       × (event ≡ event_of o) × (new.phase ≡ phase_after o) × (cause_of o ≡ None) × (behind ≡ before ⊕ spelled o)
   Steps m old new before behind (Err e) = (new.phase ≡ Over) × Leaves before behind × Unanswered m old new before e
 
-  -- steps one behind the other, on these messages
+  -- steps one after the other, on these messages
   abbrev pub StepsAll : List ClientMessage → Serving A → Serving A → Type 0
   StepsAll [] old new = new ≡ old
   StepsAll (m ∷ ms) old new = (mid : Serving A) × (before behind : Held K) × (result : Result ServingEvent Error)
@@ -290,7 +290,7 @@ IsAsked start s = (s.method ≡ start) × ((s.phase ≡ AwaitsPassword) ⊎ (s.p
 
 -- ---- a whole run
 
--- the first messages came among the second in this order, others before, between and behind them
+-- the first messages came among the second in this order, others before, between and after them
 pub data CameIn : List ClientMessage → List ClientMessage → Type 0 where
   NoneWanted : {came : List ClientMessage} → CameIn [] came
   OneCame : {wanted came : List ClientMessage} (m : ClientMessage) → CameIn wanted came → CameIn (wanted ++ (m ∷ [])) (came ++ (m ∷ []))

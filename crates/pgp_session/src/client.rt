@@ -1,4 +1,4 @@
-//! A client's core: it is handed a server's messages, and tells what they come to and what is to be sent. It reads and
+//! A client's core: it is handed a server's messages, and says what they come to and what is to be sent. It reads and
 //! writes nothing itself.
 
 ghost use Rattle.std.specs.Prelude.{◌≡◌, [], ◌∷◌, codes, true, false, IfOk, IfErr};
@@ -40,13 +40,13 @@ pub enum Event {
     Row,
     /// The query failed.
     Failed,
-    /// The server refuses the session.
+    /// The server rejects the session.
     Refused,
     /// The query's answers are complete: the end is to be sent.
     Ended,
 }
 
-/// Why a step was refused.
+/// Why a step was rejected.
 #[derive(Debug, Clone, Copy, PartialEq, Eq)]
 pub enum StepError {
     /// The message has no place there.
@@ -71,7 +71,8 @@ impl<'a, B: Buffer + Drop> Client<'a, B> {
     ///
     /// # Errors
     ///
-    /// `EmbeddedNull` where the name has a 0 byte, `TooLarge` where it is too long for a message, and `OutOfMemory`.
+    /// Returns `EmbeddedNull` if the name has a 0 byte, `TooLarge` if it is too long for a message, and
+    /// `OutOfMemory`.
     pub fn open(
         user: &str,
         query: &'a str,
@@ -96,8 +97,8 @@ impl<'a, B: Buffer + Drop> Client<'a, B> {
     ///
     /// # Errors
     ///
-    /// `Unexpected` where the message has no place in the phase. `Unsent` where the query has a 0 byte
-    /// (`EmbeddedNull`) or is too long (`TooLarge`), and for `OutOfMemory`. The client is as it was.
+    /// Returns `Unexpected` if the message has no place in the phase. `Unsent` if the query has a 0 byte
+    /// (`EmbeddedNull`) or is too long (`TooLarge`), and for `OutOfMemory`. On error the client is unchanged.
     pub fn step<S: Storage>(&mut self, message: &Message<S>) -> Result<Event, StepError>
         requires { self.old.out.opened ≡ true }
         ensures stepped { Steps B.held self.old.query.now (view message.now) B.Lacks
@@ -130,7 +131,7 @@ impl<'a, B: Buffer + Drop> Client<'a, B> {
     }
 }
 
-/// What the message tells in the phase.
+/// What the message says in the phase.
 fn told<S: Storage>(phase: Phase, message: &Message<S>) -> Option<Event>
     ensures { result ≡ event_of phase (view message.now) }
 {
@@ -142,7 +143,7 @@ fn told<S: Storage>(phase: Phase, message: &Message<S>) -> Option<Event>
     }
 }
 
-/// What an answer to the startup packet tells.
+/// What an answer to the startup packet says.
 fn told_at_login<S: Storage>(message: &Message<S>) -> Option<Event>
     ensures { result ≡ at_login (view message.now) }
 {
@@ -155,7 +156,7 @@ fn told_at_login<S: Storage>(message: &Message<S>) -> Option<Event>
     }
 }
 
-/// What the version that the server speaks tells: the session goes on with 3.0 or above.
+/// What the version that the server speaks says: the session goes on with 3.0 or above.
 fn told_of_version(version: i32) -> Option<Event>
     ensures { result ≡ at_version version }
 {
@@ -166,7 +167,7 @@ fn told_of_version(version: i32) -> Option<Event>
     }
 }
 
-/// What a message between the log-in and the query tells.
+/// What a message between the log-in and the query says.
 fn told_at_start<S: Storage>(message: &Message<S>) -> Option<Event>
     ensures { result ≡ at_start (view message.now) }
 {
@@ -180,7 +181,7 @@ fn told_at_start<S: Storage>(message: &Message<S>) -> Option<Event>
     }
 }
 
-/// What an answer to the query tells, or a message that may come at any time.
+/// What an answer to the query says, or a message that may come at any time.
 fn told_at_query<S: Storage>(message: &Message<S>) -> Option<Event>
     ensures { result ≡ at_query (view message.now) }
 {

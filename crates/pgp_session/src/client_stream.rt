@@ -79,7 +79,7 @@ impl<B: Buffer> ClientStream<B> {
     ///
     /// # Errors
     ///
-    /// `OutOfMemory` where a growth was refused. The stream stays as it is.
+    /// Returns `OutOfMemory` if the buffer can't grow. On error the stream is unchanged.
     pub fn ssl_request(&mut self) -> Result<(), Error>
         requires { self.old.opened ≡ false }
         ensures { AddsMessage B.held SslRequest B.Lacks self.old self.new result }
@@ -91,7 +91,7 @@ impl<B: Buffer> ClientStream<B> {
     ///
     /// # Errors
     ///
-    /// `OutOfMemory` where a growth was refused. The stream stays as it is.
+    /// Returns `OutOfMemory` if the buffer can't grow. On error the stream is unchanged.
     pub fn cancel_request(&mut self, process_id: i32, secret_key: i32) -> Result<(), Error>
         requires { self.old.opened ≡ false }
         ensures { AddsMessage B.held (CancelRequest process_id (int32 secret_key)) B.Lacks self.old self.new result }
@@ -103,7 +103,8 @@ impl<B: Buffer> ClientStream<B> {
     ///
     /// # Errors
     ///
-    /// `InvalidSize` unless the key has 4 to 256 bytes, and `OutOfMemory` where a growth was refused. The stream stays as it is.
+    /// Returns `InvalidSize` unless the key has 4 to 256 bytes, and `OutOfMemory` if the buffer can't grow. On error the stream
+    /// is unchanged.
     pub fn cancel_request_key(&mut self, process_id: i32, secret_key: &[u8]) -> Result<(), Error>
         requires { self.old.opened ≡ false }
         ensures { AddsMessage B.held (CancelRequest process_id secret_key.now) B.Lacks self.old self.new result }
@@ -115,8 +116,8 @@ impl<B: Buffer> ClientStream<B> {
     ///
     /// # Errors
     ///
-    /// `EmbeddedNull` where a name or a value has a 0 byte, `TooLarge` where the message passes the greatest `i32`, and
-    /// `OutOfMemory` where a growth was refused. The stream stays as it is.
+    /// Returns `EmbeddedNull` if a name or a value has a 0 byte, `TooLarge` if the message exceeds `i32::MAX`, and
+    /// `OutOfMemory` if the buffer can't grow. On error the stream is unchanged.
     pub fn startup_message(&mut self, parameters: &[(&str, &str)]) -> Result<(), Error>
         requires opening { self.old.opened ≡ false }
         requires named { IsNamed (Startup 0 (map shown parameters.now)) }
@@ -129,8 +130,8 @@ impl<B: Buffer> ClientStream<B> {
     ///
     /// # Errors
     ///
-    /// `EmbeddedNull` where a name or a value has a 0 byte, `TooLarge` where the message passes the greatest `i32`, and
-    /// `OutOfMemory` where a growth was refused. The stream stays as it is.
+    /// Returns `EmbeddedNull` if a name or a value has a 0 byte, `TooLarge` if the message exceeds `i32::MAX`, and
+    /// `OutOfMemory` if the buffer can't grow. On error the stream is unchanged.
     pub fn startup_message_version(
         &mut self,
         version: ProtocolVersion,
@@ -157,8 +158,8 @@ impl<B: Buffer> ClientStream<B> {
     ///
     /// # Errors
     ///
-    /// `EmbeddedNull` where the query has a 0 byte, `TooLarge` where the message passes the greatest `i32`, and
-    /// `OutOfMemory` where a growth was refused. The stream stays as it is.
+    /// Returns `EmbeddedNull` if the query has a 0 byte, `TooLarge` if the message exceeds `i32::MAX`, and
+    /// `OutOfMemory` if the buffer can't grow. On error the stream is unchanged.
     pub fn query(&mut self, query: &str) -> Result<(), Error>
         requires { self.old.opened ≡ true }
         ensures { AddsMessage B.held (Query query.now) B.Lacks self.old self.new result }
@@ -170,7 +171,7 @@ impl<B: Buffer> ClientStream<B> {
     ///
     /// # Errors
     ///
-    /// `OutOfMemory` where a growth was refused. The stream stays as it is.
+    /// Returns `OutOfMemory` if the buffer can't grow. On error the stream is unchanged.
     pub fn sync(&mut self) -> Result<(), Error>
         requires { self.old.opened ≡ true }
         ensures { AddsMessage B.held Sync B.Lacks self.old self.new result }
@@ -182,8 +183,8 @@ impl<B: Buffer> ClientStream<B> {
     ///
     /// # Errors
     ///
-    /// `EmbeddedNull` where the password has a 0 byte, `TooLarge` where the message passes the greatest `i32`, and
-    /// `OutOfMemory` where a growth was refused. The stream stays as it is.
+    /// Returns `EmbeddedNull` if the password has a 0 byte, `TooLarge` if the message exceeds `i32::MAX`, and
+    /// `OutOfMemory` if the buffer can't grow. On error the stream is unchanged.
     pub fn password_message(&mut self, password: &[u8]) -> Result<(), Error>
         requires { self.old.opened ≡ true }
         ensures { AddsMessage B.held (PasswordMessage password.now) B.Lacks self.old self.new result }
@@ -195,7 +196,7 @@ impl<B: Buffer> ClientStream<B> {
     ///
     /// # Errors
     ///
-    /// `OutOfMemory` where a growth was refused. The stream stays as it is.
+    /// Returns `OutOfMemory` if the buffer can't grow. On error the stream is unchanged.
     pub fn terminate(&mut self) -> Result<(), Error>
         requires { self.old.opened ≡ true }
         ensures { AddsMessage B.held Terminate B.Lacks self.old self.new result }
@@ -207,7 +208,7 @@ impl<B: Buffer> ClientStream<B> {
     ///
     /// # Errors
     ///
-    /// `OutOfMemory` where a growth was refused. The stream stays as it is.
+    /// Returns `OutOfMemory` if the buffer can't grow. On error the stream is unchanged.
     pub fn flush(&mut self) -> Result<(), Error>
         requires { self.old.opened ≡ true }
         ensures { AddsMessage B.held Flush B.Lacks self.old self.new result }
@@ -219,8 +220,8 @@ impl<B: Buffer> ClientStream<B> {
     ///
     /// # Errors
     ///
-    /// `EmbeddedNull` where the name has a 0 byte, `TooLarge` where the message passes the greatest `i32`, and
-    /// `OutOfMemory` where a growth was refused. The stream stays as it is.
+    /// Returns `EmbeddedNull` if the name has a 0 byte, `TooLarge` if the message exceeds `i32::MAX`, and
+    /// `OutOfMemory` if the buffer can't grow. On error the stream is unchanged.
     pub fn close(&mut self, variant: u8, name: &str) -> Result<(), Error>
         requires { self.old.opened ≡ true }
         ensures { AddsMessage B.held (Close variant name.now) B.Lacks self.old self.new result }
@@ -232,8 +233,8 @@ impl<B: Buffer> ClientStream<B> {
     ///
     /// # Errors
     ///
-    /// `EmbeddedNull` where the name has a 0 byte, `TooLarge` where the message passes the greatest `i32`, and
-    /// `OutOfMemory` where a growth was refused. The stream stays as it is.
+    /// Returns `EmbeddedNull` if the name has a 0 byte, `TooLarge` if the message exceeds `i32::MAX`, and `OutOfMemory` if the buffer
+    /// can't grow. On error the stream is unchanged.
     pub fn describe(&mut self, variant: u8, name: &str) -> Result<(), Error>
         requires { self.old.opened ≡ true }
         ensures { AddsMessage B.held (Describe variant name.now) B.Lacks self.old self.new result }
@@ -245,8 +246,8 @@ impl<B: Buffer> ClientStream<B> {
     ///
     /// # Errors
     ///
-    /// `EmbeddedNull` where the portal's name has a 0 byte, `TooLarge` where the message passes the greatest `i32`,
-    /// and `OutOfMemory` where a growth was refused. The stream stays as it is.
+    /// Returns `EmbeddedNull` if the portal's name has a 0 byte, `TooLarge` if the message exceeds `i32::MAX`, and
+    /// `OutOfMemory` if the buffer can't grow. On error the stream is unchanged.
     pub fn execute(&mut self, portal: &str, max_rows: i32) -> Result<(), Error>
         requires { self.old.opened ≡ true }
         ensures { AddsMessage B.held (Execute portal.now max_rows) B.Lacks self.old self.new result }
@@ -258,7 +259,8 @@ impl<B: Buffer> ClientStream<B> {
     ///
     /// # Errors
     ///
-    /// The piece itself, nothing read from it, where a growth was refused. The stream stays as it is.
+    /// The piece itself, nothing read from it, if the buffer can't grow. On error the stream is
+    /// unchanged.
     pub fn copy_data<T: Buf + Drop>(&mut self, piece: CopyData<T>) -> Result<(), CopyData<T>>
         requires { self.old.opened ≡ true }
         ensures { Adds B.held (λ m. m ≡ DataMessage (T.unread piece)) (λ back. (back ≡ piece) × Wants B.Lacks (B.held self.old.buf) (length (bytes_of (DataMessage (T.unread piece))))) self.old self.new result }
@@ -273,7 +275,7 @@ impl<B: Buffer> ClientStream<B> {
     ///
     /// # Errors
     ///
-    /// `OutOfMemory` where a growth was refused. The stream stays as it is.
+    /// Returns `OutOfMemory` if the buffer can't grow. On error the stream is unchanged.
     pub fn copy_done(&mut self) -> Result<(), Error>
         requires { self.old.opened ≡ true }
         ensures { AddsMessage B.held CopyDone B.Lacks self.old self.new result }
@@ -285,8 +287,8 @@ impl<B: Buffer> ClientStream<B> {
     ///
     /// # Errors
     ///
-    /// `EmbeddedNull` where the text has a 0 byte, `TooLarge` where the message passes the greatest `i32`, and
-    /// `OutOfMemory` where a growth was refused. The stream stays as it is.
+    /// Returns `EmbeddedNull` if the text has a 0 byte, `TooLarge` if the message exceeds `i32::MAX`, and
+    /// `OutOfMemory` if the buffer can't grow. On error the stream is unchanged.
     pub fn copy_fail(&mut self, reason: &str) -> Result<(), Error>
         requires { self.old.opened ≡ true }
         ensures { AddsMessage B.held (CopyFail reason.now) B.Lacks self.old self.new result }
@@ -298,8 +300,8 @@ impl<B: Buffer> ClientStream<B> {
     ///
     /// # Errors
     ///
-    /// `EmbeddedNull` where the mechanism has a 0 byte, `TooLarge` where the message passes the greatest `i32`, and
-    /// `OutOfMemory` where a growth was refused. The stream stays as it is.
+    /// Returns `EmbeddedNull` if the mechanism has a 0 byte, `TooLarge` if the message exceeds `i32::MAX`, and
+    /// `OutOfMemory` if the buffer can't grow. On error the stream is unchanged.
     pub fn sasl_initial_response(&mut self, mechanism: &str, data: &[u8]) -> Result<(), Error>
         requires { self.old.opened ≡ true }
         ensures { AddsMessage B.held (SaslInitialResponse mechanism.now (Some «data».now)) B.Lacks self.old self.new result }
@@ -311,8 +313,8 @@ impl<B: Buffer> ClientStream<B> {
     ///
     /// # Errors
     ///
-    /// `TooLarge` where the message passes the greatest `i32`, and `OutOfMemory` where a growth was refused. The
-    /// stream stays as it is.
+    /// Returns `TooLarge` if the message exceeds `i32::MAX`, and `OutOfMemory` if the buffer can't grow. On
+    /// error the stream is unchanged.
     pub fn sasl_response(&mut self, data: &[u8]) -> Result<(), Error>
         requires { self.old.opened ≡ true }
         ensures { AddsMessage B.held (SaslResponse «data».now) B.Lacks self.old self.new result }
@@ -325,9 +327,9 @@ impl<B: Buffer> ClientStream<B> {
     ///
     /// # Errors
     ///
-    /// The first from the left of: `EmbeddedNull` where a text has a 0 byte, `TooLarge` at the identifier past 65,535,
-    /// which is not written, `TooLarge` where the message passes the greatest `i32`. Else `OutOfMemory` where a
-    /// growth was refused, which may come before any of them. The stream stays as it is.
+    /// The first from the left of: `EmbeddedNull` if a text has a 0 byte, `TooLarge` at the identifier past 65,535,
+    /// which is not written, `TooLarge` if the message exceeds `i32::MAX`. Otherwise `OutOfMemory`, which may come
+    /// before any of them, if the buffer can't grow. On error the stream is unchanged.
     pub fn parse<I: IntoIterator<Item = Oid> + Drop>(
         &mut self,
         name: &str,
@@ -353,10 +355,10 @@ impl<B: Buffer> ClientStream<B> {
     ///
     /// # Errors
     ///
-    /// The first from the left of: `Serialization` of `EmbeddedNull` where a name has a 0 byte, and of `TooLarge` at
-    /// the item past 65,535 of a list, which is not written, where the bytes of a value pass the greatest `i32`, or
-    /// where the message does; `Conversion` where the serializer refused a value. Else `Serialization` of
-    /// `OutOfMemory` where a growth was refused, which may come before any of them. The stream stays as it is.
+    /// The first from the left of: `Serialization` of `EmbeddedNull` if a name has a 0 byte, and of `TooLarge` at
+    /// the item past 65,535 of a list, which is not written, where the bytes of a value exceed `i32::MAX`, or where
+    /// the message does; `Conversion` if the serializer failed a value. Otherwise `Serialization` of `OutOfMemory`,
+    /// which may come before any of them, if the buffer can't grow. On error the stream is unchanged.
     pub fn bind<
         T: Drop,
         E: Drop,

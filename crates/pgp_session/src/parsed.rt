@@ -42,7 +42,7 @@ impl<A: Allocator + Copy> Parsed<A> {
         }
     }
 
-    /// The messages and refusals, one for each frame.
+    /// The messages and errors, one for each frame.
     pub fn results(&self) -> &[Result<Message<Bytes<A>>, Error>]
         ensures { map seen result.now ≡ self.now.results }
     {

@@ -1,4 +1,4 @@
-//! A pooler's core: it is handed the messages of both sides, and tells where a session is idle, so that the server's
+//! A pooler's core: it is handed the messages of both sides, and says where a session is idle, so that the server's
 //! connection can be lent to another client.
 
 ghost use Rattle.std.specs.Prelude.{◌≡◌, ◌<◌, ◌∷◌, ◌++◌, [], None, List, ℕ};
@@ -14,17 +14,17 @@ use pgp_frontend_read::ClientMessage;
 use pgp_message::{Message, Storage};
 
 /// What is known of a session. A startup packet, a Query, a FunctionCall and a Sync are each answered by one ReadyForQuery in the end; but a
-/// server passes over a Sync while rows are copied to it, and behind an error of an extended query all that comes before the next Sync. Behind
-/// such a message no session is told to be idle any more.
+/// server passes over a Sync while rows are copied to it, and after an error of an extended query all that comes before the next Sync. After
+/// such a message no session is reported to be idle any more.
 #[derive(Debug, Clone, Copy, PartialEq, Eq)]
 pub struct Session {
     /// How many of those came from the client, or the greatest `u64` where there were more.
     pub asked: u64,
     /// How many ReadyForQuerys came from the server, or the greatest `u64`.
     pub readied: u64,
-    /// The status that the last of them told: `I` where no transaction is open.
+    /// The status that the last of them reported: `I` where no transaction is open.
     pub status: Option<u8>,
-    /// Whether a part of an extended query came from the client, and nothing behind it that ends one.
+    /// Whether a part of an extended query came from the client, and nothing after it that ends one.
     pub unfinished: bool,
 }
 
@@ -61,9 +61,9 @@ impl Session {
         }
     }
 
-    /// Whether the session is idle behind the bytes that came: nothing of a message that isn't whole waits on the client's side nor on
-    /// the server's, every message that awaits a ReadyForQuery has it, the last of these told `I`, and no part of an extended query came
-    /// behind the last message that ends one.
+    /// Whether the session is idle after the bytes that came: nothing of a partial message waits on the client's side nor on the
+    /// server's, every message that awaits a ReadyForQuery has it, the last of these reported `I`, and no part of an extended query came
+    /// after the last message that ends one.
     pub fn is_idle(&self, client: &[u8], server: &[u8]) -> bool
         ensures { Decides result (IsQuiet self.now client.now server.now) }
     {
@@ -76,8 +76,8 @@ impl Session {
     }
 }
 
-/// What is told of a session that saw these messages is so: all that the client sent is answered, no part of an extended query is left
-/// without its end, and no transaction is open. Where the counts fit a `u64`, it is told exactly then.
+/// What is reported of a session that saw these messages is so: all that the client sent is answered, no part of an extended query is
+/// left without its end, and no transaction is open. Where the counts fit a `u64`, it is reported exactly then.
 pub fn idle_by_messages()
     ensures told { (sent : List Sent) (came : List Came) (session : Known) (client server : List ℕ) → Saw sent came session → IsQuiet session client server → IsIdle sent came }
     ensures known { (sent : List Sent) (came : List Came) (session : Known) → Saw sent came session → IsIdle sent came → asks sent < 18446744073709551615 → IsQuiet session [] [] }
@@ -94,7 +94,7 @@ fn awaits(message: &ClientMessage<'_>) -> bool
     }
 }
 
-/// Whether a part of an extended query waits for its end, behind a message.
+/// Whether a part of an extended query waits for its end, after a message.
 fn waits(before: bool, message: &ClientMessage<'_>) -> bool
     ensures { result ≡ waits before (sent_view message.now) }
 {
@@ -119,7 +119,7 @@ fn extends(message: &ClientMessage<'_>) -> bool
     }
 }
 
-/// The status that a ReadyForQuery tells.
+/// The status that a ReadyForQuery says.
 fn status<S: Storage>(message: &Message<S>) -> Option<u8>
     ensures { result ≡ status (came_view message.now) }
 {

@@ -1,5 +1,5 @@
-//! A proxy's core: it passes a client's messages on byte for byte, and holds back those whose statement is refused. It
-//! answers the client nothing itself.
+//! A proxy's core: it passes a client's messages on byte for byte, and holds back those whose statement is rejected.
+//! It answers the client nothing itself.
 
 ghost use Rattle.std.specs.Prelude.{◌≡◌, List, Ok, option_map};
 ghost use Rattle.pgp_base.specs.Held.{Held};
@@ -20,7 +20,7 @@ use pgp_frontend_read::{ClientError, ClientMessage, ClientMessages, PasswordKind
 pub enum Passed {
     /// The server gets its bytes.
     Forwarded,
-    /// The server gets nothing of it: its statement is refused.
+    /// The server gets nothing of it: its statement is rejected.
     HeldBack,
 }
 
@@ -29,7 +29,7 @@ pub enum Passed {
 pub enum ProxyError {
     /// No message stands there.
     NoMessage(ClientError),
-    /// The buffer's growth was refused.
+    /// The buffer can't grow.
     OutOfMemory,
 }
 
@@ -69,8 +69,8 @@ pub fn pass_on<B: Buffer>(
     }
 }
 
-/// What calls one behind the other come to. All: what went out are the bytes that came, without the messages whose statement is
-/// refused. Up to the first of these: what went out are the bytes that came.
+/// What calls one after the other come to. All: what went out are the bytes that came, without the messages whose statement is
+/// rejected. Up to the first of these: what went out are the bytes that came.
 pub fn what_went_out_is_what_came_in<B: Buffer>()
     ensures all { (refused : List (Bor (List ℕ))) (calls : List Call) (from next : Unread) (old new : Held B.Kept) →
         ProxiesAll refused B.Lacks calls from old next new → PassesOn refused from old next new }

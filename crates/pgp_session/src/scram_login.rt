@@ -1,5 +1,5 @@
 //! A client's core from the startup packet to the end of a log-in with SCRAM-SHA-256: it is handed a server's
-//! messages, and tells what they come to and what is to be sent. It reads and writes nothing itself.
+//! messages, and says what they come to and what is to be sent. It reads and writes nothing itself.
 
 ghost use Rattle.std.specs.Prelude.{◌≡◌, [], ◌∷◌, ◌++◌, List, codes, true, false, option_map, Contains, None, IfOk, IfErr};
 ghost use Rattle.pgp_base.specs.Items.{MarkedItems};
@@ -44,7 +44,7 @@ pub enum LoginPhase {
 pub enum LoginEvent {
     /// Nothing that the log-in depends on.
     Noted,
-    /// The server refuses the session.
+    /// The server rejects the session.
     Refused,
     /// The exchange begins: its first text is to be sent.
     Began,
@@ -56,7 +56,7 @@ pub enum LoginEvent {
     Admitted,
 }
 
-/// Why a step was refused.
+/// Why a step was rejected.
 #[derive(Debug, Drop)]
 pub enum LoginFault<A: Allocator = Global> {
     /// The message has no place there.
@@ -128,7 +128,8 @@ impl<A: Memory, B: Buffer + Drop> ScramLogin<A, B> {
     ///
     /// # Errors
     ///
-    /// `EmbeddedNull` where the name has a 0 byte, `TooLarge` where it is too long for a message, and `OutOfMemory`.
+    /// Returns `EmbeddedNull` if the name has a 0 byte, `TooLarge` if it is too long for a message, and
+    /// `OutOfMemory`.
     pub fn open(
         user: &str,
         exchange: ScramSha256<A>,
@@ -154,9 +155,9 @@ impl<A: Memory, B: Buffer + Drop> ScramLogin<A, B> {
     ///
     /// # Errors
     ///
-    /// `Unexpected` where the message has no place in the phase, and `NotOffered` where the server offers no
-    /// SCRAM-SHA-256: the log-in is as it was. `Scram` where the exchange refuses the server's text, and `Unsent` of
-    /// `OutOfMemory` where the buffer's growth is refused: behind the first text of the exchange the log-in is over.
+    /// Returns `Unexpected` if the message has no place in the phase, and `NotOffered` if the server offers no
+    /// SCRAM-SHA-256: the log-in is as it was. `Scram` if the exchange refuses the server's text, and `Unsent` of
+    /// `OutOfMemory` if the buffer's growth is refused: after the first text of the exchange the log-in is over.
     pub fn step<S: SaslStorage>(
         &mut self,
         message: &Message<S>,
@@ -200,7 +201,7 @@ impl<A: Memory, B: Buffer + Drop> ScramLogin<A, B> {
         }
     }
 
-    /// The client's core behind the log-in, which asks this query.
+    /// The client's core after the log-in, which asks this query.
     pub fn client<'a>(self, query: &'a str) -> Client<'a, B>
         requires { self.phase ≡ LoginPhase.Done }
         ensures phase { result.phase ≡ Phase.Starting }
@@ -334,7 +335,7 @@ fn offers<S: SaslStorage>(body: &AuthenticationSaslBody<S>) -> bool
     has_scram(S::mechanisms(body))
 }
 
-/// Whether SCRAM-SHA-256 is one of the names, and the walk isn't refused.
+/// Whether SCRAM-SHA-256 is one of the names, and the iterator isn't rejected.
 fn has_scram(mut names: SaslMechanisms<'_>) -> bool
     ensures yes { result ≡ true → (names.entry.end ≡ None) × Contains names.entry.items (codes "SCRAM-SHA-256") }
     ensures no { result ≡ false → names.entry.end ≡ None → Contains names.entry.items (codes "SCRAM-SHA-256") → ⊥ }

@@ -1,7 +1,7 @@
-//! A server's core from the first packet on: it is handed a client's messages, logs the client in, and tells what each message
+//! A server's core from the first packet on: it is handed a client's messages, logs the client in, and says what each message
 //! comes to. It reads and writes nothing itself: the answers are appended to the caller's buffer.
 //!
-//! The caller asks for the password once the startup packet came, and answers the requests behind the log-in itself, first with
+//! The caller asks for the password once the startup packet came, and answers the requests after the log-in itself, first with
 //! its settings and the ReadyForQuery.
 
 ghost use Rattle.std.specs.Prelude.{◌≡◌, ◌++◌, ◌∷◌, [], List, IfOk, IfErr, OnOk, OnErr, codes, option_map};
@@ -46,7 +46,7 @@ pub enum ServingPhase {
 pub enum ServingEvent {
     /// Nothing: the session was over.
     Ignored,
-    /// Encryption was asked for, and refused.
+    /// Encryption was asked for, and rejected.
     Unencrypted,
     /// It is a request to cancel another session's query. It gets no answer, and this session is over.
     Cancelled,
@@ -56,7 +56,7 @@ pub enum ServingEvent {
     Challenged,
     /// The client is logged in.
     LoggedIn,
-    /// The client was refused, and told so.
+    /// The client was rejected, and informed.
     Refused,
     /// It is a request, which the caller is to answer.
     Requested,
@@ -64,7 +64,7 @@ pub enum ServingEvent {
     Ended,
 }
 
-/// Why a client is refused.
+/// Why a client is rejected.
 #[derive(Debug, Clone, Copy, PartialEq, Eq)]
 pub enum Denial {
     /// `28P01`: what it showed isn't what was asked for.
@@ -76,7 +76,7 @@ pub enum Denial {
 }
 
 /// What a client has to show. A user that isn't known is asked as one that is, with `StoredVerifier::mock` or a stored text that is
-/// no MD5 text, and refused in the end.
+/// no MD5 text, and rejected in the end.
 #[derive(Drop)]
 pub enum Method<A: Allocator = Global> {
     Nothing,
@@ -127,7 +127,8 @@ impl<A: Memory> Serving<A> {
     ///
     /// # Errors
     ///
-    /// `OutOfMemory`, and `TooLarge` where a text of the exchange is too long for a message. Nothing is appended, and the session is over.
+    /// Returns `OutOfMemory`, and `TooLarge` if a text of the exchange is too long for a message. Nothing is appended, and the session is
+    /// over.
     pub fn step<B: Buffer>(
         &mut self,
         message: &ClientMessage<'_>,
@@ -160,7 +161,7 @@ impl<A: Memory> Serving<A> {
     ///
     /// # Errors
     ///
-    /// `OutOfMemory`. Nothing changes.
+    /// Returns `OutOfMemory`. On error nothing changes.
     pub fn trust<B: Buffer>(&mut self, out: &mut B) -> Result<(), Error>
         requires { self.old.phase ≡ ServingPhase.Named }
         ensures sent { Replies admission B.Lacks (B.held out.old) (B.held out.new) result }
@@ -177,7 +178,7 @@ impl<A: Memory> Serving<A> {
     ///
     /// # Errors
     ///
-    /// `OutOfMemory`. Nothing changes.
+    /// Returns `OutOfMemory`. On error nothing changes.
     pub fn ask_password<B: Buffer>(
         &mut self,
         stored: StoredVerifier<A>,
@@ -198,7 +199,7 @@ impl<A: Memory> Serving<A> {
     ///
     /// # Errors
     ///
-    /// `OutOfMemory`. Nothing changes.
+    /// Returns `OutOfMemory`. On error nothing changes.
     pub fn ask_md5<B: Buffer>(
         &mut self,
         salt: [u8; 4],
@@ -220,7 +221,7 @@ impl<A: Memory> Serving<A> {
     ///
     /// # Errors
     ///
-    /// `OutOfMemory`. Nothing changes.
+    /// Returns `OutOfMemory`. On error nothing changes.
     pub fn ask_scram<B: Buffer>(
         &mut self,
         exchange: ScramServer<A>,
@@ -237,11 +238,11 @@ impl<A: Memory> Serving<A> {
         Ok(())
     }
 
-    /// Refuses the client with an error that ends the session, as one that may not have the database that it names.
+    /// Rejects the client with an error that ends the session, as one that may not have the database that it names.
     ///
     /// # Errors
     ///
-    /// `OutOfMemory`. Nothing is appended; the session is over all the same.
+    /// Returns `OutOfMemory`. Nothing is appended; the session is over all the same.
     pub fn deny<B: Buffer>(&mut self, why: Denial, out: &mut B) -> Result<(), Error>
         ensures sent { Replies (error_of why) B.Lacks (B.held out.old) (B.held out.new) result }
         ensures over { self.new.phase ≡ ServingPhase.Over }
@@ -474,7 +475,7 @@ fn hear_first<A: Memory>(
     }
 }
 
-/// The answer to the client's first text; `None` where the exchange refuses it.
+/// The answer to the client's first text; `None` where the exchange rejects it.
 fn answer_first<A: Memory>(method: &mut Method<A>, text: &[u8]) -> Result<Option<Vec<u8, A>>, Error>
     ensures ok { IfOk result (λ answer. GoesOn method.old text.now (option_map (λ text. text.items) answer) method.new) }
     ensures memory { IfErr result (WantsMemory A.Lacks) }

@@ -17,7 +17,7 @@ use std::marker::Model;
 use std::mem;
 
 /// Reads a server's stream piece by piece. It keeps the results until they are taken, and of the bytes
-/// only those of a frame that isn't whole.
+/// only those of a partial frame.
 #[derive(Drop)]
 pub struct StreamParser<A: Memory = Global> {
     frames: FrameParser,
@@ -66,9 +66,9 @@ impl<A: Memory> StreamParser<A> {
     ///
     /// # Errors
     ///
-    /// `OutOfMemory` where memory was refused for the piece, for a message or for the list of results. Then the parser has
-    /// failed: its results stand, but nothing more can be read. Room for what is missing of a frame is asked for ahead, and a
-    /// refusal of that isn't told. A refused frame is no error of the call: its refusal stands among the results.
+    /// Returns `OutOfMemory` if memory was refused for the piece, for a message or for the list of results. Then the parser
+    /// has failed: its results stand, but nothing more can be read. Room for what is missing of a frame is asked for ahead,
+    /// and an error of that isn't reported. A refused frame is no error of the call: its error stands among the results.
     pub fn feed(&mut self, piece: &[u8]) -> Result<(), Error>
         requires { self.old.failed ≡ false }
         ensures { Feeds piece.now A.Lacks self.old self.new result }
@@ -112,7 +112,7 @@ impl<A: Memory> StreamParser<A> {
         self.frames.headers()
     }
 
-    /// The messages and refusals that weren't taken yet, one for each frame.
+    /// The messages and errors that weren't taken yet, one for each frame.
     pub fn results(&self) -> &[Result<Message<Bytes<A>>, Error>]
         ensures { map seen result.now ≡ self.now.results }
     {
@@ -141,7 +141,7 @@ impl<A: Memory> StreamParser<A> {
         mem::replace(&mut self.results, Vec::new(alloc))
     }
 
-    /// What is told of the stream, which has ended.
+    /// What is reported of the stream, which has ended.
     pub fn into_parsed(self) -> Parsed<A>
         requires { self.failed ≡ false }
         ensures { result ≡ record { results = self.results; stopped = self.stopped; rest = self.rest } }
@@ -156,7 +156,7 @@ impl<A: Memory> StreamParser<A> {
     }
 }
 
-/// Takes all frames of what is kept and of the piece behind it, and answers whether a length fault ended them. A frame
+/// Takes all frames of what is kept and of the piece after it, and returns whether a length fault ended them. A frame
 /// that was cut is completed by itself, so that the parser copies each byte once: to where its message keeps it.
 fn take_frames<A: Memory>(
     frames: &mut FrameParser,
@@ -188,7 +188,7 @@ fn take_frames<A: Memory>(
     }
 }
 
-/// Moves what the frame that is kept lacks off the piece, and answers how many bytes those are: none where nothing is kept.
+/// Moves what the frame that is kept lacks off the piece, and returns how many bytes those are: none where nothing is kept.
 fn complete_frame<A: Memory>(
     frames: &FrameParser,
     rest: &mut Vec<u8, A>,
@@ -216,7 +216,7 @@ struct Progress {
 }
 
 /// Takes all frames that are whole in what is kept. Where nothing is kept it takes those of the piece, and keeps the bytes
-/// behind them.
+/// after them.
 // One function for both, so that what reads the frames is called from here alone, and LLVM inlines it.
 fn take_whole<A: Memory>(
     frames: &mut FrameParser,
@@ -284,7 +284,7 @@ fn share_front<A: Memory>(
     Ok(whole)
 }
 
-/// Keeps bytes of a frame behind which so many more are missing, with room for those where there is memory for it. Where
+/// Keeps bytes of a frame after which so many more are missing, with room for those where there is memory for it. Where
 /// there is none yet, as while results wait to be taken, room is asked for again with the next bytes.
 fn keep_partial<A: Memory>(
     rest: &mut Vec<u8, A>,

@@ -9,12 +9,12 @@ use crate::parsed::Parsed;
 use crate::stream_parser::StreamParser;
 use pgp_base::{Error, Memory};
 
-/// The messages and refusals of a stream, however it is cut into pieces.
+/// The messages and errors of a stream, however it is cut into pieces.
 ///
 /// # Errors
 ///
-/// `OutOfMemory` where memory was refused. A refused frame is no error of the call: its refusal stands among the
-/// results.
+/// Returns `OutOfMemory` if memory was refused. A refused frame is no error of the call: its error stands among
+/// the results.
 pub fn parse_stream<A: Memory>(alloc: A, pieces: &[&[u8]]) -> Result<Parsed<A>, Error>
     ensures run { IfOk result (λ s. BackendRun (flat_map (λ piece. piece.now) pieces.now) s.results s.stopped s.rest) }
     ensures err { IfErr result (WantsMemory A.Lacks) }

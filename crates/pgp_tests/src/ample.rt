@@ -232,7 +232,7 @@ fn last_copied(parser: &StreamParser) -> usize {
     }
 }
 
-// A frame of a megabyte, cut in its middle, comes behind 2,000 results that nobody took.
+// A frame of a megabyte, cut in its middle, comes after 2,000 results that nobody took.
 #[test]
 fn a_megabyte_is_fed(rt: HostRuntime) {
     let mut parser = StreamParser::new(rt.alloc());

@@ -10,7 +10,7 @@ pub(crate) fn same<T: PartialEq + Debug + Drop>(rt: &impl Abort, came: T, wanted
     assert_eq!(rt; came, wanted);
 }
 
-/// The same, told with the place in a table.
+/// The same, reported with the place in a table.
 pub(crate) fn same_at<T: PartialEq + Debug + Drop, P: Debug + Drop>(
     rt: &impl Abort,
     place: P,

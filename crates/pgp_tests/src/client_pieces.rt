@@ -10,7 +10,7 @@ use std::process::Abort;
 const SESSION: &[u8] =
     b"\0\0\0\x08\x04\xd2\x16\x2f\0\0\0\x14\0\x03\0\0user\0alice\0\0p\0\0\0\x0bsecret\0P\0\0\0\x15\0SELECT $1\0\0\x01\0\0\0\x17B\0\0\0\x16\0\0\0\x01\0\x01\0\x01\0\0\0\x04\0\0\0\x2a\0\0E\0\0\0\x09\0\0\0\0\0S\0\0\0\x04z\0\0\0\x05!Q\0\0\0\x0dSELECT 2\0X\0\0\0\x04";
 
-/// What its messages are: the tag, or a letter for an opening packet, or `?` for a refusal.
+/// What its messages are: the tag, or a letter for an opening packet, or `?` for an error.
 const MARKS: &[u8] = b"LUpPBES?QX";
 
 /// GSSENCRequest, a StartupMessage of protocol 3.1, SASLInitialResponse with no response, FunctionCall, Sync.
@@ -136,7 +136,7 @@ fn byte_by_byte(rt: HostRuntime) {
     holds(&rt, parser.is_open() && parser.rest().is_empty());
 }
 
-/// What a call on this piece refuses.
+/// What a call on this piece rejects.
 fn refusal(parser: &mut ClientParser, piece: &mut &[u8]) -> Option<ParserError> {
     match parser.next(piece) {
         Ok(_) => None,
@@ -144,7 +144,8 @@ fn refusal(parser: &mut ClientParser, piece: &mut &[u8]) -> Option<ParserError> 
     }
 }
 
-/// An opening packet past the limit is refused by its header alone, also where that is cut; one at the limit is waited for.
+/// An opening packet past the limit is rejected by its header alone, also where that is cut; one at the limit is waited
+/// for.
 #[test]
 fn limit_of_opening_packets(rt: HostRuntime) {
     let mut parser = ClientParser::new(rt.alloc(), SERVER);

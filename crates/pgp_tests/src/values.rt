@@ -11,7 +11,7 @@ use pgp_base::{BindError, IsNull};
 use pgp_frontend::bind;
 use pgp_types::{ArrayDimension, array_to_sql, int4_to_sql};
 
-// An element is a number, a null, or refused.
+// An element is a number, a null, or rejected.
 #[derive(Clone, Copy)]
 enum Element {
     Number(i32),
@@ -100,7 +100,7 @@ fn an_array_is_bound(rt: HostRuntime) {
     );
 }
 
-// The refusal of an element is the serializer's own, inside the array and inside the message.
+// The error of an element is the serializer's own, inside the array and inside the message.
 #[test]
 fn an_array_that_is_refused_is_not_bound(rt: HostRuntime) {
     let mut buf = buffer(rt.alloc(), b"S\0\0\0\x04");

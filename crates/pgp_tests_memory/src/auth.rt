@@ -1,4 +1,4 @@
-//! The calls of `pgp_auth`, with each allocation refused in turn.
+//! The calls of `pgp_auth`, with fault injection on each allocation.
 #![tactic(auto, using(pgp_base::proofs::Parts::held_steps))]
 
 ghost use Rattle.std.specs.Prelude.{Some, [], ◌∷◌};
@@ -20,7 +20,7 @@ use std::process::Abort;
 
 const SALT: [u8; 16] = [1, 2, 3, 4, 5, 6, 7, 8, 9, 10, 11, 12, 13, 14, 15, 16];
 
-// A mapping that answers `x`.
+// A mapping that returns `x`.
 struct ToX;
 
 impl SaslPrep for ToX {
@@ -230,8 +230,8 @@ fn number<T: Drop, A: Allocator>(outcome: Result<T, ScramError<A>>) -> u8 {
     }
 }
 
-// The numbers of `update`'s refusal and of `finish`'s, and the HMACs that were made. There is a text to send behind an
-// `update` that isn't refused alone; then the exchange is over.
+// The numbers of `update`'s error and of `finish`'s, and the HMACs that were made. There is a text to send after an
+// `update` that isn't rejected alone; then the exchange is over.
 fn steps<A: Allocator + Copy>(
     client: &mut ScramSha256<A>,
     first: &[u8],
@@ -270,7 +270,7 @@ impl Exchange<'_> {
         }
     }
 
-    // A refused `update` ends it, so that `finish` isn't due. A refused `finish` is told.
+    // A rejected `update` ends it, so that `finish` isn't due. A rejected `finish` is reported.
     fn told(&self, steps: Option<(u8, u8, u64)>) -> Result<usize, Error> {
         match steps {
             Some(steps) if steps == self.ample => Ok(DONE),
@@ -296,7 +296,7 @@ const LONG: Exchange<'static> = Exchange {
     ample: (0, 12, 5),
 };
 
-// Beside the refusals of memory an exchange comes to the same end.
+// Beside the errors of memory an exchange comes to the same end.
 #[test]
 fn exchanges_with_each_allocation_refused(rt: HostRuntime) {
     let exchanges = [
@@ -345,7 +345,7 @@ fn nonces_are_drawn_anew(rt: HostRuntime) {
     holds(&rt, one != other);
 }
 
-// A client with a mapping for which there is no memory: the number of its refusal.
+// A client with a mapping for which there is no memory: the number of its error.
 fn unmapped(alloc: Global, password: &[u8]) -> Result<u8, Error> {
     let nonce = String::from_str(alloc, NONCE)?;
     if !is_nonce(&nonce) {
@@ -366,7 +366,7 @@ fn a_client_tells_of_a_mapping_without_memory(rt: HostRuntime) {
 struct Last<'a>(&'a [u8]);
 
 impl Last<'_> {
-    // The number of its refusal. The turn begins behind the first text.
+    // The number of its error. The turn begins after the first text.
     fn refusal<A: Allocator + Copy>(
         &self,
         alloc: A,

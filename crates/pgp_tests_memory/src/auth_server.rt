@@ -1,4 +1,4 @@
-//! The server's side of SCRAM, with each allocation refused in turn: the exchange of RFC 7677.
+//! The server's side of SCRAM, with fault injection on each allocation: the exchange of RFC 7677.
 #![tactic(auto, using(pgp_base::proofs::Parts::held_steps))]
 
 use crate::turns::{MANY, Tried, Turn, WRONG, refuse_each};
@@ -46,7 +46,7 @@ const ACCEPTED: usize = 1;
 
 const REFUSED: usize = 0;
 
-// How the exchange ends. Behind a first text that was refused memory it is over, and its last step takes no memory.
+// How the exchange ends. After a first text that was refused memory it is over, and its last step takes no memory.
 fn end_of<A: Allocator + Copy>(server: &mut ScramServer<A>) -> Result<usize, Error> {
     match server.first(FIRST) {
         Ok(_) => match server.finish(FINAL) {

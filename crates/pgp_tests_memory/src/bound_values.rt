@@ -1,4 +1,4 @@
-//! Values in messages, with each allocation refused in turn.
+//! Values in messages, with fault injection on each allocation.
 
 use crate::checks::holds;
 use crate::reads::{buffer, next_row};

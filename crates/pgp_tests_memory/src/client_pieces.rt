@@ -94,7 +94,7 @@ const HEAP: usize = 40_960;
 
 const LETTERS: [u8; 100] = [b'a'; 100];
 
-/// Reads a Query of 30,000 bytes behind its header, in pieces of 100.
+/// Reads a Query of 30,000 bytes after its header, in pieces of 100.
 fn read_long<A: Allocator + Copy>(rt: &impl Abort, parser: &mut ClientParser<A>) {
     let mut piece = b"Q\0\0\x75\x34".as_slice();
     ask(rt, parser, &mut piece, &[Ok(None)]);

@@ -1,5 +1,5 @@
-//! The writers that all messages are made of, with each allocation refused in turn. Those of messages are tried by their
-//! rows (`pgp_rows`).
+//! The writers that all messages are made of, with fault injection on each allocation. Those of messages are tried by
+//! their rows (`pgp_rows`).
 
 use crate::checks::{holds, same};
 use crate::turns::{DONE, Tried, Turn, WRONG, refused};
@@ -25,7 +25,7 @@ fn writers_with_each_allocation_refused(rt: HostRuntime) {
 // A piece of a copy, which is written a second time where it is refused memory.
 struct Piece;
 
-// Whether the piece stands behind the message.
+// Whether the piece stands after the message.
 fn is_written<B: Buffer>(buf: &B) -> bool {
     buf.as_slice() == b"S\0\0\0\x04d\0\0\0\x06ab".as_slice()
 }

@@ -26,7 +26,7 @@ fn feed(parser: &mut StreamParser<&LocalHeap>, bytes: &[u8]) -> Result<(), Error
     parser.feed(bytes)
 }
 
-/// Feeds a thousand pieces, and takes the two results behind each: how much of the heap was used at the most, or nothing where
+/// Feeds a thousand pieces, and takes the two results after each: how much of the heap was used at the most, or nothing where
 /// something else came.
 fn most_used(parser: &mut StreamParser<&LocalHeap>, heap: &LocalHeap) -> Result<usize, Error> {
     let mut most = 0usize;
@@ -59,7 +59,7 @@ fn take_four_thousand(rt: &impl Abort, heap: &LocalHeap) {
     same(rt, parser.headers(), 8001);
 }
 
-/// Four thousand pieces: what is held behind each `take` grows no more, and no request of memory is refused
+/// Four thousand pieces: what is held after each `take` grows no more, and no request of memory is refused
 /// on the way.
 #[test]
 fn parser_that_is_taken_from_does_not_grow(rt: HostRuntime) {
@@ -114,7 +114,7 @@ impl Draws {
     }
 }
 
-/// Appends a piece of a copy, and a CommandComplete behind it.
+/// Appends a piece of a copy, and a CommandComplete after it.
 fn put_piece(data: &[u8], out: &mut Vec<u8>) -> Result<(), AllocError> {
     out.extend_from_slice(&[b'd', 0, 0])?;
     let len = u16::try_from(data.len()).unwrap_or(0);
@@ -123,7 +123,7 @@ fn put_piece(data: &[u8], out: &mut Vec<u8>) -> Result<(), AllocError> {
     out.extend_from_slice(b"C\0\0\0\x0bCOPY 1\0")
 }
 
-/// Pieces of a copy whose lengths are drawn, the longest among them, each with a CommandComplete behind it.
+/// Pieces of a copy whose lengths are drawn, the longest among them, each with a CommandComplete after it.
 fn put_pieces(block: &[u8; MOST], out: &mut Vec<u8>) -> Result<(), AllocError> {
     let mut draws = Draws(1);
     let mut len = MOST;
@@ -159,7 +159,7 @@ impl Sums {
         }
     }
 
-    /// Adds a result of a parser. A refusal has no bytes.
+    /// Adds a result of a parser. An error has no bytes.
     fn add_shared<A: Allocator>(&mut self, read: &Result<Message<Bytes<A>>, Error>) {
         match read {
             Ok(Message::CopyData(body)) => self.add(body.data()),
@@ -168,7 +168,7 @@ impl Sums {
         }
     }
 
-    /// Adds a message that was read in place, and tells whether there was one.
+    /// Adds a message that was read in place, and says whether there was one.
     fn add_in_place(
         &mut self,
         read: &Result<Option<Message<&[u8]>>, Error>,
@@ -204,7 +204,7 @@ fn sums_in_place(bytes: &[u8]) -> Result<Sums, Error> {
     }
 }
 
-/// Feeds the bytes in pieces of 1 to 5,000, and takes the results behind each.
+/// Feeds the bytes in pieces of 1 to 5,000, and takes the results after each.
 fn add_in_pieces(
     parser: &mut StreamParser<&LocalHeap>,
     bytes: &[u8],

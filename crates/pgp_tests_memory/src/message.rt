@@ -1,4 +1,5 @@
-//! Messages of a server and the walks over their bodies, with each allocation refused in turn.
+//! Messages of a server and the iterators over their bodies, with fault injection on each
+//! allocation.
 #![tactic(auto, using(pgp_base::proofs::Parts::held_steps))]
 
 use crate::checks::{holds, same};
@@ -91,7 +92,7 @@ fn parser_with_each_allocation_refused(rt: HostRuntime) {
     holds(&rt, refused(&rt, rt.alloc(), &copy, Ok(DONE)) > 0);
 }
 
-// Room for what is missing is asked for, and a refusal of it is not told.
+// Room for what is missing is asked for, and an error of it is not reported.
 #[test]
 fn unfinished_frame_with_each_allocation_refused(rt: HostRuntime) {
     let front = Frame {
@@ -151,7 +152,7 @@ fn keys_and_versions_with_each_allocation_refused(rt: HostRuntime) {
 // What is made of frames that came.
 #[derive(Clone, Copy)]
 enum Made<'a> {
-    // The results of whole frames, each the end of the command `A`.
+    // The results of complete frames, each the end of the command `A`.
     Results(&'a [u8]),
     // The copy of a row, which holds these bytes of its frame.
     Copy(&'a [u8]),
@@ -175,7 +176,7 @@ impl Tried for Made<'_> {
     }
 }
 
-/// Reads the whole frames of the bytes onto a list.
+/// Reads the complete frames of the bytes onto a list.
 fn read_found<A: Allocator + Copy>(
     alloc: A,
     bytes: &[u8],
@@ -198,7 +199,7 @@ fn ends_of_a<A: Allocator>(list: &[Result<Message<Bytes<A>>, Error>]) -> usize {
     count
 }
 
-// How many results the frames have. A refused reading leaves what the first ones gave.
+// How many results the frames have. A rejected reading leaves what the first ones gave.
 fn results<A: Allocator + Copy>(alloc: A, turn: Turn<'_>, frames: &[u8]) -> Result<usize, Error> {
     turn.begin();
     let mut list = Vec::new(alloc);
@@ -240,7 +241,7 @@ fn clone_with_each_allocation_refused(rt: HostRuntime) {
     same(&rt, refused(&rt, rt.alloc(), &row, Ok(DONE)), 0);
 }
 
-// How many items the walk over the body of the message that was read collects.
+// How many items the iterator over the body of the message that was read collects.
 fn collected<A: Allocator + Copy, R: Allocator + Copy>(
     alloc: A,
     read: &Read<R>,
@@ -343,7 +344,7 @@ fn columns_again<A: Allocator + Copy>(
     }
 }
 
-// Makes the table of each of these rows, which has so many columns or is refused.
+// Makes the table of each of these rows, which has so many columns or is rejected.
 fn make_tables<A: Allocator + Copy>(
     rt: &impl Abort,
     places: &mut RowPlaces<A>,
@@ -375,7 +376,7 @@ fn a_table_is_made_again_without_memory(rt: HostRuntime) {
     same(&rt, heap.until_refusal.get(), 1);
 }
 
-// Front, and so many bytes of this value behind it.
+// Front, and so many bytes of this value after it.
 fn long(alloc: Global, front: &[u8], more: usize, byte: u8) -> Result<BytesMut, Error> {
     let mut buf = buffer(alloc, front)?;
     buf.resize(front.len().saturating_add(more), byte)?;

@@ -1,5 +1,5 @@
-//! A longer stream of a server, cut in many ways, and with each allocation refused in turn. Its bytes are from the
-//! message formats of the PostgreSQL manual.
+//! A longer stream of a server, cut in many ways, and with fault injection on each allocation. Its bytes are from
+//! the message formats of the PostgreSQL manual.
 
 use crate::checks::{holds, same};
 use crate::turns::{DONE, Tried, Turn, WRONG, refusals_of};
@@ -14,7 +14,7 @@ use std::process::Abort;
 const HOSTILE: [u8; 101] =
     *b"R\0\0\0\x17\0\0\0\x0aSCRAM-SHA-256\0\0T\0\0\0\x1a\0\x01a\0\0\0\0\0\0\0\0\0\0\x17\0\x04\xff\xff\xff\xff\0\0D\0\0\0\x13\0\x03\0\0\0\x01a\xff\xff\xff\xff\0\0\0\0E\0\0\0\x0cSERROR\0\0Z\0\0\0\x06I\0\x31\0\0\0\x04Z\0\0\0\x03";
 
-/// What its results are: the first letter or the tag of a message, or the number of a refusal.
+/// What its results are: the first letter or the tag of a message, or the number of an error.
 const MARKS: &[u8] = b"STDE\x081";
 
 fn mark<S: Storage>(read: &Result<Message<S>, Error>) -> u8 {
@@ -58,7 +58,7 @@ impl Marks {
     }
 }
 
-/// Feeds pieces to a parser. The results are added, behind each piece where they are taken.
+/// Feeds pieces to a parser. The results are added, after each piece where they are taken.
 fn read_pieces<A: Memory>(
     parser: &mut StreamParser<A>,
     pieces: &[&[u8]],
@@ -78,10 +78,10 @@ fn read_pieces<A: Memory>(
     answer
 }
 
-/// What is left of that stream behind its last result.
+/// What is left of that stream after its last result.
 const REST: &[u8] = b"Z\0\0\0\x03";
 
-/// Feeds that stream byte by byte, and a message behind its length fault.
+/// Feeds that stream byte by byte, and a message after its length fault.
 fn take_each(rt: &impl Abort, parser: &mut StreamParser) {
     let mut marks = Marks::new();
     for byte in &HOSTILE {
@@ -135,7 +135,7 @@ impl Tried for Fed<'_> {
     }
 }
 
-/// That stream in two pieces. Requests are refused, and more than two are told.
+/// That stream in two pieces. Requests are refused, and more than two are reported.
 fn refuse_at<T: Tried>(rt: &impl Abort, alloc: Global, cut: usize, tried: &T) {
     let refusals = refusals_of(rt, alloc, tried, Ok(DONE));
     same(rt, (cut, refusals.told > 2), (cut, true));

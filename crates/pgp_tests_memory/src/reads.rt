@@ -7,7 +7,7 @@ use pgp_base::{Error, FallibleIterator};
 use pgp_message::{DataRowBody, Message};
 use std::alloc::Allocator;
 
-/// What a reader of shared bytes answers.
+/// What a reader of shared bytes returns.
 pub(crate) type Read<A> = Result<Option<Message<Bytes<A>>>, Error>;
 
 /// What a reader comes to that waits for more bytes.
@@ -20,7 +20,7 @@ pub(crate) fn buffer<A: Allocator + Copy>(alloc: A, bytes: &[u8]) -> Result<Byte
     Ok(buf)
 }
 
-/// `DONE` at a copy that brings these bytes, or where none are told at any other message.
+/// `DONE` at a copy that brings these bytes, or where none are reported at any other message.
 pub(crate) fn read_as<A: Allocator + Copy>(
     read: &Read<A>,
     data: Option<&[u8]>,
@@ -53,7 +53,7 @@ pub(crate) fn next_row<A: Allocator + Copy>(
     row
 }
 
-/// How many items the walk collects.
+/// How many items the iterator collects.
 pub(crate) fn count<A: Allocator + Copy, W: FallibleIterator + Drop>(
     alloc: A,
     walk: W,

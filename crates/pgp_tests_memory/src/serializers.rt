@@ -1,4 +1,4 @@
-//! Serializers that refuse, and writers that are refused memory: which of the two is told.
+//! Serializers that refuse, and writers that are refused memory: which of the two is reported.
 #![tactic(auto, using(pgp_base::proofs::Parts::held_steps))]
 
 ghost use Rattle.pgp_base.specs.Calls.{KeepsValue};
@@ -17,8 +17,8 @@ use std::alloc::{AllocError, Global};
 // What the serializers here answer where they are refused memory.
 const OWN: u8 = 77;
 
-// How often a serializer is called that refuses the k-th of five values, behind the bytes that it has appended; 0 where its
-// refusal isn't told, or the buffer doesn't keep its bytes.
+// How often a serializer is called that refuses the k-th of five values, after the bytes that it has appended; 0 where its
+// error isn't reported, or the buffer doesn't keep its bytes.
 fn calls_until(alloc: Global, k: u32) -> Result<u32, AllocError> {
     let mut buf = BytesMut::new(alloc);
     buf.append(SYNC)?;
@@ -53,7 +53,7 @@ fn bind_with_each_value_refused(rt: HostRuntime) {
     }
 }
 
-// Appends twenty bytes, or answers its own number.
+// Appends twenty bytes, or returns its own number.
 fn put_own<B: Buffer>(_value: u32, buf: &mut B) -> Result<IsNull, u8>
     ensures { KeepsValue result (B.held buf.old) (B.held buf.new) }
 {
@@ -102,7 +102,7 @@ fn range_own<B: Buffer>(buf: &mut B) -> Result<(), BindError<u8>> {
     range_to_sql(put_lower::<B>, put_upper::<B>, buf)
 }
 
-// Whose growth was refused.
+// Whose allocation failed.
 #[derive(Clone, Copy)]
 enum Told {
     Nobody,
@@ -128,7 +128,7 @@ fn write_own<B: Buffer>(writer: u32, buf: &mut B) -> Told {
     }
 }
 
-// Who tells of the first growth that a buffer with this room asks for, which is refused; nobody, where none was asked for.
+// Who reports the first growth that a buffer with this room asks for, which is refused; nobody, where none was asked for.
 fn told_in(alloc: Global, writer: u32, room: usize) -> Result<Told, AllocError> {
     let heap = Refusing::new(alloc, 0);
     let mut buf: BytesMut<&Refusing<Global>> = BytesMut::with_capacity(&heap, room)?;
@@ -143,7 +143,8 @@ fn told_in(alloc: Global, writer: u32, room: usize) -> Result<Told, AllocError> 
     }
 }
 
-// How often the serializer told of the refused growth, and how often the writer; never, where another answer came.
+// How often the serializer reported of the refused growth, and how often the writer; never, where another answer
+// came.
 fn tellers_of(alloc: Global, writer: u32) -> Result<(u32, u32), AllocError> {
     let mut by_serializer = 0u32;
     let mut by_writer = 0u32;
@@ -158,8 +159,8 @@ fn tellers_of(alloc: Global, writer: u32) -> Result<(u32, u32), AllocError> {
     Ok((by_serializer, by_writer))
 }
 
-// The serializer's want of memory is told as its own refusal, the writer's as a serialization. Buffers of many lengths have
-// each growth come at their end, so that both are met.
+// The serializer's lack of memory is reported as its own error, the writer's as a serialization. Buffers of many lengths
+// have each growth come at their end, so that both are met.
 #[test]
 fn a_serializer_without_memory_is_told_apart(rt: HostRuntime) {
     for writer in 0..3u32 {

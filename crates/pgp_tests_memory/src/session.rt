@@ -1,4 +1,4 @@
-//! A client's stream, with each allocation refused in turn.
+//! A client's stream, with fault injection on each allocation.
 #![tactic(auto, using(pgp_base::proofs::Parts::held_steps))]
 
 use crate::checks::{holds, same};
@@ -26,7 +26,7 @@ enum Step {
     InSession(usize),
 }
 
-/// The refusal of a call, whoever refused. The serializer here is only refused memory.
+/// The error of a call, whoever refused. The serializer here is only refused memory.
 fn plain(answer: Result<(), BindError<Error>>) -> Result<(), Error> {
     match answer {
         Ok(()) => Ok(()),
@@ -130,7 +130,7 @@ fn stream_for<A: Allocator + Copy>(
     }
 }
 
-/// A call, and what stands there behind it.
+/// A call, and what stands there after it.
 #[derive(Clone, Copy)]
 struct Made<'a> {
     step: Step,
@@ -146,7 +146,7 @@ impl Made<'_> {
         }
     }
 
-    /// Whether the stream is as it has to be behind the call.
+    /// Whether the stream is as it has to be after the call.
     fn is_behind<B: Buffer>(&self, stream: &ClientStream<B>) -> bool {
         let is_open = match self.step {
             Step::Request(number) => (2..5).contains(&number),
@@ -155,7 +155,7 @@ impl Made<'_> {
         stream.bytes() == self.ample && stream.is_open() == is_open
     }
 
-    /// Makes the call, and once more where it is refused.
+    /// Makes the call, and once more where it is rejected.
     fn end<B: Buffer>(&self, stream: &mut ClientStream<B>) -> Result<usize, Error> {
         let first = make(self.step, stream);
         if first.is_err() && (!self.is_before(stream) || make(self.step, stream).is_err()) {
@@ -196,7 +196,7 @@ fn refuse_call(rt: &impl Abort, alloc: Global, step: Step) {
     }
 }
 
-/// A refused call changes neither the bytes nor the phase, and can be made again.
+/// A rejected call changes neither the bytes nor the phase, and can be made again.
 #[test]
 fn requests_with_each_allocation_refused(rt: HostRuntime) {
     for number in 0..REQUESTS {
@@ -224,7 +224,7 @@ const SAID: [Step; 4] = [
     Step::InSession(8),
 ];
 
-/// How many calls of that session were refused, each of which is made again.
+/// How many calls of that session were rejected, each of which is made again.
 fn made_again<B: Buffer>(stream: &mut ClientStream<B>) -> Result<usize, Error> {
     let mut again = 0usize;
     for said in SAID {
@@ -238,7 +238,7 @@ fn made_again<B: Buffer>(stream: &mut ClientStream<B>) -> Result<usize, Error> {
     Ok(again)
 }
 
-/// That session, in which each refused call is made again.
+/// That session, in which each rejected call is made again.
 struct Session;
 
 impl Tried for Session {

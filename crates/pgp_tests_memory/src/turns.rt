@@ -1,4 +1,4 @@
-//! Calls over a memory that refuses one request: the first in the first turn, then the second, until a turn meets no refusal.
+//! Calls over a memory that refuses one request: the first in the first turn, then the second, until a turn meets no error.
 
 use crate::checks::{holds, same};
 use pgp_base::Error;
@@ -30,18 +30,18 @@ impl Turn<'_> {
 
 /// What is done in each turn.
 pub(crate) trait Tried {
-    /// Does it over this memory, and says when the turn begins. It comes to a number, to `WRONG`, or to a refusal.
+    /// Does it over this memory, and says when the turn begins. It comes to a number, to `WRONG`, or to an error.
     fn outcome<A: Allocator + Copy>(&self, alloc: A, turn: Turn<'_>) -> Result<usize, Error>;
 }
 
-/// How many requests were refused, and how often that was told.
+/// How many requests were refused, and how often that was reported.
 #[derive(Clone, Copy)]
 pub(crate) struct Refusals {
     pub(crate) asked: u64,
     pub(crate) told: u64,
 }
 
-/// Takes the turns. The last one comes to this end, and each before it to this end too or to a want of memory.
+/// Takes the turns. The last one comes to this end, and each before it to this end too or to a lack of memory.
 pub(crate) fn refusals_of<T: Tried>(
     rt: &impl Abort,
     alloc: Global,
@@ -69,7 +69,7 @@ pub(crate) fn refusals_of<T: Tried>(
     Refusals { asked: 0, told: 0 }
 }
 
-/// How many requests were refused, each of which was told.
+/// How many requests were refused, each of which was reported.
 pub(crate) fn refused<T: Tried>(
     rt: &impl Abort,
     alloc: Global,
@@ -81,7 +81,8 @@ pub(crate) fn refused<T: Tried>(
     refusals.asked
 }
 
-/// Each of these comes to its end, and so many requests are refused before, each of which is told.
+/// Each of these comes to its end, and so many requests are refused before, each of which is
+/// reported.
 pub(crate) fn refuse_each<T: Tried>(
     rt: &impl Abort,
     alloc: Global,

@@ -1,4 +1,5 @@
-//! The walks over values, with each allocation refused in turn. The writers of values are tried by their rows (`pgp_rows`).
+//! The iterators over values, with fault injection on each allocation. The writers of values are tried by their rows
+//! (`pgp_rows`).
 
 use crate::checks::same;
 use crate::reads::count;
@@ -7,7 +8,7 @@ use pgp_base::Error;
 use pgp_types::{array_from_sql, hstore_from_sql, path_from_sql};
 use std::alloc::Allocator;
 
-// A walk over a value, all of whose items are collected.
+// An iterator over a value, all of whose items are collected.
 #[derive(Clone, Copy)]
 enum Walk<'a> {
     Pairs(&'a [u8]),
@@ -61,7 +62,7 @@ const POINTS: &[u8] =
 const LIST: &[u8] =
     b"\0\0\0\x05\0\0\0\x01\0\0\0\x17\0\0\0\x01\0\0\0\x01\0\0\0\x05\0\0\0\x01\0\0\0\x01\0\0\0\x01\0\0\0\x01\0\0\0\x01\0\0\0\x01\0\0\0\x01\xff\xff\xff\xff\xff\xff\xff\xff\xff\xff\xff\xff\xff\xff\xff\xff\xff\xff\xff\xff";
 
-// Each walk of five items hands them out, or is refused memory.
+// Each iterator of five items hands them out, or is refused memory.
 #[test]
 fn collect_with_each_allocation_refused(rt: HostRuntime) {
     let walks = [

@@ -31,7 +31,7 @@ pub(crate) enum Writer<'a> {
     BoundArray(&'a [Step]),
 }
 
-/// The refusal of a writer over closures; the closures here only run out of memory.
+/// The error of a writer over closures; the closures here only run out of memory.
 fn plain(answer: Result<(), BindError<Error>>) -> Result<(), Error> {
     match answer {
         Ok(()) => Ok(()),
@@ -71,7 +71,7 @@ pub(crate) fn full<A: Allocator + Copy>(alloc: A) -> Result<BytesMut<A>, AllocEr
     Ok(buf)
 }
 
-/// A writer, and what stands there behind it.
+/// A writer, and what stands there after it.
 #[derive(Clone, Copy)]
 struct Written<'a> {
     writer: Writer<'a>,

@@ -22,7 +22,7 @@ impl Read for FailingReader<'_> {
     }
 }
 
-/// A reader that ends a piece behind each byte whose bit is set, the lowest bit for the first byte. It is
+/// A reader that ends a piece after each byte whose bit is set, the lowest bit for the first byte. It is
 /// interrupted before each piece.
 #[derive(Drop)]
 pub struct PieceReader<'a> {

@@ -37,7 +37,7 @@ const SHORT: Style = Style {
     secrets: false,
 };
 
-/// The bytes of this side, in pieces behind the bytes whose bits are set, come to these lines.
+/// The bytes of this side, in pieces after the bytes whose bits are set, come to these lines.
 fn lists(rt: &impl Abort, alloc: Global, side: Side<'_>, bytes: &[u8], cuts: u16, lines: &str) {
     let mut input = PieceReader {
         rest: bytes,
@@ -123,7 +123,7 @@ fn a_failing_writer_took_a_front(rt: HostRuntime) {
     }
 }
 
-/// Lists the bytes of this side where the request of memory of this number is refused, and answers whether that came: a front of the
+/// Lists the bytes of this side where the request of memory of this number is refused, and returns whether that came: a front of the
 /// lines is written then, and else all of them.
 fn is_refused(
     rt: &impl Abort,

@@ -1,6 +1,6 @@
 //! Sessions of a server and a client, and their objects: written by `python3 expected/objects.py` from its tables.
 
-/// A server's messages, of each form of a value, and refused frames.
+/// A server's messages, of each form of a value, and rejected frames.
 pub const ANSWERS: &[u8] = b"\
     R\x00\x00\x00\x17\x00\x00\x00\nSCRAM-SHA-256\x00\x00\
     R\x00\x00\x00\x1b\x00\x00\x00\x0br=abc,s=QUJD,i=4096\

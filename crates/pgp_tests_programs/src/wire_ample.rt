@@ -46,7 +46,7 @@ fn a_script_of_a_megabyte_is_sent(rt: HostRuntime) -> Result<(), Fail> {
     Ok(())
 }
 
-// The message has 1,000,005 bytes behind its tag.
+// The message has 1,000,005 bytes after its tag.
 #[test]
 fn a_line_of_a_megabyte_is_sent(rt: HostRuntime) -> Result<(), Fail> {
     let script = joined(rt.alloc(), "startup\nquery ", "0123456789", 100_000, "")?;

@@ -54,7 +54,7 @@ const SENT: [Row; 9] = [
         output: "000000090003000000510000000500700000000500\n",
         status: 0,
     },
-    // all behind the first space is the text
+    // all after the first space is the text
     Row {
         script: b"startup\nquery  a b \npassword \xc3\xa9=\n",
         output: "000000090003000000510000000a2061206220007000000008c3a93d00\n",
@@ -146,7 +146,7 @@ const REFUSED: [Row; 17] = [
         output: "line 1: wrong words\n",
         status: 1,
     },
-    // the first fault alone is told, and in a line the first cause
+    // the first fault alone is reported, and in a line the first cause
     Row {
         script: b"hello\n\xff\n",
         output: "line 1: wrong words\n",
@@ -239,7 +239,7 @@ fn is_written(rt: &impl Abort, alloc: Global, left: usize, answer: Result<u8, Fa
 
 #[test]
 fn a_failing_write_is_told(rt: HostRuntime) {
-    // behind the line comes the flush
+    // after the line comes the flush
     for left in 0..=17usize {
         is_written(&rt, rt.alloc(), left, Err(Fault::Write));
     }

@@ -81,7 +81,7 @@ fn a_message_without_room_is_read_again(rt: HostRuntime) -> Result<(), Fail> {
     Ok(())
 }
 
-/// A startup packet, a Query, and a Parse that awaits nothing before the Sync behind it.
+/// A startup packet, a Query, and a Parse that awaits nothing before the Sync after it.
 const CLIENT: &[u8; 40] =
     b"\0\0\0\x09\0\x03\0\0\0Q\0\0\0\x0aBEGIN\0P\0\0\0\x09\0\x31\0\0\0S\0\0\0\x04X\0\0\0\x04";
 

@@ -188,7 +188,7 @@ fn columns_of_a_row(rt: HostRuntime) -> Result<(), Fail> {
 const DESCRIBED: &[u8] =
     b"S\0\0\0\x16server_version\x0016\0Z\0\0\0\x05IT\0\0\0\x32\0\x02id\0\0\0\x40\0\0\x01\0\0\0\x17\0\x04\xff\xff\xff\xff\0\0name\0\0\0\x40\0\0\x02\0\0\0\x19\xff\xff\xff\xff\xff\xff\0\0C\0\0\0\x0dSELECT 0\0";
 
-/// The columns of the first description in these bytes have these names, or are refused so.
+/// The columns of the first description in these bytes have these names, or are rejected so.
 fn has_names(rt: &impl Abort, alloc: Global, bytes: &[u8], wanted: Result<&[&str], NamesError>) {
     match column_names(alloc, bytes) {
         Ok(names) => same(rt, Ok(names.as_slice()), wanted),
@@ -333,7 +333,7 @@ fn a_challenge_is_answered(rt: HostRuntime) -> Result<(), Fail> {
     Ok(())
 }
 
-/// The front is fixed by the manual and RFC 5802; the 24 characters of the nonce stand behind it.
+/// The front is fixed by the manual and RFC 5802; the 24 characters of the nonce stand after it.
 #[test]
 fn a_login_begins(rt: HostRuntime) -> Result<(), Fail> {
     let mut out = BytesMut::new(rt.alloc());
@@ -447,7 +447,7 @@ const ANSWERED: &[Step<'static>] = &[
     (ERROR, Ok(Event::Failed)),
 ];
 
-/// What comes behind it.
+/// What comes after it.
 const ENDED: &[Step<'static>] = &[(READY, Ok(Event::Ended)), (ROW, Err(StepError::Unexpected))];
 
 /// Start-up, one query and its answer, each message as the manual's message formats spell it.
@@ -480,7 +480,7 @@ const VERSIONS: &[Step<'static>] = &[
     ),
 ];
 
-/// The log-in, and an answer behind it.
+/// The log-in, and an answer after it.
 const LATE: &[Step<'static>] = &[
     (ADMITTED, Ok(Event::Admitted)),
     (b"v\0\0\0\x0c\0\x03\0\0\0\0\0\0", Err(StepError::Unexpected)),
@@ -499,7 +499,7 @@ fn a_client_hears_of_a_version(rt: HostRuntime) -> Result<(), Fail> {
     Ok(())
 }
 
-/// A query that no message can hold is refused where it is to be sent.
+/// A query that no message can hold is rejected where it is to be sent.
 const UNSENT: &[Step<'static>] = &[
     (ADMITTED, Ok(Event::Admitted)),
     (READY, Err(StepError::Unsent(Error::EmbeddedNull))),
@@ -603,7 +603,7 @@ fn opened(rt: &HostRuntime) -> Result<ScramLogin<Global, BytesMut>, Fail> {
     Ok(ScramLogin::open("alice", exchange, stream)?)
 }
 
-/// What a log-in tells of a message, without the text that a refusal holds.
+/// What a log-in reports a message, without the text that an error holds.
 #[derive(Debug, Clone, Copy, PartialEq, Eq)]
 enum Told {
     Event(LoginEvent),
@@ -611,7 +611,7 @@ enum Told {
     NotOffered,
     /// The server's signature is another.
     Unverified,
-    /// Another refusal, or no message.
+    /// Another error, or no message.
     Other,
 }
 
@@ -652,7 +652,7 @@ fn heard(bytes: &[u8], login: &mut ScramLogin<Global, BytesMut>) -> Told {
     }
 }
 
-/// The log-in gets these messages one after another, and tells this of each.
+/// The log-in gets these messages one after another, and says this of each.
 fn hears(rt: &impl Abort, login: &mut ScramLogin<Global, BytesMut>, steps: &[(&[u8], Told)]) {
     for (place, (bytes, told)) in steps.iter().enumerate() {
         same_at(rt, place, heard(bytes, login), *told);

@@ -1,4 +1,4 @@
--- Bytes below 128 are text, and a text may be cut behind them.
+-- Bytes below 128 are text, and a text may be cut after them.
 use Rattle.std.proofs.Common.{◌≡◌, ◌≢◌, ℕ, ◌+◌, ◌^◌, ◌-◌, ◌%◌, ◌≤◌, leb, leb-false, cond, List, length, get_or, take, drop, replicate, map, IsUtf8, sym, ap, subst, ◌∙◌, inl, inr, arith, take-append-drop, length-take, w8}
 use Rattle.std.specs.Str.{IsAscii}
 use Rattle.std.specs.Simd.Lanes.{zip2, mask_l, chunk, top}

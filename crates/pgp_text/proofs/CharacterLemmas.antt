@@ -125,7 +125,7 @@ four_begin (x ∷ y ∷ []) l t = absurd (omega arith)
 four_begin (x ∷ y ∷ z ∷ []) l t = absurd (omega arith)
 four_begin (x ∷ y ∷ z ∷ w ∷ bs) l t = record { some = omega arith; within = l; front = four_are_text x y z w t }
 
--- ---- a walk that has come to a place: what is behind it decides
+-- ---- a walk that has come to a place: what is after it decides
 
 -- text that doesn't end begins with a character
 begins : (cs : List ℕ) (bs : List ℕ) → scalars cs ≡ true → encodes cs ≡ bs → 0 < length bs → StartsWithNoChar bs → ⊥

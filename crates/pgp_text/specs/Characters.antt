@@ -1,7 +1,7 @@
 -- Private: the bytes of a character that isn't ASCII, as table 3-7 of the Unicode standard has them.
 use Rattle.std.specs.Prelude.{◌≡◌, ℕ, ◌≤◌, ◌<◌, List, length, take, IsUtf8}
 
--- a byte behind the first of a character
+-- a byte after the first of a character
 abbrev pub Follows : ℕ → Type 0
 Follows b = (128 ≤ b) × (b < 192)
 
@@ -9,11 +9,11 @@ Follows b = (128 ≤ b) × (b < 192)
 abbrev pub AreTwo : ℕ → ℕ → Type 0
 AreTwo a b = (194 ≤ a) × (a < 224) × Follows b
 
--- E0 to EF, and two that follow: behind E0 at least A0 (else the form is overlong), behind ED below A0 (else it is a surrogate)
+-- E0 to EF, and two that follow: after E0 at least A0 (else the form is overlong), after ED below A0 (else it is a surrogate)
 abbrev pub AreThree : ℕ → ℕ → ℕ → Type 0
 AreThree a b c = (224 ≤ a) × (a < 240) × Follows b × Follows c × (a ≡ 224 → 160 ≤ b) × (a ≡ 237 → b < 160)
 
--- F0 to F4, and three that follow: behind F0 at least 90 (else the form is overlong), behind F4 below 90 (else it is past 10FFFF)
+-- F0 to F4, and three that follow: after F0 at least 90 (else the form is overlong), after F4 below 90 (else it is past 10FFFF)
 abbrev pub AreFour : ℕ → ℕ → ℕ → ℕ → Type 0
 AreFour a b c d = (240 ≤ a) × (a < 245) × Follows b × Follows c × Follows d × (a ≡ 240 → 144 ≤ b) × (a ≡ 244 → b < 144)
 

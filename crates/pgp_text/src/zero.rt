@@ -76,7 +76,7 @@ fn zero_in_few(bytes: &[u8]) -> Option<usize>
     }
 }
 
-// The place of the first 0 of fewer than 16 bytes. Two looks that may overlap cover four or more. Names are told apart first:
+// The place of the first 0 of fewer than 16 bytes. Two looks that may overlap cover four or more. Names are checked first:
 // many are empty or of one letter.
 #[inline(always)]
 fn zero_in_short(bytes: &[u8]) -> Option<usize>

@@ -78,7 +78,7 @@ alone kind opened now bytes frame rest (Err e) whole less step = elim step.left 
   ]
 ]
 
--- a refusal that passes nothing
+-- an error that passes nothing
 pub stopped_at : (kind : PasswordKind) (opened now : Bool) (kinds : List code.PasswordKind) (bytes rest : List ℕ) (e : ClientError) → length rest ≡ length bytes
     → Refuses kind (record { bytes = bytes; opened = opened }) e (record { bytes = rest; opened = now }) → Ends (Client opened kinds) true bytes
 unfolding uint32

@@ -113,7 +113,7 @@ frame_some opened now kinds f (Err e) step = elim step.left [
   ]
 ]
 
--- a step, with bytes behind it
+-- a step, with bytes after it
 behind : (opened now : Bool) (kinds : List code.PasswordKind) (f more : List ℕ) (r : Result ClientMessage ClientError) → ReadsAs opened kinds f r now
     → Step (expected kinds) (record { bytes = f ++ more; opened = opened }) (step_of r) (record { bytes = more; opened = now })
 behind opened now kinds f more (Ok x) step = took (expected kinds) (record { bytes = f; opened = opened }) (record { bytes = []; opened = now }) x more step
@@ -122,7 +122,7 @@ behind opened now kinds f more (Err e) step = refused_behind (expected kinds) (r
 same_end : (f g r : List ℕ) → f ++ r ≡ g ++ r → f ≡ g
 same_end f g r e = sym (front_taken f r (f ++ r) refl) ∙ front_taken g r (f ++ r) e
 
--- frames, the first at first, and the side behind them
+-- frames, the first at first, and the side after them
 data Chain : Side → List (List ℕ) → Side → Type 0 where
   NoLink : {side : Side} → Chain side [] side
   Link : {opened now : Bool} {kinds : List code.PasswordKind} {fs : List (List ℕ)} {to : Side} (f : List ℕ) (r : Result ClientMessage ClientError) → ReadsAs opened kinds f r now
@@ -188,7 +188,7 @@ record ClientAt (side : Side) : Type 0 where
 next_line : (style : Style) (place : ℕ) (here to : Side) (frame line : List ℕ) (c : ClientAt here) → LineOf style place here frame line to → IsNextLine style place c.opened c.kinds frame line to
 next_line style place here to frame line c has = subst (λ h. LineOf style place h frame line to) c.is has
 
--- behind a client's lines come a client's
+-- after a client's lines come a client's
 stays_client : (style : Style) (start : ℕ) (opened : Bool) (kinds : List code.PasswordKind) (bytes lines : List ℕ) (to : Side) → Lines style start (Client opened kinds) bytes lines to → ClientAt to
 stays_client style start opened kinds [] [] _ NoLines = record { opened = opened; kinds = kinds; is = refl }
 stays_client style start opened kinds _ _ to (OneLine {bytes = bytes} {lines = lines} {here = here} frame line before has) =

@@ -13,7 +13,7 @@ first words = get_or words 0 []
 abbrev letter : List (List ℕ) → ℕ
 letter words = get_or (get_or words 0 []) 0 0
 
--- behind the name of a listing stand its options
+-- after the name of a listing stand its options
 behind : (name word : List ℕ) (words : List (List ℕ)) (style : Style) (kinds : List PasswordKind) → AsksListing name (word ∷ words) style kinds → AreOptions words style kinds
 behind name word words style kinds a = subst (λ (l : List (List ℕ)). AreOptions l style kinds) (sym (ap (λ l. drop 1 l) a.whole)) a.read
 

@@ -14,7 +14,7 @@ none_taken old bytes = record { taken = []; is_front = refl; written = Appends-n
 pub all_taken : (old new : Option (List ℕ)) (bytes : List ℕ) → Appends old new bytes → AppendsFront old new bytes
 all_taken old new bytes w = record { taken = bytes; is_front = take_all (length bytes) bytes (omega arith); written = w }
 
--- some more behind those that were taken
+-- some more after those that were taken
 pub more_taken : (old mid new : Option (List ℕ)) (xs ys : List ℕ) → Appends old mid xs → AppendsFront mid new ys → AppendsFront old new (xs ++ ys)
 more_taken old mid new xs ys w front = record {
   taken = xs ++ front.taken;

@@ -6,7 +6,7 @@ use Rattle.pgp_line.specs.declared.style.Style.{Style}
 use Rattle.pgp_line.specs.Line.{Part, added, followed}
 use Rattle.pgp_trace.specs.Shown.{ending, fault, list_of}
 
--- parts behind parts
+-- parts after parts
 pub followed_join : (style : Style) (line : List ℕ) (ps qs : List Part) → followed style line (ps ++ qs) ≡ followed style (followed style line ps) qs
 followed_join style line [] qs = refl
 followed_join style line (p ∷ ps) qs = followed_join style (line ++ added style p) ps qs

@@ -1,4 +1,4 @@
--- Options, one behind another.
+-- Options, one after another.
 use Rattle.std.proofs.Common.{◌≡◌, ◌≢◌, ℕ, suc, ◌+◌, ◌-◌, ◌<◌, ◌≤◌, Bool, true, false, List, [], ◌∷◌, ◌++◌, length, length-append, get_or, drop, map, refl, sym, ap, subst, ◌∙◌, append_assoc, arith}
 use Rattle.std.specs.Prelude.{◌||◌}
 use Rattle.std.specs.List.{flat_map, list_any}
@@ -13,7 +13,7 @@ use Rattle.pgp_trace.specs.declared.options.Choice.{Choice}
 use Rattle.pgp_trace.specs.declared.options.Choice.TheVariants.{AsJson, Full, Secrets, Kind}
 use Rattle.pgp_line.specs.declared.style.Style.{Style}
 
--- Some options came, and these words stand behind them.
+-- Some options came, and these words stand after them.
 pub record Came (all rest : List (List ℕ)) (json full secrets : Bool) (kinds : List PasswordKind) : Type 0 where
   pub choices : List Choice
   pub whole : all ≡ flat_map spelled choices ++ rest
@@ -25,7 +25,7 @@ pub record Came (all rest : List (List ℕ)) (json full secrets : Bool) (kinds :
 pub came_none : (all : List (List ℕ)) (kinds : List PasswordKind) → kinds ≡ [] → Came all all false false false kinds
 came_none all kinds e = record { choices = []; whole = refl; all_json = refl; all_full = refl; all_secrets = refl; all_kinds = e }
 
--- one more, behind the others
+-- one more, after the others
 flat_more : {X A : Type 0} (f : X → List A) (xs : List X) (x : X) → flat_map f (xs ++ x ∷ []) ≡ flat_map f xs ++ f x
 flat_more f xs x = flat_map-append f xs (x ∷ []) ∙ ap (λ l. flat_map f xs ++ l) (flat_map-cons f x [] ∙ append-nil (f x))
 
@@ -67,7 +67,7 @@ first_word words = length (get_or words 0 [])
 abbrev third_letter : List (List ℕ) → ℕ
 third_letter words = get_or (get_or words 0 []) 2 0
 
--- the first option of each has as many kinds, and the same stands behind it
+-- the first option of each has as many kinds, and the same stands after it
 one_first : (c d : Choice) (x y : List (List ℕ)) → spelled c ++ x ≡ spelled d ++ y → (length (kind_in c) ≡ length (kind_in d)) × (x ≡ y)
 one_first AsJson AsJson x y e = (refl, ap (λ l. drop 1 l) e)
 one_first AsJson Full x y e = let h : 106 ≡ 102 = ap third_letter e in absurd (omega (arith, h))
@@ -102,7 +102,7 @@ breaks_off (c ∷ cs) [] rest some none e = spelled_long c (flat_map spelled cs 
 breaks_off (c ∷ cs) (d ∷ ds) rest some none e =
     breaks_off cs ds rest some none (one_first c d (flat_map spelled cs ++ rest) (flat_map spelled ds) (sym (split cs c rest) ∙ e ∙ flat_map-cons spelled d ds)).1
 
--- where no option stands behind some, the words are no options
+-- where no option stands after some, the words are no options
 pub came_wrong : (all rest : List (List ℕ)) (json full secrets : Bool) (kinds : List PasswordKind) → Came all rest json full secrets kinds → rest ≢ [] → BeginsWithNone rest → AreNoOptions all
 came_wrong all rest json full secrets kinds came some none = λ ds e. breaks_off came.choices ds rest some none (sym came.whole ∙ e)
 

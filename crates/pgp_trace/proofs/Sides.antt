@@ -4,7 +4,7 @@ use Rattle.pgp_line.specs.declared.style.Style.{Style}
 use Rattle.pgp_trace.specs.Listing.{LineOf, IsServerLine, Lines, NoLines, OneLine, place_behind}
 use Rattle.pgp_trace.specs.Sides.{Side, Server}
 
--- behind a server's lines come a server's
+-- after a server's lines come a server's
 pub stays_server : (style : Style) (start : ℕ) (bytes lines : List ℕ) (to : Side) → Lines style start Server bytes lines to → to ≡ Server
 stays_server style start [] [] Server NoLines = refl
 stays_server style start _ _ to (OneLine {bytes = bytes} {lines = lines} {here = here} frame line before has) =

@@ -16,7 +16,7 @@ use Rattle.pgp_trace.proofs.Ends.{stays_ended, nothing_ends}
 use Rattle.pgp_trace.proofs.Fronts.{none_taken, all_taken, more_taken, kept_nothing}
 use Rattle.pgp_trace.proofs.Parts.{saturates}
 
--- ---- lines behind lines
+-- ---- lines after lines
 
 plain_sum : (n : ℕ) → 0 + n ≡ n
 plain_sum n = omega arith
@@ -52,7 +52,7 @@ nothing_yet style start from bytes old = record { front = []; lines = []; whole 
 passed_is : (bytes front rest : List ℕ) → bytes ≡ front ++ rest → length bytes - length rest ≡ length front
 passed_is bytes front rest e = omega (arith, ap length e, length-append front rest)
 
--- one more has its line, which stands behind those
+-- one more has its line, which stands after those
 pub one_listed : (style : Style) (start here : ℕ) (from mid to : Side) (bytes rest next line old now new : List ℕ) → ListsTo style start from bytes rest mid old now
     → here ≡ min (start + (length bytes - length rest)) greatest → HasLine style here mid rest next line to → new ≡ now ++ line → ListsTo style start from bytes next to old new
 one_listed style start here from mid to bytes rest next line old now new so_far at has grown =
@@ -169,7 +169,7 @@ front_of_piece style from to place was n bytes piece items text halted stopped o
       written = subst (AppendsFront old new) all.text taken;
     })
 
--- what a call answers of these
+-- what a call returns of these
 module _ {T E : Type 0} where
   pub ok_counted : (r : Result T E) (style : Style) (side : Side) (place left count : ℕ) (bytes piece : List ℕ) (halted : Bool) (old new : Option (List ℕ))
       → halted ≡ true → count ≡ min (left + length piece) greatest → Keeps old new
@@ -354,7 +354,7 @@ cut_nothing style from s = record {
   written = none_taken s.output [];
 }
 
--- ---- what calls answer of these
+-- ---- what calls return of these
 
 module _ {T E : Type 0} where
   pub end_written : (r : Result T E) (style : Style) (from : Side) (before : Streams) (now next middle output : Option (List ℕ)) (held : Held) → Tracks style from before (record { input = now; output = middle }) held

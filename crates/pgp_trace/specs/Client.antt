@@ -67,7 +67,7 @@ first_text style (Some response) = secret style response
 abbrev pub named_object : ℕ → List ℕ → List Part
 named_object variant name = Word (name_or (object_of variant) variant) ∷ Text name ∷ []
 
--- The parts of a line behind the name, in groups. Passwords, the texts of an exchange and keys are secrets.
+-- The parts of a line after the name, in groups. Passwords, the texts of an exchange and keys are secrets.
 abbrev pub client_groups : Style → Bool → ClientMessage → List (List Part)
 client_groups style told (Bind portal statement formats values result_formats) =
     (Word (codes "portal") ∷ Text portal ∷ Word (codes "statement") ∷ Text statement ∷ [])
@@ -103,17 +103,17 @@ client_says_nothing x = false
 abbrev pub client_called : Bool → ClientMessage → Part
 client_called told x = Name (client_says_nothing x) (client_name told x)
 
--- a line with these groups of parts behind it
+-- a line with these groups of parts after it
 abbrev pub grouped : Style → List ℕ → List (List Part) → List ℕ
 grouped style line [] = line
 grouped style line (parts ∷ groups) = grouped style (followed style line parts) groups
 
--- why a frame is refused; a packet of unknown code is never passed, and so has no line
+-- why a frame is rejected; a packet of unknown code is never passed, and so has no line
 abbrev pub refusal_parts : ClientError → List Part
 refusal_parts (Reading e) = refused e
 refusal_parts (UnknownPacket code) = Name true (codes "packet") ∷ Number code ∷ []
 
--- the line goes on with the name of the message and what it says, or with the refusal
+-- the line goes on with the name of the message and what it says, or with the error
 abbrev pub client_line : Style → Bool → Result ClientMessage ClientError → List ℕ → List ℕ
 client_line style told (Ok x) old = grouped style (followed style old (client_called told x ∷ [])) (client_groups style told x)
 client_line style told (Err e) old = followed style old (refusal_parts e)

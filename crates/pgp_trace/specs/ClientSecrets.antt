@@ -16,7 +16,7 @@ AlikeMessages (SaslResponse response) (SaslResponse other) = length response ≡
 AlikeMessages (CancelRequest process key) (CancelRequest same other) = (process ≡ same) × (length key ≡ length other)
 AlikeMessages x y = x ≡ y
 
--- messages that are alike, or the same refusal
+-- messages that are alike, or the same error
 abbrev pub AlikeAnswers : Result ClientMessage ClientError → Result ClientMessage ClientError → Type 0
 AlikeAnswers (Ok x) (Ok y) = AlikeMessages x y
 AlikeAnswers (Err d) (Err e) = d ≡ e
@@ -32,7 +32,7 @@ pub record AlikeClientFrames (opened : Bool) (kinds : List PasswordKind) (f g : 
   pub long : length f ≡ length g
   pub read : (r : Result ClientMessage ClientError) (now : Bool) → ReadsAs opened kinds f r now → (s : Result ClientMessage ClientError) × ReadsAs opened kinds g s now × AlikeAnswers r s
 
--- bytes that are frames, each like that of the other bytes in its place; and what is known of the side behind them
+-- bytes that are frames, each like that of the other bytes in its place; and what is known of the side after them
 pub data AlikeClientStreams (from : Side) : List ℕ → List ℕ → Side → Type 0 where
   NoClientFrames : AlikeClientStreams from [] [] from
   OneClientAlike : {a b : List ℕ} {opened now : Bool} {kinds : List PasswordKind} (result : Result ClientMessage ClientError) (f g : List ℕ) → AlikeClientStreams from a b (Client opened kinds)

@@ -11,7 +11,7 @@ use Rattle.pgp_trace.specs.Sides as side
 use Rattle.pgp_program.specs.Taken.{AppendsFront}
 use Rattle.pgp_program.specs.Words.{AreWords, HasOther, LacksWords}
 
--- Lists a server's or a client's stream in a style, a client's with the kinds of its first messages of tag `p`; or tells how the program is called, or
+-- Lists a server's or a client's stream in a style, a client's with the kinds of its first messages of tag `p`; or says how the program is called, or
 -- which one it is.
 pub data Command : Type 0 where
   Server : Style → Command
@@ -44,7 +44,7 @@ complaint_of Memory = codes "pgtrace: out of memory" ++ 10 ∷ []
 complaint_of Read = codes "pgtrace: read failed" ++ 10 ∷ []
 complaint_of Write = codes "pgtrace: write failed" ++ 10 ∷ []
 
--- What stands behind a fault, where memory is refused and reads and writes fail so. A reader may fail for want of memory.
+-- What stands after a fault, where memory is refused and reads and writes fail so. A reader may fail for lack of memory.
 abbrev pub Caused : Type 0 → Type 0 → Type 0 → Fault → Type 0
 Caused lacks read_failed write_failed Memory = lacks ⊎ read_failed
 Caused lacks read_failed write_failed Read = read_failed
@@ -83,7 +83,7 @@ pub record Succeeds (command : Command) (before after : Streams) (status : ℕ) 
 abbrev pub IsOther : List (List ℕ) → Type 0
 IsOther words = (command : Command) → ¬ Asks words command
 
--- The words aren't obeyed: this is told, and nothing is read or written.
+-- The words aren't obeyed: this is reported, and nothing is read or written.
 pub record IsUnread (text : List ℕ) (code : ℕ) (before after : Streams) (status : ℕ) (complaint : List ℕ) : Type 0 where
   pub told : complaint ≡ text
   pub failed : status ≡ code
@@ -96,7 +96,7 @@ IsSaid failed old new text = Appends old new text ⊎ (failed × AppendsFront ol
 
 -- Where memory is refused and reads and writes fail so.
 module _ (lacks read_failed write_failed : Type 0) where
-  -- a fault was met, and is told
+  -- a fault was met, and is reported
   pub record IsFaulty (command : Command) (before after : Streams) (status : ℕ) (complaint : List ℕ) : Type 0 where
     pub fault : Fault
     pub stops : Stops command fault before after

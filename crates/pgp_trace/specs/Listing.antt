@@ -23,7 +23,7 @@ use Rattle.pgp_program.specs.Words.{greatest}
 abbrev pub front : Style → ℕ → Frame → List ℕ
 front style place f = followed style (opening style place) (Length (length (frame_bytes f)) ∷ Tag f.tag ∷ [])
 
--- and how it goes on: with the name of the message and what it says, or with the refusal
+-- and how it goes on: with the name of the message and what it says, or with the error
 abbrev pub GoesOn : Style → Result Message Error → List ℕ → List ℕ → Type 0
 GoesOn style (Ok m) old new = Shows style m (followed style old (called m ∷ [])) new
 GoesOn style (Err e) old new = new ≡ followed style old (refused e)
@@ -62,22 +62,23 @@ pub record IsNextLine (style : Style) (place : ℕ) (opened : Bool) (kinds : Lis
   pub told : IsClientLine style place opened kinds frame line now
   pub behind : to ≡ Client now (kinds_behind opened frame kinds)
 
--- a frame that stands at the place, and its line; and what is known of the side behind it
+-- a frame that stands at the place, and its line; and what is known of the side after it
 abbrev pub LineOf : Style → ℕ → Side → List ℕ → List ℕ → Side → Type 0
 LineOf style place Server frame line to = IsServerLine style place frame line × (to ≡ Server)
 LineOf style place (Client opened kinds) frame line to = IsNextLine style place opened kinds frame line to
 
--- how many bytes stand before, as far as a number of the machine tells it
+-- how many bytes stand before, as far as a number of the machine reports it
 abbrev pub place_behind : ℕ → ℕ
 place_behind n = min n greatest
 
--- These bytes, behind so many others, are whole frames, with these lines: each frame has one, in order.
+-- These bytes, after so many others, are complete frames, with these lines: each frame has one, in
+-- order.
 pub data Lines (style : Style) (start : ℕ) (from : Side) : List ℕ → List ℕ → Side → Type 0 where
   NoLines : Lines style start from [] [] from
   OneLine : {bytes lines : List ℕ} {here to : Side} (frame line : List ℕ) → Lines style start from bytes lines here
       → LineOf style (place_behind (start + length bytes)) here frame line to → Lines style start from (bytes ++ frame) (lines ++ line) to
 
--- the last line, where so many bytes are left, as far as a number of the machine tells it
+-- the last line, where so many bytes are left, as far as a number of the machine reports it
 abbrev pub last_by : Form → Bool → ℕ → List ℕ
 last_by Columns false n = codes "rest " ++ decimal n
 last_by Columns true n = codes "stopped rest " ++ decimal n
@@ -102,13 +103,13 @@ pub record IsListed (style : Style) (from : Side) (stopped : Bool) (rest : List 
   pub ending : Ends to stopped rest
   pub written : Appends before.output after.output lines
 
--- whatever stands behind the frames
+-- whatever stands after the frames
 pub record WasListed (style : Style) (from : Side) (before after : Streams) : Type 0 where
   pub stopped : Bool
   pub rest : List ℕ
   pub all : IsListed style from stopped rest before after
 
--- The same of a stream whose end has come, and a last line that tells how many bytes are left.
+-- The same of a stream whose end has come, and a last line that says how many bytes are left.
 pub record IsListing (style : Style) (from : Side) (bytes output : List ℕ) : Type 0 where
   pub to : Side
   pub front : List ℕ

@@ -1,4 +1,4 @@
--- The names that a line has for messages, refusals, the fields of errors and the states of transactions.
+-- The names that a line has for messages, errors, the fields of errors and the states of transactions.
 -- PostgreSQL manual, "Message Formats" and "Error and Notice Message Fields".
 use Rattle.std.specs.Prelude.{ℕ, List, Option, Some, None, ◌==◌, if◌then◌else◌, codes}
 use Rattle.pgp_base.specs.declared.error.Error.{Error}
@@ -40,7 +40,7 @@ name_of NoData = codes "NoData"
 name_of PortalSuspended = codes "PortalSuspended"
 name_of (ParameterDescription row) = codes "ParameterDescription"
 
--- a refusal
+-- an error
 abbrev pub refusal_of : Error → List ℕ
 refusal_of OutOfMemory = codes "OutOfMemory"
 refusal_of EmbeddedNull = codes "EmbeddedNull"
@@ -63,7 +63,7 @@ refusal_of InvalidAddressLength = codes "InvalidAddressLength"
 refusal_of InvalidFamily = codes "InvalidFamily"
 refusal_of InvalidVersion = codes "InvalidVersion"
 
--- a field of an error or a notice that tells a place, by its letter: in the program, in the database, in the server's source
+-- a field of an error or a notice that says a place, by its letter: in the program, in the database, in the server's source
 abbrev pub place_of : ℕ → Option (List ℕ)
 place_of letter =
     if letter == 87 then Some (codes "where")  -- W

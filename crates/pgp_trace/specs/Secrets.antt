@@ -18,7 +18,7 @@ Alike m n = m ≡ n
 abbrev pub quiet : Style → Style
 quiet style = record { form = style.form; limit = style.limit; secrets = false }
 
--- messages that are alike, or the same refusal
+-- messages that are alike, or the same error
 abbrev pub AlikeResults : Result Message Error → Result Message Error → Type 0
 AlikeResults (Ok m) (Ok n) = Alike m n
 AlikeResults (Err d) (Err e) = d ≡ e

@@ -1,4 +1,4 @@
--- What the line of each message says behind its name. PostgreSQL manual, "Message Formats".
+-- What the line of each message says after its name. PostgreSQL manual, "Message Formats".
 use Rattle.std.specs.Prelude.{◌≡◌, ◌⊎◌, ℕ, pos, Bool, true, false, List, [], ◌∷◌, ◌++◌, Option, Some, None, codes}
 use Rattle.std.specs.Str.{IsUtf8}
 use Rattle.std.specs.declared.ops.Range.{Range}
@@ -14,11 +14,11 @@ use Rattle.pgp_line.specs.Secret.{secret}
 use Rattle.pgp_line.specs.declared.style.Style.{Style}
 use Rattle.pgp_trace.specs.Names.{name_of, refusal_of, field_of, state_of}
 
--- the refusal of a frame
+-- the error of a frame
 abbrev pub refused : Error → List Part
 refused e = Refusal (number_of e) ∷ Word (refusal_of e) ∷ []
 
--- a refusal in a list
+-- an error in a list
 abbrev pub fault : Error → List Part
 fault e = Word (codes "fault") ∷ Number (pos (number_of e)) ∷ Word (refusal_of e) ∷ []
 
@@ -27,7 +27,7 @@ abbrev pub ending : Option Error → List Part
 ending None = []
 ending (Some e) = fault e
 
--- the parts of each item, and these behind them
+-- the parts of each item, and these after them
 abbrev pub each_then : {X : Type 0} → (X → List Part) → List X → List Part → List Part
 each_then parts [] more = more
 each_then parts (x ∷ xs) more = parts x ++ each_then parts xs more
@@ -113,7 +113,7 @@ says_nothing m = false
 abbrev pub called : Message → Part
 called m = Name (says_nothing m) (name_of m)
 
--- The line of a message before and after what it says behind its name. Salts, the texts of an exchange and keys are secrets.
+-- The line of a message before and after what it says after its name. Salts, the texts of an exchange and keys are secrets.
 abbrev pub Shows : Style → Message → List ℕ → List ℕ → Type 0
 Shows style (Authentication (AuthenticationMd5Password salt)) old new = new ≡ followed style old (Word (codes "salt") ∷ secret style salt ∷ [])
 Shows style (Authentication (AuthenticationGssContinue bytes)) old new = new ≡ followed style old (Word (codes "data") ∷ secret style bytes ∷ [])

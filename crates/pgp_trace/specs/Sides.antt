@@ -29,7 +29,7 @@ abbrev pub is_password : Bool → List ℕ → Bool
 is_password true (tag ∷ rest) = tag == 112
 is_password _ _ = false
 
--- the kinds that are known behind a frame
+-- the kinds that are known after a frame
 abbrev pub kinds_behind : Bool → List ℕ → List code.PasswordKind → List code.PasswordKind
 kinds_behind opened frame kinds = if is_password opened frame then drop 1 kinds else kinds
 
@@ -43,7 +43,7 @@ pub record IsRefusedPacket (opened : Bool) (bytes : List ℕ) : Type 0 where
   pub error : ClientError
   pub blames : client.BlamesPacket payload error
 
--- No frame stands first: more bytes are missing; or nothing tells where the next frame begins.
+-- No frame stands first: more bytes are missing; or nothing says where the next frame begins.
 abbrev pub Ends : Side → Bool → List ℕ → Type 0
 Ends Server stopped rest = IsEnding stopped rest
 Ends (Client opened kinds) false rest = client.IsPartial opened rest

@@ -38,13 +38,14 @@ pub record IsAtRest (from : Side) (stopped : Bool) (old new : List ℕ) (to : Si
   pub ending : Ends from stopped old
   pub side : to ≡ from
 
--- a frame was passed and has its line; or none is whole, and more is awaited, or the stream ends where nothing tells the next frame
+-- a frame was passed and has its line; or none is whole, and more is awaited, or the stream ends where nothing reports the next
+-- frame
 abbrev pub ListsNext : Style → ℕ → Side → List ℕ → List ℕ → List ℕ → Side → Next → Type 0
 ListsNext style place from old new line to Line = HasLine style place from old new line to
 ListsNext style place from old new line to Waits = IsAtRest from false old new to
 ListsNext style place from old new line to Stops = IsAtRest from true old new to
 
--- The frames of the front have these lines behind the old ones, from the place on, and no whole one is left.
+-- The frames of the front have these lines after the old ones, from the place on, and no whole one is left.
 pub record ListsAll (style : Style) (start : ℕ) (from : Side) (bytes front rest : List ℕ) (stopped : Bool) (to : Side) (old new : List ℕ) : Type 0 where
   pub lines : List ℕ
   pub whole : bytes ≡ front ++ rest
@@ -62,8 +63,8 @@ pub record ListsSome (style : Style) (start : ℕ) (from : Side) (bytes : List �
   pub listed : Lines style start from front lines to
   pub written : AppendsFront old new lines
 
--- What is kept of a stream: its side, bytes that aren't listed, the place at which they stand, whether nothing tells where a frame begins in them, and
--- how many they are, as far as a number of the machine tells it.
+-- What is kept of a stream: its side, bytes that aren't listed, the place at which they stand, whether nothing says where a frame begins in them, and
+-- how many they are, as far as a number of the machine reports it.
 pub record Held : Type 0 where
   pub side : Side
   pub bytes : List ℕ

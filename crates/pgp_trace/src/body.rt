@@ -1,4 +1,4 @@
-//! What the line of a message says behind its name.
+//! What the line of a message says after its name.
 
 ghost use Rattle.std.specs.Prelude.{◌≡◌, ◌∷◌, [], pos, Some, OnErr, OnOk, codes, string_bytes};
 ghost use Rattle.pgp_base.specs.Walk.{hint_of};

@@ -18,12 +18,12 @@ use pgp_line::line::{put_called, put_end, put_signed};
 use pgp_line::style::Style;
 use std::alloc::AllocError;
 
-/// Makes the line of a client's frame at the front of the bytes, which stands at this place. Answers whether a startup packet came then, the kinds
-/// that are left, and what stands behind the frame.
+/// Makes the line of a client's frame at the front of the bytes, which stands at this place. Returns whether a startup packet came then, the kinds
+/// that are left, and what stands after the frame.
 ///
 /// # Errors
 ///
-/// `AllocError` where there is no memory for the line.
+/// Returns `AllocError` if there is no memory for the line.
 pub fn client_line<'a, 'b, A: Memory>(
     style: Style,
     place: u64,
@@ -78,7 +78,7 @@ fn is_told(kinds: &[PasswordKind]) -> bool
     }
 }
 
-/// The kinds that are known behind a frame.
+/// The kinds that are known after a frame.
 fn kinds_behind<'a>(opened: bool, frame: &[u8], kinds: &'a [PasswordKind]) -> &'a [PasswordKind]
     ensures { result.now ≡ kinds_behind opened frame.now kinds.now }
 {
@@ -125,7 +125,7 @@ fn message_line<A: Memory>(
     put_end(style, line)
 }
 
-/// Makes the line of a refused frame.
+/// Makes the line of a rejected frame.
 fn refusal_line<A: Memory>(
     style: Style,
     place: u64,
@@ -155,7 +155,7 @@ fn tag_of(opened: bool, frame: &[u8]) -> u8
     }
 }
 
-/// Adds why a frame is refused.
+/// Adds why a frame is rejected.
 fn put_refusal<A: Memory>(
     style: Style,
     refusal: &ClientError,

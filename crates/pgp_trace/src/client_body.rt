@@ -1,4 +1,4 @@
-//! What the line of a client's message says behind its name.
+//! What the line of a client's message says after its name.
 
 ghost use Rattle.std.specs.Prelude.{◌≡◌, ◌∷◌, [], pos, OnErr, OnOk, codes, string_bytes};
 ghost use Rattle.pgp_frontend_read.specs.Views.{view};
@@ -17,7 +17,8 @@ use pgp_line::secret::{put_response, put_secret};
 use pgp_line::style::Style;
 use std::alloc::AllocError;
 
-/// Adds what the message says. Where it isn't known which message of tag `p` it is, its length is told alone.
+/// Adds what the message says. Where it isn't known which message of tag `p` it is, its length is reported
+/// alone.
 pub fn put_client_message<A: Memory>(
     style: Style,
     told: bool,

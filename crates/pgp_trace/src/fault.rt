@@ -5,7 +5,7 @@ ghost use Rattle.pgp_trace.specs.Command.{complaint_of};
 
 use pgp_program::fault::Fault;
 
-/// The line that tells of it.
+/// The line that reports it.
 pub fn complaint(fault: Fault) -> &'static str
     ensures { result.now ≡ complaint_of fault }
 {

@@ -22,17 +22,17 @@ use std::alloc::AllocError;
 pub enum Next {
     /// A frame, which was passed, and whose line was made.
     Line,
-    /// A frame that isn't whole, or nothing.
+    /// A partial frame, or nothing.
     Waits,
-    /// What no frame begins with, and nothing tells where the next one does.
+    /// What no frame begins with, and nothing says where the next one does.
     Stops,
 }
 
-/// Makes the line of a server's frame at the front of the bytes, which stands at this place, and answers what stands behind the frame.
+/// Makes the line of a server's frame at the front of the bytes, which stands at this place, and returns what stands after the frame.
 ///
 /// # Errors
 ///
-/// `AllocError` where there is no memory for the line.
+/// Returns `AllocError` if there is no memory for the line.
 pub fn server_line<'b, A: Memory>(
     style: Style,
     place: u64,
@@ -90,7 +90,7 @@ fn message_line<A: Memory>(
     put_end(style, line)
 }
 
-/// Makes the line of a refused frame.
+/// Makes the line of a rejected frame.
 fn fault_line<A: Memory>(
     style: Style,
     place: u64,

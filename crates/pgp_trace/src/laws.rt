@@ -37,8 +37,8 @@ pub fn listings_are_runs()
         (results : List (Result Message Error)) × BackendRun bytes results l.stopped l.rest }
 {}
 
-/// A client's messages that differ in their secrets alone have the same lines, unless secrets are asked for. Where it isn't told which message of tag `p`
-/// one is, it has the same line whatever is asked for.
+/// A client's messages that differ in their secrets alone have the same lines, unless secrets are asked for. Where it isn't reported which message of tag
+/// `p` one is, it has the same line whatever is asked for.
 pub fn client_secrets_are_hidden()
     ensures password { (style : Style) (told : Bool) (a b old : List ℕ) → length a ≡ length b →
         client_line (quiet style) told (Ok (PasswordMessage a)) old ≡ client_line (quiet style) told (Ok (PasswordMessage b)) old }

@@ -1,4 +1,4 @@
-//! The lists of a line: the items of each walk, and why it breaks off where it does.
+//! The lists of a line: the items of each iterator, and why it breaks off where it does.
 #![tactic(auto, using(crate::proofs::Items::item_more, crate::proofs::Items::items_end, crate::proofs::Items::items_fault))]
 
 ghost use Rattle.std.specs.Prelude.{◌≡◌, ◌≤◌, ◌∷◌, [], length, OnErr, OnOk, string_bytes};
@@ -21,7 +21,7 @@ use pgp_message::{
 use std::alloc::AllocError;
 use std::ops::Range;
 
-/// Adds the refusal of a frame.
+/// Adds the error of a frame.
 pub fn put_refused<A: Memory>(
     style: Style,
     refusal: &Error,
@@ -34,7 +34,7 @@ pub fn put_refused<A: Memory>(
     put_word(style, refusal_of(refusal), line)
 }
 
-/// Adds a refusal in a list.
+/// Adds an error in a list.
 pub fn put_fault<A: Memory>(
     style: Style,
     refusal: &Error,

@@ -1,4 +1,4 @@
-//! The names that a line has for messages, refusals, the fields of errors and the states of transactions.
+//! The names that a line has for messages, errors, the fields of errors and the states of transactions.
 
 ghost use Rattle.std.specs.Prelude.{◌≡◌};
 ghost use Rattle.std.specs.Option.{option_map};
@@ -89,7 +89,7 @@ pub fn says_nothing(message: &Message<&[u8]>) -> bool
     }
 }
 
-/// The name of a refusal.
+/// The name of an error.
 pub fn refusal_of(refusal: &Error) -> &'static str
     ensures { result.now ≡ refusal_of refusal.now }
 {
@@ -135,7 +135,7 @@ pub fn field_of(letter: u8) -> Option<&'static str>
     }
 }
 
-/// The name of a field that tells a place.
+/// The name of a field that says a place.
 fn place_of(letter: u8) -> Option<&'static str>
     ensures { option_map (λ name. name.now) result ≡ place_of letter }
 {

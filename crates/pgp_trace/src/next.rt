@@ -10,12 +10,12 @@ use pgp_base::Memory;
 use pgp_line::style::Style;
 use std::alloc::AllocError;
 
-/// Makes the line of the frame at the front of the bytes, which stands at this place. Answers what is then known of the side, and what stands
-/// behind the frame, both unchanged where there is none.
+/// Makes the line of the frame at the front of the bytes, which stands at this place. Returns what is then known of the side, and what stands
+/// after the frame, both unchanged where there is none.
 ///
 /// # Errors
 ///
-/// `AllocError` where there is no memory for the line.
+/// Returns `AllocError` if there is no memory for the line.
 pub fn next_line<'a, 'b, A: Memory>(
     style: Style,
     place: u64,

@@ -28,7 +28,7 @@ pub struct Options<A: Memory> {
     pub kinds: Vec<PasswordKind, A>,
 }
 
-/// Reads the options of a listing, or answers nothing where the words are no such.
+/// Reads the options of a listing, or returns nothing where the words are no such.
 ///
 /// # Errors
 ///
@@ -108,7 +108,7 @@ fn first_choice(words: &[&str]) -> Option<Choice>
     }
 }
 
-/// The kind that stands first, behind the word that asks for it.
+/// The kind that stands first, after the word that asks for it.
 fn first_kind(words: &[&str]) -> Option<Choice>
     ensures some { IfSome result (λ choice. (length (spelled choice) ≡ 2) × (codes "--password-kind" ∷ map (λ word. word.now) words.now ≡ spelled choice ++ map (λ word. word.now) (drop 1 words.now))) }
     ensures none { IfNone result (BeginsWithNone (codes "--password-kind" ∷ map (λ word. word.now) words.now)) }

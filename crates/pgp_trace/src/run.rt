@@ -88,7 +88,7 @@ fn command_of<A: Memory>(alloc: A, words: &[&str]) -> Result<Option<Command<A>>,
     }
 }
 
-/// What the words behind `server` ask for.
+/// What the words after `server` ask for.
 fn server_of<A: Memory>(alloc: A, words: &[&str]) -> Result<Option<Command<A>>, AllocError>
     ensures known { IfOk result (λ r. IfSome r (λ command. Asks (codes "server" ∷ map (λ word. word.now) words.now) (asked command))) }
     ensures other { IfOk result (λ r. IfNone r (IsOther (codes "server" ∷ map (λ word. word.now) words.now))) }
@@ -103,7 +103,7 @@ fn server_of<A: Memory>(alloc: A, words: &[&str]) -> Result<Option<Command<A>>, 
     Ok(Some(Command::Server(style_of(options.json, options.full, options.secrets))))
 }
 
-/// What the words behind `client` ask for.
+/// What the words after `client` ask for.
 fn client_of<A: Memory>(alloc: A, words: &[&str]) -> Result<Option<Command<A>>, AllocError>
     ensures known { IfOk result (λ r. IfSome r (λ command. Asks (codes "client" ∷ map (λ word. word.now) words.now) (asked command))) }
     ensures other { IfOk result (λ r. IfNone r (IsOther (codes "client" ∷ map (λ word. word.now) words.now))) }
@@ -190,7 +190,7 @@ pub fn obey<A: Memory, R: Input, W: Output>(
     }
 }
 
-/// Says on `errors` what is to be said there, or as much of it as it takes where it fails, and answers the status.
+/// Says on `errors` what is to be said there, or as much of it as it takes where it fails, and returns the status.
 fn tell<E: Output>(outcome: Outcome, errors: &mut E) -> u8
     ensures status { result ≡ outcome.status }
     ensures told { IsSaid (GivesUp E.Fails E.Interrupted) (E.contents errors.old) (E.contents errors.new) outcome.complaint.now }
@@ -199,7 +199,7 @@ fn tell<E: Output>(outcome: Outcome, errors: &mut E) -> u8
     outcome.status
 }
 
-/// Does what the words ask for, says on `errors` what is to be said there, and answers the status.
+/// Does what the words ask for, says on `errors` what is to be said there, and returns the status.
 ///
 /// Where `errors` fails, a front of that is said.
 pub fn run<A: Memory, R: Input, W: Output, E: Output>(
@@ -258,7 +258,7 @@ fn obey_own<A: Memory, V: Words, R: Input, W: Output>(
     }
 }
 
-/// Runs on the words of the process, behind its name.
+/// Runs on the words of the process, after its name.
 pub fn run_own<A: Memory, V: Words, R: Input, W: Output, E: Output>(
     alloc: A,
     env: &V,

@@ -7,9 +7,9 @@ use pgp_frontend_read::PasswordKind;
 pub enum Side<'a> {
     Server,
     Client {
-        /// Whether a startup packet came. Before it opening packets come, behind it tagged messages.
+        /// Whether a startup packet came. Before it opening packets come, after it tagged messages.
         opened: bool,
-        /// Which the next messages of tag `p` are. Behind the last of them it isn't known.
+        /// Which the next messages of tag `p` are. After the last of them it isn't known.
         kinds: &'a [PasswordKind],
     },
 }

@@ -34,7 +34,7 @@ struct Held<'a, A: Memory> {
     bytes: BytesMut<A>,
     /// Where they stand.
     place: u64,
-    /// Whether nothing tells where a frame begins in them. What comes behind them is counted alone.
+    /// Whether nothing says where a frame begins in them. What comes after them is counted alone.
     stopped: bool,
     /// How many bytes aren't listed.
     left: u64,
@@ -49,7 +49,7 @@ struct Held<'a, A: Memory> {
 ///
 /// # Errors
 ///
-/// `Memory` where memory is refused, `Read` where reading fails, and `Write` where writing or a flush fails.
+/// Returns `Memory` if memory is refused, `Read` if reading fails, and `Write` if writing or a flush fails.
 pub fn list<A: Memory, R: Input, W: Output>(
     alloc: A,
     style: Style,
@@ -102,7 +102,7 @@ fn list_stream<A: Memory, R: Input, W: Output>(
         line: String::new(alloc),
         lines: String::new(alloc),
     };
-    // Bounded, since each function has to end, and a reader may give pieces or be interrupted for ever.
+    // Bounded, since each function has to end, and a reader may give pieces or be interrupted forever.
     'pieces: for _ in 0..u64::MAX {
         match input.read_some(piece) {
             Ok(0) => return list_rest(style, held.stopped, held.left, &mut held.line, output),
@@ -155,8 +155,8 @@ fn list_piece<A: Memory, W: Output>(
     put_lines(held.lines.as_str(), output)
 }
 
-/// Adds the lines of the whole frames at the front of the bytes, which stand at this place. Answers how many bytes they take, whether nothing
-/// tells where the next one begins, and what is then known of the side.
+/// Adds the lines of the complete frames at the front of the bytes, which stand at this place. Returns how many bytes they take, whether
+/// nothing says where the next one begins, and what is then known of the side.
 fn list_frames<'a, A: Memory>(
     style: Style,
     place: u64,

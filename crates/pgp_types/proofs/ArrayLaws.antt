@@ -27,7 +27,7 @@ use Rattle.pgp_types.proofs.ArrayLemmas.{head_is, dimension_is, of, all_head, al
 
 -- Every list of bytes has a reading.
 
--- the dimensions that are left stand there, or one of them is refused
+-- the dimensions that are left stand there, or one of them is rejected
 some_dimensions : (behind : List ℕ) (left : ℕ) (ds : List ArrayDimension) (p : ℕ) (rest : List ℕ) → IsBytes rest → Extent behind ds p rest
     → ((es : List ArrayDimension) × (q : ℕ) × (after : List ℕ) × Extent behind es q after × (length es ≡ length ds + left))
     ⊎ ((es : List ArrayDimension) × (q : ℕ) × (after : List ℕ) × (e : Error) × Extent behind es q after × (length es < length ds + left) × (dimension q).Refused after e)

@@ -32,7 +32,7 @@ value_then [] (Some w) e = refl
 value_then (None ∷ vs) v e = refl
 value_then (Some w ∷ vs) v e = value_then vs v e
 
--- an element that was refused behind those that were made
+-- an element that was rejected after those that were made
 pub value_stops : {F T E B K : Type 0} (held : B → Held K) (step : F → T → MutBor B → Result IsNull E → MutBor B → F → Type 0) (given : List T → Option T → Type 0) (f : F) (here : Held K) (lacks : Held K → ℕ → Type 0)
     (xs : List T) (x : T) (vs : List (Option (List ℕ))) (at u : F) (b : Held K) (e : BindError E)
     → given xs (Some x) → Runs (Gives held step) nullable here f xs vs at → b ≡ here ⊕ flat_map nullable vs
@@ -59,7 +59,7 @@ module _ {K : Type 0} where
   three_more : (h : Held K) (x y z : List ℕ) → h ⊕ x ⊕ y ⊕ z ≡ h ⊕ (x ++ y ++ z)
   three_more h x y z = ap (λ a. a ⊕ z) (more_twice h x y) ∙ more_twice h (x ++ y) z
 
-  -- a part behind a place of four bytes
+  -- a part after a place of four bytes
   placed : (a b d : Held K) (p q r : List ℕ) → b ≡ a ⊕ uint32 0 → d ≡ b ⊕ p ⊕ q ⊕ r → d ≡ b ⊕ (p ++ q ++ r)
   placed a b d p q r e f = f ∙ three_more b p q r
 

@@ -37,7 +37,7 @@ entry_part : IsPart entry entry_at
 unfolding entry_at key_at entry_value_at
 entry_part = then_part (only_part utf8_test NotUtf8 (sized_part InvalidKeyLength)) (only_part text_or_null_test NotUtf8 (nullable_part InvalidValueLength))
 
--- no part of an entry is refused as not drained
+-- no part of an entry is rejected as not drained
 natural_own : (negative : Error) → (NotDrained ≡ negative → ⊥) → (bytes : List ℕ) → NaturalRefused negative bytes NotDrained → ⊥
 natural_own negative other bytes (inl cut) = absurd (let e : NotDrained ≡ UnexpectedEof = cut.1 in cc)
 natural_own negative other bytes (inr below) = other below.1
@@ -165,7 +165,7 @@ module _ (xs : List (Bor (List ℕ) × Option (Bor (List ℕ)))) (x : Bor (List 
       let step : r ≡ b ⊕ entry_bytes (shown_entry x) = h ∙ (ap (λ d. d ⊕ nullable_bytes (shown_entry x).1) f ∙ more_twice b (nullable_bytes (Some (shown_entry x).0)) (nullable_bytes (shown_entry x).1)) in
       more_parts entry_bytes a b r (shown_entries xs) (shown_entry x) e step ∙ ap (λ es. a ⊕ flat_map entry_bytes es) (sym (map-append shown_entry xs (x ∷ [])))
 
--- What the reader of a part answers.
+-- What the reader of a part returns.
 
 module _ (bytes text rest : List ℕ) where
   pub key_read : sized_at InvalidKeyLength bytes ≡ Ok (text, rest) → IsUtf8 text → key_at bytes ≡ Ok (text, rest)

@@ -138,7 +138,7 @@ read_address ipv6 bytes small l known within size fits =
     let octets : IsBytes address = bytes_take (length bytes - 4) _ (bytes_drop 4 bytes small) in
     (Ok (record { addr = V6 (record { segments = segments_of address }); netmask = get_or bytes 1 0 }), read_v6 bytes l known address (within, size, (octets, fits), refl) (V6 (record { segments = segments_of address })) refl)
 
--- what stands behind the number of a family
+-- what stands after the number of a family
 some_address : (f : Family) (bytes : List ℕ) → IsBytes bytes → 4 ≤ length bytes → get_or bytes 0 0 ≡ family_number f → HasReading bytes
 some_address f bytes small l known =
     let p : Parts = parts_in bytes in
@@ -183,7 +183,7 @@ same_parts p q e =
     let same : parts p.family p.netmask p.cidr p.size p.address ≡ parts q.family q.netmask q.cidr q.size q.address = cc in
     same
 
--- the refusals of an address one by one
+-- the errors of an address one by one
 address_cases : (size netmask announced : ℕ) (address : List ℕ) (e : Error) → AddressRefused size netmask announced address e
     → ((8 * size < netmask) × (e ≡ InvalidNetmask))
     ⊎ (((netmask ≤ 8 * size) × (announced ≢ size) × (e ≡ InvalidAddressLength))
@@ -243,7 +243,7 @@ one_refused bytes d e (inr r) (inl s) = absurd (four_numbers bytes r.0 r.1 s.0)
 one_refused bytes d e (inr r) (inr s) =
     one_parts r.0 d e r.2 (subst (λ (p : Parts). PartsRefused p e) (same_parts s.0 r.0 (sym s.1 ∙ r.1)) s.2)
 
--- the parts of a value are not refused
+-- the parts of a value are not rejected
 
 octets_long : (addr : IpAddr) → MatchIp addr IsIpv4Addr IsIpv6Addr → length (octets addr) ≡ address_size (family_of addr)
 octets_long (V4 ip) has = has.0

@@ -30,7 +30,7 @@ begins_read {V} {p} {read} part bytes x rest b = ap read b.whole ∙ part.again 
 pub rest_bytes : {V : Type 0} {p : Part V} → (bytes : List ℕ) (x : V) (rest : List ℕ) → Begins p bytes x rest → IsBytes bytes → IsBytes rest
 rest_bytes bytes x rest b h = IsBytes-after b.front rest bytes b.whole h
 
--- one reading behind another
+-- one reading after another
 pub and_then_ok : {U W : Type 0} (r : Result (U × List ℕ) Error) (f : U → List ℕ → Result W Error) (y : W) → and_then r f ≡ ok y → (x : U × List ℕ) × (r ≡ Ok x) × (f x.0 x.1 ≡ Ok y)
 and_then_ok (Ok x) f y e = (x, refl, e)
 and_then_ok (Err d) f y e = absurd (differ y d (sym e))
@@ -108,7 +108,7 @@ split_refused short n bytes e h =
 split_refuses : (short : Error) (n : ℕ) (bytes : List ℕ) → length bytes < n → split_at short n bytes ≡ Err short
 split_refuses short n bytes lt = rw (lt-ltb _ _ lt) refl
 
--- Bytes behind their length.
+-- Bytes after their length.
 
 sized_whole : (n : ℕ) (front v rest after : List ℕ) → front ≡ uint32 n → length v ≡ n → after ≡ v ++ rest → front ++ after ≡ (uint32 (length v) ++ v) ++ rest
 sized_whole n front v rest after is len split =
@@ -278,7 +278,7 @@ only_part {V} {Is} {is} test other {p} {read} part = record {
       ];
 }
 
--- Two parts, one behind the other.
+-- Two parts, one after the other.
 
 pub then_part : {U V : Type 0} {p : Part U} {q : Part V} {read_p : Reader U} {read_q : Reader V} → IsPart p read_p → IsPart q read_q → IsPart (p then q) (then_at read_p read_q)
 then_part {U} {V} {p} {q} {read_p} {read_q} one other = record {

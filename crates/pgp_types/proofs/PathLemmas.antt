@@ -124,7 +124,7 @@ path_sound = record {
   back = path_back;
 }
 
--- What the reader answers.
+-- What the reader returns.
 
 module _ (bytes rest after : List ℕ) (byte : ℕ) (is : flag_at bytes ≡ Ok (is_set byte, rest)) where
   pub header_refused : (e : Error) → IsBytes bytes → natural_at InvalidCount rest ≡ Err e → header.Refused bytes e

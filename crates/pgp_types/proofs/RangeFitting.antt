@@ -17,7 +17,7 @@ use Rattle.pgp_types.specs.Range.{Side, side_bytes, side_cause}
 use Rattle.pgp_types.specs.RangeWriting.{side_of, LowerMade, RangeStops, RangeWritten}
 use Rattle.pgp_types.specs.RangeRoom.{LacksRange}
 
--- no side has want of memory as its cause
+-- no side has lack of memory as its cause
 too_large : (b : Bool) → (let c : Cause = if b then None else Some TooLarge in c ≡ Some OutOfMemory) → ⊥
 too_large true e = cc
 too_large false e = cc
@@ -35,7 +35,7 @@ side_no_memory (Exclusive (Some z)) e = length_no_memory (length z) e
 same_refusal : {E : Type 0} (d e : BindError E) → (let r : Result (Unit {0}) (BindError E) = Err d in let s : Result (Unit {0}) (BindError E) = Err e in r ≡ s) → d ≡ e
 same_refusal d e h = cc
 
--- what is lacked behind more bytes
+-- what is lacked after more bytes
 lacks_behind : (a b : Held (GName × ℕ)) (m n k : ℕ) → length b.bytes ≡ length a.bytes + m → b.kept ≡ a.kept → m + n ≡ k → window_lacks b n → window_lacks a k
 lacks_behind a b m n k s e h w = let same : b.kept.1 ≡ a.kept.1 = ap (λ (k : GName × ℕ). k.1) e in omega (arith, s, h, same, w)
 

@@ -138,7 +138,7 @@ range_only bytes (Err e) (inr (tag, rest, is, inr (other, inr (x, more, b, left,
     let front : read rest ≡ Ok (x, more) = ap read b.whole ∙ (sides_part tag).again x b.front more b.spelled in
     ap range_at is ∙ (tagged_other tag rest other ∙ (ap (λ r. and_then r between_at) front ∙ (between_more x more left ∙ ap Err (sym why))))
 
--- what the reader answers
+-- what the reader returns
 pub range_answers : (bytes : List ℕ) (r : Result Seen Error) → IsBytes bytes → Answers shown_range r (range_at bytes) → ReadsBy shown_range range bytes r
 range_answers bytes (Ok x) h e = subst (RangeReads bytes) e (range_found bytes h)
 range_answers bytes (Err d) h e = subst (RangeReads bytes) e (range_found bytes h)

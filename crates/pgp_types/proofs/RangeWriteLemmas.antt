@@ -159,7 +159,7 @@ tag_or (Exclusive v) Unbounded = refl
 tag_or (Exclusive v) (Inclusive w) = refl
 tag_or (Exclusive v) (Exclusive w) = refl
 
--- the bytes of both sides, behind a tag that is written at last
+-- the bytes of both sides, after a tag that is written at last
 module _ {K : Type 0} (a mid d : Held K) (n m : ℕ) (l u : Side) (first : Extends n (a ⊕ 0 ∷ []) (side_bytes l) mid) (second : Extends m mid (side_bytes u) d) where
   both : Extends (n + m) a (0 ∷ (side_bytes l ++ side_bytes u)) d
   both =

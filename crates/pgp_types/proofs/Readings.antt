@@ -122,7 +122,7 @@ text_sound = record {
 
 -- labels
 
--- the bytes behind a version of 1, if there is one
+-- the bytes after a version of 1, if there is one
 version_or_not : (version : ℕ) (bytes : List ℕ) → ((rest : List ℕ) × (bytes ≡ version ∷ rest)) ⊎ ((rest : List ℕ) → bytes ≢ version ∷ rest)
 version_or_not version [] = inr (λ rest e. absurd (let l = ap length e in omega arith))
 version_or_not version (b ∷ rest) = elim (cases_order b version) [

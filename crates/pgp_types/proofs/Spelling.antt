@@ -31,7 +31,7 @@ pub gives : {V : Type 0} {IsValue : V → Type 0} {written : V → List ℕ} {si
 gives {V} {IsValue} {written} {size} {read} s bytes xs all v is =
     (subst IsValue (sym is) (s.has xs all.0.0 all.0.1), all.1 ∙ s.spelled xs all.0.0 all.0.1 ∙ ap written (sym is))
 
--- Every list of bytes is as long as a value, or is refused.
+-- Every list of bytes is as long as a value, or is rejected.
 some_fixed : {V : Type 0} {IsValue : V → Type 0} {written : V → List ℕ} {size : ℕ} {read : List ℕ → V}
     → IsSpelling IsValue written size read → (bytes : List ℕ) → IsBytes bytes
     → (length bytes ≡ size) ⊎ ((length bytes < size) ⊎ (size < length bytes))
@@ -50,7 +50,7 @@ one_refusal size bytes NotDrained NotDrained p q = refl
 one_refusal size bytes NotDrained e p q = absurd q
 one_refusal size bytes d e p q = absurd p
 
--- the bytes of a value are not refused
+-- the bytes of a value are not rejected
 pub not_refused : (size : ℕ) (bytes : List ℕ) (e : Error) → length bytes ≡ size → FixedRefused size bytes e → ⊥
 not_refused size bytes UnexpectedEof fits short = omega arith
 not_refused size bytes NotDrained fits long = omega arith

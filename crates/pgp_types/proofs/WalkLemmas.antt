@@ -14,7 +14,7 @@ use Rattle.pgp_types.specs.Part.{Part, IsWalk, finished}
 use Rattle.pgp_types.specs.PartReading.{Reader}
 use Rattle.pgp_types.proofs.PartLemmas.{IsPart}
 
--- a part that takes bytes, and is never refused as not drained
+-- a part that takes bytes, and is never rejected as not drained
 pub record IsItem {V : Type 0} (p : Part V) (read : Reader V) : Type 0 where
   pub part : IsPart p read
   pub some : (x : V) (front : List ℕ) → p.Spelled x front → 0 < length front

@@ -47,7 +47,7 @@ IsDimension d = FitsSigned w32 d.len × FitsSigned w32 d.lower_bound
 
 -- What is read.
 
--- The product of the lengths of dimensions behind others whose product is p, from the left, no partial
+-- The product of the lengths of dimensions after others whose product is p, from the left, no partial
 -- product past the greatest Int32.
 abbrev pub Product : ℕ → List ArrayDimension → ℕ → Type 0
 Product p [] n = p ≡ n
@@ -68,7 +68,7 @@ oid_part = fixed_part (λ n. n < 2 ^ 32) oid_bytes 4
 abbrev pub head : Part (ℕ × (ℤ × ℕ))
 head = natural InvalidCount then (int32_part then oid_part)
 
--- a dimension behind others whose product is p: its length and its lower bound
+-- a dimension after others whose product is p: its length and its lower bound
 abbrev pub dimension : ℕ → Part (ℕ × ℤ)
 dimension p = only (λ d. p * d.0 ≤ 2147483647) TooManyElements (natural InvalidDimension then int32_part)
 
@@ -106,8 +106,8 @@ pub record ArrayRead : Type 0 where
 abbrev pub finished : {V : Type 0} → List V → Walk V
 finished xs = record { items = xs; end = None; announced = Some (length xs) }
 
--- All dimensions stand there, and the elements are a walk over the bytes behind them; or the head is refused, or a
--- dimension behind fewer than there are to be.
+-- All dimensions stand there, and the elements are a walk over the bytes after them; or the head is rejected, or a
+-- dimension after fewer than there are to be.
 abbrev pub ArrayReads : List ℕ → Result ArrayRead Error → Type 0
 ArrayReads bytes (Ok v) = (f : Front bytes) × (length f.dimensions ≡ f.count) × IsFlag v.has_nulls f.flag × (v.element_type ≡ f.element_type)
     × (v.dimensions ≡ finished f.dimensions) × IsWalk (nullable InvalidValueLength) (elements_of f.dimensions f.product) f.rest v.values

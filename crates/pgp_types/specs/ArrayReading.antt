@@ -15,7 +15,7 @@ oid_at = fixed_at (λ l. from_be_bytes w32 l) 4
 abbrev pub head_at : Reader (ℕ × (ℤ × ℕ))
 head_at = then_at (natural_at InvalidCount) (then_at int32_at oid_at)
 
--- a dimension behind others whose product is p
+-- a dimension after others whose product is p
 abbrev pub dimension_at : ℕ → Reader (ℕ × ℤ)
 dimension_at p = only_at (λ d. nat_le (p * d.0) 2147483647) TooManyElements (then_at (natural_at InvalidDimension) int32_at)
 

@@ -21,27 +21,27 @@ before_elements old ds element_type = old ⊕ uint32 (length ds) ⊕ uint32 0 �
 -- What an iterator gave is one relation: `given xs None` says that it gave xs and ended, `given xs (Some x)` that it
 -- gave xs and then x.
 
--- a dimension came behind as many as can be counted
+-- a dimension came after as many as can be counted
 pub record DimensionsPast (given : List ArrayDimension → Option ArrayDimension → Type 0) : Type 0 where
   pub before : List ArrayDimension
   pub last : ArrayDimension
   pub came : given before (Some last)
   pub full : length before ≡ 2147483647
 
--- a growth was refused that the head of the dimensions so far needs: three numbers, and two for each
+-- an allocation failed that the head of the dimensions so far needs: three numbers, and two for each
 abbrev pub WantsHead : {K : Type 0} → (List ArrayDimension → Option ArrayDimension → Type 0) → (Held K → ℕ → Type 0) → Held K → Error → Type 0
 WantsHead given lacks old e = (e ≡ OutOfMemory) × ((ds : List ArrayDimension) × SoFar given ds × Wants lacks old (12 + 8 * length ds))
 
 -- The elements that a serializer makes of the items that were given. It begins as `f` and is left as `last`; `here`
 -- is what the buffer holds before the first of them.
 module _ {F T E B K : Type 0} (held : B → Held K) (step : F → T → MutBor B → Result IsNull E → MutBor B → F → Type 0) (given : List T → Option T → Type 0) (f last : F) (here : Held K) where
-  -- it was called once at each item, in order, each time behind the elements before it, and made vs
+  -- it was called once at each item, in order, each time after the elements before it, and made vs
   pub record Made (vs : List (Option (List ℕ))) : Type 0 where
     pub xs : List T
     pub came : given xs None
     pub runs : Runs (Gives held step) nullable here f xs vs last
 
-  -- it made the elements of the first items, and the one behind them was refused
+  -- it made the elements of the first items, and the one after them was rejected
   pub record MadeUpTo (lacks : Held K → ℕ → Type 0) (e : BindError E) : Type 0 where
     pub xs : List T
     pub x : T
@@ -53,7 +53,7 @@ module _ {F T E B K : Type 0} (held : B → Held K) (step : F → T → MutBor B
 
 -- `array_to_sql` of the dimensions and the elements that were given
 module _ {F T E B K : Type 0} (held : B → Held K) (step : F → T → MutBor B → Result IsNull E → MutBor B → F → Type 0) (dimensions : List ArrayDimension → Option ArrayDimension → Type 0) (element_type : ℕ) (elements : List T → Option T → Type 0) (f last : F) (old : Held K) where
-  -- the array of the dimensions that came and the elements that the serializer made stands behind the old bytes
+  -- the array of the dimensions that came and the elements that the serializer made stands after the old bytes
   pub record ArrayWritten (new : Held K) : Type 0 where
     pub array : Array
     pub came : dimensions array.dimensions None
@@ -63,7 +63,7 @@ module _ {F T E B K : Type 0} (held : B → Held K) (step : F → T → MutBor B
     pub none : array_cause array ≡ None
     pub appended : new ≡ old ⊕ array_bytes array
 
-  -- before the elements: for want of memory, or for too many dimensions
+  -- before the elements: for lack of memory, or for too many dimensions
   abbrev pub HeadRefused : (Held K → ℕ → Type 0) → BindError E → Type 0
   HeadRefused lacks (Conversion e) = ⊥
   HeadRefused lacks (Serialization e) = WantsHead dimensions lacks old e ⊎ (DimensionsPast dimensions × (e ≡ TooLarge))
@@ -75,7 +75,8 @@ module _ {F T E B K : Type 0} (held : B → Held K) (step : F → T → MutBor B
     pub fits : length_cause (length all) ≡ None
     pub stops : MadeUpTo held step elements f last (before_elements old all element_type) lacks e
 
-  -- Why the call was refused: before the elements, and the serializer wasn't called; or at an element.
+  -- Why the call was rejected: before the elements, and the serializer wasn't called; or at an
+  -- element.
   abbrev pub ArrayRefused : (Held K → ℕ → Type 0) → BindError E → Type 0
   ArrayRefused lacks e = (HeadRefused lacks e × (last ≡ f)) ⊎ ElementRefused lacks e
 

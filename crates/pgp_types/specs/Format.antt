@@ -26,12 +26,12 @@ Plain V = Format V V
 abbrev pub plain : {V : Type 0} → (V → Type 0) → (V → List ℕ) → (List ℕ → Result V Error → Type 0) → Plain V
 plain IsValue written Reads = record { IsValue = IsValue; written = written; cause = λ _. None; seen = λ v. v; Reads = Reads }
 
--- What a writer leaves: the bytes of the value behind the old ones; or the old ones, where the memory that these bytes need, or
+-- What a writer leaves: the bytes of the value after the old ones; or the old ones, where the memory that these bytes need, or
 -- the value, was refused.
 abbrev pub Writes : {V R K : Type 0} → Format V R → V → (Held K → ℕ → Type 0) → Held K → Result (Unit {0}) Error → Held K → Type 0
 Writes f v lacks old result new = WritesSpelling (f.written v) (f.cause v) lacks old new result
 
--- What a reader answers for the bytes.
+-- What a reader returns for the bytes.
 abbrev pub Reads : {V R : Type 0} → Format V R → List ℕ → Result R Error → Type 0
 Reads f bytes result = f.Reads bytes result
 
@@ -46,8 +46,8 @@ pub record IsSound {V R : Type 0} (f : Format V R) : Type 0 where
   pub one : (bytes : List ℕ) (r s : Result R Error) → f.Reads bytes r → f.Reads bytes s → r ≡ s
   pub back : (v : V) → f.IsValue v → f.cause v ≡ None → f.Reads (f.written v) (Ok (f.seen v))
 
--- Values that all take the same number of bytes: read from what is written for one, and refused where
--- bytes are missing, or are left over.
+-- Values that all take the same number of bytes: read from what is written for one, and rejected
+-- where bytes are missing, or are left over.
 abbrev pub FixedRefused : ℕ → List ℕ → Error → Type 0
 FixedRefused size bytes UnexpectedEof = length bytes < size
 FixedRefused size bytes NotDrained = size < length bytes
@@ -67,7 +67,7 @@ IsBlock size bytes = IsBytes bytes × (length bytes ≡ size)
 abbrev pub block : ℕ → Plain (List ℕ)
 block size = fixed (IsBlock size) (λ bytes. bytes) size
 
--- So many bytes, as they stand; any other number of bytes is refused.
+-- So many bytes, as they stand; any other number of bytes is rejected.
 abbrev pub WholeReads : ℕ → List ℕ → Result (List ℕ) Error → Type 0
 WholeReads size bytes (Ok v) = IsBlock size v × (bytes ≡ v)
 WholeReads size bytes (Err InvalidSize) = length bytes ≢ size

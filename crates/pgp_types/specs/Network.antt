@@ -40,7 +40,7 @@ abbrev pub octets : IpAddr → List ℕ
 octets (V4 a) = ipv4_octets a
 octets (V6 a) = ipv6_octets a
 
--- The parts of an inet: three numbers, the size that is announced for the address, and what stands behind them.
+-- The parts of an inet: three numbers, the size that is announced for the address, and what stands after them.
 pub record Parts : Type 0 where
   pub family : ℕ
   pub netmask : ℕ
@@ -65,19 +65,20 @@ parts_of cidr v = record {
 abbrev pub IsInet : Inet → Type 0
 IsInet v = MatchIp v.addr IsIpv4Addr IsIpv6Addr × (v.netmask ≤ 8 * address_size (family_of v.addr))
 
--- Why what stands behind a family's number is refused, by the size of the family's addresses: first the netmask,
+-- Why what stands after a family's number is rejected, by the size of the family's addresses: first the netmask,
 -- then the size that is announced, then the address.
 abbrev pub AddressRefused : (size netmask announced : ℕ) → List ℕ → Error → Type 0
 AddressRefused size netmask announced address InvalidNetmask = 8 * size < netmask
 AddressRefused size netmask announced address InvalidAddressLength = (netmask ≤ 8 * size) × (announced ≢ size)
 AddressRefused size netmask announced address e = (netmask ≤ 8 * size) × (announced ≡ size) × FixedRefused size address e
 
--- Before all that, the number of no family is refused.
+-- Before all that, the number of no family is rejected.
 abbrev pub PartsRefused : Parts → Error → Type 0
 PartsRefused p InvalidFamily = (f : Family) → p.family ≢ family_number f
 PartsRefused p e = (f : Family) × (p.family ≡ family_number f) × AddressRefused (address_size f) p.netmask p.size p.address e
 
--- Bytes are read as a value whatever the flag is, and refused where the four numbers aren't there, or as their parts are.
+-- Bytes are read as a value whatever the flag is, and rejected where the four numbers aren't there, or as their parts
+-- are.
 abbrev pub InetReads : List ℕ → Result Inet Error → Type 0
 InetReads bytes (Ok v) = IsInet v × ((cidr : ℕ) × (bytes ≡ joined (parts_of cidr v)))
 InetReads bytes (Err e) = ((length bytes < 4) × (e ≡ UnexpectedEof)) ⊎ ((p : Parts) × (bytes ≡ joined p) × PartsRefused p e)

@@ -15,7 +15,7 @@ pub record Part (V : Type 0) : Type 1 where
   pub Spelled : V → List ℕ → Type 0
   pub Refused : List ℕ → Error → Type 0
 
--- the bytes begin with the part, and the rest stands behind it
+-- the bytes begin with the part, and the rest stands after it
 pub record Begins {V : Type 0} (p : Part V) (bytes : List ℕ) (x : V) (rest : List ℕ) : Type 0 where
   pub front : List ℕ
   pub whole : bytes ≡ front ++ rest
@@ -43,7 +43,8 @@ pub record IsShort (bytes : List ℕ) : Type 0 where
   pub whole : bytes ≡ uint32 len ++ rest
   pub short : length rest < len
 
--- a number with no sign: the least that are refused are four bytes missing; a negative one is refused with `negative`
+-- a number with no sign: the least that are rejected are four bytes missing; a negative one is rejected with
+-- `negative`
 abbrev pub NaturalRefused : Error → List ℕ → Error → Type 0
 NaturalRefused negative bytes e = ((length bytes < 4) × (e ≡ UnexpectedEof)) ⊎ (IsNegative bytes × (e ≡ negative))
 
@@ -54,14 +55,14 @@ natural negative = record {
   Refused = NaturalRefused negative;
 }
 
--- a length, and so many bytes; `wrong` refuses a length that is negative or passes the end
+-- a length, and so many bytes; `wrong` rejects a length that is negative or passes the end
 abbrev pub sized : Error → Part (List ℕ)
 sized wrong = record {
   Spelled = λ v front. (length_cause (length v) ≡ None) × (front ≡ uint32 (length v) ++ v);
   Refused = λ bytes e. NaturalRefused wrong bytes e ⊎ (IsShort bytes × (e ≡ wrong));
 }
 
--- the same, or any negative length for a null; `past_end` refuses a length that passes the end
+-- the same, or any negative length for a null; `past_end` rejects a length that passes the end
 abbrev pub NullableSpelled : Option (List ℕ) → List ℕ → Type 0
 NullableSpelled None front = (below : ℕ) × FitsSigned w32 (negsuc below) × (front ≡ int32 (negsuc below))
 NullableSpelled (Some v) front = (length_cause (length v) ≡ None) × (front ≡ uint32 (length v) ++ v)
@@ -72,14 +73,14 @@ nullable past_end = record {
   Refused = λ bytes e. ((length bytes < 4) × (e ≡ UnexpectedEof)) ⊎ (IsShort bytes × (e ≡ past_end));
 }
 
--- a part which has to be such a value; any other is refused with `other`
+-- a part which has to be such a value; any other is rejected with `other`
 abbrev pub only : {V : Type 0} → (V → Type 0) → Error → Part V → Part V
 only {V} Is other p = record {
   Spelled = λ x front. p.Spelled x front × Is x;
   Refused = λ bytes e. p.Refused bytes e ⊎ ((x : V) × (rest : List ℕ) × Begins p bytes x rest × ¬ (Is x) × (e ≡ other));
 }
 
--- two parts, one behind the other
+-- two parts, one after the other
 pub record IsBoth {U V : Type 0} (p : Part U) (q : Part V) (x : U × V) (front : List ℕ) : Type 0 where
   pub first : List ℕ
   pub second : List ℕ

@@ -1,4 +1,4 @@
--- Private: reading a part of a value from the left, as a function. What it answers is what the part's grammar says.
+-- Private: reading a part of a value from the left, as a function. what it returns is what the part's grammar says.
 use Rattle.std.specs.Prelude.{ℕ, ℤ, pos, negsuc, Bool, true, not, nat_eq, List, length, take, drop, Option, Some, None, Result, Ok, Err, nat_lt, if◌then◌else◌}
 use Rattle.pgp_base.specs.declared.error.Error.{Error}
 use Rattle.pgp_base.specs.declared.error.Error.TheVariants.{NotUtf8, InvalidKeyLength, InvalidValueLength}
@@ -7,7 +7,7 @@ use Rattle.std.specs.Str.{is_utf8}
 use Rattle.pgp_base.specs.PartReading.{◌>>=◌, byte_at, int32_at, front_at}
 use Rattle.pgp_types.specs.Geometry.{Point}
 
--- what reads a part: the part and the bytes behind it, or a refusal
+-- what reads a part: the part and the bytes after it, or an error
 abbrev pub Reader : Type 0 → Type 0
 Reader V = List ℕ → Result (V × List ℕ) Error
 
@@ -46,7 +46,7 @@ tested is other x rest = if is x then Ok (x, rest) else Err other
 abbrev pub only_at : {V : Type 0} → (V → Bool) → Error → Reader V → Reader V
 only_at is other read bytes = and_then (read bytes) (tested is other)
 
--- two parts, one behind the other
+-- two parts, one after the other
 abbrev pub paired : {U V : Type 0} → U → V → List ℕ → Result ((U × V) × List ℕ) Error
 paired x y rest = Ok ((x, y), rest)
 

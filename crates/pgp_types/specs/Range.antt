@@ -29,8 +29,8 @@ lower_bits = record { unbounded = 8; inclusive = 2 }
 abbrev pub upper_bits : Bits
 upper_bits = record { unbounded = 16; inclusive = 4 }
 
--- What stands for a side: nothing where its unbounded bit is set, whatever the other is; else a value behind its length,
--- or a null.
+-- What stands for a side: nothing where its unbounded bit is set, whatever the other is; otherwise a value after its
+-- length, or a null.
 abbrev pub SideSpelled : Bits → ℕ → Side → List ℕ → Type 0
 SideSpelled bits tag Unbounded front = (bit_and tag bits.unbounded ≢ 0) × (front ≡ [])
 SideSpelled bits tag (Inclusive v) front = (bit_and tag bits.unbounded ≡ 0) × (bit_and tag bits.inclusive ≢ 0) × NullableSpelled v front
@@ -46,7 +46,7 @@ side bits tag = record {
 abbrev pub sides : ℕ → Part (Side × Side)
 sides tag = side lower_bits tag then side upper_bits tag
 
--- Why what stands behind the tag is refused: bytes behind the tag 1; behind any other a side, or bytes behind both.
+-- Why what stands after the tag is rejected: bytes after the tag 1; after any other a side, or bytes after both.
 abbrev pub TagRefused : ℕ → List ℕ → Error → Type 0
 TagRefused tag rest e = ((tag ≡ 1) × (rest ≢ []) × (e ≡ NotDrained))
     ⊎ ((tag ≢ 1) × ((sides tag).Refused rest e ⊎ ((x : Side × Side) × (more : List ℕ) × Begins (sides tag) rest x more × (more ≢ []) × (e ≡ NotDrained))))

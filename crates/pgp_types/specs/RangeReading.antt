@@ -1,4 +1,4 @@
--- Private: reading a range from the left, as a function, and its values behind a view. What it answers is what its grammar says.
+-- Private: reading a range from the left, as a function, and its values after a view. what it returns is what its grammar says.
 use Rattle.std.specs.Prelude.{ℕ, List, [], ◌∷◌, Option, Result, Ok, Err, bit_and, nat_eq, if◌then◌else◌}
 use Rattle.std.specs.Borrow.{Bor}
 use Rattle.pgp_base.specs.declared.error.Error.{Error}

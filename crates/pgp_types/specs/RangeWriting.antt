@@ -13,8 +13,8 @@ use Rattle.pgp_types.specs.declared.range.RangeBound.TheVariants.{Inclusive, Exc
 use Rattle.pgp_types.specs.Range.{Side, between, side_bytes, side_cause, range_bytes, range_cause}
 use denote.Ref.{MutBor}
 
--- what a side's closure may do to a buffer: append, and nothing where it answers a null; where it is refused use more of
--- what stands behind the bytes
+-- what a side's closure may do to a buffer: append, and nothing where it returns a null; where it is refused use more of
+-- what stands after the bytes
 abbrev pub KeepsBound : {E K : Type 0} → Result (RangeBound IsNull) E → Held K → Held K → Type 0
 KeepsBound (Ok (Inclusive Yes)) old new = new ≡ old
 KeepsBound (Ok (Exclusive Yes)) old new = new ≡ old
@@ -32,13 +32,13 @@ abbrev pub cut_of : RangeBound IsNull → List ℕ → ℕ
 cut_of Unbounded bytes = length bytes
 cut_of answer bytes = 0
 
--- it answers a null
+-- it returns a null
 abbrev pub IsNullBound : RangeBound IsNull → Type 0
 IsNullBound (Inclusive Yes) = ⊤
 IsNullBound (Exclusive Yes) = ⊤
 IsNullBound answer = ⊥
 
--- p stands behind the old bytes; of what stands behind p the first n bytes may be others than they were
+-- p stands after the old bytes; of what stands after p the first n bytes may be others than they were
 pub record Extends {K : Type 0} (n : ℕ) (old : Held K) (p : List ℕ) (new : Held K) : Type 0 where
   pub bytes : new.bytes ≡ old.bytes ++ p
   pub behind : drop n new.behind ≡ drop (length p + n) old.behind
@@ -68,12 +68,12 @@ module _ {F E B K : Type 0} (held : B → Held K) (post : F → MutBor B → Res
 
 -- The closures f and g, of the lower side and the upper, and what the buffer held before the call.
 module _ {F G E B K : Type 0} (held : B → Held K) (post_f : F → MutBor B → Result (RangeBound IsNull) E → MutBor B → Type 0) (post_g : G → MutBor B → Result (RangeBound IsNull) E → MutBor B → Type 0) (f : F) (g : G) (old : Held K) where
-  -- f was called behind the tag, and made the lower side, whose bytes stand there then
+  -- f was called after the tag, and made the lower side, whose bytes stand there then
   pub record LowerMade (lower : Side) (n : ℕ) (mid : Held K) : Type 0 where
     pub made : Makes held post_f (old ⊕ 0 ∷ []) f lower n
     pub stands : Extends n (old ⊕ 0 ∷ []) (side_bytes lower) mid
 
-  -- g was called behind that, and made the upper side
+  -- g was called after that, and made the upper side
   pub record WritesRange (new : Held K) : Type 0 where
     pub lower : Side
     pub upper : Side
@@ -85,7 +85,7 @@ module _ {F G E B K : Type 0} (held : B → Held K) (post_f : F → MutBor B →
     pub fits : range_cause (between lower upper) ≡ None
     pub appended : Extends (lower_cut + upper_cut) old (range_bytes (between lower upper)) new
 
-  -- there was no memory for the tag, or the lower side was refused, or behind it the upper
+  -- there was no memory for the tag, or the lower side was refused, or after it the upper
   abbrev pub RangeStops : (Held K → ℕ → Type 0) → BindError E → Type 0
   RangeStops lacks e = ((why : Error) × (e ≡ Serialization why) × WantsMemory (Wants lacks old 1) why) ⊎ (SideStops held post_f lacks (old ⊕ 0 ∷ []) f e
       ⊎ ((lower : Side) × (n : ℕ) × (mid : Held K) × LowerMade lower n mid × SideStops held post_g lacks mid g e))

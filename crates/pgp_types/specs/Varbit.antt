@@ -32,10 +32,10 @@ VarbitReads bytes (Err e) = bit_count.Refused bytes e ⊎ ((n : ℕ) × (rest : 
 abbrev pub varbit : Format Varbit Varbit
 varbit = record { IsValue = IsVarbit; written = λ v. uint32 v.len ++ v.bytes; cause = λ v. length_cause v.len; seen = λ v. v; Reads = VarbitReads }
 
--- What the writer leaves that is handed the number of bits and an iterator over the bytes: all of them stand behind the
--- number; or the old bytes stay, for want of memory, or since the number passes its field.
+-- What the writer leaves that is handed the number of bits and an iterator over the bytes: all of them stand after the
+-- number; or the old bytes stay, for lack of memory, or since the number passes its field.
 module _ (came : List ℕ → Option ℕ → Type 0) (len : ℕ) where
-  -- a growth was refused that the number and the bytes so far need
+  -- an allocation failed that the number and the bytes so far need
   abbrev pub WantsVarbit : {K : Type 0} → (Held K → ℕ → Type 0) → Held K → Error → Type 0
   WantsVarbit lacks old e = WantsValue came varbit (λ bytes. record { len = len; bytes = bytes }) lacks old e
 

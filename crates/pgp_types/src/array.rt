@@ -43,7 +43,7 @@ fn put_dimension<B: Buffer>(dimension: ArrayDimension, buf: &mut B) -> Result<()
     Ok(())
 }
 
-// Appends the dimensions, and tells how many there are. A refusal leaves what stood there as a front.
+// Appends the dimensions, and says how many there are. An error leaves what stood there as a front.
 fn put_dimensions<B: Buffer, I: IntoIterator<Item = ArrayDimension> + Drop>(
     dimensions: I,
     buf: &mut B,
@@ -69,7 +69,7 @@ where
     Ok(count)
 }
 
-// Appends the elements that the serializer makes, and tells whether one is null. A refusal leaves what
+// Appends the elements that the serializer makes, and says whether one is null. An error leaves what
 // stood there as a front.
 fn put_elements<
     B: Buffer,
@@ -100,7 +100,7 @@ where
     Ok(nulls)
 }
 
-// Appends what stands before the elements: 0 for the flag. A refusal leaves what stood there as a front.
+// Appends what stands before the elements: 0 for the flag. An error leaves what stood there as a front.
 #[tactic(auto, using(pgp_base::proofs::Parts::held_steps))]
 fn put_head<B: Buffer, I: IntoIterator<Item = ArrayDimension> + Drop>(
     dimensions: I,
@@ -125,7 +125,7 @@ where
     Ok(())
 }
 
-// The array. A refusal leaves what the buffer held as a front.
+// The array. An error leaves what the buffer held as a front.
 fn fill_array<
     B: Buffer,
     T: Drop,
@@ -161,14 +161,14 @@ where
 }
 
 /// Appends an array of elements of this type. The serializer appends the bytes of each element, in the
-/// order of the array, the last dimension the fastest; or it answers that the element is null and
+/// order of the array, the last dimension the fastest; or it returns that the element is null and
 /// appends nothing. How many elements the dimensions announce isn't compared with how many come.
 ///
 /// # Errors
 ///
-/// `Conversion` is the serializer's refusal. `Serialization` is `TooLarge` at the dimension past
-/// 2,147,483,647 or at an element of more bytes than that, and `OutOfMemory` where the buffer can't
-/// grow. The first of these from the left is answered, and then the buffer has the bytes that it had.
+/// `Conversion` is the serializer's error. `Serialization` is `TooLarge` at the dimension past
+/// 2,147,483,647 or at an element of more bytes than that, and `OutOfMemory` if the buffer can't grow.
+/// The first of these from the left is answered, and then the buffer has the bytes that it had.
 pub fn array_to_sql<
     B: Buffer,
     T: Drop,
@@ -242,7 +242,7 @@ impl<'a> Array<'a> {
         self.element_type
     }
 
-    /// The dimensions. They were read before, and the walk isn't refused.
+    /// The dimensions. They were read before, and the iterator isn't rejected.
     pub fn dimensions(&self) -> ArrayDimensions<'a>
         ensures same { result ≡ self.now.dimensions }
         ensures finished { result.end ≡ None }
@@ -300,8 +300,8 @@ impl FallibleIterator for ArrayDimensions<'_> {
 ///
 /// # Errors
 ///
-/// `UnexpectedEof` where a length is cut short, `InvalidValueLength` where one passes the end of the
-/// bytes, and `NotDrained` where bytes stand behind the last element.
+/// Returns `UnexpectedEof` if a length is cut short, `InvalidValueLength` if one passes the end of
+/// the bytes, and `NotDrained` if bytes stand after the last element.
 #[derive(Drop)]
 pub struct ArrayValues<'a>(Counted<'a>);
 
@@ -350,7 +350,7 @@ fn each_at(bytes: &[u8]) -> Result<(ArrayDimension, &[u8]), Error>
     Ok((ArrayDimension { len, lower_bound }, rest))
 }
 
-// Reads a dimension behind others that make so many elements: how many they make with it, and the
+// Reads a dimension after others that make so many elements: how many they make with it, and the
 // bytes after it.
 #[tactic(auto, unfolding(crate::specs::ArrayReading::product_at))]
 fn product_at(product: usize, bytes: &[u8]) -> Result<(usize, &[u8]), Error>
@@ -403,9 +403,9 @@ fn elements_of(count: usize, product: usize) -> usize
 ///
 /// # Errors
 ///
-/// From the left: `UnexpectedEof` where the count of dimensions, the flag, the type of the elements or a
+/// From the left: `UnexpectedEof` if the count of dimensions, the flag, the type of the elements or a
 /// dimension is cut short; `InvalidCount` at a negative count, `InvalidDimension` at a negative length of
-/// a dimension, and `TooManyElements` where the product of the lengths up to a dimension passes
+/// a dimension, and `TooManyElements` if the product of the lengths up to a dimension passes
 /// 2,147,483,647.
 pub fn array_from_sql(buf: &[u8]) -> Result<Array<'_>, Error>
     ensures { Reads array buf.now result }

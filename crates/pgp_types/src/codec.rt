@@ -7,7 +7,7 @@ ghost use Rattle.pgp_types.specs.Format.{Reads, block, whole};
 
 use pgp_base::{Buffer, Error};
 
-/// The most items of a list behind a count: `i32::MAX`.
+/// The most items of a list after a count: `i32::MAX`.
 pub const MOST_ITEMS: u32 = 0x7fff_ffff;
 
 /// Appends the bytes.

@@ -24,7 +24,7 @@ use std::marker::Model;
 // The length of a null.
 const NULL: u32 = 0xffff_ffff;
 
-// A text behind its length, or a null. A refusal leaves what stood there as a front.
+// A text after its length, or a null. An error leaves what stood there as a front.
 #[tactic(auto, using(pgp_base::proofs::Parts::null_spelled, pgp_base::proofs::Parts::held_steps))]
 fn put_nullable<B: Buffer>(v: Option<&str>, buf: &mut B) -> Result<(), Error>
     ensures ok { OnOk result ((nullable_cause (shown v.entry) ≡ None) × (B.held buf.new ≡ B.held buf.old ⊕ nullable (shown v.entry))) }
@@ -39,7 +39,7 @@ fn put_nullable<B: Buffer>(v: Option<&str>, buf: &mut B) -> Result<(), Error>
     Ok(())
 }
 
-// The value. A refusal leaves what stood there as a front.
+// The value. An error leaves what stood there as a front.
 fn fill_hstore<'a, B: Buffer, I: IntoIterator<Item = (&'a str, Option<&'a str>)> + Drop>(
     pairs: I,
     buf: &mut B,
@@ -70,8 +70,8 @@ where
 ///
 /// # Errors
 ///
-/// `TooLarge` where a key's or a value's length passes the greatest `i32`, and at a pair past that many, before it is
-/// written; `OutOfMemory` where the buffer is refused memory. The buffer's bytes are then as they were.
+/// Returns `TooLarge` if a key's or a value's length exceeds `i32::MAX`, and at a pair past that many, before it is
+/// written; `OutOfMemory` if the buffer is refused memory. The buffer's bytes are then as they were.
 pub fn hstore_to_sql<'a, B: Buffer, I: IntoIterator<Item = (&'a str, Option<&'a str>)> + Drop>(
     pairs: I,
     buf: &mut B,
@@ -91,9 +91,9 @@ where
     }
 }
 
-/// The keys and values of an `hstore`. An entry is refused with `UnexpectedEof` where a length is cut short,
+/// The keys and values of an `hstore`. An entry is rejected with `UnexpectedEof` where a length is cut short,
 /// `InvalidKeyLength` where the key's is negative or passes the end, `InvalidValueLength` where the value's passes the
-/// end, and `NotUtf8` where one of them isn't text; bytes behind the last entry are `NotDrained`.
+/// end, and `NotUtf8` where one of them isn't text; bytes after the last entry are `NotDrained`.
 #[derive(Drop)]
 pub struct HstoreEntries<'a>(Counted<'a>);
 
@@ -172,7 +172,8 @@ fn entry_at(bytes: &[u8]) -> Result<((&str, Option<&str>), &[u8]), Error>
 ///
 /// # Errors
 ///
-/// `UnexpectedEof` where the number of entries is cut short, and `InvalidCount` where it is negative.
+/// Returns `UnexpectedEof` if the number of entries is cut short, and `InvalidCount` if it is
+/// negative.
 pub fn hstore_from_sql(buf: &[u8]) -> Result<HstoreEntries<'_>, Error>
     ensures value { Reads hstore buf.now result }
     ensures few { IfOk result (λ w. length w.items ≤ length buf.now) }

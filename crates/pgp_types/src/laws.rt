@@ -1,4 +1,4 @@
-//! Laws on what is written and what is read: every list of bytes has one reading, a value or a refusal, and
+//! Laws on what is written and what is read: every list of bytes has one reading, a value or an error, and
 //! what is written for a value is read as that value. And on the room that a range takes.
 
 ghost use Rattle.std.specs.Prelude.{◌≡◌, ℕ, ◌*◌, ◌<◌, ◌≤◌, List, length, Ok, Err};
@@ -50,7 +50,7 @@ pub fn times()
 {}
 
 /// Addresses and identifiers. An inet is read back where its netmask has no more bits than its address, and
-/// refused where it has more.
+/// rejected where it has more.
 pub fn addresses()
     ensures of_macaddr { IsSound macaddr }
     ensures of_uuid { IsSound uuid }
@@ -78,12 +78,12 @@ pub fn bit_strings()
     ensures { IsSound varbit }
 {}
 
-/// Paths: one is read back as a walk that hands out its points and ends.
+/// Paths: one is read back as an iterator that hands out its points and ends.
 pub fn paths()
     ensures { IsSound path }
 {}
 
-/// Lists of keys and values: one is read back as a walk that hands out its entries and ends.
+/// Lists of keys and values: one is read back as an iterator that hands out its entries and ends.
 pub fn key_value_lists()
     ensures { IsSound hstore }
 {}

@@ -88,7 +88,7 @@ pub fn inet_to_sql<B: Buffer>(addr: IpAddr, netmask: u8, buf: &mut B) -> Result<
     }
 }
 
-// The address behind its netmask and its size.
+// The address after its netmask and its size.
 fn octets<const N: usize>(netmask: u8, size: u8, address: &[u8]) -> Result<[u8; N], Error>
     requires { N ≤ 16 }
     ensures ok { IfOk result (λ a. (netmask ≤ 8 * N) × (size ≡ N) × IsBlock N a × (address.now ≡ a)) }

@@ -56,7 +56,7 @@ impl<'a> Path<'a> {
     }
 }
 
-/// The points of a path. One that is cut short is `UnexpectedEof`; bytes behind the last are `NotDrained`.
+/// The points of a path. One that is cut short is `UnexpectedEof`; bytes after the last are `NotDrained`.
 #[derive(Drop)]
 pub struct PathPoints<'a>(Counted<'a>);
 
@@ -109,7 +109,7 @@ fn point_at(bytes: &[u8]) -> Result<((u64, u64), &[u8]), Error>
     Ok(((point.x(), point.y()), rest))
 }
 
-// The value. A refusal leaves what stood there as a front.
+// The value. An error leaves what stood there as a front.
 fn fill_path<B: Buffer, I: IntoIterator<Item = (u64, u64)> + Drop>(
     closed: bool,
     points: I,
@@ -141,8 +141,8 @@ where
 ///
 /// # Errors
 ///
-/// `TooLarge` at a point past the greatest `i32`, before it is written; `OutOfMemory` where the buffer is refused
-/// memory. The buffer's bytes are then as they were.
+/// Returns `TooLarge` at a point past the greatest `i32`, before it is written; `OutOfMemory` if the buffer is
+/// refused memory. The buffer's bytes are then as they were.
 pub fn path_to_sql<B: Buffer, I: IntoIterator<Item = (u64, u64)> + Drop>(
     closed: bool,
     points: I,
@@ -167,8 +167,8 @@ where
 ///
 /// # Errors
 ///
-/// `UnexpectedEof` where the byte that tells whether it is closed is missing, or the number of points is cut short;
-/// `InvalidCount` where that is negative.
+/// Returns `UnexpectedEof` if the byte that says whether it is closed is missing, or the number of points is cut
+/// short; `InvalidCount` if that is negative.
 pub fn path_from_sql(buf: &[u8]) -> Result<Path<'_>, Error>
     ensures value { Reads path buf.now result }
     ensures few { IfOk result (λ p. length p.points.items ≤ length buf.now) }

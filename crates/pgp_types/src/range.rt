@@ -56,14 +56,14 @@ pub enum Range<'a> {
 ///
 /// # Errors
 ///
-/// `OutOfMemory` where the buffer is refused memory. Its bytes are then as they were.
+/// Returns `OutOfMemory` if the buffer is refused memory. Its bytes are then as they were.
 pub fn empty_range_to_sql<B: Buffer>(buf: &mut B) -> Result<(), Error>
     ensures { Writes range empty B.Lacks (B.held buf.old) result (B.held buf.new) }
 {
     append(&[EMPTY], buf)
 }
 
-// Calls the closure of a side, and says what the call put behind the bytes that stood there.
+// Calls the closure of a side, and says what the call put after the bytes that stood there.
 fn bound_by<B: Buffer, E, F: FnOnce(&mut B) -> Result<RangeBound<IsNull>, E>>(
     f: F,
     buf: &mut B,
@@ -143,7 +143,7 @@ fn bit_of(answer: RangeBound<IsNull>, unbounded: u8, inclusive: u8) -> u8
     }
 }
 
-// Appends the side that the closure makes, and answers its bit of the tag. A refusal leaves what stood there as a front.
+// Appends the side that the closure makes, and returns its bit of the tag. An error leaves what stood there as a front.
 fn put_side<B: Buffer, E: Drop, F: FnOnce(&mut B) -> Result<RangeBound<IsNull>, E>>(
     f: F,
     unbounded: u8,
@@ -169,7 +169,7 @@ fn put_side<B: Buffer, E: Drop, F: FnOnce(&mut B) -> Result<RangeBound<IsNull>, 
     }
 }
 
-// The value. A refusal leaves what stood there as a front.
+// The value. An error leaves what stood there as a front.
 fn fill_range<
     B: Buffer,
     E: Drop,
@@ -192,15 +192,15 @@ fn fill_range<
     Ok(())
 }
 
-/// Appends a range between two sides, of which each closure appends the bytes of its value, or answers that it is a null
-/// or that there is no bound. The lower is called first, and the upper not at all where the lower was refused. The length is put
-/// before what a closure appended, so that no memory is asked for but the range's own. What a closure appended for
-/// `Unbounded` is dropped: in memory of the caller's, what stood there isn't put back.
+/// Appends a range between two sides, of which each closure appends the bytes of its value, or returns that it is a null or that
+/// there is no bound. The lower is called first, and the upper not at all where the lower was refused. The length is put before
+/// what a closure appended, so that no memory is asked for but the range's own. What a closure appended for `Unbounded` is
+/// dropped: in memory of the caller's, what stood there isn't put back.
 ///
 /// # Errors
 ///
-/// `Conversion` is a closure's own refusal. `Serialization` is `TooLarge` where the length of a side's value passes the
-/// greatest `i32`, and `OutOfMemory` where the buffer is refused memory. The buffer's bytes are then as they were.
+/// `Conversion` is a closure's own error. `Serialization` is `TooLarge` if the length of a side's value exceeds `i32::MAX`, and
+/// `OutOfMemory` if the buffer is refused memory. The buffer's bytes are then as they were.
 pub fn range_to_sql<
     B: Buffer,
     E: Drop,
@@ -267,8 +267,8 @@ fn range_at(buf: &[u8]) -> Result<Range<'_>, Error>
 ///
 /// # Errors
 ///
-/// `UnexpectedEof` where there is no tag, or a bound's length is cut short; `InvalidValueLength` where that passes the
-/// end; `NotDrained` where bytes stand behind the range.
+/// Returns `UnexpectedEof` if there is no tag, or a bound's length is cut short; `InvalidValueLength` if that passes
+/// the end; `NotDrained` if bytes stand after the range.
 pub fn range_from_sql(buf: &[u8]) -> Result<Range<'_>, Error>
     ensures { ReadsBy shown_range range buf.now result }
 {

@@ -53,7 +53,7 @@ impl<'a> Varbit<'a> {
     }
 }
 
-// The number and the bytes. A refusal leaves what stood there as a front.
+// The number and the bytes. An error leaves what stood there as a front.
 fn fill_varbit<B: Buffer, I: Iterator<Item = u8> + Drop>(
     len: usize,
     bytes: I,
@@ -77,7 +77,7 @@ fn fill_varbit<B: Buffer, I: Iterator<Item = u8> + Drop>(
 ///
 /// # Errors
 ///
-/// `TooLarge` where the number of bits passes the greatest `i32`, and the iterator isn't asked; `OutOfMemory` where the
+/// Returns `TooLarge` if the number of bits exceeds `i32::MAX`, and the iterator isn't asked; `OutOfMemory` if the
 /// buffer is refused memory. The buffer's bytes are then as they were.
 pub fn varbit_to_sql<B: Buffer, I: Iterator<Item = u8> + Drop>(
     len: usize,
@@ -102,8 +102,8 @@ pub fn varbit_to_sql<B: Buffer, I: Iterator<Item = u8> + Drop>(
 ///
 /// # Errors
 ///
-/// `UnexpectedEof` where the number of bits is cut short, `InvalidBitLength` where it is negative, and `InvalidSize`
-/// where there are not as many bytes behind it as it takes.
+/// Returns `UnexpectedEof` if the number of bits is cut short, `InvalidBitLength` if it is negative, and
+/// `InvalidSize` if there are not as many bytes after it as it takes.
 pub fn varbit_from_sql(buf: &[u8]) -> Result<Varbit<'_>, Error>
     ensures { Reads varbit buf.now result }
 {

@@ -1,4 +1,4 @@
--- Messages behind those that a server read, and the binding among them.
+-- Messages after those that a server read, and the binding among them.
 use Rattle.std.proofs.Common.{◌≡◌, ℕ, ℤ, pos, true, false, List, [], ◌∷◌, ◌++◌, length, Option, Some, None, Result, Ok, Err, MutBor, refl, sym, ap, subst, ◌∙◌, append_assoc, inl, inr, arith, if◌then◌else◌}
 use Rattle.std.specs.List.{flat_map, AllByRecursion}
 use Rattle.std.specs.Option.{option_to_list}
@@ -70,7 +70,7 @@ module _ {B K : Type 0} (held : B → Held K) where
             (subst (λ l. ClientRun (kinds ++ flat_map kinds_of ms ++ kinds_of n) l (held new.buf).bytes) (append_assoc messages ms (n ∷ [])) r);
       }
 
-  -- a refused one
+  -- a rejected one
   pub none_more : (ms : List ClientMessage) (old mid new : Sent B) → AreAdded held ms old mid → IsLeft held mid new → AreAdded held ms old new
   none_more ms old mid new before left = record {
     opened = left.opened ∙ before.opened;
@@ -80,14 +80,14 @@ module _ {B K : Type 0} (held : B → Held K) where
     reads = λ kinds messages run. subst (λ bytes. ClientRun (kinds ++ flat_map kinds_of ms) (messages ++ ms) bytes) (sym left.left.bytes) (before.reads kinds messages run);
   }
 
-  -- the refusal that a call handed on
+  -- the error that a call handed on
   pub stops : (front : List ClientMessage) (at : ClientMessage) (rest : List ClientMessage) (lacks : Held K → ℕ → Type 0) (x : AskError) (old mid new : Sent B) (r : Result (Unit {0}) AskError)
       → IsErrAnd r (λ e. e ≡ x) → AreAdded held front old mid → IsLeft held mid new → Blames lacks (held mid.buf) x at → AddsAll held (front ++ at ∷ rest) lacks old new r
   stops front at rest lacks x old mid new (Ok done) is before left why = absurd is
   stops front at rest lacks x old mid new (Err e) is before left why =
       subst (λ e. Stops held (front ++ at ∷ rest) lacks e old new) (sym is) (record { front = front; at = at; rest = rest; are = refl; reached = mid; begun = before; added = none_more front old mid new before left; why = why })
 
--- ---- the refusal of `parse` without types
+-- ---- the error of `parse` without types
 
 module _ (name sql : List ℕ) (types : List ℕ → Option ℕ → Type 0) (all_types : (xs : List ℕ) → types xs None → xs ≡ []) (some_types : (xs : List ℕ) (x : ℕ) → types xs (Some x) → ⊥) {K : Type 0} (lacks : Held K → ℕ → Type 0) (old : Held K) where
   -- no type came so far
@@ -135,7 +135,7 @@ module _ {F B K : Type 0} (held : B → Held K) (step : F → ℕ → MutBor B �
       → IsAdded held (named_bound name (Some (int4.written v))) old new
   bound_is b acts = subst (λ v. IsAdded held (named_bound name v) old new) (value_is b.binds.null b.binds.bytes b.last b.binds.put acts) b.binds.added
 
-  -- it was refused
+  -- it was rejected
   pub bind_left : (e : BindError Error) → BindsNamed held step f name lacks old new (Err e) → IsLeft held old new
   bind_left e b = b.binds.1
 

@@ -20,7 +20,7 @@ use Rattle.postgres_protocol.proofs.StepLemmas.{same_more}
 use Rattle.pgp_uses.specs.Values.{BindsValue, BoundWants, HasSpelling, RefusesValue, Serializes, bound}
 
 module _ {V K : Type 0} (f : Plain V) (lacks : Held K → ℕ → Type 0) where
-  -- the value behind `here` is what the format writes
+  -- the value after `here` is what the format writes
   pub written : (v : Option V) (null : IsNull) (bytes : List ℕ) (here before after : Held K) → before ≡ here → after ≡ here ⊕ bytes → Serializes f v lacks before after (Ok null) → HasSpelling f v × (value_of null bytes ≡ option_map f.written v)
   written None Yes bytes here before after s p w = (tt, refl)
   written None No bytes here before after s p w = absurd w

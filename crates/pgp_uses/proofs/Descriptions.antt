@@ -30,7 +30,7 @@ is_other _ h = tt
 pub skips : (bytes old new : List ℕ) (m : Message) → Passed bytes old → TakesFrame old (Ok m) new → Columns m None → Passed bytes new
 skips bytes old new m p takes h = passes bytes old new (Ok m) p takes (is_other m h)
 
--- a refused frame
+-- a rejected frame
 pub skips_fault : (bytes old new : List ℕ) (e : Error) → Passed bytes old → Step ⊥ old (Err e) new → Passed bytes new
 skips_fault bytes old new errors.InvalidLength p s = subst (λ l. Passed bytes l) (sym s.1) p
 skips_fault bytes old new errors.OutOfMemory p s = absurd s.1

@@ -30,7 +30,7 @@ tag_wants {old = old} tag q w = wants_more old 1 _ (omega (arith, length-append 
 
 -- why it was refused, where the closure wants memory for q alone
 module _ {F B K : Type 0} (held : B → Held K) (post : F → MutBor B → Result (Unit {0}) Error → MutBor B → Type 0) (f : F) (q : List ℕ) (lacks : Held K → ℕ → Type 0) (old tagged : Held K) (tag : ℕ) where
-  -- what is wanted behind the tag, the message wants
+  -- what is wanted after the tag, the message wants
   behind_tag : (n : ℕ) → tagged ≡ old ⊕ (tag ∷ []) → n ≤ length q + 4 → Wants lacks tagged n → Wants lacks old (length (frame tag q))
   behind_tag n t h w = wants_then old tagged (tag ∷ []) n _ t (omega (arith, h, length-append (uint32 (length q + 4)) q, length-uint32 (length q + 4))) w
 

@@ -33,7 +33,7 @@ module _ {X V R : Type 0} (view : X → R) (f : Format V R) where
   abbrev pub ReadsElements : List (Option (List ℕ)) → List (Option X) → Type 0
   ReadsElements elements xs = AllZip (λ element x. ReadsElement element (Ok x)) elements xs
 
-  -- the first element that is refused
+  -- the first element that is rejected
   pub record RefusesElement (elements : List (Option (List ℕ))) (e : Error) : Type 0 where
     pub before : List (Option (List ℕ))
     pub element : Option (List ℕ)
@@ -43,7 +43,7 @@ module _ {X V R : Type 0} (view : X → R) (f : Format V R) where
     pub read : ReadsElements before xs
     pub refused : ReadsElement element (Err e)
 
-  -- the elements are read, and what stands behind them is refused
+  -- the elements are read, and what stands after them is rejected
   pub record RefusesEnd (w : Walk (Option (List ℕ))) (e : Error) : Type 0 where
     pub end : w.end ≡ Some e
     pub xs : List (Option X)
@@ -51,7 +51,7 @@ module _ {X V R : Type 0} (view : X → R) (f : Format V R) where
 
   -- `list` shows the list that was made; `lacks` says that memory for it was refused.
   module _ {Y : Type 0} (list : Y → List (Option X)) (lacks : Type 0) where
-    -- all elements of an array, in order; or a refusal
+    -- all elements of an array, in order; or an error
     abbrev pub ReadsWalk : Walk (Option (List ℕ)) → Result Y ArrayError → Type 0
     ReadsWalk w (Ok y) = (w.end ≡ None) × ReadsElements w.items (list y)
     ReadsWalk w (Err (Value e)) = RefusesElement w.items e ⊎ RefusesEnd w e
@@ -96,13 +96,14 @@ int4_array values = array_of int4 23 values
 abbrev pub binding : List (Option ℤ) → ClientMessage
 binding values = bound (Some (array_bytes (int4_array values)))
 
--- What a `bind` of the array comes to: its message; or the array is refused, or the message is, and the bytes are left.
+-- What a `bind` of the array comes to: its message; or the array is rejected, or the message is, and the bytes are
+-- left.
 abbrev pub BindsInt4s : {K : Type 0} → List (Option ℤ) → (Held K → ℕ → Type 0) → Held K → Held K → Result (Unit {0}) (BindError Error) → Type 0
 BindsInt4s values lacks old new (Ok done) = (cause (binding values) ≡ None) × (new ≡ old ⊕ bytes_of (binding values))
 BindsInt4s values lacks old new (Err (Conversion e)) = (WantsMemory (Wants lacks old (length (bytes_of (binding values)))) e ⊎ (length_cause (length values) ≡ Some e)) × Leaves old new
 BindsInt4s values lacks old new (Err (Serialization e)) = (WantsMemory (Wants lacks old (length (bytes_of (binding values)))) e ⊎ (cause (binding values) ≡ Some e)) × Leaves old new
 
--- the array's bytes stand behind the old ones, and are no null; or it is refused, and they are left
+-- the array's bytes stand after the old ones, and are no null; or it is rejected, and they are left
 abbrev pub PutsInt4s : {K : Type 0} → List (Option ℤ) → (Held K → ℕ → Type 0) → Held K → Held K → Result IsNull Error → Type 0
 PutsInt4s values lacks old new (Ok null) = (null ≡ No) × (length_cause (length values) ≡ None) × (new ≡ old ⊕ array_bytes (int4_array values))
 PutsInt4s values lacks old new (Err e) = (WantsMemory (Wants lacks old (length (array_bytes (int4_array values)))) e ⊎ (length_cause (length values) ≡ Some e)) × Leaves old new

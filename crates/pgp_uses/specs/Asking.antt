@@ -31,16 +31,16 @@ abbrev pub IsBind : ClientMessage → Type 0
 IsBind (Bind portal statement formats values results) = Unit {0}
 IsBind m = ⊥
 
--- Which message an error tells of, and why that was refused behind what stood `here`: for want of memory, or for its cause. `Conversion` is the
--- refusal of the value itself, and an int4 always has a spelling.
+-- Which message an error reports, and why that was refused after what stood `here`: for lack of memory, or for its cause. `Conversion` is the
+-- error of the value itself, and an int4 always has a spelling.
 abbrev pub Blames : {K : Type 0} → (Held K → ℕ → Type 0) → Held K → AskError → ClientMessage → Type 0
 Blames lacks here (Message e) m = (IsBind m → ⊥) × RefusesMessage m lacks here e
 Blames lacks here (Binding (Conversion e)) m = IsBind m × WantsMemory (Wants lacks here (length (bytes_of m))) e
 Blames lacks here (Binding (Serialization e)) m = IsBind m × RefusesMessage m lacks here e
 
 module _ {B K : Type 0} (held : B → Held K) where
-  -- Each has a spelling, and these stand behind the old bytes: however a server reads those, it now reads these messages
-  -- behind them.
+  -- Each has a spelling, and these stand after the old bytes: however a server reads those, it now reads these messages
+  -- after them.
   pub record AreAdded (ms : List ClientMessage) (old new : Sent B) : Type 0 where
     pub opened : new.opened ≡ true
     pub none : AllByRecursion (λ m. cause m ≡ None) ms
@@ -49,7 +49,7 @@ module _ {B K : Type 0} (held : B → Held K) where
     pub reads : (kinds : List PasswordKind) (messages : List ClientMessage) → ClientRun kinds messages (held old.buf).bytes
         → ClientRun (kinds ++ flat_map kinds_of ms) (messages ++ ms) (held new.buf).bytes
 
-  -- a message was refused, and those before it were added, which was `reached`
+  -- a message was rejected, and those before it were added, which was `reached`
   pub record Stops (ms : List ClientMessage) (lacks : Held K → ℕ → Type 0) (e : AskError) (old new : Sent B) : Type 0 where
     pub front : List ClientMessage
     pub at : ClientMessage
@@ -60,7 +60,7 @@ module _ {B K : Type 0} (held : B → Held K) where
     pub added : AreAdded front old new
     pub why : Blames lacks (held reached.buf) e at
 
-  -- all messages were added; or those before one that was refused
+  -- all messages were added; or those before one that was rejected
   abbrev pub AddsAll : List ClientMessage → (Held K → ℕ → Type 0) → Sent B → Sent B → Result (Unit {0}) AskError → Type 0
   AddsAll ms lacks old new (Ok done) = AreAdded ms old new
   AddsAll ms lacks old new (Err e) = Stops ms lacks e old new
@@ -69,7 +69,7 @@ module _ {B K : Type 0} (held : B → Held K) where
 abbrev pub named : List ℕ → Target
 named name = record { portal = []; statement = name; results = pos 1 ∷ [] }
 
--- What a `bind` to a named statement of one value comes to, which a serializer makes: it was called once, behind the place of the
+-- What a `bind` to a named statement of one value comes to, which a serializer makes: it was called once, after the place of the
 -- value's length, and left as `last`.
 module _ {F B K : Type 0} (held : B → Held K) (step : F → ℕ → MutBor B → Result IsNull Error → MutBor B → F → Type 0) (f last : F) (name : List ℕ) (old : Sent B) where
   -- the message of the value that it made was added

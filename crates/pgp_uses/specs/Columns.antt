@@ -18,7 +18,7 @@ abbrev pub IsOther : Result Message Error → Type 0
 IsOther (Ok (RowDescription row)) = ⊥
 IsOther _ = Unit {0}
 
--- frames of the front of a stream, none of which describes a row, and what stands behind them
+-- frames of the front of a stream, none of which describes a row, and what stands after them
 pub record Passed (bytes rest : List ℕ) : Type 0 where
   pub results : List (Result Message Error)
   pub frames : Frames bytes results rest

@@ -6,7 +6,7 @@ use Rattle.pgp_message.specs.Stream.{Frame, frame_bytes, IsFrame}
 use Rattle.pgp_uses.specs.declared.filter.FilterError.{FilterError}
 use Rattle.pgp_uses.specs.declared.filter.FilterError.TheVariants.{PastLimit, InvalidLength, OutOfMemory}
 
--- the frame at the front, whose length is at most the limit, stands behind what was passed on before
+-- the frame at the front, whose length is at most the limit, stands after what was passed on before
 pub record PassesFrame {Kept : Type 0} (limit : ℤ) (came : List ℕ) (size : ℕ) (old new : Held Kept) : Type 0 where
   pub frame : Frame
   pub rest : List ℕ
@@ -24,7 +24,7 @@ pub record Lacking (limit : ℤ) (came : List ℕ) : Type 0 where
   pub within : header.len ≤ℤ limit
   pub missing : pos (length came) ≤ℤ header.len
 
--- a growth was refused that the frame at the front needs, whose length is at most the limit
+-- an allocation failed that the frame at the front needs, whose length is at most the limit
 pub record LacksFrame {Kept : Type 0} (limit : ℤ) (came : List ℕ) (lacks : Held Kept → ℕ → Type 0) (old : Held Kept) : Type 0 where
   pub header : HeaderPart
   pub begins : IsHeader came header

@@ -17,13 +17,14 @@ pub record Sends {Kept : Type 0} (message : List ℕ → ClientMessage) (client 
   pub said : message_of client.state ≡ Some text
   pub sent : new ≡ old ⊕ bytes_of (message text)
 
--- Why a log-in didn't begin behind what stood `here`: for want of memory, which `memory` tells, or the first message was refused.
+-- Why a log-in didn't begin after what stood `here`: for lack of memory, which `memory` says, or the first message was refused.
 abbrev pub BeginRefused : {A K : Type 0} → ClientMessage → Type 0 → (Held K → ℕ → Type 0) → Held K → LoginError A → Type 0
 BeginRefused message memory lacks here (Message e) = RefusesMessage message lacks here e
 BeginRefused message memory lacks here (Scram e) = (refusal e ≡ OutOfMemory) × memory
 BeginRefused message memory lacks here Over = ⊥
 
--- why the server's first text wasn't answered: the exchange refused it, or the final text wasn't sent
+-- why the server's first text wasn't answered: the exchange rejected it, or the final text wasn't
+-- sent
 abbrev pub RespondRefused : {A K : Type 0} → Client → List ℕ → Client → Type 0 → (Held K → ℕ → Type 0) → Held K → LoginError A → Type 0
 RespondRefused old challenge new memory lacks here (Message e) = Answers old challenge new × ((text : List ℕ) × (message_of new.state ≡ Some text) × RefusesMessage (SaslResponse text) lacks here e)
 RespondRefused old challenge new memory lacks here (Scram e) = UpdateRefused memory old challenge (refusal e) new

@@ -1,4 +1,4 @@
--- Whose refusal it is doesn't matter to a server.
+-- Whose error it is doesn't matter to a server.
 use Rattle.pgp_base.specs.declared.error.Error.{Error}
 use Rattle.pgp_base.specs.declared.error.BindError.{BindError}
 use Rattle.pgp_base.specs.declared.error.BindError.TheVariants.{Conversion, Serialization}

@@ -19,7 +19,7 @@ abbrev pub is_row : Result (Option Message) Error → Bool
 is_row (Ok (Some (DataRow row))) = true
 is_row read = false
 
--- A row stands at the front, and these bytes behind it; or a step along the stream, which has all the memory that it needs,
+-- A row stands at the front, and these bytes after it; or a step along the stream, which has all the memory that it needs,
 -- gives no row.
 abbrev pub FrontRow : List ℕ → Option (CountedBytes × List ℕ) → Type 0
 FrontRow bytes (Some front) = TakesFrame bytes (Ok (DataRow front.0)) front.1

@@ -37,8 +37,8 @@ pub enum ArrayError {
 ///
 /// # Errors
 ///
-/// `NoColumn` where the row has no column `i`; `Value` where its bytes are refused as an array, or the first of its
-/// elements that is refused as the type; `Dimensions` where it has more than one; and `OutOfMemory`.
+/// Returns `NoColumn` if the row has no column `i`; `Value` if its bytes are refused as an array, or the first of its
+/// elements that is refused as the type; `Dimensions` if it has more than one; and `OutOfMemory`.
 pub fn list_of<'a, V: Value<'a> + Drop, A: Memory, R: Allocator>(
     alloc: A,
     row: &RowIndex<'a, R>,
@@ -117,9 +117,9 @@ const INT4: Oid = 23;
 ///
 /// # Errors
 ///
-/// `Conversion` is the array's refusal: `TooLarge` where there are more than 2,147,483,647 values, and `OutOfMemory`.
-/// `Serialization` is the message's: `TooLarge` where it passes the greatest `i32`, and `OutOfMemory`. The buffer keeps
-/// its bytes.
+/// `Conversion` is the array's error: `TooLarge` if there are more than 2,147,483,647 values, and `OutOfMemory`.
+/// `Serialization` is the message's: `TooLarge` if it exceeds `i32::MAX`, and `OutOfMemory`. On error the buffer is
+/// unchanged.
 pub fn bind_int4s<B: Buffer>(values: &[Option<i32>], buf: &mut B) -> Result<(), BindError<Error>>
     ensures { BindsInt4s values.now B.Lacks (B.held buf.old) (B.held buf.new) result }
 {

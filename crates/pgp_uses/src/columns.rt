@@ -15,7 +15,8 @@ use std::alloc::AllocError;
 pub enum NamesError {
     /// No frame of the stream is a RowDescription.
     NoDescription,
-    /// The first RowDescription has a column that can't be read, or memory for the names is refused.
+    /// The first RowDescription has a column that can't be read, or memory for the names can't be
+    /// allocated.
     Refused(Error),
 }
 
@@ -23,8 +24,8 @@ pub enum NamesError {
 ///
 /// # Errors
 ///
-/// `NoDescription` where no frame is one; `Refused` of the reason for which its columns can't be read, or of
-/// `OutOfMemory`.
+/// Returns `NoDescription` if no frame is one; `Refused` of the reason for which its columns can't be read,
+/// or of `OutOfMemory`.
 #[tactic(auto, using(crate::proofs::Descriptions::has_names, crate::proofs::Descriptions::has_broken))]
 pub fn column_names<'a, A: Memory>(alloc: A, bytes: &'a [u8]) -> Result<Vec<&'a str, A>, NamesError>
     ensures ok { IfOk result (λ found. HasNames bytes.now (map (λ name. name.now) found.items)) }

@@ -13,17 +13,17 @@ pub enum FilterError {
     PastLimit,
     /// Its header announces a length below 4, or past the greatest Int32.
     InvalidLength,
-    /// The buffer's growth was refused.
+    /// The buffer can't grow.
     OutOfMemory,
 }
 
-/// Passes the frame at the front of `came` on, and answers how many bytes it takes; `None` where more has to come.
-/// The limit is on the length that a header announces, which counts its own four bytes. A frame past it is refused
-/// once its header has come.
+/// Passes the frame at the front of `came` on, and returns how many bytes it takes; `None` where more has to come.
+/// The limit is on the length that a header announces, which counts its own four bytes. A frame past it is
+/// rejected once its header has come.
 ///
 /// # Errors
 ///
-/// `PastLimit` and `InvalidLength` by the header; `OutOfMemory`. Nothing was passed on then.
+/// Returns `PastLimit` and `InvalidLength` by the header; `OutOfMemory`. Nothing was passed on then.
 pub fn pass<B: Buffer>(limit: i32, came: &[u8], out: &mut B) -> Result<Option<usize>, FilterError>
     ensures { Passes limit came.now B.Lacks (B.held out.old) (B.held out.new) result }
 {

@@ -26,7 +26,7 @@ use postgres_protocol::{Error, password};
 use rand_core::Rng;
 use std::alloc::{Allocator, Global};
 
-/// Why a step of a log-in was refused.
+/// Why a step of a log-in was rejected.
 #[derive(Debug, Drop)]
 pub enum LoginError<A: Allocator = Global> {
     /// The message couldn't be written.
@@ -72,7 +72,8 @@ fn begin_with<A: Memory, P: SaslPrep, R: Rng, B: Buffer>(
 ///
 /// # Errors
 ///
-/// `Scram` of `OutOfMemory` where memory for the exchange is refused, and `Message` where the buffer's growth is.
+/// Returns `Scram` of `OutOfMemory` if memory for the exchange can't be allocated, and `Message` if the buffer's
+/// growth is.
 pub fn begin<A: Memory, R: Rng, B: Buffer>(
     alloc: A,
     password: &[u8],
@@ -94,8 +95,8 @@ pub fn begin<A: Memory, R: Rng, B: Buffer>(
 ///
 /// # Errors
 ///
-/// `Scram` of `OutOfMemory` where memory for the exchange, or for the normal form, is refused, and `Message` where the
-/// buffer's growth is.
+/// Returns `Scram` of `OutOfMemory` if memory for the exchange, or for the normal form, can't be allocated, and
+/// `Message` if the buffer's growth is.
 pub fn begin_prepared<A: Memory, R: Rng, B: Buffer>(
     alloc: A,
     password: &[u8],
@@ -120,7 +121,7 @@ pub fn begin_prepared<A: Memory, R: Rng, B: Buffer>(
 ///
 /// # Errors
 ///
-/// `Scram` where the text is refused, and `Message` where the buffer's growth is.
+/// Returns `Scram` if the text is refused, and `Message` if the buffer's growth is.
 pub fn respond<A: Memory, B: Buffer>(
     challenge: &[u8],
     client: &mut ScramSha256<A>,
@@ -147,7 +148,7 @@ pub fn respond<A: Memory, B: Buffer>(
 ///
 /// # Errors
 ///
-/// `OutOfMemory`.
+/// Returns `OutOfMemory`.
 pub fn set_password<A: Memory, R: Rng>(
     alloc: A,
     user: &str,
@@ -171,7 +172,7 @@ pub fn set_password<A: Memory, R: Rng>(
 ///
 /// # Errors
 ///
-/// `OutOfMemory`.
+/// Returns `OutOfMemory`.
 pub fn equals<A: Memory>(alloc: A, column: &str, value: &str) -> Result<String<A>, Error>
     ensures text { IfOk result (λ t. IsComparison column.now value.now (string_bytes t)) }
     ensures err { IfErr result (WantsMemory A.Lacks) }

@@ -14,17 +14,17 @@ use std::ops::Range;
 pub struct Recording<A: Allocator = Global> {
     /// The place of each frame, its tag and length included.
     pub places: Vec<Range<usize>, A>,
-    /// Where the bytes begin that are no whole frame.
+    /// Where the bytes begin that are no complete frame.
     pub rest: usize,
     /// Whether a length below 4 stands there.
     pub stopped: bool,
 }
 
-/// Cuts a server's bytes into frames, and tells where each stands. No byte is copied.
+/// Cuts a server's bytes into frames, and says where each stands. No byte is copied.
 ///
 /// # Errors
 ///
-/// `AllocError` where memory for the places is refused.
+/// Returns `AllocError` if memory for the places can't be allocated.
 pub fn record<A: Memory>(alloc: A, bytes: &[u8]) -> Result<Recording<A>, AllocError>
     ensures all { IfOk result (λ all. IsRecording bytes.now all.places.items all.stopped all.rest) }
     ensures lacks { OnErr result A.Lacks }

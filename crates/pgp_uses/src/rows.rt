@@ -24,8 +24,8 @@ pub enum ColumnError {
 ///
 /// # Errors
 ///
-/// `NoColumn` where the row has no column `i`; `Value` where it isn't 4 bytes: `UnexpectedEof` where it is fewer,
-/// `NotDrained` where it is more.
+/// Returns `NoColumn` if the row has no column `i`; `Value` if it isn't 4 bytes: `UnexpectedEof` if it is fewer,
+/// `NotDrained` if it is more.
 pub fn int4_column<A: Allocator>(
     row: &RowIndex<'_, A>,
     i: usize,
@@ -43,7 +43,7 @@ pub fn int4_column<A: Allocator>(
 ///
 /// # Errors
 ///
-/// `NoColumn` where the row has no column `i`, and `Value` of `NotUtf8` where it isn't UTF-8.
+/// Returns `NoColumn` if the row has no column `i`, and `Value` of `NotUtf8` if it isn't UTF-8.
 pub fn text_column<'a, A: Allocator>(
     row: &RowIndex<'a, A>,
     i: usize,

@@ -14,7 +14,8 @@ use postgres_protocol::{BindError, Error};
 ///
 /// # Errors
 ///
-/// `TooLarge` where the payload is too long for a message, and `OutOfMemory`. The buffer keeps its bytes.
+/// Returns `TooLarge` if the payload is too long for a message, and `OutOfMemory`. On error the buffer is
+/// unchanged.
 pub fn answer<B: Buffer>(tag: u8, payload: &[u8], buf: &mut B) -> Result<(), Error>
     ensures ok { OnOk result (B.held buf.new ≡ B.held buf.old ⊕ frame tag payload.now) }
     ensures err { OnErr result (Leaves (B.held buf.old) (B.held buf.new)) }
@@ -40,7 +41,7 @@ pub fn answer<B: Buffer>(tag: u8, payload: &[u8], buf: &mut B) -> Result<(), Err
     Ok(())
 }
 
-/// The refusal, whoever refused.
+/// The error, whoever rejected.
 pub(crate) fn refusal(e: BindError<Error>) -> Error
     ensures { result ≡ refusal_of e }
 {

@@ -19,8 +19,8 @@ use std::alloc::Global;
 ///
 /// # Errors
 ///
-/// `EmbeddedNull` where the name or the query has a 0 byte, `TooLarge` where it is too long for its message, and
-/// `OutOfMemory`.
+/// Returns `EmbeddedNull` if the name or the query has a 0 byte, `TooLarge` if it is too long for its message,
+/// and `OutOfMemory`.
 pub fn one_query<A: Memory>(
     alloc: A,
     user: &str,
@@ -40,9 +40,9 @@ pub fn one_query<A: Memory>(
 /// Why a question wasn't asked whole.
 #[derive(Debug, Clone, Copy, PartialEq, Eq)]
 pub enum AskError {
-    /// A message other than the binding was refused.
+    /// A message other than the binding was rejected.
     Message(Error),
-    /// The binding was refused, or its value.
+    /// The binding was rejected, or its value.
     Binding(BindError<Error>),
 }
 
@@ -67,12 +67,12 @@ impl From<BindError<Error>> for AskError {
 }
 
 /// Asks a statement by its name, with an `int4` in binary for its one parameter: it is parsed, bound, described and run.
-/// A server reads exactly these five messages behind what it read before.
+/// A server reads exactly these five messages after what it read before.
 ///
 /// # Errors
 ///
-/// `EmbeddedNull` where the name or the text has a 0 byte, `TooLarge` where it is too long for its message, and
-/// `OutOfMemory`: of the binding as `Binding` of `Serialization`, or of `Conversion` where the buffer refused the value's
+/// Returns `EmbeddedNull` if the name or the text has a 0 byte, `TooLarge` if it is too long for its message, and
+/// `OutOfMemory`: of the binding as `Binding` of `Serialization`, or of `Conversion` if the buffer refused the value's
 /// bytes, and of another message as `Message`. The messages before the refused one stay, and nothing of it.
 pub fn ask_named<B: Buffer>(
     name: &str,

@@ -12,12 +12,12 @@ use postgres_protocol::Error;
 use postgres_protocol::message::backend::{DataRowBody, Message, Messages};
 use postgres_protocol::session::{StreamParser, parse_stream};
 
-/// The messages and refusals of the frames that a piece completes. Whatever came and was taken before, all that was
+/// The messages and errors of the frames that a piece completes. Whatever came and was taken before, all that was
 /// taken is what the stream's grammar gives for all bytes.
 ///
 /// # Errors
 ///
-/// `OutOfMemory`. The parser has failed then; what it had read can still be taken.
+/// Returns `OutOfMemory`. The parser has failed then; what it had read can still be taken.
 pub fn completed<A: Memory>(
     piece: &[u8],
     parser: &mut StreamParser<A>,
@@ -36,7 +36,7 @@ pub fn completed<A: Memory>(
 ///
 /// # Errors
 ///
-/// `OutOfMemory`.
+/// Returns `OutOfMemory`.
 pub fn frame_count<A: Memory>(alloc: A, pieces: &[&[u8]]) -> Result<usize, Error>
     ensures count { IfOk result (λ n. HasFrames (flat_map (λ piece. piece.now) pieces.now) n) }
     ensures err { IfErr result (WantsMemory A.Lacks) }
@@ -45,7 +45,7 @@ pub fn frame_count<A: Memory>(alloc: A, pieces: &[&[u8]]) -> Result<usize, Error
     Ok(parsed.results().len())
 }
 
-/// The row at the front of the bytes, read where it stands, and the bytes behind it; `None` where no whole row stands
+/// The row at the front of the bytes, read where it stands, and the bytes after it; `None` where no whole row stands
 /// there.
 pub fn front_row(bytes: &[u8]) -> Option<(DataRowBody<&[u8]>, &[u8])>
     ensures { FrontRow bytes.now (option_map (λ front. (front.0, front.1.now)) result) }

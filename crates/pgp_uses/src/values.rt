@@ -30,7 +30,7 @@ pub trait Value<'a>: Sized {
     ///
     /// # Errors
     ///
-    /// The refusal of the type's format.
+    /// The error of the type's format.
     fn from_sql(bytes: &'a [u8]) -> Result<Self, Error>
         ensures { ReadsBy meaning format bytes.now result };
 
@@ -38,7 +38,8 @@ pub trait Value<'a>: Sized {
     ///
     /// # Errors
     ///
-    /// `OutOfMemory`, or the cause for which the value has no spelling. The buffer keeps its bytes.
+    /// Returns `OutOfMemory`, or the cause for which the value has no spelling. On error the buffer
+    /// is unchanged.
     fn to_sql<B: Buffer>(&self, buf: &mut B) -> Result<(), Error>
         ensures { Writes format (meaning self.now) B.Lacks (B.held buf.old) result (B.held buf.new) };
 }
@@ -87,7 +88,7 @@ impl<'a> Value<'a> for &'a str {
 ///
 /// # Errors
 ///
-/// `NoColumn` where the row has no column `i`; `Value` where its bytes are refused as the type.
+/// Returns `NoColumn` if the row has no column `i`; `Value` if its bytes are rejected as the type.
 pub fn value_of<'a, V: Value<'a>, A: Allocator>(
     row: &RowIndex<'a, A>,
     i: usize,
@@ -128,8 +129,8 @@ pub fn parameter<'a, V: Value<'a>, B: Buffer>(
 ///
 /// # Errors
 ///
-/// `OutOfMemory`: `Conversion` where the buffer refused the value's bytes, `Serialization` where it refused others.
-/// The buffer keeps its bytes.
+/// `OutOfMemory`: `Conversion` if the buffer refused the value's bytes, `Serialization` if it refused others. On
+/// error the buffer is unchanged.
 pub fn bind_int4<B: Buffer>(value: Option<i32>, buf: &mut B) -> Result<(), BindError<Error>>
     ensures { BindsValue int4 value B.Lacks (B.held buf.old) (B.held buf.new) result }
 {

@@ -15,8 +15,8 @@ use std::alloc::Global;
 ///
 /// # Errors
 ///
-/// `EmbeddedNull` where the text has a 0 byte, `TooLarge` where it is too long for a message, and `OutOfMemory`. The
-/// buffer keeps its bytes.
+/// Returns `EmbeddedNull` if the text has a 0 byte, `TooLarge` if it is too long for a message, and `OutOfMemory`.
+/// On error the buffer is unchanged.
 #[tactic(auto, unfolding(pgp_base::specs::Held::lengthened))]
 pub fn ask<A: Memory>(text: &str, buf: &mut BytesMut<A>) -> Result<(), Error>
     ensures sent { OnOk result (buf.new.items ≡ buf.old.items ++ bytes_of (Query text.now)) }
@@ -26,11 +26,11 @@ pub fn ask<A: Memory>(text: &str, buf: &mut BytesMut<A>) -> Result<(), Error>
     frontend::query(text, buf)
 }
 
-/// Writes a query at the front of the caller's memory, and answers how many bytes it takes. No allocator is asked.
+/// Writes a query at the front of the caller's memory, and returns how many bytes it takes. No allocator is asked.
 ///
 /// # Errors
 ///
-/// `EmbeddedNull` where the text has a 0 byte, `TooLarge` where it is too long for a message, and `OutOfMemory` where
+/// Returns `EmbeddedNull` if the text has a 0 byte, `TooLarge` if it is too long for a message, and `OutOfMemory` if
 /// the message is longer than the memory, and only there.
 pub fn ask_in_place(text: &str, room: &mut [u8]) -> Result<usize, Error>
     ensures size { IfOk result (λ n. n ≡ length (bytes_of (Query text.now))) }

@@ -1,4 +1,4 @@
--- What is written of a number that a text tells is the same number, and where there is none, no numeric is.
+-- What is written of a number that a text says is the same number, and where there is none, no numeric is.
 use Rattle.std.proofs.Common.{◌≡◌, ◌≢◌, ◌⊎◌, inl, inr, ℕ, zero, suc, ℤ, pos, negsuc, ◌+◌, ◌-◌, ◌*◌, ◌/◌, ◌<◌, ◌≤◌, ◌^◌, Bool, true, false, cond, ltb, List, [], ◌∷◌, ◌++◌, length, map, take, drop, get_or, add-one, refl, sym, ap, ◌∙◌, arith, FitsSigned, w16, length-append, append_assoc}
 use Rattle.std.proofs.Math.Nat.{mul_assoc, pow-le-pow_right, one-le-pow, mul-le-mul, mul-lt-mul_of_pos_right}
 use Rattle.std.proofs.Math.Seq.{take-suc}
@@ -37,7 +37,7 @@ groups_spell_from g from at (suc n) e =
     sym (ap (λ k. spelled 10 (run g at k)) s
     ∙ (ap (spelled 10) (run_split g at 4 (4 * n)) ∙ (spelled_append 10 (run g at 4) (run g (at + 4) (4 * n)) ∙ rw (run_length g (at + 4) (4 * n), power_four n, run_length (four_of g) (from + 1) n, one, groups_spell_from g (from + 1) (at + 4) n next) refl)))
 
--- one number by two runs, each with zeros behind it
+-- one number by two runs, each with zeros after it
 both_runs : (g : ℕ → ℕ) (m n : ℕ) → ((i : ℕ) → m ≤ i → g i ≡ 0) → ((i : ℕ) → n ≤ i → g i ≡ 0) → spelled 10 (run g 0 m) * 10 ^ n ≡ spelled 10 (run g 0 n) * 10 ^ m
 both_runs g m n a b =
     let e : m + n ≡ n + m = omega arith in
@@ -341,7 +341,7 @@ module _ (negative : Bool) (whole fraction : List ℕ) (divided : Bool) (exponen
       let less = exponents_less (spelled 10 counted) (spelled 10000 d.digits) (length counted - 1 - first) (4 * length d.digits) (before_point d.weight + length fraction + lowered divided exponent) (4 * length d.digits + (behind_by d.weight + raised divided exponent)) least most n.same in
       omega (arith, count_is, weight_most d.weight fits.weight, less)
 
--- a number that grows by a digit behind the others
+-- a number that grows by a digit after the others
 pub spelled_next : (bs : List ℕ) (i : ℕ) → i < length bs → spelled 10 (map digit_value (take (i + 1) bs)) ≡ 10 * spelled 10 (map digit_value (take i bs)) + digit_value (get_or bs i 0)
 spelled_next bs i lt =
     let d = digit_value (get_or bs i 0) in
@@ -355,7 +355,7 @@ front_rest (a ∷ rest) x h e =
     let n : length (a ∷ rest) - 1 ≡ length rest = omega arith in
     ap (λ (y : ℕ). y ∷ rest) e ∙ sym (ap (λ k. x ∷ take k rest) n ∙ ap (λ l. x ∷ l) (take_all (length rest) rest (omega arith)))
 
--- digits spell no more than they do with others behind them
+-- digits spell no more than they do with others after them
 pub spelled_take : (bs : List ℕ) (n : ℕ) → spelled 10 (map digit_value (take n bs)) ≤ spelled 10 (map digit_value bs)
 spelled_take bs n =
     let xs = map digit_value (take n bs) in

@@ -1,4 +1,4 @@
--- What the text without its blanks tells is what the text tells.
+-- What the text without its blanks says is what the text says.
 use Rattle.std.proofs.Common.{◌≡◌, ◌≢◌, ◌⊎◌, inl, inr, ℕ, ◌+◌, ◌<◌, ◌≤◌, Bool, true, false, List, [], ◌∷◌, ◌++◌, length, map, None, Result, Ok, Err, refl, sym, ap, subst, ◌∙◌, arith}
 use Rattle.std.proofs.lemmas.Bool.{lt-ltb}
 use Rattle.std.proofs.lemmas.List.{append-nil}
@@ -200,7 +200,7 @@ refused_spells bytes InvalidText never = λ t s. never t.negative s.whole s.frac
 refused_spells bytes OutOfRange w = (told_by w.0 w.1 w.2 w.3 w.4, record { whole = w.1; fraction = w.2; number = w.5; told = refl }, inl w.6)
 refused_spells bytes e never = absurd never
 
--- what is refused with nothing appended
+-- what is rejected with nothing appended
 pub refused_whole : {K : Type 0} (Means : Numeric → Type 0) (Refused : NumericError → Type 0) (lacks : Held K → ℕ → Type 0) (old : Held K) (r : Result (Unit {0}) NumericError) (e : NumericError)
     → IsErr r → IsErrAnd r (λ x. x ≡ e) → Refused e → WritesMeant Means Refused lacks old r old
 refused_whole Means Refused lacks old (Ok done) e is h p = let f : false ≡ true = is in absurd cc

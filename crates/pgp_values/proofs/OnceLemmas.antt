@@ -118,7 +118,7 @@ same_digits d x ds es a b h k m n e = elim (cases_order a b) [
   ]
 ]
 
--- weights, as powers of 10,000 before the point and behind it
+-- weights, as powers of 10,000 before the point and after it
 
 abbrev ups : ℤ → ℕ
 ups (pos k) = k + 1

@@ -17,7 +17,7 @@ use Rattle.pgp_values.proofs.Pairs.{small_at}
 use Rattle.pgp_values.proofs.ScanLemmas.{heads, tails, munch, not_at_append, sign_once, number_front, number_parts, number_begins, point_digits, exponent_digit, exponent_point, marked_front, marked_digits, marked_no_blank}
 use Rattle.pgp_values.proofs.TextLemmas.{run_length}
 
--- what a text without blanks tells
+-- what a text without blanks says
 
 exponent_once : (d e : Bool) (x y : ℕ) (r : List ℕ) → ExponentText d x r → ExponentText e y r → (d ≡ e) × (x ≡ y)
 exponent_once d e x y r (inl a) (inl b) = (a.1.0 ∙ sym b.1.0, a.1.1 ∙ sym b.1.1)

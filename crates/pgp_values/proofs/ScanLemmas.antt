@@ -102,7 +102,7 @@ pub point_no_sign : (b : ℕ) → b ≡ 46 → IsSign b → ⊥
 point_no_sign b e (inl x) = omega arith
 point_no_sign b e (inr x) = omega arith
 
--- a front that isn't at a sign is none behind one
+-- a front that isn't at a sign is none after one
 at_sign : (b : ℕ) (x y : List ℕ) → NotAt IsSign x → x ≡ b ∷ y → IsSign b → ⊥
 at_sign b [] y n e h = cc
 at_sign b (c ∷ x) y n e h = n (subst IsSign (sym (heads c b x y e)) h)

@@ -25,7 +25,7 @@ group_value ds point g = 1000 * power_digit ds point (4 * g + 3) + 100 * power_d
 abbrev pub group_down : List ℕ → ℕ → ℕ → ℕ → ℕ
 group_down ds point top i = group_value ds point (top - i)
 
--- a weight as a power of 10,000 that is told without a sign
+-- a weight as a power of 10,000 that is reported without a sign
 abbrev pub IsWeight : ℤ → ℕ → Type 0
 IsWeight (pos k) group = (group ≡ 536870912 + k) × (k < 2 ^ 15)
 IsWeight (negsuc j) group = (group + (j + 1) ≡ 536870912) × (j < 2 ^ 15)

@@ -1,4 +1,4 @@
--- What a text means as a numeric, and why a text is refused.
+-- What a text means as a numeric, and why a text is rejected.
 use Rattle.std.specs.Prelude.{◌≡◌, ◌⊎◌, ℕ, ◌≤◌, List, length, Result, Ok, Err, ⊤}
 use Rattle.pgp_base.specs.Cause.{Wants}
 use Rattle.pgp_base.specs.Held.{Held, ◌⊕◌, Leaves}
@@ -13,7 +13,7 @@ use Rattle.pgp_values.specs.NumberText.{Spells, Tells, Names}
 abbrev pub limit : ℕ
 limit = 1073741823
 
--- the number that was told, in the one form in which a server keeps it
+-- the number that was reported, in the one form in which a server keeps it
 pub record IsValueOf (t : Told) (d : Decimal) : Type 0 where
   pub fits : IsDecimal d
   pub means : IsNumberOf t d
@@ -39,11 +39,11 @@ NumberRefused bytes InvalidText = (t : Told) → Spells bytes t → ⊥
 NumberRefused bytes OutOfRange = (t : Told) × Spells bytes t × IsPast t
 NumberRefused bytes e = ⊥
 
--- The text tells a number, or it names a value.
+-- The text says a number, or it names a value.
 abbrev pub TextMeans : List ℕ → Numeric → Type 0
 TextMeans text v = ((t : Told) × Tells text t × (d : Decimal) × IsValueOf t d × (v ≡ finite d)) ⊎ Names text v
 
--- The text neither tells a number nor names a value; or it is too long to be looked at, or tells a number that is past.
+-- The text neither says a number nor names a value; or it is too long to be looked at, or says a number that is past.
 abbrev pub TextRefused : List ℕ → NumericError → Type 0
 TextRefused text InvalidText = ((t : Told) → Tells text t → ⊥) × ((v : Numeric) → Names text v → ⊥)
 TextRefused text OutOfRange = (limit ≤ length text) ⊎ ((t : Told) × Tells text t × IsPast t)
@@ -55,7 +55,7 @@ pub record WantsMeant {K : Type 0} (Means : Numeric → Type 0) (lacks : Held K 
   pub means : Means value
   pub wants : Wants lacks old (length (numeric_bytes value))
 
--- the bytes of a value that is meant stand behind the old ones
+-- the bytes of a value that is meant stand after the old ones
 pub record AppendsMeant {K : Type 0} (Means : Numeric → Type 0) (old new : Held K) : Type 0 where
   pub value : Numeric
   pub means : Means value

@@ -18,7 +18,7 @@ NotEnd P [] = ⊤
 NotEnd P (b ∷ []) = P b → ⊥
 NotEnd P (b ∷ e ∷ bs) = NotEnd P (e ∷ bs)
 
--- the byte at the front and what stands behind it, or another
+-- the byte at the front and what stands after it, or another
 abbrev pub Behind : ℕ → List ℕ → Option (List ℕ) → Type 0
 Behind mark bytes (Some rest) = bytes ≡ mark ∷ rest
 Behind mark bytes None = NotAt (λ b. b ≡ mark) bytes
@@ -49,7 +49,7 @@ pub record SignFront (bytes : List ℕ) (negative : Bool) (rest : List ℕ) : Ty
   pub stops : sign ≡ [] → NotAt IsSign rest
   pub all : bytes ≡ sign ++ rest
 
--- the digits behind a point at the front
+-- the digits after a point at the front
 pub record PointFront (bytes fraction rest : List ℕ) : Type 0 where
   pub point : List ℕ
   pub pointed : PointText fraction point

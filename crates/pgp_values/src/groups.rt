@@ -1,4 +1,4 @@
-//! The digits to the base 10,000 of a number that a text tells.
+//! The digits to the base 10,000 of a number that a text says.
 #![tactic(auto, using(pgp_base::proofs::Parts::held_steps))]
 
 ghost use Rattle.std.specs.Prelude.{◌≡◌, pos, false, [], ◌+◌, ◌-◌, ◌*◌, ◌/◌, ◌++◌, ◌<◌, ◌≤◌, ◌^◌, length, map, OnOk, OnErr, Some, None, IfOk, IfErr};
@@ -17,7 +17,8 @@ use crate::numeric::{MAX_SCALE, parts_to_sql, sign_of};
 use crate::written::{Written, digit_at, first_of, last_of};
 use pgp_base::{Buffer, Error, put_u16};
 
-// Powers of ten are told by numbers without a sign: 10 to the power 0 is this, which is a multiple of 4.
+// Powers of ten are reported by numbers without a sign: 10 to the power 0 is this, which is a multiple
+// of 4.
 const ZEROTH: usize = 0x8000_0000;
 
 // Powers of 10,000 likewise.
@@ -38,7 +39,7 @@ pub struct Groups {
     pub count: u16,
 }
 
-// How many places behind the point the text shows.
+// How many places after the point the text shows.
 fn places_at(w: &Written<'_>) -> usize
     requires few { length w.now.whole.now + length w.now.fraction.now < 1073741823 }
     requires small { w.now.exponent < 1073741823 }
@@ -119,7 +120,7 @@ fn weight_of(group: usize) -> Result<i16, NumericError>
     Ok((group - ZEROTH_GROUP) as i16)
 }
 
-// Those of 0 with so many places behind the point.
+// Those of 0 with so many places after the point.
 fn no_groups(scale: u16) -> Groups
     ensures { result ≡ record { negative = false; weight = pos 0; scale = scale; point = 0; top = 0; count = 0 } }
 {
@@ -185,7 +186,7 @@ pub fn groups_of(w: &Written<'_>) -> Result<Groups, NumericError>
     }
 }
 
-// Appends the digits of the groups. A refusal leaves what stood there as a front.
+// Appends the digits of the groups. An error leaves what stood there as a front.
 fn put_groups<B: Buffer>(w: &Written<'_>, g: &Groups, buf: &mut B) -> Result<(), Error>
     requires high { g.now.top < 2 ^ 32 }
     requires enough { g.now.count ≤ g.now.top + 1 }
@@ -206,7 +207,7 @@ fn put_head<B: Buffer>(g: &Groups, buf: &mut B) -> Result<(), Error>
     parts_to_sql(g.count, g.weight, sign_of(g.negative), g.scale, &[], buf)
 }
 
-// Appends the number. A refusal leaves what stood there as a front.
+// Appends the number. An error leaves what stood there as a front.
 fn put_number<B: Buffer>(w: &Written<'_>, g: &Groups, buf: &mut B) -> Result<(), Error>
     requires high { g.now.top < 2 ^ 32 }
     requires enough { g.now.count ≤ g.now.top + 1 }

@@ -1,4 +1,4 @@
-//! Lists whose items stand behind their count, as they are written.
+//! Lists whose items stand after their count, as they are written.
 #![tactic(auto, using(pgp_base::proofs::Parts::held_steps))]
 
 ghost use Rattle.std.specs.Prelude.{◌≡◌, ◌⊎◌, ℕ, List, map, length, Some, None, OnOk, OnErr, IfErr};
@@ -22,18 +22,18 @@ pub trait PutItem: Sized {
     /// How such items are spelled.
     ghost item: { Item Meaning };
 
-    /// Appends it. A refusal leaves what stood there as a front.
+    /// Appends it. An error leaves what stood there as a front.
     ///
     /// # Errors
     ///
-    /// `OutOfMemory`, or the cause for which it has no spelling.
+    /// Returns `OutOfMemory`, or the cause for which it has no spelling.
     fn put<B: Buffer>(self, buf: &mut B) -> Result<(), Error>
         ensures ok { OnOk result ((item.cause (meaning self) ≡ None) × (B.held buf.new ≡ B.held buf.old ⊕ item.written (meaning self))) }
         ensures err { OnErr result (IsFrontOf (B.held buf.old) (B.held buf.new)) }
         ensures why { IfErr result (λ e. WantsMemory (Wants B.Lacks (B.held buf.old) (length (item.written (meaning self)))) e ⊎ (item.cause (meaning self) ≡ Some e)) };
 }
 
-// The list. A refusal leaves what stood there as a front.
+// The list. An error leaves what stood there as a front.
 fn fill_list<T: PutItem + Drop, B: Buffer, I: IntoIterator<Item = T> + Drop>(
     items: I,
     buf: &mut B,

@@ -33,7 +33,7 @@ impl<'a> PutItem for &'a [u8] {
     }
 }
 
-// Appends a range's bytes behind their length. A refusal leaves what stood there as a front.
+// Appends a range's bytes after their length. An error leaves what stood there as a front.
 fn put_member<B: Buffer>(bytes: &[u8], buf: &mut B) -> Result<(), Error>
     ensures ok { OnOk result ((member.cause bytes.now ≡ None) × (B.held buf.new ≡ B.held buf.old ⊕ member.written bytes.now)) }
     ensures err { OnErr result (IsFrontOf (B.held buf.old) (B.held buf.new)) }
@@ -49,8 +49,8 @@ fn put_member<B: Buffer>(bytes: &[u8], buf: &mut B) -> Result<(), Error>
 ///
 /// # Errors
 ///
-/// `TooLarge` where the length of a range passes the greatest `i32`, and at a range past that many, before it is
-/// written; `OutOfMemory` where the buffer is refused memory. The buffer's bytes are then as they were.
+/// Returns `TooLarge` if the length of a range exceeds `i32::MAX`, and at a range past that many, before it is written;
+/// `OutOfMemory` if the buffer is refused memory. The buffer's bytes are then as they were.
 pub fn multirange_to_sql<'a, B: Buffer, I: IntoIterator<Item = &'a [u8]> + Drop>(
     ranges: I,
     buf: &mut B,
@@ -63,9 +63,9 @@ where
     write_list(ranges, buf)
 }
 
-/// The ranges of a multirange, as the bytes that `range_from_sql` reads. One is refused with `UnexpectedEof` where its
-/// length is cut short, and `InvalidValueLength` where that is negative or passes the end; bytes behind the last are
-/// `NotDrained`.
+/// The ranges of a multirange, as the bytes that `range_from_sql` reads. One is rejected with `UnexpectedEof` where
+/// its length is cut short, and `InvalidValueLength` where that is negative or passes the end; bytes after the last
+/// are `NotDrained`.
 #[derive(Drop)]
 pub struct MultirangeRanges<'a>(Counted<'a>);
 
@@ -108,7 +108,8 @@ impl<'a> FallibleIterator for MultirangeRanges<'a> {
 ///
 /// # Errors
 ///
-/// `UnexpectedEof` where the number of ranges is cut short, and `InvalidCount` where it is negative.
+/// Returns `UnexpectedEof` if the number of ranges is cut short, and `InvalidCount` if it is
+/// negative.
 pub fn multirange_from_sql(buf: &[u8]) -> Result<MultirangeRanges<'_>, Error>
     ensures value { Reads multirange buf.now result }
     ensures few { IfOk result (λ w. length w.items ≤ length buf.now) }

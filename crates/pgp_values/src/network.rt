@@ -17,7 +17,7 @@ const IPV4: u8 = 2;
 
 const IPV6: u8 = 3;
 
-/// Appends a `cidr`. The netmask is not checked, and neither are the bits that it leaves out: a server refuses one
+/// Appends a `cidr`. The netmask is not checked, and neither are the bits that it leaves out: a server rejects one
 /// where they aren't 0.
 pub fn cidr_to_sql<B: Buffer>(addr: IpAddr, netmask: u8, buf: &mut B) -> Result<(), Error>
     ensures { Writes cidr (record { addr = addr; netmask = netmask }) B.Lacks (B.held buf.old) result (B.held buf.new) }
@@ -46,7 +46,7 @@ pub fn macaddr8_to_sql<B: Buffer>(address: [u8; 8], buf: &mut B) -> Result<(), E
 ///
 /// # Errors
 ///
-/// `UnexpectedEof` where there are fewer than 8 bytes, `NotDrained` where there are more.
+/// Returns `UnexpectedEof` if there are fewer than 8 bytes, `NotDrained` if there are more.
 pub fn macaddr8_from_sql(buf: &[u8]) -> Result<[u8; 8], Error>
     ensures { Reads macaddr8 buf.now result }
 {

@@ -115,7 +115,7 @@ fn decimal_to_sql<B: Buffer>(d: &Decimal<'_>, buf: &mut B) -> Result<(), Error>
 ///
 /// # Errors
 ///
-/// `OutOfMemory` where the buffer is refused memory. The buffer's bytes are then as they were.
+/// Returns `OutOfMemory` if the buffer is refused memory. The buffer's bytes are then as they were.
 pub fn numeric_to_sql<B: Buffer>(v: &Numeric<'_>, buf: &mut B) -> Result<(), Error>
     ensures { Writes (numeric_bytes (said v.now)) None B.Lacks (B.held buf.old) (B.held buf.new) result }
 {
@@ -127,7 +127,7 @@ pub fn numeric_to_sql<B: Buffer>(v: &Numeric<'_>, buf: &mut B) -> Result<(), Err
     }
 }
 
-// How many digits there are, the weight, the sign and the scale, and what stands behind them.
+// How many digits there are, the weight, the sign and the scale, and what stands after them.
 #[tactic(auto, unfolding(crate::specs::DecimalReading::numeric_head_at))]
 fn head_at(bytes: &[u8]) -> Result<((u16, (i16, (u16, u16))), &[u8]), Error>
     ensures { Answers (λ x. (x.0, x.1.now)) result (numeric_head_at bytes.now) }
@@ -168,9 +168,9 @@ fn is_sign(sign: u16) -> bool
 ///
 /// # Errors
 ///
-/// `UnexpectedEof` where the front is cut short; `InvalidSign` where the sign is none of the five, `InvalidScale` where
-/// the scale passes 16,383; `UnexpectedEof` where there are fewer digits than announced, `NotDrained` where bytes stand
-/// behind them, and `InvalidDigit` where one passes 9,999.
+/// Returns `UnexpectedEof` if the front is cut short; `InvalidSign` if the sign is none of the five, `InvalidScale` if
+/// the scale passes 16,383; `UnexpectedEof` if there are fewer digits than announced, `NotDrained` if bytes stand after
+/// them, and `InvalidDigit` if one passes 9,999.
 pub fn numeric_from_sql(buf: &[u8]) -> Result<Numeric<'_>, NumericError>
     ensures { ReadsNumeric said buf.now result }
 {

@@ -41,7 +41,7 @@ impl<'a> PutItem for (Oid, Option<&'a [u8]>) {
     }
 }
 
-// Appends a value behind its length, or a null. A refusal leaves what stood there as a front.
+// Appends a value after its length, or a null. An error leaves what stood there as a front.
 #[tactic(auto, using(pgp_base::proofs::Parts::null_spelled, pgp_base::proofs::Parts::held_steps))]
 fn put_nullable<B: Buffer>(v: Option<&[u8]>, buf: &mut B) -> Result<(), Error>
     ensures ok { OnOk result ((nullable_cause (shown v.entry) ≡ None) × (B.held buf.new ≡ B.held buf.old ⊕ nullable (shown v.entry))) }
@@ -56,7 +56,7 @@ fn put_nullable<B: Buffer>(v: Option<&[u8]>, buf: &mut B) -> Result<(), Error>
     Ok(())
 }
 
-// Appends a field. A refusal leaves what stood there as a front.
+// Appends a field. An error leaves what stood there as a front.
 fn put_field<B: Buffer>(of_type: Oid, value: Option<&[u8]>, buf: &mut B) -> Result<(), Error>
     ensures ok { OnOk result ((field.cause (of_type, shown value.entry) ≡ None) × (B.held buf.new ≡ B.held buf.old ⊕ field.written (of_type, shown value.entry))) }
     ensures err { OnErr result (IsFrontOf (B.held buf.old) (B.held buf.new)) }
@@ -72,8 +72,8 @@ fn put_field<B: Buffer>(of_type: Oid, value: Option<&[u8]>, buf: &mut B) -> Resu
 ///
 /// # Errors
 ///
-/// `TooLarge` where the length of a value passes the greatest `i32`, and at a field past that many, before it is
-/// written; `OutOfMemory` where the buffer is refused memory. The buffer's bytes are then as they were.
+/// Returns `TooLarge` if the length of a value exceeds `i32::MAX`, and at a field past that many, before it is
+/// written; `OutOfMemory` if the buffer is refused memory. The buffer's bytes are then as they were.
 pub fn record_to_sql<'a, B: Buffer, I: IntoIterator<Item = (Oid, Option<&'a [u8]>)> + Drop>(
     fields: I,
     buf: &mut B,
@@ -86,8 +86,8 @@ where
     write_list(fields, buf)
 }
 
-/// The fields of a record: the type of each, and its value or `None` for a null. One is refused with `UnexpectedEof`
-/// where its type or its length is cut short, and `InvalidValueLength` where the length passes the end; bytes behind the
+/// The fields of a record: the type of each, and its value or `None` for a null. One is rejected with `UnexpectedEof`
+/// where its type or its length is cut short, and `InvalidValueLength` where the length passes the end; bytes after the
 /// last are `NotDrained`.
 #[derive(Drop)]
 pub struct RecordFields<'a>(Counted<'a>);
@@ -140,7 +140,8 @@ fn field_at(bytes: &[u8]) -> Result<((Oid, Option<&[u8]>), &[u8]), Error>
 ///
 /// # Errors
 ///
-/// `UnexpectedEof` where the number of fields is cut short, and `InvalidCount` where it is negative.
+/// Returns `UnexpectedEof` if the number of fields is cut short, and `InvalidCount` if it is
+/// negative.
 pub fn record_from_sql(buf: &[u8]) -> Result<RecordFields<'_>, Error>
     ensures value { Reads composite buf.now result }
     ensures few { IfOk result (λ w. length w.items ≤ length buf.now) }

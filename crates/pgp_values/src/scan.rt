@@ -85,7 +85,7 @@ pub fn is_word(bytes: &[u8], word: &[u8]) -> bool
     true
 }
 
-// What stands behind this byte, if it stands at the front.
+// What stands after this byte, if it stands at the front.
 fn behind(bytes: &[u8], mark: u8) -> Option<&[u8]>
     ensures { Behind mark bytes.now (shown result) }
 {
@@ -95,7 +95,7 @@ fn behind(bytes: &[u8], mark: u8) -> Option<&[u8]>
     }
 }
 
-// The sign at the front, if there is one, and what stands behind it.
+// The sign at the front, if there is one, and what stands after it.
 pub fn sign_at(bytes: &[u8]) -> (bool, &[u8])
     ensures { SignFront bytes.now result.0 result.1.now }
 {
@@ -108,7 +108,7 @@ pub fn sign_at(bytes: &[u8]) -> (bool, &[u8])
     (false, bytes)
 }
 
-// The decimal digits at the front, and what stands behind them.
+// The decimal digits at the front, and what stands after them.
 pub fn digits_at(bytes: &[u8]) -> (&[u8], &[u8])
     ensures { Front IsDigit bytes.now result.0.now result.1.now }
 {
@@ -120,7 +120,7 @@ pub fn digits_at(bytes: &[u8]) -> (&[u8], &[u8])
     (bytes, &[])
 }
 
-// The digits behind a point, if one stands at the front.
+// The digits after a point, if one stands at the front.
 pub fn fraction_at(bytes: &[u8]) -> (&[u8], &[u8])
     ensures { PointFront bytes.now result.0.now result.1.now }
 {
@@ -175,7 +175,7 @@ fn marked_at(bytes: &[u8]) -> Result<(bool, usize), NumericError>
     Ok((negative, value))
 }
 
-// The same behind an e, and blanks or none: a server skips them there.
+// The same after an e, and blanks or none: a server skips them there.
 fn raised_at(bytes: &[u8]) -> Result<(bool, usize), NumericError>
     ensures text { IfOk result (λ x. RaisedText x.0 x.1 bytes.now) }
     ensures small { IfOk result (λ x. x.1 < 1073741823) }

@@ -31,7 +31,7 @@ fn put_digit<B: Buffer>(digit: u16, out: &mut B) -> Result<(), Error>
     put_u8(out, 48 + digit as u8)
 }
 
-// Appends so many decimal digits from a place on. A refusal leaves what stood there as a front.
+// Appends so many decimal digits from a place on. An error leaves what stood there as a front.
 fn put_run<B: Buffer>(d: &Decimal<'_>, from: usize, count: usize, out: &mut B) -> Result<(), Error>
     requires { from + count < 2 ^ 32 }
     ensures ok { OnOk result (B.held out.new ≡ B.held out.old ⊕ map letter (run (decimal_at d.now.digits) from count)) }
@@ -44,7 +44,8 @@ fn put_run<B: Buffer>(d: &Decimal<'_>, from: usize, count: usize, out: &mut B) -
     Ok(())
 }
 
-// The weight of a first digit that stands before the point; else how far behind it another stands.
+// The weight of a first digit that stands before the point; otherwise how far after it another
+// stands.
 fn weight_of(weight: i16) -> Result<usize, usize>
     ensures before { IfOk result (λ k. (weight ≡ pos k) × (k < 2 ^ 15)) }
     ensures behind { IfErr result (λ j. (weight ≡ negsuc j) × (j < 2 ^ 15)) }
@@ -55,7 +56,7 @@ fn weight_of(weight: i16) -> Result<usize, usize>
     Ok(weight as usize)
 }
 
-// Appends what stands before the point. A refusal leaves what stood there as a front.
+// Appends what stands before the point. An error leaves what stood there as a front.
 fn put_whole<B: Buffer>(d: &Decimal<'_>, out: &mut B) -> Result<(), Error>
     ensures ok { OnOk result (B.held out.new ≡ B.held out.old ⊕ map letter (whole_digits d.now.weight d.now.digits)) }
     ensures err { OnErr result (IsFrontOf (B.held out.old) (B.held out.new)) }
@@ -81,7 +82,7 @@ fn first_place(d: &Decimal<'_>, last: usize) -> usize
     last
 }
 
-// Appends what stands before the point, the first digit too. A refusal leaves what stood there as a front.
+// Appends what stands before the point, the first digit too. An error leaves what stood there as a front.
 fn put_before<B: Buffer>(d: &Decimal<'_>, k: usize, out: &mut B) -> Result<(), Error>
     requires { k < 2 ^ 15 }
     ensures ok { OnOk result (B.held out.new ≡ B.held out.old ⊕ map letter (whole_digits (pos k) d.now.digits)) }
@@ -93,7 +94,7 @@ fn put_before<B: Buffer>(d: &Decimal<'_>, k: usize, out: &mut B) -> Result<(), E
     put_run(d, from, last + 1 - from, out)
 }
 
-// The decimal digit of this index behind the point.
+// The decimal digit of this index after the point.
 fn behind_point(d: &Decimal<'_>, index: usize) -> u16
     requires { index < 2 ^ 32 }
     ensures value { result ≡ behind_point d.now.weight d.now.digits index }
@@ -117,7 +118,7 @@ fn behind_zeros(d: &Decimal<'_>, zeros: usize, index: usize) -> u16
     decimal_at(d, index - zeros)
 }
 
-// Appends what stands behind the point. A refusal leaves what stood there as a front.
+// Appends what stands after the point. An error leaves what stood there as a front.
 fn put_places<B: Buffer>(d: &Decimal<'_>, count: usize, out: &mut B) -> Result<(), Error>
     requires { count < 2 ^ 32 }
     ensures ok { OnOk result (B.held out.new ≡ B.held out.old ⊕ map letter (run (behind_point d.now.weight d.now.digits) 0 count)) }
@@ -130,7 +131,7 @@ fn put_places<B: Buffer>(d: &Decimal<'_>, count: usize, out: &mut B) -> Result<(
     Ok(())
 }
 
-// Appends the point and what stands behind it, if that is shown. A refusal leaves what stood there as a front.
+// Appends the point and what stands after it, if that is shown. An error leaves what stood there as a front.
 fn put_fraction<B: Buffer>(d: &Decimal<'_>, out: &mut B) -> Result<(), Error>
     ensures ok { OnOk result (B.held out.new ≡ B.held out.old ⊕ fraction_text d.now.scale (fraction_digits d.now)) }
     ensures err { OnErr result (IsFrontOf (B.held out.old) (B.held out.new)) }
@@ -174,7 +175,7 @@ fn has_whole(d: &Decimal<'_>) -> bool
     }
 }
 
-// Whether a digit behind the point isn't 0, of those that are shown.
+// Whether a digit after the point isn't 0, of those that are shown.
 fn has_fraction(d: &Decimal<'_>) -> bool
     ensures { result ≡ has_digit (fraction_digits d.now) }
 {
@@ -216,7 +217,7 @@ fn put_sign<B: Buffer>(negative: bool, out: &mut B) -> Result<(), Error>
     if negative { put_u8(out, b'-') } else { Ok(()) }
 }
 
-// Appends the text of a number. A refusal leaves what stood there as a front.
+// Appends the text of a number. An error leaves what stood there as a front.
 fn put_decimal<B: Buffer>(d: &Decimal<'_>, out: &mut B) -> Result<(), Error>
     ensures ok { OnOk result (B.held out.new ≡ B.held out.old ⊕ decimal_text d.now) }
     ensures err { OnErr result (IsFrontOf (B.held out.old) (B.held out.new)) }

@@ -64,7 +64,7 @@ impl<'a> Snapshot<'a> {
     }
 }
 
-/// The transactions of a snapshot. One that is cut short is `UnexpectedEof`; bytes behind the last are `NotDrained`.
+/// The transactions of a snapshot. One that is cut short is `UnexpectedEof`; bytes after the last are `NotDrained`.
 #[derive(Drop)]
 pub struct SnapshotIds<'a>(Counted<'a>);
 
@@ -132,7 +132,7 @@ fn put_bounds<B: Buffer>(xmin: u64, xmax: u64, buf: &mut B) -> Result<(), Error>
     append_both(&xmin.to_be_bytes(), &xmax.to_be_bytes(), buf)
 }
 
-// The value. A refusal leaves what stood there as a front.
+// The value. An error leaves what stood there as a front.
 fn fill_snapshot<B: Buffer, I: IntoIterator<Item = u64> + Drop>(
     xmin: u64,
     xmax: u64,
@@ -166,8 +166,8 @@ where
 ///
 /// # Errors
 ///
-/// `TooLarge` at a transaction past the greatest `i32`, before it is written; `OutOfMemory` where the buffer is refused
-/// memory. The buffer's bytes are then as they were.
+/// Returns `TooLarge` at a transaction past the greatest `i32`, before it is written; `OutOfMemory` if the buffer is
+/// refused memory. The buffer's bytes are then as they were.
 pub fn snapshot_to_sql<B: Buffer, I: IntoIterator<Item = u64> + Drop>(
     xmin: u64,
     xmax: u64,
@@ -193,8 +193,8 @@ where
 ///
 /// # Errors
 ///
-/// `UnexpectedEof` where their number or one of the bounds is cut short, and `InvalidCount` where the number is
-/// negative.
+/// Returns `UnexpectedEof` if their number or one of the bounds is cut short, and `InvalidCount` if the number
+/// is negative.
 pub fn snapshot_from_sql(buf: &[u8]) -> Result<Snapshot<'_>, Error>
     ensures value { Reads snapshot buf.now result }
     ensures few { IfOk result (λ s. length s.running.items ≤ length buf.now) }

@@ -29,7 +29,8 @@ pub fn jsonb_to_sql<B: Buffer>(v: &str, buf: &mut B) -> Result<(), Error>
 ///
 /// # Errors
 ///
-/// `InvalidVersion` where the first byte isn't 1, and `NotUtf8` where what stands behind it isn't text.
+/// Returns `InvalidVersion` if the first byte isn't 1, and `NotUtf8` if what stands after it isn't
+/// text.
 pub fn jsonb_from_sql(buf: &[u8]) -> Result<&str, Error>
     ensures { ReadsBy (λ t. t.now) jsonb buf.now result }
 {
@@ -47,7 +48,8 @@ pub fn jsonpath_to_sql<B: Buffer>(v: &str, buf: &mut B) -> Result<(), Error>
 ///
 /// # Errors
 ///
-/// `InvalidVersion` where the first byte isn't 1, and `NotUtf8` where what stands behind it isn't text.
+/// Returns `InvalidVersion` if the first byte isn't 1, and `NotUtf8` if what stands after it isn't
+/// text.
 pub fn jsonpath_from_sql(buf: &[u8]) -> Result<&str, Error>
     ensures { ReadsBy (λ t. t.now) jsonpath buf.now result }
 {

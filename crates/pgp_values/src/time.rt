@@ -42,7 +42,7 @@ pub fn interval_to_sql<B: Buffer>(v: Interval, buf: &mut B) -> Result<(), Error>
 ///
 /// # Errors
 ///
-/// `UnexpectedEof` where there are fewer than 16 bytes, `NotDrained` where there are more.
+/// Returns `UnexpectedEof` if there are fewer than 16 bytes, `NotDrained` if there are more.
 pub fn interval_from_sql(buf: &[u8]) -> Result<Interval, Error>
     ensures { Reads interval buf.now result }
 {
@@ -67,7 +67,7 @@ pub fn timetz_to_sql<B: Buffer>(v: TimeTz, buf: &mut B) -> Result<(), Error>
 ///
 /// # Errors
 ///
-/// `UnexpectedEof` where there are fewer than 12 bytes, `NotDrained` where there are more.
+/// Returns `UnexpectedEof` if there are fewer than 12 bytes, `NotDrained` if there are more.
 pub fn timetz_from_sql(buf: &[u8]) -> Result<TimeTz, Error>
     ensures { Reads timetz buf.now result }
 {

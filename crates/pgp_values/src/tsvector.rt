@@ -40,7 +40,7 @@ impl<'a> PutItem for (&'a str, &'a [u16]) {
     }
 }
 
-// Appends places behind their number. A refusal leaves what stood there as a front.
+// Appends places after their number. An error leaves what stood there as a front.
 fn put_places<B: Buffer>(places: &[u16], buf: &mut B) -> Result<(), Error>
     ensures ok { OnOk result ((count_cause (length places.now) ≡ None) × (B.held buf.new ≡ B.held buf.old ⊕ (uint16 (length places.now) ++ flat_map uint16 places.now))) }
     ensures err { OnErr result (IsFrontOf (B.held buf.old) (B.held buf.new)) }
@@ -54,7 +54,7 @@ fn put_places<B: Buffer>(places: &[u16], buf: &mut B) -> Result<(), Error>
     Ok(())
 }
 
-// Appends a lexeme and its places. A refusal leaves what stood there as a front.
+// Appends a lexeme and its places. An error leaves what stood there as a front.
 fn put_lexeme<B: Buffer>(text: &str, places: &[u16], buf: &mut B) -> Result<(), Error>
     ensures ok { OnOk result ((lexeme.cause (text.now, places.now) ≡ None) × (B.held buf.new ≡ B.held buf.old ⊕ lexeme.written (text.now, places.now))) }
     ensures err { OnErr result (IsFrontOf (B.held buf.old) (B.held buf.new)) }
@@ -70,8 +70,8 @@ fn put_lexeme<B: Buffer>(text: &str, places: &[u16], buf: &mut B) -> Result<(), 
 ///
 /// # Errors
 ///
-/// `EmbeddedNull` where a lexeme has a byte 0; `TooLarge` where more than 65,535 places stand with one, and at a lexeme past
-/// the greatest `i32`; `OutOfMemory` where the buffer is refused memory. The buffer's bytes are then as they were.
+/// Returns `EmbeddedNull` if a lexeme has a byte 0; `TooLarge` if more than 65,535 places stand with one, and at a lexeme past the
+/// greatest `i32`; `OutOfMemory` if the buffer is refused memory. The buffer's bytes are then as they were.
 pub fn tsvector_to_sql<'a, B: Buffer, I: IntoIterator<Item = (&'a str, &'a [u16])> + Drop>(
     lexemes: I,
     buf: &mut B,
@@ -124,7 +124,7 @@ impl<'a> TsPositions<'a> {
 }
 
 /// The lexemes of a `tsvector`, and the places of each. One is refused with `UnexpectedEof` where its end, the number of
-/// its places or a place is missing, and `NotUtf8` where it isn't text; bytes behind the last are `NotDrained`.
+/// its places or a place is missing, and `NotUtf8` where it isn't text; bytes after the last are `NotDrained`.
 #[derive(Drop)]
 pub struct Lexemes<'a>(Counted<'a>);
 
@@ -190,7 +190,8 @@ fn lexeme_at(bytes: &[u8]) -> Result<((&str, TsPositions<'_>), &[u8]), Error>
 ///
 /// # Errors
 ///
-/// `UnexpectedEof` where the number of lexemes is cut short, and `InvalidCount` where it is negative.
+/// Returns `UnexpectedEof` if the number of lexemes is cut short, and `InvalidCount` if it is
+/// negative.
 pub fn tsvector_from_sql(buf: &[u8]) -> Result<Lexemes<'_>, Error>
     ensures value { Reads tsvector buf.now result }
     ensures few { IfOk result (λ w. length w.items ≤ length buf.now) }

@@ -1,4 +1,4 @@
-//! A number as a text tells it: its decimal digits.
+//! A number as a text reports it: its decimal digits.
 #![tactic(auto, using(pgp_base::proofs::Parts::held_steps))]
 
 ghost use Rattle.std.specs.Prelude.{◌≡◌, ◌≢◌, ◌+◌, ◌++◌, ◌<◌, ◌≤◌, get_or, length, map, IfOk, IfErr};
@@ -10,8 +10,8 @@ ghost use Rattle.pgp_values.specs.NumberText.{NumberText};
 use crate::error::NumericError;
 use crate::scan::{digit_of, digits_at, exponent_at, fraction_at, sign_at};
 
-// A number as a text tells it: its decimal digits before and behind the point, and the power of ten that it is
-// multiplied or divided by.
+// A number as a text reports it: its decimal digits before and after the point, and the power of ten that it
+// is multiplied or divided by.
 #[derive(Clone, Copy)]
 pub struct Written<'a> {
     pub negative: bool,
@@ -45,7 +45,7 @@ pub fn written_of(bytes: &[u8]) -> Result<Written<'_>, NumericError>
     })
 }
 
-// The decimal digit at this index; 0 behind the last.
+// The decimal digit at this index; 0 after the last.
 pub fn digit_at(w: &Written<'_>, index: usize) -> u16
     ensures value { result ≡ get_or (map digit_value (w.now.whole.now ++ w.now.fraction.now)) index 0 }
     ensures small { result < 10 }

@@ -1,4 +1,4 @@
--- No line asks for a message whose cause is want of memory.
+-- No line asks for a message whose cause is lack of memory.
 use Rattle.std.proofs.Common.{◌≡◌, ℕ, Bool, true, false, ◌+◌, List, [], ◌∷◌, map, length, Some, None}
 use Rattle.std.specs.Prelude.{if◌then◌else◌, nat_le, ◌==◌}
 use Rattle.std.specs.List.{list_any}

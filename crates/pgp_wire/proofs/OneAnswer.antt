@@ -1,5 +1,5 @@
--- A script has one output: each line says one thing, and one line is the first that is refused. A stream has
--- one listing.
+-- A script has one output: each line says one thing, and one line is the first that is rejected. A stream
+-- has one listing.
 use Rattle.std.proofs.Common.{◌≡◌, ℕ, ◌+◌, Bool, true, List, [], ◌∷◌, ◌++◌, length, get_or, Contains, Some, None, refl, sym, ap, subst, ◌∙◌, arith, inl, inr, length-append}
 use Rattle.std.specs.Prelude.{codes, decimal}
 use Rattle.std.specs.List.{AllByRecursion, flat_map, slice_split}
@@ -215,7 +215,7 @@ may_there [] m more (inr h) spelled = (inr h.0, spelled.named)
 may_there (x ∷ ms) m more (inl h) spelled = subst (MayCome m) (sym (startup_opens x ms h.0)) (tagged_there ms m more h.1)
 may_there (x ∷ ms) m more (inr h) spelled = subst (MayCome m) (sym (request_opens x ms h.0)) (may_there ms m more h.1 spelled)
 
--- ---- a line that asks for a message that may come isn't refused
+-- ---- a line that asks for a message that may come isn't rejected
 
 sound_line : (here : List ℕ) (m : ClientMessage) (opened : Bool) (fault : LineFault) → IsUtf8 here → Says here m → MayCome m opened → cause m ≡ None → IsFaulty here opened fault → ⊥
 sound_line here m opened NotUtf8 utf8 says may none h = h utf8
@@ -230,7 +230,7 @@ empty_line opened WrongWords h = h.1 refl
 empty_line opened WrongPhase h = says_some h.1.0 h.1.1
 empty_line opened (Refused e) h = says_some h.1.0 h.1.1
 
--- a refused line isn't among lines whose messages are read
+-- a rejected line isn't among lines whose messages are read
 never_before : (before : List (List ℕ)) (here : List ℕ) (after : List (List ℕ)) (first all : List ClientMessage) (bytes : List ℕ) (fault : LineFault) → Ask before first → Sends (before ++ here ∷ after) all bytes → IsFaulty here (is_opened first) fault → ⊥
 never_before before [] after first all bytes fault asked sends why = empty_line (is_opened first) fault why
 never_before before (x ∷ t) after first all bytes fault asked sends why =
@@ -240,7 +240,7 @@ never_before before (x ∷ t) after first all bytes fault asked sends why =
     let spelled = spelled_there first m more (subst (AllByRecursion IsSpelled) whole sends.run.spelled) in
     sound_line (x ∷ t) m (is_opened first) fault utf8 says (may_there first m more (subst AreInOrder whole sends.run.order) spelled) spelled.none why
 
--- ---- a line is refused for one cause
+-- ---- a line is rejected for one cause
 
 fault_one : (here : List ℕ) (opened : Bool) (f g : LineFault) → IsFaulty here opened f → IsFaulty here opened g → f ≡ g
 fault_one here opened NotUtf8 NotUtf8 a b = refl
@@ -262,7 +262,7 @@ fault_one here opened (Refused e) (Refused d) a b =
     let same : Some e ≡ Some d = sym a.1.3 ∙ ap cause (says_one here a.1.0 b.1.0 a.1.1 b.1.1) ∙ b.1.3 in
     let is : e ≡ d = cc in ap Refused is
 
--- ---- one line is the first that is refused
+-- ---- one line is the first that is rejected
 
 -- two places in a list: the same, or one of them before the other
 pub data Places {X : Type 0} (a : List X) (x : X) (b : List X) (y : X) (v : List X) (u : List X) : Type 0 where

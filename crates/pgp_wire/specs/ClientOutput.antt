@@ -24,7 +24,7 @@ pub record Sends (lines : List (List ℕ)) (messages : List ClientMessage) (byte
   pub kinds : List PasswordKind
   pub run : ClientRun kinds messages bytes
 
--- Why a line is refused, behind messages that opened the session or didn't: the causes in the order in
+-- Why a line is rejected, after messages that opened the session or didn't: the causes in the order in
 -- which they are looked for.
 abbrev pub IsFaulty : List ℕ → Bool → LineFault → Type 0
 IsFaulty text opened NotUtf8 = ¬ IsUtf8 text
@@ -46,7 +46,7 @@ pub record IsSent (lines : List (List ℕ)) (output : List ℕ) (status : ℕ) :
   pub text : output ≡ line (encode_lower bytes)
   pub fine : status ≡ 0
 
--- a line is refused behind lines that aren't, and its number and the cause are told
+-- a line is rejected after lines that aren't, and its number and the cause are reported
 pub record IsRefused (lines : List (List ℕ)) (output : List ℕ) (status : ℕ) : Type 0 where
   pub before : List (List ℕ)
   pub here : List ℕ

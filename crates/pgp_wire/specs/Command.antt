@@ -37,9 +37,9 @@ complaint_of Memory = line (codes "pgwire: out of memory")
 complaint_of Read = line (codes "pgwire: read failed")
 complaint_of Write = line (codes "pgwire: write failed")
 
--- What stands behind a fault, where memory is refused and reads and writes fail so: a command answers a fault of reading or writing
--- only where a call of its reader or of its writer failed, and one of memory only where a growth was refused, or its reader failed for
--- want of memory.
+-- What stands after a fault, where memory is refused and reads and writes fail so: a command answers a fault of reading or writing
+-- only where a call of its reader or of its writer failed, and one of memory only where an allocation failed, or its reader failed for
+-- lack of memory.
 abbrev pub Caused : Type 0 → Type 0 → Type 0 → Fault → Type 0
 Caused lacks read_failed write_failed Memory = lacks ⊎ read_failed
 Caused lacks read_failed write_failed Read = read_failed
@@ -117,7 +117,7 @@ pub record IsRefused (words : List (List ℕ)) (before after : Streams) (status 
   pub input : Keeps before.input after.input
   pub output : Keeps before.output after.output
 
--- The words of the process aren't obeyed: this is told, and nothing is read or written.
+-- The words of the process aren't obeyed: this is reported, and nothing is read or written.
 pub record IsUnread (text : List ℕ) (code : ℕ) (before after : Streams) (status : ℕ) (complaint : List ℕ) : Type 0 where
   pub told : complaint ≡ text
   pub failed : status ≡ code
@@ -138,7 +138,7 @@ module _ (lacks read_failed write_failed : Type 0) where
     pub output : fault ≢ Write → Keeps before.output after.output
     pub cut : fault ≡ Write → IsCut command before after
 
-  -- a fault was met, and is told
+  -- a fault was met, and is reported
   pub record IsFaulty (command : Command) (before after : Streams) (status : ℕ) (complaint : List ℕ) : Type 0 where
     pub fault : Fault
     pub stops : Stops command before after fault

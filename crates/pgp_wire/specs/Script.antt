@@ -12,7 +12,7 @@ is_space b = b == 32
 abbrev pub is_newline : ℕ → Bool
 is_newline b = b == 10
 
--- the line is the word alone, with nothing behind it; or the word, a space, and what stands behind that
+-- the line is the word alone, with nothing after it; or the word, a space, and what stands after that
 abbrev pub HasWord : List ℕ → List ℕ → List ℕ → Type 0
 HasWord word line rest = ((line ≡ word) × (rest ≡ [])) ⊎ (line ≡ word ++ 32 ∷ rest)
 

@@ -23,13 +23,13 @@ use std::io::ErrorKind;
 /// How many bytes are read at a time.
 const PIECE: usize = 65536;
 
-/// Reads all bytes that a server sent, and then writes a line for each message and each refusal, and
-/// one for what is left. Of the bytes it keeps no more than a piece and a frame that isn't whole.
+/// Reads all bytes that a server sent, and then writes a line for each message and each error, and one for
+/// what is left. Of the bytes it keeps no more than a piece and a partial frame.
 ///
 /// # Errors
 ///
-/// `Memory` where memory is refused and `Read` where reading fails, both before anything is written; `Write`
-/// where writing or the flush fails, behind a front of the listing.
+/// Returns `Memory` if memory is refused and `Read` if reading fails, both before anything is written;
+/// `Write` if writing or the flush fails, after a front of the listing.
 pub fn backend<A: Memory, R: Input, W: Output>(
     alloc: A,
     input: &mut R,
@@ -51,7 +51,7 @@ pub fn backend<A: Memory, R: Input, W: Output>(
     Ok(0)
 }
 
-/// Reads all bytes, and answers the lines for them.
+/// Reads all bytes, and returns the lines for them.
 fn listing<A: Memory, R: Input>(alloc: A, input: &mut R) -> Result<String<A>, Fault>
     ensures read { OnOk result (IsAtEnd (R.remaining input.new)) }
     ensures lines { IfOk result (λ text. IfSome (R.remaining input.old) (λ bytes. BackendOutput bytes (string_bytes text) 0)) }
@@ -61,7 +61,7 @@ fn listing<A: Memory, R: Input>(alloc: A, input: &mut R) -> Result<String<A>, Fa
     lines_of(alloc, input, piece.as_mut_slice())
 }
 
-/// Reads all bytes, a piece at a time, and answers the lines for them. What is left behind so many pieces that
+/// Reads all bytes, a piece at a time, and returns the lines for them. What is left after so many pieces that
 /// they can't be counted is read at once.
 fn lines_of<A: Memory, R: Input>(
     alloc: A,
@@ -75,7 +75,7 @@ fn lines_of<A: Memory, R: Input>(
 {
     let mut parser = StreamParser::new(alloc);
     let mut text = String::new(alloc);
-    // Bounded, since each function has to end, and a reader may give pieces or be interrupted for ever.
+    // Bounded, since each function has to end, and a reader may give pieces or be interrupted forever.
     for _ in 0..u64::MAX {
         match input.read_some(piece) {
             Ok(0) => {
@@ -141,7 +141,7 @@ fn put_line<A: Memory>(word: &str, text: &mut String<A>) -> Result<(), Fault>
     Ok(())
 }
 
-/// Adds the line of a refusal with this number.
+/// Adds the line of an error with this number.
 fn put_fault<A: Memory>(n: u8, text: &mut String<A>) -> Result<(), Fault>
     ensures line { OnOk result (string_bytes text.new ≡ string_bytes text.old ++ line (codes "fault " ++ decimal n)) }
     ensures fault { IfErr result (λ e. (e ≡ Fault.Memory) × A.Lacks) }

@@ -27,7 +27,7 @@ use postgres_protocol::Error;
 use postgres_protocol::session::ClientStream;
 use std::alloc::Allocator;
 
-/// Why a line was refused.
+/// Why a line was rejected.
 #[derive(Debug, Clone, Copy, PartialEq, Eq)]
 pub enum LineFault {
     NotUtf8,
@@ -43,13 +43,13 @@ struct Answer<A: Allocator> {
     status: u8,
 }
 
-/// Reads a whole script, and then writes the bytes of its messages as a line of hex digits, or tells of
-/// the first line that is refused. A newline ends a line, and an empty one asks for nothing.
+/// Reads a whole script, and then writes the bytes of its messages as a line of hex digits, or reports the
+/// first line that is rejected. A newline ends a line, and an empty one asks for nothing.
 ///
 /// # Errors
 ///
-/// `Memory` where memory is refused and `Read` where reading fails, both before anything is written; `Write`
-/// where writing or the flush fails, behind a front of what was to be written.
+/// Returns `Memory` if memory is refused and `Read` if reading fails, both before anything is written;
+/// `Write` if writing or the flush fails, after a front of what was to be written.
 pub fn client<A: Memory, R: Input, W: Output>(
     alloc: A,
     input: &mut R,
@@ -99,7 +99,7 @@ fn digits<A: Memory>(alloc: A, bytes: &[u8]) -> Result<String<A>, Fault>
     Ok(text)
 }
 
-/// The line that tells of a refused line.
+/// The line that reports a rejected line.
 fn refusal<A: Memory>(alloc: A, number: usize, fault: LineFault) -> Result<String<A>, Fault>
     ensures line { IfOk result (λ text. string_bytes text ≡ line (codes "line " ++ decimal number ++ codes ": " ++ told fault)) }
     ensures fault { IfErr result (λ e. (e ≡ Fault.Memory) × A.Lacks) }
@@ -118,7 +118,8 @@ fn refusal<A: Memory>(alloc: A, number: usize, fault: LineFault) -> Result<Strin
     Ok(text)
 }
 
-/// Sends what each line asks for, up to the first line that is refused, which it answers with its number.
+/// Sends what each line asks for, up to the first line that is rejected, which it answers with its
+/// number.
 fn send_lines<A: Memory, B: Buffer>(
     alloc: A,
     script: &[u8],
@@ -141,7 +142,7 @@ fn send_lines<A: Memory, B: Buffer>(
     Ok(None)
 }
 
-/// The first line, and what stands behind its newline, if it has one.
+/// The first line, and what stands after its newline, if it has one.
 fn cut_line(bytes: &[u8]) -> (&[u8], Option<&[u8]>)
     ensures cut { slice_split is_newline bytes.now ≡ result.0.now ∷ lines_left result.1 }
     ensures shorter { length result.0.now + size_left result.1 ≡ length bytes.now }
@@ -152,7 +153,7 @@ fn cut_line(bytes: &[u8]) -> (&[u8], Option<&[u8]>)
     }
 }
 
-/// Sends what a line asks for, or answers why it is refused.
+/// Sends what a line asks for, or returns why it is rejected.
 fn send_line<A: Memory, B: Buffer>(
     alloc: A,
     line: &[u8],

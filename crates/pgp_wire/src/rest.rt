@@ -13,7 +13,7 @@ use std::io::ErrorKind;
 ///
 /// # Errors
 ///
-/// `Memory` where memory is refused, and `Read` where reading fails.
+/// Returns `Memory` if memory is refused, and `Read` if reading fails.
 pub fn read_rest<A: Memory, R: Input>(alloc: A, input: &mut R) -> Result<Vec<u8, A>, Fault>
     ensures rest { IfOk result (λ bytes. IfSome (R.remaining input.old) (λ rest. bytes.items ≡ rest)) }
     ensures consumes { IfOk result (λ bytes. Consumes (R.remaining input.old) (R.remaining input.new) bytes.items) }

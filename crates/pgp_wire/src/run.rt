@@ -129,7 +129,7 @@ pub fn obey<A: Memory, R: Input, W: Output>(
     }
 }
 
-/// Says on `errors` what is to be said there, or as much of it as it takes where it fails, and answers the status.
+/// Says on `errors` what is to be said there, or as much of it as it takes where it fails, and returns the status.
 fn tell<E: Output>(outcome: Outcome, errors: &mut E) -> u8
     ensures status { result ≡ outcome.status }
     ensures told { IsSaid (GivesUp E.Fails E.Interrupted) (E.contents errors.old) (E.contents errors.new) outcome.complaint.now }
@@ -138,7 +138,7 @@ fn tell<E: Output>(outcome: Outcome, errors: &mut E) -> u8
     outcome.status
 }
 
-/// Does what the words ask for, says on `errors` what is to be said there, and answers the status.
+/// Does what the words ask for, says on `errors` what is to be said there, and returns the status.
 ///
 /// Where `errors` fails, a front of that is said.
 pub fn run<A: Memory, R: Input, W: Output, E: Output>(
@@ -197,7 +197,7 @@ fn obey_own<A: Memory, V: Words, R: Input, W: Output>(
     }
 }
 
-/// Runs on the words of the process, behind its name.
+/// Runs on the words of the process, after its name.
 pub fn run_own<A: Memory, V: Words, R: Input, W: Output, E: Output>(
     alloc: A,
     env: &V,

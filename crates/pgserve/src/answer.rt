@@ -17,7 +17,7 @@ pub(crate) enum Went {
     Wrong,
 }
 
-/// The format of the column at this place: that of all, or its own; text where none is told.
+/// The format of the column at this place: that of all, or its own; text where none is reported.
 fn format_of(formats: &[i16], place: usize) -> i16 {
     match formats {
         [] => 0,
@@ -73,7 +73,7 @@ fn value_in(
     }
 }
 
-/// Adds a value in the format that is wanted, or answers that this server doesn't write it.
+/// Adds a value in the format that is wanted, or returns that this server doesn't write it.
 fn add_value(
     alloc: Global,
     column: &Column,
@@ -92,7 +92,7 @@ fn add_value(
     Ok(true)
 }
 
-/// Adds the values of a row in the formats that are wanted, or answers that this server doesn't write one of them.
+/// Adds the values of a row in the formats that are wanted, or returns that this server doesn't write one of them.
 fn add_values(
     alloc: Global,
     columns: &[Column],
@@ -130,7 +130,7 @@ fn put_values(alloc: Global, values: &[Option<Vec<u8>>], out: &mut BytesMut) -> 
     Ok(reply::data_row(&lent(alloc, values)?, out)?)
 }
 
-/// Appends a row, or answers that this server doesn't write one of its values.
+/// Appends a row, or returns that this server doesn't write one of its values.
 fn put_row(
     alloc: Global,
     statement: &Statement,
@@ -146,7 +146,7 @@ fn put_row(
     Ok(true)
 }
 
-/// Appends the rows from this place on, at most so many, and answers the place behind them; `None` behind the error of a value that
+/// Appends the rows from this place on, at most so many, and returns the place after them; `None` after the error of a value that
 /// this server doesn't write.
 fn put_rows(
     alloc: Global,

@@ -77,7 +77,7 @@ pub(crate) fn notice(code: &[u8], message: &[u8], out: &mut BytesMut) -> Result<
     Ok(reply::notice_response(&fields(b"NOTICE", code, message), out)?)
 }
 
-/// Appends the error of a refusal.
+/// Appends the error of an error.
 pub(crate) fn refuse(refusal: Refusal, out: &mut BytesMut) -> Result<(), Fault> {
     error(refusal.code(), refusal.message(), out)
 }

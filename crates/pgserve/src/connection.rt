@@ -1,4 +1,4 @@
-//! A connection: the log-in, and the session behind it.
+//! A connection: the log-in, and the session after it.
 
 ghost use Rattle.pgp_frontend_read.specs.Pieces.{IsWhole};
 
@@ -56,7 +56,7 @@ impl<'h> Connection<'h> {
         self.serving.phase == ServingPhase::Over
     }
 
-    /// Tells the client that what it sent is no message here, and ends the session.
+    /// Says the client that what it sent is no message here, and ends the session.
     fn reject(&mut self, out: &mut BytesMut) -> Result<(), Fault> {
         Ok(self.serving.deny(Denial::Violation, out)?)
     }
@@ -76,7 +76,7 @@ impl<'h> Connection<'h> {
         Ok(())
     }
 
-    /// Appends what is said behind a message of which nothing more is asked.
+    /// Appends what is said after a message of which nothing more is asked.
     fn go_on(
         &mut self,
         heard: Result<ServingEvent, Error>,

@@ -45,11 +45,12 @@ impl<'h> Host<'h> {
         }
     }
 
-    /// The exchange with a user of this name. One who isn't there is asked like the one who is, and refused in the end.
+    /// The exchange with a user of this name. One who isn't there is asked like the one who is, and rejected in the
+    /// end.
     ///
     /// # Errors
     ///
-    /// `Verifier` and `Nonce` where the words have another form.
+    /// Returns `Verifier` and `Nonce` if the words have another form.
     pub(crate) fn exchange(&self, alloc: Global, user: &[u8]) -> Result<ScramServer, Fault> {
         let verifier = self.verifier(alloc, user)?;
         let nonce = String::from_str(alloc, self.nonce)?;

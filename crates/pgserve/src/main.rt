@@ -41,12 +41,12 @@ fn serve(rt: &HostRuntime, words: &[String]) -> Result<(), Fault> {
 /// The same with this script.
 fn serve_script(rt: &HostRuntime, words: &Words<'_>, script: &Script) -> Result<(), Fault> {
     let host = Host::new(words, script);
-    // A verifier or a nonce that isn't one is told before a client comes.
+    // A verifier or a nonce that isn't one is reported before a client comes.
     drop(host.exchange(rt.alloc(), words.user.as_bytes())?);
     stream::run(rt.alloc(), &host, &mut rt.reader(), &mut io::writer(rt))
 }
 
-/// Says why there is no more, and answers the status.
+/// Says why there is no more, and returns the status.
 fn told(rt: &HostRuntime, fault: &Fault) -> io::Result<u8> {
     match fault {
         Fault::Words(refusal) => {

@@ -42,7 +42,7 @@ pub(crate) struct Statement {
     pub(crate) rows: Vec<Vec<Option<Vec<u8>>>>,
     pub(crate) notices: Vec<Report>,
     pub(crate) end: End,
-    /// The status that the server tells from then on; 0 where it stays.
+    /// The status that the server says from then on; 0 where it stays.
     pub(crate) status: u8,
 }
 
@@ -102,7 +102,7 @@ fn types_of(alloc: Global, words: &str) -> Result<Option<Vec<Oid>>, AllocError> 
     Ok(Some(types))
 }
 
-/// The column of this line: its name, and behind the last space its type.
+/// The column of this line: its name, and after the last space its type.
 fn column_of(alloc: Global, line: &str) -> Result<Option<Column>, AllocError> {
     let Some((name, kind)) = line.rsplit_once(' ') else {
         return Ok(None);
@@ -127,7 +127,7 @@ fn value_of(alloc: Global, text: &str) -> Result<Option<Option<Vec<u8>>>, AllocE
     }
 }
 
-/// Adds the values of this line, between which tabs stand, and answers whether each is one.
+/// Adds the values of this line, between which tabs stand, and returns whether each is one.
 fn add_values(
     alloc: Global,
     line: &str,
@@ -190,7 +190,7 @@ impl Statement {
         Ok(true)
     }
 
-    /// Adds a column; rows stand behind all of them.
+    /// Adds a column; rows stand after all of them.
     fn add_column(&mut self, alloc: Global, line: &str) -> Result<bool, AllocError> {
         match column_of(alloc, line)? {
             Some(column) if self.rows.is_empty() => {
@@ -251,7 +251,7 @@ impl Statement {
         }
     }
 
-    /// Adds what a line says, and answers whether it is one.
+    /// Adds what a line says, and returns whether it is one.
     fn add(&mut self, alloc: Global, word: &str, rest: &str) -> Result<bool, AllocError> {
         match word {
             "parameters" => self.set_parameters(alloc, rest),
@@ -266,7 +266,7 @@ impl Statement {
     }
 }
 
-/// Begins a statement, and answers whether the line is one.
+/// Begins a statement, and returns whether the line is one.
 fn begin(
     alloc: Global,
     script: &mut Script,
@@ -283,7 +283,7 @@ fn begin(
     }
 }
 
-/// Reads a line, and answers whether it is one.
+/// Reads a line, and returns whether it is one.
 fn read_line(
     alloc: Global,
     script: &mut Script,
@@ -322,7 +322,8 @@ fn read_lines(alloc: Global, script: &mut Script, text: &str) -> Result<(), Faul
 ///
 /// # Errors
 ///
-/// `Script`, with the number of the line that has another form, or where a statement begins that has neither a tag nor an error.
+/// Returns `Script`, with the number of the line that has another form, or where a statement begins that has neither a tag nor
+/// an error.
 pub(crate) fn script_of(alloc: Global, text: &str) -> Result<Script, Fault> {
     let mut script = Script {
         statements: Vec::new(alloc),

@@ -1,4 +1,4 @@
-//! A session behind the log-in: requests, and what is answered to them.
+//! A session after the log-in: requests, and what is answered to them.
 //!
 //! PostgreSQL manual, "Message Flow": "Simple Query", "Extended Query", "Function Call".
 
@@ -33,7 +33,7 @@ pub(crate) struct Session<'h> {
     script: &'h Script,
     prepared: Names<Prepared>,
     portals: Names<Portal>,
-    /// Behind an error all requests are passed over up to a Sync.
+    /// After an error all requests are passed over up to a Sync.
     is_skipping: bool,
     status: u8,
 }
@@ -50,7 +50,7 @@ impl<'h> Session<'h> {
         }
     }
 
-    /// Appends what a server says behind the log-in.
+    /// Appends what a server says after the log-in.
     pub(crate) fn welcome(&self, out: &mut BytesMut) -> Result<(), Fault> {
         for (name, value) in SETTINGS {
             reply::parameter_status(name, value, out)?;
@@ -271,7 +271,7 @@ impl<'h> Session<'h> {
     ///
     /// # Errors
     ///
-    /// `Memory`, and `TooLong` where an answer of the script doesn't fit a message.
+    /// Returns `Memory`, and `TooLong` if an answer of the script doesn't fit a message.
     pub(crate) fn answer(
         &mut self,
         message: ClientMessage<'_>,
@@ -294,7 +294,7 @@ impl<'h> Session<'h> {
     }
 }
 
-/// What a server of version 15 tells of its settings behind the log-in.
+/// What a server of version 15 reports its settings after the log-in.
 const SETTINGS: [(&[u8], &[u8]); 6] = [
     (b"server_version", b"15.0"),
     (b"server_encoding", b"UTF8"),

@@ -45,7 +45,8 @@ fn put<W: Write>(bytes: &[u8], output: &mut W) -> Result<(), Fault> {
 ///
 /// # Errors
 ///
-/// `Read`, `Write`, `Memory`, and `TooLong` where an answer of the script doesn't fit a message. What was answered before was written.
+/// Returns `Read`, `Write`, `Memory`, and `TooLong` if an answer of the script doesn't fit a message. What was answered before was
+/// written.
 pub(crate) fn run<R: Read, W: Write>(
     alloc: Global,
     host: &Host<'_>,

@@ -2,7 +2,7 @@
 
 use std::alloc::{AllocError, Global};
 
-/// What a letter behind a backslash stands for.
+/// What a letter after a backslash stands for.
 fn escape_of(letter: u8) -> Option<u8> {
     match letter {
         b'\\' => Some(b'\\'),
@@ -21,7 +21,7 @@ pub(crate) fn unescaped(alloc: Global, text: &str) -> Result<Option<Vec<u8>>, Al
     Ok(if is_one { Some(bytes) } else { None })
 }
 
-/// Adds a text without its escapes, and answers whether it is one.
+/// Adds a text without its escapes, and returns whether it is one.
 fn add_unescaped(text: &str, bytes: &mut Vec<u8>) -> Result<bool, AllocError> {
     let mut is_escaped = false;
     for byte in text.bytes() {
@@ -40,7 +40,7 @@ fn add_unescaped(text: &str, bytes: &mut Vec<u8>) -> Result<bool, AllocError> {
     Ok(!is_escaped)
 }
 
-/// A statement without the spaces around it and the semicolon behind it.
+/// A statement without the spaces around it and the semicolon after it.
 pub(crate) fn trimmed(statement: &[u8]) -> &[u8] {
     let text = statement.trim_ascii();
     match text.strip_suffix(b";".as_slice()) {

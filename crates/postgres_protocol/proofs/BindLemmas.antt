@@ -46,7 +46,7 @@ module _ (to : Target) where
   pub names_first : (v : Option (List ℕ)) (e : Error) → names_cause to ≡ Some e → cause (one_bound to v) ≡ Some e
   names_first v e h = parts_first (one_bound to v) e (cause_front (Text to.portal ∷ Text to.statement ∷ []) (Int16s (pos 1 ∷ []) ∷ Values (v ∷ []) ∷ Int16s to.results ∷ []) e h)
 
-  -- what stands behind them has none
+  -- what stands after them has none
   names_last : (c d : Cause) → either c (either d (either None (either None (either None None)))) ≡ either c (either d None)
   names_last c d = refl
 
@@ -67,7 +67,7 @@ module _ (to : Target) where
       let up = no_results (part_cause (Text to.portal)) (part_cause (Text to.statement)) (part_cause (Values (v ∷ []))) ∙ one in
       parts_first (one_bound to v) e (cause_front (up_to (pos 1 ∷ []) (v ∷ [])) (Int16s to.results ∷ []) e up)
 
-  -- behind the formats that came so far, none or all, only the names have a cause
+  -- after the formats that came so far, none or all, only the names have a cause
   formats_alone : (fs : List ℤ) → (fs ≡ []) ⊎ (fs ≡ pos 1 ∷ []) → parts_cause (parts (Bind to.portal to.statement fs [] [])) ≡ names_cause to
   formats_alone fs (inl e) = rw e (names_last (part_cause (Text to.portal)) (part_cause (Text to.statement)))
   formats_alone fs (inr e) = rw e (names_last (part_cause (Text to.portal)) (part_cause (Text to.statement)))
@@ -124,7 +124,7 @@ module _ {K : Type 0} {lacks : Held K → ℕ → Type 0} {old : Held K} (to : T
       let m = one_length to v in
       wants_more old _ _ (omega (arith, n, m, nullable_least v, null_length, counted_length nullable (None ∷ []), counted_length nullable (v ∷ []), flat_more nullable [] None, flat_more nullable [] v)) w
 
-  -- behind the place of the value's length
+  -- after the place of the value's length
   pub value_wants : (b : Held K) (v : Option (List ℕ)) (n : ℕ) → b ≡ before_values old to.portal to.statement (pos 1 ∷ []) → n ≤ length (nullable v) → Wants lacks b n → Wants lacks old (length (bytes_of (one_bound to v)))
   value_wants b v n h k w =
       let ps = Text to.portal ∷ Text to.statement ∷ Int16s (pos 1 ∷ []) ∷ [] in

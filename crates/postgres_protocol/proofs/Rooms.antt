@@ -40,7 +40,7 @@ same_refusal d e h = cc
 no_refusal : {E : Type 0} (done : Unit {0}) (e : E) → (let r : Result (Unit {0}) E = Ok done in let s : Result (Unit {0}) E = Err e in r ≡ s) → ⊥
 no_refusal done e h = cc
 
--- what stands in a window behind a message is within the caller's memory
+-- what stands in a window after a message is within the caller's memory
 never_longer : (m : ClientMessage) (old new : Window) → window_held new ≡ window_held old ⊕ bytes_of m → LacksRoom (window_held old) m → ⊥
 never_longer m old new grown long = no_refusal tt OutOfMemory (too_long (bytes_of m) None old new (Ok tt) (refl, grown) refl long)
 
@@ -147,7 +147,7 @@ module _ (ds : List ArrayDimension) (type : ℕ) where
     wanted : (us : List (Option (List ℕ))) → length (flat_map nullable us) ≤ length (flat_map nullable vs) → BindWants ds type window_lacks old us → LacksRoom old m
     wanted us less w = omega (arith, wants_window old _ w, binding_longer us vs less)
 
-    -- the step that refuses stands at an element
+    -- the step that rejects stands at an element
     step_at : (step : Step) (more : List Step) (us ws : List (Option (List ℕ))) (e : Error) → Give (step ∷ more) ws → RefusesAt (λ bytes. BindWants ds type window_lacks old (us ++ Some bytes ∷ [])) step e
         → (e ≡ OutOfMemory) × ((v : Option (List ℕ)) × (others : List (Option (List ℕ))) × (ws ≡ v ∷ others) × BindWants ds type window_lacks old (us ++ v ∷ []))
     step_at (Append b) more us [] e g r = let h : Some (Some b.items) ∷ map gives more ≡ [] = g in absurd cc

@@ -1,4 +1,4 @@
--- Where an exchange of SCRAM-SHA-256 stopped, by what its calls told.
+-- Where an exchange of SCRAM-SHA-256 stopped, by what its calls reported.
 use Rattle.std.proofs.Common.{◌≡◌, ℕ, List, [], Option, Some, None, Result, Ok, Err, refl, ap, subst, ◌∙◌, inl, inr}
 use Rattle.std.specs.Prelude.{IfErr}
 use Rattle.std.specs.Result.{IsErrAnd}
@@ -64,12 +64,12 @@ module _ {Kept : Type 0} (memory : Type 0) (lacks : Held Kept → ℕ → Type 0
   first_stops first_new final out (refusals.Message x) behind m = inr (inl (record { behind = behind; missing = m; client = refl; final = refl }))
   first_stops first_new final out (refusals.Scram x) behind m = absurd m
 
-  -- the server's first text didn't stand in its buffer, and its refusal was handed on
+  -- the server's first text didn't stand in its buffer, and its error was handed on
   pub first_missing : {A T : Type 0} (r : Result T (SaslRefusal A)) (x : SaslRefusal A) → IsErrAnd r (λ e. e ≡ x) → (first_new final : List ℕ) (out : Held Kept) → SentFirst mechanism old out_old out → GivesNone memory IsNoContinue first_old first_new x
       → IfErr r (λ e. Stopped memory lacks mechanism old old first_old first_new final final out_old out e)
   first_missing r x h first_new final out behind m = if_err_at r x (λ e. Stopped memory lacks mechanism old old first_old first_new final final out_old out e) h (first_stops first_new final out x behind m)
 
-  -- it was refused
+  -- it was rejected
   pub first_refused : (new : Client) (first_new final : List ℕ) (out : Held Kept) (handed first : List ℕ) (e : Refusal) → SentFirst mechanism old out_old out → TakesFrame first_old (Ok (Authentication (AuthenticationSaslContinue first))) first_new
       → handed ≡ first → UpdateRefused memory old handed e new → FirstRefused memory lacks mechanism old new first_old first_new final final out_old out e
   first_refused new first_new final out handed first e behind taken is r = record { behind = behind; first = first; taken = taken; refused = subst (λ (t : List ℕ). UpdateRefused memory old t e new) is r; final = refl }
@@ -90,12 +90,12 @@ module _ {Kept : Type 0} (memory : Type 0) (lacks : Held Kept → ℕ → Type 0
   final_stops new first_new final_old final_new out (refusals.Message x) behind m = inr (inr (inr (record { behind = behind; missing = m })))
   final_stops new first_new final_old final_new out (refusals.Scram x) behind m = absurd m
 
-  -- the server's final text didn't stand in its buffer, and its refusal was handed on
+  -- the server's final text didn't stand in its buffer, and its error was handed on
   pub final_missing : {A T : Type 0} (r : Result T (SaslRefusal A)) (x : SaslRefusal A) → IsErrAnd r (λ e. e ≡ x) → (new : Client) (first_new final_old final_new : List ℕ) (out : Held Kept) → SentFinal mechanism old out_old first_old first_new out new
       → GivesNone memory IsNoFinal final_old final_new x → IfErr r (λ e. Stopped memory lacks mechanism old new first_old first_new final_old final_new out_old out e)
   final_missing r x h new first_new final_old final_new out behind m = if_err_at r x (λ e. Stopped memory lacks mechanism old new first_old first_new final_old final_new out_old out e) h (final_stops new first_new final_old final_new out x behind m)
 
-  -- it was refused
+  -- it was rejected
   pub final_refused : (client new : Client) (first_new final_old final_new : List ℕ) (out : Held Kept) (handed final : List ℕ) (e : Refusal) → SentFinal mechanism old out_old first_old first_new out client
       → TakesFrame final_old (Ok (Authentication (AuthenticationSaslFinal final))) final_new → handed ≡ final → FinishRefused memory client handed e new → FinalRefused memory lacks mechanism old new first_old first_new final_old final_new out_old out e
   final_refused client new first_new final_old final_new out handed final e behind taken is r = record { client = client; behind = behind; final = final; taken = taken; refused = subst (λ (t : List ℕ). FinishRefused memory client t e new) is r }

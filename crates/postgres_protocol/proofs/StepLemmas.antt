@@ -40,7 +40,7 @@ keeps_steps ds type steps lacks old new (Ok Yes) d = let e : Yes ≡ No = d.0 in
 keeps_steps ds type steps lacks old new (Ok No) d = (array_bytes (array_of ds type d.1.vs), d.1.appended)
 keeps_steps ds type steps lacks old new (Err e) d = front_left old new d.1
 
--- what stands behind the same bytes is the same
+-- what stands after the same bytes is the same
 pub same_more : {K : Type 0} (a b : Held K) (p q : List ℕ) → b ≡ a ⊕ p → b ≡ a ⊕ q → p ≡ q
 same_more a b p q e f = append_cancel_left a.bytes p q (sym (more_bytes a p) ∙ (ap (λ h. h.bytes) (sym e ∙ f) ∙ more_bytes a q))
 
@@ -104,7 +104,7 @@ module _ (ds : List ArrayDimension) (type : ℕ) where
     pub head_wants : (n : ℕ) (vs : List (Option (List ℕ))) → n ≤ length ds → Wants lacks old (12 + 8 * n) → Wants lacks old (length (array_bytes (array_of ds type vs)))
     head_wants n vs h w = wants_more old (12 + 8 * n) _ (let l = array_length vs in omega (arith, l, h)) w
 
-    -- of an element, behind others
+    -- of an element, after others
     pub element_wants : (b : Held K) (vs : List (Option (List ℕ))) (v : Option (List ℕ)) (n : ℕ) → b ≡ before_elements old ds type ⊕ flat_map nullable vs → n ≤ length (nullable v) → Wants lacks b n
         → Wants lacks old (length (array_bytes (array_of ds type (vs ++ v ∷ []))))
     element_wants b vs v n h k w =

@@ -16,7 +16,7 @@ use Rattle.pgp_types.specs.Format.{Reads}
 use Rattle.postgres_protocol.specs.declared.laws.array.Step.{Step}
 use Rattle.postgres_protocol.specs.declared.laws.array.Step.TheVariants.{Append, Null, Refuse}
 
--- What a step does to a buffer, and answers.
+-- What a step does to a buffer, and returns.
 abbrev pub Does : {K : Type 0} → Step → (Held K → ℕ → Type 0) → Held K → Held K → Result IsNull Error → Type 0
 Does (Append bytes) lacks old new (Ok null) = (null ≡ No) × (new ≡ old ⊕ bytes.items)
 Does (Append bytes) lacks old new (Err e) = WantsMemory (Wants lacks old (length bytes.items)) e × (new ≡ old)
@@ -25,7 +25,7 @@ Does Null lacks old new (Err e) = ⊥
 Does (Refuse d) lacks old new (Ok null) = ⊥
 Does (Refuse d) lacks old new (Err e) = (e ≡ d) × (new ≡ old)
 
--- the element that a step gives; there is none where it refuses
+-- the element that a step gives; there is none where it rejects
 abbrev pub gives : Step → Option (Option (List ℕ))
 gives (Append bytes) = Some (Some bytes.items)
 gives Null = Some None
@@ -35,7 +35,7 @@ gives (Refuse e) = None
 abbrev pub Give : List Step → List (Option (List ℕ)) → Type 0
 Give steps vs = map gives steps ≡ map (λ v. Some v) vs
 
--- Why a step that is reached refuses. `Wanted bytes` says that a growth was refused that these bytes need.
+-- Why a step that is reached refuses. `Wanted bytes` says that an allocation failed that these bytes need.
 abbrev pub RefusesAt : (List ℕ → Type 0) → Step → Error → Type 0
 RefusesAt Wanted (Append bytes) e = WantsMemory (Wanted bytes.items) e
 RefusesAt Wanted Null e = ⊥
@@ -59,17 +59,17 @@ module _ (dimensions : List ArrayDimension) (element_type : ℕ) (vs : List (Opt
     pub only : (r : Result ArrayRead Error) → Reads array (array_bytes array_of) r → r ≡ Ok (array_seen array_of)
 
 module _ (dimensions : List ArrayDimension) (element_type : ℕ) where
-  -- a growth was refused that the array of these elements needs
+  -- an allocation failed that the array of these elements needs
   abbrev pub ArrayWants : {K : Type 0} → (Held K → ℕ → Type 0) → Held K → List (Option (List ℕ)) → Type 0
   ArrayWants lacks old vs = Wants lacks old (length (array_bytes (array_of dimensions element_type vs)))
 
-  -- a growth was refused that the message which binds these elements needs
+  -- an allocation failed that the message which binds these elements needs
   abbrev pub BindWants : {K : Type 0} → (Held K → ℕ → Type 0) → Held K → List (Option (List ℕ)) → Type 0
   BindWants lacks old vs = Wants lacks old (length (bytes_of (binding dimensions element_type vs)))
 
 module _ (dimensions : List ArrayDimension) (element_type : ℕ) (steps : List Step) where
-  -- Behind steps that give elements, with which the array has no cause, one refuses. `Wanted vs` says that a growth was
-  -- refused that what is written of these elements needs.
+  -- After steps that give elements, with which the array has no cause, one refuses. `Wanted vs` says that an allocation
+  -- failed that what is written of these elements needs.
   pub record StepRefuses (Wanted : List (Option (List ℕ)) → Type 0) (e : Error) : Type 0 where
     pub before : List Step
     pub step : Step
@@ -80,7 +80,7 @@ module _ (dimensions : List ArrayDimension) (element_type : ℕ) (steps : List S
     pub none : array_cause (array_of dimensions element_type vs) ≡ None
     pub refuses : RefusesAt (λ bytes. Wanted (vs ++ Some bytes ∷ [])) step e
 
-  -- A growth was refused that what is written of the first elements needs. Where a step comes behind them, a null stands for
+  -- An allocation failed that what is written of the first elements needs. Where a step comes after them, a null stands for
   -- its element: no more than the place of its length was asked for.
   pub record ElementsWant (Wanted : List (Option (List ℕ)) → Type 0) : Type 0 where
     pub before : List Step
@@ -99,12 +99,12 @@ module _ (dimensions : List ArrayDimension) (element_type : ℕ) (steps : List S
     pub give : Give before vs
     pub some : array_cause (array_of dimensions element_type vs) ≡ Some e
 
-  -- why the array was refused: by a step; or for its own cause, or for want of memory
+  -- why the array was refused: by a step; or for its own cause, or for lack of memory
   abbrev pub ArrayRefused : (List (Option (List ℕ)) → Type 0) → BindError Error → Type 0
   ArrayRefused Wanted (Conversion e) = StepRefuses Wanted e
   ArrayRefused Wanted (Serialization e) = WantsMemory (ElementsWant Wanted) e ⊎ HasCause e
 
-  -- the array of the elements that the steps give stands behind the old bytes, and has no cause
+  -- the array of the elements that the steps give stands after the old bytes, and has no cause
   pub record ArrayAppended {K : Type 0} (old new : Held K) : Type 0 where
     pub vs : List (Option (List ℕ))
     pub give : Give steps vs
@@ -115,7 +115,7 @@ module _ (dimensions : List ArrayDimension) (element_type : ℕ) (steps : List S
   WritesSteps lacks old new (Ok null) = (null ≡ No) × ArrayAppended old new
   WritesSteps lacks old new (Err e) = ArrayRefused (ArrayWants dimensions element_type lacks old) e × Leaves old new
 
-  -- the frame of the message stands behind the old bytes, and neither it nor the array has a cause
+  -- the frame of the message stands after the old bytes, and neither it nor the array has a cause
   pub record BindAppended {K : Type 0} (old new : Held K) : Type 0 where
     pub vs : List (Option (List ℕ))
     pub give : Give steps vs
@@ -130,7 +130,7 @@ module _ (dimensions : List ArrayDimension) (element_type : ℕ) (steps : List S
     pub none : array_cause (array_of dimensions element_type vs) ≡ None
     pub some : cause (binding dimensions element_type vs) ≡ Some e
 
-  -- why the message was refused: as the array was; or for its own cause, or for want of memory
+  -- why the message was refused: as the array was; or for its own cause, or for lack of memory
   abbrev pub BindRefused : (List (Option (List ℕ)) → Type 0) → BindError (BindError Error) → Type 0
   BindRefused Wanted (Conversion e) = ArrayRefused Wanted e
   BindRefused Wanted (Serialization e) = WantsMemory (ElementsWant Wanted) e ⊎ IsTooLong e

@@ -31,12 +31,12 @@ one_bound to v = Bind to.portal to.statement (pos 1 ∷ []) (v ∷ []) to.result
 abbrev pub names_cause : Target → Cause
 names_cause to = parts_cause (Text to.portal ∷ Text to.statement ∷ [])
 
--- The serializer, which began as `f`, was called once, behind the place of the value's length, and left as `last`.
+-- The serializer, which began as `f`, was called once, after the place of the value's length, and left as `last`.
 module _ {F E B K : Type 0} (held : B → Held K) (step : F → ℕ → MutBor B → Result IsNull E → MutBor B → F → Type 0) (to : Target) (f last : F) (old : Held K) where
   abbrev pub PutsOne : Result IsNull E → List ℕ → Type 0
   PutsOne answer bytes = Puts held step (before_values old to.portal to.statement (pos 1 ∷ []) ⊕ uint32 0) f 0 answer bytes last
 
-  -- the message of the value that it made stands behind the old bytes, and has no cause
+  -- the message of the value that it made stands after the old bytes, and has no cause
   pub record OneWritten (new : Held K) : Type 0 where
     pub null : IsNull
     pub bytes : List ℕ
@@ -55,12 +55,12 @@ module _ {F E B K : Type 0} (held : B → Held K) (step : F → ℕ → MutBor B
   abbrev pub NamesRefused : Error → Type 0
   NamesRefused e = (f ≡ last) × (names_cause to ≡ Some e)
 
-  -- A growth was refused that the message needs: of a null, where it wasn't called; or of the value that it made.
+  -- An allocation failed that the message needs: of a null, where it wasn't called; or of the value that it made.
   abbrev pub OneWants : (Held K → ℕ → Type 0) → Type 0
   OneWants lacks = ((f ≡ last) × Wants lacks old (length (bytes_of (one_bound to None))))
       ⊎ ((null : IsNull) × (bytes : List ℕ) × PutsOne (Ok null) bytes × Wants lacks old (length (bytes_of (one_bound to (value_of null bytes)))))
 
-  -- why there is no message: it refused, behind names that have no cause; or for want of memory, for the cause of the
+  -- why there is no message: it refused, after names that have no cause; or for lack of memory, for the cause of the
   -- names, or for that of the message
   abbrev pub OneRefused : (Held K → ℕ → Type 0) → BindError E → Type 0
   OneRefused lacks (Conversion e) = (bytes : List ℕ) × PutsOne (Err e) bytes × (names_cause to ≡ None)

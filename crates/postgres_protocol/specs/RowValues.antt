@@ -22,7 +22,7 @@ AreInt4 buffer [] (r ∷ rs) = ⊥
 AreInt4 buffer (p ∷ ps) [] = ⊥
 AreInt4 buffer (p ∷ ps) (r ∷ rs) = IsInt4 (value_at buffer p) r × AreInt4 buffer ps rs
 
--- All values of a row that ends well; or why it doesn't; or want of memory.
+-- All values of a row that ends well; or why it doesn't; or lack of memory.
 abbrev pub RowRead : {X : Type 0} → (X → List (Option (Result ℤ Error))) → CountedBytes → Type 0 → Result X Error → Type 0
 RowRead view row lacks (Ok x) = (places : List (Option (Range ℕ))) × HasPlaces row places None × AreInt4 row.storage places (view x)
 RowRead view row lacks (Err e) = WantsMemory lacks e ⊎ ((places : List (Option (Range ℕ))) × HasPlaces row places (Some e))

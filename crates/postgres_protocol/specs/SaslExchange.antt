@@ -18,7 +18,7 @@ use Rattle.postgres_protocol.specs.declared.laws.sasl.SaslRefusal.TheVariants as
 
 -- The exchange came to its end. Each side of a buffer is what it held before and after.
 pub record Exchanged {Kept : Type 0} (mechanism : List ℕ) (old new : Client) (first_old first_new final_old final_new : List ℕ) (out_old out_new : Held Kept) : Type 0 where
-  -- the client's own texts are in two messages behind what stood there, which a server reads back
+  -- the client's own texts are in two messages after what stood there, which a server reads back
   pub begun : Begun
   pub due : old.state ≡ AwaitsFirst begun
   pub answered : Answered
@@ -57,8 +57,8 @@ pub record TakesOther (IsOther : Message → Type 0) (old new : List ℕ) : Type
   pub taken : TakesFrame old (Ok message) new
   pub other : IsOther message
 
--- Why a buffer gave no text: no whole frame stands in front, or that of another message, or reading refused it. `memory` says that
--- memory for a message was refused.
+-- Why a buffer gave no text: no complete frame stands in front, or that of another message, or reading refused it. `memory` says
+-- that memory for a message was refused.
 abbrev pub GivesNone : {A : Type 0} → Type 0 → (Message → Type 0) → List ℕ → List ℕ → SaslRefusal A → Type 0
 GivesNone memory IsOther old new refusals.Unexpected = (IsPartial old × (new ≡ old)) ⊎ TakesOther IsOther old new
 GivesNone memory IsOther old new (refusals.Message e) = Step memory old (Err e) new
@@ -66,7 +66,7 @@ GivesNone memory IsOther old new (refusals.Scram e) = ⊥
 
 -- How far an exchange came, stage by stage. `out` is what the buffer held then, and `client` what the client was.
 module _ {Kept : Type 0} (mechanism : List ℕ) (old : Client) (out_old : Held Kept) where
-  -- the client's first text was written behind what stood in the buffer
+  -- the client's first text was written after what stood in the buffer
   pub record SentFirst (out : Held Kept) : Type 0 where
     pub begun : Begun
     pub due : old.state ≡ AwaitsFirst begun
@@ -86,7 +86,7 @@ module _ {Kept : Type 0} (mechanism : List ℕ) (old : Client) (out_old : Held K
       pub behind : GotFirst between client
       pub sent : out ≡ between ⊕ bytes_of (SaslResponse behind.answers.answered.final)
 
--- Why it went no further, stage by stage. Each side is what it was before the call and is behind it. `memory` is what a refusal of memory for
+-- Why it went no further, stage by stage. Each side is what it was before the call and is after it. `memory` is what an error of memory for
 -- the exchange and the server's messages says, `lacks` that of a growth of the buffer.
 module _ {Kept : Type 0} (memory : Type 0) (lacks : Held Kept → ℕ → Type 0) (mechanism : List ℕ) (old new : Client) (first_old first_new final_old final_new : List ℕ) (out_old out_new : Held Kept) where
   -- at once: the client's first text wasn't written, and nothing was taken
@@ -98,14 +98,14 @@ module _ {Kept : Type 0} (memory : Type 0) (lacks : Held Kept → ℕ → Type 0
     pub first : first_new ≡ first_old
     pub final : final_new ≡ final_old
 
-  -- behind the client's first text: that of the server didn't stand in its buffer
+  -- after the client's first text: that of the server didn't stand in its buffer
   pub record FirstMissing {A : Type 0} (r : SaslRefusal A) : Type 0 where
     pub behind : SentFirst mechanism old out_old out_new
     pub missing : GivesNone memory IsNoContinue first_old first_new r
     pub client : new ≡ old
     pub final : final_new ≡ final_old
 
-  -- or it was refused
+  -- or it was rejected
   pub record FirstRefused (e : Refusal) : Type 0 where
     pub behind : SentFirst mechanism old out_old out_new
     pub first : List ℕ
@@ -113,19 +113,19 @@ module _ {Kept : Type 0} (memory : Type 0) (lacks : Held Kept → ℕ → Type 0
     pub refused : UpdateRefused memory old first e new
     pub final : final_new ≡ final_old
 
-  -- behind the server's first text: the answer wasn't written
+  -- after the server's first text: the answer wasn't written
   pub record FinalUnwritten (e : Error) : Type 0 where
     pub between : Held Kept
     pub behind : GotFirst mechanism old out_old first_old first_new between new
     pub refused : WritesMessage (SaslResponse behind.answers.answered.final) lacks between out_new (Err e)
     pub final : final_new ≡ final_old
 
-  -- behind the client's final text: that of the server didn't stand in its buffer
+  -- after the client's final text: that of the server didn't stand in its buffer
   pub record FinalMissing {A : Type 0} (r : SaslRefusal A) : Type 0 where
     pub behind : SentFinal mechanism old out_old first_old first_new out_new new
     pub missing : GivesNone memory IsNoFinal final_old final_new r
 
-  -- or it was refused
+  -- or it was rejected
   pub record FinalRefused (e : Refusal) : Type 0 where
     pub client : Client
     pub behind : SentFinal mechanism old out_old first_old first_new out_new client
@@ -133,7 +133,7 @@ module _ {Kept : Type 0} (memory : Type 0) (lacks : Held Kept → ℕ → Type 0
     pub taken : TakesFrame final_old (Ok (Authentication (AuthenticationSaslFinal final))) final_new
     pub refused : FinishRefused memory client final e new
 
-  -- Why it stopped, by the refusal.
+  -- Why it stopped, by the error.
   abbrev pub Stopped : {A : Type 0} → SaslRefusal A → Type 0
   Stopped {A} refusals.Unexpected = FirstMissing {A = A} refusals.Unexpected ⊎ FinalMissing {A = A} refusals.Unexpected
   Stopped {A} (refusals.Message e) = FirstUnwritten e ⊎ (FirstMissing {A = A} (refusals.Message e) ⊎ (FinalUnwritten e ⊎ FinalMissing {A = A} (refusals.Message e)))

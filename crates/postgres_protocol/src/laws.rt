@@ -18,7 +18,7 @@ pub use window::{
     arrays_that_fit_are_bound, piece_in_a_window, statement_in_a_window, what_fits_is_added,
 };
 
-/// A server that is told the kinds reads the bytes in one way.
+/// A server that is given the kinds reads the bytes in one way.
 pub fn one_reading()
     ensures { (kinds : List PasswordKind) (messages others : List ClientMessage) (bytes : List ℕ) →
         ClientRun kinds messages bytes → ClientRun kinds others bytes → messages ≡ others }
@@ -30,14 +30,14 @@ pub fn one_spelling()
         ClientRun kinds messages bytes → ClientRun more messages others → (bytes ≡ others) × (kinds ≡ more) }
 {}
 
-/// A message that may come is read behind the others, and opens the session where it is a startup packet.
+/// A message that may come is read after the others, and opens the session where it is a startup packet.
 pub fn one_message_more()
     ensures { (kinds : List PasswordKind) (messages : List ClientMessage) (message : ClientMessage) (bytes : List ℕ) →
         ClientRun kinds messages bytes → MayCome message (is_opened messages) → cause message ≡ None → IsInRange message →
         ClientRun (kinds ++ kinds_of message) (messages ++ message ∷ []) (bytes ++ bytes_of message) }
 {}
 
-/// Whatever a server is told, it reads a startup packet or reads none.
+/// Whatever a server is reported, it reads a startup packet or reads none.
 pub fn one_phase()
     ensures { (kinds more : List PasswordKind) (messages others : List ClientMessage) (bytes : List ℕ) →
         ClientRun kinds messages bytes → ClientRun more others bytes → is_opened messages ≡ is_opened others }

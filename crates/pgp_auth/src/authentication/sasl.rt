@@ -28,7 +28,7 @@ pub trait SaslPrep {
     // What a text is mapped to, if anything.
     ghost mapping: { Self → List ℕ → Option (List ℕ) };
 
-    // That memory of the mapping's own was refused: what comes from nowhere but such a refusal.
+    // That memory of the mapping's own was refused: what comes from nowhere but such an error.
     ghost Lacks: { Type 0 };
 
     /// The text that is used in the place of `text`, or `None` where `text` is used as it is. `text` isn't
@@ -36,8 +36,8 @@ pub trait SaslPrep {
     ///
     /// # Errors
     ///
-    /// `OutOfMemory` where memory for the text, or the mapping's own, is refused, and nothing else: a text that
-    /// can't be mapped is `None`.
+    /// Returns `OutOfMemory` if memory for the text, or the mapping's own, can't be allocated, and nothing
+    /// else: a text that can't be mapped is `None`.
     fn prepare<A: Memory>(&self, alloc: A, text: &str) -> Result<Option<String<A>>, Error>
         requires not_ascii { IsNotAscii text.now }
         ensures ok { IfOk result (λ o. option_map string_bytes o ≡ mapping self.now text.now) }

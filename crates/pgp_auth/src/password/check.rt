@@ -75,7 +75,7 @@ fn is_password<A: Allocator>(password: &[u8], stored: &StoredVerifier<A>) -> boo
 ///
 /// # Errors
 ///
-/// `OutOfMemory` where the mapping's memory is refused.
+/// Returns `OutOfMemory` if the mapping can't allocate.
 pub fn scram_sha_256<A: Memory, P: SaslPrep>(
     alloc: A,
     password: &[u8],

@@ -52,8 +52,8 @@ impl<A: Memory> ScramSha256<A> {
     ///
     /// # Errors
     ///
-    /// `OutOfMemory` where memory for the exchange, or the mapping's own, is refused. The generator has
-    /// moved on by the nonce then too.
+    /// Returns `OutOfMemory` if memory for the exchange, or the mapping's own, can't be allocated. The
+    /// generator has moved on by the nonce then too.
     pub fn new<P: SaslPrep, R: Rng>(
         alloc: A,
         password: &[u8],
@@ -76,7 +76,7 @@ impl<A: Memory> ScramSha256<A> {
     ///
     /// # Errors
     ///
-    /// `OutOfMemory` where memory for the exchange, or the mapping's own, is refused.
+    /// Returns `OutOfMemory` if memory for the exchange, or the mapping's own, can't be allocated.
     pub fn with_nonce<P: SaslPrep>(
         alloc: A,
         password: &[u8],
@@ -92,7 +92,7 @@ impl<A: Memory> ScramSha256<A> {
     }
 
     /// Takes the server's first text, `r=` nonce `,s=` salt `,i=` count, and makes the client-final text, which
-    /// `message` then is. A refusal ends the exchange.
+    /// `message` then is. An error ends the exchange.
     ///
     /// # Errors
     ///
@@ -107,7 +107,7 @@ impl<A: Memory> ScramSha256<A> {
     /// - `InvalidNonce`: the server's nonce doesn't begin with the client's.
     /// - `TooManyIterations`: the count is over 100,000.
     /// - `InvalidBase64`: the salt isn't base64 with padding.
-    /// - `OutOfMemory`: memory is refused for the salt, or for the texts behind it.
+    /// - `OutOfMemory`: memory is refused for the salt, or for the texts after it.
     pub fn update(&mut self, message: &[u8]) -> Result<(), ScramError<A>>
         ensures ok { OnOk result (Answers self.old message.now self.new) }
         ensures err { IfErr result (λ e. UpdateRefused A.Lacks self.old message.now (refusal e) self.new) }
@@ -136,8 +136,8 @@ impl<A: Memory> ScramSha256<A> {
     /// - `UnexpectedEnd`, `UnexpectedCharacter`: the text ends, or has another character, where one has to
     ///   stand.
     /// - `Trailing`: something follows the error or the base64 text.
-    /// - `Server`: the server's own error, as it stands behind `e=`.
-    /// - `InvalidBase64`: the text behind `v=` isn't base64 with padding.
+    /// - `Server`: the server's own error, as it stands after `e=`.
+    /// - `InvalidBase64`: the text after `v=` isn't base64 with padding.
     /// - `Verification`: it shows other bytes than the signature.
     /// - `OutOfMemory`: memory is refused for the server's error, or for base64 of more than 64 characters.
     pub fn finish(&mut self, message: &[u8]) -> Result<(), ScramError<A>>
@@ -167,8 +167,8 @@ impl<A: Allocator> ScramSha256<A> {
         }
     }
 
-    /// The signature that the server's final text has to show, once `update` was Ok; for who keeps no client until then, and hands it to
-    /// `verify_signature`. It is made by 2 HMACs, which `hmacs` doesn't count.
+    /// The signature that the server's final text has to show, once `update` was Ok; for callers that keep no client until then, and
+    /// hands it to `verify_signature`. It is made by 2 HMACs, which `hmacs` doesn't count.
     pub fn signature(&self) -> Option<[u8; 32]>
         ensures { result ≡ awaited_of self.now.state }
     {

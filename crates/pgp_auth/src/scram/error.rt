@@ -1,4 +1,4 @@
-//! The refusals of an exchange.
+//! The errors of an exchange.
 
 ghost use Rattle.std.specs.Prelude.{◌≡◌};
 ghost use Rattle.pgp_auth.specs.ScramErrorView.{refusal, number_of};
@@ -6,10 +6,10 @@ ghost use Rattle.pgp_auth.specs.ScramErrorView.{refusal, number_of};
 use std::alloc::{AllocError, Allocator, Global};
 use thiserror::Error as DeriveError;
 
-/// Why a step of an exchange was refused. Places are byte places in the server's text.
+/// Why a step of an exchange was rejected. Places are byte places in the server's text.
 #[derive(Debug, Drop, DeriveError)]
 pub enum ScramError<A: Allocator = Global> {
-    /// A growth was refused memory.
+    /// An allocation failed.
     #[error("OutOfMemory")]
     OutOfMemory,
     /// The step isn't due.
@@ -24,7 +24,7 @@ pub enum ScramError<A: Allocator = Global> {
     /// Another character has to stand at this place.
     #[error("UnexpectedCharacter")]
     UnexpectedCharacter(usize),
-    /// The text goes on behind its end.
+    /// The text goes on after its end.
     #[error("Trailing")]
     Trailing(usize),
     /// The count isn't a number of 32 bits.
@@ -48,7 +48,7 @@ pub enum ScramError<A: Allocator = Global> {
 }
 
 impl<A: Allocator> ScramError<A> {
-    /// The number of the refusal, from 1 to 12, in the order of the variants.
+    /// The number of the error, from 1 to 12, in the order of the variants.
     pub fn number(&self) -> u8
         ensures { result ≡ number_of (refusal self.now) }
     {

@@ -7,7 +7,7 @@ use crate::scram::nonce::is_nonce_byte;
 use crate::scram::reading::{Alphabet, is_text, is_value_byte};
 use crate::scram::serving::behind;
 
-// What a client's first text says behind its header.
+// What a client's first text says after its header.
 #[derive(Clone, Copy)]
 pub(crate) struct Named<'a> {
     pub user: &'a [u8],

@@ -10,7 +10,7 @@ ghost use Rattle.pgp_auth.specs.ScramPartView.{admits, parts_of};
 use crate::scram::nonce::is_nonce_byte;
 use std::str;
 
-/// Why a text is refused.
+/// Why a text is rejected.
 #[derive(Debug, Clone, Copy)]
 pub(crate) enum Fault {
     UnexpectedEnd,
@@ -162,7 +162,7 @@ pub(crate) fn server_first<'a>(text: &'a [u8]) -> Result<ServerFirst<'a>, Fault>
     Ok(ServerFirst { nonce, salt, count })
 }
 
-// One run behind two characters, up to the end.
+// One run after two characters, up to the end.
 #[tactic(auto, unfolding(crate::specs::ScramReading::read_run))]
 pub(crate) fn run_behind<'a>(
     want: &[u8],

@@ -41,7 +41,7 @@ impl<A: Memory> ScramServer<A> {
     ///
     /// # Errors
     ///
-    /// `OutOfMemory` where memory for the nonce is refused. The generator has moved on by the nonce then too.
+    /// Returns `OutOfMemory` if memory for the nonce can't be allocated. The generator has moved on by the nonce then too.
     pub fn new<R: Rng>(
         alloc: A,
         verifier: StoredVerifier<A>,
@@ -84,7 +84,7 @@ impl<A: Memory> ScramServer<A> {
         }
     }
 
-    /// Takes the client's first text, and gives the server's. A refusal ends the exchange.
+    /// Takes the client's first text, and gives the server's. An error ends the exchange.
     ///
     /// # Errors
     ///
@@ -94,7 +94,7 @@ impl<A: Memory> ScramServer<A> {
     /// - `UnsupportedBinding`: no header that claims a binding which is taken stands at its front.
     /// - `InvalidFirst`: another text than `n=`, a user's name, `,r=` and a nonce follows it. The name may be empty, and nothing is
     ///   made of it: the user is the one of the startup packet.
-    /// - `OutOfMemory`: memory for the texts is refused.
+    /// - `OutOfMemory`: memory for the texts can't be allocated.
     pub fn first(&mut self, client_first: &[u8]) -> Result<Vec<u8, A>, ServerError>
         ensures ok { IfOk result (λ text. Challenges self.old client_first.now self.new text.items) }
         ensures err { IfErr result (λ e. FirstRefused A.Lacks self.old client_first.now e self.new) }
@@ -118,7 +118,7 @@ impl<A: Memory> ScramServer<A> {
     ///
     /// - `WrongState`: no `first` was Ok before, or the exchange is over.
     /// - `OtherExchange`: the text doesn't begin with this exchange's header, data and nonce.
-    /// - `InvalidEncoding`: no base64 of 32 bytes stands behind `,p=`.
+    /// - `InvalidEncoding`: no base64 of 32 bytes stands after `,p=`.
     /// - `InvalidProof`: the proof is of another key, or the verifier is made up (`StoredVerifier::mock`).
     pub fn finish(&mut self, client_final: &[u8]) -> Result<[u8; 46], ServerError>
         ensures ok { IfOk result (λ text. Admits self.old client_final.now self.new text) }

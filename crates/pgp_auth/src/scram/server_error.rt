@@ -1,13 +1,13 @@
-//! The refusals of a server.
+//! The errors of a server.
 
 use crate::scram::error::ScramError;
 use std::alloc::{AllocError, Allocator, Global};
 use thiserror::Error as DeriveError;
 
-/// Why a server refused a step of an exchange. A client is told of no more than that it was refused.
+/// Why a server rejected a step of an exchange. A client learns no more than that it was rejected.
 #[derive(Debug, Clone, Copy, PartialEq, Eq, DeriveError)]
 pub enum ServerError {
-    /// A growth was refused memory.
+    /// An allocation failed.
     #[error("OutOfMemory")]
     OutOfMemory,
     /// The step isn't due.
@@ -16,7 +16,7 @@ pub enum ServerError {
     /// The first text begins with no header that claims a binding that is taken.
     #[error("UnsupportedBinding")]
     UnsupportedBinding,
-    /// No user name and nonce stand behind the header, or something follows them.
+    /// No user name and nonce stand after the header, or something follows them.
     #[error("InvalidFirst")]
     InvalidFirst,
     /// The final text doesn't repeat the header, the channel's data and the nonce.
@@ -44,7 +44,7 @@ impl From<AllocError> for ServerError {
 /// Why a stored text gives no verifier.
 #[derive(Debug, Clone, Copy, PartialEq, Eq, DeriveError)]
 pub enum VerifierError {
-    /// A growth was refused memory.
+    /// An allocation failed.
     #[error("OutOfMemory")]
     OutOfMemory,
     /// The text is no verifier of SCRAM-SHA-256.
@@ -55,9 +55,9 @@ pub enum VerifierError {
 /// Why an exchange of both sides in one place came to no end.
 #[derive(Debug, Drop)]
 pub enum ExchangeError<A: Allocator = Global> {
-    /// The client refused.
+    /// The client rejected.
     Client(ScramError<A>),
-    /// The server refused.
+    /// The server rejected.
     Server(ServerError),
 }
 

@@ -54,7 +54,7 @@ struct Pieces<'a> {
     server: &'a [u8],
 }
 
-// What stands behind the mechanism's name, the end of a text of `total` bytes.
+// What stands after the mechanism's name, the end of a text of `total` bytes.
 #[tactic(auto, using(crate::proofs::Runs::front_passes), unfolding(crate::specs::StoredReading::read_parts))]
 fn parts_behind<'a>(total: usize, text: &'a [u8]) -> Result<Pieces<'a>, Fault>
     requires { length text.now ≤ total }
@@ -124,7 +124,7 @@ impl<A: Memory> StoredVerifier<A> {
     ///
     /// # Errors
     ///
-    /// `OutOfMemory` where the mapping's memory is refused.
+    /// Returns `OutOfMemory` if the mapping can't allocate.
     pub fn of_password<P: SaslPrep>(
         alloc: A,
         password: &[u8],
@@ -147,7 +147,7 @@ impl<A: Memory> StoredVerifier<A> {
     ///
     /// # Errors
     ///
-    /// `NotAVerifier` where the text is none, and `OutOfMemory` where memory for the salt is refused.
+    /// Returns `NotAVerifier` if the text is none, and `OutOfMemory` if memory for the salt can't be allocated.
     pub fn parse(alloc: A, text: &[u8]) -> Result<StoredVerifier<A>, VerifierError>
         ensures ok { IfOk result (λ v. Stores text.now (verifier_of v)) }
         ensures real { IfOk result (λ v. v.is_mock ≡ false) }
@@ -173,12 +173,12 @@ impl<A: Memory> StoredVerifier<A> {
     }
 
     /// What stands in for the verifier of a user who has none: a salt that depends on the user's name and a secret alone, and
-    /// 4096 rounds. A server with it answers the client's first text like any other, and refuses its final text, so that a
+    /// 4096 rounds. A server with it answers the client's first text like any other, and rejects its final text, so that a
     /// client can't tell that there is no such user. The secret is the server's, at random and the same each time.
     ///
     /// # Errors
     ///
-    /// `OutOfMemory` where memory for the salt is refused.
+    /// Returns `OutOfMemory` if memory for the salt can't be allocated.
     pub fn mock(alloc: A, secret: &[u8], user: &[u8]) -> Result<StoredVerifier<A>, Error>
         ensures ok { IfOk result (λ v. verifier_of v ≡ mock_verifier secret.now user.now) }
         ensures mock { IfOk result (λ v. v.is_mock ≡ true) }

@@ -29,7 +29,7 @@ const SHORT_LEN: usize = 64;
 
 const SHORT_ROOM: usize = 48;
 
-// The error that a server tells of.
+// The error that a server reports.
 #[tactic(auto, using(crate::proofs::FinalTexts::error_refused, crate::proofs::FinalTexts::error_is, crate::proofs::FinalTexts::error_text))]
 fn server_error<A: Memory>(alloc: A, message: &[u8]) -> Result<String<A>, ScramError<A>>
     requires text { is_utf8 message.now ≡ true }
@@ -179,8 +179,8 @@ pub(crate) fn verify<A: Memory>(
     compared(&signature, shown.bytes())
 }
 
-/// Verifies a server's final text by the signature that it has to show, as `ScramSha256::signature` told it: what `finish` does,
-/// for who keeps no client. All bytes are compared.
+/// Verifies a server's final text by the signature that it has to show, as `ScramSha256::signature` reported it: what `finish`
+/// does, for callers that keep no client. All bytes are compared.
 ///
 /// # Errors
 ///

@@ -16,8 +16,8 @@ use std::marker::Model;
 #[derive(Drop)]
 pub struct AuthenticationMd5PasswordBody {
     salt: [u8; 4],
-    // No bytes: it keeps the salt away from the byte that tells the kind of a message, which is else stored as one byte and
-    // read back with the salt. It carries the speed of tiny messages.
+    // No bytes: it keeps the salt away from the byte that reports the kind of a message, which is else stored as one byte
+    // and read back with the salt. It carries the speed of tiny messages.
     place: [u64; 0],
 }
 
@@ -75,7 +75,7 @@ impl<S: Storage> AuthenticationGssContinueBody<S> {
 }
 
 impl<A: Allocator> AuthenticationGssContinueBody<Bytes<A>> {
-    /// The bytes behind the code.
+    /// The bytes after the code.
     pub fn data(&self) -> &[u8]
         ensures { result.now ≡ self.now }
     {
@@ -84,7 +84,7 @@ impl<A: Allocator> AuthenticationGssContinueBody<Bytes<A>> {
 }
 
 impl<'a> AuthenticationGssContinueBody<&'a [u8]> {
-    /// The bytes behind the code.
+    /// The bytes after the code.
     pub fn data(&self) -> &'a [u8]
         ensures { result.now ≡ self.now }
     {
@@ -177,7 +177,7 @@ impl<S: Storage> AuthenticationSaslContinueBody<S> {
 }
 
 impl<A: Allocator> AuthenticationSaslContinueBody<Bytes<A>> {
-    /// The bytes behind the code.
+    /// The bytes after the code.
     pub fn data(&self) -> &[u8]
         ensures { result.now ≡ self.now }
     {
@@ -186,7 +186,7 @@ impl<A: Allocator> AuthenticationSaslContinueBody<Bytes<A>> {
 }
 
 impl<'a> AuthenticationSaslContinueBody<&'a [u8]> {
-    /// The bytes behind the code.
+    /// The bytes after the code.
     pub fn data(&self) -> &'a [u8]
         ensures { result.now ≡ self.now }
     {
@@ -217,7 +217,7 @@ impl<S: Storage> AuthenticationSaslFinalBody<S> {
 }
 
 impl<A: Allocator> AuthenticationSaslFinalBody<Bytes<A>> {
-    /// The bytes behind the code.
+    /// The bytes after the code.
     pub fn data(&self) -> &[u8]
         ensures { result.now ≡ self.now }
     {
@@ -226,7 +226,7 @@ impl<A: Allocator> AuthenticationSaslFinalBody<Bytes<A>> {
 }
 
 impl<'a> AuthenticationSaslFinalBody<&'a [u8]> {
-    /// The bytes behind the code.
+    /// The bytes after the code.
     pub fn data(&self) -> &'a [u8]
         ensures { result.now ≡ self.now }
     {

@@ -9,7 +9,7 @@ use pgp_base::Error;
 use pgp_base::reading::{byte_at, uint16_at};
 use std::marker::Model;
 
-/// A count, and the bytes behind it.
+/// A count, and the bytes after it.
 #[derive(Drop)]
 pub(crate) struct CountedBytes<S: Storage> {
     pub(crate) len: u16,
@@ -38,7 +38,7 @@ impl<S: Storage> CountedBytes<S> {
     }
 }
 
-/// The format of a copy as a whole, a count, and the bytes behind it.
+/// The format of a copy as a whole, a count, and the bytes after it.
 #[derive(Drop)]
 pub(crate) struct CopyFormats<S: Storage> {
     pub(crate) format: u8,

@@ -16,7 +16,7 @@ use std::marker::Model;
 /// are asked for.
 #[derive(Drop)]
 pub struct NotificationResponseBody<S: Storage = Bytes> {
-    // without the zero behind the message
+    // without the zero after the message
     payload: S,
     channel_len: usize,
 }
@@ -90,7 +90,7 @@ impl<A: Allocator> NotificationResponseBody<Bytes<A>> {
     ///
     /// # Errors
     ///
-    /// `NotUtf8` where it isn't text.
+    /// Returns `NotUtf8` if it isn't text.
     pub fn channel(&self) -> Result<&str, Error>
         ensures { MatchResult result (λ text. text.now ≡ self.now.channel) (λ e. (e ≡ Error.NotUtf8) × ¬ IsUtf8 self.now.channel) }
     {
@@ -101,7 +101,7 @@ impl<A: Allocator> NotificationResponseBody<Bytes<A>> {
     ///
     /// # Errors
     ///
-    /// `NotUtf8` where it isn't text.
+    /// Returns `NotUtf8` if it isn't text.
     pub fn message(&self) -> Result<&str, Error>
         ensures { MatchResult result (λ text. text.now ≡ self.now.message) (λ e. (e ≡ Error.NotUtf8) × ¬ IsUtf8 self.now.message) }
     {
@@ -129,7 +129,7 @@ impl<'a> NotificationResponseBody<&'a [u8]> {
     ///
     /// # Errors
     ///
-    /// `NotUtf8` where it isn't text.
+    /// Returns `NotUtf8` if it isn't text.
     pub fn channel(&self) -> Result<&'a str, Error>
         ensures { MatchResult result (λ text. text.now ≡ self.now.channel) (λ e. (e ≡ Error.NotUtf8) × ¬ IsUtf8 self.now.channel) }
     {
@@ -140,7 +140,7 @@ impl<'a> NotificationResponseBody<&'a [u8]> {
     ///
     /// # Errors
     ///
-    /// `NotUtf8` where it isn't text.
+    /// Returns `NotUtf8` if it isn't text.
     pub fn message(&self) -> Result<&'a str, Error>
         ensures { MatchResult result (λ text. text.now ≡ self.now.message) (λ e. (e ≡ Error.NotUtf8) × ¬ IsUtf8 self.now.message) }
     {

@@ -63,7 +63,7 @@ impl<A: Allocator> CommandCompleteBody<Bytes<A>> {
     ///
     /// # Errors
     ///
-    /// `NotUtf8` where it isn't text.
+    /// Returns `NotUtf8` if it isn't text.
     pub fn tag(&self) -> Result<&str, Error>
         ensures { MatchResult result (λ text. text.now ≡ self.now) (λ e. (e ≡ Error.NotUtf8) × ¬ IsUtf8 self.now) }
     {
@@ -83,7 +83,7 @@ impl<'a> CommandCompleteBody<&'a [u8]> {
     ///
     /// # Errors
     ///
-    /// `NotUtf8` where it isn't text.
+    /// Returns `NotUtf8` if it isn't text.
     pub fn tag(&self) -> Result<&'a str, Error>
         ensures { MatchResult result (λ text. text.now ≡ self.now) (λ e. (e ≡ Error.NotUtf8) × ¬ IsUtf8 self.now) }
     {
@@ -124,19 +124,19 @@ impl<A: Allocator> DataRowBody<Bytes<A>> {
         DataRowRanges::over(self.row.storage.as_slice(), self.row.len)
     }
 
-    /// The bytes behind the count, into which the ranges of the values point.
+    /// The bytes after the count, into which the ranges of the values point.
     pub fn buffer(&self) -> &[u8]
         ensures { result.now ≡ self.now.storage }
     {
         self.row.storage.as_slice()
     }
 
-    /// A table of the values' places, by which any column is at hand. It is made by one walk over the row.
+    /// A table of the values' places, by which any column is at hand. It is made by one pass over the row.
     ///
     /// # Errors
     ///
-    /// The refusal of that walk: `UnexpectedEof` where a value is cut short, `NotDrained` where bytes stand behind
-    /// the last value. `OutOfMemory` where the table's memory was refused.
+    /// The error of that iterator: `UnexpectedEof` if a value is cut short, `NotDrained` if bytes stand after the
+    /// last value. `OutOfMemory` if the table's memory was refused.
     pub fn index<T: Memory>(&self, alloc: T) -> Result<RowIndex<'_, T>, Error>
         ensures { Tabulates self.now T.Lacks result }
     {
@@ -157,12 +157,12 @@ impl<A: Allocator> DataRowBody<Bytes<A>> {
         places.over(self.row.storage.as_slice(), self.row.len)
     }
 
-    /// The bytes of column `i`, counted from 0, with no table: `Some(None)` for a null, `None` where the row has no such column.
-    /// The columns before it are walked over, and what stands behind it isn't looked at: `index` is the better way to more than one.
+    /// The bytes of column `i`, counted from 0, with no table: `Some(None)` for a null, `None` where the row has no such column. The
+    /// columns before it are passed over, and what stands after it isn't looked at: `index` is the better way to more than one.
     ///
     /// # Errors
     ///
-    /// The refusal of the walk, where it comes no further than to a column before.
+    /// The error of the iterator, where it comes no further than to a column before.
     pub fn column(&self, i: usize) -> Result<Option<Option<&[u8]>>, Error>
         ensures { HasColumn self.now i (result_map_both (option_map (option_map (λ value. value.now))) (λ e. e) result) }
     {
@@ -182,7 +182,7 @@ impl<A: Memory> DataRowBody<Bytes<A>> {
     ///
     /// # Errors
     ///
-    /// `OutOfMemory` where a growth was refused.
+    /// Returns `OutOfMemory` if the buffer can't grow.
     pub fn clone(&self) -> Result<DataRowBody<Bytes<A>>, Error>
         ensures ok { IfOk result (λ row. row ≡ self.now) }
         ensures err { IfErr result (WantsMemory A.Lacks) }
@@ -205,19 +205,19 @@ impl<'a> DataRowBody<&'a [u8]> {
         DataRowRanges::over(self.row.storage, self.row.len)
     }
 
-    /// The bytes behind the count, into which the ranges of the values point.
+    /// The bytes after the count, into which the ranges of the values point.
     pub fn buffer(&self) -> &'a [u8]
         ensures { result.now ≡ self.now.storage }
     {
         self.row.storage
     }
 
-    /// A table of the values' places, by which any column is at hand. It is made by one walk over the row.
+    /// A table of the values' places, by which any column is at hand. It is made by one pass over the row.
     ///
     /// # Errors
     ///
-    /// The refusal of that walk: `UnexpectedEof` where a value is cut short, `NotDrained` where bytes stand behind
-    /// the last value. `OutOfMemory` where the table's memory was refused.
+    /// The error of that iterator: `UnexpectedEof` if a value is cut short, `NotDrained` if bytes stand after the
+    /// last value. `OutOfMemory` if the table's memory was refused.
     pub fn index<A: Memory>(&self, alloc: A) -> Result<RowIndex<'a, A>, Error>
         ensures { Tabulates self.now A.Lacks result }
     {
@@ -238,12 +238,12 @@ impl<'a> DataRowBody<&'a [u8]> {
         places.over(self.row.storage, self.row.len)
     }
 
-    /// The bytes of column `i`, counted from 0, with no table: `Some(None)` for a null, `None` where the row has no such column.
-    /// The columns before it are walked over, and what stands behind it isn't looked at: `index` is the better way to more than one.
+    /// The bytes of column `i`, counted from 0, with no table: `Some(None)` for a null, `None` where the row has no such column. The
+    /// columns before it are passed over, and what stands after it isn't looked at: `index` is the better way to more than one.
     ///
     /// # Errors
     ///
-    /// The refusal of the walk, where it comes no further than to a column before.
+    /// The error of the iterator, where it comes no further than to a column before.
     pub fn column(&self, i: usize) -> Result<Option<Option<&'a [u8]>>, Error>
         ensures { HasColumn self.now i (result_map_both (option_map (option_map (λ value. value.now))) (λ e. e) result) }
     {

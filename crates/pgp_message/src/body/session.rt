@@ -49,7 +49,7 @@ impl ReadyForQueryBody {
 /// is cut when they are asked for.
 #[derive(Drop)]
 pub struct ParameterStatusBody<S: Storage = Bytes> {
-    // without the zero behind the value
+    // without the zero after the value
     texts: S,
     name_len: usize,
 }
@@ -111,7 +111,7 @@ impl<A: Allocator> ParameterStatusBody<Bytes<A>> {
     ///
     /// # Errors
     ///
-    /// `NotUtf8` where it isn't text.
+    /// Returns `NotUtf8` if it isn't text.
     pub fn name(&self) -> Result<&str, Error>
         ensures { MatchResult result (λ text. text.now ≡ self.now.name) (λ e. (e ≡ Error.NotUtf8) × ¬ IsUtf8 self.now.name) }
     {
@@ -122,7 +122,7 @@ impl<A: Allocator> ParameterStatusBody<Bytes<A>> {
     ///
     /// # Errors
     ///
-    /// `NotUtf8` where it isn't text.
+    /// Returns `NotUtf8` if it isn't text.
     pub fn value(&self) -> Result<&str, Error>
         ensures { MatchResult result (λ text. text.now ≡ self.now.value) (λ e. (e ≡ Error.NotUtf8) × ¬ IsUtf8 self.now.value) }
     {
@@ -150,7 +150,7 @@ impl<'a> ParameterStatusBody<&'a [u8]> {
     ///
     /// # Errors
     ///
-    /// `NotUtf8` where it isn't text.
+    /// Returns `NotUtf8` if it isn't text.
     pub fn name(&self) -> Result<&'a str, Error>
         ensures { MatchResult result (λ text. text.now ≡ self.now.name) (λ e. (e ≡ Error.NotUtf8) × ¬ IsUtf8 self.now.name) }
     {
@@ -161,7 +161,7 @@ impl<'a> ParameterStatusBody<&'a [u8]> {
     ///
     /// # Errors
     ///
-    /// `NotUtf8` where it isn't text.
+    /// Returns `NotUtf8` if it isn't text.
     pub fn value(&self) -> Result<&'a str, Error>
         ensures { MatchResult result (λ text. text.now ≡ self.now.value) (λ e. (e ≡ Error.NotUtf8) × ¬ IsUtf8 self.now.value) }
     {

@@ -138,7 +138,7 @@ impl<S: Storage> NegotiateProtocolVersionBody<S> {
     }
 }
 
-/// A count, refused where it is negative.
+/// A count, rejected where it is negative.
 #[tactic(auto, unfolding(crate::specs::Reading::count_at))]
 fn count_at(bytes: &[u8]) -> Result<usize, Error>
     ensures { result ≡ count_at bytes.now }

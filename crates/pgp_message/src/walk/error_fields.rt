@@ -45,7 +45,7 @@ impl<'a> ErrorField<'a> {
     ///
     /// # Errors
     ///
-    /// `NotUtf8` where it isn't text.
+    /// Returns `NotUtf8` if it isn't text.
     pub fn value(&self) -> Result<&'a str, Error>
         ensures { MatchResult result (λ text. text.now ≡ self.now.value) (λ e. (e ≡ Error.NotUtf8) × ¬ IsUtf8 self.now.value) }
     {

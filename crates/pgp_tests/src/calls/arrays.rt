@@ -20,7 +20,7 @@ fn elements_that_do_not_come_are_not_collected(rt: HostRuntime) -> Result<(), Fa
     Ok(())
 }
 
-// The serializer isn't called behind its refusal, and the bytes before the array stay.
+// The serializer isn't called after its error, and the bytes before the array stay.
 #[test]
 fn a_serializer_refuses(rt: HostRuntime) {
     for k in 1..6u32 {

@@ -12,7 +12,7 @@ use pgp_base::{
 use std::ops::Range;
 use std::test::Fail;
 
-// `?` makes a writer's own refusal from an `Error`.
+// `?` makes a writer's own error from an `Error`.
 #[test]
 fn an_error_becomes_a_serialization(rt: HostRuntime) {
     let made: BindError<u8> = BindError::from(Error::TooLarge);
@@ -29,7 +29,7 @@ fn lengths_past_their_fields_are_refused(rt: HostRuntime) {
     same(&rt, i32_from_usize(2_147_483_648), Err(Error::TooLarge));
 }
 
-// A value of one byte, a null, or one that is refused behind its byte.
+// A value of one byte, a null, or one that is rejected after its byte.
 #[tactic(auto, using(pgp_base::proofs::Parts::held_steps))]
 fn write_value(
     is_null: bool,
@@ -49,14 +49,14 @@ fn write_value(
     write_nullable(value, buf)
 }
 
-// A byte for each of these numbers, behind their count.
+// A byte for each of these numbers, after their count.
 #[tactic(auto, using(pgp_base::proofs::Parts::held_steps))]
 fn write_bytes(numbers: Range<u32>, buf: &mut BytesMut) -> Result<(), BindError<Error>> {
     let item = |n: u32, buf: &mut BytesMut| put_u8(buf, (n % 256) as u8);
     write_counted(numbers, item, buf)
 }
 
-// A text behind a length.
+// A text after a length.
 #[tactic(auto, using(pgp_base::proofs::Parts::held_steps))]
 fn write_text(text: &[u8], buf: &mut BytesMut) -> Result<(), BindError<Error>> {
     write_body(buf, |buf: &mut BytesMut| write_cstr(text, buf))
@@ -109,7 +109,7 @@ fn a_refusal_restores_the_buffer(rt: HostRuntime) {
     same(&rt, buf.as_slice(), b"x\0".as_slice());
 }
 
-// The text of a refusal is the name of its variant.
+// The text of an error is the name of its variant.
 const NAMES: [(Error, &str); 20] = [
     (Error::OutOfMemory, "OutOfMemory"),
     (Error::EmbeddedNull, "EmbeddedNull"),

@@ -1,4 +1,4 @@
-//! What no row of `pgp_rows` says of the messages of a client: counts past their fields, and serializers that refuse or
+//! What no row of `pgp_rows` says of the messages of a client: counts past their fields, and serializers that reject or
 //! aren't called. Expected bytes are from the message formats of the PostgreSQL manual.
 #![tactic(auto, using(pgp_base::proofs::Parts::held_steps))]
 
@@ -62,7 +62,7 @@ fn texts_of_another_encoding(rt: HostRuntime) {
     );
 }
 
-// A closure without a state meets what it owes with no clause of its own: here it refuses.
+// A closure without a state meets what it owes with no clause of its own: here it rejects.
 #[test]
 fn a_serializer_refuses(rt: HostRuntime) {
     let mut buf = BytesMut::new(rt.alloc());

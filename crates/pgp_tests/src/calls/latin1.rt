@@ -113,7 +113,7 @@ fn messages_that_are_no_utf8_are_written_again(rt: HostRuntime) {
     }
 }
 
-/// Whether the walks over texts stop at such a name, where those over bytes go on.
+/// Whether the iterators over texts stop at such a name, where those over bytes go on.
 fn stops_at_names(message: &Message<&[u8]>) -> bool {
     match message {
         Message::AuthenticationSasl(body) => {

@@ -31,7 +31,7 @@ fn named<S: Storage>(
     }
 }
 
-/// The variants that these tests tell apart.
+/// The variants that these tests distinguish.
 fn variant<S: Storage>(message: &Message<S>) -> &'static str {
     match message {
         Message::AuthenticationOk => "AuthenticationOk",
@@ -115,7 +115,7 @@ fn taken(parser: &mut FrameParser, buf: &mut BytesMut) -> Result<Option<&'static
     named(parser.parse(buf))
 }
 
-/// Takes what can be taken, and tells how many of these results came then in their order.
+/// Takes what can be taken, and says how many of these results came then in their order.
 fn drain(
     parser: &mut FrameParser,
     buf: &mut BytesMut,
@@ -135,7 +135,7 @@ fn drain(
     came
 }
 
-/// The bytes, cut behind those whose bit is set: how many of these results came, what is left, and how many
+/// The bytes, cut after those whose bit is set: how many of these results came, what is left, and how many
 /// headers were read.
 fn read_in_pieces(
     alloc: Global,
@@ -254,7 +254,7 @@ fn a_length_fault_ends_what_is_found(rt: HostRuntime) {
     same(&rt, parser.headers(), 2);
 }
 
-/// What the whole frames of the bytes are read as.
+/// What the complete frames of the bytes are read as.
 fn read_found(alloc: Global, bytes: &[u8]) -> Result<Vec<Read<Bytes>>, Error> {
     let found = FrameParser::new().find_all(bytes);
     let (front, _) = bytes.split_at(found.len);
@@ -294,7 +294,7 @@ fn a_message_is_kept_while_the_reader_goes_on(rt: HostRuntime) {
     same(&rt, data, Some(b"ab".as_slice()));
 }
 
-/// The three columns in each order, each time with a place behind the last one.
+/// The three columns in each order, each time with a place after the last one.
 const ORDERS: [[usize; 4]; 6] = [
     [0, 1, 2, 3],
     [0, 2, 1, 4],

@@ -50,7 +50,7 @@ fn a_header_is_read_once(rt: HostRuntime) {
     holds(&rt, !parser.failed());
 }
 
-/// A session with a refused call.
+/// A session with a rejected call.
 fn begin_and_end(rt: &impl Abort, stream: &mut ClientStream<BytesMut>) -> Result<(), Error> {
     if stream.is_open() {
         return Err(Error::InvalidLength);

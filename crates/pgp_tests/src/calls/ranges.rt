@@ -1,4 +1,4 @@
-//! What no row of `pgp_rows` says of ranges: what a closure appends for no bound, and refusals of the closures.
+//! What no row of `pgp_rows` says of ranges: what a closure appends for no bound, and errors of the closures.
 #![tactic(auto, using(pgp_base::proofs::Parts::held_steps))]
 
 ghost use Rattle.pgp_base.specs.Held.{items_held};
@@ -33,7 +33,7 @@ fn no_bound_has_no_bytes(rt: HostRuntime) {
     same(&rt, buf.as_slice(), b"\x0c\0\0\0\x04\0\0\0\x05".as_slice());
 }
 
-// The refusal of a side is answered, and the bytes before the range stay.
+// The error of a side is answered, and the bytes before the range stay.
 fn is_refused_by(rt: &impl Abort, lower: bool, upper: bool, want: u8, buf: &mut BytesMut) {
     let answer = range_to_sql(
         |buf: &mut BytesMut| -> Result<RangeBound<IsNull>, u8> {

@@ -1,4 +1,4 @@
-//! What no row of `pgp_rows` says of the messages of a server: lists of as many items as a count tells, and of one more. Expected
+//! What no row of `pgp_rows` says of the messages of a server: lists of as many items as a count says, and of one more. Expected
 //! bytes are from the message formats of the PostgreSQL manual.
 #![tactic(auto, using(pgp_base::proofs::Parts::held_steps))]
 
@@ -10,7 +10,7 @@ use pgp_message_write::{
 };
 use std::test::Fail;
 
-/// More items than a count tells.
+/// More items than a count says.
 const MANY: usize = 65_536;
 
 /// `ReadyForQuery`, which stands before the message.

@@ -1,4 +1,4 @@
-//! What no row of `pgp_rows` says of a client's messages that are read: lists of as many items as a count tells.
+//! What no row of `pgp_rows` says of a client's messages that are read: lists of as many items as a count says.
 #![tactic(auto, using(pgp_base::proofs::Parts::held_steps))]
 
 use crate::checks::{holds, same};
@@ -7,10 +7,10 @@ use pgp_base::FallibleIterator;
 use pgp_frontend::parse;
 use pgp_frontend_read::{ClientMessage, ClientMessages, PasswordKind};
 
-/// How many items a count tells at the most.
+/// How many items a count says at the most.
 const MOST: u32 = 65_535;
 
-/// How many items the walk gives, and their sum.
+/// How many items the iterator gives, and their sum.
 fn weighed(mut walk: impl FallibleIterator<Item = u32> + Drop) -> (u32, u64) {
     let (mut items, mut sum) = (0u32, 0u64);
     for _ in 0..=MOST {

@@ -17,9 +17,9 @@ use pgp_types::{ArrayDimension, array_to_sql};
 pub enum Step {
     /// It appends these bytes.
     Append(Vec<u8>),
-    /// It answers a null, and appends nothing.
+    /// It returns a null, and appends nothing.
     Null,
-    /// It refuses.
+    /// It rejects.
     Refuse(Error),
 }
 
@@ -60,12 +60,12 @@ fn put_array<B: Buffer>(
 }
 
 /// Binds the value that the serializer makes, in binary, to the one parameter of the unnamed statement. The serializer
-/// is called once, behind the place of the value's length.
+/// is called once, after the place of the value's length.
 ///
 /// # Errors
 ///
-/// `Conversion` is the serializer's refusal. `Serialization` is `TooLarge` where the value or the message passes the
-/// greatest `i32`, and `OutOfMemory`. The buffer keeps its bytes.
+/// `Conversion` is the serializer's error. `Serialization` is `TooLarge` if the value or the message exceeds
+/// `i32::MAX`, and `OutOfMemory`. On error the buffer is unchanged.
 pub fn bind_one<B: Buffer, E: Drop, F: FnMut(u8, &mut B) -> Result<IsNull, E> + Drop>(
     serializer: F,
     buf: &mut B,
@@ -81,10 +81,10 @@ pub fn bind_one<B: Buffer, E: Drop, F: FnMut(u8, &mut B) -> Result<IsNull, E> + 
 ///
 /// # Errors
 ///
-/// `Conversion` is the refusal of the array: in it `Conversion` is that of the first step that refuses, or
-/// `OutOfMemory` where the buffer refused the bytes of a step, and `Serialization` is `TooLarge` at the dimension past
-/// 2,147,483,647 or at an element of more bytes than that, or `OutOfMemory`. `Serialization` is the refusal of `bind`:
-/// `TooLarge` where the array or the message passes the greatest `i32`, or `OutOfMemory`. The buffer keeps its bytes.
+/// `Conversion` is the error of the array: in it `Conversion` is that of the first step that refuses, or `OutOfMemory`
+/// if the buffer refused the bytes of a step, and `Serialization` is `TooLarge` at the dimension past 2,147,483,647 or
+/// at an element of more bytes than that, or `OutOfMemory`. `Serialization` is the error of `bind`: `TooLarge` if the
+/// array or the message exceeds `i32::MAX`, or `OutOfMemory`. On error the buffer is unchanged.
 pub fn bind_array<B: Buffer>(
     dimensions: &[ArrayDimension],
     element_type: Oid,

@@ -11,12 +11,12 @@ use pgp_types::int4_from_sql;
 use std::alloc::Allocator;
 
 /// Reads each value of the row as an int4: `None` for a null. A value that isn't an int4 is no error of the
-/// row: its own refusal stands in the list.
+/// row: its own error stands in the list.
 ///
 /// # Errors
 ///
-/// The refusal of the walk over the row's values: `UnexpectedEof` where one is cut short, `NotDrained` where
-/// bytes stand behind the last. `OutOfMemory` where the memory of the table or of the list was refused.
+/// The error of the iterator over the row's values: `UnexpectedEof` if one is cut short, `NotDrained` if
+/// bytes stand after the last. `OutOfMemory` if the memory of the table or of the list was refused.
 pub fn row_int4<A: Memory, R: Allocator + Copy>(
     alloc: A,
     row: &DataRowBody<Bytes<R>>,

@@ -20,9 +20,9 @@ use std::alloc::{Allocator, Global};
 pub enum SaslRefusal<A: Allocator = Global> {
     /// A message couldn't be written or read.
     Message(Error),
-    /// No whole message came, or another one.
+    /// No complete message came, or another one.
     Unexpected,
-    /// The exchange refused a text.
+    /// The exchange rejected a text.
     Scram(ScramError<A>),
 }
 
@@ -32,9 +32,9 @@ pub enum SaslRefusal<A: Allocator = Global> {
 ///
 /// # Errors
 ///
-/// `Message` where a writer refuses a text or `Message::parse` the front of a buffer, `Unexpected` where no whole
-/// message stands there or another one than is due, and `Scram` where `update` or `finish` refuses a text. What was
-/// written and taken off before stays so, and `out` keeps what it held in front of it.
+/// Returns `Message` if a writer refuses a text or `Message::parse` the front of a buffer, `Unexpected` if no
+/// complete message stands there or another one than is due, and `Scram` if `update` or `finish` refuses a text.
+/// What was written and taken off before stays so, and `out` keeps what it held in front of it.
 #[tactic(auto, using(pgp_base::proofs::Parts::held_steps))]
 pub fn sasl_exchange<A: Memory, B: Buffer>(
     client: &mut ScramSha256<A>,

@@ -3,7 +3,7 @@ use Rattle.pgp_frontend_read.specs.Reading.{value_at, items_at}
 use Rattle.pgp_frontend_read.specs.Whole.{behind}
 use Rattle.pgp_frontend_read.proofs.values.behind_values.Given as goal
 
--- behind values that were read
+-- after values that were read
 abbrev pub invariant-values : goal.invariant-values
 invariant-values l = record {
   front : List (Option (List ℕ));

@@ -57,7 +57,7 @@ pub(super) fn begins(
     Some(client.update(&answer).is_ok())
 }
 
-// Whether both are through behind that.
+// Whether both are through after that.
 pub(super) fn ends(
     server: &mut ScramServer<Global>,
     client: &mut ScramSha256<Global>,

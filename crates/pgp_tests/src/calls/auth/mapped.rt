@@ -29,7 +29,7 @@ fn a_verifier_draws_its_salt(rt: HostRuntime) {
     );
 }
 
-// A mapping that answers `x`, and counts how often it was asked.
+// A mapping that returns `x`, and counts how often it was asked.
 #[derive(Drop)]
 struct ToX {
     asked: Cell<u32>,

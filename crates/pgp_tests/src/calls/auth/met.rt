@@ -37,7 +37,7 @@ fn meet_by_given(alloc: Global, count: u32, salt_len: usize, number: u32) -> Opt
     ends(&mut server, &mut client)
 }
 
-/// A count of 0 is told as 0, and both make one round of it.
+/// A count of 0 is reported as 0, and both make one round of it.
 #[test]
 fn they_meet_at_the_edges(rt: HostRuntime) {
     for count in [0, 1, 2, 4096] {

@@ -14,7 +14,7 @@ const STARTUP: &[u8] = b"\0\0\0\x09\0\x03\0\0\0";
 /// The client's first text of the exchange that the Rust crate's tests have.
 const FIRST: &[u8] = b"n,,n=,r=9IZ2O01zb9IgiIZ1WJ/zgpJB";
 
-/// Binds 5 and a null, or is refused at the second value.
+/// Binds 5 and a null, or is rejected at the second value.
 fn bind_values<B: Buffer>(
     stream: &mut ClientStream<B>,
     refused: bool,
@@ -41,7 +41,7 @@ fn bind_values<B: Buffer>(
     )
 }
 
-/// The refusal of a call, whoever refused.
+/// The error of a call, whoever rejected.
 fn plain(answer: Result<(), BindError<Error>>) -> Result<(), Error> {
     match answer {
         Ok(()) => Ok(()),
@@ -175,7 +175,7 @@ fn calls_in_a_session(rt: HostRuntime) {
     }
 }
 
-/// A refused startup packet opens no session, and can be followed by one that isn't refused.
+/// A rejected startup packet opens no session, and can be followed by one that isn't rejected.
 #[test]
 fn refused_startup_packets(rt: HostRuntime) {
     let mut stream = ClientStream::<BytesMut>::new(rt.alloc());
@@ -187,7 +187,7 @@ fn refused_startup_packets(rt: HostRuntime) {
     holds(&rt, stream.is_open());
 }
 
-/// A refused call leaves what stood there.
+/// A rejected call leaves what stood there.
 #[test]
 fn refused_calls_in_a_session(rt: HostRuntime) {
     let mut stream = ClientStream::<BytesMut>::new(rt.alloc());

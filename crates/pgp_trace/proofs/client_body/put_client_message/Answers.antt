@@ -1,4 +1,4 @@
--- Each message's calls, one behind another.
+-- Each message's calls, one after another.
 use Rattle.std.proofs.Common.{◌≡◌, [], ◌∷◌, ap, subst, ◌∙◌}
 use Rattle.std.specs.Prelude.{codes, string_bytes, OnOk}
 use Rattle.pgp_trace.specs.Client.{client_value, counted, first_text, signed_part}

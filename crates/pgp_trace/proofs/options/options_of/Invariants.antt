@@ -1,4 +1,4 @@
--- Some options came, and the other words stand behind them.
+-- Some options came, and the other words stand after them.
 use Rattle.std.proofs.Common.{◌≤◌, ◌-◌, map, drop, length}
 use Rattle.pgp_trace.proofs.OptionLemmas.{Came}
 use Rattle.pgp_trace.proofs.options.options_of.Given as goal

@@ -33,7 +33,7 @@ loop-preserved g c =
       | in-Err+in-Interrupted w ↦ rw (w.parser-is, w.text-is) (lists_same old now next c.loop.parser lines c.loop.invariant w.in-Err.ensures.bytes)
     ]
 
--- What is left behind so many pieces is read at once, and nothing is left then.
+-- What is left after so many pieces is read at once, and nothing is left then.
 pub returns-clause-lines : goal.returns-clause-lines
 returns-clause-lines g c =
     let old = g.R.Read.remaining c.args.input.now in
