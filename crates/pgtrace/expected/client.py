@@ -1,4 +1,4 @@
-"""Writes ../pgp_tests_programs/src/trace_session.rt: `python3 expected/client.py`, in crates/pgtrace.
+"""Writes ../pgp_tests_callers/src/trace_session.rt: `python3 expected/client.py`, in crates/pgtrace.
 
 Each packet or message stands beside its line, which is written by hand after the message formats of the PostgreSQL manual, in
 both styles where they differ. The places and lengths are counted here. Nothing is taken from the program.
@@ -93,7 +93,7 @@ def main():
     for text, name, rows in (("A session of version 3.2.", "LATER", LATER), ("A session of another version.", "OTHER", OTHER)):
         out += constant(text, name, bytes_, "b" + literal([frame(r[0], r[1]) for r in rows]))
         out += constant("Its lines.", name + "_LINES", "&str", literal([line.encode() + b"\n" for line in listed(rows, 0, 0).splitlines()]))
-    with open("../pgp_tests_programs/src/trace_session.rt", "w") as file:
+    with open("../pgp_tests_callers/src/trace_session.rt", "w") as file:
         file.write(out.rstrip("\n") + "\n")
 
 

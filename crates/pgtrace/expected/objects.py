@@ -1,4 +1,4 @@
-"""Writes ../pgp_tests_programs/src/trace_objects.rt: `python3 expected/objects.py`, in crates/pgtrace.
+"""Writes ../pgp_tests_callers/src/trace_objects.rt: `python3 expected/objects.py`, in crates/pgtrace.
 
 Each frame stands beside the values of its object, which are written by hand after the message formats of the PostgreSQL manual, in
 both styles where they differ. The places and lengths are counted here, and Python's json reads each line back as those values.
@@ -158,7 +158,7 @@ def main():
     assert len(CLIENT) == len(SESSION) and len(spelled(SESSION)) == sum(len(frame(row[0], row[1])) for row in SESSION)
     rows = [(row[0], row[1], x) for row, x in zip(SESSION, CLIENT)]
     out += constant("The objects of a client's messages (`SESSION`).", "OBJECTS", "&str", text_literal(objects(rows, 2)))
-    with open("../pgp_tests_programs/src/trace_objects.rt", "w", encoding="utf-8") as file:
+    with open("../pgp_tests_callers/src/trace_objects.rt", "w", encoding="utf-8") as file:
         file.write(out.rstrip("\n") + "\n")
 
 

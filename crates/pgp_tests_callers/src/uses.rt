@@ -1,14 +1,12 @@
-//! Each caller once, on bytes of the message formats of the PostgreSQL manual.
+//! Each example of `pgp_uses` once, on bytes of the message formats of the PostgreSQL manual.
 #![tactic(auto, using(pgp_base::proofs::Parts::held_steps))]
 
 ghost use Rattle.std.specs.Prelude.{ℕ, ◌+◌, ◌%◌, ◌^◌, Some};
 ghost use Rattle.rand_core.specs.Steps.{stream_of, steps_u32};
 
-use crate::checks::{holds, same, same_at};
+use crate::checks::{holds, same};
 use bytes::BytesMut;
 use pgp_base::Window;
-use pgp_session::client::{Client, Event, Phase, StepError};
-use pgp_session::scram_login::{LoginEvent, LoginFault, LoginPhase, SaslStorage, ScramLogin};
 use pgp_uses::arrays::{ArrayError, bind_int4s, list_of};
 use pgp_uses::columns::{NamesError, column_names};
 use pgp_uses::filter::{FilterError, pass};
@@ -20,13 +18,11 @@ use pgp_uses::session::{AskError, ask_named, one_query};
 use pgp_uses::streams::{completed, frame_count, front_row};
 use pgp_uses::values::{bind_int4, parameter, value_of};
 use pgp_uses::writing::{ask, ask_in_place};
-use postgres_protocol::authentication::sasl::{
-    ChannelBinding, NoPrep, ScramError, ScramSha256, is_nonce,
-};
-use postgres_protocol::message::backend::{Message, Messages, RowIndex};
+use postgres_protocol::authentication::sasl::{ChannelBinding, NoPrep, ScramSha256, is_nonce};
+use postgres_protocol::message::backend::{Message, RowIndex};
 use postgres_protocol::message::frontend;
 use postgres_protocol::session::{ClientStream, StreamParser};
-use postgres_protocol::{BindError, Error, IsNull};
+use postgres_protocol::{BindError, Error};
 use rand_core::Rng;
 use rand_core::utils::{self, NextWord};
 use std::alloc::Global;
@@ -38,7 +34,7 @@ use std::test::Fail;
 const QUERY: &[u8; 14] = b"Q\x00\x00\x00\x0dSELECT 1\x00";
 
 /// A row of the int4 7, the text `ab` and a null, and a message that says that the server is ready.
-const ROW: &[u8; 31] =
+pub(crate) const ROW: &[u8; 31] =
     b"D\x00\x00\x00\x18\x00\x03\x00\x00\x00\x04\x00\x00\x00\x07\x00\x00\x00\x02ab\xff\xff\xff\xffZ\x00\x00\x00\x05I";
 
 #[test]
@@ -300,7 +296,7 @@ fn answers_are_frames(rt: HostRuntime) -> Result<(), Fail> {
     Ok(())
 }
 
-const NONCE: &str = "9IZ2O01zb9IgiIZ1WJ/zgpJB";
+pub(crate) const NONCE: &str = "9IZ2O01zb9IgiIZ1WJ/zgpJB";
 
 /// The texts of the Rust crate's own test, for the password `foobar`.
 #[test]
@@ -402,120 +398,6 @@ impl Rng for Counting {
     }
 }
 
-/// A message that says that the server is ready.
-const READY: &[u8; 6] = b"Z\x00\x00\x00\x05I";
-
-/// What a client makes of the message at the front of a server's bytes.
-fn taken(bytes: &[u8], client: &mut Client<'_, BytesMut>) -> Option<Result<Event, StepError>> {
-    if !client.out.is_open() {
-        return None;
-    }
-    let mut messages = Messages::new(bytes);
-    match messages.next() {
-        Ok(Some(message)) => {
-            let told = client.step(&message);
-            drop(message);
-            Some(told)
-        }
-        _ => None,
-    }
-}
-
-/// A message of the server, and what a client makes of it.
-type Step<'a> = (&'a [u8], Result<Event, StepError>);
-
-/// The client gets these messages one after another.
-fn takes(rt: &impl Abort, client: &mut Client<'_, BytesMut>, steps: &[Step<'_>]) {
-    for (place, (bytes, told)) in steps.iter().enumerate() {
-        same_at(rt, place, taken(bytes, client), Some(*told));
-    }
-}
-
-const ADMITTED: &[u8] = b"R\x00\x00\x00\x08\x00\x00\x00\x00";
-
-const ERROR: &[u8] = b"E\x00\x00\x00\x05\x00";
-
-/// What comes before the query's answer is complete.
-const ANSWERED: &[Step<'static>] = &[
-    (READY, Err(StepError::Unexpected)),
-    (ADMITTED, Ok(Event::Admitted)),
-    (ADMITTED, Err(StepError::Unexpected)),
-    (b"S\x00\x00\x00\x08a\x00b\x00", Ok(Event::Noted)),
-    (READY, Ok(Event::Asked)),
-    (ROW, Ok(Event::Row)),
-    (b"C\x00\x00\x00\x0dSELECT 1\x00", Ok(Event::Noted)),
-    (ERROR, Ok(Event::Failed)),
-];
-
-/// What comes after it.
-const ENDED: &[Step<'static>] = &[(READY, Ok(Event::Ended)), (ROW, Err(StepError::Unexpected))];
-
-/// Start-up, one query and its answer, each message as the manual's message formats spell it.
-#[test]
-fn a_client_asks_one_query(rt: HostRuntime) -> Result<(), Fail> {
-    let stream = ClientStream::<BytesMut>::new(rt.alloc());
-    let mut client = Client::open("alice", "SELECT 1", stream)?;
-    takes(&rt, &mut client, ANSWERED);
-    same(&rt, client.phase, Phase::Querying);
-    takes(&rt, &mut client, ENDED);
-    same(
-        &rt,
-        client.out.bytes(),
-        b"\x00\x00\x00\x14\x00\x03\x00\x00user\x00alice\x00\x00Q\x00\x00\x00\x0dSELECT 1\x00X\x00\x00\x00\x04".as_slice(),
-    );
-    Ok(())
-}
-
-/// Answers about versions, before the log-in.
-const VERSIONS: &[Step<'static>] = &[
-    (b"v\0\0\0\x0c\0\x03\0\0\0\0\0\0", Ok(Event::Noted)),
-    (b"v\0\0\0\x0c\0\x03\0\x02\0\0\0\0", Ok(Event::Noted)),
-    (
-        b"v\0\0\0\x0c\0\x02\xff\xff\0\0\0\0",
-        Err(StepError::Unexpected),
-    ),
-    (
-        b"v\0\0\0\x0c\xff\xff\xff\xff\0\0\0\0",
-        Err(StepError::Unexpected),
-    ),
-];
-
-/// The log-in, and an answer after it.
-const LATE: &[Step<'static>] = &[
-    (ADMITTED, Ok(Event::Admitted)),
-    (b"v\0\0\0\x0c\0\x03\0\0\0\0\0\0", Err(StepError::Unexpected)),
-];
-
-/// With an answer about versions a client goes on where that is 3.0 or above, before its log-in alone.
-#[test]
-fn a_client_hears_of_a_version(rt: HostRuntime) -> Result<(), Fail> {
-    let stream = ClientStream::<BytesMut>::new(rt.alloc());
-    let mut client = Client::open("alice", "SELECT 1", stream)?;
-    for step in VERSIONS.chunks(1) {
-        takes(&rt, &mut client, step);
-        same(&rt, client.phase, Phase::LoggingIn);
-    }
-    takes(&rt, &mut client, LATE);
-    Ok(())
-}
-
-/// A query that no message can hold is rejected where it is to be sent.
-const UNSENT: &[Step<'static>] = &[
-    (ADMITTED, Ok(Event::Admitted)),
-    (READY, Err(StepError::Unsent(Error::EmbeddedNull))),
-];
-
-#[test]
-fn a_client_is_refused(rt: HostRuntime) -> Result<(), Fail> {
-    let stream = ClientStream::<BytesMut>::new(rt.alloc());
-    let mut client = Client::open("alice", "a\0b", stream)?;
-    takes(&rt, &mut client, UNSENT);
-    same(&rt, client.phase, Phase::Starting);
-    takes(&rt, &mut client, &[(ERROR, Ok(Event::Refused))]);
-    same(&rt, client.phase, Phase::Over);
-    Ok(())
-}
-
 /// An array of the int4 7 and a null, one of two dimensions, an empty one, a null, and one whose element has 3 bytes: the
 /// layout as a server sends it.
 const ARRAYS: &[u8; 134] = b"D\x00\x00\x00\x85\x00\x05\
@@ -577,187 +459,5 @@ fn an_array_is_bound(rt: HostRuntime) -> Result<(), Fail> {
         buf.as_slice(),
         b"B\x00\x00\x00\x32\x00\x00\x00\x01\x00\x01\x00\x01\x00\x00\x00\x20\x00\x00\x00\x01\x00\x00\x00\x01\x00\x00\x00\x17\x00\x00\x00\x02\x00\x00\x00\x01\x00\x00\x00\x04\x00\x00\x00\x07\xff\xff\xff\xff\x00\x00".as_slice(),
     );
-    Ok(())
-}
-
-const OFFER: &[u8; 43] =
-    b"R\x00\x00\x00\x2a\x00\x00\x00\x0aSCRAM-SHA-256-PLUS\x00SCRAM-SHA-256\x00\x00";
-
-const CHALLENGE: &[u8; 85] =
-    b"R\x00\x00\x00\x54\x00\x00\x00\x0br=9IZ2O01zb9IgiIZ1WJ/zgpJBjx/oIRLs02gGSHcw1KEty3eY,s=fs3IXBy7U7+IvVjZ,i=4096";
-
-const OUTCOME: &[u8; 55] =
-    b"R\x00\x00\x00\x36\x00\x00\x00\x0cv=U+ppxD5XUKtradnv8e2MkeupiA8FU87Sg8CXzXHDAzw=";
-
-const WELCOME: &[u8; 9] = b"R\x00\x00\x00\x08\x00\x00\x00\x00";
-
-/// A log-in whose startup packet is written, with the password `foobar`.
-fn opened(rt: &HostRuntime) -> Result<ScramLogin<Global, BytesMut>, Fail> {
-    let nonce = String::from_str(rt.alloc(), NONCE)?;
-    if !is_nonce(&nonce) {
-        return Err(Error::NotUtf8.into());
-    }
-    let binding = ChannelBinding::unsupported();
-    let exchange = ScramSha256::with_nonce(rt.alloc(), b"foobar", binding, nonce, &NoPrep)?;
-    let stream = ClientStream::<BytesMut>::new(rt.alloc());
-    Ok(ScramLogin::open("alice", exchange, stream)?)
-}
-
-/// What a log-in reports a message, without the text that an error holds.
-#[derive(Debug, Clone, Copy, PartialEq, Eq)]
-enum Told {
-    Event(LoginEvent),
-    Unexpected,
-    NotOffered,
-    /// The server's signature is another.
-    Unverified,
-    /// Another error, or no message.
-    Other,
-}
-
-fn told_of(answer: &Result<LoginEvent, LoginFault>) -> Told {
-    match answer {
-        Ok(event) => Told::Event(*event),
-        Err(LoginFault::Unexpected) => Told::Unexpected,
-        Err(LoginFault::NotOffered) => Told::NotOffered,
-        Err(LoginFault::Scram(ScramError::Verification)) => Told::Unverified,
-        Err(_) => Told::Other,
-    }
-}
-
-/// What a log-in makes of a message.
-fn step<S: SaslStorage + Drop>(
-    login: &mut ScramLogin<Global, BytesMut>,
-    message: &Message<S>,
-) -> Told {
-    if !login.out.is_open() {
-        return Told::Other;
-    }
-    let answer = login.step(message);
-    let told = told_of(&answer);
-    drop(answer);
-    told
-}
-
-/// What a log-in makes of the message at the front of a server's bytes.
-fn heard(bytes: &[u8], login: &mut ScramLogin<Global, BytesMut>) -> Told {
-    let mut messages = Messages::new(bytes);
-    match messages.next() {
-        Ok(Some(message)) => {
-            let told = step(login, &message);
-            drop(message);
-            told
-        }
-        _ => Told::Other,
-    }
-}
-
-/// The log-in gets these messages one after another, and says this of each.
-fn hears(rt: &impl Abort, login: &mut ScramLogin<Global, BytesMut>, steps: &[(&[u8], Told)]) {
-    for (place, (bytes, told)) in steps.iter().enumerate() {
-        same_at(rt, place, heard(bytes, login), *told);
-    }
-}
-
-/// An exchange, and messages that have no place in it.
-const PROVED: &[(&[u8], Told)] = &[
-    (WELCOME, Told::Unexpected),
-    (OFFER, Told::Event(LoginEvent::Began)),
-    (WELCOME, Told::Unexpected),
-    (OFFER, Told::Unexpected),
-    (CHALLENGE, Told::Event(LoginEvent::Replied)),
-    (WELCOME, Told::Unexpected),
-    (OUTCOME, Told::Event(LoginEvent::Verified)),
-    (OUTCOME, Told::Unexpected),
-    (WELCOME, Told::Event(LoginEvent::Admitted)),
-];
-
-/// The texts of the Rust crate's own test, in messages of the manual's formats.
-#[test]
-fn a_password_is_proved(rt: HostRuntime) -> Result<(), Fail> {
-    let mut login = opened(&rt)?;
-    hears(&rt, &mut login, PROVED);
-    same(&rt, login.phase, LoginPhase::Done);
-    same(
-        &rt,
-        login.out.bytes(),
-        b"\x00\x00\x00\x14\x00\x03\x00\x00user\x00alice\x00\x00p\x00\x00\x00\x36SCRAM-SHA-256\x00\x00\x00\x00\x20n,,n=,r=9IZ2O01zb9IgiIZ1WJ/zgpJBp\x00\x00\x00\x6cc=biws,r=9IZ2O01zb9IgiIZ1WJ/zgpJBjx/oIRLs02gGSHcw1KEty3eY,p=AmNKosjJzS31NTlQYNs5BTeQjdHdk7lOflDo5re2an8=".as_slice(),
-    );
-    Ok(())
-}
-
-/// The same of a message that keeps its frame.
-fn heard_whole(
-    alloc: Global,
-    bytes: &[u8],
-    login: &mut ScramLogin<Global, BytesMut>,
-) -> Result<Told, Error> {
-    let mut read = BytesMut::new(alloc);
-    read.extend_from_slice(bytes)?;
-    match Message::parse(&mut read) {
-        Ok(Some(message)) => {
-            let told = step(login, &message);
-            drop(message);
-            Ok(told)
-        }
-        _ => Ok(Told::Other),
-    }
-}
-
-/// The exchange alone.
-const ALONE: &[(&[u8], LoginEvent)] = &[
-    (OFFER, LoginEvent::Began),
-    (CHALLENGE, LoginEvent::Replied),
-    (OUTCOME, LoginEvent::Verified),
-    (WELCOME, LoginEvent::Admitted),
-];
-
-/// The same exchange, by messages that keep their frames.
-#[test]
-fn a_password_is_proved_to_frames(rt: HostRuntime) -> Result<(), Fail> {
-    let mut login = opened(&rt)?;
-    for (bytes, event) in ALONE {
-        let told = heard_whole(rt.alloc(), bytes, &mut login);
-        same(&rt, told, Ok(Told::Event(*event)));
-    }
-    same(&rt, login.phase, LoginPhase::Done);
-    Ok(())
-}
-
-/// Offers without SCRAM-SHA-256, one that has no end, messages out of place, and another signature.
-const REFUSED: &[(&[u8], Told)] = &[
-    (
-        b"R\x00\x00\x00\x1c\x00\x00\x00\x0aSCRAM-SHA-256-PLUS\x00\x00",
-        Told::NotOffered,
-    ),
-    (
-        b"R\x00\x00\x00\x16\x00\x00\x00\x0aSCRAM-SHA-256\x00",
-        Told::NotOffered,
-    ),
-    (CHALLENGE, Told::Unexpected),
-    (OFFER, Told::Event(LoginEvent::Began)),
-    (OUTCOME, Told::Unexpected),
-    (CHALLENGE, Told::Event(LoginEvent::Replied)),
-    (
-        b"R\x00\x00\x00\x36\x00\x00\x00\x0cv=V+ppxD5XUKtradnv8e2MkeupiA8FU87Sg8CXzXHDAzw=",
-        Told::Unverified,
-    ),
-    (WELCOME, Told::Unexpected),
-];
-
-#[test]
-fn a_log_in_is_refused(rt: HostRuntime) -> Result<(), Fail> {
-    let mut login = opened(&rt)?;
-    hears(&rt, &mut login, REFUSED);
-    same(&rt, login.phase, LoginPhase::Over);
-    Ok(())
-}
-
-#[test]
-fn a_log_in_is_refused_by_an_error(rt: HostRuntime) -> Result<(), Fail> {
-    let mut login = opened(&rt)?;
-    let told = heard(ERROR, &mut login);
-    same(&rt, told, Told::Event(LoginEvent::Refused));
-    same(&rt, login.phase, LoginPhase::Over);
     Ok(())
 }

@@ -9,6 +9,16 @@ pub(crate) fn same<T: PartialEq + Debug + Drop>(rt: &impl Abort, came: T, wanted
     assert_eq!(rt; came, wanted);
 }
 
+/// The same, reported with the place in a table.
+pub(crate) fn same_at<T: PartialEq + Debug + Drop>(
+    rt: &impl Abort,
+    place: usize,
+    came: T,
+    wanted: T,
+) {
+    assert_eq!(rt; came, wanted, "{place}");
+}
+
 /// What came is true, else the test fails.
 pub(crate) fn holds(rt: &impl Abort, came: bool) {
     assert!(rt; came);

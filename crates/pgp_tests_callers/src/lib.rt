@@ -1,0 +1,32 @@
+//! Tests of callers: the examples of `pgp_uses`, the state machines of `pgp_session`, and what the programs `pgwire` and `pgtrace` run, with their streams
+//! cut, and with their readers, writers and memory failing.
+#![tactic(auto)]
+
+#[cfg(test)]
+mod checks;
+#[cfg(test)]
+mod clients;
+#[cfg(test)]
+mod failing;
+#[cfg(test)]
+mod logins;
+#[cfg(test)]
+mod process;
+#[cfg(test)]
+mod serving;
+#[cfg(test)]
+mod sides;
+#[cfg(test)]
+mod trace;
+#[cfg(test)]
+mod trace_objects;
+#[cfg(test)]
+mod trace_session;
+#[cfg(test)]
+mod uses;
+#[cfg(test)]
+mod wire;
+#[cfg(test)]
+mod wire_ample;
+#[cfg(test)]
+mod wire_client;

@@ -1,0 +1,200 @@
+//! A log-in by SCRAM-SHA-256, on bytes of the message formats of the PostgreSQL manual.
+
+use crate::checks::{holds, same, same_at};
+use crate::clients::ERROR;
+use crate::uses::NONCE;
+use bytes::BytesMut;
+use pgp_session::client::Event;
+use pgp_session::scram_login::{LoginEvent, LoginFault, LoginPhase, SaslStorage, ScramLogin};
+use pgp_uses::server::answer;
+use postgres_protocol::Error;
+use postgres_protocol::authentication::sasl::{
+    ChannelBinding, NoPrep, ScramError, ScramSha256, is_nonce,
+};
+use postgres_protocol::message::backend::{Message, Messages};
+use postgres_protocol::session::ClientStream;
+use std::alloc::Global;
+use std::process::Abort;
+use std::test::Fail;
+
+const OFFER: &[u8; 43] =
+    b"R\x00\x00\x00\x2a\x00\x00\x00\x0aSCRAM-SHA-256-PLUS\x00SCRAM-SHA-256\x00\x00";
+
+const CHALLENGE: &[u8; 85] =
+    b"R\x00\x00\x00\x54\x00\x00\x00\x0br=9IZ2O01zb9IgiIZ1WJ/zgpJBjx/oIRLs02gGSHcw1KEty3eY,s=fs3IXBy7U7+IvVjZ,i=4096";
+
+const OUTCOME: &[u8; 55] =
+    b"R\x00\x00\x00\x36\x00\x00\x00\x0cv=U+ppxD5XUKtradnv8e2MkeupiA8FU87Sg8CXzXHDAzw=";
+
+const WELCOME: &[u8; 9] = b"R\x00\x00\x00\x08\x00\x00\x00\x00";
+
+/// A log-in whose startup packet is written, with the password `foobar`.
+fn opened(rt: &HostRuntime) -> Result<ScramLogin<Global, BytesMut>, Fail> {
+    let nonce = String::from_str(rt.alloc(), NONCE)?;
+    if !is_nonce(&nonce) {
+        return Err(Error::NotUtf8.into());
+    }
+    let binding = ChannelBinding::unsupported();
+    let exchange = ScramSha256::with_nonce(rt.alloc(), b"foobar", binding, nonce, &NoPrep)?;
+    let stream = ClientStream::<BytesMut>::new(rt.alloc());
+    Ok(ScramLogin::open("alice", exchange, stream)?)
+}
+
+/// What a log-in reports a message, without the text that an error holds.
+#[derive(Debug, Clone, Copy, PartialEq, Eq)]
+enum Told {
+    Event(LoginEvent),
+    Unexpected,
+    NotOffered,
+    /// The server's signature is another.
+    Unverified,
+    /// Another error, or no message.
+    Other,
+}
+
+fn told_of(answer: &Result<LoginEvent, LoginFault>) -> Told {
+    match answer {
+        Ok(event) => Told::Event(*event),
+        Err(LoginFault::Unexpected) => Told::Unexpected,
+        Err(LoginFault::NotOffered) => Told::NotOffered,
+        Err(LoginFault::Scram(ScramError::Verification)) => Told::Unverified,
+        Err(_) => Told::Other,
+    }
+}
+
+/// What a log-in makes of a message.
+fn step<S: SaslStorage + Drop>(
+    login: &mut ScramLogin<Global, BytesMut>,
+    message: &Message<S>,
+) -> Told {
+    if !login.out.is_open() {
+        return Told::Other;
+    }
+    let answer = login.step(message);
+    let told = told_of(&answer);
+    drop(answer);
+    told
+}
+
+/// What a log-in makes of the message at the front of a server's bytes.
+fn heard(bytes: &[u8], login: &mut ScramLogin<Global, BytesMut>) -> Told {
+    let mut messages = Messages::new(bytes);
+    match messages.next() {
+        Ok(Some(message)) => {
+            let told = step(login, &message);
+            drop(message);
+            told
+        }
+        _ => Told::Other,
+    }
+}
+
+/// The log-in gets these messages one after another, and says this of each.
+fn hears(rt: &impl Abort, login: &mut ScramLogin<Global, BytesMut>, steps: &[(&[u8], Told)]) {
+    for (place, (bytes, told)) in steps.iter().enumerate() {
+        same_at(rt, place, heard(bytes, login), *told);
+    }
+}
+
+/// An exchange, and messages that have no place in it.
+const PROVED: &[(&[u8], Told)] = &[
+    (WELCOME, Told::Unexpected),
+    (OFFER, Told::Event(LoginEvent::Began)),
+    (WELCOME, Told::Unexpected),
+    (OFFER, Told::Unexpected),
+    (CHALLENGE, Told::Event(LoginEvent::Replied)),
+    (WELCOME, Told::Unexpected),
+    (OUTCOME, Told::Event(LoginEvent::Verified)),
+    (OUTCOME, Told::Unexpected),
+    (WELCOME, Told::Event(LoginEvent::Admitted)),
+];
+
+/// The texts of the Rust crate's own test, in messages of the manual's formats.
+#[test]
+fn a_password_is_proved(rt: HostRuntime) -> Result<(), Fail> {
+    let mut login = opened(&rt)?;
+    hears(&rt, &mut login, PROVED);
+    same(&rt, login.phase, LoginPhase::Done);
+    same(
+        &rt,
+        login.out.bytes(),
+        b"\x00\x00\x00\x14\x00\x03\x00\x00user\x00alice\x00\x00p\x00\x00\x00\x36SCRAM-SHA-256\x00\x00\x00\x00\x20n,,n=,r=9IZ2O01zb9IgiIZ1WJ/zgpJBp\x00\x00\x00\x6cc=biws,r=9IZ2O01zb9IgiIZ1WJ/zgpJBjx/oIRLs02gGSHcw1KEty3eY,p=AmNKosjJzS31NTlQYNs5BTeQjdHdk7lOflDo5re2an8=".as_slice(),
+    );
+    Ok(())
+}
+
+/// The same of a message that keeps its frame.
+fn heard_whole(
+    alloc: Global,
+    bytes: &[u8],
+    login: &mut ScramLogin<Global, BytesMut>,
+) -> Result<Told, Error> {
+    let mut read = BytesMut::new(alloc);
+    read.extend_from_slice(bytes)?;
+    match Message::parse(&mut read) {
+        Ok(Some(message)) => {
+            let told = step(login, &message);
+            drop(message);
+            Ok(told)
+        }
+        _ => Ok(Told::Other),
+    }
+}
+
+/// The exchange alone.
+const ALONE: &[(&[u8], LoginEvent)] = &[
+    (OFFER, LoginEvent::Began),
+    (CHALLENGE, LoginEvent::Replied),
+    (OUTCOME, LoginEvent::Verified),
+    (WELCOME, LoginEvent::Admitted),
+];
+
+/// The same exchange, by messages that keep their frames.
+#[test]
+fn a_password_is_proved_to_frames(rt: HostRuntime) -> Result<(), Fail> {
+    let mut login = opened(&rt)?;
+    for (bytes, event) in ALONE {
+        let told = heard_whole(rt.alloc(), bytes, &mut login);
+        same(&rt, told, Ok(Told::Event(*event)));
+    }
+    same(&rt, login.phase, LoginPhase::Done);
+    Ok(())
+}
+
+/// Offers without SCRAM-SHA-256, one that has no end, messages out of place, and another signature.
+const REFUSED: &[(&[u8], Told)] = &[
+    (
+        b"R\x00\x00\x00\x1c\x00\x00\x00\x0aSCRAM-SHA-256-PLUS\x00\x00",
+        Told::NotOffered,
+    ),
+    (
+        b"R\x00\x00\x00\x16\x00\x00\x00\x0aSCRAM-SHA-256\x00",
+        Told::NotOffered,
+    ),
+    (CHALLENGE, Told::Unexpected),
+    (OFFER, Told::Event(LoginEvent::Began)),
+    (OUTCOME, Told::Unexpected),
+    (CHALLENGE, Told::Event(LoginEvent::Replied)),
+    (
+        b"R\x00\x00\x00\x36\x00\x00\x00\x0cv=V+ppxD5XUKtradnv8e2MkeupiA8FU87Sg8CXzXHDAzw=",
+        Told::Unverified,
+    ),
+    (WELCOME, Told::Unexpected),
+];
+
+#[test]
+fn a_log_in_is_refused(rt: HostRuntime) -> Result<(), Fail> {
+    let mut login = opened(&rt)?;
+    hears(&rt, &mut login, REFUSED);
+    same(&rt, login.phase, LoginPhase::Over);
+    Ok(())
+}
+
+#[test]
+fn a_log_in_is_refused_by_an_error(rt: HostRuntime) -> Result<(), Fail> {
+    let mut login = opened(&rt)?;
+    let told = heard(ERROR, &mut login);
+    same(&rt, told, Told::Event(LoginEvent::Refused));
+    same(&rt, login.phase, LoginPhase::Over);
+    Ok(())
+}
