@@ -9,7 +9,7 @@ use Rattle.std.specs.Int.{cast_unsigned}
 use Rattle.pgp_base.specs.Wire.{int16, uint16}
 use Rattle.pgp_base.proofs.Parts.{length-uint16, int16_spelled}
 use Rattle.pgp_values.specs.Amount.{spelled, before_point, behind_by}
-use Rattle.pgp_values.specs.Decimal.{Decimal, laid_out, IsDecimal, IsDigits, IsCanonical, HasNoZeroEnds, last_of}
+use Rattle.pgp_values.specs.Decimal.{Decimal, laid_out, IsDecimal, IsDigits, HasNoZeroEnds, last_of}
 use Rattle.pgp_values.specs.DecimalText.{run}
 use Rattle.pgp_values.specs.DecimalWriting.{Told, told_by, places_of, raised, lowered, digit_value, IsNumberOf}
 use Rattle.pgp_values.specs.NumberGroups.{power_digit, group_value, group_down, IsWeight, IsPastWeights, NoneFrom, NoneTo}
@@ -227,7 +227,7 @@ power_at ds point i lt =
     rw (lt-ltb (point - 1 - i) point less, at) refl
 
 -- What is written is the number.
-module _ (negative : Bool) (whole fraction : List ℕ) (divided : Bool) (exponent : ℕ) (weight : ℤ) (scale : ℕ) (shown : scale ≡ places_of (told_by negative whole fraction divided exponent)) (fits : scale ≤ 16383) where
+module _ (negative : Bool) (whole fraction : List ℕ) (divided : Bool) (exponent : ℕ) (weight : ℤ) (scale : ℕ) (shown : scale ≡ places_of (told_by negative whole fraction divided exponent)) (fits : scale ≤ 16383) (small : exponent < 1073741823) where
   abbrev told : Told
   told = told_by negative whole fraction divided exponent
 
@@ -269,6 +269,7 @@ module _ (negative : Bool) (whole fraction : List ℕ) (divided : Bool) (exponen
       fits = record { weight = weight_fits weight top is_weight; scale = fits; count = rw digits_count count; digits = groups_digits values (values_small (whole ++ fraction)) point top 0 n };
       means = record { same = same; scale = shown; sign = inl refl };
       canonical = record { ends = ends_run (group_down values point top) n (omega arith) first_some last_some; zero = λ none. absurd (no_run (group_down values point top) n (omega arith) none) };
+      small = small;
     }
 
   pub zero_value : NoneTo (length values) values → weight ≡ pos 0 → IsValueOf told (record { negative = false; weight = weight; scale = scale; digits = [] })
@@ -278,6 +279,7 @@ module _ (negative : Bool) (whole fraction : List ℕ) (divided : Bool) (exponen
         fits = record { weight = record { sfits = omega arith }; scale = fits; count = omega arith; digits = tt };
         means = record { same = rw nothing (omega arith); scale = shown; sign = inr (nothing, refl) };
         canonical = record { ends = tt; zero = λ _. (refl, refl) };
+        small = small;
       })
 
 -- What no numeric holds.

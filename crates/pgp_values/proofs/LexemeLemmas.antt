@@ -1,14 +1,14 @@
 -- Lexemes and their places: what reads one reads what its grammar says.
-use Rattle.std.proofs.Common.{◌≡◌, ◌⊎◌, inl, inr, ℕ, ◌+◌, ◌<◌, ◌≤◌, ◌^◌, ltb, false, List, [], ◌∷◌, ◌++◌, length, take, drop, None, Result, Ok, Err, refl, sym, ap, subst, ◌∙◌, arith, append_assoc, length-append}
-use Rattle.std.specs.List.{flat_map, AllByRecursion}
+use Rattle.std.proofs.Common.{◌≡◌, inl, inr, ℕ, ◌+◌, ◌<◌, ◌≤◌, ◌^◌, ltb, false, List, [], ◌∷◌, ◌++◌, length, take, drop, None, Ok, Err, refl, sym, ap, subst, ◌∙◌, arith, append_assoc, length-append}
+use Rattle.std.specs.List.{flat_map}
 use Rattle.std.specs.Str.{IsUtf8}
 use Rattle.std.proofs.lemmas.Bool.{ltb-false, ltb-true, le-ltb, lt-ltb}
 use Rattle.std.proofs.lemmas.List.{take_at, drop_at, take-append-drop, length-take}
 use Rattle.pgp_base.specs.declared.error.Error.{Error}
 use Rattle.pgp_base.specs.declared.error.Error.TheVariants.{UnexpectedEof, NotUtf8, NotDrained}
 use Rattle.pgp_base.specs.PartReading.{string_at, text_at}
-use Rattle.pgp_base.specs.Wire.{IsBytes, uint16, text, HasNoZero}
-use Rattle.pgp_base.specs.Cause.{either, text_cause, count_cause}
+use Rattle.pgp_base.specs.Wire.{IsBytes, uint16, text}
+use Rattle.pgp_base.specs.Cause.{text_cause, count_cause}
 use Rattle.pgp_base.proofs.Binds.{guard_ok, guard_err}
 use Rattle.pgp_base.proofs.Causes.{either_left, either_right, counts_of}
 use Rattle.pgp_base.proofs.PartLemmas.{TextFound, text_found, text_read, text_refused, text_cut, string_none}
@@ -21,7 +21,7 @@ use Rattle.pgp_types.proofs.Spelling.{bytes_take}
 use Rattle.pgp_types.proofs.WalkLemmas.{IsItem}
 use Rattle.pgp_values.specs.DecimalReading.{pairs, uint16_at}
 use Rattle.pgp_values.specs.ListReading.{places_of, places_at, lexeme_at}
-use Rattle.pgp_values.specs.Tsvector.{string_part, places_part, AreSmall, lexeme, tsvector}
+use Rattle.pgp_values.specs.Tsvector.{string_part, places_part, lexeme, tsvector}
 use Rattle.pgp_values.proofs.ListLemmas.{list_sound}
 use Rattle.pgp_values.proofs.Numbers.{uint16_spelling}
 use Rattle.pgp_values.proofs.Pairs.{pairs_half, pairs_small, pairs_spelled, pairs_again, digits_length}

@@ -12,6 +12,7 @@ pub mod GroupLemmas
 pub mod MeaningLemmas
 pub mod OnceLemmas
 pub mod RoundLemmas
+pub mod CutLemmas
 pub mod MomentLemmas
 pub mod PlaceLemmas
 pub mod LexemeLemmas

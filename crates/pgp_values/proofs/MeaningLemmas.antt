@@ -1,17 +1,16 @@
 -- What the text without its blanks says is what the text says.
-use Rattle.std.proofs.Common.{◌≡◌, ◌≢◌, ◌⊎◌, inl, inr, ℕ, ◌+◌, ◌<◌, ◌≤◌, Bool, true, false, List, [], ◌∷◌, ◌++◌, length, map, None, Result, Ok, Err, refl, sym, ap, subst, ◌∙◌, arith}
+use Rattle.std.proofs.Common.{◌≡◌, ◌≢◌, ◌⊎◌, inl, inr, ℕ, ◌<◌, ◌≤◌, Bool, true, false, List, [], ◌∷◌, ◌++◌, length, map, None, Result, Ok, Err, refl, sym, ap, subst, ◌∙◌, arith}
 use Rattle.std.proofs.lemmas.Bool.{lt-ltb}
 use Rattle.std.proofs.lemmas.List.{append-nil}
 use Rattle.std.specs.List.{AllByRecursion}
 use Rattle.std.specs.Result.{IsErr, IsErrAnd}
-use Rattle.pgp_base.specs.Cause.{Wants}
-use Rattle.pgp_base.specs.Held.{Held, ◌⊕◌}
+use Rattle.pgp_base.specs.Held.{Held}
 use Rattle.pgp_base.proofs.Parts.{left_same}
 use Rattle.pgp_values.specs.declared.error.NumericError.{NumericError}
 use Rattle.pgp_values.specs.declared.error.NumericError.TheVariants.{InvalidText, OutOfRange}
-use Rattle.pgp_values.specs.Decimal.{Decimal, IsDecimal, Numeric, finite, numeric_bytes}
+use Rattle.pgp_values.specs.Decimal.{Decimal, IsDecimal, Numeric, finite}
 use Rattle.pgp_values.specs.DecimalWriting.{Told, told_by, IsNumberOf}
-use Rattle.pgp_values.specs.NumberMeaning.{IsValueOf, NumberMeans, NumberRefused, TextMeans, TextRefused, WritesMeant}
+use Rattle.pgp_values.specs.NumberMeaning.{limit, IsValueOf, NumberMeans, NumberRefused, TextMeans, TextRefused, WritesMeant}
 use Rattle.pgp_values.specs.NumberText.{IsBlank, IsDigit, NumberText, IsBlanked, Spells, Tells, Names, lower, nan_word, inf_word, infinity_word, infinity_of, SpecialText}
 use Rattle.pgp_values.specs.NumberScan.{NotAt, NotEnd, Trimmed, IsSign, SignFront, Special, WrittenRefused}
 use Rattle.pgp_values.proofs.ScanLemmas.{heads, tails, munch, munch_back, not_at_append, end_append, not_at_of, end_of, digit_no_blank, sign_once, sign_no_blank, number_begins}
@@ -165,31 +164,31 @@ module _ (text inside : List ℕ) (t : Trimmed text inside) where
   names_of : (v : Numeric) → SpecialText inside v → Names text v
   names_of v s = record { inside = inside; blanked = blanked; names = s }
 
-  number_means : (v : Numeric) → NumberMeans inside v → TextMeans text v
-  number_means v m = inl (m.0, tells_of m.0 m.1, m.2, m.3, m.4)
+  number_means : length text < limit → (v : Numeric) → NumberMeans inside v → TextMeans text v
+  number_means short v m = (short, inl (m.0, tells_of m.0 m.1, m.2, m.3, m.4))
 
-  text_refused : Special inside None → (e : NumericError) → NumberRefused inside e → TextRefused text e
-  text_refused none InvalidText never = ((λ n w. never n (told_inside n w)), (λ v w. none v (named_inside v w)))
-  text_refused none OutOfRange w = inr (w.0, tells_of w.0 w.1, w.2)
-  text_refused none e never = absurd never
+  text_refused : length text < limit → Special inside None → (e : NumericError) → NumberRefused inside e → TextRefused text e
+  text_refused short none InvalidText never = (short, ((λ n w. never n (told_inside n w)), (λ v w. none v (named_inside v w))))
+  text_refused short none OutOfRange w = inr (w.0, tells_of w.0 w.1, w.2)
+  text_refused short none e never = absurd never
 
-  pub number_written : {K : Type 0} (lacks : Held K → ℕ → Type 0) (old new : Held K) (r : Result (Unit {0}) NumericError) → Special inside None
+  pub number_written : {K : Type 0} → length text < limit → (lacks : Held K → ℕ → Type 0) (old new : Held K) (r : Result (Unit {0}) NumericError) → Special inside None
       → WritesMeant (NumberMeans inside) (NumberRefused inside) lacks old r new → WritesMeant (TextMeans text) (TextRefused text) lacks old r new
-  number_written lacks old new (Ok done) none w = record { value = w.value; means = number_means w.value w.means; appended = w.appended }
-  number_written lacks old new (Err e) none w = (
+  number_written short lacks old new (Ok done) none w = record { value = w.value; means = number_means short w.value w.means; appended = w.appended }
+  number_written short lacks old new (Err e) none w = (
     elim w.0 [
-      | inl memory ↦ inl (memory.0, record { value = memory.1.value; means = number_means memory.1.value memory.1.means; wants = memory.1.wants })
-      | inr refused ↦ inr (text_refused none e refused)
+      | inl memory ↦ inl (memory.0, record { value = memory.1.value; means = number_means short memory.1.value memory.1.means; wants = memory.1.wants })
+      | inr refused ↦ inr (text_refused short none e refused)
     ],
     w.1,
   )
 
-  pub special_written : {K : Type 0} (lacks : Held K → ℕ → Type 0) (old new : Held K) (r : Result (Unit {0}) NumericError) (v : Numeric) → SpecialText inside v
+  pub special_written : {K : Type 0} → length text < limit → (lacks : Held K → ℕ → Type 0) (old new : Held K) (r : Result (Unit {0}) NumericError) (v : Numeric) → SpecialText inside v
       → WritesMeant (λ x. x ≡ v) (λ e. ⊥) lacks old r new → WritesMeant (TextMeans text) (TextRefused text) lacks old r new
-  special_written lacks old new (Ok done) v s w = record { value = w.value; means = inr (subst (Names text) (sym w.means) (names_of v s)); appended = w.appended }
-  special_written lacks old new (Err e) v s w = (
+  special_written short lacks old new (Ok done) v s w = record { value = w.value; means = (short, inr (subst (Names text) (sym w.means) (names_of v s))); appended = w.appended }
+  special_written short lacks old new (Err e) v s w = (
     elim w.0 [
-      | inl memory ↦ inl (memory.0, record { value = memory.1.value; means = inr (subst (Names text) (sym memory.1.means) (names_of v s)); wants = memory.1.wants })
+      | inl memory ↦ inl (memory.0, record { value = memory.1.value; means = (short, inr (subst (Names text) (sym memory.1.means) (names_of v s))); wants = memory.1.wants })
       | inr refused ↦ absurd refused
     ],
     w.1,

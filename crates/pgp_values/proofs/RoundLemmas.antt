@@ -1,21 +1,23 @@
 -- A text means one value, and the text of a value that a server keeps means that value.
-use Rattle.std.proofs.Common.{◌≡◌, ◌≢◌, ◌⊎◌, inl, inr, ℕ, zero, suc, ℤ, pos, negsuc, ◌+◌, ◌-◌, ◌*◌, ◌/◌, ◌%◌, ◌<◌, ◌≤◌, ◌^◌, Bool, true, false, cond, ltb, List, [], ◌∷◌, ◌++◌, length, map, get_or, refl, sym, ap, subst, ◌∙◌, arith, append_assoc}
+use Rattle.std.proofs.Common.{◌≡◌, ◌≢◌, ◌⊎◌, inl, inr, ℕ, zero, suc, ℤ, pos, negsuc, ◌+◌, ◌-◌, ◌*◌, ◌/◌, ◌%◌, ◌<◌, ◌≤◌, ◌^◌, Bool, true, false, cond, ltb, List, [], ◌∷◌, ◌++◌, length, map, get_or, refl, sym, ap, subst, ◌∙◌, arith, append_assoc, FitsSigned, w16, length-append}
 use Rattle.std.proofs.lemmas.Bool.{ne_eqb, lt-ltb, le-ltb}
 use Rattle.std.proofs.lemmas.List.{append-nil, length-map, map-append}
 use Rattle.std.specs.List.{AllByRecursion}
+use Rattle.pgp_values.specs.declared.error.NumericError.{NumericError}
+use Rattle.pgp_values.specs.declared.error.NumericError.TheVariants.{InvalidText, OutOfRange}
 use Rattle.pgp_values.specs.Amount.{spelled, IsShown, before_point, behind_by}
 use Rattle.pgp_values.specs.Decimal.{Decimal, Numeric, finite, nan, plus_infinity, minus_infinity, IsDecimal, IsDigits, IsCanonical}
 use Rattle.pgp_values.specs.DecimalText.{decimal_in, decimal_at, run, stripped, whole_places, whole_digits, behind_point, fraction_digits, text_digits, has_digit, shown_sign, letter, sign_text, fraction_text, decimal_text, numeric_text}
 use Rattle.pgp_values.specs.DecimalWriting.{Told, told_by, digit_value, IsNumberOf}
-use Rattle.pgp_values.specs.NumberMeaning.{IsValueOf, IsKept, TextMeans}
-use Rattle.pgp_values.specs.NumberText.{IsBlank, IsDigit, SignText, PointText, MarkedText, RaisedText, ExponentText, NumberText, IsBlanked, Spells, Tells, Names, lower, inf_word, infinity_word, nan_word, infinity_of, SpecialText}
-use Rattle.pgp_values.specs.NumberScan.{NotAt, NotEnd, Front, Trimmed, IsSign, SignFront, PointFront}
+use Rattle.pgp_values.specs.NumberMeaning.{IsValueOf, IsKept, IsPast, TellsOrNames, TextMeans, TextRefused}
+use Rattle.pgp_values.specs.NumberText.{IsBlank, IsDigit, SignText, PointText, MarkedText, ExponentText, NumberText, IsBlanked, Spells, Tells, Names, lower, inf_word, infinity_word, nan_word, infinity_of, SpecialText}
+use Rattle.pgp_values.specs.NumberScan.{NotAt, Front, Trimmed, SignFront, PointFront}
 use Rattle.pgp_values.proofs.AmountLemmas.{same_number}
 use Rattle.pgp_values.proofs.MeaningLemmas.{Ends, ends_number, begins_number, special_begins, special_ends, same_inside, IsLetter, IsWord, inf_is, nan_is, word_no_sign}
 use Rattle.pgp_values.proofs.OnceLemmas.{number_one, no_amount}
 use Rattle.pgp_values.proofs.Pairs.{small_at}
 use Rattle.pgp_values.proofs.ScanLemmas.{heads, tails, munch, not_at_append, sign_once, number_front, number_parts, number_begins, point_digits, exponent_digit, exponent_point, marked_front, marked_digits, marked_no_blank}
-use Rattle.pgp_values.proofs.TextLemmas.{run_length}
+use Rattle.pgp_values.proofs.TextLemmas.{run_length, fraction_length}
 
 -- what a text without blanks says
 
@@ -125,13 +127,38 @@ told_no_name text t v a b =
     let to = ends_number a.inside t.negative a.spells.whole a.spells.fraction t.divided t.exponent a.spells.number in
     number_no_word b.inside t v (subst (λ l. Spells l t) (same_inside text b.inside (trimmed_of text b.inside b.blanked (special_begins b.inside v b.names) (special_ends b.inside v b.names)) a.inside a.blanked from to) a.spells) b.names
 
-pub one_meaning : (text : List ℕ) (v w : Numeric) → TextMeans text v → TextMeans text w → v ≡ w
-one_meaning text v w (inl a) (inl b) =
+one_meant : (text : List ℕ) (v w : Numeric) → TellsOrNames text v → TellsOrNames text w → v ≡ w
+one_meant text v w (inl a) (inl b) =
     let told = told_once text a.0 b.0 a.1 b.1 in
     a.4 ∙ (ap (λ d. finite d) (number_one b.0 a.2 b.2 (subst (λ t. IsValueOf t a.2) told a.3) b.3) ∙ sym b.4)
-one_meaning text v w (inl a) (inr b) = absurd (told_no_name text a.0 w a.1 b)
-one_meaning text v w (inr a) (inl b) = absurd (told_no_name text b.0 v b.1 a)
-one_meaning text v w (inr a) (inr b) = special_once b.inside v w (named_inside text v w a b) b.names
+one_meant text v w (inl a) (inr b) = absurd (told_no_name text a.0 w a.1 b)
+one_meant text v w (inr a) (inl b) = absurd (told_no_name text b.0 v b.1 a)
+one_meant text v w (inr a) (inr b) = special_once b.inside v w (named_inside text v w a b) b.names
+
+pub one_meaning : (text : List ℕ) (v w : Numeric) → TextMeans text v → TextMeans text w → v ≡ w
+one_meaning text v w a b = one_meant text v w a.1 b.1
+
+-- a text that means a value isn't rejected
+
+past_not : (text : List ℕ) (t u : Told) (d : Decimal) → Tells text t → Tells text u → IsValueOf u d → IsPast t → ⊥
+past_not text t u d a b v past = elim (subst IsPast (told_once text t u a b) past) [
+  | inl long ↦ (omega (arith, v.small, long))
+  | inr none ↦ none d v.fits v.means
+]
+
+past_name : (text : List ℕ) (v : Numeric) (t : Told) → Tells text t → TellsOrNames text v → IsPast t → ⊥
+past_name text v t a (inl m) past = past_not text t m.0 m.2 a m.1 m.3 past
+past_name text v t a (inr n) past = told_no_name text t v a n
+
+nothing_told : (text : List ℕ) (v : Numeric) → TellsOrNames text v → ((t : Told) → Tells text t → ⊥) → ((w : Numeric) → Names text w → ⊥) → ⊥
+nothing_told text v (inl m) a b = a m.0 m.1
+nothing_told text v (inr n) a b = b v n
+
+pub settled : (text : List ℕ) (v : Numeric) (e : NumericError) → TextMeans text v → TextRefused text e → ⊥
+settled text v InvalidText m r = nothing_told text v m.1 r.1.0 r.1.1
+settled text v OutOfRange m (inl long) = omega (arith, m.0, long)
+settled text v OutOfRange m (inr w) = past_name text v w.0 w.1 m.1 w.2
+settled text v e m r = absurd r
 
 -- the digits of a text
 
@@ -141,7 +168,7 @@ in_small d (suc zero) h = omega arith
 in_small d (suc (suc zero)) h = omega arith
 in_small d (suc (suc (suc k))) h = omega arith
 
-at_small : (ds : List ℕ) (i : ℕ) → IsDigits ds → decimal_at ds i < 10
+pub at_small : (ds : List ℕ) (i : ℕ) → IsDigits ds → decimal_at ds i < 10
 unfolding decimal_at
 at_small ds i h = in_small (get_or ds (i / 4) 0) (i % 4) (small_at ds (i / 4) h)
 
@@ -149,7 +176,7 @@ behind_small_by : (x : Bool) (ds : List ℕ) (i : ℕ) → IsDigits ds → cond 
 behind_small_by true ds i h = omega arith
 behind_small_by false ds i h = at_small ds i h
 
-behind_small : (w : ℤ) (ds : List ℕ) (i : ℕ) → IsDigits ds → behind_point w ds i < 10
+pub behind_small : (w : ℤ) (ds : List ℕ) (i : ℕ) → IsDigits ds → behind_point w ds i < 10
 behind_small (pos k) ds i h = at_small ds (whole_places k + i) h
 behind_small (negsuc j) ds i h = behind_small_by (ltb i (4 * j)) ds (i - 4 * j) h
 
@@ -219,6 +246,26 @@ pointed_by zero [] e = inr (refl, refl)
 pointed_by zero (d ∷ ds) e = absurd (omega (arith, e))
 pointed_by (suc n) ds e = rw (ne_eqb (suc n) 0 (λ z. omega (arith, z))) (inl refl)
 
+-- texts are short
+
+stripped_short : (ds : List ℕ) → length (stripped ds) ≤ length ds
+stripped_short [] = omega arith
+stripped_short (d ∷ []) = omega arith
+stripped_short (zero ∷ e ∷ ds) = omega (arith, stripped_short (e ∷ ds))
+stripped_short (suc d ∷ e ∷ ds) = omega arith
+
+whole_short : (w : ℤ) (ds : List ℕ) → FitsSigned w16 w → length (whole_digits w ds) ≤ 131072
+whole_short (pos k) ds f = omega (arith, f.sfits, stripped_short (run (decimal_at ds) 0 (whole_places k)), run_length (decimal_at ds) 0 (whole_places k))
+whole_short (negsuc j) ds f = omega arith
+
+sign_short : (b : Bool) → length (sign_text b) ≤ 1
+sign_short false = omega arith
+sign_short true = omega arith
+
+fraction_short : (scale : ℕ) (ds : List ℕ) → length (fraction_text scale ds) ≤ 1 + length ds
+fraction_short zero ds = omega arith
+fraction_short (suc n) ds = omega (arith, fraction_length (suc n) ds (λ z. omega (arith, z)))
+
 -- a number with a minus shows a digit
 kept_sign_by : (n : Bool) (w : ℤ) (scale : ℕ) (ds : List ℕ) → IsCanonical (record { negative = n; weight = w; scale = scale; digits = ds }) → IsShown (record { negative = n; weight = w; scale = scale; digits = ds }) → n ≡ true → spelled 10 (text_digits (record { negative = n; weight = w; scale = scale; digits = ds })) ≡ 0 → ⊥
 kept_sign_by n w scale [] c shown e none = let f : true ≡ false = sym e ∙ (c.zero refl).1 in cc
@@ -285,21 +332,27 @@ module _ (d : Decimal) (fits : IsDecimal d) (canonical : IsCanonical d) (shown :
     ];
   }
 
+  short : length (decimal_text d) < 1073741823
+  short = omega (arith, length-append (sign_text (shown_sign d) ++ whole) (fraction_text d.scale (fraction_digits d)), length-append (sign_text (shown_sign d)) whole, length-map (whole_digits d.weight d.digits) letter, sign_short (shown_sign d), whole_short d.weight d.digits fits.weight, fraction_short d.scale (fraction_digits d), fraction_count, fits.scale)
+
   pub decimal_means : TextMeans (decimal_text d) (finite d)
-  decimal_means = inl (
-    told,
-    record {
-      inside = decimal_text d;
-      blanked = record { before = []; after = []; are_before = tt; are_after = tt; all = sym (append-nil (decimal_text d)) };
-      spells = record { whole = whole; fraction = fraction; number = number; told = refl };
-    },
-    d,
-    record { fits = fits; means = means; canonical = canonical },
-    refl,
+  decimal_means = (
+    short,
+    inl (
+      told,
+      record {
+        inside = decimal_text d;
+        blanked = record { before = []; after = []; are_before = tt; are_after = tt; all = sym (append-nil (decimal_text d)) };
+        spells = record { whole = whole; fraction = fraction; number = number; told = refl };
+      },
+      d,
+      record { fits = fits; means = means; canonical = canonical; small = omega arith },
+      refl,
+    ),
   )
 
 pub kept_means : (v : Numeric) → IsKept v → TextMeans (numeric_text v) v
 kept_means (finite d) k = decimal_means d k.0 k.1.0 k.1.1
-kept_means nan k = inr (record { inside = numeric_text nan; blanked = record { before = []; after = []; are_before = tt; are_after = tt; all = refl }; names = inl (refl, refl) })
-kept_means plus_infinity k = inr (record { inside = numeric_text plus_infinity; blanked = record { before = []; after = []; are_before = tt; are_after = tt; all = refl }; names = inr (false, [], inl refl, numeric_text plus_infinity, refl, inr refl, refl) })
-kept_means minus_infinity k = inr (record { inside = numeric_text minus_infinity; blanked = record { before = []; after = []; are_before = tt; are_after = tt; all = refl }; names = inr (true, 45 ∷ [], refl, numeric_text plus_infinity, refl, inr refl, refl) })
+kept_means nan k = (omega arith, inr (record { inside = numeric_text nan; blanked = record { before = []; after = []; are_before = tt; are_after = tt; all = refl }; names = inl (refl, refl) }))
+kept_means plus_infinity k = (omega arith, inr (record { inside = numeric_text plus_infinity; blanked = record { before = []; after = []; are_before = tt; are_after = tt; all = refl }; names = inr (false, [], inl refl, numeric_text plus_infinity, refl, inr refl, refl) }))
+kept_means minus_infinity k = (omega arith, inr (record { inside = numeric_text minus_infinity; blanked = record { before = []; after = []; are_before = tt; are_after = tt; all = refl }; names = inr (true, 45 ∷ [], refl, numeric_text plus_infinity, refl, inr refl, refl) }))

@@ -1,5 +1,5 @@
 -- What a text means as a numeric, and why a text is rejected.
-use Rattle.std.specs.Prelude.{◌≡◌, ◌⊎◌, ℕ, ◌≤◌, List, length, Result, Ok, Err, ⊤}
+use Rattle.std.specs.Prelude.{◌≡◌, ◌⊎◌, ℕ, ◌<◌, ◌≤◌, List, length, Result, Ok, Err, ⊤}
 use Rattle.pgp_base.specs.Cause.{Wants}
 use Rattle.pgp_base.specs.Held.{Held, ◌⊕◌, Leaves}
 use Rattle.pgp_values.specs.declared.error.NumericError.{NumericError}
@@ -13,11 +13,13 @@ use Rattle.pgp_values.specs.NumberText.{Spells, Tells, Names}
 abbrev pub limit : ℕ
 limit = 1073741823
 
--- the number that was reported, in the one form in which a server keeps it
+-- the number that was reported, in the one form in which a server keeps it; its exponent is below the
+-- limit
 pub record IsValueOf (t : Told) (d : Decimal) : Type 0 where
   pub fits : IsDecimal d
   pub means : IsNumberOf t d
   pub canonical : IsCanonical d
+  pub small : t.exponent < limit
 
 -- a value in the form that a server keeps: no digit is hidden
 abbrev pub IsKept : Numeric → Type 0
@@ -39,13 +41,16 @@ NumberRefused bytes InvalidText = (t : Told) → Spells bytes t → ⊥
 NumberRefused bytes OutOfRange = (t : Told) × Spells bytes t × IsPast t
 NumberRefused bytes e = ⊥
 
--- The text says a number, or it names a value.
-abbrev pub TextMeans : List ℕ → Numeric → Type 0
-TextMeans text v = ((t : Told) × Tells text t × (d : Decimal) × IsValueOf t d × (v ≡ finite d)) ⊎ Names text v
+abbrev pub TellsOrNames : List ℕ → Numeric → Type 0
+TellsOrNames text v = ((t : Told) × Tells text t × (d : Decimal) × IsValueOf t d × (v ≡ finite d)) ⊎ Names text v
 
--- The text neither says a number nor names a value; or it is too long to be looked at, or says a number that is past.
+-- The text is short enough to be looked at, and says a number, or names a value.
+abbrev pub TextMeans : List ℕ → Numeric → Type 0
+TextMeans text v = (length text < limit) × TellsOrNames text v
+
+-- The text is short enough, and neither says a number nor names a value; or it is too long, or says a number that is past.
 abbrev pub TextRefused : List ℕ → NumericError → Type 0
-TextRefused text InvalidText = ((t : Told) → Tells text t → ⊥) × ((v : Numeric) → Names text v → ⊥)
+TextRefused text InvalidText = (length text < limit) × (((t : Told) → Tells text t → ⊥) × ((v : Numeric) → Names text v → ⊥))
 TextRefused text OutOfRange = (limit ≤ length text) ⊎ ((t : Told) × Tells text t × IsPast t)
 TextRefused text e = ⊥
 

@@ -1,7 +1,7 @@
 //! The binary format of more of PostgreSQL's values, beside `pgp_types`: `X_to_sql` appends a value of the type X, and
 //! `X_from_sql` reads one from all of the bytes that it is given.
 //!
-//! A refused writer leaves the buffer's bytes as they were. A reader takes no memory: it borrows texts and bytes.
+//! On error a writer leaves the buffer unchanged. A reader takes no memory: it borrows texts and bytes.
 //! A `bit` is written and read as a `varbit` of `pgp_types`, an `int2vector` and an `oidvector` as arrays.
 #![tactic(auto)]
 

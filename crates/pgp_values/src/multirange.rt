@@ -49,8 +49,8 @@ fn put_member<B: Buffer>(bytes: &[u8], buf: &mut B) -> Result<(), Error>
 ///
 /// # Errors
 ///
-/// Returns `TooLarge` if the length of a range exceeds `i32::MAX`, and at a range past that many, before it is written;
-/// `OutOfMemory` if the buffer is refused memory. The buffer's bytes are then as they were.
+/// Returns `TooLarge` if the length of a range exceeds `i32::MAX`, or at a range past that many; `OutOfMemory` if the
+/// buffer can't grow. On error the buffer is unchanged.
 pub fn multirange_to_sql<'a, B: Buffer, I: IntoIterator<Item = &'a [u8]> + Drop>(
     ranges: I,
     buf: &mut B,
@@ -63,9 +63,8 @@ where
     write_list(ranges, buf)
 }
 
-/// The ranges of a multirange, as the bytes that `range_from_sql` reads. One is rejected with `UnexpectedEof` where
-/// its length is cut short, and `InvalidValueLength` where that is negative or passes the end; bytes after the last
-/// are `NotDrained`.
+/// The ranges of a multirange, as the bytes that `range_from_sql` reads. `next` returns `UnexpectedEof` if a length is cut
+/// short, `InvalidValueLength` if it is negative or exceeds the bytes left, and `NotDrained` if bytes follow the last.
 #[derive(Drop)]
 pub struct MultirangeRanges<'a>(Counted<'a>);
 
@@ -108,8 +107,7 @@ impl<'a> FallibleIterator for MultirangeRanges<'a> {
 ///
 /// # Errors
 ///
-/// Returns `UnexpectedEof` if the number of ranges is cut short, and `InvalidCount` if it is
-/// negative.
+/// Returns `UnexpectedEof` if the number of ranges is cut short, `InvalidCount` if it is negative.
 pub fn multirange_from_sql(buf: &[u8]) -> Result<MultirangeRanges<'_>, Error>
     ensures value { Reads multirange buf.now result }
     ensures few { IfOk result (λ w. length w.items ≤ length buf.now) }

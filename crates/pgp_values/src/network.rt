@@ -17,8 +17,12 @@ const IPV4: u8 = 2;
 
 const IPV6: u8 = 3;
 
-/// Appends a `cidr`. The netmask is not checked, and neither are the bits that it leaves out: a server rejects one
-/// where they aren't 0.
+/// Appends a `cidr`. The netmask is not checked, and neither are the bits that it leaves out: a server accepts it only
+/// if they are 0.
+///
+/// # Errors
+///
+/// Returns `OutOfMemory` if the buffer can't grow; on error the buffer is unchanged.
 pub fn cidr_to_sql<B: Buffer>(addr: IpAddr, netmask: u8, buf: &mut B) -> Result<(), Error>
     ensures { Writes cidr (record { addr = addr; netmask = netmask }) B.Lacks (B.held buf.old) result (B.held buf.new) }
 {

@@ -115,7 +115,7 @@ fn decimal_to_sql<B: Buffer>(d: &Decimal<'_>, buf: &mut B) -> Result<(), Error>
 ///
 /// # Errors
 ///
-/// Returns `OutOfMemory` if the buffer is refused memory. The buffer's bytes are then as they were.
+/// Returns `OutOfMemory` if the buffer can't grow; on error the buffer is unchanged.
 pub fn numeric_to_sql<B: Buffer>(v: &Numeric<'_>, buf: &mut B) -> Result<(), Error>
     ensures { Writes (numeric_bytes (said v.now)) None B.Lacks (B.held buf.old) (B.held buf.new) result }
 {
@@ -168,9 +168,9 @@ fn is_sign(sign: u16) -> bool
 ///
 /// # Errors
 ///
-/// Returns `UnexpectedEof` if the front is cut short; `InvalidSign` if the sign is none of the five, `InvalidScale` if
-/// the scale passes 16,383; `UnexpectedEof` if there are fewer digits than announced, `NotDrained` if bytes stand after
-/// them, and `InvalidDigit` if one passes 9,999.
+/// Returns `UnexpectedEof` if the eight bytes before the digits are cut short; `InvalidSign` if the sign is none of the
+/// five, `InvalidScale` if the scale exceeds 16,383; `UnexpectedEof` if there are fewer digits than announced,
+/// `NotDrained` if bytes follow them, and `InvalidDigit` if one exceeds 9,999.
 pub fn numeric_from_sql(buf: &[u8]) -> Result<Numeric<'_>, NumericError>
     ensures { ReadsNumeric said buf.now result }
 {

@@ -42,8 +42,8 @@ impl PutItem for (u64, u64) {
 ///
 /// # Errors
 ///
-/// Returns `TooLarge` at a point past the greatest `i32`, before it is written; `OutOfMemory` if the buffer is
-/// refused memory. The buffer's bytes are then as they were.
+/// Returns `TooLarge` at a point past `i32::MAX` of them; `OutOfMemory` if the buffer can't grow. On error the buffer is
+/// unchanged.
 pub fn polygon_to_sql<B: Buffer, I: IntoIterator<Item = (u64, u64)> + Drop>(
     points: I,
     buf: &mut B,
@@ -56,8 +56,8 @@ where
     write_list(points, buf)
 }
 
-/// The points of a polygon, as their coordinates. One that is cut short is `UnexpectedEof`; bytes after the last are
-/// `NotDrained`.
+/// The points of a polygon, as their coordinates. `next` returns `UnexpectedEof` if one is cut short, `NotDrained` if bytes
+/// follow the last.
 #[derive(Drop)]
 pub struct PolygonPoints<'a>(Counted<'a>);
 
@@ -112,8 +112,7 @@ fn point_at(bytes: &[u8]) -> Result<((u64, u64), &[u8]), Error>
 ///
 /// # Errors
 ///
-/// Returns `UnexpectedEof` if the number of points is cut short, and `InvalidCount` if it is
-/// negative.
+/// Returns `UnexpectedEof` if the number of points is cut short, `InvalidCount` if it is negative.
 pub fn polygon_from_sql(buf: &[u8]) -> Result<PolygonPoints<'_>, Error>
     ensures value { Reads polygon buf.now result }
     ensures few { IfOk result (λ w. length w.items ≤ length buf.now) }

@@ -72,8 +72,8 @@ fn put_field<B: Buffer>(of_type: Oid, value: Option<&[u8]>, buf: &mut B) -> Resu
 ///
 /// # Errors
 ///
-/// Returns `TooLarge` if the length of a value exceeds `i32::MAX`, and at a field past that many, before it is
-/// written; `OutOfMemory` if the buffer is refused memory. The buffer's bytes are then as they were.
+/// Returns `TooLarge` if the length of a value exceeds `i32::MAX`, or at a field past that many; `OutOfMemory` if the
+/// buffer can't grow. On error the buffer is unchanged.
 pub fn record_to_sql<'a, B: Buffer, I: IntoIterator<Item = (Oid, Option<&'a [u8]>)> + Drop>(
     fields: I,
     buf: &mut B,
@@ -86,9 +86,9 @@ where
     write_list(fields, buf)
 }
 
-/// The fields of a record: the type of each, and its value or `None` for a null. One is rejected with `UnexpectedEof`
-/// where its type or its length is cut short, and `InvalidValueLength` where the length passes the end; bytes after the
-/// last are `NotDrained`.
+/// The fields of a record: the type of each, and its value or `None` for a null. `next` returns `UnexpectedEof` if a type
+/// or a length is cut short, `InvalidValueLength` if a length exceeds the bytes left, and `NotDrained` if bytes follow the
+/// last.
 #[derive(Drop)]
 pub struct RecordFields<'a>(Counted<'a>);
 
@@ -140,8 +140,7 @@ fn field_at(bytes: &[u8]) -> Result<((Oid, Option<&[u8]>), &[u8]), Error>
 ///
 /// # Errors
 ///
-/// Returns `UnexpectedEof` if the number of fields is cut short, and `InvalidCount` if it is
-/// negative.
+/// Returns `UnexpectedEof` if the number of fields is cut short, `InvalidCount` if it is negative.
 pub fn record_from_sql(buf: &[u8]) -> Result<RecordFields<'_>, Error>
     ensures value { Reads composite buf.now result }
     ensures few { IfOk result (λ w. length w.items ≤ length buf.now) }

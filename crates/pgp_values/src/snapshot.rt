@@ -64,7 +64,7 @@ impl<'a> Snapshot<'a> {
     }
 }
 
-/// The transactions of a snapshot. One that is cut short is `UnexpectedEof`; bytes after the last are `NotDrained`.
+/// The transactions of a snapshot. `next` returns `UnexpectedEof` if one is cut short, `NotDrained` if bytes follow the last.
 #[derive(Drop)]
 pub struct SnapshotIds<'a>(Counted<'a>);
 
@@ -166,8 +166,8 @@ where
 ///
 /// # Errors
 ///
-/// Returns `TooLarge` at a transaction past the greatest `i32`, before it is written; `OutOfMemory` if the buffer is
-/// refused memory. The buffer's bytes are then as they were.
+/// Returns `TooLarge` at a transaction past `i32::MAX` of them; `OutOfMemory` if the buffer can't grow. On error the buffer
+/// is unchanged.
 pub fn snapshot_to_sql<B: Buffer, I: IntoIterator<Item = u64> + Drop>(
     xmin: u64,
     xmax: u64,
@@ -193,8 +193,7 @@ where
 ///
 /// # Errors
 ///
-/// Returns `UnexpectedEof` if their number or one of the bounds is cut short, and `InvalidCount` if the number
-/// is negative.
+/// Returns `UnexpectedEof` if their number or one of the bounds is cut short, `InvalidCount` if the number is negative.
 pub fn snapshot_from_sql(buf: &[u8]) -> Result<Snapshot<'_>, Error>
     ensures value { Reads snapshot buf.now result }
     ensures few { IfOk result (λ s. length s.running.items ≤ length buf.now) }

@@ -25,12 +25,11 @@ pub fn jsonb_to_sql<B: Buffer>(v: &str, buf: &mut B) -> Result<(), Error>
     label_to_sql(JSONB_VERSION, v, buf)
 }
 
-/// Reads the JSON of a `jsonb`. It isn't looked at: a server sends a right one.
+/// Reads the JSON of a `jsonb`. It isn't parsed.
 ///
 /// # Errors
 ///
-/// Returns `InvalidVersion` if the first byte isn't 1, and `NotUtf8` if what stands after it isn't
-/// text.
+/// Returns `InvalidVersion` if the first byte isn't 1, `NotUtf8` if the rest isn't UTF-8.
 pub fn jsonb_from_sql(buf: &[u8]) -> Result<&str, Error>
     ensures { ReadsBy (λ t. t.now) jsonb buf.now result }
 {
@@ -48,8 +47,7 @@ pub fn jsonpath_to_sql<B: Buffer>(v: &str, buf: &mut B) -> Result<(), Error>
 ///
 /// # Errors
 ///
-/// Returns `InvalidVersion` if the first byte isn't 1, and `NotUtf8` if what stands after it isn't
-/// text.
+/// Returns `InvalidVersion` if the first byte isn't 1, `NotUtf8` if the rest isn't UTF-8.
 pub fn jsonpath_from_sql(buf: &[u8]) -> Result<&str, Error>
     ensures { ReadsBy (λ t. t.now) jsonpath buf.now result }
 {

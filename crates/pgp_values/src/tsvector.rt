@@ -70,8 +70,8 @@ fn put_lexeme<B: Buffer>(text: &str, places: &[u16], buf: &mut B) -> Result<(), 
 ///
 /// # Errors
 ///
-/// Returns `EmbeddedNull` if a lexeme has a byte 0; `TooLarge` if more than 65,535 places stand with one, and at a lexeme past the
-/// greatest `i32`; `OutOfMemory` if the buffer is refused memory. The buffer's bytes are then as they were.
+/// Returns `EmbeddedNull` if a lexeme has a byte 0; `TooLarge` if more than 65,535 places stand with one, or at a lexeme
+/// past `i32::MAX` of them; `OutOfMemory` if the buffer can't grow. On error the buffer is unchanged.
 pub fn tsvector_to_sql<'a, B: Buffer, I: IntoIterator<Item = (&'a str, &'a [u16])> + Drop>(
     lexemes: I,
     buf: &mut B,
@@ -123,8 +123,8 @@ impl<'a> TsPositions<'a> {
     }
 }
 
-/// The lexemes of a `tsvector`, and the places of each. One is refused with `UnexpectedEof` where its end, the number of
-/// its places or a place is missing, and `NotUtf8` where it isn't text; bytes after the last are `NotDrained`.
+/// The lexemes of a `tsvector`, and the places of each. `next` returns `UnexpectedEof` if a lexeme's end, the number of its
+/// places or a place is missing, `NotUtf8` if it isn't text, and `NotDrained` if bytes follow the last.
 #[derive(Drop)]
 pub struct Lexemes<'a>(Counted<'a>);
 
@@ -190,8 +190,7 @@ fn lexeme_at(bytes: &[u8]) -> Result<((&str, TsPositions<'_>), &[u8]), Error>
 ///
 /// # Errors
 ///
-/// Returns `UnexpectedEof` if the number of lexemes is cut short, and `InvalidCount` if it is
-/// negative.
+/// Returns `UnexpectedEof` if the number of lexemes is cut short, `InvalidCount` if it is negative.
 pub fn tsvector_from_sql(buf: &[u8]) -> Result<Lexemes<'_>, Error>
     ensures value { Reads tsvector buf.now result }
     ensures few { IfOk result (λ w. length w.items ≤ length buf.now) }

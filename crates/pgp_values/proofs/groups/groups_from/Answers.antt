@@ -1,7 +1,6 @@
-use Rattle.std.proofs.Common.{◌≡◌, ◌+◌, ◌-◌, ◌/◌, ◌<◌, ◌^◌, ◌++◌, length, map, refl, arith}
+use Rattle.std.proofs.Common.{◌+◌, ◌-◌, ◌/◌, ◌<◌, length, refl, arith}
 use Rattle.std.proofs.Math.Facts.{to_z-of_z}
 use Rattle.pgp_base.proofs.Parts.{if_err_at}
-use Rattle.pgp_values.specs.DecimalWriting.{digit_value}
 use Rattle.pgp_values.proofs.GroupLemmas.{number_value, weight_fits, weight_past}
 use Rattle.pgp_values.proofs.groups.groups_from.Goals as goal
 
@@ -23,5 +22,5 @@ returns-clause-value c =
     let weight = c.in_ok-weight.weight in
     let fits = weight_fits weight top c.in_ok-weight.ensures.weight in
     let few : length w.whole.now + length w.fraction.now < point = omega arith in
-    rw (to_z-of_z fits) (number_value w.negative w.whole.now w.fraction.now w.divided w.exponent weight c.args.scale c.requires.shown c.requires.scale c.args.first c.last_of-last.result c.count_from.result point top
+    rw (to_z-of_z fits) (number_value w.negative w.whole.now w.fraction.now w.divided w.exponent weight c.args.scale c.requires.shown c.requires.scale c.requires.small c.args.first c.last_of-last.result c.count_from.result point top
     c.last_of-last.ensures.inside.1 c.last_of-last.ensures.inside.0 c.requires.first.1.0 c.last_of-last.ensures.last c.requires.first.1.1 c.last_of-last.ensures.some few refl c.count_from.ensures c.count_from.type_inv c.point_of-point.ensures.value c.in_ok-weight.ensures.weight)

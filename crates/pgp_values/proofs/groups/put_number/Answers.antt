@@ -1,4 +1,4 @@
-use Rattle.std.proofs.Common.{◌≡◌, ◌+◌, ◌*◌, ◌++◌, [], map, length, ap, ◌∙◌, arith}
+use Rattle.std.proofs.Common.{◌*◌, ◌++◌, [], map, length, ap, ◌∙◌, arith}
 use Rattle.std.specs.List.{flat_map}
 use Rattle.pgp_base.specs.Held.{◌⊕◌}
 use Rattle.pgp_base.specs.Wire.{uint16}

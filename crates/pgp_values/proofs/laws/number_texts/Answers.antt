@@ -1,5 +1,5 @@
 use Rattle.pgp_values.specs.DecimalText.{numeric_text}
-use Rattle.pgp_values.proofs.RoundLemmas.{one_meaning, kept_means}
+use Rattle.pgp_values.proofs.RoundLemmas.{one_meaning, kept_means, settled}
 use Rattle.pgp_values.proofs.laws.number_texts.Goals as goal
 
 pub returns-clause-one : goal.returns-clause-one
@@ -10,3 +10,6 @@ returns-clause-back c = kept_means
 
 pub returns-clause-round : goal.returns-clause-round
 returns-clause-round c v w kept means = one_meaning (numeric_text v) v w (kept_means v kept) means
+
+pub returns-clause-settled : goal.returns-clause-settled
+returns-clause-settled c = settled

@@ -1,4 +1,4 @@
-use Rattle.std.proofs.Common.{rules, List, ℕ, ◌+◌, ◌++◌, map, ap, ◌∙◌, Some, ◌≡◌, [], ◌∷◌, length, refl, inl, inr, arith, length-append}
+use Rattle.std.proofs.Common.{rules, ◌+◌, ◌++◌, map, ap, ◌∙◌, Some, ◌≡◌, [], ◌∷◌, length, refl, inl, inr, arith, length-append}
 use Rattle.std.specs.List.{flat_map}
 use Rattle.std.proofs.lemmas.List.{length-map, map-append}
 use Rattle.pgp_base.specs.Held.{◌⊕◌}

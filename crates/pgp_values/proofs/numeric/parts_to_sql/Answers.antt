@@ -1,4 +1,4 @@
-use Rattle.std.proofs.Common.{arith, ◌++◌, length-append, w16}
+use Rattle.std.proofs.Common.{arith, ◌++◌, length-append}
 use Rattle.std.proofs.Math.Facts.{to_z-of_z}
 use Rattle.pgp_base.specs.Wire.{int16, uint16}
 use Rattle.pgp_types.proofs.Appending.{part_refused, handed_on}

@@ -1,9 +1,9 @@
-use Rattle.std.proofs.Common.{◌++◌, map, inl, inr, refl}
+use Rattle.std.proofs.Common.{◌++◌, map, inl, refl}
 use Rattle.pgp_types.proofs.Appending.{only_memory}
 use Rattle.pgp_values.specs.Decimal.{finite}
-use Rattle.pgp_values.specs.DecimalWriting.{digit_value, told_by}
+use Rattle.pgp_values.specs.DecimalWriting.{digit_value}
 use Rattle.pgp_values.specs.NumberGroups.{grouped}
-use Rattle.pgp_values.specs.NumberMeaning.{NumberMeans, NumberRefused, IsPast}
+use Rattle.pgp_values.specs.NumberMeaning.{NumberMeans, NumberRefused}
 use Rattle.pgp_values.proofs.MeaningLemmas.{refused_whole, refused_spells, number_meant, number_past}
 use Rattle.pgp_values.proofs.parse.number_to_sql.Goals as goal
 

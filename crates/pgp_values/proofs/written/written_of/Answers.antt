@@ -1,4 +1,4 @@
-use Rattle.std.proofs.Common.{◌≡◌, ◌≢◌, ◌+◌, length, arith}
+use Rattle.std.proofs.Common.{◌≢◌, ◌+◌, length, arith}
 use Rattle.pgp_base.proofs.Parts.{if_err_at}
 use Rattle.pgp_values.proofs.ScanLemmas.{some_of, none_of, nothing_written, written_refused}
 use Rattle.pgp_values.proofs.written.written_of.Goals as goal
