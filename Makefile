@@ -57,4 +57,4 @@ check-c:
 	@scripts/check_c $(LIBRARIES)
 
 check-vendor:
-	@scripts/check_vendor
+	@scripts/check_vendor $(LIBRARIES)
