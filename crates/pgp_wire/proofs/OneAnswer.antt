@@ -76,8 +76,8 @@ one_ssl text Sync a b = let e : 3 ≡ 4 = same_word text SslRequest Sync a b in 
 one_ssl text Terminate a b = let e : 3 ≡ 9 = same_word text SslRequest Terminate a b in absurd (omega (arith, e))
 one_ssl text (Query y) a b = let e : 3 ≡ 5 = same_word text SslRequest (Query y) a b in absurd (omega (arith, e))
 one_ssl text (PasswordMessage y) a b = let e : 3 ≡ 8 = same_word text SslRequest (PasswordMessage y) a b in absurd (omega (arith, e))
-one_ssl text (Startup n qs) a (V3_0, is, b) = let e : 3 ≡ 7 = same_word text SslRequest (Startup n qs) a (V3_0, is, b) in absurd (omega (arith, e))
-one_ssl text (Startup n qs) a (V3_2, is, b) = let e : 3 ≡ 9 = same_word text SslRequest (Startup n qs) a (V3_2, is, b) in absurd (omega (arith, e))
+one_ssl text (Startup n qs) a (V3_0, is, other, had, pairs) = let e : 3 ≡ 7 = same_word text SslRequest (Startup n qs) a (V3_0, is, other, had, pairs) in absurd (omega (arith, e))
+one_ssl text (Startup n qs) a (V3_2, is, other, had, pairs) = let e : 3 ≡ 9 = same_word text SslRequest (Startup n qs) a (V3_2, is, other, had, pairs) in absurd (omega (arith, e))
 one_ssl text _ a b = absurd b
 
 one_sync : (text : List ℕ) (n : ClientMessage) → Says text Sync → Says text n → Sync ≡ n
@@ -86,8 +86,8 @@ one_sync text Sync a b = refl
 one_sync text Terminate a b = let e : 4 ≡ 9 = same_word text Sync Terminate a b in absurd (omega (arith, e))
 one_sync text (Query y) a b = let e : 4 ≡ 5 = same_word text Sync (Query y) a b in absurd (omega (arith, e))
 one_sync text (PasswordMessage y) a b = let e : 4 ≡ 8 = same_word text Sync (PasswordMessage y) a b in absurd (omega (arith, e))
-one_sync text (Startup n qs) a (V3_0, is, b) = let e : 4 ≡ 7 = same_word text Sync (Startup n qs) a (V3_0, is, b) in absurd (omega (arith, e))
-one_sync text (Startup n qs) a (V3_2, is, b) = let e : 4 ≡ 9 = same_word text Sync (Startup n qs) a (V3_2, is, b) in absurd (omega (arith, e))
+one_sync text (Startup n qs) a (V3_0, is, other, had, pairs) = let e : 4 ≡ 7 = same_word text Sync (Startup n qs) a (V3_0, is, other, had, pairs) in absurd (omega (arith, e))
+one_sync text (Startup n qs) a (V3_2, is, other, had, pairs) = let e : 4 ≡ 9 = same_word text Sync (Startup n qs) a (V3_2, is, other, had, pairs) in absurd (omega (arith, e))
 one_sync text _ a b = absurd b
 
 one_terminate : (text : List ℕ) (n : ClientMessage) → Says text Terminate → Says text n → Terminate ≡ n
@@ -96,8 +96,8 @@ one_terminate text Sync a b = let e : 9 ≡ 4 = same_word text Terminate Sync a 
 one_terminate text Terminate a b = refl
 one_terminate text (Query y) a b = let e : 9 ≡ 5 = same_word text Terminate (Query y) a b in absurd (omega (arith, e))
 one_terminate text (PasswordMessage y) a b = let e : 9 ≡ 8 = same_word text Terminate (PasswordMessage y) a b in absurd (omega (arith, e))
-one_terminate text (Startup n qs) a (V3_0, is, b) = let e : 9 ≡ 7 = same_word text Terminate (Startup n qs) a (V3_0, is, b) in absurd (omega (arith, e))
-one_terminate text (Startup n qs) a (V3_2, is, b) = let e : 116 ≡ 115 = ap (λ l. get_or l 0 0) (one_word (codes "terminate") (codes "startup32") text [] b.0 (inl (a, refl)) b.1 (free_by 32 (codes "terminate") refl) (version_free V3_2)).0 in absurd (omega (arith, e))
+one_terminate text (Startup n qs) a (V3_0, is, other, had, pairs) = let e : 9 ≡ 7 = same_word text Terminate (Startup n qs) a (V3_0, is, other, had, pairs) in absurd (omega (arith, e))
+one_terminate text (Startup n qs) a (V3_2, is, other, had, pairs) = let e : 116 ≡ 115 = ap (λ l. get_or l 0 0) (one_word (codes "terminate") (codes "startup32") text [] other (inl (a, refl)) had (free_by 32 (codes "terminate") refl) (version_free V3_2)).0 in absurd (omega (arith, e))
 one_terminate text _ a b = absurd b
 
 one_query : (text : List ℕ) (z : List ℕ) (n : ClientMessage) → Says text (Query z) → Says text n → (Query z) ≡ n
@@ -106,8 +106,8 @@ one_query text z Sync a b = let e : 5 ≡ 4 = same_word text (Query z) Sync a b 
 one_query text z Terminate a b = let e : 5 ≡ 9 = same_word text (Query z) Terminate a b in absurd (omega (arith, e))
 one_query text z (Query y) a b = ap Query (one_word (codes "query") (codes "query") text z y a b (free_by 32 (codes "query") refl) (free_by 32 (codes "query") refl)).1
 one_query text z (PasswordMessage y) a b = let e : 5 ≡ 8 = same_word text (Query z) (PasswordMessage y) a b in absurd (omega (arith, e))
-one_query text z (Startup n qs) a (V3_0, is, b) = let e : 5 ≡ 7 = same_word text (Query z) (Startup n qs) a (V3_0, is, b) in absurd (omega (arith, e))
-one_query text z (Startup n qs) a (V3_2, is, b) = let e : 5 ≡ 9 = same_word text (Query z) (Startup n qs) a (V3_2, is, b) in absurd (omega (arith, e))
+one_query text z (Startup n qs) a (V3_0, is, other, had, pairs) = let e : 5 ≡ 7 = same_word text (Query z) (Startup n qs) a (V3_0, is, other, had, pairs) in absurd (omega (arith, e))
+one_query text z (Startup n qs) a (V3_2, is, other, had, pairs) = let e : 5 ≡ 9 = same_word text (Query z) (Startup n qs) a (V3_2, is, other, had, pairs) in absurd (omega (arith, e))
 one_query text z _ a b = absurd b
 
 one_password : (text : List ℕ) (z : List ℕ) (n : ClientMessage) → Says text (PasswordMessage z) → Says text n → (PasswordMessage z) ≡ n
@@ -116,8 +116,8 @@ one_password text z Sync a b = let e : 8 ≡ 4 = same_word text (PasswordMessage
 one_password text z Terminate a b = let e : 8 ≡ 9 = same_word text (PasswordMessage z) Terminate a b in absurd (omega (arith, e))
 one_password text z (Query y) a b = let e : 8 ≡ 5 = same_word text (PasswordMessage z) (Query y) a b in absurd (omega (arith, e))
 one_password text z (PasswordMessage y) a b = ap PasswordMessage (one_word (codes "password") (codes "password") text z y a b (free_by 32 (codes "password") refl) (free_by 32 (codes "password") refl)).1
-one_password text z (Startup n qs) a (V3_0, is, b) = let e : 8 ≡ 7 = same_word text (PasswordMessage z) (Startup n qs) a (V3_0, is, b) in absurd (omega (arith, e))
-one_password text z (Startup n qs) a (V3_2, is, b) = let e : 8 ≡ 9 = same_word text (PasswordMessage z) (Startup n qs) a (V3_2, is, b) in absurd (omega (arith, e))
+one_password text z (Startup n qs) a (V3_0, is, other, had, pairs) = let e : 8 ≡ 7 = same_word text (PasswordMessage z) (Startup n qs) a (V3_0, is, other, had, pairs) in absurd (omega (arith, e))
+one_password text z (Startup n qs) a (V3_2, is, other, had, pairs) = let e : 8 ≡ 9 = same_word text (PasswordMessage z) (Startup n qs) a (V3_2, is, other, had, pairs) in absurd (omega (arith, e))
 one_password text z _ a b = absurd b
 
 -- the words of the two versions aren't of one length
@@ -128,10 +128,10 @@ one_version text rest other V3_2 V3_0 a b = let e : 9 ≡ 7 = ap length (one_wor
 one_version text rest other V3_2 V3_2 a b = refl
 
 one_startup : (text : List ℕ) (m n : ℕ) (ps qs : List (List ℕ × List ℕ)) → Says text (Startup m ps) → Says text (Startup n qs) → Startup m ps ≡ Startup n qs
-one_startup text m n ps qs (v, is, a) (w, are, b) =
-    let rests = (one_word (version_word v) (version_word w) text a.0 b.0 a.1 b.1 (version_free v) (version_free w)).1 in
-    let pairs = pairs_one (slice_split is_space b.0) ps qs (subst (λ r. ArePairs (slice_split is_space r) ps) rests a.2) b.2 in
-    let minors : m ≡ n = is ∙ ap minor_of (one_version text a.0 b.0 v w a.1 b.1) ∙ sym are in
+one_startup text m n ps qs (v, is, rest, has, list) (w, are, other, had, others) =
+    let rests = (one_word (version_word v) (version_word w) text rest other has had (version_free v) (version_free w)).1 in
+    let pairs = pairs_one (slice_split is_space other) ps qs (subst (λ r. ArePairs (slice_split is_space r) ps) rests list) others in
+    let minors : m ≡ n = is ∙ ap minor_of (one_version text rest other v w has had) ∙ sym are in
     ap (λ x. Startup x ps) minors ∙ ap (λ xs. Startup n xs) pairs
 
 pub says_one : (text : List ℕ) (m n : ClientMessage) → Says text m → Says text n → m ≡ n
@@ -160,8 +160,8 @@ says_some Sync says = let e : 0 ≡ 4 = ap length says in omega (arith, e)
 says_some Terminate says = let e : 0 ≡ 9 = ap length says in omega (arith, e)
 says_some (Query z) says = word_some 4 (codes "query") refl z says
 says_some (PasswordMessage z) says = word_some 7 (codes "password") refl z says
-says_some (Startup n ps) (V3_0, is, says) = word_some 6 (codes "startup") refl says.0 says.1
-says_some (Startup n ps) (V3_2, is, says) = word_some 8 (codes "startup32") refl says.0 says.1
+says_some (Startup n ps) (V3_0, is, rest, says, pairs) = word_some 6 (codes "startup") refl rest says
+says_some (Startup n ps) (V3_2, is, rest, says, pairs) = word_some 8 (codes "startup32") refl rest says
 says_some _ says = says
 
 -- ---- lines ask for one list of messages

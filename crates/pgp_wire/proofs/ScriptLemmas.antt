@@ -108,8 +108,8 @@ never_said line word rest has first a b d q p s t Sync says = b says
 never_said line word rest has first a b d q p s t Terminate says = d says
 never_said line word rest has first a b d q p s t (Query z) says = q (one_word word (codes "query") line rest z has says first no_space_in_query).0
 never_said line word rest has first a b d q p s t (PasswordMessage z) says = p (one_word word (codes "password") line rest z has says first no_space_in_password).0
-never_said line word rest has first a b d q p s t (Startup n ps) (V3_0, is, says) = s (one_word word (codes "startup") line rest says.0 has says.1 first no_space_in_startup).0
-never_said line word rest has first a b d q p s t (Startup n ps) (V3_2, is, says) = t (one_word word (codes "startup32") line rest says.0 has says.1 first no_space_in_startup32).0
+never_said line word rest has first a b d q p s t (Startup n ps) (V3_0, is, other, had, pairs) = s (one_word word (codes "startup") line rest other has had first no_space_in_startup).0
+never_said line word rest has first a b d q p s t (Startup n ps) (V3_2, is, other, had, pairs) = t (one_word word (codes "startup32") line rest other has had first no_space_in_startup32).0
 never_said line word rest has first a b d q p s t _ says = says
 
 -- ---- the first line
