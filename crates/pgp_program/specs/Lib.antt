@@ -1,3 +1,4 @@
 pub mod Words
 pub mod Interruptions
+pub mod Run
 pub mod Taken

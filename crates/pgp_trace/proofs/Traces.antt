@@ -7,7 +7,8 @@ use Rattle.std.proofs.Math.Nat.{min-eq_left, min-le_right}
 use Rattle.std.proofs.lemmas.List.{append-nil, length-take}
 use Rattle.std.proofs.Math.Seq.{take-append_seam, drop-append_seam}
 use Rattle.pgp_line.specs.declared.style.Style.{Style}
-use Rattle.pgp_trace.specs.Listing.{LineOf, Lines, NoLines, OneLine, place_behind, last_line, Streams, WasListed, WritesListing, IsCutShort}
+use Rattle.pgp_trace.specs.Listing.{LineOf, Lines, NoLines, OneLine, place_behind, last_line, IsReady, WasListed, WritesListing, IsCutShort}
+use Rattle.pgp_program.specs.Run.{Streams}
 use Rattle.pgp_trace.specs.Sides.{Side, Ends}
 use Rattle.pgp_trace.specs.Steps.{HasLine, ListsAll, ListsSome, Held, Holds, ListsPiece}
 use Rattle.pgp_program.specs.Taken.{AppendsFront}
@@ -290,6 +291,14 @@ was_listed style from before after held t = record {
   stopped = held.stopped;
   rest = t.rest;
   all = record { to = held.side; front = t.front; lines = t.lines; came = t.came; listed = t.listed; ending = t.holds.ending; written = t.written };
+}
+
+-- it may be read again
+pub ready : {R W : Type 0} (remaining : R → Option (List ℕ)) (contents : W → Option (List ℕ)) (Passed : W → Type 0) (style : Style) (from : Side) (reader now : R) (writer out : W) (held : Held) → Tracks style from (record { input = remaining reader; output = contents writer }) (record { input = remaining now; output = contents out }) held → Keeps (contents writer) (contents out) ⊎ Passed out → IsReady remaining contents Passed style from reader writer now
+ready remaining contents Passed style from reader now writer out held t p = record {
+  out = out;
+  listed = was_listed style from (record { input = remaining reader; output = contents writer }) (record { input = remaining now; output = contents out }) held t;
+  passed = p;
 }
 
 pub cut_here : (style : Style) (from : Side) (before after : Streams) (held : Held) → Tracks style from before after held → IsCutShort style from before after

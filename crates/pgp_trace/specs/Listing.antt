@@ -1,6 +1,6 @@
 -- The listing of a server's or a client's stream.
 use Rattle.std.specs.Prelude.{◌≡◌, ◌⊎◌, ℕ, ◌+◌, min, Bool, true, false, List, [], ◌∷◌, ◌++◌, length, get_or, Result, Ok, Err, Option, codes, decimal}
-use Rattle.std.specs.Io.KnownBytes.{Appends, Consumes, IsAtEnd}
+use Rattle.std.specs.Io.KnownBytes.{Appends, Consumes, IsAtEnd, Keeps}
 use Rattle.pgp_base.specs.declared.error.Error.{Error}
 use Rattle.pgp_message.specs.BackendMessage.{Message, Body}
 use Rattle.pgp_message.specs.Stream.{Frame, frame_bytes, IsFrame}
@@ -16,6 +16,7 @@ use Rattle.pgp_line.specs.declared.style.Form.TheVariants.{Columns, Json}
 use Rattle.pgp_line.specs.declared.style.Style.{Style}
 use Rattle.pgp_line.specs.Line.{Length, Tag, closing, followed, opening}
 use Rattle.pgp_trace.specs.Shown.{Shows, called, refused}
+use Rattle.pgp_program.specs.Run.{Streams}
 use Rattle.pgp_program.specs.Taken.{AppendsFront}
 use Rattle.pgp_program.specs.Words.{greatest}
 
@@ -88,11 +89,6 @@ last_by Json true n = codes "{\"rest\":" ++ decimal n ++ codes ",\"stopped\":tru
 abbrev pub last_line : Style → Bool → ℕ → List ℕ
 last_line style stopped n = last_by style.form stopped n ++ 10 ∷ []
 
--- What a reader has left, and what a writer holds.
-pub record Streams : Type 0 where
-  pub input : Option (List ℕ)
-  pub output : Option (List ℕ)
-
 -- All lines of what came so far were written: the bytes are frames, each of which has its line, and then a rest in which none is whole.
 pub record IsListed (style : Style) (from : Side) (stopped : Bool) (rest : List ℕ) (before after : Streams) : Type 0 where
   pub to : Side
@@ -108,6 +104,16 @@ pub record WasListed (style : Style) (from : Side) (before after : Streams) : Ty
   pub stopped : Bool
   pub rest : List ℕ
   pub all : IsListed style from stopped rest before after
+
+-- All lines of what came from such a reader stand in the writer, and are passed on, so that it may be read again.
+pub record IsReady {R W : Type 0} (remaining : R → Option (List ℕ)) (contents : W → Option (List ℕ)) (Passed : W → Type 0) (style : Style) (from : Side) (reader : R) (writer : W) (now : R) : Type 0 where
+  pub out : W
+  pub listed : WasListed style from (record { input = remaining reader; output = contents writer }) (record { input = remaining now; output = contents out })
+  pub passed : Keeps (contents writer) (contents out) ⊎ Passed out
+
+-- where they do, the reader may be read
+abbrev pub ReadsWhenReady : {R W : Type 0} → (R → Option (List ℕ)) → (W → Option (List ℕ)) → (W → Type 0) → (R → Type 0) → Style → Side → R → W → Type 0
+ReadsWhenReady {R} remaining contents Passed MayRead style from reader writer = (now : R) → IsReady remaining contents Passed style from reader writer now → MayRead now
 
 -- The same of a stream whose end has come, and a last line that says how many bytes are left.
 pub record IsListing (style : Style) (from : Side) (bytes output : List ℕ) : Type 0 where

@@ -3,8 +3,10 @@
 ghost use Rattle.std.specs.Prelude.{◌≡◌, ◌∷◌, codes, false, map, IfSome, IfNone, IfOk, IfErr, OnErr, OnOk};
 ghost use Rattle.std.specs.Io.KnownBytes.{Keeps};
 ghost use Rattle.pgp_program.specs.Interruptions.{GivesUp};
-ghost use Rattle.pgp_trace.specs.Command.{Asks, BreaksOff, Caused, Does, IsOther, IsSaid, Lists, Obeys, ObeysOwn, Runs, RunsOwn, Stops, usage, complaint_of, version};
+ghost use Rattle.pgp_program.specs.Run.{Caused};
+ghost use Rattle.pgp_trace.specs.Command.{Asks, BreaksOff, Does, IsOther, Lists, Obeys, ObeysOwn, ReadsFor, ReadsForOwn, ReadsForWords, Runs, RunsOwn, Stops, usage, complaint_of, version};
 ghost use Rattle.pgp_trace.specs.Asked.{asked};
+ghost use Rattle.pgp_trace.specs.Listing.{ReadsWhenReady};
 ghost use Rattle.pgp_trace.specs.Sides as side;
 ghost use Rattle.pgp_program.specs.Words.{LacksWords};
 
@@ -17,6 +19,7 @@ use pgp_base::Memory;
 use pgp_frontend_read::PasswordKind;
 use pgp_line::style::{Style, style_of};
 use pgp_program::fault::Fault;
+use pgp_program::outcome::{Outcome, tell};
 use pgp_program::ports::{Output, Words};
 use pgp_program::print::put;
 use pgp_program::words::{lent, texts};
@@ -27,35 +30,12 @@ const USAGE: &str =
 
 const VERSION: &str = "pgtrace 0.1.0\n";
 
-/// How a run ended: the status, and what is to be said on standard error.
-#[derive(Debug, Clone, Copy, PartialEq, Eq)]
-pub struct Outcome {
-    pub status: u8,
-    pub complaint: &'static str,
-}
-
-impl Outcome {
-    /// The words ask for nothing that there is.
-    fn refused() -> Outcome
-        ensures status { result.status ≡ 2 }
-        ensures complaint { result.complaint.now ≡ usage }
-    {
-        Outcome {
-            status: 2,
-            complaint: USAGE,
-        }
-    }
-
-    /// What was asked for met a fault.
-    fn stopped(fault: Fault) -> Outcome
-        ensures status { result.status ≡ 1 }
-        ensures complaint { result.complaint.now ≡ complaint_of fault }
-    {
-        Outcome {
-            status: 1,
-            complaint: complaint(fault),
-        }
-    }
+/// The words ask for nothing that there is.
+fn refused() -> Outcome
+    ensures status { result.status ≡ 2 }
+    ensures complaint { result.complaint.now ≡ usage }
+{
+    Outcome::refused(USAGE)
 }
 
 /// What the words ask for.
@@ -124,10 +104,12 @@ fn list_client<A: Memory, R: Input, W: Output>(
     input: &mut R,
     output: &mut W,
 ) -> Result<(), Fault>
+    requires live { ReadsWhenReady R.remaining W.contents W.Passed R.MayRead style (side.Client false kinds.now) input.old output.old }
+    ensures passed { OnOk result (W.Passed output.new) }
     ensures done { OnOk result (Lists style (side.Client false kinds.now)
         (record { input = R.remaining input.old; output = W.contents output.old })
         (record { input = R.remaining input.new; output = W.contents output.new })) }
-    ensures stops { IfErr result (λ fault. BreaksOff style (side.Client false kinds.now) fault
+    ensures stops { IfErr result (λ fault. BreaksOff (W.Passed output.new) style (side.Client false kinds.now) fault
         (record { input = R.remaining input.old; output = W.contents output.old })
         (record { input = R.remaining input.new; output = W.contents output.new })) }
     ensures cause { IfErr result (Caused A.Lacks (GivesUp R.Fails R.Called) (GivesUp W.Fails W.Interrupted)) }
@@ -146,10 +128,12 @@ fn perform<A: Memory, R: Input, W: Output>(
     input: &mut R,
     output: &mut W,
 ) -> Result<(), Fault>
+    requires live { ReadsFor R.remaining W.contents W.Passed R.MayRead (asked command) input.old output.old }
+    ensures passed { OnOk result (W.Passed output.new) }
     ensures done { OnOk result (Does (asked command)
         (record { input = R.remaining input.old; output = W.contents output.old })
         (record { input = R.remaining input.new; output = W.contents output.new })) }
-    ensures stops { IfErr result (λ fault. Stops (asked command) fault
+    ensures stops { IfErr result (λ fault. Stops (W.Passed output.new) (asked command) fault
         (record { input = R.remaining input.old; output = W.contents output.old })
         (record { input = R.remaining input.new; output = W.contents output.new })) }
     ensures cause { IfErr result (Caused A.Lacks (GivesUp R.Fails R.Called) (GivesUp W.Fails W.Interrupted)) }
@@ -171,32 +155,21 @@ pub fn obey<A: Memory, R: Input, W: Output>(
     input: &mut R,
     output: &mut W,
 ) -> Outcome
-    ensures { Obeys A.Lacks (GivesUp R.Fails R.Called) (GivesUp W.Fails W.Interrupted) (map (λ word. word.now) words.now)
+    requires live { ReadsForWords R.remaining W.contents W.Passed R.MayRead (map (λ word. word.now) words.now) input.old output.old }
+    ensures { Obeys A.Lacks (GivesUp R.Fails R.Called) (GivesUp W.Fails W.Interrupted) (W.Passed output.new) (map (λ word. word.now) words.now)
         (record { input = R.remaining input.old; output = W.contents output.old })
         (record { input = R.remaining input.new; output = W.contents output.new })
         result.status result.complaint.now }
 {
     let command = match command_of(alloc, words) {
         Ok(Some(command)) => command,
-        Ok(None) => return Outcome::refused(),
-        Err(_) => return Outcome::stopped(Fault::Memory),
+        Ok(None) => return refused(),
+        Err(_) => return Outcome::stopped(complaint(Fault::Memory)),
     };
     match perform(alloc, command, input, output) {
-        Ok(()) => Outcome {
-            status: 0,
-            complaint: "",
-        },
-        Err(fault) => Outcome::stopped(fault),
+        Ok(()) => Outcome::done(0),
+        Err(fault) => Outcome::stopped(complaint(fault)),
     }
-}
-
-/// Says on `errors` what is to be said there, or as much of it as it takes where it fails, and returns the status.
-fn tell<E: Output>(outcome: Outcome, errors: &mut E) -> u8
-    ensures status { result ≡ outcome.status }
-    ensures told { IsSaid (GivesUp E.Fails E.Interrupted) (E.contents errors.old) (E.contents errors.new) outcome.complaint.now }
-{
-    let _ = put(outcome.complaint.as_bytes(), errors);
-    outcome.status
 }
 
 /// Does what the words ask for, says on `errors` what is to be said there, and returns the status.
@@ -209,7 +182,8 @@ pub fn run<A: Memory, R: Input, W: Output, E: Output>(
     output: &mut W,
     errors: &mut E,
 ) -> u8
-    ensures { Runs A.Lacks (GivesUp R.Fails R.Called) (GivesUp W.Fails W.Interrupted) (GivesUp E.Fails E.Interrupted) (map (λ word. word.now) words.now)
+    requires live { ReadsForWords R.remaining W.contents W.Passed R.MayRead (map (λ word. word.now) words.now) input.old output.old }
+    ensures { Runs A.Lacks (GivesUp R.Fails R.Called) (GivesUp W.Fails W.Interrupted) (W.Passed output.new) (GivesUp E.Fails E.Interrupted) (E.Passed errors.new) (map (λ word. word.now) words.now)
         (record { input = R.remaining input.old; output = W.contents output.old })
         (record { input = R.remaining input.new; output = W.contents output.new })
         (E.contents errors.old) (E.contents errors.new) result }
@@ -225,7 +199,8 @@ fn try_own<A: Memory, V: Words, R: Input, W: Output>(
     input: &mut R,
     output: &mut W,
 ) -> Result<Outcome, Fault>
-    ensures obeyed { IfOk result (λ outcome. ObeysOwn A.Lacks (GivesUp R.Fails R.Called) (GivesUp W.Fails W.Interrupted) (V.Stands env.now) (V.Ends env.now) (V.Longer env.now)
+    requires live { ReadsForOwn R.remaining W.contents W.Passed R.MayRead (V.Stands env.now) (V.Ends env.now) input.old output.old }
+    ensures obeyed { IfOk result (λ outcome. ObeysOwn A.Lacks (GivesUp R.Fails R.Called) (GivesUp W.Fails W.Interrupted) (W.Passed output.new) (V.Stands env.now) (V.Ends env.now) (V.Longer env.now)
         (record { input = R.remaining input.old; output = W.contents output.old })
         (record { input = R.remaining input.new; output = W.contents output.new })
         outcome.status outcome.complaint.now) }
@@ -234,7 +209,7 @@ fn try_own<A: Memory, V: Words, R: Input, W: Output>(
     ensures output { IfErr result (λ _. Keeps (W.contents output.old) (W.contents output.new)) }
 {
     let Some(texts) = texts(alloc, env)? else {
-        return Ok(Outcome::refused());
+        return Ok(refused());
     };
     let words = lent(alloc, texts.as_slice())?;
     Ok(obey(alloc, words.as_slice(), input, output))
@@ -247,14 +222,15 @@ fn obey_own<A: Memory, V: Words, R: Input, W: Output>(
     input: &mut R,
     output: &mut W,
 ) -> Outcome
-    ensures { ObeysOwn A.Lacks (GivesUp R.Fails R.Called) (GivesUp W.Fails W.Interrupted) (V.Stands env.now) (V.Ends env.now) (V.Longer env.now)
+    requires live { ReadsForOwn R.remaining W.contents W.Passed R.MayRead (V.Stands env.now) (V.Ends env.now) input.old output.old }
+    ensures { ObeysOwn A.Lacks (GivesUp R.Fails R.Called) (GivesUp W.Fails W.Interrupted) (W.Passed output.new) (V.Stands env.now) (V.Ends env.now) (V.Longer env.now)
         (record { input = R.remaining input.old; output = W.contents output.old })
         (record { input = R.remaining input.new; output = W.contents output.new })
         result.status result.complaint.now }
 {
     match try_own(alloc, env, input, output) {
         Ok(outcome) => outcome,
-        Err(fault) => Outcome::stopped(fault),
+        Err(fault) => Outcome::stopped(complaint(fault)),
     }
 }
 
@@ -266,7 +242,8 @@ pub fn run_own<A: Memory, V: Words, R: Input, W: Output, E: Output>(
     output: &mut W,
     errors: &mut E,
 ) -> u8
-    ensures { RunsOwn A.Lacks (GivesUp R.Fails R.Called) (GivesUp W.Fails W.Interrupted) (V.Stands env.now) (V.Ends env.now) (V.Longer env.now) (GivesUp E.Fails E.Interrupted)
+    requires live { ReadsForOwn R.remaining W.contents W.Passed R.MayRead (V.Stands env.now) (V.Ends env.now) input.old output.old }
+    ensures { RunsOwn A.Lacks (GivesUp R.Fails R.Called) (GivesUp W.Fails W.Interrupted) (W.Passed output.new) (V.Stands env.now) (V.Ends env.now) (V.Longer env.now) (GivesUp E.Fails E.Interrupted) (E.Passed errors.new)
         (record { input = R.remaining input.old; output = W.contents output.old })
         (record { input = R.remaining input.new; output = W.contents output.new })
         (E.contents errors.old) (E.contents errors.new) result }

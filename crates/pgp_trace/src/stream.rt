@@ -2,9 +2,9 @@
 
 ghost use Rattle.std.specs.Prelude.{◌≡◌, ◌⊎◌, ◌≤◌, ◌<◌, ◌++◌, ◌∷◌, [], ℕ, List, drop, length, take, IfErr, IfOk, IfSome, OnErr, OnOk, string_bytes};
 ghost use Rattle.std.specs.Io.KnownBytes.{Appends, IsAtEnd, Keeps};
-ghost use Rattle.pgp_trace.specs.Command.{Caused};
 ghost use Rattle.pgp_program.specs.Interruptions.{GivesUp};
-ghost use Rattle.pgp_trace.specs.Listing.{IsCutShort, WasListed, WritesListing, last_by, last_line};
+ghost use Rattle.pgp_program.specs.Run.{Caused};
+ghost use Rattle.pgp_trace.specs.Listing.{IsCutShort, ReadsWhenReady, WasListed, WritesListing, last_by, last_line};
 ghost use Rattle.pgp_trace.specs.Steps.{Holds, ListsAll, ListsPiece, ListsSome, side_of};
 ghost use Rattle.pgp_program.specs.Taken.{AppendsFront};
 ghost use Rattle.pgp_line.specs.declared.style.Form.TheVariants.{Columns, Json};
@@ -57,12 +57,14 @@ pub fn list<A: Memory, R: Input, W: Output>(
     input: &mut R,
     output: &mut W,
 ) -> Result<(), Fault>
+    requires live { ReadsWhenReady R.remaining W.contents W.Passed R.MayRead style (side_of side) input.old output.old }
     ensures read { OnOk result (IsAtEnd (R.remaining input.new)) }
     ensures listed { OnOk result (IfSome (R.remaining input.old) (λ bytes. WritesListing style (side_of side.entry) bytes (W.contents output.old) (W.contents output.new))) }
     ensures live { IfErr result (λ fault. fault ≡ Fault.Read → WasListed style (side_of side.entry)
         (record { input = R.remaining input.old; output = W.contents output.old })
         (record { input = R.remaining input.new; output = W.contents output.new })) }
     ensures passed { IfErr result (λ fault. fault ≡ Fault.Read → Keeps (W.contents output.old) (W.contents output.new) ⊎ W.Passed output.new) }
+    ensures done { OnOk result (W.Passed output.new) }
     ensures cut { OnErr result (IsCutShort style (side_of side.entry)
         (record { input = R.remaining input.old; output = W.contents output.old })
         (record { input = R.remaining input.new; output = W.contents output.new })) }
@@ -81,13 +83,15 @@ fn list_stream<A: Memory, R: Input, W: Output>(
     piece: &mut [u8],
     output: &mut W,
 ) -> Result<(), Fault>
-    requires { 0 < length piece.old }
+    requires some { 0 < length piece.old }
+    requires live { ReadsWhenReady R.remaining W.contents W.Passed R.MayRead style (side_of side) input.old output.old }
     ensures read { OnOk result (IsAtEnd (R.remaining input.new)) }
     ensures listed { OnOk result (IfSome (R.remaining input.old) (λ bytes. WritesListing style (side_of side.entry) bytes (W.contents output.old) (W.contents output.new))) }
     ensures live { IfErr result (λ fault. fault ≡ Fault.Read → WasListed style (side_of side.entry)
         (record { input = R.remaining input.old; output = W.contents output.old })
         (record { input = R.remaining input.new; output = W.contents output.new })) }
     ensures passed { IfErr result (λ fault. fault ≡ Fault.Read → Keeps (W.contents output.old) (W.contents output.new) ⊎ W.Passed output.new) }
+    ensures done { OnOk result (W.Passed output.new) }
     ensures cut { OnErr result (IsCutShort style (side_of side.entry)
         (record { input = R.remaining input.old; output = W.contents output.old })
         (record { input = R.remaining input.new; output = W.contents output.new })) }
@@ -222,6 +226,7 @@ fn list_rest<A: Memory, W: Output>(
 ) -> Result<(), Fault>
     ensures all { OnOk result (Appends (W.contents output.old) (W.contents output.new) (last_line style stopped left)) }
     ensures some { OnErr result (AppendsFront (W.contents output.old) (W.contents output.new) (last_line style stopped left)) }
+    ensures passed { OnOk result (W.Passed output.new) }
     ensures cause { IfErr result (Caused A.Lacks ⊥ (GivesUp W.Fails W.Interrupted)) }
 {
     line.clear();

@@ -2,7 +2,7 @@ use Rattle.std.proofs.Common.{take, arith, rules, refl, subst, inl, inr}
 use Rattle.std.specs.Io.KnownBytes.{Consumes}
 use Rattle.std.proofs.KnownBytes.{Keeps-refl}
 use Rattle.pgp_trace.specs.Steps.{side_of}
-use Rattle.pgp_trace.proofs.Traces.{tracks_start, tracks_same, tracks_piece, end_written, end_cut, piece_cut, cut_here, was_listed, called_more}
+use Rattle.pgp_trace.proofs.Traces.{tracks_start, tracks_same, tracks_piece, end_written, end_cut, piece_cut, cut_here, was_listed, called_more, ready}
 use Rattle.pgp_trace.proofs.stream.list_stream.Goals as goal
 use Rattle.pgp_trace.proofs.stream.list_stream.Goals.{in-Ok+in_ok-list_piece-in-Ok, in-Err+in-Interrupted}
 
@@ -13,12 +13,17 @@ pieces-init g c = (
   inl refl,
 )
 
+pub read_some-requires : goal.read_some-requires
+read_some-requires g c =
+    c.requires.live c.pieces.input (ready g.R.Read.remaining g.W.Write.contents g.W.Output.Passed c.args.style (side_of c.args.side) c.args.input.now c.pieces.input c.args.output.now c.pieces.output
+    (record { side = side_of c.pieces.held.side; bytes = c.pieces.held.bytes.items; place = c.pieces.held.place; stopped = c.pieces.held.stopped; left = c.pieces.held.left }) c.pieces.invariant.0 c.pieces.invariant.1)
+
 pub returns-in-Ok-eq0-clause-listed : goal.returns-in-Ok-eq0-clause-listed
 returns-in-Ok-eq0-clause-listed g c =
     let now = g.R.Read.remaining c.pieces.input in
     let next = g.R.Read.remaining c.read_some.new.self in
     let none = subst (λ k. Consumes now next (take k c.read_some.new.piece)) c.in-Ok-eq0.field-0-test c.in-Ok-eq0.ensures.bytes.0 in
-    let end = c.in-Ok-eq0.ensures.bytes.1 c.in-Ok-eq0.field-0-test (omega (arith, c.requires, c.pieces.auto.piece, c.read_some.auto.piece)) in
+    let end = c.in-Ok-eq0.ensures.bytes.1 c.in-Ok-eq0.field-0-test (omega (arith, c.requires.some, c.pieces.auto.piece, c.read_some.auto.piece)) in
     end_written c.list_rest.result c.args.style (side_of c.args.side) (record { input = g.R.Read.remaining c.args.input.now; output = g.W.Write.contents c.args.output.now }) now next (g.W.Write.contents c.pieces.output) (g.W.Write.contents c.list_rest.new.output) (record { side = side_of c.pieces.held.side; bytes = c.pieces.held.bytes.items; place = c.pieces.held.place; stopped = c.pieces.held.stopped; left = c.pieces.held.left }) c.pieces.invariant.0 none end c.list_rest.ensures.all
 
 pub returns-in-Ok-eq0-clause-cut : goal.returns-in-Ok-eq0-clause-cut
@@ -26,7 +31,7 @@ returns-in-Ok-eq0-clause-cut g c =
     let now = g.R.Read.remaining c.pieces.input in
     let next = g.R.Read.remaining c.read_some.new.self in
     let none = subst (λ k. Consumes now next (take k c.read_some.new.piece)) c.in-Ok-eq0.field-0-test c.in-Ok-eq0.ensures.bytes.0 in
-    let end = c.in-Ok-eq0.ensures.bytes.1 c.in-Ok-eq0.field-0-test (omega (arith, c.requires, c.pieces.auto.piece, c.read_some.auto.piece)) in
+    let end = c.in-Ok-eq0.ensures.bytes.1 c.in-Ok-eq0.field-0-test (omega (arith, c.requires.some, c.pieces.auto.piece, c.read_some.auto.piece)) in
     end_cut c.list_rest.result c.args.style (side_of c.args.side) (record { input = g.R.Read.remaining c.args.input.now; output = g.W.Write.contents c.args.output.now }) now next (g.W.Write.contents c.pieces.output) (g.W.Write.contents c.list_rest.new.output) (record { side = side_of c.pieces.held.side; bytes = c.pieces.held.bytes.items; place = c.pieces.held.place; stopped = c.pieces.held.stopped; left = c.pieces.held.left }) c.pieces.invariant.0 none end c.list_rest.ensures.some
 
 pub returns-in_err-list_piece-in-Ok-clause-cut : goal.returns-in_err-list_piece-in-Ok-clause-cut
@@ -52,6 +57,7 @@ returns-in_default g c =
       listed = tt;
       live = λ e. was_listed c.args.style (side_of c.args.side) (record { input = g.R.Read.remaining c.args.input.now; output = g.W.Write.contents c.args.output.now }) (record { input = next; output = out }) (record { side = side_of c.pieces.held.side; bytes = c.pieces.held.bytes.items; place = c.pieces.held.place; stopped = c.pieces.held.stopped; left = c.pieces.held.left }) t;
       passed = λ e. c.pieces.invariant.1;
+      done = tt;
       cut = cut_here c.args.style (side_of c.args.side) (record { input = g.R.Read.remaining c.args.input.now; output = g.W.Write.contents c.args.output.now }) (record { input = next; output = out }) (record { side = side_of c.pieces.held.side; bytes = c.pieces.held.bytes.items; place = c.pieces.held.place; stopped = c.pieces.held.stopped; left = c.pieces.held.left }) t;
       cause = inl fails;
     }
