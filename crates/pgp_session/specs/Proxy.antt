@@ -51,10 +51,16 @@ pub data WentOn : List (Bor (List ℕ)) → List ClientMessage → List ClientMe
   Went : {refused : List (Bor (List ℕ))} {came went : List ClientMessage} (x : ClientMessage) → (IsListed refused (statement_of x) → ⊥) → WentOn refused came went → WentOn refused (x ∷ came) (x ∷ went)
   Stayed : {refused : List (Bor (List ℕ))} {came went : List ClientMessage} (x : ClientMessage) → IsListed refused (statement_of x) → WentOn refused came went → WentOn refused (x ∷ came) went
 
--- The bytes that were read are those of the messages that came, and those that were written are those of the messages that went on.
-pub record PassesOn {Kept : Type 0} (refused : List (Bor (List ℕ))) (from : Unread) (old : Held Kept) (next : Unread) (new : Held Kept) : Type 0 where
+-- These messages were read by the calls, one after the other, each under the kind that its call was given.
+pub data ReadBy : List Call → Unread → List ClientMessage → Unread → Type 0 where
+  NoneRead : {from next : Unread} → next ≡ from → ReadBy [] from [] next
+  OneRead : {call : Call} {calls : List Call} {from here next : Unread} {x : ClientMessage} {more : List ClientMessage} → Step call.kind from (Ok (Some x)) here → ReadBy calls here more next → ReadBy (call ∷ calls) from (x ∷ more) next
+
+-- The bytes that were read are those of the messages that came, which the calls read, and those that were written are those of the messages that went on.
+pub record PassesOn {Kept : Type 0} (refused : List (Bor (List ℕ))) (calls : List Call) (from : Unread) (old : Held Kept) (next : Unread) (new : Held Kept) : Type 0 where
   pub came : List ClientMessage
   pub went : List ClientMessage
+  pub read_by : ReadBy calls from came next
   pub are : WentOn refused came went
   pub read : from.bytes ≡ flat_map bytes_of came ++ next.bytes
   pub written : new ≡ old ⊕ flat_map bytes_of went

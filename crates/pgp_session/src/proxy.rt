@@ -70,10 +70,10 @@ pub fn pass_on<B: Buffer>(
 }
 
 /// What calls one after the other come to. All: what went out are the bytes that came, without the messages whose statement is
-/// rejected. Up to the first of these: what went out are the bytes that came.
+/// rejected, each message as its call read it. Up to the first of these: what went out are the bytes that came.
 pub fn what_went_out_is_what_came_in<B: Buffer>()
     ensures all { (refused : List (Bor (List ℕ))) (calls : List Call) (from next : Unread) (old new : Held B.Kept) →
-        ProxiesAll refused B.Lacks calls from old next new → PassesOn refused from old next new }
+        ProxiesAll refused B.Lacks calls from old next new → PassesOn refused calls from old next new }
     ensures up_to_the_first { (refused : List (Bor (List ℕ))) (kinds : List Kind) (from next : Unread) (old new : Held B.Kept) →
         ProxiesAll refused B.Lacks (all_forwarded kinds) from old next new → Forwards B.Lacks from.bytes next.bytes old new (Ok tt) }
 {}

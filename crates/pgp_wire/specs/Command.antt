@@ -10,7 +10,8 @@ use Rattle.pgp_program.specs.declared.fault.Fault.TheVariants.{Memory, Read, Wri
 use Rattle.pgp_wire.specs.Output.{line, BackendOutput}
 use Rattle.pgp_wire.specs.ClientOutput.{ClientOutput}
 use Rattle.pgp_program.specs.Taken.{AppendsFront}
-use Rattle.pgp_program.specs.Words.{AreWords, HasOther, LacksWords}
+use Rattle.pgp_program.specs.Run.{Streams, Caused, IsUnread}
+use Rattle.pgp_program.specs.Run as run
 
 pub data Command : Type 0 where
   Client : Command
@@ -37,22 +38,9 @@ complaint_of Memory = line (codes "pgwire: out of memory")
 complaint_of Read = line (codes "pgwire: read failed")
 complaint_of Write = line (codes "pgwire: write failed")
 
--- What stands after a fault, where memory is refused and reads and writes fail so: a command answers a fault of reading or writing
--- only where a call of its reader or of its writer failed, and one of memory only where an allocation failed, or its reader failed for
--- lack of memory.
-abbrev pub Caused : Type 0 → Type 0 → Type 0 → Fault → Type 0
-Caused lacks read_failed write_failed Memory = lacks ⊎ read_failed
-Caused lacks read_failed write_failed Read = read_failed
-Caused lacks read_failed write_failed Write = write_failed
-
 -- the fault of memory, where a growth of a list or of the buffer was refused
 abbrev pub LacksFor : {Kept : Type 0} → Type 0 → (Held Kept → ℕ → Type 0) → Fault → Type 0
 LacksFor lacks grows fault = (fault ≡ Memory) × (lacks ⊎ ((here : Held _) × (n : ℕ) × grows here n))
-
--- Before and after: what the reader has left, what the writer holds.
-pub record Streams : Type 0 where
-  pub input : Option (List ℕ)
-  pub output : Option (List ℕ)
 
 -- a string constant that is read as z under either setting of standard_conforming_strings, and is plain
 -- exactly where z has no backslash
@@ -80,10 +68,11 @@ pub record IsWritten (command : Command) (before after : Streams) (status : ℕ)
   pub written : Appends before.output after.output bytes
 
 -- What a command does to the streams, with the status and what is to be said on standard error, unless it meets a fault: it reads
--- what it is to read, writes what it makes, and has nothing to say.
-pub record Succeeds (command : Command) (before after : Streams) (status : ℕ) (complaint : List ℕ) : Type 0 where
+-- what it is to read, writes what it makes and has it passed on, and has nothing to say.
+pub record Succeeds (passed : Type 0) (command : Command) (before after : Streams) (status : ℕ) (complaint : List ℕ) : Type 0 where
   pub read : Reads command before after
   pub output : IsWritten command before after status
+  pub passed_on : passed
   pub silent : complaint ≡ []
 
 -- Writing failed: a front of what the command makes was written, and nothing else.
@@ -109,25 +98,6 @@ MayRead command before after = Keeps before.input after.input
 abbrev pub IsOther : List (List ℕ) → Type 0
 IsOther words = (command : Command) → ¬ Asks words command
 
--- they are answered by the usage line, and the streams stay as they were
-pub record IsRefused (words : List (List ℕ)) (before after : Streams) (status : ℕ) (complaint : List ℕ) : Type 0 where
-  pub other : IsOther words
-  pub told : complaint ≡ usage
-  pub refused : status ≡ 2
-  pub input : Keeps before.input after.input
-  pub output : Keeps before.output after.output
-
--- The words of the process aren't obeyed: this is reported, and nothing is read or written.
-pub record IsUnread (text : List ℕ) (code : ℕ) (before after : Streams) (status : ℕ) (complaint : List ℕ) : Type 0 where
-  pub told : complaint ≡ text
-  pub failed : status ≡ code
-  pub input : Keeps before.input after.input
-  pub output : Keeps before.output after.output
-
--- What is to be said on standard error is said; or a front of it is, where a call of its writer failed.
-abbrev pub IsSaid : Type 0 → Option (List ℕ) → Option (List ℕ) → List ℕ → Type 0
-IsSaid failed old new text = Appends old new text ⊎ (failed × AppendsFront old new text)
-
 -- Where memory is refused and reads and writes fail so.
 module _ (lacks read_failed write_failed : Type 0) where
   -- A command stopped at a fault: nothing was written, unless writing failed.
@@ -145,39 +115,25 @@ module _ (lacks read_failed write_failed : Type 0) where
     pub told : complaint ≡ complaint_of fault
     pub failed : status ≡ 1
 
-  -- What the words ask for is done.
-  pub record IsDone (words : List (List ℕ)) (before after : Streams) (status : ℕ) (complaint : List ℕ) : Type 0 where
-    pub command : Command
-    pub asks : Asks words command
-    pub does : Succeeds command before after status complaint ⊎ IsFaulty command before after status complaint
+  -- What the words ask for is done, where what was written is then passed on so; or they ask for nothing, and the usage line is
+  -- reported.
+  module _ (passed : Type 0) where
+    pub record IsDone (words : List (List ℕ)) (before after : Streams) (status : ℕ) (complaint : List ℕ) : Type 0 where
+      pub command : Command
+      pub asks : Asks words command
+      pub does : Succeeds passed command before after status complaint ⊎ IsFaulty command before after status complaint
 
-  abbrev pub Obeys : List (List ℕ) → Streams → Streams → ℕ → List ℕ → Type 0
-  Obeys words before after status complaint = IsDone words before after status complaint ⊎ IsRefused words before after status complaint
+    abbrev pub Obeys : List (List ℕ) → Streams → Streams → ℕ → List ℕ → Type 0
+    Obeys words before after status complaint = IsDone words before after status complaint ⊎ (IsOther words × IsUnread usage 2 before after status complaint)
 
-  -- A run: the words are obeyed, and it is said what is then to be said.
-  pub record Runs (said_failed : Type 0) (words : List (List ℕ)) (before after : Streams) (old new : Option (List ℕ)) (status : ℕ) : Type 0 where
-    pub complaint : List ℕ
-    pub obeyed : Obeys words before after status complaint
-    pub said : IsSaid said_failed old new complaint
+    -- A run on words, and on the words of the process.
 
-  -- What is done for the words of the process, where words stand so and none stands at such places.
-  module _ (Stands : ℕ → List ℕ → Type 0) (Ends : ℕ → Type 0) where
-    -- They are obeyed, and no other words.
-    pub record ObeysAll (before after : Streams) (status : ℕ) (complaint : List ℕ) : Type 0 where
-      pub words : List (List ℕ)
-      pub own : AreWords Stands Ends words
-      pub obeyed : Obeys words before after status complaint
+    abbrev pub Runs : (said_failed said_passed : Type 0) → List (List ℕ) → Streams → Streams → Option (List ℕ) → Option (List ℕ) → ℕ → Type 0
+    Runs = run.Runs Obeys
 
-    -- Where a word is so long:
-    module _ (Longer : ℕ → ℕ → Type 0) where
-      -- They are obeyed; or one of them isn't UTF-8; or there is no memory for them.
+    module _ (Stands : ℕ → List ℕ → Type 0) (Ends : ℕ → Type 0) (Longer : ℕ → ℕ → Type 0) where
       abbrev pub ObeysOwn : Streams → Streams → ℕ → List ℕ → Type 0
-      ObeysOwn before after status complaint = ObeysAll before after status complaint
-          ⊎ (HasOther Stands × IsUnread usage 2 before after status complaint)
-          ⊎ (LacksWords lacks Stands Longer × IsUnread (complaint_of Memory) 1 before after status complaint)
+      ObeysOwn = run.ObeysOwn Obeys Stands Ends Longer lacks usage (complaint_of Memory)
 
-      -- A run on the words of the process.
-      pub record RunsOwn (said_failed : Type 0) (before after : Streams) (old new : Option (List ℕ)) (status : ℕ) : Type 0 where
-        pub complaint : List ℕ
-        pub obeyed : ObeysOwn before after status complaint
-        pub said : IsSaid said_failed old new complaint
+      abbrev pub RunsOwn : (said_failed said_passed : Type 0) → Streams → Streams → Option (List ℕ) → Option (List ℕ) → ℕ → Type 0
+      RunsOwn = run.RunsOwn Obeys Stands Ends Longer lacks usage (complaint_of Memory)

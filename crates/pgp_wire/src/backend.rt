@@ -7,7 +7,8 @@ ghost use Rattle.pgp_message.specs.Views.{seen};
 ghost use Rattle.pgp_program.specs.Interruptions.{GivesUp};
 ghost use Rattle.pgp_wire.specs.Output.{line, line_of, last_line, BackendOutput};
 ghost use Rattle.pgp_wire.specs.Listing.{ListsPiece};
-ghost use Rattle.pgp_wire.specs.Command.{Backend, Caused, IsCut, IsWritten};
+ghost use Rattle.pgp_program.specs.Run.{Caused};
+ghost use Rattle.pgp_wire.specs.Command.{Backend, IsCut, IsWritten};
 
 use crate::ports::Input;
 use crate::rest::read_rest;
@@ -44,6 +45,7 @@ pub fn backend<A: Memory, R: Input, W: Output>(
     ensures cut { IfErr result (λ fault. fault ≡ Fault.Write → IsCut Backend
         (record { input = R.remaining input.old; output = W.contents output.old })
         (record { input = R.remaining input.new; output = W.contents output.new })) }
+    ensures passed { OnOk result (W.Passed output.new) }
     ensures cause { IfErr result (Caused A.Lacks R.Fails (GivesUp W.Fails W.Interrupted)) }
 {
     let text = listing(alloc, input)?;

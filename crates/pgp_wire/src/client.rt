@@ -8,7 +8,8 @@ ghost use Rattle.pgp_frontend.specs.Reading.{IsNamed};
 ghost use Rattle.pgp_session.specs.ClientStream.{AddsMessage};
 ghost use Rattle.pgp_program.specs.Interruptions.{GivesUp};
 ghost use Rattle.pgp_wire.specs.ClientOutput.{ClientOutput, told};
-ghost use Rattle.pgp_wire.specs.Command.{Caused, Client, IsCut, IsWritten, LacksFor};
+ghost use Rattle.pgp_program.specs.Run.{Caused};
+ghost use Rattle.pgp_wire.specs.Command.{Client, IsCut, IsWritten, LacksFor};
 ghost use Rattle.pgp_wire.specs.Output.{line};
 ghost use Rattle.pgp_wire.specs.Request.{asked};
 ghost use Rattle.pgp_wire.specs.Script.{is_newline};
@@ -63,6 +64,7 @@ pub fn client<A: Memory, R: Input, W: Output>(
     ensures cut { IfErr result (λ fault. fault ≡ Fault.Write → IsCut Client
         (record { input = R.remaining input.old; output = W.contents output.old })
         (record { input = R.remaining input.new; output = W.contents output.new })) }
+    ensures passed { OnOk result (W.Passed output.new) }
     ensures cause { IfErr result (Caused A.Lacks R.Fails (GivesUp W.Fails W.Interrupted)) }
 {
     let script = read_rest(alloc, input)?;

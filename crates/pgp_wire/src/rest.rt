@@ -2,7 +2,7 @@
 
 ghost use Rattle.std.specs.Prelude.{◌≡◌, IfErr, IfOk, IfSome, OnOk};
 ghost use Rattle.std.specs.Io.KnownBytes.{Consumes, IsAtEnd};
-ghost use Rattle.pgp_wire.specs.Command.{Caused};
+ghost use Rattle.pgp_program.specs.Run.{Caused};
 
 use crate::ports::Input;
 use pgp_base::Memory;

@@ -3,7 +3,7 @@
 ghost use Rattle.std.specs.Prelude.{◌≡◌, [], map, IfSome, IfNone, IfOk, IfErr};
 ghost use Rattle.std.specs.Io.KnownBytes.{Keeps};
 ghost use Rattle.pgp_program.specs.Interruptions.{GivesUp};
-ghost use Rattle.pgp_wire.specs.Command.{Asks, IsOther, usage, complaint_of, Obeys, Succeeds, Stops, Runs, ObeysOwn, RunsOwn, IsSaid};
+ghost use Rattle.pgp_wire.specs.Command.{Asks, IsOther, usage, complaint_of, Obeys, Succeeds, Stops, Runs, ObeysOwn, RunsOwn};
 ghost use Rattle.pgp_wire.specs.Asked.{asked};
 ghost use Rattle.pgp_program.specs.Words.{LacksWords};
 
@@ -15,42 +15,19 @@ use crate::text;
 use hex::FromHex;
 use pgp_base::Memory;
 use pgp_program::fault::Fault;
+use pgp_program::outcome::{Outcome, tell};
 use pgp_program::ports::{Output, Words};
-use pgp_program::print::put;
 use pgp_program::words::{lent, texts};
 
 const USAGE: &str =
     "usage: pgwire client | backend | verifier PASSWORD SALTHEX | escape literal|identifier TEXT\n";
 
-/// How a run ended: the status, and what is to be said on standard error.
-#[derive(Debug, Clone, Copy, PartialEq, Eq)]
-pub struct Outcome {
-    pub status: u8,
-    pub complaint: &'static str,
-}
-
-impl Outcome {
-    /// The words ask for nothing that there is.
-    fn refused() -> Outcome
-        ensures status { result.status ≡ 2 }
-        ensures complaint { result.complaint.now ≡ usage }
-    {
-        Outcome {
-            status: 2,
-            complaint: USAGE,
-        }
-    }
-
-    /// What was asked for met a fault.
-    fn stopped(fault: Fault) -> Outcome
-        ensures status { result.status ≡ 1 }
-        ensures complaint { result.complaint.now ≡ complaint_of fault }
-    {
-        Outcome {
-            status: 1,
-            complaint: complaint(fault),
-        }
-    }
+/// The words ask for nothing that there is.
+fn refused() -> Outcome
+    ensures status { result.status ≡ 2 }
+    ensures complaint { result.complaint.now ≡ usage }
+{
+    Outcome::refused(USAGE)
 }
 
 /// What the words ask for.
@@ -87,7 +64,7 @@ fn perform<A: Memory, R: Input, W: Output>(
     input: &mut R,
     output: &mut W,
 ) -> Result<u8, Fault>
-    ensures done { IfOk result (λ status. Succeeds (asked command.entry)
+    ensures done { IfOk result (λ status. Succeeds (W.Passed output.new) (asked command.entry)
         (record { input = R.remaining input.old; output = W.contents output.old })
         (record { input = R.remaining input.new; output = W.contents output.new })
         status []) }
@@ -112,30 +89,18 @@ pub fn obey<A: Memory, R: Input, W: Output>(
     input: &mut R,
     output: &mut W,
 ) -> Outcome
-    ensures { Obeys A.Lacks R.Fails (GivesUp W.Fails W.Interrupted) (map (λ word. word.now) words.now)
+    ensures { Obeys A.Lacks R.Fails (GivesUp W.Fails W.Interrupted) (W.Passed output.new) (map (λ word. word.now) words.now)
         (record { input = R.remaining input.old; output = W.contents output.old })
         (record { input = R.remaining input.new; output = W.contents output.new })
         result.status result.complaint.now }
 {
     let Some(command) = command_of(words) else {
-        return Outcome::refused();
+        return refused();
     };
     match perform(alloc, command, input, output) {
-        Ok(status) => Outcome {
-            status,
-            complaint: "",
-        },
-        Err(fault) => Outcome::stopped(fault),
+        Ok(status) => Outcome::done(status),
+        Err(fault) => Outcome::stopped(complaint(fault)),
     }
-}
-
-/// Says on `errors` what is to be said there, or as much of it as it takes where it fails, and returns the status.
-fn tell<E: Output>(outcome: Outcome, errors: &mut E) -> u8
-    ensures status { result ≡ outcome.status }
-    ensures told { IsSaid (GivesUp E.Fails E.Interrupted) (E.contents errors.old) (E.contents errors.new) outcome.complaint.now }
-{
-    let _ = put(outcome.complaint.as_bytes(), errors);
-    outcome.status
 }
 
 /// Does what the words ask for, says on `errors` what is to be said there, and returns the status.
@@ -148,7 +113,7 @@ pub fn run<A: Memory, R: Input, W: Output, E: Output>(
     output: &mut W,
     errors: &mut E,
 ) -> u8
-    ensures { Runs A.Lacks R.Fails (GivesUp W.Fails W.Interrupted) (GivesUp E.Fails E.Interrupted) (map (λ word. word.now) words.now)
+    ensures { Runs A.Lacks R.Fails (GivesUp W.Fails W.Interrupted) (W.Passed output.new) (GivesUp E.Fails E.Interrupted) (E.Passed errors.new) (map (λ word. word.now) words.now)
         (record { input = R.remaining input.old; output = W.contents output.old })
         (record { input = R.remaining input.new; output = W.contents output.new })
         (E.contents errors.old) (E.contents errors.new) result }
@@ -164,7 +129,7 @@ fn try_own<A: Memory, V: Words, R: Input, W: Output>(
     input: &mut R,
     output: &mut W,
 ) -> Result<Outcome, Fault>
-    ensures obeyed { IfOk result (λ outcome. ObeysOwn A.Lacks R.Fails (GivesUp W.Fails W.Interrupted) (V.Stands env.now) (V.Ends env.now) (V.Longer env.now)
+    ensures obeyed { IfOk result (λ outcome. ObeysOwn A.Lacks R.Fails (GivesUp W.Fails W.Interrupted) (W.Passed output.new) (V.Stands env.now) (V.Ends env.now) (V.Longer env.now)
         (record { input = R.remaining input.old; output = W.contents output.old })
         (record { input = R.remaining input.new; output = W.contents output.new })
         outcome.status outcome.complaint.now) }
@@ -173,7 +138,7 @@ fn try_own<A: Memory, V: Words, R: Input, W: Output>(
     ensures output { IfErr result (λ _. Keeps (W.contents output.old) (W.contents output.new)) }
 {
     let Some(texts) = texts(alloc, env)? else {
-        return Ok(Outcome::refused());
+        return Ok(refused());
     };
     let words = lent(alloc, texts.as_slice())?;
     Ok(obey(alloc, words.as_slice(), input, output))
@@ -186,14 +151,14 @@ fn obey_own<A: Memory, V: Words, R: Input, W: Output>(
     input: &mut R,
     output: &mut W,
 ) -> Outcome
-    ensures { ObeysOwn A.Lacks R.Fails (GivesUp W.Fails W.Interrupted) (V.Stands env.now) (V.Ends env.now) (V.Longer env.now)
+    ensures { ObeysOwn A.Lacks R.Fails (GivesUp W.Fails W.Interrupted) (W.Passed output.new) (V.Stands env.now) (V.Ends env.now) (V.Longer env.now)
         (record { input = R.remaining input.old; output = W.contents output.old })
         (record { input = R.remaining input.new; output = W.contents output.new })
         result.status result.complaint.now }
 {
     match try_own(alloc, env, input, output) {
         Ok(outcome) => outcome,
-        Err(fault) => Outcome::stopped(fault),
+        Err(fault) => Outcome::stopped(complaint(fault)),
     }
 }
 
@@ -205,7 +170,7 @@ pub fn run_own<A: Memory, V: Words, R: Input, W: Output, E: Output>(
     output: &mut W,
     errors: &mut E,
 ) -> u8
-    ensures { RunsOwn A.Lacks R.Fails (GivesUp W.Fails W.Interrupted) (V.Stands env.now) (V.Ends env.now) (V.Longer env.now) (GivesUp E.Fails E.Interrupted)
+    ensures { RunsOwn A.Lacks R.Fails (GivesUp W.Fails W.Interrupted) (W.Passed output.new) (V.Stands env.now) (V.Ends env.now) (V.Longer env.now) (GivesUp E.Fails E.Interrupted) (E.Passed errors.new)
         (record { input = R.remaining input.old; output = W.contents output.old })
         (record { input = R.remaining input.new; output = W.contents output.new })
         (E.contents errors.old) (E.contents errors.new) result }

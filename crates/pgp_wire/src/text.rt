@@ -6,7 +6,8 @@ ghost use Rattle.pgp_auth.specs.Lexer.{Identifier};
 ghost use Rattle.pgp_auth.specs.Verifier.{verifier, verifier_text};
 ghost use Rattle.pgp_program.specs.Interruptions.{GivesUp};
 ghost use Rattle.pgp_wire.specs.Output.{line};
-ghost use Rattle.pgp_wire.specs.Command.{Caused, IsEscapedLiteral};
+ghost use Rattle.pgp_program.specs.Run.{Caused};
+ghost use Rattle.pgp_wire.specs.Command.{IsEscapedLiteral};
 ghost use Rattle.pgp_program.specs.Taken.{AppendsFront};
 
 use crate::print::print;
@@ -30,6 +31,7 @@ pub fn verifier<A: Memory, W: Output>(
     ensures quiet { IfErr result (λ fault. fault ≢ Fault.Write → Keeps (W.contents output.old) (W.contents output.new)) }
     ensures cut { IfErr result (λ fault. fault ≡ Fault.Write → AppendsFront (W.contents output.old) (W.contents output.new)
         (line (verifier_text (verifier password.now salt 4096)))) }
+    ensures passed { OnOk result (W.Passed output.new) }
     ensures cause { IfErr result (Caused A.Lacks ⊥ (GivesUp W.Fails W.Interrupted)) }
 {
     match password::scram_sha_256_salt(alloc, password.as_bytes(), salt, &NoPrep) {
@@ -50,6 +52,7 @@ pub fn escape_literal<A: Memory, W: Output>(
     ensures quiet { IfErr result (λ fault. fault ≢ Fault.Write → Keeps (W.contents output.old) (W.contents output.new)) }
     ensures cut { IfErr result (λ fault. fault ≡ Fault.Write → ((literal : List ℕ) × IsEscapedLiteral text.now literal
         × AppendsFront (W.contents output.old) (W.contents output.new) (line literal))) }
+    ensures passed { OnOk result (W.Passed output.new) }
     ensures cause { IfErr result (Caused A.Lacks ⊥ (GivesUp W.Fails W.Interrupted)) }
 {
     match escape::escape_literal(alloc, text) {
@@ -70,6 +73,7 @@ pub fn escape_identifier<A: Memory, W: Output>(
     ensures quiet { IfErr result (λ fault. fault ≢ Fault.Write → Keeps (W.contents output.old) (W.contents output.new)) }
     ensures cut { IfErr result (λ fault. fault ≡ Fault.Write → ((identifier : List ℕ) × Identifier identifier text.now
         × AppendsFront (W.contents output.old) (W.contents output.new) (line identifier))) }
+    ensures passed { OnOk result (W.Passed output.new) }
     ensures cause { IfErr result (Caused A.Lacks ⊥ (GivesUp W.Fails W.Interrupted)) }
 {
     match escape::escape_identifier(alloc, text) {
