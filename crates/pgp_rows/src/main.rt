@@ -11,8 +11,10 @@ mod client_steps;
 mod codec;
 mod dialogue;
 mod fault;
+mod lexemes;
 mod lists;
 mod numbers;
+mod numerics;
 mod passwords;
 mod ranges;
 mod replies;
@@ -31,6 +33,7 @@ use client_read::check_client_read;
 use codec::{check_answer, check_value, check_writer};
 use dialogue::check_dialogue;
 use fault::Fault;
+use numerics::check_numeric;
 use replies::check_reply;
 use row::Row;
 use server::check_server;
@@ -38,7 +41,7 @@ use shown::Shown;
 use std::alloc::Global;
 use std::rt::Files;
 use std::{fs, io};
-use values::{Values, check_numeric};
+use values::Values;
 
 /// What the calls of a file are.
 #[derive(Clone, Copy)]

@@ -1,0 +1,90 @@
+//! Texts to be searched: lexemes, each with its places.
+
+use crate::shown::Shown;
+use crate::word::Words;
+use pgp_base::{Buffer, Error, FallibleIterator};
+use pgp_values::{Lexemes, TsPositions, tsvector_to_sql};
+use std::alloc::{AllocError, Global};
+
+// A lexeme and its places.
+#[derive(Drop)]
+struct PlacedLexeme {
+    text: String,
+    places: Vec<u16>,
+}
+
+fn lexemes(alloc: Global, words: &mut Words<'_>) -> Result<Vec<PlacedLexeme>, AllocError> {
+    let mut lexemes = Vec::new(alloc);
+    if !words.takes("[") {
+        words.fail_row();
+    }
+    for _ in 0..100 {
+        if words.takes("]") {
+            return Ok(lexemes);
+        }
+        let text = String::from_str(alloc, words.text())?;
+        let places = words.list::<u16>(alloc);
+        if lexemes.push(PlacedLexeme { text, places }).is_err() {
+            return Err(AllocError);
+        }
+    }
+    words.fail_row();
+    Ok(lexemes)
+}
+
+pub fn write_tsvector<B: Buffer>(
+    alloc: Global,
+    words: &mut Words<'_>,
+    buf: &mut B,
+) -> Result<(), Error> {
+    let lexemes = lexemes(alloc, words)?;
+    let mut items = Vec::new(alloc);
+    for lexeme in lexemes.iter() {
+        if items
+            .push((lexeme.text.as_str(), lexeme.places.as_slice()))
+            .is_err()
+        {
+            return Err(Error::OutOfMemory);
+        }
+    }
+    tsvector_to_sql(items.iter().copied(), buf)
+}
+
+fn show_places(places: TsPositions<'_>, out: &mut Shown) {
+    out.word("[");
+    for i in 0..places.len() {
+        match places.get(i) {
+            Some(place) => out.number(place),
+            None => out.word("none"),
+        }
+    }
+    out.word("]");
+    if places.get(places.len()).is_some() || places.is_empty() != (places.len() == 0) {
+        out.word("and more");
+    }
+}
+
+pub fn show_lexemes(mut walk: Lexemes<'_>, out: &mut Shown) {
+    let (announced, _) = walk.size_hint();
+    let mut came = 0usize;
+    out.word("[");
+    for _ in 0..100 {
+        match walk.next() {
+            Ok(Some((text, places))) => {
+                came = came.saturating_add(1);
+                out.text(text);
+                show_places(places, out);
+            }
+            Ok(None) => break,
+            Err(e) => {
+                out.refusal(e);
+                break;
+            }
+        }
+    }
+    out.word("]");
+    if announced != came {
+        out.word("of");
+        out.number(announced);
+    }
+}

@@ -1,0 +1,71 @@
+//! Decimal numbers, reported as their texts.
+
+use crate::codec::check_value;
+use crate::fault::Fault;
+use crate::row::Row;
+use crate::shown::Shown;
+use crate::values::Values;
+use crate::word::{Words, words_of};
+use bytes::BytesMut;
+use pgp_base::{Buffer, Error};
+use pgp_values::{
+    NumericError, numeric_from_sql, numeric_text_to_sql, numeric_to_sql, numeric_to_text,
+};
+use std::alloc::Global;
+
+// Why a numeric was refused, where no buffer of this program was short of memory.
+fn plain_numeric(answer: Result<(), NumericError>, words: &mut Words<'_>) -> Result<(), Error> {
+    match answer {
+        Ok(()) => Ok(()),
+        Err(NumericError::OutOfMemory) => Err(Error::OutOfMemory),
+        Err(_) => words.no_call(),
+    }
+}
+
+pub fn write_numeric<B: Buffer>(words: &mut Words<'_>, buf: &mut B) -> Result<(), Error> {
+    let text = words.text();
+    plain_numeric(numeric_text_to_sql(text, buf), words)
+}
+
+// The text, and whether what is written of the number that was read is the same bytes.
+pub fn show_numeric(bytes: &[u8], out: &mut Shown) {
+    match numeric_from_sql(bytes) {
+        Ok(v) => {
+            let mut text = BytesMut::new(out.alloc());
+            let mut again = BytesMut::new(out.alloc());
+            if numeric_to_text(&v, &mut text).is_err() || numeric_to_sql(&v, &mut again).is_err() {
+                return out.fail(Fault::Memory);
+            }
+            out.text_of(text.as_slice());
+            if again.as_slice() != bytes {
+                out.word("written otherwise");
+            }
+        }
+        Err(e) => out.number(e),
+    }
+}
+
+// The text is rejected so.
+fn refuses_numeric(alloc: Global, row: &Row<'_>, out: &mut Shown) -> Result<(), Fault> {
+    let (_, text) = row.front();
+    let list = words_of(alloc, text)?;
+    let mut words = Words::new(&list);
+    let mut buf = BytesMut::new(alloc);
+    match numeric_text_to_sql(words.text(), &mut buf) {
+        Ok(()) => out.word("taken"),
+        Err(e) => out.number(e),
+    }
+    out.keep(words.end());
+    if !buf.as_slice().is_empty() {
+        out.word("and more");
+    }
+    out.came_to(row.right)
+}
+
+/// A row of a numeric.
+pub fn check_numeric(alloc: Global, row: &Row<'_>, out: &mut Shown) -> Result<(), Fault> {
+    if row.call == "write" && row.is_refusal() {
+        return refuses_numeric(alloc, row, out);
+    }
+    check_value::<Values>(alloc, row, out)
+}
