@@ -120,7 +120,7 @@ module _ (size : ℕ) (old : PgpStream) (mid out post : List ℕ) (told n : ℕ)
       subst (λ ks. ClientRun ks (messages ++ CopyData bytes ∷ []) (before ++ (take n room.now ++ bytes))) (append-nil kinds)
       (subst (λ l. ClientRun (kinds ++ []) (messages ++ CopyData bytes ∷ []) l)
       (append_assoc before (take old.len old.room.now) (bytes_of (CopyData bytes)) ∙ ap (λ l. before ++ l) (sym (with_data bytes few)))
-      (run_more kinds messages (CopyData bytes) (before ++ take old.len old.room.now) run (subst (λ (b : Bool). MayCome (CopyData bytes) b) (sym (phase ∙ opened)) (λ e. absurd cc)) (sent.message bytes few).0 (tt, tt)))
+      (run_more kinds messages (CopyData bytes) (before ++ take old.len old.room.now) run (subst (λ (b : Bool). MayCome (CopyData bytes) b) (sym (phase ∙ opened)) (λ e. absurd cc)) (sent.message bytes few).0 ((tt, tt), tt)))
 
   pub extends_by_head : (let new : PgpStream = record { room = room; len = n; is_open = old.is_open } in ExtendsByHead size old new)
   extends_by_head = record {
