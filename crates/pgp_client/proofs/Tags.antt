@@ -17,7 +17,7 @@ at_tag m a tag first is e = subst (λ (t : ℕ). request_of m ≡ request_of_tag
 pub tags_agree : (m : ClientMessage) (tag first : ℕ) → tag_of m ≡ Some tag → BeginsWith (payload m) first → request_of m ≡ request_of_tag tag first
 tags_agree (Bind p s f v r) tag first is b = at_tag (Bind p s f v r) 66 tag first is refl
 tags_agree (Close v n) tag first is b = at_tag (Close v n) 67 tag first is refl
-tags_agree (CopyData b) tag first is b = at_tag (CopyData b) 100 tag first is refl
+tags_agree (CopyData d) tag first is b = at_tag (CopyData d) 100 tag first is refl
 tags_agree CopyDone tag first is b = at_tag CopyDone 99 tag first is refl
 tags_agree (CopyFail r) tag first is b = at_tag (CopyFail r) 102 tag first is refl
 tags_agree (Execute p n) tag first is b = at_tag (Execute p n) 69 tag first is refl
