@@ -1,0 +1,8 @@
+//! The messages of the protocol.
+
+pub mod backend;
+#[cfg(feature = "extensions")]
+pub mod client;
+pub mod frontend;
+#[cfg(feature = "extensions")]
+pub mod reply;
