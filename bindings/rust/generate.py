@@ -8,6 +8,8 @@ here = os.path.dirname(os.path.abspath(__file__))
 top = os.path.dirname(os.path.dirname(here))
 CORE = ['pgp_base', 'pgp_frontend', 'pgp_message', 'pgp_types', 'pgp_auth', 'pgp_saslprep']
 MORE = ['pgp_frontend_read', 'pgp_message_write', 'pgp_client', 'pgp_session', 'pgp_values']
+# The crates that a `use` may name; else it names a module.
+NAMES = set(CORE + MORE) | {'pgp_rows', 'postgres_protocol', 'std', 'crate', 'bytes', 'self', 'super'}
 LEFT_OUT = re.compile(r'^(laws|memory|tests)(/|\.rt$)')
 
 

@@ -19,3 +19,18 @@ pub(crate) fn scram_sha_256_salt(password: &[u8], salt: [u8; 16]) -> String {
 pub fn md5(password: &[u8], username: &str) -> String {
     ample(password::md5(Global, password, username))
 }
+
+#[cfg(test)]
+mod tests {
+    use super::*;
+
+    // python3's hashlib and hmac.
+    #[test]
+    fn a_verifier() {
+        let salt = [1, 2, 3, 4, 5, 6, 7, 8, 9, 10, 11, 12, 13, 14, 15, 16];
+        assert_eq!(
+            scram_sha_256_salt(b"secret", salt),
+            "SCRAM-SHA-256$4096:AQIDBAUGBwgJCgsMDQ4PEA==$8rrDg00OqaiWXJ7p+sCgHEIaBSHY89ZJl3mfIsf32oY=:05L1f+yZbiN8O0AnO40Og85NNRhvzTS57naKRWCcsIA="
+        );
+    }
+}

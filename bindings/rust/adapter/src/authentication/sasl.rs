@@ -105,3 +105,65 @@ fn rejected(e: ScramError) -> io::Error {
     };
     io::Error::new(kind, Rejected(e))
 }
+
+#[cfg(test)]
+mod tests {
+    use super::*;
+
+    // psql with a server, both PostgreSQL 15.18, taken down between the two.
+    const NONCE: &str = "iHTbZcvWDz+mnWeu67UH0VDN";
+    const FIRST: &[u8] = b"r=iHTbZcvWDz+mnWeu67UH0VDNRrdPwJzxCyBC/L+SrmSXbbY6,s=0+JtkGh2O8a8HRyJf8bYYg==,i=4096";
+    const PROOF: &str = "c=biws,r=iHTbZcvWDz+mnWeu67UH0VDNRrdPwJzxCyBC/L+SrmSXbbY6,p=WdluwLPfyrrl9ysb+JCPd6W9komkvE1punssNd7LsUk=";
+
+    fn client() -> ScramSha256 {
+        ScramSha256::new_inner(b"correct horse 9", ChannelBinding::unsupported(), NONCE.to_string())
+    }
+
+    #[test]
+    fn an_exchange_of_psql() {
+        let mut client = client();
+        assert_eq!(client.message(), format!("n,,n=,r={NONCE}").as_bytes());
+        client.update(FIRST).unwrap();
+        assert_eq!(client.message(), PROOF.as_bytes());
+        client.finish(b"v=M2mkQOQsvHbf9FTMSV/UZFyZaiPpSkUKvspQ1Za5Mbg=").unwrap();
+    }
+
+    #[test]
+    fn another_signature_is_an_error() {
+        let mut client = client();
+        client.update(FIRST).unwrap();
+        let e = client.finish(b"v=M2mkQOQsvHbf9FTMSV/UZFyZaiPpSkUKvspQ1Za5Mbk=").unwrap_err();
+        assert_eq!(e.kind(), io::ErrorKind::InvalidInput);
+    }
+
+    #[test]
+    fn the_servers_own_error_is_reported() {
+        let mut client = client();
+        client.update(FIRST).unwrap();
+        let e = client.finish(b"e=invalid-proof").unwrap_err();
+        assert_eq!((e.kind(), e.to_string()), (io::ErrorKind::Other, "SCRAM error: invalid-proof".to_string()));
+    }
+
+    #[test]
+    fn another_nonce_is_an_error() {
+        assert!(client().update(b"r=else,s=AAAA,i=4096").is_err());
+    }
+
+    #[test]
+    fn a_password_is_prepared() {
+        let exchange = |password: &str| {
+            let mut client = ScramSha256::new_inner(password.as_bytes(), ChannelBinding::unsupported(), NONCE.to_string());
+            client.update(FIRST).unwrap();
+            client.message().to_vec()
+        };
+        assert_eq!(exchange("caf\u{e9}"), exchange("cafe\u{301}"));
+    }
+
+    #[test]
+    fn each_client_has_its_own_nonce() {
+        let first = ScramSha256::new(b"p", ChannelBinding::unrequested());
+        let second = ScramSha256::new(b"p", ChannelBinding::unrequested());
+        assert!(first.message().starts_with(b"y,,n=,r="));
+        assert_ne!(first.message(), second.message());
+    }
+}
