@@ -52,6 +52,8 @@ def row_module(name):
     text = erase(open(os.path.join(generate.top, 'crates/pgp_rows/src', name)).read())
     if name == 'codec.rt':
         for first, after in CUT:
+            if first not in text or after not in text:
+                raise Unknown(f'crates/pgp_rows/src/{name}: no {first}')
             text = text[:text.index(first)] + text[text.index(after):]
     for old, new in WORDS:
         text = text.replace(old, new)

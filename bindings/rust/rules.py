@@ -37,6 +37,12 @@ PLACES = [
 SLICED = {'pgp_message/parser', 'pgp_message/frames'}
 
 
+def without_drop_bounds(text):
+    """In Rattle `Drop` as a bound says that a value may be dropped; in Rust each may."""
+    text = re.sub(r'^ *\w+::\w+: Drop,\n', '', text.replace(' + Drop', ''), flags=re.M)
+    return re.sub(r'^ *where\n(?= *\{)', '', re.sub(r'\b([A-Z]\w*): Drop\b', r'\1', text), flags=re.M)
+
+
 def global_allocator(text):
     for name in set(re.findall(r"fn \w+<(?:'\w+, )?([TR]): (?:Memory|Allocator \+ Copy)", text)):
         start = r"(fn \w+<(?:'\w+, )?)%s: (Memory|Allocator \+ Copy)((?:[^{;])*)" % name
@@ -50,7 +56,7 @@ def global_allocator(text):
     text = re.sub(r'^use std::alloc::[^;]*;\n', '', text, flags=re.M)
     text = re.sub(r'^(use (?:crate|pgp_base)::\{?[^;]*?)\b(?:Memory, |, Memory\b)', r'\1', text, flags=re.M)
     text = re.sub(r'^use (?:pgp_base|crate::memory)::Memory;\n', '', text, flags=re.M)
-    return re.sub(r'\{(\w+)\};', r'\1;', text)
+    return re.sub(r'^(use [\w:]+::)\{(\w+)\};', r'\1\2;', text, flags=re.M)
 
 
 def shown_errors(text):
@@ -59,8 +65,8 @@ def shown_errors(text):
     for m in reversed(list(start.finditer(text))):
         end = after_brace(text, m.end() - 1)
         body = text[m.end():end]
-        arms = ''.join('            %s::%s => "%s",\n' % (m[3], name, words) if not fields else '            %s::%s(..) => "%s",\n' % (m[3], name, words)
-                       for words, name, fields in re.findall(r'#\[error\("(\w+)"\)\]\n\s*(\w+)(\(?)', body))
+        named = re.findall(r'#\[error\("(\w+)"\)\]\n\s*(\w+)(\(?)', body)
+        arms = ''.join(f'            {m[3]}::{name}{"(..)" * bool(fields)} => "{words}",\n' for words, name, fields in named)
         body = re.sub(r'^\s*#\[error\(.*\)\]\n', '', body, flags=re.M)
         text = text[:m.start()] + f'''#[derive({m[1]})]
 {m[2]}{body}
@@ -88,7 +94,7 @@ def inlined(text):
 def in_one_crate(text, crate):
     text = re.sub(r'^ *(?:pgp_\w+::)?laws::\w+(?:::<[^>]*>)?\([^;]*\);\n', '', text, flags=re.M)
     if not re.search(r'\blaws::', text):
-        text = re.sub(r'\blaws, |, laws\b', '', text)
+        text = re.sub(r'^(use [^;]*?)(?:\blaws, |, laws\b)', r'\1', text, flags=re.M)
     text = re.sub(r'^use (?:crate|pgp_\w+)::laws;\n', '', text, flags=re.M)
     text = re.sub(r'^(?:pub )?mod (?:laws|memory|tests);\n|^#\[cfg\(test\)\]\n|^pub use memory::.*\n', '', text, flags=re.M)
     text = re.sub(r'(?<![\w:])pgp_text::', 'crate::kit::text::', text)
@@ -126,8 +132,7 @@ def leftovers(text, modules):
 
 def fit(text, crate, name, used):
     """The erased text as a module of the package; `name` is its path without the crate's `src` and the ending."""
-    text = re.sub(r': Drop\b', ':', re.sub(r' \+ Drop\b', '', text))
-    text = global_allocator(text)
+    text = global_allocator(without_drop_bounds(text))
     for old, new in NAMES:
         text = text.replace(old, new)
     text = re.sub(r'(?<!&)\bBytes::as_slice\(self\)', '&self[..]', text)
