@@ -10,13 +10,13 @@ target = os.environ['CARGO_TARGET_DIR']
 
 # A module of src/proved, a text of it, and the fault.
 FAULTS = [
-    ('pgp_frontend/values.rs', 'if count == u16::MAX {', 'if count == 3 {'),
+    ('pgp_frontend/values.rs', 'if count == u16::MAX {', 'if count == u16::MAX - 1 {'),
     ('pgp_base/counted.rs', '                self.failed = Some(e);\n', ''),
     ('pgp_frontend/over_bytes.rs', "message(b'Q'", "message(b'q'"),
     ('pgp_auth/scram/verify.rs', 'difference(expected, bytes) == 0', 'difference(expected, bytes) != 1'),
     ('pgp_types/network.rs', 'IPV6 => IpAddr::from(octets::<16>', 'IPV6 => IpAddr::from(octets::<4>'),
     ('pgp_auth/escape.rs', "memchr(b'\\\\', input.as_bytes())", "memchr(b'/', input.as_bytes())"),
-    ('pgp_base/number.rs', 'i32::try_from(n).map_err(|_| Error::TooLarge)', 'Ok(n as i16 as i32)'),
+    ('pgp_base/writing.rs', 'Ok(size as u32)', 'Ok(size as u16 as u32)'),
     ('pgp_values/numeric.rs', 'const BASE: u16 = 10_000', 'const BASE: u16 = 10_001'),
 ]
 

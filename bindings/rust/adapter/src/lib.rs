@@ -6,6 +6,8 @@
 #![warn(missing_docs, rust_2018_idioms)]
 
 pub mod authentication;
+#[cfg(feature = "extensions")]
+pub mod dialogue;
 pub mod escape;
 mod kit;
 pub mod message;

@@ -5,4 +5,6 @@ pub mod backend;
 pub mod client;
 pub mod frontend;
 #[cfg(feature = "extensions")]
+pub mod in_place;
+#[cfg(feature = "extensions")]
 pub mod reply;
