@@ -5,10 +5,11 @@
 # examples/record.sh, which lists a session of psql with pgtrace; binary values, and programs over them.
 # `make library` proves and builds the library for C (docs/C.md), `make install PREFIX=..` puts it and the program there, and
 # `make check-c` tries it from C, C++ and Python (`LIBRARIES=gate`, right behind `rt ci`, takes the libraries below it from there).
+# `make rust` writes the Cargo package out/rust/postgres-protocol (docs/RUST.md), `make check-rust` tries it.
 # `make check-vendor` runs the commands of docs/VENDORING.md in an empty folder. `make contracts` writes docs/CONTRACTS.md from the sources.
 # `make bench` times the works of crates/pgp_bench, `make bench WORKS=write` those whose names begin so.
 
-.PHONY: run program test edits contracts bench live library install check-c check-vendor
+.PHONY: run program test edits contracts bench live library install check-c check-vendor rust check-rust
 
 run:
 	@scripts/sample
@@ -58,3 +59,9 @@ check-c:
 
 check-vendor:
 	@scripts/check_vendor $(LIBRARIES)
+
+rust:
+	@python3 -B bindings/rust/generate.py out/rust/postgres-protocol
+
+check-rust:
+	@scripts/check_rust

@@ -1,0 +1,3 @@
+//! Which of a server's messages answers which request.
+
+pub use crate::proved::pgp_client::*;

@@ -1,0 +1,337 @@
+//! The messages of a server.
+#![allow(missing_docs)]
+
+use crate::proved::pgp_base::{Error, FallibleIterator as _};
+use crate::proved::pgp_message as proved;
+use crate::{Oid, status};
+use bytes::{Bytes, BytesMut};
+use fallible_iterator::FallibleIterator;
+use std::ops::Range;
+use std::{fmt, io};
+
+macro_rules! tags {
+    ($($name:ident = $tag:literal;)*) => { $(pub const $name: u8 = $tag;)* };
+}
+
+tags! {
+    AUTHENTICATION_TAG = b'R';
+    BACKEND_KEY_DATA_TAG = b'K';
+    BIND_COMPLETE_TAG = b'2';
+    CLOSE_COMPLETE_TAG = b'3';
+    COMMAND_COMPLETE_TAG = b'C';
+    COPY_DATA_TAG = b'd';
+    COPY_DONE_TAG = b'c';
+    COPY_IN_RESPONSE_TAG = b'G';
+    COPY_OUT_RESPONSE_TAG = b'H';
+    DATA_ROW_TAG = b'D';
+    EMPTY_QUERY_RESPONSE_TAG = b'I';
+    ERROR_RESPONSE_TAG = b'E';
+    NO_DATA_TAG = b'n';
+    NOTICE_RESPONSE_TAG = b'N';
+    NOTIFICATION_RESPONSE_TAG = b'A';
+    PARAMETER_DESCRIPTION_TAG = b't';
+    PARAMETER_STATUS_TAG = b'S';
+    PARSE_COMPLETE_TAG = b'1';
+    PORTAL_SUSPENDED_TAG = b's';
+    READY_FOR_QUERY_TAG = b'Z';
+    ROW_DESCRIPTION_TAG = b'T';
+}
+
+/// The tag and the length that a frame begins with.
+#[derive(Debug, Copy, Clone)]
+pub struct Header(proved::Header);
+
+#[allow(clippy::len_without_is_empty)]
+impl Header {
+    #[inline]
+    pub fn parse(buf: &[u8]) -> io::Result<Option<Header>> {
+        match proved::Header::parse(buf) {
+            Ok(header) => Ok(header.map(Header)),
+            Err(e) => Err(status::data(e)),
+        }
+    }
+
+    #[inline]
+    pub fn tag(self) -> u8 {
+        self.0.tag()
+    }
+
+    #[inline]
+    pub fn len(self) -> i32 {
+        self.0.len()
+    }
+}
+
+/// A message of a server.
+#[non_exhaustive]
+pub enum Message {
+    AuthenticationCleartextPassword,
+    AuthenticationGss,
+    AuthenticationKerberosV5,
+    AuthenticationMd5Password(AuthenticationMd5PasswordBody),
+    AuthenticationOk,
+    AuthenticationScmCredential,
+    AuthenticationSspi,
+    AuthenticationGssContinue(AuthenticationGssContinueBody),
+    AuthenticationSasl(AuthenticationSaslBody),
+    AuthenticationSaslContinue(AuthenticationSaslContinueBody),
+    AuthenticationSaslFinal(AuthenticationSaslFinalBody),
+    BackendKeyData(BackendKeyDataBody),
+    BindComplete,
+    CloseComplete,
+    CommandComplete(CommandCompleteBody),
+    CopyData(CopyDataBody),
+    CopyDone,
+    CopyInResponse(CopyInResponseBody),
+    CopyOutResponse(CopyOutResponseBody),
+    DataRow(DataRowBody),
+    EmptyQueryResponse,
+    ErrorResponse(ErrorResponseBody),
+    NoData,
+    NoticeResponse(NoticeResponseBody),
+    NotificationResponse(NotificationResponseBody),
+    ParameterDescription(ParameterDescriptionBody),
+    ParameterStatus(ParameterStatusBody),
+    ParseComplete,
+    PortalSuspended,
+    ReadyForQuery(ReadyForQueryBody),
+    RowDescription(RowDescriptionBody),
+}
+
+impl Message {
+    /// The message at the front, which is taken off; none where it isn't whole. A frame with a malformed body is taken off as well.
+    #[inline]
+    pub fn parse(buf: &mut BytesMut) -> io::Result<Option<Message>> {
+        let tag = buf.first().copied();
+        match proved::Message::parse(buf) {
+            Ok(Some(message)) => in_this_api(message).map(Some),
+            Ok(None) => Ok(None),
+            Err(e) => Err(rejected(tag, e)),
+        }
+    }
+}
+
+/// The error of a frame. To this API a negotiation of the version is no message, whatever its body is.
+#[cold]
+fn rejected(tag: Option<u8>, e: Error) -> io::Error {
+    match (tag, e) {
+        (_, Error::InvalidLength) => status::io(e),
+        (Some(tag @ proved::NEGOTIATE_PROTOCOL_VERSION_TAG), _) => status::io(Error::UnknownTag(tag)),
+        _ => status::io(e),
+    }
+}
+
+/// The message in the words of this API, which has no place for what version 3.2 brought.
+#[inline(always)]
+fn in_this_api(message: proved::Message<Bytes>) -> io::Result<Message> {
+    use proved::Message as P;
+    Ok(match message {
+        P::AuthenticationCleartextPassword => Message::AuthenticationCleartextPassword,
+        P::AuthenticationGss => Message::AuthenticationGss,
+        P::AuthenticationKerberosV5 => Message::AuthenticationKerberosV5,
+        P::AuthenticationMd5Password(body) => Message::AuthenticationMd5Password(AuthenticationMd5PasswordBody(body)),
+        P::AuthenticationOk => Message::AuthenticationOk,
+        P::AuthenticationScmCredential => Message::AuthenticationScmCredential,
+        P::AuthenticationSspi => Message::AuthenticationSspi,
+        P::AuthenticationGssContinue(body) => Message::AuthenticationGssContinue(AuthenticationGssContinueBody(body)),
+        P::AuthenticationSasl(body) => Message::AuthenticationSasl(AuthenticationSaslBody(body)),
+        P::AuthenticationSaslContinue(body) => Message::AuthenticationSaslContinue(AuthenticationSaslContinueBody(body)),
+        P::AuthenticationSaslFinal(body) => Message::AuthenticationSaslFinal(AuthenticationSaslFinalBody(body)),
+        P::BackendKeyData(body) => match body.secret_key() {
+            Some(secret_key) => Message::BackendKeyData(BackendKeyDataBody { process_id: body.process_id(), secret_key }),
+            None => return Err(status::io(Error::NotDrained)),
+        },
+        P::BindComplete => Message::BindComplete,
+        P::CloseComplete => Message::CloseComplete,
+        P::CommandComplete(body) => Message::CommandComplete(CommandCompleteBody(body)),
+        P::CopyData(body) => Message::CopyData(CopyDataBody(body)),
+        P::CopyDone => Message::CopyDone,
+        P::CopyInResponse(body) => Message::CopyInResponse(CopyInResponseBody(body)),
+        P::CopyOutResponse(body) => Message::CopyOutResponse(CopyOutResponseBody(body)),
+        P::DataRow(body) => Message::DataRow(DataRowBody(body)),
+        P::EmptyQueryResponse => Message::EmptyQueryResponse,
+        P::ErrorResponse(body) => Message::ErrorResponse(ErrorResponseBody(body)),
+        P::NoData => Message::NoData,
+        P::NoticeResponse(body) => Message::NoticeResponse(NoticeResponseBody(body)),
+        P::NotificationResponse(body) => Message::NotificationResponse(NotificationResponseBody(body)),
+        P::ParameterDescription(body) => Message::ParameterDescription(ParameterDescriptionBody(body)),
+        P::ParameterStatus(body) => Message::ParameterStatus(ParameterStatusBody(body)),
+        P::ParseComplete => Message::ParseComplete,
+        P::PortalSuspended => Message::PortalSuspended,
+        P::ReadyForQuery(body) => Message::ReadyForQuery(ReadyForQueryBody(body)),
+        P::RowDescription(body) => Message::RowDescription(RowDescriptionBody(body)),
+        P::NegotiateProtocolVersion(_) => return Err(status::io(Error::UnknownTag(proved::NEGOTIATE_PROTOCOL_VERSION_TAG))),
+    })
+}
+
+/// Bodies, as the proved ones; what each method calls.
+macro_rules! bodies {
+    ($($name:ident $(<$s:ty>)? { $($(#[$a:meta])* $fn:ident: $t:ty, $how:ident;)* })*) => {$(
+        pub struct $name(proved::$name$(<$s>)?);
+
+        impl $name {$(
+            #[inline]
+            $(#[$a])*
+            pub fn $fn(&self) -> $t {
+                bodies!($how, self.0.$fn())
+            }
+        )*}
+    )*};
+    (plain, $e:expr) => { $e };
+    (text, $e:expr) => { $e.map_err(status::io) };
+    (SaslMechanisms, $e:expr) => { SaslMechanisms($e) };
+    (ColumnFormats, $e:expr) => { ColumnFormats($e) };
+    (ErrorFields, $e:expr) => { ErrorFields($e) };
+    (Parameters, $e:expr) => { Parameters($e) };
+    (Fields, $e:expr) => { Fields($e) };
+    (DataRowRanges, $e:expr) => { DataRowRanges($e) };
+}
+
+bodies! {
+    AuthenticationMd5PasswordBody { salt: [u8; 4], plain; }
+    AuthenticationGssContinueBody<Bytes> { data: &[u8], plain; }
+    AuthenticationSaslBody<Bytes> { mechanisms: SaslMechanisms<'_>, SaslMechanisms; }
+    AuthenticationSaslContinueBody<Bytes> { data: &[u8], plain; }
+    AuthenticationSaslFinalBody<Bytes> { data: &[u8], plain; }
+    CommandCompleteBody<Bytes> { tag: io::Result<&str>, text; }
+    CopyDataBody<Bytes> { data: &[u8], plain; }
+    CopyInResponseBody<Bytes> { format: u8, plain; column_formats: ColumnFormats<'_>, ColumnFormats; }
+    CopyOutResponseBody<Bytes> { format: u8, plain; column_formats: ColumnFormats<'_>, ColumnFormats; }
+    DataRowBody<Bytes> { ranges: DataRowRanges<'_>, DataRowRanges; buffer: &[u8], plain; buffer_bytes: &Bytes, plain; }
+    ErrorResponseBody<Bytes> { fields: ErrorFields<'_>, ErrorFields; }
+    NoticeResponseBody<Bytes> { fields: ErrorFields<'_>, ErrorFields; }
+    NotificationResponseBody<Bytes> { process_id: i32, plain; channel: io::Result<&str>, text; message: io::Result<&str>, text; }
+    ParameterDescriptionBody<Bytes> { parameters: Parameters<'_>, Parameters; }
+    ParameterStatusBody<Bytes> { name: io::Result<&str>, text; value: io::Result<&str>, text; }
+    ReadyForQueryBody { status: u8, plain; }
+    RowDescriptionBody<Bytes> { fields: Fields<'_>, Fields; }
+}
+
+impl CopyDataBody {
+    #[inline]
+    pub fn into_bytes(self) -> Bytes {
+        self.0.into_bytes()
+    }
+}
+
+impl Clone for DataRowBody {
+    fn clone(&self) -> DataRowBody {
+        DataRowBody(status::ample(self.0.clone()))
+    }
+}
+
+impl fmt::Debug for DataRowBody {
+    fn fmt(&self, f: &mut fmt::Formatter<'_>) -> fmt::Result {
+        let len = self.0.ranges().size_hint().0;
+        f.debug_struct("DataRowBody").field("storage", self.0.buffer_bytes()).field("len", &len).finish()
+    }
+}
+
+pub struct BackendKeyDataBody {
+    process_id: i32,
+    secret_key: i32,
+}
+
+impl BackendKeyDataBody {
+    #[inline]
+    pub fn process_id(&self) -> i32 {
+        self.process_id
+    }
+
+    #[inline]
+    pub fn secret_key(&self) -> i32 {
+        self.secret_key
+    }
+}
+
+/// Iterators over the proved ones.
+macro_rules! iterators {
+    ($($name:ident, $item:ty, $how:expr, $e:expr;)*) => {$(
+        pub struct $name<'a>(proved::$name<'a>);
+
+        impl<'a> FallibleIterator for $name<'a> {
+            type Item = $item;
+            type Error = io::Error;
+
+            #[inline]
+            fn next(&mut self) -> io::Result<Option<$item>> {
+                match self.0.next() {
+                    Ok(Some(item)) => Ok(Some($how(item))),
+                    Ok(None) => Ok(None),
+                    Err(e) => Err($e(e)),
+                }
+            }
+
+            #[inline]
+            fn size_hint(&self) -> (usize, Option<usize>) {
+                self.0.size_hint()
+            }
+        }
+    )*};
+}
+
+iterators! {
+    SaslMechanisms, &'a str, same, mechanisms;
+    ColumnFormats, u16, same, status::io;
+    DataRowRanges, Option<Range<usize>>, same, status::io;
+    ErrorFields, ErrorField<'a>, ErrorField, status::io;
+    Parameters, Oid, same, status::io;
+    Fields, Field<'a>, Field, status::io;
+}
+
+#[inline(always)]
+fn same<T>(item: T) -> T {
+    item
+}
+
+#[cold]
+fn mechanisms(e: Error) -> io::Error {
+    match e {
+        Error::NotDrained => status::data(e),
+        e => status::io(e),
+    }
+}
+
+pub struct ErrorField<'a>(proved::ErrorField<'a>);
+
+impl ErrorField<'_> {
+    #[inline]
+    pub fn type_(&self) -> u8 {
+        self.0.type_()
+    }
+
+    #[inline]
+    #[deprecated(note = "use value_bytes instead", since = "0.6.7")]
+    pub fn value(&self) -> &str {
+        std::str::from_utf8(self.value_bytes()).expect("an error's field is UTF-8")
+    }
+
+    #[inline]
+    pub fn value_bytes(&self) -> &[u8] {
+        self.0.value_bytes()
+    }
+}
+
+pub struct Field<'a>(proved::Field<'a>);
+
+/// What is known of a column.
+macro_rules! of_column {
+    ($($fn:ident: $t:ty;)*) => {
+        impl<'a> Field<'a> {$(
+            #[inline]
+            pub fn $fn(&self) -> $t {
+                self.0.$fn()
+            }
+        )*}
+    };
+}
+
+of_column! {
+    name: &'a str;
+    table_oid: Oid;
+    column_id: i16;
+    type_oid: Oid;
+    type_size: i16;
+    type_modifier: i32;
+    format: i16;
+}

@@ -1,0 +1,77 @@
+"""generate.py OUT: the Cargo package OUT: the `.rt` sources without their contracts, at the global allocator, as modules of one crate,
+over kit/ and under adapter/. A construct that no rule knows stops it with the place."""
+import os, re, shutil, sys
+from erase import Unknown, erase, is_part
+from rules import PLACES, fit, leftovers
+
+here = os.path.dirname(os.path.abspath(__file__))
+top = os.path.dirname(os.path.dirname(here))
+CORE = ['pgp_base', 'pgp_frontend', 'pgp_message', 'pgp_types', 'pgp_auth', 'pgp_saslprep']
+MORE = ['pgp_frontend_read', 'pgp_message_write', 'pgp_client', 'pgp_session', 'pgp_values']
+# The crates that a `use` may name; else it names a module.
+NAMES = set(CORE + MORE) | {'pgp_rows', 'postgres_protocol', 'std', 'crate', 'bytes', 'self', 'super'}
+LEFT_OUT = re.compile(r'^(laws|memory|tests)(/|\.rt$)')
+
+
+def sources(crate):
+    """The names of a crate's files below `src`."""
+    root = os.path.join(top, 'crates', crate, 'src')
+    for folder, _, files in sorted(os.walk(root)):
+        for file in sorted(files):
+            name = os.path.relpath(os.path.join(folder, file), root)
+            if file.endswith('.rt') and not LEFT_OUT.match(name):
+                yield name
+
+
+def place(source, line):
+    """The number of the source's line that has this text, or none."""
+    return next((f':{i}' for i, have in enumerate(source.split('\n'), 1) if line in have), '')
+
+
+def module(crate, name, used):
+    path = os.path.join('crates', crate, 'src', name)
+    source = open(os.path.join(top, path)).read()
+    erased = erase(source)
+    if not is_part(erased, source):
+        raise Unknown(f'{path}: what stays is no part of the source')
+    text = fit(erased, crate, f'{crate}/{name[:-3]}', used)
+    for line, why in leftovers(text, {os.path.basename(n)[:-3] for n in sources(crate)}):
+        raise Unknown(f'{path}{place(source, line)}: no rule for `{why}`: {line}')
+    return text
+
+
+def write(path, text):
+    os.makedirs(os.path.dirname(path), exist_ok=True)
+    with open(path, 'w') as file:
+        file.write(text)
+
+
+def generate(out, more=()):
+    used = set()
+    texts = {}
+    for crate in CORE + MORE + list(more):
+        for name in sources(crate):
+            texts[f'{crate}/' + ('mod.rs' if name == 'lib.rt' else name[:-3] + '.rs')] = module(crate, name, used)
+    for i, (file, _, old, _) in enumerate(PLACES):
+        if i not in used:
+            raise Unknown(f'crates/{file.replace("/", "/src/", 1)}.rt: no such file: {old}')
+    shutil.rmtree(os.path.join(out, 'src'), ignore_errors=True)
+    shutil.copytree(os.path.join(here, 'adapter'), out, dirs_exist_ok=True)
+    shutil.copytree(os.path.join(here, 'kit'), os.path.join(out, 'src/kit'), dirs_exist_ok=True)
+    for name, text in texts.items():
+        write(os.path.join(out, 'src/proved', name), text)
+    for licence in ('LICENSE-APACHE', 'LICENSE-MIT'):
+        shutil.copy(os.path.join(top, licence), out)
+    gate = '#[cfg(feature = "extensions")]\n'
+    mods = ''.join((gate if c not in CORE else '') + f'pub mod {c};\n' for c in CORE + MORE + list(more))
+    head = '//! The generated modules: the proved sources without their contracts. Change the sources, not these.\n'
+    write(os.path.join(out, 'src/proved/mod.rs'), head + mods)
+    return sum(text.count('\n') for text in texts.values()), len(texts)
+
+
+if __name__ == '__main__':
+    try:
+        lines, files = generate(sys.argv[1])
+    except Unknown as e:
+        sys.exit(f'rust: {e}')
+    print(f'{sys.argv[1]}: {files} modules, {lines} lines')

@@ -1,0 +1,209 @@
+//! The methods of the sources' trait `Memory`, at the global allocator.
+
+use super::base64::{self, DecodeAllocError};
+use super::{AllocError, AllocFailed, Global, hex};
+use ::bytes::{Buf, BufMut, Bytes, BytesMut};
+use std::collections::{TryReserveError, VecDeque};
+use std::fmt::Display;
+use std::mem;
+
+type Made<T> = Result<T, AllocError>;
+
+#[inline]
+fn made(room: Result<(), TryReserveError>) -> Made<()> {
+    match room {
+        Ok(()) => Ok(()),
+        Err(_) => Err(AllocError),
+    }
+}
+
+impl Global {
+    #[inline]
+    pub fn list_with_capacity<T>(self, capacity: usize) -> Made<Vec<T>> {
+        let mut list = Vec::new();
+        made(list.try_reserve_exact(capacity))?;
+        Ok(list)
+    }
+
+    #[inline]
+    pub fn list_of<T: Copy>(self, items: &[T]) -> Made<Vec<T>> {
+        let mut list = self.list_with_capacity(items.len())?;
+        list.extend_from_slice(items);
+        Ok(list)
+    }
+
+    #[inline]
+    pub fn push<T>(list: &mut Vec<T>, value: T) -> Result<(), AllocFailed<T>> {
+        if list.len() == list.capacity() && list.try_reserve(1).is_err() {
+            return Err(AllocFailed { value });
+        }
+        list.push(value);
+        Ok(())
+    }
+
+    #[inline]
+    pub fn push_back<T>(queue: &mut VecDeque<T>, value: T) -> Result<(), AllocFailed<T>> {
+        if queue.len() == queue.capacity() && queue.try_reserve(1).is_err() {
+            return Err(AllocFailed { value });
+        }
+        queue.push_back(value);
+        Ok(())
+    }
+
+    #[inline]
+    pub fn reserve<T>(list: &mut Vec<T>, additional: usize) -> Made<()> {
+        made(list.try_reserve(additional))
+    }
+
+    #[inline]
+    pub fn extend<T: Copy>(list: &mut Vec<T>, more: &[T]) -> Made<()> {
+        made(list.try_reserve(more.len()))?;
+        list.extend_from_slice(more);
+        Ok(())
+    }
+
+    pub fn list_filled(self, byte: u8, len: usize) -> Made<Vec<u8>> {
+        let mut list = self.list_with_capacity(len)?;
+        list.resize(len, byte);
+        Ok(list)
+    }
+
+    pub fn resize(list: &mut Vec<u8>, len: usize, byte: u8) -> Made<()> {
+        made(list.try_reserve(len.saturating_sub(list.len())))?;
+        list.resize(len, byte);
+        Ok(())
+    }
+
+    #[inline]
+    pub fn text_with_capacity(self, capacity: usize) -> Made<String> {
+        let mut text = String::new();
+        made(text.try_reserve_exact(capacity))?;
+        Ok(text)
+    }
+
+    #[inline]
+    pub fn text_of(self, text: &str) -> Made<String> {
+        let mut all = self.text_with_capacity(text.len())?;
+        all.push_str(text);
+        Ok(all)
+    }
+
+    #[inline]
+    pub fn push_str(text: &mut String, more: &str) -> Made<()> {
+        made(text.try_reserve(more.len()))?;
+        text.push_str(more);
+        Ok(())
+    }
+
+    #[inline]
+    pub fn push_char(text: &mut String, more: char) -> Made<()> {
+        made(text.try_reserve(more.len_utf8()))?;
+        text.push(more);
+        Ok(())
+    }
+
+    pub fn push_shown<D: Display>(text: &mut String, value: D) -> Made<()> {
+        Global::push_str(text, &value.to_string())
+    }
+
+    pub fn hex_of(self, bytes: &[u8]) -> Made<String> {
+        let mut text = self.text_with_capacity(bytes.len().saturating_mul(2))?;
+        text.extend(bytes.iter().flat_map(|byte| hex::digits(*byte)).map(char::from));
+        Ok(text)
+    }
+
+    pub fn push_base64(text: &mut String, bytes: &[u8]) -> Made<()> {
+        made(text.try_reserve(bytes.len().div_ceil(3).saturating_mul(4)))?;
+        base64::append(bytes, text);
+        Ok(())
+    }
+
+    pub fn base64_shown(self, text: &[u8]) -> Result<Vec<u8>, DecodeAllocError> {
+        base64::decode(text).map_err(DecodeAllocError::DecodeError)
+    }
+
+    #[inline]
+    pub fn shared_of(self, bytes: &[u8]) -> Made<Bytes> {
+        Ok(Bytes::copy_from_slice(bytes))
+    }
+
+    #[inline]
+    pub fn share(list: &mut Vec<u8>) -> Made<Bytes> {
+        Ok(Bytes::from(mem::take(list)))
+    }
+
+    #[inline]
+    pub fn clone_shared(bytes: &Bytes) -> Made<Bytes> {
+        Ok(bytes.clone())
+    }
+
+    #[inline]
+    pub fn slice_shared(bytes: &Bytes, start: usize, end: usize) -> Made<Bytes> {
+        Ok(bytes.slice(start..end))
+    }
+
+    #[inline]
+    pub fn freeze_to(buf: &mut BytesMut, at: usize) -> Made<Bytes> {
+        Ok(buf.split_to(at).freeze())
+    }
+
+    #[inline]
+    pub fn reserve_bytes(buf: &mut BytesMut, additional: usize) -> Made<()> {
+        buf.reserve(additional);
+        Ok(())
+    }
+
+    #[inline]
+    pub fn append(buf: &mut BytesMut, more: &[u8]) -> Made<()> {
+        buf.extend_from_slice(more);
+        Ok(())
+    }
+
+    #[inline]
+    pub fn append_from<T: Buf>(buf: &mut BytesMut, more: &mut T) -> Made<()> {
+        buf.put(more);
+        Ok(())
+    }
+}
+
+#[cfg(test)]
+mod tests {
+    use super::*;
+
+    #[test]
+    fn lists_and_texts_that_no_memory_holds_are_errors() {
+        assert!(Global.list_with_capacity::<u64>(usize::MAX).is_err());
+        assert!(Global.text_with_capacity(usize::MAX).is_err());
+        let mut list = vec![1u8];
+        assert_eq!(Global::reserve(&mut list, usize::MAX), Err(AllocError));
+        assert_eq!(list, [1]);
+    }
+
+    #[test]
+    fn what_is_appended_stands_after_the_rest() {
+        let mut list = Global.list_of(b"ab").unwrap();
+        assert!(Global::push(&mut list, b'c').is_ok());
+        Global::extend(&mut list, b"de").unwrap();
+        Global::resize(&mut list, 7, b'!').unwrap();
+        assert_eq!(list, b"abcde!!");
+        let mut text = Global.text_of("x").unwrap();
+        Global::push_char(&mut text, 'é').unwrap();
+        Global::push_shown(&mut text, 4096).unwrap();
+        assert_eq!(text, "xé4096");
+        assert_eq!(Global.hex_of(&[0, 0x9f, 0xab]).unwrap(), "009fab");
+    }
+
+    #[test]
+    fn a_frame_is_taken_off_the_front() {
+        let mut buf = BytesMut::from(&b"abcdef"[..]);
+        let front = Global::freeze_to(&mut buf, 2).unwrap();
+        assert_eq!((&front[..], &buf[..]), (&b"ab"[..], &b"cdef"[..]));
+        let mut more = Bytes::from_static(b"gh");
+        Global::append_from(&mut buf, &mut more).unwrap();
+        assert_eq!((&buf[..], more.len()), (&b"cdefgh"[..], 0));
+        let mut list = vec![1, 2, 3];
+        let all = Global::share(&mut list).unwrap();
+        assert_eq!(Global::slice_shared(&all, 1, 3).unwrap(), &[2, 3][..]);
+        assert!(list.is_empty());
+    }
+}

@@ -1,0 +1,72 @@
+//! What the proved sources call that Rattle's kit has and std or crates.io hasn't, under the kit's names, at the global allocator.
+//! It stands for the kit's statements, and isn't proved.
+#![allow(unused, missing_docs)]
+
+pub mod base64;
+pub mod digests;
+pub mod hex;
+pub mod lanes;
+mod memory;
+pub mod random;
+pub mod text;
+
+use ::bytes::{Bytes, BytesMut};
+use unicode_normalization::UnicodeNormalization;
+
+pub mod prelude {
+    pub use super::{AllocError, AllocFailed, Global, PushReserved as _};
+}
+
+/// An allocation failed.
+#[derive(Debug, Clone, Copy, PartialEq, Eq)]
+pub struct AllocError;
+
+/// The global allocator. Where it has no memory for a list or a text, a call says so; where it has none for the crate `bytes`, the
+/// program ends.
+#[derive(Debug, Clone, Copy, PartialEq, Eq)]
+pub struct Global;
+
+/// An allocation failed, and the value comes back.
+pub struct AllocFailed<T> {
+    pub value: T,
+}
+
+/// The bytes of a shared or growing buffer.
+pub trait AsSlice {
+    fn as_slice(&self) -> &[u8];
+}
+
+impl AsSlice for Bytes {
+    #[inline]
+    fn as_slice(&self) -> &[u8] {
+        self
+    }
+}
+
+impl AsSlice for BytesMut {
+    #[inline]
+    fn as_slice(&self) -> &[u8] {
+        self
+    }
+}
+
+/// `push` where room was reserved.
+pub trait PushReserved<T> {
+    fn push_reserved(&mut self, value: T);
+}
+
+impl<T> PushReserved<T> for Vec<T> {
+    #[inline]
+    fn push_reserved(&mut self, value: T) {
+        self.push(value)
+    }
+}
+
+/// The text in Unicode's form NFKC.
+pub fn to_nfkc(_alloc: Global, text: &str) -> Result<String, AllocError> {
+    let mut out = String::new();
+    for c in text.nfkc() {
+        Global::push_char(&mut out, c)?;
+    }
+    Ok(out)
+}

@@ -1,0 +1,143 @@
+"""What makes plain Rust of an erased text. General rules stand for a difference of the languages and apply wherever they match; single
+ones change one place, and stop the generator where it isn't found as often as they say. What no rule knows is found by `leftovers`."""
+import re
+from erase import Unknown, after_brace
+
+# The allocator: each text is taken at the global one, so that its parameters and arguments go.
+PARAMETER = re.compile(r'(?:, )?\bA: (?:Allocator|Memory)(?: \+ Copy)?(?: = Global)?(?:, )?')
+
+# From the kit's crates to the shim: (text of the source, text of the package).
+NAMES = [
+    ('use base64::DecodeAllocError;\n', 'use crate::kit::base64::DecodeAllocError;\n'),
+    ('use base64::engine::general_purpose::STANDARD;', 'use crate::kit::base64::STANDARD;'),
+    ('use sha2::{Digest, Sha256};', 'use crate::kit::digests::Sha256;'),
+    ('use md5::{Digest, Md5};', 'use crate::kit::digests::Md5;'),
+    ('hex::encode_to_slice', 'crate::kit::hex::encode_to_slice'),
+    ('use rand_core::Rng;', 'use crate::kit::random::Rng;'),
+    ('use rand::RngExt;', 'use crate::kit::random::RngExt;'),
+    ('use std::simd::prelude::*;', 'use crate::kit::lanes::*;'),
+    ('use unicode_normalization::to_nfkc;', 'use crate::kit::to_nfkc;'),
+    ('use thiserror::Error as DeriveError;\n', ''),
+    ('#[rattlefmt::skip]\n', ''),
+]
+
+# Single places: file, how often, text, its substitute.
+PLACES = [
+    ('pgp_base/texts', 1, 'use pgp_text::is_text;\n', ''),
+    ('pgp_base/texts', 1, '    if is_text(bytes) {\n        Ok(unsafe { str::from_utf8_unchecked(bytes) })\n    } else {\n        Err(Error::NotUtf8)\n    }\n',
+     '    match str::from_utf8(bytes) {\n        Ok(text) => Ok(text),\n        Err(_) => Err(Error::NotUtf8),\n    }\n'),
+    ('pgp_base/buffer', 2, 'self.as_mut_slice()', '&mut self[..]'),
+    ('pgp_base/buffer', 1, 'BytesMut::as_slice(self)', '&self[..]'),
+    ('pgp_base/walk', 1, 'final fn', 'fn'),
+    ('pgp_frontend/copy', 1, 'pub struct CopyData<T: Buf>', 'pub struct CopyData<T>'),
+]
+
+
+# Where a buffer's own method `as_slice` is called: crates.io's buffers have none.
+SLICED = {'pgp_message/parser', 'pgp_message/frames'}
+
+
+def without_drop_bounds(text):
+    """In Rattle `Drop` as a bound says that a value may be dropped; in Rust each may."""
+    text = re.sub(r'^ *\w+::\w+: Drop,\n', '', text.replace(' + Drop', ''), flags=re.M)
+    return re.sub(r'^ *where\n(?= *\{)', '', re.sub(r'\b([A-Z]\w*): Drop\b', r'\1', text), flags=re.M)
+
+
+def global_allocator(text):
+    for name in set(re.findall(r"fn \w+<(?:'\w+, )?([TR]): (?:Memory|Allocator \+ Copy)", text)):
+        start = r"(fn \w+<(?:'\w+, )?)%s: (Memory|Allocator \+ Copy)((?:[^{;])*)" % name
+        text = re.sub(start, lambda m: m[1] + 'A: ' + m[2] + re.sub(r'\b%s\b' % name, 'A', m[3]), text)
+    text = PARAMETER.sub(lambda m: ', ' if m[0].startswith(',') and m[0].endswith(', ') else '', text)
+    text = re.sub(r'^ *A: Memory,\n', '', re.sub(r'<\n? *>', '', text), flags=re.M)
+    text = re.sub(r'<A, ', '<', re.sub(r'(?:::)?<A>', '', text.replace(', A>', '>'))).replace('::<Global>', '')
+    text = re.sub(r': A\b(?=[,)])', ': Global', re.sub(r'\bA::', 'Global::', text))
+    text = re.sub(r'\*[\w.]+\.allocator\(\)', 'Global', text)
+    text = re.sub(r'\b(Vec|VecDeque|BytesMut)::new\(alloc\)', r'\1::new()', text)
+    text = re.sub(r'^use std::alloc::[^;]*;\n', '', text, flags=re.M)
+    text = re.sub(r'^(use (?:crate|pgp_base)::\{?[^;]*?)\b(?:Memory, |, Memory\b)', r'\1', text, flags=re.M)
+    text = re.sub(r'^use (?:pgp_base|crate::memory)::Memory;\n', '', text, flags=re.M)
+    return re.sub(r'^(use [\w:]+::)\{(\w+)\};', r'\1\2;', text, flags=re.M)
+
+
+def shown_errors(text):
+    """thiserror's derive, written out."""
+    start = re.compile(r'^#\[derive\(([^)]*), DeriveError\)\]\n(pub enum (\w+)(?:<[^>]*>)? \{)', re.M)
+    for m in reversed(list(start.finditer(text))):
+        end = after_brace(text, m.end() - 1)
+        body = text[m.end():end]
+        named = re.findall(r'#\[error\("(\w+)"\)\]\n\s*(\w+)(\(?)', body)
+        arms = ''.join(f'            {m[3]}::{name}{"(..)" * bool(fields)} => "{words}",\n' for words, name, fields in named)
+        body = re.sub(r'^\s*#\[error\(.*\)\]\n', '', body, flags=re.M)
+        text = text[:m.start()] + f'''#[derive({m[1]})]
+{m[2]}{body}
+
+impl std::fmt::Display for {m[3]} {{
+    fn fmt(&self, f: &mut std::fmt::Formatter<'_>) -> std::fmt::Result {{
+        f.write_str(match self {{
+{arms}        }})
+    }}
+}}
+
+impl std::error::Error for {m[3]} {{}}
+''' + text[end:]
+    return text
+
+
+def inlined(text):
+    """`#[inline]` before each function without a hint: without it what isn't generic can't be inlined in other crates."""
+    hints = ['#[inline]\n', '#[inline(always)]\n', '#[inline(never)]\n', '    #[inline(always)]\n', '    #[inline(never)]\n', '    #[inline]\n', '#[cold]\n', '    #[cold]\n']
+    none = ''.join(r'(?<!\n%s)' % re.escape(h) for h in hints)
+    text = re.sub(none + r'^( *)((?:pub(?:\([\w:]+\))? )?fn )', lambda m: f'{m[1]}#[inline]\n{m[1]}{m[2]}', text, flags=re.M)
+    return re.sub(r'^ *#\[inline\]\n(?= *fn \w+(?:<[^;{]*>)?\([^;{]*;)', '', text, flags=re.M)
+
+
+def in_one_crate(text, crate):
+    text = re.sub(r'^ *(?:pgp_\w+::)?laws::\w+(?:::<[^>]*>)?\([^;]*\);\n', '', text, flags=re.M)
+    if not re.search(r'\blaws::', text):
+        text = re.sub(r'^(use [^;]*?)(?:\blaws, |, laws\b)', r'\1', text, flags=re.M)
+    text = re.sub(r'^use (?:crate|pgp_\w+)::laws;\n', '', text, flags=re.M)
+    text = re.sub(r'^(?:pub )?mod (?:laws|memory|tests);\n|^#\[cfg\(test\)\]\n|^pub use memory::.*\n', '', text, flags=re.M)
+    text = re.sub(r'(?<![\w:])pgp_text::', 'crate::kit::text::', text)
+    text = re.sub(r'\bcrate::(?!kit\b)', f'crate::proved::{crate}::', text)
+    text = re.sub(r'(?<![\w:])(pgp_\w+|postgres_protocol)::', r'crate::proved::\1::', text)
+    return re.sub(r'^((?:pub )?use )(pgp_\w+) as', r'\1crate::proved::\2 as', text, flags=re.M)
+
+
+def single_places(text, name, used):
+    for i, (file, count, old, new) in enumerate(PLACES):
+        if file == name:
+            if text.count(old) != count:
+                raise Unknown(f'crates/{name.replace("/", "/src/", 1)}.rt: {text.count(old)} times, not {count}: {old.strip().splitlines()[0]}')
+            text = text.replace(old, new)
+            used.add(i)
+    return text
+
+
+# What no package may have: a rule is wanted.
+LEFT = re.compile(r'\b(ghost|requires|ensures|decreases|Model|tactic|Memory|Allocator|allocator|rattlefmt|laws|unsafe|DeriveError|simdutf8|final fn)\b'
+                  r'|\+ Drop\b|: Drop\b|\bA::|\bA>|<A\b|: A\b')
+FOREIGN = re.compile(r'^(?:pub )?use (\w+)::')
+CRATES = {'std', 'crate', 'self', 'super', 'bytes', 'memchr', 'byteorder'}
+
+
+def leftovers(text, modules):
+    """Lines that no rule knows, with why."""
+    for line in text.split('\n'):
+        code = line.split('//')[0]
+        if left := LEFT.search(code):
+            yield line.strip(), left[0].strip()
+        if (use := FOREIGN.match(code)) and use[1] not in CRATES | modules:
+            yield line.strip(), use[1]
+
+
+def fit(text, crate, name, used):
+    """The erased text as a module of the package; `name` is its path without the crate's `src` and the ending."""
+    text = global_allocator(without_drop_bounds(text))
+    for old, new in NAMES:
+        text = text.replace(old, new)
+    text = re.sub(r'(?<!&)\bBytes::as_slice\(self\)', '&self[..]', text)
+    text = single_places(text, name, used)
+    text = in_one_crate(inlined(shown_errors(text)), crate)
+    top = re.match(r'(?:(?://[^\n]*)?\n)*', text).end()
+    uses = 'use crate::kit::prelude::*;\n' + ('use crate::kit::AsSlice as _;\n' if name in SLICED else '')
+    return text[:top] + uses + text[top:]
