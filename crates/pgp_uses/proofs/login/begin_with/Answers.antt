@@ -3,7 +3,7 @@ use Rattle.pgp_auth.specs.Nonce.{drawn_chars}
 use Rattle.pgp_auth.specs.ScramClient.{Client, message_of}
 use Rattle.pgp_auth.specs.ScramText.{Binding, Unsupported, client_first}
 use Rattle.pgp_session.specs.ClientStream.{RefusesMessage}
-use Rattle.pgp_uses.specs.Login.{initial}
+use Rattle.pgp_session.specs.ScramLogin.{initial}
 use Rattle.pgp_uses.proofs.login.begin_with.Goals as goal
 
 -- what stands in both
