@@ -1,0 +1,128 @@
+//! Times works of the original (0.6.4, which Debian has) and of this package in turn: the least nanoseconds of a unit, and the ratio.
+use bytes::{BufMut, Bytes, BytesMut};
+use std::hint::black_box;
+use std::time::{Duration, Instant};
+
+const TURN: Duration = Duration::from_micros(200);
+
+macro_rules! works {
+    ($name:ident, $of:ident) => {
+        mod $name {
+            use super::*;
+            use fallible_iterator::FallibleIterator;
+            use $of::IsNull;
+            use $of::message::backend::Message;
+            use $of::message::frontend;
+            use $of::types::{self, ArrayDimension};
+
+            pub fn bind(buf: &mut BytesMut) -> usize {
+                buf.clear();
+                let int4 = |value: i32, buf: &mut BytesMut| {
+                    buf.put_i32(value);
+                    Ok(IsNull::No)
+                };
+                let _ = frontend::bind("", "s1", [1], black_box([1, 2, 3, 4, 5]), int4, [1], buf);
+                buf.len()
+            }
+
+            pub fn query(buf: &mut BytesMut) -> usize {
+                buf.clear();
+                frontend::query(black_box("SELECT id, name FROM city LIMIT 9"), buf).unwrap();
+                buf.len()
+            }
+
+            pub fn row(buf: &mut BytesMut) -> usize {
+                buf.clear();
+                buf.extend_from_slice(black_box(ROW));
+                let Some(Message::DataRow(row)) = Message::parse(buf).unwrap() else { panic!() };
+                row.ranges().map(|range| Ok(range.map_or(0, |range| row.buffer()[range].len()))).fold(0, |sum, len| Ok(sum + len)).unwrap()
+            }
+
+            pub fn command_complete(buf: &mut BytesMut) -> usize {
+                buf.clear();
+                buf.extend_from_slice(black_box(b"C\0\0\0\x0dSELECT 1\0"));
+                let Some(Message::CommandComplete(body)) = Message::parse(buf).unwrap() else { panic!() };
+                body.tag().unwrap().len()
+            }
+
+            pub fn array_written(buf: &mut BytesMut) -> usize {
+                buf.clear();
+                let int4 = |value: i32, buf: &mut BytesMut| {
+                    types::int4_to_sql(value, buf);
+                    Ok(IsNull::No)
+                };
+                types::array_to_sql([ArrayDimension { len: 100, lower_bound: 1 }], 23, black_box(0)..100, int4, buf).unwrap();
+                buf.len()
+            }
+
+            pub fn array_read(buf: &mut BytesMut) -> usize {
+                let array = types::array_from_sql(black_box(&buf[..])).unwrap();
+                array.values().fold(0, |sum, value| Ok(sum + types::int4_from_sql(value.unwrap())? as usize)).unwrap()
+            }
+
+            pub fn inet_read(_: &mut BytesMut) -> usize {
+                usize::from(types::inet_from_sql(black_box(b"\x02\x19\0\x04\xc0\xa8\x64\x80")).unwrap().netmask())
+            }
+
+            pub fn text_read(_: &mut BytesMut) -> usize {
+                types::text_from_sql(black_box(b"Reykjavik harbor")).unwrap().len()
+            }
+
+            pub fn escape(_: &mut BytesMut) -> usize {
+                $of::escape::escape_literal(black_box("it's a text of 32 bytes, it has.")).len()
+            }
+
+            pub fn verifier(_: &mut BytesMut) -> usize {
+                $of::password::scram_sha_256(black_box(b"secret")).len()
+            }
+
+            pub const WORKS: [(&str, fn(&mut BytesMut) -> usize); 10] = [
+                ("bind of five int4", bind),
+                ("query of 33 bytes", query),
+                ("row of 8, parsed, its ranges", row),
+                ("CommandComplete, its tag", command_complete),
+                ("array of 100 int4, written", array_written),
+                ("array of 100 int4, read", array_read),
+                ("inet, read", inet_read),
+                ("text of 16, read", text_read),
+                ("literal of 32, escaped", escape),
+                ("verifier of 4096 rounds", verifier),
+            ];
+        }
+    };
+}
+
+works!(original, theirs);
+works!(erased, ours);
+
+const ROW: &[u8] = b"D\0\0\0\x46\0\x08\0\0\0\x04aaaa\0\0\0\x04bbbb\0\0\0\x04cccc\0\0\0\x04dddd\0\0\0\x04eeee\0\0\0\x04ffff\0\0\0\x04gggg\0\0\0\x04hhhh";
+
+/// Nanoseconds of a unit, in a turn of so many.
+fn turn(work: fn(&mut BytesMut) -> usize, units: u32, buf: &mut BytesMut) -> f64 {
+    let start = Instant::now();
+    for _ in 0..units {
+        black_box(work(buf));
+    }
+    start.elapsed().as_nanos() as f64 / f64::from(units)
+}
+
+fn main() {
+    let turns: u32 = std::env::args().nth(1).map_or(400, |word| word.parse().expect("a number of turns"));
+    println!("{:30} {:>12} {:>12} {:>6}", "nanoseconds, least of turns", "original", "erased", "ratio");
+    for ((name, first), (_, second)) in original::WORKS.into_iter().zip(erased::WORKS) {
+        let mut buf = BytesMut::with_capacity(4096);
+        original::array_written(&mut buf);
+        let array = Bytes::copy_from_slice(&buf);
+        let mut least = [f64::MAX; 2];
+        let once = turn(first, 1, &mut buf).max(1.0);
+        let units = (TURN.as_nanos() as f64 / once).clamp(1.0, 20_000.0) as u32;
+        for _ in 0..turns {
+            for (work, least) in [first, second].into_iter().zip(&mut least) {
+                let mut buf = BytesMut::with_capacity(4096);
+                buf.extend_from_slice(&array);
+                *least = least.min(turn(work, units, &mut buf));
+            }
+        }
+        println!("{name:30} {:12.1} {:12.1} {:6.2}", least[0], least[1], least[1] / least[0]);
+    }
+}
