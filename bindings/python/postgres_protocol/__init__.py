@@ -5,8 +5,9 @@ Build a client's messages (`query`, `parse`, `bind`, ..), iterate over a server'
 read values in the binary format (`put`, `get`, `put_inet`, `get_array`, ..). A `Stream` keeps what a connection sends, and rejects what is not
 allowed there; a `Dialogue` says which message answers which request.
 
-`Registry` makes values of Python's of a type's bytes (`postgres_protocol.registry`). `postgres_protocol.connection` has a connection without input or output, `postgres_protocol.client` a client with the interface of DB-API 2.0,
-and `postgres_protocol.aio` one for asyncio. Calls that take bytes take `bytes`, `bytearray` and `memoryview`.
+`postgres_protocol.registry` makes values of Python's of a type's bytes. `postgres_protocol.connection` has a connection without input or output,
+`postgres_protocol.client` a client with the interface of DB-API 2.0, and `postgres_protocol.aio` one for asyncio. Calls that take bytes take
+`bytes`, `bytearray` and `memoryview`.
 """
 from importlib.metadata import version as _version
 
@@ -14,8 +15,8 @@ from ._library import STATUSES, ProtocolError
 from ._rows import rows
 from .auth import Scram, escape_identifier, escape_literal, md5_answer, scram_verifier
 from .dialogue import REQUESTS, Dialogue, Taken
-from .registry import INFINITY, NEGATIVE_INFINITY, Registry, Type
 from .reading import KINDS, Field, Message, error_fields, fields, formats, mechanisms, messages, options, row, types
+from .registry import INFINITY, NEGATIVE_INFINITY, Registry, Type
 from .stream import Stream
 from .values import (Address, Array, Interval, Range, Side, get, get_array, get_hstore, get_inet, get_interval, get_jsonb, get_macaddr, get_numeric, get_range,
                      get_timetz, get_uuid, get_varbit, put, put_array, put_hstore, put_inet, put_interval, put_jsonb, put_macaddr, put_numeric, put_range,
@@ -26,10 +27,12 @@ from .writing import (VERSION_3_0, VERSION_3_2, bind, cancel_request, close, cop
 __version__ = _version('postgres_protocol')
 
 __all__ = [
-    'INFINITY', 'KINDS', 'NEGATIVE_INFINITY', 'REQUESTS', 'STATUSES', 'VERSION_3_0', 'VERSION_3_2', 'Address', 'Array', 'Dialogue', 'Field', 'Interval', 'Message', 'ProtocolError', 'Range', 'Registry', 'Scram',
-    'Side', 'Stream', 'Taken', 'Type', '__version__', 'bind', 'cancel_request', 'close', 'copy_data', 'copy_data_head', 'copy_done', 'copy_fail', 'describe',
-    'error_fields', 'escape_identifier', 'escape_literal', 'execute', 'fields', 'flush', 'formats', 'get', 'get_array', 'get_hstore', 'get_inet',
-    'get_interval', 'get_jsonb', 'get_macaddr', 'get_numeric', 'get_range', 'get_timetz', 'get_uuid', 'get_varbit', 'md5_answer', 'mechanisms', 'messages', 'options', 'parse', 'password_message', 'put', 'put_array',
-    'put_hstore', 'put_inet', 'put_interval', 'put_jsonb', 'put_macaddr', 'put_numeric', 'put_range', 'put_timetz', 'put_uuid', 'put_varbit', 'query', 'row', 'rows', 'sasl_initial_response', 'sasl_response',
-    'scram_verifier', 'ssl_request', 'startup', 'sync', 'terminate', 'types',
+    'INFINITY', 'KINDS', 'NEGATIVE_INFINITY', 'REQUESTS', 'STATUSES', 'VERSION_3_0', 'VERSION_3_2', '__version__', 'bind', 'cancel_request',
+    'close', 'copy_data', 'copy_data_head', 'copy_done', 'copy_fail', 'describe', 'error_fields', 'escape_identifier', 'escape_literal', 'execute',
+    'fields', 'flush', 'formats', 'get', 'get_array', 'get_hstore', 'get_inet', 'get_interval', 'get_jsonb', 'get_macaddr', 'get_numeric',
+    'get_range', 'get_timetz', 'get_uuid', 'get_varbit', 'md5_answer', 'mechanisms', 'messages', 'options', 'parse', 'password_message', 'put',
+    'put_array', 'put_hstore', 'put_inet', 'put_interval', 'put_jsonb', 'put_macaddr', 'put_numeric', 'put_range', 'put_timetz', 'put_uuid',
+    'put_varbit', 'query', 'row', 'rows', 'sasl_initial_response', 'sasl_response', 'scram_verifier', 'ssl_request', 'startup', 'sync', 'terminate',
+    'types', 'Address', 'Array', 'Dialogue', 'Field', 'Interval', 'Message', 'ProtocolError', 'Range', 'Registry', 'Scram', 'Side', 'Stream',
+    'Taken', 'Type',
 ]

@@ -43,7 +43,10 @@ class _Socket:
     def wrap(self, context: tls.SSLContext, host: str) -> None:
         """Encrypts the channel."""
         self._sock.setblocking(True)
-        self._sock = context.wrap_socket(self._sock, server_hostname=host)
+        try:
+            self._sock = context.wrap_socket(self._sock, server_hostname=host)
+        except OSError as error:
+            raise OperationalError('no encryption: %s' % error) from error
         self._sock.setblocking(False)
 
     def certificate(self) -> Optional[bytes]:
@@ -99,7 +102,7 @@ class Cursor:
         self.close()
 
     def __iter__(self) -> Iterator[Tuple[Any, ...]]:
-        return iter(self.fetchone, None)  # type: ignore[arg-type]
+        return iter(self.fetchone, None)
 
     @property
     def description(self) -> Optional[List[Tuple[str, int, None, Optional[int], None, None, None]]]:

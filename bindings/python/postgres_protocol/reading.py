@@ -26,7 +26,7 @@ class Message(NamedTuple):
     frame: bytes
     first: bytes
     second: bytes
-    count: int
+    count: int  # type: ignore[assignment]
     number: int
     byte: int
     first_at: int

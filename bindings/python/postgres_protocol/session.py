@@ -44,7 +44,7 @@ class Session:
     def log_in(self) -> Flow:
         """Waits until the server is ready."""
         while True:
-            event = yield
+            event = yield None
             if isinstance(event, events.LoggedIn):
                 return
             if isinstance(event, events.Failed):
@@ -55,7 +55,7 @@ class Session:
         found: List[events.Event] = []
         failed: Optional[errors.Error] = None
         while True:
-            event = yield
+            event = yield None
             if isinstance(event, events.Failed):
                 failed = failed or errors.of_fields(event.fields)
                 if event.request is None:
@@ -157,7 +157,7 @@ class Session:
         number = connection.query(sql)
         started: Optional[events.Event] = None
         while not isinstance(started, (events.CopyStarted, events.Ready, events.Failed)):
-            started = yield
+            started = yield None
         if isinstance(started, events.CopyStarted):
             try:
                 for chunk in chunks:

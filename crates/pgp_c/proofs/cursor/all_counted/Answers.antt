@@ -9,7 +9,7 @@ loop-at-init g c = none_so_far _ _ _ _ _ _
 pub loop-at-preserved : goal.loop-at-preserved
 loop-at-preserved g c =
     one_more _ _ _ _ _ _ _ _ c.loop-at.at c.loop-at.items _ (omega (arith, c.loop-at-test.true, c.loop-at.auto.items)) c.loop-at.invariant
-        (c.next_counted-code.ensures.item (search rules)) (c.next_counted-code.ensures.inside (search rules))
+    (c.next_counted-code.ensures.item (search rules)) (c.next_counted-code.ensures.inside (search rules))
 
 pub returns-then-code-eq-DONE-clause-items : goal.returns-then-code-eq-DONE-clause-items
 returns-then-code-eq-DONE-clause-items g c =

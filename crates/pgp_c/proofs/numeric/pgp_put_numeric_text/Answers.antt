@@ -26,8 +26,11 @@ returns-in-Err-clause-refused c z =
         | inl memory ↦
             let m = memory.1 in
             let bytes = numeric_bytes m.value in
-            inr (m.value, subst (λ (t : List ℕ). TextMeans t m.value) same m.means,
-              lacked bytes bytes refl c.new-window.result c.args.out.now _ c.new-window.ensures Error.OutOfMemory _ _ (inl (refl, m.wants)) (c.number_of.ensures.number ∙ ap numeric_number memory.0) refl)
+            inr (
+              m.value,
+              subst (λ (t : List ℕ). TextMeans t m.value) same m.means,
+              lacked bytes bytes refl c.new-window.result c.args.out.now _ c.new-window.ensures Error.OutOfMemory _ _ (inl (refl, m.wants)) (c.number_of.ensures.number ∙ ap numeric_number memory.0) refl,
+            )
         | inr why ↦ inl (inr (c.in-Err.e, subst (λ (t : List ℕ). TextRefused t c.in-Err.e) same why, c.number_of.ensures.number))
       ],
     )
