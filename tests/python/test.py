@@ -224,6 +224,7 @@ def auth():
     refused('no answer any more', 'ScramWrongState', lambda: scram.verify(b'v=U+ppxD5XUKtradnv8e2MkeupiA8FU87Sg8CXzXHDAzw='))
     same('verifier', pg.scram_verifier(b'secret', bytes(range(1, 17))), b'SCRAM-SHA-256$4096:AQIDBAUGBwgJCgsMDQ4PEA==$8rrDg00OqaiWXJ7p+sCgHEIaBSHY89ZJl3mfIsf32oY=:05L1f+yZbiN8O0AnO40Og85NNRhvzTS57naKRWCcsIA=')
     same('md5', pg.md5_answer(b'md5_user', b'password', b'\x2a\x3d\x8f\xe0'), b'md562af4dd09bbb41884907a838a3233294')
+    same('saslprep', (pg.saslprep(b'I\xc2\xadX'), pg.saslprep(b'\x07')), (b'IX', b'\x07'))  # RFC 4013, 3
     same('literal', pg.escape_literal(b'f\\oo'), b" E'f\\\\oo'")
     same('identifier', pg.escape_identifier(b'f"oo'), b'"f""oo"')
 

@@ -13,7 +13,7 @@ from importlib.metadata import version as _version
 
 from ._library import STATUSES, ProtocolError
 from ._rows import rows
-from .auth import Scram, escape_identifier, escape_literal, md5_answer, scram_verifier
+from .auth import Scram, escape_identifier, escape_literal, md5_answer, saslprep, scram_verifier
 from .dialogue import REQUESTS, Dialogue, Taken
 from .reading import KINDS, Field, Message, error_fields, fields, formats, mechanisms, messages, options, row, types
 from .registry import INFINITY, NEGATIVE_INFINITY, Registry, Type
@@ -32,7 +32,7 @@ __all__ = [
     'fields', 'flush', 'formats', 'get', 'get_array', 'get_hstore', 'get_inet', 'get_interval', 'get_jsonb', 'get_macaddr', 'get_numeric',
     'get_range', 'get_timetz', 'get_uuid', 'get_varbit', 'md5_answer', 'mechanisms', 'messages', 'options', 'parse', 'password_message', 'put',
     'put_array', 'put_hstore', 'put_inet', 'put_interval', 'put_jsonb', 'put_macaddr', 'put_numeric', 'put_range', 'put_timetz', 'put_uuid',
-    'put_varbit', 'query', 'row', 'rows', 'sasl_initial_response', 'sasl_response', 'scram_verifier', 'ssl_request', 'startup', 'sync', 'terminate',
+    'put_varbit', 'query', 'row', 'rows', 'sasl_initial_response', 'sasl_response', 'saslprep', 'scram_verifier', 'ssl_request', 'startup', 'sync', 'terminate',
     'types', 'Address', 'Array', 'Dialogue', 'Field', 'Interval', 'Message', 'ProtocolError', 'Range', 'Registry', 'Scram', 'Side', 'Stream',
     'Taken', 'Type',
 ]

@@ -29,6 +29,14 @@ def scram_verifier(password: Bytes, salt: Bytes) -> bytes:
     return _verifier(password, salt)
 
 
+_saslprep = writer('saslprep', 'password:text')
+
+
+def saslprep(password: Bytes) -> bytes:
+    """A password as the server uses it: prepared by SASLprep (RFC 4013); as it is where it isn't UTF-8, or SASLprep rejects it."""
+    return _saslprep(password)
+
+
 class _Scram(Structure):
     _fields_ = [('signature', c_uint8 * 32)]
 

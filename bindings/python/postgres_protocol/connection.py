@@ -12,7 +12,7 @@ from typing import Any, Callable, Dict, List, Mapping, Optional, Sequence, Tuple
 from . import events
 from ._library import ProtocolError
 from ._rows import rows
-from .auth import Scram, md5_answer
+from .auth import Scram, md5_answer, saslprep
 from .dialogue import Dialogue, Taken
 from .reading import Message, error_fields, fields, formats, mechanisms, messages, types
 from .stream import Stream
@@ -47,7 +47,8 @@ class Connection:
         self._startup += [(name.encode(), value.encode()) for name, value in {'client_encoding': 'UTF8', **(parameters or {})}.items()]
         self._stream, self._dialogue, self._max = Stream(), Dialogue(), max_message
         self._out: List[bytes] = []
-        self._data, self._at, self._more, self._size = b'', 0, [b''][:0], 0
+        self._data, self._at, self._size = b'', 0, 0
+        self._more: List[bytes] = []
         self._decoders: Dict[int, Tuple[Decoder, ...]] = {}
         self._last, self._encrypting, self._tls = 0, encrypt, False
         self._certificate: Optional[bytes] = None
@@ -55,7 +56,8 @@ class Connection:
         self._proved: Optional[str] = None
         self._is_open = self._is_over = False
         #: `I`, `T` or `E`, as the last Ready said; the settings that the server reported; the number and the key for a cancel request.
-        self.status, self.settings, self.process_id, self.secret_key = '', {}, 0, b''  # type: str, Dict[str, str], int, bytes
+        self.status, self.process_id, self.secret_key = '', 0, b''
+        self.settings: Dict[str, str] = {}
         if encrypt:
             self._stream.ssl_request()
         else:
@@ -296,7 +298,7 @@ class Connection:
             raise LogInError('the server asks for no password, which require_auth does not admit')
 
     def _begin_scram(self, offered: List[str]) -> None:
-        password = self._admit('scram-sha-256')
+        password = saslprep(self._admit('scram-sha-256'))
         plus = 'SCRAM-SHA-256-PLUS' in offered and self._certificate is not None
         if not plus and 'SCRAM-SHA-256' not in offered:
             raise LogInError('the server offers %s, of which none is supported' % ', '.join(offered))
