@@ -2,14 +2,15 @@
 # `make program` proves and builds the program, which `make run` and `./pgwire` run from then on.
 # `make edits`, before a release, tries every wrong body by itself, `make edits CRATES=pgp_base` those of one crate.
 # `make live` tries SASLprep, and what psql, pgbench and pg_dump send, with a PostgreSQL server of this machine, which it starts and stops; pgserve with psql and pgbench; and
-# examples/record.sh, which lists a session of psql with pgtrace; binary values, and programs over them.
+# examples/record.sh, which lists a session of psql with pgtrace; binary values, and programs over them; the Python package.
 # `make library` proves and builds the library for C (docs/C.md), `make install PREFIX=..` puts it and the program there, and
 # `make check-c` tries it from C, C++ and Python (`LIBRARIES=gate`, right behind `rt ci`, takes the libraries below it from there).
+# `make wheel` builds the Python package over it (docs/PYTHON.md).
 # `make rust` writes the Cargo package out/rust/postgres-protocol (docs/RUST.md), `make check-rust` tries it.
 # `make check-vendor` runs the commands of docs/VENDORING.md in an empty folder. `make contracts` writes docs/CONTRACTS.md from the sources.
 # `make bench` times the works of crates/pgp_bench, `make bench WORKS=write` those whose names begin so.
 
-.PHONY: run program test edits contracts bench live library install check-c check-vendor rust check-rust
+.PHONY: run program test edits contracts bench live library wheel install check-c check-vendor rust check-rust
 
 run:
 	@scripts/sample
@@ -44,11 +45,18 @@ live:
 	@scripts/live_serve
 	@scripts/live_trace
 	@[ -e out/c/libpostgres_protocol.so ] || scripts/library build
-	@scripts/live_values
+	@scripts/wheel
+	@rm -rf out/venv && python3 -m venv --system-site-packages out/venv && out/venv/bin/pip install -q --no-index out/wheel/*.whl
+	@out/venv/bin/python scripts/live_values
 	@scripts/live_programs
+	@out/venv/bin/python scripts/live_python
 
 library:
 	@scripts/library build
+
+wheel:
+	@[ -e out/c/libpostgres_protocol.so ] || scripts/library build
+	@scripts/wheel
 
 install:
 	@[ -n "$(PREFIX)" ] || { echo "make: say where to: make install PREFIX=.." >&2; exit 1; }

@@ -1,4 +1,4 @@
-"""A server for tests: it logs one client in with SCRAM, and answers each series of extended queries with a row."""
+"""A server for tests: it logs one client in with SCRAM, and answers each extended query with a row."""
 import base64
 import hashlib
 import hmac
@@ -7,6 +7,10 @@ import os
 
 def frame(tag, payload):
     return tag + (len(payload) + 4).to_bytes(4, 'big') + payload
+
+
+#: Two columns of text.
+COLUMNS = frame(b'T', b'\0\2' + b''.join(name + b'\0' * 7 + b'\0\0\0\x19\xff\xff\xff\xff\xff\xff\0\0' for name in (b'a', b'b')))
 
 
 def scram_server(listening, password, seen):
@@ -37,10 +41,11 @@ def scram_server(listening, password, seen):
         return
     signature = base64.b64encode(mac(mac(key, b'Server Key'), said))
     connection.sendall(frame(b'R', b'\0\0\0\x0cv=' + signature) + frame(b'R', b'\0\0\0\0') + frame(b'Z', b'I'))
+    answers = {b'P': frame(b'1', b''), b'B': frame(b'2', b''), b'D': frame(b't', b'\0\1\0\0\0\x19') + COLUMNS,
+               b'E': frame(b'D', b'\0\2\0\0\0\5hello\xff\xff\xff\xff') + frame(b'C', b'SELECT 1\0'), b'S': frame(b'Z', b'I')}
     while True:
         tag, payload = take()
         seen.append((tag, payload))
         if tag in (b'X', b''):
             return
-        if tag == b'S':
-            connection.sendall(frame(b'1', b'') + frame(b'2', b'') + frame(b'D', b'\0\2\0\0\0\5hello\xff\xff\xff\xff') + frame(b'C', b'SELECT 1\0') + frame(b'Z', b'I'))
+        connection.sendall(answers[tag])

@@ -1,34 +1,50 @@
 """All that a client sends on one connection, message by message, in an order that a server takes."""
 import ctypes
 from ctypes import POINTER, Structure, byref, c_bool, c_int16, c_int32, c_size_t, c_uint8, c_uint32, c_void_p
-from typing import Callable, Iterable, Optional, Sequence, Tuple
+from typing import Any, Callable, Iterable, Optional, Sequence, Tuple
 
-from . import VERSION_3_0, _NO_ROOM, _OK, _TEXT, Refused, _declare, _Pair, _text, _Value
+from ._library import (INT32, NO_ROOM, OK, TEXT, Bytes, Pair, ProtocolError, Value, arguments, as_bytes, as_formats, as_integer, as_types, as_values, declare, flat, text)
+from .writing import VERSION_3_0, pairs_of
 
 
 class _Stream(Structure):
     _fields_ = [('room', c_void_p), ('room_len', c_size_t), ('len', c_size_t), ('is_open', c_bool)]
 
 
-def _call(name: str, *arguments: object) -> Callable[..., int]:
-    return _declare('stream_' + name, POINTER(_Stream), *arguments)
+def _call(name: str, *types: Any) -> Callable[..., int]:
+    return declare('stream_' + name, POINTER(_Stream), *types)
 
 
-_plain = {name: _call(name) for name in ('ssl_request', 'flush', 'sync', 'copy_done', 'terminate')}
-_cancel_request, _startup = _call('cancel_request', c_int32, *_TEXT), _call('startup', c_int32, POINTER(_Pair), c_size_t)
-_password_message, _sasl_response = _call('password_message', *_TEXT), _call('sasl_response', *_TEXT)
-_sasl_initial_response, _query = _call('sasl_initial_response', *_TEXT, *_TEXT), _call('query', *_TEXT)
-_parse = _call('parse', *_TEXT, *_TEXT, POINTER(c_uint32), c_size_t)
-_bind = _call('bind', *_TEXT, *_TEXT, POINTER(c_int16), c_size_t, POINTER(_Value), c_size_t, POINTER(c_int16), c_size_t)
-_describe, _close = _call('describe', c_uint8, *_TEXT), _call('close', c_uint8, *_TEXT)
-_execute, _copy_fail = _call('execute', *_TEXT, c_int32), _call('copy_fail', *_TEXT)
+_startup = _call('startup', c_int32, POINTER(Pair), c_size_t)
+_parse = _call('parse', *TEXT, *TEXT, POINTER(c_uint32), c_size_t)
+_bind = _call('bind', *TEXT, *TEXT, POINTER(c_int16), c_size_t, POINTER(Value), c_size_t, POINTER(c_int16), c_size_t)
 _copy_data_head = _call('copy_data_head', c_size_t)
 
 
+def _method(name: str, *parts: str) -> Callable[..., None]:
+    """The call of this name, whose arguments are `NAME:KIND` words."""
+    pairs, types = arguments(parts)
+    call = _call(name, *types)
+
+    def send(self: 'Stream', *values: object) -> None:
+        # (the bytes live as long as `kept`)
+        kept = [as_bytes(v, n) if kind == 'text' else v for (n, kind), v in zip(pairs, values)]
+        self._send(call, *(word for (n, kind), v in zip(pairs, kept) for word in flat(kind, n, v)))
+    return send
+
+
+_cancel_request, _password_message = _method('cancel_request', 'process_id:int32', 'secret_key:text'), _method('password_message', 'password:text')
+_sasl_initial, _sasl_response = _method('sasl_initial_response', 'mechanism:text', 'response:text'), _method('sasl_response', 'response:text')
+_query, _copy_fail = _method('query', 'text:text'), _method('copy_fail', 'reason:text')
+_describe, _close = _method('describe', 'variant:letter', 'name:text'), _method('close', 'variant:letter', 'name:text')
+_execute = _method('execute', 'portal:text', 'max_rows:int32')
+_ssl_request, _flush, _sync, _copy_done, _terminate = (_method(name) for name in ('ssl_request', 'flush', 'sync', 'copy_done', 'terminate'))
+
+
 class Stream:
-    """What a client sends: each call appends a message to what is kept, and `drain` hands it out to be sent. A call that may not come in this
-    phase raises Refused, `WrongPhase`: before the startup packet nothing but the opening packets may, and behind it none of them. A refused
-    call leaves what is kept as it was."""
+    """What a client sends: each call appends a message, and `drain` returns what is to be sent. A call that isn't allowed in this phase raises
+    ProtocolError `WrongPhase`: before the startup packet only the opening packets are, and after it none of them. A call that raises leaves
+    the stream as it was. The calls take what those of the module take."""
 
     def __init__(self, room: int = 8192) -> None:
         self._room = ctypes.create_string_buffer(max(room, 1))
@@ -45,75 +61,93 @@ class Stream:
         self._stream.len = 0
         return sent
 
-    def _send(self, call: Callable[..., int], *arguments: object) -> None:
-        """Appends a message, in more room where there is none."""
+    def _send(self, call: Callable[..., int], *words: object) -> None:
+        """Appends a message, in more room where there is too little."""
         while True:
-            status = call(byref(self._stream), *arguments)
-            if status == _OK:
+            status = call(byref(self._stream), *words)
+            if status == OK:
                 return
-            if status != _NO_ROOM or len(self._room) >= 1 << 31:
-                raise Refused(status)
+            if status != NO_ROOM or len(self._room) >= 1 << 31:
+                raise ProtocolError(status)
             wider = ctypes.create_string_buffer(4 * len(self._room))
             ctypes.memmove(wider, self._room, self._stream.len)
             self._room, self._stream.room, self._stream.room_len = wider, ctypes.cast(wider, c_void_p).value, len(wider)
 
     def ssl_request(self) -> None:
-        """As `postgres_protocol.ssl_request`, and so the calls below."""
-        self._send(_plain['ssl_request'])
+        """Asks for an encrypted session."""
+        _ssl_request(self)
 
-    def cancel_request(self, process_id: int, secret_key: bytes) -> None:
-        self._send(_cancel_request, process_id, *_text(secret_key))
+    def cancel_request(self, process_id: int, secret_key: Bytes) -> None:
+        """Cancels another session's query."""
+        _cancel_request(self, process_id, secret_key)
 
-    def startup(self, pairs: Iterable[Tuple[bytes, bytes]], version: int = VERSION_3_0) -> None:
-        kept = list(pairs)
-        array = (_Pair * len(kept))(*(_Pair(*_text(a), *_text(b)) for a, b in kept))
-        self._send(_startup, version, array, len(array))
+    def startup(self, pairs: Iterable[Tuple[Bytes, Bytes]], version: int = VERSION_3_0) -> None:
+        """Opens the session."""
+        array, kept = pairs_of(pairs)
+        self._send(_startup, as_integer(version, 'version', *INT32), array, len(kept))  # type: ignore[arg-type]
 
-    def password_message(self, password: bytes) -> None:
-        self._send(_password_message, *_text(password))
+    def password_message(self, password: Bytes) -> None:
+        """A password, or the answer to an MD5 request."""
+        _password_message(self, password)
 
-    def sasl_initial_response(self, mechanism: bytes, response: bytes) -> None:
-        self._send(_sasl_initial_response, *_text(mechanism), *_text(response))
+    def sasl_initial_response(self, mechanism: Bytes, response: Bytes) -> None:
+        """The chosen SASL mechanism, and the first text of its exchange."""
+        _sasl_initial(self, mechanism, response)
 
-    def sasl_response(self, response: bytes) -> None:
-        self._send(_sasl_response, *_text(response))
+    def sasl_response(self, response: Bytes) -> None:
+        """A later text of a SASL exchange."""
+        _sasl_response(self, response)
 
-    def query(self, text: bytes) -> None:
-        self._send(_query, *_text(text))
+    def query(self, text: Bytes) -> None:
+        """A simple query."""
+        _query(self, text)
 
-    def parse(self, name: bytes, text: bytes, types: Sequence[int] = ()) -> None:
-        array = (c_uint32 * len(types))(*types)
-        self._send(_parse, *_text(name), *_text(text), array, len(array))
+    def parse(self, name: Bytes, sql: Bytes, types: Sequence[int] = ()) -> None:
+        """Prepares a statement."""
+        one, two, array = as_bytes(name, 'name'), as_bytes(sql, 'sql'), as_types(types)
+        self._send(_parse, *text(one), *text(two), array, len(array))
 
-    def bind(self, portal: bytes, statement: bytes, formats: Sequence[int], values: Sequence[Optional[bytes]], result_formats: Sequence[int] = ()) -> None:
-        array = (_Value * len(values))(*(_Value(*_text(v or b''), v is None) for v in values))
-        one, two = (c_int16 * len(formats))(*formats), (c_int16 * len(result_formats))(*result_formats)
-        self._send(_bind, *_text(portal), *_text(statement), one, len(one), array, len(array), two, len(two))
+    def bind(self, portal: Bytes, statement: Bytes, formats: Sequence[int], values: Sequence[Optional[Bytes]], result_formats: Sequence[int] = ()) -> None:
+        """Binds values to a statement's parameters."""
+        one, two = as_bytes(portal, 'portal'), as_bytes(statement, 'statement')
+        kept = [None if v is None else as_bytes(v, 'values') for v in values]
+        if len(formats) not in (0, 1, len(kept)):
+            raise ValueError('formats: none, one or %d are expected, not %d' % (len(kept), len(formats)))
+        array, f, r = as_values(kept), as_formats(formats, 'formats'), as_formats(result_formats, 'result_formats')
+        self._send(_bind, *text(one), *text(two), f, len(f), array, len(array), r, len(r))
 
-    def describe(self, variant: str, name: bytes) -> None:
-        self._send(_describe, ord(variant), *_text(name))
+    def describe(self, variant: str, name: Bytes) -> None:
+        """Asks for the parameters and columns of a statement ('S') or a portal ('P')."""
+        _describe(self, variant, name)
 
-    def execute(self, portal: bytes, max_rows: int = 0) -> None:
-        self._send(_execute, *_text(portal), max_rows)
+    def execute(self, portal: Bytes, max_rows: int = 0) -> None:
+        """Executes a portal, returning at most `max_rows` rows; 0 is no limit."""
+        _execute(self, portal, as_integer(max_rows, 'max_rows', 0, INT32[1]))
 
-    def close(self, variant: str, name: bytes) -> None:
-        self._send(_close, ord(variant), *_text(name))
+    def close(self, variant: str, name: Bytes) -> None:
+        """Closes a statement ('S') or a portal ('P')."""
+        _close(self, variant, name)
 
     def flush(self) -> None:
-        self._send(_plain['flush'])
+        """Asks the server to send what it holds in its buffer."""
+        _flush(self)
 
     def sync(self) -> None:
-        self._send(_plain['sync'])
+        """Ends a series of extended queries."""
+        _sync(self)
 
     def copy_data_head(self, length: int) -> None:
-        """The head before so many bytes of data, which the caller sends behind what `drain` hands out."""
-        self._send(_copy_data_head, length)
+        """The head before so many bytes of copy data, which the caller sends after what `drain` returns."""
+        self._send(_copy_data_head, as_integer(length, 'length', 0, 2 ** 64 - 1))
 
     def copy_done(self) -> None:
-        self._send(_plain['copy_done'])
+        """Ends the data of a copy."""
+        _copy_done(self)
 
-    def copy_fail(self, reason: bytes) -> None:
-        self._send(_copy_fail, *_text(reason))
+    def copy_fail(self, reason: Bytes) -> None:
+        """Gives a copy up, with a text for the server's error."""
+        _copy_fail(self, reason)
 
     def terminate(self) -> None:
-        self._send(_plain['terminate'])
+        """Ends the session."""
+        _terminate(self)

@@ -69,12 +69,20 @@ enum {
     PGP_E_INVALID_ADDRESS_LENGTH = 18,  /* an address doesn't have the bytes of its family               */
     PGP_E_INVALID_FAMILY = 19,          /* an address family is neither 2 nor 3                          */
     PGP_E_INVALID_VERSION = 20,         /* a label type doesn't begin with the version 1                 */
-    PGP_E_WRONG_PHASE = 32,             /* pgp_stream_*: the message may not come here                   */
+    PGP_E_INVALID_SIGN = 21,            /* a numeric's sign is none of the five                          */
+    PGP_E_INVALID_SCALE = 22,           /* a numeric's scale exceeds 16,383                              */
+    PGP_E_INVALID_DIGIT = 23,           /* a digit of a numeric exceeds 9,999                            */
+    PGP_E_INVALID_TEXT = 24,            /* a text is no decimal number                                   */
+    PGP_E_OUT_OF_RANGE = 25,            /* no numeric holds the text's number                            */
+    PGP_E_WRONG_PHASE = 32,             /* pgp_stream_*: the message is not allowed in this phase        */
     PGP_E_EMPTY_NAME = 33,              /* a parameter of a startup packet has no name                   */
     PGP_E_VERSION = 34,                 /* a startup packet of another version than 3.0 and 3.2          */
-    PGP_E_KIND = 35,                    /* the kind of a range's side is none                           */
+    PGP_E_KIND = 35,                    /* the kind of a range's side, a request or a message is none   */
+    PGP_E_UNEXPECTED = 36,              /* pgp_dialogue_take: the message has no place there             */
+    PGP_E_UNCERTAIN = 37,               /* pgp_dialogue_take: a copy failed after an early Sync          */
     PGP_MORE = 100,                     /* bytes are missing: read more, and call again                  */
-    PGP_DONE = 101                      /* the walk is at its end                                        */
+    PGP_DONE = 101,                     /* the iterator is at its end                                    */
+    PGP_FULL = 102                      /* pgp_*_all: the array is full, and more items follow           */
 };
 
 /* ---- writers: one message each ---- */
@@ -176,6 +184,7 @@ pgp_status pgp_stream_flush(struct pgp_stream *stream);
 pgp_status pgp_stream_sync(struct pgp_stream *stream);
 /* The head before `data_len` bytes of data, which need not be copied: send what is pending, then the data, and set len to 0. */
 pgp_status pgp_stream_copy_data_head(struct pgp_stream *stream, size_t data_len);
+pgp_status pgp_stream_copy_data(struct pgp_stream *stream, const uint8_t *bytes, size_t len);   /* the whole message, where a copy does no harm */
 pgp_status pgp_stream_copy_done(struct pgp_stream *stream);
 pgp_status pgp_stream_copy_fail(struct pgp_stream *stream, const uint8_t *reason, size_t len);
 pgp_status pgp_stream_terminate(struct pgp_stream *stream);
@@ -245,6 +254,10 @@ static inline struct pgp_cursor pgp_walk(const struct pgp_message *message)
 struct pgp_column { size_t start, end; bool is_null; };
 pgp_status pgp_row_next(const uint8_t *bytes, size_t len, struct pgp_cursor *cursor, struct pgp_column *column);
 
+/* All values of a row in one call, into an array of the caller's: *count of them, at most `room`. PGP_OK at the row's end; PGP_FULL where
+   more values follow, which the next call with the same cursor reads; 7 and 8 as pgp_row_next, after *count values. */
+pgp_status pgp_row_all(const uint8_t *bytes, size_t len, struct pgp_cursor *cursor, struct pgp_column *columns, size_t room, size_t *count);
+
 /* The next type of a PARAMETER_DESCRIPTION, and the next format of a COPY_IN_RESPONSE or COPY_OUT_RESPONSE: answers as those of
    pgp_row_next. */
 pgp_status pgp_type_next(const uint8_t *bytes, size_t len, struct pgp_cursor *cursor, uint32_t *type);
@@ -262,6 +275,8 @@ struct pgp_field {
     int16_t format;           /* 0 text, 1 binary                    */
 };
 pgp_status pgp_field_next(const uint8_t *bytes, size_t len, struct pgp_cursor *cursor, struct pgp_field *field);
+/* All columns in one call, as pgp_row_all. */
+pgp_status pgp_field_all(const uint8_t *bytes, size_t len, struct pgp_cursor *cursor, struct pgp_field *fields, size_t room, size_t *count);
 
 /* The next field of an ERROR_RESPONSE or a NOTICE_RESPONSE: its code is a letter ('S' severity, 'C' SQLSTATE, 'M' message ..), its value any
    text. PGP_E_NOT_DRAINED where bytes stand behind the 0 that ends the list. */
@@ -271,6 +286,40 @@ pgp_status pgp_error_field_next(const uint8_t *bytes, size_t len, struct pgp_cur
 /* The next mechanism of an AUTHENTICATION_SASL, and the next option of a NEGOTIATE_PROTOCOL_VERSION, by name, in UTF-8. */
 pgp_status pgp_mechanism_next(const uint8_t *bytes, size_t len, struct pgp_cursor *cursor, struct pgp_part *name);
 pgp_status pgp_option_next(const uint8_t *bytes, size_t len, struct pgp_cursor *cursor, struct pgp_part *name);
+
+/* ---- which message answers which request ---- */
+
+/* Requests are asked in the order in which they are sent, each with a number of the caller's, and every message of the server is taken as
+   it comes: pgp_dialogue_take says which request it answers, and no answer is attributed to another request. The state is the caller's: an
+   array of pending requests and some numbers, all 0 at first, which the calls alone write.
+
+       struct pgp_slot slots[64] = {{0, 0}};
+       struct pgp_dialogue dialogue = {slots, 64, 0, 0, 0, 0};
+
+   CopyData, Flush, Terminate and the words of a log-in are not asked. Where an Execute or a Query asks for the data of a copy, send Sync after
+   CopyDone or CopyFail: a server reads an earlier one as part of the copy, and where the copy fails then, the answer is PGP_E_UNCERTAIN. */
+enum pgp_request {
+    PGP_REQUEST_STARTUP = 0, PGP_REQUEST_QUERY = 1, PGP_REQUEST_PARSE = 2, PGP_REQUEST_BIND = 3, PGP_REQUEST_CLOSE = 4,
+    PGP_REQUEST_DESCRIBE_STATEMENT = 5, PGP_REQUEST_DESCRIBE_PORTAL = 6, PGP_REQUEST_EXECUTE = 7, PGP_REQUEST_FUNCTION_CALL = 8,
+    PGP_REQUEST_SYNC = 9, PGP_REQUEST_COPY_DONE = 10, PGP_REQUEST_COPY_FAIL = 11
+};
+/* Kinds of messages that pgp_front doesn't know, for pgp_dialogue_take: those of the tags 'W' and 'V'. */
+enum { PGP_COPY_BOTH_RESPONSE = 33, PGP_FUNCTION_CALL_RESPONSE = 34 };
+enum pgp_what {
+    PGP_PART = 1,             /* part of the answer to the request `name`, and more follows         */
+    PGP_LAST = 2,             /* the last message of the answer to the request `name`               */
+    PGP_ASIDE = 3,            /* a notice, a notification or a setting, which answers no request    */
+    PGP_ENDED = 4             /* an error that ends the session                                     */
+};
+struct pgp_slot { uint64_t name; uint8_t request; };
+struct pgp_dialogue { struct pgp_slot *room; size_t room_len; size_t start, end; uint64_t name; uint8_t stage; };
+struct pgp_event { uint64_t name; uint8_t what; };
+/* PGP_NO_ROOM where the array is full (move it to a longer one, and ask again), PGP_E_KIND for no request; then nothing changes. */
+pgp_status pgp_dialogue_ask(struct pgp_dialogue *dialogue, uint8_t request, uint64_t name);
+/* By the message's kind. PGP_E_UNEXPECTED and PGP_E_UNCERTAIN: close the connection; from then on no message is attributed. */
+pgp_status pgp_dialogue_take(struct pgp_dialogue *dialogue, uint8_t kind, struct pgp_event *event);
+/* Whether no request awaits an answer: a pooler may hand the server to another client. */
+pgp_status pgp_dialogue_is_idle(struct pgp_dialogue *dialogue, bool *idle);
 
 /* ---- values in the binary format ---- */
 
@@ -291,6 +340,23 @@ pgp_status pgp_put_time(int64_t value, PGP_OUT);       pgp_status pgp_get_time(c
 pgp_status pgp_put_date(int32_t value, PGP_OUT);       pgp_status pgp_get_date(const uint8_t *bytes, size_t len, int32_t *value);
 pgp_status pgp_put_float4(uint32_t bits, PGP_OUT);     pgp_status pgp_get_float4(const uint8_t *bytes, size_t len, uint32_t *bits);
 pgp_status pgp_put_float8(uint64_t bits, PGP_OUT);     pgp_status pgp_get_float8(const uint8_t *bytes, size_t len, uint64_t *bits);
+
+/* A numeric by its decimal text. A put takes what the server takes: digits, a point, an exponent, a sign; NaN, Infinity; it keeps as many
+   places as the text shows. A get writes what the server shows. Errors: PGP_E_INVALID_TEXT, PGP_E_OUT_OF_RANGE, PGP_E_NOT_UTF8; and for bytes 7, 8, 21 to 23. */
+pgp_status pgp_put_numeric_text(const uint8_t *text, size_t len, PGP_OUT);
+pgp_status pgp_get_numeric_text(const uint8_t *bytes, size_t len, PGP_OUT);
+
+/* An interval: months, days and microseconds are apart. A timetz: microseconds since midnight, and seconds west of Greenwich. */
+struct pgp_interval { int64_t microseconds; int32_t days, months; };
+struct pgp_timetz { int64_t microseconds; int32_t zone; };
+pgp_status pgp_put_interval(const struct pgp_interval *value, PGP_OUT);
+pgp_status pgp_get_interval(const uint8_t *bytes, size_t len, struct pgp_interval *value);
+pgp_status pgp_put_timetz(const struct pgp_timetz *value, PGP_OUT);
+pgp_status pgp_get_timetz(const uint8_t *bytes, size_t len, struct pgp_timetz *value);
+
+/* A jsonb: its JSON, in UTF-8, which isn't parsed. (A json is its text.) */
+pgp_status pgp_put_jsonb(const uint8_t *json, size_t len, PGP_OUT);
+pgp_status pgp_get_jsonb(const uint8_t *bytes, size_t len, struct pgp_part *json);
 
 /* An inet or a cidr: an address of 4 or 16 bytes, and how many of its first bits name the network. PGP_E_INVALID_ADDRESS_LENGTH for another
    number of bytes, PGP_E_INVALID_NETMASK for more bits than there are. (bytes[2] of a value is 1 for a cidr; an inet is written.) */
@@ -324,6 +390,8 @@ pgp_status pgp_get_array(const uint8_t *bytes, size_t len, struct pgp_array *val
 pgp_status pgp_put_array(uint32_t element_type, const struct pgp_value *elements, size_t count, PGP_OUT);
 pgp_status pgp_dimension_next(const uint8_t *bytes, size_t len, struct pgp_cursor *cursor, struct pgp_dimension *dimension);
 pgp_status pgp_element_next(const uint8_t *bytes, size_t len, struct pgp_cursor *cursor, struct pgp_column *element);
+/* All elements in one call, as pgp_row_all. */
+pgp_status pgp_element_all(const uint8_t *bytes, size_t len, struct pgp_cursor *cursor, struct pgp_column *items, size_t room, size_t *count);
 
 /* An hstore: a cursor for the walk over its entries, each a key and a value or a null, in UTF-8. */
 struct pgp_entry { struct pgp_part key; struct pgp_column value; };
@@ -332,6 +400,61 @@ pgp_status pgp_entry_next(const uint8_t *bytes, size_t len, struct pgp_cursor *c
 /* To write one: keys and values as they come (of equal keys a server keeps one). Key and value have to be UTF-8, else PGP_E_NOT_UTF8. */
 struct pgp_key_value { const uint8_t *key; size_t key_len; struct pgp_value value; };
 pgp_status pgp_put_hstore(const struct pgp_key_value *pairs, size_t count, PGP_OUT);
+
+/* The server's fixed types, by number: those of its values, and of arrays of them. */
+enum pgp_oid {
+    PGP_OID_BOOL = 16, PGP_OID_BYTEA = 17, PGP_OID_CHAR = 18, PGP_OID_NAME = 19, PGP_OID_INT8 = 20, PGP_OID_INT2 = 21, PGP_OID_INT4 = 23,
+    PGP_OID_TEXT = 25, PGP_OID_OID = 26, PGP_OID_JSON = 114, PGP_OID_XML = 142, PGP_OID_POINT = 600, PGP_OID_PATH = 602, PGP_OID_BOX = 603,
+    PGP_OID_CIDR = 650, PGP_OID_FLOAT4 = 700, PGP_OID_FLOAT8 = 701, PGP_OID_MACADDR = 829, PGP_OID_INET = 869, PGP_OID_BPCHAR = 1042,
+    PGP_OID_VARCHAR = 1043, PGP_OID_DATE = 1082, PGP_OID_TIME = 1083, PGP_OID_TIMESTAMP = 1114, PGP_OID_TIMESTAMPTZ = 1184,
+    PGP_OID_INTERVAL = 1186, PGP_OID_TIMETZ = 1266, PGP_OID_BIT = 1560, PGP_OID_VARBIT = 1562, PGP_OID_NUMERIC = 1700, PGP_OID_UUID = 2950,
+    PGP_OID_PG_LSN = 3220, PGP_OID_JSONB = 3802, PGP_OID_INT4RANGE = 3904, PGP_OID_NUMRANGE = 3906, PGP_OID_TSRANGE = 3908,
+    PGP_OID_TSTZRANGE = 3910, PGP_OID_DATERANGE = 3912, PGP_OID_INT8RANGE = 3926,
+    PGP_OID_BOOL_ARRAY = 1000, PGP_OID_BYTEA_ARRAY = 1001, PGP_OID_INT2_ARRAY = 1005, PGP_OID_INT4_ARRAY = 1007, PGP_OID_TEXT_ARRAY = 1009,
+    PGP_OID_INT8_ARRAY = 1016, PGP_OID_FLOAT4_ARRAY = 1021, PGP_OID_FLOAT8_ARRAY = 1022, PGP_OID_NUMERIC_ARRAY = 1231, PGP_OID_UUID_ARRAY = 2951
+};
+
+/* What the fields of an ERROR_RESPONSE or a NOTICE_RESPONSE are about. */
+enum pgp_error_code {
+    PGP_FIELD_SEVERITY = 'S', PGP_FIELD_SEVERITY_NONLOCALIZED = 'V', PGP_FIELD_SQLSTATE = 'C', PGP_FIELD_MESSAGE = 'M', PGP_FIELD_DETAIL = 'D',
+    PGP_FIELD_HINT = 'H', PGP_FIELD_POSITION = 'P', PGP_FIELD_INTERNAL_POSITION = 'p', PGP_FIELD_INTERNAL_QUERY = 'q', PGP_FIELD_WHERE = 'W',
+    PGP_FIELD_SCHEMA = 's', PGP_FIELD_TABLE = 't', PGP_FIELD_COLUMN = 'c', PGP_FIELD_DATA_TYPE = 'd', PGP_FIELD_CONSTRAINT = 'n',
+    PGP_FIELD_FILE = 'F', PGP_FIELD_LINE = 'L', PGP_FIELD_ROUTINE = 'R'
+};
+
+/* A timestamptz is in UTC. These two say infinity, before or after all others, of a timestamp and of a date. */
+#define PGP_TIMESTAMP_INFINITY INT64_MAX
+#define PGP_TIMESTAMP_MINUS_INFINITY INT64_MIN
+#define PGP_DATE_INFINITY INT32_MAX
+#define PGP_DATE_MINUS_INFINITY INT32_MIN
+
+/* The name of a status, and of a kind of messages; "?" for a number that is none. */
+static inline const char *pgp_status_name(pgp_status status)
+{
+    static const char *const names[] = {
+        "PGP_OK", "PGP_NO_ROOM", "PGP_E_EMBEDDED_NULL", "PGP_E_TOO_LARGE", "PGP_E_INVALID_LENGTH", "PGP_E_UNKNOWN_TAG",
+        "PGP_E_UNKNOWN_AUTHENTICATION", "PGP_E_UNEXPECTED_EOF", "PGP_E_NOT_DRAINED", "PGP_E_NOT_UTF8", "PGP_E_INVALID_SIZE",
+        "PGP_E_INVALID_COUNT", "PGP_E_INVALID_KEY_LENGTH", "PGP_E_INVALID_VALUE_LENGTH", "PGP_E_INVALID_DIMENSION", "PGP_E_TOO_MANY_ELEMENTS",
+        "PGP_E_INVALID_BIT_LENGTH", "PGP_E_INVALID_NETMASK", "PGP_E_INVALID_ADDRESS_LENGTH", "PGP_E_INVALID_FAMILY", "PGP_E_INVALID_VERSION",
+        "PGP_E_INVALID_SIGN", "PGP_E_INVALID_SCALE", "PGP_E_INVALID_DIGIT", "PGP_E_INVALID_TEXT", "PGP_E_OUT_OF_RANGE"
+    };
+    static const char *const more[] = { "PGP_E_WRONG_PHASE", "PGP_E_EMPTY_NAME", "PGP_E_VERSION", "PGP_E_KIND", "PGP_E_UNEXPECTED", "PGP_E_UNCERTAIN" };
+    if (status < sizeof names / sizeof *names) return names[status];
+    if (status >= 32 && status < 32 + sizeof more / sizeof *more) return more[status - 32];
+    return status == PGP_MORE ? "PGP_MORE" : status == PGP_DONE ? "PGP_DONE" : status == PGP_FULL ? "PGP_FULL" : "?";
+}
+static inline const char *pgp_kind_name(uint8_t kind)
+{
+    static const char *const names[] = {
+        "None", "AuthenticationCleartextPassword", "AuthenticationGss", "AuthenticationGssContinue", "AuthenticationKerberosV5",
+        "AuthenticationMd5Password", "AuthenticationOk", "AuthenticationSasl", "AuthenticationSaslContinue", "AuthenticationSaslFinal",
+        "AuthenticationScmCredential", "AuthenticationSspi", "BackendKeyData", "BindComplete", "CloseComplete", "CommandComplete", "CopyData",
+        "CopyDone", "CopyInResponse", "CopyOutResponse", "DataRow", "EmptyQueryResponse", "ErrorResponse", "NoData", "NoticeResponse",
+        "NotificationResponse", "ParameterDescription", "ParameterStatus", "ParseComplete", "PortalSuspended", "ReadyForQuery",
+        "RowDescription", "NegotiateProtocolVersion", "CopyBothResponse", "FunctionCallResponse"
+    };
+    return kind < sizeof names / sizeof *names ? names[kind] : "?";
+}
 
 static inline uint64_t pgp_float8_bits(double value) { uint64_t bits; memcpy(&bits, &value, sizeof bits); return bits; }
 static inline double pgp_float8_of(uint64_t bits) { double value; memcpy(&value, &bits, sizeof value); return value; }

@@ -77,6 +77,10 @@ pgp_status pgp_scram_verifier(const uint8_t *password, size_t password_len, cons
 pgp_status pgp_md5_answer(const uint8_t *user, size_t user_len, const uint8_t *password, size_t password_len,
                           const uint8_t *salt, size_t salt_len, PGP_OUT);
 
+/* The password as a server uses it: prepared by SASLprep (RFC 4013); as it is where it is no UTF-8, or SASLprep rejects it. Hand the
+   result to pgp_scram_update and pgp_scram_verifier. At most three times as long: one character may become eighteen of three bytes each. */
+pgp_status pgp_saslprep(const uint8_t *password, size_t password_len, PGP_OUT);
+
 /* The text as a string constant, or as a quoted identifier, of an SQL command; no character of it can end the constant. */
 #define PGP_LITERAL_ROOM(len) (2 * (len) + 4)
 #define PGP_IDENTIFIER_ROOM(len) (2 * (len) + 2)

@@ -1,5 +1,7 @@
 mod Addresses
+mod Alls
 mod Compound
+mod Dialogues
 mod Elements
 mod Copies
 mod Extensions

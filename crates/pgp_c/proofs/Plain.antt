@@ -2,12 +2,13 @@
 use Rattle.std.proofs.Common.{◌≡◌, false, refl, inr}
 use Rattle.pgp_frontend.specs.ClientRun.{MayCome, is_startup}
 use Rattle.pgp_c.specs.declared.message.PlainMessage.{PlainMessage}
-use Rattle.pgp_c.specs.declared.message.PlainMessage.TheVariants.{CancelRequest, Close, CopyDone, CopyFail, Describe, Execute, Flush, PasswordMessage, Query, SaslInitialResponse, SaslResponse, SslRequest, Sync, Terminate}
+use Rattle.pgp_c.specs.declared.message.PlainMessage.TheVariants.{CancelRequest, Close, CopyData, CopyDone, CopyFail, Describe, Execute, Flush, PasswordMessage, Query, SaslInitialResponse, SaslResponse, SslRequest, Sync, Terminate}
 use Rattle.pgp_c.specs.Plain.{comes_open, message_of}
 
 pub may_come : (m : PlainMessage) → MayCome (message_of m) (comes_open m)
 may_come (CancelRequest process_id secret_key) = (inr tt, tt)
 may_come (Close variant name) = λ e. absurd cc
+may_come (CopyData bytes) = λ e. absurd cc
 may_come CopyDone = λ e. absurd cc
 may_come (CopyFail reason) = λ e. absurd cc
 may_come (Describe variant name) = λ e. absurd cc
@@ -24,6 +25,7 @@ may_come Terminate = λ e. absurd cc
 pub no_startup : (m : PlainMessage) → is_startup (message_of m) ≡ false
 no_startup (CancelRequest process_id secret_key) = refl
 no_startup (Close variant name) = refl
+no_startup (CopyData bytes) = refl
 no_startup CopyDone = refl
 no_startup (CopyFail reason) = refl
 no_startup (Describe variant name) = refl

@@ -1,6 +1,8 @@
 pub mod Compound
 pub mod Copying
+pub mod Dialogue
 pub mod Front
+pub mod Further
 pub mod Listings
 pub mod Lists
 pub mod Opening

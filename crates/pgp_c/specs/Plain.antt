@@ -3,12 +3,13 @@ use Rattle.std.specs.Prelude.{Bool, true, false, Some}
 use Rattle.pgp_frontend.specs.ClientMessage.{ClientMessage}
 use Rattle.pgp_frontend.specs.ClientMessage as client
 use Rattle.pgp_c.specs.declared.message.PlainMessage.{PlainMessage}
-use Rattle.pgp_c.specs.declared.message.PlainMessage.TheVariants.{CancelRequest, Close, CopyDone, CopyFail, Describe, Execute, Flush, PasswordMessage, Query, SaslInitialResponse, SaslResponse, SslRequest, Sync, Terminate}
+use Rattle.pgp_c.specs.declared.message.PlainMessage.TheVariants.{CancelRequest, Close, CopyData, CopyDone, CopyFail, Describe, Execute, Flush, PasswordMessage, Query, SaslInitialResponse, SaslResponse, SslRequest, Sync, Terminate}
 
 -- the message that is meant
 abbrev pub message_of : PlainMessage → ClientMessage
 message_of (CancelRequest process_id secret_key) = client.CancelRequest process_id secret_key.now
 message_of (Close variant name) = client.Close variant name.now
+message_of (CopyData bytes) = client.CopyData bytes.now
 message_of CopyDone = client.CopyDone
 message_of (CopyFail reason) = client.CopyFail reason.now
 message_of (Describe variant name) = client.Describe variant name.now

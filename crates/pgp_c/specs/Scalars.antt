@@ -4,8 +4,9 @@ use Rattle.pgp_types.specs.Network.{macaddr, uuid}
 use Rattle.pgp_types.specs.Range.{empty, range}
 use Rattle.pgp_types.specs.Scalar.{bool, int2, int4, int8, oid, lsn, float4, float8}
 use Rattle.pgp_types.specs.Time.{date, time, timestamp}
+use Rattle.pgp_values.specs.Time.{interval, timetz}
 use Rattle.pgp_c.specs.declared.scalar.Scalar.{Scalar}
-use Rattle.pgp_c.specs.declared.scalar.Scalar.TheVariants.{Bool, Date, EmptyRange, Float4, Float8, Int2, Int4, Int8, Lsn, Macaddr, Oid, Time, Timestamp, Uuid}
+use Rattle.pgp_c.specs.declared.scalar.Scalar.TheVariants.{Bool, Date, EmptyRange, Float4, Float8, Int2, Int4, Int8, Interval, Lsn, Macaddr, Oid, Time, TimeTz, Timestamp, Uuid}
 
 -- the bytes that are written
 abbrev pub spelled : Scalar → List ℕ
@@ -17,9 +18,11 @@ spelled (Float8 bits) = float8.written bits
 spelled (Int2 n) = int2.written n
 spelled (Int4 n) = int4.written n
 spelled (Int8 n) = int8.written n
+spelled (Interval v) = interval.written v
 spelled (Lsn n) = lsn.written n
 spelled (Macaddr octets) = macaddr.written octets
 spelled (Oid n) = oid.written n
 spelled (Time t) = time.written t
+spelled (TimeTz v) = timetz.written v
 spelled (Timestamp t) = timestamp.written t
 spelled (Uuid octets) = uuid.written octets

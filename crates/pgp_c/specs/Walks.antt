@@ -28,6 +28,12 @@ pub record Passes {V : Type 0} (Spelled : ℕ → V → List ℕ → Type 0) (by
 abbrev pub Takes : {V : Type 0} → (ℕ → V → List ℕ → Type 0) → List ℕ → PgpCursor → PgpCursor → V → Type 0
 Takes Spelled bytes before after x = Passes Spelled bytes before after x × (after.left + 1 ≡ before.left)
 
+-- Of such a list these items, one after another.
+pub data TakesAll {V : Type 0} (Spelled : ℕ → V → List ℕ → Type 0) (bytes : List ℕ) (before : PgpCursor) : PgpCursor → List V → Type 0 where
+  none : TakesAll Spelled bytes before before []
+  more : {between after : PgpCursor} → {xs : List V} → {x : V} → TakesAll Spelled bytes before between xs
+      → Takes Spelled bytes between after x → TakesAll Spelled bytes before after (xs ++ x ∷ [])
+
 -- no item is to come, and no byte is left
 abbrev pub IsEnded : List ℕ → PgpCursor → Type 0
 IsEnded bytes c = (c.left ≡ 0) × (rest bytes c ≡ [])

@@ -1,7 +1,7 @@
 //! Arrays: their heads, and their dimensions and elements, read where they stand, one after another; and written.
 #![tactic(auto, using(pgp_base::proofs::Parts::held_steps))]
 
-ghost use Rattle.std.specs.Prelude.{◌≡◌, ◌≢◌, ◌⊎◌, ◌++◌, ◌≤◌, ◌<◌, length, Some, None, OnOk, IfErr};
+ghost use Rattle.std.specs.Prelude.{◌≡◌, ◌≢◌, ◌⊎◌, ◌++◌, ◌≤◌, ◌<◌, drop, length, map, take, All, Some, None, OnOk, IfErr};
 ghost use Rattle.pgp_base.specs.Cause.{Wants, WantsMemory};
 ghost use Rattle.pgp_base.specs.Held.{◌⊕◌};
 ghost use Rattle.pgp_base.specs.PartReading.{Answers};
@@ -13,9 +13,9 @@ ghost use Rattle.pgp_c.specs.Listings.{IsColumnInside};
 ghost use Rattle.pgp_c.specs.PartPlaces.{dimension_at};
 ghost use Rattle.pgp_c.specs.Putting.{IsNoList, elements_cause, elements_of, flag_in, head_of, list_of};
 ghost use Rattle.pgp_c.specs.Values.{Lacks, Refuses, Wrote};
-ghost use Rattle.pgp_c.specs.Walks.{IsEnded, RefusesItem, Takes};
+ghost use Rattle.pgp_c.specs.Walks.{IsEnded, RefusesItem, Takes, TakesAll};
 
-use crate::cursor::{Listed, PgpCursor, next_counted};
+use crate::cursor::{Listed, PgpCursor, all_counted, next_counted};
 use crate::listing::PgpValue;
 use crate::part::{column_before, nullable_at, put_value};
 use crate::row::PgpColumn;
@@ -102,6 +102,26 @@ pub extern "C" fn pgp_element_next(
     ensures left { result ≢ 0 → (cursor.new ≡ cursor.old) × (item.new ≡ item.old) }
 {
     next_counted::<Elements>(bytes, cursor, item)
+}
+
+/// All elements of an array, up to its end, or as many as there is room for.
+#[unsafe(no_mangle)]
+pub extern "C" fn pgp_element_all(
+    bytes: &[u8],
+    cursor: &mut PgpCursor,
+    items: &mut [PgpColumn],
+    count: &mut usize,
+) -> u32
+    ensures items { TakesAll (λ place. (nullable InvalidValueLength).Spelled) bytes.now cursor.old cursor.new (map (value_in bytes.now) (take count.new items.new)) }
+    ensures inside { All (IsColumnInside (length bytes.now)) (take count.new items.new) }
+    ensures ended { result ≡ 0 → IsEnded bytes.now cursor.new }
+    ensures full { result ≡ 102 → (count.new ≡ length items.old) × (cursor.new.left ≢ 0) }
+    ensures refused { result ≢ 0 → result ≢ 102 → RefusesItem (nullable InvalidValueLength).Refused bytes.now cursor.new result }
+    ensures fits { count.new ≤ length items.old }
+    ensures behind { drop count.new items.new ≡ drop count.new items.old }
+    ensures same { length items.new ≡ length items.old }
+{
+    all_counted::<Elements>(bytes, cursor, items, count)
 }
 
 /// The dimensions of an array.

@@ -1,16 +1,19 @@
 //! Iterators over lists that stand in the caller's bytes, by a cursor that the caller holds.
 
-ghost use Rattle.std.specs.Prelude.{◌≡◌, ◌≢◌, ◌+◌, ◌<◌, ◌≤◌, ◌^◌, ℕ, List, [], length, None, IfSome, IfOk, IfErr};
+ghost use Rattle.std.specs.Prelude.{◌≡◌, ◌≢◌, ◌+◌, ◌<◌, ◌≤◌, ◌^◌, ℕ, List, [], drop, length, map, take, All, None, IfSome, IfOk, IfErr};
 ghost use Rattle.pgp_base.specs.Grammar.{StandsAt};
 ghost use Rattle.pgp_base.specs.declared.error.Error.{Error as Refusal};
-ghost use Rattle.pgp_c.specs.Walks.{IsEnded, IsMarkedEnd, RefusesItem, RefusesMarked, StandsFrom, Takes, TakesMarked, rest as left_of, rest_of};
+ghost use Rattle.pgp_c.specs.Walks.{IsEnded, IsMarkedEnd, RefusesItem, RefusesMarked, StandsFrom, Takes, TakesAll, TakesMarked, rest as left_of, rest_of};
 
 use crate::status::failed;
 use pgp_base::Error;
 use pgp_base::reading::is_marked;
 
-/// The answer at the end of an iterator.
+/// The result at the end of an iterator.
 const DONE: u32 = 101;
+
+/// The result where there is no room for another item.
+const FULL: u32 = 102;
 
 /// How far an iterator is: the place of the next item, the place after the last, and how many items are to
 /// come.
@@ -96,6 +99,48 @@ fn next_in<L: Listed>(rest: &[u8], cursor: &mut PgpCursor, item: &mut L::Item) -
         }
         Err(e) => failed(e),
     }
+}
+
+/// The items of such a list, up to its end, or as many as there is room for.
+pub fn all_counted<L: Listed>(
+    bytes: &[u8],
+    cursor: &mut PgpCursor,
+    items: &mut [L::Item],
+    count: &mut usize,
+) -> u32
+    ensures items { TakesAll L.Spelled bytes.now cursor.old cursor.new (map (L.meaning bytes.now) (take count.new items.new)) }
+    ensures inside { All (L.Inside (length bytes.now)) (take count.new items.new) }
+    ensures ended { result ≡ 0 → IsEnded bytes.now cursor.new }
+    ensures full { result ≡ 102 → (count.new ≡ length items.old) × (cursor.new.left ≢ 0) }
+    ensures refused { result ≢ 0 → result ≢ 102 → RefusesItem L.Refused bytes.now cursor.new result }
+    ensures fits { count.new ≤ length items.old }
+    ensures behind { drop count.new items.new ≡ drop count.new items.old }
+    ensures same { length items.new ≡ length items.old }
+{
+    for at in 0..items.len() {
+        let code = next_counted::<L>(bytes, cursor, &mut items[at]);
+        if code != 0 {
+            *count = at;
+            return if code == DONE { 0 } else { code };
+        }
+    }
+    *count = items.len();
+    end_counted(bytes, cursor)
+}
+
+/// Whether such a list is at its end.
+fn end_counted(bytes: &[u8], cursor: &PgpCursor) -> u32
+    ensures ended { result ≡ 0 → IsEnded bytes.now cursor.now }
+    ensures full { result ≡ 102 → cursor.now.left ≢ 0 }
+    ensures refused { result ≢ 0 → result ≢ 102 → (cursor.now.left ≡ 0) × (left_of bytes.now cursor.now ≢ []) × (result ≡ 8) }
+{
+    if cursor.left > 0 {
+        return FULL;
+    }
+    if rest_of(bytes, cursor.at, cursor.end).is_empty() {
+        return 0;
+    }
+    failed(Error::NotDrained)
 }
 
 /// The next item of a list that a byte 0 ends.

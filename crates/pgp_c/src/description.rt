@@ -1,14 +1,14 @@
 //! The columns of a row description, read where they stand, one after another.
 
-ghost use Rattle.std.specs.Prelude.{◌≡◌, ◌≢◌, ℕ, List, length, IfOk};
+ghost use Rattle.std.specs.Prelude.{◌≡◌, ◌≢◌, ◌≤◌, ℕ, List, drop, length, map, take, All, IfOk};
 ghost use Rattle.pgp_base.specs.PartReading.{Answers};
 ghost use Rattle.pgp_message.specs.ItemReading.{numbers_at};
 ghost use Rattle.pgp_message.specs.Items.{FieldSpelled, FieldRefused};
 ghost use Rattle.pgp_c.specs.Listings.{field_of, named};
 ghost use Rattle.pgp_c.specs.Parts.{IsInside};
-ghost use Rattle.pgp_c.specs.Walks.{IsEnded, RefusesItem, Takes};
+ghost use Rattle.pgp_c.specs.Walks.{IsEnded, RefusesItem, Takes, TakesAll};
 
-use crate::cursor::{Listed, PgpCursor, next_counted};
+use crate::cursor::{Listed, PgpCursor, all_counted, next_counted};
 use crate::front::PgpPart;
 use pgp_base::Error;
 use pgp_base::reading::{int16_at, int32_at, oid_at, text_at};
@@ -42,6 +42,26 @@ pub extern "C" fn pgp_field_next(bytes: &[u8], cursor: &mut PgpCursor, field: &m
     ensures left { result ≢ 0 → (cursor.new ≡ cursor.old) × (field.new ≡ field.old) }
 {
     next_counted::<Fields>(bytes, cursor, field)
+}
+
+/// All columns of a row description, up to its end, or as many as there is room for.
+#[unsafe(no_mangle)]
+pub extern "C" fn pgp_field_all(
+    bytes: &[u8],
+    cursor: &mut PgpCursor,
+    fields: &mut [PgpField],
+    count: &mut usize,
+) -> u32
+    ensures items { TakesAll FieldSpelled bytes.now cursor.old cursor.new (map (field_of bytes.now) (take count.new fields.new)) }
+    ensures inside { All (λ f. IsInside (length bytes.now) f.name) (take count.new fields.new) }
+    ensures ended { result ≡ 0 → IsEnded bytes.now cursor.new }
+    ensures full { result ≡ 102 → (count.new ≡ length fields.old) × (cursor.new.left ≢ 0) }
+    ensures refused { result ≢ 0 → result ≢ 102 → RefusesItem FieldRefused bytes.now cursor.new result }
+    ensures fits { count.new ≤ length fields.old }
+    ensures behind { drop count.new fields.new ≡ drop count.new fields.old }
+    ensures same { length fields.new ≡ length fields.old }
+{
+    all_counted::<Fields>(bytes, cursor, fields, count)
 }
 
 /// The columns of a row description.

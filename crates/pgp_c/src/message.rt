@@ -4,6 +4,7 @@ ghost use Rattle.std.specs.Prelude.{◌≡◌, ◌≢◌};
 ghost use Rattle.pgp_c.specs.Plain.{comes_open, message_of};
 ghost use Rattle.pgp_c.specs.Sending.{Sent, NotSent};
 
+use crate::copying::pgp_copy_data;
 use crate::writing::{
     pgp_cancel_request, pgp_close, pgp_copy_done, pgp_copy_fail, pgp_describe, pgp_execute,
     pgp_flush, pgp_password_message, pgp_query, pgp_sasl_initial_response, pgp_sasl_response,
@@ -15,6 +16,7 @@ use crate::writing::{
 pub enum PlainMessage<'a> {
     CancelRequest(i32, &'a [u8]),
     Close(u8, &'a [u8]),
+    CopyData(&'a [u8]),
     CopyDone,
     CopyFail(&'a [u8]),
     Describe(u8, &'a [u8]),
@@ -39,6 +41,7 @@ pub fn send(message: PlainMessage<'_>, out: &mut [u8], written: &mut usize) -> u
     match message {
         PlainMessage::CancelRequest(id, key) => pgp_cancel_request(id, key, out, written),
         PlainMessage::Close(variant, name) => pgp_close(variant, name, out, written),
+        PlainMessage::CopyData(data) => pgp_copy_data(data, out, written),
         PlainMessage::CopyDone => pgp_copy_done(out, written),
         PlainMessage::CopyFail(reason) => pgp_copy_fail(reason, out, written),
         PlainMessage::Describe(variant, name) => pgp_describe(variant, name, out, written),

@@ -7,6 +7,7 @@ ghost use Rattle.pgp_c.specs.Values.{Lacks, Wrote};
 
 use crate::status::{refused, sent};
 use pgp_base::{Buffer, Error, Window};
+use pgp_values::{Interval, TimeTz};
 
 /// A value of a fixed size; one of a `float4` or a `float8` by its bits.
 #[derive(Clone, Copy)]
@@ -19,10 +20,12 @@ pub enum Scalar {
     Int2(i16),
     Int4(i32),
     Int8(i64),
+    Interval(Interval),
     Lsn(u64),
     Macaddr([u8; 6]),
     Oid(u32),
     Time(i64),
+    TimeTz(TimeTz),
     Timestamp(i64),
     Uuid([u8; 16]),
 }
@@ -55,10 +58,12 @@ fn append<B: Buffer>(value: Scalar, buf: &mut B) -> Result<(), Error>
         Scalar::Int2(value) => pgp_types::int2_to_sql(value, buf),
         Scalar::Int4(value) => pgp_types::int4_to_sql(value, buf),
         Scalar::Int8(value) => pgp_types::int8_to_sql(value, buf),
+        Scalar::Interval(span) => pgp_values::interval_to_sql(span, buf),
         Scalar::Lsn(value) => pgp_types::lsn_to_sql(value, buf),
         Scalar::Macaddr(octets) => pgp_types::macaddr_to_sql(octets, buf),
         Scalar::Oid(value) => pgp_types::oid_to_sql(value, buf),
         Scalar::Time(time) => pgp_types::time_to_sql(time, buf),
+        Scalar::TimeTz(time) => pgp_values::timetz_to_sql(time, buf),
         Scalar::Timestamp(time) => pgp_types::timestamp_to_sql(time, buf),
         Scalar::Uuid(octets) => pgp_types::uuid_to_sql(octets, buf),
     }

@@ -2,7 +2,7 @@
 #![tactic(auto, using(crate::proofs::Extensions::no_room))]
 
 ghost use Rattle.std.specs.Prelude.{◌≡◌, ◌≢◌, ◌<◌, ◌≤◌, true, false, length, map, Some};
-ghost use Rattle.pgp_frontend.specs.ClientMessage.{Bind, CancelRequest, Close, CopyDone, CopyFail, Describe, Execute, Flush, Parse, PasswordMessage, Query, SaslInitialResponse, SaslResponse, SslRequest, Startup, Sync, Terminate};
+ghost use Rattle.pgp_frontend.specs.ClientMessage.{Bind, CancelRequest, Close, CopyData, CopyDone, CopyFail, Describe, Execute, Flush, Parse, PasswordMessage, Query, SaslInitialResponse, SaslResponse, SslRequest, Startup, Sync, Terminate};
 ghost use Rattle.pgp_frontend.specs.Payload.{minor_of, version_code};
 ghost use Rattle.pgp_frontend.specs.declared.startup.ProtocolVersion.{ProtocolVersion as Version};
 ghost use Rattle.pgp_c.specs.Lists.{value_of};
@@ -256,6 +256,17 @@ pub extern "C" fn pgp_stream_sync(stream: &mut PgpStream<'_>) -> u32
     ensures kept { result ≢ 0 → Keeps stream.old stream.new }
 {
     add(stream, PlainMessage::Sync)
+}
+
+/// Data of a copy, which are copied; `pgp_stream_copy_data_head` has no need of that.
+#[unsafe(no_mangle)]
+pub extern "C" fn pgp_stream_copy_data(stream: &mut PgpStream<'_>, bytes: &[u8]) -> u32
+    ensures added { result ≡ 0 → Extends (CopyData bytes.now) stream.old stream.new }
+    ensures phase { stream.old.is_open ≢ true → result ≡ 32 }
+    ensures why { result ≢ 0 → stream.old.is_open ≡ true → Why (CopyData bytes.now) (free stream.old) result }
+    ensures kept { result ≢ 0 → Keeps stream.old stream.new }
+{
+    add(stream, PlainMessage::CopyData(bytes))
 }
 
 /// The head of a message with so many bytes of data, which the caller sends after what is pending.

@@ -67,6 +67,24 @@ impl<Q: Queue> Dialogue<Q> {
         }
     }
 
+    /// A dialogue that goes on from this stage: the request under way has this name, and these are pending.
+    pub fn resume(stage: Stage, name: u64, pending: Q) -> Dialogue<Q>
+        ensures { result ≡ record { stage = stage; name = name; pending = pending } }
+    {
+        Dialogue {
+            stage,
+            name,
+            pending,
+        }
+    }
+
+    /// The stage, the name of the request under way, and the requests that are pending: what `resume` goes on from.
+    pub fn into_parts(self) -> (Stage, u64, Q)
+        ensures { self ≡ record { stage = result.0; name = result.1; pending = result.2 } }
+    {
+        (self.stage, self.name, self.pending)
+    }
+
     /// Whether no request awaits an answer, and no Sync is awaited after an error.
     pub fn is_idle(&self) -> bool
         ensures { result ≡ is_idle (shown Q.items self.now) }

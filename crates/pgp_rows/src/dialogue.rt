@@ -3,7 +3,7 @@
 use crate::fault::Fault;
 use crate::row::Row;
 use crate::shown::Shown;
-use pgp_client::{Asked, Dialogue, Event, Kind, Queue, Refusal, Request, Slots};
+use pgp_client::{Dialogue, Event, Kind, Queue, Refusal, Request, Slot, Slots};
 use std::alloc::Global;
 
 /// How many requests the queue in the caller's memory has room for.
@@ -116,11 +116,7 @@ pub fn check_dialogue(alloc: Global, row: &Row<'_>, out: &mut Shown) -> Result<(
         run(&mut Dialogue::new(alloc), row.left, out)?;
         out.came_to(row.right)?;
     }
-    let empty = Asked {
-        request: Request::Sync,
-        name: 0,
-    };
-    let mut room = [empty; ROOM];
+    let mut room = [Slot::default(); ROOM];
     run(&mut Dialogue::over(Slots::new(&mut room)), row.left, out)?;
     out.came_to(row.right)
 }

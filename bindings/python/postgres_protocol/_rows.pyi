@@ -1,0 +1,6 @@
+from typing import Any, Callable, List, Tuple, Union
+
+Decoder = Union[int, Callable[[bytes], Any]]
+
+def rows(data: bytes, decoders: Tuple[Decoder, ...], at: int = 0) -> Tuple[List[Tuple[Any, ...]], int]: ...
+def setup(*arguments: object) -> None: ...

@@ -1,0 +1,84 @@
+"""Which of a server's messages answers which of a client's requests."""
+import ctypes
+from ctypes import POINTER, Structure, byref, c_bool, c_size_t, c_uint8, c_uint64
+from typing import NamedTuple, Optional
+
+from ._library import NO_ROOM, OK, ProtocolError, as_integer, declare
+from .reading import KINDS
+
+#: What may be asked, in the order of the library's numbers.
+REQUESTS = ('Startup', 'Query', 'Parse', 'Bind', 'Close', 'DescribeStatement', 'DescribePortal', 'Execute', 'FunctionCall', 'Sync', 'CopyDone', 'CopyFail')
+_KINDS = {kind: number for number, kind in enumerate((*KINDS, 'CopyBothResponse', 'FunctionCallResponse')) if kind}
+_ASKED = {request: number for number, request in enumerate(REQUESTS)}
+
+
+class _Slot(Structure):
+    _fields_ = [('name', c_uint64), ('request', c_uint8)]
+
+
+class _Dialogue(Structure):
+    _fields_ = [('room', POINTER(_Slot)), ('room_len', c_size_t), ('start', c_size_t), ('end', c_size_t), ('name', c_uint64), ('stage', c_uint8)]
+
+
+class _Event(Structure):
+    _fields_ = [('name', c_uint64), ('what', c_uint8)]
+
+
+_ask = declare('dialogue_ask', POINTER(_Dialogue), c_uint8, c_uint64)
+_take = declare('dialogue_take', POINTER(_Dialogue), c_uint8, POINTER(_Event))
+_is_idle = declare('dialogue_is_idle', POINTER(_Dialogue), POINTER(c_bool))
+_PART, _LAST, _ASIDE = 1, 2, 3
+
+
+class Taken(NamedTuple):
+    """What a message is to the requests: the number of the one that it answers, and whether it is the answer's last message. `request` is
+    None for notices, notifications and settings, and, with `is_last`, for an error that ends the session."""
+    request: Optional[int]
+    is_last: bool
+
+
+class Dialogue:
+    """Requests are asked in the order in which they are sent, and each message of the server is taken as it comes: `take` says which
+    request it answers. No answer is attributed to another request; a message that has no place raises ProtocolError `Unexpected`, and
+    the error of a copy where a Sync was sent before its data's end `Uncertain`: the connection is to be closed then."""
+
+    def __init__(self, room: int = 64) -> None:
+        self._room = (_Slot * max(room, 1))()
+        self._dialogue = _Dialogue(self._room, len(self._room), 0, 0, 0, 0)
+        self._event = _Event()
+
+    def ask(self, request: str, name: int) -> None:
+        """Takes note of a request (one of `REQUESTS`) with the asker's own number."""
+        if request not in _ASKED:
+            raise ValueError('request: one of %s is expected, not %r' % (', '.join(REQUESTS), request))
+        number = as_integer(name, 'name', 0, 2 ** 64 - 1)
+        status = _ask(byref(self._dialogue), _ASKED[request], number)
+        if status == NO_ROOM:
+            self._grow()
+            status = _ask(byref(self._dialogue), _ASKED[request], number)
+        if status != OK:
+            raise ProtocolError(status)
+
+    def _grow(self) -> None:
+        wider = (_Slot * (4 * len(self._room)))()
+        ctypes.memmove(wider, self._room, ctypes.sizeof(self._room))
+        self._room, self._dialogue.room, self._dialogue.room_len = wider, wider, len(wider)
+
+    def take(self, kind: str) -> Taken:
+        """Takes the server's next message, by its kind."""
+        if kind not in _KINDS:
+            raise ValueError('kind: the kind of a message is expected, not %r' % (kind,))
+        status = _take(byref(self._dialogue), _KINDS[kind], byref(self._event))
+        if status != OK:
+            raise ProtocolError(status)
+        what = self._event.what
+        return Taken(self._event.name if what in (_PART, _LAST) else None, what not in (_PART, _ASIDE))
+
+    @property
+    def is_idle(self) -> bool:
+        """Whether no request awaits an answer."""
+        idle = c_bool()
+        status = _is_idle(byref(self._dialogue), byref(idle))
+        if status != OK:
+            raise ProtocolError(status)
+        return idle.value

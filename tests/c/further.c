@@ -1,0 +1,157 @@
+/* further: dialogues, whole lists in one call, decimal numbers, spans, JSON, SASLprep, and names. */
+#include "checks.h"
+
+/* Asks and takes by words, as "P1 B2 S3 <1 <2 <Z": what comes of each message is a letter and the request's number. */
+static const char letters[] = "UQPBCdDEFScf";
+static uint8_t kind_of(char tag)
+{
+    static const char tags[] = "12CDEGHINRTVWZcdnst3AK0v";
+    static const uint8_t kinds[] = { PGP_PARSE_COMPLETE, PGP_BIND_COMPLETE, PGP_COMMAND_COMPLETE, PGP_DATA_ROW, PGP_ERROR_RESPONSE, PGP_COPY_IN_RESPONSE,
+        PGP_COPY_OUT_RESPONSE, PGP_EMPTY_QUERY_RESPONSE, PGP_NOTICE_RESPONSE, PGP_AUTHENTICATION_SASL, PGP_ROW_DESCRIPTION, PGP_FUNCTION_CALL_RESPONSE,
+        PGP_COPY_BOTH_RESPONSE, PGP_READY_FOR_QUERY, PGP_COPY_DONE, PGP_COPY_DATA, PGP_NO_DATA, PGP_PORTAL_SUSPENDED, PGP_PARAMETER_DESCRIPTION, PGP_CLOSE_COMPLETE,
+        PGP_NOTIFICATION_RESPONSE, PGP_BACKEND_KEY_DATA, PGP_AUTHENTICATION_OK, PGP_NEGOTIATE_PROTOCOL_VERSION };
+    return kinds[strchr(tags, tag) - tags];
+}
+static void talk(size_t room, const char *words, const char *want)
+{
+    struct pgp_slot *slots = (struct pgp_slot *)calloc(room ? room : 1, sizeof *slots);
+    struct pgp_dialogue d = {slots, 0, 0, 0, 0, 0};
+    struct pgp_event e = {0, 0};
+    char got[128], *end = got;
+    bool idle = false;
+    d.room_len = room;
+    for (; *words; words++) {
+        if (*words == ' ') continue;
+        if (*words == '<') {
+            pgp_status r = pgp_dialogue_take(&d, kind_of(*++words), &e);
+            if (r != PGP_OK) end += sprintf(end, "%s", r == PGP_E_UNEXPECTED ? "x" : r == PGP_E_UNCERTAIN ? "?" : "!");
+            else end += sprintf(end, e.what <= PGP_LAST ? "%c%lu" : "%c", " pl-e"[e.what], (unsigned long)e.name);
+        } else {
+            uint8_t request = (uint8_t)(strchr(letters, *words) - letters);
+            if (pgp_dialogue_ask(&d, request, (uint64_t)(*++words - '0')) != PGP_OK) end += sprintf(end, "full");
+        }
+    }
+    same("is_idle", pgp_dialogue_is_idle(&d, &idle), PGP_OK);
+    end += sprintf(end, idle ? "." : ",");
+    is(want, got, (size_t)(end - got), want, strlen(want));
+    free(slots);
+}
+static void dialogues(void)
+{
+    struct pgp_slot slot[1] = {{0, 0}};
+    struct pgp_dialogue d = {slot, 1, 0, 0, 0, 0};
+    struct pgp_event e = {7, 7};
+    bool idle = true;
+    size_t room;
+    for (room = 4; room < 9; room++) {
+        talk(room, "U1 <R <0 <K <Z", "p1p1p1l1.");
+        talk(room, "Q1 <T <D <C <Z", "p1p1p1l1.");
+        talk(room, "P1 B2 E3 S4 <1 <2 <D <N <C <Z", "l1l2p3-l3l4.");
+        talk(room, "P1 B2 E3 S4 <E <Z", "l1l4.");
+        talk(room, "Q1 Q2 <E <Z <C <Z", "p1l1p2l2.");
+        talk(room, "E1 S2 <G <E", "p1?,");
+        talk(room, "Q1 <D", "x,");
+        talk(room, "F1 <V <Z", "p1l1.");
+        talk(room, "<E", "e,");
+    }
+    talk(1, "S1 S2 <Z S3 <Z", "fulll1l3.");
+    talk(0, "S1", "full.");
+    same("no request", pgp_dialogue_ask(&d, 12, 1), PGP_E_KIND); same("nothing asked", d.end, 0);
+    same("no kind", pgp_dialogue_take(&d, 0, &e), PGP_E_KIND); same("no kind", pgp_dialogue_take(&d, 35, &e), PGP_E_KIND); same("as it was", e.what, 7);
+    d.start = 1; same("no places", pgp_dialogue_take(&d, PGP_READY_FOR_QUERY, &e), PGP_NO_ROOM); same("no places", pgp_dialogue_ask(&d, 0, 1), PGP_NO_ROOM);
+    same("no places", pgp_dialogue_is_idle(&d, &idle), PGP_NO_ROOM); same("as it was", idle, 1);
+    d.end = 2; same("past the room", pgp_dialogue_ask(&d, 0, 1), PGP_NO_ROOM);
+}
+
+static void lists(void)
+{
+    static const char row[] = "D\0\0\0\x13\0\3\0\0\0\1a\xff\xff\xff\xff\0\0\0\0";
+    static const char columns[] = "T\0\0\0\x2d\0\2a\0\0\0\0\0\0\0\0\0\0\x17\0\4\xff\xff\xff\xff\0\0" "\0\0\0\x40\1\0\3\0\0\4\x13\xff\xff\0\0\0\x24\0\1";
+    static const char ints[] = "\0\0\0\1\0\0\0\1\0\0\0\x17\0\0\0\3\0\0\0\1\0\0\0\4\0\0\0\1\xff\xff\xff\xff\0\0\0\4\xff\xff\xff\xfd";
+    struct pgp_message m;
+    struct pgp_cursor c;
+    struct pgp_column v[4];
+    struct pgp_field f[2];
+    struct pgp_array array;
+    size_t n = 77, room;
+    same("row", pgp_front(B(row), &m), PGP_OK);
+    for (room = 0; room < 5; room++) {
+        c = pgp_walk(&m); memset(v, 7, sizeof v);
+        same("all", pgp_row_all(B(row), &c, v, room, &n), room < 3 ? PGP_FULL : PGP_OK); same("count", n, room < 3 ? room : 3);
+        if (n > 0) { same("start", v[0].start, 11); same("end", v[0].end, 12); same("no null", v[0].is_null, 0); }
+        if (n > 1) same("null", v[1].is_null, 1);
+        if (n > 2) { same("start", v[2].start, 20); same("end", v[2].end, 20); same("behind", ((uint8_t *)&v[3])[0], 7); }
+        if (room < 3) { same("the rest", pgp_row_all(B(row), &c, v, 4, &n), PGP_OK); same("count", n, 3 - room); }
+    }
+    c = pgp_walk(&m); c.end -= 1; same("short", pgp_row_all(B(row), &c, v, 4, &n), PGP_E_UNEXPECTED_EOF); same("two", n, 2); same("again", pgp_row_all(B(row), &c, v, 4, &n), PGP_E_UNEXPECTED_EOF); same("none", n, 0);
+    c = pgp_walk(&m); c.left = 2; same("more", pgp_row_all(B(row), &c, v, 2, &n), PGP_E_NOT_DRAINED); same("two", n, 2);
+    same("columns", pgp_front(B(columns), &m), PGP_OK); c = pgp_walk(&m);
+    same("all", pgp_field_all(B(columns), &c, f, 2, &n), PGP_OK); same("two", n, 2); same("int4", f[0].type_oid, 23); same("varchar", f[1].type_oid, 1043); same("36", (unsigned long)f[1].type_modifier, 36);
+    same("array", pgp_get_array(B(ints), &array), PGP_OK); c = array.elements;
+    same("all", pgp_element_all(B(ints), &c, v, 4, &n), PGP_OK); same("three", n, 3); same("start", v[0].start, 24); same("null", v[1].is_null, 1); same("end", v[2].end, 40);
+}
+
+static void values(void)
+{
+    static const char *const texts[][2] = { /* what is written, and what is shown */
+        {"0", "0"}, {"-0.01", "-0.01"}, {"12345.6700", "12345.6700"}, {"1e5", "100000"}, {" +1.5 ", "1.5"}, {"NaN", "NaN"}, {"-inf", "-Infinity"}, {"10000", "10000"} };
+    struct pgp_interval span = {4000000, -3, 14}, back = {0, 0, 0};
+    struct pgp_timetz noon, other;
+    struct pgp_part json = {7, 7};
+    uint8_t out[64], shown[64];
+    size_t n, k, i;
+    noon.microseconds = 43200000000; noon.zone = -7200; other.microseconds = 0; other.zone = 0;
+    WRITER("numeric", "\0\3\0\1\0\0\0\4\0\1\x09\x29\x1a\x2c", pgp_put_numeric_text(B("12345.6700"), O));
+    WRITER("numeric of nothing", "\0\0\0\0\0\0\0\0", pgp_put_numeric_text(B("0"), O));
+    WRITER("its text", "12345.6700", pgp_get_numeric_text(B("\0\3\0\1\0\0\0\4\0\1\x09\x29\x1a\x2c"), O));
+    for (i = 0; i < sizeof texts / sizeof *texts; i++) {
+        same(texts[i][0], pgp_put_numeric_text(T(texts[i][0]), out, sizeof out, &n), PGP_OK);
+        same(texts[i][1], pgp_get_numeric_text(out, n, shown, sizeof shown, &k), PGP_OK); is(texts[i][1], shown, k, texts[i][1], strlen(texts[i][1]));
+    }
+    same("no number", pgp_put_numeric_text(B("1.2.3"), out, sizeof out, &n), PGP_E_INVALID_TEXT); same("nothing", n, 0);
+    same("too large", pgp_put_numeric_text(B("1e200000"), out, sizeof out, &n), PGP_E_OUT_OF_RANGE); same("no text", pgp_put_numeric_text(B("\xff"), out, sizeof out, &n), PGP_E_NOT_UTF8);
+    same("cut", pgp_get_numeric_text(B("\0\1\0\0\0\0\0\0\0"), out, sizeof out, &n), PGP_E_UNEXPECTED_EOF); same("a sign", pgp_get_numeric_text(B("\0\0\0\0\1\0\0\0"), out, sizeof out, &n), PGP_E_INVALID_SIGN);
+    same("a scale", pgp_get_numeric_text(B("\0\0\0\0\0\0\x40\0"), out, sizeof out, &n), PGP_E_INVALID_SCALE); same("a digit", pgp_get_numeric_text(B("\0\1\0\0\0\0\0\0\x27\x10"), out, sizeof out, &n), PGP_E_INVALID_DIGIT);
+    WRITER("interval", "\0\0\0\0\0\x3d\x09\0\xff\xff\xff\xfd\0\0\0\x0e", pgp_put_interval(&span, O));
+    same("get", pgp_get_interval(B("\0\0\0\0\0\x3d\x09\0\xff\xff\xff\xfd\0\0\0\x0e"), &back), PGP_OK); same("the same", memcmp(&back, &span, sizeof span) == 0, 1);
+    same("cut", pgp_get_interval(B("\0"), &back), PGP_E_UNEXPECTED_EOF); same("as it was", (unsigned long)back.months, 14);
+    WRITER("timetz", "\0\0\0\x0a\x0e\xeb\xb0\0\xff\xff\xe3\xe0", pgp_put_timetz(&noon, O));
+    same("get", pgp_get_timetz(B("\0\0\0\x0a\x0e\xeb\xb0\0\xff\xff\xe3\xe0"), &other), PGP_OK); same("time", other.microseconds == noon.microseconds, 1); same("zone", other.zone == noon.zone, 1);
+    WRITER("jsonb", "\1{}", pgp_put_jsonb(B("{}"), O));
+    same("get", pgp_get_jsonb(B("\1{}"), &json), PGP_OK); same("at", json.at, 1); same("len", json.len, 2);
+    same("version", pgp_get_jsonb(B("\2{}"), &json), PGP_E_INVALID_VERSION); same("nothing", pgp_get_jsonb(B(""), &json), PGP_E_INVALID_VERSION); same("as it was", json.at, 1);
+    same("no text", pgp_put_jsonb(B("\xff"), out, sizeof out, &n), PGP_E_NOT_UTF8); same("nothing", n, 0);
+}
+
+static void data(void)
+{
+    uint8_t room[16];
+    struct pgp_stream s = {room, sizeof room, 0, false};
+    same("before the startup packet", pgp_stream_copy_data(&s, B("ab")), PGP_E_WRONG_PHASE); s.is_open = true;
+    same("data", pgp_stream_copy_data(&s, B("ab")), PGP_OK); is("data", room, s.len, "d\0\0\0\6ab", 7);
+    same("no room", pgp_stream_copy_data(&s, B("abcde")), PGP_NO_ROOM); same("as it was", s.len, 7);
+    same("more", pgp_stream_copy_data(&s, B("abcd")), PGP_OK); is("more", room + 7, s.len - 7, "d\0\0\0\x08" "abcd", 9);
+}
+
+static void prepared(void)
+{
+    uint8_t out[64];
+    size_t n;
+    same("ascii", pgp_saslprep(B("secret"), out, sizeof out, &n), PGP_OK); is("ascii", out, n, "secret", 6);
+    same("a space past ASCII", pgp_saslprep(B("a\xc2\xa0" "b"), out, sizeof out, &n), PGP_OK); is("a space", out, n, "a b", 3);
+    same("mapped to nothing", pgp_saslprep(B("I\xc2\xadX"), out, sizeof out, &n), PGP_OK); is("RFC 4013, 3", out, n, "IX", 2);
+    same("normal form", pgp_saslprep(B("\xc2\xaa"), out, sizeof out, &n), PGP_OK); is("RFC 4013, 3", out, n, "a", 1);
+    same("prohibited", pgp_saslprep(B("\x07"), out, sizeof out, &n), PGP_OK); is("as it is", out, n, "\x07", 1);
+    same("no text", pgp_saslprep(B("\xff"), out, sizeof out, &n), PGP_OK); is("as it is", out, n, "\xff", 1);
+    same("no room", pgp_saslprep(B("secret"), out, 5, &n), PGP_NO_ROOM); same("nothing", n, 0);
+}
+
+static void names(void)
+{
+    is("status", T(pgp_status_name(PGP_E_NOT_UTF8)), T("PGP_E_NOT_UTF8")); is("status", T(pgp_status_name(PGP_E_OUT_OF_RANGE)), T("PGP_E_OUT_OF_RANGE"));
+    is("status", T(pgp_status_name(PGP_E_WRONG_PHASE)), T("PGP_E_WRONG_PHASE")); is("status", T(pgp_status_name(PGP_E_UNCERTAIN)), T("PGP_E_UNCERTAIN"));
+    is("status", T(pgp_status_name(PGP_FULL)), T("PGP_FULL")); is("none", T(pgp_status_name(26)), T("?")); is("none", T(pgp_status_name(38)), T("?"));
+    is("kind", T(pgp_kind_name(PGP_DATA_ROW)), T("DataRow")); is("kind", T(pgp_kind_name(PGP_FUNCTION_CALL_RESPONSE)), T("FunctionCallResponse")); is("none", T(pgp_kind_name(35)), T("?"));
+}
+
+void further(void) { dialogues(); lists(); values(); data(); prepared(); names(); }

@@ -1,0 +1,162 @@
+"""A connection without input or output, fed with a server's bytes worked by hand from the manual's "Message Flow"; and the clients over it, with a
+server that plays such bytes."""
+import asyncio
+import socket
+import threading
+
+import postgres_protocol as pg
+from postgres_protocol import aio, client, events
+from postgres_protocol.connection import Connection, LogInError
+from server import frame
+
+READY, AUTHENTICATED = frame(b'Z', b'I'), frame(b'R', b'\0\0\0\0')
+SASL = frame(b'R', b'\0\0\0\x0aSCRAM-SHA-256\0\0')
+DESCRIBED = frame(b'T', b'\0\2' + b'id\0' + b'\0' * 6 + b'\0\0\0\x17\0\4\xff\xff\xff\xff\0\0' + b'name\0' + b'\0' * 6 + b'\0\0\0\x19\xff\xff\xff\xff\xff\xff\0\0')
+ROW = frame(b'D', b'\0\2\0\0\0\4\0\0\0\7\0\0\0\5hello')
+
+
+def connected(**given):
+    """A connection that is logged in."""
+    connection = Connection('alice', **given)
+    connection.data_to_send()
+    connection.receive_data(AUTHENTICATED + frame(b'S', b'TimeZone\0UTC\0') + frame(b'K', b'\0\0\0\1\0\0\0\2') + READY)
+    events_of(connection)
+    return connection
+
+
+def events_of(connection):
+    return list(iter(connection.next_event, None))
+
+
+def check_log_in(same, raises):
+    connection = Connection('alice', database='shop')
+    same('startup', connection.data_to_send(), pg.startup([(b'user', b'alice'), (b'database', b'shop'), (b'client_encoding', b'UTF8')]))
+    raises('a query before the log-in', pg.ProtocolError, 'WrongPhase', lambda: connection.query('SELECT 1'))
+    same('nothing yet', connection.next_event(), None)
+    whole = AUTHENTICATED + frame(b'S', b'TimeZone\0UTC\0') + frame(b'K', b'\0\0\0\1\0\0\0\2') + READY
+    for at in range(len(whole)):
+        connection.receive_data(whole[at:at + 1])
+    same('logged in', events_of(connection), [events.Setting(None, 'TimeZone', 'UTC'), events.LoggedIn(1)])
+    same('what it knows', (connection.status, connection.settings, connection.process_id, connection.secret_key), ('I', {'TimeZone': 'UTC'}, 1, b'\0\0\0\2'))
+    for what, text, data, given in (
+            ('no password is admitted', 'the server asks for no password', AUTHENTICATED, {'require_auth': ['scram-sha-256'], 'password': 'x'}),
+            ('clear text is not admitted', 'the server asks for password', frame(b'R', b'\0\0\0\3'), {'require_auth': ['scram-sha-256'], 'password': 'x'}),
+            ('md5 is not admitted', 'the server asks for md5', frame(b'R', b'\0\0\0\5abcd'), {'require_auth': ['scram-sha-256', 'none'], 'password': 'x'}),
+            ('no signature', 'the server did not show', SASL + AUTHENTICATED, {'password': 'x'}),
+            ('no password given', 'the server asks for a password', SASL, {}),
+            ('another mechanism', 'the server offers X, ', frame(b'R', b'\0\0\0\x0aX\0\0'), {'password': 'x'}),
+            ('Kerberos', 'the server asks for AuthenticationKerberosV5', frame(b'R', b'\0\0\0\2'), {})):
+        connection = Connection('alice', **given)
+        connection.receive_data(data)
+        raises(what, LogInError, text, connection.next_event)
+        connection.data_to_send()
+        same(what + ': no password is sent', connection.data_to_send(), b'')
+    raises('a way that is none', ValueError, 'require_auth: one of ', lambda: Connection('alice', require_auth=['gss']))
+
+
+def check_encryption(same, raises):
+    for answer, accepted in ((b'S', True), (b'N', False)):
+        connection = Connection('alice', encrypt=True)
+        same('ssl request', connection.data_to_send(), pg.ssl_request())
+        connection.receive_data(answer)
+        same('answer %r' % answer, connection.next_event(), events.Encryption(None, accepted))
+    for data in (b'SZ', b'S' + READY, b'E', b'\0'):
+        connection = Connection('alice', encrypt=True)
+        connection.receive_data(data)
+        raises('bytes %r' % data[:2], LogInError, 'the server answered the request for encryption with', connection.next_event)
+
+
+def check_requests(same, raises):
+    connection = connected()
+    one, two = connection.parse('s', 'SELECT $1'), connection.describe('S', 's')
+    three = connection.sync()
+    same('sent', connection.data_to_send(), pg.parse(b's', b'SELECT $1') + pg.describe('S', b's') + pg.sync())
+    connection.receive_data(frame(b'1', b'') + frame(b't', b'\0\1\0\0\0\x17') + frame(b'N', b'SNOTICE\0Mhi\0\0') + DESCRIBED + READY)
+    got = events_of(connection)
+    same('kinds', [type(e).__name__ for e in got], ['Completed', 'Parameters', 'Notice', 'Columns', 'Ready'])
+    same('requests', [e.request for e in got], [one, two, None, two, three])
+    connection.bind('', 's', [1], [b'\0\0\0\5'], [1])
+    asked = connection.execute('', 0, (4, 1))
+    last = connection.sync()
+    connection.receive_data(frame(b'2', b'') + ROW * 3 + frame(b'C', b'SELECT 3\0') + READY)
+    got = events_of(connection)
+    same('rows', got[1:], [events.Rows(asked, [(7, 'hello')] * 3), events.CommandCompleted(asked, 'SELECT 3'), events.Ready(last, 'I')])
+    failing, after = connection.query('SELECT x'), connection.query('SELECT 1')
+    connection.receive_data(frame(b'E', b'SERROR\0C42703\0Mno x\0\0') + READY + frame(b'C', b'SELECT 1\0') + READY)
+    got = events_of(connection)
+    same('an error', got[0], events.Failed(failing, {'S': 'ERROR', 'C': '42703', 'M': 'no x'}))
+    same('each to its own', [e.request for e in got], [failing, failing, after, after])
+    same('idle', connection.is_idle, True)
+    connection.receive_data(frame(b'A', b'\0\0\0\1chan\0text\0'))
+    same('a notification', events_of(connection), [events.Notification(None, 1, 'chan', 'text')])
+    connection.receive_data(ROW)
+    raises('a row that answers nothing', pg.ProtocolError, 'Unexpected', connection.next_event)
+    connection = connected(max_message=100)
+    connection.receive_data(b'D\0\0\1\0')
+    raises('a message past the limit', pg.ProtocolError, 'TooLarge', connection.next_event)
+
+
+def play(listening, answers, seen):
+    """A server that answers each Sync, Query or Terminate with the next of these bytes."""
+    peer = listening.accept()[0]
+    file = peer.makefile('rb')
+    file.read(int.from_bytes(file.read(4), 'big') - 4)
+    peer.sendall(AUTHENTICATED + READY)
+    for answer in answers:
+        while True:
+            tag = file.read(1)
+            payload = file.read(int.from_bytes(file.read(4), 'big') - 4)
+            seen.append((tag, payload))
+            if tag in (b'S', b'Q', b'X', b''):
+                break
+        peer.sendall(answer)
+    peer.close()
+
+
+def with_server(answers, run):
+    listening, seen = socket.create_server(('127.0.0.1', 0)), []
+    thread = threading.Thread(target=play, args=(listening, answers, seen), daemon=True)
+    thread.start()
+    result = run(listening.getsockname()[1])
+    thread.join(10)
+    listening.close()
+    return result, seen
+
+
+PREPARED = frame(b'1', b'') + frame(b't', b'\0\1\0\0\0\x17') + DESCRIBED + READY
+IN_TRANSACTION = frame(b'1', b'') + frame(b'2', b'') + frame(b'C', b'BEGIN\0') + frame(b'2', b'') + ROW + ROW + frame(b'C', b'SELECT 2\0') + frame(b'Z', b'T')
+COMMITTED = frame(b'C', b'COMMIT\0') + READY
+FAILED = frame(b'E', b'SERROR\0C23505\0Mtwice\0\0') + READY
+
+
+def check_client(same, raises):
+    def run(port):
+        with client.connect('127.0.0.1', port, 'alice', sslmode='disable') as connection:
+            cursor = connection.cursor()
+            cursor.execute('SELECT id, name FROM t WHERE id = $1', (5,))
+            found = cursor.fetchone(), cursor.fetchall(), cursor.fetchone(), cursor.rowcount, [d[:2] for d in cursor.description]
+        raises('an error by its class', client.IntegrityError, '23505: twice', lambda: connection.execute('SELECT id, name FROM t WHERE id = $1', (6,)))
+        raises('too few values', client.InterfaceError, 'the statement has 1 parameters, and 0', lambda: connection.execute('SELECT id, name FROM t WHERE id = $1'))
+        raises('a value of another type', client.DataError, 'a parameter is no value of its type', lambda: connection.execute('SELECT id, name FROM t WHERE id = $1', ('x',)))
+        connection.close()
+        raises('closed', client.InterfaceError, 'the connection is closed', lambda: connection.execute('SELECT 1'))
+        return found
+    found, seen = with_server([PREPARED, IN_TRANSACTION, COMMITTED, FAILED, b''], run)
+    same('rows', found, ((7, 'hello'), [(7, 'hello')], None, 2, [('id', 23), ('name', 25)]))
+    same('sent', [tag for tag, _ in seen], [b'P', b'D', b'S', b'P', b'B', b'E', b'B', b'E', b'S', b'Q', b'P', b'B', b'E', b'B', b'E', b'S', b'X'])
+
+
+def check_asyncio(same, raises):
+    async def run(port):
+        async with await aio.connect('127.0.0.1', port, 'alice') as connection:
+            result = await connection.execute('SELECT id, name FROM t WHERE id = $1', (5,))
+        return result.rows, result.tag
+    answered = frame(b'2', b'') + ROW + frame(b'C', b'SELECT 1\0') + READY
+    found, _ = with_server([PREPARED, answered, b''], lambda port: asyncio.run(run(port)))
+    same('asyncio', found, ([(7, 'hello')], 'SELECT 1'))
+
+
+def check_sessions(same, raises):
+    """All of them."""
+    for check in (check_log_in, check_encryption, check_requests, check_client, check_asyncio):
+        check(same, raises)

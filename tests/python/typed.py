@@ -1,0 +1,63 @@
+"""Values as Python's, by the numbers of their types. The bytes are those that PostgreSQL 15 sends for these values."""
+import datetime
+import ipaddress
+import uuid
+from decimal import Decimal
+
+import postgres_protocol as pg
+from postgres_protocol.registry import INFINITY, NEGATIVE_INFINITY, Registry, Type, apply
+
+UTC = datetime.timezone.utc
+#: A type's number, a value, and its bytes.
+VALUES = (
+    (16, True, '01'), (17, b'\x00\xff', '00ff'), (20, -1, 'ffffffffffffffff'), (21, 258, '0102'), (23, -5, 'fffffffb'), (25, 'h\u00e9', '68c3a9'),
+    (26, 4294967295, 'ffffffff'), (114, {'a': [1, None]}, '7b2261223a205b312c206e756c6c5d7d'), (700, 1.5, '3fc00000'), (701, -0.25, 'bfd0000000000000'),
+    (829, '08:00:2b:01:02:03', '08002b010203'), (869, ipaddress.ip_interface('192.168.0.1/24'), '02180004c0a80001'),
+    (869, ipaddress.ip_interface('::1/128'), '0380001000000000000000000000000000000001'),
+    (1082, datetime.date(2000, 1, 2), '00000001'), (1082, datetime.date(1999, 12, 31), 'ffffffff'), (1082, INFINITY, '7fffffff'), (1082, NEGATIVE_INFINITY, '80000000'),
+    (1083, datetime.time(0, 0, 1), '00000000000f4240'), (1114, datetime.datetime(2000, 1, 1, 0, 0, 1), '00000000000f4240'),
+    (1114, datetime.datetime(1999, 12, 31, 23, 59, 59, 999999), 'ffffffffffffffff'), (1114, INFINITY, '7fffffffffffffff'),
+    (1184, datetime.datetime(2000, 1, 1, 0, 0, 1, tzinfo=UTC), '00000000000f4240'), (1184, NEGATIVE_INFINITY, '8000000000000000'),
+    (1186, pg.Interval(14, -3, 4000000), '00000000003d0900fffffffd0000000e'),
+    (1266, datetime.time(12, 0, tzinfo=datetime.timezone(datetime.timedelta(hours=2))), '0000000a0eebb000ffffe3e0'),
+    (1560, '101', '00000003a0'), (1562, '', '00000000'), (1562, '111111110', '00000009ff00'),
+    (1700, Decimal('0'), '0000000000000000'), (1700, Decimal('12345.6700'), '000300010000000400010929' '1a2c'), (1700, Decimal('-0.01'), '0001ffff400000020064'),
+    (1700, Decimal('NaN'), '00000000c0000000'), (1700, Decimal('Infinity'), '00000000d0000020'), (1700, Decimal('10000'), '00010001000000000001'),
+    (2950, uuid.UUID('00010203-0405-0607-0809-0a0b0c0d0e0f'), '000102030405060708090a0b0c0d0e0f'), (3220, 2 ** 32 + 2, '0000000100000002'),
+    (3802, {'a': 1}, '017b2261223a20317d'),
+    (1007, [1, None, -3], '00000001' '00000001' '00000017' '00000003' '00000001' '0000000400000001' 'ffffffff' '00000004fffffffd'),
+    (1007, [[1, 2], [3, 4]], '00000002' '00000000' '00000017' '00000002' '00000001' '00000002' '00000001' '0000000400000001' '0000000400000002' '0000000400000003' '0000000400000004'),
+    (1007, [], '00000000' '00000000' '00000017'), (1009, ['a', 'bc'], '00000001' '00000000' '00000019' '00000002' '00000001' '0000000161' '000000026263'),
+    (1231, [Decimal('1.5')], '00000001' '00000000' '000006a4' '00000001' '00000001' '0000000c' '0002000000000001' '0001' '1388'),
+    (3904, pg.Range(('in', 1), ('ex', 5)), '02' '0000000400000001' '0000000400000005'), (3904, pg.Range(None, None), '01'),
+    (3912, pg.Range(('none', None), ('ex', datetime.date(2000, 1, 2))), '08' '0000000400000001'),
+)
+#: A type's number, a value that it doesn't take, and the exception.
+WRONG = ((23, 'x', TypeError), (23, 2 ** 31, OverflowError), (16, 1, TypeError), (25, 5, TypeError), (1184, datetime.datetime(2000, 1, 1), TypeError),
+         (1266, datetime.time(1, 0), TypeError), (1007, [[1], [2, 3]], ValueError), (1700, 'abc', pg.ProtocolError), (1700, '1e200000', pg.ProtocolError))
+
+
+def check_typed(same, raises):
+    """Each value is written and read."""
+    registry = Registry()
+    for oid, value, data in VALUES:
+        kept = registry.get(oid)
+        same('encode %s %r' % (kept.name, value), kept.encode(value).hex(), data)
+        read = apply(kept.decode, bytes.fromhex(data))
+        same('decode %s %r' % (kept.name, value), (str(read), type(read)), (str(value), type(value)))
+    for oid, value, error in WRONG:
+        try:
+            same('%d takes no %r' % (oid, value), registry.get(oid).encode(value), error)
+        except Exception as raised:
+            same('%d takes no %r' % (oid, value), type(raised), error)
+    same('a type that is not known', (registry.get(99999).encode(5), registry.get(99999).is_text), (b'5', True))
+    registry.add(Type(99999, 'point', lambda data: tuple(map(ord, data.decode())), bytes))
+    same('a type of the user', apply(registry.get(99999).decode, b'ab'), (97, 98))
+    same('a date past Python', [type(e) for e in [_error(lambda: apply(registry.get(1082).decode, b'\x7f\0\0\0'))]], [OverflowError])
+
+
+def _error(call):
+    try:
+        return call()
+    except Exception as raised:
+        return raised
