@@ -11,6 +11,7 @@ use Rattle.pgp_line.specs.Line.{Length, Tag, closing, followed, opening}
 use Rattle.pgp_trace.specs.Shown.{Shows, called, refused}
 use Rattle.pgp_trace.specs.Listing.{front, IsServerLine}
 use Rattle.pgp_trace.specs.Sides.{Server}
+use Rattle.pgp_trace.specs.declared.side.Phase.TheVariants.{Messages}
 use Rattle.pgp_trace.specs.Steps.{IsFrameOf, HasLine}
 use Rattle.pgp_trace.proofs.Parts.{front_taken}
 
@@ -83,7 +84,7 @@ pub no_longer : (old new : List ℕ) (r : Result Message Error) → TakesFrame o
 no_longer old new r t = omega (arith, ap length t.whole, length-append (frame_bytes t.first) new)
 
 -- and what has its line there has it here
-pub line_here : (style : Style) (place : ℕ) (old new bytes line : List ℕ) (r : Result Message Error) → TakesFrame old r new → bytes ≡ take (length old - length new) old → IsServerLine style place bytes line → HasLine style place Server old new line Server
+pub line_here : (style : Style) (place : ℕ) (old new bytes line : List ℕ) (r : Result Message Error) → TakesFrame old r new → bytes ≡ take (length old - length new) old → IsServerLine style place bytes line → HasLine style place (Server Messages) old new line (Server Messages)
 line_here style place old new bytes line r t e has = record {
   frame = bytes;
   whole = t.whole ∙ ap (λ l. l ++ new) (sym (front_taken (frame_bytes t.first) new old t.whole) ∙ sym e);

@@ -9,6 +9,7 @@ pub mod Printable
 pub mod Printing
 pub mod Shorter
 pub mod Sides
+pub mod Beginnings
 pub mod Runs
 pub mod Hiding
 pub mod ClientHiding

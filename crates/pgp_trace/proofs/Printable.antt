@@ -29,8 +29,9 @@ use Rattle.pgp_line.specs.Secret.{secret}
 use Rattle.pgp_frontend.specs.ClientMessage.{ClientMessage}
 use Rattle.pgp_frontend_read.specs.declared.error.ClientError.{ClientError}
 use Rattle.pgp_trace.specs.Client.{client_called, client_groups, client_line, grouped, refusal_parts}
-use Rattle.pgp_trace.specs.Listing.{GoesOn, IsLineOf, LineOf, front, client_front, client_tag}
+use Rattle.pgp_trace.specs.Listing.{GoesOn, IsLineOf, LineOf, answer_name, front, client_front, client_tag}
 use Rattle.pgp_trace.specs.Sides.{Side, Server, Client, is_told}
+use Rattle.pgp_trace.specs.declared.side.Phase.TheVariants.{Beginning, Messages, Encrypted}
 
 -- ASCII that is printed
 abbrev Plain : List ℕ → Type 0
@@ -388,7 +389,15 @@ begun : (style : Style) (place : ℕ) (opened : Bool) (frame : List ℕ) → IsP
 begun style place opened frame = parts style (opening style place) (Length (length frame) ∷ Tag (client_tag opened frame) ∷ []) (first style.form place)
 
 pub line_printable : (style : Style) (place : ℕ) (from to : Side) (frame line : List ℕ) → LineOf style place from frame line to → (text : List ℕ) × (line ≡ text ++ 10 ∷ []) × IsPrinted text
-line_printable style place Server to frame line is = server_line style place is.0.first line is.0.told
+line_printable style place (Server Beginning) to frame line (inl is) =
+    let parts_of = Length 1 ∷ Tag is.told.byte ∷ Name true (answer_name is.told.byte) ∷ [] in (
+      followed style (opening style place) parts_of ++ closing style,
+      is.told.told,
+      join (followed style (opening style place) parts_of) (closing style) (parts style (opening style place) parts_of (first style.form place)) (last style.form),
+    )
+line_printable style place (Server Beginning) to frame line (inr is) = server_line style place is.told.first line is.told.told
+line_printable style place (Server Messages) to frame line is = server_line style place is.0.first line is.0.told
+line_printable style place (Server Encrypted) to frame line is = absurd is
 line_printable style place (Client opened kinds) to frame line is =
     let text = client_line style (is_told kinds) is.told.result (client_front style place opened frame) in (
       text ++ closing style,

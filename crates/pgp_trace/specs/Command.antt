@@ -8,6 +8,7 @@ use Rattle.pgp_line.specs.declared.style.Style.{Style}
 use Rattle.pgp_trace.specs.Listing.{IsCutShort, ReadsWhenReady, WasListed, WritesListing}
 use Rattle.pgp_trace.specs.Options.{AreOptions}
 use Rattle.pgp_trace.specs.Sides as side
+use Rattle.pgp_trace.specs.declared.side.Phase.TheVariants.{Beginning}
 use Rattle.pgp_program.specs.Taken.{AppendsFront}
 use Rattle.pgp_program.specs.Run.{Streams, Caused, IsUnread}
 use Rattle.pgp_program.specs.Run as run
@@ -52,7 +53,7 @@ Lists style from before after = IsAtEnd after.input × IfSome before.input (λ b
 
 -- What is done where no fault is met.
 abbrev pub Does : Command → Streams → Streams → Type 0
-Does (Server style) before after = Lists style side.Server before after
+Does (Server style) before after = Lists style (side.Server Beginning) before after
 Does (Client style kinds) before after = Lists style (side.Client false kinds) before after
 Does Help before after = Keeps before.input after.input × Appends before.output after.output usage
 Does Version before after = Keeps before.input after.input × Appends before.output after.output version
@@ -64,7 +65,7 @@ BreaksOff passed style from fault before after = IsCutShort style from before af
 
 -- What is done where one is: what is written is a front of what would be.
 abbrev pub Stops : Type 0 → Command → Fault → Streams → Streams → Type 0
-Stops passed (Server style) fault before after = BreaksOff passed style side.Server fault before after
+Stops passed (Server style) fault before after = BreaksOff passed style (side.Server Beginning) fault before after
 Stops passed (Client style kinds) fault before after = BreaksOff passed style (side.Client false kinds) fault before after
 Stops passed Help fault before after = Keeps before.input after.input × AppendsFront before.output after.output usage
 Stops passed Version fault before after = Keeps before.input after.input × AppendsFront before.output after.output version
@@ -84,7 +85,7 @@ IsOther words = (command : Command) → ¬ Asks words command
 module _ {R W : Type 0} (remaining : R → Option (List ℕ)) (contents : W → Option (List ℕ)) (Passed : W → Type 0) (MayRead : R → Type 0) where
   -- where all lines of what came are written and passed on, the reader may be read for the command; what prints reads nothing
   abbrev pub ReadsFor : Command → R → W → Type 0
-  ReadsFor (Server style) reader writer = ReadsWhenReady remaining contents Passed MayRead style side.Server reader writer
+  ReadsFor (Server style) reader writer = ReadsWhenReady remaining contents Passed MayRead style (side.Server Beginning) reader writer
   ReadsFor (Client style kinds) reader writer = ReadsWhenReady remaining contents Passed MayRead style (side.Client false kinds) reader writer
   ReadsFor command reader writer = ⊤
 

@@ -6,6 +6,7 @@ ghost use Rattle.pgp_line.specs.Line.{Length, Tag, closing, followed, opening};
 ghost use Rattle.pgp_trace.specs.Shown.{refused};
 ghost use Rattle.pgp_trace.specs.Listing.{IsServerLine};
 ghost use Rattle.pgp_trace.specs.Sides.{Server};
+ghost use Rattle.pgp_trace.specs.declared.side.Phase.TheVariants as phases;
 ghost use Rattle.pgp_trace.specs.Steps.{IsFrameOf, ListsNext};
 
 use crate::body::put_message;
@@ -39,7 +40,7 @@ pub fn server_line<'b, A: Memory>(
     bytes: &'b [u8],
     line: &mut String<A>,
 ) -> Result<(Next, &'b [u8]), AllocError>
-    ensures listed { IfOk result (λ x. ListsNext style place Server bytes.now x.1.now (string_bytes line.new) Server x.0) }
+    ensures listed { IfOk result (λ x. ListsNext style place (Server phases.Messages) bytes.now x.1.now (string_bytes line.new) (Server phases.Messages) x.0) }
     ensures lacks { OnErr result A.Lacks }
 {
     let mut messages = Messages::new(bytes);

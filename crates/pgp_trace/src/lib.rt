@@ -1,6 +1,7 @@
 //! Shows a person what a PostgreSQL server or client sent, a line a message, as it comes: what the program `pgtrace` runs.
 #![tactic(auto)]
 
+pub mod answer;
 pub mod body;
 pub mod client;
 pub mod client_body;

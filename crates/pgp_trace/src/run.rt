@@ -13,7 +13,7 @@ ghost use Rattle.pgp_program.specs.Words.{LacksWords};
 use crate::fault::complaint;
 use crate::options::options_of;
 use crate::ports::Input;
-use crate::side::Side;
+use crate::side::{Phase, Side};
 use crate::stream::list;
 use pgp_base::Memory;
 use pgp_frontend_read::PasswordKind;
@@ -139,7 +139,9 @@ fn perform<A: Memory, R: Input, W: Output>(
     ensures cause { IfErr result (Caused A.Lacks (GivesUp R.Fails R.Called) (GivesUp W.Fails W.Interrupted)) }
 {
     match command {
-        Command::Server(style) => list(alloc, style, Side::Server, input, output),
+        Command::Server(style) => {
+            list(alloc, style, Side::Server(Phase::Beginning), input, output)
+        },
         Command::Client(style, kinds) => {
             list_client(alloc, style, kinds.as_slice(), input, output)
         }

@@ -2,10 +2,21 @@
 
 use pgp_frontend_read::PasswordKind;
 
+/// How far a server's stream has come.
+#[derive(Debug, Clone, Copy, PartialEq, Eq)]
+pub enum Phase {
+    /// Its first message is still to come. Before it one-byte answers to requests for encryption stand.
+    Beginning,
+    /// Messages follow one another.
+    Messages,
+    /// An answer agreed to encrypt the connection: what follows are no messages.
+    Encrypted,
+}
+
 /// Whose stream is listed, and what is known of it so far.
 #[derive(Debug, Clone, Copy)]
 pub enum Side<'a> {
-    Server,
+    Server(Phase),
     Client {
         /// Whether a startup packet came. Before it opening packets come, after it tagged messages.
         opened: bool,
