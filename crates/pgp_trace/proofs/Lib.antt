@@ -15,5 +15,6 @@ pub mod Hiding
 pub mod ClientHiding
 pub mod Streams
 pub mod ClientStreams
+pub mod OneListing
 pub mod OptionLemmas
 pub mod CommandLemmas

@@ -16,6 +16,11 @@ ghost use Rattle.pgp_trace.specs.Shown.{Shows};
 ghost use Rattle.pgp_trace.specs.Sides.{Client, Server, Side, answered};
 ghost use Rattle.pgp_trace.specs.declared.side.Phase.TheVariants.{Beginning, Encrypted, Messages};
 
+/// A stream has one listing.
+pub fn one_listing()
+    ensures { (style : Style) (from : Side) (bytes output other : List ℕ) → IsListing style from bytes output → IsListing style from bytes other → output ≡ other }
+{}
+
 /// A line has characters alone that a terminal prints, and then its newline.
 pub fn lines_are_printable()
     ensures { (style : Style) (place : ℕ) (from to : Side) (frame line : List ℕ) → LineOf style place from frame line to →
