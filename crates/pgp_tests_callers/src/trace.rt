@@ -9,6 +9,7 @@ use pgp_frontend_read::PasswordKind;
 use pgp_line::style::{Form, Style};
 use pgp_program::fault::Fault;
 use pgp_test_alloc::Refusing;
+use pgp_trace::pipe::Pipe;
 use pgp_trace::run::run;
 use pgp_trace::side::{Phase, Side};
 use pgp_trace::stream::list;
@@ -54,7 +55,7 @@ fn lists(rt: &impl Abort, alloc: Global, side: Side<'_>, bytes: &[u8], cuts: u16
     };
     let mut output = Vec::new(alloc);
     let answer = list(alloc, SHORT, side, &mut input, &mut output);
-    same(rt, answer, Ok(()));
+    same(rt, answer, Ok(""));
     holds(rt, output.as_slice() == lines.as_bytes());
 }
 
@@ -152,7 +153,7 @@ fn is_refused(
         same(rt, answer, Err(Fault::Memory));
         holds(rt, lines.as_bytes().starts_with(output.as_slice()));
     } else {
-        same(rt, answer, Ok(()));
+        same(rt, answer, Ok(""));
         holds(rt, output.as_slice() == lines.as_bytes());
     }
     is_refused
@@ -179,7 +180,7 @@ const OPEN: &str =
     "         0        1 N SSLResponse or GSSENCResponse\n         1        9 R AuthenticationOk\n        10        9 S ParameterStatus      name \"n\" value \"\\x0a\"\n        19        6 Z ReadyForQuery        idle\n        25       13 K BackendKeyData       process 1 key \"abcd\"\nrest 2\n";
 
 const USAGE: &str =
-    "usage: pgtrace server [--json] [--full] [--secrets] | client [--json] [--full] [--secrets] [--password-kind password|initial|response].. | --help | --version\n";
+    "usage: pgtrace server [--json] [--full] [--secrets] [--resume] | client [--json] [--full] [--secrets] [--resume] [--password-kind password|initial|response].. | --help | --version\n";
 
 #[test]
 fn words_decide_what_runs(rt: HostRuntime) {
@@ -321,33 +322,101 @@ fn each_message_has_its_object(rt: HostRuntime) {
     writes(&rt, rt.alloc(), JSON_KINDS, SESSION, OBJECTS);
 }
 
-#[test]
-fn a_stopped_stream_has_its_object(rt: HostRuntime) {
-    let last = "{\"rest\":5,\"stopped\":true}\n";
-    writes(
-        &rt,
-        rt.alloc(),
-        &["server", "--json"],
-        b"Z\x00\x00\x00\x03",
-        last,
-    );
-}
+/// Bytes, and what the program comes to on them: words, its lines, and what it says on standard error.
+type Run<'a> = (&'a [&'a str], &'a [u8], &'a str, &'a str);
 
-/// After an answer that agrees to encrypt, the bytes that follow are counted alone: a record of TLS, and a token of GSSAPI.
+const ENCRYPTED: &str =
+    "pgtrace: what follows is encrypted; a stream that begins in mid-session is listed with --resume\n";
+
+const UNOPENED: &str =
+    "pgtrace: no packet that opens a connection stands there: what follows is encrypted, or the stream begins in mid-session and is listed with --resume\n";
+
+/// After an answer that agrees to encrypt, the bytes that follow are counted alone: a record of TLS, and a token of GSSAPI. A stream from
+/// mid-session is listed where that is said, and else it is said what to do.
 #[test]
-fn encrypted_bytes_are_counted(rt: HostRuntime) {
-    let runs: [(&[u8], &str); 3] = [
-        (b"S", "         0        1 S SSLResponse\nrest 0\n"),
+fn what_is_left_is_explained(rt: HostRuntime) {
+    let runs: [Run<'_>; 9] = [
         (
+            &["server"],
+            b"S",
+            "         0        1 S SSLResponse\nrest 0\n",
+            "",
+        ),
+        (
+            &["server"],
             b"NS\x16\x03\x03\x00\x7a",
             "         0        1 N SSLResponse or GSSENCResponse\n         1        1 S SSLResponse\nstopped rest 5\n",
+            ENCRYPTED,
         ),
         (
+            &["server"],
             b"G\x00\x00\x00\x04abcd",
             "         0        1 G GSSENCResponse\nstopped rest 8\n",
+            ENCRYPTED,
+        ),
+        (
+            &["server", "--resume"],
+            b"S\x00\x00\x00\x08n\x00v\x00",
+            "         0        9 S ParameterStatus      name \"n\" value \"v\"\nrest 0\n",
+            "",
+        ),
+        (
+            &["server", "--json"],
+            b"Z\x00\x00\x00\x03",
+            "{\"rest\":5,\"stopped\":true}\n",
+            "pgtrace: no message of a server stands where the stream begins\n",
+        ),
+        (
+            &["server", "--resume"],
+            b"Z\x00\x00\x00\x03",
+            "stopped rest 5\n",
+            "",
+        ),
+        (&["client"], b"Q\x00\x00\x00\x06x\x00", "rest 7\n", UNOPENED),
+        (
+            &["client", "--resume"],
+            b"Q\x00\x00\x00\x06x\x00",
+            "         0        7 Q Query                query \"x\"\nrest 0\n",
+            "",
+        ),
+        (
+            &["client"],
+            b"\x00\x00\x00\x08\x04\xd2\x16/\x16\x03\x01\x00\x02\x01",
+            "         0        8 - SSLRequest\nrest 6\n",
+            UNOPENED,
         ),
     ];
-    for (bytes, lines) in runs {
-        writes(&rt, rt.alloc(), &["server"], bytes, lines);
+    for (words, bytes, written, told) in runs {
+        let wanted = Outcome {
+            status: 0,
+            written,
+            told,
+        };
+        let mut input = bytes;
+        comes_to(&rt, rt.alloc(), words, &mut input, &wanted);
+    }
+}
+
+/// Where nobody reads the listing any more, a front of it was written, nothing is said, and the status is 0.
+#[test]
+fn a_closed_pipe_ends_quietly(rt: HostRuntime) {
+    for left in 0..120usize {
+        let pipe = Pipe::new();
+        let mut input = STREAM;
+        let mut output = FailingWriter {
+            left,
+            taken: Vec::new(rt.alloc()),
+        };
+        let mut errors = Vec::new(rt.alloc());
+        let status = run(
+            rt.alloc(),
+            &["server"],
+            &mut pipe.source(&mut input),
+            &mut pipe.sink(&mut output),
+            &mut errors,
+        );
+        same(&rt, status, 0);
+        holds(&rt, output.taken.as_slice() == &ALL.as_bytes()[..left]);
+        holds(&rt, errors.is_empty());
     }
 }

@@ -18,6 +18,7 @@ use Rattle.pgp_line.specs.declared.style.Form.TheVariants.{Columns, Json}
 use Rattle.pgp_line.specs.declared.style.Style.{Style}
 use Rattle.pgp_line.specs.Line.{Length, Name, Tag, closing, followed, opening}
 use Rattle.pgp_trace.specs.Shown.{Shows, called, refused}
+use Rattle.pgp_trace.specs.Hints.{hint_of}
 use Rattle.pgp_program.specs.Run.{Streams}
 use Rattle.pgp_program.specs.Taken.{AppendsFront}
 use Rattle.pgp_program.specs.Words.{greatest}
@@ -169,11 +170,12 @@ pub record IsRunBehindAnswers (bytes : List ℕ) (stopped : Bool) (rest : List �
   pub none : answered more ≡ None
   pub run : BackendRun more results stopped rest
 
--- that listing was written, and nothing else
-pub record WritesListing (style : Style) (from : Side) (bytes : List ℕ) (old new : Option (List ℕ)) : Type 0 where
+-- that listing was written, and nothing else; and this is to be said of the bytes that are left
+pub record WritesListing (style : Style) (from : Side) (bytes : List ℕ) (old new : Option (List ℕ)) (said : List ℕ) : Type 0 where
   pub output : List ℕ
   pub is : IsListing style from bytes output
   pub written : Appends old new output
+  pub why : said ≡ hint_of is.to (place_behind (length is.rest))
 
 -- the end of the input has come, and the last line is due
 pub record EndsWith (style : Style) (to : Side) (input : Option (List ℕ)) (rest lines text : List ℕ) : Type 0 where

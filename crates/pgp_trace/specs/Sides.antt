@@ -31,6 +31,11 @@ phase_behind byte =
 abbrev pub AreAnswers : List ℕ → Type 0
 AreAnswers bytes = AllByRecursion (λ byte. phase_behind byte ≡ Some Beginning) bytes
 
+-- how far a stream has come that is taken in mid-session, or from its first byte on
+abbrev pub first_phase : (resume : Bool) → Phase
+first_phase true = Messages
+first_phase false = Beginning
+
 -- how far the stream has come after the answer that stands first, if one does
 abbrev pub answered : List ℕ → Option Phase
 answered [] = None

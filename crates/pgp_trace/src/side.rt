@@ -1,5 +1,8 @@
 //! Whose stream is listed.
 
+ghost use Rattle.std.specs.Prelude.{◌≡◌};
+ghost use Rattle.pgp_trace.specs.Sides.{first_phase};
+
 use pgp_frontend_read::PasswordKind;
 
 /// How far a server's stream has come.
@@ -23,4 +26,15 @@ pub enum Side<'a> {
         /// Which the next messages of tag `p` are. After the last of them it isn't known.
         kinds: &'a [PasswordKind],
     },
+}
+
+/// How far a stream has come that is taken in mid-session, or from its first byte on.
+pub fn first_phase(resume: bool) -> Phase
+    ensures { result ≡ first_phase resume }
+{
+    if resume {
+        Phase::Messages
+    } else {
+        Phase::Beginning
+    }
 }
