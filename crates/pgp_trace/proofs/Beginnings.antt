@@ -1,16 +1,14 @@
 -- The front of a server's stream: answers of one byte, and then messages.
 use Rattle.std.proofs.Common.{◌≡◌, ◌⊎◌, ℕ, ◌+◌, ◌<◌, Bool, true, false, List, [], ◌∷◌, ◌++◌, length, get_or, drop, Option, Some, None, refl, sym, ap, subst, ◌∙◌, inl, inr, arith, append_assoc, length-append}
 use Rattle.std.specs.Prelude.{◌==◌, if◌then◌else◌}
-use Rattle.std.specs.List.{AllByRecursion}
-use Rattle.std.proofs.lemmas.List.{append-nil}
 use Rattle.pgp_line.specs.declared.style.Style.{Style}
 use Rattle.pgp_trace.specs.declared.frame.Next.{Next}
 use Rattle.pgp_trace.specs.declared.frame.Next.TheVariants.{Line, Waits, Stops}
 use Rattle.pgp_trace.specs.declared.side.Phase.{Phase}
 use Rattle.pgp_trace.specs.declared.side.Phase.TheVariants.{Beginning, Messages, Encrypted}
 use Rattle.pgp_trace.specs.Sides.{Side, Server, AreAnswers, Ends, answered, phase_behind}
-use Rattle.pgp_trace.specs.Listing.{IsAnswerLine, IsAnswer, IsFirst, IsListing, IsServerLine, LineOf, Lines, NoLines, OneLine, answer_line, last_line, place_behind}
-use Rattle.pgp_trace.specs.Steps.{HasLine, IsAtRest, ListsNext, phase_of}
+use Rattle.pgp_trace.specs.Listing.{IsAnswerLine, IsFirst, IsListing, IsServerLine, LineOf, Lines, NoLines, OneLine, answer_line, last_line, place_behind}
+use Rattle.pgp_trace.specs.Steps.{HasLine, ListsNext, phase_of}
 use Rattle.pgp_trace.proofs.Ends.{answered_stays}
 use Rattle.pgp_trace.proofs.FrameLines.{frame_long}
 use Rattle.pgp_trace.proofs.Shorter.{frame_has}

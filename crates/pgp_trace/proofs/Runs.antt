@@ -1,5 +1,5 @@
 -- A listing is that of the run of its stream.
-use Rattle.std.proofs.Common.{ℕ, List, [], ◌∷◌, ◌++◌, Result, ◌+◌, length, refl, sym, ap, subst, inl, inr, ◌∙◌, ◌≡◌, ◌⊎◌, append_assoc}
+use Rattle.std.proofs.Common.{ℕ, List, [], ◌∷◌, ◌++◌, Result, ◌+◌, length, sym, ap, subst, inl, inr, ◌∙◌, ◌≡◌, ◌⊎◌, append_assoc}
 use Rattle.pgp_base.specs.declared.error.Error.{Error}
 use Rattle.pgp_message.specs.BackendMessage.{Message}
 use Rattle.pgp_message.specs.Stream.{Frames, BackendRun, TakesFrame}

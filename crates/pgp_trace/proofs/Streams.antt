@@ -12,7 +12,7 @@ use Rattle.pgp_line.specs.declared.style.Style.{Style}
 use Rattle.pgp_line.specs.Line.{Length, Tag, followed, opening}
 use Rattle.pgp_trace.specs.Sides.{Side, Server, AreAnswers, answered, phase_behind}
 use Rattle.pgp_trace.specs.declared.side.Phase.TheVariants.{Beginning, Messages}
-use Rattle.pgp_trace.proofs.Beginnings.{Begun, HasCome, StillAnswers, NowEncrypted, NowMessages, has_come, none_some, one_front, rejoin}
+use Rattle.pgp_trace.proofs.Beginnings.{HasCome, StillAnswers, NowEncrypted, NowMessages, has_come, none_some, one_front, rejoin}
 use Rattle.pgp_trace.proofs.Sides.{server_line}
 use Rattle.pgp_trace.specs.Listing.{GoesOn, IsLineOf, IsServerLine, Lines, NoLines, OneLine, front, place_behind}
 use Rattle.pgp_trace.specs.Secrets.{AlikeBeginnings, AlikeResults, AlikeFrames, AlikeStreams, NoFrames, OneAlike, quiet}

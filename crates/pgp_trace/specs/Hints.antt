@@ -1,5 +1,5 @@
 -- What is said on standard error where a stream isn't listed to its end.
-use Rattle.std.specs.Prelude.{ℕ, Bool, true, false, List, [], ◌∷◌, ◌++◌, ◌==◌, if◌then◌else◌, codes}
+use Rattle.std.specs.Prelude.{ℕ, true, false, List, [], ◌∷◌, ◌++◌, ◌==◌, if◌then◌else◌, codes}
 use Rattle.pgp_trace.specs.declared.side.Phase.TheVariants.{Beginning, Messages, Encrypted}
 use Rattle.pgp_trace.specs.Sides.{Side, Server, Client}
 

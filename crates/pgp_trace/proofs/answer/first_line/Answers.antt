@@ -1,4 +1,4 @@
-use Rattle.std.proofs.Common.{◌≡◌, ◌∷◌, rules, sym, ap, subst, ◌∙◌, List, ℕ, Option, Some, None}
+use Rattle.std.proofs.Common.{◌≡◌, ◌∷◌, rules, sym, subst, ◌∙◌, List, ℕ, Some, None}
 use Rattle.std.specs.Prelude.{string_bytes}
 use Rattle.pgp_trace.specs.declared.side.Phase.TheVariants.{Beginning, Messages}
 use Rattle.pgp_trace.specs.Sides.{Server, phase_behind}
