@@ -8,7 +8,7 @@ use Rattle.pgp_message.specs.BackendMessage.{Message, payload_of}
 use Rattle.pgp_message.specs.Stream.{Frame, frame_bytes, TakesFrame}
 use Rattle.pgp_line.specs.declared.style.Style.{Style}
 use Rattle.pgp_line.specs.Line.{Length, Tag, closing, followed, opening}
-use Rattle.pgp_trace.specs.Shown.{Shows, called, refused}
+use Rattle.pgp_trace.specs.Shown.{Shows, called, unread}
 use Rattle.pgp_trace.specs.Listing.{front, IsServerLine}
 use Rattle.pgp_trace.specs.Sides.{Server}
 use Rattle.pgp_trace.specs.declared.side.Phase.TheVariants.{Messages}
@@ -57,7 +57,7 @@ message_ended (Ok x) style place bytes m is begins named said line b n shows e =
 message_ended (Err x) style place bytes m is begins named said line b n shows e = tt
 
 pub fault_told : (style : Style) (place : ℕ) (bytes : List ℕ) (r : Error) (is : IsFrameOf bytes (Err r)) (line : List ℕ)
-    → line ≡ followed style (begun style place bytes) (refused r) ++ closing style ++ 10 ∷ [] → IsServerLine style place bytes line
+    → line ≡ followed style (begun style place bytes) (unread r) ++ closing style ++ 10 ∷ [] → IsServerLine style place bytes line
 fault_told style place bytes r is line e = record {
   first = is.first;
   whole = is.whole;
@@ -65,8 +65,8 @@ fault_told style place bytes r is line e = record {
   told = record {
     result = Err r;
     body = is.body;
-    text = followed style (begun style place bytes) (refused r);
-    told = ap (λ l. followed style l (refused r)) (begun_is style place is.first bytes is.whole);
+    text = followed style (begun style place bytes) (unread r);
+    told = ap (λ l. followed style l (unread r)) (begun_is style place is.first bytes is.whole);
     ended = e;
   };
 }

@@ -24,7 +24,7 @@ use Rattle.pgp_trace.specs.Names.{state_of}
 use Rattle.pgp_message.specs.Items.{TextSpelled, TextRefused, FormatSpelled, FormatRefused, TypeSpelled, TypeRefused, RangeSpelled, RangeRefused, FieldSpelled, FieldRefused, ErrorFieldSpelled, ErrorFieldRefused}
 use Rattle.std.specs.Str.{IsAscii, IsUtf8, all_scalars, chars, encode_utf8_all}
 use Rattle.std.specs.Str.Lossy.{utf8_valid_len}
-use Rattle.pgp_trace.specs.Shown.{Shows, ShowsCounted, ShowsMarked, ShowsTexts, bare, called, column_parts, field_parts, list_of, name_or, number_part, refused, text_part, type_part, value_part}
+use Rattle.pgp_trace.specs.Shown.{Shows, ShowsCounted, ShowsMarked, ShowsTexts, bare, called, column_parts, field_parts, list_of, name_or, number_part, text_part, type_part, unread, value_part}
 use Rattle.pgp_line.specs.Secret.{secret}
 use Rattle.pgp_frontend.specs.ClientMessage.{ClientMessage}
 use Rattle.pgp_frontend_read.specs.declared.error.ClientError.{ClientError}
@@ -372,7 +372,7 @@ says style PortalSuspended old new a s = subst IsPrinted (sym s) a
 
 result : (style : Style) (r : Result Message Error) (old new : List ℕ) → IsPrinted old → GoesOn style r old new → IsPrinted new
 result style (Ok m) old new a g = says style m (followed style old (called m ∷ [])) new (parts style old (called m ∷ []) a) g
-result style (Err e) old new a g = goes style old new (refused e) a g
+result style (Err e) old new a g = goes style old new (unread e) a g
 
 server_line : (style : Style) (place : ℕ) (f : Frame) (line : List ℕ) → IsLineOf style place f line → (text : List ℕ) × (line ≡ text ++ 10 ∷ []) × IsPrinted text
 server_line style place f line is = (is.text ++ closing style, is.ended, join is.text (closing style) (result style is.result (front style place f) is.text (parts style (opening style place) (Length (length (frame_bytes f)) ∷ Tag f.tag ∷ []) (first style.form place)) is.told) (last style.form))

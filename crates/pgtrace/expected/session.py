@@ -106,6 +106,8 @@ FRAMES = [
     (b"H", b"\1" + int16(1, 1), "CopyOutResponse format 1 columns 1 1"),
     (b"d", b"1\ta\n", 'CopyData data "1\\x09a\\x0a"'),
     (b"c", b"", "CopyDone"),
+    (b"V", int32(3) + b"abc", "FunctionCallResponse"),
+    (b"W", b"\0" + int16(0), "CopyBothResponse"),
     (b"\n", b"", "fault 5 UnknownTag"),
     (b"R", int32(99), "fault 6 UnknownAuthentication"),
     (b"1", b"x", "fault 8 NotDrained"),
