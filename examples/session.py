@@ -1,10 +1,11 @@
 #!/usr/bin/env python3
 """Prints both sides of a recorded connection in one listing, in the order in which their messages came.
 
-    session.py CLIENT-FILE SERVER-FILE TIMES-FILE [--absolute] [--json] [--full] [--secrets]
+    session.py CLIENT-FILE SERVER-FILE TIMES-FILE [--absolute] [--only NAME,..] [--json] [--full] [--secrets]
 
 The three files are those of relay.py or pcap.py. Each line is one of pgtrace's, with the time at which its message was whole and an arrow before it: `>` for the
-client's, `<` for the server's. The time is in seconds since the first piece, or with --absolute since 1970. With --json both are fields of the object.
+client's, `<` for the server's. The time is in seconds since the first piece, or with --absolute since 1970. With --json both are fields of the object. With --only the
+messages of these names are printed (`fault` for a rejected frame), and the last lines.
 
 A line of TIMES-FILE is a piece of a side, in the order in which they came: its time, its arrow, and how many bytes it has.
 
@@ -90,14 +91,20 @@ def shown(when, start, arrow, line):
 
 
 def main(client_file, server_file, times_file, *options):
-    words = [word for word in options if word != "--absolute"]
+    words, only = [word for word in options if word != "--absolute"], None
+    if "--only" in words:
+        at = words.index("--only")
+        only = set(words[at + 1].split(","))
+        del words[at : at + 2]
     with open(times_file, encoding="ascii") as file:
         pieces = [(float(when), arrow, int(length)) for when, arrow, length in map(str.split, file)]
     server = listed("server", words, server_file)
     client = listed("client", words + kinds(server), client_file)
     start = 0 if "--absolute" in options or not pieces else pieces[0][0]
     for _, when, arrow, line in merged(pieces, {">": client, "<": list(with_answers(server, client))}):
-        print(shown(when, start, arrow, line))
+        message = parts(line)
+        if not only or not message or message[1] in only:
+            print(shown(when, start, arrow, line))
 
 
 if __name__ == "__main__":
