@@ -2,7 +2,7 @@
 # `make program` proves and builds the program, which `make run` and `./pgwire` run from then on.
 # `make edits`, before a release, tries every wrong body by itself, `make edits CRATES=pgp_base` those of one crate.
 # `make live` tries SASLprep, and what psql, pgbench and pg_dump send, with a PostgreSQL server of this machine, which it starts and stops; pgserve with psql and pgbench; and
-# examples/record.sh, which lists a session of psql with pgtrace; binary values, and programs over them; the Python package.
+# examples/record.sh, which lists a session of psql with pgtrace, and examples/pcap.py; binary values, and programs over them; the Python package.
 # `make library` proves and builds the library for C (docs/C.md), `make install PREFIX=..` puts it and the program there, and
 # `make check-c` tries it from C, C++ and Python (`LIBRARIES=gate`, right behind `rt ci`, takes the libraries below it from there).
 # `make wheel` builds the Python package over it (docs/PYTHON.md).
@@ -44,6 +44,7 @@ live:
 	@scripts/live_sessions
 	@scripts/live_serve
 	@scripts/live_trace
+	@scripts/live_pcap
 	@[ -e out/c/libpostgres_protocol.so ] || scripts/library build
 	@scripts/wheel
 	@rm -rf out/venv && python3 -m venv --system-site-packages out/venv && out/venv/bin/pip install -q --no-index out/wheel/*.whl

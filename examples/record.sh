@@ -5,7 +5,8 @@
 #
 # With --live the server's side is listed while psql runs, each line as soon as its message is whole.
 # Needs psql, a server that takes connections over TCP, socat (or python3, for relay.py beside this script), and
-# crates/pgtrace/out/pgtrace (`rt run < /dev/null` in crates/pgtrace), or the program that PGTRACE names. The connection isn't encrypted.
+# crates/pgtrace/out/pgtrace (`rt run < /dev/null` in crates/pgtrace), or the program that PGTRACE names.
+# psql connects as it does by itself: where the server takes TLS, set PGSSLMODE=disable, since no message of an encrypted connection can be listed.
 # RELAY is the port that psql calls, 54329 if it isn't set.
 set -eu
 live=
@@ -32,7 +33,7 @@ else
   python3 "$here/relay.py" "$relay" "$host" "$server" "$dir/client" "$dir/server" &
 fi
 sleep 1
-PGSSLMODE=disable PGGSSENCMODE=disable psql -h 127.0.0.1 -p "$relay" "$@" || echo "psql ended with status $?" >&2
+psql -h 127.0.0.1 -p "$relay" "$@" || echo "psql ended with status $?" >&2
 wait
 
 echo '-- the client'

@@ -9,33 +9,42 @@ use pgp_frontend_read::PasswordKind;
 use pgp_line::style::{Form, Style};
 use pgp_program::fault::Fault;
 use pgp_test_alloc::Refusing;
+use pgp_trace::pipe::Pipe;
 use pgp_trace::run::run;
-use pgp_trace::side::Side;
+use pgp_trace::side::{Phase, Side};
 use pgp_trace::stream::list;
 use std::alloc::Global;
 use std::io::Read;
 use std::process::Abort;
 
-/// A setting, a state and a key, and the front of another state.
+/// A refusal to encrypt, the end of a log-in, a setting, a state and a key, and the front of another state.
 const STREAM: &[u8] =
-    b"S\x00\x00\x00\x08n\x00\n\x00Z\x00\x00\x00\x05IK\x00\x00\x00\x0c\x00\x00\x00\x01abcdZ\x00";
+    b"NR\x00\x00\x00\x08\x00\x00\x00\x00S\x00\x00\x00\x08n\x00\n\x00Z\x00\x00\x00\x05IK\x00\x00\x00\x0c\x00\x00\x00\x01abcdZ\x00";
 
-const FIRST: &str = "         0        9 S ParameterStatus      name \"n\" value \"\\x0a\"\n";
+const ONE: &str = "         0        1 N SSLResponse or GSSENCResponse\n";
 
 const TWO: &str =
-    "         0        9 S ParameterStatus      name \"n\" value \"\\x0a\"\n         9        6 Z ReadyForQuery        idle\n";
+    "         0        1 N SSLResponse or GSSENCResponse\n         1        9 R AuthenticationOk\n";
 
 const THREE: &str =
-    "         0        9 S ParameterStatus      name \"n\" value \"\\x0a\"\n         9        6 Z ReadyForQuery        idle\n        15       13 K BackendKeyData       process 1 key (4 bytes)\n";
+    "         0        1 N SSLResponse or GSSENCResponse\n         1        9 R AuthenticationOk\n        10        9 S ParameterStatus      name \"n\" value \"\\x0a\"\n";
+
+const FOUR: &str =
+    "         0        1 N SSLResponse or GSSENCResponse\n         1        9 R AuthenticationOk\n        10        9 S ParameterStatus      name \"n\" value \"\\x0a\"\n        19        6 Z ReadyForQuery        idle\n";
+
+const FIVE: &str =
+    "         0        1 N SSLResponse or GSSENCResponse\n         1        9 R AuthenticationOk\n        10        9 S ParameterStatus      name \"n\" value \"\\x0a\"\n        19        6 Z ReadyForQuery        idle\n        25       13 K BackendKeyData       process 1 key (4 bytes)\n";
 
 const ALL: &str =
-    "         0        9 S ParameterStatus      name \"n\" value \"\\x0a\"\n         9        6 Z ReadyForQuery        idle\n        15       13 K BackendKeyData       process 1 key (4 bytes)\nrest 2\n";
+    "         0        1 N SSLResponse or GSSENCResponse\n         1        9 R AuthenticationOk\n        10        9 S ParameterStatus      name \"n\" value \"\\x0a\"\n        19        6 Z ReadyForQuery        idle\n        25       13 K BackendKeyData       process 1 key (4 bytes)\nrest 2\n";
 
 const SHORT: Style = Style {
     form: Form::Columns,
     limit: 64,
     secrets: false,
 };
+
+const BEGINNING: Side<'static> = Side::Server(Phase::Beginning);
 
 /// The bytes of this side, in pieces after the bytes whose bits are set, come to these lines.
 fn lists(rt: &impl Abort, alloc: Global, side: Side<'_>, bytes: &[u8], cuts: u16, lines: &str) {
@@ -46,14 +55,14 @@ fn lists(rt: &impl Abort, alloc: Global, side: Side<'_>, bytes: &[u8], cuts: u16
     };
     let mut output = Vec::new(alloc);
     let answer = list(alloc, SHORT, side, &mut input, &mut output);
-    same(rt, answer, Ok(()));
+    same(rt, answer, Ok(""));
     holds(rt, output.as_slice() == lines.as_bytes());
 }
 
 #[test]
 fn a_stream_is_listed_however_it_is_cut(rt: HostRuntime) {
     for cuts in 0..512u16 {
-        lists(&rt, rt.alloc(), Side::Server, STREAM, cuts << 6, ALL);
+        lists(&rt, rt.alloc(), BEGINNING, STREAM, cuts, ALL);
     }
 }
 
@@ -84,16 +93,18 @@ fn comes_to<R: Read>(
 /// The lines of the frames that are whole in so many bytes of the stream.
 fn lines_of(end: usize) -> &'static str {
     match end {
-        0..9 => "",
-        9..15 => FIRST,
-        15..28 => TWO,
-        _ => THREE,
+        0 => "",
+        1..10 => ONE,
+        10..19 => TWO,
+        19..25 => THREE,
+        25..38 => FOUR,
+        _ => FIVE,
     }
 }
 
 #[test]
 fn what_came_whole_is_listed_where_a_read_fails(rt: HostRuntime) {
-    for end in 0..=30usize {
+    for end in 0..=40usize {
         let wanted = Outcome {
             status: 1,
             written: lines_of(end),
@@ -117,7 +128,7 @@ fn a_failing_writer_took_a_front(rt: HostRuntime) {
             left,
             taken: Vec::new(rt.alloc()),
         };
-        let answer = list(rt.alloc(), SHORT, Side::Server, &mut input, &mut output);
+        let answer = list(rt.alloc(), SHORT, BEGINNING, &mut input, &mut output);
         same(&rt, answer, Err(Fault::Write));
         holds(&rt, output.taken.as_slice() == &ALL.as_bytes()[..left]);
     }
@@ -142,7 +153,7 @@ fn is_refused(
         same(rt, answer, Err(Fault::Memory));
         holds(rt, lines.as_bytes().starts_with(output.as_slice()));
     } else {
-        same(rt, answer, Ok(()));
+        same(rt, answer, Ok(""));
         holds(rt, output.as_slice() == lines.as_bytes());
     }
     is_refused
@@ -162,18 +173,14 @@ fn refusals_of(rt: &impl Abort, alloc: Global, side: Side<'_>, bytes: &[u8], lin
 
 #[test]
 fn each_allocation_is_refused(rt: HostRuntime) {
-    refused_more(
-        &rt,
-        refusals_of(&rt, rt.alloc(), Side::Server, STREAM, ALL),
-        2,
-    );
+    refused_more(&rt, refusals_of(&rt, rt.alloc(), BEGINNING, STREAM, ALL), 2);
 }
 
 const OPEN: &str =
-    "         0        9 S ParameterStatus      name \"n\" value \"\\x0a\"\n         9        6 Z ReadyForQuery        idle\n        15       13 K BackendKeyData       process 1 key \"abcd\"\nrest 2\n";
+    "         0        1 N SSLResponse or GSSENCResponse\n         1        9 R AuthenticationOk\n        10        9 S ParameterStatus      name \"n\" value \"\\x0a\"\n        19        6 Z ReadyForQuery        idle\n        25       13 K BackendKeyData       process 1 key \"abcd\"\nrest 2\n";
 
 const USAGE: &str =
-    "usage: pgtrace server [--json] [--full] [--secrets] | client [--json] [--full] [--secrets] [--password-kind password|initial|response].. | --help | --version\n";
+    "usage: pgtrace server [--json] [--full] [--secrets] [--resume] | client [--json] [--full] [--secrets] [--resume] [--password-kind password|initial|response].. | --help | --version\n";
 
 #[test]
 fn words_decide_what_runs(rt: HostRuntime) {
@@ -315,14 +322,101 @@ fn each_message_has_its_object(rt: HostRuntime) {
     writes(&rt, rt.alloc(), JSON_KINDS, SESSION, OBJECTS);
 }
 
+/// Bytes, and what the program comes to on them: words, its lines, and what it says on standard error.
+type Run<'a> = (&'a [&'a str], &'a [u8], &'a str, &'a str);
+
+const ENCRYPTED: &str =
+    "pgtrace: what follows is encrypted; a stream that begins in mid-session is listed with --resume\n";
+
+const UNOPENED: &str =
+    "pgtrace: no packet that opens a connection stands there: what follows is encrypted, or the stream begins in mid-session and is listed with --resume\n";
+
+/// After an answer that agrees to encrypt, the bytes that follow are counted alone: a record of TLS, and a token of GSSAPI. A stream from
+/// mid-session is listed where that is said, and else it is said what to do.
 #[test]
-fn a_stopped_stream_has_its_object(rt: HostRuntime) {
-    let last = "{\"rest\":5,\"stopped\":true}\n";
-    writes(
-        &rt,
-        rt.alloc(),
-        &["server", "--json"],
-        b"Z\x00\x00\x00\x03",
-        last,
-    );
+fn what_is_left_is_explained(rt: HostRuntime) {
+    let runs: [Run<'_>; 9] = [
+        (
+            &["server"],
+            b"S",
+            "         0        1 S SSLResponse\nrest 0\n",
+            "",
+        ),
+        (
+            &["server"],
+            b"NS\x16\x03\x03\x00\x7a",
+            "         0        1 N SSLResponse or GSSENCResponse\n         1        1 S SSLResponse\nstopped rest 5\n",
+            ENCRYPTED,
+        ),
+        (
+            &["server"],
+            b"G\x00\x00\x00\x04abcd",
+            "         0        1 G GSSENCResponse\nstopped rest 8\n",
+            ENCRYPTED,
+        ),
+        (
+            &["server", "--resume"],
+            b"S\x00\x00\x00\x08n\x00v\x00",
+            "         0        9 S ParameterStatus      name \"n\" value \"v\"\nrest 0\n",
+            "",
+        ),
+        (
+            &["server", "--json"],
+            b"Z\x00\x00\x00\x03",
+            "{\"rest\":5,\"stopped\":true}\n",
+            "pgtrace: no message of a server stands where the stream begins\n",
+        ),
+        (
+            &["server", "--resume"],
+            b"Z\x00\x00\x00\x03",
+            "stopped rest 5\n",
+            "",
+        ),
+        (&["client"], b"Q\x00\x00\x00\x06x\x00", "rest 7\n", UNOPENED),
+        (
+            &["client", "--resume"],
+            b"Q\x00\x00\x00\x06x\x00",
+            "         0        7 Q Query                query \"x\"\nrest 0\n",
+            "",
+        ),
+        (
+            &["client"],
+            b"\x00\x00\x00\x08\x04\xd2\x16/\x16\x03\x01\x00\x02\x01",
+            "         0        8 - SSLRequest\nrest 6\n",
+            UNOPENED,
+        ),
+    ];
+    for (words, bytes, written, told) in runs {
+        let wanted = Outcome {
+            status: 0,
+            written,
+            told,
+        };
+        let mut input = bytes;
+        comes_to(&rt, rt.alloc(), words, &mut input, &wanted);
+    }
+}
+
+/// Where nobody reads the listing any more, a front of it was written, nothing is said, and the status is 0.
+#[test]
+fn a_closed_pipe_ends_quietly(rt: HostRuntime) {
+    for left in 0..120usize {
+        let pipe = Pipe::new();
+        let mut input = STREAM;
+        let mut output = FailingWriter {
+            left,
+            taken: Vec::new(rt.alloc()),
+        };
+        let mut errors = Vec::new(rt.alloc());
+        let status = run(
+            rt.alloc(),
+            &["server"],
+            &mut pipe.source(&mut input),
+            &mut pipe.sink(&mut output),
+            &mut errors,
+        );
+        same(&rt, status, 0);
+        holds(&rt, output.taken.as_slice() == &ALL.as_bytes()[..left]);
+        holds(&rt, errors.is_empty());
+    }
 }

@@ -78,6 +78,11 @@ alone kind opened now bytes frame rest (Err e) whole less step = elim step.left 
   ]
 ]
 
+-- before a startup packet no kind matters
+any_kind : (kind other : PasswordKind) (opened : Bool) (bytes : List ℕ) → opened ≡ false → NoneStands kind opened bytes → NoneStands other opened bytes
+any_kind kind other true bytes e none = absurd cc
+any_kind kind other false bytes e none = λ m more rest s. none m more rest (record { expected = s.expected; spelled = s.spelled; whole = s.whole })
+
 -- an error that passes nothing
 pub stopped_at : (kind : PasswordKind) (opened now : Bool) (kinds : List code.PasswordKind) (bytes rest : List ℕ) (e : ClientError) → length rest ≡ length bytes
     → Refuses kind (record { bytes = bytes; opened = opened }) e (record { bytes = rest; opened = now }) → Ends (Client opened kinds) true bytes
@@ -86,7 +91,7 @@ stopped_at kind opened now kinds bytes rest e same r = elim r.left [
   | inl at ↦ inl at.fault
   | inr other ↦ elim other [
     | inl skips ↦ absurd (omega (arith, same, ap length skips.whole, length-append (framed (Some skips.tag) skips.payload) rest))
-    | inr stops ↦ inr (record { phase = stops.phase; payload = stops.payload; rest = stops.rest; fits = stops.fits; whole = stops.whole; error = e; blames = stops.blames })
+    | inr stops ↦ inr (record { phase = stops.phase; payload = stops.payload; rest = stops.rest; fits = stops.fits; whole = stops.whole; error = e; blames = stops.blames; none = λ other. any_kind kind other opened bytes stops.phase r.none })
   ]
 ]
 
@@ -200,14 +205,15 @@ refusal_passed style place opened now kinds behind bytes frame rest line kind e 
 
 -- where nothing was passed, no frame stands first
 ends_by : (opened : Bool) (kinds : List code.PasswordKind) (bytes rest : List ℕ) (kind : PasswordKind) (e : ClientError) (new : Unread) → rest ≡ new.bytes → length rest ≡ length bytes
-    → StopsAtLength (left bytes opened) e new ⊎ (SkipsFrame kind (left bytes opened) e new ⊎ StopsAt (left bytes opened) e new) → Ends (Client opened kinds) true bytes
-ends_by opened kinds bytes rest kind e new r same (inl s) = inl s.fault
-ends_by opened kinds bytes rest kind e new r same (inr (inl k)) =
+    → NoneStands kind opened bytes → StopsAtLength (left bytes opened) e new ⊎ (SkipsFrame kind (left bytes opened) e new ⊎ StopsAt (left bytes opened) e new) → Ends (Client opened kinds) true bytes
+ends_by opened kinds bytes rest kind e new r same none (inl s) = inl s.fault
+ends_by opened kinds bytes rest kind e new r same none (inr (inl k)) =
     absurd (omega (arith, framed_long (Some k.tag) k.payload, ap length k.whole, length-append (framed (Some k.tag) k.payload) new.bytes, ap length r, same))
-ends_by opened kinds bytes rest kind e new r same (inr (inr t)) = inr (record { phase = t.phase; payload = t.payload; rest = t.rest; fits = t.fits; whole = t.whole; error = e; blames = t.blames })
+ends_by opened kinds bytes rest kind e new r same none (inr (inr t)) =
+    inr (record { phase = t.phase; payload = t.payload; rest = t.rest; fits = t.fits; whole = t.whole; error = e; blames = t.blames; none = λ other. any_kind kind other opened bytes t.phase none })
 
 pub refusal_rests : (opened : Bool) (kinds : List code.PasswordKind) (bytes rest : List ℕ) (kind : PasswordKind) (e : ClientError) (old new : Unread)
     → old ≡ record { bytes = bytes; opened = opened } → rest ≡ new.bytes → Refuses kind old e new → length rest ≡ length bytes → Ends (Client opened kinds) true bytes
 refusal_rests opened kinds bytes rest kind e old new was r step same =
     let here : Refuses kind (left bytes opened) e new = subst (λ (u : Unread). Refuses kind u e new) was step in
-    ends_by opened kinds bytes rest kind e new r same here.left
+    ends_by opened kinds bytes rest kind e new r same here.none here.left

@@ -103,7 +103,7 @@ stands_some : (f : List ℕ) (tag : Option ℕ) (body : List ℕ) → f ≡ fram
 stands_some f tag body e = omega (arith, ap length e, length-append (framed tag body) [], framed_some tag body)
 
 -- no step takes nothing
-frame_some : (opened now : Bool) (kinds : List code.PasswordKind) (f : List ℕ) (r : Result ClientMessage ClientError) → ReadsAs opened kinds f r now → 0 < length f
+pub frame_some : (opened now : Bool) (kinds : List code.PasswordKind) (f : List ℕ) (r : Result ClientMessage ClientError) → ReadsAs opened kinds f r now → 0 < length f
 frame_some opened now kinds f (Ok m) step = stands_some f (tag_of m) (payload m) step.stands.whole
 frame_some opened now kinds f (Err e) step = elim step.left [
   | inl at ↦ omega (arith, behind_length opened f at.fault.len at.fault.begins)
@@ -114,7 +114,7 @@ frame_some opened now kinds f (Err e) step = elim step.left [
 ]
 
 -- a step, with bytes after it
-behind : (opened now : Bool) (kinds : List code.PasswordKind) (f more : List ℕ) (r : Result ClientMessage ClientError) → ReadsAs opened kinds f r now
+pub behind : (opened now : Bool) (kinds : List code.PasswordKind) (f more : List ℕ) (r : Result ClientMessage ClientError) → ReadsAs opened kinds f r now
     → Step (expected kinds) (record { bytes = f ++ more; opened = opened }) (step_of r) (record { bytes = more; opened = now })
 behind opened now kinds f more (Ok x) step = took (expected kinds) (record { bytes = f; opened = opened }) (record { bytes = []; opened = now }) x more step
 behind opened now kinds f more (Err e) step = refused_behind (expected kinds) (record { bytes = f; opened = opened }) (record { bytes = []; opened = now }) e more step
@@ -128,7 +128,7 @@ data Chain : Side → List (List ℕ) → Side → Type 0 where
   Link : {opened now : Bool} {kinds : List code.PasswordKind} {fs : List (List ℕ)} {to : Side} (f : List ℕ) (r : Result ClientMessage ClientError) → ReadsAs opened kinds f r now
       → Chain (Client now (kinds_behind opened f kinds)) fs to → Chain (Client opened kinds) (f ∷ fs) to
 
-one_first : (opened now later : Bool) (kinds : List code.PasswordKind) (f g x y : List ℕ) (r s : Result ClientMessage ClientError) → ReadsAs opened kinds f r now → ReadsAs opened kinds g s later → f ++ x ≡ g ++ y
+pub one_first : (opened now later : Bool) (kinds : List code.PasswordKind) (f g x y : List ℕ) (r s : Result ClientMessage ClientError) → ReadsAs opened kinds f r now → ReadsAs opened kinds g s later → f ++ x ≡ g ++ y
     → (f ≡ g) × (x ≡ y) × (now ≡ later)
 one_first opened now later kinds f g x y r s a b e =
     let moved = subst (λ l. Step (expected kinds) (record { bytes = l; opened = opened }) (step_of r) (record { bytes = x; opened = now })) e (behind opened now kinds f x r a) in
@@ -213,7 +213,7 @@ last_same (h ∷ fs) (k ∷ gs) f g e =
     (ap (λ x. x ∷ fs) (ap (λ l. get_or l 0 []) e) ∙ ap (λ l. k ∷ l) rest.0, rest.1)
 
 abbrev SideAlike : Side → List ℕ → List ℕ → Type 0
-SideAlike Server f g = ⊥
+SideAlike (Server phase) f g = ⊥
 SideAlike (Client opened kinds) f g = AlikeClientFrames opened kinds f g
 
 -- the stream that is like one whose last frame is known

@@ -8,9 +8,10 @@ use Rattle.pgp_message.specs.BackendMessage.{Message, payload_of}
 use Rattle.pgp_message.specs.Stream.{Frame, frame_bytes, TakesFrame}
 use Rattle.pgp_line.specs.declared.style.Style.{Style}
 use Rattle.pgp_line.specs.Line.{Length, Tag, closing, followed, opening}
-use Rattle.pgp_trace.specs.Shown.{Shows, called, refused}
+use Rattle.pgp_trace.specs.Shown.{Shows, called, unread}
 use Rattle.pgp_trace.specs.Listing.{front, IsServerLine}
 use Rattle.pgp_trace.specs.Sides.{Server}
+use Rattle.pgp_trace.specs.declared.side.Phase.TheVariants.{Messages}
 use Rattle.pgp_trace.specs.Steps.{IsFrameOf, HasLine}
 use Rattle.pgp_trace.proofs.Parts.{front_taken}
 
@@ -56,7 +57,7 @@ message_ended (Ok x) style place bytes m is begins named said line b n shows e =
 message_ended (Err x) style place bytes m is begins named said line b n shows e = tt
 
 pub fault_told : (style : Style) (place : ℕ) (bytes : List ℕ) (r : Error) (is : IsFrameOf bytes (Err r)) (line : List ℕ)
-    → line ≡ followed style (begun style place bytes) (refused r) ++ closing style ++ 10 ∷ [] → IsServerLine style place bytes line
+    → line ≡ followed style (begun style place bytes) (unread r) ++ closing style ++ 10 ∷ [] → IsServerLine style place bytes line
 fault_told style place bytes r is line e = record {
   first = is.first;
   whole = is.whole;
@@ -64,8 +65,8 @@ fault_told style place bytes r is line e = record {
   told = record {
     result = Err r;
     body = is.body;
-    text = followed style (begun style place bytes) (refused r);
-    told = ap (λ l. followed style l (refused r)) (begun_is style place is.first bytes is.whole);
+    text = followed style (begun style place bytes) (unread r);
+    told = ap (λ l. followed style l (unread r)) (begun_is style place is.first bytes is.whole);
     ended = e;
   };
 }
@@ -83,7 +84,7 @@ pub no_longer : (old new : List ℕ) (r : Result Message Error) → TakesFrame o
 no_longer old new r t = omega (arith, ap length t.whole, length-append (frame_bytes t.first) new)
 
 -- and what has its line there has it here
-pub line_here : (style : Style) (place : ℕ) (old new bytes line : List ℕ) (r : Result Message Error) → TakesFrame old r new → bytes ≡ take (length old - length new) old → IsServerLine style place bytes line → HasLine style place Server old new line Server
+pub line_here : (style : Style) (place : ℕ) (old new bytes line : List ℕ) (r : Result Message Error) → TakesFrame old r new → bytes ≡ take (length old - length new) old → IsServerLine style place bytes line → HasLine style place (Server Messages) old new line (Server Messages)
 line_here style place old new bytes line r t e has = record {
   frame = bytes;
   whole = t.whole ∙ ap (λ l. l ++ new) (sym (front_taken (frame_bytes t.first) new old t.whole) ∙ sym e);

@@ -9,10 +9,12 @@ pub mod Printable
 pub mod Printing
 pub mod Shorter
 pub mod Sides
+pub mod Beginnings
 pub mod Runs
 pub mod Hiding
 pub mod ClientHiding
 pub mod Streams
 pub mod ClientStreams
+pub mod OneListing
 pub mod OptionLemmas
 pub mod CommandLemmas

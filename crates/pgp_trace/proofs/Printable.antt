@@ -24,13 +24,14 @@ use Rattle.pgp_trace.specs.Names.{state_of}
 use Rattle.pgp_message.specs.Items.{TextSpelled, TextRefused, FormatSpelled, FormatRefused, TypeSpelled, TypeRefused, RangeSpelled, RangeRefused, FieldSpelled, FieldRefused, ErrorFieldSpelled, ErrorFieldRefused}
 use Rattle.std.specs.Str.{IsAscii, IsUtf8, all_scalars, chars, encode_utf8_all}
 use Rattle.std.specs.Str.Lossy.{utf8_valid_len}
-use Rattle.pgp_trace.specs.Shown.{Shows, ShowsCounted, ShowsMarked, ShowsTexts, bare, called, column_parts, field_parts, list_of, name_or, number_part, refused, text_part, type_part, value_part}
+use Rattle.pgp_trace.specs.Shown.{Shows, ShowsCounted, ShowsMarked, ShowsTexts, bare, called, column_parts, field_parts, list_of, name_or, number_part, text_part, type_part, unread, value_part}
 use Rattle.pgp_line.specs.Secret.{secret}
 use Rattle.pgp_frontend.specs.ClientMessage.{ClientMessage}
 use Rattle.pgp_frontend_read.specs.declared.error.ClientError.{ClientError}
 use Rattle.pgp_trace.specs.Client.{client_called, client_groups, client_line, grouped, refusal_parts}
-use Rattle.pgp_trace.specs.Listing.{GoesOn, IsLineOf, LineOf, front, client_front, client_tag}
+use Rattle.pgp_trace.specs.Listing.{GoesOn, IsLineOf, LineOf, answer_name, front, client_front, client_tag}
 use Rattle.pgp_trace.specs.Sides.{Side, Server, Client, is_told}
+use Rattle.pgp_trace.specs.declared.side.Phase.TheVariants.{Beginning, Messages, Encrypted}
 
 -- ASCII that is printed
 abbrev Plain : List ℕ → Type 0
@@ -371,7 +372,7 @@ says style PortalSuspended old new a s = subst IsPrinted (sym s) a
 
 result : (style : Style) (r : Result Message Error) (old new : List ℕ) → IsPrinted old → GoesOn style r old new → IsPrinted new
 result style (Ok m) old new a g = says style m (followed style old (called m ∷ [])) new (parts style old (called m ∷ []) a) g
-result style (Err e) old new a g = goes style old new (refused e) a g
+result style (Err e) old new a g = goes style old new (unread e) a g
 
 server_line : (style : Style) (place : ℕ) (f : Frame) (line : List ℕ) → IsLineOf style place f line → (text : List ℕ) × (line ≡ text ++ 10 ∷ []) × IsPrinted text
 server_line style place f line is = (is.text ++ closing style, is.ended, join is.text (closing style) (result style is.result (front style place f) is.text (parts style (opening style place) (Length (length (frame_bytes f)) ∷ Tag f.tag ∷ []) (first style.form place)) is.told) (last style.form))
@@ -388,7 +389,15 @@ begun : (style : Style) (place : ℕ) (opened : Bool) (frame : List ℕ) → IsP
 begun style place opened frame = parts style (opening style place) (Length (length frame) ∷ Tag (client_tag opened frame) ∷ []) (first style.form place)
 
 pub line_printable : (style : Style) (place : ℕ) (from to : Side) (frame line : List ℕ) → LineOf style place from frame line to → (text : List ℕ) × (line ≡ text ++ 10 ∷ []) × IsPrinted text
-line_printable style place Server to frame line is = server_line style place is.0.first line is.0.told
+line_printable style place (Server Beginning) to frame line (inl is) =
+    let parts_of = Length 1 ∷ Tag is.told.byte ∷ Name true (answer_name is.told.byte) ∷ [] in (
+      followed style (opening style place) parts_of ++ closing style,
+      is.told.told,
+      join (followed style (opening style place) parts_of) (closing style) (parts style (opening style place) parts_of (first style.form place)) (last style.form),
+    )
+line_printable style place (Server Beginning) to frame line (inr is) = server_line style place is.told.first line is.told.told
+line_printable style place (Server Messages) to frame line is = server_line style place is.0.first line is.0.told
+line_printable style place (Server Encrypted) to frame line is = absurd is
 line_printable style place (Client opened kinds) to frame line is =
     let text = client_line style (is_told kinds) is.told.result (client_front style place opened frame) in (
       text ++ closing style,

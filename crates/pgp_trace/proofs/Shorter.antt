@@ -1,15 +1,19 @@
 -- A line takes bytes off.
-use Rattle.std.proofs.Common.{ℕ, ◌<◌, ◌≤◌, List, [], length, ap, arith, length-append}
+use Rattle.std.proofs.Common.{ℕ, ◌<◌, List, [], length, ap, arith, inl, inr, length-append}
 use Rattle.pgp_line.specs.declared.style.Style.{Style}
 use Rattle.pgp_trace.specs.Listing.{LineOf}
 use Rattle.pgp_trace.specs.Sides.{Side, Server, Client, expected}
+use Rattle.pgp_trace.specs.declared.side.Phase.TheVariants.{Beginning, Messages, Encrypted}
 use Rattle.pgp_trace.specs.Steps.{HasLine}
 use Rattle.pgp_trace.proofs.ClientLines.{step_long}
 use Rattle.pgp_trace.proofs.FrameLines.{frame_long}
 
-frame_has : (style : Style) (place : ℕ) (from to : Side) (frame line : List ℕ) → LineOf style place from frame line to → 4 ≤ length frame
-frame_has style place Server to frame line is = omega (arith, frame_long is.0.first frame is.0.whole)
-frame_has style place (Client opened kinds) to frame line is = step_long (expected kinds) (record { bytes = frame; opened = opened }) (record { bytes = []; opened = is.now }) is.told.result is.told.step
+pub frame_has : (style : Style) (place : ℕ) (from to : Side) (frame line : List ℕ) → LineOf style place from frame line to → 0 < length frame
+frame_has style place (Server Beginning) to frame line (inl is) = omega (arith, ap length is.told.whole)
+frame_has style place (Server Beginning) to frame line (inr is) = omega (arith, frame_long is.told.first frame is.told.whole)
+frame_has style place (Server Messages) to frame line is = omega (arith, frame_long is.0.first frame is.0.whole)
+frame_has style place (Server Encrypted) to frame line is = absurd is
+frame_has style place (Client opened kinds) to frame line is = omega (arith, step_long (expected kinds) (record { bytes = frame; opened = opened }) (record { bytes = []; opened = is.now }) is.told.result is.told.step)
 
 pub shorter : (style : Style) (place : ℕ) (from to : Side) (old new line : List ℕ) → HasLine style place from old new line to → length new < length old
 shorter style place from to old new line has = omega (arith, ap length has.whole, length-append has.frame new, frame_has style place from to has.frame line has.told)

@@ -1,5 +1,5 @@
 -- Streams that differ in their secrets alone have the same lines.
-use Rattle.std.proofs.Common.{◌≡◌, ℕ, ◌+◌, ◌<◌, List, [], ◌∷◌, ◌++◌, length, Result, Ok, Err, refl, sym, ap, subst, ◌∙◌, append_assoc, arith}
+use Rattle.std.proofs.Common.{◌≡◌, ℕ, ◌+◌, ◌<◌, List, [], ◌∷◌, ◌++◌, length, None, Result, Ok, Err, refl, sym, ap, subst, ◌∙◌, append_assoc, arith}
 use Rattle.std.specs.List.{flat_map, AllByRecursion}
 use Rattle.std.proofs.lemmas.List.{append-nil, length-append}
 use Rattle.std.proofs.lemmas.List.Concat.{flat_map-cons}
@@ -10,10 +10,12 @@ use Rattle.pgp_message.specs.Stream.{Frame, frame_bytes, IsFrame}
 use Rattle.pgp_message.proofs.Runs.{front_is_one, each_push, pushed}
 use Rattle.pgp_line.specs.declared.style.Style.{Style}
 use Rattle.pgp_line.specs.Line.{Length, Tag, followed, opening}
-use Rattle.pgp_trace.specs.Sides.{Side, Server}
+use Rattle.pgp_trace.specs.Sides.{Side, Server, AreAnswers, answered, phase_behind}
+use Rattle.pgp_trace.specs.declared.side.Phase.TheVariants.{Beginning, Messages}
+use Rattle.pgp_trace.proofs.Beginnings.{HasCome, StillAnswers, NowEncrypted, NowMessages, has_come, none_some, one_front, rejoin}
 use Rattle.pgp_trace.proofs.Sides.{server_line}
 use Rattle.pgp_trace.specs.Listing.{GoesOn, IsLineOf, IsServerLine, Lines, NoLines, OneLine, front, place_behind}
-use Rattle.pgp_trace.specs.Secrets.{AlikeResults, AlikeFrames, AlikeStreams, NoFrames, OneAlike, quiet}
+use Rattle.pgp_trace.specs.Secrets.{AlikeBeginnings, AlikeResults, AlikeFrames, AlikeStreams, NoFrames, OneAlike, quiet}
 use Rattle.pgp_trace.specs.Shown.{Shows}
 use Rattle.pgp_trace.proofs.Hiding.{hidden, same_call}
 
@@ -40,8 +42,8 @@ left_frames : (a b : List ℕ) → AlikeStreams a b → AreFrames a
 left_frames [] [] NoFrames = record { frames = []; whole = refl; each = tt }
 left_frames _ _ (OneAlike {a = a} {b = b} f g before ff gg alike) = more_frames a f (left_frames a b before) ff
 
-listed_frames : (style : Style) (start : ℕ) (bytes lines : List ℕ) (to : Side) → Lines style start Server bytes lines to → AreFrames bytes
-listed_frames style start [] [] Server NoLines = record { frames = []; whole = refl; each = tt }
+listed_frames : (style : Style) (start : ℕ) (bytes lines : List ℕ) (to : Side) → Lines style start (Server Messages) bytes lines to → AreFrames bytes
+listed_frames style start [] [] _ NoLines = record { frames = []; whole = refl; each = tt }
 listed_frames style start _ _ to (OneLine {bytes = bytes} {lines = lines} {here = here} frame line before has) =
     let is : IsServerLine style (place_behind (start + length bytes)) frame line = server_line style start (place_behind (start + length bytes)) bytes lines frame line here to before has in
     subst (λ l. AreFrames (bytes ++ l)) (sym is.whole) (more_frames bytes is.first (listed_frames style start bytes lines here before) is.fits)
@@ -131,20 +133,58 @@ nothing_alike [] [] NoFrames e = refl
 nothing_alike _ _ (OneAlike {a = a} {b = b} g h before gg hh alike) e = absurd (no_last a g (sym e))
 
 -- the lines of a server's frames, with the frame as bytes
-server_step : (style : Style) (start : ℕ) (bytes lines : List ℕ) (f : Frame) (line : List ℕ) → Lines style start Server bytes lines Server → IsFrame f
-    → IsLineOf style (place_behind (start + length bytes)) f line → Lines style start Server (bytes ++ frame_bytes f) (lines ++ line) Server
+server_step : (style : Style) (start : ℕ) (bytes lines : List ℕ) (f : Frame) (line : List ℕ) → Lines style start (Server Messages) bytes lines (Server Messages) → IsFrame f
+    → IsLineOf style (place_behind (start + length bytes)) f line → Lines style start (Server Messages) (bytes ++ frame_bytes f) (lines ++ line) (Server Messages)
 server_step style start bytes lines f line before fits has = OneLine (frame_bytes f) line before (record { first = f; whole = refl; fits = fits; told = has }, refl)
 
-hidden_lines : (style : Style) (start : ℕ) (a lines : List ℕ) (to : Side) → Lines (quiet style) start Server a lines to → (b : List ℕ) → AlikeStreams a b → Lines (quiet style) start Server b lines Server
-hidden_lines style start [] [] Server NoLines b alike = subst (λ l. Lines (quiet style) start Server l [] Server) (sym (nothing_alike [] b alike refl)) NoLines
+hidden_lines : (style : Style) (start : ℕ) (a lines : List ℕ) (to : Side) → Lines (quiet style) start (Server Messages) a lines to → (b : List ℕ) → AlikeStreams a b → Lines (quiet style) start (Server Messages) b lines (Server Messages)
+hidden_lines style start [] [] _ NoLines b alike = subst (λ l. Lines (quiet style) start (Server Messages) l [] (Server Messages)) (sym (nothing_alike [] b alike refl)) NoLines
 hidden_lines style start _ _ to (OneLine {bytes = bytes} {lines = lines} {here = here} frame line before has) b alike =
     let is : IsServerLine (quiet style) (place_behind (start + length bytes)) frame line = server_line (quiet style) start (place_behind (start + length bytes)) bytes lines frame line here to before has in
     let same : AlikeStreams (bytes ++ frame_bytes is.first) b = subst (λ l. AlikeStreams (bytes ++ l) b) is.whole alike in
     let end = ends_alike (bytes ++ frame_bytes is.first) b same bytes is.first (listed_frames (quiet style) start bytes lines here before) is.fits refl in
     let place : place_behind (start + length bytes) ≡ place_behind (start + length end.before) = ap (λ n. place_behind (start + n)) (same_length bytes end.before end.alike) in
-    subst (λ l. Lines (quiet style) start Server l (lines ++ line) Server) (sym end.whole)
+    subst (λ l. Lines (quiet style) start (Server Messages) l (lines ++ line) (Server Messages)) (sym end.whole)
     (server_step (quiet style) start end.before lines end.last line (hidden_lines style start bytes lines here before end.before end.alike) end.fits
     (line_hidden style (place_behind (start + length end.before)) is.first end.last line end.same (subst (λ p. IsLineOf (quiet style) p is.first line) place is.told)))
 
-pub streams_hidden : (style : Style) (start : ℕ) (a b lines : List ℕ) → AlikeStreams a b → Lines (quiet style) start Server a lines Server → Lines (quiet style) start Server b lines Server
-streams_hidden style start a b lines alike listed = hidden_lines style start a lines Server listed b alike
+pub streams_hidden : (style : Style) (start : ℕ) (a b lines : List ℕ) → AlikeStreams a b → Lines (quiet style) start (Server Messages) a lines (Server Messages) → Lines (quiet style) start (Server Messages) b lines (Server Messages)
+streams_hidden style start a b lines alike listed = hidden_lines style start a lines (Server Messages) listed b alike
+
+-- ---- from the first byte of a connection on
+
+same_first : (a b : List ℕ) (f g : Frame) → length a ≡ length b → answered a ≡ answered b → f.tag ≡ g.tag → answered (a ++ frame_bytes f) ≡ answered (b ++ frame_bytes g)
+same_first [] [] f g n e t = ap phase_behind t
+same_first [] (y ∷ ys) f g n e t = absurd (omega (arith, n))
+same_first (x ∷ xs) [] f g n e t = absurd (omega (arith, n))
+same_first (x ∷ xs) (y ∷ ys) f g n e t = e
+
+alike_first : (a b : List ℕ) → AlikeStreams a b → answered a ≡ answered b
+alike_first [] [] NoFrames = refl
+alike_first _ _ (OneAlike {a = a} {b = b} f g before ff gg alike) = same_first a b f g (same_length a b before) (alike_first a b before) alike.tagged
+
+nothing_first : (answers first : List ℕ) → AreAnswers (answers ++ first) → answered first ≡ None → first ≡ []
+nothing_first [] [] all none = refl
+nothing_first [] (x ∷ xs) all none = absurd (none_some Beginning (phase_behind x) all.0 none)
+nothing_first (y ∷ ys) first all none = nothing_first ys first all.1 none
+
+come_alike : (style : Style) (start : ℕ) (a b lines : List ℕ) (to : Side) → AlikeBeginnings a b → Lines (quiet style) start (Server Beginning) a lines to → HasCome (quiet style) start a lines to → Lines (quiet style) start (Server Beginning) b lines to
+come_alike style start a b lines to alike listed (StillAnswers e plain) =
+    let empty = nothing_first alike.answers alike.first (subst AreAnswers alike.one plain) alike.none in
+    let is : a ≡ b = alike.one ∙ ap (λ l. alike.answers ++ l) (empty ∙ sym (nothing_alike alike.first alike.other alike.alike empty)) ∙ sym alike.two in
+    subst (λ l. Lines (quiet style) start (Server Beginning) l lines to) is listed
+come_alike style start a b lines to alike listed (NowEncrypted e some) = absurd (some alike.answers alike.first alike.plain alike.none alike.one)
+come_alike style start a b lines to alike listed (NowMessages e begun) =
+    let one = one_front begun.answers alike.answers begun.more alike.first begun.plain alike.plain begun.none alike.none (sym begun.whole ∙ alike.one) in
+    let same : AlikeStreams begun.more alike.other = subst (λ l. AlikeStreams l alike.other) (sym one.1) alike.alike in
+    let none : answered alike.other ≡ None = sym (alike_first alike.first alike.other alike.alike) ∙ alike.none in
+    let some : 0 < length alike.other = omega (arith, begun.some, same_length begun.more alike.other same) in
+    let backs = streams_hidden style (start + length begun.answers) begun.more alike.other begun.rest same begun.backs in
+    let bytes : begun.answers ++ alike.other ≡ b = ap (λ l. l ++ alike.other) one.0 ∙ sym alike.two in
+    subst (λ l. Lines (quiet style) start (Server Beginning) l lines to) bytes
+    (subst (λ l. Lines (quiet style) start (Server Beginning) (begun.answers ++ alike.other) l to) (sym begun.text)
+    (subst (λ l. Lines (quiet style) start (Server Beginning) (begun.answers ++ alike.other) (begun.first ++ begun.rest) l) (sym e)
+    (rejoin (quiet style) start begun.answers begun.first alike.other begun.rest (Server Messages) begun.fronts backs none some)))
+
+pub beginnings_hidden : (style : Style) (start : ℕ) (a b lines : List ℕ) (to : Side) → AlikeBeginnings a b → Lines (quiet style) start (Server Beginning) a lines to → Lines (quiet style) start (Server Beginning) b lines to
+beginnings_hidden style start a b lines to alike listed = come_alike style start a b lines to alike listed (has_come (quiet style) start a lines to listed)

@@ -1,12 +1,13 @@
 -- The lines of a stream, a frame and a piece at a time.
 use Rattle.std.proofs.Common.{◌≡◌, ◌⊎◌, ℕ, ◌+◌, ◌-◌, ◌≤◌, Bool, true, false, List, [], ◌++◌, length, take, drop, min, Option, Result, Ok, Err, refl, sym, ap, subst, ◌∙◌, arith, inl, inr, length-append, append_assoc}
-use Rattle.std.specs.Prelude.{IfSome, OnOk, OnErr}
+use Rattle.std.specs.Prelude.{IfOk, IfSome, OnOk, OnErr}
 use Rattle.std.specs.Io.KnownBytes.{Appends, Consumes, Keeps, IsAtEnd}
 use Rattle.std.proofs.KnownBytes.{Appends-nil, Appends-trans, Consumes-nil, Consumes-trans, Consumes-kept, Consumes-whole}
 use Rattle.std.proofs.Math.Nat.{min-eq_left, min-le_right}
 use Rattle.std.proofs.lemmas.List.{append-nil, length-take}
 use Rattle.std.proofs.Math.Seq.{take-append_seam, drop-append_seam}
 use Rattle.pgp_line.specs.declared.style.Style.{Style}
+use Rattle.pgp_trace.specs.Hints.{hint_of}
 use Rattle.pgp_trace.specs.Listing.{LineOf, Lines, NoLines, OneLine, place_behind, last_line, IsReady, WasListed, WritesListing, IsCutShort}
 use Rattle.pgp_program.specs.Run.{Streams}
 use Rattle.pgp_trace.specs.Sides.{Side, Ends}
@@ -315,10 +316,10 @@ cut_here style from before after held t = record {
 }
 
 -- the end came
-pub all_written : (style : Style) (from : Side) (before after : Streams) (held : Held) (output : Option (List ℕ)) → Tracks style from before after held → IsAtEnd after.input → Appends after.output output (last_line style held.stopped held.left)
-    → IfSome before.input (λ bytes. WritesListing style from bytes before.output output)
-all_written style from before after held output t end last =
-    Consumes-whole before.input after.input (t.front ++ t.rest) (λ bytes. WritesListing style from bytes before.output output) t.came end (record {
+pub all_written : (style : Style) (from : Side) (before after : Streams) (held : Held) (output : Option (List ℕ)) (said : List ℕ) → Tracks style from before after held → IsAtEnd after.input → Appends after.output output (last_line style held.stopped held.left)
+    → said ≡ hint_of held.side held.left → IfSome before.input (λ bytes. WritesListing style from bytes before.output output said)
+all_written style from before after held output said t end last why =
+    Consumes-whole before.input after.input (t.front ++ t.rest) (λ bytes. WritesListing style from bytes before.output output said) t.came end (record {
       output = t.lines ++ last_line style held.stopped held.left;
       is = record {
         to = held.side;
@@ -332,6 +333,7 @@ all_written style from before after held output t end last =
         text = ap (λ n. t.lines ++ last_line style held.stopped n) t.holds.count;
       };
       written = Appends-trans before.output after.output output t.lines _ t.written last;
+      why = why ∙ ap (hint_of held.side) t.holds.count;
     })
 
 -- and the last line was written in part
@@ -366,10 +368,12 @@ cut_nothing style from s = record {
 -- ---- what calls return of these
 
 module _ {T E : Type 0} where
-  pub end_written : (r : Result T E) (style : Style) (from : Side) (before : Streams) (now next middle output : Option (List ℕ)) (held : Held) → Tracks style from before (record { input = now; output = middle }) held
-      → Consumes now next [] → IsAtEnd next → OnOk r (Appends middle output (last_line style held.stopped held.left)) → OnOk r (IfSome before.input (λ bytes. WritesListing style from bytes before.output output))
-  end_written (Ok x) style from before now next middle output held t none end last = all_written style from before (record { input = next; output = middle }) held output (tracks_none style from before now next middle held t none) end last
-  end_written (Err e) style from before now next middle output held t none end last = tt
+  pub end_written : (r : Result T E) (told : T → List ℕ) (said : List ℕ) (style : Style) (from : Side) (before : Streams) (now next middle output : Option (List ℕ)) (held : Held) → Tracks style from before (record { input = now; output = middle }) held
+      → Consumes now next [] → IsAtEnd next → OnOk r (Appends middle output (last_line style held.stopped held.left)) → IfOk r (λ x. told x ≡ said) → said ≡ hint_of held.side held.left
+      → IfOk r (λ x. IfSome before.input (λ bytes. WritesListing style from bytes before.output output (told x)))
+  end_written (Ok x) told said style from before now next middle output held t none end last same why =
+      all_written style from before (record { input = next; output = middle }) held output (told x) (tracks_none style from before now next middle held t none) end last (same ∙ why)
+  end_written (Err e) told said style from before now next middle output held t none end last same why = tt
 
   pub end_cut : (r : Result T E) (style : Style) (from : Side) (before : Streams) (now next middle output : Option (List ℕ)) (held : Held) → Tracks style from before (record { input = now; output = middle }) held
       → Consumes now next [] → IsAtEnd next → OnErr r (AppendsFront middle output (last_line style held.stopped held.left)) → OnErr r (IsCutShort style from before (record { input = next; output = output }))

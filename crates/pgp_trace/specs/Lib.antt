@@ -5,6 +5,7 @@ pub mod Options
 pub mod Command
 pub mod Sides
 pub mod Client
+pub mod Hints
 pub mod Listing
 pub mod ClientSecrets
 pub mod Steps

@@ -1,21 +1,24 @@
 -- The listing of a server's or a client's stream.
-use Rattle.std.specs.Prelude.{◌≡◌, ◌⊎◌, ℕ, ◌+◌, min, Bool, true, false, List, [], ◌∷◌, ◌++◌, length, get_or, Result, Ok, Err, Option, codes, decimal}
+use Rattle.std.specs.Prelude.{◌≡◌, ◌⊎◌, ℕ, ◌+◌, min, Bool, true, false, List, [], ◌∷◌, ◌++◌, length, get_or, Result, Ok, Err, Option, None, Some, ◌==◌, if◌then◌else◌, codes, decimal}
 use Rattle.std.specs.Io.KnownBytes.{Appends, Consumes, IsAtEnd, Keeps}
 use Rattle.pgp_base.specs.declared.error.Error.{Error}
 use Rattle.pgp_message.specs.BackendMessage.{Message, Body}
-use Rattle.pgp_message.specs.Stream.{Frame, frame_bytes, IsFrame}
+use Rattle.pgp_message.specs.Stream.{BackendRun, Frame, frame_bytes, IsFrame}
 use Rattle.pgp_frontend.specs.ClientMessage.{ClientMessage}
 use Rattle.pgp_frontend_read.specs.Pieces.{step_of}
 use Rattle.pgp_frontend_read.specs.Step.{Step}
 use Rattle.pgp_frontend_read.specs.declared.error.ClientError.{ClientError}
 use Rattle.pgp_frontend_read.specs.declared.message.PasswordKind.{PasswordKind}
 use Rattle.pgp_trace.specs.Client.{client_line}
-use Rattle.pgp_trace.specs.Sides.{Side, Server, Client, Ends, expected, is_told, kinds_behind}
+use Rattle.pgp_trace.specs.Sides.{Side, Server, Client, AreAnswers, Ends, answered, expected, is_told, kinds_behind, phase_behind}
+use Rattle.pgp_trace.specs.declared.side.Phase.{Phase}
+use Rattle.pgp_trace.specs.declared.side.Phase.TheVariants.{Beginning, Messages, Encrypted}
 use Rattle.pgp_line.specs.declared.style.Form.{Form}
 use Rattle.pgp_line.specs.declared.style.Form.TheVariants.{Columns, Json}
 use Rattle.pgp_line.specs.declared.style.Style.{Style}
-use Rattle.pgp_line.specs.Line.{Length, Tag, closing, followed, opening}
-use Rattle.pgp_trace.specs.Shown.{Shows, called, refused}
+use Rattle.pgp_line.specs.Line.{Length, Name, Tag, closing, followed, opening}
+use Rattle.pgp_trace.specs.Shown.{Shows, called, unread}
+use Rattle.pgp_trace.specs.Hints.{hint_of}
 use Rattle.pgp_program.specs.Run.{Streams}
 use Rattle.pgp_program.specs.Taken.{AppendsFront}
 use Rattle.pgp_program.specs.Words.{greatest}
@@ -24,10 +27,10 @@ use Rattle.pgp_program.specs.Words.{greatest}
 abbrev pub front : Style → ℕ → Frame → List ℕ
 front style place f = followed style (opening style place) (Length (length (frame_bytes f)) ∷ Tag f.tag ∷ [])
 
--- and how it goes on: with the name of the message and what it says, or with the error
+-- and how it goes on: with the name of the message and what it says, or with the error, or the name of a message that isn't read
 abbrev pub GoesOn : Style → Result Message Error → List ℕ → List ℕ → Type 0
 GoesOn style (Ok m) old new = Shows style m (followed style old (called m ∷ [])) new
-GoesOn style (Err e) old new = new ≡ followed style old (refused e)
+GoesOn style (Err e) old new = new ≡ followed style old (unread e)
 
 -- the line of a frame that stands at the place
 pub record IsLineOf (style : Style) (place : ℕ) (f : Frame) (line : List ℕ) : Type 0 where
@@ -43,6 +46,34 @@ pub record IsServerLine (style : Style) (place : ℕ) (frame line : List ℕ) : 
   pub whole : frame ≡ frame_bytes first
   pub fits : IsFrame first
   pub told : IsLineOf style place first line
+
+-- which request a server answers, as far as its byte says
+abbrev pub answer_name : ℕ → List ℕ
+answer_name byte =
+    if byte == 83 then codes "SSLResponse"  -- S
+    else if byte == 71 then codes "GSSENCResponse"  -- G
+    else codes "SSLResponse or GSSENCResponse"
+
+abbrev pub answer_line : Style → ℕ → ℕ → List ℕ
+answer_line style place byte = followed style (opening style place) (Length 1 ∷ Tag byte ∷ Name true (answer_name byte) ∷ []) ++ closing style ++ 10 ∷ []
+
+-- an answer of one byte, and its line
+pub record IsAnswerLine (style : Style) (place : ℕ) (frame line : List ℕ) (phase : Phase) : Type 0 where
+  pub byte : ℕ
+  pub whole : frame ≡ byte ∷ []
+  pub answers : phase_behind byte ≡ Some phase
+  pub told : line ≡ answer_line style place byte
+
+-- Before the first message: an answer; or that message, as no answer stands there.
+pub record IsAnswer (style : Style) (place : ℕ) (frame line : List ℕ) (to : Side) : Type 0 where
+  pub phase : Phase
+  pub told : IsAnswerLine style place frame line phase
+  pub behind : to ≡ Server phase
+
+pub record IsFirst (style : Style) (place : ℕ) (frame line : List ℕ) (to : Side) : Type 0 where
+  pub told : IsServerLine style place frame line
+  pub none : answered frame ≡ None
+  pub behind : to ≡ Server Messages
 
 -- an opening packet has no tag
 abbrev pub client_tag : Bool → List ℕ → ℕ
@@ -65,7 +96,9 @@ pub record IsNextLine (style : Style) (place : ℕ) (opened : Bool) (kinds : Lis
 
 -- a frame that stands at the place, and its line; and what is known of the side after it
 abbrev pub LineOf : Style → ℕ → Side → List ℕ → List ℕ → Side → Type 0
-LineOf style place Server frame line to = IsServerLine style place frame line × (to ≡ Server)
+LineOf style place (Server Beginning) frame line to = IsAnswer style place frame line to ⊎ IsFirst style place frame line to
+LineOf style place (Server Messages) frame line to = IsServerLine style place frame line × (to ≡ Server Messages)
+LineOf style place (Server Encrypted) frame line to = ⊥
 LineOf style place (Client opened kinds) frame line to = IsNextLine style place opened kinds frame line to
 
 -- how many bytes stand before, as far as a number of the machine reports it
@@ -127,11 +160,22 @@ pub record IsListing (style : Style) (from : Side) (bytes output : List ℕ) : T
   pub ending : Ends to stopped rest
   pub text : output ≡ lines ++ last_line style stopped (place_behind (length rest))
 
--- that listing was written, and nothing else
-pub record WritesListing (style : Style) (from : Side) (bytes : List ℕ) (old new : Option (List ℕ)) : Type 0 where
+-- The bytes are answers of one byte, and then the stream as it is read elsewhere, with this end and this rest.
+pub record IsRunBehindAnswers (bytes : List ℕ) (stopped : Bool) (rest : List ℕ) : Type 0 where
+  pub answers : List ℕ
+  pub more : List ℕ
+  pub results : List (Result Message Error)
+  pub whole : bytes ≡ answers ++ more
+  pub plain : AreAnswers answers
+  pub none : answered more ≡ None
+  pub run : BackendRun more results stopped rest
+
+-- that listing was written, and nothing else; and this is to be said of the bytes that are left
+pub record WritesListing (style : Style) (from : Side) (bytes : List ℕ) (old new : Option (List ℕ)) (said : List ℕ) : Type 0 where
   pub output : List ℕ
   pub is : IsListing style from bytes output
   pub written : Appends old new output
+  pub why : said ≡ hint_of is.to (place_behind (length is.rest))
 
 -- the end of the input has come, and the last line is due
 pub record EndsWith (style : Style) (to : Side) (input : Option (List ℕ)) (rest lines text : List ℕ) : Type 0 where

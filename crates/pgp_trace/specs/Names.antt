@@ -3,13 +3,11 @@
 use Rattle.std.specs.Prelude.{ℕ, List, Option, Some, None, ◌==◌, if◌then◌else◌, codes}
 use Rattle.pgp_base.specs.declared.error.Error.{Error}
 use Rattle.pgp_base.specs.declared.error.Error.TheVariants.{OutOfMemory, EmbeddedNull, TooLarge, InvalidLength, UnknownTag, UnknownAuthentication, UnexpectedEof, NotDrained, NotUtf8, InvalidSize, InvalidCount, InvalidKeyLength, InvalidValueLength, InvalidDimension, TooManyElements, InvalidBitLength, InvalidNetmask, InvalidAddressLength, InvalidFamily, InvalidVersion}
-use Rattle.pgp_message.specs.BackendMessage.{AuthenticationOk, AuthenticationKerberosV5, AuthenticationCleartextPassword, AuthenticationMd5Password, AuthenticationScmCredential, AuthenticationGss, AuthenticationGssContinue, AuthenticationSspi, AuthenticationSasl, AuthenticationSaslContinue, AuthenticationSaslFinal, Message, ParseComplete, BindComplete, CloseComplete, NotificationResponse, CommandComplete, DataRow, ErrorResponse, CopyInResponse, CopyOutResponse, EmptyQueryResponse, BackendKeyData, NegotiateProtocolVersion, NoticeResponse, Authentication, ParameterStatus, RowDescription, ReadyForQuery, CopyDone, CopyData, NoData, PortalSuspended, ParameterDescription}
+use Rattle.pgp_message.specs.BackendMessage.{AuthenticationMd5Password, AuthenticationScmCredential, AuthenticationGss, AuthenticationGssContinue, AuthenticationSspi, AuthenticationSasl, AuthenticationSaslContinue, AuthenticationSaslFinal, Message, Authentication}
+use Rattle.pgp_message.specs.Names as message
 
--- a message
+-- a message: as the code's variants are called, but for those that the manual spells otherwise
 abbrev pub name_of : Message → List ℕ
-name_of (Authentication AuthenticationOk) = codes "AuthenticationOk"
-name_of (Authentication AuthenticationKerberosV5) = codes "AuthenticationKerberosV5"
-name_of (Authentication AuthenticationCleartextPassword) = codes "AuthenticationCleartextPassword"
 name_of (Authentication (AuthenticationMd5Password salt)) = codes "AuthenticationMD5Password"
 name_of (Authentication AuthenticationScmCredential) = codes "AuthenticationSCMCredential"
 name_of (Authentication AuthenticationGss) = codes "AuthenticationGSS"
@@ -18,27 +16,7 @@ name_of (Authentication AuthenticationSspi) = codes "AuthenticationSSPI"
 name_of (Authentication (AuthenticationSasl bytes)) = codes "AuthenticationSASL"
 name_of (Authentication (AuthenticationSaslContinue bytes)) = codes "AuthenticationSASLContinue"
 name_of (Authentication (AuthenticationSaslFinal bytes)) = codes "AuthenticationSASLFinal"
-name_of ParseComplete = codes "ParseComplete"
-name_of BindComplete = codes "BindComplete"
-name_of CloseComplete = codes "CloseComplete"
-name_of (NotificationResponse n) = codes "NotificationResponse"
-name_of (CommandComplete tag) = codes "CommandComplete"
-name_of (DataRow row) = codes "DataRow"
-name_of (ErrorResponse bytes) = codes "ErrorResponse"
-name_of (CopyInResponse copy) = codes "CopyInResponse"
-name_of (CopyOutResponse copy) = codes "CopyOutResponse"
-name_of EmptyQueryResponse = codes "EmptyQueryResponse"
-name_of (BackendKeyData key) = codes "BackendKeyData"
-name_of (NoticeResponse bytes) = codes "NoticeResponse"
-name_of (ParameterStatus setting) = codes "ParameterStatus"
-name_of (RowDescription row) = codes "RowDescription"
-name_of (ReadyForQuery status) = codes "ReadyForQuery"
-name_of CopyDone = codes "CopyDone"
-name_of (CopyData bytes) = codes "CopyData"
-name_of (NegotiateProtocolVersion n) = codes "NegotiateProtocolVersion"
-name_of NoData = codes "NoData"
-name_of PortalSuspended = codes "PortalSuspended"
-name_of (ParameterDescription row) = codes "ParameterDescription"
+name_of m = message.name_of m
 
 -- an error
 abbrev pub refusal_of : Error → List ℕ

@@ -4,7 +4,7 @@ use Rattle.std.specs.List.{flat_map, list_any}
 use Rattle.pgp_frontend_read.specs.declared.message.PasswordKind.{PasswordKind}
 use Rattle.pgp_frontend_read.specs.declared.message.PasswordKind.TheVariants.{Password, Initial, Response}
 use Rattle.pgp_trace.specs.declared.options.Choice.{Choice}
-use Rattle.pgp_trace.specs.declared.options.Choice.TheVariants.{AsJson, Full, Secrets, Kind}
+use Rattle.pgp_trace.specs.declared.options.Choice.TheVariants.{AsJson, Full, Secrets, Resume, Kind}
 use Rattle.pgp_line.specs.Styles.{style_of}
 use Rattle.pgp_line.specs.declared.style.Style.{Style}
 
@@ -18,38 +18,52 @@ abbrev pub spelled : Choice → List (List ℕ)
 spelled AsJson = codes "--json" ∷ []
 spelled Full = codes "--full" ∷ []
 spelled Secrets = codes "--secrets" ∷ []
+spelled Resume = codes "--resume" ∷ []
 spelled (Kind kind) = codes "--password-kind" ∷ kind_word kind ∷ []
 
 abbrev pub is_json : Choice → Bool
 is_json AsJson = true
 is_json Full = false
 is_json Secrets = false
+is_json Resume = false
 is_json (Kind kind) = false
 
 abbrev pub is_full : Choice → Bool
 is_full AsJson = false
 is_full Full = true
 is_full Secrets = false
+is_full Resume = false
 is_full (Kind kind) = false
 
 abbrev pub is_secrets : Choice → Bool
 is_secrets AsJson = false
 is_secrets Full = false
 is_secrets Secrets = true
+is_secrets Resume = false
 is_secrets (Kind kind) = false
+
+abbrev pub is_resume : Choice → Bool
+is_resume AsJson = false
+is_resume Full = false
+is_resume Secrets = false
+is_resume Resume = true
+is_resume (Kind kind) = false
 
 abbrev pub kind_in : Choice → List PasswordKind
 kind_in AsJson = []
 kind_in Full = []
 kind_in Secrets = []
+kind_in Resume = []
 kind_in (Kind kind) = kind ∷ []
 
--- The words are options, one after another, in any order. They ask for this style, and name these kinds in order.
-pub record AreOptions (words : List (List ℕ)) (style : Style) (kinds : List PasswordKind) : Type 0 where
+-- The words are options, one after another, in any order. They ask for this style, and name these kinds in order; and they say whether the stream is
+-- taken in mid-session.
+pub record AreOptions (words : List (List ℕ)) (style : Style) (kinds : List PasswordKind) (resume : Bool) : Type 0 where
   pub choices : List Choice
   pub spelling : words ≡ flat_map spelled choices
   pub shown : style ≡ style_of (list_any is_json choices) (list_any is_full choices) (list_any is_secrets choices)
   pub named : kinds ≡ flat_map kind_in choices
+  pub resumed : resume ≡ list_any is_resume choices
 
 -- the words are no options
 abbrev pub AreNoOptions : List (List ℕ) → Type 0

@@ -1,9 +1,10 @@
 -- Messages and streams that differ in their secrets alone.
-use Rattle.std.specs.Prelude.{◌≡◌, ℕ, false, List, [], ◌++◌, length, Result, Ok, Err}
+use Rattle.std.specs.Prelude.{◌≡◌, ℕ, false, List, [], ◌++◌, length, None, Result, Ok, Err}
 use Rattle.pgp_message.specs.BackendMessage.{AuthenticationMd5Password, AuthenticationGssContinue, AuthenticationSaslContinue, AuthenticationSaslFinal, Message, BackendKeyData, Authentication, Body}
 use Rattle.pgp_base.specs.declared.error.Error.{Error}
 use Rattle.pgp_message.specs.Stream.{Frame, frame_bytes, IsFrame}
 use Rattle.pgp_line.specs.declared.style.Style.{Style}
+use Rattle.pgp_trace.specs.Sides.{AreAnswers, answered}
 
 -- The salt of an MD5 answer, the texts of an exchange and the key of a cancel request may be others of the same length; all else is the same.
 abbrev pub Alike : Message → Message → Type 0
@@ -34,3 +35,14 @@ pub record AlikeFrames (f g : Frame) : Type 0 where
 pub data AlikeStreams : List ℕ → List ℕ → Type 0 where
   NoFrames : AlikeStreams [] []
   OneAlike : {a b : List ℕ} (f g : Frame) → AlikeStreams a b → IsFrame f → IsFrame g → AlikeFrames f g → AlikeStreams (a ++ frame_bytes f) (b ++ frame_bytes g)
+
+-- from the first byte of a connection on: the same answers of one byte, and then such frames
+pub record AlikeBeginnings (a b : List ℕ) : Type 0 where
+  pub answers : List ℕ
+  pub first : List ℕ
+  pub other : List ℕ
+  pub one : a ≡ answers ++ first
+  pub two : b ≡ answers ++ other
+  pub plain : AreAnswers answers
+  pub none : answered first ≡ None
+  pub alike : AlikeStreams first other

@@ -1,5 +1,6 @@
 -- Whose stream is listed, and where it is no longer cut into frames. PostgreSQL manual, "Message Formats".
-use Rattle.std.specs.Prelude.{◌≡◌, ◌⊎◌, ◌+◌, ◌<◌, ◌^◌, ℕ, Bool, true, false, List, [], ◌∷◌, ◌++◌, length, drop, None, ◌==◌, if◌then◌else◌}
+use Rattle.std.specs.Prelude.{◌≡◌, ◌⊎◌, ◌+◌, ◌<◌, ◌^◌, ℕ, Bool, true, false, List, [], ◌∷◌, ◌++◌, length, drop, Option, None, Some, ◌==◌, if◌then◌else◌}
+use Rattle.std.specs.List.{AllByRecursion}
 use Rattle.pgp_frontend.specs.ClientMessage.{PasswordKind}
 use Rattle.pgp_frontend.specs.ClientMessage as grammar
 use Rattle.pgp_frontend.specs.Payload.{framed}
@@ -8,11 +9,37 @@ use Rattle.pgp_frontend_read.specs.Step as client
 use Rattle.pgp_frontend_read.specs.Views.{kind_view}
 use Rattle.pgp_frontend_read.specs.declared.error.ClientError.{ClientError}
 use Rattle.pgp_frontend_read.specs.declared.message.PasswordKind as code
+use Rattle.pgp_trace.specs.declared.side.Phase.{Phase}
+use Rattle.pgp_trace.specs.declared.side.Phase.TheVariants.{Beginning, Messages, Encrypted}
 
--- A server's; or a client's, of which a startup packet was read or not, and whose next messages of tag `p` are of these kinds.
+-- A server's, which has come so far; or a client's, of which a startup packet was read or not, and whose next messages of tag `p` are of these kinds.
 pub data Side : Type 0 where
-  Server : Side
+  Server : (phase : Phase) → Side
   Client : (opened : Bool) (kinds : List code.PasswordKind) → Side
+
+-- A server answers a request for encryption by one byte: `N` where the connection goes on in the clear, so that a client may ask again; `S` where TLS
+-- follows, and `G` where GSSAPI encryption does. Such answers come before any message, as many as the client asked for. No message of these tags begins a
+-- connection: the first is `R`, `E` or `v`, and a server sends no NoticeResponse before the log-in is complete.
+abbrev pub phase_behind : ℕ → Option Phase
+phase_behind byte =
+    if byte == 78 then Some Beginning  -- N
+    else if byte == 83 then Some Encrypted  -- S
+    else if byte == 71 then Some Encrypted  -- G
+    else None
+
+-- answers, after each of which the stream goes on in the clear
+abbrev pub AreAnswers : List ℕ → Type 0
+AreAnswers bytes = AllByRecursion (λ byte. phase_behind byte ≡ Some Beginning) bytes
+
+-- how far a stream has come that is taken in mid-session, or from its first byte on
+abbrev pub first_phase : (resume : Bool) → Phase
+first_phase true = Messages
+first_phase false = Beginning
+
+-- how far the stream has come after the answer that stands first, if one does
+abbrev pub answered : List ℕ → Option Phase
+answered [] = None
+answered (byte ∷ rest) = phase_behind byte
 
 -- the kind that the next message of tag `p` is read as; where none is known, as the one that all bytes are
 abbrev pub expected : List code.PasswordKind → PasswordKind
@@ -33,7 +60,7 @@ is_password _ _ = false
 abbrev pub kinds_behind : Bool → List ℕ → List code.PasswordKind → List code.PasswordKind
 kinds_behind opened frame kinds = if is_password opened frame then drop 1 kinds else kinds
 
--- a whole opening packet that is no message
+-- a whole opening packet that is no message, whatever comes after it
 pub record IsRefusedPacket (opened : Bool) (bytes : List ℕ) : Type 0 where
   pub phase : opened ≡ false
   pub payload : List ℕ
@@ -42,9 +69,13 @@ pub record IsRefusedPacket (opened : Bool) (bytes : List ℕ) : Type 0 where
   pub whole : bytes ≡ framed None payload ++ rest
   pub error : ClientError
   pub blames : client.BlamesPacket payload error
+  pub none : (kind : PasswordKind) → client.NoneStands kind opened bytes
 
--- No frame stands first: more bytes are missing; or nothing says where the next frame begins.
+-- No frame stands first: more bytes are missing; or nothing says where the next frame begins, as in bytes that are encrypted.
 abbrev pub Ends : Side → Bool → List ℕ → Type 0
-Ends Server stopped rest = IsEnding stopped rest
+Ends (Server Beginning) stopped rest = (answered rest ≡ None) × IsEnding stopped rest
+Ends (Server Messages) stopped rest = IsEnding stopped rest
+Ends (Server Encrypted) false rest = rest ≡ []
+Ends (Server Encrypted) true rest = 0 < length rest
 Ends (Client opened kinds) false rest = client.IsPartial opened rest
 Ends (Client opened kinds) true rest = client.IsLengthFault opened rest ⊎ IsRefusedPacket opened rest

@@ -1,11 +1,13 @@
 -- Private: a frame and its line, one at a time, and what a piece of a stream adds to its listing.
-use Rattle.std.specs.Prelude.{◌≡◌, ◌≤◌, ℕ, ◌+◌, Bool, true, false, List, ◌++◌, length, Option, Result}
+use Rattle.std.specs.Prelude.{◌≡◌, ◌≤◌, ℕ, ◌+◌, Bool, true, false, List, [], ◌∷◌, ◌++◌, length, Option, Result}
 use Rattle.std.specs.Io.KnownBytes.{Appends}
 use Rattle.pgp_base.specs.declared.error.Error.{Error}
 use Rattle.pgp_message.specs.BackendMessage.{Message, Body}
 use Rattle.pgp_message.specs.Stream.{Frame, frame_bytes, IsFrame}
 use Rattle.pgp_trace.specs.declared.frame.Next.{Next}
 use Rattle.pgp_trace.specs.declared.frame.Next.TheVariants.{Line, Waits, Stops}
+use Rattle.pgp_trace.specs.declared.side.Phase.{Phase}
+use Rattle.pgp_trace.specs.declared.side.Phase.TheVariants.{Beginning, Messages}
 use Rattle.pgp_trace.specs.declared.side.Side as code
 use Rattle.pgp_trace.specs.declared.side.Side.TheVariants as variants
 use Rattle.pgp_line.specs.declared.style.Style.{Style}
@@ -16,8 +18,19 @@ use Rattle.pgp_program.specs.Words.{greatest}
 
 -- the code's sides
 abbrev pub side_of : code.Side → Side
-side_of variants.Server = Server
+side_of (variants.Server phase) = Server phase
 side_of (variants.Client opened kinds) = Client opened kinds.now
+
+-- how far a server's stream has come after its first message, if it came
+abbrev pub phase_of : Next → Phase
+phase_of Line = Messages
+phase_of Waits = Beginning
+phase_of Stops = Beginning
+
+-- what stands at the front of bytes that are encrypted
+abbrev pub sealed : List ℕ → Next
+sealed [] = Waits
+sealed (byte ∷ rest) = Stops
 
 -- the bytes are one frame, with this result
 pub record IsFrameOf (bytes : List ℕ) (r : Result Message Error) : Type 0 where

@@ -3,9 +3,10 @@
 ghost use Rattle.std.specs.Prelude.{◌≡◌, ◌≤◌, ◌<◌, ◌-◌, ◌∷◌, ◌++◌, [], length, take, slice_index, IfOk, OnErr, OnOk, Ok, string_bytes};
 ghost use Rattle.pgp_message.specs.Views.{view};
 ghost use Rattle.pgp_line.specs.Line.{Length, Tag, closing, followed, opening};
-ghost use Rattle.pgp_trace.specs.Shown.{refused};
+ghost use Rattle.pgp_trace.specs.Shown.{unknown, unread};
 ghost use Rattle.pgp_trace.specs.Listing.{IsServerLine};
 ghost use Rattle.pgp_trace.specs.Sides.{Server};
+ghost use Rattle.pgp_trace.specs.declared.side.Phase.TheVariants as phases;
 ghost use Rattle.pgp_trace.specs.Steps.{IsFrameOf, ListsNext};
 
 use crate::body::put_message;
@@ -39,7 +40,7 @@ pub fn server_line<'b, A: Memory>(
     bytes: &'b [u8],
     line: &mut String<A>,
 ) -> Result<(Next, &'b [u8]), AllocError>
-    ensures listed { IfOk result (λ x. ListsNext style place Server bytes.now x.1.now (string_bytes line.new) Server x.0) }
+    ensures listed { IfOk result (λ x. ListsNext style place (Server phases.Messages) bytes.now x.1.now (string_bytes line.new) (Server phases.Messages) x.0) }
     ensures lacks { OnErr result A.Lacks }
 {
     let mut messages = Messages::new(bytes);
@@ -99,12 +100,39 @@ fn fault_line<A: Memory>(
     line: &mut String<A>,
 ) -> Result<(), AllocError>
     requires { 0 < length frame.now }
-    ensures line { OnOk result (string_bytes line.new ≡ followed style (opening style place) (Length (length frame.now) ∷ Tag (slice_index frame.now 0) ∷ refused refusal.now) ++ closing style ++ 10 ∷ []) }
+    ensures line { OnOk result (string_bytes line.new ≡ followed style (opening style place) (Length (length frame.now) ∷ Tag (slice_index frame.now 0) ∷ unread refusal.now) ++ closing style ++ 10 ∷ []) }
     ensures lacks { OnErr result A.Lacks }
 {
     begin(style, place, frame, line)?;
-    put_refused(style, refusal, line)?;
+    put_unread(style, refusal, line)?;
     put_end(style, line)
+}
+
+/// Adds why a frame isn't read, or its name.
+fn put_unread<A: Memory>(
+    style: Style,
+    refusal: &Error,
+    line: &mut String<A>,
+) -> Result<(), AllocError>
+    ensures parts { OnOk result (string_bytes line.new ≡ followed style (string_bytes line.old) (unread refusal.now)) }
+    ensures lacks { OnErr result A.Lacks }
+{
+    match refusal {
+        Error::UnknownTag(tag) => put_unknown(style, *tag, line),
+        _ => put_refused(style, refusal, line),
+    }
+}
+
+/// Adds the name of a frame that isn't read, or that its tag is unknown.
+fn put_unknown<A: Memory>(style: Style, tag: u8, line: &mut String<A>) -> Result<(), AllocError>
+    ensures parts { OnOk result (string_bytes line.new ≡ followed style (string_bytes line.old) (unknown tag)) }
+    ensures lacks { OnErr result A.Lacks }
+{
+    match tag {
+        b'V' => put_called(style, true, "FunctionCallResponse", line),
+        b'W' => put_called(style, true, "CopyBothResponse", line),
+        _ => put_refused(style, &Error::UnknownTag(tag), line),
+    }
 }
 
 /// Begins a line: with the place of the frame, its length, and its tag.

@@ -1,6 +1,6 @@
 //! Laws of lines.
 
-ghost use Rattle.std.specs.Prelude.{◌≡◌, ◌∷◌, ◌++◌, [], ℕ, List, true, false, Bool, ℤ, Ok, Result, Some, length};
+ghost use Rattle.std.specs.Prelude.{◌≡◌, ◌⊎◌, ◌∷◌, ◌++◌, [], ℕ, List, true, false, Bool, ℤ, Ok, Result, None, Some, length};
 ghost use Rattle.pgp_base.specs.declared.error.Error.{Error};
 ghost use Rattle.pgp_message.specs.BackendMessage.{Message};
 ghost use Rattle.pgp_frontend.specs.ClientMessage.{CancelRequest, PasswordMessage, SaslInitialResponse, SaslResponse};
@@ -9,11 +9,17 @@ ghost use Rattle.pgp_frontend_read.specs.declared.message.PasswordKind.{Password
 ghost use Rattle.pgp_trace.specs.Client.{client_line};
 ghost use Rattle.pgp_trace.specs.ClientSecrets.{AlikeClientStreams};
 ghost use Rattle.pgp_line.specs.declared.style.Style.{Style};
-ghost use Rattle.pgp_trace.specs.Listing.{IsListing, LineOf, Lines};
+ghost use Rattle.pgp_trace.specs.Listing.{IsListing, IsRunBehindAnswers, LineOf, Lines};
 ghost use Rattle.pgp_line.specs.Quoting.{IsPrinted};
-ghost use Rattle.pgp_trace.specs.Secrets.{Alike, AlikeStreams, quiet};
+ghost use Rattle.pgp_trace.specs.Secrets.{Alike, AlikeBeginnings, AlikeStreams, quiet};
 ghost use Rattle.pgp_trace.specs.Shown.{Shows};
-ghost use Rattle.pgp_trace.specs.Sides.{Client, Server, Side};
+ghost use Rattle.pgp_trace.specs.Sides.{Client, Server, Side, answered};
+ghost use Rattle.pgp_trace.specs.declared.side.Phase.TheVariants.{Beginning, Encrypted, Messages};
+
+/// A stream has one listing.
+pub fn one_listing()
+    ensures { (style : Style) (from : Side) (bytes output other : List ℕ) → IsListing style from bytes output → IsListing style from bytes other → output ≡ other }
+{}
 
 /// A line has characters alone that a terminal prints, and then its newline.
 pub fn lines_are_printable()
@@ -26,15 +32,30 @@ pub fn secrets_are_hidden()
     ensures { (style : Style) (m n : Message) (old new : List ℕ) → Alike m n → Shows (quiet style) m old new → Shows (quiet style) n old new }
 {}
 
-/// A server's streams that differ in their secrets alone have the same lines, unless secrets are asked for.
+/// A server's streams that differ in their secrets alone have the same lines, unless secrets are asked for: from the first byte of a connection on, and
+/// from any message on.
 pub fn streams_hide_their_secrets()
-    ensures { (style : Style) (start : ℕ) (a b lines : List ℕ) → AlikeStreams a b → Lines (quiet style) start Server a lines Server → Lines (quiet style) start Server b lines Server }
+    ensures beginning { (style : Style) (start : ℕ) (a b lines : List ℕ) (to : Side) → AlikeBeginnings a b →
+        Lines (quiet style) start (Server Beginning) a lines to → Lines (quiet style) start (Server Beginning) b lines to }
+    ensures messages { (style : Style) (start : ℕ) (a b lines : List ℕ) → AlikeStreams a b →
+        Lines (quiet style) start (Server Messages) a lines (Server Messages) → Lines (quiet style) start (Server Messages) b lines (Server Messages) }
 {}
 
-/// A listing of what a server sent is that of the stream as it is read elsewhere: with these results of its frames, this rest, and this end.
+/// A listing of what a server sent is that of the stream as it is read elsewhere: with these results of its frames, this rest, and this end. From the
+/// first byte of a connection on, answers of one byte come before; and where the last of them agreed to encrypt, no frame comes after.
 pub fn listings_are_runs()
-    ensures { (style : Style) (bytes output : List ℕ) (l : IsListing style Server bytes output) →
+    ensures beginning { (style : Style) (bytes output : List ℕ) (l : IsListing style (Server Beginning) bytes output) →
+        (l.to ≡ Server Encrypted) ⊎ IsRunBehindAnswers bytes l.stopped l.rest }
+    ensures messages { (style : Style) (bytes output : List ℕ) (l : IsListing style (Server Messages) bytes output) →
         (results : List (Result Message Error)) × BackendRun bytes results l.stopped l.rest }
+{}
+
+/// A server's stream at whose front no answer of one byte stands is listed as messages alone.
+pub fn no_answers()
+    ensures whole { (style : Style) (bytes output : List ℕ) → answered bytes ≡ None →
+        IsListing style (Server Beginning) bytes output → IsListing style (Server Messages) bytes output }
+    ensures other { (style : Style) (bytes output : List ℕ) → answered bytes ≡ None →
+        IsListing style (Server Messages) bytes output → IsListing style (Server Beginning) bytes output }
 {}
 
 /// A client's messages that differ in their secrets alone have the same lines, unless secrets are asked for. Where it isn't reported which message of tag

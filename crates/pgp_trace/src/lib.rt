@@ -1,6 +1,7 @@
 //! Shows a person what a PostgreSQL server or client sent, a line a message, as it comes: what the program `pgtrace` runs.
 #![tactic(auto)]
 
+pub mod answer;
 pub mod body;
 pub mod client;
 pub mod client_body;
@@ -8,11 +9,13 @@ pub mod client_lists;
 pub mod client_names;
 pub mod fault;
 pub mod frame;
+pub mod hint;
 pub mod laws;
 pub mod lists;
 pub mod names;
 pub mod next;
 pub mod options;
+pub mod pipe;
 pub mod ports;
 pub mod run;
 pub mod side;

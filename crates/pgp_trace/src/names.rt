@@ -9,43 +9,20 @@ ghost use Rattle.pgp_trace.specs.Shown.{says_nothing};
 use pgp_base::Error;
 use pgp_message::Message;
 
-/// The name of a message.
+/// The name of a message, as the manual spells it.
 pub fn name_of(message: &Message<&[u8]>) -> &'static str
     ensures { result.now ≡ name_of (view message.now) }
 {
     match message {
-        Message::AuthenticationCleartextPassword => "AuthenticationCleartextPassword",
         Message::AuthenticationGss => "AuthenticationGSS",
         Message::AuthenticationGssContinue(_) => "AuthenticationGSSContinue",
-        Message::AuthenticationKerberosV5 => "AuthenticationKerberosV5",
         Message::AuthenticationMd5Password(_) => "AuthenticationMD5Password",
-        Message::AuthenticationOk => "AuthenticationOk",
         Message::AuthenticationSasl(_) => "AuthenticationSASL",
         Message::AuthenticationSaslContinue(_) => "AuthenticationSASLContinue",
         Message::AuthenticationSaslFinal(_) => "AuthenticationSASLFinal",
         Message::AuthenticationScmCredential => "AuthenticationSCMCredential",
         Message::AuthenticationSspi => "AuthenticationSSPI",
-        Message::BackendKeyData(_) => "BackendKeyData",
-        Message::BindComplete => "BindComplete",
-        Message::CloseComplete => "CloseComplete",
-        Message::CommandComplete(_) => "CommandComplete",
-        Message::CopyData(_) => "CopyData",
-        Message::CopyDone => "CopyDone",
-        Message::CopyInResponse(_) => "CopyInResponse",
-        Message::CopyOutResponse(_) => "CopyOutResponse",
-        Message::DataRow(_) => "DataRow",
-        Message::EmptyQueryResponse => "EmptyQueryResponse",
-        Message::ErrorResponse(_) => "ErrorResponse",
-        Message::NegotiateProtocolVersion(_) => "NegotiateProtocolVersion",
-        Message::NoData => "NoData",
-        Message::NoticeResponse(_) => "NoticeResponse",
-        Message::NotificationResponse(_) => "NotificationResponse",
-        Message::ParameterDescription(_) => "ParameterDescription",
-        Message::ParameterStatus(_) => "ParameterStatus",
-        Message::ParseComplete => "ParseComplete",
-        Message::PortalSuspended => "PortalSuspended",
-        Message::ReadyForQuery(_) => "ReadyForQuery",
-        Message::RowDescription(_) => "RowDescription",
+        _ => message.name(),
     }
 }
 

@@ -1,11 +1,12 @@
 //! The line of the next frame, whoever sent it.
 
-ghost use Rattle.std.specs.Prelude.{IfOk, OnErr, string_bytes};
-ghost use Rattle.pgp_trace.specs.Steps.{ListsNext, side_of};
+ghost use Rattle.std.specs.Prelude.{◌≡◌, IfOk, OnErr, string_bytes};
+ghost use Rattle.pgp_trace.specs.Steps.{ListsNext, sealed, side_of};
 
+use crate::answer::first_line;
 use crate::client::client_line;
 use crate::frame::{Next, server_line};
-use crate::side::Side;
+use crate::side::{Phase, Side};
 use pgp_base::Memory;
 use pgp_line::style::Style;
 use std::alloc::AllocError;
@@ -27,10 +28,15 @@ pub fn next_line<'a, 'b, A: Memory>(
     ensures lacks { OnErr result A.Lacks }
 {
     match side {
-        Side::Server => {
-            let (next, rest) = server_line(style, place, bytes, line)?;
-            Ok((next, Side::Server, rest))
+        Side::Server(Phase::Beginning) => {
+            let (next, phase, rest) = first_line(style, place, bytes, line)?;
+            Ok((next, Side::Server(phase), rest))
         }
+        Side::Server(Phase::Messages) => {
+            let (next, rest) = server_line(style, place, bytes, line)?;
+            Ok((next, side, rest))
+        }
+        Side::Server(Phase::Encrypted) => Ok((sealed(bytes), side, bytes)),
         Side::Client { opened, kinds } => {
             let (next, now, left, rest) = client_line(style, place, opened, kinds, bytes, line)?;
             Ok((
@@ -42,5 +48,16 @@ pub fn next_line<'a, 'b, A: Memory>(
                 rest,
             ))
         }
+    }
+}
+
+/// What stands at the front of bytes that are encrypted: nothing, or what is no message.
+fn sealed(bytes: &[u8]) -> Next
+    ensures { result ≡ sealed bytes.now }
+{
+    if bytes.is_empty() {
+        Next::Waits
+    } else {
+        Next::Stops
     }
 }

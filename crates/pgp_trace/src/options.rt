@@ -1,7 +1,7 @@
 //! The options of a listing.
 
 ghost use Rattle.std.specs.Prelude.{◌≡◌, ◌++◌, ◌∷◌, ◌||◌, codes, drop, length, map, IfNone, IfOk, IfSome, OnErr, OnOk};
-ghost use Rattle.pgp_trace.specs.Options.{AreNoOptions, AreOptions, BeginsWithNone, NamesNoKind, is_full, is_json, is_secrets, kind_in, kind_word, spelled};
+ghost use Rattle.pgp_trace.specs.Options.{AreNoOptions, AreOptions, BeginsWithNone, NamesNoKind, is_full, is_json, is_resume, is_secrets, kind_in, kind_word, spelled};
 ghost use Rattle.pgp_line.specs.Styles.{style_of};
 
 use pgp_base::Memory;
@@ -14,6 +14,8 @@ pub enum Choice {
     AsJson,
     Full,
     Secrets,
+    /// The stream is taken in mid-session.
+    Resume,
     /// Which the next message of tag `p` is that none names yet.
     Kind(PasswordKind),
 }
@@ -24,6 +26,7 @@ pub struct Options<A: Memory> {
     pub json: bool,
     pub full: bool,
     pub secrets: bool,
+    pub resume: bool,
     /// Which the messages of tag `p` are, from the first on.
     pub kinds: Vec<PasswordKind, A>,
 }
@@ -34,7 +37,7 @@ pub struct Options<A: Memory> {
 ///
 /// There is no memory for the kinds.
 pub fn options_of<A: Memory>(alloc: A, words: &[&str]) -> Result<Option<Options<A>>, AllocError>
-    ensures known { IfOk result (λ r. IfSome r (λ options. AreOptions (map (λ word. word.now) words.now) (style_of options.json options.full options.secrets) options.kinds.items)) }
+    ensures known { IfOk result (λ r. IfSome r (λ options. AreOptions (map (λ word. word.now) words.now) (style_of options.json options.full options.secrets) options.kinds.items options.resume)) }
     ensures other { IfOk result (λ r. IfNone r (AreNoOptions (map (λ word. word.now) words.now))) }
     ensures lacks { OnErr result A.Lacks }
 {
@@ -42,6 +45,7 @@ pub fn options_of<A: Memory>(alloc: A, words: &[&str]) -> Result<Option<Options<
         json: false,
         full: false,
         secrets: false,
+        resume: false,
         kinds: Vec::new(alloc),
     };
     let mut at = 0;
@@ -60,6 +64,7 @@ fn choose<A: Memory>(choice: Choice, options: &mut Options<A>) -> Result<(), All
     ensures json { OnOk result (options.new.json ≡ (is_json choice || options.old.json)) }
     ensures full { OnOk result (options.new.full ≡ (is_full choice || options.old.full)) }
     ensures secrets { OnOk result (options.new.secrets ≡ (is_secrets choice || options.old.secrets)) }
+    ensures resume { OnOk result (options.new.resume ≡ (is_resume choice || options.old.resume)) }
     ensures kinds { OnOk result (options.new.kinds.items ≡ options.old.kinds.items ++ kind_in choice) }
     ensures lacks { OnErr result A.Lacks }
 {
@@ -76,6 +81,10 @@ fn choose<A: Memory>(choice: Choice, options: &mut Options<A>) -> Result<(), All
             options.secrets = true;
             Ok(())
         }
+        Choice::Resume => {
+            options.resume = true;
+            Ok(())
+        }
         Choice::Kind(kind) => {
             A::push(&mut options.kinds, kind)?;
             Ok(())
@@ -88,7 +97,7 @@ fn len(choice: Choice) -> usize
     ensures { result ≡ length (spelled choice) }
 {
     match choice {
-        Choice::AsJson | Choice::Full | Choice::Secrets => 1,
+        Choice::AsJson | Choice::Full | Choice::Secrets | Choice::Resume => 1,
         Choice::Kind(_) => 2,
     }
 }
@@ -103,6 +112,7 @@ fn first_choice(words: &[&str]) -> Option<Choice>
         "--json" => Some(Choice::AsJson),
         "--full" => Some(Choice::Full),
         "--secrets" => Some(Choice::Secrets),
+        "--resume" => Some(Choice::Resume),
         "--password-kind" => first_kind(rest),
         _ => None,
     }

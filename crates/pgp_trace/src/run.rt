@@ -1,19 +1,21 @@
 //! The program's words.
 
-ghost use Rattle.std.specs.Prelude.{◌≡◌, ◌∷◌, codes, false, map, IfSome, IfNone, IfOk, IfErr, OnErr, OnOk};
-ghost use Rattle.std.specs.Io.KnownBytes.{Keeps};
+ghost use Rattle.std.specs.Prelude.{◌≡◌, ◌∷◌, [], codes, map, IfSome, IfNone, IfOk, IfErr, OnErr, OnOk};
+ghost use Rattle.std.specs.Io.KnownBytes.{Appends, Keeps};
 ghost use Rattle.pgp_program.specs.Interruptions.{GivesUp};
 ghost use Rattle.pgp_program.specs.Run.{Caused};
 ghost use Rattle.pgp_trace.specs.Command.{Asks, BreaksOff, Does, IsOther, Lists, Obeys, ObeysOwn, ReadsFor, ReadsForOwn, ReadsForWords, Runs, RunsOwn, Stops, usage, complaint_of, version};
 ghost use Rattle.pgp_trace.specs.Asked.{asked};
 ghost use Rattle.pgp_trace.specs.Listing.{ReadsWhenReady};
 ghost use Rattle.pgp_trace.specs.Sides as side;
+ghost use Rattle.pgp_trace.specs.Sides.{first_phase};
+ghost use Rattle.pgp_program.specs.Taken.{AppendsFront};
 ghost use Rattle.pgp_program.specs.Words.{LacksWords};
 
 use crate::fault::complaint;
 use crate::options::options_of;
 use crate::ports::Input;
-use crate::side::Side;
+use crate::side::{Side, first_phase};
 use crate::stream::list;
 use pgp_base::Memory;
 use pgp_frontend_read::PasswordKind;
@@ -26,7 +28,7 @@ use pgp_program::words::{lent, texts};
 use std::alloc::AllocError;
 
 const USAGE: &str =
-    "usage: pgtrace server [--json] [--full] [--secrets] | client [--json] [--full] [--secrets] [--password-kind password|initial|response].. | --help | --version\n";
+    "usage: pgtrace server [--json] [--full] [--secrets] [--resume] | client [--json] [--full] [--secrets] [--resume] [--password-kind password|initial|response].. | --help | --version\n";
 
 const VERSION: &str = "pgtrace 0.1.0\n";
 
@@ -41,9 +43,10 @@ fn refused() -> Outcome
 /// What the words ask for.
 #[derive(Drop)]
 enum Command<A: Memory> {
-    Server(Style),
-    /// A client's listing, and which its messages of tag `p` are.
-    Client(Style, Vec<PasswordKind, A>),
+    /// A server's listing, and whether it begins in mid-session.
+    Server(Style, bool),
+    /// A client's listing, which its messages of tag `p` are, and whether it begins in mid-session.
+    Client(Style, Vec<PasswordKind, A>, bool),
     Help,
     Version,
 }
@@ -80,7 +83,8 @@ fn server_of<A: Memory>(alloc: A, words: &[&str]) -> Result<Option<Command<A>>, 
     if !options.kinds.is_empty() {
         return Ok(None);
     }
-    Ok(Some(Command::Server(style_of(options.json, options.full, options.secrets))))
+    let style = style_of(options.json, options.full, options.secrets);
+    Ok(Some(Command::Server(style, options.resume)))
 }
 
 /// What the words after `client` ask for.
@@ -93,58 +97,94 @@ fn client_of<A: Memory>(alloc: A, words: &[&str]) -> Result<Option<Command<A>>, 
         return Ok(None);
     };
     let style = style_of(options.json, options.full, options.secrets);
-    Ok(Some(Command::Client(style, options.kinds)))
+    Ok(Some(Command::Client(style, options.kinds, options.resume)))
 }
 
-/// Lists what a client sent, whose first messages of tag `p` are of these kinds.
+/// Lists what a server sent. Returns what is to be said of what is left of it.
+fn list_server<A: Memory, R: Input, W: Output>(
+    alloc: A,
+    style: Style,
+    resume: bool,
+    input: &mut R,
+    output: &mut W,
+) -> Result<&'static str, Fault>
+    requires live { ReadsWhenReady R.remaining W.contents W.Passed R.MayRead style (side.Server (first_phase resume)) input.old output.old }
+    ensures passed { OnOk result (W.Passed output.new) }
+    ensures done { IfOk result (λ said. Lists style (side.Server (first_phase resume))
+        (record { input = R.remaining input.old; output = W.contents output.old })
+        (record { input = R.remaining input.new; output = W.contents output.new }) said.now) }
+    ensures stops { IfErr result (λ fault. BreaksOff (W.Passed output.new) style (side.Server (first_phase resume)) fault
+        (record { input = R.remaining input.old; output = W.contents output.old })
+        (record { input = R.remaining input.new; output = W.contents output.new })) }
+    ensures cause { IfErr result (Caused A.Lacks (GivesUp R.Fails R.Called) (GivesUp W.Fails W.Interrupted)) }
+{
+    let side = Side::Server(first_phase(resume));
+    list(alloc, style, side, input, output)
+}
+
+/// Lists what a client sent, whose first messages of tag `p` are of these kinds. Returns what is to be said of what is left of it.
 fn list_client<A: Memory, R: Input, W: Output>(
     alloc: A,
     style: Style,
     kinds: &[PasswordKind],
+    resume: bool,
     input: &mut R,
     output: &mut W,
-) -> Result<(), Fault>
-    requires live { ReadsWhenReady R.remaining W.contents W.Passed R.MayRead style (side.Client false kinds.now) input.old output.old }
+) -> Result<&'static str, Fault>
+    requires live { ReadsWhenReady R.remaining W.contents W.Passed R.MayRead style (side.Client resume kinds.now) input.old output.old }
     ensures passed { OnOk result (W.Passed output.new) }
-    ensures done { OnOk result (Lists style (side.Client false kinds.now)
+    ensures done { IfOk result (λ said. Lists style (side.Client resume kinds.now)
         (record { input = R.remaining input.old; output = W.contents output.old })
-        (record { input = R.remaining input.new; output = W.contents output.new })) }
-    ensures stops { IfErr result (λ fault. BreaksOff (W.Passed output.new) style (side.Client false kinds.now) fault
+        (record { input = R.remaining input.new; output = W.contents output.new }) said.now) }
+    ensures stops { IfErr result (λ fault. BreaksOff (W.Passed output.new) style (side.Client resume kinds.now) fault
         (record { input = R.remaining input.old; output = W.contents output.old })
         (record { input = R.remaining input.new; output = W.contents output.new })) }
     ensures cause { IfErr result (Caused A.Lacks (GivesUp R.Fails R.Called) (GivesUp W.Fails W.Interrupted)) }
 {
     let side = Side::Client {
-        opened: false,
+        opened: resume,
         kinds,
     };
     list(alloc, style, side, input, output)
 }
 
-/// Does what the command asks for.
+/// Prints a text. Nothing is to be said then.
+fn print<W: Output>(text: &str, output: &mut W) -> Result<&'static str, Fault>
+    ensures written { OnOk result (Appends (W.contents output.old) (W.contents output.new) text.now) }
+    ensures front { OnErr result (AppendsFront (W.contents output.old) (W.contents output.new) text.now) }
+    ensures silent { IfOk result (λ said. said.now ≡ []) }
+    ensures passed { OnOk result (W.Passed output.new) }
+    ensures fault { IfErr result (λ fault. fault ≡ Fault.Write) }
+    ensures failed { OnErr result (GivesUp W.Fails W.Interrupted) }
+{
+    put(text.as_bytes(), output)?;
+    Ok("")
+}
+
+/// Does what the command asks for. Returns what is then to be said on standard error.
 fn perform<A: Memory, R: Input, W: Output>(
     alloc: A,
     command: Command<A>,
     input: &mut R,
     output: &mut W,
-) -> Result<(), Fault>
+) -> Result<&'static str, Fault>
     requires live { ReadsFor R.remaining W.contents W.Passed R.MayRead (asked command) input.old output.old }
     ensures passed { OnOk result (W.Passed output.new) }
-    ensures done { OnOk result (Does (asked command)
+    ensures done { IfOk result (λ said. Does (asked command)
         (record { input = R.remaining input.old; output = W.contents output.old })
-        (record { input = R.remaining input.new; output = W.contents output.new })) }
+        (record { input = R.remaining input.new; output = W.contents output.new }) said.now) }
     ensures stops { IfErr result (λ fault. Stops (W.Passed output.new) (asked command) fault
         (record { input = R.remaining input.old; output = W.contents output.old })
         (record { input = R.remaining input.new; output = W.contents output.new })) }
     ensures cause { IfErr result (Caused A.Lacks (GivesUp R.Fails R.Called) (GivesUp W.Fails W.Interrupted)) }
 {
     match command {
-        Command::Server(style) => list(alloc, style, Side::Server, input, output),
-        Command::Client(style, kinds) => {
-            list_client(alloc, style, kinds.as_slice(), input, output)
+        Command::Server(style, resume) => list_server(alloc, style, resume, input, output),
+        Command::Client(style, kinds, resume) => {
+            list_client(alloc, style, kinds.as_slice(), resume, input, output)
         }
-        Command::Help => put(USAGE.as_bytes(), output),
-        Command::Version => put(VERSION.as_bytes(), output),
+        Command::Help => print(USAGE, output),
+        Command::Version => print(VERSION, output),
     }
 }
 
@@ -167,7 +207,10 @@ pub fn obey<A: Memory, R: Input, W: Output>(
         Err(_) => return Outcome::stopped(complaint(Fault::Memory)),
     };
     match perform(alloc, command, input, output) {
-        Ok(()) => Outcome::done(0),
+        Ok(said) => Outcome {
+            status: 0,
+            complaint: said,
+        },
         Err(fault) => Outcome::stopped(complaint(fault)),
     }
 }

@@ -10,6 +10,7 @@ ghost use Rattle.pgp_program.specs.Taken.{AppendsFront};
 ghost use Rattle.pgp_line.specs.declared.style.Form.TheVariants.{Columns, Json};
 
 use crate::frame::Next;
+use crate::hint::hint_of;
 use crate::next::next_line;
 use crate::ports::Input;
 use crate::side::Side;
@@ -45,7 +46,7 @@ struct Held<'a, A: Memory> {
 }
 
 /// Lists the bytes that this side sent, as they come: the lines of all frames that are whole are written and passed on before
-/// more is read. Of long texts and values a front is shown.
+/// more is read. Of long texts and values a front is shown. Returns what is to be said of bytes that are left.
 ///
 /// # Errors
 ///
@@ -56,10 +57,10 @@ pub fn list<A: Memory, R: Input, W: Output>(
     side: Side<'_>,
     input: &mut R,
     output: &mut W,
-) -> Result<(), Fault>
+) -> Result<&'static str, Fault>
     requires live { ReadsWhenReady R.remaining W.contents W.Passed R.MayRead style (side_of side) input.old output.old }
     ensures read { OnOk result (IsAtEnd (R.remaining input.new)) }
-    ensures listed { OnOk result (IfSome (R.remaining input.old) (λ bytes. WritesListing style (side_of side.entry) bytes (W.contents output.old) (W.contents output.new))) }
+    ensures listed { IfOk result (λ said. IfSome (R.remaining input.old) (λ bytes. WritesListing style (side_of side.entry) bytes (W.contents output.old) (W.contents output.new) said.now)) }
     ensures live { IfErr result (λ fault. fault ≡ Fault.Read → WasListed style (side_of side.entry)
         (record { input = R.remaining input.old; output = W.contents output.old })
         (record { input = R.remaining input.new; output = W.contents output.new })) }
@@ -74,7 +75,7 @@ pub fn list<A: Memory, R: Input, W: Output>(
     list_stream(alloc, style, side, input, piece.as_mut_slice(), output)
 }
 
-/// Lists the bytes, a piece at a time.
+/// Lists the bytes, a piece at a time. Returns what is to be said of those that are left.
 fn list_stream<A: Memory, R: Input, W: Output>(
     alloc: A,
     style: Style,
@@ -82,11 +83,11 @@ fn list_stream<A: Memory, R: Input, W: Output>(
     input: &mut R,
     piece: &mut [u8],
     output: &mut W,
-) -> Result<(), Fault>
+) -> Result<&'static str, Fault>
     requires some { 0 < length piece.old }
     requires live { ReadsWhenReady R.remaining W.contents W.Passed R.MayRead style (side_of side) input.old output.old }
     ensures read { OnOk result (IsAtEnd (R.remaining input.new)) }
-    ensures listed { OnOk result (IfSome (R.remaining input.old) (λ bytes. WritesListing style (side_of side.entry) bytes (W.contents output.old) (W.contents output.new))) }
+    ensures listed { IfOk result (λ said. IfSome (R.remaining input.old) (λ bytes. WritesListing style (side_of side.entry) bytes (W.contents output.old) (W.contents output.new) said.now)) }
     ensures live { IfErr result (λ fault. fault ≡ Fault.Read → WasListed style (side_of side.entry)
         (record { input = R.remaining input.old; output = W.contents output.old })
         (record { input = R.remaining input.new; output = W.contents output.new })) }
@@ -109,7 +110,10 @@ fn list_stream<A: Memory, R: Input, W: Output>(
     // Bounded, since each function has to end, and a reader may give pieces or be interrupted forever.
     'pieces: for _ in 0..u64::MAX {
         match input.read_some(piece) {
-            Ok(0) => return list_rest(style, held.stopped, held.left, &mut held.line, output),
+            Ok(0) => {
+                let said = hint_of(held.side, held.left);
+                return list_rest(style, held.stopped, held.left, said, &mut held.line, output);
+            }
             Ok(n) => list_piece(style, &piece[..n], &mut held, output)?,
             Err(e) => match e.kind() {
                 ErrorKind::Interrupted => {}
@@ -216,14 +220,16 @@ fn put_lines<W: Output>(lines: &str, output: &mut W) -> Result<(), Fault>
     put(lines.as_bytes(), output)
 }
 
-/// Writes the last line, of the bytes that are left.
+/// Writes the last line, of the bytes that are left. Returns what is to be said of them.
 fn list_rest<A: Memory, W: Output>(
     style: Style,
     stopped: bool,
     left: u64,
+    said: &'static str,
     line: &mut String<A>,
     output: &mut W,
-) -> Result<(), Fault>
+) -> Result<&'static str, Fault>
+    ensures said { IfOk result (λ text. text.now ≡ said.now) }
     ensures all { OnOk result (Appends (W.contents output.old) (W.contents output.new) (last_line style stopped left)) }
     ensures some { OnErr result (AppendsFront (W.contents output.old) (W.contents output.new) (last_line style stopped left)) }
     ensures passed { OnOk result (W.Passed output.new) }
@@ -231,7 +237,19 @@ fn list_rest<A: Memory, W: Output>(
 {
     line.clear();
     put_rest(style, stopped, left, line)?;
-    put(line.as_bytes(), output)
+    put_last(line.as_bytes(), output)?;
+    Ok(said)
+}
+
+/// Writes the last line, and has it passed on.
+fn put_last<W: Output>(line: &[u8], output: &mut W) -> Result<(), Fault>
+    ensures written { OnOk result (Appends (W.contents output.old) (W.contents output.new) line.now) }
+    ensures front { OnErr result (AppendsFront (W.contents output.old) (W.contents output.new) line.now) }
+    ensures passed { OnOk result (W.Passed output.new) }
+    ensures fault { IfErr result (λ fault. fault ≡ Fault.Write) }
+    ensures failed { OnErr result (GivesUp W.Fails W.Interrupted) }
+{
+    put(line, output)
 }
 
 /// Adds the last line, of so many bytes that are left.

@@ -34,6 +34,12 @@ def value(bytes_):
     return int32(len(bytes_)) + bytes_
 
 
+# A client asked for GSSAPI encryption, and then for TLS.
+ANSWERS = [
+    (b"N", "SSLResponse or GSSENCResponse"),
+    (b"N", "SSLResponse or GSSENCResponse"),
+]
+
 FRAMES = [
     (b"R", int32(10) + b"SCRAM-SHA-256\0SCRAM-SHA-256-PLUS\0\0", 'AuthenticationSASL mechanisms "SCRAM-SHA-256" "SCRAM-SHA-256-PLUS"'),
     (b"R", int32(11) + b"r=abc,s=QUJD,i=4096", "AuthenticationSASLContinue data (19 bytes)"),
@@ -100,6 +106,8 @@ FRAMES = [
     (b"H", b"\1" + int16(1, 1), "CopyOutResponse format 1 columns 1 1"),
     (b"d", b"1\ta\n", 'CopyData data "1\\x09a\\x0a"'),
     (b"c", b"", "CopyDone"),
+    (b"V", int32(3) + b"abc", "FunctionCallResponse"),
+    (b"W", b"\0" + int16(0), "CopyBothResponse"),
     (b"\n", b"", "fault 5 UnknownTag"),
     (b"R", int32(99), "fault 6 UnknownAuthentication"),
     (b"1", b"x", "fault 8 NotDrained"),
@@ -110,6 +118,9 @@ REST = b"Z\0\0\0"
 
 def main():
     bytes_, lines = b"", ""
+    for byte, text in ANSWERS:
+        lines += "%10d %8d %s %s\n" % (len(bytes_), 1, byte.decode(), text)
+        bytes_ += byte
     for tag, body, text in FRAMES:
         one = frame(tag, body)
         lines += line(len(bytes_), len(one), "\\x0a" if tag == b"\n" else tag.decode(), text)

@@ -1,16 +1,18 @@
 //! Shows a person what a PostgreSQL server or client sent, a line a message, as it comes.
 #![tactic(auto)]
 
+use pgp_trace::pipe::Pipe;
 use pgp_trace::run::run_own;
 use std::io;
 use std::process::ExitCode;
 
 fn main(rt: HostRuntime) -> ExitCode {
+    let pipe = Pipe::new();
     ExitCode::from(run_own(
         rt.alloc(),
         &rt,
-        &mut rt.reader(),
-        &mut io::writer(&rt),
+        &mut pipe.source(&mut rt.reader()),
+        &mut pipe.sink(&mut io::writer(&rt)),
         &mut rt.stderr(),
     ))
 }

@@ -9,6 +9,6 @@ pub returns-then-not-is_empty-clause-other : goal.returns-then-not-is_empty-clau
 returns-then-not-is_empty-clause-other g c =
     let words = map (λ word. word.now) c.args.words.now in
     let options = c.in-Some.options in
-    let are : AreOptions words (style_of options.json options.full options.secrets) options.kinds.items = search rules in
+    let are : AreOptions words (style_of options.json options.full options.secrets) options.kinds.items options.resume = search rules in
     let some : length options.kinds.items ≡ 0 → ⊥ = λ h. search rules in
-    server_kinds words (style_of options.json options.full options.secrets) options.kinds.items are some
+    server_kinds words (style_of options.json options.full options.secrets) options.kinds.items options.resume are some

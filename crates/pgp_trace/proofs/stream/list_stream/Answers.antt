@@ -24,7 +24,7 @@ returns-in-Ok-eq0-clause-listed g c =
     let next = g.R.Read.remaining c.read_some.new.self in
     let none = subst (λ k. Consumes now next (take k c.read_some.new.piece)) c.in-Ok-eq0.field-0-test c.in-Ok-eq0.ensures.bytes.0 in
     let end = c.in-Ok-eq0.ensures.bytes.1 c.in-Ok-eq0.field-0-test (omega (arith, c.requires.some, c.pieces.auto.piece, c.read_some.auto.piece)) in
-    end_written c.list_rest.result c.args.style (side_of c.args.side) (record { input = g.R.Read.remaining c.args.input.now; output = g.W.Write.contents c.args.output.now }) now next (g.W.Write.contents c.pieces.output) (g.W.Write.contents c.list_rest.new.output) (record { side = side_of c.pieces.held.side; bytes = c.pieces.held.bytes.items; place = c.pieces.held.place; stopped = c.pieces.held.stopped; left = c.pieces.held.left }) c.pieces.invariant.0 none end c.list_rest.ensures.all
+    end_written c.list_rest.result (λ text. text.now) c.hint_of-said.result.now c.args.style (side_of c.args.side) (record { input = g.R.Read.remaining c.args.input.now; output = g.W.Write.contents c.args.output.now }) now next (g.W.Write.contents c.pieces.output) (g.W.Write.contents c.list_rest.new.output) (record { side = side_of c.pieces.held.side; bytes = c.pieces.held.bytes.items; place = c.pieces.held.place; stopped = c.pieces.held.stopped; left = c.pieces.held.left }) c.pieces.invariant.0 none end c.list_rest.ensures.all c.list_rest.ensures.said c.hint_of-said.ensures
 
 pub returns-in-Ok-eq0-clause-cut : goal.returns-in-Ok-eq0-clause-cut
 returns-in-Ok-eq0-clause-cut g c =

@@ -1,0 +1,299 @@
+-- The front of a server's stream: answers of one byte, and then messages.
+use Rattle.std.proofs.Common.{◌≡◌, ◌⊎◌, ℕ, ◌+◌, ◌<◌, Bool, true, false, List, [], ◌∷◌, ◌++◌, length, get_or, drop, Option, Some, None, refl, sym, ap, subst, ◌∙◌, inl, inr, arith, append_assoc, length-append}
+use Rattle.std.specs.Prelude.{◌==◌, if◌then◌else◌}
+use Rattle.pgp_line.specs.declared.style.Style.{Style}
+use Rattle.pgp_trace.specs.declared.frame.Next.{Next}
+use Rattle.pgp_trace.specs.declared.frame.Next.TheVariants.{Line, Waits, Stops}
+use Rattle.pgp_trace.specs.declared.side.Phase.{Phase}
+use Rattle.pgp_trace.specs.declared.side.Phase.TheVariants.{Beginning, Messages, Encrypted}
+use Rattle.pgp_trace.specs.Sides.{Side, Server, AreAnswers, Ends, answered, phase_behind}
+use Rattle.pgp_trace.specs.Listing.{IsAnswerLine, IsFirst, IsListing, IsServerLine, LineOf, Lines, NoLines, OneLine, answer_line, last_line, place_behind}
+use Rattle.pgp_trace.specs.Steps.{HasLine, ListsNext, phase_of}
+use Rattle.pgp_trace.proofs.Ends.{answered_stays}
+use Rattle.pgp_trace.proofs.FrameLines.{frame_long}
+use Rattle.pgp_trace.proofs.Shorter.{frame_has}
+use Rattle.pgp_trace.proofs.Sides.{server_line, stays_server}
+
+-- ---- a step
+
+some_more : (frame : List ℕ) (byte : ℕ) (bytes rest : List ℕ) → byte ∷ bytes ≡ frame ++ rest → 0 < length frame → phase_behind byte ≡ None → answered frame ≡ None
+some_more [] byte bytes rest e some none = absurd (omega (arith, some))
+some_more (x ∷ xs) byte bytes rest e some none = ap phase_behind (sym (ap (λ l. get_or l 0 0) e)) ∙ none
+
+pub none_there : (o : Option Phase) → ((x : Phase) → o ≡ Some x → ⊥) → o ≡ None
+none_there None never = refl
+none_there (Some x) never = absurd (never x refl)
+
+-- the first message, where no answer stands there
+pub first_lists : (style : Style) (place : ℕ) (byte : ℕ) (bytes rest line : List ℕ) (next : Next) → phase_behind byte ≡ None → ListsNext style place (Server Messages) (byte ∷ bytes) rest line (Server Messages) next
+    → ListsNext style place (Server Beginning) (byte ∷ bytes) rest line (Server (phase_of next)) next
+first_lists style place byte bytes rest line Line none has = record {
+  frame = has.frame;
+  whole = has.whole;
+  told = inr (record { told = has.told.0; none = some_more has.frame byte bytes rest has.whole (frame_has style place (Server Messages) (Server Messages) has.frame line has.told) none; behind = refl });
+}
+first_lists style place byte bytes rest line Waits none at = record { same = at.same; ending = (none, at.ending); side = refl }
+first_lists style place byte bytes rest line Stops none at = record { same = at.same; ending = (none, at.ending); side = refl }
+
+-- an answer
+pub answer_lists : (style : Style) (place byte : ℕ) (rest line : List ℕ) (phase : Phase) → phase_behind byte ≡ Some phase → line ≡ answer_line style place byte
+    → HasLine style place (Server Beginning) (byte ∷ rest) rest line (Server phase)
+answer_lists style place byte rest line phase answers told = record {
+  frame = byte ∷ [];
+  whole = refl;
+  told = inl (record { phase = phase; told = record { byte = byte; whole = refl; answers = answers; told = told }; behind = refl });
+}
+
+-- ---- answers
+
+pub none_some : {X : Type 0} (x : X) (a : Option X) → a ≡ Some x → a ≡ None → ⊥
+none_some x (Some y) e f = absurd cc
+none_some x None e f = absurd cc
+
+two_phases : (byte : ℕ) → phase_behind byte ≡ Some Beginning → phase_behind byte ≡ Some Encrypted → ⊥
+two_phases byte e f = let h : Some Beginning ≡ Some Encrypted = sym e ∙ f in absurd cc
+
+pick : {X : Type 0} (b : Bool) (x y z : X) → (if b then x else y) ≡ z → (x ≡ z) ⊎ (y ≡ z)
+pick true x y z e = inl e
+pick false x y z e = inr e
+
+last_pick : (b : Bool) → (if b then Some Encrypted else None) ≡ Some Messages → ⊥
+last_pick true e = absurd cc
+last_pick false e = absurd cc
+
+middle_pick : (b c : Bool) → (if b then Some Encrypted else if c then Some Encrypted else None) ≡ Some Messages → ⊥
+middle_pick true c e = absurd cc
+middle_pick false c e = last_pick c e
+
+never_pick : (a b c : Bool) → (if a then Some Beginning else if b then Some Encrypted else if c then Some Encrypted else None) ≡ Some Messages → ⊥
+never_pick true b c e = absurd cc
+never_pick false b c e = middle_pick b c e
+
+-- no answer is a message
+never_messages : (byte : ℕ) → phase_behind byte ≡ Some Messages → ⊥
+never_messages byte e = never_pick (byte == 78) (byte == 83) (byte == 71) e
+
+push_answer : (answers : List ℕ) (byte : ℕ) → AreAnswers answers → phase_behind byte ≡ Some Beginning → AreAnswers (answers ++ byte ∷ [])
+push_answer [] byte all one = (one, tt)
+push_answer (x ∷ xs) byte all one = (all.0, push_answer xs byte all.1 one)
+
+-- where the last answer agreed to encrypt, no front of the bytes is made of those after which the stream goes on, with something else behind it
+never_plain : (bytes answers rest : List ℕ) (byte : ℕ) → AreAnswers bytes → phase_behind byte ≡ Some Encrypted → AreAnswers answers → bytes ++ byte ∷ [] ≡ answers ++ rest → answered rest ≡ None → ⊥
+never_plain [] [] rest byte all one plain e none = none_some Encrypted (phase_behind byte) one (ap answered e ∙ none)
+never_plain [] (y ∷ ys) rest byte all one plain e none = two_phases byte (ap (λ l. answered l) e ∙ plain.0) one
+never_plain (x ∷ xs) [] rest byte all one plain e none = none_some Beginning (phase_behind x) all.0 (ap answered e ∙ none)
+never_plain (x ∷ xs) (y ∷ ys) rest byte all one plain e none = never_plain xs ys rest byte all.1 one plain.1 (ap (λ l. drop 1 l) e) none
+
+-- such answers with something else behind them are so in one way
+pub one_front : (a b x y : List ℕ) → AreAnswers a → AreAnswers b → answered x ≡ None → answered y ≡ None → a ++ x ≡ b ++ y → (a ≡ b) × (x ≡ y)
+one_front [] [] x y p q m n e = (refl, e)
+one_front [] (z ∷ zs) x y p q m n e = absurd (none_some Beginning (phase_behind z) q.0 (sym (ap answered e) ∙ m))
+one_front (z ∷ zs) [] x y p q m n e = absurd (none_some Beginning (phase_behind z) p.0 (ap answered e ∙ n))
+one_front (z ∷ zs) (w ∷ ws) x y p q m n e =
+    let rest = one_front zs ws x y p.1 q.1 m n (ap (λ l. drop 1 l) e) in
+    (ap (λ k. k ∷ zs) (ap (λ l. get_or l 0 0) e) ∙ ap (λ l. w ∷ l) rest.0, rest.1)
+
+-- ---- how far a stream has come
+
+-- answers with their lines, and then messages with theirs
+pub record Begun (style : Style) (start : ℕ) (bytes lines : List ℕ) : Type 0 where
+  pub answers : List ℕ
+  pub more : List ℕ
+  pub first : List ℕ
+  pub rest : List ℕ
+  pub whole : bytes ≡ answers ++ more
+  pub text : lines ≡ first ++ rest
+  pub plain : AreAnswers answers
+  pub fronts : Lines style start (Server Beginning) answers first (Server Beginning)
+  pub none : answered more ≡ None
+  pub some : 0 < length more
+  pub backs : Lines style (start + length answers) (Server Messages) more rest (Server Messages)
+
+pub data HasCome (style : Style) (start : ℕ) (bytes lines : List ℕ) (to : Side) : Type 0 where
+  StillAnswers : to ≡ Server Beginning → AreAnswers bytes → HasCome style start bytes lines to
+  NowEncrypted : to ≡ Server Encrypted → ((answers rest : List ℕ) → AreAnswers answers → answered rest ≡ None → bytes ≡ answers ++ rest → ⊥) → HasCome style start bytes lines to
+  NowMessages : to ≡ Server Messages → Begun style start bytes lines → HasCome style start bytes lines to
+
+answer_comes : (phase : Phase) (style : Style) (start place : ℕ) (bytes lines frame line : List ℕ) (to : Side) → AreAnswers bytes → IsAnswerLine style place frame line phase → to ≡ Server phase → HasCome style start (bytes ++ frame) (lines ++ line) to
+answer_comes Beginning style start place bytes lines frame line to plain is e = StillAnswers e (subst (λ l. AreAnswers (bytes ++ l)) (sym is.whole) (push_answer bytes is.byte plain is.answers))
+answer_comes Messages style start place bytes lines frame line to plain is e = absurd (never_messages is.byte is.answers)
+answer_comes Encrypted style start place bytes lines frame line to plain is e =
+    NowEncrypted e (λ answers rest others none f. never_plain bytes answers rest is.byte plain is.answers others (ap (λ l. bytes ++ l) (sym is.whole) ∙ f) none)
+
+message_comes : (style : Style) (start : ℕ) (bytes lines frame line : List ℕ) (to : Side) → Lines style start (Server Beginning) bytes lines (Server Beginning) → AreAnswers bytes → IsFirst style (place_behind (start + length bytes)) frame line to
+    → HasCome style start (bytes ++ frame) (lines ++ line) to
+message_comes style start bytes lines frame line to before plain is =
+    let here : place_behind (start + length bytes) ≡ place_behind ((start + length bytes) + 0) = ap place_behind (omega arith) in
+    NowMessages is.behind (record {
+      answers = bytes;
+      more = frame;
+      first = lines;
+      rest = line;
+      whole = refl;
+      text = refl;
+      plain = plain;
+      fronts = before;
+      none = is.none;
+      some = omega (arith, frame_long is.told.first frame is.told.whole);
+      backs = OneLine {bytes = []} {lines = []} {here = Server Messages} frame line NoLines (subst (λ p. IsServerLine style p frame line) here is.told, refl);
+    })
+
+first_comes : (style : Style) (start : ℕ) (bytes lines frame line : List ℕ) (to : Side) → Lines style start (Server Beginning) bytes lines (Server Beginning) → AreAnswers bytes → LineOf style (place_behind (start + length bytes)) (Server Beginning) frame line to
+    → HasCome style start (bytes ++ frame) (lines ++ line) to
+first_comes style start bytes lines frame line to before plain (inl is) = answer_comes is.phase style start (place_behind (start + length bytes)) bytes lines frame line to plain is.told is.behind
+first_comes style start bytes lines frame line to before plain (inr is) = message_comes style start bytes lines frame line to before plain is
+
+more_comes : (style : Style) (start : ℕ) (bytes lines frame line : List ℕ) (to : Side) → Begun style start bytes lines → LineOf style (place_behind (start + length bytes)) (Server Messages) frame line to → HasCome style start (bytes ++ frame) (lines ++ line) to
+more_comes style start bytes lines frame line to b is =
+    let place : place_behind (start + length bytes) ≡ place_behind ((start + length b.answers) + length b.more) = ap place_behind (omega (arith, ap length b.whole, length-append b.answers b.more)) in
+    NowMessages is.1 (record {
+      answers = b.answers;
+      more = b.more ++ frame;
+      first = b.first;
+      rest = b.rest ++ line;
+      whole = ap (λ l. l ++ frame) b.whole ∙ append_assoc b.answers b.more frame;
+      text = ap (λ l. l ++ line) b.text ∙ append_assoc b.first b.rest line;
+      plain = b.plain;
+      fronts = b.fronts;
+      none = answered_stays b.more frame b.some b.none;
+      some = omega (arith, b.some, length-append b.more frame);
+      backs = OneLine frame line b.backs (subst (λ p. IsServerLine style p frame line) place is.0, refl);
+    })
+
+comes : (style : Style) (start : ℕ) (bytes lines frame line : List ℕ) (here to : Side) → Lines style start (Server Beginning) bytes lines here → LineOf style (place_behind (start + length bytes)) here frame line to → HasCome style start bytes lines here
+    → HasCome style start (bytes ++ frame) (lines ++ line) to
+comes style start bytes lines frame line here to before has (StillAnswers e plain) =
+    first_comes style start bytes lines frame line to (subst (λ h. Lines style start (Server Beginning) bytes lines h) e before) plain (subst (λ h. LineOf style (place_behind (start + length bytes)) h frame line to) e has)
+comes style start bytes lines frame line here to before has (NowEncrypted e some) = absurd (subst (λ h. LineOf style (place_behind (start + length bytes)) h frame line to) e has)
+comes style start bytes lines frame line here to before has (NowMessages e b) =
+    more_comes style start bytes lines frame line to b (subst (λ h. LineOf style (place_behind (start + length bytes)) h frame line to) e has)
+
+pub has_come : (style : Style) (start : ℕ) (bytes lines : List ℕ) (to : Side) → Lines style start (Server Beginning) bytes lines to → HasCome style start bytes lines to
+has_come style start [] [] _ NoLines = StillAnswers refl tt
+has_come style start _ _ to (OneLine {bytes = bytes} {lines = lines} {here = here} frame line before has) = comes style start bytes lines frame line here to before has (has_come style start bytes lines here before)
+
+-- ---- and back
+
+none_front : (bytes more : List ℕ) → answered (bytes ++ more) ≡ None → answered bytes ≡ None
+none_front [] more e = refl
+none_front (x ∷ xs) more e = e
+
+-- the answers so far, and then messages
+record Rejoined (style : Style) (start : ℕ) (answers first more rest : List ℕ) : Type 0 where
+  listed : Lines style start (Server Beginning) (answers ++ more) (first ++ rest) (Server Messages)
+
+abbrev nothing_or : Style → ℕ → List ℕ → List ℕ → List ℕ → List ℕ → Type 0
+nothing_or style start answers first more rest = ((more ≡ []) × (rest ≡ [])) ⊎ Rejoined style start answers first more rest
+
+one_more : (style : Style) (start : ℕ) (answers first bytes lines frame line : List ℕ) → Lines style start (Server Beginning) answers first (Server Beginning) → answered (bytes ++ frame) ≡ None
+    → IsServerLine style (place_behind ((start + length answers) + length bytes)) frame line → nothing_or style start answers first bytes lines → Rejoined style start answers first (bytes ++ frame) (lines ++ line)
+one_more style start answers first bytes lines frame line fronts none is (inl (e, f)) =
+    let here : place_behind ((start + length answers) + length bytes) ≡ place_behind (start + length answers) = ap place_behind (omega (arith, ap length e)) in
+    let at : answered frame ≡ None = ap (λ l. answered (l ++ frame)) (sym e) ∙ none in
+    record {
+      listed = rw (e, f) (OneLine frame line fronts (inr (record { told = subst (λ p. IsServerLine style p frame line) here is; none = at; behind = refl })));
+    }
+one_more style start answers first bytes lines frame line fronts none is (inr joined) =
+    let here : place_behind ((start + length answers) + length bytes) ≡ place_behind (start + length (answers ++ bytes)) = ap place_behind (omega (arith, length-append answers bytes)) in
+    record {
+      listed = subst (λ l. Lines style start (Server Beginning) l (first ++ (lines ++ line)) (Server Messages)) (append_assoc answers bytes frame)
+          (subst (λ l. Lines style start (Server Beginning) ((answers ++ bytes) ++ frame) l (Server Messages)) (append_assoc first lines line)
+          (OneLine frame line joined.listed (subst (λ p. IsServerLine style p frame line) here is, refl)));
+    }
+
+rejoins : (style : Style) (start : ℕ) (answers first more rest : List ℕ) (to : Side) → Lines style start (Server Beginning) answers first (Server Beginning) → Lines style (start + length answers) (Server Messages) more rest to → answered more ≡ None
+    → nothing_or style start answers first more rest
+rejoins style start answers first [] [] _ fronts NoLines none = inl (refl, refl)
+rejoins style start answers first _ _ to fronts (OneLine {bytes = bytes} {lines = lines} {here = here} frame line before has) none =
+    inr (one_more style start answers first bytes lines frame line fronts none (server_line style (start + length answers) (place_behind ((start + length answers) + length bytes)) bytes lines frame line here to before has)
+    (rejoins style start answers first bytes lines here fronts before (none_front bytes frame none)))
+
+rejoined : (style : Style) (start : ℕ) (answers first more rest : List ℕ) → 0 < length more → nothing_or style start answers first more rest → Lines style start (Server Beginning) (answers ++ more) (first ++ rest) (Server Messages)
+rejoined style start answers first more rest some (inl e) = absurd (omega (arith, some, ap length e.0))
+rejoined style start answers first more rest some (inr joined) = joined.listed
+
+pub rejoin : (style : Style) (start : ℕ) (answers first more rest : List ℕ) (to : Side) → Lines style start (Server Beginning) answers first (Server Beginning) → Lines style (start + length answers) (Server Messages) more rest to → answered more ≡ None → 0 < length more
+    → Lines style start (Server Beginning) (answers ++ more) (first ++ rest) (Server Messages)
+rejoin style start answers first more rest to fronts backs none some = rejoined style start answers first more rest some (rejoins style start answers first more rest to fronts backs none)
+
+-- ---- a stream without answers
+
+nothing_listed : (style : Style) (start : ℕ) (from to : Side) (bytes lines : List ℕ) → Lines style start from bytes lines to → bytes ≡ [] → lines ≡ []
+nothing_listed style start from _ [] [] NoLines e = refl
+nothing_listed style start from to _ _ (OneLine {bytes = bytes} {lines = lines} {here = here} frame line before has) e =
+    absurd (omega (arith, ap length e, length-append bytes frame, frame_has style (place_behind (start + length bytes)) here to frame line has))
+
+no_answer : (answers rest : List ℕ) → AreAnswers answers → answered (answers ++ rest) ≡ None → answers ≡ []
+no_answer [] rest plain none = refl
+no_answer (x ∷ xs) rest plain none = absurd (none_some Beginning (phase_behind x) plain.0 none)
+
+as_messages : (style : Style) (bytes output : List ℕ) → answered bytes ≡ None → (l : IsListing style (Server Beginning) bytes output) → HasCome style 0 l.front l.lines l.to → IsListing style (Server Messages) bytes output
+as_messages style bytes output none l (StillAnswers e plain) =
+    let empty = no_answer l.front l.rest plain (ap answered (sym l.whole) ∙ none) in
+    let lines = nothing_listed style 0 (Server Beginning) l.to l.front l.lines l.listed empty in
+    record {
+      to = Server Messages;
+      front = [];
+      rest = l.rest;
+      lines = [];
+      stopped = l.stopped;
+      whole = l.whole ∙ ap (λ x. x ++ l.rest) empty;
+      listed = NoLines;
+      ending = (subst (λ s. Ends s l.stopped l.rest) e l.ending).1;
+      text = l.text ∙ ap (λ x. x ++ last_line style l.stopped (place_behind (length l.rest))) lines;
+    }
+as_messages style bytes output none l (NowEncrypted e some) = absurd (some [] l.front tt (none_front l.front l.rest (ap answered (sym l.whole) ∙ none)) refl)
+as_messages style bytes output none l (NowMessages e b) =
+    let front = none_front l.front l.rest (ap answered (sym l.whole) ∙ none) in
+    let empty = no_answer b.answers b.more b.plain (ap answered (sym b.whole) ∙ front) in
+    let lines = nothing_listed style 0 (Server Beginning) (Server Beginning) b.answers b.first b.fronts empty in
+    let bytes_are : b.more ≡ l.front = sym (b.whole ∙ ap (λ x. x ++ b.more) empty) in
+    let lines_are : b.rest ≡ l.lines = sym (b.text ∙ ap (λ x. x ++ b.rest) lines) in
+    let start : 0 + length b.answers ≡ 0 = omega (arith, ap length empty) in
+    record {
+      to = Server Messages;
+      front = l.front;
+      rest = l.rest;
+      lines = l.lines;
+      stopped = l.stopped;
+      whole = l.whole;
+      listed = subst (λ n. Lines style n (Server Messages) l.front l.lines (Server Messages)) start
+          (subst (λ x. Lines style (0 + length b.answers) (Server Messages) x l.lines (Server Messages)) bytes_are
+          (subst (λ x. Lines style (0 + length b.answers) (Server Messages) b.more x (Server Messages)) lines_are b.backs));
+      ending = subst (λ s. Ends s l.stopped l.rest) e l.ending;
+      text = l.text;
+    }
+
+pub whole : (style : Style) (bytes output : List ℕ) → answered bytes ≡ None → IsListing style (Server Beginning) bytes output → IsListing style (Server Messages) bytes output
+whole style bytes output none l = as_messages style bytes output none l (has_come style 0 l.front l.lines l.to l.listed)
+
+at_first : (style : Style) (bytes output : List ℕ) → answered bytes ≡ None → (l : IsListing style (Server Messages) bytes output) → nothing_or style 0 [] [] l.front l.lines → IsListing style (Server Beginning) bytes output
+at_first style bytes output none l (inl (e, f)) =
+    let ends = subst (λ s. Ends s l.stopped l.rest) (stays_server style 0 l.front l.lines l.to l.listed) l.ending in
+    let is : bytes ≡ l.rest = l.whole ∙ ap (λ x. x ++ l.rest) e in
+    record {
+      to = Server Beginning;
+      front = [];
+      rest = l.rest;
+      lines = [];
+      stopped = l.stopped;
+      whole = is;
+      listed = NoLines;
+      ending = (ap answered (sym is) ∙ none, ends);
+      text = l.text ∙ ap (λ x. x ++ last_line style l.stopped (place_behind (length l.rest))) f;
+    }
+at_first style bytes output none l (inr joined) = record {
+  to = Server Messages;
+  front = l.front;
+  rest = l.rest;
+  lines = l.lines;
+  stopped = l.stopped;
+  whole = l.whole;
+  listed = joined.listed;
+  ending = subst (λ s. Ends s l.stopped l.rest) (stays_server style 0 l.front l.lines l.to l.listed) l.ending;
+  text = l.text;
+}
+
+pub other : (style : Style) (bytes output : List ℕ) → answered bytes ≡ None → IsListing style (Server Messages) bytes output → IsListing style (Server Beginning) bytes output
+other style bytes output none l =
+    at_first style bytes output none l (rejoins style 0 [] [] l.front l.lines l.to NoLines l.listed (none_front l.front l.rest (ap answered (sym l.whole) ∙ none)))

@@ -1,0 +1,309 @@
+-- A stream has one listing.
+use Rattle.std.proofs.Common.{◌≡◌, ℕ, pos, ◌+◌, Bool, true, false, List, [], ◌∷◌, ◌++◌, length, get_or, drop, ◌<◌, Option, Some, None, Result, Ok, Err, refl, sym, ap, subst, ◌∙◌, inl, inr, arith, append_assoc, length-append}
+use Rattle.std.proofs.lemmas.List.{append-nil}
+use Rattle.std.specs.Prelude.{codes}
+use Rattle.std.specs.Str.{IsUtf8}
+use Rattle.pgp_base.specs.declared.error.Error.{Error}
+use Rattle.pgp_base.specs.OneList.{HasOneCountedList, HasOneMarkedList}
+use Rattle.pgp_base.specs.PartReading.{text_at}
+use Rattle.pgp_base.proofs.OneLists.{one_counted_list, one_marked_list}
+use Rattle.pgp_message.specs.BackendMessage.{AuthenticationOk, AuthenticationKerberosV5, AuthenticationCleartextPassword, AuthenticationMd5Password, AuthenticationScmCredential, AuthenticationGss, AuthenticationGssContinue, AuthenticationSspi, AuthenticationSasl, AuthenticationSaslContinue, AuthenticationSaslFinal, Message, ParseComplete, BindComplete, CloseComplete, NotificationResponse, CommandComplete, DataRow, ErrorResponse, CopyInResponse, CopyOutResponse, EmptyQueryResponse, BackendKeyData, NegotiateProtocolVersion, NoticeResponse, Authentication, ParameterStatus, RowDescription, ReadyForQuery, CopyDone, CopyData, NoData, PortalSuspended, ParameterDescription, payload_of}
+use Rattle.pgp_message.specs.Items.{TextSpelled, TextRefused, FormatSpelled, FormatRefused, TypeSpelled, TypeRefused, RangeSpelled, RangeRefused, FieldSpelled, FieldRefused, ErrorFieldSpelled, ErrorFieldRefused}
+use Rattle.pgp_message.specs.ItemReading.{format_at, type_at, range_at, field_at, error_field_at}
+use Rattle.pgp_message.specs.Stream.{Frame, frame_bytes, IsFrame, IsEnding}
+use Rattle.pgp_message.proofs.Bodies.{one_body}
+use Rattle.pgp_message.proofs.ErrorFieldLemmas.{error_field_reader}
+use Rattle.pgp_message.proofs.FieldLemmas.{field_reader}
+use Rattle.pgp_message.proofs.NumberLemmas.{format_reader, type_reader}
+use Rattle.pgp_message.proofs.RangeLemmas.{range_reader}
+use Rattle.pgp_message.proofs.TextLemmas.{text_reader}
+use Rattle.pgp_message.proofs.Runs.{front_is_one, no_ending, runs_one, frames_none}
+use Rattle.pgp_frontend.specs.ClientMessage.{ClientMessage}
+use Rattle.pgp_frontend_read.specs.Pieces.{step_of}
+use Rattle.pgp_frontend_read.specs.Step.{Unread, IsPartial, Refuses, Step}
+use Rattle.pgp_frontend_read.specs.declared.error.ClientError.{ClientError}
+use Rattle.pgp_frontend_read.specs.declared.error.ClientError.TheVariants.{Reading}
+use Rattle.pgp_base.specs.declared.error.Error.TheVariants.{InvalidLength}
+use Rattle.pgp_frontend_read.specs.declared.message.PasswordKind as code
+use Rattle.pgp_frontend_read.proofs.OneStep.{step_one}
+use Rattle.pgp_frontend_read.proofs.Refusals.{partial_waits}
+use Rattle.pgp_frontend_read.proofs.Steps.{step_fault}
+use Rattle.pgp_line.specs.declared.style.Style.{Style}
+use Rattle.pgp_line.specs.Line.{Part, Number, Text, Word, closing, followed}
+use Rattle.pgp_trace.specs.declared.side.Phase.{Phase}
+use Rattle.pgp_trace.specs.declared.side.Phase.TheVariants.{Beginning, Messages, Encrypted}
+use Rattle.pgp_trace.specs.Client.{client_line}
+use Rattle.pgp_trace.specs.Shown.{Shows, ShowsCounted, ShowsMarked, ShowsTexts, called, list_of}
+use Rattle.pgp_trace.specs.Sides.{Side, Server, Client, Ends, IsRefusedPacket, answered, expected, is_told, kinds_behind, phase_behind}
+use Rattle.pgp_trace.specs.Listing.{GoesOn, IsAnswerLine, IsListing, IsLineOf, IsNextLine, IsServerLine, LineOf, Lines, NoLines, OneLine, answer_line, client_front, front, last_line, place_behind}
+use Rattle.pgp_trace.proofs.ClientStreams.{behind, frame_some, one_first}
+use Rattle.pgp_trace.proofs.Shorter.{frame_has}
+use Rattle.pgp_trace.proofs.Beginnings.{none_some}
+
+-- ---- what a message says
+
+counted_one : {V : Type 0} (Spelled : ℕ → V → List ℕ → Type 0) (Refused : List ℕ → Error → Type 0) (parts : V → List Part) (style : Style) (count : ℕ) (bytes old new other : List ℕ) → HasOneCountedList Spelled Refused
+    → ShowsCounted Spelled Refused parts style count bytes old new → ShowsCounted Spelled Refused parts style count bytes old other → new ≡ other
+counted_one Spelled Refused parts style count bytes old new other has a b =
+    let same = has.one count bytes a.items b.items a.end b.end a.list b.list in
+    a.text ∙ ap (λ xs. followed style old (Number (pos count) ∷ list_of parts xs a.end)) same.0 ∙ ap (λ e. followed style old (Number (pos count) ∷ list_of parts b.items e)) same.1 ∙ sym b.text
+
+marked_one : {V : Type 0} (Spelled : ℕ → V → List ℕ → Type 0) (Refused : List ℕ → Error → Type 0) (parts : V → List Part) (style : Style) (bytes old new other : List ℕ) → HasOneMarkedList Spelled Refused
+    → ShowsMarked Spelled Refused parts style bytes old new → ShowsMarked Spelled Refused parts style bytes old other → new ≡ other
+marked_one Spelled Refused parts style bytes old new other has a b =
+    let same = has.one bytes a.items b.items a.end b.end a.list b.list in
+    a.text ∙ ap (λ xs. followed style old (list_of parts xs a.end)) same.0 ∙ ap (λ e. followed style old (list_of parts b.items e)) same.1 ∙ sym b.text
+
+texts_one : (style : Style) (utf8 : Type 0) (parts : List Part) (body old new other : List ℕ) → ShowsTexts style utf8 parts body old new → ShowsTexts style utf8 parts body old other → new ≡ other
+texts_one style utf8 parts body old new other (inl a) (inl b) = a.1 ∙ sym b.1
+texts_one style utf8 parts body old new other (inl a) (inr b) = absurd (b.0 a.0)
+texts_one style utf8 parts body old new other (inr a) (inl b) = absurd (a.0 b.0)
+texts_one style utf8 parts body old new other (inr a) (inr b) = a.1 ∙ sym b.1
+
+texts : HasOneMarkedList TextSpelled TextRefused
+texts = one_marked_list TextSpelled TextRefused (λ place. text_at) text_reader
+
+options : HasOneCountedList TextSpelled TextRefused
+options = one_counted_list TextSpelled TextRefused (λ place. text_at) text_reader
+
+formats : HasOneCountedList FormatSpelled FormatRefused
+formats = one_counted_list FormatSpelled FormatRefused (λ place. format_at) format_reader
+
+types : HasOneCountedList TypeSpelled TypeRefused
+types = one_counted_list TypeSpelled TypeRefused (λ place. type_at) type_reader
+
+ranges : HasOneCountedList RangeSpelled RangeRefused
+ranges = one_counted_list RangeSpelled RangeRefused range_at range_reader
+
+columns : HasOneCountedList FieldSpelled FieldRefused
+columns = one_counted_list FieldSpelled FieldRefused (λ place. field_at) field_reader
+
+fields : HasOneMarkedList ErrorFieldSpelled ErrorFieldRefused
+fields = one_marked_list ErrorFieldSpelled ErrorFieldRefused (λ place. error_field_at) error_field_reader
+
+shows_one : (style : Style) (m : Message) (old new other : List ℕ) → Shows style m old new → Shows style m old other → new ≡ other
+shows_one style (Authentication (AuthenticationMd5Password salt)) old new other a b = a ∙ sym b
+shows_one style (Authentication (AuthenticationGssContinue bytes)) old new other a b = a ∙ sym b
+shows_one style (Authentication (AuthenticationSasl bytes)) old new other a b = marked_one TextSpelled TextRefused _ style bytes _ new other texts a b
+shows_one style (Authentication (AuthenticationSaslContinue bytes)) old new other a b = a ∙ sym b
+shows_one style (Authentication (AuthenticationSaslFinal bytes)) old new other a b = a ∙ sym b
+shows_one style (NotificationResponse n) old new other a b = texts_one style (IsUtf8 n.channel × IsUtf8 n.message)
+    (Word (codes "process") ∷ Number n.process_id ∷ Word (codes "channel") ∷ Text n.channel ∷ Word (codes "payload") ∷ Text n.message ∷ []) (payload_of (NotificationResponse n)) old new other a b
+shows_one style (CommandComplete tag) old new other a b = texts_one style (IsUtf8 tag) (Word (codes "tag") ∷ Text tag ∷ []) (payload_of (CommandComplete tag)) old new other a b
+shows_one style (DataRow row) old new other a b = counted_one RangeSpelled RangeRefused _ style row.count row.storage _ new other ranges a b
+shows_one style (ErrorResponse bytes) old new other a b = marked_one ErrorFieldSpelled ErrorFieldRefused _ style bytes old new other fields a b
+shows_one style (CopyInResponse copy) old new other a b = counted_one FormatSpelled FormatRefused _ style copy.count copy.storage _ new other formats a b
+shows_one style (CopyOutResponse copy) old new other a b = counted_one FormatSpelled FormatRefused _ style copy.count copy.storage _ new other formats a b
+shows_one style (BackendKeyData key) old new other a b = a ∙ sym b
+shows_one style (NegotiateProtocolVersion n) old new other a b = counted_one TextSpelled TextRefused _ style n.count n.options _ new other options a b
+shows_one style (NoticeResponse bytes) old new other a b = marked_one ErrorFieldSpelled ErrorFieldRefused _ style bytes old new other fields a b
+shows_one style (ParameterStatus setting) old new other a b = texts_one style (IsUtf8 setting.name × IsUtf8 setting.value)
+    (Word (codes "name") ∷ Text setting.name ∷ Word (codes "value") ∷ Text setting.value ∷ []) (payload_of (ParameterStatus setting)) old new other a b
+shows_one style (RowDescription row) old new other a b = counted_one FieldSpelled FieldRefused _ style row.count row.storage _ new other columns a b
+shows_one style (ReadyForQuery status) old new other a b = a ∙ sym b
+shows_one style (CopyData bytes) old new other a b = a ∙ sym b
+shows_one style (ParameterDescription row) old new other a b = counted_one TypeSpelled TypeRefused _ style row.count row.storage _ new other types a b
+shows_one style (Authentication AuthenticationOk) old new other a b = a ∙ sym b
+shows_one style (Authentication AuthenticationKerberosV5) old new other a b = a ∙ sym b
+shows_one style (Authentication AuthenticationCleartextPassword) old new other a b = a ∙ sym b
+shows_one style (Authentication AuthenticationScmCredential) old new other a b = a ∙ sym b
+shows_one style (Authentication AuthenticationGss) old new other a b = a ∙ sym b
+shows_one style (Authentication AuthenticationSspi) old new other a b = a ∙ sym b
+shows_one style ParseComplete old new other a b = a ∙ sym b
+shows_one style BindComplete old new other a b = a ∙ sym b
+shows_one style CloseComplete old new other a b = a ∙ sym b
+shows_one style EmptyQueryResponse old new other a b = a ∙ sym b
+shows_one style CopyDone old new other a b = a ∙ sym b
+shows_one style NoData old new other a b = a ∙ sym b
+shows_one style PortalSuspended old new other a b = a ∙ sym b
+
+goes_one : (style : Style) (r : Result Message Error) (old new other : List ℕ) → GoesOn style r old new → GoesOn style r old other → new ≡ other
+goes_one style (Ok m) old new other a b = shows_one style m (followed style old (called m ∷ [])) new other a b
+goes_one style (Err e) old new other a b = a ∙ sym b
+
+-- ---- a line
+
+line_of_one : (style : Style) (place : ℕ) (f : Frame) (line other : List ℕ) → IsFrame f → IsLineOf style place f line → IsLineOf style place f other → line ≡ other
+line_of_one style place f line other fits a b =
+    let result : a.result ≡ b.result = sym (one_body f.tag f.payload a.result fits.payload a.body) ∙ one_body f.tag f.payload b.result fits.payload b.body in
+    let told = subst (λ r. GoesOn style r (front style place f) a.text) result a.told in
+    a.ended ∙ ap (λ t. t ++ closing style ++ 10 ∷ []) (goes_one style b.result (front style place f) a.text b.text told b.told) ∙ sym b.ended
+
+-- the first frames of bytes, their lines, what stands after them, and what is then known of the side
+pub record Same (f g line other x y : List ℕ) (to too : Side) : Type 0 where
+  pub frames : f ≡ g
+  pub lines : line ≡ other
+  pub rests : x ≡ y
+  pub sides : to ≡ too
+
+server_one : (style : Style) (place : ℕ) (f g line other x y : List ℕ) → IsServerLine style place f line → IsServerLine style place g other → f ++ x ≡ g ++ y → (f ≡ g) × (line ≡ other) × (x ≡ y)
+server_one style place f g line other x y a b e =
+    let one = front_is_one a.first b.first x y a.fits b.fits (ap (λ l. l ++ x) (sym a.whole) ∙ e ∙ ap (λ l. l ++ y) b.whole) in
+    let told = subst (λ (h : Frame). IsLineOf style place h line) one.0 a.told in
+    (a.whole ∙ ap frame_bytes one.0 ∙ sym b.whole, line_of_one style place b.first line other b.fits told b.told, one.1)
+
+front_answer : (byte : ℕ) (f x y : List ℕ) (phase : Phase) → phase_behind byte ≡ Some phase → byte ∷ x ≡ f ++ y → 0 < length f → answered f ≡ None → ⊥
+front_answer byte [] x y phase is e some none = absurd (omega (arith, some))
+front_answer byte (z ∷ zs) x y phase is e some none = none_some phase (phase_behind byte) is (ap phase_behind (ap (λ l. get_or l 0 0) e) ∙ none)
+
+same_phase : (a b : Phase) → (let x : Option Phase = Some a in x ≡ Some b) → a ≡ b
+same_phase a b e = cc
+
+answers_one : (style : Style) (place : ℕ) (f g line other x y : List ℕ) (p q : Phase) → IsAnswerLine style place f line p → IsAnswerLine style place g other q → f ++ x ≡ g ++ y → (f ≡ g) × (line ≡ other) × (x ≡ y) × (p ≡ q)
+answers_one style place f g line other x y p q a b e =
+    let all : a.byte ∷ x ≡ b.byte ∷ y = ap (λ l. l ++ x) (sym a.whole) ∙ e ∙ ap (λ l. l ++ y) b.whole in
+    let byte : a.byte ≡ b.byte = ap (λ l. get_or l 0 0) all in (
+      a.whole ∙ ap (λ k. k ∷ []) byte ∙ sym b.whole,
+      a.told ∙ ap (answer_line style place) byte ∙ sym b.told,
+      ap (λ l. drop 1 l) all,
+      same_phase p q (sym a.answers ∙ ap phase_behind byte ∙ b.answers),
+    )
+
+same_result : (r s : Result ClientMessage ClientError) → step_of r ≡ step_of s → r ≡ s
+same_result (Ok x) (Ok y) e = cc
+same_result (Ok x) (Err d) e = absurd cc
+same_result (Err d) (Ok y) e = absurd cc
+same_result (Err d) (Err e) f = cc
+
+client_one : (style : Style) (place : ℕ) (opened : Bool) (kinds : List code.PasswordKind) (f g line other x y : List ℕ) (to too : Side) → IsNextLine style place opened kinds f line to → IsNextLine style place opened kinds g other too → f ++ x ≡ g ++ y
+    → Same f g line other x y to too
+client_one style place opened kinds f g line other x y to too a b e =
+    let one = one_first opened a.now b.now kinds f g x y a.told.result b.told.result a.told.step b.told.step e in
+    let step = subst (λ l. Step (expected kinds) (record { bytes = l; opened = opened }) (step_of a.told.result) (record { bytes = []; opened = a.now })) one.0 a.told.step in
+    let both = step_one (expected kinds) (record { bytes = g; opened = opened }) (record { bytes = []; opened = a.now }) (record { bytes = []; opened = b.now }) (step_of a.told.result) (step_of b.told.result) step b.told.step in
+    let result = same_result a.told.result b.told.result both.0 in
+    record {
+      frames = one.0;
+      lines = a.told.told ∙ ap (λ r. client_line style (is_told kinds) r (client_front style place opened f) ++ closing style ++ 10 ∷ []) result
+          ∙ ap (λ l. client_line style (is_told kinds) b.told.result (client_front style place opened l) ++ closing style ++ 10 ∷ []) one.0 ∙ sym b.told.told;
+      rests = one.1;
+      sides = a.behind ∙ ap (λ n. Client n (kinds_behind opened f kinds)) one.2 ∙ ap (λ l. Client b.now (kinds_behind opened l kinds)) one.0 ∙ sym b.behind;
+    }
+
+pub line_one : (style : Style) (place : ℕ) (from to too : Side) (f g line other x y : List ℕ) → LineOf style place from f line to → LineOf style place from g other too → f ++ x ≡ g ++ y → Same f g line other x y to too
+line_one style place (Server Beginning) to too f g line other x y (inl a) (inl b) e =
+    let one = answers_one style place f g line other x y a.phase b.phase a.told b.told e in
+    record { frames = one.0; lines = one.1; rests = one.2; sides = a.behind ∙ ap Server one.3 ∙ sym b.behind }
+line_one style place (Server Beginning) to too f g line other x y (inl a) (inr b) e =
+    absurd (front_answer a.told.byte g x y a.phase a.told.answers (ap (λ l. l ++ x) (sym a.told.whole) ∙ e) (frame_has style place (Server Beginning) too g other (inr b)) b.none)
+line_one style place (Server Beginning) to too f g line other x y (inr a) (inl b) e =
+    absurd (front_answer b.told.byte f y x b.phase b.told.answers (ap (λ l. l ++ y) (sym b.told.whole) ∙ sym e) (frame_has style place (Server Beginning) to f line (inr a)) a.none)
+line_one style place (Server Beginning) to too f g line other x y (inr a) (inr b) e =
+    let one = server_one style place f g line other x y a.told b.told e in
+    record { frames = one.0; lines = one.1; rests = one.2; sides = a.behind ∙ sym b.behind }
+line_one style place (Server Messages) to too f g line other x y a b e =
+    let one = server_one style place f g line other x y a.0 b.0 e in
+    record { frames = one.0; lines = one.1; rests = one.2; sides = a.1 ∙ sym b.1 }
+line_one style place (Server Encrypted) to too f g line other x y a b e = absurd a
+line_one style place (Client opened kinds) to too f g line other x y a b e = client_one style place opened kinds f g line other x y to too a b e
+
+-- ---- an end
+
+server_end : (style : Style) (place : ℕ) (stopped : Bool) (rest f line x : List ℕ) → IsEnding stopped rest → IsServerLine style place f line → rest ≡ f ++ x → ⊥
+server_end style place stopped rest f line x ends is e = no_ending is.first x stopped is.fits (subst (IsEnding stopped) (e ∙ ap (λ l. l ++ x) is.whole) ends)
+
+no_silence : (r : Result ClientMessage ClientError) → step_of r ≡ Ok None → ⊥
+no_silence (Ok x) e = absurd cc
+no_silence (Err d) e = absurd cc
+
+packet_step : (opened : Bool) (kinds : List code.PasswordKind) (rest : List ℕ) (r : IsRefusedPacket opened rest) → Refuses (expected kinds) (record { bytes = rest; opened = opened }) r.error (record { bytes = rest; opened = opened })
+packet_step opened kinds rest r = record { none = r.none (expected kinds); left = inr (inr (record { payload = r.payload; rest = r.rest; phase = r.phase; fits = r.fits; whole = r.whole; same = refl; blames = r.blames })) }
+
+-- what stays where it is isn't what takes a frame
+stays_there : (opened now : Bool) (kinds : List code.PasswordKind) (rest x f : List ℕ) (d : ClientError) (r : Result ClientMessage ClientError) → 0 < length f → rest ≡ f ++ x
+    → Refuses (expected kinds) (record { bytes = rest; opened = opened }) d (record { bytes = rest; opened = opened }) → Step (expected kinds) (record { bytes = rest; opened = opened }) (step_of r) (record { bytes = x; opened = now }) → ⊥
+stays_there opened now kinds rest x f d r some e stays takes =
+    let one = step_one (expected kinds) (record { bytes = rest; opened = opened }) (record { bytes = rest; opened = opened }) (record { bytes = x; opened = now }) (Err d) (step_of r) stays takes in
+    omega (arith, some, ap length e, length-append f x, ap length (ap (λ (u : Unread). u.bytes) one.1))
+
+client_end : (opened now stopped : Bool) (kinds : List code.PasswordKind) (rest x f : List ℕ) (r : Result ClientMessage ClientError) → 0 < length f → rest ≡ f ++ x → Ends (Client opened kinds) stopped rest
+    → Step (expected kinds) (record { bytes = rest; opened = opened }) (step_of r) (record { bytes = x; opened = now }) → ⊥
+client_end opened now false kinds rest x f r some e part takes = no_silence r (partial_waits (expected kinds) opened rest (step_of r) (record { bytes = x; opened = now }) part takes)
+client_end opened now true kinds rest x f r some e (inl fault) takes = stays_there opened now kinds rest x f (Reading InvalidLength) r some e (step_fault (expected kinds) opened rest InvalidLength (refl, fault)) takes
+client_end opened now true kinds rest x f r some e (inr packet) takes = stays_there opened now kinds rest x f packet.error r some e (packet_step opened kinds rest packet) takes
+
+-- where none stands first, no frame does
+pub no_line : (style : Style) (place : ℕ) (from to : Side) (stopped : Bool) (rest f line x : List ℕ) → Ends from stopped rest → LineOf style place from f line to → rest ≡ f ++ x → ⊥
+no_line style place (Server Beginning) to stopped rest f line x ends (inl a) e =
+    none_some a.phase (phase_behind a.told.byte) a.told.answers (sym (ap answered (e ∙ ap (λ l. l ++ x) a.told.whole)) ∙ ends.0)
+no_line style place (Server Beginning) to stopped rest f line x ends (inr a) e = server_end style place stopped rest f line x ends.1 a.told e
+no_line style place (Server Messages) to stopped rest f line x ends a e = server_end style place stopped rest f line x ends a.0 e
+no_line style place (Server Encrypted) to stopped rest f line x ends a e = a
+no_line style place (Client opened kinds) to stopped rest f line x ends a e =
+    let takes = subst (λ l. Step (expected kinds) (record { bytes = l; opened = opened }) (step_of a.told.result) (record { bytes = x; opened = a.now })) (sym e) (behind opened a.now kinds f x a.told.result a.told.step) in
+    client_end opened a.now stopped kinds rest x f a.told.result (frame_some opened a.now kinds f a.told.result a.told.step) e ends takes
+
+server_ends : (s t : Bool) (rest : List ℕ) → IsEnding s rest → IsEnding t rest → s ≡ t
+server_ends s t rest a b =
+    (runs_one rest [] [] s t rest rest (record { run = frames_none rest; ending = a }) (record { run = frames_none rest; ending = b })).1
+
+refuses_silence : (d : ClientError) → (let x : Result (Option ClientMessage) ClientError = Err d in x ≡ Ok None) → ⊥
+refuses_silence d e = cc
+
+-- a partial frame, and what stays where it is
+never_waits : (opened : Bool) (kinds : List code.PasswordKind) (rest : List ℕ) (d : ClientError) → IsPartial opened rest → Refuses (expected kinds) (record { bytes = rest; opened = opened }) d (record { bytes = rest; opened = opened }) → ⊥
+never_waits opened kinds rest d part stays = refuses_silence d (partial_waits (expected kinds) opened rest (Err d) (record { bytes = rest; opened = opened }) part stays)
+
+stops_there : (opened : Bool) (kinds : List code.PasswordKind) (rest : List ℕ) → IsPartial opened rest → Ends (Client opened kinds) true rest → ⊥
+stops_there opened kinds rest part (inl fault) = never_waits opened kinds rest (Reading InvalidLength) part (step_fault (expected kinds) opened rest InvalidLength (refl, fault))
+stops_there opened kinds rest part (inr packet) = never_waits opened kinds rest packet.error part (packet_step opened kinds rest packet)
+
+pub ends_one : (from : Side) (s t : Bool) (rest : List ℕ) → Ends from s rest → Ends from t rest → s ≡ t
+ends_one (Server Beginning) s t rest a b = server_ends s t rest a.1 b.1
+ends_one (Server Messages) s t rest a b = server_ends s t rest a b
+ends_one (Server Encrypted) false false rest a b = refl
+ends_one (Server Encrypted) true true rest a b = refl
+ends_one (Server Encrypted) false true rest a b = absurd (omega (arith, ap length a, b))
+ends_one (Server Encrypted) true false rest a b = absurd (omega (arith, ap length b, a))
+ends_one (Client opened kinds) false false rest a b = refl
+ends_one (Client opened kinds) true true rest a b = refl
+ends_one (Client opened kinds) false true rest a b = absurd (stops_there opened kinds rest a b)
+ends_one (Client opened kinds) true false rest a b = absurd (stops_there opened kinds rest b a)
+
+-- ---- lines, the first at first
+
+data Rows (style : Style) (to : Side) : ℕ → Side → List ℕ → List ℕ → Type 0 where
+  NoRows : {start : ℕ} → Rows style to start to [] []
+  OneRow : {start : ℕ} {from mid : Side} {bytes lines : List ℕ} (frame line : List ℕ) → LineOf style (place_behind start) from frame line mid → Rows style to (start + length frame) mid bytes lines → Rows style to start from (frame ++ bytes) (line ++ lines)
+
+-- one more, after the others
+row_more : (style : Style) (here : Side) (start : ℕ) (from to : Side) (bytes lines frame line : List ℕ) → Rows style here start from bytes lines → LineOf style (place_behind (start + length bytes)) here frame line to → Rows style to start from (bytes ++ frame) (lines ++ line)
+row_more style _ start from to [] [] frame line NoRows has =
+    let here : place_behind (start + 0) ≡ place_behind start = ap place_behind (omega arith) in
+    subst (λ l. Rows style to start from l line) (append-nil frame)
+    (subst (λ l. Rows style to start from (frame ++ []) l) (append-nil line)
+    (OneRow {start = start} frame line (subst (λ p. LineOf style p from frame line to) here has) NoRows))
+row_more style here start from to _ _ frame line (OneRow {mid = mid} {bytes = bytes} {lines = lines} f l is rest) has =
+    let place : place_behind (start + length (f ++ bytes)) ≡ place_behind ((start + length f) + length bytes) = ap place_behind (omega (arith, length-append f bytes)) in
+    let more = row_more style here (start + length f) mid to bytes lines frame line rest (subst (λ p. LineOf style p here frame line to) place has) in
+    subst (λ x. Rows style to start from x ((l ++ lines) ++ line)) (sym (append_assoc f bytes frame))
+    (subst (λ x. Rows style to start from (f ++ (bytes ++ frame)) x) (sym (append_assoc l lines line))
+    (OneRow f l is more))
+
+rows_of : (style : Style) (start : ℕ) (from to : Side) (bytes lines : List ℕ) → Lines style start from bytes lines to → Rows style to start from bytes lines
+rows_of style start from _ [] [] NoLines = NoRows
+rows_of style start from to _ _ (OneLine {bytes = bytes} {lines = lines} {here = here} frame line before has) = row_more style here start from to bytes lines frame line (rows_of style start from here bytes lines before) has
+
+-- what stands at the end is one thing
+record SameEnd (lines others x y : List ℕ) (s t : Bool) : Type 0 where
+  texts : lines ≡ others
+  rests : x ≡ y
+  ends : s ≡ t
+
+rows_one : (style : Style) (to too : Side) (start : ℕ) (from : Side) (a b lines others x y : List ℕ) (s t : Bool) → Rows style to start from a lines → Ends to s x → Rows style too start from b others → Ends too t y → a ++ x ≡ b ++ y → SameEnd lines others x y s t
+rows_one style _ _ start from [] [] [] [] x y s t NoRows ends NoRows others e = record { texts = refl; rests = e; ends = ends_one from s t y (subst (Ends from s) e ends) others }
+rows_one style _ too start from [] _ [] _ x y s t NoRows ends (OneRow {mid = mid} {bytes = bytes} {lines = more} g k is rest) others e =
+    absurd (no_line style (place_behind start) from mid s x g k (bytes ++ y) ends is (e ∙ append_assoc g bytes y))
+rows_one style to _ start from _ [] _ [] x y s t (OneRow {mid = mid} {bytes = bytes} {lines = more} f l is rest) ends NoRows others e =
+    absurd (no_line style (place_behind start) from mid t y f l (bytes ++ x) others is (sym e ∙ append_assoc f bytes x))
+rows_one style to too start from _ _ _ _ x y s t (OneRow {mid = mid} {bytes = bytes} {lines = more} f l is rest) ends (OneRow {mid = other} {bytes = left} {lines = less} g k has tail) others e =
+    let one = line_one style (place_behind start) from mid other f g l k (bytes ++ x) (left ++ y) is has (sym (append_assoc f bytes x) ∙ e ∙ append_assoc g left y) in
+    let here : Rows style too (start + length f) mid left less = subst (λ (h : Side). Rows style too (start + length f) h left less) (sym one.sides) (subst (λ h. Rows style too (start + length h) other left less) (sym one.frames) tail) in
+    let same = rows_one style to too (start + length f) mid bytes left more less x y s t rest ends here others one.rests in
+    record { texts = ap (λ h. h ++ more) one.lines ∙ ap (λ h. k ++ h) same.texts; rests = same.rests; ends = same.ends }
+
+pub one_listing : (style : Style) (from : Side) (bytes output other : List ℕ) → IsListing style from bytes output → IsListing style from bytes other → output ≡ other
+one_listing style from bytes output other a b =
+    let same = rows_one style a.to b.to 0 from a.front b.front a.lines b.lines a.rest b.rest a.stopped b.stopped (rows_of style 0 from a.to a.front a.lines a.listed) a.ending (rows_of style 0 from b.to b.front b.lines b.listed) b.ending (sym a.whole ∙ b.whole) in
+    a.text ∙ ap (λ l. l ++ last_line style a.stopped (place_behind (length a.rest))) same.texts ∙ ap (λ s. b.lines ++ last_line style s (place_behind (length a.rest))) same.ends
+    ∙ ap (λ l. b.lines ++ last_line style b.stopped (place_behind (length l))) same.rests ∙ sym b.text
