@@ -4,6 +4,11 @@
 
 pub mod client;
 mod client_stream;
+mod connection;
+mod connection_error;
+mod connection_parts;
+pub mod laws;
+mod login;
 mod parsed;
 pub mod pooler;
 pub mod proxy;
@@ -13,6 +18,9 @@ mod stream_parser;
 mod whole_stream;
 
 pub use client_stream::ClientStream;
+pub use connection::{Connection, ConnectionPhase};
+pub use connection_error::ConnectionError;
+pub use login::Ways;
 pub use parsed::Parsed;
 pub use stream_parser::StreamParser;
 pub use whole_stream::parse_stream;
