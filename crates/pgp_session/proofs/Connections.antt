@@ -1,6 +1,6 @@
 -- What the calls of a connection come to.
-use Rattle.std.proofs.Common.{◌≡◌, ℕ, ◌<◌, ◌≤◌, List, [], ◌∷◌, ◌++◌, length, get_or, Option, Some, None, Result, Ok, Err, refl, sym, ap, subst, ◌∙◌, arith, inl, false}
-use Rattle.std.specs.Prelude.{OnOk, IfErr}
+use Rattle.std.proofs.Common.{◌≡◌, ℕ, ◌<◌, ◌≤◌, List, [], ◌∷◌, ◌++◌, length, get_or, Option, Some, None, Result, Ok, Err, refl, sym, ap, subst, ◌∙◌, arith, inl, Bool, true, false}
+use Rattle.std.specs.Prelude.{OnOk, IfErr, take, ◌&&◌}
 use Rattle.std.specs.Int.{w32, from_be_bytes}
 use Rattle.pgp_base.specs.Cause.{WantsMemory}
 use Rattle.pgp_base.specs.declared.error.Error.{Error}
@@ -15,7 +15,12 @@ use Rattle.pgp_message.specs.Stream.{BeginsWithKept, IsPartial, Step, TakesFrame
 use Rattle.pgp_message.specs.Views.{parsed, view}
 use Rattle.pgp_message.specs.declared.message.Message.{Message}
 use Rattle.pgp_base.specs.declared.error.Error.TheVariants.{OutOfMemory}
-use Rattle.pgp_session.specs.Connection.{is_longer, longer}
+use Rattle.pgp_client.specs.Kinds.{request_of}
+use Rattle.pgp_client.specs.Taking.{is_copying}
+use Rattle.pgp_client.specs.declared.request.Request.{Request}
+use Rattle.pgp_session.specs.Connection.{Notes, SendsGiven, Shown, asked_of, is_logged_in, is_longer, longer, may_send, next_name, noted, said, with_out}
+use Rattle.pgp_session.specs.declared.connection_error.ConnectionError.{ConnectionError}
+use Rattle.pgp_session.specs.declared.connection_error.ConnectionError.TheVariants.{OutOfMemory as OutOfMemoryThere}
 use Rattle.pgp_session.specs.Login.{Puts}
 
 pub short_longer : (limit : ℕ) (bytes : List ℕ) → length bytes < 5 → false ≡ is_longer limit bytes
@@ -58,3 +63,31 @@ step_memory lacks old new e is s = subst (λ (x : Error). Step lacks old (Err x)
 
 pub step_some : {A : Type 0} (lacks : Type 0) (old new : List ℕ) (o : Option (Message A)) (m : Message A) → o ≡ Some m → Step lacks old (parsed (Ok o)) new → TakesFrame old (Ok (view m)) new
 step_some {A} lacks old new o m e s = subst (λ (x : Option (Message A)). Step lacks old (parsed (Ok x)) new) e s
+
+-- ---- requests that iterators gave
+
+take_front : (xs ys : List ℕ) → take (length xs) (xs ++ ys) ≡ xs
+take_front [] ys = refl
+take_front (x ∷ xs) ys = ap (λ l. x ∷ l) (take_front xs ys)
+
+said_by : (m : ClientMessage) (r : Request) (c : Shown) → request_of m ≡ Some r → noted r (with_out (c.out ++ bytes_of m) c) ≡ said m c
+said_by m r c e = ap (λ (o : Option Request). record { phase = c.phase; login = c.login; out = c.out ++ bytes_of m; incoming = c.incoming; talk = asked_of o c.names c.talk; names = next_name c.names; limit = c.limit }) (sym e)
+
+both_true : (a b : Bool) → a ≡ true → b ≡ true → (a && b) ≡ true
+both_true a b e f = rw (e, f) refl
+
+-- the message was written, and its request noted
+pub given_by : {A : Type 0} (lacks : Type 0) (Whole : ClientMessage → Type 0) (Refuses : Error → Type 0) (m : ClientMessage) (r : Request) (old new : Shown) (written : List ℕ) (result : Result ℕ (ConnectionError A))
+    → Whole m → may_send (is_copying old.talk) m ≡ true → cause m ≡ None → IsInRange m → request_of m ≡ Some r → is_logged_in old ≡ true → written ≡ old.out ++ bytes_of m
+    → Notes lacks (length old.out) r (with_out written old) new result → SendsGiven lacks Whole Refuses old new result
+given_by lacks Whole Refuses m r old new written (Ok name) whole may none range request logged bytes n =
+    let is : new ≡ said m old = n.1 ∙ ap (λ (l : List ℕ). noted r (with_out l old)) bytes ∙ said_by m r old request in
+    (m, whole, record {
+      may = both_true (is_logged_in old) (may_send (is_copying old.talk) m) logged may;
+      added = record { none = none; in_range = range; bytes = ap (λ (c : Shown). c.out) is };
+      named = n.0;
+      is = is;
+    })
+given_by lacks Whole Refuses m r old new written (Err OutOfMemoryThere) whole may none range request logged bytes n =
+    (logged, n.0, n.1 ∙ ap (λ (l : List ℕ). with_out (take (length old.out) l) old) bytes ∙ ap (λ (l : List ℕ). with_out l old) (take_front old.out (bytes_of m)))
+given_by lacks Whole Refuses m r old new written (Err e) whole may none range request logged bytes n = absurd n

@@ -1,6 +1,6 @@
 -- A client's connection: what each call makes of it.
 -- PostgreSQL manual, "Message Flow"; "SSL Session Encryption".
-use Rattle.std.specs.Prelude.{◌≡◌, ◌≢◌, ◌⊎◌, ℕ, ◌+◌, nat_lt, Bool, true, false, List, [], ◌∷◌, ◌++◌, drop, map, Option, Some, None, Result, Ok, Err, if◌then◌else◌, ◌==◌, ◌&&◌}
+use Rattle.std.specs.Prelude.{◌≡◌, ◌≢◌, ◌⊎◌, ℕ, ◌+◌, nat_lt, Bool, true, false, List, [], ◌∷◌, ◌++◌, drop, take, map, Option, Some, None, Result, Ok, Err, if◌then◌else◌, ◌==◌, ◌&&◌}
 use Rattle.pgp_base.specs.declared.error.Error.{Error}
 use Rattle.pgp_base.specs.declared.error.Error.TheVariants.{OutOfMemory as NoMemory}
 use Rattle.pgp_client.specs.Kinds.{kind_of, request_of}
@@ -101,6 +101,26 @@ Sends lacks m old new (Err OutOfPhase) = (can_send old m ≡ false) × (new ≡ 
 Sends lacks m old new (Err (Unwritten e)) = (can_send old m ≡ true) × Unsent lacks m e × (new ≡ old)
 Sends lacks m old new (Err OutOfMemory) = (can_send old m ≡ true) × lacks × (new ≡ old)
 Sends lacks m old new (Err e) = ⊥
+
+-- A request of messages that iterators gave: `Whole` says which it is, and `Refuses` why a writer rejects it.
+abbrev pub SendsGiven : {A : Type 0} → Type 0 → (ClientMessage → Type 0) → (Error → Type 0) → Shown → Shown → Result ℕ (ConnectionError A) → Type 0
+SendsGiven lacks Whole Refuses old new (Ok name) = (m : ClientMessage) × Whole m × Sent m old new name
+SendsGiven lacks Whole Refuses old new (Err OutOfPhase) = (is_logged_in old ≡ false) × (new ≡ old)
+SendsGiven lacks Whole Refuses old new (Err (Unwritten e)) = (is_logged_in old ≡ true) × Refuses e × (new ≡ old)
+SendsGiven lacks Whole Refuses old new (Err OutOfMemory) = (is_logged_in old ≡ true) × lacks × (new ≡ old)
+SendsGiven lacks Whole Refuses old new (Err e) = ⊥
+
+-- *private*: the request was noted whose message was written, or the message was taken back
+abbrev pub with_out : List ℕ → Shown → Shown
+with_out out c = record { phase = c.phase; login = c.login; out = out; incoming = c.incoming; talk = c.talk; names = c.names; limit = c.limit }
+
+abbrev pub noted : Request → Shown → Shown
+noted r c = record { phase = c.phase; login = c.login; out = c.out; incoming = c.incoming; talk = asked c.talk (record { request = r; name = c.names }); names = next_name c.names; limit = c.limit }
+
+abbrev pub Notes : {A : Type 0} → Type 0 → ℕ → Request → Shown → Shown → Result ℕ (ConnectionError A) → Type 0
+Notes lacks place r old new (Ok name) = (name ≡ old.names) × (new ≡ noted r old)
+Notes lacks place r old new (Err OutOfMemory) = lacks × (new ≡ with_out (take place old.out) old)
+Notes lacks place r old new (Err e) = ⊥
 
 -- so many bytes were sent
 abbrev pub dropped : ℕ → Shown → Shown

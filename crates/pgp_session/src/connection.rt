@@ -39,12 +39,12 @@ pub enum ConnectionPhase {
 /// A client's connection.
 #[derive(Drop)]
 pub struct Connection<'a, A: Memory = Global> {
-    phase: ConnectionPhase,
+    pub(crate) phase: ConnectionPhase,
     login: Login<'a, A>,
-    out: BytesMut<A>,
+    pub(crate) out: BytesMut<A>,
     incoming: BytesMut<A>,
-    dialogue: Dialogue<VecDeque<Asked, A>>,
-    names: u64,
+    pub(crate) dialogue: Dialogue<VecDeque<Asked, A>>,
+    pub(crate) names: u64,
     limit: u32,
 }
 

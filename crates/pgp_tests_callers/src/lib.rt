@@ -7,6 +7,8 @@ mod checks;
 #[cfg(test)]
 mod clients;
 #[cfg(test)]
+mod connections;
+#[cfg(test)]
 mod failing;
 #[cfg(test)]
 mod logins;
