@@ -81,13 +81,16 @@ pub given_by : {A : Type 0} (lacks : Type 0) (Whole : ClientMessage → Type 0) 
     → Whole m → may_send (is_copying old.talk) m ≡ true → cause m ≡ None → IsInRange m → request_of m ≡ Some r → is_logged_in old ≡ true → written ≡ old.out ++ bytes_of m
     → Notes lacks (length old.out) r (with_out written old) new result → SendsGiven lacks Whole Refuses old new result
 given_by lacks Whole Refuses m r old new written (Ok name) whole may none range request logged bytes n =
-    let is : new ≡ said m old = n.1 ∙ ap (λ (l : List ℕ). noted r (with_out l old)) bytes ∙ said_by m r old request in
-    (m, whole, record {
-      may = both_true (is_logged_in old) (may_send (is_copying old.talk) m) logged may;
-      added = record { none = none; in_range = range; bytes = ap (λ (c : Shown). c.out) is };
-      named = n.0;
-      is = is;
-    })
+    let is : new ≡ said m old = n.1 ∙ ap (λ (l : List ℕ). noted r (with_out l old)) bytes ∙ said_by m r old request in (
+      m,
+      whole,
+      record {
+        may = both_true (is_logged_in old) (may_send (is_copying old.talk) m) logged may;
+        added = record { none = none; in_range = range; bytes = ap (λ (c : Shown). c.out) is };
+        named = n.0;
+        is = is;
+      },
+    )
 given_by lacks Whole Refuses m r old new written (Err OutOfMemoryThere) whole may none range request logged bytes n =
     (logged, n.0, n.1 ∙ ap (λ (l : List ℕ). with_out (take (length old.out) l) old) bytes ∙ ap (λ (l : List ℕ). with_out l old) (take_front old.out (bytes_of m)))
 given_by lacks Whole Refuses m r old new written (Err e) whole may none range request logged bytes n = absurd n

@@ -60,7 +60,7 @@ pub sent_some : (ways : Ways) (h : History) (old new : Shown) (n : ℕ) → new.
     → Known ways h old → Known ways (and_sent n old h) new
 sent_some ways h old new n phase out incoming talk login k =
     let bytes : h.sent ++ old.out ≡ (h.sent ++ take n old.out) ++ new.out =
-        ap (λ b. h.sent ++ b) (sym (take-append-drop n old.out)) ∙ sym (append_assoc h.sent (take n old.out) (drop n old.out)) ∙ ap (λ b. (h.sent ++ take n old.out) ++ b) (sym out) in
+    ap (λ b. h.sent ++ b) (sym (take-append-drop n old.out)) ∙ sym (append_assoc h.sent (take n old.out) (drop n old.out)) ∙ ap (λ b. (h.sent ++ take n old.out) ++ b) (sym out) in
     record {
       run = subst (λ b. ClientRun (flat_map kinds_of h.written) h.written b) bytes k.run;
       opened = subst (λ (p : ConnectionPhase). IsOpenedAt p (is_opened h.written)) (sym phase) k.opened;
@@ -127,14 +127,16 @@ pub heard_one : (ways : Ways) (h : History) (old new : Shown) (rest : List ℕ) 
     → Known ways h old → (reply : Option ClientMessage) × Known ways (and_heard m e reply h) new
 heard_one ways h old new rest m e phase frame took next k =
     let logged = took.logged in
-    let opened : is_opened h.written ≡ true = at_started old.phase (is_opened h.written) phase k.opened in
-    (logged.reply, record {
-      run = replied h.written (asking m) logged.reply old.login new.login h.sent old.out new.out opened logged.logs logged.adds k.run;
-      opened = subst (λ (p : ConnectionPhase). IsOpenedAt p (is_opened (h.written ++ option_to_list logged.reply))) (sym (ap (λ (c : Shown). c.phase) took.is ∙ phase)) (opened_replied h.written logged.reply opened);
-      read = subst (λ b. Frames h.came (good (h.heard ++ m ∷ [])) b) (sym (ap (λ (c : Shown). c.incoming) took.is))
-          (subst (λ r. Frames h.came r rest) (good_more h.heard m) (next h.came old.incoming rest (good h.heard) (Ok m) k.read frame));
-      plays = Hears m e took.taken took.goes_on logged.logs k.plays;
-    })
+    let opened : is_opened h.written ≡ true = at_started old.phase (is_opened h.written) phase k.opened in (
+      logged.reply,
+      record {
+        run = replied h.written (asking m) logged.reply old.login new.login h.sent old.out new.out opened logged.logs logged.adds k.run;
+        opened = subst (λ (p : ConnectionPhase). IsOpenedAt p (is_opened (h.written ++ option_to_list logged.reply))) (sym (ap (λ (c : Shown). c.phase) took.is ∙ phase)) (opened_replied h.written logged.reply opened);
+        read = subst (λ b. Frames h.came (good (h.heard ++ m ∷ [])) b) (sym (ap (λ (c : Shown). c.incoming) took.is))
+            (subst (λ r. Frames h.came r rest) (good_more h.heard m) (next h.came old.incoming rest (good h.heard) (Ok m) k.read frame));
+        plays = Hears m e took.taken took.goes_on logged.logs k.plays;
+      },
+    )
 
 -- ---- what follows
 
@@ -295,19 +297,40 @@ module _ (ways : Ways) (heard : List Message) (m : Message) where
   step asked reply l after is NothingAsked i = record { md5 = i.md5; cleartext = i.cleartext; none = i.none; stands = stands_more l.phase l.ways.scram i.stands }
   step asked reply l after is (ByCleartext password p e) i = record { md5 = i.md5; cleartext = i.cleartext; none = i.none; stands = inl (ByPassword password (sym i.cleartext ∙ e)) }
   step asked reply l after is (ByMd5 who p e) i = record { md5 = i.md5; cleartext = i.cleartext; none = i.none; stands = inl (ByHash who (sym i.md5 ∙ e)) }
-  step asked reply l after is (ScramBegins {mechanisms = mechanisms} x text p e o f) i = record { md5 = i.md5; cleartext = i.cleartext; none = i.none;
-    stands = (x, e, record { mechanisms = mechanisms; from = sym (at l AwaitsOffer p i) ∙ e; offers = o; came = came_more (offer mechanisms) is NoneWanted }) }
+  step asked reply l after is (ScramBegins {mechanisms = mechanisms} x text p e o f) i = record {
+    md5 = i.md5;
+    cleartext = i.cleartext;
+    none = i.none;
+    stands = (x, e, record { mechanisms = mechanisms; from = sym (at l AwaitsOffer p i) ∙ e; offers = o; came = came_more (offer mechanisms) is NoneWanted });
+  }
   step asked reply l after is (ScramGoesOn {text = text} x y answer p e a f) i =
       let st = at l AwaitsFirst p i in
       let same : st.0 ≡ x = same_client l.ways.scram st.0 x st.1 e in
-      record { md5 = i.md5; cleartext = i.cleartext; none = i.none;
-        stands = (x, y, refl, record { mechanisms = st.2.mechanisms; first = text; from = st.2.from ∙ ap Some same; offers = st.2.offers; came = came_more (first_text text) is st.2.came; answers = a }) }
+      record {
+        md5 = i.md5;
+        cleartext = i.cleartext;
+        none = i.none;
+        stands = (x, y, refl, record { mechanisms = st.2.mechanisms; first = text; from = st.2.from ∙ ap Some same; offers = st.2.offers; came = came_more (first_text text) is st.2.came; answers = a });
+      }
   step asked reply l after is (ScramEnds {text = text} x y p e finished) i =
       let st = at l AwaitsFinal p i in
       let same : st.1 ≡ x = same_client l.ways.scram st.1 x st.2 e in
-      record { md5 = i.md5; cleartext = i.cleartext; none = i.none;
-        stands = inr (record { start = st.0; after = y; mechanisms = st.3.mechanisms; first = st.3.first; final = text; from = st.3.from; offers = st.3.offers; came = came_more (final_text text) is st.3.came;
-          completes = record { between = x; answers = subst (λ (c : Client). Answers st.0 st.3.first c) same st.3.answers; finished = finished } }) }
+      record {
+        md5 = i.md5;
+        cleartext = i.cleartext;
+        none = i.none;
+        stands = inr (record {
+          start = st.0;
+          after = y;
+          mechanisms = st.3.mechanisms;
+          first = st.3.first;
+          final = text;
+          from = st.3.from;
+          offers = st.3.offers;
+          came = came_more (final_text text) is st.3.came;
+          completes = record { between = x; answers = subst (λ (c : Client). Answers st.0 st.3.first c) same st.3.answers; finished = finished };
+        });
+      }
   step asked reply l after is (Welcomed p) i = record { md5 = i.md5; cleartext = i.cleartext; none = i.none; stands = signs is (at l AwaitsOk p i) }
   step asked reply l after is (Trusted p e) i = record { md5 = i.md5; cleartext = i.cleartext; none = i.none; stands = ByNone (sym i.none ∙ e) }
 

@@ -33,7 +33,8 @@ pub(crate) fn may_send(message: &ClientMessage<'_>, copying: bool) -> bool
         ClientMessage::Query(_) | ClientMessage::Parse { .. } | ClientMessage::Bind { .. } => true,
         ClientMessage::Describe { .. } | ClientMessage::Execute { .. } => true,
         ClientMessage::Close { .. } | ClientMessage::Sync | ClientMessage::Flush => true,
-        ClientMessage::CopyData(_) | ClientMessage::CopyDone | ClientMessage::CopyFail(_) => copying,
+        ClientMessage::CopyData(_) | ClientMessage::CopyDone | ClientMessage::CopyFail(_) =>
+            copying,
         _ => false,
     }
 }

@@ -220,7 +220,7 @@ fn begin<A: Memory>(
     out: &mut BytesMut<A>,
 ) -> Result<(), ConnectionError<A>>
     ensures heard { Begins A.Lacks exchange.now out.old.items out.new.items result }
-        ensures kept { OnErr result (out.new.items ≡ out.old.items) }
+    ensures kept { OnErr result (out.new.items ≡ out.old.items) }
 {
     let Some(first) = exchange.message() else {
         return Err(ConnectionError::Scram(ScramError::WrongState));
@@ -242,7 +242,7 @@ fn reply<A: Memory>(
     out: &mut BytesMut<A>,
 ) -> Result<(), ConnectionError<A>>
     ensures heard { RepliesFirst A.Lacks text.now exchange.old exchange.new out.old.items out.new.items result }
-        ensures kept { OnErr result (out.new.items ≡ out.old.items) }
+    ensures kept { OnErr result (out.new.items ≡ out.old.items) }
 {
     if let Err(e) = exchange.update(text) {
         return Err(ConnectionError::Scram(e));
@@ -265,7 +265,7 @@ fn put_md5<A: Memory>(
     out: &mut BytesMut<A>,
 ) -> Result<(), Error>
     ensures heard { Puts A.Lacks (PasswordMessage (md5_answer user.now password.now salt)) out.old.items out.new.items result }
-        ensures kept { OnErr result (out.new.items ≡ out.old.items) }
+    ensures kept { OnErr result (out.new.items ≡ out.old.items) }
 {
     match md5_hash(alloc, user, password, salt) {
         Ok(answer) => put(&ClientMessage::PasswordMessage(answer.as_bytes()), out),
@@ -279,7 +279,7 @@ pub(crate) fn put<A: Memory>(
     out: &mut BytesMut<A>,
 ) -> Result<(), Error>
     ensures heard { Puts A.Lacks (sent_view message.now) out.old.items out.new.items result }
-        ensures kept { OnErr result (out.new.items ≡ out.old.items) }
+    ensures kept { OnErr result (out.new.items ≡ out.old.items) }
 {
     forward(message, out)
 }

@@ -7,8 +7,6 @@ mod checks;
 #[cfg(test)]
 mod clients;
 #[cfg(test)]
-mod connections;
-#[cfg(test)]
 mod failing;
 #[cfg(test)]
 mod logins;

@@ -2,5 +2,6 @@
 
 pub use pgp_frontend_read::{ClientFrame, ClientParser, Limits, ParserError, read_session};
 pub use pgp_session::{
-    ClientStream, Connection, ConnectionError, ConnectionPhase, Parsed, StreamParser, Ways, parse_stream,
+    ClientStream, Connection, ConnectionError, ConnectionPhase, Parsed, StreamParser, Ways,
+    parse_stream,
 };

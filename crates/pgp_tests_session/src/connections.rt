@@ -1,12 +1,12 @@
-//! A client's connection, on messages of the PostgreSQL manual's formats and the example of RFC 7677. The manual's chapter "Message Flow" says which
+//! A client's connection, on messages of the PostgreSQL manual's formats. The manual's chapter "Message Flow" says which
 //! message answers which request.
-#![tactic(auto, using(pgp_base::proofs::Parts::held_steps))]
 
-use crate::checks::{holds, same, same_at};
+use crate::checks::{holds, same_at};
+use pgp_auth::authentication::sasl::{ChannelBinding, NoPrep, ScramSha256, is_nonce};
+use pgp_base::Error;
+use pgp_client::Event;
 use pgp_session::{Connection, ConnectionError, Ways};
-use postgres_protocol::Error;
-use postgres_protocol::authentication::sasl::{ChannelBinding, NoPrep, ScramSha256, is_nonce};
-use postgres_protocol::dialogue::Event;
+use std::process::Abort;
 use std::test::Fail;
 
 /// The messages of a server that asks for no password, and the events of the request 0.
@@ -19,7 +19,10 @@ const ADMITTED: [(&[u8], Event); 4] = [
 
 /// The answers to a Query of one row, to one that fails, and to a Parse that fails with a Bind and a Sync after it: the requests 1 to 5.
 const ANSWERED: [(&[u8], Event); 9] = [
-    (b"T\0\0\0\x1a\0\x01a\0\0\0\0\0\0\0\0\0\0\x17\0\x04\xff\xff\xff\xff\0\0", Event::Part(1)),
+    (
+        b"T\0\0\0\x1a\0\x01a\0\0\0\0\0\0\0\0\0\0\x17\0\x04\xff\xff\xff\xff\0\0",
+        Event::Part(1),
+    ),
     (b"D\0\0\0\x0b\0\x01\0\0\0\x011", Event::Part(1)),
     (b"N\0\0\0\x05\0", Event::Aside),
     (b"C\0\0\0\x0dSELECT 1\0", Event::Part(1)),
@@ -30,13 +33,18 @@ const ANSWERED: [(&[u8], Event); 9] = [
     (b"Z\0\0\0\x05I", Event::Last(5)),
 ];
 
-/// The server's answers of RFC 7677.
-const OFFER: &[u8] = b"R\0\0\0\x17\0\0\0\x0aSCRAM-SHA-256\0\0";
+/// The server's messages of the exchange that the tests of the Rust crate have: a client without a user's name, as PostgreSQL's are.
+const OFFER: &[u8] = b"R\0\0\0\x2a\0\0\0\x0aSCRAM-SHA-256-PLUS\0SCRAM-SHA-256\0\0";
+
 const FIRST: &[u8] =
-    b"R\0\0\0\x5e\0\0\0\x0br=rOprNGfwEbeRWgbNEkqO%hvYDpWUa2RaTCAfuxFIlj)hNlF$k0,s=W22ZaJ0SNY7soEsUEjb6gQ==,i=4096";
-const FINAL: &[u8] = b"R\0\0\0\x36\0\0\0\x0cv=6rriTRBi23WpRR/wtup+mMhUZUn/dB5nLTJRsjl95G4=";
+    b"R\0\0\0\x54\0\0\0\x0br=9IZ2O01zb9IgiIZ1WJ/zgpJBjx/oIRLs02gGSHcw1KEty3eY,s=fs3IXBy7U7+IvVjZ,i=4096";
+
+const FINAL: &[u8] = b"R\0\0\0\x36\0\0\0\x0cv=U+ppxD5XUKtradnv8e2MkeupiA8FU87Sg8CXzXHDAzw=";
+
 const WELCOME: &[u8] = b"R\0\0\0\x08\0\0\0\0";
+
 const CLEARTEXT: &[u8] = b"R\0\0\0\x08\0\0\0\x03";
+
 const MD5: &[u8] = b"R\0\0\0\x0c\0\0\0\x05salt";
 
 fn trusting(rt: &HostRuntime) -> Connection<'static> {
@@ -73,7 +81,7 @@ fn stops(connection: &mut Connection<'_>) -> bool {
 }
 
 /// Each message comes in two pieces, and is attributed so.
-fn hears(rt: &HostRuntime, connection: &mut Connection<'_>, rows: &[(&[u8], Event)]) {
+fn hears(rt: &impl Abort, connection: &mut Connection<'_>, rows: &[(&[u8], Event)]) {
     for (place, (bytes, event)) in rows.iter().enumerate() {
         let (front, rest) = bytes.split_at(3);
         holds(rt, connection.feed(front).is_ok());
@@ -112,7 +120,7 @@ fn only_ways_that_are_admitted_are_taken(rt: HostRuntime) -> Result<(), Fail> {
         let written = connection.to_send().len();
         holds(&rt, connection.feed(request).is_ok());
         holds(&rt, stops(&mut connection));
-        same(&rt, connection.to_send().len(), written);
+        same_at(&rt, written, connection.to_send().len(), written);
         holds(&rt, connection.feed(WELCOME).is_err());
     }
     Ok(())
@@ -120,13 +128,21 @@ fn only_ways_that_are_admitted_are_taken(rt: HostRuntime) -> Result<(), Fail> {
 
 #[test]
 fn no_client_is_let_in_without_the_signature(rt: HostRuntime) -> Result<(), Fail> {
-    for (place, answers) in [[OFFER, FIRST, FINAL], [WELCOME, FIRST, FINAL], [OFFER, WELCOME, FINAL], [OFFER, FIRST, WELCOME]].iter().enumerate() {
-        let nonce = String::from_str(rt.alloc(), "rOprNGfwEbeRWgbNEkqO")?;
+    for (place, answers) in [
+        [OFFER, FIRST, FINAL],
+        [WELCOME, FIRST, FINAL],
+        [OFFER, WELCOME, FINAL],
+        [OFFER, FIRST, WELCOME],
+    ]
+    .iter()
+    .enumerate()
+    {
+        let nonce = String::from_str(rt.alloc(), "9IZ2O01zb9IgiIZ1WJ/zgpJB")?;
         if !is_nonce(&nonce) {
             return Err(Error::NotUtf8.into());
         }
         let binding = ChannelBinding::unsupported();
-        let exchange = ScramSha256::with_nonce(rt.alloc(), b"pencil", binding, nonce, &NoPrep)?;
+        let exchange = ScramSha256::with_nonce(rt.alloc(), b"foobar", binding, nonce, &NoPrep)?;
         let ways = Ways {
             scram: Some(exchange),
             md5: None,
@@ -161,11 +177,21 @@ fn the_answer_about_encryption_is_one_byte(rt: HostRuntime) -> Result<(), Fail> 
     for (place, (piece, wanted)) in rows.iter().enumerate() {
         let mut connection = trusting(&rt);
         holds(&rt, connection.request_encryption().is_ok());
-        same(&rt, connection.to_send(), b"\0\0\0\x08\x04\xd2\x16\x2f".as_slice());
+        same_at(
+            &rt,
+            place,
+            connection.to_send(),
+            b"\0\0\0\x08\x04\xd2\x16\x2f".as_slice(),
+        );
         let count = connection.to_send().len();
         connection.sent(count);
         holds(&rt, connection.feed(b"S").is_err());
-        same_at(&rt, place, connection.encryption_answered(piece).ok(), *wanted);
+        same_at(
+            &rt,
+            place,
+            connection.encryption_answered(piece).ok(),
+            *wanted,
+        );
     }
     Ok(())
 }
