@@ -83,7 +83,7 @@ fn stops(connection: &mut Connection<'_>) -> bool {
 /// Each message comes in two pieces, and is attributed so.
 fn hears(rt: &impl Abort, connection: &mut Connection<'_>, rows: &[(&[u8], Event)]) {
     for (place, (bytes, event)) in rows.iter().enumerate() {
-        let (front, rest) = bytes.split_at(3);
+        let (front, rest) = bytes.split_at(bytes.len().min(3));
         holds(rt, connection.feed(front).is_ok());
         same_at(rt, place, next_event(connection), None);
         holds(rt, connection.feed(rest).is_ok());
