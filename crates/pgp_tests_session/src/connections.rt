@@ -6,6 +6,7 @@ use pgp_auth::authentication::sasl::{ChannelBinding, NoPrep, ScramSha256, is_non
 use pgp_base::Error;
 use pgp_client::Event;
 use pgp_session::{Connection, ConnectionError, Ways};
+use pgp_uses::client::{Came, connect, next_row};
 use std::process::Abort;
 use std::test::Fail;
 
@@ -43,9 +44,21 @@ const FINAL: &[u8] = b"R\0\0\0\x36\0\0\0\x0cv=U+ppxD5XUKtradnv8e2MkeupiA8FU87Sg8
 
 const WELCOME: &[u8] = b"R\0\0\0\x08\0\0\0\0";
 
+const READY: &[u8] = b"Z\0\0\0\x05I";
+
 const CLEARTEXT: &[u8] = b"R\0\0\0\x08\0\0\0\x03";
 
 const MD5: &[u8] = b"R\0\0\0\x0c\0\0\0\x05salt";
+
+/// The exchange of these messages, for the password `foobar`.
+fn exchange(rt: &HostRuntime) -> Result<ScramSha256, Fail> {
+    let nonce = String::from_str(rt.alloc(), "9IZ2O01zb9IgiIZ1WJ/zgpJB")?;
+    if !is_nonce(&nonce) {
+        return Err(Error::NotUtf8.into());
+    }
+    let binding = ChannelBinding::unsupported();
+    Ok(ScramSha256::with_nonce(rt.alloc(), b"foobar", binding, nonce, &NoPrep)?)
+}
 
 fn trusting(rt: &HostRuntime) -> Connection<'static> {
     let ways = Ways {
@@ -137,14 +150,8 @@ fn no_client_is_let_in_without_the_signature(rt: HostRuntime) -> Result<(), Fail
     .iter()
     .enumerate()
     {
-        let nonce = String::from_str(rt.alloc(), "9IZ2O01zb9IgiIZ1WJ/zgpJB")?;
-        if !is_nonce(&nonce) {
-            return Err(Error::NotUtf8.into());
-        }
-        let binding = ChannelBinding::unsupported();
-        let exchange = ScramSha256::with_nonce(rt.alloc(), b"foobar", binding, nonce, &NoPrep)?;
         let ways = Ways {
-            scram: Some(exchange),
+            scram: Some(exchange(&rt)?),
             md5: None,
             cleartext: None,
             none: false,
@@ -161,6 +168,42 @@ fn no_client_is_let_in_without_the_signature(rt: HostRuntime) -> Result<(), Fail
         }
         same_at(&rt, place, connection.is_logged_in(), place == 0);
     }
+    Ok(())
+}
+
+/// How many rows of the request of this name are among the messages that came, and whether nothing else is left.
+fn rows_of(connection: &mut Connection<'_>, name: u64) -> (u64, bool) {
+    let mut rows = 0_u64;
+    for _ in 0..100 {
+        match next_row(connection, name) {
+            Ok(Came::Row(row)) => {
+                drop(row);
+                rows = rows.saturating_add(1);
+            }
+            Ok(Came::Other(_)) => {}
+            Ok(Came::Nothing) => return (rows, true),
+            Err(_) => return (rows, false),
+        }
+    }
+    (rows, false)
+}
+
+#[test]
+fn a_row_belongs_to_the_request_that_asked_for_it(rt: HostRuntime) -> Result<(), Fail> {
+    let mut connection = connect(rt.alloc(), "alice", exchange(&rt)?)?;
+    for message in [OFFER, FIRST, FINAL, WELCOME, READY] {
+        holds(&rt, connection.feed(message).is_ok());
+        same_at(&rt, 0, rows_of(&mut connection, 0), (0, true));
+    }
+    holds(&rt, connection.query("SELECT 1").is_ok());
+    holds(&rt, connection.query("SELECT 1").is_ok());
+    for _ in 0..2 {
+        for (message, _) in ANSWERED.iter().take(5) {
+            holds(&rt, connection.feed(message).is_ok());
+        }
+    }
+    same_at(&rt, 1, rows_of(&mut connection, 2), (1, true));
+    holds(&rt, connection.is_idle());
     Ok(())
 }
 
