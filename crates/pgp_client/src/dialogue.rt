@@ -3,7 +3,7 @@
 ghost use Rattle.std.specs.Prelude.{◌≡◌, ◌++◌, ◌∷◌, [], OnOk, OnErr};
 ghost use Rattle.pgp_client.specs.Talk.{shown};
 ghost use Rattle.pgp_client.specs.Telling.{start};
-ghost use Rattle.pgp_client.specs.Taking.{Moves, Takes, asked, begun, behind_copy, completes, copied, fails, first_in, follows, goes, heard, heard_at, is_idle, ready, starts_with_sync, taken};
+ghost use Rattle.pgp_client.specs.Taking.{Moves, Takes, asked, begun, behind_copy, completes, copied, fails, first_in, follows, goes, heard, heard_at, is_copying, is_idle, ready, starts_with_sync, taken};
 
 use crate::event::{Event, Refusal};
 use crate::kind::Kind;
@@ -90,6 +90,16 @@ impl<Q: Queue> Dialogue<Q> {
         ensures { result ≡ is_idle (shown Q.items self.now) }
     {
         self.stage == Stage::Idle && self.pending.awaits_none()
+    }
+
+    /// Whether a copy to the server is under way, so that its data may be sent.
+    pub fn is_copying(&self) -> bool
+        ensures { result ≡ is_copying (shown Q.items self.now) }
+    {
+        match self.stage {
+            Stage::CopyingIn | Stage::TakingCopy => true,
+            _ => false,
+        }
     }
 
     /// Takes note of a request, in the order in which they are sent. The events of its answer tell this name.

@@ -10,3 +10,6 @@ pub mod Proxied
 pub mod Replies
 pub mod Served
 pub mod StartupNames
+pub mod LogIns
+pub mod Sessions
+pub mod Connections

@@ -6,3 +6,6 @@ pub mod ScramLogin
 pub mod Serving
 pub mod Proxy
 pub mod Pooler
+pub mod Login
+pub mod Connection
+pub mod Session

@@ -4,15 +4,25 @@
 
 pub mod client;
 mod client_stream;
+mod connection;
+mod connection_error;
+mod connection_parts;
+mod extended;
+pub mod laws;
+mod login;
 mod parsed;
 pub mod pooler;
 pub mod proxy;
+mod requests;
 pub mod scram_login;
 pub mod serving;
 mod stream_parser;
 mod whole_stream;
 
 pub use client_stream::ClientStream;
+pub use connection::{Connection, ConnectionPhase};
+pub use connection_error::ConnectionError;
+pub use login::Ways;
 pub use parsed::Parsed;
 pub use stream_parser::StreamParser;
 pub use whole_stream::parse_stream;

@@ -327,7 +327,7 @@ fn is_due<S: Storage>(phase: LoginPhase, said: &Heard<'_, S>) -> bool
 }
 
 /// Whether SCRAM-SHA-256 is one of the mechanisms, whose list ends well.
-fn offers<S: SaslStorage>(body: &AuthenticationSaslBody<S>) -> bool
+pub(crate) fn offers<S: SaslStorage>(body: &AuthenticationSaslBody<S>) -> bool
     ensures yes { result ≡ true → Offers body.now }
     ensures no { result ≡ false → Offers body.now → ⊥ }
 {

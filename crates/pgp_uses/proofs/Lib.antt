@@ -6,4 +6,5 @@ pub mod Lists
 pub mod Passed
 pub mod Places
 pub mod Written
+mod Connected
 mod Room

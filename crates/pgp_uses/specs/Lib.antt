@@ -9,3 +9,4 @@ pub mod Rows
 pub mod Server
 pub mod Streams
 pub mod Values
+pub mod Client

@@ -2,6 +2,7 @@
 #![tactic(auto)]
 
 pub mod arrays;
+pub mod client;
 pub mod columns;
 pub mod filter;
 pub mod login;

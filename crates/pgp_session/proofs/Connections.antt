@@ -1,0 +1,96 @@
+-- What the calls of a connection come to.
+use Rattle.std.proofs.Common.{◌≡◌, ℕ, ◌<◌, ◌≤◌, List, [], ◌∷◌, ◌++◌, length, get_or, Option, Some, None, Result, Ok, Err, refl, sym, ap, subst, ◌∙◌, arith, inl, Bool, true, false}
+use Rattle.std.specs.Prelude.{OnOk, IfErr, take, ◌&&◌}
+use Rattle.std.specs.Int.{w32, from_be_bytes}
+use Rattle.pgp_base.specs.Cause.{WantsMemory}
+use Rattle.pgp_base.specs.declared.error.Error.{Error}
+use Rattle.pgp_client.specs.Talk.{Talk}
+use Rattle.pgp_client.specs.Taking.{Takes}
+use Rattle.pgp_client.specs.declared.event.Event.{Event}
+use Rattle.pgp_client.specs.declared.event.Refusal.{Refusal}
+use Rattle.pgp_frontend.specs.ClientMessage.{ClientMessage}
+use Rattle.pgp_frontend.specs.Payload.{bytes_of, cause, IsInRange}
+use Rattle.pgp_message.specs.Remembered.{header_of}
+use Rattle.pgp_message.specs.Stream.{BeginsWithKept, IsPartial, Step, TakesFrame}
+use Rattle.pgp_message.specs.Views.{parsed, view}
+use Rattle.pgp_message.specs.declared.message.Message.{Message}
+use Rattle.pgp_base.specs.declared.error.Error.TheVariants.{OutOfMemory}
+use Rattle.pgp_client.specs.Kinds.{request_of}
+use Rattle.pgp_client.specs.Taking.{is_copying}
+use Rattle.pgp_client.specs.declared.request.Request.{Request}
+use Rattle.pgp_session.specs.Connection.{Notes, SendsGiven, Shown, asked_of, is_logged_in, is_longer, longer, may_send, next_name, noted, said, with_out}
+use Rattle.pgp_session.specs.declared.connection_error.ConnectionError.{ConnectionError}
+use Rattle.pgp_session.specs.declared.connection_error.ConnectionError.TheVariants.{OutOfMemory as OutOfMemoryThere}
+use Rattle.pgp_session.specs.Login.{Puts}
+
+pub short_longer : (limit : ℕ) (bytes : List ℕ) → length bytes < 5 → false ≡ is_longer limit bytes
+short_longer limit [] short = refl
+short_longer limit (a ∷ []) short = refl
+short_longer limit (a ∷ b ∷ []) short = refl
+short_longer limit (a ∷ b ∷ c ∷ []) short = refl
+short_longer limit (a ∷ b ∷ c ∷ d ∷ []) short = refl
+short_longer limit (a ∷ b ∷ c ∷ d ∷ e ∷ rest) short = absurd (omega (arith, short))
+
+pub announced : (bytes : List ℕ) → 5 ≤ length bytes → header_of bytes ≡ Some (get_or bytes 0 0, from_be_bytes w32 (get_or bytes 1 0 ∷ get_or bytes 2 0 ∷ get_or bytes 3 0 ∷ get_or bytes 4 0 ∷ []))
+announced [] long = absurd (omega (arith, long))
+announced (a ∷ []) long = absurd (omega (arith, long))
+announced (a ∷ b ∷ []) long = absurd (omega (arith, long))
+announced (a ∷ b ∷ c ∷ []) long = absurd (omega (arith, long))
+announced (a ∷ b ∷ c ∷ d ∷ []) long = absurd (omega (arith, long))
+announced (a ∷ b ∷ c ∷ d ∷ e ∷ rest) long = refl
+
+pair_is : (x : Event × Talk) (e : Event) (t : Talk) → e ≡ x.0 → t ≡ x.1 → x ≡ (e, t)
+pair_is x e t p q = rw (p, q) refl
+
+-- what the dialogue took
+pub taken_ok : (r : Result (Event × Talk) Refusal) (e : Event) (new : Talk) → Takes r (Ok e) new → r ≡ Ok (e, new)
+taken_ok (Ok x) e new t = ap Ok (pair_is x e new t.0 t.1)
+taken_ok (Err q) e new t = absurd t
+
+-- bytes that spell a message were appended
+pub put_by : (lacks : Type 0) (m : ClientMessage) (out grown packet : List ℕ) (r : Result (Unit {0}) Error) → cause m ≡ None → IsInRange m → packet ≡ bytes_of m
+    → OnOk r (grown ≡ out ++ packet) → IfErr r (WantsMemory lacks) → Puts lacks m out grown r
+put_by lacks m out grown packet (Ok done) none range spelled ok err = record { none = none; in_range = range; bytes = ok ∙ ap (λ b. out ++ b) spelled }
+put_by lacks m out grown packet (Err e) none range spelled ok err = inl err
+
+-- ---- a step along the stream
+
+pub step_none : {A : Type 0} (lacks : Type 0) (old new : List ℕ) (o : Option (Message A)) → o ≡ None → Step lacks old (parsed (Ok o)) new → IsPartial old × (new ≡ old)
+step_none {A} lacks old new o e s = subst (λ (x : Option (Message A)). Step lacks old (parsed (Ok x)) new) e s
+
+pub step_memory : (lacks : Type 0) (old new : List ℕ) (e : Error) → e ≡ OutOfMemory → Step lacks old (Err e) new → BeginsWithKept old × lacks × (new ≡ old)
+step_memory lacks old new e is s = subst (λ (x : Error). Step lacks old (Err x) new) is s
+
+pub step_some : {A : Type 0} (lacks : Type 0) (old new : List ℕ) (o : Option (Message A)) (m : Message A) → o ≡ Some m → Step lacks old (parsed (Ok o)) new → TakesFrame old (Ok (view m)) new
+step_some {A} lacks old new o m e s = subst (λ (x : Option (Message A)). Step lacks old (parsed (Ok x)) new) e s
+
+-- ---- requests that iterators gave
+
+take_front : (xs ys : List ℕ) → take (length xs) (xs ++ ys) ≡ xs
+take_front [] ys = refl
+take_front (x ∷ xs) ys = ap (λ l. x ∷ l) (take_front xs ys)
+
+said_by : (m : ClientMessage) (r : Request) (c : Shown) → request_of m ≡ Some r → noted r (with_out (c.out ++ bytes_of m) c) ≡ said m c
+said_by m r c e = ap (λ (o : Option Request). record { phase = c.phase; login = c.login; out = c.out ++ bytes_of m; incoming = c.incoming; talk = asked_of o c.names c.talk; names = next_name c.names; limit = c.limit }) (sym e)
+
+both_true : (a b : Bool) → a ≡ true → b ≡ true → (a && b) ≡ true
+both_true a b e f = rw (e, f) refl
+
+-- the message was written, and its request noted
+pub given_by : {A : Type 0} (lacks : Type 0) (Whole : ClientMessage → Type 0) (Refuses : Error → Type 0) (m : ClientMessage) (r : Request) (old new : Shown) (written : List ℕ) (result : Result ℕ (ConnectionError A))
+    → Whole m → may_send (is_copying old.talk) m ≡ true → cause m ≡ None → IsInRange m → request_of m ≡ Some r → is_logged_in old ≡ true → written ≡ old.out ++ bytes_of m
+    → Notes lacks (length old.out) r (with_out written old) new result → SendsGiven lacks Whole Refuses old new result
+given_by lacks Whole Refuses m r old new written (Ok name) whole may none range request logged bytes n =
+    let is : new ≡ said m old = n.1 ∙ ap (λ (l : List ℕ). noted r (with_out l old)) bytes ∙ said_by m r old request in (
+      m,
+      whole,
+      record {
+        may = both_true (is_logged_in old) (may_send (is_copying old.talk) m) logged may;
+        added = record { none = none; in_range = range; bytes = ap (λ (c : Shown). c.out) is };
+        named = n.0;
+        is = is;
+      },
+    )
+given_by lacks Whole Refuses m r old new written (Err OutOfMemoryThere) whole may none range request logged bytes n =
+    (logged, n.0, n.1 ∙ ap (λ (l : List ℕ). with_out (take (length old.out) l) old) bytes ∙ ap (λ (l : List ℕ). with_out l old) (take_front old.out (bytes_of m)))
+given_by lacks Whole Refuses m r old new written (Err e) whole may none range request logged bytes n = absurd n

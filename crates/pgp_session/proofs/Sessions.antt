@@ -1,0 +1,448 @@
+-- What is known of a connection, after each call, and what follows from it.
+use Rattle.std.proofs.Common.{◌≡◌, ◌≢◌, ◌⊎◌, ℕ, Bool, true, false, List, [], ◌∷◌, ◌++◌, take, drop, map, Option, Some, None, Result, Ok, Err, refl, sym, ap, subst, ◌∙◌, append_assoc, inl, inr}
+use Rattle.std.specs.Prelude.{option_to_list, if◌then◌else◌, ◌&&◌}
+use Rattle.std.specs.List.{flat_map, AllByRecursion}
+use Rattle.std.proofs.lemmas.List.{append-nil, take-append-drop}
+use Rattle.std.proofs.lemmas.List.Concat.{flat_map-cons}
+use Rattle.std.proofs.lemmas.Grind.{flat_map-append}
+use Rattle.pgp_base.specs.declared.error.Error.{Error}
+use Rattle.pgp_auth.specs.Md5Text.{md5_answer}
+use Rattle.pgp_auth.specs.ScramClient.{Client, Answers, Completes, Finished}
+use Rattle.pgp_client.specs.Flow.{Belong}
+use Rattle.pgp_client.specs.Kinds.{kind_of, request_of}
+use Rattle.pgp_client.specs.Taking.{is_copying, taken}
+use Rattle.pgp_client.specs.Talk.{Talk}
+use Rattle.pgp_client.specs.Telling.{Turn, Asks, Hears as HearsTurn, Follows as FollowsTurns, asked_in, heard_in, told_in, start}
+use Rattle.pgp_client.specs.declared.event.Event.{Event}
+use Rattle.pgp_client.specs.declared.event.Event.TheVariants.{Ended}
+use Rattle.pgp_client.specs.declared.request.Asked.{Asked}
+use Rattle.pgp_client.specs.declared.request.Request.{Request}
+use Rattle.pgp_frontend.specs.ClientMessage.{ClientMessage, CancelRequest, GssEncRequest, PasswordMessage, SaslInitialResponse, SaslResponse, SslRequest, Startup, Terminate}
+use Rattle.pgp_frontend.specs.Reading.{IsNamed}
+use Rattle.pgp_frontend.specs.ClientRun.{ClientRun, MayCome, is_opened, is_startup, kinds_of}
+use Rattle.pgp_frontend.specs.Payload.{bytes_of, tag_of}
+use Rattle.pgp_frontend.proofs.ClientRuns.{each_push, run_more, opened_more, nothing}
+use Rattle.pgp_message.specs.BackendMessage.{Message, Authentication, AuthenticationOk, AuthenticationSasl, AuthenticationSaslContinue, AuthenticationSaslFinal}
+use Rattle.pgp_message.specs.Stream.{Frames, TakesFrame}
+use Rattle.pgp_session.specs.Connection.{HasStarted, Sent, Shown, Took, Wrote, asked_of, begun, in_phase, is_end, is_logged_in, logged_in_at, may_send, with_incoming}
+use Rattle.pgp_session.specs.Login.{Added, AddsReply, Asking, Cleartext, Md5, Sasl, First, Final, Welcome, Other, Nothing, Login, LogsOn, NothingAsked, ByCleartext, ByMd5, ScramBegins, ScramGoesOn, ScramEnds, Welcomed, Trusted, Ways, asking}
+use Rattle.pgp_session.specs.ScramLogin.{Offers, CameAmong, NoneWanted, OneCame, OtherCame, offer, first_text, final_text, welcome}
+use Rattle.pgp_session.specs.Session.{Admitted, ByNone, ByPassword, ByHash, BySignature, Follows, History, IsAllowed, IsOpenedAt, Known, Plays, Begins, Writes, Hears, and_fed, and_heard, and_sent, and_wrote, good, is_secret, nothing as no_history, requests_in, requests_of, turns_of}
+use Rattle.pgp_session.specs.declared.connection.ConnectionPhase.{ConnectionPhase}
+use Rattle.pgp_session.specs.declared.connection.ConnectionPhase.TheVariants.{Opening, Encrypting, Started, Over as OverPhase}
+use Rattle.pgp_session.specs.declared.scram_login.LoginPhase.{LoginPhase}
+use Rattle.pgp_session.specs.declared.scram_login.LoginPhase.TheVariants.{AwaitsOffer, AwaitsFirst, AwaitsFinal, AwaitsOk, Done, Over}
+
+-- ---- one message more
+
+-- a message is written after others
+run_one : (l : List ClientMessage) (m : ClientMessage) (sent out grown : List ℕ) → ClientRun (flat_map kinds_of l) l (sent ++ out) → MayCome m (is_opened l) → Added m out grown
+    → ClientRun (flat_map kinds_of (l ++ m ∷ [])) (l ++ m ∷ []) (sent ++ grown)
+run_one l m sent out grown run may added =
+    let r = run_more (flat_map kinds_of l) l m (sent ++ out) run may added.none added.in_range in
+    let bytes : (sent ++ out) ++ bytes_of m ≡ sent ++ grown = append_assoc sent out (bytes_of m) ∙ ap (λ b. sent ++ b) (sym added.bytes) in
+    subst (λ b. ClientRun (flat_map kinds_of (l ++ m ∷ [])) (l ++ m ∷ []) b) bytes (subst (λ ks. ClientRun ks (l ++ m ∷ []) ((sent ++ out) ++ bytes_of m)) r.told r)
+
+pub wrote : (ways : Ways) (h : History) (old new : Shown) (m : ClientMessage) (name : ℕ) → MayCome m (is_opened h.written) → is_secret m ≡ false
+    → IsOpenedAt new.phase (is_opened (h.written ++ m ∷ [])) → Added m old.out new.out
+    → new.incoming ≡ old.incoming → new.talk ≡ asked_of (request_of m) name old.talk → new.login ≡ old.login → Known ways h old → Known ways (and_wrote m name h) new
+wrote ways h old new m name may plain opened added incoming talk login k = record {
+  run = run_one h.written m h.sent old.out new.out k.run may added;
+  opened = opened;
+  read = subst (λ b. Frames h.came (good h.heard) b) (sym incoming) k.read;
+  plays =
+      subst (λ (t : Talk). Plays ways (h.written ++ m ∷ []) h.heard (h.turns ++ turns_of (request_of m) name) t new.login) (sym talk)
+      (subst (λ (l : Login). Plays ways (h.written ++ m ∷ []) h.heard (h.turns ++ turns_of (request_of m) name) (asked_of (request_of m) name old.talk) l) (sym login)
+      (Writes m name plain k.plays));
+}
+
+pub sent_some : (ways : Ways) (h : History) (old new : Shown) (n : ℕ) → new.phase ≡ old.phase → new.out ≡ drop n old.out → new.incoming ≡ old.incoming → new.talk ≡ old.talk → new.login ≡ old.login
+    → Known ways h old → Known ways (and_sent n old h) new
+sent_some ways h old new n phase out incoming talk login k =
+    let bytes : h.sent ++ old.out ≡ (h.sent ++ take n old.out) ++ new.out =
+    ap (λ b. h.sent ++ b) (sym (take-append-drop n old.out)) ∙ sym (append_assoc h.sent (take n old.out) (drop n old.out)) ∙ ap (λ b. (h.sent ++ take n old.out) ++ b) (sym out) in
+    record {
+      run = subst (λ b. ClientRun (flat_map kinds_of h.written) h.written b) bytes k.run;
+      opened = subst (λ (p : ConnectionPhase). IsOpenedAt p (is_opened h.written)) (sym phase) k.opened;
+      read = subst (λ b. Frames h.came (good h.heard) b) (sym incoming) k.read;
+      plays = subst (λ (t : Talk). Plays ways h.written h.heard h.turns t new.login) (sym talk) (subst (λ (l : Login). Plays ways h.written h.heard h.turns old.talk l) (sym login) k.plays);
+    }
+
+pub fed_some : (ways : Ways) (h : History) (old new : Shown) (piece : List ℕ) → new.phase ≡ old.phase → new.out ≡ old.out → new.incoming ≡ old.incoming ++ piece → new.talk ≡ old.talk → new.login ≡ old.login
+    → ((bytes : List ℕ) → Frames bytes [] bytes)
+    → ((bytes more rest left : List ℕ) (first second : List (Result Message Error)) → Frames bytes first rest → Frames (rest ++ more) second left → Frames (bytes ++ more) (first ++ second) left)
+    → Known ways h old → Known ways (and_fed piece h) new
+fed_some ways h old new piece phase out incoming talk login none go k =
+    let frames : Frames (h.came ++ piece) (good h.heard ++ []) (old.incoming ++ piece) = go h.came piece old.incoming (old.incoming ++ piece) (good h.heard) [] k.read (none (old.incoming ++ piece)) in
+    record {
+      run = subst (λ b. ClientRun (flat_map kinds_of h.written) h.written (h.sent ++ b)) (sym out) k.run;
+      opened = subst (λ (p : ConnectionPhase). IsOpenedAt p (is_opened h.written)) (sym phase) k.opened;
+      read = subst (λ b. Frames (h.came ++ piece) (good h.heard) b) (sym incoming) (subst (λ r. Frames (h.came ++ piece) r (old.incoming ++ piece)) (append-nil (good h.heard)) frames);
+      plays = subst (λ (t : Talk). Plays ways h.written h.heard h.turns t new.login) (sym talk) (subst (λ (l : Login). Plays ways h.written h.heard h.turns old.talk l) (sym login) k.plays);
+    }
+
+good_more : (ms : List Message) (m : Message) → good ms ++ Ok m ∷ [] ≡ good (ms ++ m ∷ [])
+good_more [] m = refl
+good_more (x ∷ ms) m = ap (λ l. Ok x ∷ l) (good_more ms m)
+
+opened_still : (l : List ClientMessage) (m : ClientMessage) → is_opened l ≡ true → is_opened (l ++ m ∷ []) ≡ true
+opened_still l m e = opened_more l m ∙ go (is_startup m)
+  where
+    go : (b : Bool) → (if b then true else is_opened l) ≡ true
+    go true = refl
+    go false = e
+
+reply_tagged : (asked : Asking) (m : ClientMessage) (l after : Login) → LogsOn asked (Some m) l after → tag_of m ≢ None
+reply_tagged asked m l after (ByCleartext password p e) = λ none. cc
+reply_tagged asked m l after (ByMd5 who p e) = λ none. cc
+reply_tagged asked m l after (ScramBegins x text p e o f) = λ none. cc
+reply_tagged asked m l after (ScramGoesOn x y answer p e a f) = λ none. cc
+
+-- a reply is a message of the log-in, to which the server gives no answer of its own
+reply_unasked : (asked : Asking) (m : ClientMessage) (l after : Login) → LogsOn asked (Some m) l after → request_of m ≡ None
+reply_unasked asked m l after (ByCleartext password p e) = refl
+reply_unasked asked m l after (ByMd5 who p e) = refl
+reply_unasked asked m l after (ScramBegins x text p e o f) = refl
+reply_unasked asked m l after (ScramGoesOn x y answer p e a f) = refl
+
+tagged_may : (l : List ClientMessage) (m : ClientMessage) → is_opened l ≡ true → tag_of m ≢ None → MayCome m (is_opened l)
+tagged_may l m e tagged = subst (λ (b : Bool). MayCome m b) (sym e) tagged
+
+-- the reply to a message was written, if there is one
+replied : (l : List ClientMessage) (asked : Asking) (reply : Option ClientMessage) (before after : Login) (sent out grown : List ℕ) → is_opened l ≡ true → LogsOn asked reply before after → AddsReply reply out grown
+    → ClientRun (flat_map kinds_of l) l (sent ++ out) → ClientRun (flat_map kinds_of (l ++ option_to_list reply)) (l ++ option_to_list reply) (sent ++ grown)
+replied l asked None before after sent out grown opened logs adds run =
+    subst (λ (x : List ClientMessage). ClientRun (flat_map kinds_of x) x (sent ++ grown)) (sym (append-nil l)) (subst (λ b. ClientRun (flat_map kinds_of l) l (sent ++ b)) (sym adds) run)
+replied l asked (Some m) before after sent out grown opened logs adds run = run_one l m sent out grown run (tagged_may l m opened (reply_tagged asked m before after logs)) adds
+
+opened_replied : (l : List ClientMessage) (reply : Option ClientMessage) → is_opened l ≡ true → is_opened (l ++ option_to_list reply) ≡ true
+opened_replied l None e = ap is_opened (append-nil l) ∙ e
+opened_replied l (Some m) e = opened_still l m e
+
+at_started : (p : ConnectionPhase) (b : Bool) → p ≡ Started → IsOpenedAt p b → b ≡ true
+at_started p b e opened = subst (λ (q : ConnectionPhase). IsOpenedAt q b) e opened
+
+pub heard_one : (ways : Ways) (h : History) (old new : Shown) (rest : List ℕ) (m : Message) (e : Event) → old.phase ≡ Started → TakesFrame old.incoming (Ok m) rest → Took m (with_incoming rest old) new e
+    → ((bytes before after : List ℕ) (results : List (Result Message Error)) (r : Result Message Error) → Frames bytes results before → TakesFrame before r after → Frames bytes (results ++ r ∷ []) after)
+    → Known ways h old → (reply : Option ClientMessage) × Known ways (and_heard m e reply h) new
+heard_one ways h old new rest m e phase frame took next k =
+    let logged = took.logged in
+    let opened : is_opened h.written ≡ true = at_started old.phase (is_opened h.written) phase k.opened in (
+      logged.reply,
+      record {
+        run = replied h.written (asking m) logged.reply old.login new.login h.sent old.out new.out opened logged.logs logged.adds k.run;
+        opened = subst (λ (p : ConnectionPhase). IsOpenedAt p (is_opened (h.written ++ option_to_list logged.reply))) (sym (ap (λ (c : Shown). c.phase) took.is ∙ phase)) (opened_replied h.written logged.reply opened);
+        read = subst (λ b. Frames h.came (good (h.heard ++ m ∷ [])) b) (sym (ap (λ (c : Shown). c.incoming) took.is))
+            (subst (λ r. Frames h.came r rest) (good_more h.heard m) (next h.came old.incoming rest (good h.heard) (Ok m) k.read frame));
+        plays = Hears m e took.taken took.goes_on logged.logs k.plays;
+      },
+    )
+
+-- ---- what follows
+
+asked_more : (turns more : List Turn) → asked_in (turns ++ more) ≡ asked_in turns ++ asked_in more
+asked_more [] more = refl
+asked_more (Asks a ∷ turns) more = ap (λ l. a ∷ l) (asked_more turns more)
+asked_more (HearsTurn k e ∷ turns) more = asked_more turns more
+
+heard_more : (turns more : List Turn) → heard_in (turns ++ more) ≡ heard_in turns ++ heard_in more
+heard_more [] more = refl
+heard_more (Asks a ∷ turns) more = heard_more turns more
+heard_more (HearsTurn k e ∷ turns) more = ap (λ l. k ∷ l) (heard_more turns more)
+
+requests_more : (rs more : List Asked) → requests_in (rs ++ more) ≡ requests_in rs ++ requests_in more
+requests_more [] more = refl
+requests_more (a ∷ rs) more = ap (λ l. a.request ∷ l) (requests_more rs more)
+
+one_turn : (r : Option Request) (n : ℕ) → requests_in (asked_in (turns_of r n)) ≡ option_to_list r
+one_turn None n = refl
+one_turn (Some r) n = refl
+
+none_heard : (r : Option Request) (n : ℕ) → heard_in (turns_of r n) ≡ []
+none_heard None n = refl
+none_heard (Some r) n = refl
+
+requests_pushed : (l : List ClientMessage) (m : ClientMessage) → requests_of (l ++ m ∷ []) ≡ requests_of l ++ option_to_list (request_of m)
+requests_pushed l m = flat_map-append (λ x. option_to_list (request_of x)) l (m ∷ []) ∙ ap (λ r. requests_of l ++ r) (flat_map-cons (λ x. option_to_list (request_of x)) m [] ∙ append-nil (option_to_list (request_of m)))
+
+requests_replied : (l : List ClientMessage) (asked : Asking) (reply : Option ClientMessage) (before after : Login) → LogsOn asked reply before after → requests_of (l ++ option_to_list reply) ≡ requests_of l
+requests_replied l asked None before after logs = ap requests_of (append-nil l)
+requests_replied l asked (Some m) before after logs = requests_pushed l m ∙ ap (λ r. requests_of l ++ option_to_list r) (reply_unasked asked m before after logs) ∙ append-nil (requests_of l)
+
+kinds_more : (ms : List Message) (m : Message) → map kind_of (ms ++ m ∷ []) ≡ map kind_of ms ++ kind_of m ∷ []
+kinds_more [] m = refl
+kinds_more (x ∷ ms) m = ap (λ l. kind_of x ∷ l) (kinds_more ms m)
+
+module _ (ways : Ways) where
+  pub plays_asked : {written : List ClientMessage} {heard : List Message} {turns : List Turn} {t : Talk} {l : Login} → Plays ways written heard turns t l → requests_in (asked_in turns) ≡ requests_of written
+  plays_asked Begins = refl
+  plays_asked (Writes {written} {heard} {turns} m name plain p) =
+      ap requests_in (asked_more turns (turns_of (request_of m) name)) ∙ requests_more (asked_in turns) (asked_in (turns_of (request_of m) name))
+      ∙ ap (λ r. requests_in (asked_in turns) ++ r) (one_turn (request_of m) name) ∙ ap (λ r. r ++ option_to_list (request_of m)) (plays_asked p) ∙ sym (requests_pushed written m)
+  plays_asked (Hears {written} {reply} {heard} {turns} {t} {next} {l} {after} m e taken on logs p) =
+      ap requests_in (asked_more turns (HearsTurn (kind_of m) e ∷ [])) ∙ ap requests_in (append-nil (asked_in turns)) ∙ plays_asked p ∙ sym (requests_replied written (asking m) reply l after logs)
+
+  pub plays_heard : {written : List ClientMessage} {heard : List Message} {turns : List Turn} {t : Talk} {l : Login} → Plays ways written heard turns t l → heard_in turns ≡ map kind_of heard
+  plays_heard Begins = refl
+  plays_heard (Writes {written} {heard} {turns} m name plain p) =
+      heard_more turns (turns_of (request_of m) name) ∙ ap (λ r. heard_in turns ++ r) (none_heard (request_of m) name) ∙ append-nil (heard_in turns) ∙ plays_heard p
+  plays_heard (Hears {written} {reply} {heard} {turns} m e taken on logs p) =
+      heard_more turns (HearsTurn (kind_of m) e ∷ []) ∙ ap (λ r. r ++ kind_of m ∷ []) (plays_heard p) ∙ sym (kinds_more heard m)
+
+  goes_on_at : (e : Event) → is_end e ≡ false → e ≢ Ended
+  goes_on_at e on = λ is. let f : true ≡ false = ap is_end (sym is) ∙ on in cc
+
+  turn_asked : (r : Option Request) (n : ℕ) (t : Talk) (rest : List Turn) → FollowsTurns (asked_of r n t) rest → FollowsTurns t (turns_of r n ++ rest)
+  turn_asked None n t rest f = f
+  turn_asked (Some r) n t rest f = f
+
+  plays_on : {written : List ClientMessage} {heard : List Message} {turns : List Turn} {t : Talk} {l : Login} → Plays ways written heard turns t l → (rest : List Turn) → FollowsTurns t rest → FollowsTurns start (turns ++ rest)
+  plays_on Begins rest f = f
+  plays_on (Writes {written} {heard} {turns} {t} m name plain p) rest f =
+      subst (λ ts. FollowsTurns start ts) (sym (append_assoc turns (turns_of (request_of m) name) rest)) (plays_on p (turns_of (request_of m) name ++ rest) (turn_asked (request_of m) name t rest f))
+  plays_on (Hears {written} {reply} {heard} {turns} {t} {next} m e taken on logs p) rest f =
+      subst (λ ts. FollowsTurns start ts) (sym (append_assoc turns (HearsTurn (kind_of m) e ∷ []) rest)) (plays_on p (HearsTurn (kind_of m) e ∷ rest) (next, taken, goes_on_at e on, f))
+
+  pub plays_follow : {written : List ClientMessage} {heard : List Message} {turns : List Turn} {t : Talk} {l : Login} → Plays ways written heard turns t l → FollowsTurns start turns
+  plays_follow {turns = turns} p = subst (λ ts. FollowsTurns start ts) (append-nil turns) (plays_on p [] tt)
+
+-- ---- by which way a client is logged in
+
+IsAskedBy : Message → Asking → Type 0
+IsAskedBy m (Sasl mechanisms) = m ≡ offer mechanisms
+IsAskedBy m (First text) = m ≡ first_text text
+IsAskedBy m (Final text) = m ≡ final_text text
+IsAskedBy m Welcome = m ≡ welcome
+IsAskedBy m asked = Unit {0}
+
+asked_by : (m : Message) → IsAskedBy m (asking m)
+unfolding IsAskedBy
+asked_by (Authentication (AuthenticationSasl mechanisms)) = refl
+asked_by (Authentication (AuthenticationSaslContinue text)) = refl
+asked_by (Authentication (AuthenticationSaslFinal text)) = refl
+asked_by (Authentication AuthenticationOk) = refl
+asked_by m = tt
+
+record Offered (ways : Ways) (heard : List Message) (x : Client) : Type 0 where
+  mechanisms : List ℕ
+  from : ways.scram ≡ Some x
+  offers : Offers mechanisms
+  came : CameAmong (offer mechanisms ∷ []) heard
+
+record Answered (ways : Ways) (heard : List Message) (x y : Client) : Type 0 where
+  mechanisms : List ℕ
+  first : List ℕ
+  from : ways.scram ≡ Some x
+  offers : Offers mechanisms
+  came : CameAmong (offer mechanisms ∷ first_text first ∷ []) heard
+  answers : Answers x first y
+
+record Verified (ways : Ways) (heard : List Message) : Type 0 where
+  start : Client
+  after : Client
+  mechanisms : List ℕ
+  first : List ℕ
+  final : List ℕ
+  from : ways.scram ≡ Some start
+  offers : Offers mechanisms
+  came : CameAmong (offer mechanisms ∷ first_text first ∷ final_text final ∷ []) heard
+  completes : Completes start first final after
+
+-- what a log-in's phase says of the messages that came, where it has this exchange
+abbrev Stands : Ways → List Message → LoginPhase → Option Client → Type 0
+Stands ways heard AwaitsOffer s = s ≡ ways.scram
+Stands ways heard AwaitsFirst s = (x : Client) × (s ≡ Some x) × Offered ways heard x
+Stands ways heard AwaitsFinal s = (x : Client) × (y : Client) × (s ≡ Some y) × Answered ways heard x y
+Stands ways heard AwaitsOk s = Admitted ways heard ⊎ Verified ways heard
+Stands ways heard Done s = Admitted ways heard
+Stands ways heard Over s = Unit {0}
+
+record IsAt (ways : Ways) (heard : List Message) (l : Login) : Type 0 where
+  md5 : l.ways.md5 ≡ ways.md5
+  cleartext : l.ways.cleartext ≡ ways.cleartext
+  none : l.ways.none ≡ ways.none
+  stands : Stands ways heard l.phase l.ways.scram
+
+module _ (ways : Ways) (heard : List Message) (m : Message) where
+  admitted_more : Admitted ways heard → Admitted ways (heard ++ m ∷ [])
+  admitted_more (ByNone e) = ByNone e
+  admitted_more (ByPassword password e) = ByPassword password e
+  admitted_more (ByHash who e) = ByHash who e
+  admitted_more (BySignature x e s) = BySignature x e (record { mechanisms = s.mechanisms; first = s.first; final = s.final; after = s.after; offers = s.offers; came = OtherCame m s.came; completes = s.completes })
+
+  stands_more : (p : LoginPhase) (s : Option Client) → Stands ways heard p s → Stands ways (heard ++ m ∷ []) p s
+  stands_more AwaitsOffer s h = h
+  stands_more AwaitsFirst s h = (h.0, h.1, record { mechanisms = h.2.mechanisms; from = h.2.from; offers = h.2.offers; came = OtherCame m h.2.came })
+  stands_more AwaitsFinal s h = (h.0, h.1, h.2, record { mechanisms = h.3.mechanisms; first = h.3.first; from = h.3.from; offers = h.3.offers; came = OtherCame m h.3.came; answers = h.3.answers })
+  stands_more AwaitsOk s (inl a) = inl (admitted_more a)
+  stands_more AwaitsOk s (inr v) = inr (record { start = v.start; after = v.after; mechanisms = v.mechanisms; first = v.first; final = v.final; from = v.from; offers = v.offers; came = OtherCame m v.came; completes = v.completes })
+  stands_more Done s h = admitted_more h
+  stands_more Over s h = tt
+
+  came_more : {wanted : List Message} (x : Message) → m ≡ x → CameAmong wanted heard → CameAmong (wanted ++ x ∷ []) (heard ++ m ∷ [])
+  came_more {wanted} x e a = subst (λ (y : Message). CameAmong (wanted ++ y ∷ []) (heard ++ m ∷ [])) e (OneCame m a)
+
+  at : (l : Login) (p : LoginPhase) → l.phase ≡ p → IsAt ways heard l → Stands ways heard p l.ways.scram
+  at l p e i = subst (λ (q : LoginPhase). Stands ways heard q l.ways.scram) e i.stands
+
+  same_client : (s : Option Client) (x y : Client) → s ≡ Some x → s ≡ Some y → x ≡ y
+  same_client s x y e f = let both : Some x ≡ Some y = sym e ∙ f in cc
+
+  signs : m ≡ welcome → Admitted ways heard ⊎ Verified ways heard → Admitted ways (heard ++ m ∷ [])
+  signs e (inl a) = admitted_more a
+  signs e (inr v) = BySignature v.start v.from (record { mechanisms = v.mechanisms; first = v.first; final = v.final; after = v.after; offers = v.offers; came = came_more welcome e v.came; completes = v.completes })
+
+  step : (asked : Asking) (reply : Option ClientMessage) (l after : Login) → IsAskedBy m asked → LogsOn asked reply l after → IsAt ways heard l → IsAt ways (heard ++ m ∷ []) after
+  unfolding IsAskedBy
+  step asked reply l after is NothingAsked i = record { md5 = i.md5; cleartext = i.cleartext; none = i.none; stands = stands_more l.phase l.ways.scram i.stands }
+  step asked reply l after is (ByCleartext password p e) i = record { md5 = i.md5; cleartext = i.cleartext; none = i.none; stands = inl (ByPassword password (sym i.cleartext ∙ e)) }
+  step asked reply l after is (ByMd5 who p e) i = record { md5 = i.md5; cleartext = i.cleartext; none = i.none; stands = inl (ByHash who (sym i.md5 ∙ e)) }
+  step asked reply l after is (ScramBegins {mechanisms = mechanisms} x text p e o f) i = record {
+    md5 = i.md5;
+    cleartext = i.cleartext;
+    none = i.none;
+    stands = (x, e, record { mechanisms = mechanisms; from = sym (at l AwaitsOffer p i) ∙ e; offers = o; came = came_more (offer mechanisms) is NoneWanted });
+  }
+  step asked reply l after is (ScramGoesOn {text = text} x y answer p e a f) i =
+      let st = at l AwaitsFirst p i in
+      let same : st.0 ≡ x = same_client l.ways.scram st.0 x st.1 e in
+      record {
+        md5 = i.md5;
+        cleartext = i.cleartext;
+        none = i.none;
+        stands = (x, y, refl, record { mechanisms = st.2.mechanisms; first = text; from = st.2.from ∙ ap Some same; offers = st.2.offers; came = came_more (first_text text) is st.2.came; answers = a });
+      }
+  step asked reply l after is (ScramEnds {text = text} x y p e finished) i =
+      let st = at l AwaitsFinal p i in
+      let same : st.1 ≡ x = same_client l.ways.scram st.1 x st.2 e in
+      record {
+        md5 = i.md5;
+        cleartext = i.cleartext;
+        none = i.none;
+        stands = inr (record {
+          start = st.0;
+          after = y;
+          mechanisms = st.3.mechanisms;
+          first = st.3.first;
+          final = text;
+          from = st.3.from;
+          offers = st.3.offers;
+          came = came_more (final_text text) is st.3.came;
+          completes = record { between = x; answers = subst (λ (c : Client). Answers st.0 st.3.first c) same st.3.answers; finished = finished };
+        });
+      }
+  step asked reply l after is (Welcomed p) i = record { md5 = i.md5; cleartext = i.cleartext; none = i.none; stands = signs is (at l AwaitsOk p i) }
+  step asked reply l after is (Trusted p e) i = record { md5 = i.md5; cleartext = i.cleartext; none = i.none; stands = ByNone (sym i.none ∙ e) }
+
+  open_allowed : (x : ClientMessage) → is_secret x ≡ false → IsAllowed ways x
+  open_allowed (PasswordMessage text) e = absurd cc
+  open_allowed (SaslInitialResponse mechanism response) e = absurd cc
+  open_allowed (SaslResponse response) e = absurd cc
+  open_allowed x e = tt
+
+  not_none : (o : Option Client) (x : Client) → o ≡ Some x → o ≢ None
+  not_none o x e = λ none. let both : Some x ≡ None = sym e ∙ none in cc
+
+  reply_allowed : (asked : Asking) (x : ClientMessage) (l after : Login) → LogsOn asked (Some x) l after → IsAt ways heard l → IsAllowed ways x
+  reply_allowed asked x l after (ByCleartext password p e) i = inl (sym i.cleartext ∙ e)
+  reply_allowed asked x l after (ByMd5 {salt = salt} who p e) i = inr (who, sym i.md5 ∙ e, salt, refl)
+  reply_allowed asked x l after (ScramBegins y text p e o f) i = not_none ways.scram y (sym (at l AwaitsOffer p i) ∙ e)
+  reply_allowed asked x l after (ScramGoesOn y z answer p e a f) i = let st = at l AwaitsFirst p i in not_none ways.scram st.0 st.2.from
+
+  all_allowed : (written : List ClientMessage) (asked : Asking) (reply : Option ClientMessage) (l after : Login) → LogsOn asked reply l after → IsAt ways heard l
+      → AllByRecursion (IsAllowed ways) written → AllByRecursion (IsAllowed ways) (written ++ option_to_list reply)
+  all_allowed written asked None l after logs i all = subst (λ (ms : List ClientMessage). AllByRecursion (IsAllowed ways) ms) (sym (append-nil written)) all
+  all_allowed written asked (Some x) l after logs i all = each_push (IsAllowed ways) written x all (reply_allowed asked x l after logs i)
+
+module _ (ways : Ways) where
+  plays_stand : {written : List ClientMessage} {heard : List Message} {turns : List Turn} {t : Talk} {l : Login} → Plays ways written heard turns t l → IsAt ways heard l
+  plays_stand Begins = record { md5 = refl; cleartext = refl; none = refl; stands = refl }
+  plays_stand (Writes m name plain p) = plays_stand p
+  plays_stand (Hears {written} {reply} {heard} {turns} {t} {next} {l} {after} m e taken on logs p) = step ways heard m (asking m) reply l after (asked_by m) logs (plays_stand p)
+
+  plays_allowed : {written : List ClientMessage} {heard : List Message} {turns : List Turn} {t : Talk} {l : Login} → Plays ways written heard turns t l → AllByRecursion (IsAllowed ways) written
+  plays_allowed Begins = tt
+  plays_allowed (Writes {written} {heard} m name plain p) = each_push (IsAllowed ways) written m (plays_allowed p) (open_allowed ways heard welcome m plain)
+  plays_allowed (Hears {written} {reply} {heard} {turns} {t} {next} {l} {after} m e taken on logs p) = all_allowed ways heard m written (asking m) reply l after logs (plays_stand p) (plays_allowed p)
+
+-- what follows from what is known
+pub follows : (ways : Ways) (h : History) (now : Shown) → ((turns : List Turn) → FollowsTurns start turns → Belong (asked_in turns) (heard_in turns) (told_in turns)) → Known ways h now → Follows ways h now
+follows ways h now belongs k = record {
+  asked = plays_asked ways k.plays;
+  heard = plays_heard ways k.plays;
+  belong = belongs h.turns (plays_follow ways k.plays);
+  allowed = plays_allowed ways k.plays;
+  admitted = λ done. subst (λ (q : LoginPhase). Stands ways h.heard q now.login.ways.scram) done (plays_stand ways k.plays).stands;
+}
+
+-- ---- the calls
+
+started_at : (p : ConnectionPhase) (q : LoginPhase) (b : Bool) → (logged_in_at p q && b) ≡ true → p ≡ Started
+started_at Opening q b e = absurd cc
+started_at Encrypting q b e = absurd cc
+started_at Started q b e = refl
+started_at OverPhase q b e = absurd cc
+
+right_of : (a b : Bool) → (a && b) ≡ true → b ≡ true
+right_of true b e = e
+right_of false b e = absurd cc
+
+may_tagged : (b : Bool) (m : ClientMessage) → may_send b m ≡ true → tag_of m ≢ None
+may_tagged b (Startup minor parameters) e = absurd cc
+may_tagged b (CancelRequest process_id secret_key) e = absurd cc
+may_tagged b SslRequest e = absurd cc
+may_tagged b GssEncRequest e = absurd cc
+may_tagged b m e = λ none. cc
+
+may_open : (b : Bool) (m : ClientMessage) → may_send b m ≡ true → is_secret m ≡ false
+may_open b (PasswordMessage password) e = absurd cc
+may_open b (SaslInitialResponse mechanism response) e = absurd cc
+may_open b (SaslResponse response) e = absurd cc
+may_open b m e = refl
+
+pub sends : (ways : Ways) (h : History) (old new : Shown) (m : ClientMessage) (name : ℕ) → Sent m old new name → Known ways h old → Known ways (and_wrote m name h) new
+sends ways h old new m name s k =
+    let phase : old.phase ≡ Started = started_at old.phase old.login.phase (may_send (is_copying old.talk) m) s.may in
+    let may : may_send (is_copying old.talk) m ≡ true = right_of (is_logged_in old) (may_send (is_copying old.talk) m) s.may in
+    let opened : is_opened h.written ≡ true = at_started old.phase (is_opened h.written) phase k.opened in
+    wrote ways h old new m name (tagged_may h.written m opened (may_tagged (is_copying old.talk) m may)) (may_open (is_copying old.talk) m may)
+    (subst (λ (p : ConnectionPhase). IsOpenedAt p (is_opened (h.written ++ m ∷ []))) (sym (ap (λ (c : Shown). c.phase) s.is ∙ phase)) (opened_still h.written m opened))
+    s.added (ap (λ (c : Shown). c.incoming) s.is) (ap (λ (c : Shown). c.talk) s.is ∙ ap (λ n. asked_of (request_of m) n old.talk) (sym s.named)) (ap (λ (c : Shown). c.login) s.is) k
+
+at_opening : (p : ConnectionPhase) (b : Bool) → p ≡ Opening → IsOpenedAt p b → b ≡ false
+at_opening p b e opened = subst (λ (q : ConnectionPhase). IsOpenedAt q b) e opened
+
+opened_by : (l : List ClientMessage) (m : ClientMessage) → is_startup m ≡ true → is_opened (l ++ m ∷ []) ≡ true
+opened_by l m e = opened_more l m ∙ ap (λ (b : Bool). if b then true else is_opened l) e
+
+pub starts : (ways : Ways) (h : History) (old new : Shown) (parameters : List (List ℕ × List ℕ)) (name : ℕ) → IsNamed (Startup 0 parameters) → HasStarted (Startup 0 parameters) old new name
+    → Known ways h old → Known ways (and_wrote (Startup 0 parameters) name h) new
+starts ways h old new parameters name named s k =
+    let m = Startup 0 parameters in
+    let closed : is_opened h.written ≡ false = at_opening old.phase (is_opened h.written) s.phase k.opened in
+    wrote ways h old new m name (subst (λ (b : Bool). MayCome m b) (sym closed) (inl tt, named)) refl
+    (subst (λ (p : ConnectionPhase). IsOpenedAt p (is_opened (h.written ++ m ∷ []))) (sym (ap (λ (c : Shown). c.phase) s.is)) (opened_by h.written m refl))
+    s.added (ap (λ (c : Shown). c.incoming) s.is) (ap (λ (c : Shown). c.talk) s.is ∙ ap (λ n. asked_of (request_of m) n old.talk) (sym s.named)) (ap (λ (c : Shown). c.login) s.is) k
+
+pub asks_encryption : (ways : Ways) (h : History) (old new : Shown) → Wrote Opening Encrypting SslRequest old new → Known ways h old → Known ways (and_wrote SslRequest 0 h) new
+asks_encryption ways h old new s k =
+    let closed : is_opened h.written ≡ false = at_opening old.phase (is_opened h.written) s.phase k.opened in
+    wrote ways h old new SslRequest 0 (subst (λ (b : Bool). MayCome SslRequest b) (sym closed) (inr tt, tt)) refl
+    (subst (λ (p : ConnectionPhase). IsOpenedAt p (is_opened (h.written ++ SslRequest ∷ []))) (sym (ap (λ (c : Shown). c.phase) s.is)) (opened_more h.written SslRequest ∙ closed))
+    s.added (ap (λ (c : Shown). c.incoming) s.is) (ap (λ (c : Shown). c.talk) s.is) (ap (λ (c : Shown). c.login) s.is) k
+
+pub ends : (ways : Ways) (h : History) (old new : Shown) → Wrote Started OverPhase Terminate old new → Known ways h old → Known ways (and_wrote Terminate 0 h) new
+ends ways h old new s k =
+    let opened : is_opened h.written ≡ true = at_started old.phase (is_opened h.written) s.phase k.opened in
+    wrote ways h old new Terminate 0 (tagged_may h.written Terminate opened (λ none. cc)) refl
+    (subst (λ (p : ConnectionPhase). IsOpenedAt p (is_opened (h.written ++ Terminate ∷ []))) (sym (ap (λ (c : Shown). c.phase) s.is)) tt)
+    s.added (ap (λ (c : Shown). c.incoming) s.is) (ap (λ (c : Shown). c.talk) s.is) (ap (λ (c : Shown). c.login) s.is) k
+
+at_encrypting : (p : ConnectionPhase) (b : Bool) → p ≡ Encrypting → IsOpenedAt p b → b ≡ false
+at_encrypting p b e opened = subst (λ (q : ConnectionPhase). IsOpenedAt q b) e opened
+
+pub answered : (ways : Ways) (h : History) (old : Shown) → old.phase ≡ Encrypting → Known ways h old → Known ways h (in_phase Opening old)
+answered ways h old phase k = record { run = k.run; opened = at_encrypting old.phase (is_opened h.written) phase k.opened; read = k.read; plays = k.plays }
+
+pub begins : (ways : Ways) (limit : ℕ) → ((bytes : List ℕ) → Frames bytes [] bytes) → Known ways no_history (begun ways limit)
+begins ways limit none = record { run = nothing; opened = refl; read = none []; plays = Begins }

@@ -1,0 +1,27 @@
+use Rattle.std.proofs.Common.{◌≡◌, Ok, false, rules, refl, sym, inl, inr, ◌∙◌}
+use Rattle.pgp_client.specs.Kinds.{kind_of}
+use Rattle.pgp_client.specs.Talk.{shown as talk_of}
+use Rattle.pgp_client.specs.Taking.{taken}
+use Rattle.pgp_message.specs.Views.{view}
+use Rattle.pgp_session.specs.Connection.{is_end}
+use Rattle.pgp_session.specs.Login.{asking, seen}
+use Rattle.pgp_session.proofs.Connections.{taken_ok}
+use Rattle.pgp_session.proofs.LogIns.{logs_on}
+use Rattle.pgp_session.proofs.connection.Connection.take.Goals as goal
+
+pub returns-in-Ok-hear : goal.returns-in-Ok-hear
+returns-in-Ok-hear g c =
+    let m = view c.args.message.now in
+    inl (record {
+      taken = taken_ok (taken (talk_of (λ q. q.items) c.args.self.now.dialogue) (kind_of m)) c.in-Ok.event (talk_of (λ q. q.items) c.take_message.new.self) c.in-Ok.ensures;
+      goes_on = sym c.is_end.ensures ∙ c.if-is_end.false;
+      logged = logs_on _ g.A.Memory.Lacks (seen c.args.self.now.login) (seen c.hear.new.self) c.args.self.now.out.items c.hear.new.out.items (asking m) c.in-Ok-hear.ensures.heard;
+      is = refl;
+    })
+
+pub returns-in-Err-hear : goal.returns-in-Err-hear
+returns-in-Err-hear g c =
+    let m = view c.args.message.now in
+    let talk = talk_of (λ q. q.items) c.take_message.new.self in
+    let is = taken_ok (taken (talk_of (λ q. q.items) c.args.self.now.dialogue) (kind_of m)) c.in-Ok.event talk c.in-Ok.ensures in
+    (inr ((c.in-Ok.event, talk), is, sym c.is_end.ensures ∙ c.if-is_end.false, (seen c.hear.new.self, c.hear.new.out.items, c.in-Err-hear.ensures.heard)), c.in-Err-hear.ensures.kept)

@@ -1,0 +1,265 @@
+-- A client's connection: what each call makes of it.
+-- PostgreSQL manual, "Message Flow"; "SSL Session Encryption".
+use Rattle.std.specs.Prelude.{◌≡◌, ◌≢◌, ◌⊎◌, ℕ, ◌+◌, nat_lt, Bool, true, false, List, [], ◌∷◌, ◌++◌, drop, take, map, Option, Some, None, Result, Ok, Err, if◌then◌else◌, ◌==◌, ◌&&◌}
+use Rattle.pgp_base.specs.declared.error.Error.{Error}
+use Rattle.pgp_base.specs.declared.error.Error.TheVariants.{OutOfMemory as NoMemory}
+use Rattle.pgp_client.specs.Kinds.{kind_of, request_of}
+use Rattle.pgp_client.specs.Taking.{asked, is_copying, taken}
+use Rattle.pgp_client.specs.Talk.{Talk, shown as talk_of}
+use Rattle.pgp_client.specs.Telling.{start}
+use Rattle.pgp_client.specs.declared.event.Event.{Event}
+use Rattle.pgp_client.specs.declared.event.Event.TheVariants.{Ended}
+use Rattle.pgp_client.specs.declared.request.Request.{Request}
+use Rattle.pgp_frontend.specs.ClientMessage.{ClientMessage, Bind, Close, CopyData, CopyDone, CopyFail, Describe, Execute, Flush, Parse, Query, Sync}
+use Rattle.pgp_frontend.specs.Payload.{bytes_of}
+use Rattle.pgp_message.specs.BackendMessage.{Message}
+use Rattle.pgp_message.specs.Remembered.{header_of}
+use Rattle.pgp_client.specs.declared.event.Refusal.{Refusal}
+use Rattle.pgp_message.specs.Stream.{BeginsWithKept, IsPartial, Step, TakesFrame}
+use Rattle.pgp_message.specs.Views.{view}
+use Rattle.pgp_message.specs.declared.message as code
+use Rattle.pgp_session.specs.Login.{Added, LoggedOn, Login, Unsent, Ways, asking, seen}
+use Rattle.pgp_session.specs.Login as login
+use Rattle.pgp_session.specs.declared.connection.Connection.{Connection as Kept}
+use Rattle.pgp_session.specs.declared.connection.ConnectionPhase.{ConnectionPhase}
+use Rattle.pgp_session.specs.declared.connection.ConnectionPhase.TheVariants.{Opening, Encrypting, Started, Over}
+use Rattle.pgp_session.specs.declared.connection_error.ConnectionError.{ConnectionError}
+use Rattle.pgp_session.specs.declared.connection_error.ConnectionError.TheVariants.{BadAnswer, Malformed, Misplaced, OutOfMemory, OutOfPhase, TooLong, Unwritten}
+use Rattle.pgp_session.specs.declared.scram_login.LoginPhase.{LoginPhase}
+use Rattle.pgp_session.specs.declared.scram_login.LoginPhase.TheVariants.{AwaitsOffer, Done}
+
+pub record Shown : Type 0 where
+  pub phase : ConnectionPhase
+  pub login : Login
+  -- what is to be sent
+  pub out : List ℕ
+  -- what came, and wasn't taken as messages
+  pub incoming : List ℕ
+  pub talk : Talk
+  -- the next request's name
+  pub names : ℕ
+  -- how long a message may be
+  pub limit : ℕ
+
+abbrev pub begun : Ways → ℕ → Shown
+begun ways limit = record { phase = Opening; login = record { phase = AwaitsOffer; ways = ways }; out = []; incoming = []; talk = start; names = 0; limit = limit }
+
+-- the log-in is done
+abbrev pub done_at : LoginPhase → Bool
+done_at Done = true
+done_at p = false
+
+abbrev pub logged_in_at : ConnectionPhase → LoginPhase → Bool
+logged_in_at Started p = done_at p
+logged_in_at phase p = false
+
+abbrev pub is_logged_in : Shown → Bool
+is_logged_in c = logged_in_at c.phase c.login.phase
+
+-- ---- sending
+
+-- a request, and data of a copy and their end where a copy to the server is under way
+abbrev pub may_send : Bool → ClientMessage → Bool
+may_send copying (Query text) = true
+may_send copying (Parse name query types) = true
+may_send copying (Bind portal statement formats values result_formats) = true
+may_send copying (Describe variant name) = true
+may_send copying (Execute portal max_rows) = true
+may_send copying (Close variant name) = true
+may_send copying Sync = true
+may_send copying Flush = true
+may_send copying (CopyData bytes) = copying
+may_send copying CopyDone = copying
+may_send copying (CopyFail reason) = copying
+may_send copying m = false
+
+abbrev pub can_send : Shown → ClientMessage → Bool
+can_send c m = is_logged_in c && may_send (is_copying c.talk) m
+
+-- names go on from 0 after the greatest
+abbrev pub next_name : ℕ → ℕ
+next_name n = if n == 18446744073709551615 then 0 else n + 1
+
+abbrev pub asked_of : Option Request → ℕ → Talk → Talk
+asked_of None n t = t
+asked_of (Some r) n t = asked t (record { request = r; name = n })
+
+-- after this message was sent
+abbrev pub said : ClientMessage → Shown → Shown
+said m c = record { phase = c.phase; login = c.login; out = c.out ++ bytes_of m; incoming = c.incoming; talk = asked_of (request_of m) c.names c.talk; names = next_name c.names; limit = c.limit }
+
+-- The message was added to what is to be sent, and asked of the server under this name.
+pub record Sent (m : ClientMessage) (old new : Shown) (name : ℕ) : Type 0 where
+  pub may : can_send old m ≡ true
+  pub added : Added m old.out new.out
+  pub named : name ≡ old.names
+  pub is : new ≡ said m old
+
+abbrev pub Sends : {A : Type 0} → Type 0 → ClientMessage → Shown → Shown → Result ℕ (ConnectionError A) → Type 0
+Sends lacks m old new (Ok name) = Sent m old new name
+Sends lacks m old new (Err OutOfPhase) = (can_send old m ≡ false) × (new ≡ old)
+Sends lacks m old new (Err (Unwritten e)) = (can_send old m ≡ true) × Unsent lacks m e × (new ≡ old)
+Sends lacks m old new (Err OutOfMemory) = (can_send old m ≡ true) × lacks × (new ≡ old)
+Sends lacks m old new (Err e) = ⊥
+
+-- A request of messages that iterators gave: `Whole` says which it is, and `Refuses` why a writer rejects it.
+abbrev pub SendsGiven : {A : Type 0} → Type 0 → (ClientMessage → Type 0) → (Error → Type 0) → Shown → Shown → Result ℕ (ConnectionError A) → Type 0
+SendsGiven lacks Whole Refuses old new (Ok name) = (m : ClientMessage) × Whole m × Sent m old new name
+SendsGiven lacks Whole Refuses old new (Err OutOfPhase) = (is_logged_in old ≡ false) × (new ≡ old)
+SendsGiven lacks Whole Refuses old new (Err (Unwritten e)) = (is_logged_in old ≡ true) × Refuses e × (new ≡ old)
+SendsGiven lacks Whole Refuses old new (Err OutOfMemory) = (is_logged_in old ≡ true) × lacks × (new ≡ old)
+SendsGiven lacks Whole Refuses old new (Err e) = ⊥
+
+-- *private*: the request was noted whose message was written, or the message was taken back
+abbrev pub with_out : List ℕ → Shown → Shown
+with_out out c = record { phase = c.phase; login = c.login; out = out; incoming = c.incoming; talk = c.talk; names = c.names; limit = c.limit }
+
+abbrev pub noted : Request → Shown → Shown
+noted r c = record { phase = c.phase; login = c.login; out = c.out; incoming = c.incoming; talk = asked c.talk (record { request = r; name = c.names }); names = next_name c.names; limit = c.limit }
+
+abbrev pub Notes : {A : Type 0} → Type 0 → ℕ → Request → Shown → Shown → Result ℕ (ConnectionError A) → Type 0
+Notes lacks place r old new (Ok name) = (name ≡ old.names) × (new ≡ noted r old)
+Notes lacks place r old new (Err OutOfMemory) = lacks × (new ≡ with_out (take place old.out) old)
+Notes lacks place r old new (Err e) = ⊥
+
+-- so many bytes were sent
+abbrev pub dropped : ℕ → Shown → Shown
+dropped n c = record { phase = c.phase; login = c.login; out = drop n c.out; incoming = c.incoming; talk = c.talk; names = c.names; limit = c.limit }
+
+-- ---- what comes
+
+abbrev pub fed : List ℕ → Shown → Shown
+fed piece c = record { phase = c.phase; login = c.login; out = c.out; incoming = c.incoming ++ piece; talk = c.talk; names = c.names; limit = c.limit }
+
+abbrev pub Feeds : {A : Type 0} → Type 0 → List ℕ → Shown → Shown → Result (Unit {0}) (ConnectionError A) → Type 0
+Feeds lacks piece old new (Ok done) = (old.phase ≡ Started) × (new ≡ fed piece old)
+Feeds lacks piece old new (Err OutOfPhase) = (old.phase ≢ Started) × (new ≡ old)
+Feeds lacks piece old new (Err OutOfMemory) = (old.phase ≡ Started) × lacks × (new ≡ old)
+Feeds lacks piece old new (Err e) = ⊥
+
+abbrev pub longer : ℕ → Option (ℕ × ℕ) → Bool
+longer limit None = false
+longer limit (Some header) = nat_lt limit header.1
+
+-- the bytes begin with a header that announces more bytes than the limit, its own four counted
+abbrev pub is_longer : ℕ → List ℕ → Bool
+is_longer limit bytes = longer limit (header_of bytes)
+
+abbrev pub in_phase : ConnectionPhase → Shown → Shown
+in_phase phase c = record { phase = phase; login = c.login; out = c.out; incoming = c.incoming; talk = c.talk; names = c.names; limit = c.limit }
+
+abbrev pub with_incoming : List ℕ → Shown → Shown
+with_incoming rest c = record { phase = c.phase; login = c.login; out = c.out; incoming = rest; talk = c.talk; names = c.names; limit = c.limit }
+
+-- what a message does to the phase and to the dialogue
+abbrev pub moved : ConnectionPhase → Talk → Shown → Shown
+moved phase t c = record { phase = phase; login = c.login; out = c.out; incoming = c.incoming; talk = t; names = c.names; limit = c.limit }
+
+-- what it does in the log-in
+abbrev pub with_login : Login → List ℕ → Shown → Shown
+with_login l out c = record { phase = c.phase; login = l; out = out; incoming = c.incoming; talk = c.talk; names = c.names; limit = c.limit }
+
+abbrev pub is_end : Event → Bool
+is_end Ended = true
+is_end e = false
+
+-- The message was attributed so, and the log-in took it: its reply was appended.
+pub record Took (m : Message) (old new : Shown) (e : Event) : Type 0 where
+  pub taken : taken old.talk (kind_of m) ≡ Ok (e, new.talk)
+  pub goes_on : is_end e ≡ false
+  pub logged : LoggedOn (asking m) old.login new.login old.out new.out
+  pub is : new ≡ with_login new.login new.out (moved old.phase new.talk old)
+
+-- It ended the session.
+pub record TookEnd (m : Message) (old new : Shown) (e : Event) : Type 0 where
+  pub taken : taken old.talk (kind_of m) ≡ Ok (e, new.talk)
+  pub ends : is_end e ≡ true
+  pub is : new ≡ moved Over new.talk old
+
+module _ {A : Type 0} (lacks : Type 0) where
+  -- why a message isn't taken: it isn't attributed, or the log-in stops at it
+  abbrev pub Stops : Message → Shown → ConnectionError A → Type 0
+  Stops m old e = ((r : Refusal) × (taken old.talk (kind_of m) ≡ Err r) × (e ≡ Misplaced r))
+      ⊎ ((x : Event × Talk) × (taken old.talk (kind_of m) ≡ Ok x) × (is_end x.0 ≡ false)
+      × ((after : Login) × (grown : List ℕ) × login.Hears lacks (asking m) old.login after old.out grown (Err e)))
+
+  abbrev pub Takes : Message → Shown → Shown → Result Event (ConnectionError A) → Type 0
+  Takes m old new (Ok e) = Took m old new e ⊎ TookEnd m old new e
+  Takes m old new (Err e) = Stops m old e × (new.out ≡ old.out)
+
+  abbrev pub Hears : Message → Shown → Shown → Result (Option (Event × Message)) (ConnectionError A) → Type 0
+  Hears m old new (Ok None) = ⊥
+  Hears m old new (Ok (Some x)) = (x.1 ≡ m) × (Took m old new x.0 ⊎ TookEnd m old new x.0)
+  Hears m old new (Err e) = Stops m old e × (new.phase ≡ Over) × (new.out ≡ old.out)
+
+  -- What a call for the next message comes to.
+  pub data Nexts (old new : Shown) : Result (Option (Event × Message)) (ConnectionError A) → Type 0 where
+    -- none is awaited
+    OutOfTurn : old.phase ≢ Started → new ≡ old → Nexts old new (Err OutOfPhase)
+    IsLonger : old.phase ≡ Started → is_longer old.limit old.incoming ≡ true → new ≡ in_phase Over old → Nexts old new (Err TooLong)
+    -- bytes are missing
+    IsCut : old.phase ≡ Started → IsPartial old.incoming → new ≡ old → Nexts old new (Ok None)
+    WantsMemory : old.phase ≡ Started → BeginsWithKept old.incoming → lacks → new ≡ old → Nexts old new (Err OutOfMemory)
+    -- what came is no message
+    IsNone : (e : Error) (rest : List ℕ) → old.phase ≡ Started → Step lacks old.incoming (Err e) rest → e ≢ NoMemory → new ≡ in_phase Over (with_incoming rest old)
+        → Nexts old new (Err (Malformed e))
+    Comes : (m : Message) (rest : List ℕ) {result : Result (Option (Event × Message)) (ConnectionError A)} → old.phase ≡ Started → is_longer old.limit old.incoming ≡ false
+        → TakesFrame old.incoming (Ok m) rest → Hears m (with_incoming rest old) new result → Nexts old new result
+
+-- the call's answer, with the message as what it says
+abbrev pub nexted : {A : Type 0} {E : Type 0} → Result (Option (Event × code.Message.Message A)) E → Result (Option (Event × Message)) E
+nexted (Ok None) = Ok None
+nexted (Ok (Some x)) = Ok (Some (x.0, view x.1))
+nexted (Err e) = Err e
+
+-- ---- the front of a session, and its end
+
+-- a message that isn't answered by itself was written, and the phase is then this
+abbrev pub written : ConnectionPhase → ClientMessage → Shown → Shown
+written phase m c = record { phase = phase; login = c.login; out = c.out ++ bytes_of m; incoming = c.incoming; talk = c.talk; names = c.names; limit = c.limit }
+
+-- It was, in this phase, which leads to that one.
+pub record Wrote (here next : ConnectionPhase) (m : ClientMessage) (old new : Shown) : Type 0 where
+  pub phase : old.phase ≡ here
+  pub added : Added m old.out new.out
+  pub is : new ≡ written next m old
+
+-- A call that belongs to this phase writes the message, and leads to that one.
+abbrev pub Writes : {A : Type 0} → Type 0 → ConnectionPhase → ConnectionPhase → ClientMessage → Shown → Shown → Result (Unit {0}) (ConnectionError A) → Type 0
+Writes lacks here next m old new (Ok done) = Wrote here next m old new
+Writes lacks here next m old new (Err OutOfPhase) = (old.phase ≢ here) × (new ≡ old)
+Writes lacks here next m old new (Err (Unwritten e)) = (old.phase ≡ here) × Unsent lacks m e × (new ≡ old)
+Writes lacks here next m old new (Err e) = ⊥
+
+-- the one byte that answers the request for encryption
+abbrev pub letter : Bool → ℕ
+letter true = 0x53  -- S
+letter false = 0x4e  -- N
+
+-- What the bytes come to that answer it: whether the server encrypts, once there is one byte. Anything else, as bytes that came with that one, ends the connection.
+abbrev pub Answers : {A : Type 0} → List ℕ → Shown → Shown → Result (Option Bool) (ConnectionError A) → Type 0
+Answers piece old new (Ok None) = (old.phase ≡ Encrypting) × (piece ≡ []) × (new ≡ old)
+Answers piece old new (Ok (Some encrypts)) = (old.phase ≡ Encrypting) × (piece ≡ letter encrypts ∷ []) × (new ≡ in_phase Opening old)
+Answers piece old new (Err OutOfPhase) = (old.phase ≢ Encrypting) × (new ≡ old)
+Answers piece old new (Err BadAnswer) = (old.phase ≡ Encrypting) × (piece ≢ []) × ((encrypts : Bool) → piece ≢ letter encrypts ∷ []) × (new ≡ in_phase Over old)
+Answers piece old new (Err e) = ⊥
+
+-- The startup packet was written, and asked of the server under this name.
+pub record HasStarted (m : ClientMessage) (old new : Shown) (name : ℕ) : Type 0 where
+  pub phase : old.phase ≡ Opening
+  pub added : Added m old.out new.out
+  pub named : name ≡ old.names
+  pub is : new ≡ in_phase Started (said m old)
+
+-- The startup packet was written, and its answer is awaited under the next name.
+abbrev pub Starts : {A : Type 0} → Type 0 → ClientMessage → Shown → Shown → Result ℕ (ConnectionError A) → Type 0
+Starts lacks m old new (Ok name) = HasStarted m old new name
+Starts lacks m old new (Err OutOfPhase) = (old.phase ≢ Opening) × (new ≡ old)
+Starts lacks m old new (Err (Unwritten e)) = (old.phase ≡ Opening) × Unsent lacks m e × (new ≡ old)
+Starts lacks m old new (Err OutOfMemory) = (old.phase ≡ Opening) × lacks × (new ≡ old)
+Starts lacks m old new (Err e) = ⊥
+
+-- ---- the code's record
+
+abbrev pub shown : {A : Type 0} → Kept A → Shown
+shown c = record { phase = c.phase; login = seen c.login; out = c.out.items; incoming = c.incoming.items; talk = talk_of (λ q. q.items) c.dialogue; names = c.names; limit = c.limit }

@@ -1,0 +1,134 @@
+-- What is known of a connection after any calls.
+-- PostgreSQL manual, "Message Flow"; "SASL Authentication"; RFC 5802, RFC 7677.
+use Rattle.std.specs.Prelude.{◌≡◌, ◌≢◌, ◌⊎◌, ℕ, Bool, true, false, List, [], ◌∷◌, ◌++◌, take, map, option_to_list, Option, Some, None, Result, Ok, Err}
+use Rattle.std.specs.List.{flat_map, AllByRecursion}
+use Rattle.pgp_base.specs.declared.error.Error.{Error}
+use Rattle.pgp_auth.specs.Md5Text.{md5_answer}
+use Rattle.pgp_auth.specs.ScramClient.{Client, Completes}
+use Rattle.pgp_client.specs.Flow.{Belong}
+use Rattle.pgp_client.specs.Kinds.{kind_of, request_of}
+use Rattle.pgp_client.specs.Taking.{taken}
+use Rattle.pgp_client.specs.Talk.{Talk}
+use Rattle.pgp_client.specs.Telling.{Turn, Asks, Hears as HearsTurn, asked_in, heard_in, told_in, start}
+use Rattle.pgp_client.specs.declared.event.Event.{Event}
+use Rattle.pgp_client.specs.declared.request.Asked.{Asked}
+use Rattle.pgp_client.specs.declared.request.Request.{Request}
+use Rattle.pgp_frontend.specs.ClientMessage.{ClientMessage, PasswordMessage, SaslInitialResponse, SaslResponse}
+use Rattle.pgp_frontend.specs.ClientRun.{ClientRun, is_opened, kinds_of}
+use Rattle.pgp_message.specs.BackendMessage.{Message}
+use Rattle.pgp_message.specs.Stream.{Frames}
+use Rattle.pgp_session.specs.Login.{Login, LogsOn, Ways, asking}
+use Rattle.pgp_session.specs.ScramLogin.{Offers, CameAmong, offer, first_text, final_text, welcome}
+use Rattle.pgp_session.specs.Connection.{Shown, asked_of, is_end}
+use Rattle.pgp_session.specs.declared.connection.ConnectionPhase.{ConnectionPhase}
+use Rattle.pgp_session.specs.declared.connection.ConnectionPhase.TheVariants.{Opening, Encrypting, Started, Over}
+use Rattle.pgp_session.specs.declared.scram_login.LoginPhase.TheVariants.{AwaitsOffer, Done}
+
+-- ---- a session, a message at a time
+
+-- a message of a log-in
+abbrev pub is_secret : ClientMessage → Bool
+is_secret (PasswordMessage password) = true
+is_secret (SaslInitialResponse mechanism response) = true
+is_secret (SaslResponse response) = true
+is_secret m = false
+
+-- the turn of a message that a server answers
+abbrev pub turns_of : Option Request → ℕ → List Turn
+turns_of None n = []
+turns_of (Some r) n = Asks (record { request = r; name = n }) ∷ []
+
+-- A client that admits these ways wrote and heard these messages, asking and hearing in these turns; this is where it is in the dialogue and in the log-in.
+pub data Plays (ways : Ways) : List ClientMessage → List Message → List Turn → Talk → Login → Type 0 where
+  Begins : Plays ways [] [] [] start (record { phase = AwaitsOffer; ways = ways })
+  Writes : {written : List ClientMessage} {heard : List Message} {turns : List Turn} {t : Talk} {l : Login} (m : ClientMessage) (name : ℕ)
+      → is_secret m ≡ false → Plays ways written heard turns t l
+      → Plays ways (written ++ m ∷ []) heard (turns ++ turns_of (request_of m) name) (asked_of (request_of m) name t) l
+  Hears : {written : List ClientMessage} {reply : Option ClientMessage} {heard : List Message} {turns : List Turn} {t next : Talk} {l after : Login} (m : Message) (e : Event)
+      → taken t (kind_of m) ≡ Ok (e, next) → is_end e ≡ false → LogsOn (asking m) reply l after → Plays ways written heard turns t l
+      → Plays ways (written ++ option_to_list reply) (heard ++ m ∷ []) (turns ++ HearsTurn (kind_of m) e ∷ []) next after
+
+-- ---- what is known of a connection
+
+-- the bytes that were sent, the messages that were written, the bytes that came, the messages that were taken of them, and the turns
+pub record History : Type 0 where
+  pub sent : List ℕ
+  pub written : List ClientMessage
+  pub came : List ℕ
+  pub heard : List Message
+  pub turns : List Turn
+
+abbrev pub nothing : History
+nothing = record { sent = []; written = []; came = []; heard = []; turns = [] }
+
+-- whether a startup packet was written
+abbrev pub IsOpenedAt : ConnectionPhase → Bool → Type 0
+IsOpenedAt Opening opened = opened ≡ false
+IsOpenedAt Encrypting opened = opened ≡ false
+IsOpenedAt Started opened = opened ≡ true
+IsOpenedAt Over opened = Unit {0}
+
+abbrev pub good : List Message → List (Result Message Error)
+good ms = map (λ (m : Message). Ok m) ms
+
+-- What was written is what was sent and what is to be sent; what was heard are the first messages of what came, and the rest is kept.
+pub record Known (ways : Ways) (h : History) (now : Shown) : Type 0 where
+  pub run : ClientRun (flat_map kinds_of h.written) h.written (h.sent ++ now.out)
+  pub opened : IsOpenedAt now.phase (is_opened h.written)
+  pub read : Frames h.came (good h.heard) now.incoming
+  pub plays : Plays ways h.written h.heard h.turns now.talk now.login
+
+abbrev pub and_sent : ℕ → Shown → History → History
+and_sent n old h = record { sent = h.sent ++ take n old.out; written = h.written; came = h.came; heard = h.heard; turns = h.turns }
+
+abbrev pub and_fed : List ℕ → History → History
+and_fed piece h = record { sent = h.sent; written = h.written; came = h.came ++ piece; heard = h.heard; turns = h.turns }
+
+abbrev pub and_wrote : ClientMessage → ℕ → History → History
+and_wrote m name h = record { sent = h.sent; written = h.written ++ m ∷ []; came = h.came; heard = h.heard; turns = h.turns ++ turns_of (request_of m) name }
+
+abbrev pub and_heard : Message → Event → Option ClientMessage → History → History
+and_heard m e reply h = record { sent = h.sent; written = h.written ++ option_to_list reply; came = h.came; heard = h.heard ++ m ∷ []; turns = h.turns ++ HearsTurn (kind_of m) e ∷ [] }
+
+-- ---- what follows
+
+-- what the messages ask
+abbrev pub requests_of : List ClientMessage → List Request
+requests_of ms = flat_map (λ m. option_to_list (request_of m)) ms
+
+abbrev pub requests_in : List Asked → List Request
+requests_in rs = map (λ (a : Asked). a.request) rs
+
+-- The server showed that it holds the verifier of the exchange's password: its offer, its first text, its final text and its welcome came in
+-- this order, and the texts complete the exchange.
+pub record Signed (start : Client) (heard : List Message) : Type 0 where
+  pub mechanisms : List ℕ
+  pub first : List ℕ
+  pub final : List ℕ
+  pub after : Client
+  pub offers : Offers mechanisms
+  pub came : CameAmong (offer mechanisms ∷ first_text first ∷ final_text final ∷ welcome ∷ []) heard
+  pub completes : Completes start first final after
+
+-- Why a client is logged in: by a way that is admitted, and by SCRAM-SHA-256 only where the server's signature was shown.
+pub data Admitted (ways : Ways) (heard : List Message) : Type 0 where
+  ByNone : ways.none ≡ true → Admitted ways heard
+  ByPassword : (password : List ℕ) → ways.cleartext ≡ Some password → Admitted ways heard
+  ByHash : (who : List ℕ × List ℕ) → ways.md5 ≡ Some who → Admitted ways heard
+  BySignature : (x : Client) → ways.scram ≡ Some x → Signed x heard → Admitted ways heard
+
+-- what a message of a log-in gives away: the password in clear text, its hash or a text of the exchange, each where that way is admitted
+abbrev pub IsAllowed : Ways → ClientMessage → Type 0
+IsAllowed ways (PasswordMessage text) = (ways.cleartext ≡ Some text) ⊎ ((who : List ℕ × List ℕ) × (ways.md5 ≡ Some who) × (salt : List ℕ) × (text ≡ md5_answer who.0 who.1 salt))
+IsAllowed ways (SaslInitialResponse mechanism response) = ways.scram ≢ None
+IsAllowed ways (SaslResponse response) = ways.scram ≢ None
+IsAllowed ways m = Unit {0}
+
+-- What is known says of a session: the requests that were asked are those of the messages written, each message belongs to the request that was reported,
+-- no password is given away but by an admitted way, and a client is logged in by such a way alone.
+pub record Follows (ways : Ways) (h : History) (now : Shown) : Type 0 where
+  pub asked : requests_in (asked_in h.turns) ≡ requests_of h.written
+  pub heard : heard_in h.turns ≡ map kind_of h.heard
+  pub belong : Belong (asked_in h.turns) (heard_in h.turns) (told_in h.turns)
+  pub allowed : AllByRecursion (IsAllowed ways) h.written
+  pub admitted : now.login.phase ≡ Done → Admitted ways h.heard

@@ -1,0 +1,315 @@
+//! A client's connection, without input or output: what is to be sent, what came, the log-in, and to which request each of the server's
+//! messages belongs.
+
+ghost use Rattle.std.specs.Prelude.{◌≡◌, ◌≤◌, length, map};
+ghost use Rattle.pgp_frontend.specs.ClientMessage.{SslRequest, Startup, Terminate};
+ghost use Rattle.pgp_frontend.specs.Given.{shown as shown_pair};
+ghost use Rattle.pgp_frontend.specs.Reading.{IsNamed};
+ghost use Rattle.pgp_frontend_read.specs.Views.{view as sent_view};
+ghost use Rattle.pgp_message.specs.Views.{view};
+ghost use Rattle.pgp_session.specs.Login.{given};
+ghost use Rattle.pgp_client.specs.Taking.{is_idle};
+ghost use Rattle.pgp_session.specs.Connection.{Answers, Feeds, Hears, Nexts, Sends, Starts, Takes, Writes, begun, can_send, dropped, is_logged_in, nexted, shown};
+
+use crate::connection_error::ConnectionError;
+use crate::connection_parts::{encrypts, is_end, is_too_long, may_send, next_name, put_startup};
+use crate::login::{Login, Ways, put};
+use crate::scram_login::LoginPhase;
+use bytes::{Buf, Bytes, BytesMut};
+use pgp_base::{Error, Memory};
+use pgp_client::{Asked, Dialogue, Event, Request};
+use pgp_frontend_read::ClientMessage;
+use pgp_message::Message;
+use std::alloc::Global;
+use std::collections::VecDeque;
+
+/// How far a connection is.
+#[derive(Debug, Clone, Copy, PartialEq, Eq)]
+pub enum ConnectionPhase {
+    /// The startup packet wasn't written.
+    Opening,
+    /// Encryption was asked for, and the one byte that answers it is awaited.
+    Encrypting,
+    /// The startup packet was written. Whether the log-in is done, `is_logged_in` says.
+    Started,
+    /// The session has ended, or an error ended it. What is left to send may still be sent.
+    Over,
+}
+
+/// A client's connection.
+#[derive(Drop)]
+pub struct Connection<'a, A: Memory = Global> {
+    pub(crate) phase: ConnectionPhase,
+    login: Login<'a, A>,
+    pub(crate) out: BytesMut<A>,
+    incoming: BytesMut<A>,
+    pub(crate) dialogue: Dialogue<VecDeque<Asked, A>>,
+    pub(crate) names: u64,
+    limit: u32,
+}
+
+impl<'a, A: Memory> Connection<'a, A> {
+    /// A connection of which nothing was sent, which logs in by these ways, and takes messages of at most so many bytes after the tag.
+    pub fn new(alloc: A, ways: Ways<'a, A>, limit: u32) -> Connection<'a, A>
+        ensures { shown result ≡ begun (given ways.entry) limit }
+    {
+        Connection {
+            phase: ConnectionPhase::Opening,
+            login: Login {
+                phase: LoginPhase::AwaitsOffer,
+                ways,
+                alloc,
+            },
+            out: BytesMut::new(alloc),
+            incoming: BytesMut::new(alloc),
+            dialogue: Dialogue::new(alloc),
+            names: 0,
+            limit,
+        }
+    }
+
+    /// Asks for an encrypted connection, before the startup packet. The server answers with one byte, which `encryption_answered` takes.
+    ///
+    /// # Errors
+    ///
+    /// On error nothing changes. `OutOfPhase` after the startup packet, while such an answer is awaited, and after the end; `Unwritten` of
+    /// `OutOfMemory`.
+    pub fn request_encryption(&mut self) -> Result<(), ConnectionError<A>>
+        ensures { Writes A.Lacks ConnectionPhase.Opening ConnectionPhase.Encrypting SslRequest (shown self.old) (shown self.new) result }
+    {
+        if self.phase != ConnectionPhase::Opening {
+            return Err(ConnectionError::OutOfPhase);
+        }
+        if let Err(e) = put(&ClientMessage::SslRequest, &mut self.out) {
+            return Err(ConnectionError::Unwritten(e));
+        }
+        self.phase = ConnectionPhase::Encrypting;
+        Ok(())
+    }
+
+    /// Takes the bytes that answer the request for encryption, and returns whether the server encrypts; `None` where none came. Where it does,
+    /// the handshake of TLS is next, and then the startup packet.
+    ///
+    /// # Errors
+    ///
+    /// `OutOfPhase` where no such answer is awaited: nothing changes. `BadAnswer` unless the bytes are `S` or `N` alone, which ends the
+    /// connection: bytes that came with the `S` were sent before the handshake, by whom nobody can know.
+    pub fn encryption_answered(&mut self, piece: &[u8]) -> Result<Option<bool>, ConnectionError<A>>
+        ensures { Answers piece.now (shown self.old) (shown self.new) result }
+    {
+        if self.phase != ConnectionPhase::Encrypting {
+            return Err(ConnectionError::OutOfPhase);
+        }
+        if piece.is_empty() {
+            return Ok(None);
+        }
+        let Some(encrypts) = encrypts(piece) else {
+            self.phase = ConnectionPhase::Over;
+            return Err(ConnectionError::BadAnswer);
+        };
+        self.phase = ConnectionPhase::Opening;
+        Ok(Some(encrypts))
+    }
+
+    /// Sends the startup packet of version 3.0 with these names and values, among them `user`, and returns the name by which the events of the
+    /// log-in tell it. No name is empty.
+    ///
+    /// # Errors
+    ///
+    /// On error nothing changes. `OutOfPhase` after the startup packet, while an answer about encryption is awaited, and after the end;
+    /// `Unwritten` of `EmbeddedNull` if a name or a value has a 0 byte, of `TooLarge` if the message exceeds `i32::MAX`, and of `OutOfMemory`;
+    /// `OutOfMemory` if there is no memory to take note of the request.
+    pub fn start(&mut self, parameters: &[(&str, &str)]) -> Result<u64, ConnectionError<A>>
+        requires { IsNamed (Startup 0 (map shown_pair parameters.now)) }
+        ensures { Starts A.Lacks (Startup 0 (map shown_pair parameters.now)) (shown self.old) (shown self.new) result }
+    {
+        if self.phase != ConnectionPhase::Opening {
+            return Err(ConnectionError::OutOfPhase);
+        }
+        let start = self.out.len();
+        if let Err(e) = put_startup(self.login.alloc, parameters, &mut self.out) {
+            return Err(ConnectionError::Unwritten(e));
+        }
+        let name = self.names;
+        if self.dialogue.ask(Request::Startup, name).is_err() {
+            self.out.truncate(start);
+            return Err(ConnectionError::OutOfMemory);
+        }
+        self.names = next_name(name);
+        self.phase = ConnectionPhase::Started;
+        Ok(name)
+    }
+
+    /// Terminate: ends the session. Nothing is sent after it.
+    ///
+    /// # Errors
+    ///
+    /// On error nothing changes. `OutOfPhase` before the startup packet and after the end; `Unwritten` of `OutOfMemory`.
+    pub fn terminate(&mut self) -> Result<(), ConnectionError<A>>
+        ensures { Writes A.Lacks ConnectionPhase.Started ConnectionPhase.Over Terminate (shown self.old) (shown self.new) result }
+    {
+        if self.phase != ConnectionPhase::Started {
+            return Err(ConnectionError::OutOfPhase);
+        }
+        if let Err(e) = put(&ClientMessage::Terminate, &mut self.out) {
+            return Err(ConnectionError::Unwritten(e));
+        }
+        self.phase = ConnectionPhase::Over;
+        Ok(())
+    }
+
+    /// Whether the log-in is done, so that requests may be sent.
+    pub fn is_logged_in(&self) -> bool
+        ensures { result ≡ is_logged_in (shown self.now) }
+    {
+        match self.phase {
+            ConnectionPhase::Started => self.login.phase == LoginPhase::Done,
+            _ => false,
+        }
+    }
+
+    /// The bytes to send.
+    pub fn to_send(&self) -> &[u8]
+        ensures { result.now ≡ (shown self.now).out }
+    {
+        self.out.as_slice()
+    }
+
+    /// Takes note that the first bytes to send, so many, were sent.
+    pub fn sent(&mut self, count: usize)
+        requires { count ≤ length (shown self.old).out }
+        ensures { shown self.new ≡ dropped count (shown self.old) }
+    {
+        self.out.advance(count);
+    }
+
+    /// Sends a message, and returns the name by which the events of its answer tell it.
+    ///
+    /// # Errors
+    ///
+    /// On error nothing changes.
+    ///
+    /// - `OutOfPhase` before the log-in is done and after the end, for data of a copy or their end where no copy to the server is under
+    ///   way, and for messages of a log-in, Terminate and FunctionCall, which aren't sent so.
+    /// - `Unwritten` of `EmbeddedNull`, `TooLarge` or `OutOfMemory`.
+    /// - `OutOfMemory` if there is no memory to take note of the request.
+    pub fn send(&mut self, message: &ClientMessage<'_>) -> Result<u64, ConnectionError<A>>
+        ensures { Sends A.Lacks (sent_view message.now) (shown self.old) (shown self.new) result }
+    {
+        if !self.can_send(message) {
+            return Err(ConnectionError::OutOfPhase);
+        }
+        let start = self.out.len();
+        if let Err(e) = put(message, &mut self.out) {
+            return Err(ConnectionError::Unwritten(e));
+        }
+        let name = self.names;
+        if let Some(request) = Request::of(message) {
+            if self.dialogue.ask(request, name).is_err() {
+                self.out.truncate(start);
+                return Err(ConnectionError::OutOfMemory);
+            }
+        }
+        self.names = next_name(name);
+        Ok(name)
+    }
+
+    /// Whether a message may be sent now.
+    fn can_send(&self, message: &ClientMessage<'_>) -> bool
+        ensures { result ≡ can_send (shown self.now) (sent_view message.now) }
+    {
+        self.is_logged_in() && may_send(message, self.dialogue.is_copying())
+    }
+
+    /// Takes bytes that the server sent. `next` gives the messages among them.
+    ///
+    /// # Errors
+    ///
+    /// On error nothing changes. `OutOfPhase` where no message is awaited; `OutOfMemory` if there is no memory for the bytes.
+    pub fn feed(&mut self, piece: &[u8]) -> Result<(), ConnectionError<A>>
+        ensures { Feeds A.Lacks piece.now (shown self.old) (shown self.new) result }
+    {
+        if self.phase != ConnectionPhase::Started {
+            return Err(ConnectionError::OutOfPhase);
+        }
+        match A::append(&mut self.incoming, piece) {
+            Ok(()) => Ok(()),
+            Err(_) => Err(ConnectionError::OutOfMemory),
+        }
+    }
+
+    /// Takes the server's next message, and says to which request it belongs; `None` where no message is complete. In the log-in the reply is
+    /// added to what is to be sent.
+    ///
+    /// # Errors
+    ///
+    /// `OutOfPhase` where no message is awaited and `OutOfMemory`: nothing changes. All others end the connection, with nothing added to
+    /// what is to be sent.
+    ///
+    /// - `TooLong` if a message is announced that is longer than the limit.
+    /// - `Malformed` of the error of `Message::parse`.
+    /// - `Misplaced` if the message has no place among the answers, or a copy failed and can't be attributed.
+    /// - `Undue`, `NotAdmitted`, `NotOffered`, `Scram` and `Unwritten` in the log-in.
+    pub fn next(&mut self) -> Result<Option<(Event, Message<Bytes<A>>)>, ConnectionError<A>>
+        ensures { Nexts A.Lacks (shown self.old) (shown self.new) (nexted result) }
+    {
+        if self.phase != ConnectionPhase::Started {
+            return Err(ConnectionError::OutOfPhase);
+        }
+        if is_too_long(self.incoming.as_slice(), self.limit) {
+            self.phase = ConnectionPhase::Over;
+            return Err(ConnectionError::TooLong);
+        }
+        match Message::parse(&mut self.incoming) {
+            Ok(None) => Ok(None),
+            Ok(Some(message)) => self.hear(message),
+            Err(Error::OutOfMemory) => Err(ConnectionError::OutOfMemory),
+            Err(e) => {
+                self.phase = ConnectionPhase::Over;
+                Err(ConnectionError::Malformed(e))
+            }
+        }
+    }
+
+    /// What a message comes to.
+    fn hear(
+        &mut self,
+        message: Message<Bytes<A>>,
+    ) -> Result<Option<(Event, Message<Bytes<A>>)>, ConnectionError<A>>
+        ensures { Hears A.Lacks (view message) (shown self.old) (shown self.new) (nexted result) }
+    {
+        match self.take(&message) {
+            Ok(event) => Ok(Some((event, message))),
+            Err(e) => {
+                drop(message);
+                self.phase = ConnectionPhase::Over;
+                Err(e)
+            }
+        }
+    }
+
+    /// To which request a message belongs, and what it comes to in the log-in.
+    fn take(&mut self, message: &Message<Bytes<A>>) -> Result<Event, ConnectionError<A>>
+        ensures { Takes A.Lacks (view message.now) (shown self.old) (shown self.new) result }
+    {
+        let event = match self.dialogue.take_message(message) {
+            Ok(event) => event,
+            Err(e) => return Err(ConnectionError::Misplaced(e)),
+        };
+        if is_end(event) {
+            self.phase = ConnectionPhase::Over;
+            return Ok(event);
+        }
+        match self.login.hear(message, &mut self.out) {
+            Ok(()) => Ok(event),
+            Err(e) => Err(e),
+        }
+    }
+
+    /// Whether no request awaits an answer.
+    pub fn is_idle(&self) -> bool
+        ensures { result ≡ is_idle (shown self.now).talk }
+    {
+        self.dialogue.is_idle()
+    }
+}

@@ -1,0 +1,33 @@
+//! Why a call of a connection was rejected.
+
+use pgp_auth::authentication::sasl::ScramError;
+use pgp_base::Error;
+use pgp_client::Refusal;
+use std::alloc::{Allocator, Global};
+
+/// Why a call was rejected.
+#[derive(Debug, Drop)]
+pub enum ConnectionError<A: Allocator = Global> {
+    /// The call has no place there: the connection isn't started, isn't logged in, or is over.
+    OutOfPhase,
+    /// The message couldn't be written.
+    Unwritten(Error),
+    /// An allocation failed. The call may be made again.
+    OutOfMemory,
+    /// The server announces a message that is longer than the limit.
+    TooLong,
+    /// The server sent something other than a message that is known.
+    Malformed(Error),
+    /// The message has no place among the answers that are due, or can't be attributed.
+    Misplaced(Refusal),
+    /// The message isn't due in the log-in.
+    Undue,
+    /// The server asks for a way of logging in that isn't admitted.
+    NotAdmitted,
+    /// The server's SASL mechanisms lack SCRAM-SHA-256, or their list is malformed.
+    NotOffered,
+    /// The exchange rejected the server's text, or memory for its own was refused; or it was over before it began.
+    Scram(ScramError<A>),
+    /// The answer to the request for encryption isn't the byte `S` or `N` alone.
+    BadAnswer,
+}

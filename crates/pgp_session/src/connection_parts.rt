@@ -1,0 +1,101 @@
+//! What the calls of a connection test, and what they append.
+
+ghost use Rattle.std.specs.Prelude.{◌≡◌, ◌≢◌, ◌∷◌, ◌++◌, [], Bool, map, None, IfErr, IfSome, OnErr, OnOk};
+ghost use Rattle.pgp_base.specs.Cause.{WantsMemory};
+ghost use Rattle.pgp_frontend.specs.ClientMessage.{Startup};
+ghost use Rattle.pgp_frontend.specs.Given.{shown as shown_pair};
+ghost use Rattle.pgp_frontend.specs.Reading.{IsNamed};
+ghost use Rattle.pgp_frontend_read.specs.Views.{view as sent_view};
+ghost use Rattle.pgp_session.specs.Login.{Puts};
+ghost use Rattle.pgp_session.specs.Connection.{is_end, is_longer, letter, may_send, next_name};
+
+use crate::client_stream::ClientStream;
+use bytes::BytesMut;
+use pgp_base::{Error, Memory};
+use pgp_client::Event;
+use pgp_frontend_read::ClientMessage;
+
+/// Whether it ends the session.
+pub(crate) fn is_end(event: Event) -> bool
+    ensures { result ≡ is_end event }
+{
+    match event {
+        Event::Ended => true,
+        _ => false,
+    }
+}
+
+/// Whether a message may be sent after the log-in: a request, or data of a copy where one is under way.
+pub(crate) fn may_send(message: &ClientMessage<'_>, copying: bool) -> bool
+    ensures { result ≡ may_send copying (sent_view message.now) }
+{
+    match message {
+        ClientMessage::Query(_) | ClientMessage::Parse { .. } | ClientMessage::Bind { .. } => true,
+        ClientMessage::Describe { .. } | ClientMessage::Execute { .. } => true,
+        ClientMessage::Close { .. } | ClientMessage::Sync | ClientMessage::Flush => true,
+        ClientMessage::CopyData(_) | ClientMessage::CopyDone | ClientMessage::CopyFail(_) =>
+            copying,
+        _ => false,
+    }
+}
+
+/// The name after this one.
+pub(crate) fn next_name(name: u64) -> u64
+    ensures { result ≡ next_name name }
+{
+    if name == u64::MAX {
+        return 0;
+    }
+    name + 1
+}
+
+/// Whether the bytes begin with a header that announces more bytes than the limit.
+pub(crate) fn is_too_long(bytes: &[u8], limit: u32) -> bool
+    ensures { result ≡ is_longer limit bytes.now }
+{
+    if bytes.len() < 5 {
+        return false;
+    }
+    limit < u32::from_be_bytes([bytes[1], bytes[2], bytes[3], bytes[4]])
+}
+
+/// Whether the server encrypts, where the bytes are its one byte alone.
+pub(crate) fn encrypts(piece: &[u8]) -> Option<bool>
+    ensures some { IfSome result (λ encrypts. piece.now ≡ letter encrypts ∷ []) }
+    ensures none { result ≡ None → (encrypts : Bool) → piece.now ≢ letter encrypts ∷ [] }
+{
+    match piece {
+        [b'S'] => Some(true),
+        [b'N'] => Some(false),
+        _ => None,
+    }
+}
+
+/// Appends the startup packet of these names and values.
+pub(crate) fn put_startup<A: Memory>(
+    alloc: A,
+    parameters: &[(&str, &str)],
+    out: &mut BytesMut<A>,
+) -> Result<(), Error>
+    requires { IsNamed (Startup 0 (map shown_pair parameters.now)) }
+    ensures put { Puts A.Lacks (Startup 0 (map shown_pair parameters.now)) out.old.items out.new.items result }
+    ensures kept { OnErr result (out.new.items ≡ out.old.items) }
+{
+    let mut packet = ClientStream::new(alloc);
+    match packet.startup_message(parameters) {
+        Ok(()) => append(packet.bytes(), out),
+        Err(e) => Err(e),
+    }
+}
+
+/// Appends bytes.
+fn append<A: Memory>(bytes: &[u8], out: &mut BytesMut<A>) -> Result<(), Error>
+    ensures ok { OnOk result (out.new.items ≡ out.old.items ++ bytes.now) }
+    ensures err { OnErr result (out.new.items ≡ out.old.items) }
+    ensures lacks { IfErr result (WantsMemory A.Lacks) }
+{
+    match A::append(out, bytes) {
+        Ok(()) => Ok(()),
+        Err(_) => Err(Error::OutOfMemory),
+    }
+}

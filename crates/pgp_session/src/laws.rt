@@ -1,0 +1,41 @@
+//! What holds of a connection after any calls.
+
+ghost use Rattle.std.specs.Prelude.{◌≡◌, ℕ, List, Ok, Option};
+ghost use Rattle.pgp_client.specs.declared.event.Event.{Event as Told};
+ghost use Rattle.pgp_frontend.specs.ClientMessage.{ClientMessage as Written, SslRequest, Startup, Terminate};
+ghost use Rattle.pgp_frontend.specs.Reading.{IsNamed};
+ghost use Rattle.pgp_message.specs.BackendMessage.{Message as Heard};
+ghost use Rattle.pgp_message.specs.Stream.{TakesFrame};
+ghost use Rattle.pgp_session.specs.Connection.{HasStarted, Sent, Shown, Took, Wrote, begun, dropped, fed, in_phase, with_incoming};
+ghost use Rattle.pgp_session.specs.Login.{Ways as Admitting};
+ghost use Rattle.pgp_session.specs.Session.{Follows, History, Known, and_fed, and_heard, and_sent, and_wrote, nothing};
+ghost use Rattle.pgp_session.specs.declared.connection.ConnectionPhase.TheVariants.{Opening, Encrypting, Started, Over};
+
+/// Of a new connection nothing is known but its ways; and what is known of a connection is known after each call, with what the call did.
+pub fn calls_are_known()
+    ensures begun { (ways : Admitting) (limit : ℕ) → Known ways nothing (begun ways limit) }
+    ensures asks_encryption { (ways : Admitting) (h : History) (old new : Shown) → Wrote Opening Encrypting SslRequest old new → Known ways h old
+        → Known ways (and_wrote SslRequest 0 h) new }
+    ensures answered { (ways : Admitting) (h : History) (old : Shown) → old.phase ≡ Encrypting → Known ways h old → Known ways h (in_phase Opening old) }
+    ensures starts { (ways : Admitting) (h : History) (old new : Shown) (parameters : List (List ℕ × List ℕ)) (name : ℕ) → IsNamed (Startup 0 parameters)
+        → HasStarted (Startup 0 parameters) old new name → Known ways h old → Known ways (and_wrote (Startup 0 parameters) name h) new }
+    ensures sends { (ways : Admitting) (h : History) (old new : Shown) (m : Written) (name : ℕ) → Sent m old new name → Known ways h old → Known ways (and_wrote m name h) new }
+    ensures sent { (ways : Admitting) (h : History) (old : Shown) (count : ℕ) → Known ways h old → Known ways (and_sent count old h) (dropped count old) }
+    ensures fed { (ways : Admitting) (h : History) (old : Shown) (piece : List ℕ) → Known ways h old → Known ways (and_fed piece h) (fed piece old) }
+    ensures heard { (ways : Admitting) (h : History) (old new : Shown) (rest : List ℕ) (m : Heard) (e : Told) → old.phase ≡ Started → TakesFrame old.incoming (Ok m) rest
+        → Took m (with_incoming rest old) new e → Known ways h old → (reply : Option Written) × Known ways (and_heard m e reply h) new }
+    ensures ends { (ways : Admitting) (h : History) (old new : Shown) → Wrote Started Over Terminate old new → Known ways h old → Known ways (and_wrote Terminate 0 h) new }
+{
+    pgp_message::laws::no_frame();
+    pgp_message::laws::frames_go_on();
+    pgp_message::laws::next_frame();
+}
+
+/// What is known of a connection says of the whole session: the requests that were asked are those of the messages in the bytes; each message of
+/// the server belongs to the request that was reported; no password is given away but by a way that is admitted; and the client is logged in by
+/// such a way alone, by SCRAM-SHA-256 only where the server's signature was shown.
+pub fn sessions_follow()
+    ensures { (ways : Admitting) (h : History) (now : Shown) → Known ways h now → Follows ways h now }
+{
+    pgp_client::laws::only_answers_are_taken();
+}

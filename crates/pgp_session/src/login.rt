@@ -1,0 +1,285 @@
+//! The log-in of a connection: by which ways the client lets itself be asked, and what each message of the server comes to.
+
+ghost use Rattle.std.specs.Prelude.{◌≡◌, OnErr};
+ghost use Rattle.pgp_auth.specs.Md5Text.{md5_answer};
+ghost use Rattle.pgp_frontend.specs.ClientMessage.{PasswordMessage};
+ghost use Rattle.pgp_message.specs.Views.{view};
+ghost use Rattle.pgp_frontend_read.specs.Views.{view as sent_view};
+ghost use Rattle.pgp_session.specs.ScramLogin.{initial};
+ghost use Rattle.pgp_session.specs.Login.{AnswersFirst, AsksCleartext, AsksMd5, AsksSasl, Hears, Puts, RepliesFirst, Begins, VerifiesFinal, Welcomes, asking, given, is_due, seen, told};
+
+use crate::connection_error::ConnectionError;
+use crate::scram_login::{LoginPhase, offers};
+use bytes::{Bytes, BytesMut};
+use pgp_auth::authentication::md5_hash;
+use pgp_auth::authentication::sasl::{SCRAM_SHA_256, ScramError, ScramSha256};
+use pgp_base::{Error, Memory};
+use pgp_frontend_read::{ClientMessage, forward};
+use pgp_message::{AuthenticationSaslBody, Message};
+use std::alloc::Global;
+
+/// The ways of logging in that are admitted, each with what it needs. A server that asks for another gets nothing.
+#[derive(Drop)]
+pub struct Ways<'a, A: Memory = Global> {
+    /// SCRAM-SHA-256, by an exchange that has begun.
+    pub scram: Option<ScramSha256<A>>,
+    /// MD5, by a user and a password.
+    pub md5: Option<(&'a [u8], &'a [u8])>,
+    /// This password in clear text.
+    pub cleartext: Option<&'a [u8]>,
+    /// Whether the server may let the client in without a password.
+    pub none: bool,
+}
+
+/// A log-in.
+#[derive(Drop)]
+pub(crate) struct Login<'a, A: Memory> {
+    pub(crate) phase: LoginPhase,
+    pub(crate) ways: Ways<'a, A>,
+    pub(crate) alloc: A,
+}
+
+impl<'a, A: Memory> Login<'a, A> {
+    /// Takes a message of the server, and appends the reply if there is one. On error nothing is appended, and the log-in has failed.
+    pub(crate) fn hear(
+        &mut self,
+        message: &Message<Bytes<A>>,
+        out: &mut BytesMut<A>,
+    ) -> Result<(), ConnectionError<A>>
+        ensures heard { Hears A.Lacks (asking (view message.now)) (seen self.old) (seen self.new) out.old.items out.new.items result }
+        ensures kept { OnErr result (out.new.items ≡ out.old.items) }
+    {
+        let asked = asked_by(message);
+        if !is_due(self.phase, &asked) {
+            return Err(ConnectionError::Undue);
+        }
+        match asked {
+            Asking::Nothing => Ok(()),
+            Asking::Cleartext => self.cleartext(out),
+            Asking::Md5(salt) => self.md5(salt, out),
+            Asking::Sasl(body) => self.begin(body, out),
+            Asking::First(text) => self.reply(text, out),
+            Asking::Final(text) => self.verify(text),
+            Asking::Welcome => self.welcome(),
+            Asking::Other => Err(ConnectionError::NotAdmitted),
+        }
+    }
+
+    /// The password is asked for in clear text.
+    fn cleartext(&mut self, out: &mut BytesMut<A>) -> Result<(), ConnectionError<A>>
+        ensures heard { AsksCleartext A.Lacks (given self.old.ways).cleartext (seen self.old) (seen self.new) out.old.items out.new.items result }
+        ensures kept { OnErr result (out.new.items ≡ out.old.items) }
+    {
+        let Some(password) = self.ways.cleartext else {
+            return Err(ConnectionError::NotAdmitted);
+        };
+        if let Err(e) = put(&ClientMessage::PasswordMessage(password), out) {
+            return Err(ConnectionError::Unwritten(e));
+        }
+        self.phase = LoginPhase::AwaitsOk;
+        Ok(())
+    }
+
+    /// The password is asked for by MD5.
+    fn md5(&mut self, salt: [u8; 4], out: &mut BytesMut<A>) -> Result<(), ConnectionError<A>>
+        ensures heard { AsksMd5 A.Lacks (given self.old.ways).md5 salt (seen self.old) (seen self.new) out.old.items out.new.items result }
+        ensures kept { OnErr result (out.new.items ≡ out.old.items) }
+    {
+        let Some((user, password)) = self.ways.md5 else {
+            return Err(ConnectionError::NotAdmitted);
+        };
+        if let Err(e) = put_md5(self.alloc, user, password, salt, out) {
+            return Err(ConnectionError::Unwritten(e));
+        }
+        self.phase = LoginPhase::AwaitsOk;
+        Ok(())
+    }
+
+    /// The server's mechanisms came: the exchange's first text is sent.
+    fn begin(
+        &mut self,
+        body: &AuthenticationSaslBody<Bytes<A>>,
+        out: &mut BytesMut<A>,
+    ) -> Result<(), ConnectionError<A>>
+        ensures heard { AsksSasl A.Lacks (given self.old.ways).scram body.now (seen self.old) (seen self.new) out.old.items out.new.items result }
+        ensures kept { OnErr result (out.new.items ≡ out.old.items) }
+    {
+        let Some(exchange) = &self.ways.scram else {
+            return Err(ConnectionError::NotAdmitted);
+        };
+        if !offers(body) {
+            return Err(ConnectionError::NotOffered);
+        }
+        match begin(exchange, out) {
+            Ok(()) => {
+                self.phase = LoginPhase::AwaitsFirst;
+                Ok(())
+            }
+            Err(e) => Err(e),
+        }
+    }
+
+    /// The server's first text came: the exchange's final text is sent.
+    fn reply(&mut self, text: &[u8], out: &mut BytesMut<A>) -> Result<(), ConnectionError<A>>
+        ensures heard { AnswersFirst A.Lacks (given self.old.ways).scram text.now (seen self.old) (seen self.new) out.old.items out.new.items result }
+        ensures kept { OnErr result (out.new.items ≡ out.old.items) }
+    {
+        let Some(mut exchange) = self.ways.scram.take() else {
+            return Err(ConnectionError::NotAdmitted);
+        };
+        match reply(&mut exchange, text, out) {
+            Ok(()) => {
+                self.ways.scram = Some(exchange);
+                self.phase = LoginPhase::AwaitsFinal;
+                Ok(())
+            }
+            Err(e) => Err(e),
+        }
+    }
+
+    /// The server's final text came, which has to show its signature.
+    fn verify(&mut self, text: &[u8]) -> Result<(), ConnectionError<A>>
+        ensures { VerifiesFinal A.Lacks (given self.old.ways).scram text.now (seen self.old) (seen self.new) result }
+    {
+        let Some(mut exchange) = self.ways.scram.take() else {
+            return Err(ConnectionError::NotAdmitted);
+        };
+        if let Err(e) = exchange.finish(text) {
+            return Err(ConnectionError::Scram(e));
+        }
+        self.ways.scram = Some(exchange);
+        self.phase = LoginPhase::AwaitsOk;
+        Ok(())
+    }
+
+    /// The server lets the client in.
+    fn welcome(&mut self) -> Result<(), ConnectionError<A>>
+        ensures { Welcomes (seen self.old) (seen self.new) result }
+    {
+        if self.phase == LoginPhase::AwaitsOffer && !self.ways.none {
+            return Err(ConnectionError::NotAdmitted);
+        }
+        self.phase = LoginPhase::Done;
+        Ok(())
+    }
+}
+
+/// What a message asks of a client that logs in.
+#[derive(Drop)]
+enum Asking<'m, A: Memory> {
+    /// It is none of the log-in's.
+    Nothing,
+    Cleartext,
+    Md5([u8; 4]),
+    Sasl(&'m AuthenticationSaslBody<Bytes<A>>),
+    First(&'m [u8]),
+    Final(&'m [u8]),
+    Welcome,
+    /// A way that no client here has.
+    Other,
+}
+
+/// What the message asks.
+fn asked_by<'m, A: Memory>(message: &'m Message<Bytes<A>>) -> Asking<'m, A>
+    ensures { told result ≡ asking (view message.now) }
+{
+    match message {
+        Message::AuthenticationOk => Asking::Welcome,
+        Message::AuthenticationCleartextPassword => Asking::Cleartext,
+        Message::AuthenticationMd5Password(body) => Asking::Md5(body.salt()),
+        Message::AuthenticationSasl(body) => Asking::Sasl(body),
+        Message::AuthenticationSaslContinue(body) => Asking::First(body.data()),
+        Message::AuthenticationSaslFinal(body) => Asking::Final(body.data()),
+        Message::AuthenticationKerberosV5
+        | Message::AuthenticationScmCredential
+        | Message::AuthenticationGss
+        | Message::AuthenticationGssContinue(_)
+        | Message::AuthenticationSspi => Asking::Other,
+        _ => Asking::Nothing,
+    }
+}
+
+/// Whether it is due in the phase.
+fn is_due<A: Memory>(phase: LoginPhase, asked: &Asking<'_, A>) -> bool
+    ensures { result ≡ is_due phase (told asked.now) }
+{
+    match asked {
+        Asking::Nothing => true,
+        Asking::Cleartext | Asking::Md5(_) | Asking::Sasl(_) | Asking::Other => {
+            phase == LoginPhase::AwaitsOffer
+        }
+        Asking::First(_) => phase == LoginPhase::AwaitsFirst,
+        Asking::Final(_) => phase == LoginPhase::AwaitsFinal,
+        Asking::Welcome => phase == LoginPhase::AwaitsOffer || phase == LoginPhase::AwaitsOk,
+    }
+}
+
+/// The exchange's first text is sent.
+fn begin<A: Memory>(
+    exchange: &ScramSha256<A>,
+    out: &mut BytesMut<A>,
+) -> Result<(), ConnectionError<A>>
+    ensures heard { Begins A.Lacks exchange.now out.old.items out.new.items result }
+    ensures kept { OnErr result (out.new.items ≡ out.old.items) }
+{
+    let Some(first) = exchange.message() else {
+        return Err(ConnectionError::Scram(ScramError::WrongState));
+    };
+    let message = ClientMessage::SaslInitialResponse {
+        mechanism: SCRAM_SHA_256.as_bytes(),
+        response: Some(first),
+    };
+    if let Err(e) = put(&message, out) {
+        return Err(ConnectionError::Unwritten(e));
+    }
+    Ok(())
+}
+
+/// The exchange takes the server's first text, and its final text is sent.
+fn reply<A: Memory>(
+    exchange: &mut ScramSha256<A>,
+    text: &[u8],
+    out: &mut BytesMut<A>,
+) -> Result<(), ConnectionError<A>>
+    ensures heard { RepliesFirst A.Lacks text.now exchange.old exchange.new out.old.items out.new.items result }
+    ensures kept { OnErr result (out.new.items ≡ out.old.items) }
+{
+    if let Err(e) = exchange.update(text) {
+        return Err(ConnectionError::Scram(e));
+    }
+    let Some(answer) = exchange.message() else {
+        return Err(ConnectionError::Undue);
+    };
+    if let Err(e) = put(&ClientMessage::SaslResponse(answer), out) {
+        return Err(ConnectionError::Unwritten(e));
+    }
+    Ok(())
+}
+
+/// Appends the answer to a request for a password by MD5.
+fn put_md5<A: Memory>(
+    alloc: A,
+    user: &[u8],
+    password: &[u8],
+    salt: [u8; 4],
+    out: &mut BytesMut<A>,
+) -> Result<(), Error>
+    ensures heard { Puts A.Lacks (PasswordMessage (md5_answer user.now password.now salt)) out.old.items out.new.items result }
+    ensures kept { OnErr result (out.new.items ≡ out.old.items) }
+{
+    match md5_hash(alloc, user, password, salt) {
+        Ok(answer) => put(&ClientMessage::PasswordMessage(answer.as_bytes()), out),
+        Err(e) => Err(e),
+    }
+}
+
+/// Appends a message.
+pub(crate) fn put<A: Memory>(
+    message: &ClientMessage<'_>,
+    out: &mut BytesMut<A>,
+) -> Result<(), Error>
+    ensures heard { Puts A.Lacks (sent_view message.now) out.old.items out.new.items result }
+    ensures kept { OnErr result (out.new.items ≡ out.old.items) }
+{
+    forward(message, out)
+}

@@ -1,0 +1,20 @@
+//! What a test holds to be so. Each is proved once; an assertion in the text of a test is proved there again, with all
+//! that stands around it.
+
+use std::fmt::Debug;
+use std::process::Abort;
+
+/// What came is what was wanted, else the test fails and shows both, with the place in a table.
+pub(crate) fn same_at<T: PartialEq + Debug + Drop>(
+    rt: &impl Abort,
+    place: usize,
+    came: T,
+    wanted: T,
+) {
+    assert_eq!(rt; came, wanted, "{place}");
+}
+
+/// What came is true, else the test fails.
+pub(crate) fn holds(rt: &impl Abort, came: bool) {
+    assert!(rt; came);
+}

@@ -1,0 +1,50 @@
+-- What a connection's next message is.
+use Rattle.std.proofs.Common.{◌≡◌, ℕ, Bool, true, false, List, Option, Some, None, Result, Ok, Err, refl, sym, ap, subst, ◌∙◌}
+use Rattle.std.specs.Prelude.{◌⊎◌}
+use Rattle.pgp_client.specs.declared.event.Event.{Event}
+use Rattle.pgp_message.specs.BackendMessage.{Message, DataRow}
+use Rattle.pgp_message.specs.Views.{view}
+use Rattle.pgp_message.specs.declared.message as code
+use Rattle.pgp_uses.specs.Client.{IsSo, came_as, came_if, is_part, row_of}
+use Rattle.pgp_uses.specs.declared.client.Came.{Came}
+use Rattle.pgp_uses.specs.declared.client.Came.TheVariants as came
+use Rattle.pgp_message.specs.Stream.{IsPartial, TakesFrame}
+use Rattle.pgp_session.specs.Connection.{Comes, IsCut, Nexts, Shown, nexted, Took, TookEnd, with_incoming}
+use Rattle.pgp_session.specs.declared.connection_error.ConnectionError.{ConnectionError}
+
+pub none_comes : {A : Type 0} (lacks : Type 0) (old new : Shown) → Nexts {A = A} lacks old new (Ok None) → IsPartial old.incoming × (new ≡ old)
+none_comes lacks old new (IsCut phase partial same) = (partial, same)
+none_comes lacks old new (Comes m rest phase limit frame h) = absurd h
+
+-- a message was taken, and reported so
+pub record Taken (old new : Shown) (e : Event) (m : Message) : Type 0 where
+  pub rest : List ℕ
+  pub frame : TakesFrame old.incoming (Ok m) rest
+  pub took : Took m (with_incoming rest old) new e ⊎ TookEnd m (with_incoming rest old) new e
+
+pub one_comes : {A : Type 0} (lacks : Type 0) (old new : Shown) (e : Event) (m : Message) → Nexts {A = A} lacks old new (Ok (Some (e, m))) → Taken old new e m
+one_comes lacks old new e m (Comes n rest phase limit frame h) = record {
+  rest = rest;
+  frame = subst (λ (x : Message). TakesFrame old.incoming (Ok x) rest) (sym h.0) frame;
+  took = subst (λ (x : Message). Took x (with_incoming rest old) new e ⊎ TookEnd x (with_incoming rest old) new e) (sym h.0) h.1;
+}
+
+pub none_given : {A B : Type 0} (lacks : Type 0) (old new : Shown) (o : Option (Event × code.Message.Message B)) → o ≡ None → Nexts {A = A} lacks old new (nexted {A = B} {E = ConnectionError A} (Ok o)) → IsPartial old.incoming × (new ≡ old)
+none_given {A} {B} lacks old new o e n = none_comes {A = A} lacks old new (subst (λ (x : Option (Event × code.Message.Message B)). Nexts {A = A} lacks old new (nexted {A = B} {E = ConnectionError A} (Ok x))) e n)
+
+pub some_given : {A B : Type 0} (lacks : Type 0) (old new : Shown) (o : Option (Event × code.Message.Message B)) (e : Event) (m : code.Message.Message B) → o ≡ Some (e, m) → Nexts {A = A} lacks old new (nexted {A = B} {E = ConnectionError A} (Ok o)) → Taken old new e (view m)
+some_given {A} {B} lacks old new o e m is n = one_comes {A = A} lacks old new e (view m) (subst (λ (x : Option (Event × code.Message.Message B)). Nexts {A = A} lacks old new (nexted {A = B} {E = ConnectionError A} (Ok x))) is n)
+
+module _ {A : Type 0} where
+  no_row : (e : Event) (m : Message) → came.Nothing ≡ row_of {A = A} e m → ⊥
+  no_row e (DataRow row) is = cc
+  no_row e m is = cc
+
+  not_nothing : (b : Bool) (e : Event) (m : Message) → came.Nothing ≡ came_if {A = A} b e m → ⊥
+  not_nothing true e m is = no_row e m is
+  not_nothing false e m is = cc
+
+  pub is_so : (name : ℕ) (c : Came A) (old new : Shown) (e : Event) (m : Message) → c ≡ came_as {A = A} name e m → Taken old new e m → IsSo name c old new
+  is_so name came.Nothing old new e m is t = absurd (not_nothing (is_part name e) e m is)
+  is_so name (came.Row row) old new e m is t = (m, t.rest, e, t.frame, t.took, is)
+  is_so name (came.Other f) old new e m is t = (m, t.rest, e, t.frame, t.took, is)

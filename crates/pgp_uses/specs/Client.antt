@@ -1,0 +1,43 @@
+-- A client's connection that awaits the rows of a request.
+use Rattle.std.specs.Prelude.{◌≡◌, ◌⊎◌, ℕ, Bool, true, false, List, [], ◌∷◌, Option, Some, None, Result, Ok, codes, ◌==◌}
+use Rattle.pgp_auth.specs.ScramClient.{Client}
+use Rattle.pgp_client.specs.declared.event.Event.{Event}
+use Rattle.pgp_client.specs.declared.event.Event.TheVariants.{Part}
+use Rattle.pgp_frontend.specs.ClientMessage.{Startup}
+use Rattle.pgp_message.specs.BackendMessage.{Message, DataRow}
+use Rattle.pgp_message.specs.Stream.{IsPartial, TakesFrame}
+use Rattle.pgp_session.specs.Connection.{Shown, Took, TookEnd, with_incoming}
+use Rattle.pgp_session.specs.Login.{Ways}
+use Rattle.pgp_session.specs.Session.{History, and_wrote, nothing}
+use Rattle.pgp_uses.specs.declared.client.Came.{Came}
+use Rattle.pgp_uses.specs.declared.client.Came.TheVariants as code
+
+-- SCRAM-SHA-256 by this exchange, and no other way
+abbrev pub scram_alone : Client → Ways
+scram_alone x = record { scram = Some x; md5 = None; cleartext = None; none = false }
+
+-- the startup packet of this user was written
+abbrev pub opened : List ℕ → History
+opened user = and_wrote (Startup 0 ((codes "user", user) ∷ [])) 0 nothing
+
+-- the event is a part of the answer to this request
+abbrev pub is_part : ℕ → Event → Bool
+is_part name (Part n) = n == name
+is_part name e = false
+
+abbrev pub row_of : {A : Type 0} → Event → Message → Came A
+row_of e (DataRow row) = code.Row row
+row_of e m = code.Other e
+
+abbrev pub came_if : {A : Type 0} → Bool → Event → Message → Came A
+came_if true e m = row_of e m
+came_if false e m = code.Other e
+
+abbrev pub came_as : {A : Type 0} → ℕ → Event → Message → Came A
+came_as name e m = came_if (is_part name e) e m
+
+-- What the next message is: none is complete; or one was taken, and is a row of the request, or not.
+abbrev pub IsSo : {A : Type 0} → ℕ → Came A → Shown → Shown → Type 0
+IsSo name code.Nothing old new = IsPartial old.incoming × (new ≡ old)
+IsSo {A} name came old new = (m : Message) × (rest : List ℕ) × (e : Event) × TakesFrame old.incoming (Ok m) rest
+    × (Took m (with_incoming rest old) new e ⊎ TookEnd m (with_incoming rest old) new e) × (came ≡ came_as {A = A} name e m)
