@@ -5,26 +5,26 @@
  * but memcpy, memmove, memset and memcmp of the C library, takes no memory, keeps nothing between two calls and has no global
  * state. (Passwords and escapes are in postgres_protocol_auth.h, libpgp_c_auth.a.)
  *
- * Each call works on memory that the caller owns and lends for the time of the call. Any number of threads may call at once, as
- * long as no two of them are handed the same memory to write.
+ * Each call works on memory of the caller's, and keeps no pointer to it. Any number of threads may call at once, as long as no two of
+ * them pass the same memory to be written.
  *
- * STATUS   A call answers PGP_OK, or a positive number that says why it did nothing. 1 to 20 are the refusals of the core and never
- *          change their meaning. PGP_MORE and PGP_DONE are no errors: they tell where reading stops.
+ * STATUS   A call returns PGP_OK, or a positive number that says why it did nothing. 1 to 25 are the errors of the core and never
+ *          change their meaning. PGP_MORE, PGP_DONE and PGP_FULL are no errors: they say where reading stops.
  *
  * WRITERS  take `out`, `room` (how many bytes may be written there) and `written`. On PGP_OK exactly one message stands in
- *          out[0 .. *written) and the rest of the room is as it was. On any other answer *written is 0, and what out[0 .. room)
- *          holds is not promised (the front of the message may stand there); nothing outside it is touched. So
+ *          out[0 .. *written) and the rest of the room is unchanged. On any other status *written is 0, and the contents of
+ *          out[0 .. room) are unspecified (the front of the message may stand there); nothing outside it is touched. So
  *              len += n    and    send(fd, buf, len)
- *          are right after any answer, but that a message is missing. To write several messages, pass buf + len and size - len.
+ *          are right after any status, but that a message is missing. To write several messages, pass buf + len and size - len.
  *
- *          HOW MUCH ROOM? Where the room is too small a writer answers PGP_NO_ROOM: grow it (doubling serves) and call again. The
- *          pgp_*_size functions tell beforehand how many bytes a message takes, with no call into the library.
+ *          HOW MUCH ROOM? Where the room is too small a writer returns PGP_NO_ROOM: enlarge it (doubling serves) and call again. The
+ *          pgp_*_size functions give the number of bytes beforehand, with no call into the library.
  *
- * TEXTS    are a pointer and a length, with no 0 byte behind them, in the session's encoding: any bytes serve. A text with a 0 byte is
- *          refused (PGP_E_EMBEDDED_NULL): no name, query or value can change how a server cuts the stream.
+ * TEXTS    are a pointer and a length, with no 0 byte at the end, in the session's encoding: any bytes will do. A text with a 0 byte is
+ *          rejected (PGP_E_EMBEDDED_NULL): no name, query or value can change how a server cuts the stream.
  *
  * POINTERS Where a length is 0 the pointer is not read. The proof speaks of pointers that are not NULL; NULL with the length 0 is
- *          tested and serves.
+ *          tested and works.
  *
  * C99 or later, C++98 or later with <stdint.h>. `make check-c` compares each declaration and struct with what the library exports.
  */
@@ -43,7 +43,7 @@ extern "C" {
 #define PGP_VERSION_MAJOR 0
 #define PGP_VERSION_MINOR 1
 
-/* ---- what a call answers ---- */
+/* ---- what a call returns ---- */
 
 typedef uint32_t pgp_status;
 
@@ -51,19 +51,19 @@ enum {
     PGP_OK = 0,
     PGP_NO_ROOM = 1,                    /* the room is too small (the core's OutOfMemory)                */
     PGP_E_EMBEDDED_NULL = 2,            /* a text has a 0 byte                                           */
-    PGP_E_TOO_LARGE = 3,                /* a count or a length passes its field                          */
+    PGP_E_TOO_LARGE = 3,                /* a count or a length exceeds its field                         */
     PGP_E_INVALID_LENGTH = 4,           /* a frame announces a length below 4: the stream can't go on    */
     PGP_E_UNKNOWN_TAG = 5,              /* no message of a server has the tag                            */
     PGP_E_UNKNOWN_AUTHENTICATION = 6,   /* no authentication request has the code                        */
     PGP_E_UNEXPECTED_EOF = 7,           /* a part is cut short                                           */
-    PGP_E_NOT_DRAINED = 8,              /* bytes stand behind a complete body, list or value             */
+    PGP_E_NOT_DRAINED = 8,              /* bytes stand after a complete body, list or value              */
     PGP_E_NOT_UTF8 = 9,                 /* a text isn't UTF-8                                            */
     PGP_E_INVALID_SIZE = 10,            /* a value has the wrong number of bytes                         */
     PGP_E_INVALID_COUNT = 11,           /* a count is negative                                           */
-    PGP_E_INVALID_KEY_LENGTH = 12,      /* an hstore's key has a negative length, or passes the end      */
-    PGP_E_INVALID_VALUE_LENGTH = 13,    /* an element, a bound or an hstore's value passes the end       */
+    PGP_E_INVALID_KEY_LENGTH = 12,      /* an hstore's key has a negative length, or exceeds the end     */
+    PGP_E_INVALID_VALUE_LENGTH = 13,    /* an element, a bound or an hstore's value exceeds the end      */
     PGP_E_INVALID_DIMENSION = 14,       /* a dimension of an array has a negative length                 */
-    PGP_E_TOO_MANY_ELEMENTS = 15,       /* the product of the dimensions passes 2,147,483,647            */
+    PGP_E_TOO_MANY_ELEMENTS = 15,       /* the product of the dimensions exceeds 2,147,483,647           */
     PGP_E_INVALID_BIT_LENGTH = 16,      /* a bit string's number of bits is negative                     */
     PGP_E_INVALID_NETMASK = 17,         /* a netmask has more bits than the address                      */
     PGP_E_INVALID_ADDRESS_LENGTH = 18,  /* an address doesn't have the bytes of its family               */
@@ -161,8 +161,8 @@ static inline size_t pgp_cancel_request_size(size_t key_len) { return 12 + key_l
 /* ---- a client's stream: writers that know the phase ---- */
 
 /* The caller makes one, with len 0 and is_open false, over memory of his own; after a send he sets len to 0 (or moves the rest to the
-   front) and leaves `is_open`. A message that may not come is refused with PGP_E_WRONG_PHASE: requests come before the startup packet,
-   all other messages behind it. Then a server that knows only the grammar reads the stream in one way. */
+   front) and leaves `is_open`. A message that is not allowed in this phase is rejected with PGP_E_WRONG_PHASE: requests
+   come before the startup packet, all other messages after it. Then a server that knows only the grammar reads the stream in one way. */
 struct pgp_stream { uint8_t *room; size_t room_len; size_t len; bool is_open; };
 pgp_status pgp_stream_ssl_request(struct pgp_stream *stream);
 pgp_status pgp_stream_cancel_request(struct pgp_stream *stream, int32_t process_id, const uint8_t *secret_key, size_t key_len);
@@ -226,18 +226,18 @@ struct pgp_parts { struct pgp_part first, second; size_t count; int32_t number; 
 struct pgp_message {
     size_t frame;             /* how many bytes the frame takes: go on at bytes + frame. 0 for PGP_MORE and PGP_E_INVALID_LENGTH */
     struct pgp_parts parts;
-    uint8_t kind;             /* enum pgp_kind; PGP_NONE unless the answer is PGP_OK                                             */
+    uint8_t kind;             /* enum pgp_kind; PGP_NONE unless the status is PGP_OK                                             */
     uint8_t tag;              /* the frame's first byte; 0 where frame is 0                                                      */
 };
 
-/* The message at the front of the bytes, read in place: nothing is copied. Answers
+/* The message at the front of the bytes, read in place: nothing is copied. Returns
      PGP_OK                    a message: kind, parts, and the frame's length
-     PGP_MORE                  no whole frame stands there: read more behind these bytes
+     PGP_MORE                  no whole frame stands there: read more, and call again with these bytes first
      PGP_E_INVALID_LENGTH      the stream can't be read on
-     5, 6, 7, 8                the frame is whole, and its body is refused: it may be passed over (frame)               */
+     5, 6, 7, 8                the frame is whole, and its body is malformed: it may be skipped (frame)                  */
 pgp_status pgp_front(const uint8_t *bytes, size_t len, struct pgp_message *message);
 
-/* A walk over the items of a list, in three numbers of the caller's. Begin with pgp_walk. */
+/* An iterator over the items of a list, in three numbers of the caller's. Begin with pgp_walk. */
 struct pgp_cursor { size_t at, end, left; };
 static inline struct pgp_cursor pgp_walk(const struct pgp_message *message)
 {
@@ -248,9 +248,9 @@ static inline struct pgp_cursor pgp_walk(const struct pgp_message *message)
     return c;
 }
 
-/* The next value of a row: bytes[start .. end), or a null; start <= end <= len holds of both. PGP_DONE behind the last; a refusal
-   (7: the value is cut short, 8: bytes stand behind the last one) is answered again at each later call. Both leave the cursor and
-   the column as they are. */
+/* The next value of a row: bytes[start .. end), or a null; start <= end <= len holds of both. PGP_DONE after the last; an error
+   (7: the value is cut short, 8: bytes stand after the last one) is returned again at each later call. Both leave the cursor and
+   the column unchanged. */
 struct pgp_column { size_t start, end; bool is_null; };
 pgp_status pgp_row_next(const uint8_t *bytes, size_t len, struct pgp_cursor *cursor, struct pgp_column *column);
 
@@ -258,13 +258,13 @@ pgp_status pgp_row_next(const uint8_t *bytes, size_t len, struct pgp_cursor *cur
    more values follow, which the next call with the same cursor reads; 7 and 8 as pgp_row_next, after *count values. */
 pgp_status pgp_row_all(const uint8_t *bytes, size_t len, struct pgp_cursor *cursor, struct pgp_column *columns, size_t room, size_t *count);
 
-/* The next type of a PARAMETER_DESCRIPTION, and the next format of a COPY_IN_RESPONSE or COPY_OUT_RESPONSE: answers as those of
-   pgp_row_next. */
+/* The next type of a PARAMETER_DESCRIPTION, and the next format of a COPY_IN_RESPONSE or COPY_OUT_RESPONSE: they return what
+   pgp_row_next does. */
 pgp_status pgp_type_next(const uint8_t *bytes, size_t len, struct pgp_cursor *cursor, uint32_t *type);
 pgp_status pgp_format_next(const uint8_t *bytes, size_t len, struct pgp_cursor *cursor, uint16_t *format);
 
 /* The next column of a ROW_DESCRIPTION. The name is some of the bytes that are handed over; a name that isn't UTF-8 is PGP_E_NOT_UTF8.
-   Answers, here and below, as those of pgp_row_next. */
+   Returns, here and below, what pgp_row_next does. */
 struct pgp_field {
     struct pgp_part name;
     uint32_t table_oid;       /* the column's table, or 0            */
@@ -279,7 +279,7 @@ pgp_status pgp_field_next(const uint8_t *bytes, size_t len, struct pgp_cursor *c
 pgp_status pgp_field_all(const uint8_t *bytes, size_t len, struct pgp_cursor *cursor, struct pgp_field *fields, size_t room, size_t *count);
 
 /* The next field of an ERROR_RESPONSE or a NOTICE_RESPONSE: its code is a letter ('S' severity, 'C' SQLSTATE, 'M' message ..), its value any
-   text. PGP_E_NOT_DRAINED where bytes stand behind the 0 that ends the list. */
+   text. PGP_E_NOT_DRAINED where bytes stand after the 0 that ends the list. */
 struct pgp_error_field { struct pgp_part value; uint8_t code; };
 pgp_status pgp_error_field_next(const uint8_t *bytes, size_t len, struct pgp_cursor *cursor, struct pgp_error_field *field);
 
@@ -297,7 +297,7 @@ pgp_status pgp_option_next(const uint8_t *bytes, size_t len, struct pgp_cursor *
        struct pgp_dialogue dialogue = {slots, 64, 0, 0, 0, 0};
 
    CopyData, Flush, Terminate and the words of a log-in are not asked. Where an Execute or a Query asks for the data of a copy, send Sync after
-   CopyDone or CopyFail: a server reads an earlier one as part of the copy, and where the copy fails then, the answer is PGP_E_UNCERTAIN. */
+   CopyDone or CopyFail: a server reads an earlier one as part of the copy, and where the copy fails then, PGP_E_UNCERTAIN is returned. */
 enum pgp_request {
     PGP_REQUEST_STARTUP = 0, PGP_REQUEST_QUERY = 1, PGP_REQUEST_PARSE = 2, PGP_REQUEST_BIND = 3, PGP_REQUEST_CLOSE = 4,
     PGP_REQUEST_DESCRIBE_STATEMENT = 5, PGP_REQUEST_DESCRIBE_PORTAL = 6, PGP_REQUEST_EXECUTE = 7, PGP_REQUEST_FUNCTION_CALL = 8,
@@ -323,9 +323,9 @@ pgp_status pgp_dialogue_is_idle(struct pgp_dialogue *dialogue, bool *idle);
 
 /* ---- values in the binary format ---- */
 
-/* A text and a bytea are their bytes as they stand, and need no call. So are a uuid (16 bytes) and a macaddr (6): their calls look at
-   the number of bytes, and answer PGP_E_INVALID_SIZE for another.
-   Floating-point numbers cross as their bits; pgp_float4_bits and so on turn them. A get leaves *value as it is where it is refused. */
+/* A text and a bytea are their bytes as they stand, and need no call. So are a uuid (16 bytes) and a macaddr (6): their calls check
+   the number of bytes, and return PGP_E_INVALID_SIZE for another.
+   Floating-point numbers cross as their bits; pgp_float4_bits and so on turn them. On error a get leaves *value unchanged. */
 pgp_status pgp_put_bool(bool value, PGP_OUT);          pgp_status pgp_get_bool(const uint8_t *bytes, size_t len, bool *value);
 pgp_status pgp_put_int2(int16_t value, PGP_OUT);       pgp_status pgp_get_int2(const uint8_t *bytes, size_t len, int16_t *value);
 pgp_status pgp_put_int4(int32_t value, PGP_OUT);       pgp_status pgp_get_int4(const uint8_t *bytes, size_t len, int32_t *value);
@@ -366,7 +366,7 @@ pgp_status pgp_put_inet(const uint8_t *address, size_t len, uint8_t netmask, PGP
 pgp_status pgp_get_inet(const uint8_t *bytes, size_t len, struct pgp_inet *value);
 
 /* A bit or a varbit: how many bits, in (bits + 7) / 8 bytes, the first bit highest; else PGP_E_INVALID_SIZE. What pads the last byte is any.
-   A value's bits stand behind its first 4 bytes. */
+   A value's bits stand after its first 4 bytes. */
 pgp_status pgp_put_varbit(size_t bits, const uint8_t *bytes, size_t len, PGP_OUT);
 pgp_status pgp_get_varbit(const uint8_t *bytes, size_t len, size_t *bits);
 
@@ -381,8 +381,8 @@ struct pgp_side { struct pgp_value value; uint8_t kind; };
 pgp_status pgp_put_range(const struct pgp_side *lower, const struct pgp_side *upper, PGP_OUT);
 pgp_status pgp_put_empty_range(PGP_OUT);
 
-/* An array: its head, and cursors for the walks over its dimensions and its elements (row by row, the last dimension the fastest).
-   has_nulls is the flag of the head; the elements tell by themselves. */
+/* An array: its head, and cursors over its dimensions and its elements (row by row, the last dimension the fastest).
+   has_nulls is the flag of the head; the elements say it themselves. */
 struct pgp_array { struct pgp_cursor dimensions, elements; uint32_t element_type; bool has_nulls; };
 struct pgp_dimension { int32_t len, lower_bound; };
 pgp_status pgp_get_array(const uint8_t *bytes, size_t len, struct pgp_array *value);
@@ -393,7 +393,7 @@ pgp_status pgp_element_next(const uint8_t *bytes, size_t len, struct pgp_cursor 
 /* All elements in one call, as pgp_row_all. */
 pgp_status pgp_element_all(const uint8_t *bytes, size_t len, struct pgp_cursor *cursor, struct pgp_column *items, size_t room, size_t *count);
 
-/* An hstore: a cursor for the walk over its entries, each a key and a value or a null, in UTF-8. */
+/* An hstore: a cursor over its entries, each a key and a value or a null, in UTF-8. */
 struct pgp_entry { struct pgp_part key; struct pgp_column value; };
 pgp_status pgp_get_hstore(const uint8_t *bytes, size_t len, struct pgp_cursor *entries);
 pgp_status pgp_entry_next(const uint8_t *bytes, size_t len, struct pgp_cursor *cursor, struct pgp_entry *entry);
