@@ -1,7 +1,7 @@
 # The two commands of a newcomer: `make run` lists a sample stream in about a minute, `make test` is the gate.
 # `make program` proves and builds the program, which `make run` and `./pgwire` run from then on.
 # `make edits`, before a release, tries every wrong body by itself, `make edits CRATES=pgp_base` those of one crate.
-# `make live` tries SASLprep, and what psql, pgbench and pg_dump send, with a PostgreSQL server of this machine, which it starts and stops; pgserve with psql and pgbench; and
+# `make live` tries SASLprep, and what psql, pgbench and pg_dump send, with a PostgreSQL server of this machine, which it starts and stops; pgserve with psql, pgbench, drivers, and beside that server;
 # examples/record.sh, which lists a session of psql with pgtrace, and examples/pcap.py; binary values, and programs over them; the Python package.
 # `make library` proves and builds the library for C (docs/C.md), `make install PREFIX=..` puts it and the program there, and
 # `make check-c` tries it from C, C++ and Python (`LIBRARIES=gate`, right behind `rt ci`, takes the libraries below it from there).

@@ -72,13 +72,21 @@ SERVER_FINAL = b"v=6rriTRBi23WpRR/wtup+mMhUZUn/dB5nLTJRsjl95G4="
 IDLE, INSIDE, FAILED = frame(b"Z", b"I"), frame(b"Z", b"T"), frame(b"Z", b"E")
 SYNC = frame(b"S")
 
+# What PostgreSQL 15 reports, in its order.
 SETTINGS = (
-    status(b"server_version", b"15.0")
-    + status(b"server_encoding", b"UTF8")
+    status(b"application_name", b"tests")
     + status(b"client_encoding", b"UTF8")
     + status(b"DateStyle", b"ISO, MDY")
+    + status(b"default_transaction_read_only", b"off")
+    + status(b"in_hot_standby", b"off")
     + status(b"integer_datetimes", b"on")
+    + status(b"IntervalStyle", b"postgres")
+    + status(b"is_superuser", b"off")
+    + status(b"server_encoding", b"UTF8")
+    + status(b"server_version", b"15.0")
+    + status(b"session_authorization", b"user")
     + status(b"standard_conforming_strings", b"on")
+    + status(b"TimeZone", b"UTC")
     + frame(b"K", int32(1, 1))
 )
 
@@ -88,90 +96,237 @@ NOTICE = report(b"N", b"NOTICE", b"01000", b"a notice\nof two lines")
 ROWS = [row(b"1", "Reykjavík".encode()), row(b"-2", None), row(b"3", b"a\tb\\c")]
 SELECT_3 = frame(b"C", b"SELECT 3\0")
 
-NOT_SCRIPTED = error(b"42601", b"the script has no such statement")
-NO_STATEMENT = error(b"26000", b"no statement was prepared under this name")
-NO_PORTAL = error(b"34000", b"there is no portal of this name")
-WRONG_COUNT = error(b"08P01", b"another number of values than the statement has parameters")
+
+
+def not_scripted(text):
+    return error(b"42601", b"the script has no such statement: " + text)
+
+
+def no_statement(name):
+    return error(b"26000", b"no statement was prepared under this name: " + name)
+
+
+def no_portal(name):
+    return error(b"34000", b"there is no portal of this name: " + name)
+
+
 NOT_SUPPORTED = error(b"0A000", b"this server doesn't do that")
-STATEMENT_THERE = error(b"42P05", b"a statement of this name was prepared")
+MALFORMED = error(b"08P01", b"the message's bytes aren't those of its type")
+ABORTED = error(b"25P02", b"current transaction is aborted, commands ignored until end of transaction block")
+BAD_FORMAT = error(b"22023", b"a format is 0 (text) or 1 (binary)")
+BROKEN = error(b"42703", b'column "broken" does not exist')
+WARNINGS = {
+    b"25001": report(b"N", b"WARNING", b"25001", b"there is already a transaction in progress"),
+    b"25P01": report(b"N", b"WARNING", b"25P01", b"there is no transaction in progress"),
+}
 
 PARSED, BOUND, CLOSED, NO_DATA, SUSPENDED = (frame(tag) for tag in (b"1", b"2", b"3", b"n", b"s"))
+
+
+
+def tag(text):
+    return frame(b"C", text + b"\0")
+
+
+def extended(text, *, portal=b"", formats=(), types=()):
+    """A Parse of the unnamed statement and a Bind, and what is answered."""
+    return [
+        (frame(b"P", b"\0" + text + b"\0" + int16(len(types)) + int32(*types)), PARSED),
+        (bind(portal, b"", [], list(formats)), BOUND),
+    ]
+
 
 # Each message and its answer; messages of an extended query stand one by one.
 STEPS = [
     (packet(80877103), b"N"),
     (packet(80877104), b"N"),
-    (packet(196608, b"user\0user\0database\0test\0\0"), frame(b"R", int32(10) + b"SCRAM-SHA-256\0\0")),
+    # protocol 3.3 with an option that no server knows: 3.2 without it
+    (
+        packet(196611, b"user\0user\0database\0test\0application_name\0tests\0_pq_.x\0y\0client_encoding\0utf-8\0\0"),
+        frame(b"v", int32(196610, 1) + b"_pq_.x\0") + frame(b"R", int32(10) + b"SCRAM-SHA-256\0\0"),
+    ),
     (frame(b"p", b"SCRAM-SHA-256\0" + int32(len(FIRST)) + FIRST), frame(b"R", int32(11) + SERVER_FIRST)),
     (frame(b"p", FINAL), frame(b"R", int32(12) + SERVER_FINAL) + frame(b"R", int32(0)) + SETTINGS + IDLE),
     # simple queries
     (query(b"SELECT id, name FROM city;"), CITY + NOTICE + b"".join(ROWS) + SELECT_3 + IDLE),
-    (query(b"\n BEGIN "), frame(b"C", b"BEGIN\0") + INSIDE),
-    (query(b"SELECT broken"), error(b"42703", b'column "broken" does not exist') + FAILED),
-    (query(b"ROLLBACK"), frame(b"C", b"ROLLBACK\0") + IDLE),
     (query(b" ;"), frame(b"I") + IDLE),
-    (query(b"SELECT 2"), NOT_SCRIPTED + IDLE),
+    (query(b"SELECT 2"), not_scripted(b"SELECT 2") + IDLE),
+    # several statements in one query, up to the first error
+    (query(b"BEGIN; ; SELECT broken -- ;\n; ROLLBACK"), tag(b"BEGIN") + not_scripted(b"SELECT broken -- ;") + FAILED),
+    (query(b"ROLLBACK; SHOW datestyle"), tag(b"ROLLBACK") + frame(b"T", int16(1) + column(b"DateStyle", 25, -1, 0)) + row(b"ISO, MDY") + tag(b"SHOW") + IDLE),
+    # transactions without a script
+    (query(b"\n BEGIN "), tag(b"BEGIN") + INSIDE),
+    (query(b"begin work"), WARNINGS[b"25001"] + tag(b"BEGIN") + INSIDE),
+    (query(b"SAVEPOINT s"), tag(b"SAVEPOINT") + INSIDE),
+    (query(b"SELECT broken"), BROKEN + FAILED),
+    (query(b"SELECT id, name FROM city"), ABORTED + FAILED),
+    (query(b""), frame(b"I") + FAILED),
+    (query(b"ROLLBACK TO SAVEPOINT s"), tag(b"ROLLBACK") + INSIDE),
+    (query(b"release s"), tag(b"RELEASE") + INSIDE),
+    (query(b"RELEASE s"), error(b"3B001", b"there is no savepoint of this name: s") + FAILED),
+    (query(b"COMMIT"), tag(b"ROLLBACK") + IDLE),
+    (query(b"COMMIT"), WARNINGS[b"25P01"] + tag(b"COMMIT") + IDLE),
+    (query(b"SAVEPOINT s"), error(b"25P01", b"this command has its place in a transaction block: SAVEPOINT") + IDLE),
+    (query(b"START TRANSACTION ISOLATION LEVEL SERIALIZABLE"), tag(b"START TRANSACTION") + INSIDE),
+    (query(b"END AND CHAIN"), tag(b"COMMIT") + INSIDE),
+    (query(b"ABORT"), tag(b"ROLLBACK") + IDLE),
+    # a script's own word on the status
+    (query(b"LOCK city"), tag(b"LOCK TABLE") + INSIDE),
+    (query(b"UNLOCK city"), tag(b"UNLOCK TABLE") + IDLE),
+    # settings
+    (query(b"SET extra_float_digits = 3"), tag(b"SET") + IDLE),
+    (query(b"SHOW extra_float_digits"), frame(b"T", int16(1) + column(b"extra_float_digits", 25, -1, 0)) + row(b"3") + tag(b"SHOW") + IDLE),
+    (query(b"SET SESSION TimeZone TO 'Europe/Berlin'"), tag(b"SET") + status(b"TimeZone", b"Europe/Berlin") + IDLE),
+    (query(b"RESET timezone"), tag(b"RESET") + status(b"TimeZone", b"UTC") + IDLE),
+    (query(b"SHOW nothing"), error(b"42704", b"there is no setting of this name: nothing") + IDLE),
     # a statement with a parameter, its result in binary format
     (parse(b"s1", b"SELECT $1::int4"), PARSED),
     (frame(b"D", b"Ss1\0"), frame(b"t", int16(1) + int32(23)) + frame(b"T", int16(1) + column(b"int4", 23, 4, 0))),
     (bind(b"", b"s1", [b"7"], [1]), BOUND),
     (frame(b"D", b"P\0"), frame(b"T", int16(1) + column(b"int4", 23, 4, 1))),
-    (execute(b"", 0), row(int32(7)) + frame(b"C", b"SELECT 1\0")),
+    (execute(b"", 0), row(int32(7)) + tag(b"SELECT 1")),
     (frame(b"H"), b""),
     (SYNC, IDLE),
-    (frame(b"D", b"P\0"), NO_PORTAL),
+    (frame(b"D", b"P\0"), no_portal(b"")),
     (SYNC, IDLE),
-    (parse(b"s1", b"BEGIN"), STATEMENT_THERE),
+    (parse(b"s1", b"BEGIN"), error(b"42P05", b"a statement of this name was prepared: s1")),
     (SYNC, IDLE),
-    # rows by two, in binary format and in text
-    (parse(b"", b"SELECT id, name FROM city"), PARSED),
-    (bind(b"p", b"", [], [1, 1]), BOUND),
+    # the types that a Parse names, and the script's where it names none
+    (frame(b"P", b"s3\0SELECT $1::int4;\0" + int16(2) + int32(0, 1043)), PARSED),
+    (frame(b"D", b"Ss3\0"), frame(b"t", int16(2) + int32(23, 1043)) + frame(b"T", int16(1) + column(b"int4", 23, 4, 0))),
+    (frame(b"P", b"s4\0SELECT $1::int4\0" + int16(2) + int32(0, 0)), error(b"42P18", b"a parameter's type is said neither by the client nor by the script")),
+    (SYNC, IDLE),
+    # rows by two, in binary format and in text; each part is counted by itself
+    *extended(b"SELECT id, name FROM city", portal=b"p", formats=[1, 1]),
     (frame(b"D", b"Pp\0"), BOTH_BINARY),
     (execute(b"p", 2), NOTICE + row(int32(1), "Reykjavík".encode()) + row(int32(-2), None) + SUSPENDED),
-    (execute(b"p", 2), row(int32(3), b"a\tb\\c") + SELECT_3),
+    (execute(b"p", 2), row(int32(3), b"a\tb\\c") + tag(b"SELECT 1")),
+    (execute(b"p", 2), tag(b"SELECT 0")),
     (frame(b"C", b"Pp\0"), CLOSED),
     (bind(b"p", b"", [], []), BOUND),
     (execute(b"p", 3), NOTICE + b"".join(ROWS) + SUSPENDED),
-    (execute(b"p", -1), SELECT_3),
+    (execute(b"p", -1), tag(b"SELECT 0")),
+    (SYNC, IDLE),
+    # a portal lives up to the end of its transaction
+    (query(b"BEGIN"), tag(b"BEGIN") + INSIDE),
+    *extended(b"SELECT id, name FROM city", portal=b"p"),
+    (execute(b"p", 1), NOTICE + ROWS[0] + SUSPENDED),
+    (SYNC, INSIDE),
+    (execute(b"p", 1), ROWS[1] + SUSPENDED),
+    (SYNC, INSIDE),
+    (bind(b"p", b"", [], []), error(b"42P03", b"there is a portal of this name: p")),
+    (SYNC, FAILED),
+    (execute(b"p", 0), ABORTED),
+    (SYNC, FAILED),
+    (parse(b"", b"SELECT id, name FROM city"), ABORTED),
+    (SYNC, FAILED),
+    *extended(b"ROLLBACK"),
+    (execute(b"", 0), tag(b"ROLLBACK")),
+    (execute(b"p", 0), no_portal(b"p")),
+    (SYNC, IDLE),
+    (query(b"BEGIN; SAVEPOINT s"), tag(b"BEGIN") + tag(b"SAVEPOINT") + INSIDE),
+    *extended(b"SELECT id, name FROM city", portal=b"p"),
+    (SYNC, INSIDE),
+    (query(b"ROLLBACK TO s"), tag(b"ROLLBACK") + INSIDE),
+    (frame(b"D", b"Pp\0"), no_portal(b"p")),
+    (SYNC, FAILED),
+    (query(b"ROLLBACK"), tag(b"ROLLBACK") + IDLE),
+    # a command is run once
+    *extended(b"BEGIN"),
+    (frame(b"D", b"S\0"), frame(b"t", int16(0)) + NO_DATA),
+    (execute(b"", 0), tag(b"BEGIN")),
+    (execute(b"", 0), error(b"55000", b"the portal was run, and returns no rows: ")),
+    (SYNC, FAILED),
+    (query(b"END"), tag(b"ROLLBACK") + IDLE),
+    # the unnamed statement ends with a simple query
+    (parse(b"", b"SELECT id, name FROM city"), PARSED),
+    (query(b"DEALLOCATE s3"), tag(b"DEALLOCATE") + IDLE),
+    (bind(b"", b"", [], []), no_statement(b"")),
+    (SYNC, IDLE),
+    (bind(b"", b"s3", [], []), no_statement(b"s3")),
     (SYNC, IDLE),
     # an error, and requests that are passed over up to the Sync
-    (parse(b"", b"SELECT 3"), NOT_SCRIPTED),
+    (parse(b"", b"SELECT 3"), not_scripted(b"SELECT 3")),
     (bind(b"", b"", [], []), b""),
     (query(b"BEGIN"), b""),
+    (frame(b"P", b"s5\0"), b""),
     (SYNC, IDLE),
-    (bind(b"", b"s2", [], []), NO_STATEMENT),
+    (bind(b"", b"s2", [], []), no_statement(b"s2")),
     (SYNC, IDLE),
-    (bind(b"", b"s1", [], []), WRONG_COUNT),
+    (frame(b"D", b"Ss2\0"), no_statement(b"s2")),
+    (SYNC, IDLE),
+    (execute(b"p", 0), no_portal(b"p")),
+    (SYNC, IDLE),
+    # bugs of a client
+    (bind(b"", b"s1", [], []), error(b"08P01", b"another number of values than the statement has parameters")),
     (execute(b"", 0), b""),
     (SYNC, IDLE),
-    (frame(b"D", b"Ss2\0"), NO_STATEMENT),
+    (frame(b"B", b"\0s1\0" + int16(2, 0, 0, 1) + value(b"7") + int16(0)), error(b"08P01", b"another number of formats than there are values")),
     (SYNC, IDLE),
-    (execute(b"p", 0), NO_PORTAL),
+    (frame(b"B", b"\0s1\0" + int16(1, 2, 1) + value(b"7") + int16(0)), BAD_FORMAT),
     (SYNC, IDLE),
-    # a statement's own error, and a value in a format that isn't written
-    (parse(b"", b"SELECT broken"), PARSED),
-    (frame(b"D", b"S\0"), frame(b"t", int16(0)) + NO_DATA),
-    (bind(b"", b"", [], []), BOUND),
-    (frame(b"D", b"P\0"), NO_DATA),
-    (execute(b"", 0), error(b"42703", b'column "broken" does not exist')),
+    (bind(b"", b"s1", [b"7"], [0, 0]), error(b"08P01", b"another number of formats than there are columns")),
+    (SYNC, IDLE),
+    (bind(b"", b"s1", [b"7"], [2]), BOUND),
+    (execute(b"", 0), BAD_FORMAT),
+    (SYNC, IDLE),
+    (parse(b"", b"BEGIN; ROLLBACK"), error(b"42601", b"cannot insert multiple commands into a prepared statement")),
+    (SYNC, IDLE),
+    (frame(b"D", b"X\0"), error(b"08P01", b"a Describe is of a statement (S) or a portal (P)")),
+    (SYNC, IDLE),
+    (frame(b"C", b"Xs1\0"), error(b"08P01", b"a Close is of a statement (S) or a portal (P)")),
+    (SYNC, IDLE),
+    # bodies that are none of their message
+    (frame(b"Q", b"BEGIN"), MALFORMED + IDLE),
+    (frame(b"E", b"p\0"), MALFORMED),
+    (execute(b"p", 0), b""),
+    (frame(b"S", b"x"), MALFORMED + IDLE),
+    (frame(b"f", b"x"), b""),
+    # a statement's own error: one of class 42 when it is prepared, another when it is run
+    (parse(b"", b"SELECT broken"), BROKEN),
+    (bind(b"", b"", [], []), b""),
+    (SYNC, IDLE),
+    *extended(b"SELECT 1/0"),
+    (frame(b"D", b"P\0"), frame(b"T", int16(1) + column(b"?column?", 23, 4, 0))),
+    (execute(b"", 0), error(b"22012", b"division by zero")),
     (execute(b"", 0), b""),
-    (SYNC, FAILED),
-    (query(b"ROLLBACK"), frame(b"C", b"ROLLBACK\0") + IDLE),
-    (parse(b"", b"SELECT now()"), PARSED),
-    (bind(b"", b"", [], [1]), BOUND),
+    (SYNC, IDLE),
+    # values in binary format, by PostgreSQL's `X_send`
+    *extended(b"SELECT now()", formats=[1]),
+    # 9,826 days after 2000-01-01, and a second before that
+    (execute(b"", 0), row(struct.pack(">q", 9826 * 86400 * 10**6)) + row(struct.pack(">q", -(10**6))) + tag(b"SELECT 2")),
+    (SYNC, IDLE),
+    *extended(b"SELECT '127.0.0.1'::inet", formats=[1]),
     (execute(b"", 0), NOT_SUPPORTED),
     (SYNC, IDLE),
     (parse(b"", b""), PARSED),
     (bind(b"", b"", [], []), BOUND),
     (execute(b"", 0), frame(b"I")),
     (frame(b"C", b"Ss1\0"), CLOSED),
-    (bind(b"", b"s1", [b"7"], []), NO_STATEMENT),
+    (bind(b"", b"s1", [b"7"], []), no_statement(b"s1")),
     (SYNC, IDLE),
-    # what is left: a call of a function, what belongs to a copy, the end, behind which nothing is read
+    # what a script says of a report, and a notification, which comes before the server is ready
+    (
+        query(b"NOTIFY told"),
+        frame(b"N", b"SWARNING\0VWARNING\0C01000\0Mlook\0Dhere\0Hor there\0P3\0\0") + tag(b"NOTIFY") + frame(b"A", int32(1) + b"told\0a text\0") + IDLE,
+    ),
+    # what is left: a call of a function, and what belongs to a copy
     (frame(b"F", int32(1598) + int16(0, 0, 0)), NOT_SUPPORTED + IDLE),
     (frame(b"d", b"1\n"), b""),
     (frame(b"c"), b""),
-    (frame(b"X"), b""),
+    # copies from the server, and to it: complete, and given up
+    (query(b"COPY city TO STDOUT"), frame(b"H", b"\0" + int16(2, 0, 0)) + frame(b"d", b"1\tOslo\n") + frame(b"d", b"2\t\\N\n") + frame(b"c") + tag(b"COPY 2") + IDLE),
+    (query(b"COPY city FROM STDIN"), frame(b"G", b"\0" + int16(2, 0, 0))),
+    (frame(b"d", b"1\tOslo\n"), b""),
+    (SYNC, b""),
+    (frame(b"c"), tag(b"COPY 1") + IDLE),
+    *extended(b"COPY city FROM STDIN"),
+    (execute(b"", 0), frame(b"G", b"\0" + int16(2, 0, 0))),
+    (frame(b"H"), b""),
+    (frame(b"f", b"no\0"), error(b"57014", b"the client gave the copy up: no")),
+    (SYNC, IDLE),
+    # an error that ends the session, behind which nothing is read
+    (query(b"SELECT pg_terminate_backend(pg_backend_pid())"), report(b"E", b"FATAL", b"57P01", b"terminating connection due to administrator command")),
     (query(b"BEGIN"), b""),
 ]
 

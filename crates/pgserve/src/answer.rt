@@ -1,7 +1,9 @@
 //! What is answered to a statement.
 
-use crate::asked::{Refusal, error, notice, refuse};
-use crate::binary::binary_of;
+use crate::asked::{Refusal, put_error, put_notice, refuse};
+use crate::binary::{Unwritten, binary_of};
+use crate::copy::put_copy_out;
+use crate::extended::are_formats;
 use crate::fault::Fault;
 use crate::script::{Column, End, Statement};
 use bytes::BytesMut;
@@ -9,10 +11,12 @@ use postgres_protocol::message::reply;
 use std::alloc::{AllocError, Global};
 
 /// How an answer goes on.
-#[derive(Clone, Copy)]
+#[derive(Clone, Copy, PartialEq, Eq)]
 pub(crate) enum Went {
-    /// It ended as the script says, by a tag.
+    /// It ended by a tag.
     Well,
+    /// So many rows were sent as were asked for.
+    Suspended,
     /// It ended by an error.
     Wrong,
 }
@@ -26,17 +30,17 @@ fn format_of(formats: &[i16], place: usize) -> i16 {
     }
 }
 
-/// Appends the description of a statement's rows, or that it has none.
+/// Appends the description of rows with these columns, or that there are none.
 pub(crate) fn describe(
     alloc: Global,
-    statement: &Statement,
+    columns: &[Column],
     formats: &[i16],
     out: &mut BytesMut,
 ) -> Result<(), Fault> {
-    if statement.columns.is_empty() {
+    if columns.is_empty() {
         return Ok(reply::no_data(out)?);
     }
-    let columns = described(alloc, &statement.columns, formats)?;
+    let columns = described(alloc, columns, formats)?;
     Ok(reply::row_description(&columns, out)?)
 }
 
@@ -67,9 +71,13 @@ fn value_in(
     format: i16,
     text: &[u8],
 ) -> Result<Option<Vec<u8>>, AllocError> {
-    match format {
-        0 => Ok(Some(Vec::from_slice(alloc, text)?)),
-        _ => binary_of(alloc, column.kind.oid, text),
+    if format == 0 {
+        return Ok(Some(Vec::from_slice(alloc, text)?));
+    }
+    match binary_of(alloc, column.kind.oid, text) {
+        Ok(bytes) => Ok(Some(Vec::from_slice(alloc, &bytes)?)),
+        Err(Unwritten::Memory) => Err(AllocError),
+        Err(_) => Ok(None),
     }
 }
 
@@ -146,50 +154,84 @@ fn put_row(
     Ok(true)
 }
 
-/// Appends the rows from this place on, at most so many, and returns the place after them; `None` after the error of a value that
-/// this server doesn't write.
-fn put_rows(
+/// Appends the rows from this place on, at most so many, and returns the place after them; or why a row can't be sent.
+fn put_rows<'r>(
     alloc: Global,
     statement: &Statement,
     formats: &[i16],
     range: (usize, usize),
     out: &mut BytesMut,
-) -> Result<Option<usize>, Fault> {
+) -> Result<Result<usize, Refusal<'r>>, Fault> {
     let mut at = range.0;
     for row in statement.rows.iter().skip(range.0).take(range.1) {
+        if !are_formats(formats) {
+            return Ok(Err(Refusal::BadFormat));
+        }
         if !put_row(alloc, statement, formats, row, out)? {
-            refuse(Refusal::NotSupported, out)?;
-            return Ok(None);
+            return Ok(Err(Refusal::NotSupported));
         }
         at = at.saturating_add(1);
     }
-    Ok(Some(at))
+    Ok(Ok(at))
 }
 
 /// Appends the notices.
-fn put_notices(statement: &Statement, out: &mut BytesMut) -> Result<(), Fault> {
+fn put_notices(alloc: Global, statement: &Statement, out: &mut BytesMut) -> Result<(), Fault> {
     for report in &statement.notices {
-        notice(&report.code, &report.message, out)?;
+        put_notice(alloc, report, out)?;
     }
     Ok(())
 }
 
-/// Appends how the answer ends.
-fn put_end(statement: &Statement, out: &mut BytesMut) -> Result<Went, Fault> {
+/// Whether it is a number.
+fn is_count(word: &str) -> bool {
+    word.parse::<u64>().is_ok()
+}
+
+/// The tag of a part of the rows: where it ends with a number, the number of rows stands there.
+fn counted(alloc: Global, tag: &[u8], rows: usize) -> Result<Vec<u8>, AllocError> {
+    let text = str::from_utf8(tag).unwrap_or("");
+    match text.rsplit_once(' ') {
+        Some((front, count)) if is_count(count) => {
+            Ok(format!(in alloc; "{front} {rows}")?.into_bytes())
+        }
+        _ => Vec::from_slice(alloc, tag),
+    }
+}
+
+/// Appends how the answer ends, which is the answer of one run, or of one that followed another and sent so many rows.
+fn put_end(
+    alloc: Global,
+    statement: &Statement,
+    part: Option<usize>,
+    out: &mut BytesMut,
+) -> Result<Went, Fault> {
     match &statement.end {
         End::Error(report) => {
-            error(&report.code, &report.message, out)?;
+            put_error(alloc, report, out)?;
             Ok(Went::Wrong)
         }
         End::Tag(tag) => {
-            reply::command_complete(tag, out)?;
+            match part {
+                Some(rows) => reply::command_complete(&counted(alloc, tag, rows)?, out)?,
+                None => reply::command_complete(tag, out)?,
+            }
             Ok(Went::Well)
         }
         End::Open => {
-            refuse(Refusal::NotScripted, out)?;
+            refuse(alloc, Refusal::NotScripted(&statement.text), out)?;
             Ok(Went::Wrong)
         }
     }
+}
+
+/// Appends how the answer ends that is no part.
+pub(crate) fn put_tag(
+    alloc: Global,
+    statement: &Statement,
+    out: &mut BytesMut,
+) -> Result<Went, Fault> {
+    put_end(alloc, statement, None, out)
 }
 
 /// How far the rows of a portal are sent.
@@ -200,35 +242,56 @@ pub(crate) struct Progress {
     pub(crate) went: Went,
 }
 
-/// Appends the rows from a place on, at most so many (0: all), and the end of the answer; or, where so many were sent, that there may be
-/// more. Notices stand before the first row.
+/// Appends the rows after those that were sent, at most so many (0: all), and the end of the answer; or, where so many were sent, that
+/// there may be more. Notices stand before the first row.
 pub(crate) fn execute(
     alloc: Global,
     statement: &Statement,
     formats: &[i16],
-    from: usize,
+    before: Option<usize>,
     most: usize,
     out: &mut BytesMut,
 ) -> Result<Progress, Fault> {
-    if from == 0 {
-        put_notices(statement, out)?;
+    if before.is_none() {
+        put_notices(alloc, statement, out)?;
     }
+    if let Some(copy) = &statement.copy {
+        put_copy_out(alloc, copy, out)?;
+    }
+    let from = before.unwrap_or(0);
     let limit = if most == 0 { usize::MAX } else { most };
-    let Some(sent) = put_rows(alloc, statement, formats, (from, limit), out)? else {
-        return Ok(Progress {
-            sent: from,
-            went: Went::Wrong,
-        });
+    let sent = match put_rows(alloc, statement, formats, (from, limit), out)? {
+        Ok(sent) => sent,
+        Err(refusal) => {
+            refuse(alloc, refusal, out)?;
+            return Ok(Progress {
+                sent: from,
+                went: Went::Wrong,
+            });
+        }
     };
-    if sent.saturating_sub(from) == most && most != 0 {
+    let went = ended(
+        alloc,
+        statement,
+        before,
+        (sent.saturating_sub(from), most),
+        out,
+    )?;
+    Ok(Progress { sent, went })
+}
+
+/// Appends the end of the answer after so many rows, of so many that were asked for (0: all).
+fn ended(
+    alloc: Global,
+    statement: &Statement,
+    before: Option<usize>,
+    rows: (usize, usize),
+    out: &mut BytesMut,
+) -> Result<Went, Fault> {
+    if rows.0 == rows.1 && rows.1 != 0 {
         reply::portal_suspended(out)?;
-        return Ok(Progress {
-            sent,
-            went: Went::Well,
-        });
+        return Ok(Went::Suspended);
     }
-    Ok(Progress {
-        sent,
-        went: put_end(statement, out)?,
-    })
+    let part = if before.is_some() { Some(rows.0) } else { None };
+    put_end(alloc, statement, part, out)
 }

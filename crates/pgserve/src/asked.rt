@@ -1,83 +1,196 @@
 //! Errors that no script says.
 
 use crate::fault::Fault;
+use crate::script::Report;
+use crate::transaction::Warning;
 use bytes::BytesMut;
 use postgres_protocol::message::reply::{self, ErrorField};
+use std::alloc::{AllocError, Global};
 
-/// Why a request is refused, by its SQLSTATE (PostgreSQL manual, appendix "PostgreSQL Error Codes").
+/// Why a request gets an error, by its SQLSTATE (PostgreSQL manual, appendix "PostgreSQL Error Codes").
 #[derive(Clone, Copy)]
-pub(crate) enum Refusal {
-    /// `42601`: the script has no such statement.
-    NotScripted,
+pub(crate) enum Refusal<'a> {
+    /// `42601`: the script has no statement of this text.
+    NotScripted(&'a [u8]),
+    /// `42601`: more than one statement is to be prepared.
+    Several,
     /// `26000`: no statement was prepared under this name.
-    NoStatement,
+    NoStatement(&'a [u8]),
     /// `42P05`: a statement of this name was prepared.
-    StatementThere,
+    StatementThere(&'a [u8]),
     /// `34000`: there is no portal of this name.
-    NoPortal,
+    NoPortal(&'a [u8]),
+    /// `42P03`: there is a portal of this name.
+    PortalThere(&'a [u8]),
+    /// `55000`: the portal of this name was run, and returns no rows.
+    WasRun(&'a [u8]),
+    /// `42P18`: neither the client nor the script says a parameter's type.
+    NoType,
     /// `08P01`: another number of values than the statement has parameters.
     WrongCount,
+    /// `08P01`: more than one format of parameters, and another number than there are values.
+    WrongFormats,
+    /// `08P01`: more than one format of results, and another number than there are columns.
+    WrongResultFormats,
+    /// `08P01`: a Describe of something else than a statement or a portal.
+    WrongDescribe,
+    /// `08P01`: a Close of something else.
+    WrongClose,
+    /// `08P01`: the message's bytes aren't those of its type.
+    Malformed,
+    /// `22023`: a format that is neither text nor binary.
+    BadFormat,
+    /// `25P02`: the transaction failed.
+    Aborted,
+    /// `25P01`: this command stands in no transaction.
+    NoTransaction(&'a [u8]),
+    /// `3B001`: there is no savepoint of this name.
+    NoSavepoint(&'a [u8]),
+    /// `42704`: there is no setting of this name.
+    NoSetting(&'a [u8]),
+    /// `57014`: the client gave a copy up, by this text.
+    CopyFailed(&'a [u8]),
+    /// `08P01`: a message that has no place while the data of a copy are awaited.
+    NoCopyData,
     /// `0A000`: a value in a format that this server doesn't write, or a call of a function.
     NotSupported,
 }
 
-impl Refusal {
+impl<'a> Refusal<'a> {
     fn code(self) -> &'static [u8] {
         match self {
-            Refusal::NotScripted => b"42601",
-            Refusal::NoStatement => b"26000",
-            Refusal::StatementThere => b"42P05",
-            Refusal::NoPortal => b"34000",
-            Refusal::WrongCount => b"08P01",
+            Refusal::NotScripted(_) | Refusal::Several => b"42601",
+            Refusal::NoStatement(_) => b"26000",
+            Refusal::StatementThere(_) => b"42P05",
+            Refusal::NoPortal(_) => b"34000",
+            Refusal::PortalThere(_) => b"42P03",
+            Refusal::WasRun(_) => b"55000",
+            Refusal::NoType => b"42P18",
+            Refusal::BadFormat => b"22023",
+            Refusal::Aborted => b"25P02",
+            Refusal::NoTransaction(_) => b"25P01",
+            Refusal::NoSavepoint(_) => b"3B001",
+            Refusal::NoSetting(_) => b"42704",
+            Refusal::CopyFailed(_) => b"57014",
             Refusal::NotSupported => b"0A000",
+            _ => b"08P01",
         }
     }
 
+    /// The name or the text that stands at the end of the message, if it has one.
+    fn name(self) -> Option<&'a [u8]> {
+        match self {
+            Refusal::NotScripted(name)
+            | Refusal::NoStatement(name)
+            | Refusal::StatementThere(name)
+            | Refusal::NoPortal(name)
+            | Refusal::PortalThere(name)
+            | Refusal::WasRun(name)
+            | Refusal::NoTransaction(name)
+            | Refusal::NoSavepoint(name)
+            | Refusal::NoSetting(name)
+            | Refusal::CopyFailed(name) => Some(name),
+            _ => None,
+        }
+    }
+
+    /// The message, up to its name.
     fn message(self) -> &'static [u8] {
         match self {
-            Refusal::NotScripted => b"the script has no such statement",
-            Refusal::NoStatement => b"no statement was prepared under this name",
-            Refusal::StatementThere => b"a statement of this name was prepared",
-            Refusal::NoPortal => b"there is no portal of this name",
+            Refusal::NotScripted(_) => b"the script has no such statement",
+            Refusal::Several => b"cannot insert multiple commands into a prepared statement",
+            Refusal::NoStatement(_) => b"no statement was prepared under this name",
+            Refusal::StatementThere(_) => b"a statement of this name was prepared",
+            Refusal::NoPortal(_) => b"there is no portal of this name",
+            Refusal::PortalThere(_) => b"there is a portal of this name",
+            Refusal::WasRun(_) => b"the portal was run, and returns no rows",
+            Refusal::NoType =>
+                b"a parameter's type is said neither by the client nor by the script",
             Refusal::WrongCount => b"another number of values than the statement has parameters",
+            Refusal::WrongFormats => b"another number of formats than there are values",
+            Refusal::WrongResultFormats => b"another number of formats than there are columns",
+            Refusal::WrongDescribe => b"a Describe is of a statement (S) or a portal (P)",
+            Refusal::WrongClose => b"a Close is of a statement (S) or a portal (P)",
+            Refusal::Malformed => b"the message's bytes aren't those of its type",
+            Refusal::BadFormat => b"a format is 0 (text) or 1 (binary)",
+            Refusal::Aborted => {
+                b"current transaction is aborted, commands ignored until end of transaction block"
+            }
+            Refusal::NoTransaction(_) => b"this command has its place in a transaction block",
+            Refusal::NoSavepoint(_) => b"there is no savepoint of this name",
+            Refusal::NoSetting(_) => b"there is no setting of this name",
+            Refusal::CopyFailed(_) => b"the client gave the copy up",
+            Refusal::NoCopyData => b"the data of a copy are awaited",
             Refusal::NotSupported => b"this server doesn't do that",
         }
     }
 }
 
+fn field(code: u8, value: &[u8]) -> ErrorField<'_> {
+    ErrorField { code, value }
+}
+
 /// The fields that every error and notice has.
 fn fields<'a>(severity: &'a [u8], code: &'a [u8], message: &'a [u8]) -> [ErrorField<'a>; 4] {
     [
-        ErrorField {
-            code: b'S',
-            value: severity,
-        },
-        ErrorField {
-            code: b'V',
-            value: severity,
-        },
-        ErrorField {
-            code: b'C',
-            value: code,
-        },
-        ErrorField {
-            code: b'M',
-            value: message,
-        },
+        field(b'S', severity),
+        field(b'V', severity),
+        field(b'C', code),
+        field(b'M', message),
     ]
 }
 
 /// Appends an error.
-pub(crate) fn error(code: &[u8], message: &[u8], out: &mut BytesMut) -> Result<(), Fault> {
+fn error(code: &[u8], message: &[u8], out: &mut BytesMut) -> Result<(), Fault> {
     Ok(reply::error_response(&fields(b"ERROR", code, message), out)?)
 }
 
-/// Appends a notice.
-pub(crate) fn notice(code: &[u8], message: &[u8], out: &mut BytesMut) -> Result<(), Fault> {
-    Ok(reply::notice_response(&fields(b"NOTICE", code, message), out)?)
+/// Appends the error that ends a session in which it isn't known where the next message begins.
+pub(crate) fn end_session(out: &mut BytesMut) -> Result<(), Fault> {
+    let message = b"terminating connection because protocol sync was lost";
+    Ok(reply::error_response(&fields(b"FATAL", b"08P01", message), out)?)
 }
 
-/// Appends the error of an error.
-pub(crate) fn refuse(refusal: Refusal, out: &mut BytesMut) -> Result<(), Fault> {
-    error(refusal.code(), refusal.message(), out)
+/// Appends a warning.
+pub(crate) fn warn(warning: Warning, out: &mut BytesMut) -> Result<(), Fault> {
+    let fields = fields(b"WARNING", warning.code(), warning.message());
+    Ok(reply::notice_response(&fields, out)?)
+}
+
+/// All fields of a report of the script.
+fn fields_of(alloc: Global, report: &Report) -> Result<Vec<ErrorField<'_>>, AllocError> {
+    let mut all = Vec::new(alloc);
+    let severity = report.severity.as_bytes();
+    for field in fields(severity, &report.code, &report.message) {
+        all.push(field)?;
+    }
+    for detail in &report.details {
+        all.push(field(detail.code, &detail.value))?;
+    }
+    Ok(all)
+}
+
+/// Appends a notice of the script.
+pub(crate) fn put_notice(alloc: Global, report: &Report, out: &mut BytesMut) -> Result<(), Fault> {
+    Ok(reply::notice_response(&fields_of(alloc, report)?, out)?)
+}
+
+/// Appends an error of the script.
+pub(crate) fn put_error(alloc: Global, report: &Report, out: &mut BytesMut) -> Result<(), Fault> {
+    Ok(reply::error_response(&fields_of(alloc, report)?, out)?)
+}
+
+/// The message with its name after a colon.
+fn message_of(alloc: Global, refusal: Refusal<'_>) -> Result<Vec<u8>, AllocError> {
+    let mut message = Vec::from_slice(alloc, refusal.message())?;
+    if let Some(name) = refusal.name() {
+        message.extend_from_slice(b": ")?;
+        message.extend_from_slice(name)?;
+    }
+    Ok(message)
+}
+
+/// Appends the error.
+pub(crate) fn refuse(alloc: Global, refusal: Refusal<'_>, out: &mut BytesMut) -> Result<(), Fault> {
+    error(refusal.code(), &message_of(alloc, refusal)?, out)
 }

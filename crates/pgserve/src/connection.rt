@@ -4,33 +4,24 @@ ghost use Rattle.pgp_frontend_read.specs.Pieces.{IsWhole};
 
 use crate::fault::Fault;
 use crate::host::Host;
+use crate::log::line_of;
+use crate::opening::{Opening, opening_of, spoken};
 use crate::session::Session;
+use crate::watch::Watch;
 use bytes::BytesMut;
 use pgp_base::Error;
-use pgp_session::serving::{
-    Denial, Serving, ServingEvent, ServingPhase, StartupNames, startup_names,
-};
+use pgp_session::serving::{Denial, Serving, ServingEvent, ServingPhase};
+use postgres_protocol::dialogue::Request;
 use postgres_protocol::message::client::{
-    ClientFrame, ClientMessage, ClientParser, Limits, ParserError,
+    ClientError, ClientFrame, ClientMessage, ClientParser, Limits, ParserError,
 };
-use std::alloc::Global;
+use std::alloc::{AllocError, Global};
 
 /// How long messages may be.
 const LIMITS: Limits = Limits {
     opening: 10_000,
     tagged: 1 << 26,
 };
-
-/// The names of a startup packet; `None` of another message.
-fn names_of(message: ClientMessage<'_>) -> Option<StartupNames<'_>> {
-    match message {
-        ClientMessage::Startup { parameters, .. } => Some(startup_names(parameters)),
-        other => {
-            drop(other);
-            None
-        }
-    }
-}
 
 /// A client's connection.
 #[derive(Drop)]
@@ -39,16 +30,21 @@ pub(crate) struct Connection<'h> {
     host: &'h Host<'h>,
     serving: Serving,
     session: Session<'h>,
+    watch: Watch,
+    /// What is reported of the requests.
+    pub(crate) log: String,
 }
 
 impl<'h> Connection<'h> {
-    pub(crate) fn new(alloc: Global, host: &'h Host<'h>) -> Connection<'h> {
-        Connection {
+    pub(crate) fn new(alloc: Global, host: &'h Host<'h>) -> Result<Connection<'h>, AllocError> {
+        Ok(Connection {
             alloc,
             host,
             serving: Serving::new(),
-            session: Session::new(alloc, host.script),
-        }
+            session: Session::new(alloc, host.script)?,
+            watch: Watch::new(alloc),
+            log: String::new(alloc),
+        })
     }
 
     /// Whether the session is over, once all bytes are sent.
@@ -61,17 +57,33 @@ impl<'h> Connection<'h> {
         Ok(self.serving.deny(Denial::Violation, out)?)
     }
 
-    /// Asks the user that the startup packet names for the proof.
-    fn ask(&mut self, message: ClientMessage<'_>, out: &mut BytesMut) -> Result<(), Fault> {
-        let Some(names) = names_of(message) else {
-            return self.reject(out);
-        };
-        let Some(user) = names.user else {
+    /// Takes what the startup packet asks for, and asks the user for the proof.
+    fn ask(
+        &mut self,
+        message: ClientMessage<'_>,
+        minor: u16,
+        out: &mut BytesMut,
+    ) -> Result<(), Fault> {
+        let opening = opening_of(self.alloc, message)?;
+        let Some(user) = opening.user else {
             return Ok(self.serving.deny(Denial::NotAllowed, out)?);
         };
-        let exchange = self.host.exchange(self.alloc, user)?;
-        if self.serving.phase == ServingPhase::Named {
-            self.serving.ask_scram(exchange, out)?;
+        opening.negotiate(minor, out)?;
+        self.set(user, &opening)?;
+        let host = self.host;
+        host.ask(self.alloc, user, &mut self.serving, out)?;
+        if host.trusts() {
+            return self.session.welcome(out);
+        }
+        Ok(())
+    }
+
+    /// The settings that the startup packet says.
+    fn set(&mut self, user: &[u8], opening: &Opening<'_>) -> Result<(), AllocError> {
+        let settings = &mut self.session.settings;
+        settings.begin(b"session_authorization", user)?;
+        for (name, value) in &opening.settings {
+            settings.begin(name, value)?;
         }
         Ok(())
     }
@@ -90,8 +102,9 @@ impl<'h> Connection<'h> {
 
     /// Takes a message, and appends what is answered.
     fn take(&mut self, message: ClientMessage<'_>, out: &mut BytesMut) -> Result<(), Fault> {
+        let (message, minor) = spoken(message);
         match self.serving.step(&message, out) {
-            Ok(ServingEvent::Named) => self.ask(message, out),
+            Ok(ServingEvent::Named) => self.ask(message, minor, out),
             Ok(ServingEvent::Requested) => self.session.answer(message, out),
             other => {
                 drop(message);
@@ -104,11 +117,69 @@ impl<'h> Connection<'h> {
     fn take_frame(&mut self, frame: ClientFrame<'_>, out: &mut BytesMut) -> Result<(), Fault>
         requires { IsWhole frame.opened frame.bytes.now }
     {
+        let (bytes, is_open) = (frame.bytes(), self.is_tagged());
+        let start = out.len();
         match frame.message(self.serving.kind()) {
-            Ok(message) => self.take(message, out),
-            Err(_) => self.reject(out),
+            Ok(message) => {
+                self.watch.ask(Request::of(&message))?;
+                self.take(message, out)?
+            }
+            Err(e) => {
+                self.watch.ask(request_of(bytes))?;
+                self.take_malformed(first_of(bytes), e, out)?
+            }
+        }
+        self.watch.hear(out.get(start..).unwrap_or(&[]))?;
+        if let Some(end) = self.session.end_at {
+            out.truncate(end);
+            self.serving.phase = ServingPhase::Over;
+        }
+        self.report(is_open, bytes, out.get(start..).unwrap_or(&[]))
+    }
+
+    /// Whether messages have a tag.
+    fn is_tagged(&self) -> bool {
+        self.serving.phase != ServingPhase::Opening
+    }
+
+    /// Adds a line to the log, if there is one.
+    fn report(&mut self, is_open: bool, message: &[u8], answer: &[u8]) -> Result<(), Fault> {
+        if self.host.logs {
+            let line = line_of(self.alloc, is_open, message, answer)?;
+            self.log.push_str(&line)?;
+        }
+        Ok(())
+    }
+
+    /// Takes a message of this tag whose bytes aren't those of its type. In an open session it gets an error; where no message has
+    /// the tag, or before, the session ends.
+    fn take_malformed(
+        &mut self,
+        tag: u8,
+        why: ClientError,
+        out: &mut BytesMut,
+    ) -> Result<(), Fault> {
+        let is_unknown = matches!(why, ClientError::Reading(Error::UnknownTag(_)));
+        match tag {
+            _ if is_unknown || self.serving.phase != ServingPhase::Open => self.reject(out),
+            b'p' => self.reject(out),
+            b'X' => {
+                self.serving.phase = ServingPhase::Over;
+                Ok(())
+            }
+            _ => self.session.answer_malformed(tag, out),
         }
     }
+}
+
+/// What a message asks whose bytes aren't those of its type, by its tag and the first byte behind its length.
+fn request_of(bytes: &[u8]) -> Option<Request> {
+    Request::of_tag(first_of(bytes), bytes.get(5).copied().unwrap_or(0))
+}
+
+/// The first byte; 0 where there is none.
+fn first_of(bytes: &[u8]) -> u8 {
+    bytes.first().copied().unwrap_or(0)
 }
 
 /// Takes the messages that are whole with this piece, and appends what is answered to them.

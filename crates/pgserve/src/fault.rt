@@ -1,5 +1,6 @@
 //! Why the program stops short.
 
+use crate::wrong::Place;
 use pgp_base::Error;
 use std::alloc::AllocError;
 
@@ -11,8 +12,16 @@ pub(crate) enum Fault {
     Write,
     /// A text of the script doesn't fit into a message.
     TooLong,
-    /// The script has another form at this line, or can't be read (0).
-    Script(usize),
+    /// A message that was to be sent has no place after the requests that came.
+    Misplaced,
+    /// There is no script of this path, or it can't be read.
+    NoScript,
+    /// The script isn't UTF-8.
+    NotText,
+    /// The script has a fault.
+    Script(Place),
+    /// There is no such method of authentication.
+    Auth,
     /// The verifier isn't one.
     Verifier,
     /// The nonce isn't one.
@@ -29,8 +38,13 @@ impl Fault {
             Fault::Read => "read failed",
             Fault::Write => "write failed",
             Fault::TooLong => "an answer of the script is too long",
-            Fault::Script(_) => "the script",
-            Fault::Verifier => "the verifier is no text of SCRAM-SHA-256",
+            Fault::Misplaced => "an answer has no place after the requests that came",
+            Fault::NoScript => "the script can't be read",
+            Fault::NotText => "the script isn't UTF-8",
+            Fault::Script(place) => place.wrong.message(),
+            Fault::Auth => "--auth is trust, password, md5 or scram",
+            Fault::Verifier =>
+                "the verifier is no text of the method's: SCRAM-SHA-256$.., or md5..",
             Fault::Nonce => "the nonce has to be printable ASCII without a comma",
             Fault::Words(_) => "the words",
         }

@@ -3,22 +3,36 @@
 #![tactic(auto)]
 
 mod answer;
+mod array_text;
 mod asked;
 mod binary;
+mod carried;
+mod command;
 mod connection;
+mod copy;
+mod extended;
 mod fault;
 mod host;
+mod log;
+mod moment_text;
+mod opening;
 mod portals;
+mod reading;
 mod script;
 mod session;
+mod settings;
 mod stream;
 mod text;
+mod transaction;
 mod types;
+mod watch;
 mod words;
+mod wrong;
 
 use fault::Fault;
 use host::Host;
-use script::{Script, script_of};
+use reading::script_of;
+use script::Script;
 use std::process::ExitCode;
 use std::{fs, io};
 use words::Words;
@@ -27,45 +41,67 @@ use words::Words;
 fn read_script(rt: &HostRuntime, path: &str) -> Result<Script, Fault> {
     match fs::read_to_string(rt, path) {
         Ok(text) => script_of(rt.alloc(), &text),
-        Err(_) => Err(Fault::Script(0)),
+        Err(why) => match why.kind() {
+            io::ErrorKind::InvalidData => Err(Fault::NotText),
+            io::ErrorKind::OutOfMemory => Err(Fault::Memory),
+            _ => Err(Fault::NoScript),
+        },
     }
 }
 
 /// Serves the client that is connected.
-fn serve(rt: &HostRuntime, words: &[String]) -> Result<(), Fault> {
-    let words = words::words_of(rt.alloc(), words)?;
+fn serve(rt: &HostRuntime, words: &Words<'_>) -> Result<(), Fault> {
     let script = read_script(rt, words.script)?;
-    serve_script(rt, &words, &script)
+    serve_script(rt, words, &script)
 }
 
 /// The same with this script.
 fn serve_script(rt: &HostRuntime, words: &Words<'_>, script: &Script) -> Result<(), Fault> {
-    let host = Host::new(words, script);
+    let host = Host::new(words, script)?;
     // A verifier or a nonce that isn't one is reported before a client comes.
-    drop(host.exchange(rt.alloc(), words.user.as_bytes())?);
-    stream::run(rt.alloc(), &host, &mut rt.reader(), &mut io::writer(rt))
+    host.test(rt.alloc())?;
+    stream::run(rt, &host, &mut rt.reader(), &mut io::writer(rt))
 }
 
-/// Says why there is no more, and returns the status.
-fn told(rt: &HostRuntime, fault: &Fault) -> io::Result<u8> {
+/// Says why there is no more.
+fn complain(rt: &HostRuntime, path: &str, fault: &Fault) -> io::Result<()> {
+    match fault {
+        Fault::Script(place) => {
+            let (line, column) = (place.line, place.column);
+            eprintln!(rt; "pgserve: {path}:{line}:{column}: {}", fault.complaint())
+        }
+        Fault::NoScript | Fault::NotText => {
+            eprintln!(rt; "pgserve: {path}: {}", fault.complaint())
+        }
+        other => eprintln!(rt; "pgserve: {}", other.complaint()),
+    }
+}
+
+/// Says what is wrong with the words, or the help that they ask for, and returns the status.
+fn explain(rt: &HostRuntime, fault: Fault) -> io::Result<u8> {
     match fault {
         Fault::Words(refusal) => {
             refusal.print(rt)?;
-            return Ok(if refusal.use_stderr() { 2 } else { 0 });
+            Ok(if refusal.use_stderr() { 2 } else { 0 })
         }
-        Fault::Script(0) => eprintln!(rt; "pgserve: the script can't be read as UTF-8 text")?,
-        Fault::Script(line) => eprintln!(rt;
-            "pgserve: line {line} of the script has no such form, or its answer has no end"
-        )?,
-        other => eprintln!(rt; "pgserve: {}", other.complaint())?,
+        other => {
+            complain(rt, "", &other)?;
+            Ok(1)
+        }
     }
-    Ok(1)
 }
 
 fn main(rt: HostRuntime) -> io::Result<ExitCode> {
-    let words: Vec<String> = std::env::args(&rt)?.collect(rt.alloc())?;
+    let args: Vec<String> = std::env::args(&rt)?.collect(rt.alloc())?;
+    let words = match words::words_of(rt.alloc(), &args) {
+        Ok(words) => words,
+        Err(fault) => return Ok(ExitCode::from(explain(&rt, fault)?)),
+    };
     match serve(&rt, &words) {
         Ok(()) => Ok(ExitCode::SUCCESS),
-        Err(fault) => Ok(ExitCode::from(told(&rt, &fault)?)),
+        Err(fault) => {
+            complain(&rt, words.script, &fault)?;
+            Ok(ExitCode::from(1))
+        }
     }
 }

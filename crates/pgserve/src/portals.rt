@@ -1,6 +1,26 @@
 //! Prepared statements and portals, by their names.
 
+use pgp_base::Oid;
 use std::alloc::{AllocError, Global};
+
+/// A prepared statement.
+#[derive(Drop)]
+pub(crate) struct Plan {
+    pub(crate) text: Vec<u8>,
+    /// The types of its parameters.
+    pub(crate) types: Vec<Oid>,
+}
+
+/// A statement that is bound.
+#[derive(Drop)]
+pub(crate) struct Portal {
+    pub(crate) text: Vec<u8>,
+    pub(crate) formats: Vec<i16>,
+    /// How many rows were sent, once it was run.
+    pub(crate) sent: Option<usize>,
+    /// How many savepoints there were.
+    pub(crate) depth: usize,
+}
 
 /// What a name stands for.
 #[derive(Drop)]
@@ -64,5 +84,19 @@ impl<T: Drop> Names<T> {
     /// Forgets all.
     pub(crate) fn clear(&mut self) {
         self.entries.clear();
+    }
+}
+
+impl Names<Portal> {
+    /// Portals that were bound after a savepoint belong to what stands around it.
+    pub(crate) fn keep_at(&mut self, depth: usize) {
+        for entry in self.entries.iter_mut() {
+            entry.value.depth = entry.value.depth.min(depth);
+        }
+    }
+
+    /// Portals that were bound where there were so many savepoints end.
+    pub(crate) fn end_from(&mut self, depth: usize) {
+        self.entries.retain(|entry| entry.value.depth < depth);
     }
 }

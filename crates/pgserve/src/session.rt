@@ -1,255 +1,309 @@
-//! A session after the log-in: requests, and what is answered to them.
+//! A session after the log-in: requests, and what is answered to them. Nothing here reads or writes: what is answered is a function of the
+//! script and of the requests so far.
 //!
 //! PostgreSQL manual, "Message Flow": "Simple Query", "Extended Query", "Function Call".
 
+ghost use Rattle.std.specs.Prelude.{◌≡◌, ◌≢◌, true, false};
+
 use crate::answer::{Went, describe, execute};
 use crate::asked::{Refusal, refuse};
+use crate::command::{command_of, lowered, words_of};
+use crate::copy::CopyIn;
 use crate::fault::Fault;
-use crate::portals::Names;
-use crate::script::{Script, Statement};
-use crate::text::trimmed;
+use crate::portals::{Names, Plan, Portal};
+use crate::script::{Pair, Script, Statement};
+use crate::settings::Settings;
+use crate::text::{first_of, trimmed};
+use crate::transaction::{Status, Transaction};
 use bytes::BytesMut;
 use postgres_protocol::FallibleIterator;
-use postgres_protocol::message::client::{ClientMessage, Formats};
+use postgres_protocol::message::client::ClientMessage;
 use postgres_protocol::message::reply;
-use std::alloc::Global;
+use std::alloc::{AllocError, Global};
 
-/// What was prepared: the place of a statement of the script, or none of an empty text.
-type Prepared = Option<usize>;
+/// What the text of a statement asks for.
+#[derive(Clone, Copy)]
+pub(crate) enum Asks<'h> {
+    /// There is no statement in it.
+    Nothing,
+    Scripted(&'h Statement),
+    /// A command that needs no script.
+    Command,
+    Unknown,
+}
 
-/// A statement that is bound.
-#[derive(Drop)]
-struct Portal {
-    prepared: Prepared,
-    formats: Vec<i16>,
-    /// So many rows were sent.
-    sent: usize,
+/// Whether a transaction of this status doesn't take a statement that ends the failure of one, or doesn't.
+fn is_barred(status: Status, ends_failure: bool) -> bool
+    ensures failed { status ≡ Status.Failed → ends_failure ≡ false → result ≡ true }
+    ensures sound { status ≢ Status.Failed → result ≡ false }
+{
+    status == Status::Failed && !ends_failure
 }
 
 /// A session.
 #[derive(Drop)]
 pub(crate) struct Session<'h> {
-    alloc: Global,
-    script: &'h Script,
-    prepared: Names<Prepared>,
-    portals: Names<Portal>,
+    pub(crate) alloc: Global,
+    pub(crate) script: &'h Script,
+    pub(crate) prepared: Names<Plan>,
+    pub(crate) portals: Names<Portal>,
+    pub(crate) transaction: Transaction,
+    pub(crate) settings: Settings,
     /// After an error all requests are passed over up to a Sync.
-    is_skipping: bool,
-    status: u8,
+    pub(crate) is_skipping: bool,
+    /// What is sent before the server is ready.
+    notifications: Vec<&'h Pair>,
+    pub(crate) copying: Option<CopyIn<'h>>,
+    /// The connection ends where so many bytes were answered.
+    pub(crate) end_at: Option<usize>,
 }
 
 impl<'h> Session<'h> {
-    pub(crate) fn new(alloc: Global, script: &'h Script) -> Session<'h> {
-        Session {
+    pub(crate) fn new(alloc: Global, script: &'h Script) -> Result<Session<'h>, AllocError> {
+        let mut settings = Settings::new(alloc)?;
+        for setting in &script.settings {
+            settings.begin(&setting.name, &setting.value)?;
+        }
+        Ok(Session {
             alloc,
             script,
             prepared: Names::new(alloc),
             portals: Names::new(alloc),
+            transaction: Transaction::new(alloc),
+            settings,
             is_skipping: false,
-            status: b'I',
-        }
+            notifications: Vec::new(alloc),
+            copying: None,
+            end_at: None,
+        })
     }
 
     /// Appends what a server says after the log-in.
-    pub(crate) fn welcome(&self, out: &mut BytesMut) -> Result<(), Fault> {
-        for (name, value) in SETTINGS {
-            reply::parameter_status(name, value, out)?;
-        }
+    pub(crate) fn welcome(&mut self, out: &mut BytesMut) -> Result<(), Fault> {
+        self.settings.report(out)?;
         reply::backend_key_data(1, &[0, 0, 0, 1], out)?;
         self.ready(out)
     }
 
-    fn ready(&self, out: &mut BytesMut) -> Result<(), Fault> {
-        Ok(reply::ready_for_query(self.status, out)?)
-    }
-
-    fn statement(&self, prepared: Prepared) -> Option<&'h Statement> {
-        let script = self.script;
-        match prepared {
-            Some(place) => script.statements.get(place),
-            None => None,
+    /// Appends which settings changed, the notifications, and that the server is ready.
+    fn ready(&mut self, out: &mut BytesMut) -> Result<(), Fault>
+        ensures { self.new.portals ≡ self.old.portals }
+    {
+        self.settings.report(out)?;
+        for pair in &self.notifications {
+            reply::notification_response(1, &pair.name, &pair.value, out)?;
         }
+        self.notifications.clear();
+        Ok(reply::ready_for_query(self.transaction.status.letter(), out)?)
     }
 
-    /// Refuses a request of an extended query.
-    fn fail(&mut self, refusal: Refusal, out: &mut BytesMut) -> Result<(), Fault> {
-        self.is_skipping = true;
-        refuse(refusal, out)
-    }
-
-    /// The status that a statement leaves.
-    fn leave(&mut self, statement: &Statement) {
-        if statement.status != 0 {
-            self.status = statement.status;
-        }
-    }
-
-    /// What the text asks for: a statement, or nothing where there is no text; an error where the script has none.
-    fn find(&self, text: &[u8]) -> Result<Prepared, Refusal> {
+    /// What the text asks for.
+    pub(crate) fn asks(&self, text: &[u8]) -> Result<Asks<'h>, AllocError> {
         if trimmed(text).is_empty() {
-            return Ok(None);
+            return Ok(Asks::Nothing);
         }
-        match self.script.find(text) {
-            Some(place) => Ok(Some(place)),
-            None => Err(Refusal::NotScripted),
-        }
-    }
-
-    /// Answers a simple query.
-    fn query(&mut self, text: &[u8], out: &mut BytesMut) -> Result<(), Fault> {
-        match self.find(text) {
-            Ok(prepared) => match self.statement(prepared) {
-                Some(statement) => {
-                    if !statement.columns.is_empty() {
-                        describe(self.alloc, statement, &[], out)?;
-                    }
-                    execute(self.alloc, statement, &[], 0, 0, out)?;
-                    self.leave(statement);
-                }
-                None => reply::empty_query_response(out)?,
-            },
-            Err(refusal) => refuse(refusal, out)?,
-        }
-        self.ready(out)
-    }
-
-    /// Prepares a statement.
-    fn parse(&mut self, name: &[u8], text: &[u8], out: &mut BytesMut) -> Result<(), Fault> {
-        if !name.is_empty() && self.prepared.find(name).is_some() {
-            return self.fail(Refusal::StatementThere, out);
-        }
-        match self.find(text) {
-            Ok(prepared) => {
-                self.prepared.put(name, prepared)?;
-                Ok(reply::parse_complete(out)?)
+        let script = self.script;
+        if let Some(place) = script.find(text) {
+            if let Some(statement) = script.statements.get(place) {
+                return Ok(Asks::Scripted(statement));
             }
-            Err(refusal) => self.fail(refusal, out),
+        }
+        let text = lowered(self.alloc, trimmed(text))?;
+        match command_of(&words_of(self.alloc, &text)?) {
+            Some(_) => Ok(Asks::Command),
+            None => Ok(Asks::Unknown),
         }
     }
 
-    /// Binds a statement to so many values, unless requests are passed over.
-    fn bind(
+    /// Whether the transaction failed, and this statement doesn't end that.
+    pub(crate) fn is_aborted(&self, text: &[u8]) -> Result<bool, AllocError> {
+        let text = lowered(self.alloc, trimmed(text))?;
+        let ends_failure = match command_of(&words_of(self.alloc, &text)?) {
+            Some(command) => command.ends_failure(),
+            None => false,
+        };
+        Ok(is_barred(self.transaction.status, ends_failure))
+    }
+
+    /// Appends the error of a request that stands alone.
+    pub(crate) fn stop(&mut self, refusal: Refusal<'_>, out: &mut BytesMut) -> Result<(), Fault> {
+        self.transaction.fail();
+        refuse(self.alloc, refusal, out)
+    }
+
+    /// Appends the error of a request of an extended query: what follows is passed over.
+    pub(crate) fn fail(&mut self, refusal: Refusal<'_>, out: &mut BytesMut) -> Result<(), Fault> {
+        self.is_skipping = true;
+        self.stop(refusal, out)
+    }
+
+    /// Portals end with their transaction, which is also one where none was begun.
+    pub(crate) fn end_portals(&mut self)
+        ensures { self.old.transaction.status ≢ Status.Idle → self.new.portals ≡ self.old.portals }
+    {
+        if self.transaction.status == Status::Idle {
+            self.portals.clear();
+        }
+    }
+
+    /// What a statement of the script leaves: the status that it says, or that of its command, or of its error; its notifications; and
+    /// the end of the connection. Its answer stands between these places.
+    pub(crate) fn leave(
         &mut self,
-        portal: &[u8],
-        name: &[u8],
-        count: usize,
-        formats: Formats<'_>,
-        out: &mut BytesMut,
-    ) -> Result<(), Fault> {
-        if self.is_skipping {
+        statement: &'h Statement,
+        went: Went,
+        answer: (usize, usize),
+    ) -> Result<(), AllocError> {
+        if went == Went::Suspended {
             return Ok(());
         }
-        let Some(prepared) = self.prepared.find(name).copied() else {
-            return self.fail(Refusal::NoStatement, out);
-        };
-        let wanted = match self.statement(prepared) {
-            Some(statement) => statement.parameters.len(),
-            None => 0,
-        };
-        if count != wanted {
-            return self.fail(Refusal::WrongCount, out);
+        match statement.status {
+            Some(status) => self.transaction.set(status),
+            None => self.follow(&statement.text, went)?,
         }
-        let formats = formats.collect(self.alloc)?;
-        self.portals.put(
-            portal,
-            Portal {
-                prepared,
-                formats,
-                sent: 0,
-            },
-        )?;
-        Ok(reply::bind_complete(out)?)
-    }
-
-    /// Describes a prepared statement: its parameters, and its rows.
-    fn describe_statement(&mut self, name: &[u8], out: &mut BytesMut) -> Result<(), Fault> {
-        let Some(prepared) = self.prepared.find(name).copied() else {
-            return self.fail(Refusal::NoStatement, out);
-        };
-        match self.statement(prepared) {
-            Some(statement) => {
-                reply::parameter_description(&statement.parameters, out)?;
-                describe(self.alloc, statement, &[], out)
-            }
-            None => {
-                reply::parameter_description(&[], out)?;
-                Ok(reply::no_data(out)?)
-            }
+        for pair in &statement.notifications {
+            self.notifications.push(pair)?;
         }
-    }
-
-    /// Describes a portal's rows.
-    fn describe_portal(&mut self, name: &[u8], out: &mut BytesMut) -> Result<(), Fault> {
-        let Some(portal) = self.portals.find(name) else {
-            return self.fail(Refusal::NoPortal, out);
-        };
-        match self.statement(portal.prepared) {
-            Some(statement) => describe(self.alloc, statement, &portal.formats, out),
-            None => Ok(reply::no_data(out)?),
+        if statement.is_fatal() {
+            self.end_at = Some(answer.1);
         }
-    }
-
-    /// Sends rows of a portal, at most so many; 0 and less are no limit.
-    fn execute(&mut self, name: &[u8], max_rows: i32, out: &mut BytesMut) -> Result<(), Fault> {
-        let Some(portal) = self.portals.find(name) else {
-            return self.fail(Refusal::NoPortal, out);
-        };
-        let Some(statement) = self.statement(portal.prepared) else {
-            return Ok(reply::empty_query_response(out)?);
-        };
-        let most = usize::try_from(max_rows).unwrap_or(0);
-        let progress = execute(
-            self.alloc,
-            statement,
-            &portal.formats,
-            portal.sent,
-            most,
-            out,
-        )?;
-        if matches!(progress.went, Went::Wrong) {
-            self.is_skipping = true;
-        }
-        self.leave(statement);
-        if let Some(portal) = self.portals.find_mut(name) {
-            portal.sent = progress.sent;
+        if let Some(bytes) = statement.cut {
+            self.end_at = Some(answer.0.saturating_add(bytes));
         }
         Ok(())
     }
 
-    /// Ends an extended query.
-    fn sync(&mut self, out: &mut BytesMut) -> Result<(), Fault> {
-        self.is_skipping = false;
-        self.portals.clear();
+    /// What the text does to the transaction by itself.
+    fn follow(&mut self, text: &[u8], went: Went) -> Result<(), AllocError> {
+        if went == Went::Wrong {
+            self.transaction.fail();
+            return Ok(());
+        }
+        let text = lowered(self.alloc, text)?;
+        if let Some(command) = command_of(&words_of(self.alloc, &text)?) {
+            drop(self.transaction.take(command)?);
+        }
+        Ok(())
+    }
+
+    /// Answers a statement of a simple query, and returns how it went.
+    fn simple(&mut self, text: &[u8], out: &mut BytesMut) -> Result<Went, Fault> {
+        if self.is_aborted(text)? {
+            self.stop(Refusal::Aborted, out)?;
+            return Ok(Went::Wrong);
+        }
+        self.portals.remove(b"");
+        match self.asks(text)? {
+            Asks::Scripted(statement) => self.simple_scripted(statement, out),
+            Asks::Command => self.simple_command(text, out),
+            Asks::Nothing => Ok(Went::Well),
+            Asks::Unknown => {
+                self.stop(Refusal::NotScripted(text.trim_ascii()), out)?;
+                Ok(Went::Wrong)
+            }
+        }
+    }
+
+    fn simple_scripted(
+        &mut self,
+        statement: &'h Statement,
+        out: &mut BytesMut,
+    ) -> Result<Went, Fault> {
+        if let Some(copy) = statement.copy_in() {
+            self.begin_copy(statement, copy, true, out)?;
+            return Ok(Went::Suspended);
+        }
+        let start = out.len();
+        if !statement.columns.is_empty() {
+            describe(self.alloc, &statement.columns, &[], out)?;
+        }
+        let progress = execute(self.alloc, statement, &[], None, 0, out)?;
+        self.leave(statement, progress.went, (start, out.len()))?;
+        Ok(progress.went)
+    }
+
+    /// Answers the statements of a query up to the first that goes wrong; returns whether there was one.
+    fn statements(&mut self, query: &[u8], out: &mut BytesMut) -> Result<bool, Fault> {
+        let (mut rest, mut is_some) = (query, false);
+        for _ in 0..=query.len() {
+            let (first, behind) = first_of(rest);
+            rest = behind;
+            if first.is_empty() {
+                continue;
+            }
+            is_some = true;
+            if self.simple(first, out)? != Went::Well {
+                return Ok(true);
+            }
+        }
+        Ok(is_some)
+    }
+
+    /// Answers a simple query.
+    fn query(&mut self, query: &[u8], out: &mut BytesMut) -> Result<(), Fault> {
+        self.prepared.remove(b"");
+        let is_some = match self.script.find(query) {
+            Some(_) => {
+                self.simple(query, out)?;
+                true
+            }
+            None => self.statements(query, out)?,
+        };
+        if !is_some {
+            reply::empty_query_response(out)?;
+        }
+        if self.copying.is_some() {
+            return Ok(());
+        }
+        self.end_query(out)
+    }
+
+    /// Ends a simple query.
+    pub(crate) fn end_query(&mut self, out: &mut BytesMut) -> Result<(), Fault> {
+        self.end_portals();
         self.ready(out)
     }
 
-    /// Closes a statement or a portal; it needn't be there.
-    fn close(&mut self, variant: u8, name: &[u8], out: &mut BytesMut) -> Result<(), Fault> {
-        if variant == b'S' {
-            self.prepared.remove(name);
-        } else {
-            self.portals.remove(name);
-        }
-        Ok(reply::close_complete(out)?)
+    /// Ends an extended query. Where a transaction was begun, portals live on.
+    fn sync(&mut self, out: &mut BytesMut) -> Result<(), Fault>
+        ensures { self.old.transaction.status ≢ Status.Idle → self.new.portals ≡ self.old.portals }
+    {
+        self.is_skipping = false;
+        self.end_portals();
+        self.ready(out)
     }
 
-    /// Answers a request of an extended query that is no Bind.
-    fn extended(&mut self, message: &ClientMessage<'_>, out: &mut BytesMut) -> Result<(), Fault> {
-        match message {
-            ClientMessage::Parse { name, query, .. } => self.parse(name, query, out),
-            ClientMessage::Describe {
-                variant: b'S',
-                name,
-            } => self.describe_statement(name, out),
-            ClientMessage::Describe { name, .. } => self.describe_portal(name, out),
-            ClientMessage::Execute { portal, max_rows } => self.execute(portal, *max_rows, out),
-            ClientMessage::Close { variant, name } => self.close(*variant, name, out),
-            // What belongs to a copy is passed over, as PostgreSQL does outside of one.
-            _ => Ok(()),
+    /// Answers a request that stands alone with an error.
+    pub(crate) fn stop_alone(
+        &mut self,
+        refusal: Refusal<'_>,
+        out: &mut BytesMut,
+    ) -> Result<(), Fault> {
+        self.stop(refusal, out)?;
+        self.end_portals();
+        self.ready(out)
+    }
+
+    /// Answers a message whose bytes aren't those of its type.
+    ///
+    /// # Errors
+    ///
+    /// Returns `Memory`.
+    pub(crate) fn answer_malformed(&mut self, tag: u8, out: &mut BytesMut) -> Result<(), Fault> {
+        match tag {
+            b'S' => {
+                self.is_skipping = false;
+                self.stop_alone(Refusal::Malformed, out)
+            }
+            _ if self.is_skipping => Ok(()),
+            b'Q' | b'F' => self.stop_alone(Refusal::Malformed, out),
+            // What belongs to a copy is passed over.
+            b'd' | b'c' | b'f' => Ok(()),
+            _ => self.fail(Refusal::Malformed, out),
         }
     }
 
-    /// Appends what is answered to a request that is no Bind.
+    /// Appends what is answered to a request that is no Bind and no Parse.
     fn answer_in_place(
         &mut self,
         message: &ClientMessage<'_>,
@@ -259,10 +313,7 @@ impl<'h> Session<'h> {
             ClientMessage::Sync => self.sync(out),
             _ if self.is_skipping => Ok(()),
             ClientMessage::Query(text) => self.query(text, out),
-            ClientMessage::FunctionCall { .. } => {
-                refuse(Refusal::NotSupported, out)?;
-                self.ready(out)
-            }
+            ClientMessage::FunctionCall { .. } => self.stop_alone(Refusal::NotSupported, out),
             message => self.extended(message, out),
         }
     }
@@ -277,14 +328,46 @@ impl<'h> Session<'h> {
         message: ClientMessage<'_>,
         out: &mut BytesMut,
     ) -> Result<(), Fault> {
+        if let Some(copy) = self.copying {
+            let answer = self.answer_copy(copy, &message, out);
+            drop(message);
+            return answer;
+        }
+        match message {
+            ClientMessage::Bind { .. } if self.is_skipping => {
+                drop(message);
+                Ok(())
+            }
+            ClientMessage::Parse { .. } if self.is_skipping => {
+                drop(message);
+                Ok(())
+            }
+            other => self.answer_next(other, out),
+        }
+    }
+
+    fn answer_next(&mut self, message: ClientMessage<'_>, out: &mut BytesMut) -> Result<(), Fault> {
         match message {
             ClientMessage::Bind {
                 portal,
                 statement,
+                formats,
                 values,
                 result_formats,
-                ..
-            } => self.bind(portal, statement, values.size_hint().0, result_formats, out),
+            } => {
+                let count = values.size_hint().0;
+                let formats = formats.collect(self.alloc)?;
+                let results = result_formats.collect(self.alloc)?;
+                self.bind(portal, statement, count, &formats, results, out)
+            }
+            ClientMessage::Parse {
+                name,
+                query,
+                param_types,
+            } => {
+                let types = param_types.collect(self.alloc)?;
+                self.parse(name, query, &types, out)
+            }
             other => {
                 let answer = self.answer_in_place(&other, out);
                 drop(other);
@@ -293,13 +376,3 @@ impl<'h> Session<'h> {
         }
     }
 }
-
-/// What a server of version 15 reports its settings after the log-in.
-const SETTINGS: [(&[u8], &[u8]); 6] = [
-    (b"server_version", b"15.0"),
-    (b"server_encoding", b"UTF8"),
-    (b"client_encoding", b"UTF8"),
-    (b"DateStyle", b"ISO, MDY"),
-    (b"integer_datetimes", b"on"),
-    (b"standard_conforming_strings", b"on"),
-];

@@ -48,19 +48,30 @@ fn put<W: Write>(bytes: &[u8], output: &mut W) -> Result<(), Fault> {
 /// Returns `Read`, `Write`, `Memory`, and `TooLong` if an answer of the script doesn't fit a message. What was answered before was
 /// written.
 pub(crate) fn run<R: Read, W: Write>(
-    alloc: Global,
+    rt: &HostRuntime,
     host: &Host<'_>,
     input: &mut R,
     output: &mut W,
 ) -> Result<(), Fault> {
+    let alloc = rt.alloc();
     let mut parser = parser(alloc);
-    let mut connection = Connection::new(alloc, host);
+    let mut connection = Connection::new(alloc, host)?;
     let mut out = BytesMut::new(alloc);
-    pass(&mut parser, &mut connection, &mut out, input, output)
+    pass(rt, &mut parser, &mut connection, &mut out, input, output)
+}
+
+/// Prints what is reported of the requests.
+fn report(rt: &HostRuntime, connection: &mut Connection<'_>) -> Result<(), Fault> {
+    if !connection.log.is_empty() && eprint!(rt; "{}", connection.log).is_err() {
+        return Err(Fault::Write);
+    }
+    connection.log.clear();
+    Ok(())
 }
 
 /// The same with what the connection keeps: its parser, and memory for answers.
 fn pass<R: Read, W: Write>(
+    rt: &HostRuntime,
     parser: &mut ClientParser<Global>,
     connection: &mut Connection<'_>,
     out: &mut BytesMut,
@@ -73,6 +84,7 @@ fn pass<R: Read, W: Write>(
         let taken = take_piece(parser, connection, front(&piece, n), out);
         put(out, output)?;
         out.clear();
+        report(rt, connection)?;
         taken?;
         if n == 0 || connection.is_over() {
             return Ok(());

@@ -1,4 +1,4 @@
-//! Texts of a script.
+//! Texts of a script, and of statements.
 
 use std::alloc::{AllocError, Global};
 
@@ -47,4 +47,72 @@ pub(crate) fn trimmed(statement: &[u8]) -> &[u8] {
         Some(front) => front.trim_ascii_end(),
         None => text,
     }
+}
+
+/// In what a byte of a query stands.
+#[derive(Clone, Copy, PartialEq, Eq)]
+enum Inside {
+    Statement,
+    /// A text or a name, up to this mark.
+    Quotes(u8),
+    LineComment,
+    BlockComment,
+}
+
+impl Inside {
+    /// In what the next byte stands, after this byte and the one before it.
+    fn after(self, before: u8, byte: u8) -> Inside {
+        match self {
+            Inside::Quotes(mark) if byte == mark => Inside::Statement,
+            Inside::LineComment if byte == b'\n' => Inside::Statement,
+            Inside::BlockComment if before == b'*' && byte == b'/' => Inside::Statement,
+            Inside::Statement => opened(before, byte),
+            same => same,
+        }
+    }
+}
+
+/// In what the next byte stands, after these two of a statement.
+fn opened(before: u8, byte: u8) -> Inside {
+    match byte {
+        b'\'' | b'"' => Inside::Quotes(byte),
+        b'-' if before == b'-' => Inside::LineComment,
+        b'*' if before == b'/' => Inside::BlockComment,
+        _ => Inside::Statement,
+    }
+}
+
+/// The place of the first semicolon that stands in no quotes and no comment, or the query's length.
+fn end_of_first(query: &[u8]) -> usize {
+    let (mut inside, mut before) = (Inside::Statement, 0u8);
+    for (place, byte) in query.iter().enumerate() {
+        if inside == Inside::Statement && *byte == b';' {
+            return place;
+        }
+        inside = inside.after(before, *byte);
+        before = *byte;
+    }
+    query.len()
+}
+
+/// The first statement of a query, and what follows its semicolon.
+pub(crate) fn first_of(query: &[u8]) -> (&[u8], &[u8]) {
+    let (first, rest) = query.split_at(end_of_first(query).min(query.len()));
+    match rest {
+        [_, behind @ ..] => (first.trim_ascii(), behind),
+        _ => (first.trim_ascii(), rest),
+    }
+}
+
+/// The statement of a query that has one at most; `None` where it has more.
+pub(crate) fn only_of(query: &[u8]) -> Option<&[u8]> {
+    let (first, mut rest) = first_of(query);
+    for _ in 0..query.len() {
+        let (next, behind) = first_of(rest);
+        if !next.is_empty() {
+            return None;
+        }
+        rest = behind;
+    }
+    Some(first)
 }

@@ -10,40 +10,114 @@ pub(crate) struct Type {
     pub(crate) size: i16,
 }
 
-/// Names, object identifiers and sizes, of PostgreSQL's catalog `pg_type`.
-const TYPES: [(&str, Oid, i16); 21] = [
-    ("bool", 16, 1),
-    ("bytea", 17, -1),
-    ("name", 19, 64),
-    ("int8", 20, 8),
-    ("int2", 21, 2),
-    ("int4", 23, 4),
-    ("text", 25, -1),
-    ("oid", 26, 4),
-    ("json", 114, -1),
-    ("float4", 700, 4),
-    ("float8", 701, 8),
-    ("bpchar", 1042, -1),
-    ("varchar", 1043, -1),
-    ("date", 1082, 4),
-    ("time", 1083, 8),
-    ("timestamp", 1114, 8),
-    ("timestamptz", 1184, 8),
-    ("interval", 1186, 16),
-    ("numeric", 1700, -1),
-    ("uuid", 2950, 16),
-    ("jsonb", 3802, -1),
+/// The type of a text.
+pub(crate) const PLAIN_TEXT: Type = Type {
+    oid: TEXT,
+    size: -1,
+};
+
+pub(crate) const BOOL: Oid = 16;
+
+pub(crate) const BYTEA: Oid = 17;
+
+pub(crate) const NAME: Oid = 19;
+
+pub(crate) const INT8: Oid = 20;
+
+pub(crate) const INT2: Oid = 21;
+
+pub(crate) const INT4: Oid = 23;
+
+pub(crate) const TEXT: Oid = 25;
+
+pub(crate) const OID: Oid = 26;
+
+pub(crate) const JSON: Oid = 114;
+
+pub(crate) const FLOAT4: Oid = 700;
+
+pub(crate) const FLOAT8: Oid = 701;
+
+pub(crate) const BPCHAR: Oid = 1042;
+
+pub(crate) const VARCHAR: Oid = 1043;
+
+pub(crate) const DATE: Oid = 1082;
+
+pub(crate) const TIME: Oid = 1083;
+
+pub(crate) const TIMESTAMP: Oid = 1114;
+
+pub(crate) const TIMESTAMPTZ: Oid = 1184;
+
+pub(crate) const INTERVAL: Oid = 1186;
+
+pub(crate) const NUMERIC: Oid = 1700;
+
+pub(crate) const UUID: Oid = 2950;
+
+pub(crate) const JSONB: Oid = 3802;
+
+/// Names, object identifiers, sizes, and the identifiers of the arrays, of PostgreSQL's catalog `pg_type`.
+const TYPES: [(&str, Oid, i16, Oid); 21] = [
+    ("bool", BOOL, 1, 1000),
+    ("bytea", BYTEA, -1, 1001),
+    ("name", NAME, 64, 1003),
+    ("int8", INT8, 8, 1016),
+    ("int2", INT2, 2, 1005),
+    ("int4", INT4, 4, 1007),
+    ("text", TEXT, -1, 1009),
+    ("oid", OID, 4, 1028),
+    ("json", JSON, -1, 199),
+    ("float4", FLOAT4, 4, 1021),
+    ("float8", FLOAT8, 8, 1022),
+    ("bpchar", BPCHAR, -1, 1014),
+    ("varchar", VARCHAR, -1, 1015),
+    ("date", DATE, 4, 1182),
+    ("time", TIME, 8, 1183),
+    ("timestamp", TIMESTAMP, 8, 1115),
+    ("timestamptz", TIMESTAMPTZ, 8, 1185),
+    ("interval", INTERVAL, 16, 1187),
+    ("numeric", NUMERIC, -1, 1231),
+    ("uuid", UUID, 16, 2951),
+    ("jsonb", JSONB, -1, 3807),
 ];
+
+/// The type of the elements of an array of this type.
+pub(crate) fn element_of(array: Oid) -> Option<Oid> {
+    for (_, oid, _, of) in &TYPES {
+        if *of == array {
+            return Some(*oid);
+        }
+    }
+    None
+}
+
+/// The type of this name; `[]` stands after that of the elements of an array.
+fn named(word: &str) -> Option<Type> {
+    let element = word.strip_suffix("[]");
+    let name = element.unwrap_or(word);
+    for (of, oid, size, array) in &TYPES {
+        if *of == name {
+            return Some(match element {
+                Some(_) => Type {
+                    oid: *array,
+                    size: -1,
+                },
+                None => Type {
+                    oid: *oid,
+                    size: *size,
+                },
+            });
+        }
+    }
+    None
+}
 
 /// The type of this name, or of this number, of which no size is known.
 pub(crate) fn type_of(word: &str) -> Option<Type> {
-    for (name, oid, size) in &TYPES {
-        if *name == word {
-            return Some(Type {
-                oid: *oid,
-                size: *size,
-            });
-        }
+    if let Some(found) = named(word) {
+        return Some(found);
     }
     match word.parse::<u32>() {
         Ok(oid) => Some(Type { oid, size: -1 }),

@@ -13,32 +13,51 @@ pub(crate) struct Words<'a> {
     pub(crate) verifier: &'a str,
     /// The server's part of the nonce.
     pub(crate) nonce: &'a str,
+    /// What a client has to show.
+    pub(crate) auth: &'a str,
+    /// Whether each request is reported on standard error.
+    pub(crate) logs: bool,
     /// The script's path.
     pub(crate) script: &'a str,
 }
 
-fn needed<'a>(alloc: Global, name: &'a str, help: &'a str) -> Arg<'a> {
+/// A word that stands after `--NAME`.
+fn option<'a>(alloc: Global, name: &'a str, help: &'a str) -> Arg<'a> {
     Arg::new(alloc, name)
-        .required(true)
+        .long(name)
         .action(ArgAction::Set)
         .help(help)
 }
 
 fn command<'a>(alloc: Global) -> Result<Command<'a>, AllocError> {
+    let script = Arg::new(alloc, "script")
+        .required(true)
+        .action(ArgAction::Set)
+        .help("The script's path");
     Command::new(alloc, "pgserve")
         .version("0.1.0")
         .about(
             "Logs one client in, and answers the statements of a script. Standard input and output are the connection.",
         )
-        .arg(needed(alloc, "user", "The one user that there is").long("user"))?
-        .arg(needed(
+        .arg(option(alloc, "user", "The one user that there is").required(true))?
+        .arg(option(
+            alloc,
+            "auth",
+            "What a client has to show: trust, password, md5, or scram, which is the default",
+        ))?
+        .arg(option(
             alloc,
             "verifier",
-            "SCRAM-SHA-256$.., what a server stores of the password",
-        )
-        .long("verifier"))?
-        .arg(needed(alloc, "nonce", "The server's part of the nonce").long("nonce"))?
-        .arg(needed(alloc, "script", "The script's path"))
+            "What a server stores of the password: SCRAM-SHA-256$.., for md5 md5..",
+        ))?
+        .arg(option(alloc, "nonce", "The server's part of the nonce of scram"))?
+        .arg(
+            Arg::new(alloc, "log")
+                .long("log")
+                .action(ArgAction::SetTrue)
+                .help("Reports each request and what it is answered on standard error"),
+        )?
+        .arg(script)
 }
 
 /// What the words say, the program's name among them.
@@ -52,6 +71,8 @@ pub(crate) fn words_of<'a>(alloc: Global, words: &'a [String]) -> Result<Words<'
         user: matches.get_str("user").unwrap_or(""),
         verifier: matches.get_str("verifier").unwrap_or(""),
         nonce: matches.get_str("nonce").unwrap_or(""),
+        auth: matches.get_str("auth").unwrap_or("scram"),
+        logs: matches.get_flag("log"),
         script: matches.get_str("script").unwrap_or(""),
     })
 }

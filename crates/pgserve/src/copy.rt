@@ -1,0 +1,107 @@
+//! Copies: their data from the server, and to it.
+//!
+//! PostgreSQL manual, "Message Flow", "COPY Operations".
+
+use crate::answer::{Went, put_tag};
+use crate::asked::{Refusal, end_session, refuse};
+use crate::fault::Fault;
+use crate::script::{Copy, Statement};
+use crate::session::Session;
+use bytes::BytesMut;
+use postgres_protocol::message::client::ClientMessage;
+use postgres_protocol::message::reply;
+use std::alloc::{AllocError, Global};
+
+/// A copy to the server that is under way.
+#[derive(Clone, Copy)]
+pub(crate) struct CopyIn<'h> {
+    pub(crate) statement: &'h Statement,
+    /// Whether a simple query asked for it.
+    pub(crate) is_simple: bool,
+}
+
+/// The formats of the columns, which are that of the whole.
+fn formats_of(alloc: Global, copy: &Copy) -> Result<Vec<u16>, AllocError> {
+    let mut formats = Vec::new(alloc);
+    for _ in 0..copy.columns {
+        formats.push(u16::from(copy.format))?;
+    }
+    Ok(formats)
+}
+
+/// Appends all data of a copy from the server.
+pub(crate) fn put_copy_out(alloc: Global, copy: &Copy, out: &mut BytesMut) -> Result<(), Fault> {
+    reply::copy_out_response(copy.format, &formats_of(alloc, copy)?, out)?;
+    for chunk in &copy.chunks {
+        reply::copy_data(chunk, out)?;
+    }
+    Ok(reply::copy_done(out)?)
+}
+
+impl<'h> Session<'h> {
+    /// Asks for the data of a copy to the server.
+    pub(crate) fn begin_copy(
+        &mut self,
+        statement: &'h Statement,
+        copy: &Copy,
+        is_simple: bool,
+        out: &mut BytesMut,
+    ) -> Result<(), Fault> {
+        self.copying = Some(CopyIn {
+            statement,
+            is_simple,
+        });
+        Ok(reply::copy_in_response(copy.format, &formats_of(self.alloc, copy)?, out)?)
+    }
+
+    /// Ends a copy to the server with an error.
+    fn fail_copy(
+        &mut self,
+        copy: CopyIn<'h>,
+        refusal: Refusal<'_>,
+        out: &mut BytesMut,
+    ) -> Result<(), Fault> {
+        self.copying = None;
+        if copy.is_simple {
+            self.stop_alone(refusal, out)
+        } else {
+            self.fail(refusal, out)
+        }
+    }
+
+    /// Ends the session after a message that has no place in a copy.
+    fn lose_sync(&mut self, out: &mut BytesMut) -> Result<(), Fault> {
+        refuse(self.alloc, Refusal::NoCopyData, out)?;
+        end_session(out)?;
+        self.end_at = Some(out.len());
+        Ok(())
+    }
+
+    /// Ends a copy to the server, whose data are complete.
+    fn end_copy(&mut self, copy: CopyIn<'h>, out: &mut BytesMut) -> Result<(), Fault> {
+        self.copying = None;
+        let start = out.len();
+        let went = put_tag(self.alloc, copy.statement, out)?;
+        self.leave(copy.statement, went, (start, out.len()))?;
+        self.is_skipping = !copy.is_simple && went == Went::Wrong;
+        if copy.is_simple {
+            return self.end_query(out);
+        }
+        Ok(())
+    }
+
+    /// Answers a message while the data of a copy are awaited.
+    pub(crate) fn answer_copy(
+        &mut self,
+        copy: CopyIn<'h>,
+        message: &ClientMessage<'_>,
+        out: &mut BytesMut,
+    ) -> Result<(), Fault> {
+        match message {
+            ClientMessage::CopyData(_) | ClientMessage::Flush | ClientMessage::Sync => Ok(()),
+            ClientMessage::CopyDone => self.end_copy(copy, out),
+            ClientMessage::CopyFail(why) => self.fail_copy(copy, Refusal::CopyFailed(why), out),
+            _ => self.lose_sync(out),
+        }
+    }
+}

@@ -1,0 +1,134 @@
+//! One line for each request, with what it was answered.
+
+use std::alloc::{AllocError, Global};
+
+/// The name of a client's message of this tag.
+fn asked(tag: u8) -> &'static str {
+    match tag {
+        b'B' => "Bind",
+        b'C' => "Close",
+        b'D' => "Describe",
+        b'E' => "Execute",
+        b'F' => "FunctionCall",
+        b'H' => "Flush",
+        b'P' => "Parse",
+        b'Q' => "Query",
+        b'S' => "Sync",
+        b'X' => "Terminate",
+        b'c' => "CopyDone",
+        b'd' => "CopyData",
+        b'f' => "CopyFail",
+        b'p' => "password",
+        _ => "opening packet",
+    }
+}
+
+/// The name of a server's message of this tag.
+fn answered(tag: u8) -> &'static str {
+    match tag {
+        b'1' => "ParseComplete",
+        b'2' => "BindComplete",
+        b'3' => "CloseComplete",
+        b'A' => "NotificationResponse",
+        b'C' => "CommandComplete",
+        b'D' => "DataRow",
+        b'E' => "ErrorResponse",
+        b'G' => "CopyInResponse",
+        b'H' => "CopyOutResponse",
+        b'I' => "EmptyQueryResponse",
+        b'K' => "BackendKeyData",
+        b'N' => "NoticeResponse",
+        b'R' => "Authentication",
+        b'S' => "ParameterStatus",
+        b'T' => "RowDescription",
+        b'Z' => "ReadyForQuery",
+        _ => answered_rarely(tag),
+    }
+}
+
+fn answered_rarely(tag: u8) -> &'static str {
+    match tag {
+        b'c' => "CopyDone",
+        b'd' => "CopyData",
+        b'n' => "NoData",
+        b's' => "PortalSuspended",
+        b't' => "ParameterDescription",
+        b'v' => "NegotiateProtocolVersion",
+        _ => "message",
+    }
+}
+
+/// How many bytes of a message's body are shown.
+const SHOWN: usize = 200;
+
+/// Adds the body's bytes that are printable ASCII; a point stands for another.
+fn add_body(body: &[u8], line: &mut String) -> Result<(), AllocError> {
+    for byte in body.iter().take(SHOWN) {
+        let shown = if byte.is_ascii_graphic() || *byte == b' ' {
+            char::from(*byte)
+        } else {
+            '.'
+        };
+        line.push(shown)?;
+    }
+    Ok(())
+}
+
+/// Whether the body of an answer of this tag says something in a line.
+fn is_telling(tag: u8) -> bool {
+    matches!(tag, b'C' | b'E' | b'N' | b'S' | b'Z')
+}
+
+/// The message at the front: its tag, its body, and what follows.
+fn front(bytes: &[u8]) -> Option<(u8, &[u8], &[u8])> {
+    match bytes {
+        [tag, a, b, c, d, rest @ ..] => {
+            let len = u32::from_be_bytes([*a, *b, *c, *d]) as usize;
+            let (body, behind) = rest.split_at(len.saturating_sub(4).min(rest.len()));
+            Some((*tag, body, behind))
+        }
+        _ => None,
+    }
+}
+
+/// Adds what was answered.
+fn add_answer(answer: &[u8], line: &mut String) -> Result<(), AllocError> {
+    let mut rest = answer;
+    for _ in 0..answer.len() {
+        let Some((tag, body, behind)) = front(rest) else {
+            return Ok(());
+        };
+        line.push_str(", ")?;
+        line.push_str(answered(tag))?;
+        if is_telling(tag) {
+            line.push(' ')?;
+            add_body(body, line)?;
+        }
+        rest = behind;
+    }
+    Ok(())
+}
+
+/// The line of a message and its answer. Of a password only the name is shown.
+pub(crate) fn line_of(
+    alloc: Global,
+    is_open: bool,
+    message: &[u8],
+    answer: &[u8],
+) -> Result<String, AllocError> {
+    let mut line = String::from_str(alloc, "pgserve: ")?;
+    match front(message) {
+        Some((tag, body, _)) if is_open => {
+            line.push_str(asked(tag))?;
+            if tag != b'p' && !body.is_empty() {
+                line.push(' ')?;
+                add_body(body, &mut line)?;
+            }
+        }
+        _ => line.push_str(asked(0))?,
+    }
+    line.push_str(" ->")?;
+    add_answer(answer, &mut line)?;
+    line.push('\n')?;
+    Ok(line)
+}

@@ -1,0 +1,199 @@
+//! Dates, times and intervals, by the texts in which a server shows them: `DateStyle` `ISO`, `IntervalStyle` `postgres`.
+
+use jiff::Timestamp;
+use jiff::civil::{Date, DateTime, Time};
+use jiff::tz::Offset;
+use postgres_protocol::values::{Interval, Moment};
+
+/// The beginning of 2000 after that of 1970, in microseconds.
+const EPOCH: i64 = 946_684_800_000_000;
+
+/// Microseconds of a second.
+const SECOND: i64 = 1_000_000;
+
+/// The infinity of this name.
+fn infinity_of<T>(text: &str) -> Option<Moment<T>> {
+    match text {
+        "infinity" => Some(Moment::PosInfinity),
+        "-infinity" => Some(Moment::NegInfinity),
+        _ => None,
+    }
+}
+
+fn since_2000(instant: Timestamp) -> Moment<i64> {
+    Moment::Value(instant.as_microsecond().saturating_sub(EPOCH))
+}
+
+/// The microseconds of a date and a time, as a clock at Greenwich shows it.
+fn instant_of(shown: DateTime) -> Option<Moment<i64>> {
+    match Offset::UTC.to_timestamp(shown) {
+        Ok(instant) => Some(since_2000(instant)),
+        Err(_) => None,
+    }
+}
+
+/// A `timestamp`, as `2026-11-26 10:20:30.5`.
+pub(crate) fn timestamp_of(text: &str) -> Option<Moment<i64>> {
+    if let Some(infinity) = infinity_of(text) {
+        return Some(infinity);
+    }
+    match text.parse::<DateTime>() {
+        Ok(shown) => instant_of(shown),
+        Err(_) => None,
+    }
+}
+
+/// A `timestamptz`, as `2026-11-26 10:20:30.5+00`.
+pub(crate) fn timestamptz_of(text: &str) -> Option<Moment<i64>> {
+    if let Some(infinity) = infinity_of(text) {
+        return Some(infinity);
+    }
+    match text.parse::<Timestamp>() {
+        Ok(instant) => Some(since_2000(instant)),
+        Err(_) => None,
+    }
+}
+
+/// A `date`, as `2026-11-26`.
+pub(crate) fn date_of(text: &str) -> Option<Moment<i32>> {
+    if let Some(infinity) = infinity_of(text) {
+        return Some(infinity);
+    }
+    let Ok(date) = text.parse::<Date>() else {
+        return None;
+    };
+    match instant_of(date.to_datetime(Time::midnight())) {
+        Some(Moment::Value(microseconds)) => {
+            let days = microseconds.div_euclid(86_400 * SECOND);
+            Some(Moment::Value(i32::try_from(days).unwrap_or(0)))
+        }
+        _ => None,
+    }
+}
+
+/// A number of one to nine digits.
+fn number_of(digits: &str) -> Option<i64> {
+    if digits.is_empty() || digits.len() > 9 {
+        return None;
+    }
+    match digits.parse::<u32>() {
+        Ok(number) if !digits.starts_with('+') => Some(i64::from(number)),
+        _ => None,
+    }
+}
+
+/// The microseconds of the digits behind a point, six at most.
+fn fraction_of(digits: &str) -> Option<i64> {
+    let number = number_of(digits)?;
+    let scale = match digits.len() {
+        1 => 100_000,
+        2 => 10_000,
+        3 => 1_000,
+        4 => 100,
+        5 => 10,
+        6 => 1,
+        _ => return None,
+    };
+    Some(number.saturating_mul(scale))
+}
+
+/// The microseconds of `SS` or `SS.ffffff`.
+fn seconds_of(text: &str) -> Option<i64> {
+    let (whole, fraction) = match text.split_once('.') {
+        Some((whole, fraction)) => (whole, fraction_of(fraction)?),
+        None => (text, 0),
+    };
+    match number_of(whole) {
+        Some(seconds) if seconds < 60 => Some(
+            seconds.saturating_mul(SECOND).saturating_add(fraction),
+        ),
+        _ => None,
+    }
+}
+
+/// The microseconds of `HH:MM:SS.ffffff`, of any number of hours.
+fn span_of(text: &str) -> Option<i64> {
+    let (hours, rest) = text.split_once(':')?;
+    let (minutes, seconds) = rest.split_once(':')?;
+    let (hours, minutes) = (number_of(hours)?, number_of(minutes)?);
+    if minutes > 59 {
+        return None;
+    }
+    let minutes = hours.saturating_mul(60).saturating_add(minutes);
+    let whole = minutes.saturating_mul(60 * SECOND);
+    Some(whole.saturating_add(seconds_of(seconds)?))
+}
+
+/// A `time`, as `10:20:30.5`, up to `24:00:00`.
+pub(crate) fn clock_of(text: &str) -> Option<i64> {
+    match span_of(text) {
+        Some(since_midnight) if since_midnight <= 86_400 * SECOND => Some(since_midnight),
+        _ => None,
+    }
+}
+
+/// A number with a sign or without.
+fn signed_of(text: &str) -> Option<i64> {
+    match text.strip_prefix('-') {
+        Some(digits) => Some(number_of(digits)?.saturating_neg()),
+        None => number_of(text.strip_prefix('+').unwrap_or(text)),
+    }
+}
+
+/// The span of an interval, with a sign or without.
+fn signed_span_of(text: &str) -> Option<i64> {
+    match text.strip_prefix('-') {
+        Some(span) => Some(span_of(span)?.saturating_neg()),
+        None => span_of(text.strip_prefix('+').unwrap_or(text)),
+    }
+}
+
+/// Adds so many of this unit.
+fn add_unit(interval: Interval, number: i64, unit: &str) -> Option<Interval> {
+    let Ok(number) = i32::try_from(number) else {
+        return None;
+    };
+    let (months, days) = match unit {
+        "year" | "years" => (number.saturating_mul(12), 0),
+        "mon" | "mons" => (number, 0),
+        "day" | "days" => (0, number),
+        _ => return None,
+    };
+    Some(Interval {
+        microseconds: interval.microseconds,
+        days: interval.days.saturating_add(days),
+        months: interval.months.saturating_add(months),
+    })
+}
+
+/// Adds a part of an interval: a number and its unit, or the time after all of them.
+fn add_part(interval: Interval, part: &str, unit: Option<&str>) -> Option<Interval> {
+    match unit {
+        Some(unit) => add_unit(interval, signed_of(part)?, unit),
+        None => Some(Interval {
+            microseconds: signed_span_of(part)?,
+            days: interval.days,
+            months: interval.months,
+        }),
+    }
+}
+
+/// An `interval`, as `1 year 2 mons -3 days 04:05:06.7`.
+pub(crate) fn interval_of(text: &str) -> Option<Interval> {
+    let mut interval = Interval {
+        microseconds: 0,
+        days: 0,
+        months: 0,
+    };
+    if text.is_empty() {
+        return None;
+    }
+    let mut words = text.split(' ');
+    for _ in 0..text.len() {
+        match words.next() {
+            Some(part) => interval = add_part(interval, part, words.next())?,
+            None => return Some(interval),
+        }
+    }
+    Some(interval)
+}

@@ -1,0 +1,87 @@
+//! What a startup packet asks for.
+//!
+//! PostgreSQL manual, "Message Flow", "Start-up"; NegotiateProtocolVersion of "Message Formats".
+
+use crate::fault::Fault;
+use bytes::BytesMut;
+use postgres_protocol::FallibleIterator;
+use postgres_protocol::message::client::ClientMessage;
+use postgres_protocol::message::reply;
+use std::alloc::{AllocError, Global};
+
+/// What a startup packet asks for.
+#[derive(Drop)]
+pub(crate) struct Opening<'m> {
+    pub(crate) user: Option<&'m [u8]>,
+    pub(crate) settings: Vec<(&'m [u8], &'m [u8])>,
+    /// Options of the protocol, of which this server knows none.
+    unknown: Vec<&'m [u8]>,
+}
+
+/// Version 3.0 of the protocol.
+const VERSION: i32 = 196_608;
+
+/// The newest minor version that this server speaks, up to this one.
+fn spoken_minor(minor: u16) -> u16 {
+    if minor < 2 { 0 } else { 2 }
+}
+
+/// The message as a server of protocol 3.0 and 3.2 takes it, and the minor version that a startup packet asks for.
+pub(crate) fn spoken(message: ClientMessage<'_>) -> (ClientMessage<'_>, u16) {
+    match message {
+        ClientMessage::Startup { minor, parameters } => {
+            let message = ClientMessage::Startup {
+                minor: spoken_minor(minor),
+                parameters,
+            };
+            (message, minor)
+        }
+        other => (other, 0),
+    }
+}
+
+impl<'m> Opening<'m> {
+    /// Adds what a name and its value say.
+    fn add(&mut self, name: &'m [u8], value: &'m [u8]) -> Result<(), AllocError> {
+        if name.starts_with(b"_pq_.") {
+            self.unknown.push(name)?;
+        } else if name == b"user".as_slice() {
+            self.user = Some(value);
+        } else if !IS_NO_SETTING.contains(&name) {
+            self.settings.push((name, value))?;
+        }
+        Ok(())
+    }
+
+    /// Appends which version of the protocol is spoken, and which options aren't known, unless the client has what it asks for.
+    pub(crate) fn negotiate(&self, minor: u16, out: &mut BytesMut) -> Result<(), Fault> {
+        let spoken = spoken_minor(minor);
+        if spoken == minor && self.unknown.is_empty() {
+            return Ok(());
+        }
+        let version = VERSION.saturating_add(i32::from(spoken));
+        Ok(reply::negotiate_protocol_version(version, &self.unknown, out)?)
+    }
+}
+
+/// Names in a startup packet that are no settings, beside the user's.
+const IS_NO_SETTING: [&[u8]; 3] = [b"database", b"options", b"replication"];
+
+/// What the startup packet asks for; nothing of another message.
+pub(crate) fn opening_of(alloc: Global, message: ClientMessage<'_>) -> Result<Opening<'_>, Fault> {
+    let mut opening = Opening {
+        user: None,
+        settings: Vec::new(alloc),
+        unknown: Vec::new(alloc),
+    };
+    match message {
+        ClientMessage::Startup { parameters, .. } => {
+            let pairs = parameters.collect(alloc)?;
+            for (name, value) in &pairs {
+                opening.add(name, value)?;
+            }
+        }
+        other => drop(other),
+    }
+    Ok(opening)
+}

@@ -1,0 +1,381 @@
+//! A script, read from its text.
+
+use crate::binary::{Unwritten, binary_of};
+use crate::fault::Fault;
+use crate::script::{Column, Copy, Detail, End, Pair, Report, Script, Statement};
+use crate::text::{trimmed, unescaped};
+use crate::transaction::Status;
+use crate::types::{Type, type_of};
+use crate::wrong::{Stop, Wrong, place_of};
+use pgp_base::Oid;
+use std::alloc::{AllocError, Global};
+
+/// A text without its escapes.
+fn plain(alloc: Global, text: &str) -> Result<Vec<u8>, Stop> {
+    match unescaped(alloc, text)? {
+        Some(text) => Ok(text),
+        None => Err(Stop::At(Wrong::Escape)),
+    }
+}
+
+/// The type of this name.
+fn known_type(name: &str) -> Result<Type, Stop> {
+    match type_of(name) {
+        Some(kind) => Ok(kind),
+        None => Err(Stop::At(Wrong::Type)),
+    }
+}
+
+/// The types of these names.
+fn types_of(alloc: Global, words: &str) -> Result<Vec<Oid>, Stop> {
+    let mut types = Vec::new(alloc);
+    for word in words.split_ascii_whitespace() {
+        let kind = known_type(word)?;
+        types.push(kind.oid).map_err(AllocError::from)?;
+    }
+    Ok(types)
+}
+
+/// The column of this line: its name, and after the last space its type.
+fn column_of(alloc: Global, line: &str) -> Result<Column, Stop> {
+    let Some((name, kind)) = line.rsplit_once(' ') else {
+        return Err(Stop::At(Wrong::Column));
+    };
+    Ok(Column {
+        kind: known_type(kind)?,
+        name: plain(alloc, name)?,
+    })
+}
+
+/// The value of this text, which is one of the type; `\N` is a null.
+fn value_of(alloc: Global, kind: Type, text: &str) -> Result<Option<Vec<u8>>, Stop> {
+    if text == "\\N" {
+        return Ok(None);
+    }
+    let value = plain(alloc, text)?;
+    match binary_of(alloc, kind.oid, &value) {
+        Ok(bytes) => drop(bytes),
+        Err(Unwritten::NoFormat) => {}
+        Err(Unwritten::NotOfType) => return Err(Stop::At(Wrong::Value)),
+        Err(Unwritten::Memory) => return Err(Stop::Memory),
+    }
+    Ok(Some(value))
+}
+
+/// A value that stands so many bytes further on.
+fn further(value: Result<Option<Vec<u8>>, Stop>, by: usize) -> Result<Option<Vec<u8>>, Stop> {
+    match value {
+        Err(Stop::At(wrong)) => Err(Stop::In(wrong, by)),
+        other => other,
+    }
+}
+
+/// The values of this line, between which tabs stand, one for each column.
+fn values_of(alloc: Global, columns: &[Column], line: &str) -> Result<Vec<Option<Vec<u8>>>, Stop> {
+    let (mut values, mut at) = (Vec::new(alloc), 0usize);
+    for text in line.split('\t') {
+        let Some(column) = columns.get(values.len()) else {
+            return Err(Stop::In(Wrong::Width, at));
+        };
+        let value = further(value_of(alloc, column.kind, text), at)?;
+        values.push(value).map_err(AllocError::from)?;
+        at = at.saturating_add(text.len()).saturating_add(1);
+    }
+    if values.len() != columns.len() {
+        return Err(Stop::At(Wrong::Width));
+    }
+    Ok(values)
+}
+
+/// Whether it is five letters or digits.
+fn is_code(code: &str) -> bool {
+    for byte in code.bytes() {
+        if !byte.is_ascii_alphanumeric() {
+            return false;
+        }
+    }
+    code.len() == 5
+}
+
+/// The report of this line: five letters or digits, a space, and the message.
+fn report_of(alloc: Global, severity: &'static str, line: &str) -> Result<Report, Stop> {
+    match line.split_once(' ') {
+        Some((code, message)) if is_code(code) => Ok(Report {
+            severity,
+            code: Vec::from_slice(alloc, code.as_bytes())?,
+            message: plain(alloc, message)?,
+            details: Vec::new(alloc),
+        }),
+        _ => Err(Stop::At(Wrong::Report)),
+    }
+}
+
+/// A name, and after a space a text, which may be empty.
+fn pair_of(alloc: Global, line: &str) -> Result<Pair, Stop> {
+    let (name, value) = line.split_once(' ').unwrap_or((line, ""));
+    if name.is_empty() {
+        return Err(Stop::At(Wrong::Name));
+    }
+    Ok(Pair {
+        name: plain(alloc, name)?,
+        value: plain(alloc, value)?,
+    })
+}
+
+/// The status of this name.
+fn status_of(word: &str) -> Result<Status, Stop> {
+    match word {
+        "idle" => Ok(Status::Idle),
+        "transaction" => Ok(Status::Open),
+        "failed" => Ok(Status::Failed),
+        _ => Err(Stop::At(Wrong::Status)),
+    }
+}
+
+/// The severity of this name (PostgreSQL manual, "Message Severity Levels").
+fn severity_of(word: &str) -> Result<&'static str, Stop> {
+    match word {
+        "DEBUG" => Ok("DEBUG"),
+        "LOG" => Ok("LOG"),
+        "INFO" => Ok("INFO"),
+        "NOTICE" => Ok("NOTICE"),
+        "WARNING" => Ok("WARNING"),
+        "ERROR" => Ok("ERROR"),
+        "FATAL" => Ok("FATAL"),
+        "PANIC" => Ok("PANIC"),
+        _ => Err(Stop::At(Wrong::Severity)),
+    }
+}
+
+/// A number of bytes.
+fn count_of(word: &str) -> Result<usize, Stop> {
+    match word.parse::<u32>() {
+        Ok(count) => Ok(count as usize),
+        Err(_) => Err(Stop::At(Wrong::Count)),
+    }
+}
+
+/// A format of copies.
+fn format_of(word: &str) -> Result<u8, Stop> {
+    match word {
+        "text" => Ok(0),
+        "binary" => Ok(1),
+        _ => Err(Stop::At(Wrong::Copy)),
+    }
+}
+
+/// The copy of this line: `in` or `out`, the format, and the number of columns.
+fn copy_of(alloc: Global, line: &str) -> Result<Copy, Stop> {
+    let (way, rest) = line.split_once(' ').unwrap_or((line, ""));
+    let (format, columns) = rest.split_once(' ').unwrap_or((rest, "1"));
+    if way != "in" && way != "out" {
+        return Err(Stop::At(Wrong::Copy));
+    }
+    let Ok(columns) = columns.parse::<u16>() else {
+        return Err(Stop::At(Wrong::Copy));
+    };
+    Ok(Copy {
+        is_in: way == "in",
+        format: format_of(format)?,
+        columns,
+        chunks: Vec::new(alloc),
+    })
+}
+
+impl Statement {
+    /// Adds data that the server sends.
+    fn add_chunk(&mut self, alloc: Global, line: &str) -> Result<(), Stop> {
+        let chunk = plain(alloc, line)?;
+        match &mut self.copy {
+            Some(copy) if !copy.is_in => {
+                copy.chunks.push(chunk).map_err(AllocError::from)?;
+                Ok(())
+            }
+            _ => Err(Stop::At(Wrong::NoCopy)),
+        }
+    }
+
+    /// Adds a row, which has a value for each column.
+    fn add_row(&mut self, alloc: Global, line: &str) -> Result<(), Stop> {
+        let row = values_of(alloc, &self.columns, line)?;
+        self.rows.push(row).map_err(AllocError::from)?;
+        Ok(())
+    }
+
+    /// Adds a column; rows stand after all of them.
+    fn add_column(&mut self, alloc: Global, line: &str) -> Result<(), Stop> {
+        if !self.rows.is_empty() {
+            return Err(Stop::At(Wrong::LateColumn));
+        }
+        let column = column_of(alloc, line)?;
+        self.columns.push(column).map_err(AllocError::from)?;
+        Ok(())
+    }
+
+    fn add_notice(&mut self, alloc: Global, line: &str) -> Result<(), Stop> {
+        let report = report_of(alloc, "NOTICE", line)?;
+        self.notices.push(report).map_err(AllocError::from)?;
+        Ok(())
+    }
+
+    fn add_notification(&mut self, alloc: Global, line: &str) -> Result<(), Stop> {
+        let notification = pair_of(alloc, line)?;
+        self.notifications
+            .push(notification)
+            .map_err(AllocError::from)?;
+        Ok(())
+    }
+
+    /// Says how the answer ends, once.
+    fn set_end(&mut self, end: End) -> Result<(), Stop> {
+        match self.end {
+            End::Open => {
+                self.end = end;
+                Ok(())
+            }
+            _ => {
+                drop(end);
+                Err(Stop::At(Wrong::SecondEnd))
+            }
+        }
+    }
+
+    /// Adds a field to the last error or notice.
+    fn add_detail(&mut self, alloc: Global, code: u8, line: &str) -> Result<(), Stop> {
+        let value = plain(alloc, line)?;
+        match self.last_report() {
+            Some(report) => {
+                report
+                    .details
+                    .push(Detail { code, value })
+                    .map_err(AllocError::from)?;
+                Ok(())
+            }
+            None => Err(Stop::At(Wrong::NoReport)),
+        }
+    }
+
+    /// Sets the severity of the last error or notice.
+    fn set_severity(&mut self, word: &str) -> Result<(), Stop> {
+        let severity = severity_of(word)?;
+        match self.last_report() {
+            Some(report) => {
+                report.severity = severity;
+                Ok(())
+            }
+            None => Err(Stop::At(Wrong::NoReport)),
+        }
+    }
+
+    /// Adds what a further line says.
+    fn add_part(&mut self, alloc: Global, word: &str, rest: &str) -> Result<(), Stop> {
+        match word {
+            "detail" => self.add_detail(alloc, b'D', rest),
+            "hint" => self.add_detail(alloc, b'H', rest),
+            "position" => {
+                count_of(rest)?;
+                self.add_detail(alloc, b'P', rest)
+            }
+            "severity" => self.set_severity(rest),
+            "notify" => self.add_notification(alloc, rest),
+            "copy" => {
+                self.copy = Some(copy_of(alloc, rest)?);
+                Ok(())
+            }
+            "data" => self.add_chunk(alloc, rest),
+            "close" => {
+                self.cut = Some(usize::MAX);
+                Ok(())
+            }
+            "cut" => {
+                self.cut = Some(count_of(rest)?);
+                Ok(())
+            }
+            _ => Err(Stop::At(Wrong::Word)),
+        }
+    }
+
+    /// Adds what a line says.
+    fn add(&mut self, alloc: Global, word: &str, rest: &str) -> Result<(), Stop> {
+        match word {
+            "parameters" => {
+                self.parameters = types_of(alloc, rest)?;
+                Ok(())
+            }
+            "column" => self.add_column(alloc, rest),
+            "row" => self.add_row(alloc, rest),
+            "notice" => self.add_notice(alloc, rest),
+            "tag" => self.set_end(End::Tag(plain(alloc, rest)?)),
+            "error" => self.set_end(End::Error(report_of(alloc, "ERROR", rest)?)),
+            "status" => {
+                self.status = Some(status_of(rest)?);
+                Ok(())
+            }
+            _ => self.add_part(alloc, word, rest),
+        }
+    }
+}
+
+/// Begins a statement.
+fn begin(alloc: Global, script: &mut Script, number: usize, rest: &str) -> Result<(), Stop> {
+    let text = plain(alloc, rest)?;
+    if script.find(&text).is_some() {
+        return Err(Stop::At(Wrong::Duplicate));
+    }
+    let text = Vec::from_slice(alloc, trimmed(&text))?;
+    let statement = Statement::new(alloc, number, text);
+    script.statements.push(statement).map_err(AllocError::from)?;
+    Ok(())
+}
+
+/// Reads a line.
+fn read_line(alloc: Global, script: &mut Script, number: usize, line: &str) -> Result<(), Stop> {
+    if line.is_empty() || line.starts_with('#') {
+        return Ok(());
+    }
+    let (word, rest) = line.split_once(' ').unwrap_or((line, ""));
+    match word {
+        "statement" => return begin(alloc, script, number, rest),
+        "setting" => return Ok(script.add_setting(pair_of(alloc, rest)?)?),
+        _ => {}
+    }
+    match script.statements.last_mut() {
+        Some(statement) => statement.add(alloc, word, rest),
+        None => Err(Stop::At(Wrong::NoStatement)),
+    }
+}
+
+/// The fault of a line.
+fn fault_of(number: usize, line: &str, stop: Stop) -> Fault {
+    match place_of(number, line, stop) {
+        Some(place) => Fault::Script(place),
+        None => Fault::Memory,
+    }
+}
+
+/// Reads the lines.
+fn read_lines(alloc: Global, script: &mut Script, text: &str) -> Result<(), Fault> {
+    let mut number = 0usize;
+    for line in text.lines() {
+        number = number.saturating_add(1);
+        match read_line(alloc, script, number, line) {
+            Ok(()) => {}
+            Err(stop) => return Err(fault_of(number, line, stop)),
+        }
+    }
+    match script.open_line() {
+        Some(line) => Err(fault_of(line, "statement", Stop::At(Wrong::NoEnd))),
+        None => Ok(()),
+    }
+}
+
+/// The script of this text.
+///
+/// # Errors
+///
+/// Returns `Script`, with the place of the first fault, and `Memory`.
+pub(crate) fn script_of(alloc: Global, text: &str) -> Result<Script, Fault> {
+    let mut script = Script::new(alloc);
+    read_lines(alloc, &mut script, text)?;
+    Ok(script)
+}

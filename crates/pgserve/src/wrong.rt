@@ -1,0 +1,101 @@
+//! Faults of a script.
+
+use std::alloc::AllocError;
+
+/// Why a line of a script has no meaning.
+#[derive(Clone, Copy, PartialEq, Eq)]
+pub(crate) enum Wrong {
+    /// It begins with no word of scripts.
+    Word,
+    /// It says something of a statement, and none stands above it.
+    NoStatement,
+    Escape,
+    Type,
+    Column,
+    LateColumn,
+    Width,
+    /// A value is none of its column's type.
+    Value,
+    Report,
+    NoReport,
+    Name,
+    Status,
+    Severity,
+    Count,
+    Copy,
+    NoCopy,
+    SecondEnd,
+    NoEnd,
+    Duplicate,
+}
+
+impl Wrong {
+    pub(crate) fn message(self) -> &'static str {
+        match self {
+            Wrong::Word => "no line begins with this word",
+            Wrong::NoStatement => "this line stands below a `statement`",
+            Wrong::Escape => "a backslash stands before \\, n, r or t",
+            Wrong::Type => "no type has this name",
+            Wrong::Column => "a column has a name and, after a space, a type",
+            Wrong::LateColumn => "columns stand above the rows",
+            Wrong::Width => "a row has a value for each column, with a tab between two",
+            Wrong::Value => "the value is none of its column's type",
+            Wrong::Report =>
+                "an SQLSTATE of five letters or digits, a space and a message stand here",
+            Wrong::NoReport => "this line stands below an `error` or a `notice`",
+            Wrong::Name => "a name and, after a space, a text stand here",
+            Wrong::Status => "a status is idle, transaction or failed",
+            Wrong::Severity =>
+                "a severity is ERROR, FATAL, PANIC, WARNING, NOTICE, DEBUG, INFO or LOG",
+            Wrong::Count => "a number stands here",
+            Wrong::Copy => "in or out, text or binary, and the number of columns stand here",
+            Wrong::NoCopy => "this line stands below `copy out`",
+            Wrong::SecondEnd => "the statement has a tag or an error",
+            Wrong::NoEnd => "the statement has neither a tag nor an error",
+            Wrong::Duplicate => "the statement stands above",
+        }
+    }
+}
+
+/// Why a line isn't read.
+#[derive(Clone, Copy, PartialEq, Eq)]
+pub(crate) enum Stop {
+    Memory,
+    /// By what stands after the first word.
+    At(Wrong),
+    /// By what stands so many bytes further on.
+    In(Wrong, usize),
+}
+
+impl From<AllocError> for Stop {
+    fn from(_: AllocError) -> Stop {
+        Stop::Memory
+    }
+}
+
+/// A fault, and where it stands.
+#[derive(Clone, Copy, PartialEq, Eq)]
+pub(crate) struct Place {
+    pub(crate) line: usize,
+    /// The byte in the line, from 1 on.
+    pub(crate) column: usize,
+    pub(crate) wrong: Wrong,
+}
+
+/// Where a fault of the line stands; `None` where memory was lacking.
+pub(crate) fn place_of(number: usize, line: &str, stop: Stop) -> Option<Place> {
+    let (word, _) = line.split_once(' ').unwrap_or((line, ""));
+    let rest = word.len().saturating_add(2);
+    let (wrong, column) = match stop {
+        Stop::Memory => return None,
+        Stop::At(Wrong::Word) => (Wrong::Word, 1),
+        Stop::At(Wrong::NoStatement) => (Wrong::NoStatement, 1),
+        Stop::At(wrong) => (wrong, rest),
+        Stop::In(wrong, further) => (wrong, rest.saturating_add(further)),
+    };
+    Some(Place {
+        line: number,
+        column,
+        wrong,
+    })
+}
