@@ -19,13 +19,15 @@ from . import cancel_request, errors, events
 from ._library import ProtocolError
 from .binding import certificate_hash
 from .connection import METHODS, Connection as Core, LogInError
+from .dbtypes import (BINARY, DATETIME, NUMBER, ROWID, STRING, Binary, Date, DateFromTicks, Time, TimeFromTicks, Timestamp, TimestampFromTicks)
 from .errors import (DatabaseError, DataError, Error, IntegrityError, InterfaceError, InternalError, NotSupportedError, OperationalError, ProgrammingError,
                      Warning)
 from .session import SEND, Flow, Result, Session, count_of
 from .registry import Registry
 
-__all__ = ['Connection', 'Cursor', 'DataError', 'DatabaseError', 'Error', 'IntegrityError', 'InterfaceError', 'InternalError', 'NotSupportedError',
-           'OperationalError', 'ProgrammingError', 'Warning', 'apilevel', 'connect', 'paramstyle', 'threadsafety']
+__all__ = ['BINARY', 'Binary', 'Connection', 'Cursor', 'DATETIME', 'DataError', 'DatabaseError', 'Date', 'DateFromTicks', 'Error', 'IntegrityError',
+           'InterfaceError', 'InternalError', 'NUMBER', 'NotSupportedError', 'OperationalError', 'ProgrammingError', 'ROWID', 'STRING', 'Time', 'TimeFromTicks',
+           'Timestamp', 'TimestampFromTicks', 'Warning', 'apilevel', 'connect', 'paramstyle', 'threadsafety']
 
 apilevel, threadsafety = '2.0', 1
 #: `$1`, `$2`, ..: PEP 249 has no name for the server's own style.

@@ -77,6 +77,11 @@ class Connection:
         """Goes on without encryption, which the server doesn't have."""
         self._open()
 
+    @property
+    def next_number(self) -> int:
+        """The number of the next request."""
+        return self._last + 1
+
     def _number(self) -> int:
         self._last += 1
         return self._last

@@ -34,7 +34,7 @@ class Session:
     def __init__(self, connection: Connection, registry: Optional[Registry] = None, most_statements: int = 256) -> None:
         self.connection, self.registry, self._most = connection, registry or Registry(), most_statements
         self._statements: Dict[str, Statement] = {}
-        self._named = 0
+        self._named, self._first = 0, 0
         self._begin: Optional[str] = None
 
     def begin_first(self, sql: Optional[str]) -> None:
@@ -50,12 +50,18 @@ class Session:
             if isinstance(event, events.Failed):
                 raise errors.of_fields(event.fields)
 
+    def _start(self) -> None:
+        """What was asked before, as by a call that was broken off, is not answered to the calls from here on."""
+        self._first = self.connection.next_number
+
     def _until_ready(self, last: int) -> Generator[Optional[str], events.Event, List[events.Event]]:
         """The events up to the Ready of a request; a server's error is raised then."""
         found: List[events.Event] = []
         failed: Optional[errors.Error] = None
         while True:
             event = yield None
+            if event.request is not None and event.request < self._first:
+                continue
             if isinstance(event, events.Failed):
                 failed = failed or errors.of_fields(event.fields)
                 if event.request is None:
@@ -74,6 +80,7 @@ class Session:
             return kept
         self._named += 1
         name, connection = 's%d' % self._named, self.connection
+        self._start()
         connection.parse(name, sql)
         connection.describe('S', name)
         if len(self._statements) >= self._most:
@@ -113,6 +120,7 @@ class Session:
         """Runs a statement; its rows are values of Python's."""
         statement: Statement = yield from self.prepare(sql)
         self._values(statement, values)
+        self._start()
         self._open()
         number = self._bind(statement, values)
         found = yield from self._until_ready(self.connection.sync())
@@ -124,6 +132,7 @@ class Session:
         kept = list(rows)
         for values in kept:
             self._values(statement, values)
+        self._start()
         self._open()
         numbers = {self._bind(statement, values): index for index, values in enumerate(kept)}
         found = yield from self._until_ready(self.connection.sync())
@@ -137,6 +146,7 @@ class Session:
         """Runs any number of statements as one simple query; their values are texts."""
         if self._begin is not None:
             yield from self.execute('SELECT 1')
+        self._start()
         found = yield from self._until_ready(self.connection.query(sql))
         results: List[Result] = []
         fields: List[Field] = []
@@ -154,6 +164,7 @@ class Session:
     def copy_in(self, sql: str, chunks: Iterable[bytes]) -> Flow:
         """Sends data to a `COPY .. FROM STDIN`; an error of the chunks gives the copy up."""
         connection = self.connection
+        self._start()
         number = connection.query(sql)
         started: Optional[events.Event] = None
         while not isinstance(started, (events.CopyStarted, events.Ready, events.Failed)):
@@ -176,6 +187,7 @@ class Session:
 
     def copy_out(self, sql: str) -> Flow:
         """The data of a `COPY .. TO STDOUT`, a row each."""
+        self._start()
         found = yield from self._until_ready(self.connection.query(sql))
         return [event.data for event in found if isinstance(event, events.CopyBytes)]
 
