@@ -18,7 +18,7 @@ use Rattle.pgp_base.specs.declared.error.Error.TheVariants.{OutOfMemory}
 use Rattle.pgp_client.specs.Kinds.{request_of}
 use Rattle.pgp_client.specs.Taking.{is_copying}
 use Rattle.pgp_client.specs.declared.request.Request.{Request}
-use Rattle.pgp_session.specs.Connection.{Notes, SendsGiven, Shown, asked_of, is_logged_in, is_longer, longer, may_send, next_name, noted, said, with_out}
+use Rattle.pgp_session.specs.Connection.{Notes, SendsGiven, Shown, asked_of, is_logged_in, is_longer, may_send, next_name, noted, said, with_out}
 use Rattle.pgp_session.specs.declared.connection_error.ConnectionError.{ConnectionError}
 use Rattle.pgp_session.specs.declared.connection_error.ConnectionError.TheVariants.{OutOfMemory as OutOfMemoryThere}
 use Rattle.pgp_session.specs.Login.{Puts}

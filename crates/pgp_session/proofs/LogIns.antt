@@ -10,7 +10,7 @@ use Rattle.pgp_frontend.specs.ClientMessage.{ClientMessage, PasswordMessage, Sas
 use Rattle.pgp_auth.specs.Md5Text.{md5_answer}
 use Rattle.pgp_auth.specs.ScramClient.{Client}
 use Rattle.pgp_session.specs.ScramLogin.{initial}
-use Rattle.pgp_session.specs.Login.{Added, AddsReply, Asking, Nothing, Cleartext, Md5, Sasl, First, Final, Welcome, Other, AnswersFirst, AsksCleartext, AsksMd5, AsksSasl, Hears, HearsDue, LoggedOn, Login, LogsOn, Puts, RepliesFirst, Unsent, NothingAsked, ByCleartext, ByMd5, ScramBegins, ScramGoesOn, ScramEnds, Welcomed, Trusted, VerifiesFinal, WelcomesAt, goes_on, in_phase, is_due}
+use Rattle.pgp_session.specs.Login.{AddsReply, Asking, Nothing, Cleartext, Md5, Sasl, First, Final, Welcome, Other, AnswersFirst, AsksCleartext, AsksMd5, AsksSasl, Hears, HearsDue, LoggedOn, Login, LogsOn, Puts, RepliesFirst, Unsent, NothingAsked, ByCleartext, ByMd5, ScramBegins, ScramGoesOn, ScramEnds, Welcomed, Trusted, VerifiesFinal, WelcomesAt, goes_on, in_phase, is_due}
 use Rattle.pgp_session.specs.declared.connection_error.ConnectionError.{ConnectionError}
 use Rattle.pgp_session.specs.declared.scram_login.LoginPhase.{LoginPhase}
 use Rattle.pgp_session.specs.declared.scram_login.LoginPhase.TheVariants.{AwaitsOffer, AwaitsFirst, AwaitsFinal, AwaitsOk, Done, Over}

@@ -1,6 +1,6 @@
 -- How a client logs in by the ways that it admits, and what it sends.
 -- PostgreSQL manual, "Message Flow": "Start-up"; "SASL Authentication".
-use Rattle.std.specs.Prelude.{◌≡◌, ◌⊎◌, ℕ, Bool, true, false, List, ◌++◌, Option, Some, None, Result, Ok, Err, option_map, codes}
+use Rattle.std.specs.Prelude.{◌≡◌, ◌⊎◌, ℕ, Bool, true, false, List, ◌++◌, Option, Some, None, Result, Ok, Err, option_map}
 use Rattle.std.specs.Borrow.{Bor}
 use Rattle.pgp_base.specs.Cause.{WantsMemory}
 use Rattle.pgp_base.specs.declared.error.Error.{Error}
@@ -19,7 +19,7 @@ use Rattle.pgp_session.specs.declared.login.Asking.TheVariants as code
 use Rattle.pgp_session.specs.declared.login.Login.{Login as Kept}
 use Rattle.pgp_session.specs.declared.login.Ways.{Ways as Given}
 use Rattle.pgp_session.specs.declared.scram_login.LoginPhase.{LoginPhase}
-use Rattle.pgp_session.specs.declared.scram_login.LoginPhase.TheVariants.{AwaitsOffer, AwaitsFirst, AwaitsFinal, AwaitsOk, Done, Over}
+use Rattle.pgp_session.specs.declared.scram_login.LoginPhase.TheVariants.{AwaitsOffer, AwaitsFirst, AwaitsFinal, AwaitsOk, Done}
 
 -- The ways that are admitted: SCRAM-SHA-256 by this exchange, MD5 by this user and password, this password in clear text, and none.
 pub record Ways : Type 0 where

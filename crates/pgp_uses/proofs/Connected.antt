@@ -1,5 +1,5 @@
 -- What a connection's next message is.
-use Rattle.std.proofs.Common.{◌≡◌, ℕ, Bool, true, false, List, Option, Some, None, Result, Ok, Err, refl, sym, ap, subst, ◌∙◌}
+use Rattle.std.proofs.Common.{◌≡◌, ℕ, Bool, true, false, List, Option, Some, None, Ok, sym, subst}
 use Rattle.std.specs.Prelude.{◌⊎◌}
 use Rattle.pgp_client.specs.declared.event.Event.{Event}
 use Rattle.pgp_message.specs.BackendMessage.{Message, DataRow}

@@ -1,4 +1,3 @@
-use Rattle.std.proofs.Common.{rules}
 use Rattle.pgp_message.specs.Views.{view}
 use Rattle.pgp_session.specs.Connection.{shown}
 use Rattle.pgp_uses.proofs.Connected.{is_so, none_given, some_given}

@@ -1,4 +1,4 @@
-use Rattle.std.proofs.Common.{◌≡◌, List, ℕ, rules, refl, sym, ap, ◌∙◌}
+use Rattle.std.proofs.Common.{List, ℕ, rules, refl, ap}
 use Rattle.pgp_message.specs.Views.{view}
 use Rattle.pgp_session.specs.Connection.{OutOfTurn, IsLonger, IsCut, WantsMemory, IsNone, Comes, shown, with_incoming}
 use Rattle.pgp_session.proofs.Connections.{step_memory, step_none, step_some}

@@ -1,4 +1,4 @@
-use Rattle.std.proofs.Common.{◌≡◌, List, ℕ, rules, ap, subst, refl}
+use Rattle.std.proofs.Common.{rules, ap, subst}
 use Rattle.pgp_client.specs.Kinds.{request_of}
 use Rattle.pgp_client.specs.Taking.{is_copying}
 use Rattle.pgp_client.specs.declared.request.Request.TheVariants.{Parse}

@@ -1,9 +1,8 @@
-use Rattle.std.proofs.Common.{◌≡◌, Ok, false, rules, refl, sym, inl, inr, ◌∙◌}
+use Rattle.std.proofs.Common.{refl, sym, inl, inr, ◌∙◌}
 use Rattle.pgp_client.specs.Kinds.{kind_of}
 use Rattle.pgp_client.specs.Talk.{shown as talk_of}
 use Rattle.pgp_client.specs.Taking.{taken}
 use Rattle.pgp_message.specs.Views.{view}
-use Rattle.pgp_session.specs.Connection.{is_end}
 use Rattle.pgp_session.specs.Login.{asking, seen}
 use Rattle.pgp_session.proofs.Connections.{taken_ok}
 use Rattle.pgp_session.proofs.LogIns.{logs_on}
