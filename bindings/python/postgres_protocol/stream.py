@@ -3,8 +3,8 @@ import ctypes
 from ctypes import POINTER, Structure, byref, c_bool, c_int16, c_int32, c_size_t, c_uint8, c_uint32, c_void_p
 from typing import Any, Callable, Iterable, Optional, Sequence, Tuple
 
-from ._library import (INT32, NO_ROOM, OK, TEXT, Bytes, Pair, ProtocolError, Value, arguments, as_bytes, as_formats, as_integer, as_types, as_values, declare, flat, text)
-from .writing import VERSION_3_0, pairs_of
+from ._library import INT32, NO_ROOM, OK, TEXT, Bytes, Pair, ProtocolError, Value, arguments, as_bytes, as_integer, declare, flat
+from .writing import VERSION_3_0, bind_words, pairs_of, parse_words
 
 
 class _Stream(Structure):
@@ -84,7 +84,7 @@ class Stream:
     def startup(self, pairs: Iterable[Tuple[Bytes, Bytes]], version: int = VERSION_3_0) -> None:
         """Opens the session."""
         array, kept = pairs_of(pairs)
-        self._send(_startup, as_integer(version, 'version', *INT32), array, len(kept))  # type: ignore[arg-type]
+        self._send(_startup, as_integer(version, 'version', *INT32), array, len(kept))
 
     def password_message(self, password: Bytes) -> None:
         """A password, or the answer to an MD5 request."""
@@ -104,17 +104,13 @@ class Stream:
 
     def parse(self, name: Bytes, sql: Bytes, types: Sequence[int] = ()) -> None:
         """Prepares a statement."""
-        one, two, array = as_bytes(name, 'name'), as_bytes(sql, 'sql'), as_types(types)
-        self._send(_parse, *text(one), *text(two), array, len(array))
+        words, _kept = parse_words(name, sql, types)
+        self._send(_parse, *words)
 
     def bind(self, portal: Bytes, statement: Bytes, formats: Sequence[int], values: Sequence[Optional[Bytes]], result_formats: Sequence[int] = ()) -> None:
         """Binds values to a statement's parameters."""
-        one, two = as_bytes(portal, 'portal'), as_bytes(statement, 'statement')
-        kept = [None if v is None else as_bytes(v, 'values') for v in values]
-        if len(formats) not in (0, 1, len(kept)):
-            raise ValueError('formats: none, one or %d are expected, not %d' % (len(kept), len(formats)))
-        array, f, r = as_values(kept), as_formats(formats, 'formats'), as_formats(result_formats, 'result_formats')
-        self._send(_bind, *text(one), *text(two), f, len(f), array, len(array), r, len(r))
+        words, _kept = bind_words(portal, statement, formats, values, result_formats)
+        self._send(_bind, *words)
 
     def describe(self, variant: str, name: Bytes) -> None:
         """Asks for the parameters and columns of a statement ('S') or a portal ('P')."""

@@ -1,6 +1,6 @@
 """The messages that a client sends, each as its bytes."""
 from ctypes import POINTER, c_int16, c_int32, c_size_t, c_uint32
-from typing import Iterable, Optional, Sequence, Tuple
+from typing import Any, Iterable, List, Optional, Sequence, Tuple
 
 from ._library import (INT32, OUT, TEXT, Bytes, Pair, Value, as_bytes, as_formats, as_integer, as_types, as_values, declare, text, writer, written)
 
@@ -98,23 +98,36 @@ def execute(portal: Bytes, max_rows: int = 0) -> bytes:
     return _execute(portal, as_integer(max_rows, 'max_rows', 0, INT32[1]))
 
 
+def parse_words(name: Bytes, sql: Bytes, types: Sequence[int]) -> Tuple[Tuple[Any, ...], object]:
+    """The arguments in C of a Parse, and what holds their bytes."""
+    one, two, array = as_bytes(name, 'name'), as_bytes(sql, 'sql'), as_types(types)
+    return (*text(one), *text(two), array, len(array)), (one, two)
+
+
 def parse(name: Bytes, sql: Bytes, types: Sequence[int] = ()) -> bytes:
     """Prepares a statement of this name; 0 in the place of a type leaves it to the server."""
-    one, two, array = as_bytes(name, 'name'), as_bytes(sql, 'sql'), as_types(types)
-    return written(lambda *out: _parse(*text(one), *text(two), array, len(array), *out))
+    words, _kept = parse_words(name, sql, types)
+    return written(lambda *out: _parse(*words, *out))
 
 
-def bind(portal: Bytes, statement: Bytes, formats: Sequence[int], values: Sequence[Optional[Bytes]], result_formats: Sequence[int] = ()) -> bytes:
-    """Binds values, of which None is a null; a format is 0 for text and 1 for binary: none, one for all, or one for each."""
+def bind_words(portal: Bytes, statement: Bytes, formats: Sequence[int], values: Sequence[Optional[Bytes]],
+               result_formats: Sequence[int]) -> Tuple[Tuple[Any, ...], object]:
+    """The arguments in C of a Bind, and what holds their bytes."""
     one, two = as_bytes(portal, 'portal'), as_bytes(statement, 'statement')
     kept = [None if v is None else as_bytes(v, 'values') for v in values]
     if len(formats) not in (0, 1, len(kept)):
         raise ValueError('formats: none, one or %d are expected, not %d' % (len(kept), len(formats)))
     array, f, r = as_values(kept), as_formats(formats, 'formats'), as_formats(result_formats, 'result_formats')
-    return written(lambda *out: _bind(*text(one), *text(two), f, len(f), array, len(array), r, len(r), *out))
+    return (*text(one), *text(two), f, len(f), array, len(array), r, len(r)), (one, two, kept)
 
 
-def pairs_of(pairs: Iterable[Tuple[Bytes, Bytes]]) -> Tuple[object, object]:
+def bind(portal: Bytes, statement: Bytes, formats: Sequence[int], values: Sequence[Optional[Bytes]], result_formats: Sequence[int] = ()) -> bytes:
+    """Binds values, of which None is a null; a format is 0 for text and 1 for binary: none, one for all, or one for each."""
+    words, _kept = bind_words(portal, statement, formats, values, result_formats)
+    return written(lambda *out: _bind(*words, *out))
+
+
+def pairs_of(pairs: Iterable[Tuple[Bytes, Bytes]]) -> Tuple[Any, List[Tuple[bytes, bytes]]]:
     """An array of names and values, and what holds their bytes."""
     kept = [(as_bytes(a, 'name'), as_bytes(b, 'value')) for a, b in pairs]
     return (Pair * len(kept))(*(Pair(*text(a), *text(b)) for a, b in kept)), kept
@@ -123,4 +136,4 @@ def pairs_of(pairs: Iterable[Tuple[Bytes, Bytes]]) -> Tuple[object, object]:
 def startup(pairs: Iterable[Tuple[Bytes, Bytes]], version: int = VERSION_3_0) -> bytes:
     """Opens a session with these names and values, among them `user`."""
     array, kept = pairs_of(pairs)
-    return written(lambda *out: _startup(as_integer(version, 'version', *INT32), array, len(kept), *out))  # type: ignore[arg-type]
+    return written(lambda *out: _startup(as_integer(version, 'version', *INT32), array, len(kept), *out))
