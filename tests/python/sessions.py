@@ -6,7 +6,7 @@ import threading
 
 import postgres_protocol as pg
 from postgres_protocol import aio, client, events
-from postgres_protocol.connection import Connection, LogInError
+from postgres_protocol.connection import Connection, DecodeError, LogInError
 from server import frame
 
 READY, AUTHENTICATED = frame(b'Z', b'I'), frame(b'R', b'\0\0\0\0')
@@ -81,6 +81,11 @@ def check_requests(same, raises):
     connection.receive_data(frame(b'2', b'') + ROW * 3 + frame(b'C', b'SELECT 3\0') + READY)
     got = events_of(connection)
     same('rows', got[1:], [events.Rows(asked, [(7, 'hello')] * 3), events.CommandCompleted(asked, 'SELECT 3'), events.Ready(last, 'I')])
+    asked = connection.execute('', 0, (4, lambda data: 1 // 0))
+    last = connection.sync()
+    connection.receive_data(ROW * 3 + frame(b'C', b'SELECT 3\0') + READY)
+    raises('a decoder that raises', DecodeError, 'a value in the rows of request %d: ' % asked, connection.next_event)
+    same('its rows are skipped', events_of(connection), [events.CommandCompleted(asked, 'SELECT 3'), events.Ready(last, 'I')])
     failing, after = connection.query('SELECT x'), connection.query('SELECT 1')
     connection.receive_data(frame(b'E', b'SERROR\0C42703\0Mno x\0\0') + READY + frame(b'C', b'SELECT 1\0') + READY)
     got = events_of(connection)

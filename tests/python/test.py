@@ -138,6 +138,7 @@ def readers():
     same('rows by a function', pg.rows(whole, (four, len)), ([(5, None), (-1, 3)], 41))
     same('rows from a place on', pg.rows(whole, (raw, raw), 19), ([(b'\xff\xff\xff\xff', b'abc')], 41))
     same('no rows', pg.rows(whole, (raw, raw), 41), ([], 41))
+    same('no UTF-8', pg.rows(b'D\0\0\0\x0c\0\1\0\0\0\2a\xff', (text,)), ([('a\udcff',)], 13))
     for end in range(42):
         same('rows of a front, %d' % end, pg.rows(whole[:end], (four, text))[1], 0 if end < 19 else 19 if end < 41 else 41)
     refused('rows, a short one', 'UnexpectedEof', lambda: pg.rows(short, (raw,)), 7)

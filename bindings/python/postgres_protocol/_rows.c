@@ -101,7 +101,7 @@ static PyObject *object(PyObject *decoder, long kind, const uint8_t *bytes, cons
         return value;
     }
     if (kind == AS_BYTES) return PyBytes_FromStringAndSize((const char *)first, (Py_ssize_t)len);
-    if (kind == AS_TEXT) return PyUnicode_DecodeUTF8((const char *)first, (Py_ssize_t)len, NULL);
+    if (kind == AS_TEXT) return PyUnicode_DecodeUTF8((const char *)first, (Py_ssize_t)len, "surrogateescape");
     return fixed((int)kind, first, len, column->start);
 }
 

@@ -13,8 +13,8 @@ from typing import Any, Iterable, List, Optional, Sequence
 from . import events
 from ._library import ProtocolError
 from .binding import certificate_hash
-from .connection import METHODS, Connection as Core, LogInError
-from .errors import InterfaceError, OperationalError
+from .connection import METHODS, Connection as Core, DecodeError, LogInError
+from .errors import DataError, InterfaceError, OperationalError
 from .session import SEND, Flow, Result, Session
 from .registry import Registry
 
@@ -68,6 +68,8 @@ class Connection:
                         wanted = flow.send(await self._event())
             except StopIteration as done:
                 return done.value
+            except DecodeError as error:
+                raise DataError(str(error)) from error
             except (ProtocolError, LogInError) as error:
                 self._end()
                 raise OperationalError('the server sent what it may not: %s' % error) from error

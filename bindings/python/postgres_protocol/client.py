@@ -18,7 +18,7 @@ from typing import Any, Iterable, Iterator, List, Optional, Sequence, Tuple, Typ
 from . import cancel_request, errors, events
 from ._library import ProtocolError
 from .binding import certificate_hash
-from .connection import METHODS, Connection as Core, LogInError
+from .connection import METHODS, Connection as Core, DecodeError, LogInError
 from .dbtypes import (BINARY, DATETIME, NUMBER, ROWID, STRING, Binary, Date, DateFromTicks, Time, TimeFromTicks, Timestamp, TimestampFromTicks)
 from .errors import (DatabaseError, DataError, Error, IntegrityError, InterfaceError, InternalError, NotSupportedError, OperationalError, ProgrammingError,
                      Warning)
@@ -267,6 +267,8 @@ class Connection:
                 wanted = next(flow) if wanted == SEND else flow.send(self._event())
         except StopIteration as done:
             return done.value
+        except DecodeError as error:
+            raise DataError(str(error)) from error
         except (ProtocolError, LogInError) as error:
             self._end()
             raise OperationalError('the server sent what it may not: %s' % error) from error

@@ -27,6 +27,10 @@ class LogInError(Exception):
     """The log-in asks for what isn't admitted, or the server doesn't show that it knows the password."""
 
 
+class DecodeError(ValueError):
+    """A value that came can't be decoded, as a date past the year 9999. Its rows are skipped, and the connection goes on."""
+
+
 def _words(message: Message) -> Dict[str, str]:
     """An error's fields, by their letters."""
     return {letter: value.decode(errors='replace') for letter, value in error_fields(message)}
@@ -224,7 +228,13 @@ class Connection:
 
     def _rows(self, message: Message, taken: Taken) -> events.Event:
         decoders = self._decoders.get(taken.request or 0) or (DECODERS['bytes'],) * message.count
-        found, self._at = rows(self._data, decoders, message.at)
+        try:
+            found, self._at = rows(self._data, decoders, message.at)
+        except ProtocolError:
+            raise
+        except Exception as error:
+            _, self._at = rows(self._data, (DECODERS['bytes'],) * message.count, message.at)
+            raise DecodeError('a value in the rows of request %s: %s' % (taken.request, error)) from error
         if len(found) > 1:
             self._dialogue.take('DataRow')
         return events.Rows(taken.request, found)

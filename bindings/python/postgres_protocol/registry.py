@@ -140,7 +140,7 @@ def _put_bits(value: str) -> bytes:
 def _text(value: Any) -> bytes:
     if not isinstance(value, str):
         raise TypeError('a str is expected, not %s' % type(value).__name__)
-    return value.encode()
+    return value.encode(errors='surrogateescape')
 
 
 def _bytes(value: Any) -> bytes:
