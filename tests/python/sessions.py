@@ -1,6 +1,7 @@
 """A connection without input or output, fed with a server's bytes worked by hand from the manual's "Message Flow"; and the clients over it, with a
 server that plays such bytes."""
 import asyncio
+import random
 import socket
 import threading
 
@@ -12,6 +13,7 @@ from server import frame
 READY, AUTHENTICATED = frame(b'Z', b'I'), frame(b'R', b'\0\0\0\0')
 SASL = frame(b'R', b'\0\0\0\x0aSCRAM-SHA-256\0\0')
 DESCRIBED = frame(b'T', b'\0\2' + b'id\0' + b'\0' * 6 + b'\0\0\0\x17\0\4\xff\xff\xff\xff\0\0' + b'name\0' + b'\0' * 6 + b'\0\0\0\x19\xff\xff\xff\xff\xff\xff\0\0')
+ONE = frame(b'T', b'\0\1' + b'x\0' + b'\0' * 6 + b'\0\0\0\x19\xff\xff\xff\xff\xff\xff\0\0')
 ROW = frame(b'D', b'\0\2\0\0\0\4\0\0\0\7\0\0\0\5hello')
 
 
@@ -96,9 +98,37 @@ def check_requests(same, raises):
     same('a notification', events_of(connection), [events.Notification(None, 1, 'chan', 'text')])
     connection.receive_data(ROW)
     raises('a row that answers nothing', pg.ProtocolError, 'Unexpected', connection.next_event)
+    connection = connected()
+    connection.query('SELECT long')
+    long = ONE + frame(b'D', b'\0\1' + (100000).to_bytes(4, 'big') + b'x' * 100000) + frame(b'C', b'SELECT 1\0') + READY
+    got = []
+    for at in range(0, len(long), 777):
+        connection.receive_data(long[at:at + 777])
+        got += events_of(connection)
+    same('a long row in pieces', [type(e).__name__ for e in got], ['Columns', 'Rows', 'CommandCompleted', 'Ready'])
     connection = connected(max_message=100)
     connection.receive_data(b'D\0\0\1\0')
     raises('a message past the limit', pg.ProtocolError, 'TooLarge', connection.next_event)
+
+
+def check_mutations(same, raises):
+    """Bytes of a session replaced at random, and in pieces of any size: a connection ends, and raises what its pages name."""
+    draw, ended = random.Random(1), 0
+    good = DESCRIBED + ROW * 3 + frame(b'C', b'SELECT 3\0') + READY
+    for _ in range(2000):
+        connection, data = connected(), bytearray(good)
+        connection.query('SELECT')
+        for _ in range(draw.randrange(5)):
+            data[draw.randrange(len(data))] = draw.randrange(256)
+        try:
+            while data:
+                size = draw.randrange(1, 60)
+                connection.receive_data(bytes(data[:size]))
+                del data[:size]
+                events_of(connection)
+        except (pg.ProtocolError, DecodeError, UnicodeDecodeError):
+            ended += 1
+    same('some were rejected, and some taken', 200 < ended < 1800, True)
 
 
 def play(listening, answers, seen):
@@ -163,5 +193,5 @@ def check_asyncio(same, raises):
 
 def check_sessions(same, raises):
     """All of them."""
-    for check in (check_log_in, check_encryption, check_requests, check_client, check_asyncio):
+    for check in (check_log_in, check_encryption, check_requests, check_mutations, check_client, check_asyncio):
         check(same, raises)

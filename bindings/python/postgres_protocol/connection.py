@@ -196,8 +196,6 @@ class Connection:
             message = next(messages(self._data, self._at), None)
             if message is None:
                 self._needed()
-                if self._more:
-                    continue
                 return None
             event = self._event(message)
             if event is not None:
