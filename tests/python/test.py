@@ -143,6 +143,7 @@ def readers():
         same('rows of a front, %d' % end, pg.rows(whole[:end], (four, text))[1], 0 if end < 19 else 19 if end < 41 else 41)
     refused('rows, a short one', 'UnexpectedEof', lambda: pg.rows(short, (raw,)), 7)
     refused('rows, an int4 of 3 bytes', 'UnexpectedEof', lambda: pg.rows(second, (raw, four)), 19)
+    same('rows, another number of values', pg.rows(second + short, (raw, raw)), ([(b'\xff\xff\xff\xff', b'abc')], 22))
     raises('rows, fewer decoders', ValueError, 'decoders: a row has 2 values, and there are 1', lambda: pg.rows(whole, (raw,)))
     raises('rows, no decoder', ValueError, 'decoders: a number that no decoder has', lambda: pg.rows(whole, (raw, 99)))
     raises('rows, a place outside', ValueError, 'at: 99 is no place', lambda: pg.rows(whole, (raw, raw), 99))

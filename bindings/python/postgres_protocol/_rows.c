@@ -113,9 +113,6 @@ static PyObject *row(PyObject *decoders, const long *kinds, Py_ssize_t count, co
     Py_ssize_t i;
     pgp_status status;
     PyObject *row;
-    if (count != (Py_ssize_t)m->parts.count) {
-        return PyErr_Format(PyExc_ValueError, "decoders: a row has %zu values, and there are %zd decoders", m->parts.count, count);
-    }
     cursor.at = m->parts.first.at;
     cursor.end = m->parts.first.at + m->parts.first.len;
     cursor.left = m->parts.count;
@@ -160,10 +157,14 @@ static PyObject *read_rows(const uint8_t *bytes, size_t len, size_t at, PyObject
     struct pgp_message m;
     PyObject *found = PyList_New(0);
     if (found == NULL) return NULL;
-    /* (tags are looked at first: other messages are the caller's) */
+    /* (tags are looked at first: other messages are the caller's; so is a row of another number of values after others) */
     while (at < len && bytes[at] == 'D' && pgp_front(bytes + at, len - at, &m) == PGP_OK) {
-        PyObject *next = row(decoders, kinds, count, bytes + at, &m);
-        int failed = next == NULL || PyList_Append(found, next) != 0;
+        PyObject *next;
+        int failed, differs = (Py_ssize_t)m.parts.count != count;
+        if (differs && PyList_Size(found) > 0) break;
+        next = differs ? PyErr_Format(PyExc_ValueError, "decoders: a row has %zu values, and there are %zd decoders", m.parts.count, count)
+                       : row(decoders, kinds, count, bytes + at, &m);
+        failed = next == NULL || PyList_Append(found, next) != 0;
         Py_XDECREF(next);
         if (failed) {
             Py_DECREF(found);
@@ -210,7 +211,7 @@ static PyMethodDef methods[] = {
     {"rows", rows, METH_VARARGS,
      "rows(data, decoders, at=0): the rows of the DataRow messages from a place on, each a tuple, and the place after them.\n\n"
      "`decoders` is a tuple with one entry for each column: a number of `postgres_protocol.registry`, or a function that is called with the value's\n"
-     "bytes. A null is None. Reading stops at the first message that isn't a DataRow or isn't complete."},
+     "bytes. A null is None. Reading stops at the first message that isn't a DataRow of so many values or isn't complete."},
     {"setup", setup, METH_VARARGS, NULL},
     {NULL, NULL, 0, NULL},
 };

@@ -226,6 +226,8 @@ class Connection:
 
     def _rows(self, message: Message, taken: Taken) -> events.Event:
         decoders = self._decoders.get(taken.request or 0) or (DECODERS['bytes'],) * message.count
+        if len(decoders) != message.count:
+            raise ProtocolError(11)
         try:
             found, self._at = rows(self._data, decoders, message.at)
         except ProtocolError:
