@@ -34,7 +34,7 @@ PLACES = [
 
 
 # Where a buffer's own method `as_slice` is called: crates.io's buffers have none.
-SLICED = {'pgp_message/parser', 'pgp_message/frames'}
+SLICED = {'pgp_message/parser', 'pgp_message/frames', 'pgp_session/connection'}
 
 
 def without_drop_bounds(text):
