@@ -77,7 +77,7 @@ class _Socket:
         while rest:
             try:
                 rest = rest[self._sock.send(rest):]
-            except (BlockingIOError, tls.SSLWantWriteError):
+            except (BlockingIOError, tls.SSLWantWriteError, tls.SSLWantReadError):
                 if select.select([self._sock], [self._sock], [])[0]:
                     self.read(0)
             except OSError as error:
