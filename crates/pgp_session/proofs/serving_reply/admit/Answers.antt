@@ -2,7 +2,7 @@ use Rattle.std.proofs.Common.{Err}
 use Rattle.pgp_message_write.specs.Reply.{bytes_of, cause}
 use Rattle.pgp_session.specs.Serving.{admission, signature}
 use Rattle.pgp_session.proofs.Replies.{admission_said, both_said, first_unsaid, second_unsaid}
-use Rattle.pgp_session.proofs.serving.admit.Goals as goal
+use Rattle.pgp_session.proofs.serving_reply.admit.Goals as goal
 
 pub returns-in_err-authentication_sasl_final : goal.returns-in_err-authentication_sasl_final
 returns-in_err-authentication_sasl_final g c =

@@ -2,7 +2,7 @@ use Rattle.std.proofs.Common.{rules, codes}
 use Rattle.pgp_base.specs.Walk.{TakesItem}
 use Rattle.pgp_frontend_read.specs.Whole.{plain}
 use Rattle.pgp_session.proofs.StartupNames.{none_named, one_named}
-use Rattle.pgp_session.proofs.serving.startup_names.Goals as goal
+use Rattle.pgp_session.proofs.startup_names.startup_names.Goals as goal
 
 pub pairs-init : goal.pairs-init
 pairs-init c = record { user = none_named (codes "user") (plain c.args.parameters); database = none_named (codes "database") (plain c.args.parameters) }

@@ -2,7 +2,7 @@ use Rattle.std.proofs.Common.{codes, length}
 use Rattle.std.specs.Prelude.{option_map}
 use Rattle.pgp_frontend_read.specs.Whole.{plain}
 use Rattle.pgp_session.proofs.StartupNames.{HasNamed}
-use Rattle.pgp_session.proofs.serving.startup_names.Given as goal
+use Rattle.pgp_session.proofs.startup_names.startup_names.Given as goal
 
 abbrev pub invariant-pairs : goal.invariant-pairs
 invariant-pairs l = record {
