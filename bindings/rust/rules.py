@@ -26,10 +26,15 @@ PLACES = [
     ('pgp_base/texts', 1, 'use pgp_text::is_text;\n', ''),
     ('pgp_base/texts', 1, '    if is_text(bytes) {\n        Ok(unsafe { str::from_utf8_unchecked(bytes) })\n    } else {\n        Err(Error::NotUtf8)\n    }\n',
      '    match str::from_utf8(bytes) {\n        Ok(text) => Ok(text),\n        Err(_) => Err(Error::NotUtf8),\n    }\n'),
-    ('pgp_base/buffer', 2, 'self.as_mut_slice()', '&mut self[..]'),
+    ('pgp_base/buffer', 1, '        let all = self.as_mut_slice();\n        all[place..place + over.len()].copy_from_slice(over);\n',
+     '        self[place..][..over.len()].copy_from_slice(over);\n'),
+    ('pgp_base/buffer', 1, 'self.as_mut_slice()', '&mut self[..]'),
     ('pgp_base/buffer', 1, 'BytesMut::as_slice(self)', '&self[..]'),
     ('pgp_base/walk', 1, 'final fn', 'fn'),
     ('pgp_frontend/copy', 1, 'pub struct CopyData<T: Buf>', 'pub struct CopyData<T>'),
+    # The adapter compiles these for single tags.
+    ('pgp_message/message', 1, '    pub fn parse(', '    #[inline(always)]\n    pub fn parse('),
+    ('pgp_message/parser', 1, '    pub fn parse(', '    #[inline(always)]\n    pub fn parse('),
 ]
 
 
