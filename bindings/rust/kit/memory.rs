@@ -1,7 +1,8 @@
 //! The methods of the sources' trait `Memory`, at the global allocator.
 
 use super::base64::{self, DecodeAllocError};
-use super::{AllocError, AllocFailed, Global, hex};
+use super::later::DividedUp as _;
+use super::{hex, AllocError, AllocFailed, Global};
 use ::bytes::{Buf, BufMut, Bytes, BytesMut};
 use std::collections::{TryReserveError, VecDeque};
 use std::fmt::Display;
@@ -113,7 +114,7 @@ impl Global {
     }
 
     pub fn push_base64(text: &mut String, bytes: &[u8]) -> Made<()> {
-        made(text.try_reserve(bytes.len().div_ceil(3).saturating_mul(4)))?;
+        made(text.try_reserve(bytes.len().divided_up(3).saturating_mul(4)))?;
         base64::append(bytes, text);
         Ok(())
     }
