@@ -2,7 +2,7 @@
 # `make program` proves and builds the program, which `make run` and `./pgwire` run from then on.
 # `make edits`, before a release, tries every wrong body by itself, `make edits CRATES=pgp_base` those of one crate.
 # `make live` tries SASLprep, and what psql, pgbench and pg_dump send, with a PostgreSQL server of this machine, which it starts and stops; pgserve with psql, pgbench, drivers, and beside that server;
-# examples/record.sh, which lists a session of psql with pgtrace, and examples/pcap.py; binary values, and programs over them; the Python package.
+# examples/record.sh, which lists a session of psql with pgtrace, and examples/pcap.py; binary values, and programs over them; the Rust package under tokio-postgres; the Python package.
 # `make library` proves and builds the library for C (docs/C.md), `make install PREFIX=..` puts it and the program there, and
 # `make check-c` tries it from C, C++ and Python (`LIBRARIES=gate`, right behind `rt ci`, takes the libraries below it from there).
 # `make wheel` builds the Python package over it (docs/PYTHON.md).
@@ -50,6 +50,7 @@ live:
 	@rm -rf out/venv && python3 -m venv --system-site-packages out/venv && out/venv/bin/pip install -q --no-index out/wheel/*.whl
 	@out/venv/bin/python scripts/live_values
 	@scripts/live_programs
+	@scripts/live_rust
 	@out/venv/bin/python scripts/live_python
 	@out/venv/bin/python scripts/live_dialogue
 

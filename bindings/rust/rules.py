@@ -19,6 +19,11 @@ NAMES = [
     ('use unicode_normalization::to_nfkc;', 'use crate::kit::to_nfkc;'),
     ('use thiserror::Error as DeriveError;\n', ''),
     ('#[rattlefmt::skip]\n', ''),
+    # Of a later Rust than the package's.
+    ('.cast_unsigned()', '.bits()'),
+    ('.cast_signed()', '.number()'),
+    ('.div_ceil(', '.divided_up('),
+    ('.split_first_chunk()', '.first_block()'),
 ]
 
 # Single places: file, how often, text, its substitute.
@@ -26,10 +31,18 @@ PLACES = [
     ('pgp_base/texts', 1, 'use pgp_text::is_text;\n', ''),
     ('pgp_base/texts', 1, '    if is_text(bytes) {\n        Ok(unsafe { str::from_utf8_unchecked(bytes) })\n    } else {\n        Err(Error::NotUtf8)\n    }\n',
      '    match str::from_utf8(bytes) {\n        Ok(text) => Ok(text),\n        Err(_) => Err(Error::NotUtf8),\n    }\n'),
-    ('pgp_base/buffer', 2, 'self.as_mut_slice()', '&mut self[..]'),
+    ('pgp_base/buffer', 1, '        let all = self.as_mut_slice();\n        all[place..place + over.len()].copy_from_slice(over);\n',
+     '        self[place..][..over.len()].copy_from_slice(over);\n'),
+    ('pgp_base/buffer', 1, 'self.as_mut_slice()', '&mut self[..]'),
     ('pgp_base/buffer', 1, 'BytesMut::as_slice(self)', '&self[..]'),
     ('pgp_base/walk', 1, 'final fn', 'fn'),
     ('pgp_frontend/copy', 1, 'pub struct CopyData<T: Buf>', 'pub struct CopyData<T>'),
+    # Before Rust 1.89 these temporaries don't outlive their `let`.
+    ('pgp_message_write/row', 1, '        let fields = [\n', '        put_fields(&[\n'),
+    ('pgp_message_write/row', 1, '        ];\n        put_fields(&fields, buf)\n', '        ], buf)\n'),
+    # The adapter compiles these for single tags.
+    ('pgp_message/message', 1, '    pub fn parse(', '    #[inline(always)]\n    pub fn parse('),
+    ('pgp_message/parser', 1, '    pub fn parse(', '    #[inline(always)]\n    pub fn parse('),
 ]
 
 
@@ -83,6 +96,27 @@ impl std::error::Error for {m[3]} {{}}
     return text
 
 
+LET_ELSE = re.compile(r'^( *)let ((?:[^=;{]|\n)*?) = ((?:[^;{}]|\n)*?)\s+else \{', re.M)
+
+
+def without_let_else(text):
+    """`let PATTERN = VALUE else { .. };`, which is of Rust 1.65, as a `match`."""
+    while let := LET_ELSE.search(text):
+        indent, pattern, value = let.groups()
+        names = [name for name in re.findall(r'\b((?:mut )?[a-z]\w*)\b(?![(:{])', pattern) if not name.startswith('_')]
+        if re.search(r'[^\w\s(),\[\]@.:]', pattern) or not names:
+            raise Unknown(f'no rule for this `let .. else`: {let[0].strip()}')
+        end = after_brace(text, let.end() - 1)
+        if text[end] != ';':
+            raise Unknown(f'no end of this `let .. else`: {let[0].strip()}')
+        tuple_of = lambda items: items[0] if len(items) == 1 else '(' + ', '.join(items) + ')'
+        bare = [name.replace('mut ', '') for name in names]
+        body = text[let.end() - 1:end].replace('\n', '\n    ')
+        text = (f'{text[:let.start()]}{indent}let {tuple_of(names)} = match {value} {{\n{indent}    {pattern.replace("mut ", "")} => {tuple_of(bare)},\n'
+                f'{indent}    _ => {body}\n{indent}}}{text[end:]}')
+    return text
+
+
 def inlined(text):
     """`#[inline]` before each function without a hint: without it what isn't generic can't be inlined in other crates."""
     hints = ['#[inline]\n', '#[inline(always)]\n', '#[inline(never)]\n', '    #[inline(always)]\n', '    #[inline(never)]\n', '    #[inline]\n', '#[cold]\n', '    #[cold]\n']
@@ -115,7 +149,7 @@ def single_places(text, name, used):
 
 # What no package may have: a rule is wanted.
 LEFT = re.compile(r'\b(ghost|requires|ensures|decreases|Model|tactic|Memory|Allocator|allocator|rattlefmt|laws|unsafe|DeriveError|simdutf8|final fn)\b'
-                  r'|\+ Drop\b|: Drop\b|\bA::|\bA>|<A\b|: A\b')
+                  r'|\+ Drop\b|: Drop\b|\bA::|\bA>|<A\b|: A\b|(?<!\} )\belse(?= \{)')
 FOREIGN = re.compile(r'^(?:pub )?use (\w+)::')
 CRATES = {'std', 'crate', 'self', 'super', 'bytes', 'memchr', 'byteorder'}
 
@@ -137,7 +171,7 @@ def fit(text, crate, name, used):
         text = text.replace(old, new)
     text = re.sub(r'(?<!&)\bBytes::as_slice\(self\)', '&self[..]', text)
     text = single_places(text, name, used)
-    text = in_one_crate(inlined(shown_errors(text)), crate)
+    text = in_one_crate(inlined(shown_errors(without_let_else(text))), crate)
     top = re.match(r'(?:(?://[^\n]*)?\n)*', text).end()
     uses = 'use crate::kit::prelude::*;\n' + ('use crate::kit::AsSlice as _;\n' if name in SLICED else '')
     return text[:top] + uses + text[top:]

@@ -20,7 +20,7 @@ pub(super) fn append(bytes: &[u8], text: &mut String) {
 
 // The crate below takes a text without its padding.
 pub(super) fn decode(text: &[u8]) -> Result<Vec<u8>, DecodeError> {
-    if !text.len().is_multiple_of(4) {
+    if text.len() % 4 != 0 {
         return Err(DecodeError);
     }
     decode_config(text, ::base64::STANDARD).map_err(|_| DecodeError)

@@ -7,7 +7,9 @@ pub struct u8x32([u8; 32]);
 impl u8x32 {
     #[inline(always)]
     pub fn from_slice(bytes: &[u8]) -> u8x32 {
-        u8x32(*bytes.first_chunk().unwrap())
+        let mut lanes = [0; 32];
+        lanes.copy_from_slice(&bytes[..32]);
+        u8x32(lanes)
     }
 
     #[inline(always)]

@@ -6,6 +6,7 @@ pub mod base64;
 pub mod digests;
 pub mod hex;
 pub mod lanes;
+pub mod later;
 mod memory;
 pub mod random;
 pub mod text;
@@ -14,6 +15,7 @@ use ::bytes::{Bytes, BytesMut};
 use unicode_normalization::UnicodeNormalization;
 
 pub mod prelude {
+    pub use super::later::{DividedUp as _, FirstBlock as _, Signed as _, Unsigned as _};
     pub use super::{AllocError, AllocFailed, Global, PushReserved as _};
 }
 

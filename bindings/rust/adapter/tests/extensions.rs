@@ -3,10 +3,12 @@
 use bytes::BytesMut;
 use postgres_protocol::authentication::sasl;
 use postgres_protocol::authentication::scram::{ChannelOffer, NoPrep, ScramServer, StoredVerifier};
+use postgres_protocol::dialogue::{Dialogue, Event, Kind, Refusal, Request};
 use postgres_protocol::message::client::{ClientMessage, ClientMessages, PasswordKind};
 use postgres_protocol::message::in_place::{Message, Messages};
 use postgres_protocol::message::{frontend, reply};
-use postgres_protocol::{Error, Global, values};
+use postgres_protocol::session::{ClientStream, Connection, StreamParser, Ways};
+use postgres_protocol::{values, Error, Global};
 
 #[test]
 fn messages_in_place() {
@@ -54,4 +56,69 @@ fn a_numeric() {
     let mut text = BytesMut::new();
     values::numeric_to_text(&numeric, &mut text).unwrap();
     assert_eq!(&text[..], b"12345678.9");
+}
+
+// The bytes that PostgreSQL 15's `interval_send` and `jsonb_send` give by the manual: microseconds, days, months; a version, and the text.
+#[test]
+fn an_interval_and_json() {
+    let interval = values::Interval { microseconds: 1_000_000, days: 2, months: 13 };
+    let mut buf = BytesMut::new();
+    values::interval_to_sql(interval, &mut buf).unwrap();
+    assert_eq!(&buf[..], b"\0\0\0\0\0\x0f\x42\x40\0\0\0\x02\0\0\0\x0d");
+    assert_eq!(values::interval_from_sql(&buf), Ok(interval));
+    assert_eq!(values::jsonb_from_sql(b"\x01[1]"), Ok("[1]"));
+}
+
+/// An unencrypted connection that was let in without a password, and has sent nothing since.
+fn admitted() -> Connection<'static> {
+    let ways = Ways { scram: None, md5: None, cleartext: None, none: true };
+    let mut connection = Connection::new(Global, ways, 1 << 20);
+    let startup = connection.start(&[("user", "alice")]).unwrap();
+    assert_eq!(connection.to_send(), b"\0\0\0\x14\0\x03\0\0user\0alice\0\0");
+    connection.sent(20);
+    assert!(connection.send(&ClientMessage::Sync).is_err());
+    connection.feed(b"R\0\0\0\x08\0\0\0\0Z\0\0\0\x05I").unwrap();
+    assert!(matches!(connection.next(), Ok(Some((Event::Part(name), _))) if name == startup));
+    assert!(matches!(connection.next(), Ok(Some((Event::Last(name), _))) if name == startup));
+    assert!(connection.is_logged_in() && connection.is_idle());
+    connection
+}
+
+#[test]
+fn a_connection_says_what_answers_what() {
+    let mut connection = admitted();
+    let first = connection.send(&ClientMessage::Query(b"SELECT 1")).unwrap();
+    let second = connection.send(&ClientMessage::Query(b"")).unwrap();
+    assert_eq!(connection.to_send(), b"Q\0\0\0\x0dSELECT 1\0Q\0\0\0\x05\0");
+    connection.feed(b"C\0\0\0\x0dSELECT 1\0Z\0\0\0\x05II\0\0\0\x04Z\0\0").unwrap();
+    let mut events = Vec::new();
+    while let Some((event, _)) = connection.next().unwrap() {
+        events.push(event);
+    }
+    assert_eq!(events, [Event::Part(first), Event::Last(first), Event::Part(second)]);
+    assert!(!connection.is_idle());
+}
+
+#[test]
+fn a_dialogue_by_itself() {
+    let mut dialogue = Dialogue::new(Global);
+    dialogue.ask(Request::Query, 7).ok().unwrap();
+    assert_eq!(dialogue.take(Kind::NoticeResponse), Ok(Event::Aside));
+    assert_eq!(dialogue.take(Kind::CommandComplete), Ok(Event::Part(7)));
+    assert_eq!(dialogue.take(Kind::ReadyForQuery), Ok(Event::Last(7)));
+    assert_eq!(dialogue.take(Kind::CommandComplete), Err(Refusal::Unexpected));
+}
+
+#[test]
+fn streams_in_pieces() {
+    let mut parser = StreamParser::new(Global);
+    for piece in b"1\0\0\0\x04?\0\0\0\x04Z\0\0\0\x05I".chunks(2) {
+        parser.feed(piece).unwrap();
+    }
+    assert_eq!((parser.results().len(), parser.rest().len(), parser.stopped()), (3, 0, false));
+    assert!(matches!(parser.take()[..], [Ok(Message::ParseComplete), Err(Error::UnknownTag(b'?')), Ok(Message::ReadyForQuery(_))]));
+    let mut stream = ClientStream::new(Global);
+    stream.startup_message(&[("user", "alice")]).unwrap();
+    stream.terminate().unwrap();
+    assert_eq!(stream.bytes(), b"\0\0\0\x14\0\x03\0\0user\0alice\0\0X\0\0\0\x04");
 }

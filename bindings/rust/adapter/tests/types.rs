@@ -113,6 +113,6 @@ fn texts_and_pairs() {
     types::varbit_to_sql(12, [0xaa, 0xf0].into_iter(), &mut buf).unwrap();
     assert_eq!((types::varbit_from_sql(&buf).unwrap().len(), types::varbit_from_sql(&buf).unwrap().bytes()), (12, &[0xaa, 0xf0][..]));
     let mut buf = BytesMut::new();
-    types::varbit_to_sql(40_000, std::iter::repeat_n(0xff, 5_000), &mut buf).unwrap();
+    types::varbit_to_sql(40_000, std::iter::repeat(0xff).take(5_000), &mut buf).unwrap();
     assert_eq!((buf.len(), &buf[..5]), (5_004, &b"\0\0\x9c\x40\xff"[..]));
 }

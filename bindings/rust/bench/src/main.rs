@@ -1,5 +1,7 @@
 //! Times works of the original (0.6.4, which Debian has) and of this package in turn: the least nanoseconds of a unit, and the ratio.
-use bytes::{BufMut, Bytes, BytesMut};
+//! `bench TURNS` says how many turns, 400 otherwise. `bench SIDE WORK UNITS` makes so many units of one work, the original's (0) or the
+//! package's (1), for a tool that counts instructions.
+use bytes::{BufMut, BytesMut};
 use std::hint::black_box;
 use std::time::{Duration, Instant};
 
@@ -60,8 +62,14 @@ macro_rules! works {
                 array.values().fold(0, |sum, value| Ok(sum + types::int4_from_sql(value.unwrap())? as usize)).unwrap()
             }
 
-            pub fn inet_read(_: &mut BytesMut) -> usize {
-                usize::from(types::inet_from_sql(black_box(b"\x02\x19\0\x04\xc0\xa8\x64\x80")).unwrap().netmask())
+            pub fn inets_read(_: &mut BytesMut) -> usize {
+                let mut bits = 0;
+                for value in black_box([b"\x02\x19\0\x04\xc0\xa8\x64\x80"; 8]) {
+                    let inet = types::inet_from_sql(value).unwrap();
+                    black_box(inet.addr());
+                    bits += usize::from(inet.netmask());
+                }
+                bits
             }
 
             pub fn text_read(_: &mut BytesMut) -> usize {
@@ -83,7 +91,7 @@ macro_rules! works {
                 ("CommandComplete, its tag", command_complete),
                 ("array of 100 int4, written", array_written),
                 ("array of 100 int4, read", array_read),
-                ("inet, read", inet_read),
+                ("8 inet, read", inets_read),
                 ("text of 16, read", text_read),
                 ("literal of 32, escaped", escape),
                 ("verifier of 4096 rounds", verifier),
@@ -106,23 +114,37 @@ fn turn(work: fn(&mut BytesMut) -> usize, units: u32, buf: &mut BytesMut) -> f64
     start.elapsed().as_nanos() as f64 / f64::from(units)
 }
 
+/// A buffer that holds an array, for the work that reads one.
+fn buffer() -> BytesMut {
+    let mut buf = BytesMut::with_capacity(4096);
+    original::array_written(&mut buf);
+    buf
+}
+
+/// The least nanoseconds of a unit, of the original and of the package.
+fn least(first: fn(&mut BytesMut) -> usize, second: fn(&mut BytesMut) -> usize, turns: u32) -> [f64; 2] {
+    let mut least = [f64::MAX; 2];
+    let once = turn(first, 1, &mut buffer()).max(1.0);
+    let units = (TURN.as_nanos() as f64 / once).clamp(1.0, 20_000.0) as u32;
+    for _ in 0..turns {
+        for (work, least) in [first, second].into_iter().zip(&mut least) {
+            *least = least.min(turn(work, units, &mut buffer()));
+        }
+    }
+    least
+}
+
 fn main() {
-    let turns: u32 = std::env::args().nth(1).map_or(400, |word| word.parse().expect("a number of turns"));
+    let words: Vec<u32> = std::env::args().skip(1).map(|word| word.parse().expect("a number")).collect();
+    if let [side, work, units] = words[..] {
+        let (_, work) = [original::WORKS, erased::WORKS][side as usize][work as usize];
+        turn(work, units, &mut buffer());
+        return;
+    }
+    let turns = words.first().copied().unwrap_or(400);
     println!("{:30} {:>12} {:>12} {:>6}", "nanoseconds, least of turns", "original", "erased", "ratio");
     for ((name, first), (_, second)) in original::WORKS.into_iter().zip(erased::WORKS) {
-        let mut buf = BytesMut::with_capacity(4096);
-        original::array_written(&mut buf);
-        let array = Bytes::copy_from_slice(&buf);
-        let mut least = [f64::MAX; 2];
-        let once = turn(first, 1, &mut buf).max(1.0);
-        let units = (TURN.as_nanos() as f64 / once).clamp(1.0, 20_000.0) as u32;
-        for _ in 0..turns {
-            for (work, least) in [first, second].into_iter().zip(&mut least) {
-                let mut buf = BytesMut::with_capacity(4096);
-                buf.extend_from_slice(&array);
-                *least = least.min(turn(work, units, &mut buf));
-            }
-        }
-        println!("{name:30} {:12.1} {:12.1} {:6.2}", least[0], least[1], least[1] / least[0]);
+        let [first, second] = least(first, second, turns);
+        println!("{name:30} {first:12.1} {second:12.1} {:6.2}", second / first);
     }
 }

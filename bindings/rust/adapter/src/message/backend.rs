@@ -102,12 +102,24 @@ impl Message {
     /// The message at the front, which is taken off; none where it isn't whole. A frame with a malformed body is taken off as well.
     #[inline]
     pub fn parse(buf: &mut BytesMut) -> io::Result<Option<Message>> {
-        let tag = buf.first().copied();
-        match proved::Message::parse(buf) {
-            Ok(Some(message)) => in_this_api(message).map(Some),
-            Ok(None) => Ok(None),
-            Err(e) => Err(rejected(tag, e)),
+        match buf.first() {
+            Some(&DATA_ROW_TAG) => take::<DATA_ROW_TAG>(buf, Some(DATA_ROW_TAG)),
+            Some(&COMMAND_COMPLETE_TAG) => take::<COMMAND_COMPLETE_TAG>(buf, Some(COMMAND_COMPLETE_TAG)),
+            tag => {
+                let tag = tag.copied();
+                take::<0>(buf, tag)
+            }
         }
+    }
+}
+
+/// The message at the front. Compiled once for each tag that comes by the thousand, it doesn't go through memory between the two APIs.
+#[inline(always)]
+fn take<const TAG: u8>(buf: &mut BytesMut, tag: Option<u8>) -> io::Result<Option<Message>> {
+    match proved::Message::parse(buf) {
+        Ok(Some(message)) => in_this_api(message).map(Some),
+        Ok(None) => Ok(None),
+        Err(e) => Err(rejected(tag, e)),
     }
 }
 

@@ -7,7 +7,7 @@ use crate::types::PathPoints;
 use bytes::BytesMut;
 use std::net::IpAddr;
 
-pub use proved::{Inet, Range, RangeBound};
+pub use proved::{Range, RangeBound};
 
 /// Writes a range that is empty.
 #[inline]
@@ -140,5 +140,32 @@ pub fn inet_to_sql(addr: IpAddr, netmask: u8, buf: &mut BytesMut) {
 /// Reads an `inet` or a `cidr`.
 #[inline]
 pub fn inet_from_sql(buf: &[u8]) -> Result<Inet, Boxed> {
-    proved::inet_from_sql(buf).map_err(boxed)
+    match proved::inet_from_sql(buf) {
+        // Each family by itself: else the address goes through memory.
+        Ok(inet) => match inet.addr() {
+            IpAddr::V4(addr) => Ok(Inet { addr: IpAddr::V4(addr), netmask: inet.netmask() }),
+            IpAddr::V6(addr) => Ok(Inet { addr: IpAddr::V6(addr), netmask: inet.netmask() }),
+        },
+        Err(e) => Err(boxed(e)),
+    }
+}
+
+/// An `inet` or a `cidr`.
+pub struct Inet {
+    addr: IpAddr,
+    netmask: u8,
+}
+
+impl Inet {
+    /// The address.
+    #[inline]
+    pub fn addr(&self) -> IpAddr {
+        self.addr
+    }
+
+    /// How many bits of the address name the network.
+    #[inline]
+    pub fn netmask(&self) -> u8 {
+        self.netmask
+    }
 }

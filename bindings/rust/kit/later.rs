@@ -1,0 +1,98 @@
+//! What std has since a later Rust than the oldest that compiles this package: `cast_unsigned`, `cast_signed` (1.87), `div_ceil` (1.73) and
+//! `split_first_chunk` (1.77).
+
+/// A number with a sign, as the number of its bits.
+pub trait Signed {
+    type Bits;
+
+    fn bits(self) -> Self::Bits;
+}
+
+/// A number without a sign, as the number with one that has its bits.
+pub trait Unsigned {
+    type Number;
+
+    fn number(self) -> Self::Number;
+}
+
+macro_rules! numbers {
+    ($($signed:ident, $unsigned:ident;)*) => {$(
+        impl Signed for $signed {
+            type Bits = $unsigned;
+
+            #[inline(always)]
+            fn bits(self) -> $unsigned {
+                self as $unsigned
+            }
+        }
+
+        impl Unsigned for $unsigned {
+            type Number = $signed;
+
+            #[inline(always)]
+            fn number(self) -> $signed {
+                self as $signed
+            }
+        }
+    )*};
+}
+
+numbers! {
+    i16, u16;
+    i32, u32;
+    i64, u64;
+}
+
+/// The least number of parts of a size that hold all.
+pub trait DividedUp {
+    fn divided_up(self, by: Self) -> Self;
+}
+
+impl DividedUp for usize {
+    #[inline(always)]
+    fn divided_up(self, by: usize) -> usize {
+        self / by + usize::from(self % by != 0)
+    }
+}
+
+/// The first `N` bytes and the rest, where there are so many.
+pub trait FirstBlock {
+    fn first_block<const N: usize>(&self) -> Option<(&[u8; N], &[u8])>;
+}
+
+impl FirstBlock for [u8] {
+    #[inline(always)]
+    fn first_block<const N: usize>(&self) -> Option<(&[u8; N], &[u8])> {
+        if self.len() < N {
+            return None;
+        }
+        let (front, rest) = self.split_at(N);
+        Some((front.try_into().ok()?, rest))
+    }
+}
+
+#[cfg(test)]
+mod tests {
+    use super::*;
+
+    #[test]
+    fn bits_stay() {
+        assert_eq!((i16::MIN.bits(), (-1i32).bits(), 7i64.bits()), (0x8000, u32::MAX, 7));
+        assert_eq!((0x8000u16.number(), u32::MAX.number(), u64::MAX.number()), (i16::MIN, -1, -1));
+    }
+
+    #[test]
+    fn sizes_are_divided_up() {
+        let parts: Vec<usize> = [0, 1, 7, 8, 9, 16, 17].into_iter().map(|bits: usize| bits.divided_up(8)).collect();
+        assert_eq!(parts, [0, 1, 1, 1, 2, 2, 3]);
+        assert_eq!(usize::MAX.divided_up(3), usize::MAX / 3);
+    }
+
+    #[test]
+    fn a_block_is_whole_or_none() {
+        let bytes = b"abcd";
+        assert_eq!(bytes.first_block::<4>(), Some((b"abcd", &b""[..])));
+        assert_eq!(bytes.first_block::<3>(), Some((b"abc", &b"d"[..])));
+        assert_eq!(bytes.first_block::<5>(), None);
+    }
+}
