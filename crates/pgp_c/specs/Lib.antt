@@ -1,3 +1,6 @@
+pub mod ClientFront
+pub mod ClientParts
+pub mod ClientPlaces
 pub mod Compound
 pub mod Copying
 pub mod Dialogue

@@ -4,6 +4,8 @@
 mod address;
 mod array;
 mod bits;
+mod client_front;
+mod client_places;
 mod copying;
 mod cursor;
 mod description;
