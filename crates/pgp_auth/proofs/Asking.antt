@@ -46,5 +46,5 @@ unfolding prepared
 asked mapping p text o high same is_text answer =
     rw (answer, same, some_high p high.0 high.1, is_utf8-from_IsUtf8 p is_text) refl
 
-pub is_told : (p : List ℕ) → IsNotAscii p → IsUtf8 p → is_asked p ≡ true
-is_told p high is_text = rw (some_high p high.0 high.1, is_utf8-from_IsUtf8 p is_text) refl
+pub is_reported : (p : List ℕ) → IsNotAscii p → IsUtf8 p → is_asked p ≡ true
+is_reported p high is_text = rw (some_high p high.0 high.1, is_utf8-from_IsUtf8 p is_text) refl

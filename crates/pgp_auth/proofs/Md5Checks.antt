@@ -50,9 +50,9 @@ digits_len message =
     let len = length-md5 message in
     omega arith
 
-pub answer_told : (password user salt answer : List ℕ) → (AnswersStored (md5_verifier password user) salt answer ↔ (answer ≡ md5_answer user password salt))
+pub answer_reported : (password user salt answer : List ℕ) → (AnswersStored (md5_verifier password user) salt answer ↔ (answer ≡ md5_answer user password salt))
 unfolding md5_text
-answer_told password user salt answer = (
+answer_reported password user salt answer = (
   λ a. answer_of (md5_verifier password user) salt answer (encode_lower (md5 (password ++ user))) refl a,
   λ is. record { digits = encode_lower (md5 (password ++ user)); stored_is = refl; len = digits_len (password ++ user); answer_is = is },
 )

@@ -32,5 +32,5 @@ mock_refused c text stored server _ yes_ (no_proof front auth shown x is no_) = 
 mock_refused c text stored server _ yes_ (other_proof front auth shown proof x is len shows differs) = mock front auth shown proof x is len shows yes_
 mock_refused c text stored server _ yes_ (mock front auth shown proof x is len shows real) = mock front auth shown proof x is len shows yes_
 
-pub told_alike : (c : Challenge) (text stored server : List ℕ) (e : ServerError) → c.is_mock ≡ true → ShowsNoProof c text stored → (RefusesProof c text e ↔ RefusesProof (as_known c stored server) text e)
-told_alike c text stored server e yes_ none = (λ r. as_refused c text stored server e none r, λ r. mock_refused c text stored server e yes_ r)
+pub reported_alike : (c : Challenge) (text stored server : List ℕ) (e : ServerError) → c.is_mock ≡ true → ShowsNoProof c text stored → (RefusesProof c text e ↔ RefusesProof (as_known c stored server) text e)
+reported_alike c text stored server e yes_ none = (λ r. as_refused c text stored server e none r, λ r. mock_refused c text stored server e yes_ r)

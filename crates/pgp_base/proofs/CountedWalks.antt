@@ -30,5 +30,5 @@ by_failed : {V : Type 0} (read : List ℕ → Result (V × List ℕ) Error) (fai
 by_failed read None n bytes = refl
 by_failed read (Some e) n bytes = refl
 
-pub hint_told : {V : Type 0} (read : List ℕ → Result (V × List ℕ) Error) (rest : Rest) → rest_hint rest ≡ hint_of (walk_of read rest).announced
-hint_told read rest = by_failed read rest.failed rest.remaining rest.bytes
+pub hint_reported : {V : Type 0} (read : List ℕ → Result (V × List ℕ) Error) (rest : Rest) → rest_hint rest ≡ hint_of (walk_of read rest).announced
+hint_reported read rest = by_failed read rest.failed rest.remaining rest.bytes

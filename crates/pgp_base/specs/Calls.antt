@@ -111,17 +111,17 @@ module _ {F T V K : Type 0} (makes : Held K → F → T → V → F → Type 0) 
   Runs here f (x ∷ xs) (v ∷ vs) t = (u : F) × makes here f x v u × Runs (here ⊕ spelling v) u xs vs t
 
 -- an iterator of a value, whose calls gave xs and then `next`
-pub record Came {U S A : Type 0} (into_iter_gives : U → S → Type 0) (next_gives : S → Option A → S → Type 0) (source : U) (xs : List A) (next : Option A) : Type 0 where
+pub record Yielded {U S A : Type 0} (into_iter_gives : U → S → Type 0) (next_gives : S → Option A → S → Type 0) (source : U) (xs : List A) (next : Option A) : Type 0 where
   pub iterator : S
   pub from : into_iter_gives source iterator
   pub left : S
-  pub came : YieldsThen next_gives iterator xs next left
+  pub received : YieldsThen next_gives iterator xs next left
 
 -- `given before next`: an iterator's calls gave `before` and then `next`. xs are all items that these calls gave.
 pub record Asked {A : Type 0} (given : List A → Option A → Type 0) (xs : List A) : Type 0 where
   pub before : List A
   pub next : Option A
-  pub came : given before next
+  pub received : given before next
   pub are : xs ≡ before ++ option_to_list next
 
 -- xs are the items that came so far: none was asked for, or these
@@ -157,7 +157,7 @@ module _ {F T E B K : Type 0} (held : B → Held K) (step : F → T → MutBor B
   -- the items that came, each written after the place of the count and the items before it, which left `last`
   pub record WritesCounted (source : U) (f last : F) (old new : Held K) : Type 0 where
     pub xs : List T
-    pub came : Came into_iter_gives next_gives source xs None
+    pub received : Yielded into_iter_gives next_gives source xs None
     pub parts : List (List ℕ)
     pub runs : Runs (Wrote held step) (λ p. p) (old ⊕ uint16 0) f xs parts last
     pub fits : count_cause (length xs) ≡ None
@@ -168,7 +168,7 @@ module _ {F T E B K : Type 0} (held : B → Held K) (step : F → T → MutBor B
   pub record CountedStops (source : U) (f last : F) (old : Held K) (e : BindError E) : Type 0 where
     pub xs : List T
     pub x : T
-    pub came : Came into_iter_gives next_gives source xs (Some x)
+    pub received : Yielded into_iter_gives next_gives source xs (Some x)
     pub parts : List (List ℕ)
     pub at : F
     pub runs : Runs (Wrote held step) (λ p. p) (old ⊕ uint16 0) f xs parts at

@@ -36,12 +36,12 @@ int16s_length (z ∷ zs) = let more = int16s_length zs in omega (arith, more, le
 -- those that came so far are no more than all
 module _ (given : List ℤ → Option ℤ → Type 0) (all : List ℤ) (ends : (xs : List ℤ) → given xs None → xs ≡ all) (goes : (xs : List ℤ) (x : ℤ) → given xs (Some x) → (more : List ℤ) × (all ≡ xs ++ x ∷ more)) where
   asked_few : (before : List ℤ) (next : Option ℤ) (xs : List ℤ) → given before next → xs ≡ before ++ option_to_list next → length xs ≤ length all
-  asked_few before None xs came are = omega (arith, ap length are, ap length (ends before came), length-append before [])
-  asked_few before (Some x) xs came are = let k = goes before x came in omega (arith, ap length are, ap length k.1, length-append before (x ∷ []), length-append before (x ∷ k.0))
+  asked_few before None xs received are = omega (arith, ap length are, ap length (ends before received), length-append before [])
+  asked_few before (Some x) xs received are = let k = goes before x received in omega (arith, ap length are, ap length k.1, length-append before (x ∷ []), length-append before (x ∷ k.0))
 
   few : (xs : List ℤ) → Arrived given Int16s xs → length xs ≤ length all
   few xs (inl none) = omega (arith, ap length none)
-  few xs (inr came) = asked_few came.before came.next xs came.came came.are
+  few xs (inr received) = asked_few received.before received.next xs received.received received.are
 
 -- The values up to one, for which a null stands where it wasn't made: they take no more than all, and a cause of theirs is that of all.
 module _ (us : List (Option (List ℕ))) (u v : Option (List ℕ)) (more : List (Option (List ℕ))) (same : (u ≡ None) ⊎ (u ≡ v)) where
@@ -193,14 +193,14 @@ module _ {F B K : Type 0} (held : B → Held K) (step : F → Bor PgpValue → M
 
   -- the values before one, it, and more
   values_are : (here : Held K) (xs : List (Bor PgpValue)) (x : Bor PgpValue) (vs : List (Option (List ℕ))) (t : F) → values xs (Some x) → Runs (Gives held step) nullable here f xs vs t → (more : List (Option (List ℕ))) × (ws ≡ vs ++ value_of x.now ∷ more)
-  values_are here xs x vs t came runs =
-      let k = some_values xs x came in
+  values_are here xs x vs t received runs =
+      let k = some_values xs x received in
       let parted = ap (λ l. map value_of l) k.1 ∙ map-append value_of (map (λ (x : Bor PgpValue). x.now) xs) (x.now ∷ k.0) in
       (map value_of k.0, parted ∙ ap (λ l. l ++ value_of x.now ∷ map value_of k.0) (sym (made_all here xs vs t runs)))
 
   -- all values were made
   whole_values : (here : Held K) (xs : List (Bor PgpValue)) (vs : List (Option (List ℕ))) (t : F) → values xs None → Runs (Gives held step) nullable here f xs vs t → vs ≡ ws
-  whole_values here xs vs t came runs = made_all here xs vs t runs ∙ ap (λ l. map value_of l) (all_values xs came)
+  whole_values here xs vs t received runs = made_all here xs vs t runs ∙ ap (λ l. map value_of l) (all_values xs received)
 
   abbrev Whole : ClientMessage → Type 0
   Whole m = BindWhole p s formats values (Serves held step f last) results old m
@@ -211,16 +211,16 @@ module _ {F B K : Type 0} (held : B → Held K) (step : F → Bor PgpValue → M
   whole_is : (m : ClientMessage) → Whole m → m ≡ whole_message
   whole_is m w =
       let served = w.2.1 in
-      w.2.2.2 ∙ same_bind p s w.0 fs w.2.0 ws w.2.2.0 rs (all_formats w.0 w.1) (whole_values (start w.0) served.xs w.2.0 last served.came served.made) (all_results w.2.2.0 w.2.2.1)
+      w.2.2.2 ∙ same_bind p s w.0 fs w.2.0 ws w.2.2.0 rs (all_formats w.0 w.1) (whole_values (start w.0) served.xs w.2.0 last served.received served.made) (all_results w.2.2.0 w.2.2.1)
 
   -- the last of the values so far: a null in the place of one that wasn't made, or what was made
   module _ (gs : List ℤ) (vs : List (Option (List ℕ))) (b : ValuesUpTo values (Serves held step f last) (start gs) vs) where
     last_value : ((b.value ≡ None) ⊎ (b.value ≡ value_of b.x.now)) × ((more : List (Option (List ℕ))) × (ws ≡ b.before ++ value_of b.x.now ∷ more))
     last_value = elim b.made [
-      | inl waits ↦ (inl waits.1, values_are (start gs) b.xs b.x b.before last b.came waits.0)
+      | inl waits ↦ (inl waits.1, values_are (start gs) b.xs b.x b.before last b.received waits.0)
       | inr put ↦
           let at = put.1.1 in
-          (inr (put.1.2 ∙ one held step lacks puts (start gs ⊕ flat_map nullable b.before ⊕ uint32 0) at.0 b.x No put.1.0 last (Some put.1.0) refl at.2), values_are (start gs) b.xs b.x b.before at.0 b.came at.1)
+          (inr (put.1.2 ∙ one held step lacks puts (start gs ⊕ flat_map nullable b.before ⊕ uint32 0) at.0 b.x No put.1.0 last (Some put.1.0) refl at.2), values_are (start gs) b.xs b.x b.before at.0 b.received at.1)
     ]
 
     so_far_few : length (flat_map nullable vs) ≤ length (flat_map nullable ws)
@@ -253,7 +253,7 @@ module _ {F B K : Type 0} (held : B → Held K) (step : F → Bor PgpValue → M
       let rest = k.2.3 in
       let ts = rest.0 in
       let t = few results rs all_results some_results ts rest.1 in
-      let is = rest.2 ∙ same_bind p s k.0 fs k.2.0 ws ts ts (all_formats k.0 k.1.0) (whole_values (start k.0) served.xs k.2.0 last served.came served.made) refl in
+      let is = rest.2 ∙ same_bind p s k.0 fs k.2.0 ws ts ts (all_formats k.0 k.1.0) (whole_values (start k.0) served.xs k.2.0 last served.received served.made) refl in
       subst (λ (m : ClientMessage). Begins m) (sym is) (longer p s fs ws rs fs ws ts (omega arith) (omega arith) t, λ e c. results_caused p s fs ws rs ts e t c)
 
   abbrev Refuses : Error → Type 0
@@ -268,7 +268,7 @@ module _ {F B K : Type 0} (held : B → Held K) (step : F → Bor PgpValue → M
       let v = w.2 in
       let put = v.made.2 in
       let did = puts v.made.0 last v.x put.before put.after (Err e) put.called in
-      let k = values_are (start w.0) v.xs v.x v.before v.made.0 v.came v.made.1 in
+      let k = values_are (start w.0) v.xs v.x v.before v.made.0 v.received v.made.1 in
       let are = k.1 ∙ ap (λ y. v.before ++ y ∷ k.0) (has_bytes v.x.now did.0) in
       let stood = put.stood ∙ ap (λ gs. start gs ⊕ flat_map nullable v.before ⊕ uint32 0) (all_formats w.0 w.1.0) in
       inl (did.1.0, value_wants p s fs ws rs lacks old (held put.before.now) v.before v.x.now.bytes.now k.0 are stood did.1.1)

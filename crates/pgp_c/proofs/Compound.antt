@@ -120,10 +120,10 @@ entry_placed bytes rest more x at value from b is =
 -- the entries that are announced
 pub begins_hstore : (bytes : List ℕ) (n end : ℕ) (w : Walk Entry) → HstoreReads bytes (Ok w) → n ≡ (hint_of w.announced).0 → end ≡ length bytes → BeginsHstore bytes (record { at = 4; end = end; left = n })
 begins_hstore bytes n end w (m, rest, b, walk) hint last =
-    let told : n ≡ m = hint ∙ ap (λ a. (hint_of a).0) walk.announced in
+    let reported : n ≡ m = hint ∙ ap (λ a. (hint_of a).0) walk.announced in
     let size : length b.front ≡ 4 = ap length b.spelled.1 ∙ length-uint32 m in
     let left : rest_of bytes 4 end ≡ rest = rest_after b.front rest bytes 4 end b.whole size last in
-    subst (λ k. Begins entry_count bytes k (rest_of bytes 4 end)) (sym told) (record { front = b.front; whole = b.whole ∙ ap (λ l. b.front ++ l) (sym left); spelled = b.spelled })
+    subst (λ k. Begins entry_count bytes k (rest_of bytes 4 end)) (sym reported) (record { front = b.front; whole = b.whole ∙ ap (λ l. b.front ++ l) (sym left); spelled = b.spelled })
 
 -- the bytes after the number of bits
 pub bits_behind : (bytes : List ℕ) (v : Varbit) → VarbitReads bytes (Ok v) → VarbitReads bytes (Ok (record { len = v.len; bytes = drop 4 bytes }))
@@ -166,8 +166,8 @@ array_in bytes v a behind (f, all, flag, type, walk, values) dimensions_is eleme
     let whole : bytes ≡ f.begins.front ++ (flat_map dimension_bytes ds ++ f.rest) = f.begins.whole ∙ ap (λ l. f.begins.front ++ l) f.extent.whole in
     let long : length bytes ≡ 12 + (8 * length ds + length f.rest) = omega (arith, ap length whole, size, dims, length-append f.begins.front (flat_map dimension_bytes ds ++ f.rest), length-append (flat_map dimension_bytes ds) f.rest) in
     let count = (hint_of v.dimensions.announced).0 in
-    let told : count ≡ length ds = ap (λ (w : Walk ArrayDimension). (hint_of w.announced).0) walk in
-    let here : behind ≡ 12 + 8 * length ds = omega (arith, place, told, long, fits) in
+    let reported : count ≡ length ds = ap (λ (w : Walk ArrayDimension). (hint_of w.announced).0) walk in
+    let here : behind ≡ 12 + 8 * length ds = omega (arith, place, reported, long, fits) in
     let first : drop 12 bytes ≡ flat_map dimension_bytes ds ++ f.rest = ap (λ k. drop k bytes) (sym size) ∙ (ap (λ l. drop (length f.begins.front) l) whole ∙ drop-append_seam f.begins.front (flat_map dimension_bytes ds ++ f.rest)) in
     let span : behind - 12 ≡ length (flat_map dimension_bytes ds) = omega (arith, here, dims) in
     let joined : bytes ≡ (f.begins.front ++ flat_map dimension_bytes ds) ++ f.rest = whole ∙ sym (append_assoc f.begins.front (flat_map dimension_bytes ds) f.rest) in
@@ -179,7 +179,7 @@ array_in bytes v a behind (f, all, flag, type, walk, values) dimensions_is eleme
       type = type_is ∙ type;
       dimensions = ap (λ c. rest bytes c) dimensions_is ∙ (rest_between bytes 12 behind (omega (arith, here)) (omega (arith, here, long))
           ∙ (ap (λ l. take (behind - 12) l) first ∙ (ap (λ k. take k (flat_map dimension_bytes ds ++ f.rest)) span ∙ take-append_seam (flat_map dimension_bytes ds) f.rest)));
-      dimension_count = ap (λ (c : PgpCursor). c.left) dimensions_is ∙ (told ∙ all);
+      dimension_count = ap (λ (c : PgpCursor). c.left) dimensions_is ∙ (reported ∙ all);
       elements = ap (λ c. rest bytes c) elements_is ∙ rest_after (f.begins.front ++ flat_map dimension_bytes ds) f.rest bytes behind end joined ends refl;
       element_count = ap (λ (c : PgpCursor). c.left) elements_is ∙ ap (λ a. (hint_of a).0) values.announced;
     }

@@ -28,10 +28,10 @@ message len few bytes size =
     )
 
 pub head_sent : (len size : ℕ) → size ≡ len + 4 → len ≤ 2147483643 → (w v : Window) (old : List ℕ) (name : GName) → window_held w ≡ record { bytes = []; behind = old; kept = (name, length old) }
-    → window_held v ≡ window_held w ⊕ (100 ∷ uint32 size) → (x : List ℕ) → (name ≡ v.room.ghost_name → x ≡ v.room.now) → (told : ℕ) → told ≡ length (take v.len v.room.now) → SentHead len old x told
+    → window_held v ≡ window_held w ⊕ (100 ∷ uint32 size) → (x : List ℕ) → (name ≡ v.room.ghost_name → x ≡ v.room.now) → (reported : ℕ) → reported ≡ length (take v.len v.room.now) → SentHead len old x reported
 unfolding uint32
-head_sent len size is few w v old name new put x at_last told told_is =
-    let h : Wrote (copy_head len) old x told = wrote (copy_head len) (100 ∷ uint32 size) (ap (λ n. 100 ∷ uint32 n) is) w v old name new put x at_last told told_is in
+head_sent len size is few w v old name new put x at_last reported reported_is =
+    let h : Wrote (copy_head len) old x reported = wrote (copy_head len) (100 ∷ uint32 size) (ap (λ n. 100 ∷ uint32 n) is) w v old name new put x at_last reported reported_is in
     let count : length (copy_head len) ≡ 5 = refl in
     record {
       length_is = h.length_is ∙ count;
@@ -41,8 +41,8 @@ head_sent len size is few w v old name new put x at_last told told_is =
     }
 
 pub head_lacks : (len : ℕ) (w : Window) (old : List ℕ) (name : GName) → window_held w ≡ record { bytes = []; behind = old; kept = (name, length old) }
-    → (e : Error) (code told : ℕ) → WantsMemory (Wants window_lacks (window_held w) 5) e → code ≡ number_of e → told ≡ 0 → NoHead len old told code
-head_lacks len w old name new e code told memory code_is none =
+    → (e : Error) (code reported : ℕ) → WantsMemory (Wants window_lacks (window_held w) 5) e → code ≡ number_of e → reported ≡ 0 → NoHead len old reported code
+head_lacks len w old name new e code reported memory code_is none =
     let long = wants_window (window_held w) _ memory.1 in
     let room : (window_held w).kept.1 ≡ length old = ap (λ (h : Held (GName × ℕ)). h.kept.1) new in
     let empty : length (window_held w).bytes ≡ 0 = ap (λ (h : Held (GName × ℕ)). length h.bytes) new in

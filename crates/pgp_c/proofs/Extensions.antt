@@ -29,14 +29,14 @@ min_left : (a b : ℕ) → a ≤ b → min a b ≡ a
 min_left a b le = omega (arith, le)
 
 -- bytes that were written after what was to be sent
-module _ (z : List ℕ) (old : PgpStream) (mid out post : List ℕ) (told n : ℕ) (room : MutBor (List ℕ)) (is : room.now ≡ take old.len old.room.now ++ (out ++ post)) (within : old.len ≤ length old.room.now) (wrote : Wrote z mid out told) (sum : n ≡ min (old.len + told) 18446744073709551615) (same : length out ≡ length old.room.now - old.len) (bound : length old.room.now < 2 ^ 63) (parts : mid ++ post ≡ drop old.len old.room.now) where
-  fits : old.len + told ≤ 18446744073709551615
+module _ (z : List ℕ) (old : PgpStream) (mid out post : List ℕ) (reported n : ℕ) (room : MutBor (List ℕ)) (is : room.now ≡ take old.len old.room.now ++ (out ++ post)) (within : old.len ≤ length old.room.now) (wrote : Wrote z mid out reported) (sum : n ≡ min (old.len + reported) 18446744073709551615) (same : length out ≡ length old.room.now - old.len) (bound : length old.room.now < 2 ^ 63) (parts : mid ++ post ≡ drop old.len old.room.now) where
+  fits : old.len + reported ≤ 18446744073709551615
   fits = omega (arith, within, same, bound, wrote.length_is, ap length wrote.stands, length-append z (drop (length z) mid))
 
-  len : n ≡ old.len + told
-  len = sum ∙ min_left (old.len + told) 18446744073709551615 fits
+  len : n ≡ old.len + reported
+  len = sum ∙ min_left (old.len + reported) 18446744073709551615 fits
 
-  front : take told (out ++ post) ≡ z
+  front : take reported (out ++ post) ≡ z
   front =
       ap (λ i. take i (out ++ post)) wrote.length_is
       ∙ ap (λ l. take (length z) (l ++ post)) wrote.stands
@@ -46,14 +46,14 @@ module _ (z : List ℕ) (old : PgpStream) (mid out post : List ℕ) (told n : �
   grown : take n room.now ≡ take old.len old.room.now ++ z
   grown =
       let held = take old.len old.room.now in
-      let count : n ≡ length held + told = omega (arith, len, within, length-take old.len old.room.now) in
-      ap (λ i. take i room.now) count ∙ ap (λ l. take (length held + told) l) is ∙ take-append-add held (out ++ post) told ∙ ap (λ l. held ++ l) front
+      let count : n ≡ length held + reported = omega (arith, len, within, length-take old.len old.room.now) in
+      ap (λ i. take i room.now) count ∙ ap (λ l. take (length held + reported) l) is ∙ take-append-add held (out ++ post) reported ∙ ap (λ l. held ++ l) front
 
   within_room : n ≤ length old.room.now
   within_room = omega (arith, len, within, same, wrote.fits, wrote.length_is, ap length wrote.stands, length-append z (drop (length z) mid), length-drop (length z) mid)
 
   -- the memory after what is to be sent is as it was
-  rest_out : drop told (out ++ post) ≡ drop told (drop old.len old.room.now)
+  rest_out : drop reported (out ++ post) ≡ drop reported (drop old.len old.room.now)
   rest_out =
       ap (λ i. drop i (out ++ post)) wrote.length_is
       ∙ ap (λ l. drop (length z) (l ++ post)) wrote.stands
@@ -68,14 +68,14 @@ module _ (z : List ℕ) (old : PgpStream) (mid out post : List ℕ) (told n : �
       let held = take old.len old.room.now in
       let count : length held ≡ old.len = omega (arith, within, length-take old.len old.room.now) in
       let cut : drop old.len room.now ≡ out ++ post = ap (λ i. drop i room.now) (sym count) ∙ ap (λ l. drop (length held) l) is ∙ drop-append_seam held (out ++ post) in
-      ap (λ i. drop i room.now) len ∙ sym (drop-drop told old.len room.now) ∙ ap (λ l. drop told l) cut ∙ rest_out ∙ drop-drop told old.len old.room.now ∙ ap (λ i. drop i old.room.now) (sym len)
+      ap (λ i. drop i room.now) len ∙ sym (drop-drop reported old.len room.now) ∙ ap (λ l. drop reported l) cut ∙ rest_out ∙ drop-drop reported old.len old.room.now ∙ ap (λ i. drop i old.room.now) (sym len)
 
-module _ (m : ClientMessage) (old : PgpStream) (mid out post : List ℕ) (told n : ℕ) (room : MutBor (List ℕ)) (is : room.now ≡ take old.len old.room.now ++ (out ++ post)) (within : old.len ≤ length old.room.now) (sent : Sent m mid out told) (sum : n ≡ min (old.len + told) 18446744073709551615) (same : length out ≡ length old.room.now - old.len) (bound : length old.room.now < 2 ^ 63) (parts : mid ++ post ≡ drop old.len old.room.now) where
-  written : Wrote (bytes_of m) mid out told
+module _ (m : ClientMessage) (old : PgpStream) (mid out post : List ℕ) (reported n : ℕ) (room : MutBor (List ℕ)) (is : room.now ≡ take old.len old.room.now ++ (out ++ post)) (within : old.len ≤ length old.room.now) (sent : Sent m mid out reported) (sum : n ≡ min (old.len + reported) 18446744073709551615) (same : length out ≡ length old.room.now - old.len) (bound : length old.room.now < 2 ^ 63) (parts : mid ++ post ≡ drop old.len old.room.now) where
+  written : Wrote (bytes_of m) mid out reported
   written = record { length_is = sent.length_is; fits = sent.fits; stands = sent.stands }
 
   whole : take n room.now ≡ take old.len old.room.now ++ bytes_of m
-  whole = grown (bytes_of m) old mid out post told n room is within written sum same bound parts
+  whole = grown (bytes_of m) old mid out post reported n room is within written sum same bound parts
 
   module _ (o : Bool) (opened : old.is_open ≡ o) (may : MayCome m o) where
     reads : (sent_before : List ℕ) (kinds : List PasswordKind) (messages : List ClientMessage) → is_opened messages ≡ old.is_open
@@ -89,9 +89,9 @@ module _ (m : ClientMessage) (old : PgpStream) (mid out post : List ℕ) (told n
     extends_to now phase = record {
       none = sent.none;
       appended = whole;
-      length_is = len (bytes_of m) old mid out post told n room is within written sum same bound parts ∙ ap (λ k. old.len + k) sent.length_is;
-      fits = within_room (bytes_of m) old mid out post told n room is within written sum same bound parts;
-      behind = rest_same (bytes_of m) old mid out post told n room is within written sum same bound parts;
+      length_is = len (bytes_of m) old mid out post reported n room is within written sum same bound parts ∙ ap (λ k. old.len + k) sent.length_is;
+      fits = within_room (bytes_of m) old mid out post reported n room is within written sum same bound parts;
+      behind = rest_same (bytes_of m) old mid out post reported n room is within written sum same bound parts;
       opened = phase;
       reads = reads;
     }
@@ -100,15 +100,15 @@ module _ (m : ClientMessage) (old : PgpStream) (mid out post : List ℕ) (told n
     extends plain = extends_to old.is_open (ap (λ (x : Bool). if x then true else old.is_open) (sym plain))
 
 -- the head of data
-module _ (size : ℕ) (old : PgpStream) (mid out post : List ℕ) (told n : ℕ) (room : MutBor (List ℕ)) (is : room.now ≡ take old.len old.room.now ++ (out ++ post)) (within : old.len ≤ length old.room.now) (sent : SentHead size mid out told) (sum : n ≡ min (old.len + told) 18446744073709551615) (same : length out ≡ length old.room.now - old.len) (bound : length old.room.now < 2 ^ 63) (parts : mid ++ post ≡ drop old.len old.room.now) (opened : old.is_open ≡ true) where
+module _ (size : ℕ) (old : PgpStream) (mid out post : List ℕ) (reported n : ℕ) (room : MutBor (List ℕ)) (is : room.now ≡ take old.len old.room.now ++ (out ++ post)) (within : old.len ≤ length old.room.now) (sent : SentHead size mid out reported) (sum : n ≡ min (old.len + reported) 18446744073709551615) (same : length out ≡ length old.room.now - old.len) (bound : length old.room.now < 2 ^ 63) (parts : mid ++ post ≡ drop old.len old.room.now) (opened : old.is_open ≡ true) where
   five : length (copy_head size) ≡ 5
   five = omega (arith, length-uint32 (size + 4))
 
-  head_written : Wrote (copy_head size) mid out told
+  head_written : Wrote (copy_head size) mid out reported
   head_written = record { length_is = sent.length_is ∙ sym five; fits = omega (arith, sent.fits, five); stands = sent.stands ∙ ap (λ n. copy_head size ++ drop n mid) (sym five) }
 
   head_grown : take n room.now ≡ take old.len old.room.now ++ copy_head size
-  head_grown = grown (copy_head size) old mid out post told n room is within head_written sum same bound parts
+  head_grown = grown (copy_head size) old mid out post reported n room is within head_written sum same bound parts
 
   with_data : (bytes : List ℕ) → length bytes ≡ size → take n room.now ++ bytes ≡ take old.len old.room.now ++ bytes_of (CopyData bytes)
   with_data bytes few =
@@ -125,9 +125,9 @@ module _ (size : ℕ) (old : PgpStream) (mid out post : List ℕ) (told n : ℕ)
   pub extends_by_head : (let new : PgpStream = record { room = room; len = n; is_open = old.is_open } in ExtendsByHead size old new)
   extends_by_head = record {
     appended = head_grown;
-    length_is = len (copy_head size) old mid out post told n room is within head_written sum same bound parts ∙ ap (λ k. old.len + k) sent.length_is;
-    fits = within_room (copy_head size) old mid out post told n room is within head_written sum same bound parts;
-    behind = rest_same (copy_head size) old mid out post told n room is within head_written sum same bound parts;
+    length_is = len (copy_head size) old mid out post reported n room is within head_written sum same bound parts ∙ ap (λ k. old.len + k) sent.length_is;
+    fits = within_room (copy_head size) old mid out post reported n room is within head_written sum same bound parts;
+    behind = rest_same (copy_head size) old mid out post reported n room is within head_written sum same bound parts;
     opened = refl;
     message = λ bytes few. ((sent.message bytes few).0, with_data bytes few);
     reads = head_reads;

@@ -13,7 +13,7 @@ use Rattle.pgp_message.specs.BackendMessage.{AuthenticationOk, AuthenticationKer
 use Rattle.pgp_message.specs.Stream.{Frame, frame_bytes, TakesFrame, Step}
 use Rattle.pgp_c.specs.declared.front.PgpMessage.{PgpMessage}
 use Rattle.pgp_c.specs.declared.front.PgpParts.{PgpParts}
-use Rattle.pgp_c.specs.Front.{Told, code_of as code_told, kind_told, ShowsAll}
+use Rattle.pgp_c.specs.Front.{Reported, code_of as code_reported, kind_reported, ShowsAll}
 use Rattle.pgp_c.specs.Parts.{IsInside, Shows, no_parts, part, stands}
 use Rattle.pgp_c.specs.Places.{place, first_of, second_of}
 
@@ -215,23 +215,23 @@ rest_is bytes new (Err errors.OutOfMemory) s = absurd s.1
 rest_is bytes new (Err e) s = left bytes new e s
 
 -- the parts that are reported
-abbrev pub parts_told : List ℕ → ℕ → Result (Option Message) Error → PgpParts
-parts_told bytes frame (Ok (Some m)) = place m bytes frame
-parts_told bytes frame r = no_parts
+abbrev pub parts_reported : List ℕ → ℕ → Result (Option Message) Error → PgpParts
+parts_reported bytes frame (Ok (Some m)) = place m bytes frame
+parts_reported bytes frame r = no_parts
 
-shows_all : (bytes new : List ℕ) (r : Result (Option Message) Error) (p : PgpMessage) → p.frame ≡ length bytes - length new → Step ⊥ bytes r new → p.parts ≡ parts_told bytes p.frame r → ShowsAll bytes r p
+shows_all : (bytes new : List ℕ) (r : Result (Option Message) Error) (p : PgpMessage) → p.frame ≡ length bytes - length new → Step ⊥ bytes r new → p.parts ≡ parts_reported bytes p.frame r → ShowsAll bytes r p
 shows_all bytes new (Ok None) p is s at = at
 shows_all bytes new (Ok (Some m)) p is s at = subst (λ (q : _). Shows bytes m q) (sym at) (shows bytes new m p.frame is s)
 shows_all bytes new (Err e) p is s at = at
 
-inside_all : (bytes new : List ℕ) (r : Result (Option Message) Error) (p : PgpMessage) → p.frame ≡ length bytes - length new → Step ⊥ bytes r new → p.parts ≡ parts_told bytes p.frame r → AreInside p.frame p.parts
+inside_all : (bytes new : List ℕ) (r : Result (Option Message) Error) (p : PgpMessage) → p.frame ≡ length bytes - length new → Step ⊥ bytes r new → p.parts ≡ parts_reported bytes p.frame r → AreInside p.frame p.parts
 inside_all bytes new (Ok None) p is s at = subst (λ (q : _). AreInside p.frame q) (sym at) (omega arith, omega arith)
 inside_all bytes new (Ok (Some m)) p is s at = subst (λ (q : _). AreInside p.frame q) (sym at) (inside bytes new m p.frame is s)
 inside_all bytes new (Err e) p is s at = subst (λ (q : _). AreInside p.frame q) (sym at) (omega arith, omega arith)
 
-pub told : (bytes new : List ℕ) (r : Result (Option Message) Error) (p : PgpMessage) (code : ℕ) → p.frame ≡ length bytes - length new → Step ⊥ bytes r new → code ≡ code_told r → p.kind ≡ kind_told r
-    → p.parts ≡ parts_told bytes p.frame r → (p.frame ≢ 0 → p.frame ≤ length bytes → (rest : List ℕ) × (bytes ≡ p.tag ∷ rest)) → (p.frame ≡ 0 → p.tag ≡ 0) → Told bytes p code
-told bytes new r p code is s code_is kind_is at tag none =
+pub reported : (bytes new : List ℕ) (r : Result (Option Message) Error) (p : PgpMessage) (code : ℕ) → p.frame ≡ length bytes - length new → Step ⊥ bytes r new → code ≡ code_reported r → p.kind ≡ kind_reported r
+    → p.parts ≡ parts_reported bytes p.frame r → (p.frame ≢ 0 → p.frame ≤ length bytes → (rest : List ℕ) × (bytes ≡ p.tag ∷ rest)) → (p.frame ≡ 0 → p.tag ≡ 0) → Reported bytes p code
+reported bytes new r p code is s code_is kind_is at tag none =
     let within : p.frame ≤ length bytes = omega (arith, is) in
     record {
       result = r;

@@ -54,11 +54,11 @@ module _ {F B K : Type 0} (held : B → Held K) (step : F → Bor PgpValue → M
       ap (λ y. y ∷ vs) first ∙ ap (λ l. value_of x.now ∷ l) rest
 
 -- all items came of an iterator over a list
-pub all_came : {S A B : Type 0} (steps : S → Option A → S → Type 0) (v : A → B) (s : S) (all : List B) → YieldsList steps v s all → (xs : List A) (left : S) → YieldsThen steps s xs None left → map v xs ≡ all
-all_came steps v s all road xs left came = items_from_drains xs (came.0, came.1, λ _. (left, came.2)) road
+pub all_received : {S A B : Type 0} (steps : S → Option A → S → Type 0) (v : A → B) (s : S) (all : List B) → YieldsList steps v s all → (xs : List A) (left : S) → YieldsThen steps s xs None left → map v xs ≡ all
+all_received steps v s all road xs left received = items_from_drains xs (received.0, received.1, λ _. (left, received.2)) road
 
 pub all_same : {S A : Type 0} (steps : S → Option A → S → Type 0) (s : S) (all : List A) → YieldsList steps (λ (x : A). x) s all → (xs : List A) (left : S) → YieldsThen steps s xs None left → xs ≡ all
-all_same steps s all road xs left came = sym (map-id xs) ∙ all_came steps (λ (x : _). x) s all road xs left came
+all_same steps s all road xs left received = sym (map-id xs) ∙ all_received steps (λ (x : _). x) s all road xs left received
 
 pub same_bind : (p s : List ℕ) (fs gs : List ℤ) (vs ws : List (Option (List ℕ))) (rs ts : List ℤ) → fs ≡ gs → vs ≡ ws → rs ≡ ts → Bind p s fs vs rs ≡ Bind p s gs ws ts
 same_bind p s fs gs vs ws rs ts e f h = rw (e, f, h) refl

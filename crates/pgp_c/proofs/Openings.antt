@@ -10,7 +10,7 @@ use Rattle.std.specs.List.{flat_map}
 use Rattle.std.specs.Option.{option_to_list}
 use Rattle.std.proofs.lemmas.List.{append-nil, map-append}
 use Rattle.std.proofs.lemmas.List.Concat.{flat_map-append}
-use Rattle.pgp_base.specs.Calls.{Came}
+use Rattle.pgp_base.specs.Calls.{Yielded}
 use Rattle.pgp_base.specs.Cause.{first, Wants, WantsMemory}
 use Rattle.pgp_base.specs.Held.{Held}
 use Rattle.pgp_base.specs.Window.{window_lacks}
@@ -46,16 +46,16 @@ module _ (v : ProtocolVersion) (all : List (List ℕ × List ℕ)) where
   module _ (given : List (Bor (List ℕ) × Bor (List ℕ)) → Option (Bor (List ℕ) × Bor (List ℕ)) → Type 0) (given_all : (xs : List (Bor (List ℕ) × Bor (List ℕ))) → given xs None → map shown xs ≡ all)
       (given_some : (xs : List (Bor (List ℕ) × Bor (List ℕ))) (x : Bor (List ℕ) × Bor (List ℕ)) → given xs (Some x) → (more : List (List ℕ × List ℕ)) × (all ≡ map shown xs ++ shown x ∷ more)) where
     asked : (xs before : List (Bor (List ℕ) × Bor (List ℕ))) (next : Option (Bor (List ℕ) × Bor (List ℕ))) → given before next → xs ≡ before ++ option_to_list next → (more : List (List ℕ × List ℕ)) × (all ≡ map shown xs ++ more)
-    asked xs before None came are =
-        let e : map shown xs ≡ all = ap (λ l. map shown l) (are ∙ append-nil before) ∙ given_all before came in
+    asked xs before None received are =
+        let e : map shown xs ≡ all = ap (λ l. map shown l) (are ∙ append-nil before) ∙ given_all before received in
         ([], sym (append-nil (map shown xs) ∙ e))
-    asked xs before (Some x) came are =
-        let k = given_some before x came in
+    asked xs before (Some x) received are =
+        let k = given_some before x received in
         (k.0, k.1 ∙ sym (ap (λ l. map shown l ++ k.0) are ∙ ap (λ l. l ++ k.0) (map-append shown before (x ∷ [])) ∙ append_assoc (map shown before) (shown x ∷ []) k.0))
 
     arrived : (xs : List (Bor (List ℕ) × Bor (List ℕ))) → Arrived given shown_pairs xs → (more : List (List ℕ × List ℕ)) × (all ≡ map shown xs ++ more)
     arrived xs (inl none) = (all, sym (ap (λ l. map shown l ++ all) none))
-    arrived xs (inr a) = asked xs a.before a.next a.came a.are
+    arrived xs (inr a) = asked xs a.before a.next a.received a.are
 
     pub startup_refused : (old : Held (GName × ℕ)) (e : Error) → Refused (StartupWhole (λ text. text.now) v given) (StartupSoFar (λ text. text.now) v given) window_lacks old e → WantsMemory (Wants window_lacks old (length (bytes_of (Startup (minor_of v) all)))) e ⊎ (cause (Startup (minor_of v) all) ≡ Some e)
     startup_refused old e (inl k) =
@@ -81,19 +81,19 @@ module _ {S F : Type 0} (steps : S → Option (Bor PgpPair) → S → Type 0) (g
     roads : (it : Map S F) → FromItself source it → YieldsList (maps steps g) shown it (map pair_of all)
     roads it from = subst (λ s. YieldsList (maps steps g) shown s (map pair_of all)) (sym from) (YieldsList-from_map_by g shown pair_of road callee called)
 
-    all_pairs : (xs : List (Bor (List ℕ) × Bor (List ℕ))) → Came FromItself (maps steps g) source xs None → map shown xs ≡ map pair_of all
+    all_pairs : (xs : List (Bor (List ℕ) × Bor (List ℕ))) → Yielded FromItself (maps steps g) source xs None → map shown xs ≡ map pair_of all
     all_pairs xs k = all_given FromItself (maps steps g) source shown (map pair_of all) roads xs k
 
-    some_pairs : (xs : List (Bor (List ℕ) × Bor (List ℕ))) (x : Bor (List ℕ) × Bor (List ℕ)) → Came FromItself (maps steps g) source xs (Some x) → (more : List (List ℕ × List ℕ)) × (map pair_of all ≡ map shown xs ++ shown x ∷ more)
+    some_pairs : (xs : List (Bor (List ℕ) × Bor (List ℕ))) (x : Bor (List ℕ) × Bor (List ℕ)) → Yielded FromItself (maps steps g) source xs (Some x) → (more : List (List ℕ × List ℕ)) × (map pair_of all ≡ map shown xs ++ shown x ∷ more)
     some_pairs xs x k = some_given FromItself (maps steps g) source shown (map pair_of all) roads xs x k
 
-  pub pairs_given : (xs : List (Bor (List ℕ) × Bor (List ℕ))) → Came FromItself (maps steps g) source xs None → (all : List PgpPair) → YieldsList steps (λ (x : Bor PgpPair). x.now) (map_source source) all → (f : F) → map_callee source ≡ f
+  pub pairs_given : (xs : List (Bor (List ℕ) × Bor (List ℕ))) → Yielded FromItself (maps steps g) source xs None → (all : List PgpPair) → YieldsList steps (λ (x : Bor PgpPair). x.now) (map_source source) all → (f : F) → map_callee source ≡ f
       → ((x : Bor PgpPair) (r : Bor (List ℕ) × Bor (List ℕ)) (q : F) → Called g f (x, tt) r q → (q ≡ f) × (shown r ≡ pair_of x.now)) → map shown xs ≡ map pair_of all
   pairs_given xs k all road f callee called = all_pairs all road f callee called xs k
 
-  pub pairs_refused : (v : ProtocolVersion) (old : Held (GName × ℕ)) (e : Error) → Refused (StartupWhole (λ text. text.now) v (Came FromItself (maps steps g) source)) (StartupSoFar (λ text. text.now) v (Came FromItself (maps steps g) source)) window_lacks old e
+  pub pairs_refused : (v : ProtocolVersion) (old : Held (GName × ℕ)) (e : Error) → Refused (StartupWhole (λ text. text.now) v (Yielded FromItself (maps steps g) source)) (StartupSoFar (λ text. text.now) v (Yielded FromItself (maps steps g) source)) window_lacks old e
       → (all : List PgpPair) → YieldsList steps (λ (x : Bor PgpPair). x.now) (map_source source) all → (f : F) → map_callee source ≡ f
       → ((x : Bor PgpPair) (r : Bor (List ℕ) × Bor (List ℕ)) (q : F) → Called g f (x, tt) r q → (q ≡ f) × (shown r ≡ pair_of x.now))
       → WantsMemory (Wants window_lacks old (length (bytes_of (Startup (minor_of v) (map pair_of all))))) e ⊎ (cause (Startup (minor_of v) (map pair_of all)) ≡ Some e)
   pairs_refused v old e r all road f callee called =
-      startup_refused v (map pair_of all) (Came FromItself (maps steps g) source) (all_pairs all road f callee called) (some_pairs all road f callee called) old e r
+      startup_refused v (map pair_of all) (Yielded FromItself (maps steps g) source) (all_pairs all road f callee called) (some_pairs all road f callee called) old e r

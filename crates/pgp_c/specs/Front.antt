@@ -13,9 +13,9 @@ code_of (Ok (Some m)) = 0
 code_of (Ok None) = 100
 code_of (Err e) = number_of e
 
-abbrev pub kind_told : Result (Option Message) Error → ℕ
-kind_told (Ok (Some m)) = kind_of m
-kind_told r = 0
+abbrev pub kind_reported : Result (Option Message) Error → ℕ
+kind_reported (Ok (Some m)) = kind_of m
+kind_reported r = 0
 
 abbrev pub ShowsAll : List ℕ → Result (Option Message) Error → PgpMessage → Type 0
 ShowsAll bytes (Ok (Some m)) p = Shows bytes m p.parts
@@ -23,12 +23,12 @@ ShowsAll bytes r p = p.parts ≡ no_parts
 
 -- One step along the stream takes the frame; its result is reported by the code and the kind, and the message's parts are those
 -- that stand at their places among the bytes, inside the frame. The tag is the first byte of what was taken.
-pub record Told (bytes : List ℕ) (message : PgpMessage) (code : ℕ) : Type 0 where
+pub record Reported (bytes : List ℕ) (message : PgpMessage) (code : ℕ) : Type 0 where
   pub result : Result (Option Message) Error
   pub step : Step ⊥ bytes result (drop message.frame bytes)
   pub within : message.frame ≤ length bytes
   pub code_is : code ≡ code_of result
-  pub kind_is : message.kind ≡ kind_told result
+  pub kind_is : message.kind ≡ kind_reported result
   pub shows : ShowsAll bytes result message
   pub first_inside : IsInside message.frame message.parts.first
   pub second_inside : IsInside message.frame message.parts.second

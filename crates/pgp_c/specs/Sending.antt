@@ -7,10 +7,10 @@ use Rattle.pgp_frontend.specs.Payload.{bytes_of, cause, IsInRange}
 
 -- The message has a spelling that fits, stands at the front of the memory, and its length is reported; after it the memory is as it
 -- was.
-pub record Sent (m : ClientMessage) (old new : List ℕ) (told : ℕ) : Type 0 where
+pub record Sent (m : ClientMessage) (old new : List ℕ) (reported : ℕ) : Type 0 where
   pub in_range : IsInRange m
   pub none : cause m ≡ None
-  pub length_is : told ≡ length (bytes_of m)
+  pub length_is : reported ≡ length (bytes_of m)
   pub fits : length (bytes_of m) ≤ length old
   pub stands : new ≡ bytes_of m ++ drop (length (bytes_of m)) old
 
@@ -20,6 +20,6 @@ abbrev pub Why : ClientMessage → List ℕ → ℕ → Type 0
 Why m old code = ((code ≡ 1) × (length old < length (bytes_of m))) ⊎ ((code ≢ 1) × ((e : Error) × (cause m ≡ Some e) × (code ≡ number_of e)))
 
 -- Nothing is to be sent.
-pub record NotSent (m : ClientMessage) (old : List ℕ) (told code : ℕ) : Type 0 where
-  pub length_is : told ≡ 0
+pub record NotSent (m : ClientMessage) (old : List ℕ) (reported code : ℕ) : Type 0 where
+  pub length_is : reported ≡ 0
   pub why : Why m old code

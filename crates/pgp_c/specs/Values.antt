@@ -6,14 +6,14 @@ use Rattle.pgp_types.specs.Format.{Format, Reads}
 
 -- the spelling fits, stands at the front of the memory, and its length is reported; after it the memory is as it
 -- was
-pub record Wrote (spelling old new : List ℕ) (told : ℕ) : Type 0 where
-  pub length_is : told ≡ length spelling
+pub record Wrote (spelling old new : List ℕ) (reported : ℕ) : Type 0 where
+  pub length_is : reported ≡ length spelling
   pub fits : length spelling ≤ length old
   pub stands : new ≡ spelling ++ drop (length spelling) old
 
 -- nothing was written: the spelling is longer than the memory
-pub record Lacks (spelling old : List ℕ) (told code : ℕ) : Type 0 where
-  pub length_is : told ≡ 0
+pub record Lacks (spelling old : List ℕ) (reported code : ℕ) : Type 0 where
+  pub length_is : reported ≡ 0
   pub code_is : code ≡ 1
   pub longer : length old < length spelling
 

@@ -3,7 +3,7 @@
 ghost use Rattle.std.specs.Prelude.{◌≡◌, ◌≢◌, ◌≤◌, ℕ, ◌-◌, List, ◌∷◌, length, drop};
 ghost use Rattle.pgp_base.specs.PartReading.{string_at};
 ghost use Rattle.pgp_message.specs.Views.{view};
-ghost use Rattle.pgp_c.specs.Front.{Told};
+ghost use Rattle.pgp_c.specs.Front.{Reported};
 ghost use Rattle.pgp_c.specs.Parts.{kind_of, no_parts, part};
 ghost use Rattle.pgp_c.specs.Places.{place, first_of, second_of};
 
@@ -53,7 +53,7 @@ pub struct PgpParts {
 /// The message at the front of the bytes.
 #[unsafe(no_mangle)]
 pub extern "C" fn pgp_front(bytes: &[u8], message: &mut PgpMessage) -> u32
-    ensures { Told bytes.now message.new result }
+    ensures { Reported bytes.now message.new result }
 {
     let mut messages = Messages::new(bytes);
     // Rows come by the thousand. By a way of their own no row goes through memory before it is
@@ -61,13 +61,13 @@ pub extern "C" fn pgp_front(bytes: &[u8], message: &mut PgpMessage) -> u32
     if let Some(row) = messages.next_row() {
         let frame = bytes.len() - messages.rest().len();
         let parts = counted(row.ranges().size_hint().0, frame);
-        return told(frame, ROW, parts, 0, bytes, message);
+        return reported(frame, ROW, parts, 0, bytes, message);
     }
     let answer = messages.next();
     let frame = bytes.len() - messages.rest().len();
     match answer {
-        Ok(None) => told(frame, 0, none(), MORE, bytes, message),
-        Ok(Some(kept)) => told(
+        Ok(None) => reported(frame, 0, none(), MORE, bytes, message),
+        Ok(Some(kept)) => reported(
             frame,
             kind(&kept),
             parts(&kept, bytes, frame),
@@ -75,12 +75,12 @@ pub extern "C" fn pgp_front(bytes: &[u8], message: &mut PgpMessage) -> u32
             bytes,
             message,
         ),
-        Err(e) => told(frame, 0, none(), u32::from(e.number()), bytes, message),
+        Err(e) => reported(frame, 0, none(), u32::from(e.number()), bytes, message),
     }
 }
 
 /// Says what stands at the front.
-fn told(
+fn reported(
     frame: usize,
     kind: u8,
     parts: PgpParts,

@@ -10,7 +10,7 @@ use pgp_base::{Buffer, Error, Window};
 /// The message stands at the front of the window.
 pub fn sent(window: &Window<'_>, written: &mut usize) -> u32
     ensures zero { result ≡ 0 }
-    ensures told { written.new ≡ length (window_held window.now).bytes }
+    ensures reported { written.new ≡ length (window_held window.now).bytes }
 {
     *written = window.len();
     0
@@ -20,7 +20,7 @@ pub fn sent(window: &Window<'_>, written: &mut usize) -> u32
 pub fn refused(e: Error, written: &mut usize) -> u32
     ensures code { result ≡ number_of e }
     ensures some { result ≢ 0 }
-    ensures told { written.new ≡ 0 }
+    ensures reported { written.new ≡ 0 }
 {
     *written = 0;
     u32::from(e.number())
@@ -66,7 +66,7 @@ pub fn read<T: Copy>(answer: Result<T, Error>, value: &mut T) -> u32
 /// A name is empty, which no server reads.
 pub fn nameless(written: &mut usize) -> u32
     ensures code { result ≡ 33 }
-    ensures told { written.new ≡ 0 }
+    ensures reported { written.new ≡ 0 }
 {
     *written = 0;
     33
@@ -75,7 +75,7 @@ pub fn nameless(written: &mut usize) -> u32
 /// A startup packet of another version.
 pub fn no_version(written: &mut usize) -> u32
     ensures code { result ≡ 34 }
-    ensures told { written.new ≡ 0 }
+    ensures reported { written.new ≡ 0 }
 {
     *written = 0;
     34
@@ -84,7 +84,7 @@ pub fn no_version(written: &mut usize) -> u32
 /// The kind of a range's side is none.
 pub fn no_kind(written: &mut usize) -> u32
     ensures code { result ≡ 35 }
-    ensures told { written.new ≡ 0 }
+    ensures reported { written.new ≡ 0 }
 {
     *written = 0;
     35

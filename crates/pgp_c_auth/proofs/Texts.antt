@@ -8,12 +8,12 @@ use Rattle.pgp_c_auth.specs.Delivering.{Delivered, Delivers, IsLonger}
 use Rattle.pgp_c_auth.specs.Scram.{Start, AnswersIn, AnswersWith, Begins, FirstText, HasAnswered, NoRoom}
 
 -- a text of this kind that is handed over
-pub delivers : (Is : List ℕ → Type 0) (text old new : List ℕ) (told : ℕ) → Is text → Delivered text old new told → Delivers Is old new told
-delivers Is text old new told is d = record { text = text; is = is; delivered = d }
+pub delivers : (Is : List ℕ → Type 0) (text old new : List ℕ) (reported : ℕ) → Is text → Delivered text old new reported → Delivers Is old new reported
+delivers Is text old new reported is d = record { text = text; is = is; delivered = d }
 
 -- a text of one kind, which is one of another
-pub delivers_another : {Is As : List ℕ → Type 0} (old new : List ℕ) (told : ℕ) → ((text : List ℕ) → Is text → As text) → Delivers Is old new told → Delivers As old new told
-delivers_another old new told into d = record { text = d.text; is = into d.text d.is; delivered = d.delivered }
+pub delivers_another : {Is As : List ℕ → Type 0} (old new : List ℕ) (reported : ℕ) → ((text : List ℕ) → Is text → As text) → Delivers Is old new reported → Delivers As old new reported
+delivers_another old new reported into d = record { text = d.text; is = into d.text d.is; delivered = d.delivered }
 
 pub longer : (Is : List ℕ → Type 0) (text old : List ℕ) → Is text → length old < length text → IsLonger Is old
 longer Is text old is l = record { text = text; is = is; longer = l }

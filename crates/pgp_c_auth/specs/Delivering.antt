@@ -3,20 +3,20 @@ use Rattle.std.specs.Prelude.{◌≡◌, ◌⊎◌, ℕ, ◌<◌, ◌≤◌, Lis
 
 -- The text fits into the memory, stands at its front, and its length is reported; after it the memory is as it
 -- was.
-pub record Delivered (text old new : List ℕ) (told : ℕ) : Type 0 where
-  pub length_is : told ≡ length text
+pub record Delivered (text old new : List ℕ) (reported : ℕ) : Type 0 where
+  pub length_is : reported ≡ length text
   pub fits : length text ≤ length old
   pub stands : new ≡ text ++ drop (length text) old
 
 -- a text of this kind is handed over
-pub record Delivers (Is : List ℕ → Type 0) (old new : List ℕ) (told : ℕ) : Type 0 where
+pub record Delivers (Is : List ℕ → Type 0) (old new : List ℕ) (reported : ℕ) : Type 0 where
   pub text : List ℕ
   pub is : Is text
-  pub delivered : Delivered text old new told
+  pub delivered : Delivered text old new reported
 
 -- nothing is handed over: the memory is as it was
 abbrev pub NotDelivered : List ℕ → List ℕ → ℕ → Type 0
-NotDelivered old new told = (told ≡ 0) × (new ≡ old)
+NotDelivered old new reported = (reported ≡ 0) × (new ≡ old)
 
 -- the text of this kind is longer than the memory
 pub record IsLonger (Is : List ℕ → Type 0) (old : List ℕ) : Type 0 where

@@ -67,7 +67,7 @@ fn place<A: Memory>(e: &ScramError<A>) -> usize
 pub fn stopped<A: Memory>(e: ScramError<A>, at: &mut usize) -> u32
     ensures code { result ≡ code_of (refusal e) }
     ensures some { result ≢ 0 }
-    ensures told { at.new ≡ place_of (refusal e) }
+    ensures reported { at.new ≡ place_of (refusal e) }
 {
     *at = place(&e);
     number(&e)

@@ -24,7 +24,7 @@ pub fn deliver(bytes: &[u8], out: &mut [u8], written: &mut usize) -> u32
 pub fn refused(e: Error, written: &mut usize) -> u32
     ensures code { result ≡ number_of e }
     ensures some { result ≢ 0 }
-    ensures told { written.new ≡ 0 }
+    ensures reported { written.new ≡ 0 }
 {
     *written = 0;
     u32::from(e.number())

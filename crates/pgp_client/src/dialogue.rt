@@ -3,7 +3,7 @@
 ghost use Rattle.std.specs.Prelude.{◌≡◌, ◌++◌, ◌∷◌, [], OnOk, OnErr};
 ghost use Rattle.pgp_client.specs.Talk.{shown};
 ghost use Rattle.pgp_client.specs.Telling.{start};
-ghost use Rattle.pgp_client.specs.Taking.{Moves, Takes, asked, begun, behind_copy, completes, copied, fails, first_in, follows, goes, heard, heard_at, is_copying, is_idle, ready, starts_with_sync, taken};
+ghost use Rattle.pgp_client.specs.Taking.{Moves, Takes, asked, begun, behind_copy, completes, copied, fails, first_in, follows, goes, observed, observed_at, is_copying, is_idle, ready, starts_with_sync, taken};
 
 use crate::event::{Event, Refusal};
 use crate::kind::Kind;
@@ -156,9 +156,9 @@ impl<Q: Queue> Dialogue<Q> {
 
     /// The message, where a request is under way.
     fn hear(&mut self, kind: Kind) -> Result<Event, Refusal>
-        ensures { Takes (heard (shown Q.items self.old) kind) result (shown Q.items self.new) }
+        ensures { Takes (observed (shown Q.items self.old) kind) result (shown Q.items self.new) }
     {
-        match heard_at(self.stage, &mut self.pending, kind) {
+        match observed_at(self.stage, &mut self.pending, kind) {
             Ok(stage) => {
                 self.stage = stage;
                 Ok(event_of(stage, self.name))
@@ -172,8 +172,8 @@ impl<Q: Queue> Dialogue<Q> {
 }
 
 /// The stage after the message. At the end of a copy to the server the requests that belong to it are dropped.
-fn heard_at<Q: Queue>(stage: Stage, pending: &mut Q, kind: Kind) -> Result<Stage, Refusal>
-    ensures { Moves (heard_at stage (Q.items pending.old) kind) result (Q.items pending.new) }
+fn observed_at<Q: Queue>(stage: Stage, pending: &mut Q, kind: Kind) -> Result<Stage, Refusal>
+    ensures { Moves (observed_at stage (Q.items pending.old) kind) result (Q.items pending.new) }
 {
     match stage {
         Stage::CopyingIn => copied(Stage::Answering, Stage::Failed, pending, kind),

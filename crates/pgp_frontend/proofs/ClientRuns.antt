@@ -34,11 +34,11 @@ same_tag (Some a) None p q x y t u e = absurd (u refl)
 same_tag (Some a) (Some b) p q x y t u e = cc
 
 -- whether a server has to be given the kind
-abbrev pub is_told : Option ℕ → Bool
-is_told None = false
-is_told (Some t) = t == 112
+abbrev pub is_reported : Option ℕ → Bool
+is_reported None = false
+is_reported (Some t) = t == 112
 
-pub kind_there : (m : ClientMessage) → is_some (kind_of m) ≡ is_told (tag_of m)
+pub kind_there : (m : ClientMessage) → is_some (kind_of m) ≡ is_reported (tag_of m)
 kind_there (PasswordMessage password) = refl
 kind_there (SaslInitialResponse mechanism response) = refl
 kind_there (SaslResponse response) = refl
@@ -66,9 +66,9 @@ tagged_front (x ∷ l) [] others c tl tm sl sm k e = absurd (has_bytes x (flat_m
 tagged_front (x ∷ l) (y ∷ m) others c tl tm sl sm k e =
     let bytes : bytes_of x ++ (flat_map bytes_of l ++ c) ≡ bytes_of y ++ flat_map bytes_of m = sym (regroup bytes_of x l c) ∙ sym e ∙ flat_map-cons bytes_of y m in
     let tags = same_tag (tag_of x) (tag_of y) (payload x) (payload y) (flat_map bytes_of l ++ c) (flat_map bytes_of m) tl.0 tm.0 bytes in
-    let told : is_some (kind_of x) ≡ is_some (kind_of y) = kind_there x ∙ ap is_told tags ∙ sym (kind_there y) in
+    let reported : is_some (kind_of x) ≡ is_some (kind_of y) = kind_there x ∙ ap is_reported tags ∙ sym (kind_there y) in
     let kinds : kinds_of x ++ (flat_map kinds_of l ++ others) ≡ kinds_of y ++ flat_map kinds_of m = sym (regroup kinds_of x l others) ∙ sym k ∙ flat_map-cons kinds_of y m in
-    let kind = same_kind (kind_of x) (kind_of y) (flat_map kinds_of l ++ others) (flat_map kinds_of m) told kinds in
+    let kind = same_kind (kind_of x) (kind_of y) (flat_map kinds_of l ++ others) (flat_map kinds_of m) reported kinds in
     let both = frame_read x y (flat_map bytes_of l ++ c) (flat_map bytes_of m) tl.0 tm.0 kind.0 sl.0 sm.0 bytes in
     let rest = tagged_front l m others c tl.1 tm.1 sl.1 sm.1 (sym kind.1) (sym both.1) in
     (rest.0, cons x y l rest.0 m both.0 rest.1)
@@ -101,8 +101,8 @@ front (x ∷ l) (y ∷ m) others c ol om sl sm k e =
     let oy : Opening y (bytes_of y) = record { untagged = b.0; spelled = sm.0; are = refl } in
     let both = opening_read x y (bytes_of x) (bytes_of y) (flat_map bytes_of l ++ c) (flat_map bytes_of m) ox oy bytes in
     let kinds : kinds_of x ++ (flat_map kinds_of l ++ others) ≡ kinds_of y ++ flat_map kinds_of m = sym (regroup kinds_of x l others) ∙ sym k ∙ flat_map-cons kinds_of y m in
-    let told : is_some (kind_of x) ≡ is_some (kind_of y) = ap is_some (a.1 ∙ sym b.1) in
-    let kind = same_kind (kind_of x) (kind_of y) (flat_map kinds_of l ++ others) (flat_map kinds_of m) told kinds in
+    let reported : is_some (kind_of x) ≡ is_some (kind_of y) = ap is_some (a.1 ∙ sym b.1) in
+    let kind = same_kind (kind_of x) (kind_of y) (flat_map kinds_of l ++ others) (flat_map kinds_of m) reported kinds in
     go both.0 ol om (λ tl tm. tagged_front l m others c tl tm sl.1 sm.1 (sym kind.1) (sym both.1)) (λ pl pm. front l m others c pl pm sl.1 sm.1 (sym kind.1) (sym both.1))
   where
     go : x ≡ y → AreInOrder (x ∷ l) → AreInOrder (y ∷ m) → (AllByRecursion IsTagged l → AllByRecursion IsTagged m → (n : List ClientMessage) × (m ≡ l ++ n))
@@ -115,7 +115,7 @@ front (x ∷ l) (y ∷ m) others c ol om sl sm k e =
 -- later bytes change nothing that was read
 pub runs_front : (kinds others : List PasswordKind) (l m : List ClientMessage) (b c : List ℕ) → ClientRun kinds l b → ClientRun (kinds ++ others) m (b ++ c) → (n : List ClientMessage) × (m ≡ l ++ n)
 runs_front kinds others l m b c p q =
-    front l m others c p.order q.order p.spelled q.spelled (sym q.told ∙ ap (λ ks. ks ++ others) p.told) (sym q.whole ∙ ap (λ bs. bs ++ c) p.whole)
+    front l m others c p.order q.order p.spelled q.spelled (sym q.reported ∙ ap (λ ks. ks ++ others) p.reported) (sym q.whole ∙ ap (λ bs. bs ++ c) p.whole)
 
 no_more : (l n k : List ClientMessage) → l ≡ (l ++ n) ++ k → n ≡ []
 no_more l [] k e = refl
@@ -133,7 +133,7 @@ runs_one kinds l m b p q =
 
 -- one list of bytes
 pub runs_bytes : (kinds more : List PasswordKind) (l : List ClientMessage) (b c : List ℕ) → ClientRun kinds l b → ClientRun more l c → (b ≡ c) × (kinds ≡ more)
-runs_bytes kinds more l b c p q = (p.whole ∙ sym q.whole, p.told ∙ sym q.told)
+runs_bytes kinds more l b c p q = (p.whole ∙ sym q.whole, p.reported ∙ sym q.reported)
 
 -- ---- one message more
 
@@ -188,7 +188,7 @@ pub run_more : (kinds : List PasswordKind) (l : List ClientMessage) (m : ClientM
 run_more kinds l m b run may none in_range = record {
   order = in_order l m (is_opened l) run.order refl may;
   spelled = each_push IsSpelled l m run.spelled (record { none = none; in_range = in_range; named = named m (is_opened l) may });
-  told = ap (λ ks. ks ++ kinds_of m) run.told ∙ sym (pushed kinds_of l m);
+  reported = ap (λ ks. ks ++ kinds_of m) run.reported ∙ sym (pushed kinds_of l m);
   whole = ap (λ bs. bs ++ bytes_of m) run.whole ∙ sym (pushed bytes_of l m);
 }
 
@@ -259,4 +259,4 @@ no_run minor kinds [] small run = has_bytes (no_name minor) [] (rw (append-nil (
 no_run minor kinds (m ∷ l) small run = not_first minor m (flat_map bytes_of l) small (one_of m l run.order) run.spelled.0 (run.whole ∙ flat_map-cons bytes_of m l)
 
 pub nothing : ClientRun [] [] []
-nothing = record { order = tt; spelled = tt; told = refl; whole = refl }
+nothing = record { order = tt; spelled = tt; reported = refl; whole = refl }

@@ -6,7 +6,7 @@ use Rattle.std.specs.List.{flat_map}
 use Rattle.std.specs.Option.{option_to_list}
 use Rattle.std.proofs.lemmas.Iterator.{YieldsList, items_from_drains}
 use Rattle.std.proofs.lemmas.List.{map-id}
-use Rattle.pgp_base.specs.Calls.{Came}
+use Rattle.pgp_base.specs.Calls.{Yielded}
 use Rattle.pgp_base.specs.Cause.{Cause, either, text_cause, count_cause, Wants, WantsMemory}
 use Rattle.pgp_base.specs.Held.{Held}
 use Rattle.pgp_base.specs.Wire.{oid}
@@ -33,20 +33,20 @@ yields_front steps v s (b ∷ ys) (a ∷ xs) t x u all y last =
     (m.0, rw (k.0, m.1) refl)
 
 pub all_given : {U S A B : Type 0} (into_iter_gives : U → S → Type 0) (next_gives : S → Option A → S → Type 0) (source : U) (v : A → B) (ys : List B) → ((it : S) → into_iter_gives source it → YieldsList next_gives v it ys)
-    → (xs : List A) → Came into_iter_gives next_gives source xs None → map v xs ≡ ys
-all_given into_iter_gives next_gives source v ys y xs k = items_from_drains xs (k.came.0, k.came.1, λ _. (k.left, k.came.2)) (y k.iterator k.from)
+    → (xs : List A) → Yielded into_iter_gives next_gives source xs None → map v xs ≡ ys
+all_given into_iter_gives next_gives source v ys y xs k = items_from_drains xs (k.received.0, k.received.1, λ _. (k.left, k.received.2)) (y k.iterator k.from)
 
 pub some_given : {U S A B : Type 0} (into_iter_gives : U → S → Type 0) (next_gives : S → Option A → S → Type 0) (source : U) (v : A → B) (ys : List B) → ((it : S) → into_iter_gives source it → YieldsList next_gives v it ys)
-    → (xs : List A) (x : A) → Came into_iter_gives next_gives source xs (Some x) → (more : List B) × (ys ≡ map v xs ++ v x ∷ more)
-some_given into_iter_gives next_gives source v ys y xs x k = yields_front next_gives v k.iterator ys xs k.came.0 x k.left (y k.iterator k.from).runs k.came.1 k.came.2
+    → (xs : List A) (x : A) → Yielded into_iter_gives next_gives source xs (Some x) → (more : List B) × (ys ≡ map v xs ++ v x ∷ more)
+some_given into_iter_gives next_gives source v ys y xs x k = yields_front next_gives v k.iterator ys xs k.received.0 x k.left (y k.iterator k.from).runs k.received.1 k.received.2
 
 -- the same where the items are seen as they are
 pub all_same : {U S A : Type 0} (into_iter_gives : U → S → Type 0) (next_gives : S → Option A → S → Type 0) (source : U) (ys : List A) → ((it : S) → into_iter_gives source it → YieldsList next_gives (λ (x : A). x) it ys)
-    → (xs : List A) → Came into_iter_gives next_gives source xs None → xs ≡ ys
+    → (xs : List A) → Yielded into_iter_gives next_gives source xs None → xs ≡ ys
 all_same into_iter_gives next_gives source ys y xs k = sym (map-id xs) ∙ all_given into_iter_gives next_gives source (λ x. x) ys y xs k
 
 pub some_same : {U S A : Type 0} (into_iter_gives : U → S → Type 0) (next_gives : S → Option A → S → Type 0) (source : U) (ys : List A) → ((it : S) → into_iter_gives source it → YieldsList next_gives (λ (x : A). x) it ys)
-    → (xs : List A) (x : A) → Came into_iter_gives next_gives source xs (Some x) → (more : List A) × (ys ≡ xs ++ x ∷ more)
+    → (xs : List A) (x : A) → Yielded into_iter_gives next_gives source xs (Some x) → (more : List A) × (ys ≡ xs ++ x ∷ more)
 some_same into_iter_gives next_gives source ys y xs x k =
     let m = some_given into_iter_gives next_gives source (λ x. x) ys y xs x k in
     (m.0, m.1 ∙ ap (λ l. l ++ x ∷ m.0) (map-id xs))
@@ -67,15 +67,15 @@ module _ (name query : List ℕ) (all : List ℕ) where
   module _ (types : List ℕ → Option ℕ → Type 0) (all_types : (xs : List ℕ) → types xs None → xs ≡ all) (some_types : (xs : List ℕ) (x : ℕ) → types xs (Some x) → (more : List ℕ) × (all ≡ xs ++ x ∷ more)) where
     -- those that came so far are no more than all
     front_few : (xs : List ℕ) (x : ℕ) → types xs (Some x) → length (xs ++ x ∷ []) ≤ length all
-    front_few xs x came = let k = some_types xs x came in omega (arith, ap length k.1, length-append xs (x ∷ []), length-append xs (x ∷ k.0))
+    front_few xs x received = let k = some_types xs x received in omega (arith, ap length k.1, length-append xs (x ∷ []), length-append xs (x ∷ k.0))
 
     asked_few : (before : List ℕ) (next : Option ℕ) (xs : List ℕ) → types before next → xs ≡ before ++ option_to_list next → length xs ≤ length all
-    asked_few before None xs came are = omega (arith, ap length are, ap length (all_types before came), length-append before [])
-    asked_few before (Some x) xs came are = omega (arith, ap length are, front_few before x came)
+    asked_few before None xs received are = omega (arith, ap length are, ap length (all_types before received), length-append before [])
+    asked_few before (Some x) xs received are = omega (arith, ap length are, front_few before x received)
 
     few : (xs : List ℕ) → Arrived types Oids xs → length xs ≤ length all
     few xs (inl none) = omega (arith, ap length none)
-    few xs (inr came) = asked_few came.before came.next xs came.came came.are
+    few xs (inr received) = asked_few received.before received.next xs received.received received.are
 
     -- a cause of those that came so far is one of all
     so_far_cause : (m : ClientMessage) (e : Error) → ParseSoFar name query types m → parts_cause (parts m) ≡ Some e → cause (Parse name query all) ≡ Some e

@@ -7,7 +7,7 @@ use Rattle.std.specs.Prelude.{negsuc}
 use Rattle.pgp_base.proofs.Needs.{counted_wants}
 use Rattle.pgp_frontend.proofs.Needs.{int32_length}
 use Rattle.pgp_base.specs.Cause.{first, nullable_cause, count_cause}
-use Rattle.pgp_base.specs.Calls.{Gives, Runs, Came, ValueRefused}
+use Rattle.pgp_base.specs.Calls.{Gives, Runs, Yielded, ValueRefused}
 use Rattle.pgp_base.proofs.Causes.{either_none, either_first, either_then, first_here, count_fits, count_past}
 use Rattle.pgp_base.proofs.Parts.{Puts-at, Runs-length}
 use Rattle.pgp_base.specs.Held.{Held, ◌⊕◌}
@@ -49,11 +49,11 @@ values_long vs v e n h k =
 module _ {F T E B K : Type 0} (held : B → Held K) (step : F → T → MutBor B → Result IsNull E → MutBor B → F → Type 0) {U S : Type 0} (into_iter_gives : U → S → Type 0) (next_gives : S → Option T → S → Type 0) (source : U) (f : F) (here old : Held K) (at_count : here ≡ old ⊕ uint16 0) (lacks : Held K → ℕ → Type 0) where
   -- a value that was rejected after those that were made
   pub value_stops : (xs : List T) (x : T) (vs : List (Option (List ℕ))) (at u : F) (b : Held K) (e : BindError E)
-      → Came into_iter_gives next_gives source xs (Some x) → Runs (Gives held step) nullable here f xs vs at → length xs < 65535 → b ≡ here ⊕ flat_map nullable vs
-      → ValueRefused held step lacks b at x e u → ValuesRefused (Came into_iter_gives next_gives source) (Serves held step f u) here lacks old e
-  value_stops xs x vs at u b (Conversion e) came runs few h r =
-      record { xs = xs; x = x; came = came; few = few; before = vs; bytes = r.0; made = (at, runs, Puts-at _ _ (ap (λ b. b ⊕ uint32 0) h) r.1) }
-  value_stops xs x vs at u b (Serialization e) came runs few h r =
+      → Yielded into_iter_gives next_gives source xs (Some x) → Runs (Gives held step) nullable here f xs vs at → length xs < 65535 → b ≡ here ⊕ flat_map nullable vs
+      → ValueRefused held step lacks b at x e u → ValuesRefused (Yielded into_iter_gives next_gives source) (Serves held step f u) here lacks old e
+  value_stops xs x vs at u b (Conversion e) received runs few h r =
+      record { xs = xs; x = x; received = received; few = few; before = vs; bytes = r.0; made = (at, runs, Puts-at _ _ (ap (λ b. b ⊕ uint32 0) h) r.1) }
+  value_stops xs x vs at u b (Serialization e) received runs few h r =
       let n = Runs-length (Gives held step) nullable here f xs vs at runs in
       let few' : length vs < 65535 = omega (arith, n) in
       let made = Runs-fit held step here f xs vs at runs in
@@ -63,25 +63,25 @@ module _ {F T E B K : Type 0} (held : B → Held K) (step : F → T → MutBor B
             let runs' : Runs (Gives held step) nullable here f xs vs u = subst (λ (t : F). Runs (Gives held step) nullable here f xs vs t) (sym memory.1) runs in
             inr (
               vs ++ None ∷ [],
-              record { xs = xs; x = x; came = came; before = vs; none = none; value = None; are = refl; made = inl (runs', refl) },
+              record { xs = xs; x = x; received = received; before = vs; none = none; value = None; are = refl; made = inl (runs', refl) },
               inl (memory.0.0, counted_wants nullable vs None old b 4 (h ∙ ap (λ k. k ⊕ flat_map nullable vs) at_count) (omega (arith, int32_length (negsuc 0))) memory.0.1),
             )
         | inr long ↦ inr (
           vs ++ Some long.0 ∷ [],
-          record { xs = xs; x = x; came = came; before = vs; none = none; value = Some long.0; are = refl; made = inr (few, (long.0, (at, runs, Puts-at _ _ (ap (λ b. b ⊕ uint32 0) h) long.1), refl)) },
+          record { xs = xs; x = x; received = received; before = vs; none = none; value = Some long.0; are = refl; made = inr (few, (long.0, (at, runs, Puts-at _ _ (ap (λ b. b ⊕ uint32 0) h) long.1), refl)) },
           inr (values_long vs (Some long.0) e few' made long.2),
         )
       ]
 
   -- an item past the count's field
-  pub count_stops : (xs : List T) (x : T) (vs : List (Option (List ℕ))) (at : F) → Came into_iter_gives next_gives source xs (Some x) → Runs (Gives held step) nullable here f xs vs at → length xs ≡ 65535
-      → (let e : BindError E = Serialization TooLarge in ValuesRefused (Came into_iter_gives next_gives source) (Serves held step f at) here lacks old e)
-  count_stops xs x vs at came runs n =
+  pub count_stops : (xs : List T) (x : T) (vs : List (Option (List ℕ))) (at : F) → Yielded into_iter_gives next_gives source xs (Some x) → Runs (Gives held step) nullable here f xs vs at → length xs ≡ 65535
+      → (let e : BindError E = Serialization TooLarge in ValuesRefused (Yielded into_iter_gives next_gives source) (Serves held step f at) here lacks old e)
+  count_stops xs x vs at received runs n =
       let k = Runs-length (Gives held step) nullable here f xs vs at runs in
       let full : length vs ≡ 65535 = sym k ∙ n in
       let made = Runs-fit held step here f xs vs at runs in
       inr (
         vs ++ None ∷ [],
-        record { xs = xs; x = x; came = came; before = vs; none = values_fit vs (omega arith) made; value = None; are = refl; made = inl (runs, refl) },
+        record { xs = xs; x = x; received = received; before = vs; none = values_fit vs (omega arith) made; value = None; are = refl; made = inl (runs, refl) },
         inr (values_past vs None full made),
       )

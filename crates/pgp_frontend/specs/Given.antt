@@ -42,16 +42,16 @@ module _ (Whole SoFar : ClientMessage → Type 0) where
 
 -- The items that came so far: those before the last have no cause, as their part says, and it is one that came next, if
 -- any did.
-pub record CameUpTo {A : Type 0} (given : List A → Option A → Type 0) (part : List A → Part) (xs : List A) : Type 0 where
+pub record ReceivedUpTo {A : Type 0} (given : List A → Option A → Type 0) (part : List A → Part) (xs : List A) : Type 0 where
   pub before : List A
   pub next : Option A
-  pub came : given before next
+  pub received : given before next
   pub none : part_cause (part before) ≡ None
   pub are : xs ≡ before ++ option_to_list next
 
 -- none was asked for, or these came so far
 abbrev pub Arrived : {A : Type 0} → (List A → Option A → Type 0) → (List A → Part) → List A → Type 0
-Arrived given part xs = (xs ≡ []) ⊎ CameUpTo given part xs
+Arrived given part xs = (xs ≡ []) ⊎ ReceivedUpTo given part xs
 
 -- `parse` of these texts and of the types that were given
 module _ (name query : List ℕ) (types : List ℕ → Option ℕ → Type 0) where
@@ -113,7 +113,7 @@ module _ {T E K : Type 0} (given : List T → Option T → Type 0) (serves : Hel
   -- the serializer made vs of all items
   pub record Served (vs : List (Option (List ℕ))) : Type 0 where
     pub xs : List T
-    pub came : given xs None
+    pub received : given xs None
     pub made : serves here xs vs None
 
   -- The values so far, up to the item x: the serializer made those before it. It wasn't called at x, for whose value a
@@ -121,7 +121,7 @@ module _ {T E K : Type 0} (given : List T → Option T → Type 0) (serves : Hel
   pub record ValuesUpTo (vs : List (Option (List ℕ))) : Type 0 where
     pub xs : List T
     pub x : T
-    pub came : given xs (Some x)
+    pub received : given xs (Some x)
     pub before : List (Option (List ℕ))
     pub none : part_cause (Values before) ≡ None
     pub value : Option (List ℕ)
@@ -133,7 +133,7 @@ module _ {T E K : Type 0} (given : List T → Option T → Type 0) (serves : Hel
   pub record Converts (e : E) : Type 0 where
     pub xs : List T
     pub x : T
-    pub came : given xs (Some x)
+    pub received : given xs (Some x)
     pub few : length xs < 65535
     pub before : List (Option (List ℕ))
     pub bytes : List ℕ
@@ -160,21 +160,21 @@ module _ {T E K : Type 0} (portal statement : List ℕ) (formats : List ℤ → 
   ComesToValues fs = formats fs None × (parts_cause (Text portal ∷ Text statement ∷ Int16s fs ∷ []) ≡ None)
 
   -- formats so far, and the serializer wasn't called
-  abbrev pub FormatsCame : ClientMessage → Type 0
-  FormatsCame m = serves old [] [] None × ((fs : List ℤ) × Arrived formats Int16s fs × (m ≡ Bind portal statement fs [] []))
+  abbrev pub FormatsReceived : ClientMessage → Type 0
+  FormatsReceived m = serves old [] [] None × ((fs : List ℤ) × Arrived formats Int16s fs × (m ≡ Bind portal statement fs [] []))
 
   -- all formats, and values so far
-  abbrev pub ValuesCame : ClientMessage → Type 0
-  ValuesCame m = (fs : List ℤ) × ComesToValues fs × ((vs : List (Option (List ℕ))) × ValuesUpTo values serves (before_values old portal statement fs) vs × (m ≡ Bind portal statement fs vs []))
+  abbrev pub ValuesReceived : ClientMessage → Type 0
+  ValuesReceived m = (fs : List ℤ) × ComesToValues fs × ((vs : List (Option (List ℕ))) × ValuesUpTo values serves (before_values old portal statement fs) vs × (m ≡ Bind portal statement fs vs []))
 
   -- all values too, which have no cause, and formats of results so far
-  abbrev pub ResultsCame : ClientMessage → Type 0
-  ResultsCame m = (fs : List ℤ) × ComesToValues fs
+  abbrev pub ResultsReceived : ClientMessage → Type 0
+  ResultsReceived m = (fs : List ℤ) × ComesToValues fs
       × ((vs : List (Option (List ℕ))) × AllServed fs vs × (part_cause (Values vs) ≡ None)
       × ((rs : List ℤ) × Arrived result_formats Int16s rs × (m ≡ Bind portal statement fs vs rs)))
 
   abbrev pub BindSoFar : ClientMessage → Type 0
-  BindSoFar m = FormatsCame m ⊎ (ValuesCame m ⊎ ResultsCame m)
+  BindSoFar m = FormatsReceived m ⊎ (ValuesReceived m ⊎ ResultsReceived m)
 
   -- why the call was rejected: by the serializer, or as any writer
   abbrev pub BindRefused : (Held K → ℕ → Type 0) → BindError E → Type 0

@@ -6,7 +6,7 @@ ghost use Rattle.std.specs.Int.{w16};
 ghost use Rattle.std.specs.Iterator.{IsFiniteIterable};
 ghost use Rattle.pgp_base.specs.Wire.{int16, oid, counted};
 ghost use Rattle.pgp_base.specs.Held.{◌⊕◌, IsFrontOf};
-ghost use Rattle.pgp_base.specs.Calls.{Came};
+ghost use Rattle.pgp_base.specs.Calls.{Yielded};
 ghost use Rattle.pgp_frontend.specs.Payload.{Int16s, Oids, part_cause};
 ghost use Rattle.pgp_frontend.specs.Putting.{ItemsRefused};
 
@@ -20,10 +20,10 @@ pub fn put_oids<B: Buffer, I: IntoIterator<Item = Oid> + Drop>(
 where
     I::IntoIter: Drop,
     requires { IsFiniteIterable I.into_iter_gives I.IntoIter.can_next I.IntoIter.remaining items }
-    ensures ok { OnOk result ((xs : List ℕ) × Came I.into_iter_gives I.IntoIter.next_gives items xs None
+    ensures ok { OnOk result ((xs : List ℕ) × Yielded I.into_iter_gives I.IntoIter.next_gives items xs None
         × All (λ n. n < 2 ^ 32) xs × (part_cause (Oids xs) ≡ None) × (B.held buf.new ≡ B.held buf.old ⊕ counted oid xs)) }
     ensures err { OnErr result (IsFrontOf (B.held buf.old) (B.held buf.new)) }
-    ensures cause { IfErr result (ItemsRefused (Came I.into_iter_gives I.IntoIter.next_gives items) Oids B.Lacks (B.held buf.old)) }
+    ensures cause { IfErr result (ItemsRefused (Yielded I.into_iter_gives I.IntoIter.next_gives items) Oids B.Lacks (B.held buf.old)) }
 {
     let base = buf.len();
     put_u16(buf, 0)?;
@@ -47,10 +47,10 @@ pub fn put_int16s<B: Buffer, I: IntoIterator<Item = i16> + Drop>(
 where
     I::IntoIter: Drop,
     requires { IsFiniteIterable I.into_iter_gives I.IntoIter.can_next I.IntoIter.remaining items }
-    ensures ok { OnOk result ((xs : List ℤ) × Came I.into_iter_gives I.IntoIter.next_gives items xs None
+    ensures ok { OnOk result ((xs : List ℤ) × Yielded I.into_iter_gives I.IntoIter.next_gives items xs None
         × All (FitsSigned w16) xs × (part_cause (Int16s xs) ≡ None) × (B.held buf.new ≡ B.held buf.old ⊕ counted int16 xs)) }
     ensures err { OnErr result (IsFrontOf (B.held buf.old) (B.held buf.new)) }
-    ensures cause { IfErr result (ItemsRefused (Came I.into_iter_gives I.IntoIter.next_gives items) Int16s B.Lacks (B.held buf.old)) }
+    ensures cause { IfErr result (ItemsRefused (Yielded I.into_iter_gives I.IntoIter.next_gives items) Int16s B.Lacks (B.held buf.old)) }
 {
     let base = buf.len();
     put_u16(buf, 0)?;

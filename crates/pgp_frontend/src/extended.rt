@@ -6,7 +6,7 @@ ghost use Rattle.std.specs.Int.{w16};
 ghost use Rattle.std.specs.Iterator.{IsFiniteIterable};
 ghost use Rattle.pgp_base.specs.Wire.{uint32};
 ghost use Rattle.pgp_base.specs.Held.{◌⊕◌, IsFrontOf};
-ghost use Rattle.pgp_base.specs.Calls.{Came, OwesValues};
+ghost use Rattle.pgp_base.specs.Calls.{Yielded, OwesValues};
 ghost use Rattle.pgp_frontend.specs.Given.{Appended, Refused, ParseWhole, ParseSoFar, WritesParse, Serves, BindWhole, BindRefused, WritesBind};
 ghost use Rattle.pgp_frontend.specs.ClientMessage.{Bind, Close, Describe, Execute, Flush, Sync};
 ghost use Rattle.pgp_frontend.specs.Payload.{Text, Int16s, joined, parts_cause, WritesMessage};
@@ -87,12 +87,12 @@ where
     I::IntoIter: Drop,
     requires { IsFiniteIterable I.into_iter_gives I.IntoIter.can_next I.IntoIter.remaining param_types }
     ensures ok { OnOk result (Appended
-        (ParseWhole name.now query.now (Came I.into_iter_gives I.IntoIter.next_gives param_types))
+        (ParseWhole name.now query.now (Yielded I.into_iter_gives I.IntoIter.next_gives param_types))
         (B.held buf.old) (B.held buf.new)) }
     ensures err { OnErr result (IsFrontOf (B.held buf.old) (B.held buf.new)) }
     ensures cause { IfErr result (Refused
-        (ParseWhole name.now query.now (Came I.into_iter_gives I.IntoIter.next_gives param_types))
-        (ParseSoFar name.now query.now (Came I.into_iter_gives I.IntoIter.next_gives param_types))
+        (ParseWhole name.now query.now (Yielded I.into_iter_gives I.IntoIter.next_gives param_types))
+        (ParseSoFar name.now query.now (Yielded I.into_iter_gives I.IntoIter.next_gives param_types))
         B.Lacks (B.held buf.old)) }
 {
     let texts = [Field::Text(name), Field::Text(query)];
@@ -124,7 +124,7 @@ where
     I::IntoIter: Drop,
     requires { IsFiniteIterable I.into_iter_gives I.IntoIter.can_next I.IntoIter.remaining param_types }
     ensures { WritesParse name.now query.now
-        (Came I.into_iter_gives I.IntoIter.next_gives param_types)
+        (Yielded I.into_iter_gives I.IntoIter.next_gives param_types)
         B.Lacks (B.held buf.old) (B.held buf.new) result }
 {
     over_bytes::parse(name.as_bytes(), query.as_bytes(), param_types, buf)
@@ -140,11 +140,11 @@ fn fill_formats<B: Buffer, I: IntoIterator<Item = i16> + Drop>(
 where
     I::IntoIter: Drop,
     requires { IsFiniteIterable I.into_iter_gives I.IntoIter.can_next I.IntoIter.remaining formats }
-    ensures ok { OnOk result ((fs : List ℤ) × Came I.into_iter_gives I.IntoIter.next_gives formats fs None × All (FitsSigned w16) fs
+    ensures ok { OnOk result ((fs : List ℤ) × Yielded I.into_iter_gives I.IntoIter.next_gives formats fs None × All (FitsSigned w16) fs
         × (parts_cause (Text portal.now ∷ Text statement.now ∷ Int16s fs ∷ []) ≡ None)
         × (B.held buf.new ≡ B.held buf.old ⊕ 66 ∷ [] ⊕ uint32 0 ⊕ joined (Text portal.now ∷ Text statement.now ∷ Int16s fs ∷ []))) }
     ensures err { OnErr result (IsFrontOf (B.held buf.old) (B.held buf.new)) }
-    ensures cause { IfErr result (HeadRefused portal.now statement.now (Came I.into_iter_gives I.IntoIter.next_gives formats) B.Lacks (B.held buf.old)) }
+    ensures cause { IfErr result (HeadRefused portal.now statement.now (Yielded I.into_iter_gives I.IntoIter.next_gives formats) B.Lacks (B.held buf.old)) }
 {
     let texts = [Field::Text(portal), Field::Text(statement)];
     buf.reserve(room(&texts) + 1)?;
@@ -183,17 +183,17 @@ where
     requires callable { F.IsAlwaysCallable serializer.old }
     requires owes { OwesValues B.held F.pre F.step }
     ensures ok { OnOk result (Appended (BindWhole portal.now statement.now
-        (Came I.into_iter_gives I.IntoIter.next_gives formats)
-        (Came J.into_iter_gives J.IntoIter.next_gives values)
+        (Yielded I.into_iter_gives I.IntoIter.next_gives formats)
+        (Yielded J.into_iter_gives J.IntoIter.next_gives values)
         (Serves B.held F.step serializer.old serializer.new)
-        (Came K.into_iter_gives K.IntoIter.next_gives result_formats)
+        (Yielded K.into_iter_gives K.IntoIter.next_gives result_formats)
         (B.held buf.old)) (B.held buf.old) (B.held buf.new)) }
     ensures err { OnErr result (IsFrontOf (B.held buf.old) (B.held buf.new)) }
     ensures cause { IfErr result (BindRefused portal.now statement.now
-        (Came I.into_iter_gives I.IntoIter.next_gives formats)
-        (Came J.into_iter_gives J.IntoIter.next_gives values)
+        (Yielded I.into_iter_gives I.IntoIter.next_gives formats)
+        (Yielded J.into_iter_gives J.IntoIter.next_gives values)
         (Serves B.held F.step serializer.old serializer.new)
-        (Came K.into_iter_gives K.IntoIter.next_gives result_formats)
+        (Yielded K.into_iter_gives K.IntoIter.next_gives result_formats)
         (B.held buf.old) B.Lacks) }
 {
     let base = buf.len() + 1;
@@ -242,10 +242,10 @@ where
     requires callable { F.IsAlwaysCallable serializer }
     requires owes { OwesValues B.held F.pre F.step }
     ensures { (last : F) × WritesBind portal.now statement.now
-        (Came I.into_iter_gives I.IntoIter.next_gives formats)
-        (Came J.into_iter_gives J.IntoIter.next_gives values)
+        (Yielded I.into_iter_gives I.IntoIter.next_gives formats)
+        (Yielded J.into_iter_gives J.IntoIter.next_gives values)
         (Serves B.held F.step serializer last)
-        (Came K.into_iter_gives K.IntoIter.next_gives result_formats)
+        (Yielded K.into_iter_gives K.IntoIter.next_gives result_formats)
         (B.held buf.old) B.Lacks (B.held buf.new) result }
 {
     over_bytes::bind(

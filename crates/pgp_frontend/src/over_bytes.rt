@@ -3,7 +3,7 @@
 #![tactic(auto, using(pgp_base::proofs::Parts::held_steps))]
 
 ghost use Rattle.std.specs.Iterator.{IsFiniteIterable};
-ghost use Rattle.pgp_base.specs.Calls.{Came, OwesValues};
+ghost use Rattle.pgp_base.specs.Calls.{Yielded, OwesValues};
 ghost use Rattle.pgp_frontend.specs.ClientMessage.{Close, CopyFail, Describe, Execute, Query, SaslInitialResponse};
 ghost use Rattle.pgp_frontend.specs.Given.{Serves, WritesBind, WritesParse, WritesStartup};
 ghost use Rattle.pgp_frontend.specs.Payload.{WritesMessage};
@@ -47,7 +47,7 @@ where
     I::IntoIter: Drop,
     requires { IsFiniteIterable I.into_iter_gives I.IntoIter.can_next I.IntoIter.remaining param_types }
     ensures { WritesParse name.now query.now
-        (Came I.into_iter_gives I.IntoIter.next_gives param_types)
+        (Yielded I.into_iter_gives I.IntoIter.next_gives param_types)
         B.Lacks (B.held buf.old) (B.held buf.new) result }
 {
     let start = buf.len();
@@ -100,10 +100,10 @@ where
     requires callable { F.IsAlwaysCallable serializer }
     requires owes { OwesValues B.held F.pre F.step }
     ensures { (last : F) × WritesBind portal.now statement.now
-        (Came I.into_iter_gives I.IntoIter.next_gives formats)
-        (Came J.into_iter_gives J.IntoIter.next_gives values)
+        (Yielded I.into_iter_gives I.IntoIter.next_gives formats)
+        (Yielded J.into_iter_gives J.IntoIter.next_gives values)
         (Serves B.held F.step serializer last)
-        (Came K.into_iter_gives K.IntoIter.next_gives result_formats)
+        (Yielded K.into_iter_gives K.IntoIter.next_gives result_formats)
         (B.held buf.old) B.Lacks (B.held buf.new) result }
 {
     let start = buf.len();
@@ -213,7 +213,7 @@ where
     I::IntoIter: Drop,
     requires { IsFiniteIterable I.into_iter_gives I.IntoIter.can_next I.IntoIter.remaining parameters }
     ensures { WritesStartup ProtocolVersion.V3_0
-        (Came I.into_iter_gives I.IntoIter.next_gives parameters)
+        (Yielded I.into_iter_gives I.IntoIter.next_gives parameters)
         B.Lacks (B.held buf.old) (B.held buf.new) result }
 {
     startup_message_version(ProtocolVersion::V3_0, parameters, buf)
@@ -235,7 +235,7 @@ where
     I::IntoIter: Drop,
     requires { IsFiniteIterable I.into_iter_gives I.IntoIter.can_next I.IntoIter.remaining parameters }
     ensures { WritesStartup version
-        (Came I.into_iter_gives I.IntoIter.next_gives parameters)
+        (Yielded I.into_iter_gives I.IntoIter.next_gives parameters)
         B.Lacks (B.held buf.old) (B.held buf.new) result }
 {
     open(version, parameters, buf)

@@ -6,7 +6,7 @@ ghost use Rattle.std.specs.Iterator.{IsFiniteIterable};
 ghost use Rattle.pgp_base.specs.Held.{◌⊕◌, IsFrontOf};
 ghost use Rattle.pgp_base.specs.Cause.{Wants, WantsMemory};
 ghost use Rattle.pgp_base.specs.Wire.{int32};
-ghost use Rattle.pgp_base.specs.Calls.{Came};
+ghost use Rattle.pgp_base.specs.Calls.{Yielded};
 ghost use Rattle.pgp_frontend.specs.ClientMessage.{CancelRequest, SslRequest};
 ghost use Rattle.pgp_frontend.specs.Given.{Appended, Refused, WritesGiven, WritesStartup, StartupWhole, StartupSoFar, pairs_by};
 ghost use Rattle.pgp_frontend.specs.Payload.{spelling, part_cause, version_code, WritesMessage};
@@ -89,10 +89,10 @@ fn put_pairs<B: Buffer, T: Text + Copy, I: IntoIterator<Item = (T, T)> + Drop>(
 where
     I::IntoIter: Drop,
     requires { IsFiniteIterable I.into_iter_gives I.IntoIter.can_next I.IntoIter.remaining parameters }
-    ensures ok { OnOk result ((xs : List (T × T)) × Came I.into_iter_gives I.IntoIter.next_gives parameters xs None
+    ensures ok { OnOk result ((xs : List (T × T)) × Yielded I.into_iter_gives I.IntoIter.next_gives parameters xs None
         × (part_cause (pairs_by T.shown xs) ≡ None) × (B.held buf.new ≡ B.held buf.old ⊕ spelling (pairs_by T.shown xs))) }
     ensures err { OnErr result (IsFrontOf (B.held buf.old) (B.held buf.new)) }
-    ensures cause { IfErr result (ItemsRefused (Came I.into_iter_gives I.IntoIter.next_gives parameters) (pairs_by T.shown) B.Lacks (B.held buf.old)) }
+    ensures cause { IfErr result (ItemsRefused (Yielded I.into_iter_gives I.IntoIter.next_gives parameters) (pairs_by T.shown) B.Lacks (B.held buf.old)) }
 {
     for (name, value) in parameters {
         write_cstr(name.bytes(), buf)?;
@@ -123,12 +123,12 @@ where
     I::IntoIter: Drop,
     requires { IsFiniteIterable I.into_iter_gives I.IntoIter.can_next I.IntoIter.remaining parameters }
     ensures ok { OnOk result (Appended
-        (StartupWhole T.shown version (Came I.into_iter_gives I.IntoIter.next_gives parameters))
+        (StartupWhole T.shown version (Yielded I.into_iter_gives I.IntoIter.next_gives parameters))
         (B.held buf.old) (B.held buf.new)) }
     ensures err { OnErr result (IsFrontOf (B.held buf.old) (B.held buf.new)) }
     ensures cause { IfErr result (Refused
-        (StartupWhole T.shown version (Came I.into_iter_gives I.IntoIter.next_gives parameters))
-        (StartupSoFar T.shown version (Came I.into_iter_gives I.IntoIter.next_gives parameters))
+        (StartupWhole T.shown version (Yielded I.into_iter_gives I.IntoIter.next_gives parameters))
+        (StartupSoFar T.shown version (Yielded I.into_iter_gives I.IntoIter.next_gives parameters))
         B.Lacks (B.held buf.old)) }
 {
     let base = buf.len();
@@ -151,8 +151,8 @@ where
     I::IntoIter: Drop,
     requires { IsFiniteIterable I.into_iter_gives I.IntoIter.can_next I.IntoIter.remaining parameters }
     ensures { WritesGiven
-        (StartupWhole T.shown version (Came I.into_iter_gives I.IntoIter.next_gives parameters))
-        (StartupSoFar T.shown version (Came I.into_iter_gives I.IntoIter.next_gives parameters))
+        (StartupWhole T.shown version (Yielded I.into_iter_gives I.IntoIter.next_gives parameters))
+        (StartupSoFar T.shown version (Yielded I.into_iter_gives I.IntoIter.next_gives parameters))
         B.Lacks (B.held buf.old) (B.held buf.new) result }
 {
     let start = buf.len();
@@ -180,7 +180,7 @@ where
     I::IntoIter: Drop,
     requires { IsFiniteIterable I.into_iter_gives I.IntoIter.can_next I.IntoIter.remaining parameters }
     ensures { WritesStartup ProtocolVersion.V3_0
-        (Came I.into_iter_gives I.IntoIter.next_gives parameters)
+        (Yielded I.into_iter_gives I.IntoIter.next_gives parameters)
         B.Lacks (B.held buf.old) (B.held buf.new) result }
 {
     startup_message_version(ProtocolVersion::V3_0, parameters, buf)
@@ -202,7 +202,7 @@ where
     I::IntoIter: Drop,
     requires { IsFiniteIterable I.into_iter_gives I.IntoIter.can_next I.IntoIter.remaining parameters }
     ensures { WritesStartup version
-        (Came I.into_iter_gives I.IntoIter.next_gives parameters)
+        (Yielded I.into_iter_gives I.IntoIter.next_gives parameters)
         B.Lacks (B.held buf.old) (B.held buf.new) result }
 {
     open(version, parameters, buf)

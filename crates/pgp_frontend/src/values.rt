@@ -5,7 +5,7 @@ ghost use Rattle.std.specs.Prelude.{◌≡◌, ℕ, List, ◌++◌, Option, None
 ghost use Rattle.std.specs.Iterator.{IsFiniteIterable};
 ghost use Rattle.pgp_base.specs.Wire.{uint16, counted, nullable};
 ghost use Rattle.pgp_base.specs.Held.{◌⊕◌, IsFrontOf};
-ghost use Rattle.pgp_base.specs.Calls.{Came, OwesValues};
+ghost use Rattle.pgp_base.specs.Calls.{Yielded, OwesValues};
 ghost use Rattle.pgp_frontend.specs.Given.{Serves, Served};
 ghost use Rattle.pgp_frontend.specs.Payload.{Values, part_cause};
 ghost use Rattle.pgp_frontend.specs.Putting.{ValuesRefused};
@@ -27,10 +27,10 @@ where
     requires callable { F.IsAlwaysCallable serializer.old }
     requires owes { OwesValues B.held F.pre F.step }
     ensures ok { OnOk result ((vs : List (Option (List ℕ)))
-        × Served (Came J.into_iter_gives J.IntoIter.next_gives values) (Serves B.held F.step serializer.old serializer.new) (B.held buf.old ⊕ uint16 0) vs
+        × Served (Yielded J.into_iter_gives J.IntoIter.next_gives values) (Serves B.held F.step serializer.old serializer.new) (B.held buf.old ⊕ uint16 0) vs
         × (part_cause (Values vs) ≡ None) × (B.held buf.new ≡ B.held buf.old ⊕ counted nullable vs)) }
     ensures err { OnErr result (IsFrontOf (B.held buf.old) (B.held buf.new)) }
-    ensures cause { IfErr result (ValuesRefused (Came J.into_iter_gives J.IntoIter.next_gives values) (Serves B.held F.step serializer.old serializer.new) (B.held buf.old ⊕ uint16 0) B.Lacks (B.held buf.old)) }
+    ensures cause { IfErr result (ValuesRefused (Yielded J.into_iter_gives J.IntoIter.next_gives values) (Serves B.held F.step serializer.old serializer.new) (B.held buf.old ⊕ uint16 0) B.Lacks (B.held buf.old)) }
 {
     let base = buf.len();
     put_u16(buf, 0)?;

@@ -22,7 +22,7 @@ use Rattle.pgp_frontend.specs.Reading.{Shape, AByte, AnInt16, AnInt32, AnOid, AT
 use Rattle.pgp_frontend.proofs.Needs.{null_length}
 use Rattle.pgp_frontend_read.specs.Content.{Content, Contents}
 use Rattle.pgp_frontend_read.specs.Faults.{IsShort, HasWrongLength, LacksSized, LacksValue, LacksItems, IsCutPair, LacksEnd, Lacks, Faulty}
-use Rattle.pgp_frontend_read.specs.Reading.{items_at, items_on, with_front, counted_at, format_at, type_at, value_at, value_after, pair_at, all_of, pairs_at, unless, key_at, content_at, contents_at, contents_on, before, ended, made, bind_of, close_of, describe_of, execute_of, function_call_of, parse_of, query_of, copy_fail_of, password_of, sasl_initial_of, told_of, body_of, startup_of, cancel_of, named, by_code, by_front, packet_of}
+use Rattle.pgp_frontend_read.specs.Reading.{items_at, items_on, with_front, counted_at, format_at, type_at, value_at, value_after, pair_at, all_of, pairs_at, unless, key_at, content_at, contents_at, contents_on, before, ended, made, bind_of, close_of, describe_of, execute_of, function_call_of, parse_of, query_of, copy_fail_of, password_of, sasl_initial_of, reported_of, body_of, startup_of, cancel_of, named, by_code, by_front, packet_of}
 use Rattle.pgp_frontend_read.specs.Step.{BlamesFrame, BlamesPacket}
 use Rattle.pgp_frontend_read.specs.declared.error.ClientError.{ClientError}
 use Rattle.pgp_frontend_read.specs.declared.error.ClientError.TheVariants.{UnknownPacket, Reading}
@@ -258,22 +258,22 @@ contents_faulty (s ∷ shapes) bytes e h is = by_part (λ b k i. contents_faulty
 
 -- ---- frames
 
-abbrev Told : PasswordKind → ClientMessage → Type 0
-Told kind m = IfSome (kind_of m) (λ k. k ≡ kind)
+abbrev Reported : PasswordKind → ClientMessage → Type 0
+Reported kind m = IfSome (kind_of m) (λ k. k ≡ kind)
 
 -- the message is one of this tag, and the payload isn't parts of its shapes
 module _ (kind : PasswordKind) (tag n : ℕ) (bytes : List ℕ) (e : Error) (h : IsBytes bytes) where
-  faulty_body : (m : ClientMessage) → tag_of m ≡ Some n → Told kind m → (tag == n) ≡ true → Faulty (map shape (parts m)) bytes e → BlamesFrame kind tag bytes (Reading e)
-  faulty_body m t told is faulty = inr (record { message = m; tagged = t ∙ ap (λ k. Some k) (sym (eqb-true tag n is)); told = told; fault = e; faulty = faulty; name = refl })
+  faulty_body : (m : ClientMessage) → tag_of m ≡ Some n → Reported kind m → (tag == n) ≡ true → Faulty (map shape (parts m)) bytes e → BlamesFrame kind tag bytes (Reading e)
+  faulty_body m t reported is faulty = inr (record { message = m; tagged = t ∙ ap (λ k. Some k) (sym (eqb-true tag n is)); reported = reported; fault = e; faulty = faulty; name = refl })
 
-  form_blamed : (m : ClientMessage) (make : Contents (map shape (parts m)) → ClientMessage) → tag_of m ≡ Some n → Told kind m → (tag == n) ≡ true → made make (contents_at (map shape (parts m)) bytes) ≡ Err e → BlamesFrame kind tag bytes (Reading e)
-  form_blamed m make t told is refused = faulty_body m t told is (contents_faulty (map shape (parts m)) bytes e h (made_err make (contents_at (map shape (parts m)) bytes) e refused))
+  form_blamed : (m : ClientMessage) (make : Contents (map shape (parts m)) → ClientMessage) → tag_of m ≡ Some n → Reported kind m → (tag == n) ≡ true → made make (contents_at (map shape (parts m)) bytes) ≡ Err e → BlamesFrame kind tag bytes (Reading e)
+  form_blamed m make t reported is refused = faulty_body m t reported is (contents_faulty (map shape (parts m)) bytes e h (made_err make (contents_at (map shape (parts m)) bytes) e refused))
 
-told_blamed : (kind : PasswordKind) (tag : ℕ) (bytes : List ℕ) (e : Error) → IsBytes bytes → (tag == 112) ≡ true → told_of kind bytes ≡ Err e → BlamesFrame kind tag bytes (Reading e)
+reported_blamed : (kind : PasswordKind) (tag : ℕ) (bytes : List ℕ) (e : Error) → IsBytes bytes → (tag == 112) ≡ true → reported_of kind bytes ≡ Err e → BlamesFrame kind tag bytes (Reading e)
 unfolding password_of sasl_initial_of
-told_blamed Password tag bytes e h is refused = form_blamed Password tag 112 bytes e h (PasswordMessage []) (λ c. PasswordMessage c.first) refl refl is refused
-told_blamed Initial tag bytes e h is refused = form_blamed Initial tag 112 bytes e h (SaslInitialResponse [] None) (λ c. SaslInitialResponse c.first c.rest.first) refl refl is refused
-told_blamed Response tag bytes e h is refused = absurd (no_refusal _ e refused)
+reported_blamed Password tag bytes e h is refused = form_blamed Password tag 112 bytes e h (PasswordMessage []) (λ c. PasswordMessage c.first) refl refl is refused
+reported_blamed Initial tag bytes e h is refused = form_blamed Initial tag 112 bytes e h (SaslInitialResponse [] None) (λ c. SaslInitialResponse c.first c.rest.first) refl refl is refused
+reported_blamed Response tag bytes e h is refused = absurd (no_refusal _ e refused)
 
 not_here : (tag n : ℕ) → (tag == n) ≡ false → (let x : Option ℕ = Some n in x ≢ Some tag)
 not_here tag n is e =
@@ -351,7 +351,7 @@ body_blames kind tag bytes e each is =
                             | inr copy ↦ elim (chosen (tag == 102) _ _ _ copy.1) [
                               | inl y ↦ form_blamed kind tag 102 bytes e each (CopyFail []) (λ c. CopyFail c.first) refl tt y.0 y.1
                               | inr fail ↦ elim (chosen (tag == 112) _ _ _ fail.1) [
-                                | inl y ↦ told_blamed kind tag bytes e each y.0 y.1
+                                | inl y ↦ reported_blamed kind tag bytes e each y.0 y.1
                                 | inr last ↦
                                     let none : NoTag tag = record { b = b.0; c = c.0; d = d.0; e = f.0; call = call.0; h = h.0; p = p.0; q = q.0; s = s.0; x = x.0; done = done.0; copy = copy.0; fail = fail.0; password = last.0 } in
                                     inl (ap (λ (x : Error). Reading x) (sym (refusal_is (UnknownTag tag) e last.1)), no_message tag none)

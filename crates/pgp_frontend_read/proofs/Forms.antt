@@ -18,7 +18,7 @@ use Rattle.pgp_frontend.specs.Payload.{Part, Int32, Key, Pairs, joined, parts, p
 use Rattle.pgp_frontend.specs.Reading.{Shape, AByte, AnInt16, AnInt32, AnOid, AText, SomeInt16s, SomeOids, SomeValues, ANullable, AKey, SomePairs, IsNamed, IsSpelled}
 use Rattle.pgp_frontend.proofs.Readings.{EachHasSpelling, spelled_parts}
 use Rattle.pgp_frontend_read.specs.Content.{Contents, parts_of}
-use Rattle.pgp_frontend_read.specs.Reading.{contents_at, made, ended, bind_of, close_of, describe_of, execute_of, function_call_of, parse_of, query_of, copy_fail_of, password_of, sasl_initial_of, told_of, body_of, startup_of, cancel_of, named, by_code, by_front, packet_of}
+use Rattle.pgp_frontend_read.specs.Reading.{contents_at, made, ended, bind_of, close_of, describe_of, execute_of, function_call_of, parse_of, query_of, copy_fail_of, password_of, sasl_initial_of, reported_of, body_of, startup_of, cancel_of, named, by_code, by_front, packet_of}
 use Rattle.pgp_frontend_read.specs.declared.error.ClientError.{ClientError}
 use Rattle.pgp_frontend_read.specs.declared.error.ClientError.TheVariants.{UnknownPacket}
 use Rattle.pgp_frontend_read.proofs.Items.{ok, ok_is}
@@ -84,41 +84,41 @@ ended_is m n (b ∷ bytes) e = absurd cc
 -- The payload is that of a message that may come after this tag, given this kind.
 pub record IsBody (kind : PasswordKind) (tag : ℕ) (bytes : List ℕ) (m : ClientMessage) : Type 0 where
   pub tagged : tag_of m ≡ Some tag
-  pub told : IfSome (kind_of m) (λ k. k ≡ kind)
+  pub reported : IfSome (kind_of m) (λ k. k ≡ kind)
   pub payload : IsPayload m bytes
 
 bare_body : (kind : PasswordKind) (tag : ℕ) (bytes : List ℕ) (m n : ClientMessage) → parts m ≡ [] → IsNamed m → kind_of m ≡ None → tag_of m ≡ Some tag → ended m bytes ≡ Ok n → IsBody kind tag bytes n
-bare_body kind tag bytes m n none named untold tagged e =
+bare_body kind tag bytes m n none named unreported tagged e =
     let r = ended_is m n bytes e in
     let is : IsBody kind tag bytes m = record {
       tagged = tagged;
-      told = subst (λ (o : Option PasswordKind). IfSome o (λ k. k ≡ kind)) (sym untold) tt;
+      reported = subst (λ (o : Option PasswordKind). IfSome o (λ k. k ≡ kind)) (sym unreported) tt;
       payload = spelled_message m bytes (subst EachHasSpelling (sym none) tt) named (no_version m tag tagged) (r.1 ∙ ap joined (sym none)) (omega (arith, ap length r.1));
     } in
     subst (λ x. IsBody kind tag bytes x) (sym r.0) is
 
 module _ (kind : PasswordKind) (tag : ℕ) (shapes : List Shape) (make : Contents shapes → ClientMessage) (are : (c : Contents shapes) → parts (make c) ≡ parts_of shapes c)
-    (named : (c : Contents shapes) → IsNamed (make c)) (tagged : (c : Contents shapes) → tag_of (make c) ≡ Some tag) (told : (c : Contents shapes) → IfSome (kind_of (make c)) (λ k. k ≡ kind)) where
+    (named : (c : Contents shapes) → IsNamed (make c)) (tagged : (c : Contents shapes) → tag_of (make c) ≡ Some tag) (reported : (c : Contents shapes) → IfSome (kind_of (make c)) (λ k. k ≡ kind)) where
   form_body : (bytes : List ℕ) (m : ClientMessage) → IsBytes bytes → length bytes + 4 < 2 ^ 31 → made make (contents_at shapes bytes) ≡ Ok m → IsBody kind tag bytes m
   form_body bytes m h fits e =
       let f = form_found shapes make are (λ c each. named c) (λ c. no_version (make c) tag (tagged c)) bytes m h fits e in
       record {
         tagged = ap tag_of f.1 ∙ tagged f.0;
-        told = subst (λ x. IfSome (kind_of x) (λ k. k ≡ kind)) (sym f.1) (told f.0);
+        reported = subst (λ x. IfSome (kind_of x) (λ k. k ≡ kind)) (sym f.1) (reported f.0);
         payload = f.2;
       }
 
 rest_body : (kind : PasswordKind) (tag : ℕ) (bytes : List ℕ) (m n : ClientMessage) → tag_of m ≡ Some tag → IfSome (kind_of m) (λ k. k ≡ kind) → EachHasSpelling (parts m) → IsNamed m → bytes ≡ payload m → length bytes + 4 < 2 ^ 31
     → ok m ≡ ok n → IsBody kind tag bytes n
-rest_body kind tag bytes m n tagged told each named are fits e =
-    let is : IsBody kind tag bytes m = record { tagged = tagged; told = told; payload = spelled_message m bytes each named (no_version m tag tagged) are fits } in
+rest_body kind tag bytes m n tagged reported each named are fits e =
+    let is : IsBody kind tag bytes m = record { tagged = tagged; reported = reported; payload = spelled_message m bytes each named (no_version m tag tagged) are fits } in
     subst (λ x. IsBody kind tag bytes x) (ok_is m n e) is
 
-told_found : (kind : PasswordKind) (bytes : List ℕ) (m : ClientMessage) → IsBytes bytes → length bytes + 4 < 2 ^ 31 → told_of kind bytes ≡ Ok m → IsBody kind 112 bytes m
+reported_found : (kind : PasswordKind) (bytes : List ℕ) (m : ClientMessage) → IsBytes bytes → length bytes + 4 < 2 ^ 31 → reported_of kind bytes ≡ Ok m → IsBody kind 112 bytes m
 unfolding password_of sasl_initial_of
-told_found Password bytes m h fits e = form_body Password 112 (AText ∷ []) (λ c. PasswordMessage c.first) (λ c. refl) (λ c. tt) (λ c. refl) (λ c. refl) bytes m h fits e
-told_found Initial bytes m h fits e = form_body Initial 112 (AText ∷ ANullable ∷ []) (λ c. SaslInitialResponse c.first c.rest.first) (λ c. refl) (λ c. tt) (λ c. refl) (λ c. refl) bytes m h fits e
-told_found Response bytes m h fits e = rest_body Response 112 bytes (SaslResponse bytes) m refl refl (record { none = refl; in_range = tt; named = tt }, tt) tt (sym (append-nil bytes)) fits e
+reported_found Password bytes m h fits e = form_body Password 112 (AText ∷ []) (λ c. PasswordMessage c.first) (λ c. refl) (λ c. tt) (λ c. refl) (λ c. refl) bytes m h fits e
+reported_found Initial bytes m h fits e = form_body Initial 112 (AText ∷ ANullable ∷ []) (λ c. SaslInitialResponse c.first c.rest.first) (λ c. refl) (λ c. tt) (λ c. refl) (λ c. refl) bytes m h fits e
+reported_found Response bytes m h fits e = rest_body Response 112 bytes (SaslResponse bytes) m refl refl (record { none = refl; in_range = tt; named = tt }, tt) tt (sym (append-nil bytes)) fits e
 
 pub body_found : (kind : PasswordKind) (tag : ℕ) (bytes : List ℕ) (m : ClientMessage) → IsBytes bytes → length bytes + 4 < 2 ^ 31 → body_of kind tag bytes ≡ Ok m → IsBody kind tag bytes m
 unfolding body_of bind_of close_of describe_of execute_of function_call_of parse_of query_of copy_fail_of
@@ -150,7 +150,7 @@ body_found kind tag bytes m h fits e =
                             | inr e ↦ elim (chosen (tag == 102) _ _ _ e.1) [
                               | inl y ↦ at 102 y.0 (form_body kind 102 (AText ∷ []) (λ c. CopyFail c.first) (λ c. refl) (λ c. tt) (λ c. refl) (λ c. tt) bytes m h fits y.1)
                               | inr e ↦ elim (chosen (tag == 112) _ _ _ e.1) [
-                                | inl y ↦ at 112 y.0 (told_found kind bytes m h fits y.1)
+                                | inl y ↦ at 112 y.0 (reported_found kind bytes m h fits y.1)
                                 | inr e ↦ let k : Err (UnknownTag tag) ≡ Ok m = e.1 in absurd cc
                               ]
                             ]
@@ -174,16 +174,16 @@ some_is : (a b : ℕ) → (let x : Option ℕ = Some a in x ≡ Some b) → a �
 some_is a b e = cc
 
 -- each message is read from its own payload
-password_again : (kind : PasswordKind) (z : List ℕ) → Password ≡ kind → IsSpelled (PasswordMessage z) → told_of kind (payload (PasswordMessage z)) ≡ Ok (PasswordMessage z)
+password_again : (kind : PasswordKind) (z : List ℕ) → Password ≡ kind → IsSpelled (PasswordMessage z) → reported_of kind (payload (PasswordMessage z)) ≡ Ok (PasswordMessage z)
 unfolding password_of
 password_again kind z k h = rw (← k) (form_again (AText ∷ []) (λ c. PasswordMessage c.first) (λ c. refl) (record { first = z; rest = tt }) tt h)
 
-initial_again : (kind : PasswordKind) (a : List ℕ) (z : Option (List ℕ)) → Initial ≡ kind → IsSpelled (SaslInitialResponse a z) → told_of kind (payload (SaslInitialResponse a z)) ≡ Ok (SaslInitialResponse a z)
+initial_again : (kind : PasswordKind) (a : List ℕ) (z : Option (List ℕ)) → Initial ≡ kind → IsSpelled (SaslInitialResponse a z) → reported_of kind (payload (SaslInitialResponse a z)) ≡ Ok (SaslInitialResponse a z)
 unfolding sasl_initial_of
 initial_again kind a z k h =
     rw (← k) (form_again (AText ∷ ANullable ∷ []) (λ c. SaslInitialResponse c.first c.rest.first) (λ c. refl) (record { first = a; rest = record { first = z; rest = tt } }) ((λ z. z), tt) h)
 
-response_again : (kind : PasswordKind) (z : List ℕ) → Response ≡ kind → told_of kind (payload (SaslResponse z)) ≡ Ok (SaslResponse z)
+response_again : (kind : PasswordKind) (z : List ℕ) → Response ≡ kind → reported_of kind (payload (SaslResponse z)) ≡ Ok (SaslResponse z)
 response_again kind z k = rw (← k) (ap (λ l. ok (SaslResponse l)) (append-nil z))
 
 pub body_again : (kind : PasswordKind) (m : ClientMessage) (tag : ℕ) → tag_of m ≡ Some tag → IfSome (kind_of m) (λ k. k ≡ kind) → IsSpelled m → body_of kind tag (payload m) ≡ Ok m

@@ -16,7 +16,7 @@ use Rattle.pgp_frontend.specs.Reading.{Shape, AByte, AnInt16, AnInt32, AnOid, AT
 use Rattle.pgp_frontend.proofs.Readings.{bodies, tagged_bodies}
 use Rattle.pgp_frontend_read.specs.Content.{Contents}
 use Rattle.pgp_frontend_read.specs.Faults.{Faulty}
-use Rattle.pgp_frontend_read.specs.Reading.{contents_at, made, ended, bind_of, close_of, describe_of, execute_of, function_call_of, parse_of, query_of, copy_fail_of, password_of, sasl_initial_of, told_of, body_of, startup_of, cancel_of, named, by_code, packet_of}
+use Rattle.pgp_frontend_read.specs.Reading.{contents_at, made, ended, bind_of, close_of, describe_of, execute_of, function_call_of, parse_of, query_of, copy_fail_of, password_of, sasl_initial_of, reported_of, body_of, startup_of, cancel_of, named, by_code, packet_of}
 use Rattle.pgp_frontend_read.specs.Step.{Unread, least, BeginsWithLength, BlamesFrame, IsUnknownPacket, BlamesPacket, SkipsFrame, StopsAt, StopsAtLength, Refuses, Step}
 use Rattle.pgp_frontend_read.specs.declared.error.ClientError.{ClientError}
 use Rattle.pgp_frontend_read.specs.declared.error.ClientError.TheVariants.{UnknownPacket, Reading}
@@ -46,11 +46,11 @@ no_fault : (bytes : List ℕ) (e : Error) → Faulty (AllBytes ∷ []) bytes e �
 no_fault bytes e (inl lacks) = lacks
 no_fault bytes e (inr (x, rest, first, more)) = more.0 (first.all tt)
 
-password_read : (kind : PasswordKind) (bytes : List ℕ) (e : Error) → Password ≡ kind → Faulty (AText ∷ []) bytes e → told_of kind bytes ≡ Err e
+password_read : (kind : PasswordKind) (bytes : List ℕ) (e : Error) → Password ≡ kind → Faulty (AText ∷ []) bytes e → reported_of kind bytes ≡ Err e
 unfolding password_of
 password_read kind bytes e k f = rw (← k) (form_read (AText ∷ []) (λ c. PasswordMessage c.first) bytes e f)
 
-initial_read : (kind : PasswordKind) (bytes : List ℕ) (e : Error) → Initial ≡ kind → Faulty (AText ∷ ANullable ∷ []) bytes e → told_of kind bytes ≡ Err e
+initial_read : (kind : PasswordKind) (bytes : List ℕ) (e : Error) → Initial ≡ kind → Faulty (AText ∷ ANullable ∷ []) bytes e → reported_of kind bytes ≡ Err e
 unfolding sasl_initial_of
 initial_read kind bytes e k f = rw (← k) (form_read (AText ∷ ANullable ∷ []) (λ c. SaslInitialResponse c.first c.rest.first) bytes e f)
 
@@ -102,7 +102,7 @@ unknown_read kind tag bytes none =
 
 frame_read : (kind : PasswordKind) (tag : ℕ) (payload : List ℕ) (e : ClientError) → BlamesFrame kind tag payload e → (d : Error) × (e ≡ Reading d) × (body_of kind tag payload ≡ Err d)
 frame_read kind tag payload e (inl unknown) = (UnknownTag tag, unknown.0, unknown_read kind tag payload unknown.1)
-frame_read kind tag payload e (inr faulty) = (faulty.fault, faulty.name, faulty_read kind faulty.message tag payload faulty.fault faulty.tagged faulty.told faulty.faulty)
+frame_read kind tag payload e (inr faulty) = (faulty.fault, faulty.name, faulty_read kind faulty.message tag payload faulty.fault faulty.tagged faulty.reported faulty.faulty)
 
 -- ---- opening packets
 

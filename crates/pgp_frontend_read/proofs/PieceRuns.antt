@@ -6,7 +6,7 @@ use Rattle.pgp_frontend.specs.ClientRun.{ClientRun}
 use Rattle.pgp_frontend_read.specs.Reads.{Reads, HasRead, IsEnd, IsAllRead, next_kind, kinds_behind}
 use Rattle.pgp_frontend_read.specs.Step.{Unread, Step}
 use Rattle.pgp_frontend_read.specs.Pieces.{Waiting, unread}
-use Rattle.pgp_frontend_read.specs.PieceReads.{Came, Gives, ReadsPiece, ReadsPieces, messages_of, piece_of}
+use Rattle.pgp_frontend_read.specs.PieceReads.{Received, Gives, ReadsPiece, ReadsPieces, messages_of, piece_of}
 use Rattle.pgp_frontend_read.specs.declared.error.ClientError.{ClientError}
 use Rattle.pgp_frontend_read.proofs.OneStep.{step_one}
 use Rattle.pgp_frontend_read.proofs.Pieces.{pieces_read}
@@ -18,9 +18,9 @@ same_unread : (old new : Waiting) (piece rest : List ℕ) → new ≡ old → re
 same_unread old new piece rest w p = ap (λ (w : Waiting). unread w rest) w ∙ ap (unread old) p
 
 pub call_steps : (lacks : Type 0) (kind : PasswordKind) (old new : Waiting) (piece rest : List ℕ) (r : Result (Option ClientMessage) ClientError) → Gives lacks kind old piece r new rest → Step kind (unread old piece) r (unread new rest)
-call_steps lacks kind old new piece rest (Ok (Some m)) x = x.found.1.steps kind (Ok m) x.told
+call_steps lacks kind old new piece rest (Ok (Some m)) x = x.found.1.steps kind (Ok m) x.reported
 call_steps lacks kind old new piece rest (Ok None) x = (x.1, x.2)
-call_steps lacks kind old new piece rest (Err e) (inl x) = x.found.1.steps kind (Err e) x.told
+call_steps lacks kind old new piece rest (Err e) (inl x) = x.found.1.steps kind (Err e) x.reported
 call_steps lacks kind old new piece rest (Err e) (inr x) = subst (λ (u : Unread). Step kind (unread old piece) (Err e) u) (sym (same_unread old new piece rest x.2.held x.2.in_piece)) (x.1 kind)
 
 -- one piece is read as its bytes after those that are held
@@ -39,20 +39,20 @@ piece_has_read lacks kinds rest old new piece behind [] x =
 piece_has_read lacks kinds rest old new piece behind (m ∷ messages) x =
     (unread x.0 x.1, call_steps lacks (next_kind kinds) old x.0 piece x.1 (Ok (Some m)) x.2, piece_has_read lacks (kinds_behind m kinds) rest x.0 new x.1 behind messages x.3)
 
-pub pieces_read_on : (lacks : Type 0) (kinds others : List PasswordKind) (old here : Waiting) (new : Unread) (came : List Came) (last : List ℕ) (messages : List ClientMessage) (end : Result (Option ClientMessage) ClientError)
-    → ReadsPieces lacks kinds old came others here → Reads others (unread here last) messages end new
-    → Reads kinds (unread old (flat_map piece_of came ++ last)) (flat_map messages_of came ++ messages) end new
+pub pieces_read_on : (lacks : Type 0) (kinds others : List PasswordKind) (old here : Waiting) (new : Unread) (received : List Received) (last : List ℕ) (messages : List ClientMessage) (end : Result (Option ClientMessage) ClientError)
+    → ReadsPieces lacks kinds old received others here → Reads others (unread here last) messages end new
+    → Reads kinds (unread old (flat_map piece_of received ++ last)) (flat_map messages_of received ++ messages) end new
 pieces_read_on lacks kinds others old here new [] last messages end x r =
     subst (λ (w : Waiting). Reads kinds (unread w last) messages end new) x.1 (subst (λ ks. Reads ks (unread here last) messages end new) x.0 r)
-pieces_read_on lacks kinds others old here new (p ∷ came) last messages end x r =
-    let on : Reads x.0 (unread x.1 (flat_map piece_of came ++ last)) (flat_map messages_of came ++ messages) end new = pieces_read_on lacks x.0 others x.1 here new came last messages end x.4 r in
+pieces_read_on lacks kinds others old here new (p ∷ received) last messages end x r =
+    let on : Reads x.0 (unread x.1 (flat_map piece_of received ++ last)) (flat_map messages_of received ++ messages) end new = pieces_read_on lacks x.0 others x.1 here new received last messages end x.4 r in
     let front : HasRead kinds (unread old p.piece) p.messages x.0 (left x.1.bytes x.1.opened) = piece_has_read lacks kinds x.0 old x.1 p.piece x.2 p.messages x.3 in
-    let all : Reads kinds (left ((old.bytes ++ p.piece) ++ (flat_map piece_of came ++ last)) old.opened) (p.messages ++ (flat_map messages_of came ++ messages)) end new =
-    pieces_read kinds x.0 (unread old p.piece) (left x.1.bytes x.1.opened) new (flat_map piece_of came ++ last) p.messages (flat_map messages_of came ++ messages) end front on in
-    let bytes : (old.bytes ++ p.piece) ++ (flat_map piece_of came ++ last) ≡ old.bytes ++ (p.piece ++ flat_map piece_of came ++ last) =
-    append_assoc old.bytes p.piece (flat_map piece_of came ++ last) ∙ ap (λ l. old.bytes ++ l) (sym (append_assoc p.piece (flat_map piece_of came) last)) in
-    subst (λ ms. Reads kinds (unread old (p.piece ++ flat_map piece_of came ++ last)) ms end new) (sym (append_assoc p.messages (flat_map messages_of came) messages))
-    (subst (λ l. Reads kinds (left l old.opened) (p.messages ++ (flat_map messages_of came ++ messages)) end new) bytes all)
+    let all : Reads kinds (left ((old.bytes ++ p.piece) ++ (flat_map piece_of received ++ last)) old.opened) (p.messages ++ (flat_map messages_of received ++ messages)) end new =
+    pieces_read kinds x.0 (unread old p.piece) (left x.1.bytes x.1.opened) new (flat_map piece_of received ++ last) p.messages (flat_map messages_of received ++ messages) end front on in
+    let bytes : (old.bytes ++ p.piece) ++ (flat_map piece_of received ++ last) ≡ old.bytes ++ (p.piece ++ flat_map piece_of received ++ last) =
+    append_assoc old.bytes p.piece (flat_map piece_of received ++ last) ∙ ap (λ l. old.bytes ++ l) (sym (append_assoc p.piece (flat_map piece_of received) last)) in
+    subst (λ ms. Reads kinds (unread old (p.piece ++ flat_map piece_of received ++ last)) ms end new) (sym (append_assoc p.messages (flat_map messages_of received) messages))
+    (subst (λ l. Reads kinds (left l old.opened) (p.messages ++ (flat_map messages_of received ++ messages)) end new) bytes all)
 
 -- ---- bytes are read in one way
 
@@ -87,22 +87,22 @@ reads_one kinds old new behind (m ∷ all) (n ∷ messages) result end x y =
     let more = reads_one (kinds_behind n kinds) y.0 new behind all messages result end on y.2 in
     record { messages_are = cons m n all messages same more.messages_are; end_is = more.end_is; left_is = more.left_is }
 
-pub whole_given : (lacks : Type 0) (kinds others rest : List PasswordKind) (old here new : Waiting) (came : List Came) (last behind : List ℕ) (messages all : List ClientMessage) (end result : Result (Option ClientMessage) ClientError) (after : Unread)
-    → ReadsPieces lacks kinds old came others here → ReadsPiece lacks others here last messages end rest new behind → Reads kinds (unread old (flat_map piece_of came ++ last)) all result after
-    → (all ≡ flat_map messages_of came ++ messages) × (result ≡ end) × (after ≡ unread new behind)
-whole_given lacks kinds others rest old here new came last behind messages all end result after x y r =
+pub whole_given : (lacks : Type 0) (kinds others rest : List PasswordKind) (old here new : Waiting) (received : List Received) (last behind : List ℕ) (messages all : List ClientMessage) (end result : Result (Option ClientMessage) ClientError) (after : Unread)
+    → ReadsPieces lacks kinds old received others here → ReadsPiece lacks others here last messages end rest new behind → Reads kinds (unread old (flat_map piece_of received ++ last)) all result after
+    → (all ≡ flat_map messages_of received ++ messages) × (result ≡ end) × (after ≡ unread new behind)
+whole_given lacks kinds others rest old here new received last behind messages all end result after x y r =
     let on = piece_read lacks others rest here new last behind messages end y in
-    let pieces = pieces_read_on lacks kinds others old here (unread new behind) came last messages end x on in
-    let same = reads_one kinds (unread old (flat_map piece_of came ++ last)) (unread new behind) after all (flat_map messages_of came ++ messages) result end r pieces in
+    let pieces = pieces_read_on lacks kinds others old here (unread new behind) received last messages end x on in
+    let same = reads_one kinds (unread old (flat_map piece_of received ++ last)) (unread new behind) after all (flat_map messages_of received ++ messages) result end r pieces in
     (same.messages_are, same.end_is, same.left_is)
 
 -- the pieces of a session
-pub session_in_pieces : (lacks : Type 0) (kinds others rest : List PasswordKind) (old here new : Waiting) (came : List Came) (last behind : List ℕ) (messages read : List ClientMessage) (end : Result (Option ClientMessage) ClientError)
-    → old.bytes ≡ [] → old.opened ≡ false → ReadsPieces lacks kinds old came others here → ReadsPiece lacks others here last read end rest new behind → ClientRun kinds messages (flat_map piece_of came ++ last)
-    → IsAllRead messages (flat_map messages_of came ++ read) end (unread new behind)
-session_in_pieces lacks kinds others rest old here new came last behind messages read end none closed x y run =
+pub session_in_pieces : (lacks : Type 0) (kinds others rest : List PasswordKind) (old here new : Waiting) (received : List Received) (last behind : List ℕ) (messages read : List ClientMessage) (end : Result (Option ClientMessage) ClientError)
+    → old.bytes ≡ [] → old.opened ≡ false → ReadsPieces lacks kinds old received others here → ReadsPiece lacks others here last read end rest new behind → ClientRun kinds messages (flat_map piece_of received ++ last)
+    → IsAllRead messages (flat_map messages_of received ++ read) end (unread new behind)
+session_in_pieces lacks kinds others rest old here new received last behind messages read end none closed x y run =
     let on = piece_read lacks others rest here new last behind read end y in
-    let pieces = pieces_read_on lacks kinds others old here (unread new behind) came last read end x on in
-    let first : unread old (flat_map piece_of came ++ last) ≡ left (flat_map piece_of came ++ last) false = ap (λ l. left (l ++ (flat_map piece_of came ++ last)) old.opened) none ∙ ap (left (flat_map piece_of came ++ last)) closed in
-    session_read kinds messages (flat_map messages_of came ++ read) (flat_map piece_of came ++ last) end (unread new behind) run
-    (subst (λ (u : Unread). Reads kinds u (flat_map messages_of came ++ read) end (unread new behind)) first pieces)
+    let pieces = pieces_read_on lacks kinds others old here (unread new behind) received last read end x on in
+    let first : unread old (flat_map piece_of received ++ last) ≡ left (flat_map piece_of received ++ last) false = ap (λ l. left (l ++ (flat_map piece_of received ++ last)) old.opened) none ∙ ap (left (flat_map piece_of received ++ last)) closed in
+    session_read kinds messages (flat_map messages_of received ++ read) (flat_map piece_of received ++ last) end (unread new behind) run
+    (subst (λ (u : Unread). Reads kinds u (flat_map messages_of received ++ read) end (unread new behind)) first pieces)

@@ -11,7 +11,7 @@ use Rattle.pgp_frontend.specs.Opening.{Opening}
 use Rattle.pgp_frontend.specs.Payload.{framed, payload, tag_of, kind_of, bytes_of}
 use Rattle.pgp_frontend.specs.Reading.{IsSpelled}
 use Rattle.pgp_frontend.proofs.Readings.{frame_read, opening_read}
-use Rattle.pgp_frontend.proofs.ClientRuns.{same_tag, kind_there, is_told}
+use Rattle.pgp_frontend.proofs.ClientRuns.{same_tag, kind_there, is_reported}
 use Rattle.pgp_frontend.specs.ClientRun.{ClientRun, IsRequest, IsStartup, IsTagged, AreInOrder, kinds_of, is_startup}
 use Rattle.pgp_frontend_read.specs.Step.{Unread, IsExpected, Stands, Step}
 use Rattle.pgp_frontend_read.specs.Reads.{Reads, ReadsSession, end_of, IsAllRead, IsEnd, next_kind, kinds_behind}
@@ -29,7 +29,7 @@ pub stands_once : (kind : PasswordKind) (opened : Bool) (bytes rest after : List
 stands_once kind true bytes rest after m n s t =
     let both : bytes_of m ++ rest ≡ bytes_of n ++ after = sym s.whole ∙ t.whole in
     let tags = same_tag (tag_of m) (tag_of n) (payload m) (payload n) rest after s.expected.0 t.expected.0 both in
-    let kinds = same_kind kind (kind_of m) (kind_of n) (kind_there m ∙ ap is_told tags ∙ sym (kind_there n)) s.expected.1 t.expected.1 in
+    let kinds = same_kind kind (kind_of m) (kind_of n) (kind_there m ∙ ap is_reported tags ∙ sym (kind_there n)) s.expected.1 t.expected.1 in
     frame_read m n rest after s.expected.0 t.expected.0 kinds s.spelled t.spelled both
 stands_once kind false bytes rest after m n s t =
     let om : Opening m (bytes_of m) = record { untagged = s.expected; spelled = s.spelled; are = refl } in
@@ -92,7 +92,7 @@ InOrder true messages = AllByRecursion IsTagged messages
 pub record RunFrom (opened : Bool) (kinds : List PasswordKind) (messages : List ClientMessage) (bytes : List ℕ) : Type 0 where
   pub order : InOrder opened messages
   pub spelled : AllByRecursion IsSpelled messages
-  pub told : kinds ≡ flat_map kinds_of messages
+  pub reported : kinds ≡ flat_map kinds_of messages
   pub whole : bytes ≡ flat_map bytes_of messages
 
 untagged : (m : ClientMessage) → IsStartup m ⊎ IsRequest m → tag_of m ≡ None
@@ -103,14 +103,14 @@ untagged GssEncRequest o = refl
 untagged _ (inl o) = absurd o
 untagged _ (inr o) = absurd o
 
-next_told : (k : Option PasswordKind) (kinds : List PasswordKind) → IfSome k (λ x. x ≡ next_kind (option_to_list k ++ kinds))
-next_told None kinds = tt
-next_told (Some k) kinds = refl
+next_reported : (k : Option PasswordKind) (kinds : List PasswordKind) → IfSome k (λ x. x ≡ next_kind (option_to_list k ++ kinds))
+next_reported None kinds = tt
+next_reported (Some k) kinds = refl
 
 expected : (opened : Bool) (m : ClientMessage) (messages : List ClientMessage) (kinds : List PasswordKind) → InOrder opened (m ∷ messages) → kinds ≡ flat_map kinds_of (m ∷ messages) → IsExpected (next_kind kinds) opened m
-expected true m messages kinds o told = (o.0, subst (λ ks. IfSome (kind_of m) (λ k. k ≡ next_kind ks)) (sym told) (next_told (kind_of m) (flat_map kinds_of messages)))
-expected false m messages kinds (inl o) told = untagged m (inl o.0)
-expected false m messages kinds (inr o) told = untagged m (inr o.0)
+expected true m messages kinds o reported = (o.0, subst (λ ks. IfSome (kind_of m) (λ k. k ≡ next_kind ks)) (sym reported) (next_reported (kind_of m) (flat_map kinds_of messages)))
+expected false m messages kinds (inl o) reported = untagged m (inl o.0)
+expected false m messages kinds (inr o) reported = untagged m (inr o.0)
 
 opens : (m : ClientMessage) → IsStartup m → is_startup m ≡ true
 opens (Startup v ps) s = refl
@@ -128,14 +128,14 @@ order_behind false m messages (inl o) = subst (λ (b : Bool). InOrder b messages
 order_behind false m messages (inr o) = subst (λ (b : Bool). InOrder b messages) (sym (asks m o.0)) o.1
 
 pub front_stands : (opened : Bool) (kinds : List PasswordKind) (m : ClientMessage) (messages : List ClientMessage) (bytes : List ℕ) → RunFrom opened kinds (m ∷ messages) bytes → Stands (next_kind kinds) opened bytes m (flat_map bytes_of messages)
-front_stands opened kinds m messages bytes run = record { expected = expected opened m messages kinds run.order run.told; spelled = run.spelled.0; whole = run.whole }
+front_stands opened kinds m messages bytes run = record { expected = expected opened m messages kinds run.order run.reported; spelled = run.spelled.0; whole = run.whole }
 
 pub behind : (opened : Bool) (kinds : List PasswordKind) (m : ClientMessage) (messages : List ClientMessage) (bytes : List ℕ) → RunFrom opened kinds (m ∷ messages) bytes
     → RunFrom (opened || is_startup m) (kinds_behind m kinds) messages (flat_map bytes_of messages)
 behind opened kinds m messages bytes run = record {
   order = order_behind opened m messages run.order;
   spelled = run.spelled.1;
-  told = ap (drop (length (kinds_of m))) run.told ∙ drop_at (kinds_of m) (flat_map kinds_of messages) (length (kinds_of m)) refl;
+  reported = ap (drop (length (kinds_of m))) run.reported ∙ drop_at (kinds_of m) (flat_map kinds_of messages) (length (kinds_of m)) refl;
   whole = refl;
 }
 
@@ -176,7 +176,7 @@ run_read opened kinds (m ∷ messages) (n ∷ others) bytes end new run r =
 pub session_read : (kinds : List PasswordKind) (messages others : List ClientMessage) (bytes : List ℕ) (end : Result (Option ClientMessage) ClientError) (new : Unread)
     → ClientRun kinds messages bytes → Reads kinds (left bytes false) others end new → IsAllRead messages others end new
 session_read kinds messages others bytes end new run r =
-    run_read false kinds messages others bytes end new (record { order = run.order; spelled = run.spelled; told = run.told; whole = run.whole }) r
+    run_read false kinds messages others bytes end new (record { order = run.order; spelled = run.spelled; reported = run.reported; whole = run.whole }) r
 
 end_is : (end : Option ClientError) → end_of end ≡ silence → end ≡ None
 end_is None e = refl

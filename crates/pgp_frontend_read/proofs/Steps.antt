@@ -123,7 +123,7 @@ module _ (kind : PasswordKind) (bytes body rest : List ℕ) (tag : ℕ) (each : 
       let b = body_found kind tag body m (frame_payload bytes body rest tag each front.whole) front.fits e in
       record {
         stands = record {
-          expected = (some_none tag (tag_of m) b.tagged, b.told);
+          expected = (some_none tag (tag_of m) b.tagged, b.reported);
           spelled = b.payload.spelled;
           whole = front.whole ∙ ap (λ t. framed t body ++ rest) (sym b.tagged) ∙ ap (λ p. framed (tag_of m) p ++ rest) b.payload.are;
         };

@@ -11,7 +11,7 @@ use Rattle.pgp_frontend_read.specs.declared.parser_error.ParserError.TheVariants
 pub record ReadsNext (lacks : Type 0) (kind : PasswordKind) (old : Waiting) (piece : List ℕ) (read : Result ClientMessage ClientError) (new : Waiting) (left : List ℕ) : Type 0 where
   pub frame : ClientFrame
   pub found : Answer lacks old piece (Ok (Some frame)) new left
-  pub told : ReadsFrame kind frame read
+  pub reported : ReadsFrame kind frame read
 
 -- What a call gave, with the message of what it handed out.
 abbrev pub Gives : Type 0 → PasswordKind → Waiting → List ℕ → Result (Option ClientMessage) ClientError → Waiting → List ℕ → Type 0
@@ -26,18 +26,18 @@ ReadsPiece lacks kinds old piece (x ∷ messages) end rest new left =
     (here : Waiting) × (behind : List ℕ) × Gives lacks (next_kind kinds) old piece (Ok (Some x)) here behind × ReadsPiece lacks (kinds_behind x kinds) here behind messages end rest new left
 
 -- a piece, and the messages that were read while it came
-pub record Came : Type 0 where
+pub record Received : Type 0 where
   pub piece : List ℕ
   pub messages : List ClientMessage
 
 -- Pieces came one after the other, and each was used up.
-abbrev pub ReadsPieces : Type 0 → List PasswordKind → Waiting → List Came → List PasswordKind → Waiting → Type 0
+abbrev pub ReadsPieces : Type 0 → List PasswordKind → Waiting → List Received → List PasswordKind → Waiting → Type 0
 ReadsPieces lacks kinds old [] rest new = (rest ≡ kinds) × (new ≡ old)
-ReadsPieces lacks kinds old (x ∷ came) rest new =
-    (others : List PasswordKind) × (here : Waiting) × (left : List ℕ) × ReadsPiece lacks kinds old x.piece x.messages (Ok None) others here left × ReadsPieces lacks others here came rest new
+ReadsPieces lacks kinds old (x ∷ received) rest new =
+    (others : List PasswordKind) × (here : Waiting) × (left : List ℕ) × ReadsPiece lacks kinds old x.piece x.messages (Ok None) others here left × ReadsPieces lacks others here received rest new
 
-abbrev pub piece_of : Came → List ℕ
+abbrev pub piece_of : Received → List ℕ
 piece_of x = x.piece
 
-abbrev pub messages_of : Came → List ClientMessage
+abbrev pub messages_of : Received → List ClientMessage
 messages_of x = x.messages

@@ -166,10 +166,10 @@ unfoldable pub sasl_initial_of : List ℕ → Result ClientMessage Error
 sasl_initial_of payload = made (λ c. SaslInitialResponse c.first c.rest.first) (contents_at (AText ∷ ANullable ∷ []) payload)
 
 -- what follows the tag `p`
-abbrev pub told_of : PasswordKind → List ℕ → Result ClientMessage Error
-told_of Password payload = password_of payload
-told_of Initial payload = sasl_initial_of payload
-told_of Response payload = Ok (SaslResponse payload)
+abbrev pub reported_of : PasswordKind → List ℕ → Result ClientMessage Error
+reported_of Password payload = password_of payload
+reported_of Initial payload = sasl_initial_of payload
+reported_of Response payload = Ok (SaslResponse payload)
 
 -- what follows each tag
 unfoldable pub body_of : PasswordKind → ℕ → List ℕ → Result ClientMessage Error
@@ -187,7 +187,7 @@ body_of kind tag payload =
     if tag == 99 then ended CopyDone payload else
     if tag == 100 then Ok (CopyData payload) else
     if tag == 102 then copy_fail_of payload else
-    if tag == 112 then told_of kind payload else
+    if tag == 112 then reported_of kind payload else
     Err (UnknownTag tag)
 
 -- ---- opening packets

@@ -82,7 +82,7 @@ IsUnknownTag tag e = (e ≡ Reading (UnknownTag tag)) × ((m : ClientMessage) �
 pub record HasFaultyBody (kind : PasswordKind) (tag : ℕ) (payload : List ℕ) (e : ClientError) : Type 0 where
   pub message : ClientMessage
   pub tagged : tag_of message ≡ Some tag
-  pub told : IfSome (kind_of message) (λ k. k ≡ kind)
+  pub reported : IfSome (kind_of message) (λ k. k ≡ kind)
   pub fault : Error
   pub faulty : Faulty (map shape (parts message)) payload fault
   pub name : e ≡ Reading fault

@@ -43,9 +43,9 @@ seen (Ok m) = Ok (view m)
 seen (Err e) = Err e
 
 -- the result of an opening packet
-abbrev pub told : Result code.ClientMessage ClientError → Result ClientMessage ClientError
-told (Ok m) = Ok (view m)
-told (Err e) = Err e
+abbrev pub reported : Result code.ClientMessage ClientError → Result ClientMessage ClientError
+reported (Ok m) = Ok (view m)
+reported (Err e) = Err e
 
 -- the answer of `next`
 abbrev pub read : Result (Option code.ClientMessage) ClientError → Result (Option ClientMessage) ClientError

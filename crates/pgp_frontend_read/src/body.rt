@@ -1,8 +1,8 @@
 //! What follows each tag, and what follows each code.
 
 ghost use Rattle.std.specs.Prelude.{◌≡◌};
-ghost use Rattle.pgp_frontend_read.specs.Reading.{bind_of, close_of, describe_of, execute_of, function_call_of, parse_of, query_of, copy_fail_of, password_of, sasl_initial_of, told_of, body_of, startup_of, cancel_of, named, by_code, packet_of, ended};
-ghost use Rattle.pgp_frontend_read.specs.Views.{view, seen, told, kind_view};
+ghost use Rattle.pgp_frontend_read.specs.Reading.{bind_of, close_of, describe_of, execute_of, function_call_of, parse_of, query_of, copy_fail_of, password_of, sasl_initial_of, reported_of, body_of, startup_of, cancel_of, named, by_code, packet_of, ended};
+ghost use Rattle.pgp_frontend_read.specs.Views.{view, seen, reported, kind_view};
 
 use crate::error::ClientError;
 use crate::formats::Formats;
@@ -37,14 +37,14 @@ pub fn body(kind: PasswordKind, tag: u8, payload: &[u8]) -> Result<ClientMessage
         b'c' => ended(payload, ClientMessage::CopyDone),
         b'd' => Ok(ClientMessage::CopyData(payload)),
         b'f' => copy_fail(payload),
-        b'p' => told(kind, payload),
+        b'p' => reported(kind, payload),
         tag => Err(Error::UnknownTag(tag)),
     }
 }
 
 /// What follows the tag `p`.
-fn told(kind: PasswordKind, payload: &[u8]) -> Result<ClientMessage<'_>, Error>
-    ensures { seen result ≡ told_of (kind_view kind) payload.now }
+fn reported(kind: PasswordKind, payload: &[u8]) -> Result<ClientMessage<'_>, Error>
+    ensures { seen result ≡ reported_of (kind_view kind) payload.now }
 {
     match kind {
         PasswordKind::Password => password(payload),
@@ -206,7 +206,7 @@ pub const GSSENC_REQUEST: u32 = 80_877_104;
 /// Returns `UnknownPacket` if no packet has the code; `UnexpectedEof`, `InvalidSize`, `NotDrained`.
 #[tactic(auto, unfolding(crate::specs::Reading::packet_of))]
 pub fn packet(payload: &[u8]) -> Result<ClientMessage<'_>, ClientError>
-    ensures { told result ≡ packet_of payload.now }
+    ensures { reported result ≡ packet_of payload.now }
 {
     match oid_at(payload) {
         Ok((code, rest)) => by_code(code, rest),
@@ -217,7 +217,7 @@ pub fn packet(payload: &[u8]) -> Result<ClientMessage<'_>, ClientError>
 /// What follows each code.
 #[tactic(auto, unfolding(crate::specs::Reading::by_code))]
 fn by_code(code: u32, rest: &[u8]) -> Result<ClientMessage<'_>, ClientError>
-    ensures { told result ≡ by_code code rest.now }
+    ensures { reported result ≡ by_code code rest.now }
 {
     match code {
         CANCEL_REQUEST => named(cancel(rest)),
@@ -231,7 +231,7 @@ fn by_code(code: u32, rest: &[u8]) -> Result<ClientMessage<'_>, ClientError>
 
 /// A body's fault, by its name.
 fn named<'a>(body: Result<ClientMessage<'a>, Error>) -> Result<ClientMessage<'a>, ClientError>
-    ensures { told result ≡ named (seen body.entry) }
+    ensures { reported result ≡ named (seen body.entry) }
 {
     match body {
         Ok(message) => Ok(message),

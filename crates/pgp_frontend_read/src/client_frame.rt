@@ -2,7 +2,7 @@
 
 ghost use Rattle.std.specs.Prelude.{◌≡◌};
 ghost use Rattle.pgp_frontend_read.specs.Pieces.{IsWhole, ReadsFrame};
-ghost use Rattle.pgp_frontend_read.specs.Views.{kind_view, told};
+ghost use Rattle.pgp_frontend_read.specs.Views.{kind_view, reported};
 
 use crate::error::ClientError;
 use crate::message::{ClientMessage, PasswordKind};
@@ -31,7 +31,7 @@ impl<'a> ClientFrame<'a> {
     /// message. An opening packet isn't rejected here: the parser has read it.
     pub fn message(&self, kind: PasswordKind) -> Result<ClientMessage<'a>, ClientError>
         requires { IsWhole self.now.opened self.now.bytes.now }
-        ensures { ReadsFrame (kind_view kind) self.now (told result) }
+        ensures { ReadsFrame (kind_view kind) self.now (reported result) }
     {
         let mut messages = ClientMessages::resume(self.bytes, self.opened);
         match messages.next(kind) {

@@ -13,7 +13,7 @@ ghost use Rattle.pgp_frontend.specs.ClientRun.{ClientRun, is_startup};
 ghost use Rattle.pgp_frontend_read.specs.Step.{IsPartial, Stands, Step, Unread};
 ghost use Rattle.pgp_frontend_read.specs.Reads.{HasRead, Reads, ReadsSession, IsAllRead};
 ghost use Rattle.std.specs.List.{flat_map};
-ghost use Rattle.pgp_frontend_read.specs.PieceReads.{Came, Gives, ReadsPiece, ReadsPieces, messages_of, piece_of};
+ghost use Rattle.pgp_frontend_read.specs.PieceReads.{Received, Gives, ReadsPiece, ReadsPieces, messages_of, piece_of};
 ghost use Rattle.pgp_frontend_read.specs.Pieces.{Waiting, unread};
 
 use pgp_base::{Buffer, Memory};
@@ -93,20 +93,20 @@ pub fn calls_are_steps<A: Memory>()
 /// So, however a client's connection is cut into pieces: the messages that came while each was fed, and those that came of the
 /// last, with what ended them, are what the bytes as a whole give, and all that they give.
 pub fn pieces_give_the_whole<A: Memory>()
-    ensures { (kinds others rest : List Kind) (old here new : Waiting) (came : List Came) (last left : List ℕ) (messages all : List Message)
+    ensures { (kinds others rest : List Kind) (old here new : Waiting) (received : List Received) (last left : List ℕ) (messages all : List Message)
         (end result : Result (Option Message) Refusal) (behind : Unread) →
-        ReadsPieces A.Lacks kinds old came others here → ReadsPiece A.Lacks others here last messages end rest new left →
-        Reads kinds (unread old (flat_map piece_of came ++ last)) all result behind →
-        (all ≡ flat_map messages_of came ++ messages) × (result ≡ end) × (behind ≡ unread new left) }
+        ReadsPieces A.Lacks kinds old received others here → ReadsPiece A.Lacks others here last messages end rest new left →
+        Reads kinds (unread old (flat_map piece_of received ++ last)) all result behind →
+        (all ≡ flat_map messages_of received ++ messages) × (result ≡ end) × (behind ≡ unread new left) }
 {}
 
 /// And where the pieces are those of a session, as the grammar says: exactly its messages came, and the parser
 /// waits for more.
 pub fn pieces_of_sessions_are_read<A: Memory>()
-    ensures { (kinds others rest : List Kind) (old here new : Waiting) (came : List Came) (last left : List ℕ) (messages all : List Message)
+    ensures { (kinds others rest : List Kind) (old here new : Waiting) (received : List Received) (last left : List ℕ) (messages all : List Message)
         (end : Result (Option Message) Refusal) →
-        old.bytes ≡ [] → old.opened ≡ false → ReadsPieces A.Lacks kinds old came others here → ReadsPiece A.Lacks others here last all end rest new left →
-        ClientRun kinds messages (flat_map piece_of came ++ last) → IsAllRead messages (flat_map messages_of came ++ all) end (unread new left) }
+        old.bytes ≡ [] → old.opened ≡ false → ReadsPieces A.Lacks kinds old received others here → ReadsPiece A.Lacks others here last all end rest new left →
+        ClientRun kinds messages (flat_map piece_of received ++ last) → IsAllRead messages (flat_map messages_of received ++ all) end (unread new left) }
 {}
 
 /// What a proxy writes for all messages that it read are the bytes that stood there.

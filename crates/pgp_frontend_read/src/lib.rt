@@ -17,9 +17,9 @@ mod message;
 mod messages;
 mod pairs;
 mod parser_error;
-mod session;
 mod types;
 mod values;
+mod whole_session;
 
 pub use client_frame::ClientFrame;
 pub use client_parser::ClientParser;
@@ -31,6 +31,6 @@ pub use message::{ClientMessage, PasswordKind};
 pub use messages::ClientMessages;
 pub use pairs::StartupParameters;
 pub use parser_error::ParserError;
-pub use session::read_session;
 pub use types::ParamTypes;
 pub use values::Values;
+pub use whole_session::read_session;

@@ -212,14 +212,14 @@ fn outcome(alloc: Global, call: &str) -> Text {
 
 /// Shows the row and what it comes to, where that isn't what it says.
 fn show_difference(line: &str, call: &str, wanted: &str, out: &mut Text) {
-    let came = outcome(out.alloc(), call);
-    if came.as_str() != wanted {
+    let received = outcome(out.alloc(), call);
+    if received.as_str() != wanted {
         out.push(line);
         out.push("\n    came to: ");
-        out.push(came.as_str());
+        out.push(received.as_str());
         out.push("\n");
     }
-    out.fail(came.fault());
+    out.fail(received.fault());
 }
 
 /// Runs a row: a call, the digits of its bytes, and what it comes to.

@@ -7,9 +7,9 @@ mod fault;
 mod lengths;
 mod parts;
 mod reading;
+mod replaced;
 mod scram;
 mod server;
-mod session;
 mod sum;
 mod tally;
 mod text;
@@ -47,7 +47,7 @@ impl Part {
         match self {
             Part::Lengths => lengths::run(text, out),
             Part::Cuts => cuts::run(text, out),
-            Part::Session => session::run(text, out),
+            Part::Session => replaced::run(text, out),
             Part::Scram => scram::run(text, out),
         }
     }

@@ -23,17 +23,17 @@ fn show_items<W: FallibleIterator>(
 where
     W::Item: Show,
 {
-    let mut came = 0u64;
+    let mut received = 0u64;
     for _ in 0..most.saturating_add(1) {
         match walk.next() {
             Ok(Some(item)) => item.show(out),
-            Ok(None) => return (came, None),
-            Err(e) => return (came, Some(e)),
+            Ok(None) => return (received, None),
+            Err(e) => return (received, Some(e)),
         }
-        came = came.saturating_add(1);
+        received = received.saturating_add(1);
     }
     out.word("many");
-    (came, None)
+    (received, None)
 }
 
 /// Whether the iterator returns this end, and announces no more.
@@ -53,14 +53,14 @@ where
 fn is_collected<A: Allocator + Copy, W: FallibleIterator + Drop>(
     alloc: A,
     walk: W,
-    came: u64,
+    received: u64,
     end: Option<Error>,
 ) -> bool
 where
     W::Item: Drop,
 {
     match walk.collect(alloc) {
-        Ok(list) => end.is_none() && list.len() as u64 == came,
+        Ok(list) => end.is_none() && list.len() as u64 == received,
         Err(e) => end == Some(e),
     }
 }
@@ -69,7 +69,7 @@ where
 fn is_modest<W: FallibleIterator + Drop>(
     alloc: Global,
     walk: W,
-    came: u64,
+    received: u64,
     end: Option<Error>,
 ) -> bool
 where
@@ -78,8 +78,8 @@ where
     match LocalHeap::new(alloc, HEAP) {
         Ok(heap) => {
             let counted = Refusing::new(&heap, MANY);
-            is_collected(&counted, walk, came, end)
-                && MANY.saturating_sub(came) <= counted.until_refusal.get()
+            is_collected(&counted, walk, received, end)
+                && MANY.saturating_sub(received) <= counted.until_refusal.get()
         }
         Err(_) => false,
     }
@@ -98,7 +98,7 @@ where
 {
     out.number(walk.size_hint().0);
     out.word("[");
-    let (came, end) = show_items(&mut walk, most, out);
+    let (received, end) = show_items(&mut walk, most, out);
     out.word("]");
     match end {
         None => out.word("end"),
@@ -109,7 +109,7 @@ where
             out.word("unsteady");
         }
     }
-    if !is_modest(out.alloc(), again, came, end) {
+    if !is_modest(out.alloc(), again, received, end) {
         out.word("greedy");
     }
 }

@@ -30,14 +30,14 @@ pub fn put_secret<A: Memory>(
 /// Adds the bytes of an exchange, or how long they are; alone where it isn't known that they are of one.
 pub fn put_response<A: Memory>(
     style: Style,
-    told: bool,
+    reported: bool,
     response: &[u8],
     line: &mut String<A>,
 ) -> Result<(), AllocError>
-    ensures parts { OnOk result (string_bytes line.new ≡ followed style (string_bytes line.old) (response_parts style told response.now)) }
+    ensures parts { OnOk result (string_bytes line.new ≡ followed style (string_bytes line.old) (response_parts style reported response.now)) }
     ensures lacks { OnErr result A.Lacks }
 {
-    if told {
+    if reported {
         put_secret(style, "data", response, line)
     } else {
         put_hidden(style, response.len(), line)

@@ -6,8 +6,8 @@ mod counted;
 mod notice;
 mod notification;
 mod query;
-mod session;
 mod startup;
+mod status;
 
 pub use authentication::{
     AuthenticationGssContinueBody, AuthenticationMd5PasswordBody, AuthenticationSaslBody,
@@ -17,5 +17,5 @@ pub use copy::{CopyDataBody, CopyInResponseBody, CopyOutResponseBody};
 pub use notice::{ErrorResponseBody, NoticeResponseBody};
 pub use notification::NotificationResponseBody;
 pub use query::{CommandCompleteBody, DataRowBody, ParameterDescriptionBody, RowDescriptionBody};
-pub use session::{ParameterStatusBody, ReadyForQueryBody};
 pub use startup::{BackendKeyDataBody, NegotiateProtocolVersionBody};
+pub use status::{ParameterStatusBody, ReadyForQueryBody};

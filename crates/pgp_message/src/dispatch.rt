@@ -96,13 +96,13 @@ pub fn bare<S: Storage>(tag: u8, payload: &[u8]) -> Result<Message<S>, Error>
 /// What is reported of a frame of which nothing is kept, where it is no authentication request: one call for each
 /// tag. A call of its own stores what it says at once, where returns that meet after a `match` go through memory.
 macro_rules! plain {
-    ($tag:ident, $payload:ident, $ended:ident, $told:ident, $other:expr $(, $list:ident)?) => {
+    ($tag:ident, $payload:ident, $ended:ident, $reported:ident, $other:expr $(, $list:ident)?) => {
         match $tag {
             PARSE_COMPLETE_TAG => $ended($($list,)? $payload, Message::ParseComplete),
             BIND_COMPLETE_TAG => $ended($($list,)? $payload, Message::BindComplete),
             CLOSE_COMPLETE_TAG => $ended($($list,)? $payload, Message::CloseComplete),
             EMPTY_QUERY_RESPONSE_TAG => $ended($($list,)? $payload, Message::EmptyQueryResponse),
-            READY_FOR_QUERY_TAG => $told($($list,)? ready_for_query($payload)),
+            READY_FOR_QUERY_TAG => $reported($($list,)? ready_for_query($payload)),
             COPY_DONE_TAG => $ended($($list,)? $payload, Message::CopyDone),
             NO_DATA_TAG => $ended($($list,)? $payload, Message::NoData),
             PORTAL_SUSPENDED_TAG => $ended($($list,)? $payload, Message::PortalSuspended),
@@ -135,7 +135,7 @@ pub fn plain_onto<S: Storage, A: Allocator>(
     ensures same { result ≡ false → (list.new.items ≡ list.old.items) × (vec_len list.new ≡ vec_len list.old) }
     ensures room { vec_capacity list.new ≡ vec_capacity list.old }
 {
-    plain!(tag, payload, ended_onto, told, false, list)
+    plain!(tag, payload, ended_onto, reported, false, list)
 }
 
 fn ready_for_query<S: Storage>(payload: &[u8]) -> Result<Message<S>, Error>
@@ -206,24 +206,24 @@ fn ended_onto<S: Storage, A: Allocator>(
     message: Message<S>,
 ) -> bool
     requires { vec_len list.old < vec_capacity list.old }
-    ensures told { result ≡ true }
+    ensures reported { result ≡ true }
     ensures joined { map seen list.new.items ≡ map seen list.old.items ++ ended (view message) payload.now ∷ [] }
     ensures room { vec_capacity list.new ≡ vec_capacity list.old }
 {
     if !payload.is_empty() {
-        return told(list, Err(Error::NotDrained));
+        return reported(list, Err(Error::NotDrained));
     }
-    told(list, Ok(message))
+    reported(list, Ok(message))
 }
 
 /// Adds what was read to a list that has room for it, and returns true: it is reported.
 #[inline(always)]
-fn told<S: Storage, A: Allocator>(
+fn reported<S: Storage, A: Allocator>(
     list: &mut Vec<Result<Message<S>, Error>, A>,
     read: Result<Message<S>, Error>,
 ) -> bool
     requires { vec_len list.old < vec_capacity list.old }
-    ensures told { result ≡ true }
+    ensures reported { result ≡ true }
     ensures joined { map seen list.new.items ≡ map seen list.old.items ++ seen read ∷ [] }
     ensures room { vec_capacity list.new ≡ vec_capacity list.old }
 {

@@ -55,7 +55,7 @@ module _ {A : Type 0} (given : List A → Option A → Type 0) (number : ℕ →
 
   pub arrived_as : (xs : List A) → Arrived given number ps xs → Arrived given number qs xs
   arrived_as xs (inl none) = inl none
-  arrived_as xs (inr r) = inr (record { before = r.before; next = r.next; came = r.came; none = causes_as r.before ∙ r.none; are = r.are })
+  arrived_as xs (inr r) = inr (record { before = r.before; next = r.next; received = r.received; none = causes_as r.before ∙ r.none; are = r.are })
 
 -- the same parts, and the same bytes
 module _ {A : Type 0} (given : List A → Option A → Type 0) (number : ℕ → Cause) (ps qs : List A → List Part) (bytes cs : List A → List ℕ)
@@ -64,9 +64,9 @@ module _ {A : Type 0} (given : List A → Option A → Type 0) (number : ℕ →
   causes xs = ap parts_cause (sym (same xs))
 
   refused_as : (e : Error) → GivenRefused given number ps bytes lacks old e → GivenRefused given number qs cs lacks old e
-  refused_as e (inl (xs, came, inl memory)) = inl (xs, arrived_as given number ps qs causes xs came, inl (subst (λ (z : List ℕ). WantsMemory (Wants lacks old (length z)) e) (spelled xs) memory))
-  refused_as e (inl (xs, came, inr refused)) = inl (xs, arrived_as given number ps qs causes xs came, inr (causes_as given number ps qs causes xs ∙ refused))
-  refused_as e (inr (xs, came, none, long)) = inr (xs, came, causes_as given number ps qs causes xs ∙ none, ap frame_cause (sym (same xs)) ∙ long)
+  refused_as e (inl (xs, received, inl memory)) = inl (xs, arrived_as given number ps qs causes xs received, inl (subst (λ (z : List ℕ). WantsMemory (Wants lacks old (length z)) e) (spelled xs) memory))
+  refused_as e (inl (xs, received, inr refused)) = inl (xs, arrived_as given number ps qs causes xs received, inr (causes_as given number ps qs causes xs ∙ refused))
+  refused_as e (inr (xs, received, none, long)) = inr (xs, received, causes_as given number ps qs causes xs ∙ none, ap frame_cause (sym (same xs)) ∙ long)
 
   pub given_as : (new : Held K) (result : Result (Unit {0}) Error) → WritesBytes given number ps bytes lacks old new result → WritesBytes given number qs cs lacks old new result
   given_as new (Ok done) w = (w.0, w.1, ap (λ ps. either (number (length w.0)) (frame_cause ps)) (sym (same w.0)) ∙ w.2, w.3 ∙ ap (λ z. old ⊕ z) (spelled w.0))
@@ -90,8 +90,8 @@ module _ {D : Type 0} (parts : D → List Part) (xs : List D) where
 
   pub marked_put : {K : Type 0} (given : List D → Option D → Type 0) (old b new : Held K) → given xs None → PutsParts (flat_map parts xs) old b → (result : Result (Unit {0}) Error) → OnOk result (new ≡ b ⊕ 0 ∷ [])
       → OnOk result ((xs : List D) × given xs None × PutsParts (marked_list parts xs) old new)
-  marked_put given old b new came p (Ok done) put = (xs, came, puts_then (flat_map parts xs) (Byte 0 ∷ []) old b new p (refl, put))
-  marked_put given old b new came p (Err e) put = tt
+  marked_put given old b new received p (Ok done) put = (xs, received, puts_then (flat_map parts xs) (Byte 0 ∷ []) old b new p (refl, put))
+  marked_put given old b new received p (Err e) put = tt
 
 -- a count of four bytes with a sign
 pub wide_number : (n : ℕ) → n < 2 ^ 31 → int32 (pos n) ≡ uint32 n
@@ -111,12 +111,12 @@ module _ {A : Type 0} (given : List A → Option A → Type 0) (number : ℕ →
   -- after the place of the length and the head
   pub list_behind : (head : List Part) (old b d : Held K) (e : Error) → b ≡ old ⊕ uint32 0 → PutsParts head b d → SoFarRefused given number ps (λ xs. joined (ps xs)) lacks d e
       → GivenRefused given number (λ xs. head ++ ps xs) (λ xs. framed None (joined (head ++ ps xs))) lacks old e
-  list_behind head old b d e place front (xs, came, why) =
+  list_behind head old b d e place front (xs, received, why) =
       let qs : List A → List Part = λ xs. head ++ ps xs in
       let same : (xs : List A) → parts_cause (qs xs) ≡ parts_cause (ps xs) = λ xs. cause_behind head (ps xs) front.0 in
       inl (
         xs,
-        arrived_as given number ps qs same xs came,
+        arrived_as given number ps qs same xs received,
         elim why [
           | inl memory ↦
               let whole : length (joined (head ++ ps xs)) ≡ length (joined head) + length (joined (ps xs)) = joined_length head (ps xs) in
@@ -135,9 +135,9 @@ module _ {A : Type 0} (given : List A → Option A → Type 0) (number : ℕ →
   -- a tag before the frame
   module _ (tag : ℕ) (old b : Held K) (is : b ≡ old ⊕ tag ∷ []) where
     pub tagged_refused : (e : Error) → GivenRefused given number ps (λ xs. framed None (joined (ps xs))) lacks b e → GivenRefused given number ps (λ xs. framed (Some tag) (joined (ps xs))) lacks old e
-    tagged_refused e (inl (xs, came, inl memory)) =
-        inl (xs, came, inl (memory_then old b (tag ∷ []) _ _ e is (omega (arith, framed_length (joined (ps xs)), tagged_length tag (joined (ps xs)))) memory))
-    tagged_refused e (inl (xs, came, inr refused)) = inl (xs, came, inr refused)
+    tagged_refused e (inl (xs, received, inl memory)) =
+        inl (xs, received, inl (memory_then old b (tag ∷ []) _ _ e is (omega (arith, framed_length (joined (ps xs)), tagged_length tag (joined (ps xs)))) memory))
+    tagged_refused e (inl (xs, received, inr refused)) = inl (xs, received, inr refused)
     tagged_refused e (inr long) = inr long
 
   -- nothing came yet

@@ -18,16 +18,16 @@ items_cause number ps xs = either (number (length xs)) (parts_cause (ps xs))
 
 module _ {A : Type 0} (given : List A → Option A → Type 0) (number : ℕ → Cause) (ps : List A → List Part) where
   -- The items that came so far: those before the last have no cause, and it is one that came next, if any did.
-  pub record CameUpTo (xs : List A) : Type 0 where
+  pub record ReceivedUpTo (xs : List A) : Type 0 where
     pub before : List A
     pub next : Option A
-    pub came : given before next
+    pub received : given before next
     pub none : items_cause number ps before ≡ None
     pub are : xs ≡ before ++ option_to_list next
 
   -- none was asked for, or these came so far
   abbrev pub Arrived : List A → Type 0
-  Arrived xs = (xs ≡ []) ⊎ CameUpTo xs
+  Arrived xs = (xs ≡ []) ⊎ ReceivedUpTo xs
 
   -- `bytes` are those of the message of these items
   module _ (bytes : List A → List ℕ) where

@@ -3,7 +3,7 @@
 ghost use Rattle.std.specs.Prelude.{length, [], ◌∷◌};
 ghost use Rattle.std.specs.Iterator.{IsFiniteIterable};
 ghost use Rattle.std.specs.List.{flat_map};
-ghost use Rattle.pgp_base.specs.Calls.{Came};
+ghost use Rattle.pgp_base.specs.Calls.{Yielded};
 ghost use Rattle.pgp_base.specs.Cause.{count_cause};
 ghost use Rattle.pgp_base.specs.Wire.{uint16};
 ghost use Rattle.pgp_frontend.specs.Payload.{Byte, Rest};
@@ -52,7 +52,7 @@ pub fn copy_in_response_of<B: Buffer, I: IntoIterator<Item = u16> + Drop>(
 where
     I::IntoIter: Drop,
     requires { IsFiniteIterable I.into_iter_gives I.IntoIter.can_next I.IntoIter.remaining column_formats }
-    ensures { WritesGiven (Came I.into_iter_gives I.IntoIter.next_gives column_formats) count_cause
+    ensures { WritesGiven (Yielded I.into_iter_gives I.IntoIter.next_gives column_formats) count_cause
         (λ all. Byte format ∷ counted_list format_parts all) (λ all. CopyInResponse (formats_of format all))
         B.Lacks (B.held buf.old) (B.held buf.new) result }
 {
@@ -97,7 +97,7 @@ pub fn copy_out_response_of<B: Buffer, I: IntoIterator<Item = u16> + Drop>(
 where
     I::IntoIter: Drop,
     requires { IsFiniteIterable I.into_iter_gives I.IntoIter.can_next I.IntoIter.remaining column_formats }
-    ensures { WritesGiven (Came I.into_iter_gives I.IntoIter.next_gives column_formats) count_cause
+    ensures { WritesGiven (Yielded I.into_iter_gives I.IntoIter.next_gives column_formats) count_cause
         (λ all. Byte format ∷ counted_list format_parts all) (λ all. CopyOutResponse (formats_of format all))
         B.Lacks (B.held buf.old) (B.held buf.new) result }
 {

@@ -3,7 +3,7 @@
 ghost use Rattle.std.specs.Prelude.{length, [], ◌∷◌};
 ghost use Rattle.std.specs.Iterator.{IsFiniteIterable};
 ghost use Rattle.std.specs.List.{flat_map};
-ghost use Rattle.pgp_base.specs.Calls.{Came};
+ghost use Rattle.pgp_base.specs.Calls.{Yielded};
 ghost use Rattle.pgp_base.specs.Cause.{count_cause};
 ghost use Rattle.pgp_base.specs.Wire.{uint16};
 ghost use Rattle.pgp_frontend.specs.Payload.{Rest};
@@ -101,7 +101,7 @@ pub fn parameter_description_of<B: Buffer, I: IntoIterator<Item = Oid> + Drop>(
 where
     I::IntoIter: Drop,
     requires { IsFiniteIterable I.into_iter_gives I.IntoIter.can_next I.IntoIter.remaining types }
-    ensures { WritesGiven (Came I.into_iter_gives I.IntoIter.next_gives types) count_cause
+    ensures { WritesGiven (Yielded I.into_iter_gives I.IntoIter.next_gives types) count_cause
         (λ all. counted_list type_parts all) (λ all. types_of all)
         B.Lacks (B.held buf.old) (B.held buf.new) result }
 {

@@ -4,7 +4,7 @@
 ghost use Rattle.std.specs.Prelude.{◌≡◌, ◌++◌, ◌⊎◌, List, Some, None, OnOk, OnErr, IfErr, length};
 ghost use Rattle.std.specs.Iterator.{IsFiniteIterable};
 ghost use Rattle.std.specs.List.{flat_map};
-ghost use Rattle.pgp_base.specs.Calls.{Came};
+ghost use Rattle.pgp_base.specs.Calls.{Yielded};
 ghost use Rattle.pgp_base.specs.Cause.{count_cause, either, length_cause};
 ghost use Rattle.pgp_base.specs.Held.{◌⊕◌, IsFrontOf};
 ghost use Rattle.pgp_frontend.specs.Payload.{frame_cause, framed, joined};
@@ -37,10 +37,10 @@ fn put_counted<T: Item + Copy, I: IntoIterator<Item = T> + Drop, B: Buffer>(
 where
     I::IntoIter: Drop,
     requires { IsFiniteIterable I.into_iter_gives I.IntoIter.can_next I.IntoIter.remaining items }
-    ensures ok { OnOk result ((xs : List T) × Came I.into_iter_gives I.IntoIter.next_gives items xs None
+    ensures ok { OnOk result ((xs : List T) × Yielded I.into_iter_gives I.IntoIter.next_gives items xs None
         × (count_cause (length xs) ≡ None) × PutsParts (counted_list T.parts xs) (B.held buf.old) (B.held buf.new)) }
     ensures err { OnErr result (IsFrontOf (B.held buf.old) (B.held buf.new)) }
-    ensures cause { IfErr result (ListRefused (Came I.into_iter_gives I.IntoIter.next_gives items) count_cause (counted_list T.parts) B.Lacks (B.held buf.old)) }
+    ensures cause { IfErr result (ListRefused (Yielded I.into_iter_gives I.IntoIter.next_gives items) count_cause (counted_list T.parts) B.Lacks (B.held buf.old)) }
 {
     let base = buf.len();
     put_u16(buf, 0)?;
@@ -64,10 +64,10 @@ fn put_wide<T: Item + Copy, I: IntoIterator<Item = T> + Drop, B: Buffer>(
 where
     I::IntoIter: Drop,
     requires { IsFiniteIterable I.into_iter_gives I.IntoIter.can_next I.IntoIter.remaining items }
-    ensures ok { OnOk result ((xs : List T) × Came I.into_iter_gives I.IntoIter.next_gives items xs None
+    ensures ok { OnOk result ((xs : List T) × Yielded I.into_iter_gives I.IntoIter.next_gives items xs None
         × (length_cause (length xs) ≡ None) × PutsParts (wide_list T.parts xs) (B.held buf.old) (B.held buf.new)) }
     ensures err { OnErr result (IsFrontOf (B.held buf.old) (B.held buf.new)) }
-    ensures cause { IfErr result (ListRefused (Came I.into_iter_gives I.IntoIter.next_gives items) length_cause (wide_list T.parts) B.Lacks (B.held buf.old)) }
+    ensures cause { IfErr result (ListRefused (Yielded I.into_iter_gives I.IntoIter.next_gives items) length_cause (wide_list T.parts) B.Lacks (B.held buf.old)) }
 {
     let base = buf.len();
     put_u32(buf, 0)?;
@@ -91,10 +91,10 @@ fn put_marked<T: Item + Copy, I: IntoIterator<Item = T> + Drop, B: Buffer>(
 where
     I::IntoIter: Drop,
     requires { IsFiniteIterable I.into_iter_gives I.IntoIter.can_next I.IntoIter.remaining items }
-    ensures ok { OnOk result ((xs : List T) × Came I.into_iter_gives I.IntoIter.next_gives items xs None
+    ensures ok { OnOk result ((xs : List T) × Yielded I.into_iter_gives I.IntoIter.next_gives items xs None
         × PutsParts (marked_list T.parts xs) (B.held buf.old) (B.held buf.new)) }
     ensures err { OnErr result (IsFrontOf (B.held buf.old) (B.held buf.new)) }
-    ensures cause { IfErr result (ListRefused (Came I.into_iter_gives I.IntoIter.next_gives items) uncounted (marked_list T.parts) B.Lacks (B.held buf.old)) }
+    ensures cause { IfErr result (ListRefused (Yielded I.into_iter_gives I.IntoIter.next_gives items) uncounted (marked_list T.parts) B.Lacks (B.held buf.old)) }
 {
     for item in items {
         item.put(buf)?;
@@ -111,10 +111,10 @@ fn put_list<T: Item + Copy, I: IntoIterator<Item = T> + Drop, B: Buffer>(
 where
     I::IntoIter: Drop,
     requires { IsFiniteIterable I.into_iter_gives I.IntoIter.can_next I.IntoIter.remaining items }
-    ensures ok { OnOk result ((xs : List T) × Came I.into_iter_gives I.IntoIter.next_gives items xs None
+    ensures ok { OnOk result ((xs : List T) × Yielded I.into_iter_gives I.IntoIter.next_gives items xs None
         × (number_cause ending (length xs) ≡ None) × PutsParts (list_parts ending T.parts xs) (B.held buf.old) (B.held buf.new)) }
     ensures err { OnErr result (IsFrontOf (B.held buf.old) (B.held buf.new)) }
-    ensures cause { IfErr result (ListRefused (Came I.into_iter_gives I.IntoIter.next_gives items) (number_cause ending) (list_parts ending T.parts) B.Lacks (B.held buf.old)) }
+    ensures cause { IfErr result (ListRefused (Yielded I.into_iter_gives I.IntoIter.next_gives items) (number_cause ending) (list_parts ending T.parts) B.Lacks (B.held buf.old)) }
 {
     match ending {
         Ending::Count => put_counted(items, buf),
@@ -132,11 +132,11 @@ fn fill<T: Item + Copy, I: IntoIterator<Item = T> + Drop, B: Buffer>(
 where
     I::IntoIter: Drop,
     requires { IsFiniteIterable I.into_iter_gives I.IntoIter.can_next I.IntoIter.remaining items }
-    ensures ok { OnOk result ((xs : List T) × Came I.into_iter_gives I.IntoIter.next_gives items xs None
+    ensures ok { OnOk result ((xs : List T) × Yielded I.into_iter_gives I.IntoIter.next_gives items xs None
         × (either (number_cause ending (length xs)) (frame_cause (parts_of head.now ++ list_parts ending T.parts xs)) ≡ None)
         × (B.held buf.new ≡ B.held buf.old ⊕ framed None (joined (parts_of head.now ++ list_parts ending T.parts xs)))) }
     ensures err { OnErr result (IsFrontOf (B.held buf.old) (B.held buf.new)) }
-    ensures cause { IfErr result (GivenRefused (Came I.into_iter_gives I.IntoIter.next_gives items) (number_cause ending)
+    ensures cause { IfErr result (GivenRefused (Yielded I.into_iter_gives I.IntoIter.next_gives items) (number_cause ending)
         (λ xs. parts_of head.now ++ list_parts ending T.parts xs) (λ xs. framed None (joined (parts_of head.now ++ list_parts ending T.parts xs)))
         B.Lacks (B.held buf.old)) }
 {
@@ -159,7 +159,7 @@ pub(crate) fn given<T: Item + Copy, I: IntoIterator<Item = T> + Drop, B: Buffer>
 where
     I::IntoIter: Drop,
     requires { IsFiniteIterable I.into_iter_gives I.IntoIter.can_next I.IntoIter.remaining items }
-    ensures { WritesBytes (Came I.into_iter_gives I.IntoIter.next_gives items) (number_cause ending)
+    ensures { WritesBytes (Yielded I.into_iter_gives I.IntoIter.next_gives items) (number_cause ending)
         (λ xs. parts_of head.now ++ list_parts ending T.parts xs) (λ xs. framed (Some tag) (joined (parts_of head.now ++ list_parts ending T.parts xs)))
         B.Lacks (B.held buf.old) (B.held buf.new) result }
 {

@@ -10,7 +10,7 @@ mod listed;
 mod login;
 mod notice;
 mod row;
-mod session;
+mod status;
 
 pub use copy::{
     copy_data, copy_done, copy_in_response, copy_in_response_of, copy_out_response,
@@ -31,7 +31,7 @@ pub use notice::{
     ErrorField, error_response, error_response_of, notice_response, notice_response_of,
 };
 pub use row::{Column, data_row, data_row_of, row_description, row_description_of};
-pub use session::{
+pub use status::{
     command_complete, empty_query_response, notification_response, parameter_status,
     ready_for_query,
 };

@@ -3,7 +3,7 @@
 ghost use Rattle.std.specs.Prelude.{pos, length, map, [], ◌∷◌, Some, None};
 ghost use Rattle.std.specs.Iterator.{IsFiniteIterable};
 ghost use Rattle.std.specs.List.{flat_map};
-ghost use Rattle.pgp_base.specs.Calls.{Came};
+ghost use Rattle.pgp_base.specs.Calls.{Yielded};
 ghost use Rattle.pgp_base.specs.Cause.{length_cause};
 ghost use Rattle.pgp_base.specs.Wire.{int32};
 ghost use Rattle.pgp_frontend.specs.Payload.{Byte, Int32, Rest, WritesFrame};
@@ -170,7 +170,7 @@ pub fn authentication_sasl_of<'a, B: Buffer, I: IntoIterator<Item = &'a [u8]> + 
 where
     I::IntoIter: Drop,
     requires { IsFiniteIterable I.into_iter_gives I.IntoIter.can_next I.IntoIter.remaining mechanisms }
-    ensures { WritesGiven (Came I.into_iter_gives I.IntoIter.next_gives mechanisms) uncounted
+    ensures { WritesGiven (Yielded I.into_iter_gives I.IntoIter.next_gives mechanisms) uncounted
         (λ all. Int32 (pos 10) ∷ marked_list text_parts (map (λ name. name.now) all))
         (λ all. Authentication (AuthenticationSasl (names_of (map (λ name. name.now) all))))
         B.Lacks (B.held buf.old) (B.held buf.new) result }
@@ -234,7 +234,7 @@ pub fn negotiate_protocol_version_of<'a, B: Buffer, I: IntoIterator<Item = &'a [
 where
     I::IntoIter: Drop,
     requires { IsFiniteIterable I.into_iter_gives I.IntoIter.can_next I.IntoIter.remaining options }
-    ensures { WritesGiven (Came I.into_iter_gives I.IntoIter.next_gives options) length_cause
+    ensures { WritesGiven (Yielded I.into_iter_gives I.IntoIter.next_gives options) length_cause
         (λ all. Int32 version ∷ wide_list text_parts (map (λ text. text.now) all))
         (λ all. negotiation_of version (map (λ text. text.now) all))
         B.Lacks (B.held buf.old) (B.held buf.new) result }

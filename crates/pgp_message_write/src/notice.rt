@@ -4,7 +4,7 @@
 ghost use Rattle.std.specs.Prelude.{map, [], ◌∷◌, None};
 ghost use Rattle.std.specs.Iterator.{IsFiniteIterable};
 ghost use Rattle.std.specs.List.{flat_map};
-ghost use Rattle.pgp_base.specs.Calls.{Came};
+ghost use Rattle.pgp_base.specs.Calls.{Yielded};
 ghost use Rattle.pgp_frontend.specs.Payload.{Byte};
 ghost use Rattle.pgp_message.specs.BackendMessage.{ErrorResponse, NoticeResponse};
 ghost use Rattle.pgp_message_write.specs.Given.{uncounted, WritesGiven};
@@ -65,7 +65,7 @@ pub fn error_response_of<'a, B: Buffer, I: IntoIterator<Item = ErrorField<'a>> +
 where
     I::IntoIter: Drop,
     requires { IsFiniteIterable I.into_iter_gives I.IntoIter.can_next I.IntoIter.remaining fields }
-    ensures { WritesGiven (Came I.into_iter_gives I.IntoIter.next_gives fields) uncounted
+    ensures { WritesGiven (Yielded I.into_iter_gives I.IntoIter.next_gives fields) uncounted
         (λ all. marked_list field_parts (map shown_field all)) (λ all. ErrorResponse (fields_of (map shown_field all)))
         B.Lacks (B.held buf.old) (B.held buf.new) result }
 {
@@ -96,7 +96,7 @@ pub fn notice_response_of<'a, B: Buffer, I: IntoIterator<Item = ErrorField<'a>> 
 where
     I::IntoIter: Drop,
     requires { IsFiniteIterable I.into_iter_gives I.IntoIter.can_next I.IntoIter.remaining fields }
-    ensures { WritesGiven (Came I.into_iter_gives I.IntoIter.next_gives fields) uncounted
+    ensures { WritesGiven (Yielded I.into_iter_gives I.IntoIter.next_gives fields) uncounted
         (λ all. marked_list field_parts (map shown_field all)) (λ all. NoticeResponse (fields_of (map shown_field all)))
         B.Lacks (B.held buf.old) (B.held buf.new) result }
 {

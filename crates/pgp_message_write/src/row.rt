@@ -4,7 +4,7 @@
 ghost use Rattle.std.specs.Prelude.{map, length, [], ◌∷◌};
 ghost use Rattle.std.specs.Iterator.{IsFiniteIterable};
 ghost use Rattle.std.specs.List.{flat_map};
-ghost use Rattle.pgp_base.specs.Calls.{Came};
+ghost use Rattle.pgp_base.specs.Calls.{Yielded};
 ghost use Rattle.pgp_base.specs.Cause.{count_cause};
 ghost use Rattle.pgp_base.specs.Wire.{uint16};
 ghost use Rattle.pgp_frontend.specs.Payload.{Rest};
@@ -85,7 +85,7 @@ pub fn row_description_of<'a, B: Buffer, I: IntoIterator<Item = Column<'a>> + Dr
 where
     I::IntoIter: Drop,
     requires { IsFiniteIterable I.into_iter_gives I.IntoIter.can_next I.IntoIter.remaining columns }
-    ensures { WritesGiven (Came I.into_iter_gives I.IntoIter.next_gives columns) count_cause
+    ensures { WritesGiven (Yielded I.into_iter_gives I.IntoIter.next_gives columns) count_cause
         (λ all. counted_list column_parts (map shown_column all)) (λ all. description_of (map shown_column all))
         B.Lacks (B.held buf.old) (B.held buf.new) result }
 {
@@ -121,7 +121,7 @@ pub fn data_row_of<'a, B: Buffer, I: IntoIterator<Item = Option<&'a [u8]>> + Dro
 where
     I::IntoIter: Drop,
     requires { IsFiniteIterable I.into_iter_gives I.IntoIter.can_next I.IntoIter.remaining values }
-    ensures { WritesGiven (Came I.into_iter_gives I.IntoIter.next_gives values) count_cause
+    ensures { WritesGiven (Yielded I.into_iter_gives I.IntoIter.next_gives values) count_cause
         (λ vs. counted_list value_parts (map lent vs)) (λ vs. row_of (map lent vs))
         B.Lacks (B.held buf.old) (B.held buf.new) result }
 {

@@ -20,7 +20,7 @@ Caused lacks read_failed write_failed Write = write_failed
 
 -- The words aren't obeyed: this is reported, and nothing is read or written.
 pub record IsUnread (text : List ℕ) (code : ℕ) (before after : Streams) (status : ℕ) (complaint : List ℕ) : Type 0 where
-  pub told : complaint ≡ text
+  pub reported : complaint ≡ text
   pub failed : status ≡ code
   pub input : Keeps before.input after.input
   pub output : Keeps before.output after.output

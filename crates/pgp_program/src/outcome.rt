@@ -52,7 +52,7 @@ impl Outcome {
 /// Says on `errors` what is to be said there, or as much of it as it takes where it fails, and returns the status.
 pub fn tell<E: Output>(outcome: Outcome, errors: &mut E) -> u8
     ensures status { result ≡ outcome.status }
-    ensures told { IsSaid (GivesUp E.Fails E.Interrupted) (E.Passed errors.new) (E.contents errors.old) (E.contents errors.new) outcome.complaint.now }
+    ensures reported { IsSaid (GivesUp E.Fails E.Interrupted) (E.Passed errors.new) (E.contents errors.old) (E.contents errors.new) outcome.complaint.now }
 {
     let _ = put(outcome.complaint.as_bytes(), errors);
     outcome.status

@@ -133,20 +133,20 @@ fn at_once(sent: &Sent<'_>, wanted: &str, out: &mut Shown) -> Result<(), Fault> 
         show_refusal(e, out);
     }
     let front = wanted.get(..out.as_str().len()).unwrap_or("");
-    out.came_to(front)
+    out.received_to(front)
 }
 
 /// Comes to this, however the bytes are cut, and each message is forwarded.
 fn comes_to(sent: &Sent<'_>, wanted: &str, out: &mut Shown) -> Result<(), Fault> {
     for cut in 0..=sent.bytes.len() {
         in_two(sent, cut, out);
-        out.came_to(wanted)?;
+        out.received_to(wanted)?;
     }
     if !sent.opened {
         at_once(sent, wanted, out)?;
     }
     forward_each(sent, out);
-    out.came_to("")
+    out.received_to("")
 }
 
 /// The kind of a message of tag `p`.

@@ -3,7 +3,7 @@
 use pgp_frontend_read::{ClientMessage, PasswordKind};
 
 /// Whether a server is given the message's kind.
-fn is_told(message: &ClientMessage<'_>) -> bool {
+fn is_reported(message: &ClientMessage<'_>) -> bool {
     match message {
         ClientMessage::PasswordMessage(_) => true,
         ClientMessage::SaslInitialResponse { .. } => true,
@@ -30,7 +30,7 @@ impl<'k> Kinds<'k> {
 
     /// Goes on after a message of tag `p`.
     pub fn pass(&mut self, message: &ClientMessage<'_>) {
-        if is_told(message) {
+        if is_reported(message) {
             self.rest = self.rest.get(1..).unwrap_or(&[]);
         }
     }

@@ -93,7 +93,7 @@ fn is_written<C: Codec>(case: &Case<'_>, out: &mut Shown) -> Result<(), Fault> {
     }
     call::<C, BytesMut>(case, &mut buf, out);
     out.bytes(buf.as_slice());
-    out.came_to(case.behind)
+    out.received_to(case.behind)
 }
 
 /// Whether all of the memory is as it was.
@@ -128,7 +128,7 @@ fn fits<C: Codec>(
 ) -> Result<(), Fault> {
     let mut room = vec![in case.alloc; 0xffu8; case.bytes.len().saturating_add(8)]?;
     show_in_room::<C>(case, size, &mut room, out);
-    out.came_to(wanted)
+    out.received_to(wanted)
 }
 
 /// Makes the call where its request of memory of this number is refused, and says whether that came.
@@ -154,10 +154,10 @@ const REQUESTS: u64 = 1000;
 fn refusals_of<C: Codec>(case: &Case<'_>, room: usize, out: &mut Shown) -> Result<u64, Fault> {
     for number in 1..REQUESTS {
         if !refused_at::<C>(case, room, number, out)? {
-            out.came_to(case.behind)?;
+            out.received_to(case.behind)?;
             return Ok(number - 1);
         }
-        out.came_to(LACKS_MEMORY)?;
+        out.received_to(LACKS_MEMORY)?;
     }
     Err(Fault::Row)
 }
@@ -221,7 +221,7 @@ fn is_read<C: Codec>(
     out: &mut Shown,
 ) -> Result<(), Fault> {
     C::read(name, &bytes_of(alloc, bytes)?, out);
-    out.came_to(wanted)
+    out.received_to(wanted)
 }
 
 /// A row of a call that only writes.
@@ -268,5 +268,5 @@ pub fn check_answer<C: Answers>(
     let mut words = Words::new(&list);
     C::show(alloc, row.call, &mut words, out);
     out.keep(words.end());
-    out.came_to(row.right)
+    out.received_to(row.right)
 }

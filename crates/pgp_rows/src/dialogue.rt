@@ -114,9 +114,9 @@ fn run<Q: Queue>(dialogue: &mut Dialogue<Q>, words: &str, out: &mut Shown) -> Re
 pub fn check_dialogue(alloc: Global, row: &Row<'_>, out: &mut Shown) -> Result<(), Fault> {
     if row.call == "dialogue" {
         run(&mut Dialogue::new(alloc), row.left, out)?;
-        out.came_to(row.right)?;
+        out.received_to(row.right)?;
     }
     let mut room = [Slot::default(); ROOM];
     run(&mut Dialogue::over(Slots::new(&mut room)), row.left, out)?;
-    out.came_to(row.right)
+    out.received_to(row.right)
 }

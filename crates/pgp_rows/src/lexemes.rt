@@ -66,12 +66,12 @@ fn show_places(places: TsPositions<'_>, out: &mut Shown) {
 
 pub fn show_lexemes(mut walk: Lexemes<'_>, out: &mut Shown) {
     let (announced, _) = walk.size_hint();
-    let mut came = 0usize;
+    let mut received = 0usize;
     out.word("[");
     for _ in 0..100 {
         match walk.next() {
             Ok(Some((text, places))) => {
-                came = came.saturating_add(1);
+                received = received.saturating_add(1);
                 out.text(text);
                 show_places(places, out);
             }
@@ -83,7 +83,7 @@ pub fn show_lexemes(mut walk: Lexemes<'_>, out: &mut Shown) {
         }
     }
     out.word("]");
-    if announced != came {
+    if announced != received {
         out.word("of");
         out.number(announced);
     }

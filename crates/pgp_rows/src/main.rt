@@ -124,12 +124,12 @@ fn check_line(alloc: Global, family: Family, line: &str, out: &mut Shown) -> Res
 }
 
 /// Says of a line that isn't right, and what came.
-fn tell(rt: &impl Print, line: &str, fault: Fault, came: &str) -> io::Result<()> {
+fn tell(rt: &impl Print, line: &str, fault: Fault, received: &str) -> io::Result<()> {
     println!(rt; "{line}")?;
     match fault {
         Fault::Row => println!(rt; "    is no row"),
         Fault::Memory => println!(rt; "    found no memory"),
-        Fault::Differs => println!(rt; "    came to: {came}"),
+        Fault::Differs => println!(rt; "    came to: {received}"),
     }
 }
 

@@ -59,7 +59,7 @@ fn refuses_numeric(alloc: Global, row: &Row<'_>, out: &mut Shown) -> Result<(), 
     if !buf.as_slice().is_empty() {
         out.word("and more");
     }
-    out.came_to(row.right)
+    out.received_to(row.right)
 }
 
 /// A row of a numeric.

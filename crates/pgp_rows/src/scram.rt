@@ -114,7 +114,7 @@ fn show_steps(client: &mut ScramSha256<Global>, words: &mut Words<'_>, out: &mut
 }
 
 /// The client of `PASSWORD BINDING NONCE`.
-fn told_client<P: SaslPrep>(
+fn reported_client<P: SaslPrep>(
     alloc: Global,
     words: &mut Words<'_>,
     prep: &P,
@@ -126,7 +126,7 @@ fn told_client<P: SaslPrep>(
 
 /// `exchange PASSWORD BINDING NONCE FIRST FINAL`: the client's texts, and how it ends.
 pub fn show_exchange<P: SaslPrep>(alloc: Global, words: &mut Words<'_>, prep: &P, out: &mut Shown) {
-    match told_client(alloc, words, prep) {
+    match reported_client(alloc, words, prep) {
         Ok(mut client) => show_steps(&mut client, words, out),
         Err(fault) => out.fail(fault),
     }

@@ -153,7 +153,7 @@ fn at_each_cut(bytes: &[u8], wanted: &str, out: &mut Shown) -> Result<(), Fault>
     for cut in 0..bytes.len() {
         let (front, back) = bytes.split_at(cut);
         in_two(front, back, out);
-        out.came_to(wanted)?;
+        out.received_to(wanted)?;
     }
     Ok(())
 }
@@ -161,13 +161,13 @@ fn at_each_cut(bytes: &[u8], wanted: &str, out: &mut Shown) -> Result<(), Fault>
 /// The bytes come to this, however they are read.
 fn comes_to(bytes: &[u8], wanted: &str, out: &mut Shown) -> Result<(), Fault> {
     by_parse(bytes, out);
-    out.came_to(wanted)?;
+    out.received_to(wanted)?;
     in_place(bytes, false, out);
-    out.came_to(wanted)?;
+    out.received_to(wanted)?;
     in_place(bytes, true, out);
-    out.came_to(wanted)?;
+    out.received_to(wanted)?;
     by_bytes(bytes, out);
-    out.came_to(wanted)?;
+    out.received_to(wanted)?;
     at_each_cut(bytes, wanted, out)
 }
 

@@ -49,7 +49,7 @@ impl Shown {
     }
 
     /// Has to be what came until now. It makes place for what comes next.
-    pub fn came_to(&mut self, wanted: &str) -> Result<(), Fault> {
+    pub fn received_to(&mut self, wanted: &str) -> Result<(), Fault> {
         if let Some(fault) = self.fault {
             return Err(fault);
         }
@@ -221,13 +221,13 @@ fn show_items<W: FallibleIterator>(walk: &mut W, out: &mut Shown) -> usize
 where
     W::Item: Show,
 {
-    for came in 0..MOST {
+    for received in 0..MOST {
         match walk.next() {
             Ok(Some(item)) => item.show(out),
-            Ok(None) => return came,
+            Ok(None) => return received,
             Err(e) => {
                 out.refusal(e);
-                return came;
+                return received;
             }
         }
     }
@@ -256,9 +256,9 @@ where
 }
 
 /// Shows how many items were announced, where that isn't how many came.
-fn show_announced(announced: (usize, Option<usize>), came: usize, out: &mut Shown) {
+fn show_announced(announced: (usize, Option<usize>), received: usize, out: &mut Shown) {
     match announced {
-        (least, Some(most)) if least == came && most == came => {}
+        (least, Some(most)) if least == received && most == received => {}
         (0, None) => out.word("of any"),
         (least, _) => {
             out.word("of");
@@ -275,9 +275,9 @@ where
 {
     let announced = walk.size_hint();
     out.word("[");
-    let came = show_items(&mut walk, out);
+    let received = show_items(&mut walk, out);
     out.word("]");
-    show_announced(announced, came, out);
+    show_announced(announced, received, out);
     if !is_over(&mut walk) {
         out.word("unsteady");
     }

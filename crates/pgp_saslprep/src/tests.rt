@@ -16,10 +16,10 @@ impl Nfkc for NoMemory {
 }
 
 #[test]
-fn a_normal_form_without_memory_is_told(rt: HostRuntime) {
-    let is_told = matches!(
+fn a_normal_form_without_memory_is_reported(rt: HostRuntime) {
+    let is_reported = matches!(
         saslprep(rt.alloc(), "caf\u{e9}", &NoMemory),
         Err(Error::OutOfMemory)
     );
-    assert!(rt; is_told);
+    assert!(rt; is_reported);
 }

@@ -6,7 +6,7 @@ use Rattle.pgp_base.specs.Held.{Held}
 use Rattle.pgp_base.specs.declared.error.Error.{Error}
 use Rattle.pgp_frontend.specs.ClientMessage.{ClientMessage, PasswordMessage, SaslInitialResponse, SaslResponse, Terminate, Startup, CancelRequest, SslRequest, GssEncRequest}
 use Rattle.pgp_session.specs.Serving as spec
-use Rattle.pgp_session.specs.Serving.{Due, Outcome, Comes, Steps, StepsAll, IsAsked, Knows, Proves, HasShown, IsUnderWay, IsChallenged, IsAdmitted, CameIn, NoneWanted, OneCame, OtherCame, due, starts, at_opening, at_password, at_first, at_final, at_open, phase_after, password_message, first_message, final_message, scram}
+use Rattle.pgp_session.specs.Serving.{Due, Outcome, Comes, Steps, StepsAll, IsAsked, Knows, Proves, HasShown, IsUnderWay, IsChallenged, IsAdmitted, ReceivedIn, NoneWanted, OneReceived, OtherReceived, due, starts, at_opening, at_password, at_first, at_final, at_open, phase_after, password_message, first_message, final_message, scram}
 use Rattle.pgp_session.specs.declared.serving.Denial.TheVariants.{WrongPassword, Violation}
 use Rattle.pgp_session.specs.declared.serving.Method.{Method}
 use Rattle.pgp_session.specs.declared.serving.Method.TheVariants as methods
@@ -77,41 +77,41 @@ is_due AwaitsFinal m = final_due m
 is_due Open m = open_due m
 is_due Over m = tt
 
-one_more : {wanted came : List ClientMessage} (m x : ClientMessage) → m ≡ x → CameIn wanted came → CameIn (wanted ++ (x ∷ [])) (came ++ (m ∷ []))
-one_more {wanted} {came} m x e a = subst (λ (y : ClientMessage). CameIn (wanted ++ (y ∷ [])) (came ++ (m ∷ []))) e (OneCame m a)
+one_more : {wanted received : List ClientMessage} (m x : ClientMessage) → m ≡ x → ReceivedIn wanted received → ReceivedIn (wanted ++ (x ∷ [])) (received ++ (m ∷ []))
+one_more {wanted} {received} m x e a = subst (λ (y : ClientMessage). ReceivedIn (wanted ++ (y ∷ [])) (received ++ (m ∷ []))) e (OneReceived m a)
 
-module _ {A : Type 0} (came : List ClientMessage) (m : ClientMessage) where
+module _ {A : Type 0} (received : List ClientMessage) (m : ClientMessage) where
   -- what was shown stays so after another message
-  longer : (start : Method A) → HasShown start came → HasShown start (came ++ (m ∷ []))
+  longer : (start : Method A) → HasShown start received → HasShown start (received ++ (m ∷ []))
   longer methods.Nothing k = tt
-  longer (methods.Password stored) k = (k.0, OtherCame m k.1, k.2)
-  longer (methods.Md5 salt stored) k = (k.0, OtherCame m k.1, k.2)
-  longer (methods.Exchange server) k = (k.0, k.1, k.2, k.3, k.4, k.5, OtherCame m k.6, k.7, k.8)
+  longer (methods.Password stored) k = (k.0, OtherReceived m k.1, k.2)
+  longer (methods.Md5 salt stored) k = (k.0, OtherReceived m k.1, k.2)
+  longer (methods.Exchange server) k = (k.0, k.1, k.2, k.3, k.4, k.5, OtherReceived m k.6, k.7, k.8)
 
   -- the text that was asked for came
-  shown_text : (start : Method A) (text : List ℕ) → m ≡ password_message text → Proves start text → HasShown start (came ++ (m ∷ []))
+  shown_text : (start : Method A) (text : List ℕ) → m ≡ password_message text → Proves start text → HasShown start (received ++ (m ∷ []))
   shown_text methods.Nothing text e k = tt
   shown_text (methods.Password stored) text e k = (text, one_more m (password_message text) e NoneWanted, k)
   shown_text (methods.Md5 salt stored) text e k = (text, one_more m (password_message text) e NoneWanted, k)
   shown_text (methods.Exchange server) text e k = absurd k
 
   -- the exchange's first text came
-  under_way : (start new : Method A) (text answer : List ℕ) → m ≡ first_message text → IsChallenged start text new answer → IsUnderWay start (came ++ (m ∷ [])) new
+  under_way : (start new : Method A) (text answer : List ℕ) → m ≡ first_message text → IsChallenged start text new answer → IsUnderWay start (received ++ (m ∷ [])) new
   under_way (methods.Exchange server) (methods.Exchange new) text answer e k = (text, answer, one_more m (first_message text) e NoneWanted, k)
   under_way start new text answer e k = absurd k
 
   -- and its final text
-  shown_proof : (start now new : Method A) (text answer : List ℕ) → m ≡ final_message text → IsUnderWay start came now → IsAdmitted now text new answer → HasShown start (came ++ (m ∷ []))
+  shown_proof : (start now new : Method A) (text answer : List ℕ) → m ≡ final_message text → IsUnderWay start received now → IsAdmitted now text new answer → HasShown start (received ++ (m ∷ []))
   shown_proof (methods.Exchange server) (methods.Exchange old) (methods.Exchange new) text answer e had k =
       (old, new, had.0, text, had.1, answer, one_more m (final_message text) e had.2, had.3, k)
   shown_proof (methods.Exchange server) (methods.Exchange old) new text answer e had k = absurd k
   shown_proof start now new text answer e had k = absurd had
 
   -- what was known in the phase that the message is for
-  at : (start old : Method A) (p q : ServingPhase) → p ≡ q → Knows start came p old → Knows start came q old
-  at start old p q e k = subst (λ (r : ServingPhase). Knows start came r old) e k
+  at : (start old : Method A) (p q : ServingPhase) → p ≡ q → Knows start received p old → Knows start received q old
+  at start old p q e k = subst (λ (r : ServingPhase). Knows start received r old) e k
 
-  on : (start : Method A) (p : ServingPhase) (d : Due) (old : Method A) (o : Outcome) (new : Method A) → IsDue m p d → Comes d old o new → Knows start came p old → Knows start (came ++ (m ∷ [])) (phase_after o) new
+  on : (start : Method A) (p : ServingPhase) (d : Due) (old : Method A) (o : Outcome) (new : Method A) → IsDue m p d → Comes d old o new → Knows start received p old → Knows start (received ++ (m ∷ [])) (phase_after o) new
   unfolding IsDue
   on start p spec.Idle old spec.Ignored new i w k = tt
   on start p spec.Encrypts old spec.Unencrypted new i w k = tt
@@ -131,22 +131,22 @@ module _ {A : Type 0} (came : List ClientMessage) (m : ClientMessage) where
   on start p (spec.Final text) old (spec.Denied WrongPassword) new i w k = tt
   on start p d old o new i w k = absurd w
 
-module _ {A K : Type 0} (memory : Type 0) (lacks : Held K → ℕ → Type 0) (start : Method A) (came : List ClientMessage) (m : ClientMessage) (old new : Serving A) (before behind : Held K) where
-  pub kept_known : (r : Result ServingEvent Error) → Steps memory lacks m old new before behind r → Knows start came old.phase old.method → Knows start (came ++ (m ∷ [])) new.phase new.method
+module _ {A K : Type 0} (memory : Type 0) (lacks : Held K → ℕ → Type 0) (start : Method A) (received : List ClientMessage) (m : ClientMessage) (old new : Serving A) (before behind : Held K) where
+  pub kept_known : (r : Result ServingEvent Error) → Steps memory lacks m old new before behind r → Knows start received old.phase old.method → Knows start (received ++ (m ∷ [])) new.phase new.method
   kept_known (Ok event) w k =
-      subst (λ (p : ServingPhase). Knows start (came ++ (m ∷ [])) p new.method) (sym w.3)
-      (on came m start old.phase (due old.phase m) old.method w.0 new.method (is_due old.phase m) w.1 k)
-  kept_known (Err e) w k = subst (λ (p : ServingPhase). Knows start (came ++ (m ∷ [])) p new.method) (sym w.0) tt
+      subst (λ (p : ServingPhase). Knows start (received ++ (m ∷ [])) p new.method) (sym w.3)
+      (on received m start old.phase (due old.phase m) old.method w.0 new.method (is_due old.phase m) w.1 k)
+  kept_known (Err e) w k = subst (λ (p : ServingPhase). Knows start (received ++ (m ∷ [])) p new.method) (sym w.0) tt
 
 module _ {A K : Type 0} (memory : Type 0) (lacks : Held K → ℕ → Type 0) (start : Method A) where
   -- over steps one after the other
-  all_known : (came sent : List ClientMessage) (old new : Serving A) → Knows start came old.phase old.method → StepsAll memory lacks sent old new → Knows start (came ++ sent) new.phase new.method
-  all_known came [] old new k w =
-      let kept : Knows start came new.phase new.method = subst (λ (s : Serving A). Knows start came s.phase s.method) (sym w) k in
-      rw (append-nil came) kept
-  all_known came (m ∷ ms) old new k w =
-      let next : Knows start (came ++ (m ∷ [])) w.0.phase w.0.method = kept_known memory lacks start came m old w.0 w.1 w.2 w.3 w.4 k in
-      rw (← append_assoc came (m ∷ []) ms) (all_known (came ++ (m ∷ [])) ms w.0 new next w.5)
+  all_known : (received sent : List ClientMessage) (old new : Serving A) → Knows start received old.phase old.method → StepsAll memory lacks sent old new → Knows start (received ++ sent) new.phase new.method
+  all_known received [] old new k w =
+      let kept : Knows start received new.phase new.method = subst (λ (s : Serving A). Knows start received s.phase s.method) (sym w) k in
+      rw (append-nil received) kept
+  all_known received (m ∷ ms) old new k w =
+      let next : Knows start (received ++ (m ∷ [])) w.0.phase w.0.method = kept_known memory lacks start received m old w.0 w.1 w.2 w.3 w.4 k in
+      rw (← append_assoc received (m ∷ []) ms) (all_known (received ++ (m ∷ [])) ms w.0 new next w.5)
 
   asked_known : (asked : Serving A) → IsAsked start asked → Knows start [] asked.phase asked.method
   asked_known asked (same, inl e) = rw e same

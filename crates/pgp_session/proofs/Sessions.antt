@@ -11,7 +11,7 @@ use Rattle.pgp_client.specs.Flow.{Belong}
 use Rattle.pgp_client.specs.Kinds.{kind_of, request_of}
 use Rattle.pgp_client.specs.Taking.{is_copying, taken}
 use Rattle.pgp_client.specs.Talk.{Talk}
-use Rattle.pgp_client.specs.Telling.{Turn, Asks, Hears as HearsTurn, Follows as FollowsTurns, asked_in, heard_in, told_in, start}
+use Rattle.pgp_client.specs.Telling.{Turn, Asks, Hears as HearsTurn, Follows as FollowsTurns, asked_in, observed_in, reported_in, start}
 use Rattle.pgp_client.specs.declared.event.Event.{Event}
 use Rattle.pgp_client.specs.declared.event.Event.TheVariants.{Ended}
 use Rattle.pgp_client.specs.declared.request.Asked.{Asked}
@@ -25,8 +25,8 @@ use Rattle.pgp_message.specs.BackendMessage.{Message, Authentication, Authentica
 use Rattle.pgp_message.specs.Stream.{Frames, TakesFrame}
 use Rattle.pgp_session.specs.Connection.{HasStarted, Sent, Shown, Took, Wrote, asked_of, begun, in_phase, is_end, is_logged_in, logged_in_at, may_send, with_incoming}
 use Rattle.pgp_session.specs.Login.{Added, AddsReply, Asking, Sasl, First, Final, Welcome, Login, LogsOn, NothingAsked, ByCleartext, ByMd5, ScramBegins, ScramGoesOn, ScramEnds, Welcomed, Trusted, Ways, asking}
-use Rattle.pgp_session.specs.ScramLogin.{Offers, CameAmong, NoneWanted, OneCame, OtherCame, offer, first_text, final_text, welcome}
-use Rattle.pgp_session.specs.Session.{Admitted, ByNone, ByPassword, ByHash, BySignature, Follows, History, IsAllowed, IsOpenedAt, Known, Plays, Begins, Writes, Hears, and_fed, and_heard, and_sent, and_wrote, good, is_secret, nothing as no_history, requests_in, requests_of, turns_of}
+use Rattle.pgp_session.specs.ScramLogin.{Offers, ReceivedAmong, NoneWanted, OneReceived, OtherReceived, offer, first_text, final_text, welcome}
+use Rattle.pgp_session.specs.Session.{Admitted, ByNone, ByPassword, ByHash, BySignature, Follows, History, IsAllowed, IsOpenedAt, Known, Plays, Begins, Writes, Hears, and_fed, and_observed, and_sent, and_wrote, good, is_secret, nothing as no_history, requests_in, requests_of, turns_of}
 use Rattle.pgp_session.specs.declared.connection.ConnectionPhase.{ConnectionPhase}
 use Rattle.pgp_session.specs.declared.connection.ConnectionPhase.TheVariants.{Opening, Encrypting, Started, Over as OverPhase}
 use Rattle.pgp_session.specs.declared.scram_login.LoginPhase.{LoginPhase}
@@ -40,7 +40,7 @@ run_one : (l : List ClientMessage) (m : ClientMessage) (sent out grown : List �
 run_one l m sent out grown run may added =
     let r = run_more (flat_map kinds_of l) l m (sent ++ out) run may added.none added.in_range in
     let bytes : (sent ++ out) ++ bytes_of m ≡ sent ++ grown = append_assoc sent out (bytes_of m) ∙ ap (λ b. sent ++ b) (sym added.bytes) in
-    subst (λ b. ClientRun (flat_map kinds_of (l ++ m ∷ [])) (l ++ m ∷ []) b) bytes (subst (λ ks. ClientRun ks (l ++ m ∷ []) ((sent ++ out) ++ bytes_of m)) r.told r)
+    subst (λ b. ClientRun (flat_map kinds_of (l ++ m ∷ [])) (l ++ m ∷ []) b) bytes (subst (λ ks. ClientRun ks (l ++ m ∷ []) ((sent ++ out) ++ bytes_of m)) r.reported r)
 
 pub wrote : (ways : Ways) (h : History) (old new : Shown) (m : ClientMessage) (name : ℕ) → MayCome m (is_opened h.written) → is_secret m ≡ false
     → IsOpenedAt new.phase (is_opened (h.written ++ m ∷ [])) → Added m old.out new.out
@@ -48,10 +48,10 @@ pub wrote : (ways : Ways) (h : History) (old new : Shown) (m : ClientMessage) (n
 wrote ways h old new m name may plain opened added incoming talk login k = record {
   run = run_one h.written m h.sent old.out new.out k.run may added;
   opened = opened;
-  read = subst (λ b. Frames h.came (good h.heard) b) (sym incoming) k.read;
+  read = subst (λ b. Frames h.received (good h.observed) b) (sym incoming) k.read;
   plays =
-      subst (λ (t : Talk). Plays ways (h.written ++ m ∷ []) h.heard (h.turns ++ turns_of (request_of m) name) t new.login) (sym talk)
-      (subst (λ (l : Login). Plays ways (h.written ++ m ∷ []) h.heard (h.turns ++ turns_of (request_of m) name) (asked_of (request_of m) name old.talk) l) (sym login)
+      subst (λ (t : Talk). Plays ways (h.written ++ m ∷ []) h.observed (h.turns ++ turns_of (request_of m) name) t new.login) (sym talk)
+      (subst (λ (l : Login). Plays ways (h.written ++ m ∷ []) h.observed (h.turns ++ turns_of (request_of m) name) (asked_of (request_of m) name old.talk) l) (sym login)
       (Writes m name plain k.plays));
 }
 
@@ -63,8 +63,8 @@ sent_some ways h old new n phase out incoming talk login k =
     record {
       run = subst (λ b. ClientRun (flat_map kinds_of h.written) h.written b) bytes k.run;
       opened = subst (λ (p : ConnectionPhase). IsOpenedAt p (is_opened h.written)) (sym phase) k.opened;
-      read = subst (λ b. Frames h.came (good h.heard) b) (sym incoming) k.read;
-      plays = subst (λ (t : Talk). Plays ways h.written h.heard h.turns t new.login) (sym talk) (subst (λ (l : Login). Plays ways h.written h.heard h.turns old.talk l) (sym login) k.plays);
+      read = subst (λ b. Frames h.received (good h.observed) b) (sym incoming) k.read;
+      plays = subst (λ (t : Talk). Plays ways h.written h.observed h.turns t new.login) (sym talk) (subst (λ (l : Login). Plays ways h.written h.observed h.turns old.talk l) (sym login) k.plays);
     }
 
 pub fed_some : (ways : Ways) (h : History) (old new : Shown) (piece : List ℕ) → new.phase ≡ old.phase → new.out ≡ old.out → new.incoming ≡ old.incoming ++ piece → new.talk ≡ old.talk → new.login ≡ old.login
@@ -72,12 +72,12 @@ pub fed_some : (ways : Ways) (h : History) (old new : Shown) (piece : List ℕ) 
     → ((bytes more rest left : List ℕ) (first second : List (Result Message Error)) → Frames bytes first rest → Frames (rest ++ more) second left → Frames (bytes ++ more) (first ++ second) left)
     → Known ways h old → Known ways (and_fed piece h) new
 fed_some ways h old new piece phase out incoming talk login none go k =
-    let frames : Frames (h.came ++ piece) (good h.heard ++ []) (old.incoming ++ piece) = go h.came piece old.incoming (old.incoming ++ piece) (good h.heard) [] k.read (none (old.incoming ++ piece)) in
+    let frames : Frames (h.received ++ piece) (good h.observed ++ []) (old.incoming ++ piece) = go h.received piece old.incoming (old.incoming ++ piece) (good h.observed) [] k.read (none (old.incoming ++ piece)) in
     record {
       run = subst (λ b. ClientRun (flat_map kinds_of h.written) h.written (h.sent ++ b)) (sym out) k.run;
       opened = subst (λ (p : ConnectionPhase). IsOpenedAt p (is_opened h.written)) (sym phase) k.opened;
-      read = subst (λ b. Frames (h.came ++ piece) (good h.heard) b) (sym incoming) (subst (λ r. Frames (h.came ++ piece) r (old.incoming ++ piece)) (append-nil (good h.heard)) frames);
-      plays = subst (λ (t : Talk). Plays ways h.written h.heard h.turns t new.login) (sym talk) (subst (λ (l : Login). Plays ways h.written h.heard h.turns old.talk l) (sym login) k.plays);
+      read = subst (λ b. Frames (h.received ++ piece) (good h.observed) b) (sym incoming) (subst (λ r. Frames (h.received ++ piece) r (old.incoming ++ piece)) (append-nil (good h.observed)) frames);
+      plays = subst (λ (t : Talk). Plays ways h.written h.observed h.turns t new.login) (sym talk) (subst (λ (l : Login). Plays ways h.written h.observed h.turns old.talk l) (sym login) k.plays);
     }
 
 good_more : (ms : List Message) (m : Message) → good ms ++ Ok m ∷ [] ≡ good (ms ++ m ∷ [])
@@ -121,18 +121,18 @@ opened_replied l (Some m) e = opened_still l m e
 at_started : (p : ConnectionPhase) (b : Bool) → p ≡ Started → IsOpenedAt p b → b ≡ true
 at_started p b e opened = subst (λ (q : ConnectionPhase). IsOpenedAt q b) e opened
 
-pub heard_one : (ways : Ways) (h : History) (old new : Shown) (rest : List ℕ) (m : Message) (e : Event) → old.phase ≡ Started → TakesFrame old.incoming (Ok m) rest → Took m (with_incoming rest old) new e
+pub observed_one : (ways : Ways) (h : History) (old new : Shown) (rest : List ℕ) (m : Message) (e : Event) → old.phase ≡ Started → TakesFrame old.incoming (Ok m) rest → Took m (with_incoming rest old) new e
     → ((bytes before after : List ℕ) (results : List (Result Message Error)) (r : Result Message Error) → Frames bytes results before → TakesFrame before r after → Frames bytes (results ++ r ∷ []) after)
-    → Known ways h old → (reply : Option ClientMessage) × Known ways (and_heard m e reply h) new
-heard_one ways h old new rest m e phase frame took next k =
+    → Known ways h old → (reply : Option ClientMessage) × Known ways (and_observed m e reply h) new
+observed_one ways h old new rest m e phase frame took next k =
     let logged = took.logged in
     let opened : is_opened h.written ≡ true = at_started old.phase (is_opened h.written) phase k.opened in (
       logged.reply,
       record {
         run = replied h.written (asking m) logged.reply old.login new.login h.sent old.out new.out opened logged.logs logged.adds k.run;
         opened = subst (λ (p : ConnectionPhase). IsOpenedAt p (is_opened (h.written ++ option_to_list logged.reply))) (sym (ap (λ (c : Shown). c.phase) took.is ∙ phase)) (opened_replied h.written logged.reply opened);
-        read = subst (λ b. Frames h.came (good (h.heard ++ m ∷ [])) b) (sym (ap (λ (c : Shown). c.incoming) took.is))
-            (subst (λ r. Frames h.came r rest) (good_more h.heard m) (next h.came old.incoming rest (good h.heard) (Ok m) k.read frame));
+        read = subst (λ b. Frames h.received (good (h.observed ++ m ∷ [])) b) (sym (ap (λ (c : Shown). c.incoming) took.is))
+            (subst (λ r. Frames h.received r rest) (good_more h.observed m) (next h.received old.incoming rest (good h.observed) (Ok m) k.read frame));
         plays = Hears m e took.taken took.goes_on logged.logs k.plays;
       },
     )
@@ -144,10 +144,10 @@ asked_more [] more = refl
 asked_more (Asks a ∷ turns) more = ap (λ l. a ∷ l) (asked_more turns more)
 asked_more (HearsTurn k e ∷ turns) more = asked_more turns more
 
-heard_more : (turns more : List Turn) → heard_in (turns ++ more) ≡ heard_in turns ++ heard_in more
-heard_more [] more = refl
-heard_more (Asks a ∷ turns) more = heard_more turns more
-heard_more (HearsTurn k e ∷ turns) more = ap (λ l. k ∷ l) (heard_more turns more)
+observed_more : (turns more : List Turn) → observed_in (turns ++ more) ≡ observed_in turns ++ observed_in more
+observed_more [] more = refl
+observed_more (Asks a ∷ turns) more = observed_more turns more
+observed_more (HearsTurn k e ∷ turns) more = ap (λ l. k ∷ l) (observed_more turns more)
 
 requests_more : (rs more : List Asked) → requests_in (rs ++ more) ≡ requests_in rs ++ requests_in more
 requests_more [] more = refl
@@ -157,9 +157,9 @@ one_turn : (r : Option Request) (n : ℕ) → requests_in (asked_in (turns_of r 
 one_turn None n = refl
 one_turn (Some r) n = refl
 
-none_heard : (r : Option Request) (n : ℕ) → heard_in (turns_of r n) ≡ []
-none_heard None n = refl
-none_heard (Some r) n = refl
+none_observed : (r : Option Request) (n : ℕ) → observed_in (turns_of r n) ≡ []
+none_observed None n = refl
+none_observed (Some r) n = refl
 
 requests_pushed : (l : List ClientMessage) (m : ClientMessage) → requests_of (l ++ m ∷ []) ≡ requests_of l ++ option_to_list (request_of m)
 requests_pushed l m = flat_map-append (λ x. option_to_list (request_of x)) l (m ∷ []) ∙ ap (λ r. requests_of l ++ r) (flat_map-cons (λ x. option_to_list (request_of x)) m [] ∙ append-nil (option_to_list (request_of m)))
@@ -173,20 +173,20 @@ kinds_more [] m = refl
 kinds_more (x ∷ ms) m = ap (λ l. kind_of x ∷ l) (kinds_more ms m)
 
 module _ (ways : Ways) where
-  pub plays_asked : {written : List ClientMessage} {heard : List Message} {turns : List Turn} {t : Talk} {l : Login} → Plays ways written heard turns t l → requests_in (asked_in turns) ≡ requests_of written
+  pub plays_asked : {written : List ClientMessage} {observed : List Message} {turns : List Turn} {t : Talk} {l : Login} → Plays ways written observed turns t l → requests_in (asked_in turns) ≡ requests_of written
   plays_asked Begins = refl
-  plays_asked (Writes {written} {heard} {turns} m name plain p) =
+  plays_asked (Writes {written} {observed} {turns} m name plain p) =
       ap requests_in (asked_more turns (turns_of (request_of m) name)) ∙ requests_more (asked_in turns) (asked_in (turns_of (request_of m) name))
       ∙ ap (λ r. requests_in (asked_in turns) ++ r) (one_turn (request_of m) name) ∙ ap (λ r. r ++ option_to_list (request_of m)) (plays_asked p) ∙ sym (requests_pushed written m)
-  plays_asked (Hears {written} {reply} {heard} {turns} {t} {next} {l} {after} m e taken on logs p) =
+  plays_asked (Hears {written} {reply} {observed} {turns} {t} {next} {l} {after} m e taken on logs p) =
       ap requests_in (asked_more turns (HearsTurn (kind_of m) e ∷ [])) ∙ ap requests_in (append-nil (asked_in turns)) ∙ plays_asked p ∙ sym (requests_replied written (asking m) reply l after logs)
 
-  pub plays_heard : {written : List ClientMessage} {heard : List Message} {turns : List Turn} {t : Talk} {l : Login} → Plays ways written heard turns t l → heard_in turns ≡ map kind_of heard
-  plays_heard Begins = refl
-  plays_heard (Writes {written} {heard} {turns} m name plain p) =
-      heard_more turns (turns_of (request_of m) name) ∙ ap (λ r. heard_in turns ++ r) (none_heard (request_of m) name) ∙ append-nil (heard_in turns) ∙ plays_heard p
-  plays_heard (Hears {written} {reply} {heard} {turns} m e taken on logs p) =
-      heard_more turns (HearsTurn (kind_of m) e ∷ []) ∙ ap (λ r. r ++ kind_of m ∷ []) (plays_heard p) ∙ sym (kinds_more heard m)
+  pub plays_observed : {written : List ClientMessage} {observed : List Message} {turns : List Turn} {t : Talk} {l : Login} → Plays ways written observed turns t l → observed_in turns ≡ map kind_of observed
+  plays_observed Begins = refl
+  plays_observed (Writes {written} {observed} {turns} m name plain p) =
+      observed_more turns (turns_of (request_of m) name) ∙ ap (λ r. observed_in turns ++ r) (none_observed (request_of m) name) ∙ append-nil (observed_in turns) ∙ plays_observed p
+  plays_observed (Hears {written} {reply} {observed} {turns} m e taken on logs p) =
+      observed_more turns (HearsTurn (kind_of m) e ∷ []) ∙ ap (λ r. r ++ kind_of m ∷ []) (plays_observed p) ∙ sym (kinds_more observed m)
 
   goes_on_at : (e : Event) → is_end e ≡ false → e ≢ Ended
   goes_on_at e on = λ is. let f : true ≡ false = ap is_end (sym is) ∙ on in cc
@@ -195,14 +195,14 @@ module _ (ways : Ways) where
   turn_asked None n t rest f = f
   turn_asked (Some r) n t rest f = f
 
-  plays_on : {written : List ClientMessage} {heard : List Message} {turns : List Turn} {t : Talk} {l : Login} → Plays ways written heard turns t l → (rest : List Turn) → FollowsTurns t rest → FollowsTurns start (turns ++ rest)
+  plays_on : {written : List ClientMessage} {observed : List Message} {turns : List Turn} {t : Talk} {l : Login} → Plays ways written observed turns t l → (rest : List Turn) → FollowsTurns t rest → FollowsTurns start (turns ++ rest)
   plays_on Begins rest f = f
-  plays_on (Writes {written} {heard} {turns} {t} m name plain p) rest f =
+  plays_on (Writes {written} {observed} {turns} {t} m name plain p) rest f =
       subst (λ ts. FollowsTurns start ts) (sym (append_assoc turns (turns_of (request_of m) name) rest)) (plays_on p (turns_of (request_of m) name ++ rest) (turn_asked (request_of m) name t rest f))
-  plays_on (Hears {written} {reply} {heard} {turns} {t} {next} m e taken on logs p) rest f =
+  plays_on (Hears {written} {reply} {observed} {turns} {t} {next} m e taken on logs p) rest f =
       subst (λ ts. FollowsTurns start ts) (sym (append_assoc turns (HearsTurn (kind_of m) e ∷ []) rest)) (plays_on p (HearsTurn (kind_of m) e ∷ rest) (next, taken, goes_on_at e on, f))
 
-  pub plays_follow : {written : List ClientMessage} {heard : List Message} {turns : List Turn} {t : Talk} {l : Login} → Plays ways written heard turns t l → FollowsTurns start turns
+  pub plays_follow : {written : List ClientMessage} {observed : List Message} {turns : List Turn} {t : Talk} {l : Login} → Plays ways written observed turns t l → FollowsTurns start turns
   plays_follow {turns = turns} p = subst (λ ts. FollowsTurns start ts) (append-nil turns) (plays_on p [] tt)
 
 -- ---- by which way a client is logged in
@@ -222,21 +222,21 @@ asked_by (Authentication (AuthenticationSaslFinal text)) = refl
 asked_by (Authentication AuthenticationOk) = refl
 asked_by m = tt
 
-record Offered (ways : Ways) (heard : List Message) (x : Client) : Type 0 where
+record Offered (ways : Ways) (observed : List Message) (x : Client) : Type 0 where
   mechanisms : List ℕ
   from : ways.scram ≡ Some x
   offers : Offers mechanisms
-  came : CameAmong (offer mechanisms ∷ []) heard
+  received : ReceivedAmong (offer mechanisms ∷ []) observed
 
-record Answered (ways : Ways) (heard : List Message) (x y : Client) : Type 0 where
+record Answered (ways : Ways) (observed : List Message) (x y : Client) : Type 0 where
   mechanisms : List ℕ
   first : List ℕ
   from : ways.scram ≡ Some x
   offers : Offers mechanisms
-  came : CameAmong (offer mechanisms ∷ first_text first ∷ []) heard
+  received : ReceivedAmong (offer mechanisms ∷ first_text first ∷ []) observed
   answers : Answers x first y
 
-record Verified (ways : Ways) (heard : List Message) : Type 0 where
+record Verified (ways : Ways) (observed : List Message) : Type 0 where
   start : Client
   after : Client
   mechanisms : List ℕ
@@ -244,54 +244,54 @@ record Verified (ways : Ways) (heard : List Message) : Type 0 where
   final : List ℕ
   from : ways.scram ≡ Some start
   offers : Offers mechanisms
-  came : CameAmong (offer mechanisms ∷ first_text first ∷ final_text final ∷ []) heard
+  received : ReceivedAmong (offer mechanisms ∷ first_text first ∷ final_text final ∷ []) observed
   completes : Completes start first final after
 
 -- what a log-in's phase says of the messages that came, where it has this exchange
 abbrev Stands : Ways → List Message → LoginPhase → Option Client → Type 0
-Stands ways heard AwaitsOffer s = s ≡ ways.scram
-Stands ways heard AwaitsFirst s = (x : Client) × (s ≡ Some x) × Offered ways heard x
-Stands ways heard AwaitsFinal s = (x : Client) × (y : Client) × (s ≡ Some y) × Answered ways heard x y
-Stands ways heard AwaitsOk s = Admitted ways heard ⊎ Verified ways heard
-Stands ways heard Done s = Admitted ways heard
-Stands ways heard Over s = Unit {0}
+Stands ways observed AwaitsOffer s = s ≡ ways.scram
+Stands ways observed AwaitsFirst s = (x : Client) × (s ≡ Some x) × Offered ways observed x
+Stands ways observed AwaitsFinal s = (x : Client) × (y : Client) × (s ≡ Some y) × Answered ways observed x y
+Stands ways observed AwaitsOk s = Admitted ways observed ⊎ Verified ways observed
+Stands ways observed Done s = Admitted ways observed
+Stands ways observed Over s = Unit {0}
 
-record IsAt (ways : Ways) (heard : List Message) (l : Login) : Type 0 where
+record IsAt (ways : Ways) (observed : List Message) (l : Login) : Type 0 where
   md5 : l.ways.md5 ≡ ways.md5
   cleartext : l.ways.cleartext ≡ ways.cleartext
   none : l.ways.none ≡ ways.none
-  stands : Stands ways heard l.phase l.ways.scram
+  stands : Stands ways observed l.phase l.ways.scram
 
-module _ (ways : Ways) (heard : List Message) (m : Message) where
-  admitted_more : Admitted ways heard → Admitted ways (heard ++ m ∷ [])
+module _ (ways : Ways) (observed : List Message) (m : Message) where
+  admitted_more : Admitted ways observed → Admitted ways (observed ++ m ∷ [])
   admitted_more (ByNone e) = ByNone e
   admitted_more (ByPassword password e) = ByPassword password e
   admitted_more (ByHash who e) = ByHash who e
-  admitted_more (BySignature x e s) = BySignature x e (record { mechanisms = s.mechanisms; first = s.first; final = s.final; after = s.after; offers = s.offers; came = OtherCame m s.came; completes = s.completes })
+  admitted_more (BySignature x e s) = BySignature x e (record { mechanisms = s.mechanisms; first = s.first; final = s.final; after = s.after; offers = s.offers; received = OtherReceived m s.received; completes = s.completes })
 
-  stands_more : (p : LoginPhase) (s : Option Client) → Stands ways heard p s → Stands ways (heard ++ m ∷ []) p s
+  stands_more : (p : LoginPhase) (s : Option Client) → Stands ways observed p s → Stands ways (observed ++ m ∷ []) p s
   stands_more AwaitsOffer s h = h
-  stands_more AwaitsFirst s h = (h.0, h.1, record { mechanisms = h.2.mechanisms; from = h.2.from; offers = h.2.offers; came = OtherCame m h.2.came })
-  stands_more AwaitsFinal s h = (h.0, h.1, h.2, record { mechanisms = h.3.mechanisms; first = h.3.first; from = h.3.from; offers = h.3.offers; came = OtherCame m h.3.came; answers = h.3.answers })
+  stands_more AwaitsFirst s h = (h.0, h.1, record { mechanisms = h.2.mechanisms; from = h.2.from; offers = h.2.offers; received = OtherReceived m h.2.received })
+  stands_more AwaitsFinal s h = (h.0, h.1, h.2, record { mechanisms = h.3.mechanisms; first = h.3.first; from = h.3.from; offers = h.3.offers; received = OtherReceived m h.3.received; answers = h.3.answers })
   stands_more AwaitsOk s (inl a) = inl (admitted_more a)
-  stands_more AwaitsOk s (inr v) = inr (record { start = v.start; after = v.after; mechanisms = v.mechanisms; first = v.first; final = v.final; from = v.from; offers = v.offers; came = OtherCame m v.came; completes = v.completes })
+  stands_more AwaitsOk s (inr v) = inr (record { start = v.start; after = v.after; mechanisms = v.mechanisms; first = v.first; final = v.final; from = v.from; offers = v.offers; received = OtherReceived m v.received; completes = v.completes })
   stands_more Done s h = admitted_more h
   stands_more Over s h = tt
 
-  came_more : {wanted : List Message} (x : Message) → m ≡ x → CameAmong wanted heard → CameAmong (wanted ++ x ∷ []) (heard ++ m ∷ [])
-  came_more {wanted} x e a = subst (λ (y : Message). CameAmong (wanted ++ y ∷ []) (heard ++ m ∷ [])) e (OneCame m a)
+  received_more : {wanted : List Message} (x : Message) → m ≡ x → ReceivedAmong wanted observed → ReceivedAmong (wanted ++ x ∷ []) (observed ++ m ∷ [])
+  received_more {wanted} x e a = subst (λ (y : Message). ReceivedAmong (wanted ++ y ∷ []) (observed ++ m ∷ [])) e (OneReceived m a)
 
-  at : (l : Login) (p : LoginPhase) → l.phase ≡ p → IsAt ways heard l → Stands ways heard p l.ways.scram
-  at l p e i = subst (λ (q : LoginPhase). Stands ways heard q l.ways.scram) e i.stands
+  at : (l : Login) (p : LoginPhase) → l.phase ≡ p → IsAt ways observed l → Stands ways observed p l.ways.scram
+  at l p e i = subst (λ (q : LoginPhase). Stands ways observed q l.ways.scram) e i.stands
 
   same_client : (s : Option Client) (x y : Client) → s ≡ Some x → s ≡ Some y → x ≡ y
   same_client s x y e f = let both : Some x ≡ Some y = sym e ∙ f in cc
 
-  signs : m ≡ welcome → Admitted ways heard ⊎ Verified ways heard → Admitted ways (heard ++ m ∷ [])
+  signs : m ≡ welcome → Admitted ways observed ⊎ Verified ways observed → Admitted ways (observed ++ m ∷ [])
   signs e (inl a) = admitted_more a
-  signs e (inr v) = BySignature v.start v.from (record { mechanisms = v.mechanisms; first = v.first; final = v.final; after = v.after; offers = v.offers; came = came_more welcome e v.came; completes = v.completes })
+  signs e (inr v) = BySignature v.start v.from (record { mechanisms = v.mechanisms; first = v.first; final = v.final; after = v.after; offers = v.offers; received = received_more welcome e v.received; completes = v.completes })
 
-  step : (asked : Asking) (reply : Option ClientMessage) (l after : Login) → IsAskedBy m asked → LogsOn asked reply l after → IsAt ways heard l → IsAt ways (heard ++ m ∷ []) after
+  step : (asked : Asking) (reply : Option ClientMessage) (l after : Login) → IsAskedBy m asked → LogsOn asked reply l after → IsAt ways observed l → IsAt ways (observed ++ m ∷ []) after
   unfolding IsAskedBy
   step asked reply l after is NothingAsked i = record { md5 = i.md5; cleartext = i.cleartext; none = i.none; stands = stands_more l.phase l.ways.scram i.stands }
   step asked reply l after is (ByCleartext password p e) i = record { md5 = i.md5; cleartext = i.cleartext; none = i.none; stands = inl (ByPassword password (sym i.cleartext ∙ e)) }
@@ -300,7 +300,7 @@ module _ (ways : Ways) (heard : List Message) (m : Message) where
     md5 = i.md5;
     cleartext = i.cleartext;
     none = i.none;
-    stands = (x, e, record { mechanisms = mechanisms; from = sym (at l AwaitsOffer p i) ∙ e; offers = o; came = came_more (offer mechanisms) is NoneWanted });
+    stands = (x, e, record { mechanisms = mechanisms; from = sym (at l AwaitsOffer p i) ∙ e; offers = o; received = received_more (offer mechanisms) is NoneWanted });
   }
   step asked reply l after is (ScramGoesOn {text = text} x y answer p e a f) i =
       let st = at l AwaitsFirst p i in
@@ -309,7 +309,7 @@ module _ (ways : Ways) (heard : List Message) (m : Message) where
         md5 = i.md5;
         cleartext = i.cleartext;
         none = i.none;
-        stands = (x, y, refl, record { mechanisms = st.2.mechanisms; first = text; from = st.2.from ∙ ap Some same; offers = st.2.offers; came = came_more (first_text text) is st.2.came; answers = a });
+        stands = (x, y, refl, record { mechanisms = st.2.mechanisms; first = text; from = st.2.from ∙ ap Some same; offers = st.2.offers; received = received_more (first_text text) is st.2.received; answers = a });
       }
   step asked reply l after is (ScramEnds {text = text} x y p e finished) i =
       let st = at l AwaitsFinal p i in
@@ -326,7 +326,7 @@ module _ (ways : Ways) (heard : List Message) (m : Message) where
           final = text;
           from = st.3.from;
           offers = st.3.offers;
-          came = came_more (final_text text) is st.3.came;
+          received = received_more (final_text text) is st.3.received;
           completes = record { between = x; answers = subst (λ (c : Client). Answers st.0 st.3.first c) same st.3.answers; finished = finished };
         });
       }
@@ -342,36 +342,36 @@ module _ (ways : Ways) (heard : List Message) (m : Message) where
   not_none : (o : Option Client) (x : Client) → o ≡ Some x → o ≢ None
   not_none o x e = λ none. let both : Some x ≡ None = sym e ∙ none in cc
 
-  reply_allowed : (asked : Asking) (x : ClientMessage) (l after : Login) → LogsOn asked (Some x) l after → IsAt ways heard l → IsAllowed ways x
+  reply_allowed : (asked : Asking) (x : ClientMessage) (l after : Login) → LogsOn asked (Some x) l after → IsAt ways observed l → IsAllowed ways x
   reply_allowed asked x l after (ByCleartext password p e) i = inl (sym i.cleartext ∙ e)
   reply_allowed asked x l after (ByMd5 {salt = salt} who p e) i = inr (who, sym i.md5 ∙ e, salt, refl)
   reply_allowed asked x l after (ScramBegins y text p e o f) i = not_none ways.scram y (sym (at l AwaitsOffer p i) ∙ e)
   reply_allowed asked x l after (ScramGoesOn y z answer p e a f) i = let st = at l AwaitsFirst p i in not_none ways.scram st.0 st.2.from
 
-  all_allowed : (written : List ClientMessage) (asked : Asking) (reply : Option ClientMessage) (l after : Login) → LogsOn asked reply l after → IsAt ways heard l
+  all_allowed : (written : List ClientMessage) (asked : Asking) (reply : Option ClientMessage) (l after : Login) → LogsOn asked reply l after → IsAt ways observed l
       → AllByRecursion (IsAllowed ways) written → AllByRecursion (IsAllowed ways) (written ++ option_to_list reply)
   all_allowed written asked None l after logs i all = subst (λ (ms : List ClientMessage). AllByRecursion (IsAllowed ways) ms) (sym (append-nil written)) all
   all_allowed written asked (Some x) l after logs i all = each_push (IsAllowed ways) written x all (reply_allowed asked x l after logs i)
 
 module _ (ways : Ways) where
-  plays_stand : {written : List ClientMessage} {heard : List Message} {turns : List Turn} {t : Talk} {l : Login} → Plays ways written heard turns t l → IsAt ways heard l
+  plays_stand : {written : List ClientMessage} {observed : List Message} {turns : List Turn} {t : Talk} {l : Login} → Plays ways written observed turns t l → IsAt ways observed l
   plays_stand Begins = record { md5 = refl; cleartext = refl; none = refl; stands = refl }
   plays_stand (Writes m name plain p) = plays_stand p
-  plays_stand (Hears {written} {reply} {heard} {turns} {t} {next} {l} {after} m e taken on logs p) = step ways heard m (asking m) reply l after (asked_by m) logs (plays_stand p)
+  plays_stand (Hears {written} {reply} {observed} {turns} {t} {next} {l} {after} m e taken on logs p) = step ways observed m (asking m) reply l after (asked_by m) logs (plays_stand p)
 
-  plays_allowed : {written : List ClientMessage} {heard : List Message} {turns : List Turn} {t : Talk} {l : Login} → Plays ways written heard turns t l → AllByRecursion (IsAllowed ways) written
+  plays_allowed : {written : List ClientMessage} {observed : List Message} {turns : List Turn} {t : Talk} {l : Login} → Plays ways written observed turns t l → AllByRecursion (IsAllowed ways) written
   plays_allowed Begins = tt
-  plays_allowed (Writes {written} {heard} m name plain p) = each_push (IsAllowed ways) written m (plays_allowed p) (open_allowed ways heard welcome m plain)
-  plays_allowed (Hears {written} {reply} {heard} {turns} {t} {next} {l} {after} m e taken on logs p) = all_allowed ways heard m written (asking m) reply l after logs (plays_stand p) (plays_allowed p)
+  plays_allowed (Writes {written} {observed} m name plain p) = each_push (IsAllowed ways) written m (plays_allowed p) (open_allowed ways observed welcome m plain)
+  plays_allowed (Hears {written} {reply} {observed} {turns} {t} {next} {l} {after} m e taken on logs p) = all_allowed ways observed m written (asking m) reply l after logs (plays_stand p) (plays_allowed p)
 
 -- what follows from what is known
-pub follows : (ways : Ways) (h : History) (now : Shown) → ((turns : List Turn) → FollowsTurns start turns → Belong (asked_in turns) (heard_in turns) (told_in turns)) → Known ways h now → Follows ways h now
+pub follows : (ways : Ways) (h : History) (now : Shown) → ((turns : List Turn) → FollowsTurns start turns → Belong (asked_in turns) (observed_in turns) (reported_in turns)) → Known ways h now → Follows ways h now
 follows ways h now belongs k = record {
   asked = plays_asked ways k.plays;
-  heard = plays_heard ways k.plays;
+  observed = plays_observed ways k.plays;
   belong = belongs h.turns (plays_follow ways k.plays);
   allowed = plays_allowed ways k.plays;
-  admitted = λ done. subst (λ (q : LoginPhase). Stands ways h.heard q now.login.ways.scram) done (plays_stand ways k.plays).stands;
+  admitted = λ done. subst (λ (q : LoginPhase). Stands ways h.observed q now.login.ways.scram) done (plays_stand ways k.plays).stands;
 }
 
 -- ---- the calls

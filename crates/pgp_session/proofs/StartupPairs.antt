@@ -7,7 +7,7 @@ use Rattle.std.proofs.Math.Seq.{take-length}
 use Rattle.std.specs.Option.{option_to_list}
 use Rattle.std.proofs.lemmas.Iterator.{YieldsList}
 use Rattle.std.proofs.lemmas.Iterator.Consumers.{YieldsList-so_far, YieldsList-turn, YieldsList-end}
-use Rattle.pgp_base.specs.Calls.{Came}
+use Rattle.pgp_base.specs.Calls.{Yielded}
 use Rattle.pgp_base.specs.Cause.{Wants, first}
 use Rattle.pgp_base.specs.Held.{Held}
 use Rattle.pgp_base.specs.declared.error.Error.{Error}
@@ -33,25 +33,25 @@ map_itself (x ∷ xs) = ap (λ l. x ∷ l) (map_itself xs)
 
 module _ {S X : Type 0} (steps : S → Option X → S → Type 0) (s : S) (all : List X) (road : YieldsList steps (λ x. x) s all) where
   -- all of them came
-  pub came_all : (xs : List X) (left : S) → YieldsThen steps s xs None left → xs ≡ all
-  came_all xs left came = sym (map_itself xs) ∙ (YieldsList-end road xs came.0 came.1 None left refl came.2).0
+  pub received_all : (xs : List X) (left : S) → YieldsThen steps s xs None left → xs ≡ all
+  received_all xs left received = sym (map_itself xs) ∙ (YieldsList-end road xs received.0 received.1 None left refl received.2).0
 
   -- some came, and one more
-  pub came_front : (xs : List X) (x : X) (left : S) → YieldsThen steps s xs (Some x) left → xs ++ x ∷ [] ≡ take (length xs + 1) all
-  came_front xs x left came =
-      let turn = YieldsList-turn road xs came.0 came.1 (Some x) left x refl came.2 in
-      let so_far = sym (map_itself xs) ∙ YieldsList-so_far road xs came.0 came.1 in
+  pub received_front : (xs : List X) (x : X) (left : S) → YieldsThen steps s xs (Some x) left → xs ++ x ∷ [] ≡ take (length xs + 1) all
+  received_front xs x left received =
+      let turn = YieldsList-turn road xs received.0 received.1 (Some x) left x refl received.2 in
+      let so_far = sym (map_itself xs) ∙ YieldsList-so_far road xs received.0 received.1 in
       ap (λ l. l ++ x ∷ []) so_far ∙ ap (λ y. take (length xs) all ++ y ∷ []) turn.1 ∙ sym (take_more all (length xs) x turn.0)
 
 -- those that came so far are the first ones
 module _ {S X U : Type 0} (into_iter_gives : U → S → Type 0) (steps : S → Option X → S → Type 0) (source : U) (all : List X) (roads : (s : S) → into_iter_gives source s → YieldsList steps (λ x. x) s all) (xs : List X) where
-  asked_front : (before : List X) (next : Option X) → Came into_iter_gives steps source before next → xs ≡ before ++ option_to_list next → (k : ℕ) × (xs ≡ take k all)
-  asked_front before None came are = (length all, are ∙ (append-nil before ∙ (came_all steps came.iterator all (roads came.iterator came.from) before came.left came.came ∙ sym (take-length all))))
-  asked_front before (Some x) came are = (length before + 1, are ∙ came_front steps came.iterator all (roads came.iterator came.from) before x came.left came.came)
+  asked_front : (before : List X) (next : Option X) → Received into_iter_gives steps source before next → xs ≡ before ++ option_to_list next → (k : ℕ) × (xs ≡ take k all)
+  asked_front before None received are = (length all, are ∙ (append-nil before ∙ (received_all steps received.iterator all (roads received.iterator received.from) before received.left received.received ∙ sym (take-length all))))
+  asked_front before (Some x) received are = (length before + 1, are ∙ received_front steps received.iterator all (roads received.iterator received.from) before x received.left received.received)
 
-  pub came_so_far : (part : List X → Part) → Arrived (Came into_iter_gives steps source) part xs → (k : ℕ) × (xs ≡ take k all)
-  came_so_far part (inl none) = (0, none)
-  came_so_far part (inr asked) = asked_front asked.before asked.next asked.came asked.are
+  pub received_so_far : (part : List X → Part) → Arrived (Received into_iter_gives steps source) part xs → (k : ℕ) × (xs ≡ take k all)
+  received_so_far part (inl none) = (0, none)
+  received_so_far part (inr asked) = asked_front asked.before asked.next asked.received asked.are
 
 -- ---- the packet of the first pairs is no longer than that of all
 

@@ -90,7 +90,7 @@ module _ {B K : Type 0} (held : B → Held K) where
 
   -- the message reported this, and the reply to it was added
   pub record Tells (query : List ℕ) (m : Message) (old new : Shown B) (event : Event) : Type 0 where
-    pub told : event_of old.phase m ≡ Some event
+    pub reported : event_of old.phase m ≡ Some event
     pub phase : new.phase ≡ phase_after old.phase event
     pub sent : Replies (reply_to query event) old.out new.out
 

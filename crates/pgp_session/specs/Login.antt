@@ -201,15 +201,15 @@ pub record LoggedOn (asked : Asking) (old new : Login) (out grown : List ℕ) : 
   pub adds : AddsReply reply out grown
 
 -- what the code's words say
-abbrev pub told : {A : Type 0} → Asked A → Asking
-told code.Nothing = Nothing
-told code.Cleartext = Cleartext
-told (code.Md5 salt) = Md5 salt
-told (code.Sasl body) = Sasl body.now
-told (code.First text) = First text.now
-told (code.Final text) = Final text.now
-told code.Welcome = Welcome
-told code.Other = Other
+abbrev pub reported : {A : Type 0} → Asked A → Asking
+reported code.Nothing = Nothing
+reported code.Cleartext = Cleartext
+reported (code.Md5 salt) = Md5 salt
+reported (code.Sasl body) = Sasl body.now
+reported (code.First text) = First text.now
+reported (code.Final text) = Final text.now
+reported code.Welcome = Welcome
+reported code.Other = Other
 
 -- the bytes of a user and a password
 abbrev pub user_of : Bor (List ℕ) × Bor (List ℕ) → List ℕ × List ℕ

@@ -47,7 +47,7 @@ some_one (Some s) = 1
 -- how many of the server's messages say so
 abbrev pub readies : List Message → ℕ
 readies [] = 0
-readies (m ∷ came) = some_one (status m) + readies came
+readies (m ∷ received) = some_one (status m) + readies received
 
 abbrev pub newer : Option ℕ → Option ℕ → Option ℕ
 newer before None = before
@@ -56,23 +56,23 @@ newer before (Some s) = Some s
 -- the status that the last of them reported; none where none came
 abbrev pub last_status : Option ℕ → List Message → Option ℕ
 last_status before [] = before
-last_status before (m ∷ came) = last_status (newer before (status m)) came
+last_status before (m ∷ received) = last_status (newer before (status m)) received
 
 -- All that the client sent is answered, no part of an extended query waits for its end, and the server is in no transaction.
-pub record IsIdle (sent : List ClientMessage) (came : List Message) : Type 0 where
-  pub answered : asks sent ≡ readies came
+pub record IsIdle (sent : List ClientMessage) (received : List Message) : Type 0 where
+  pub answered : asks sent ≡ readies received
   pub finished : waits_behind false sent ≡ false
-  pub idle : last_status None came ≡ Some 73
+  pub idle : last_status None received ≡ Some 73
 
 -- a count, as far as a `u64` has it
 abbrev pub IsCount : ℕ → ℕ → Type 0
 IsCount n count = ((n ≡ count) × (count < 18446744073709551615)) ⊎ ((n ≡ 18446744073709551615) × (18446744073709551615 ≤ count))
 
 -- what is known of a session by these messages of both sides
-pub record Saw (sent : List ClientMessage) (came : List Message) (session : Session) : Type 0 where
+pub record Saw (sent : List ClientMessage) (received : List Message) (session : Session) : Type 0 where
   pub asked : IsCount session.asked (asks sent)
-  pub readied : IsCount session.readied (readies came)
-  pub status : session.status ≡ last_status None came
+  pub readied : IsCount session.readied (readies received)
+  pub status : session.status ≡ last_status None received
   pub unfinished : session.unfinished ≡ waits_behind false sent
 
 -- A session is reported to be idle: so these counts say it, and nothing waits on either side, be it a part of an extended query or a byte of a cut

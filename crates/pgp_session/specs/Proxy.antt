@@ -47,9 +47,9 @@ ProxiesAll {Kept} refused lacks (call ∷ calls) from old next new =
 
 -- Of the messages that came those went on whose statement isn't one of these, in the order in which they came.
 pub data WentOn : List (Bor (List ℕ)) → List ClientMessage → List ClientMessage → Type 0 where
-  NoneCame : {refused : List (Bor (List ℕ))} → WentOn refused [] []
-  Went : {refused : List (Bor (List ℕ))} {came went : List ClientMessage} (x : ClientMessage) → (IsListed refused (statement_of x) → ⊥) → WentOn refused came went → WentOn refused (x ∷ came) (x ∷ went)
-  Stayed : {refused : List (Bor (List ℕ))} {came went : List ClientMessage} (x : ClientMessage) → IsListed refused (statement_of x) → WentOn refused came went → WentOn refused (x ∷ came) went
+  NoneReceived : {refused : List (Bor (List ℕ))} → WentOn refused [] []
+  Went : {refused : List (Bor (List ℕ))} {received went : List ClientMessage} (x : ClientMessage) → (IsListed refused (statement_of x) → ⊥) → WentOn refused received went → WentOn refused (x ∷ received) (x ∷ went)
+  Stayed : {refused : List (Bor (List ℕ))} {received went : List ClientMessage} (x : ClientMessage) → IsListed refused (statement_of x) → WentOn refused received went → WentOn refused (x ∷ received) went
 
 -- These messages were read by the calls, one after the other, each under the kind that its call was given.
 pub data ReadBy : List Call → Unread → List ClientMessage → Unread → Type 0 where
@@ -58,11 +58,11 @@ pub data ReadBy : List Call → Unread → List ClientMessage → Unread → Typ
 
 -- The bytes that were read are those of the messages that came, which the calls read, and those that were written are those of the messages that went on.
 pub record PassesOn {Kept : Type 0} (refused : List (Bor (List ℕ))) (calls : List Call) (from : Unread) (old : Held Kept) (next : Unread) (new : Held Kept) : Type 0 where
-  pub came : List ClientMessage
+  pub received : List ClientMessage
   pub went : List ClientMessage
-  pub read_by : ReadBy calls from came next
-  pub are : WentOn refused came went
-  pub read : from.bytes ≡ flat_map bytes_of came ++ next.bytes
+  pub read_by : ReadBy calls from received next
+  pub are : WentOn refused received went
+  pub read : from.bytes ≡ flat_map bytes_of received ++ next.bytes
   pub written : new ≡ old ⊕ flat_map bytes_of went
 
 -- calls that were given these kinds, each of which passed its message on

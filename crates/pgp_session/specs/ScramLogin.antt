@@ -11,8 +11,8 @@ use Rattle.pgp_frontend.specs.ClientMessage.{ClientMessage, SaslInitialResponse,
 use Rattle.pgp_message.specs.BackendMessage.{Message, Authentication, AuthenticationOk, AuthenticationSasl, AuthenticationSaslContinue, AuthenticationSaslFinal, ErrorResponse, NoticeResponse}
 use Rattle.pgp_message.specs.Items.{TextSpelled, TextRefused}
 use Rattle.pgp_session.specs.ClientStream.{Sent, IsAdded, IsLeft, RefusesMessage}
-use Rattle.pgp_session.specs.declared.scram_login.Heard.{Heard}
-use Rattle.pgp_session.specs.declared.scram_login.Heard.TheVariants as code
+use Rattle.pgp_session.specs.declared.scram_login.Observed.{Observed}
+use Rattle.pgp_session.specs.declared.scram_login.Observed.TheVariants as code
 use Rattle.pgp_session.specs.declared.scram_login.LoginPhase.{LoginPhase}
 use Rattle.pgp_session.specs.declared.scram_login.LoginPhase.TheVariants.{AwaitsOffer, AwaitsFirst, AwaitsFinal, AwaitsOk, Done, Over}
 use Rattle.pgp_session.specs.declared.scram_login.LoginEvent.{LoginEvent}
@@ -60,18 +60,18 @@ if_due phase None = None
 if_due phase (Some said) = if is_due phase said then Some said else None
 
 -- what a message says that is due in the phase
-abbrev pub heard : LoginPhase → Message → Option Said
-heard phase m = if_due phase (says m)
+abbrev pub observed : LoginPhase → Message → Option Said
+observed phase m = if_due phase (says m)
 
 -- the list of mechanisms ends well, and SCRAM-SHA-256 is one of them
 abbrev pub Offers : List ℕ → Type 0
 Offers mechanisms = (names : List (List ℕ)) × MarkedItems TextSpelled TextRefused mechanisms names None × Contains names (codes "SCRAM-SHA-256")
 
 -- the first messages came among the second in this order, others before, between and after them
-pub data CameAmong : List Message → List Message → Type 0 where
-  NoneWanted : {came : List Message} → CameAmong [] came
-  OneCame : {wanted came : List Message} (m : Message) → CameAmong wanted came → CameAmong (wanted ++ (m ∷ [])) (came ++ (m ∷ []))
-  OtherCame : {wanted came : List Message} (m : Message) → CameAmong wanted came → CameAmong wanted (came ++ (m ∷ []))
+pub data ReceivedAmong : List Message → List Message → Type 0 where
+  NoneWanted : {received : List Message} → ReceivedAmong [] received
+  OneReceived : {wanted received : List Message} (m : Message) → ReceivedAmong wanted received → ReceivedAmong (wanted ++ (m ∷ [])) (received ++ (m ∷ []))
+  OtherReceived : {wanted received : List Message} (m : Message) → ReceivedAmong wanted received → ReceivedAmong wanted (received ++ (m ∷ []))
 
 -- the messages of a server that admits a client by SCRAM-SHA-256
 abbrev pub offer : List ℕ → Message
@@ -89,16 +89,16 @@ welcome = Authentication AuthenticationOk
 -- What is known of a log-in that began with the exchange `start`, and took the messages that came: which of them brought it
 -- where it is, in their order. So after the server's signature the two texts that complete the exchange are two that came.
 abbrev pub Knows : Client → List Message → LoginPhase → Client → Type 0
-Knows start came AwaitsOffer now = now ≡ start
-Knows start came AwaitsFirst now = (mechanisms : List ℕ) × Offers mechanisms
-    × CameAmong (offer mechanisms ∷ []) came × (now ≡ start)
-Knows start came AwaitsFinal now = (mechanisms first : List ℕ) × Offers mechanisms
-    × CameAmong (offer mechanisms ∷ first_text first ∷ []) came × Answers start first now
-Knows start came AwaitsOk now = (mechanisms first final : List ℕ) × Offers mechanisms
-    × CameAmong (offer mechanisms ∷ first_text first ∷ final_text final ∷ []) came × Completes start first final now
-Knows start came Done now = (mechanisms first final : List ℕ) × Offers mechanisms
-    × CameAmong (offer mechanisms ∷ first_text first ∷ final_text final ∷ welcome ∷ []) came × Completes start first final now
-Knows start came Over now = Unit {0}
+Knows start received AwaitsOffer now = now ≡ start
+Knows start received AwaitsFirst now = (mechanisms : List ℕ) × Offers mechanisms
+    × ReceivedAmong (offer mechanisms ∷ []) received × (now ≡ start)
+Knows start received AwaitsFinal now = (mechanisms first : List ℕ) × Offers mechanisms
+    × ReceivedAmong (offer mechanisms ∷ first_text first ∷ []) received × Answers start first now
+Knows start received AwaitsOk now = (mechanisms first final : List ℕ) × Offers mechanisms
+    × ReceivedAmong (offer mechanisms ∷ first_text first ∷ final_text final ∷ []) received × Completes start first final now
+Knows start received Done now = (mechanisms first final : List ℕ) × Offers mechanisms
+    × ReceivedAmong (offer mechanisms ∷ first_text first ∷ final_text final ∷ welcome ∷ []) received × Completes start first final now
+Knows start received Over now = Unit {0}
 
 -- a log-in's phase, its exchange, and what it has to send
 pub record Shown (B : Type 0) : Type 0 where
@@ -157,10 +157,10 @@ module _ {B K : Type 0} (held : B → Held K) (memory : Type 0) (lacks : Held K 
     StepsOn (Some said) old new result = Hears said old new result
 
     abbrev pub Steps : Message → Shown B → Shown B → Result LoginEvent (LoginFault A) → Type 0
-    Steps m old new result = StepsOn (heard old.phase m) old new result
+    Steps m old new result = StepsOn (observed old.phase m) old new result
 
 -- what the code's word says
-abbrev pub seen : {S : Type 0} → Heard S → Said
+abbrev pub seen : {S : Type 0} → Observed S → Said
 seen code.Notice = Notice
 seen code.Failure = Failure
 seen (code.Offer body) = Offer body.now

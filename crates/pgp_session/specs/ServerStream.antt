@@ -16,7 +16,7 @@ pub record Reading : Type 0 where
   pub failed : Bool
 
 -- What is reported of a whole stream.
-pub record Told : Type 0 where
+pub record Reported : Type 0 where
   pub results : List (Result Message Error)
   pub stopped : Bool
   pub rest : List ℕ

@@ -218,10 +218,10 @@ sqlstate WrongPassword = codes "28P01"
 sqlstate Violation = codes "08P01"
 sqlstate NotAllowed = codes "28000"
 
-abbrev pub told : Denial → List ℕ
-told WrongPassword = codes "password authentication failed"
-told Violation = codes "protocol violation"
-told NotAllowed = codes "invalid authorization specification"
+abbrev pub reported : Denial → List ℕ
+reported WrongPassword = codes "password authentication failed"
+reported Violation = codes "protocol violation"
+reported NotAllowed = codes "invalid authorization specification"
 
 -- a field of an error, by its letter
 abbrev pub field : ℕ → List ℕ → ErrorPart
@@ -229,7 +229,7 @@ field code value = record { code = code; value = value }
 
 -- severity, the same not translated, SQLSTATE and message
 abbrev pub fields : Denial → List ErrorPart
-fields why = field 83 (codes "FATAL") ∷ field 86 (codes "FATAL") ∷ field 67 (sqlstate why) ∷ field 77 (told why) ∷ []
+fields why = field 83 (codes "FATAL") ∷ field 86 (codes "FATAL") ∷ field 67 (sqlstate why) ∷ field 77 (reported why) ∷ []
 
 abbrev pub error_of : Denial → Message
 error_of why = ErrorResponse (fields_of (fields why))
@@ -291,10 +291,10 @@ IsAsked start s = (s.method ≡ start) × ((s.phase ≡ AwaitsPassword) ⊎ (s.p
 -- ---- a whole run
 
 -- the first messages came among the second in this order, others before, between and after them
-pub data CameIn : List ClientMessage → List ClientMessage → Type 0 where
-  NoneWanted : {came : List ClientMessage} → CameIn [] came
-  OneCame : {wanted came : List ClientMessage} (m : ClientMessage) → CameIn wanted came → CameIn (wanted ++ (m ∷ [])) (came ++ (m ∷ []))
-  OtherCame : {wanted came : List ClientMessage} (m : ClientMessage) → CameIn wanted came → CameIn wanted (came ++ (m ∷ []))
+pub data ReceivedIn : List ClientMessage → List ClientMessage → Type 0 where
+  NoneWanted : {received : List ClientMessage} → ReceivedIn [] received
+  OneReceived : {wanted received : List ClientMessage} (m : ClientMessage) → ReceivedIn wanted received → ReceivedIn (wanted ++ (m ∷ [])) (received ++ (m ∷ []))
+  OtherReceived : {wanted received : List ClientMessage} (m : ClientMessage) → ReceivedIn wanted received → ReceivedIn wanted (received ++ (m ∷ []))
 
 abbrev pub password_message : List ℕ → ClientMessage
 password_message text = PasswordMessage text
@@ -308,25 +308,25 @@ final_message text = SaslResponse text
 -- Among the messages that came the client showed what was asked of it. By SCRAM: two texts, of which the second shows the proof that the
 -- verifier of the exchange accepts, and the verifier isn't made up (`Admits`).
 abbrev pub HasShown : {A : Type 0} → Method A → List ClientMessage → Type 0
-HasShown methods.Nothing came = Unit {0}
-HasShown (methods.Password stored) came = (text : List ℕ) × CameIn (password_message text ∷ []) came × IsPasswordOf stored text
-HasShown (methods.Md5 salt stored) came = (text : List ℕ) × CameIn (password_message text ∷ []) came × AnswersStored stored.items salt text
-HasShown (methods.Exchange server) came = (challenged over : Server) × (first final answer signed : List ℕ)
-    × CameIn (first_message first ∷ final_message final ∷ []) came × Challenges server first challenged answer × Admits challenged final over signed
+HasShown methods.Nothing received = Unit {0}
+HasShown (methods.Password stored) received = (text : List ℕ) × ReceivedIn (password_message text ∷ []) received × IsPasswordOf stored text
+HasShown (methods.Md5 salt stored) received = (text : List ℕ) × ReceivedIn (password_message text ∷ []) received × AnswersStored stored.items salt text
+HasShown (methods.Exchange server) received = (challenged over : Server) × (first final answer signed : List ℕ)
+    × ReceivedIn (first_message first ∷ final_message final ∷ []) received × Challenges server first challenged answer × Admits challenged final over signed
 
 -- the client's first text was answered
 abbrev pub IsUnderWay : {A : Type 0} → Method A → List ClientMessage → Method A → Type 0
-IsUnderWay (methods.Exchange server) came (methods.Exchange now) = (first answer : List ℕ)
-    × CameIn (first_message first ∷ []) came × Challenges server first now answer
-IsUnderWay start came now = ⊥
+IsUnderWay (methods.Exchange server) received (methods.Exchange now) = (first answer : List ℕ)
+    × ReceivedIn (first_message first ∷ []) received × Challenges server first now answer
+IsUnderWay start received now = ⊥
 
 -- What is known of a session in which the client was asked for `start`, and since then sent the messages that came.
 abbrev pub Knows : {A : Type 0} → Method A → List ClientMessage → ServingPhase → Method A → Type 0
-Knows start came AwaitsPassword now = now ≡ start
-Knows start came AwaitsFirst now = now ≡ start
-Knows start came AwaitsFinal now = IsUnderWay start came now
-Knows start came Open now = HasShown start came
-Knows start came phase now = Unit {0}
+Knows start received AwaitsPassword now = now ≡ start
+Knows start received AwaitsFirst now = now ≡ start
+Knows start received AwaitsFinal now = IsUnderWay start received now
+Knows start received Open now = HasShown start received
+Knows start received phase now = Unit {0}
 
 -- ---- the code's words
 

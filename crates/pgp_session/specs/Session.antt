@@ -9,7 +9,7 @@ use Rattle.pgp_client.specs.Flow.{Belong}
 use Rattle.pgp_client.specs.Kinds.{kind_of, request_of}
 use Rattle.pgp_client.specs.Taking.{taken}
 use Rattle.pgp_client.specs.Talk.{Talk}
-use Rattle.pgp_client.specs.Telling.{Turn, Asks, Hears as HearsTurn, asked_in, heard_in, told_in, start}
+use Rattle.pgp_client.specs.Telling.{Turn, Asks, Hears as HearsTurn, asked_in, observed_in, reported_in, start}
 use Rattle.pgp_client.specs.declared.event.Event.{Event}
 use Rattle.pgp_client.specs.declared.request.Asked.{Asked}
 use Rattle.pgp_client.specs.declared.request.Request.{Request}
@@ -18,7 +18,7 @@ use Rattle.pgp_frontend.specs.ClientRun.{ClientRun, is_opened, kinds_of}
 use Rattle.pgp_message.specs.BackendMessage.{Message}
 use Rattle.pgp_message.specs.Stream.{Frames}
 use Rattle.pgp_session.specs.Login.{Login, LogsOn, Ways, asking}
-use Rattle.pgp_session.specs.ScramLogin.{Offers, CameAmong, offer, first_text, final_text, welcome}
+use Rattle.pgp_session.specs.ScramLogin.{Offers, ReceivedAmong, offer, first_text, final_text, welcome}
 use Rattle.pgp_session.specs.Connection.{Shown, asked_of, is_end}
 use Rattle.pgp_session.specs.declared.connection.ConnectionPhase.{ConnectionPhase}
 use Rattle.pgp_session.specs.declared.connection.ConnectionPhase.TheVariants.{Opening, Encrypting, Started, Over}
@@ -41,12 +41,12 @@ turns_of (Some r) n = Asks (record { request = r; name = n }) ∷ []
 -- A client that admits these ways wrote and heard these messages, asking and hearing in these turns; this is where it is in the dialogue and in the log-in.
 pub data Plays (ways : Ways) : List ClientMessage → List Message → List Turn → Talk → Login → Type 0 where
   Begins : Plays ways [] [] [] start (record { phase = AwaitsOffer; ways = ways })
-  Writes : {written : List ClientMessage} {heard : List Message} {turns : List Turn} {t : Talk} {l : Login} (m : ClientMessage) (name : ℕ)
-      → is_secret m ≡ false → Plays ways written heard turns t l
-      → Plays ways (written ++ m ∷ []) heard (turns ++ turns_of (request_of m) name) (asked_of (request_of m) name t) l
-  Hears : {written : List ClientMessage} {reply : Option ClientMessage} {heard : List Message} {turns : List Turn} {t next : Talk} {l after : Login} (m : Message) (e : Event)
-      → taken t (kind_of m) ≡ Ok (e, next) → is_end e ≡ false → LogsOn (asking m) reply l after → Plays ways written heard turns t l
-      → Plays ways (written ++ option_to_list reply) (heard ++ m ∷ []) (turns ++ HearsTurn (kind_of m) e ∷ []) next after
+  Writes : {written : List ClientMessage} {observed : List Message} {turns : List Turn} {t : Talk} {l : Login} (m : ClientMessage) (name : ℕ)
+      → is_secret m ≡ false → Plays ways written observed turns t l
+      → Plays ways (written ++ m ∷ []) observed (turns ++ turns_of (request_of m) name) (asked_of (request_of m) name t) l
+  Hears : {written : List ClientMessage} {reply : Option ClientMessage} {observed : List Message} {turns : List Turn} {t next : Talk} {l after : Login} (m : Message) (e : Event)
+      → taken t (kind_of m) ≡ Ok (e, next) → is_end e ≡ false → LogsOn (asking m) reply l after → Plays ways written observed turns t l
+      → Plays ways (written ++ option_to_list reply) (observed ++ m ∷ []) (turns ++ HearsTurn (kind_of m) e ∷ []) next after
 
 -- ---- what is known of a connection
 
@@ -54,12 +54,12 @@ pub data Plays (ways : Ways) : List ClientMessage → List Message → List Turn
 pub record History : Type 0 where
   pub sent : List ℕ
   pub written : List ClientMessage
-  pub came : List ℕ
-  pub heard : List Message
+  pub received : List ℕ
+  pub observed : List Message
   pub turns : List Turn
 
 abbrev pub nothing : History
-nothing = record { sent = []; written = []; came = []; heard = []; turns = [] }
+nothing = record { sent = []; written = []; received = []; observed = []; turns = [] }
 
 -- whether a startup packet was written
 abbrev pub IsOpenedAt : ConnectionPhase → Bool → Type 0
@@ -75,20 +75,20 @@ good ms = map (λ (m : Message). Ok m) ms
 pub record Known (ways : Ways) (h : History) (now : Shown) : Type 0 where
   pub run : ClientRun (flat_map kinds_of h.written) h.written (h.sent ++ now.out)
   pub opened : IsOpenedAt now.phase (is_opened h.written)
-  pub read : Frames h.came (good h.heard) now.incoming
-  pub plays : Plays ways h.written h.heard h.turns now.talk now.login
+  pub read : Frames h.received (good h.observed) now.incoming
+  pub plays : Plays ways h.written h.observed h.turns now.talk now.login
 
 abbrev pub and_sent : ℕ → Shown → History → History
-and_sent n old h = record { sent = h.sent ++ take n old.out; written = h.written; came = h.came; heard = h.heard; turns = h.turns }
+and_sent n old h = record { sent = h.sent ++ take n old.out; written = h.written; received = h.received; observed = h.observed; turns = h.turns }
 
 abbrev pub and_fed : List ℕ → History → History
-and_fed piece h = record { sent = h.sent; written = h.written; came = h.came ++ piece; heard = h.heard; turns = h.turns }
+and_fed piece h = record { sent = h.sent; written = h.written; received = h.received ++ piece; observed = h.observed; turns = h.turns }
 
 abbrev pub and_wrote : ClientMessage → ℕ → History → History
-and_wrote m name h = record { sent = h.sent; written = h.written ++ m ∷ []; came = h.came; heard = h.heard; turns = h.turns ++ turns_of (request_of m) name }
+and_wrote m name h = record { sent = h.sent; written = h.written ++ m ∷ []; received = h.received; observed = h.observed; turns = h.turns ++ turns_of (request_of m) name }
 
-abbrev pub and_heard : Message → Event → Option ClientMessage → History → History
-and_heard m e reply h = record { sent = h.sent; written = h.written ++ option_to_list reply; came = h.came; heard = h.heard ++ m ∷ []; turns = h.turns ++ HearsTurn (kind_of m) e ∷ [] }
+abbrev pub and_observed : Message → Event → Option ClientMessage → History → History
+and_observed m e reply h = record { sent = h.sent; written = h.written ++ option_to_list reply; received = h.received; observed = h.observed ++ m ∷ []; turns = h.turns ++ HearsTurn (kind_of m) e ∷ [] }
 
 -- ---- what follows
 
@@ -101,21 +101,21 @@ requests_in rs = map (λ (a : Asked). a.request) rs
 
 -- The server showed that it holds the verifier of the exchange's password: its offer, its first text, its final text and its welcome came in
 -- this order, and the texts complete the exchange.
-pub record Signed (start : Client) (heard : List Message) : Type 0 where
+pub record Signed (start : Client) (observed : List Message) : Type 0 where
   pub mechanisms : List ℕ
   pub first : List ℕ
   pub final : List ℕ
   pub after : Client
   pub offers : Offers mechanisms
-  pub came : CameAmong (offer mechanisms ∷ first_text first ∷ final_text final ∷ welcome ∷ []) heard
+  pub received : ReceivedAmong (offer mechanisms ∷ first_text first ∷ final_text final ∷ welcome ∷ []) observed
   pub completes : Completes start first final after
 
 -- Why a client is logged in: by a way that is admitted, and by SCRAM-SHA-256 only where the server's signature was shown.
-pub data Admitted (ways : Ways) (heard : List Message) : Type 0 where
-  ByNone : ways.none ≡ true → Admitted ways heard
-  ByPassword : (password : List ℕ) → ways.cleartext ≡ Some password → Admitted ways heard
-  ByHash : (who : List ℕ × List ℕ) → ways.md5 ≡ Some who → Admitted ways heard
-  BySignature : (x : Client) → ways.scram ≡ Some x → Signed x heard → Admitted ways heard
+pub data Admitted (ways : Ways) (observed : List Message) : Type 0 where
+  ByNone : ways.none ≡ true → Admitted ways observed
+  ByPassword : (password : List ℕ) → ways.cleartext ≡ Some password → Admitted ways observed
+  ByHash : (who : List ℕ × List ℕ) → ways.md5 ≡ Some who → Admitted ways observed
+  BySignature : (x : Client) → ways.scram ≡ Some x → Signed x observed → Admitted ways observed
 
 -- what a message of a log-in gives away: the password in clear text, its hash or a text of the exchange, each where that way is admitted
 abbrev pub IsAllowed : Ways → ClientMessage → Type 0
@@ -128,7 +128,7 @@ IsAllowed ways m = Unit {0}
 -- no password is given away but by an admitted way, and a client is logged in by such a way alone.
 pub record Follows (ways : Ways) (h : History) (now : Shown) : Type 0 where
   pub asked : requests_in (asked_in h.turns) ≡ requests_of h.written
-  pub heard : heard_in h.turns ≡ map kind_of h.heard
-  pub belong : Belong (asked_in h.turns) (heard_in h.turns) (told_in h.turns)
+  pub observed : observed_in h.turns ≡ map kind_of h.observed
+  pub belong : Belong (asked_in h.turns) (observed_in h.turns) (reported_in h.turns)
   pub allowed : AllByRecursion (IsAllowed ways) h.written
-  pub admitted : now.login.phase ≡ Done → Admitted ways h.heard
+  pub admitted : now.login.phase ≡ Done → Admitted ways h.observed

@@ -107,7 +107,7 @@ impl<'a, B: Buffer + Drop> Client<'a, B> {
         ensures opened { self.new.out.opened ≡ true }
         ensures query { self.new.query ≡ self.old.query }
     {
-        let Some(event) = told(self.phase, message) else {
+        let Some(event) = reported(self.phase, message) else {
             return Err(StepError::Unexpected);
         };
         match event {
@@ -132,32 +132,32 @@ impl<'a, B: Buffer + Drop> Client<'a, B> {
 }
 
 /// What the message says in the phase.
-fn told<S: Storage>(phase: Phase, message: &Message<S>) -> Option<Event>
+fn reported<S: Storage>(phase: Phase, message: &Message<S>) -> Option<Event>
     ensures { result ≡ event_of phase (view message.now) }
 {
     match phase {
-        Phase::LoggingIn => told_at_login(message),
-        Phase::Starting => told_at_start(message),
-        Phase::Querying => told_at_query(message),
+        Phase::LoggingIn => reported_at_login(message),
+        Phase::Starting => reported_at_start(message),
+        Phase::Querying => reported_at_query(message),
         Phase::Over => None,
     }
 }
 
 /// What an answer to the startup packet says.
-fn told_at_login<S: Storage>(message: &Message<S>) -> Option<Event>
+fn reported_at_login<S: Storage>(message: &Message<S>) -> Option<Event>
     ensures { result ≡ at_login (view message.now) }
 {
     match message {
         Message::AuthenticationOk => Some(Event::Admitted),
         Message::ErrorResponse(_) => Some(Event::Refused),
         Message::NoticeResponse(_) => Some(Event::Noted),
-        Message::NegotiateProtocolVersion(answer) => told_of_version(answer.version()),
+        Message::NegotiateProtocolVersion(answer) => reported_of_version(answer.version()),
         _ => None,
     }
 }
 
 /// What the version that the server speaks says: the session goes on with 3.0 or above.
-fn told_of_version(version: i32) -> Option<Event>
+fn reported_of_version(version: i32) -> Option<Event>
     ensures { result ≡ at_version version }
 {
     if version < VERSION_3_0 {
@@ -168,7 +168,7 @@ fn told_of_version(version: i32) -> Option<Event>
 }
 
 /// What a message between the log-in and the query says.
-fn told_at_start<S: Storage>(message: &Message<S>) -> Option<Event>
+fn reported_at_start<S: Storage>(message: &Message<S>) -> Option<Event>
     ensures { result ≡ at_start (view message.now) }
 {
     match message {
@@ -182,7 +182,7 @@ fn told_at_start<S: Storage>(message: &Message<S>) -> Option<Event>
 }
 
 /// What an answer to the query says, or a message that may come at any time.
-fn told_at_query<S: Storage>(message: &Message<S>) -> Option<Event>
+fn reported_at_query<S: Storage>(message: &Message<S>) -> Option<Event>
     ensures { result ≡ at_query (view message.now) }
 {
     match message {

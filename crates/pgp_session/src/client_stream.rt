@@ -5,7 +5,7 @@ ghost use Rattle.pgp_base.specs.Held.{items_held};
 ghost use Rattle.pgp_base.specs.Cause.{Wants};
 ghost use Rattle.pgp_base.specs.Wire.{int32};
 ghost use Rattle.std.specs.Iterator.{IsFiniteIterable};
-ghost use Rattle.pgp_base.specs.Calls.{Came, OwesValues};
+ghost use Rattle.pgp_base.specs.Calls.{Yielded, OwesValues};
 ghost use Rattle.pgp_frontend.specs.ClientMessage.{ClientMessage, PasswordKind, CancelRequest, Close, CopyData as DataMessage, CopyDone, CopyFail, Describe, Execute, Flush, PasswordMessage, Query, SaslInitialResponse, SaslResponse, SslRequest, Startup, Sync, Terminate};
 ghost use Rattle.pgp_frontend.specs.Given.{BindWhole, BindRefused, ParseWhole, ParseSoFar, Serves, shown};
 ghost use Rattle.pgp_frontend.specs.Payload.{bytes_of, minor_of};
@@ -341,8 +341,8 @@ impl<B: Buffer> ClientStream<B> {
         requires opened { self.old.opened ≡ true }
         requires types_end { IsFiniteIterable I.into_iter_gives I.IntoIter.can_next I.IntoIter.remaining param_types }
         ensures { AddsGiven B.held
-            (ParseWhole name.now query.now (Came I.into_iter_gives I.IntoIter.next_gives param_types))
-            (ParseSoFar name.now query.now (Came I.into_iter_gives I.IntoIter.next_gives param_types))
+            (ParseWhole name.now query.now (Yielded I.into_iter_gives I.IntoIter.next_gives param_types))
+            (ParseSoFar name.now query.now (Yielded I.into_iter_gives I.IntoIter.next_gives param_types))
             B.Lacks self.old self.new result }
     {
         match frontend::parse(name, query, param_types, &mut self.buf) {
@@ -387,16 +387,16 @@ impl<B: Buffer> ClientStream<B> {
         requires owes { OwesValues B.held F.pre F.step }
         ensures { (last : F) × Adds B.held
             (BindWhole portal.now statement.now
-            (Came I.into_iter_gives I.IntoIter.next_gives formats)
-            (Came J.into_iter_gives J.IntoIter.next_gives values)
+            (Yielded I.into_iter_gives I.IntoIter.next_gives formats)
+            (Yielded J.into_iter_gives J.IntoIter.next_gives values)
             (Serves B.held F.step serializer last)
-            (Came K.into_iter_gives K.IntoIter.next_gives result_formats)
+            (Yielded K.into_iter_gives K.IntoIter.next_gives result_formats)
             (B.held self.old.buf))
             (BindRefused portal.now statement.now
-            (Came I.into_iter_gives I.IntoIter.next_gives formats)
-            (Came J.into_iter_gives J.IntoIter.next_gives values)
+            (Yielded I.into_iter_gives I.IntoIter.next_gives formats)
+            (Yielded J.into_iter_gives J.IntoIter.next_gives values)
             (Serves B.held F.step serializer last)
-            (Came K.into_iter_gives K.IntoIter.next_gives result_formats)
+            (Yielded K.into_iter_gives K.IntoIter.next_gives result_formats)
             (B.held self.old.buf) B.Lacks)
             self.old self.new result }
     {

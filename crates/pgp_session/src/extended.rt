@@ -2,7 +2,7 @@
 
 ghost use Rattle.std.specs.Prelude.{◌≡◌, ◌<◌};
 ghost use Rattle.std.specs.Iterator.{IsFiniteIterable};
-ghost use Rattle.pgp_base.specs.Calls.{Came, OwesValues};
+ghost use Rattle.pgp_base.specs.Calls.{Yielded, OwesValues};
 ghost use Rattle.pgp_base.specs.Held.{items_held};
 ghost use Rattle.pgp_frontend.specs.Given.{BindRefused, BindWhole, ParseSoFar, ParseWhole, Refused, Serves};
 ghost use Rattle.pgp_session.specs.Connection.{Notes, SendsGiven, shown};
@@ -32,9 +32,9 @@ impl<'a, A: Memory> Connection<'a, A> {
         I::IntoIter: Drop,
         requires types_end { IsFiniteIterable I.into_iter_gives I.IntoIter.can_next I.IntoIter.remaining param_types }
         ensures { SendsGiven A.Lacks
-            (ParseWhole name.now query.now (Came I.into_iter_gives I.IntoIter.next_gives param_types))
-            (Refused (ParseWhole name.now query.now (Came I.into_iter_gives I.IntoIter.next_gives param_types))
-            (ParseSoFar name.now query.now (Came I.into_iter_gives I.IntoIter.next_gives param_types))
+            (ParseWhole name.now query.now (Yielded I.into_iter_gives I.IntoIter.next_gives param_types))
+            (Refused (ParseWhole name.now query.now (Yielded I.into_iter_gives I.IntoIter.next_gives param_types))
+            (ParseSoFar name.now query.now (Yielded I.into_iter_gives I.IntoIter.next_gives param_types))
             (λ h n. A.Lacks × (0 < n)) (items_held (shown self.old).out))
             (shown self.old) (shown self.new) result }
     {

@@ -1,14 +1,14 @@
 //! What holds of a connection after any calls.
 
 ghost use Rattle.std.specs.Prelude.{◌≡◌, ℕ, List, Ok, Option};
-ghost use Rattle.pgp_client.specs.declared.event.Event.{Event as Told};
+ghost use Rattle.pgp_client.specs.declared.event.Event.{Event as Reported};
 ghost use Rattle.pgp_frontend.specs.ClientMessage.{ClientMessage as Written, SslRequest, Startup, Terminate};
 ghost use Rattle.pgp_frontend.specs.Reading.{IsNamed};
-ghost use Rattle.pgp_message.specs.BackendMessage.{Message as Heard};
+ghost use Rattle.pgp_message.specs.BackendMessage.{Message as Observed};
 ghost use Rattle.pgp_message.specs.Stream.{TakesFrame};
 ghost use Rattle.pgp_session.specs.Connection.{HasStarted, Sent, Shown, Took, Wrote, begun, dropped, fed, in_phase, with_incoming};
 ghost use Rattle.pgp_session.specs.Login.{Ways as Admitting};
-ghost use Rattle.pgp_session.specs.Session.{Follows, History, Known, and_fed, and_heard, and_sent, and_wrote, nothing};
+ghost use Rattle.pgp_session.specs.Session.{Follows, History, Known, and_fed, and_observed, and_sent, and_wrote, nothing};
 ghost use Rattle.pgp_session.specs.declared.connection.ConnectionPhase.TheVariants.{Opening, Encrypting, Started, Over};
 
 /// Of a new connection nothing is known but its ways; and what is known of a connection is known after each call, with what the call did.
@@ -22,8 +22,8 @@ pub fn calls_are_known()
     ensures sends { (ways : Admitting) (h : History) (old new : Shown) (m : Written) (name : ℕ) → Sent m old new name → Known ways h old → Known ways (and_wrote m name h) new }
     ensures sent { (ways : Admitting) (h : History) (old : Shown) (count : ℕ) → Known ways h old → Known ways (and_sent count old h) (dropped count old) }
     ensures fed { (ways : Admitting) (h : History) (old : Shown) (piece : List ℕ) → Known ways h old → Known ways (and_fed piece h) (fed piece old) }
-    ensures heard { (ways : Admitting) (h : History) (old new : Shown) (rest : List ℕ) (m : Heard) (e : Told) → old.phase ≡ Started → TakesFrame old.incoming (Ok m) rest
-        → Took m (with_incoming rest old) new e → Known ways h old → (reply : Option Written) × Known ways (and_heard m e reply h) new }
+    ensures observed { (ways : Admitting) (h : History) (old new : Shown) (rest : List ℕ) (m : Observed) (e : Reported) → old.phase ≡ Started → TakesFrame old.incoming (Ok m) rest
+        → Took m (with_incoming rest old) new e → Known ways h old → (reply : Option Written) × Known ways (and_observed m e reply h) new }
     ensures ends { (ways : Admitting) (h : History) (old new : Shown) → Wrote Started Over Terminate old new → Known ways h old → Known ways (and_wrote Terminate 0 h) new }
 {
     pgp_message::laws::no_frame();

@@ -6,7 +6,7 @@ ghost use Rattle.pgp_frontend.specs.ClientMessage.{PasswordMessage};
 ghost use Rattle.pgp_message.specs.Views.{view};
 ghost use Rattle.pgp_frontend_read.specs.Views.{view as sent_view};
 ghost use Rattle.pgp_session.specs.ScramLogin.{initial};
-ghost use Rattle.pgp_session.specs.Login.{AnswersFirst, AsksCleartext, AsksMd5, AsksSasl, Hears, Puts, RepliesFirst, Begins, VerifiesFinal, Welcomes, asking, given, is_due, seen, told};
+ghost use Rattle.pgp_session.specs.Login.{AnswersFirst, AsksCleartext, AsksMd5, AsksSasl, Hears, Puts, RepliesFirst, Begins, VerifiesFinal, Welcomes, asking, given, is_due, seen, reported};
 
 use crate::connection_error::ConnectionError;
 use crate::scram_login::{LoginPhase, offers};
@@ -46,7 +46,7 @@ impl<'a, A: Memory> Login<'a, A> {
         message: &Message<Bytes<A>>,
         out: &mut BytesMut<A>,
     ) -> Result<(), ConnectionError<A>>
-        ensures heard { Hears A.Lacks (asking (view message.now)) (seen self.old) (seen self.new) out.old.items out.new.items result }
+        ensures observed { Hears A.Lacks (asking (view message.now)) (seen self.old) (seen self.new) out.old.items out.new.items result }
         ensures kept { OnErr result (out.new.items ≡ out.old.items) }
     {
         let asked = asked_by(message);
@@ -67,7 +67,7 @@ impl<'a, A: Memory> Login<'a, A> {
 
     /// The password is asked for in clear text.
     fn cleartext(&mut self, out: &mut BytesMut<A>) -> Result<(), ConnectionError<A>>
-        ensures heard { AsksCleartext A.Lacks (given self.old.ways).cleartext (seen self.old) (seen self.new) out.old.items out.new.items result }
+        ensures observed { AsksCleartext A.Lacks (given self.old.ways).cleartext (seen self.old) (seen self.new) out.old.items out.new.items result }
         ensures kept { OnErr result (out.new.items ≡ out.old.items) }
     {
         let Some(password) = self.ways.cleartext else {
@@ -82,7 +82,7 @@ impl<'a, A: Memory> Login<'a, A> {
 
     /// The password is asked for by MD5.
     fn md5(&mut self, salt: [u8; 4], out: &mut BytesMut<A>) -> Result<(), ConnectionError<A>>
-        ensures heard { AsksMd5 A.Lacks (given self.old.ways).md5 salt (seen self.old) (seen self.new) out.old.items out.new.items result }
+        ensures observed { AsksMd5 A.Lacks (given self.old.ways).md5 salt (seen self.old) (seen self.new) out.old.items out.new.items result }
         ensures kept { OnErr result (out.new.items ≡ out.old.items) }
     {
         let Some((user, password)) = self.ways.md5 else {
@@ -101,7 +101,7 @@ impl<'a, A: Memory> Login<'a, A> {
         body: &AuthenticationSaslBody<Bytes<A>>,
         out: &mut BytesMut<A>,
     ) -> Result<(), ConnectionError<A>>
-        ensures heard { AsksSasl A.Lacks (given self.old.ways).scram body.now (seen self.old) (seen self.new) out.old.items out.new.items result }
+        ensures observed { AsksSasl A.Lacks (given self.old.ways).scram body.now (seen self.old) (seen self.new) out.old.items out.new.items result }
         ensures kept { OnErr result (out.new.items ≡ out.old.items) }
     {
         let Some(exchange) = &self.ways.scram else {
@@ -121,7 +121,7 @@ impl<'a, A: Memory> Login<'a, A> {
 
     /// The server's first text came: the exchange's final text is sent.
     fn reply(&mut self, text: &[u8], out: &mut BytesMut<A>) -> Result<(), ConnectionError<A>>
-        ensures heard { AnswersFirst A.Lacks (given self.old.ways).scram text.now (seen self.old) (seen self.new) out.old.items out.new.items result }
+        ensures observed { AnswersFirst A.Lacks (given self.old.ways).scram text.now (seen self.old) (seen self.new) out.old.items out.new.items result }
         ensures kept { OnErr result (out.new.items ≡ out.old.items) }
     {
         let Some(mut exchange) = self.ways.scram.take() else {
@@ -181,7 +181,7 @@ enum Asking<'m, A: Memory> {
 
 /// What the message asks.
 fn asked_by<'m, A: Memory>(message: &'m Message<Bytes<A>>) -> Asking<'m, A>
-    ensures { told result ≡ asking (view message.now) }
+    ensures { reported result ≡ asking (view message.now) }
 {
     match message {
         Message::AuthenticationOk => Asking::Welcome,
@@ -201,7 +201,7 @@ fn asked_by<'m, A: Memory>(message: &'m Message<Bytes<A>>) -> Asking<'m, A>
 
 /// Whether it is due in the phase.
 fn is_due<A: Memory>(phase: LoginPhase, asked: &Asking<'_, A>) -> bool
-    ensures { result ≡ is_due phase (told asked.now) }
+    ensures { result ≡ is_due phase (reported asked.now) }
 {
     match asked {
         Asking::Nothing => true,
@@ -219,7 +219,7 @@ fn begin<A: Memory>(
     exchange: &ScramSha256<A>,
     out: &mut BytesMut<A>,
 ) -> Result<(), ConnectionError<A>>
-    ensures heard { Begins A.Lacks exchange.now out.old.items out.new.items result }
+    ensures observed { Begins A.Lacks exchange.now out.old.items out.new.items result }
     ensures kept { OnErr result (out.new.items ≡ out.old.items) }
 {
     let Some(first) = exchange.message() else {
@@ -241,7 +241,7 @@ fn reply<A: Memory>(
     text: &[u8],
     out: &mut BytesMut<A>,
 ) -> Result<(), ConnectionError<A>>
-    ensures heard { RepliesFirst A.Lacks text.now exchange.old exchange.new out.old.items out.new.items result }
+    ensures observed { RepliesFirst A.Lacks text.now exchange.old exchange.new out.old.items out.new.items result }
     ensures kept { OnErr result (out.new.items ≡ out.old.items) }
 {
     if let Err(e) = exchange.update(text) {
@@ -264,7 +264,7 @@ fn put_md5<A: Memory>(
     salt: [u8; 4],
     out: &mut BytesMut<A>,
 ) -> Result<(), Error>
-    ensures heard { Puts A.Lacks (PasswordMessage (md5_answer user.now password.now salt)) out.old.items out.new.items result }
+    ensures observed { Puts A.Lacks (PasswordMessage (md5_answer user.now password.now salt)) out.old.items out.new.items result }
     ensures kept { OnErr result (out.new.items ≡ out.old.items) }
 {
     match md5_hash(alloc, user, password, salt) {
@@ -278,7 +278,7 @@ pub(crate) fn put<A: Memory>(
     message: &ClientMessage<'_>,
     out: &mut BytesMut<A>,
 ) -> Result<(), Error>
-    ensures heard { Puts A.Lacks (sent_view message.now) out.old.items out.new.items result }
+    ensures observed { Puts A.Lacks (sent_view message.now) out.old.items out.new.items result }
     ensures kept { OnErr result (out.new.items ≡ out.old.items) }
 {
     forward(message, out)

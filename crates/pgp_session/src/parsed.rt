@@ -20,9 +20,9 @@ pub struct Parsed<A: Allocator = Global> {
 impl<A: Allocator> Model for Parsed<A> {
     ghost use Rattle.std.specs.Prelude.{map};
     ghost use Rattle.pgp_message.specs.Views.{seen};
-    ghost use Rattle.pgp_session.specs.ServerStream.{Told};
+    ghost use Rattle.pgp_session.specs.ServerStream.{Reported};
 
-    ghost Value = { Told };
+    ghost Value = { Reported };
 
     ghost view = { λ p. record { results = map seen p.results.items; stopped = p.stopped; rest = p.rest.items } };
 }

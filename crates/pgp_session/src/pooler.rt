@@ -4,8 +4,8 @@
 ghost use Rattle.std.specs.Prelude.{◌≡◌, ◌<◌, ◌∷◌, ◌++◌, [], None, List, ℕ};
 ghost use Rattle.std.specs.Bool.{Decides};
 ghost use Rattle.pgp_frontend.specs.ClientMessage.{ClientMessage as Sent};
-ghost use Rattle.pgp_message.specs.BackendMessage.{Message as Came};
-ghost use Rattle.pgp_message.specs.Views.{view as came_view};
+ghost use Rattle.pgp_message.specs.BackendMessage.{Message as Received};
+ghost use Rattle.pgp_message.specs.Views.{view as received_view};
 ghost use Rattle.pgp_frontend_read.specs.Views.{view as sent_view};
 ghost use Rattle.pgp_session.specs.Pooler.{IsIdle, IsQuiet, Saw, asks, awaits, extends, readies, status, waits};
 ghost use Rattle.pgp_session.specs.declared.pooler.Session.{Session as Known};
@@ -43,7 +43,7 @@ impl Session {
 
     /// Takes note of a message that the client sent.
     pub fn sent(&mut self, message: &ClientMessage<'_>)
-        ensures { (sent : List Sent) (came : List Came) → Saw sent came self.old → Saw (sent ++ sent_view message.now ∷ []) came self.new }
+        ensures { (sent : List Sent) (received : List Received) → Saw sent received self.old → Saw (sent ++ sent_view message.now ∷ []) received self.new }
     {
         self.unfinished = waits(self.unfinished, message);
         if awaits(message) {
@@ -52,8 +52,8 @@ impl Session {
     }
 
     /// Takes note of a message that the server sent.
-    pub fn came<S: Storage>(&mut self, message: &Message<S>)
-        ensures { (sent : List Sent) (came : List Came) → Saw sent came self.old → Saw sent (came ++ came_view message.now ∷ []) self.new }
+    pub fn received<S: Storage>(&mut self, message: &Message<S>)
+        ensures { (sent : List Sent) (received : List Received) → Saw sent received self.old → Saw sent (received ++ received_view message.now ∷ []) self.new }
     {
         if let Some(status) = status(message) {
             self.readied = self.readied.saturating_add(1);
@@ -79,8 +79,8 @@ impl Session {
 /// What is reported of a session that saw these messages is so: all that the client sent is answered, no part of an extended query is
 /// left without its end, and no transaction is open. Where the counts fit a `u64`, it is reported exactly then.
 pub fn idle_by_messages()
-    ensures told { (sent : List Sent) (came : List Came) (session : Known) (client server : List ℕ) → Saw sent came session → IsQuiet session client server → IsIdle sent came }
-    ensures known { (sent : List Sent) (came : List Came) (session : Known) → Saw sent came session → IsIdle sent came → asks sent < 18446744073709551615 → IsQuiet session [] [] }
+    ensures reported { (sent : List Sent) (received : List Received) (session : Known) (client server : List ℕ) → Saw sent received session → IsQuiet session client server → IsIdle sent received }
+    ensures known { (sent : List Sent) (received : List Received) (session : Known) → Saw sent received session → IsIdle sent received → asks sent < 18446744073709551615 → IsQuiet session [] [] }
 {}
 
 /// Whether the server says in the end that it is ready.
@@ -121,7 +121,7 @@ fn extends(message: &ClientMessage<'_>) -> bool
 
 /// The status that a ReadyForQuery says.
 fn status<S: Storage>(message: &Message<S>) -> Option<u8>
-    ensures { result ≡ status (came_view message.now) }
+    ensures { result ≡ status (received_view message.now) }
 {
     match message {
         Message::ReadyForQuery(body) => Some(body.status()),

@@ -9,7 +9,7 @@ ghost use Rattle.pgp_message.specs.BackendMessage.{Message as BackendMessage};
 ghost use Rattle.pgp_message.specs.Items.{TextSpelled, TextRefused};
 ghost use Rattle.pgp_message.specs.Views.{view};
 ghost use Rattle.pgp_session.specs.ClientStream.{IsAdded, RefusesMessage};
-ghost use Rattle.pgp_session.specs.ScramLogin.{HearsFinal, HearsFirst, HearsOffer, Knows, Offers, Steps, is_due, heard, says, seen};
+ghost use Rattle.pgp_session.specs.ScramLogin.{HearsFinal, HearsFirst, HearsOffer, Knows, Offers, Steps, is_due, observed, says, seen};
 
 use crate::client::{Client, Phase};
 use crate::client_stream::ClientStream;
@@ -166,9 +166,9 @@ impl<A: Memory, B: Buffer + Drop> ScramLogin<A, B> {
         ensures stepped { Steps B.held A.Lacks B.Lacks (view message.now)
             (record { phase = self.old.phase; exchange = self.old.exchange; out = self.old.out })
             (record { phase = self.new.phase; exchange = self.new.exchange; out = self.new.out }) result }
-        ensures known { (start : Exchange) (came : List BackendMessage)
-            → Knows start came self.old.phase self.old.exchange
-            → Knows start (came ++ (view message.now ∷ [])) self.new.phase self.new.exchange }
+        ensures known { (start : Exchange) (received : List BackendMessage)
+            → Knows start received self.old.phase self.old.exchange
+            → Knows start (received ++ (view message.now ∷ [])) self.new.phase self.new.exchange }
         ensures opened { self.new.out.opened ≡ true }
     {
         self.hear(message)
@@ -182,19 +182,19 @@ impl<A: Memory, B: Buffer + Drop> ScramLogin<A, B> {
             (record { phase = self.new.phase; exchange = self.new.exchange; out = self.new.out }) result }
         ensures opened { self.new.out.opened ≡ true }
     {
-        let Some(heard) = heard_in(self.phase, message) else {
+        let Some(observed) = observed_in(self.phase, message) else {
             return Err(LoginFault::Unexpected);
         };
-        match heard {
-            Heard::Notice => Ok(LoginEvent::Noted),
-            Heard::Failure => {
+        match observed {
+            Observed::Notice => Ok(LoginEvent::Noted),
+            Observed::Failure => {
                 self.phase = LoginPhase::Over;
                 Ok(LoginEvent::Refused)
             }
-            Heard::Offer(body) => self.begin(body),
-            Heard::First(text) => self.reply(text),
-            Heard::Final(text) => self.verify(text),
-            Heard::Welcome => {
+            Observed::Offer(body) => self.begin(body),
+            Observed::First(text) => self.reply(text),
+            Observed::Final(text) => self.verify(text),
+            Observed::Welcome => {
                 self.phase = LoginPhase::Done;
                 Ok(LoginEvent::Admitted)
             }
@@ -221,7 +221,7 @@ impl<A: Memory, B: Buffer + Drop> ScramLogin<A, B> {
         body: &AuthenticationSaslBody<S>,
     ) -> Result<LoginEvent, LoginFault<A>>
         requires { self.old.out.opened ≡ true }
-        ensures heard { HearsOffer B.held A.Lacks B.Lacks body.now
+        ensures observed { HearsOffer B.held A.Lacks B.Lacks body.now
             (record { phase = self.old.phase; exchange = self.old.exchange; out = self.old.out })
             (record { phase = self.new.phase; exchange = self.new.exchange; out = self.new.out }) result }
         ensures opened { self.new.out.opened ≡ true }
@@ -242,7 +242,7 @@ impl<A: Memory, B: Buffer + Drop> ScramLogin<A, B> {
     /// The server's first text came: the exchange's final text is sent.
     fn reply(&mut self, text: &[u8]) -> Result<LoginEvent, LoginFault<A>>
         requires { self.old.out.opened ≡ true }
-        ensures heard { HearsFirst B.held A.Lacks B.Lacks text.now
+        ensures observed { HearsFirst B.held A.Lacks B.Lacks text.now
             (record { phase = self.old.phase; exchange = self.old.exchange; out = self.old.out })
             (record { phase = self.new.phase; exchange = self.new.exchange; out = self.new.out }) result }
         ensures opened { self.new.out.opened ≡ true }
@@ -263,7 +263,7 @@ impl<A: Memory, B: Buffer + Drop> ScramLogin<A, B> {
 
     /// The server's final text came, which has to show its signature.
     fn verify(&mut self, text: &[u8]) -> Result<LoginEvent, LoginFault<A>>
-        ensures heard { HearsFinal B.held A.Lacks B.Lacks text.now
+        ensures observed { HearsFinal B.held A.Lacks B.Lacks text.now
             (record { phase = self.old.phase; exchange = self.old.exchange; out = self.old.out })
             (record { phase = self.new.phase; exchange = self.new.exchange; out = self.new.out }) result }
         ensures out { self.new.out ≡ self.old.out }
@@ -279,7 +279,7 @@ impl<A: Memory, B: Buffer + Drop> ScramLogin<A, B> {
 
 /// What a server says to a client that logs in.
 #[derive(Drop)]
-enum Heard<'m, S: Storage> {
+enum Observed<'m, S: Storage> {
     Notice,
     Failure,
     Offer(&'m AuthenticationSaslBody<S>),
@@ -289,8 +289,11 @@ enum Heard<'m, S: Storage> {
 }
 
 /// What the message says, if that is due in the phase.
-fn heard_in<'m, S: SaslStorage>(phase: LoginPhase, message: &'m Message<S>) -> Option<Heard<'m, S>>
-    ensures { option_map seen result ≡ heard phase (view message.now) }
+fn observed_in<'m, S: SaslStorage>(
+    phase: LoginPhase,
+    message: &'m Message<S>,
+) -> Option<Observed<'m, S>>
+    ensures { option_map seen result ≡ observed phase (view message.now) }
 {
     match said_by(message) {
         Some(said) if is_due(phase, &said) => Some(said),
@@ -299,30 +302,42 @@ fn heard_in<'m, S: SaslStorage>(phase: LoginPhase, message: &'m Message<S>) -> O
 }
 
 /// What the message says. An answer about versions says nothing here: the log-in stops at it.
-fn said_by<'m, S: SaslStorage>(message: &'m Message<S>) -> Option<Heard<'m, S>>
+fn said_by<'m, S: SaslStorage>(message: &'m Message<S>) -> Option<Observed<'m, S>>
     ensures { option_map seen result ≡ says (view message.now) }
 {
     match message {
-        Message::NoticeResponse(_) => Some(Heard::Notice),
-        Message::ErrorResponse(_) => Some(Heard::Failure),
-        Message::AuthenticationSasl(body) => Some(Heard::Offer(body)),
-        Message::AuthenticationSaslContinue(body) => Some(Heard::First(S::challenge(body))),
-        Message::AuthenticationSaslFinal(body) => Some(Heard::Final(S::outcome(body))),
-        Message::AuthenticationOk => Some(Heard::Welcome),
+        Message::NoticeResponse(_) => Some(Observed::Notice),
+        Message::ErrorResponse(_) => Some(Observed::Failure),
+        Message::AuthenticationSasl(body) => Some(Observed::Offer(body)),
+        Message::AuthenticationSaslContinue(body) => Some(Observed::First(S::challenge(body))),
+        Message::AuthenticationSaslFinal(body) => Some(Observed::Final(S::outcome(body))),
+        Message::AuthenticationOk => Some(Observed::Welcome),
         _ => None,
     }
 }
 
 /// Whether it is due in the phase.
-fn is_due<S: Storage>(phase: LoginPhase, said: &Heard<'_, S>) -> bool
+fn is_due<S: Storage>(phase: LoginPhase, said: &Observed<'_, S>) -> bool
     ensures { result ≡ is_due phase (seen said.now) }
 {
     match phase {
         LoginPhase::Done | LoginPhase::Over => false,
-        LoginPhase::AwaitsOffer => matches!(said, Heard::Notice | Heard::Failure | Heard::Offer(_)),
-        LoginPhase::AwaitsFirst => matches!(said, Heard::Notice | Heard::Failure | Heard::First(_)),
-        LoginPhase::AwaitsFinal => matches!(said, Heard::Notice | Heard::Failure | Heard::Final(_)),
-        LoginPhase::AwaitsOk => matches!(said, Heard::Notice | Heard::Failure | Heard::Welcome),
+        LoginPhase::AwaitsOffer => matches!(
+            said,
+            Observed::Notice | Observed::Failure | Observed::Offer(_)
+        ),
+        LoginPhase::AwaitsFirst => matches!(
+            said,
+            Observed::Notice | Observed::Failure | Observed::First(_)
+        ),
+        LoginPhase::AwaitsFinal => matches!(
+            said,
+            Observed::Notice | Observed::Failure | Observed::Final(_)
+        ),
+        LoginPhase::AwaitsOk => matches!(
+            said,
+            Observed::Notice | Observed::Failure | Observed::Welcome
+        ),
     }
 }
 

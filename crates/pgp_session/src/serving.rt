@@ -8,9 +8,9 @@ ghost use Rattle.std.specs.Prelude.{◌≡◌, ◌++◌, ◌∷◌, [], List, If
 ghost use Rattle.std.specs.Bool.{Decides};
 ghost use Rattle.pgp_base.specs.Cause.{WantsMemory, Writes};
 ghost use Rattle.pgp_message.specs.BackendMessage.{Authentication, AuthenticationCleartextPassword, AuthenticationMd5Password};
-ghost use Rattle.pgp_frontend.specs.ClientMessage.{ClientMessage as Came};
+ghost use Rattle.pgp_frontend.specs.ClientMessage.{ClientMessage as Received};
 ghost use Rattle.pgp_frontend_read.specs.Views.{kind_view, view};
-ghost use Rattle.pgp_session.specs.Serving.{Comes, First, Final, GoesOn, HasShown, IsAsked, IsNewer, Knows, NamesLast, Proves, Replies, Steps, StepsAll, Text, admission, at_final, at_first, at_open, at_opening, at_password, cause_of, due, error_of, event_of, kind_in, phase_after, scram_offer, seen, shown, signature, spelled, sqlstate, starts, told};
+ghost use Rattle.pgp_session.specs.Serving.{Comes, First, Final, GoesOn, HasShown, IsAsked, IsNewer, Knows, NamesLast, Proves, Replies, Steps, StepsAll, Text, admission, at_final, at_first, at_open, at_opening, at_password, cause_of, due, error_of, event_of, kind_in, phase_after, scram_offer, seen, shown, signature, spelled, sqlstate, starts, reported};
 ghost use Rattle.pgp_message_write.specs.Reply.{bytes_of, cause};
 
 use pgp_auth::authentication::sasl::{
@@ -135,8 +135,8 @@ impl<A: Memory> Serving<A> {
         out: &mut B,
     ) -> Result<ServingEvent, Error>
         ensures stepped { Steps A.Lacks B.Lacks (view message.now) self.old self.new (B.held out.old) (B.held out.new) result }
-        ensures known { (start : Method A) (came : List Came) → Knows start came self.old.phase self.old.method
-            → Knows start (came ++ (view message.now ∷ [])) self.new.phase self.new.method }
+        ensures known { (start : Method A) (received : List Received) → Knows start received self.old.phase self.old.method
+            → Knows start (received ++ (view message.now ∷ [])) self.new.phase self.new.method }
     {
         self.hear(message, out)
     }
@@ -255,7 +255,7 @@ impl<A: Memory> Serving<A> {
 
 /// Whatever a client sends once it was asked, it is let in only where it has shown among these messages what was asked for.
 pub fn no_other_is_let_in<A: Memory, B: Buffer>()
-    ensures { (start : Method A) (sent : List Came) (asked now : Serving A) → IsAsked start asked
+    ensures { (start : Method A) (sent : List Received) (asked now : Serving A) → IsAsked start asked
         → StepsAll A.Lacks B.Lacks sent asked now → now.phase ≡ ServingPhase.Open → HasShown start sent }
 {}
 
@@ -587,7 +587,7 @@ fn refuse<B: Buffer>(why: Denial, out: &mut B) -> Result<(), Error>
         field(b'S', b"FATAL"),
         field(b'V', b"FATAL"),
         field(b'C', sqlstate(why)),
-        field(b'M', told(why)),
+        field(b'M', reported(why)),
     ];
     reply::error_response(&fields, out)
 }
@@ -609,8 +609,8 @@ fn sqlstate(why: Denial) -> &'static [u8]
     }
 }
 
-fn told(why: Denial) -> &'static [u8]
-    ensures { result.now ≡ told why }
+fn reported(why: Denial) -> &'static [u8]
+    ensures { result.now ≡ reported why }
 {
     match why {
         Denial::WrongPassword => b"password authentication failed",

@@ -6,23 +6,23 @@ use std::fmt::Debug;
 use std::process::Abort;
 
 /// What came is what was wanted, else the test fails and shows both.
-pub(crate) fn same<T: PartialEq + Debug + Drop>(rt: &impl Abort, came: T, wanted: T) {
-    assert_eq!(rt; came, wanted);
+pub(crate) fn same<T: PartialEq + Debug + Drop>(rt: &impl Abort, received: T, wanted: T) {
+    assert_eq!(rt; received, wanted);
 }
 
 /// The same, reported with the place in a table.
 pub(crate) fn same_at<T: PartialEq + Debug + Drop, P: Debug + Drop>(
     rt: &impl Abort,
     place: P,
-    came: T,
+    received: T,
     wanted: T,
 ) {
-    assert_eq!(rt; came, wanted, "{place:?}");
+    assert_eq!(rt; received, wanted, "{place:?}");
 }
 
 /// The text that was made is the one that was wanted.
-pub(crate) fn made(rt: &impl Abort, came: Result<String, Error>, wanted: &str) {
-    let text = match &came {
+pub(crate) fn made(rt: &impl Abort, received: Result<String, Error>, wanted: &str) {
+    let text = match &received {
         Ok(text) => Ok(text.as_str()),
         Err(e) => Err(*e),
     };
@@ -30,6 +30,6 @@ pub(crate) fn made(rt: &impl Abort, came: Result<String, Error>, wanted: &str) {
 }
 
 /// What came is true, else the test fails.
-pub(crate) fn holds(rt: &impl Abort, came: bool) {
-    assert!(rt; came);
+pub(crate) fn holds(rt: &impl Abort, received: bool) {
+    assert!(rt; received);
 }

@@ -22,9 +22,9 @@ fn taken(bytes: &[u8], client: &mut Client<'_, BytesMut>) -> Option<Result<Event
     let mut messages = Messages::new(bytes);
     match messages.next() {
         Ok(Some(message)) => {
-            let told = client.step(&message);
+            let reported = client.step(&message);
             drop(message);
-            Some(told)
+            Some(reported)
         }
         _ => None,
     }
@@ -35,8 +35,8 @@ type Step<'a> = (&'a [u8], Result<Event, StepError>);
 
 /// The client gets these messages one after another.
 fn takes(rt: &impl Abort, client: &mut Client<'_, BytesMut>, steps: &[Step<'_>]) {
-    for (place, (bytes, told)) in steps.iter().enumerate() {
-        same_at(rt, place, taken(bytes, client), Some(*told));
+    for (place, (bytes, reported)) in steps.iter().enumerate() {
+        same_at(rt, place, taken(bytes, client), Some(*reported));
     }
 }
 

@@ -42,7 +42,7 @@ fn opened(rt: &HostRuntime) -> Result<ScramLogin<Global, BytesMut>, Fail> {
 
 /// What a log-in reports a message, without the text that an error holds.
 #[derive(Debug, Clone, Copy, PartialEq, Eq)]
-enum Told {
+enum Reported {
     Event(LoginEvent),
     Unexpected,
     NotOffered,
@@ -52,13 +52,13 @@ enum Told {
     Other,
 }
 
-fn told_of(answer: &Result<LoginEvent, LoginFault>) -> Told {
+fn reported_of(answer: &Result<LoginEvent, LoginFault>) -> Reported {
     match answer {
-        Ok(event) => Told::Event(*event),
-        Err(LoginFault::Unexpected) => Told::Unexpected,
-        Err(LoginFault::NotOffered) => Told::NotOffered,
-        Err(LoginFault::Scram(ScramError::Verification)) => Told::Unverified,
-        Err(_) => Told::Other,
+        Ok(event) => Reported::Event(*event),
+        Err(LoginFault::Unexpected) => Reported::Unexpected,
+        Err(LoginFault::NotOffered) => Reported::NotOffered,
+        Err(LoginFault::Scram(ScramError::Verification)) => Reported::Unverified,
+        Err(_) => Reported::Other,
     }
 }
 
@@ -66,47 +66,47 @@ fn told_of(answer: &Result<LoginEvent, LoginFault>) -> Told {
 fn step<S: SaslStorage + Drop>(
     login: &mut ScramLogin<Global, BytesMut>,
     message: &Message<S>,
-) -> Told {
+) -> Reported {
     if !login.out.is_open() {
-        return Told::Other;
+        return Reported::Other;
     }
     let answer = login.step(message);
-    let told = told_of(&answer);
+    let reported = reported_of(&answer);
     drop(answer);
-    told
+    reported
 }
 
 /// What a log-in makes of the message at the front of a server's bytes.
-fn heard(bytes: &[u8], login: &mut ScramLogin<Global, BytesMut>) -> Told {
+fn observed(bytes: &[u8], login: &mut ScramLogin<Global, BytesMut>) -> Reported {
     let mut messages = Messages::new(bytes);
     match messages.next() {
         Ok(Some(message)) => {
-            let told = step(login, &message);
+            let reported = step(login, &message);
             drop(message);
-            told
+            reported
         }
-        _ => Told::Other,
+        _ => Reported::Other,
     }
 }
 
 /// The log-in gets these messages one after another, and says this of each.
-fn hears(rt: &impl Abort, login: &mut ScramLogin<Global, BytesMut>, steps: &[(&[u8], Told)]) {
-    for (place, (bytes, told)) in steps.iter().enumerate() {
-        same_at(rt, place, heard(bytes, login), *told);
+fn hears(rt: &impl Abort, login: &mut ScramLogin<Global, BytesMut>, steps: &[(&[u8], Reported)]) {
+    for (place, (bytes, reported)) in steps.iter().enumerate() {
+        same_at(rt, place, observed(bytes, login), *reported);
     }
 }
 
 /// An exchange, and messages that have no place in it.
-const PROVED: &[(&[u8], Told)] = &[
-    (WELCOME, Told::Unexpected),
-    (OFFER, Told::Event(LoginEvent::Began)),
-    (WELCOME, Told::Unexpected),
-    (OFFER, Told::Unexpected),
-    (CHALLENGE, Told::Event(LoginEvent::Replied)),
-    (WELCOME, Told::Unexpected),
-    (OUTCOME, Told::Event(LoginEvent::Verified)),
-    (OUTCOME, Told::Unexpected),
-    (WELCOME, Told::Event(LoginEvent::Admitted)),
+const PROVED: &[(&[u8], Reported)] = &[
+    (WELCOME, Reported::Unexpected),
+    (OFFER, Reported::Event(LoginEvent::Began)),
+    (WELCOME, Reported::Unexpected),
+    (OFFER, Reported::Unexpected),
+    (CHALLENGE, Reported::Event(LoginEvent::Replied)),
+    (WELCOME, Reported::Unexpected),
+    (OUTCOME, Reported::Event(LoginEvent::Verified)),
+    (OUTCOME, Reported::Unexpected),
+    (WELCOME, Reported::Event(LoginEvent::Admitted)),
 ];
 
 /// The texts of the Rust crate's own test, in messages of the manual's formats.
@@ -124,20 +124,20 @@ fn a_password_is_proved(rt: HostRuntime) -> Result<(), Fail> {
 }
 
 /// The same of a message that keeps its frame.
-fn heard_whole(
+fn observed_whole(
     alloc: Global,
     bytes: &[u8],
     login: &mut ScramLogin<Global, BytesMut>,
-) -> Result<Told, Error> {
+) -> Result<Reported, Error> {
     let mut read = BytesMut::new(alloc);
     read.extend_from_slice(bytes)?;
     match Message::parse(&mut read) {
         Ok(Some(message)) => {
-            let told = step(login, &message);
+            let reported = step(login, &message);
             drop(message);
-            Ok(told)
+            Ok(reported)
         }
-        _ => Ok(Told::Other),
+        _ => Ok(Reported::Other),
     }
 }
 
@@ -154,32 +154,32 @@ const ALONE: &[(&[u8], LoginEvent)] = &[
 fn a_password_is_proved_to_frames(rt: HostRuntime) -> Result<(), Fail> {
     let mut login = opened(&rt)?;
     for (bytes, event) in ALONE {
-        let told = heard_whole(rt.alloc(), bytes, &mut login);
-        same(&rt, told, Ok(Told::Event(*event)));
+        let reported = observed_whole(rt.alloc(), bytes, &mut login);
+        same(&rt, reported, Ok(Reported::Event(*event)));
     }
     same(&rt, login.phase, LoginPhase::Done);
     Ok(())
 }
 
 /// Offers without SCRAM-SHA-256, one that has no end, messages out of place, and another signature.
-const REFUSED: &[(&[u8], Told)] = &[
+const REFUSED: &[(&[u8], Reported)] = &[
     (
         b"R\x00\x00\x00\x1c\x00\x00\x00\x0aSCRAM-SHA-256-PLUS\x00\x00",
-        Told::NotOffered,
+        Reported::NotOffered,
     ),
     (
         b"R\x00\x00\x00\x16\x00\x00\x00\x0aSCRAM-SHA-256\x00",
-        Told::NotOffered,
+        Reported::NotOffered,
     ),
-    (CHALLENGE, Told::Unexpected),
-    (OFFER, Told::Event(LoginEvent::Began)),
-    (OUTCOME, Told::Unexpected),
-    (CHALLENGE, Told::Event(LoginEvent::Replied)),
+    (CHALLENGE, Reported::Unexpected),
+    (OFFER, Reported::Event(LoginEvent::Began)),
+    (OUTCOME, Reported::Unexpected),
+    (CHALLENGE, Reported::Event(LoginEvent::Replied)),
     (
         b"R\x00\x00\x00\x36\x00\x00\x00\x0cv=V+ppxD5XUKtradnv8e2MkeupiA8FU87Sg8CXzXHDAzw=",
-        Told::Unverified,
+        Reported::Unverified,
     ),
-    (WELCOME, Told::Unexpected),
+    (WELCOME, Reported::Unexpected),
 ];
 
 #[test]
@@ -193,8 +193,8 @@ fn a_log_in_is_refused(rt: HostRuntime) -> Result<(), Fail> {
 #[test]
 fn a_log_in_is_refused_by_an_error(rt: HostRuntime) -> Result<(), Fail> {
     let mut login = opened(&rt)?;
-    let told = heard(ERROR, &mut login);
-    same(&rt, told, Told::Event(LoginEvent::Refused));
+    let reported = observed(ERROR, &mut login);
+    same(&rt, reported, Reported::Event(LoginEvent::Refused));
     same(&rt, login.phase, LoginPhase::Over);
     Ok(())
 }

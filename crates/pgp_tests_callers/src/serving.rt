@@ -44,14 +44,14 @@ fn named() -> Serving
 }
 
 /// What the session makes of the message.
-fn heard(
+fn observed(
     serving: &mut Serving,
     message: ClientMessage<'_>,
     out: &mut BytesMut,
 ) -> Option<ServingEvent> {
-    let heard = serving.step(&message, out);
+    let observed = serving.step(&message, out);
     drop(message);
-    heard.ok()
+    observed.ok()
 }
 
 /// What it makes of the next message of a client's bytes.
@@ -62,9 +62,9 @@ fn read(
 ) -> Option<ServingEvent> {
     match from.next(serving.kind()) {
         Ok(Some(message)) => {
-            let heard = serving.step(&message, out);
+            let observed = serving.step(&message, out);
             drop(message);
-            heard.ok()
+            observed.ok()
         }
         _ => None,
     }
@@ -141,13 +141,13 @@ fn a_proof_logs_a_client_in(rt: HostRuntime) -> Result<(), Fail> {
     };
     same(
         &rt,
-        heard(&mut serving, first, &mut out),
+        observed(&mut serving, first, &mut out),
         Some(ServingEvent::Challenged),
     );
     let last = ClientMessage::SaslResponse(FINAL);
     same(
         &rt,
-        heard(&mut serving, last, &mut out),
+        observed(&mut serving, last, &mut out),
         Some(ServingEvent::LoggedIn),
     );
     same(&rt, out.as_slice(), ANSWERS);
@@ -170,14 +170,14 @@ fn another_proof_does_not(rt: HostRuntime) -> Result<(), Fail> {
     };
     same(
         &rt,
-        heard(&mut serving, first, &mut asked),
+        observed(&mut serving, first, &mut asked),
         Some(ServingEvent::Challenged),
     );
     let mut out = BytesMut::new(rt.alloc());
     let last = ClientMessage::SaslResponse(FALSE);
     same(
         &rt,
-        heard(&mut serving, last, &mut out),
+        observed(&mut serving, last, &mut out),
         Some(ServingEvent::Refused),
     );
     same(&rt, out.as_slice(), DENIED);
@@ -185,7 +185,7 @@ fn another_proof_does_not(rt: HostRuntime) -> Result<(), Fail> {
 }
 
 /// What a session that asks for the password in clear text makes of this one.
-fn told(
+fn reported(
     rt: &HostRuntime,
     stored: StoredVerifier,
     text: &[u8],
@@ -193,7 +193,7 @@ fn told(
 ) -> Result<Option<ServingEvent>, Fail> {
     let mut serving = named();
     serving.ask_password(stored, &mut BytesMut::new(rt.alloc()))?;
-    Ok(heard(&mut serving, ClientMessage::PasswordMessage(text), out))
+    Ok(observed(&mut serving, ClientMessage::PasswordMessage(text), out))
 }
 
 #[test]
@@ -202,7 +202,7 @@ fn a_password_logs_a_client_in(rt: HostRuntime) -> Result<(), Fail> {
     let stored = StoredVerifier::parse(rt.alloc(), STORED)?;
     same(
         &rt,
-        told(&rt, stored, b"pencil", &mut out)?,
+        reported(&rt, stored, b"pencil", &mut out)?,
         Some(ServingEvent::LoggedIn),
     );
     same(&rt, out.as_slice(), b"R\0\0\0\x08\0\0\0\0".as_slice());
@@ -215,7 +215,7 @@ fn an_unknown_user_is_denied(rt: HostRuntime) -> Result<(), Fail> {
     let stored = StoredVerifier::mock(rt.alloc(), b"secret", b"nobody")?;
     same(
         &rt,
-        told(&rt, stored, b"pencil", &mut out)?,
+        reported(&rt, stored, b"pencil", &mut out)?,
         Some(ServingEvent::Refused),
     );
     same(&rt, out.as_slice(), DENIED);
@@ -231,7 +231,7 @@ fn digested(
     let mut serving = named();
     let stored = Vec::from_slice(rt.alloc(), b"md520c46e3762c864548e296b33c3406aa9")?;
     serving.ask_md5([1, 2, 3, 4], stored, out)?;
-    Ok(heard(&mut serving, ClientMessage::PasswordMessage(text), out))
+    Ok(observed(&mut serving, ClientMessage::PasswordMessage(text), out))
 }
 
 #[test]
@@ -263,13 +263,13 @@ fn a_message_out_of_place_ends_a_session(rt: HostRuntime) -> Result<(), Fail> {
     let query = ClientMessage::Query(b"SELECT 1");
     same(
         &rt,
-        heard(&mut serving, query, &mut out),
+        observed(&mut serving, query, &mut out),
         Some(ServingEvent::Refused),
     );
     same(&rt, out.as_slice(), MISPLACED);
     same(
         &rt,
-        heard(&mut serving, ClientMessage::Sync, &mut out),
+        observed(&mut serving, ClientMessage::Sync, &mut out),
         Some(ServingEvent::Ignored),
     );
     Ok(())
@@ -283,12 +283,12 @@ fn requests_are_handed_on(rt: HostRuntime) -> Result<(), Fail> {
     let query = ClientMessage::Query(b"SELECT 1");
     same(
         &rt,
-        heard(&mut serving, query, &mut out),
+        observed(&mut serving, query, &mut out),
         Some(ServingEvent::Requested),
     );
     same(
         &rt,
-        heard(&mut serving, ClientMessage::Terminate, &mut out),
+        observed(&mut serving, ClientMessage::Terminate, &mut out),
         Some(ServingEvent::Ended),
     );
     same(&rt, out.as_slice(), b"R\0\0\0\x08\0\0\0\0".as_slice());

@@ -19,8 +19,8 @@ const REFUSED: [&[u8]; 2] = [b"SELECT", b"DROP TABLE t"];
 
 #[test]
 fn a_refused_statement_is_held_back(rt: HostRuntime) -> Result<(), Fail> {
-    let (came, _) = SENT.split_at(41);
-    let mut from = ClientMessages::resume(came, true);
+    let (received, _) = SENT.split_at(41);
+    let mut from = ClientMessages::resume(received, true);
     let mut to = BytesMut::new(rt.alloc());
     let kind = PasswordKind::Password;
     same(
@@ -96,9 +96,9 @@ fn sent(session: &mut Session, from: &mut ClientMessages<'_>) {
 }
 
 /// The session takes note of the server's next message.
-fn came(session: &mut Session, from: &mut Messages<'_>) {
+fn received(session: &mut Session, from: &mut Messages<'_>) {
     if let Ok(Some(message)) = from.next() {
-        session.came(&message);
+        session.received(&message);
     }
 }
 
@@ -109,18 +109,18 @@ fn a_session_is_idle_where_all_is_answered(rt: HostRuntime) -> Result<(), Fail> 
     let mut session = Session::new();
     holds(&rt, !session.is_idle(b"", b""));
     sent(&mut session, &mut client);
-    came(&mut session, &mut server);
+    received(&mut session, &mut server);
     holds(&rt, session.is_idle(b"", b""));
     holds(&rt, !session.is_idle(b"Q", b""));
     holds(&rt, !session.is_idle(b"", b"Z\0"));
     sent(&mut session, &mut client);
     holds(&rt, !session.is_idle(b"", b""));
-    came(&mut session, &mut server);
+    received(&mut session, &mut server);
     holds(&rt, !session.is_idle(b"", b""));
     sent(&mut session, &mut client);
     sent(&mut session, &mut client);
     holds(&rt, !session.is_idle(b"", b""));
-    came(&mut session, &mut server);
+    received(&mut session, &mut server);
     holds(&rt, session.is_idle(b"", b""));
     Ok(())
 }
@@ -153,7 +153,7 @@ fn a_function_call_is_awaited_too(rt: HostRuntime) -> Result<(), Fail> {
     let mut session = Session::new();
     sent(&mut session, &mut client);
     holds(&rt, !session.is_idle(b"", b""));
-    came(&mut session, &mut server);
+    received(&mut session, &mut server);
     holds(&rt, session.is_idle(b"", b""));
     sent(&mut session, &mut client);
     holds(&rt, !session.is_idle(b"", b""));

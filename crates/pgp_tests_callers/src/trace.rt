@@ -71,7 +71,7 @@ fn a_stream_is_listed_however_it_is_cut(rt: HostRuntime) {
 struct Outcome<'a> {
     status: u8,
     written: &'a str,
-    told: &'a str,
+    reported: &'a str,
 }
 
 /// The program on these words and this input comes to this.
@@ -87,7 +87,7 @@ fn comes_to<R: Read>(
     let status = run(alloc, words, input, &mut output, &mut errors);
     same(rt, status, wanted.status);
     holds(rt, output.as_slice() == wanted.written.as_bytes());
-    holds(rt, errors.as_slice() == wanted.told.as_bytes());
+    holds(rt, errors.as_slice() == wanted.reported.as_bytes());
 }
 
 /// The lines of the frames that are whole in so many bytes of the stream.
@@ -103,12 +103,12 @@ fn lines_of(end: usize) -> &'static str {
 }
 
 #[test]
-fn what_came_whole_is_listed_where_a_read_fails(rt: HostRuntime) {
+fn what_received_whole_is_listed_where_a_read_fails(rt: HostRuntime) {
     for end in 0..=40usize {
         let wanted = Outcome {
             status: 1,
             written: lines_of(end),
-            told: "pgtrace: read failed\n",
+            reported: "pgtrace: read failed\n",
         };
         for step in [1usize, 7] {
             let mut input = FailingReader {
@@ -196,11 +196,11 @@ fn words_decide_what_runs(rt: HostRuntime) {
         (&["client", "--password-kind"], 2, "", USAGE),
         (&["Server"], 2, "", USAGE),
     ];
-    for (words, status, written, told) in runs {
+    for (words, status, written, reported) in runs {
         let wanted = Outcome {
             status,
             written,
-            told,
+            reported,
         };
         let mut input = STREAM;
         comes_to(&rt, rt.alloc(), words, &mut input, &wanted);
@@ -286,7 +286,7 @@ fn writes(rt: &impl Abort, alloc: Global, words: &[&str], bytes: &[u8], lines: &
     let wanted = Outcome {
         status: 0,
         written: lines,
-        told: "",
+        reported: "",
     };
     let mut input = bytes;
     comes_to(rt, alloc, words, &mut input, &wanted);
@@ -386,11 +386,11 @@ fn what_is_left_is_explained(rt: HostRuntime) {
             UNOPENED,
         ),
     ];
-    for (words, bytes, written, told) in runs {
+    for (words, bytes, written, reported) in runs {
         let wanted = Outcome {
             status: 0,
             written,
-            told,
+            reported,
         };
         let mut input = bytes;
         comes_to(&rt, rt.alloc(), words, &mut input, &wanted);

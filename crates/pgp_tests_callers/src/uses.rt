@@ -346,7 +346,7 @@ fn a_login_begins(rt: HostRuntime) -> Result<(), Fail> {
 
 /// The verifier is of the Rust crate's own test: the password `secret` and the salt of the bytes 1 to 16.
 #[test]
-fn commands_hold_what_they_are_told(rt: HostRuntime) -> Result<(), Fail> {
+fn commands_hold_what_they_are_reported(rt: HostRuntime) -> Result<(), Fail> {
     let command = set_password(
         rt.alloc(),
         "o\"reilly",

@@ -136,7 +136,7 @@ const FOUR: &[u8] = b"\x31\0\0\0\x04\x5a\0\0\0\x05I\x64\0\0\0\x06ab\x31\0\0\0\x0
 struct Outcome<'a> {
     status: u8,
     written: &'a str,
-    told: &'a str,
+    reported: &'a str,
 }
 
 /// The program on these words and this input comes to this.
@@ -152,14 +152,14 @@ fn comes_to<R: Read>(
     let status = run(alloc, words, input, &mut output, &mut errors);
     same(rt, status, wanted.status);
     same(rt, output.as_slice(), wanted.written.as_bytes());
-    same(rt, errors.as_slice(), wanted.told.as_bytes());
+    same(rt, errors.as_slice(), wanted.reported.as_bytes());
 }
 
 /// A read fails: nothing is written.
 const UNREAD: Outcome<'static> = Outcome {
     status: 1,
     written: "",
-    told: "pgwire: read failed\n",
+    reported: "pgwire: read failed\n",
 };
 
 // The frames that came whole before the read failed are not listed.
@@ -275,11 +275,11 @@ fn words_decide_what_runs(rt: HostRuntime) {
         (&["escape", "both", "x"], 2, "", USAGE),
         (&["escape", "literal"], 2, "", USAGE),
     ];
-    for (words, status, written, told) in runs {
+    for (words, status, written, reported) in runs {
         let wanted = Outcome {
             status,
             written,
-            told,
+            reported,
         };
         let mut input: &[u8] = b"\x31\0\0\0\x04";
         comes_to(&rt, rt.alloc(), words, &mut input, &wanted);
@@ -324,7 +324,7 @@ fn words_of_the_process_decide_what_runs(rt: HostRuntime) {
         (&[b"pgwire"], 2, b"", USAGE),
         (&[], 2, b"", USAGE),
     ];
-    for (words, status, written, told) in runs {
+    for (words, status, written, reported) in runs {
         let env = Words { words };
         let mut input: &[u8] = b"";
         let mut output = Vec::new(rt.alloc());
@@ -332,7 +332,7 @@ fn words_of_the_process_decide_what_runs(rt: HostRuntime) {
         let answer = run_own(rt.alloc(), &env, &mut input, &mut output, &mut errors);
         same(&rt, answer, status);
         same(&rt, output.as_slice(), written);
-        same(&rt, errors.as_slice(), told.as_bytes());
+        same(&rt, errors.as_slice(), reported.as_bytes());
     }
 }
 
@@ -366,7 +366,7 @@ fn words_are_not_read_with_each_allocation_refused(rt: HostRuntime) {
 }
 
 #[test]
-fn faults_are_told(rt: HostRuntime) {
+fn faults_are_reported(rt: HostRuntime) {
     let mut input = FailingReader {
         rest: b"111",
         step: 1,

@@ -183,7 +183,7 @@ fn scripts_become_bytes(rt: HostRuntime) {
 }
 
 #[test]
-fn the_first_refused_line_is_told(rt: HostRuntime) {
+fn the_first_refused_line_is_reported(rt: HostRuntime) {
     for row in &REFUSED {
         comes_true(&rt, rt.alloc(), row);
     }
@@ -238,7 +238,7 @@ fn is_written(rt: &impl Abort, alloc: Global, left: usize, answer: Result<u8, Fa
 }
 
 #[test]
-fn a_failing_write_is_told(rt: HostRuntime) {
+fn a_failing_write_is_reported(rt: HostRuntime) {
     // after the line comes the flush
     for left in 0..=17usize {
         is_written(&rt, rt.alloc(), left, Err(Fault::Write));

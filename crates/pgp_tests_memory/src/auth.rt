@@ -142,7 +142,7 @@ fn is_raw(alloc: Global, password: &[u8]) -> Result<bool, Error> {
 }
 
 #[test]
-fn a_mapping_without_memory_is_told(rt: HostRuntime) {
+fn a_mapping_without_memory_is_reported(rt: HostRuntime) {
     same(
         &rt,
         is_raw(rt.alloc(), b"\xc3\xa9"),
@@ -265,13 +265,13 @@ impl Exchange<'_> {
         client: &mut ScramSha256<A>,
     ) -> Result<usize, Error> {
         match server_first(alloc, client) {
-            Ok(first) => self.told(steps(client, first.as_slice(), self.server_final)),
+            Ok(first) => self.reported(steps(client, first.as_slice(), self.server_final)),
             Err(_) => Err(Error::OutOfMemory),
         }
     }
 
     // A rejected `update` ends it, so that `finish` isn't due. A rejected `finish` is reported.
-    fn told(&self, steps: Option<(u8, u8, u64)>) -> Result<usize, Error> {
+    fn reported(&self, steps: Option<(u8, u8, u64)>) -> Result<usize, Error> {
         match steps {
             Some(steps) if steps == self.ample => Ok(DONE),
             Some((0, 1, 3) | (1, 2, 0) | (1, 2, 3)) => Err(Error::OutOfMemory),

@@ -5,11 +5,11 @@ use std::fmt::Debug;
 use std::process::Abort;
 
 /// What came is what was wanted, else the test fails and shows both.
-pub(crate) fn same<T: PartialEq + Debug + Drop>(rt: &impl Abort, came: T, wanted: T) {
-    assert_eq!(rt; came, wanted);
+pub(crate) fn same<T: PartialEq + Debug + Drop>(rt: &impl Abort, received: T, wanted: T) {
+    assert_eq!(rt; received, wanted);
 }
 
 /// What came is true, else the test fails.
-pub(crate) fn holds(rt: &impl Abort, came: bool) {
-    assert!(rt; came);
+pub(crate) fn holds(rt: &impl Abort, received: bool) {
+    assert!(rt; received);
 }

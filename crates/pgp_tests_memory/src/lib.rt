@@ -12,6 +12,8 @@ mod checks;
 #[cfg(test)]
 mod client_pieces;
 #[cfg(test)]
+mod client_stream;
+#[cfg(test)]
 mod frontend;
 #[cfg(test)]
 mod growth;
@@ -23,8 +25,6 @@ mod pieces;
 mod reads;
 #[cfg(test)]
 mod serializers;
-#[cfg(test)]
-mod session;
 #[cfg(test)]
 mod turns;
 #[cfg(test)]

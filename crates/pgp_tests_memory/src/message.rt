@@ -34,14 +34,14 @@ impl Frame<'_> {
             _ if parser.fits(buf) => parser.parse(buf),
             _ => Err(Error::InvalidCount),
         };
-        let came = read_as(&read, self.data);
+        let received = read_as(&read, self.data);
         drop(read);
-        let left = match came {
+        let left = match received {
             Ok(WAITS) | Err(Error::OutOfMemory) => self.bytes,
             _ => b"",
         };
         match buf.as_slice() == left && parser.headers() == self.headers {
-            true => came,
+            true => received,
             false => Ok(WRONG),
         }
     }
@@ -54,10 +54,10 @@ impl Frame<'_> {
         parser: &mut FrameParser,
         buf: &mut BytesMut<A>,
     ) -> Result<usize, Error> {
-        let came = self.read(parser, buf);
-        match came.is_err() && !buf.is_empty() && self.read(parser, buf) != Ok(DONE) {
+        let received = self.read(parser, buf);
+        match received.is_err() && !buf.is_empty() && self.read(parser, buf) != Ok(DONE) {
             true => Ok(WRONG),
-            false => came,
+            false => received,
         }
     }
 }
@@ -100,7 +100,7 @@ fn unfinished_frame_with_each_allocation_refused(rt: HostRuntime) {
         ..COPY
     };
     let refusals = refusals_of(&rt, rt.alloc(), &front, Ok(WAITS));
-    same(&rt, refusals.told, 0);
+    same(&rt, refusals.reported, 0);
     holds(&rt, refusals.asked > 0);
 }
 
@@ -263,9 +263,9 @@ fn items<A: Allocator + Copy>(alloc: A, turn: Turn<'_>, frame: &[u8]) -> Result<
     let mut buf = buffer(alloc, frame)?;
     let read = Message::parse(&mut buf);
     turn.begin();
-    let came = collected(alloc, &read);
+    let received = collected(alloc, &read);
     drop(read);
-    came
+    received
 }
 
 const LISTS: [(Made<'static>, Result<usize, Error>); 7] = [

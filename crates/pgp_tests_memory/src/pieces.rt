@@ -138,7 +138,7 @@ impl Tried for Fed<'_> {
 /// That stream in two pieces. Requests are refused, and more than two are reported.
 fn refuse_at<T: Tried>(rt: &impl Abort, alloc: Global, cut: usize, tried: &T) {
     let refusals = refusals_of(rt, alloc, tried, Ok(DONE));
-    same(rt, (cut, refusals.told > 2), (cut, true));
+    same(rt, (cut, refusals.reported > 2), (cut, true));
 }
 
 /// The stream in two pieces, cut at each place.

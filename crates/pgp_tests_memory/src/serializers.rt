@@ -104,23 +104,23 @@ fn range_own<B: Buffer>(buf: &mut B) -> Result<(), BindError<u8>> {
 
 // Whose allocation failed.
 #[derive(Clone, Copy)]
-enum Told {
+enum Reported {
     Nobody,
     Serializer,
     Writer,
     Other,
 }
 
-fn teller(answer: Result<(), BindError<u8>>) -> Told {
+fn teller(answer: Result<(), BindError<u8>>) -> Reported {
     match answer {
-        Ok(()) => Told::Nobody,
-        Err(BindError::Conversion(e)) if e == OWN => Told::Serializer,
-        Err(BindError::Serialization(Error::OutOfMemory)) => Told::Writer,
-        Err(_) => Told::Other,
+        Ok(()) => Reported::Nobody,
+        Err(BindError::Conversion(e)) if e == OWN => Reported::Serializer,
+        Err(BindError::Serialization(Error::OutOfMemory)) => Reported::Writer,
+        Err(_) => Reported::Other,
     }
 }
 
-fn write_own<B: Buffer>(writer: u32, buf: &mut B) -> Told {
+fn write_own<B: Buffer>(writer: u32, buf: &mut B) -> Reported {
     match writer {
         0 => teller(bind_own(buf)),
         1 => teller(array_own(buf)),
@@ -129,17 +129,17 @@ fn write_own<B: Buffer>(writer: u32, buf: &mut B) -> Told {
 }
 
 // Who reports the first growth that a buffer with this room asks for, which is refused; nobody, where none was asked for.
-fn told_in(alloc: Global, writer: u32, room: usize) -> Result<Told, AllocError> {
+fn reported_in(alloc: Global, writer: u32, room: usize) -> Result<Reported, AllocError> {
     let heap = Refusing::new(alloc, 0);
     let mut buf: BytesMut<&Refusing<Global>> = BytesMut::with_capacity(&heap, room)?;
     buf.extend_from_slice(SYNC)?;
     heap.until_refusal.set(1);
-    let told = write_own(writer, &mut buf);
+    let reported = write_own(writer, &mut buf);
     let is_refused = heap.until_refusal.get() == 0;
-    match told {
-        Told::Nobody if is_refused => Ok(Told::Other),
-        _ if is_refused && buf.as_slice() != SYNC => Ok(Told::Other),
-        _ => Ok(told),
+    match reported {
+        Reported::Nobody if is_refused => Ok(Reported::Other),
+        _ if is_refused && buf.as_slice() != SYNC => Ok(Reported::Other),
+        _ => Ok(reported),
     }
 }
 
@@ -149,11 +149,11 @@ fn tellers_of(alloc: Global, writer: u32) -> Result<(u32, u32), AllocError> {
     let mut by_serializer = 0u32;
     let mut by_writer = 0u32;
     for room in 5..200usize {
-        match told_in(alloc, writer, room)? {
-            Told::Nobody => {}
-            Told::Serializer => by_serializer = by_serializer.saturating_add(1),
-            Told::Writer => by_writer = by_writer.saturating_add(1),
-            Told::Other => return Ok((0, 0)),
+        match reported_in(alloc, writer, room)? {
+            Reported::Nobody => {}
+            Reported::Serializer => by_serializer = by_serializer.saturating_add(1),
+            Reported::Writer => by_writer = by_writer.saturating_add(1),
+            Reported::Other => return Ok((0, 0)),
         }
     }
     Ok((by_serializer, by_writer))
@@ -162,11 +162,11 @@ fn tellers_of(alloc: Global, writer: u32) -> Result<(u32, u32), AllocError> {
 // The serializer's lack of memory is reported as its own error, the writer's as a serialization. Buffers of many lengths
 // have each growth come at their end, so that both are met.
 #[test]
-fn a_serializer_without_memory_is_told_apart(rt: HostRuntime) {
+fn a_serializer_without_memory_is_reported_apart(rt: HostRuntime) {
     for writer in 0..3u32 {
-        let told = tellers_of(rt.alloc(), writer);
-        let is_told =
-            matches!(told, Ok((by_serializer, by_writer)) if by_serializer > 5 && by_writer > 5);
-        same(&rt, (writer, is_told), (writer, true));
+        let reported = tellers_of(rt.alloc(), writer);
+        let is_reported =
+            matches!(reported, Ok((by_serializer, by_writer)) if by_serializer > 5 && by_writer > 5);
+        same(&rt, (writer, is_reported), (writer, true));
     }
 }

@@ -38,7 +38,7 @@ pub(crate) trait Tried {
 #[derive(Clone, Copy)]
 pub(crate) struct Refusals {
     pub(crate) asked: u64,
-    pub(crate) told: u64,
+    pub(crate) reported: u64,
 }
 
 /// Takes the turns. The last one comes to this end, and each before it to this end too or to a lack of memory.
@@ -48,25 +48,28 @@ pub(crate) fn refusals_of<T: Tried>(
     tried: &T,
     end: Result<usize, Error>,
 ) -> Refusals {
-    let mut told = 0u64;
+    let mut reported = 0u64;
     for asked in 0..MANY {
         let heap = Refusing::new(alloc, 0);
         let turn = Turn {
             until_refusal: &heap.until_refusal,
             number: asked.saturating_add(1),
         };
-        let came = tried.outcome(&heap, turn);
+        let received = tried.outcome(&heap, turn);
         if heap.until_refusal.get() != 0 {
-            same(rt, (asked, came), (asked, end));
-            return Refusals { asked, told };
+            same(rt, (asked, received), (asked, end));
+            return Refusals { asked, reported };
         }
-        match came {
-            Err(Error::OutOfMemory) => told = told.saturating_add(1),
-            _ => same(rt, (asked, came), (asked, end)),
+        match received {
+            Err(Error::OutOfMemory) => reported = reported.saturating_add(1),
+            _ => same(rt, (asked, received), (asked, end)),
         }
     }
     holds(rt, false);
-    Refusals { asked: 0, told: 0 }
+    Refusals {
+        asked: 0,
+        reported: 0,
+    }
 }
 
 /// How many requests were refused, each of which was reported.
@@ -77,7 +80,7 @@ pub(crate) fn refused<T: Tried>(
     end: Result<usize, Error>,
 ) -> u64 {
     let refusals = refusals_of(rt, alloc, tried, end);
-    same(rt, refusals.told, refusals.asked);
+    same(rt, refusals.reported, refusals.asked);
     refusals.asked
 }
 

@@ -8,13 +8,13 @@ use std::process::Abort;
 pub(crate) fn same_at<T: PartialEq + Debug + Drop>(
     rt: &impl Abort,
     place: usize,
-    came: T,
+    received: T,
     wanted: T,
 ) {
-    assert_eq!(rt; came, wanted, "{place}");
+    assert_eq!(rt; received, wanted, "{place}");
 }
 
 /// What came is true, else the test fails.
-pub(crate) fn holds(rt: &impl Abort, came: bool) {
-    assert!(rt; came);
+pub(crate) fn holds(rt: &impl Abort, received: bool) {
+    assert!(rt; received);
 }

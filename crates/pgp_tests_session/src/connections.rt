@@ -6,7 +6,7 @@ use pgp_auth::authentication::sasl::{ChannelBinding, NoPrep, ScramSha256, is_non
 use pgp_base::Error;
 use pgp_client::Event;
 use pgp_session::{Connection, ConnectionError, Ways};
-use pgp_uses::client::{Came, connect, next_row};
+use pgp_uses::client::{Received, connect, next_row};
 use std::process::Abort;
 use std::test::Fail;
 
@@ -176,12 +176,12 @@ fn rows_of(connection: &mut Connection<'_>, name: u64) -> (u64, bool) {
     let mut rows = 0_u64;
     for _ in 0..100 {
         match next_row(connection, name) {
-            Ok(Came::Row(row)) => {
+            Ok(Received::Row(row)) => {
                 drop(row);
                 rows = rows.saturating_add(1);
             }
-            Ok(Came::Other(_)) => {}
-            Ok(Came::Nothing) => return (rows, true),
+            Ok(Received::Other(_)) => {}
+            Ok(Received::Nothing) => return (rows, true),
             Err(_) => return (rows, false),
         }
     }

@@ -30,7 +30,7 @@ pub first_lists : (style : Style) (place : ℕ) (byte : ℕ) (bytes rest line : 
 first_lists style place byte bytes rest line Line none has = record {
   frame = has.frame;
   whole = has.whole;
-  told = inr (record { told = has.told.0; none = some_more has.frame byte bytes rest has.whole (frame_has style place (Server Messages) (Server Messages) has.frame line has.told) none; behind = refl });
+  reported = inr (record { reported = has.reported.0; none = some_more has.frame byte bytes rest has.whole (frame_has style place (Server Messages) (Server Messages) has.frame line has.reported) none; behind = refl });
 }
 first_lists style place byte bytes rest line Waits none at = record { same = at.same; ending = (none, at.ending); side = refl }
 first_lists style place byte bytes rest line Stops none at = record { same = at.same; ending = (none, at.ending); side = refl }
@@ -38,10 +38,10 @@ first_lists style place byte bytes rest line Stops none at = record { same = at.
 -- an answer
 pub answer_lists : (style : Style) (place byte : ℕ) (rest line : List ℕ) (phase : Phase) → phase_behind byte ≡ Some phase → line ≡ answer_line style place byte
     → HasLine style place (Server Beginning) (byte ∷ rest) rest line (Server phase)
-answer_lists style place byte rest line phase answers told = record {
+answer_lists style place byte rest line phase answers reported = record {
   frame = byte ∷ [];
   whole = refl;
-  told = inl (record { phase = phase; told = record { byte = byte; whole = refl; answers = answers; told = told }; behind = refl });
+  reported = inl (record { phase = phase; reported = record { byte = byte; whole = refl; answers = answers; reported = reported }; behind = refl });
 }
 
 -- ---- answers
@@ -134,13 +134,13 @@ message_comes style start bytes lines frame line to before plain is =
       plain = plain;
       fronts = before;
       none = is.none;
-      some = omega (arith, frame_long is.told.first frame is.told.whole);
-      backs = OneLine {bytes = []} {lines = []} {here = Server Messages} frame line NoLines (subst (λ p. IsServerLine style p frame line) here is.told, refl);
+      some = omega (arith, frame_long is.reported.first frame is.reported.whole);
+      backs = OneLine {bytes = []} {lines = []} {here = Server Messages} frame line NoLines (subst (λ p. IsServerLine style p frame line) here is.reported, refl);
     })
 
 first_comes : (style : Style) (start : ℕ) (bytes lines frame line : List ℕ) (to : Side) → Lines style start (Server Beginning) bytes lines (Server Beginning) → AreAnswers bytes → LineOf style (place_behind (start + length bytes)) (Server Beginning) frame line to
     → HasCome style start (bytes ++ frame) (lines ++ line) to
-first_comes style start bytes lines frame line to before plain (inl is) = answer_comes is.phase style start (place_behind (start + length bytes)) bytes lines frame line to plain is.told is.behind
+first_comes style start bytes lines frame line to before plain (inl is) = answer_comes is.phase style start (place_behind (start + length bytes)) bytes lines frame line to plain is.reported is.behind
 first_comes style start bytes lines frame line to before plain (inr is) = message_comes style start bytes lines frame line to before plain is
 
 more_comes : (style : Style) (start : ℕ) (bytes lines frame line : List ℕ) (to : Side) → Begun style start bytes lines → LineOf style (place_behind (start + length bytes)) (Server Messages) frame line to → HasCome style start (bytes ++ frame) (lines ++ line) to
@@ -191,7 +191,7 @@ one_more style start answers first bytes lines frame line fronts none is (inl (e
     let here : place_behind ((start + length answers) + length bytes) ≡ place_behind (start + length answers) = ap place_behind (omega (arith, ap length e)) in
     let at : answered frame ≡ None = ap (λ l. answered (l ++ frame)) (sym e) ∙ none in
     record {
-      listed = rw (e, f) (OneLine frame line fronts (inr (record { told = subst (λ p. IsServerLine style p frame line) here is; none = at; behind = refl })));
+      listed = rw (e, f) (OneLine frame line fronts (inr (record { reported = subst (λ p. IsServerLine style p frame line) here is; none = at; behind = refl })));
     }
 one_more style start answers first bytes lines frame line fronts none is (inr joined) =
     let here : place_behind ((start + length answers) + length bytes) ≡ place_behind (start + length (answers ++ bytes)) = ap place_behind (omega (arith, length-append answers bytes)) in

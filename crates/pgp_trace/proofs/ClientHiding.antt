@@ -11,21 +11,21 @@ use Rattle.pgp_trace.specs.Secrets.{quiet}
 abbrev one : Style → List ℕ → List ℕ → List Part → List ℕ
 one style old name parts = grouped style (followed style old (Name false name ∷ [])) (parts ∷ [])
 
-pub password : (style : Style) (told : Bool) (a b old : List ℕ) → length a ≡ length b → client_line (quiet style) told (Ok (PasswordMessage a)) old ≡ client_line (quiet style) told (Ok (PasswordMessage b)) old
+pub password : (style : Style) (reported : Bool) (a b old : List ℕ) → length a ≡ length b → client_line (quiet style) reported (Ok (PasswordMessage a)) old ≡ client_line (quiet style) reported (Ok (PasswordMessage b)) old
 password style true a b old e = ap (λ n. one (quiet style) old (codes "PasswordMessage") (Word (codes "password") ∷ Hidden n ∷ [])) e
 password style false a b old e = ap (λ n. one (quiet style) old (codes "PasswordMessage") (Word (codes "password") ∷ Hidden n ∷ [])) e
 
-pub initial : (style : Style) (told : Bool) (mechanism a b old : List ℕ) → length a ≡ length b
-    → client_line (quiet style) told (Ok (SaslInitialResponse mechanism (Some a))) old ≡ client_line (quiet style) told (Ok (SaslInitialResponse mechanism (Some b))) old
+pub initial : (style : Style) (reported : Bool) (mechanism a b old : List ℕ) → length a ≡ length b
+    → client_line (quiet style) reported (Ok (SaslInitialResponse mechanism (Some a))) old ≡ client_line (quiet style) reported (Ok (SaslInitialResponse mechanism (Some b))) old
 initial style true mechanism a b old e = ap (λ n. one (quiet style) old (codes "SASLInitialResponse") (Word (codes "mechanism") ∷ Text mechanism ∷ Word (codes "data") ∷ Hidden n ∷ [])) e
 initial style false mechanism a b old e = ap (λ n. one (quiet style) old (codes "SASLInitialResponse") (Word (codes "mechanism") ∷ Text mechanism ∷ Word (codes "data") ∷ Hidden n ∷ [])) e
 
 pub response : (style : Style) (a b old : List ℕ) → length a ≡ length b → client_line (quiet style) true (Ok (SaslResponse a)) old ≡ client_line (quiet style) true (Ok (SaslResponse b)) old
 response style a b old e = ap (λ n. one (quiet style) old (codes "SASLResponse") (Word (codes "data") ∷ Hidden n ∷ [])) e
 
-pub key : (style : Style) (told : Bool) (process : ℤ) (a b old : List ℕ) → length a ≡ length b → client_line (quiet style) told (Ok (CancelRequest process a)) old ≡ client_line (quiet style) told (Ok (CancelRequest process b)) old
+pub key : (style : Style) (reported : Bool) (process : ℤ) (a b old : List ℕ) → length a ≡ length b → client_line (quiet style) reported (Ok (CancelRequest process a)) old ≡ client_line (quiet style) reported (Ok (CancelRequest process b)) old
 key style true process a b old e = ap (λ n. one (quiet style) old (codes "CancelRequest") (Word (codes "process") ∷ Number process ∷ Word (codes "key") ∷ Hidden n ∷ [])) e
 key style false process a b old e = ap (λ n. one (quiet style) old (codes "CancelRequest") (Word (codes "process") ∷ Number process ∷ Word (codes "key") ∷ Hidden n ∷ [])) e
 
-pub untold : (style : Style) (a b old : List ℕ) → length a ≡ length b → client_line style false (Ok (SaslResponse a)) old ≡ client_line style false (Ok (SaslResponse b)) old
-untold style a b old e = ap (λ n. one style old (codes "Password, SASLInitialResponse or SASLResponse") (Hidden n ∷ [])) e
+pub unreported : (style : Style) (a b old : List ℕ) → length a ≡ length b → client_line style false (Ok (SaslResponse a)) old ≡ client_line style false (Ok (SaslResponse b)) old
+unreported style a b old e = ap (λ n. one style old (codes "Password, SASLInitialResponse or SASLResponse") (Hidden n ∷ [])) e

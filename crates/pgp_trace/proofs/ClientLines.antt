@@ -14,7 +14,7 @@ use Rattle.pgp_line.specs.declared.style.Style.{Style}
 use Rattle.pgp_line.specs.Line.{closing}
 use Rattle.pgp_trace.specs.Listing.{client_front}
 use Rattle.pgp_trace.specs.Client.{client_line}
-use Rattle.pgp_trace.specs.Sides.{Client, Ends, expected, is_told, kinds_behind}
+use Rattle.pgp_trace.specs.Sides.{Client, Ends, expected, is_reported, kinds_behind}
 use Rattle.pgp_trace.specs.Steps.{HasLine}
 use Rattle.pgp_trace.proofs.Parts.{front_taken}
 
@@ -158,19 +158,19 @@ taken_less kind old new m step = omega (arith, framed_long (tag_of m) (payload m
 pub passed_line : (style : Style) (place : ℕ) (opened now : Bool) (kinds behind : List code.PasswordKind) (bytes frame rest line : List ℕ) (kind : PasswordKind) (r : Result ClientMessage ClientError)
     → kind ≡ expected kinds → length rest < length bytes
     → Step kind (record { bytes = bytes; opened = opened }) (step_of r) (record { bytes = rest; opened = now })
-    → frame ≡ take (length bytes - length rest) bytes → line ≡ client_line style (is_told kinds) r (client_front style place opened frame) ++ closing style ++ 10 ∷ []
+    → frame ≡ take (length bytes - length rest) bytes → line ≡ client_line style (is_reported kinds) r (client_front style place opened frame) ++ closing style ++ 10 ∷ []
     → behind ≡ kinds_behind opened frame kinds → HasLine style place (Client opened kinds) bytes rest line (Client now behind)
-passed_line style place opened now kinds behind bytes frame rest line kind r told less step is has moved =
+passed_line style place opened now kinds behind bytes frame rest line kind r reported less step is has moved =
     let whole : bytes ≡ frame ++ rest = splits kind (left bytes opened) (left rest now) r less step ∙ ap (λ l. l ++ rest) (sym is) in
     record {
       frame = frame;
       whole = whole;
-      told = record {
+      reported = record {
         now = now;
-        told = record {
+        reported = record {
           result = r;
-          step = subst (λ k. Step k (record { bytes = frame; opened = opened }) (step_of r) (record { bytes = []; opened = now })) told (alone kind opened now bytes frame rest r whole less step);
-          told = has;
+          step = subst (λ k. Step k (record { bytes = frame; opened = opened }) (step_of r) (record { bytes = []; opened = now })) reported (alone kind opened now bytes frame rest r whole less step);
+          reported = has;
         };
         behind = ap (Client now) moved;
       };
@@ -184,24 +184,24 @@ same_unread new rest now r o = ap (λ b. left b new.opened) (sym r) ∙ ap (left
 
 pub message_passed : (style : Style) (place : ℕ) (opened now : Bool) (kinds behind : List code.PasswordKind) (bytes frame rest line : List ℕ) (kind : PasswordKind) (x : ClientMessage) (old new : Unread)
     → old ≡ record { bytes = bytes; opened = opened } → rest ≡ new.bytes → now ≡ new.opened → kind ≡ expected kinds → Step kind old (Ok (Some x)) new
-    → frame ≡ take (length bytes - length rest) bytes → line ≡ client_line style (is_told kinds) (Ok x) (client_front style place opened frame) ++ closing style ++ 10 ∷ []
+    → frame ≡ take (length bytes - length rest) bytes → line ≡ client_line style (is_reported kinds) (Ok x) (client_front style place opened frame) ++ closing style ++ 10 ∷ []
     → behind ≡ kinds_behind opened frame kinds → LineBehind style place opened kinds bytes rest line now behind
-message_passed style place opened now kinds behind bytes frame rest line kind x old new was r o told step is has moved =
+message_passed style place opened now kinds behind bytes frame rest line kind x old new was r o reported step is has moved =
     let here : Step kind (left bytes opened) (Ok (Some x)) (left rest now) =
     subst (λ (u : Unread). Step kind u (Ok (Some x)) (left rest now)) was (subst (λ (u : Unread). Step kind old (Ok (Some x)) u) (same_unread new rest now r o) step) in
-    passed_line style place opened now kinds behind bytes frame rest line kind (Ok x) told (taken_less kind (left bytes opened) (left rest now) x here) here is has moved
+    passed_line style place opened now kinds behind bytes frame rest line kind (Ok x) reported (taken_less kind (left bytes opened) (left rest now) x here) here is has moved
 
 pub refusal_passed : (style : Style) (place : ℕ) (opened now : Bool) (kinds behind : List code.PasswordKind) (bytes frame rest line : List ℕ) (kind : PasswordKind) (e : ClientError) (old new : Unread)
     → old ≡ record { bytes = bytes; opened = opened } → rest ≡ new.bytes → now ≡ new.opened → kind ≡ expected kinds → Refuses kind old e new
     → (length rest ≡ length bytes → ⊥)
-    → frame ≡ take (length bytes - length rest) bytes → line ≡ client_line style (is_told kinds) (Err e) (client_front style place opened frame) ++ closing style ++ 10 ∷ []
+    → frame ≡ take (length bytes - length rest) bytes → line ≡ client_line style (is_reported kinds) (Err e) (client_front style place opened frame) ++ closing style ++ 10 ∷ []
     → behind ≡ kinds_behind opened frame kinds → LineBehind style place opened kinds bytes rest line now behind
-refusal_passed style place opened now kinds behind bytes frame rest line kind e old new was r o told step differ is has moved =
+refusal_passed style place opened now kinds behind bytes frame rest line kind e old new was r o reported step differ is has moved =
     let here : Refuses kind (left bytes opened) e (left rest now) =
     subst (λ (u : Unread). Refuses kind u e (left rest now)) was (subst (λ (u : Unread). Refuses kind old e u) (same_unread new rest now r o) step) in
     let le : length rest ≤ length bytes = no_longer kind opened now bytes rest (Err e) here in
     let less : length rest < length bytes = omega (arith, le, differ) in
-    passed_line style place opened now kinds behind bytes frame rest line kind (Err e) told less here is has moved
+    passed_line style place opened now kinds behind bytes frame rest line kind (Err e) reported less here is has moved
 
 -- where nothing was passed, no frame stands first
 ends_by : (opened : Bool) (kinds : List code.PasswordKind) (bytes rest : List ℕ) (kind : PasswordKind) (e : ClientError) (new : Unread) → rest ≡ new.bytes → length rest ≡ length bytes

@@ -20,48 +20,48 @@ use Rattle.pgp_trace.specs.ClientSecrets.{AlikeMessages, AlikeAnswers, AlikeClie
 use Rattle.pgp_line.specs.Line.{Length, Tag, closing, followed, opening}
 use Rattle.pgp_trace.specs.Listing.{IsNextLine, LineOf, Lines, NoLines, OneLine, client_front, client_tag, place_behind}
 use Rattle.pgp_trace.specs.Secrets.{quiet}
-use Rattle.pgp_trace.specs.Sides.{Side, Server, Client, expected, is_password, is_told, kinds_behind}
+use Rattle.pgp_trace.specs.Sides.{Side, Server, Client, expected, is_password, is_reported, kinds_behind}
 use Rattle.pgp_trace.proofs.Parts.{front_taken}
-use Rattle.pgp_trace.proofs.ClientHiding.{password, initial, response, key, untold}
+use Rattle.pgp_trace.proofs.ClientHiding.{password, initial, response, key, unreported}
 
 -- ---- messages
 
-abbrev Told : Style → Bool → ClientMessage → ClientMessage → List ℕ → Type 0
-Told style told x y old = client_line (quiet style) told (Ok x) old ≡ client_line (quiet style) told (Ok y) old
+abbrev Reported : Style → Bool → ClientMessage → ClientMessage → List ℕ → Type 0
+Reported style reported x y old = client_line (quiet style) reported (Ok x) old ≡ client_line (quiet style) reported (Ok y) old
 
-told_same : (style : Style) (told : Bool) (x y : ClientMessage) (old : List ℕ) → x ≡ y → Told style told x y old
-told_same style told x y old e = ap (λ z. client_line (quiet style) told (Ok z) old) e
+reported_same : (style : Style) (reported : Bool) (x y : ClientMessage) (old : List ℕ) → x ≡ y → Reported style reported x y old
+reported_same style reported x y old e = ap (λ z. client_line (quiet style) reported (Ok z) old) e
 
-passwords : (style : Style) (told : Bool) (a : List ℕ) (y : ClientMessage) (old : List ℕ) → AlikeMessages (PasswordMessage a) y → Told style told (PasswordMessage a) y old
-passwords style told a (PasswordMessage b) old e = password style told a b old e
-passwords style told a y old e = told_same style told _ y old e
+passwords : (style : Style) (reported : Bool) (a : List ℕ) (y : ClientMessage) (old : List ℕ) → AlikeMessages (PasswordMessage a) y → Reported style reported (PasswordMessage a) y old
+passwords style reported a (PasswordMessage b) old e = password style reported a b old e
+passwords style reported a y old e = reported_same style reported _ y old e
 
-initials : (style : Style) (told : Bool) (m a : List ℕ) (y : ClientMessage) (old : List ℕ) → AlikeMessages (SaslInitialResponse m (Some a)) y → Told style told (SaslInitialResponse m (Some a)) y old
-initials style told m a (SaslInitialResponse n (Some b)) old e =
-    ap (λ k. client_line (quiet style) told (Ok (SaslInitialResponse k (Some a))) old) e.0 ∙ initial style told n a b old e.1
-initials style told m a y old e = told_same style told _ y old e
+initials : (style : Style) (reported : Bool) (m a : List ℕ) (y : ClientMessage) (old : List ℕ) → AlikeMessages (SaslInitialResponse m (Some a)) y → Reported style reported (SaslInitialResponse m (Some a)) y old
+initials style reported m a (SaslInitialResponse n (Some b)) old e =
+    ap (λ k. client_line (quiet style) reported (Ok (SaslInitialResponse k (Some a))) old) e.0 ∙ initial style reported n a b old e.1
+initials style reported m a y old e = reported_same style reported _ y old e
 
-responses : (style : Style) (told : Bool) (a : List ℕ) (y : ClientMessage) (old : List ℕ) → AlikeMessages (SaslResponse a) y → Told style told (SaslResponse a) y old
+responses : (style : Style) (reported : Bool) (a : List ℕ) (y : ClientMessage) (old : List ℕ) → AlikeMessages (SaslResponse a) y → Reported style reported (SaslResponse a) y old
 responses style true a (SaslResponse b) old e = response style a b old e
-responses style false a (SaslResponse b) old e = untold (quiet style) a b old e
-responses style told a y old e = told_same style told _ y old e
+responses style false a (SaslResponse b) old e = unreported (quiet style) a b old e
+responses style reported a y old e = reported_same style reported _ y old e
 
-keys : (style : Style) (told : Bool) (process : _) (a : List ℕ) (y : ClientMessage) (old : List ℕ) → AlikeMessages (CancelRequest process a) y → Told style told (CancelRequest process a) y old
-keys style told p a (CancelRequest q b) old e = ap (λ k. client_line (quiet style) told (Ok (CancelRequest k a)) old) e.0 ∙ key style told q a b old e.1
-keys style told p a y old e = told_same style told _ y old e
+keys : (style : Style) (reported : Bool) (process : _) (a : List ℕ) (y : ClientMessage) (old : List ℕ) → AlikeMessages (CancelRequest process a) y → Reported style reported (CancelRequest process a) y old
+keys style reported p a (CancelRequest q b) old e = ap (λ k. client_line (quiet style) reported (Ok (CancelRequest k a)) old) e.0 ∙ key style reported q a b old e.1
+keys style reported p a y old e = reported_same style reported _ y old e
 
-told_alike : (style : Style) (told : Bool) (x y : ClientMessage) (old : List ℕ) → AlikeMessages x y → Told style told x y old
-told_alike style told (PasswordMessage a) y old e = passwords style told a y old e
-told_alike style told (SaslInitialResponse m (Some a)) y old e = initials style told m a y old e
-told_alike style told (SaslResponse a) y old e = responses style told a y old e
-told_alike style told (CancelRequest p a) y old e = keys style told p a y old e
-told_alike style told x y old e = told_same style told x y old e
+reported_alike : (style : Style) (reported : Bool) (x y : ClientMessage) (old : List ℕ) → AlikeMessages x y → Reported style reported x y old
+reported_alike style reported (PasswordMessage a) y old e = passwords style reported a y old e
+reported_alike style reported (SaslInitialResponse m (Some a)) y old e = initials style reported m a y old e
+reported_alike style reported (SaslResponse a) y old e = responses style reported a y old e
+reported_alike style reported (CancelRequest p a) y old e = keys style reported p a y old e
+reported_alike style reported x y old e = reported_same style reported x y old e
 
-answers_alike : (style : Style) (told : Bool) (r s : Result ClientMessage ClientError) (old : List ℕ) → AlikeAnswers r s → client_line (quiet style) told r old ≡ client_line (quiet style) told s old
-answers_alike style told (Ok x) (Ok y) old e = told_alike style told x y old e
-answers_alike style told (Err d) (Err e) old h = ap (λ k. client_line (quiet style) told (Err k) old) h
-answers_alike style told (Ok x) (Err e) old h = absurd h
-answers_alike style told (Err d) (Ok y) old h = absurd h
+answers_alike : (style : Style) (reported : Bool) (r s : Result ClientMessage ClientError) (old : List ℕ) → AlikeAnswers r s → client_line (quiet style) reported r old ≡ client_line (quiet style) reported s old
+answers_alike style reported (Ok x) (Ok y) old e = reported_alike style reported x y old e
+answers_alike style reported (Err d) (Err e) old h = ap (λ k. client_line (quiet style) reported (Err k) old) h
+answers_alike style reported (Ok x) (Err e) old h = absurd h
+answers_alike style reported (Err d) (Ok y) old h = absurd h
 
 -- ---- frames
 
@@ -82,14 +82,14 @@ same_kinds opened kinds f g t n = ap (λ (p : Bool). if p then drop 1 kinds else
 line_alike : (style : Style) (place : ℕ) (opened : Bool) (kinds : List code.PasswordKind) (f g line : List ℕ) (to : Side) → AlikeClientFrames opened kinds f g
     → IsNextLine (quiet style) place opened kinds f line to → IsNextLine (quiet style) place opened kinds g line to
 line_alike style place opened kinds f g line to alike is =
-    let (s, reads, same) = alike.read is.told.result is.now is.told.step in
+    let (s, reads, same) = alike.read is.reported.result is.now is.reported.step in
     record {
       now = is.now;
-      told = record {
+      reported = record {
         result = s;
         step = reads;
-        told = is.told.told ∙ ap (λ l. l ++ closing style ++ 10 ∷ []) (answers_alike style (is_told kinds) is.told.result s (client_front (quiet style) place opened f) same
-            ∙ ap (client_line (quiet style) (is_told kinds) s) (same_front (quiet style) place opened f g alike.tagged alike.long));
+        reported = is.reported.reported ∙ ap (λ l. l ++ closing style ++ 10 ∷ []) (answers_alike style (is_reported kinds) is.reported.result s (client_front (quiet style) place opened f) same
+            ∙ ap (client_line (quiet style) (is_reported kinds) s) (same_front (quiet style) place opened f g alike.tagged alike.long));
       };
       behind = is.behind ∙ ap (Client is.now) (same_kinds opened kinds f g alike.tagged alike.long);
     }
@@ -202,7 +202,7 @@ listed_chain style start opened kinds _ _ to (OneLine {bytes = bytes} {lines = l
     let c = stays_client style start opened kinds bytes lines here before in
     let next = next_line style (place_behind (start + length bytes)) here to frame line c has in
     let so_far = subst (λ h. AreChain (Client opened kinds) h bytes) c.is (listed_chain style start opened kinds bytes lines here before) in
-    subst (λ t. AreChain (Client opened kinds) t (bytes ++ frame)) (sym next.behind) (more_chain bytes frame next.told.result so_far next.told.step)
+    subst (λ t. AreChain (Client opened kinds) t (bytes ++ frame)) (sym next.behind) (more_chain bytes frame next.reported.result so_far next.reported.step)
 
 last_same : (fs gs : List (List ℕ)) (f g : List ℕ) → fs ++ f ∷ [] ≡ gs ++ g ∷ [] → (fs ≡ gs) × (f ≡ g)
 last_same [] [] f g e = (refl, ap (λ l. get_or l 0 []) e)
@@ -262,7 +262,7 @@ client_streams_hidden loud start opened kinds _ _ to too (OneLine {bytes = bytes
     let c = stays_client style start opened kinds bytes lines here before in
     let next = next_line style (place_behind (start + length bytes)) here to frame line c has in
     let so_far = subst (λ h. AreChain (Client opened kinds) h bytes) c.is (listed_chain style start opened kinds bytes lines here before) in
-    let end = ends_alike (Client opened kinds) too c.opened next.now c.kinds (bytes ++ frame) b alike bytes frame next.told.result so_far next.told.step refl in
+    let end = ends_alike (Client opened kinds) too c.opened next.now c.kinds (bytes ++ frame) b alike bytes frame next.reported.result so_far next.reported.step refl in
     let rest = client_streams_hidden loud start opened kinds bytes lines here (Client c.opened c.kinds) before end.before end.alike in
     let place : place_behind (start + length bytes) ≡ place_behind (start + length end.before) = ap (λ n. place_behind (start + n)) (same_length (Client opened kinds) bytes end.before (Client c.opened c.kinds) end.alike) in
     let line_of = line_alike loud (place_behind (start + length end.before)) c.opened c.kinds frame end.last line to end.same (subst (λ p. IsNextLine style p c.opened c.kinds frame line to) place next) in

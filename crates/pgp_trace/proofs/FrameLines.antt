@@ -34,39 +34,39 @@ payload_behind f = refl
 pub body_is : (bytes : List ℕ) (m : Message) → IsFrameOf bytes (Ok m) → drop 5 bytes ≡ payload_of m
 body_is bytes m is = ap (drop 5) is.whole ∙ payload_behind is.first ∙ is.body.parts ∙ append-nil (payload_of m)
 
-pub message_told : (style : Style) (place : ℕ) (bytes : List ℕ) (m : Message) (is : IsFrameOf bytes (Ok m)) (begins named said line : List ℕ)
+pub message_reported : (style : Style) (place : ℕ) (bytes : List ℕ) (m : Message) (is : IsFrameOf bytes (Ok m)) (begins named said line : List ℕ)
     → begins ≡ begun style place bytes → named ≡ followed style begins (called m ∷ []) → Shows style m named said → line ≡ said ++ closing style ++ 10 ∷ [] → IsServerLine style place bytes line
-message_told style place bytes m is begins named said line b n shows e =
+message_reported style place bytes m is begins named said line b n shows e =
     let head = b ∙ begun_is style place is.first bytes is.whole in
     record {
       first = is.first;
       whole = is.whole;
       fits = is.fits;
-      told = record {
+      reported = record {
         result = Ok m;
         body = is.body;
         text = said;
-        told = subst (λ l. Shows style m l said) (n ∙ ap (λ l. followed style l (called m ∷ [])) head) shows;
+        reported = subst (λ l. Shows style m l said) (n ∙ ap (λ l. followed style l (called m ∷ [])) head) shows;
         ended = e;
       };
     }
 
 pub message_ended : {E : Type 0} (r : Result (Unit {0}) E) (style : Style) (place : ℕ) (bytes : List ℕ) (m : Message) (is : IsFrameOf bytes (Ok m)) (begins named said line : List ℕ)
     → begins ≡ begun style place bytes → named ≡ followed style begins (called m ∷ []) → Shows style m named said → OnOk r (line ≡ said ++ closing style ++ 10 ∷ []) → OnOk r (IsServerLine style place bytes line)
-message_ended (Ok x) style place bytes m is begins named said line b n shows e = message_told style place bytes m is begins named said line b n shows e
+message_ended (Ok x) style place bytes m is begins named said line b n shows e = message_reported style place bytes m is begins named said line b n shows e
 message_ended (Err x) style place bytes m is begins named said line b n shows e = tt
 
-pub fault_told : (style : Style) (place : ℕ) (bytes : List ℕ) (r : Error) (is : IsFrameOf bytes (Err r)) (line : List ℕ)
+pub fault_reported : (style : Style) (place : ℕ) (bytes : List ℕ) (r : Error) (is : IsFrameOf bytes (Err r)) (line : List ℕ)
     → line ≡ followed style (begun style place bytes) (unread r) ++ closing style ++ 10 ∷ [] → IsServerLine style place bytes line
-fault_told style place bytes r is line e = record {
+fault_reported style place bytes r is line e = record {
   first = is.first;
   whole = is.whole;
   fits = is.fits;
-  told = record {
+  reported = record {
     result = Err r;
     body = is.body;
     text = followed style (begun style place bytes) (unread r);
-    told = ap (λ l. followed style l (unread r)) (begun_is style place is.first bytes is.whole);
+    reported = ap (λ l. followed style l (unread r)) (begun_is style place is.first bytes is.whole);
     ended = e;
   };
 }
@@ -88,5 +88,5 @@ pub line_here : (style : Style) (place : ℕ) (old new bytes line : List ℕ) (r
 line_here style place old new bytes line r t e has = record {
   frame = bytes;
   whole = t.whole ∙ ap (λ l. l ++ new) (sym (front_taken (frame_bytes t.first) new old t.whole) ∙ sym e);
-  told = (has, refl);
+  reported = (has, refl);
 }

@@ -34,7 +34,7 @@ use Rattle.pgp_trace.specs.declared.side.Phase.{Phase}
 use Rattle.pgp_trace.specs.declared.side.Phase.TheVariants.{Beginning, Messages, Encrypted}
 use Rattle.pgp_trace.specs.Client.{client_line}
 use Rattle.pgp_trace.specs.Shown.{Shows, ShowsCounted, ShowsMarked, ShowsTexts, called, list_of}
-use Rattle.pgp_trace.specs.Sides.{Side, Server, Client, Ends, IsRefusedPacket, answered, expected, is_told, kinds_behind, phase_behind}
+use Rattle.pgp_trace.specs.Sides.{Side, Server, Client, Ends, IsRefusedPacket, answered, expected, is_reported, kinds_behind, phase_behind}
 use Rattle.pgp_trace.specs.Listing.{GoesOn, IsAnswerLine, IsListing, IsLineOf, IsNextLine, IsServerLine, LineOf, Lines, NoLines, OneLine, answer_line, client_front, front, last_line, place_behind}
 use Rattle.pgp_trace.proofs.ClientStreams.{behind, frame_some, one_first}
 use Rattle.pgp_trace.proofs.Shorter.{frame_has}
@@ -126,8 +126,8 @@ goes_one style (Err e) old new other a b = a ∙ sym b
 line_of_one : (style : Style) (place : ℕ) (f : Frame) (line other : List ℕ) → IsFrame f → IsLineOf style place f line → IsLineOf style place f other → line ≡ other
 line_of_one style place f line other fits a b =
     let result : a.result ≡ b.result = sym (one_body f.tag f.payload a.result fits.payload a.body) ∙ one_body f.tag f.payload b.result fits.payload b.body in
-    let told = subst (λ r. GoesOn style r (front style place f) a.text) result a.told in
-    a.ended ∙ ap (λ t. t ++ closing style ++ 10 ∷ []) (goes_one style b.result (front style place f) a.text b.text told b.told) ∙ sym b.ended
+    let reported = subst (λ r. GoesOn style r (front style place f) a.text) result a.reported in
+    a.ended ∙ ap (λ t. t ++ closing style ++ 10 ∷ []) (goes_one style b.result (front style place f) a.text b.text reported b.reported) ∙ sym b.ended
 
 -- the first frames of bytes, their lines, what stands after them, and what is then known of the side
 pub record Same (f g line other x y : List ℕ) (to too : Side) : Type 0 where
@@ -139,8 +139,8 @@ pub record Same (f g line other x y : List ℕ) (to too : Side) : Type 0 where
 server_one : (style : Style) (place : ℕ) (f g line other x y : List ℕ) → IsServerLine style place f line → IsServerLine style place g other → f ++ x ≡ g ++ y → (f ≡ g) × (line ≡ other) × (x ≡ y)
 server_one style place f g line other x y a b e =
     let one = front_is_one a.first b.first x y a.fits b.fits (ap (λ l. l ++ x) (sym a.whole) ∙ e ∙ ap (λ l. l ++ y) b.whole) in
-    let told = subst (λ (h : Frame). IsLineOf style place h line) one.0 a.told in
-    (a.whole ∙ ap frame_bytes one.0 ∙ sym b.whole, line_of_one style place b.first line other b.fits told b.told, one.1)
+    let reported = subst (λ (h : Frame). IsLineOf style place h line) one.0 a.reported in
+    (a.whole ∙ ap frame_bytes one.0 ∙ sym b.whole, line_of_one style place b.first line other b.fits reported b.reported, one.1)
 
 front_answer : (byte : ℕ) (f x y : List ℕ) (phase : Phase) → phase_behind byte ≡ Some phase → byte ∷ x ≡ f ++ y → 0 < length f → answered f ≡ None → ⊥
 front_answer byte [] x y phase is e some none = absurd (omega (arith, some))
@@ -154,7 +154,7 @@ answers_one style place f g line other x y p q a b e =
     let all : a.byte ∷ x ≡ b.byte ∷ y = ap (λ l. l ++ x) (sym a.whole) ∙ e ∙ ap (λ l. l ++ y) b.whole in
     let byte : a.byte ≡ b.byte = ap (λ l. get_or l 0 0) all in (
       a.whole ∙ ap (λ k. k ∷ []) byte ∙ sym b.whole,
-      a.told ∙ ap (answer_line style place) byte ∙ sym b.told,
+      a.reported ∙ ap (answer_line style place) byte ∙ sym b.reported,
       ap (λ l. drop 1 l) all,
       same_phase p q (sym a.answers ∙ ap phase_behind byte ∙ b.answers),
     )
@@ -168,28 +168,28 @@ same_result (Err d) (Err e) f = cc
 client_one : (style : Style) (place : ℕ) (opened : Bool) (kinds : List code.PasswordKind) (f g line other x y : List ℕ) (to too : Side) → IsNextLine style place opened kinds f line to → IsNextLine style place opened kinds g other too → f ++ x ≡ g ++ y
     → Same f g line other x y to too
 client_one style place opened kinds f g line other x y to too a b e =
-    let one = one_first opened a.now b.now kinds f g x y a.told.result b.told.result a.told.step b.told.step e in
-    let step = subst (λ l. Step (expected kinds) (record { bytes = l; opened = opened }) (step_of a.told.result) (record { bytes = []; opened = a.now })) one.0 a.told.step in
-    let both = step_one (expected kinds) (record { bytes = g; opened = opened }) (record { bytes = []; opened = a.now }) (record { bytes = []; opened = b.now }) (step_of a.told.result) (step_of b.told.result) step b.told.step in
-    let result = same_result a.told.result b.told.result both.0 in
+    let one = one_first opened a.now b.now kinds f g x y a.reported.result b.reported.result a.reported.step b.reported.step e in
+    let step = subst (λ l. Step (expected kinds) (record { bytes = l; opened = opened }) (step_of a.reported.result) (record { bytes = []; opened = a.now })) one.0 a.reported.step in
+    let both = step_one (expected kinds) (record { bytes = g; opened = opened }) (record { bytes = []; opened = a.now }) (record { bytes = []; opened = b.now }) (step_of a.reported.result) (step_of b.reported.result) step b.reported.step in
+    let result = same_result a.reported.result b.reported.result both.0 in
     record {
       frames = one.0;
-      lines = a.told.told ∙ ap (λ r. client_line style (is_told kinds) r (client_front style place opened f) ++ closing style ++ 10 ∷ []) result
-          ∙ ap (λ l. client_line style (is_told kinds) b.told.result (client_front style place opened l) ++ closing style ++ 10 ∷ []) one.0 ∙ sym b.told.told;
+      lines = a.reported.reported ∙ ap (λ r. client_line style (is_reported kinds) r (client_front style place opened f) ++ closing style ++ 10 ∷ []) result
+          ∙ ap (λ l. client_line style (is_reported kinds) b.reported.result (client_front style place opened l) ++ closing style ++ 10 ∷ []) one.0 ∙ sym b.reported.reported;
       rests = one.1;
       sides = a.behind ∙ ap (λ n. Client n (kinds_behind opened f kinds)) one.2 ∙ ap (λ l. Client b.now (kinds_behind opened l kinds)) one.0 ∙ sym b.behind;
     }
 
 pub line_one : (style : Style) (place : ℕ) (from to too : Side) (f g line other x y : List ℕ) → LineOf style place from f line to → LineOf style place from g other too → f ++ x ≡ g ++ y → Same f g line other x y to too
 line_one style place (Server Beginning) to too f g line other x y (inl a) (inl b) e =
-    let one = answers_one style place f g line other x y a.phase b.phase a.told b.told e in
+    let one = answers_one style place f g line other x y a.phase b.phase a.reported b.reported e in
     record { frames = one.0; lines = one.1; rests = one.2; sides = a.behind ∙ ap Server one.3 ∙ sym b.behind }
 line_one style place (Server Beginning) to too f g line other x y (inl a) (inr b) e =
-    absurd (front_answer a.told.byte g x y a.phase a.told.answers (ap (λ l. l ++ x) (sym a.told.whole) ∙ e) (frame_has style place (Server Beginning) too g other (inr b)) b.none)
+    absurd (front_answer a.reported.byte g x y a.phase a.reported.answers (ap (λ l. l ++ x) (sym a.reported.whole) ∙ e) (frame_has style place (Server Beginning) too g other (inr b)) b.none)
 line_one style place (Server Beginning) to too f g line other x y (inr a) (inl b) e =
-    absurd (front_answer b.told.byte f y x b.phase b.told.answers (ap (λ l. l ++ y) (sym b.told.whole) ∙ sym e) (frame_has style place (Server Beginning) to f line (inr a)) a.none)
+    absurd (front_answer b.reported.byte f y x b.phase b.reported.answers (ap (λ l. l ++ y) (sym b.reported.whole) ∙ sym e) (frame_has style place (Server Beginning) to f line (inr a)) a.none)
 line_one style place (Server Beginning) to too f g line other x y (inr a) (inr b) e =
-    let one = server_one style place f g line other x y a.told b.told e in
+    let one = server_one style place f g line other x y a.reported b.reported e in
     record { frames = one.0; lines = one.1; rests = one.2; sides = a.behind ∙ sym b.behind }
 line_one style place (Server Messages) to too f g line other x y a b e =
     let one = server_one style place f g line other x y a.0 b.0 e in
@@ -225,13 +225,13 @@ client_end opened now true kinds rest x f r some e (inr packet) takes = stays_th
 -- where none stands first, no frame does
 pub no_line : (style : Style) (place : ℕ) (from to : Side) (stopped : Bool) (rest f line x : List ℕ) → Ends from stopped rest → LineOf style place from f line to → rest ≡ f ++ x → ⊥
 no_line style place (Server Beginning) to stopped rest f line x ends (inl a) e =
-    none_some a.phase (phase_behind a.told.byte) a.told.answers (sym (ap answered (e ∙ ap (λ l. l ++ x) a.told.whole)) ∙ ends.0)
-no_line style place (Server Beginning) to stopped rest f line x ends (inr a) e = server_end style place stopped rest f line x ends.1 a.told e
+    none_some a.phase (phase_behind a.reported.byte) a.reported.answers (sym (ap answered (e ∙ ap (λ l. l ++ x) a.reported.whole)) ∙ ends.0)
+no_line style place (Server Beginning) to stopped rest f line x ends (inr a) e = server_end style place stopped rest f line x ends.1 a.reported e
 no_line style place (Server Messages) to stopped rest f line x ends a e = server_end style place stopped rest f line x ends a.0 e
 no_line style place (Server Encrypted) to stopped rest f line x ends a e = a
 no_line style place (Client opened kinds) to stopped rest f line x ends a e =
-    let takes = subst (λ l. Step (expected kinds) (record { bytes = l; opened = opened }) (step_of a.told.result) (record { bytes = x; opened = a.now })) (sym e) (behind opened a.now kinds f x a.told.result a.told.step) in
-    client_end opened a.now stopped kinds rest x f a.told.result (frame_some opened a.now kinds f a.told.result a.told.step) e ends takes
+    let takes = subst (λ l. Step (expected kinds) (record { bytes = l; opened = opened }) (step_of a.reported.result) (record { bytes = x; opened = a.now })) (sym e) (behind opened a.now kinds f x a.reported.result a.reported.step) in
+    client_end opened a.now stopped kinds rest x f a.reported.result (frame_some opened a.now kinds f a.reported.result a.reported.step) e ends takes
 
 server_ends : (s t : Bool) (rest : List ℕ) → IsEnding s rest → IsEnding t rest → s ≡ t
 server_ends s t rest a b =

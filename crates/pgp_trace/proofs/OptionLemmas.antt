@@ -14,7 +14,7 @@ use Rattle.pgp_trace.specs.declared.options.Choice.TheVariants.{AsJson, Full, Se
 use Rattle.pgp_line.specs.declared.style.Style.{Style}
 
 -- Some options came, and these words stand after them.
-pub record Came (all rest : List (List ℕ)) (json full secrets resume : Bool) (kinds : List PasswordKind) : Type 0 where
+pub record Received (all rest : List (List ℕ)) (json full secrets resume : Bool) (kinds : List PasswordKind) : Type 0 where
   pub choices : List Choice
   pub whole : all ≡ flat_map spelled choices ++ rest
   pub all_json : json ≡ list_any is_json choices
@@ -23,8 +23,8 @@ pub record Came (all rest : List (List ℕ)) (json full secrets resume : Bool) (
   pub all_resume : resume ≡ list_any is_resume choices
   pub all_kinds : kinds ≡ flat_map kind_in choices
 
-pub came_none : (all : List (List ℕ)) (kinds : List PasswordKind) → kinds ≡ [] → Came all all false false false false kinds
-came_none all kinds e = record { choices = []; whole = refl; all_json = refl; all_full = refl; all_secrets = refl; all_resume = refl; all_kinds = e }
+pub received_none : (all : List (List ℕ)) (kinds : List PasswordKind) → kinds ≡ [] → Received all all false false false false kinds
+received_none all kinds e = record { choices = []; whole = refl; all_json = refl; all_full = refl; all_secrets = refl; all_resume = refl; all_kinds = e }
 
 -- one more, after the others
 flat_more : {X A : Type 0} (f : X → List A) (xs : List X) (x : X) → flat_map f (xs ++ x ∷ []) ≡ flat_map f xs ++ f x
@@ -39,27 +39,27 @@ or_false false false = refl
 any_more : (p : Choice → Bool) (xs : List Choice) (x : Choice) (was now : Bool) → was ≡ list_any p xs → now ≡ (p x || was) → now ≡ list_any p (xs ++ x ∷ [])
 any_more p xs x was now e f = f ∙ ap (λ b. p x || b) e ∙ or_false (p x) (list_any p xs) ∙ sym (list_any-append p xs (x ∷ []))
 
-pub came_more : (all rest behind : List (List ℕ)) (json full secrets resume json2 full2 secrets2 resume2 : Bool) (kinds kinds2 : List PasswordKind) (c : Choice) → Came all rest json full secrets resume kinds → rest ≡ spelled c ++ behind
-    → json2 ≡ (is_json c || json) → full2 ≡ (is_full c || full) → secrets2 ≡ (is_secrets c || secrets) → resume2 ≡ (is_resume c || resume) → kinds2 ≡ kinds ++ kind_in c → Came all behind json2 full2 secrets2 resume2 kinds2
-came_more all rest behind json full secrets resume json2 full2 secrets2 resume2 kinds kinds2 c came is j f s r k = record {
-  choices = came.choices ++ c ∷ [];
-  whole = came.whole ∙ ap (λ l. flat_map spelled came.choices ++ l) is ∙ sym (append_assoc (flat_map spelled came.choices) (spelled c) behind) ∙ ap (λ l. l ++ behind) (sym (flat_more spelled came.choices c));
-  all_json = any_more is_json came.choices c json json2 came.all_json j;
-  all_full = any_more is_full came.choices c full full2 came.all_full f;
-  all_secrets = any_more is_secrets came.choices c secrets secrets2 came.all_secrets s;
-  all_resume = any_more is_resume came.choices c resume resume2 came.all_resume r;
-  all_kinds = k ∙ ap (λ l. l ++ kind_in c) came.all_kinds ∙ sym (flat_more kind_in came.choices c);
+pub received_more : (all rest behind : List (List ℕ)) (json full secrets resume json2 full2 secrets2 resume2 : Bool) (kinds kinds2 : List PasswordKind) (c : Choice) → Received all rest json full secrets resume kinds → rest ≡ spelled c ++ behind
+    → json2 ≡ (is_json c || json) → full2 ≡ (is_full c || full) → secrets2 ≡ (is_secrets c || secrets) → resume2 ≡ (is_resume c || resume) → kinds2 ≡ kinds ++ kind_in c → Received all behind json2 full2 secrets2 resume2 kinds2
+received_more all rest behind json full secrets resume json2 full2 secrets2 resume2 kinds kinds2 c received is j f s r k = record {
+  choices = received.choices ++ c ∷ [];
+  whole = received.whole ∙ ap (λ l. flat_map spelled received.choices ++ l) is ∙ sym (append_assoc (flat_map spelled received.choices) (spelled c) behind) ∙ ap (λ l. l ++ behind) (sym (flat_more spelled received.choices c));
+  all_json = any_more is_json received.choices c json json2 received.all_json j;
+  all_full = any_more is_full received.choices c full full2 received.all_full f;
+  all_secrets = any_more is_secrets received.choices c secrets secrets2 received.all_secrets s;
+  all_resume = any_more is_resume received.choices c resume resume2 received.all_resume r;
+  all_kinds = k ∙ ap (λ l. l ++ kind_in c) received.all_kinds ∙ sym (flat_more kind_in received.choices c);
 }
 
 -- all came
-pub came_all : (all rest : List (List ℕ)) (json full secrets resume : Bool) (kinds : List PasswordKind) (style : Style) → Came all rest json full secrets resume kinds → rest ≡ [] → style ≡ style_of json full secrets → AreOptions all style kinds resume
-came_all all rest json full secrets resume kinds style came end shown = record {
-  choices = came.choices;
-  spelling = came.whole ∙ ap (λ l. flat_map spelled came.choices ++ l) end ∙ append-nil (flat_map spelled came.choices);
-  shown = shown ∙ ap (λ j. style_of j full secrets) came.all_json ∙ ap (λ f. style_of (list_any is_json came.choices) f secrets) came.all_full
-      ∙ ap (λ s. style_of (list_any is_json came.choices) (list_any is_full came.choices) s) came.all_secrets;
-  named = came.all_kinds;
-  resumed = came.all_resume;
+pub received_all : (all rest : List (List ℕ)) (json full secrets resume : Bool) (kinds : List PasswordKind) (style : Style) → Received all rest json full secrets resume kinds → rest ≡ [] → style ≡ style_of json full secrets → AreOptions all style kinds resume
+received_all all rest json full secrets resume kinds style received end shown = record {
+  choices = received.choices;
+  spelling = received.whole ∙ ap (λ l. flat_map spelled received.choices ++ l) end ∙ append-nil (flat_map spelled received.choices);
+  shown = shown ∙ ap (λ j. style_of j full secrets) received.all_json ∙ ap (λ f. style_of (list_any is_json received.choices) f secrets) received.all_full
+      ∙ ap (λ s. style_of (list_any is_json received.choices) (list_any is_full received.choices) s) received.all_secrets;
+  named = received.all_kinds;
+  resumed = received.all_resume;
 }
 
 -- ---- words spell options in one way
@@ -116,8 +116,8 @@ breaks_off (c ∷ cs) (d ∷ ds) rest some none e =
     breaks_off cs ds rest some none (one_first c d (flat_map spelled cs ++ rest) (flat_map spelled ds) (sym (split cs c rest) ∙ e ∙ flat_map-cons spelled d ds)).1
 
 -- where no option stands after some, the words are no options
-pub came_wrong : (all rest : List (List ℕ)) (json full secrets resume : Bool) (kinds : List PasswordKind) → Came all rest json full secrets resume kinds → rest ≢ [] → BeginsWithNone rest → AreNoOptions all
-came_wrong all rest json full secrets resume kinds came some none = λ ds e. breaks_off came.choices ds rest some none (sym came.whole ∙ e)
+pub received_wrong : (all rest : List (List ℕ)) (json full secrets resume : Bool) (kinds : List PasswordKind) → Received all rest json full secrets resume kinds → rest ≢ [] → BeginsWithNone rest → AreNoOptions all
+received_wrong all rest json full secrets resume kinds received some none = λ ds e. breaks_off received.choices ds rest some none (sym received.whole ∙ e)
 
 as_many : (cs ds : List Choice) → flat_map spelled cs ≡ flat_map spelled ds → length (flat_map kind_in cs) ≡ length (flat_map kind_in ds)
 as_many [] [] e = refl
@@ -136,17 +136,17 @@ kinds_agree words s t ks js _ _ a b = ap length a.named ∙ as_many a.choices b.
 
 -- one more stands at a place
 pub place_more : {X : Type 0} (word : X → List ℕ) (words : List X) (at n next : ℕ) (json full secrets resume json2 full2 secrets2 resume2 : Bool) (kinds kinds2 : List PasswordKind) (c : Choice) → at < length words
-    → Came (map word words) (map word (drop at words)) json full secrets resume kinds → map word (drop at words) ≡ spelled c ++ map word (drop (length (spelled c)) (drop at words)) → n ≡ length (spelled c) → next ≡ at + n
+    → Received (map word words) (map word (drop at words)) json full secrets resume kinds → map word (drop at words) ≡ spelled c ++ map word (drop (length (spelled c)) (drop at words)) → n ≡ length (spelled c) → next ≡ at + n
     → json2 ≡ (is_json c || json) → full2 ≡ (is_full c || full) → secrets2 ≡ (is_secrets c || secrets) → resume2 ≡ (is_resume c || resume) → kinds2 ≡ kinds ++ kind_in c
-    → (next ≤ length words) × Came (map word words) (map word (drop next words)) json2 full2 secrets2 resume2 kinds2
-place_more {X = X} word words at n next json full secrets resume json2 full2 secrets2 resume2 kinds kinds2 c less came is long sum j f s r k =
+    → (next ≤ length words) × Received (map word words) (map word (drop next words)) json2 full2 secrets2 resume2 kinds2
+place_more {X = X} word words at n next json full secrets resume json2 full2 secrets2 resume2 kinds kinds2 c less received is long sum j f s r k =
     let rest = drop at words in
     let there : drop (length (spelled c)) rest ≡ drop next words = drop-drop (length (spelled c)) at words ∙ ap (λ i. drop i words) (omega (arith, long, sum)) in
     let size : length rest ≡ length words - at = length-drop at words in
     let lengths : length rest ≡ length (spelled c) + length (map word (drop (length (spelled c)) rest)) = sym (length-map rest word) ∙ ap length is ∙ length-append (spelled c) (map word (drop (length (spelled c)) rest)) in (
       omega (arith, less, long, sum, size, lengths),
-      subst (λ (l : List X). Came (map word words) (map word l) json2 full2 secrets2 resume2 kinds2) there
-          (came_more (map word words) (map word rest) (map word (drop (length (spelled c)) rest)) json full secrets resume json2 full2 secrets2 resume2 kinds kinds2 c came is j f s r k),
+      subst (λ (l : List X). Received (map word words) (map word l) json2 full2 secrets2 resume2 kinds2) there
+          (received_more (map word words) (map word rest) (map word (drop (length (spelled c)) rest)) json full secrets resume json2 full2 secrets2 resume2 kinds kinds2 c received is j f s r k),
     )
 
 pub place_left : {X : Type 0} (word : X → List ℕ) (words : List X) (at : ℕ) → at < length words → map word (drop at words) ≢ []

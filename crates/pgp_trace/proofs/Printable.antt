@@ -30,7 +30,7 @@ use Rattle.pgp_frontend.specs.ClientMessage.{ClientMessage}
 use Rattle.pgp_frontend_read.specs.declared.error.ClientError.{ClientError}
 use Rattle.pgp_trace.specs.Client.{client_called, client_groups, client_line, grouped, refusal_parts}
 use Rattle.pgp_trace.specs.Listing.{GoesOn, IsLineOf, LineOf, answer_name, front, client_front, client_tag}
-use Rattle.pgp_trace.specs.Sides.{Side, Server, Client, is_told}
+use Rattle.pgp_trace.specs.Sides.{Side, Server, Client, is_reported}
 use Rattle.pgp_trace.specs.declared.side.Phase.TheVariants.{Beginning, Messages, Encrypted}
 
 -- ASCII that is printed
@@ -375,32 +375,32 @@ result style (Ok m) old new a g = says style m (followed style old (called m ∷
 result style (Err e) old new a g = goes style old new (unread e) a g
 
 server_line : (style : Style) (place : ℕ) (f : Frame) (line : List ℕ) → IsLineOf style place f line → (text : List ℕ) × (line ≡ text ++ 10 ∷ []) × IsPrinted text
-server_line style place f line is = (is.text ++ closing style, is.ended, join is.text (closing style) (result style is.result (front style place f) is.text (parts style (opening style place) (Length (length (frame_bytes f)) ∷ Tag f.tag ∷ []) (first style.form place)) is.told) (last style.form))
+server_line style place f line is = (is.text ++ closing style, is.ended, join is.text (closing style) (result style is.result (front style place f) is.text (parts style (opening style place) (Length (length (frame_bytes f)) ∷ Tag f.tag ∷ []) (first style.form place)) is.reported) (last style.form))
 
 groups : (style : Style) (line : List ℕ) (gs : List (List Part)) → IsPrinted line → IsPrinted (grouped style line gs)
 groups style line [] a = a
 groups style line (ps ∷ gs) a = groups style (followed style line ps) gs (parts style line ps a)
 
-client : (style : Style) (told : Bool) (r : Result ClientMessage ClientError) (old : List ℕ) → IsPrinted old → IsPrinted (client_line style told r old)
-client style told (Ok x) old a = groups style (followed style old (client_called told x ∷ [])) (client_groups style told x) (parts style old (client_called told x ∷ []) a)
-client style told (Err e) old a = parts style old (refusal_parts e) a
+client : (style : Style) (reported : Bool) (r : Result ClientMessage ClientError) (old : List ℕ) → IsPrinted old → IsPrinted (client_line style reported r old)
+client style reported (Ok x) old a = groups style (followed style old (client_called reported x ∷ [])) (client_groups style reported x) (parts style old (client_called reported x ∷ []) a)
+client style reported (Err e) old a = parts style old (refusal_parts e) a
 
 begun : (style : Style) (place : ℕ) (opened : Bool) (frame : List ℕ) → IsPrinted (client_front style place opened frame)
 begun style place opened frame = parts style (opening style place) (Length (length frame) ∷ Tag (client_tag opened frame) ∷ []) (first style.form place)
 
 pub line_printable : (style : Style) (place : ℕ) (from to : Side) (frame line : List ℕ) → LineOf style place from frame line to → (text : List ℕ) × (line ≡ text ++ 10 ∷ []) × IsPrinted text
 line_printable style place (Server Beginning) to frame line (inl is) =
-    let parts_of = Length 1 ∷ Tag is.told.byte ∷ Name true (answer_name is.told.byte) ∷ [] in (
+    let parts_of = Length 1 ∷ Tag is.reported.byte ∷ Name true (answer_name is.reported.byte) ∷ [] in (
       followed style (opening style place) parts_of ++ closing style,
-      is.told.told,
+      is.reported.reported,
       join (followed style (opening style place) parts_of) (closing style) (parts style (opening style place) parts_of (first style.form place)) (last style.form),
     )
-line_printable style place (Server Beginning) to frame line (inr is) = server_line style place is.told.first line is.told.told
-line_printable style place (Server Messages) to frame line is = server_line style place is.0.first line is.0.told
+line_printable style place (Server Beginning) to frame line (inr is) = server_line style place is.reported.first line is.reported.reported
+line_printable style place (Server Messages) to frame line is = server_line style place is.0.first line is.0.reported
 line_printable style place (Server Encrypted) to frame line is = absurd is
 line_printable style place (Client opened kinds) to frame line is =
-    let text = client_line style (is_told kinds) is.told.result (client_front style place opened frame) in (
+    let text = client_line style (is_reported kinds) is.reported.result (client_front style place opened frame) in (
       text ++ closing style,
-      is.told.told,
-      join text (closing style) (client style (is_told kinds) is.told.result (client_front style place opened frame) (begun style place opened frame)) (last style.form),
+      is.reported.reported,
+      join text (closing style) (client style (is_reported kinds) is.reported.result (client_front style place opened frame) (begun style place opened frame)) (last style.form),
     )

@@ -23,11 +23,11 @@ read_of style start [] [] _ NoLines rest = record { results = []; frames = frame
 read_of style start _ _ to (OneLine {bytes = bytes} {lines = lines} {here = here} frame line before has) rest =
     let is : IsServerLine style (place_behind (start + length bytes)) frame line = server_line style start (place_behind (start + length bytes)) bytes lines frame line here to before has in
     let so_far = read_of style start bytes lines here before (frame ++ rest) in
-    let takes : TakesFrame (frame ++ rest) is.told.result rest = record { first = is.first; whole = ap (λ l. l ++ rest) is.whole; fits = is.fits; body = is.told.body } in
+    let takes : TakesFrame (frame ++ rest) is.reported.result rest = record { first = is.first; whole = ap (λ l. l ++ rest) is.whole; fits = is.fits; body = is.reported.body } in
     record {
-      results = so_far.results ++ is.told.result ∷ [];
-      frames = subst (λ l. Frames l (so_far.results ++ is.told.result ∷ []) rest) (sym (append_assoc bytes frame rest))
-          (frames_next (bytes ++ (frame ++ rest)) (frame ++ rest) rest so_far.results is.told.result so_far.frames takes);
+      results = so_far.results ++ is.reported.result ∷ [];
+      frames = subst (λ l. Frames l (so_far.results ++ is.reported.result ∷ []) rest) (sym (append_assoc bytes frame rest))
+          (frames_next (bytes ++ (frame ++ rest)) (frame ++ rest) rest so_far.results is.reported.result so_far.frames takes);
     }
 
 pub run_of : (style : Style) (bytes output : List ℕ) (l : IsListing style (Server Messages) bytes output) → (results : List (Result Message Error)) × BackendRun bytes results l.stopped l.rest

@@ -9,11 +9,11 @@ use Rattle.pgp_trace.proofs.ClientLines.{step_long}
 use Rattle.pgp_trace.proofs.FrameLines.{frame_long}
 
 pub frame_has : (style : Style) (place : ℕ) (from to : Side) (frame line : List ℕ) → LineOf style place from frame line to → 0 < length frame
-frame_has style place (Server Beginning) to frame line (inl is) = omega (arith, ap length is.told.whole)
-frame_has style place (Server Beginning) to frame line (inr is) = omega (arith, frame_long is.told.first frame is.told.whole)
+frame_has style place (Server Beginning) to frame line (inl is) = omega (arith, ap length is.reported.whole)
+frame_has style place (Server Beginning) to frame line (inr is) = omega (arith, frame_long is.reported.first frame is.reported.whole)
 frame_has style place (Server Messages) to frame line is = omega (arith, frame_long is.0.first frame is.0.whole)
 frame_has style place (Server Encrypted) to frame line is = absurd is
-frame_has style place (Client opened kinds) to frame line is = omega (arith, step_long (expected kinds) (record { bytes = frame; opened = opened }) (record { bytes = []; opened = is.now }) is.told.result is.told.step)
+frame_has style place (Client opened kinds) to frame line is = omega (arith, step_long (expected kinds) (record { bytes = frame; opened = opened }) (record { bytes = []; opened = is.now }) is.reported.result is.reported.step)
 
 pub shorter : (style : Style) (place : ℕ) (from to : Side) (old new line : List ℕ) → HasLine style place from old new line to → length new < length old
-shorter style place from to old new line has = omega (arith, ap length has.whole, length-append has.frame new, frame_has style place from to has.frame line has.told)
+shorter style place from to old new line has = omega (arith, ap length has.whole, length-append has.frame new, frame_has style place from to has.frame line has.reported)

@@ -94,7 +94,7 @@ line_hidden style place f g line alike is =
       result = s;
       body = body;
       text = is.text;
-      told = goes_on style is.result s (front (quiet style) place g) is.text same (subst (λ l. GoesOn (quiet style) is.result l is.text) (same_front (quiet style) place f g alike) is.told);
+      reported = goes_on style is.result s (front (quiet style) place g) is.text same (subst (λ l. GoesOn (quiet style) is.result l is.text) (same_front (quiet style) place f g alike) is.reported);
       ended = is.ended;
     }
 
@@ -135,7 +135,7 @@ nothing_alike _ _ (OneAlike {a = a} {b = b} g h before gg hh alike) e = absurd (
 -- the lines of a server's frames, with the frame as bytes
 server_step : (style : Style) (start : ℕ) (bytes lines : List ℕ) (f : Frame) (line : List ℕ) → Lines style start (Server Messages) bytes lines (Server Messages) → IsFrame f
     → IsLineOf style (place_behind (start + length bytes)) f line → Lines style start (Server Messages) (bytes ++ frame_bytes f) (lines ++ line) (Server Messages)
-server_step style start bytes lines f line before fits has = OneLine (frame_bytes f) line before (record { first = f; whole = refl; fits = fits; told = has }, refl)
+server_step style start bytes lines f line before fits has = OneLine (frame_bytes f) line before (record { first = f; whole = refl; fits = fits; reported = has }, refl)
 
 hidden_lines : (style : Style) (start : ℕ) (a lines : List ℕ) (to : Side) → Lines (quiet style) start (Server Messages) a lines to → (b : List ℕ) → AlikeStreams a b → Lines (quiet style) start (Server Messages) b lines (Server Messages)
 hidden_lines style start [] [] _ NoLines b alike = subst (λ l. Lines (quiet style) start (Server Messages) l [] (Server Messages)) (sym (nothing_alike [] b alike refl)) NoLines
@@ -146,7 +146,7 @@ hidden_lines style start _ _ to (OneLine {bytes = bytes} {lines = lines} {here =
     let place : place_behind (start + length bytes) ≡ place_behind (start + length end.before) = ap (λ n. place_behind (start + n)) (same_length bytes end.before end.alike) in
     subst (λ l. Lines (quiet style) start (Server Messages) l (lines ++ line) (Server Messages)) (sym end.whole)
     (server_step (quiet style) start end.before lines end.last line (hidden_lines style start bytes lines here before end.before end.alike) end.fits
-    (line_hidden style (place_behind (start + length end.before)) is.first end.last line end.same (subst (λ p. IsLineOf (quiet style) p is.first line) place is.told)))
+    (line_hidden style (place_behind (start + length end.before)) is.first end.last line end.same (subst (λ p. IsLineOf (quiet style) p is.first line) place is.reported)))
 
 pub streams_hidden : (style : Style) (start : ℕ) (a b lines : List ℕ) → AlikeStreams a b → Lines (quiet style) start (Server Messages) a lines (Server Messages) → Lines (quiet style) start (Server Messages) b lines (Server Messages)
 streams_hidden style start a b lines alike listed = hidden_lines style start a lines (Server Messages) listed b alike

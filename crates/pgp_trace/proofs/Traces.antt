@@ -63,7 +63,7 @@ one_listed style start here from mid to bytes rest next line old now new so_far 
       front = so_far.front ++ has.frame;
       lines = so_far.lines ++ line;
       whole = so_far.whole ∙ ap (λ l. so_far.front ++ l) has.whole ∙ sym (append_assoc so_far.front has.frame next);
-      listed = OneLine has.frame line so_far.listed (subst (λ p. LineOf style p mid has.frame line to) place has.told);
+      listed = OneLine has.frame line so_far.listed (subst (λ p. LineOf style p mid has.frame line to) place has.reported);
       text = grown ∙ ap (λ l. l ++ line) so_far.text ∙ append_assoc old so_far.lines line;
     }
 
@@ -206,7 +206,7 @@ pub record Tracks (style : Style) (from : Side) (before after : Streams) (held :
   pub front : List ℕ
   pub rest : List ℕ
   pub lines : List ℕ
-  pub came : Consumes before.input after.input (front ++ rest)
+  pub received : Consumes before.input after.input (front ++ rest)
   pub listed : Lines style 0 from front lines held.side
   pub holds : Holds held rest
   pub place : held.place ≡ place_behind (length front)
@@ -217,7 +217,7 @@ tracks_start style from s bytes e = record {
   front = [];
   rest = [];
   lines = [];
-  came = Consumes-nil s.input;
+  received = Consumes-nil s.input;
   listed = NoLines;
   holds = record { ending = nothing_ends from; count = refl; small = omega arith; bytes = λ h. e };
   place = refl;
@@ -230,7 +230,7 @@ tracks_none style from before now next output held t none = record {
   front = t.front;
   rest = t.rest;
   lines = t.lines;
-  came = subst (Consumes before.input next) (append-nil (t.front ++ t.rest)) (Consumes-trans before.input now next (t.front ++ t.rest) [] t.came none);
+  received = subst (Consumes before.input next) (append-nil (t.front ++ t.rest)) (Consumes-trans before.input now next (t.front ++ t.rest) [] t.received none);
   listed = t.listed;
   holds = t.holds;
   place = t.place;
@@ -243,28 +243,28 @@ tracks_same style from before after held next t kept = record {
   front = t.front;
   rest = t.rest;
   lines = t.lines;
-  came = Consumes-kept before.input after.input next (t.front ++ t.rest) t.came kept;
+  received = Consumes-kept before.input after.input next (t.front ++ t.rest) t.received kept;
   listed = t.listed;
   holds = t.holds;
   place = t.place;
   written = t.written;
 }
 
-came_more : (style : Style) (from : Side) (before after : Streams) (held : Held) (t : Tracks style from before after held) (next : Option (List ℕ)) (piece front rest : List ℕ) → Consumes after.input next piece → t.rest ++ piece ≡ front ++ rest
+received_more : (style : Style) (from : Side) (before after : Streams) (held : Held) (t : Tracks style from before after held) (next : Option (List ℕ)) (piece front rest : List ℕ) → Consumes after.input next piece → t.rest ++ piece ≡ front ++ rest
     → Consumes before.input next ((t.front ++ front) ++ rest)
-came_more style from before after held t next piece front rest came whole =
+received_more style from before after held t next piece front rest received whole =
     let moved : (t.front ++ t.rest) ++ piece ≡ (t.front ++ front) ++ rest =
     append_assoc t.front t.rest piece ∙ ap (λ l. t.front ++ l) whole ∙ sym (append_assoc t.front front rest) in
-    subst (Consumes before.input next) moved (Consumes-trans before.input after.input next (t.front ++ t.rest) piece t.came came)
+    subst (Consumes before.input next) moved (Consumes-trans before.input after.input next (t.front ++ t.rest) piece t.received received)
 
 -- a piece came
 pub tracks_piece : (style : Style) (from : Side) (before after : Streams) (held new : Held) (next output : Option (List ℕ)) (piece : List ℕ) (t : Tracks style from before after held)
     → Consumes after.input next piece → ListsPiece style held.place held.side (t.rest ++ piece) new after.output output → Tracks style from before (record { input = next; output = output }) new
-tracks_piece style from before after held new next output piece t came one = record {
+tracks_piece style from before after held new next output piece t received one = record {
   front = t.front ++ one.front;
   rest = one.rest;
   lines = t.lines ++ one.lines;
-  came = came_more style from before after held t next piece one.front one.rest came one.whole;
+  received = received_more style from before after held t next piece one.front one.rest received one.whole;
   listed = lines_join style from held.side t.front t.lines t.listed one.front one.lines new.side (subst (λ p. Lines style p held.side one.front one.lines new.side) t.place one.listed);
   holds = one.holds;
   place = one.moved ∙ ap (λ p. place_behind (p + length one.front)) t.place ∙ same_place t.front one.front ∙ ap place_behind (plain_sum (length (t.front ++ one.front)));
@@ -274,13 +274,13 @@ tracks_piece style from before after held new next output piece t came one = rec
 -- and was listed in part
 pub cut_piece : (style : Style) (from : Side) (before after : Streams) (held : Held) (next output : Option (List ℕ)) (piece : List ℕ) (t : Tracks style from before after held)
     → Consumes after.input next piece → ListsSome style held.place held.side (t.rest ++ piece) after.output output → IsCutShort style from before (record { input = next; output = output })
-cut_piece style from before after held next output piece t came some = record {
+cut_piece style from before after held next output piece t received some = record {
   to = some.to;
   front = t.front ++ some.front;
   rest = some.rest;
   lines = t.lines ++ some.lines;
   text = t.lines ++ some.lines;
-  came = came_more style from before after held t next piece some.front some.rest came some.whole;
+  received = received_more style from before after held t next piece some.front some.rest received some.whole;
   listed = lines_join style from held.side t.front t.lines t.listed some.front some.lines some.to (subst (λ p. Lines style p held.side some.front some.lines some.to) t.place some.listed);
   due = inl refl;
   written = more_taken before.output after.output output t.lines some.lines t.written some.written;
@@ -291,7 +291,7 @@ pub was_listed : (style : Style) (from : Side) (before after : Streams) (held : 
 was_listed style from before after held t = record {
   stopped = held.stopped;
   rest = t.rest;
-  all = record { to = held.side; front = t.front; lines = t.lines; came = t.came; listed = t.listed; ending = t.holds.ending; written = t.written };
+  all = record { to = held.side; front = t.front; lines = t.lines; received = t.received; listed = t.listed; ending = t.holds.ending; written = t.written };
 }
 
 -- it may be read again
@@ -309,7 +309,7 @@ cut_here style from before after held t = record {
   rest = t.rest;
   lines = t.lines;
   text = t.lines;
-  came = t.came;
+  received = t.received;
   listed = t.listed;
   due = inl refl;
   written = all_taken before.output after.output t.lines t.written;
@@ -319,7 +319,7 @@ cut_here style from before after held t = record {
 pub all_written : (style : Style) (from : Side) (before after : Streams) (held : Held) (output : Option (List ℕ)) (said : List ℕ) → Tracks style from before after held → IsAtEnd after.input → Appends after.output output (last_line style held.stopped held.left)
     → said ≡ hint_of held.side held.left → IfSome before.input (λ bytes. WritesListing style from bytes before.output output said)
 all_written style from before after held output said t end last why =
-    Consumes-whole before.input after.input (t.front ++ t.rest) (λ bytes. WritesListing style from bytes before.output output said) t.came end (record {
+    Consumes-whole before.input after.input (t.front ++ t.rest) (λ bytes. WritesListing style from bytes before.output output said) t.received end (record {
       output = t.lines ++ last_line style held.stopped held.left;
       is = record {
         to = held.side;
@@ -345,7 +345,7 @@ cut_last style from before after held output t end last = record {
   rest = t.rest;
   lines = t.lines;
   text = t.lines ++ last_line style held.stopped held.left;
-  came = t.came;
+  received = t.received;
   listed = t.listed;
   due = inr (record { stopped = held.stopped; end = end; ending = t.holds.ending; all = ap (λ n. t.lines ++ last_line style held.stopped n) t.holds.count });
   written = more_taken before.output after.output output t.lines _ t.written last;
@@ -359,7 +359,7 @@ cut_nothing style from s = record {
   rest = [];
   lines = [];
   text = [];
-  came = Consumes-nil s.input;
+  received = Consumes-nil s.input;
   listed = NoLines;
   due = inl refl;
   written = none_taken s.output [];
@@ -368,12 +368,12 @@ cut_nothing style from s = record {
 -- ---- what calls return of these
 
 module _ {T E : Type 0} where
-  pub end_written : (r : Result T E) (told : T → List ℕ) (said : List ℕ) (style : Style) (from : Side) (before : Streams) (now next middle output : Option (List ℕ)) (held : Held) → Tracks style from before (record { input = now; output = middle }) held
-      → Consumes now next [] → IsAtEnd next → OnOk r (Appends middle output (last_line style held.stopped held.left)) → IfOk r (λ x. told x ≡ said) → said ≡ hint_of held.side held.left
-      → IfOk r (λ x. IfSome before.input (λ bytes. WritesListing style from bytes before.output output (told x)))
-  end_written (Ok x) told said style from before now next middle output held t none end last same why =
-      all_written style from before (record { input = next; output = middle }) held output (told x) (tracks_none style from before now next middle held t none) end last (same ∙ why)
-  end_written (Err e) told said style from before now next middle output held t none end last same why = tt
+  pub end_written : (r : Result T E) (reported : T → List ℕ) (said : List ℕ) (style : Style) (from : Side) (before : Streams) (now next middle output : Option (List ℕ)) (held : Held) → Tracks style from before (record { input = now; output = middle }) held
+      → Consumes now next [] → IsAtEnd next → OnOk r (Appends middle output (last_line style held.stopped held.left)) → IfOk r (λ x. reported x ≡ said) → said ≡ hint_of held.side held.left
+      → IfOk r (λ x. IfSome before.input (λ bytes. WritesListing style from bytes before.output output (reported x)))
+  end_written (Ok x) reported said style from before now next middle output held t none end last same why =
+      all_written style from before (record { input = next; output = middle }) held output (reported x) (tracks_none style from before now next middle held t none) end last (same ∙ why)
+  end_written (Err e) reported said style from before now next middle output held t none end last same why = tt
 
   pub end_cut : (r : Result T E) (style : Style) (from : Side) (before : Streams) (now next middle output : Option (List ℕ)) (held : Held) → Tracks style from before (record { input = now; output = middle }) held
       → Consumes now next [] → IsAtEnd next → OnErr r (AppendsFront middle output (last_line style held.stopped held.left)) → OnErr r (IsCutShort style from before (record { input = next; output = output }))
@@ -382,8 +382,8 @@ module _ {T E : Type 0} where
 
   pub piece_cut : (r : Result T E) (style : Style) (from : Side) (before : Streams) (now next middle output : Option (List ℕ)) (held : Held) (piece : List ℕ) (t : Tracks style from before (record { input = now; output = middle }) held)
       → Consumes now next piece → Stops style piece held middle output → OnErr r (IsCutShort style from before (record { input = next; output = output }))
-  piece_cut (Ok x) style from before now next middle output held piece t came some = tt
-  piece_cut (Err e) style from before now next middle output held piece t came some = cut_piece style from before (record { input = now; output = middle }) held next output piece t came (some t.rest t.holds)
+  piece_cut (Ok x) style from before now next middle output held piece t received some = tt
+  piece_cut (Err e) style from before now next middle output held piece t received some = cut_piece style from before (record { input = now; output = middle }) held next output piece t received (some t.rest t.holds)
 
   pub nothing_cut : (r : Result T E) (style : Style) (from : Side) (s : Streams) → OnErr r (IsCutShort style from s s)
   nothing_cut (Ok x) style from s = tt

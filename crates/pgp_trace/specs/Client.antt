@@ -14,27 +14,27 @@ some_password = codes "Password, SASLInitialResponse or SASLResponse"
 
 -- the name of a message, where it is known which message of tag `p` it is or not
 abbrev pub client_name : Bool → ClientMessage → List ℕ
-client_name told (Bind portal statement formats values result_formats) = codes "Bind"
-client_name told (Close variant name) = codes "Close"
-client_name told (CopyData bytes) = codes "CopyData"
-client_name told CopyDone = codes "CopyDone"
-client_name told (CopyFail message) = codes "CopyFail"
-client_name told (Describe variant name) = codes "Describe"
-client_name told (Execute portal max_rows) = codes "Execute"
-client_name told Flush = codes "Flush"
-client_name told (FunctionCall function formats arguments result_format) = codes "FunctionCall"
-client_name told (Parse name query param_types) = codes "Parse"
-client_name told (PasswordMessage password) = codes "PasswordMessage"
-client_name told (Query query) = codes "Query"
-client_name told (SaslInitialResponse mechanism response) = codes "SASLInitialResponse"
+client_name reported (Bind portal statement formats values result_formats) = codes "Bind"
+client_name reported (Close variant name) = codes "Close"
+client_name reported (CopyData bytes) = codes "CopyData"
+client_name reported CopyDone = codes "CopyDone"
+client_name reported (CopyFail message) = codes "CopyFail"
+client_name reported (Describe variant name) = codes "Describe"
+client_name reported (Execute portal max_rows) = codes "Execute"
+client_name reported Flush = codes "Flush"
+client_name reported (FunctionCall function formats arguments result_format) = codes "FunctionCall"
+client_name reported (Parse name query param_types) = codes "Parse"
+client_name reported (PasswordMessage password) = codes "PasswordMessage"
+client_name reported (Query query) = codes "Query"
+client_name reported (SaslInitialResponse mechanism response) = codes "SASLInitialResponse"
 client_name true (SaslResponse response) = codes "SASLResponse"
 client_name false (SaslResponse response) = some_password
-client_name told Sync = codes "Sync"
-client_name told Terminate = codes "Terminate"
-client_name told (Startup minor parameters) = codes "StartupMessage"
-client_name told (CancelRequest process_id secret_key) = codes "CancelRequest"
-client_name told SslRequest = codes "SSLRequest"
-client_name told GssEncRequest = codes "GSSENCRequest"
+client_name reported Sync = codes "Sync"
+client_name reported Terminate = codes "Terminate"
+client_name reported (Startup minor parameters) = codes "StartupMessage"
+client_name reported (CancelRequest process_id secret_key) = codes "CancelRequest"
+client_name reported SslRequest = codes "SSLRequest"
+client_name reported GssEncRequest = codes "GSSENCRequest"
 
 -- what a message is of, by its letter
 abbrev pub object_of : ℕ → Option (List ℕ)
@@ -69,26 +69,26 @@ named_object variant name = Word (name_or (object_of variant) variant) ∷ Text 
 
 -- The parts of a line after the name, in groups. Passwords, the texts of an exchange and keys are secrets.
 abbrev pub client_groups : Style → Bool → ClientMessage → List (List Part)
-client_groups style told (Bind portal statement formats values result_formats) =
+client_groups style reported (Bind portal statement formats values result_formats) =
     (Word (codes "portal") ∷ Text portal ∷ Word (codes "statement") ∷ Text statement ∷ [])
     ∷ counted (codes "formats") signed_part formats ∷ counted (codes "values") client_value values ∷ counted (codes "results") signed_part result_formats ∷ []
-client_groups style told (Close variant name) = named_object variant name ∷ []
-client_groups style told (CopyData bytes) = (Word (codes "data") ∷ Value (Some bytes) ∷ []) ∷ []
-client_groups style told (CopyFail message) = (Word (codes "message") ∷ Text message ∷ []) ∷ []
-client_groups style told (Describe variant name) = named_object variant name ∷ []
-client_groups style told (Execute portal max_rows) = (Word (codes "portal") ∷ Text portal ∷ Word (codes "rows") ∷ Number max_rows ∷ []) ∷ []
-client_groups style told (FunctionCall function formats arguments result_format) =
+client_groups style reported (Close variant name) = named_object variant name ∷ []
+client_groups style reported (CopyData bytes) = (Word (codes "data") ∷ Value (Some bytes) ∷ []) ∷ []
+client_groups style reported (CopyFail message) = (Word (codes "message") ∷ Text message ∷ []) ∷ []
+client_groups style reported (Describe variant name) = named_object variant name ∷ []
+client_groups style reported (Execute portal max_rows) = (Word (codes "portal") ∷ Text portal ∷ Word (codes "rows") ∷ Number max_rows ∷ []) ∷ []
+client_groups style reported (FunctionCall function formats arguments result_format) =
     (Word (codes "function") ∷ Number (pos function) ∷ [])
     ∷ counted (codes "formats") signed_part formats ∷ counted (codes "values") client_value arguments ∷ (Word (codes "result") ∷ Number result_format ∷ []) ∷ []
-client_groups style told (Parse name query param_types) =
+client_groups style reported (Parse name query param_types) =
     (Word (codes "statement") ∷ Text name ∷ Word (codes "query") ∷ Text query ∷ []) ∷ counted (codes "types") type_part param_types ∷ []
-client_groups style told (PasswordMessage password) = (Word (codes "password") ∷ secret style password ∷ []) ∷ []
-client_groups style told (Query query) = (Word (codes "query") ∷ Text query ∷ []) ∷ []
-client_groups style told (SaslInitialResponse mechanism response) = (Word (codes "mechanism") ∷ Text mechanism ∷ Word (codes "data") ∷ first_text style response ∷ []) ∷ []
-client_groups style told (SaslResponse response) = response_parts style told response ∷ []
-client_groups style told (Startup minor parameters) = startup_parts (196608 + minor) parameters ∷ []
-client_groups style told (CancelRequest process_id secret_key) = (Word (codes "process") ∷ Number process_id ∷ Word (codes "key") ∷ secret style secret_key ∷ []) ∷ []
-client_groups style told m = []
+client_groups style reported (PasswordMessage password) = (Word (codes "password") ∷ secret style password ∷ []) ∷ []
+client_groups style reported (Query query) = (Word (codes "query") ∷ Text query ∷ []) ∷ []
+client_groups style reported (SaslInitialResponse mechanism response) = (Word (codes "mechanism") ∷ Text mechanism ∷ Word (codes "data") ∷ first_text style response ∷ []) ∷ []
+client_groups style reported (SaslResponse response) = response_parts style reported response ∷ []
+client_groups style reported (Startup minor parameters) = startup_parts (196608 + minor) parameters ∷ []
+client_groups style reported (CancelRequest process_id secret_key) = (Word (codes "process") ∷ Number process_id ∷ Word (codes "key") ∷ secret style secret_key ∷ []) ∷ []
+client_groups style reported m = []
 
 -- a message of which no more is said than its name
 abbrev pub client_says_nothing : ClientMessage → Bool
@@ -101,7 +101,7 @@ client_says_nothing GssEncRequest = true
 client_says_nothing x = false
 
 abbrev pub client_called : Bool → ClientMessage → Part
-client_called told x = Name (client_says_nothing x) (client_name told x)
+client_called reported x = Name (client_says_nothing x) (client_name reported x)
 
 -- a line with these groups of parts after it
 abbrev pub grouped : Style → List ℕ → List (List Part) → List ℕ
@@ -115,5 +115,5 @@ refusal_parts (UnknownPacket code) = Name true (codes "packet") ∷ Number code 
 
 -- the line goes on with the name of the message and what it says, or with the error
 abbrev pub client_line : Style → Bool → Result ClientMessage ClientError → List ℕ → List ℕ
-client_line style told (Ok x) old = grouped style (followed style old (client_called told x ∷ [])) (client_groups style told x)
-client_line style told (Err e) old = followed style old (refusal_parts e)
+client_line style reported (Ok x) old = grouped style (followed style old (client_called reported x ∷ [])) (client_groups style reported x)
+client_line style reported (Err e) old = followed style old (refusal_parts e)

@@ -104,7 +104,7 @@ module _ (lacks read_failed write_failed passed : Type 0) where
     pub fault : Fault
     pub stops : Stops passed command fault before after
     pub cause : Caused lacks read_failed write_failed fault
-    pub told : complaint ≡ complaint_of fault
+    pub reported : complaint ≡ complaint_of fault
     pub failed : status ≡ 1
 
   -- What the words ask for is done.

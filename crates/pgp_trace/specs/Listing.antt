@@ -10,7 +10,7 @@ use Rattle.pgp_frontend_read.specs.Step.{Step}
 use Rattle.pgp_frontend_read.specs.declared.error.ClientError.{ClientError}
 use Rattle.pgp_frontend_read.specs.declared.message.PasswordKind.{PasswordKind}
 use Rattle.pgp_trace.specs.Client.{client_line}
-use Rattle.pgp_trace.specs.Sides.{Side, Server, Client, AreAnswers, Ends, answered, expected, is_told, kinds_behind, phase_behind}
+use Rattle.pgp_trace.specs.Sides.{Side, Server, Client, AreAnswers, Ends, answered, expected, is_reported, kinds_behind, phase_behind}
 use Rattle.pgp_trace.specs.declared.side.Phase.{Phase}
 use Rattle.pgp_trace.specs.declared.side.Phase.TheVariants.{Beginning, Messages, Encrypted}
 use Rattle.pgp_line.specs.declared.style.Form.{Form}
@@ -37,7 +37,7 @@ pub record IsLineOf (style : Style) (place : ℕ) (f : Frame) (line : List ℕ) 
   pub result : Result Message Error
   pub body : Body f.tag f.payload result
   pub text : List ℕ
-  pub told : GoesOn style result (front style place f) text
+  pub reported : GoesOn style result (front style place f) text
   pub ended : line ≡ text ++ closing style ++ 10 ∷ []
 
 -- the frame of a server, and its line
@@ -45,7 +45,7 @@ pub record IsServerLine (style : Style) (place : ℕ) (frame line : List ℕ) : 
   pub first : Frame
   pub whole : frame ≡ frame_bytes first
   pub fits : IsFrame first
-  pub told : IsLineOf style place first line
+  pub reported : IsLineOf style place first line
 
 -- which request a server answers, as far as its byte says
 abbrev pub answer_name : ℕ → List ℕ
@@ -62,16 +62,16 @@ pub record IsAnswerLine (style : Style) (place : ℕ) (frame line : List ℕ) (p
   pub byte : ℕ
   pub whole : frame ≡ byte ∷ []
   pub answers : phase_behind byte ≡ Some phase
-  pub told : line ≡ answer_line style place byte
+  pub reported : line ≡ answer_line style place byte
 
 -- Before the first message: an answer; or that message, as no answer stands there.
 pub record IsAnswer (style : Style) (place : ℕ) (frame line : List ℕ) (to : Side) : Type 0 where
   pub phase : Phase
-  pub told : IsAnswerLine style place frame line phase
+  pub reported : IsAnswerLine style place frame line phase
   pub behind : to ≡ Server phase
 
 pub record IsFirst (style : Style) (place : ℕ) (frame line : List ℕ) (to : Side) : Type 0 where
-  pub told : IsServerLine style place frame line
+  pub reported : IsServerLine style place frame line
   pub none : answered frame ≡ None
   pub behind : to ≡ Server Messages
 
@@ -87,11 +87,11 @@ client_front style place opened frame = followed style (opening style place) (Le
 pub record IsClientLine (style : Style) (place : ℕ) (opened : Bool) (kinds : List PasswordKind) (frame line : List ℕ) (now : Bool) : Type 0 where
   pub result : Result ClientMessage ClientError
   pub step : Step (expected kinds) (record { bytes = frame; opened = opened }) (step_of result) (record { bytes = []; opened = now })
-  pub told : line ≡ client_line style (is_told kinds) result (client_front style place opened frame) ++ closing style ++ 10 ∷ []
+  pub reported : line ≡ client_line style (is_reported kinds) result (client_front style place opened frame) ++ closing style ++ 10 ∷ []
 
 pub record IsNextLine (style : Style) (place : ℕ) (opened : Bool) (kinds : List PasswordKind) (frame line : List ℕ) (to : Side) : Type 0 where
   pub now : Bool
-  pub told : IsClientLine style place opened kinds frame line now
+  pub reported : IsClientLine style place opened kinds frame line now
   pub behind : to ≡ Client now (kinds_behind opened frame kinds)
 
 -- a frame that stands at the place, and its line; and what is known of the side after it
@@ -127,7 +127,7 @@ pub record IsListed (style : Style) (from : Side) (stopped : Bool) (rest : List 
   pub to : Side
   pub front : List ℕ
   pub lines : List ℕ
-  pub came : Consumes before.input after.input (front ++ rest)
+  pub received : Consumes before.input after.input (front ++ rest)
   pub listed : Lines style 0 from front lines to
   pub ending : Ends to stopped rest
   pub written : Appends before.output after.output lines
@@ -191,7 +191,7 @@ pub record IsCutShort (style : Style) (from : Side) (before after : Streams) : T
   pub rest : List ℕ
   pub lines : List ℕ
   pub text : List ℕ
-  pub came : Consumes before.input after.input (front ++ rest)
+  pub received : Consumes before.input after.input (front ++ rest)
   pub listed : Lines style 0 from front lines to
   pub due : (text ≡ lines) ⊎ EndsWith style to after.input rest lines text
   pub written : AppendsFront before.output after.output text

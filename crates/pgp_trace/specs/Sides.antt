@@ -47,9 +47,9 @@ expected [] = grammar.Response
 expected (kind ∷ kinds) = kind_view kind
 
 -- whether a kind is known
-abbrev pub is_told : List code.PasswordKind → Bool
-is_told [] = false
-is_told (kind ∷ kinds) = true
+abbrev pub is_reported : List code.PasswordKind → Bool
+is_reported [] = false
+is_reported (kind ∷ kinds) = true
 
 -- whether the frame is one of tag `p`
 abbrev pub is_password : Bool → List ℕ → Bool

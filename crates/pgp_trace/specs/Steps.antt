@@ -43,7 +43,7 @@ pub record IsFrameOf (bytes : List ℕ) (r : Result Message Error) : Type 0 wher
 pub record HasLine (style : Style) (place : ℕ) (from : Side) (old new line : List ℕ) (to : Side) : Type 0 where
   pub frame : List ℕ
   pub whole : old ≡ frame ++ new
-  pub told : LineOf style place from frame line to
+  pub reported : LineOf style place from frame line to
 
 -- nothing was taken, and nothing stands first that could be
 pub record IsAtRest (from : Side) (stopped : Bool) (old new : List ℕ) (to : Side) : Type 0 where

@@ -5,7 +5,7 @@ ghost use Rattle.pgp_frontend_read.specs.Views.{kind_view, view};
 ghost use Rattle.pgp_trace.specs.Client.{client_line, refusal_parts};
 ghost use Rattle.pgp_line.specs.Line.{closing, followed};
 ghost use Rattle.pgp_trace.specs.Listing.{client_front, client_tag};
-ghost use Rattle.pgp_trace.specs.Sides.{Client, expected, is_told, is_password, kinds_behind};
+ghost use Rattle.pgp_trace.specs.Sides.{Client, expected, is_reported, is_password, kinds_behind};
 ghost use Rattle.pgp_trace.specs.Steps.{ListsNext};
 
 use crate::client_body::put_client_message;
@@ -40,7 +40,15 @@ pub fn client_line<'a, 'b, A: Memory>(
         Ok(Some(message)) => {
             let behind = messages.rest();
             let frame = front_of(bytes, behind);
-            message_line(style, place, opened, is_told(kinds), frame, message, line)?;
+            message_line(
+                style,
+                place,
+                opened,
+                is_reported(kinds),
+                frame,
+                message,
+                line,
+            )?;
             let left = kinds_behind(opened, frame, kinds);
             Ok((Next::Line, messages.is_open(), left, behind))
         }
@@ -69,8 +77,8 @@ fn expected(kinds: &[PasswordKind]) -> PasswordKind
 }
 
 /// Whether its kind is known.
-fn is_told(kinds: &[PasswordKind]) -> bool
-    ensures { result ≡ is_told kinds.now }
+fn is_reported(kinds: &[PasswordKind]) -> bool
+    ensures { result ≡ is_reported kinds.now }
 {
     match kinds {
         [] => false,
@@ -106,22 +114,22 @@ fn message_line<A: Memory>(
     style: Style,
     place: u64,
     opened: bool,
-    told: bool,
+    reported: bool,
     frame: &[u8],
     message: ClientMessage<'_>,
     line: &mut String<A>,
 ) -> Result<(), AllocError>
-    ensures line { OnOk result (string_bytes line.new ≡ client_line style told (Ok (view message.entry)) (client_front style place opened frame.now) ++ closing style ++ 10 ∷ []) }
+    ensures line { OnOk result (string_bytes line.new ≡ client_line style reported (Ok (view message.entry)) (client_front style place opened frame.now) ++ closing style ++ 10 ∷ []) }
     ensures lacks { OnErr result A.Lacks }
 {
     begin_line(style, place, frame.len(), tag_of(opened, frame), line)?;
     put_called(
         style,
         says_nothing(&message),
-        client_name(told, &message),
+        client_name(reported, &message),
         line,
     )?;
-    put_client_message(style, told, message, line)?;
+    put_client_message(style, reported, message, line)?;
     put_end(style, line)
 }
 

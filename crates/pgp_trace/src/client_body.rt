@@ -21,11 +21,11 @@ use std::alloc::AllocError;
 /// alone.
 pub fn put_client_message<A: Memory>(
     style: Style,
-    told: bool,
+    reported: bool,
     message: ClientMessage<'_>,
     line: &mut String<A>,
 ) -> Result<(), AllocError>
-    ensures says { OnOk result (string_bytes line.new ≡ grouped style (string_bytes line.old) (client_groups style told (view message.entry))) }
+    ensures says { OnOk result (string_bytes line.new ≡ grouped style (string_bytes line.old) (client_groups style reported (view message.entry))) }
     ensures lacks { OnErr result A.Lacks }
 {
     match message {
@@ -83,7 +83,7 @@ pub fn put_client_message<A: Memory>(
             put_one(style, "mechanism", mechanism, line)?;
             put_first(style, response, line)
         }
-        ClientMessage::SaslResponse(response) => put_response(style, told, response, line),
+        ClientMessage::SaslResponse(response) => put_response(style, reported, response, line),
         ClientMessage::Startup { minor, parameters } => {
             put_startup(style, 0x30000 + minor as u32, parameters, line)
         }

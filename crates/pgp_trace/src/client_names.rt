@@ -9,8 +9,8 @@ ghost use Rattle.pgp_trace.specs.Client.{client_name, client_says_nothing, objec
 use pgp_frontend_read::ClientMessage;
 
 /// The name of a message, where it is known which message of tag `p` it is or not.
-pub fn client_name(told: bool, message: &ClientMessage<'_>) -> &'static str
-    ensures { result.now ≡ client_name told (view message.now) }
+pub fn client_name(reported: bool, message: &ClientMessage<'_>) -> &'static str
+    ensures { result.now ≡ client_name reported (view message.now) }
 {
     match message {
         ClientMessage::Bind { .. } => "Bind",
@@ -28,7 +28,7 @@ pub fn client_name(told: bool, message: &ClientMessage<'_>) -> &'static str
         ClientMessage::PasswordMessage(_) => "PasswordMessage",
         ClientMessage::Query(_) => "Query",
         ClientMessage::SaslInitialResponse { .. } => "SASLInitialResponse",
-        ClientMessage::SaslResponse(_) => response_name(told),
+        ClientMessage::SaslResponse(_) => response_name(reported),
         ClientMessage::SslRequest => "SSLRequest",
         ClientMessage::Startup { .. } => "StartupMessage",
         ClientMessage::Sync => "Sync",
@@ -37,10 +37,10 @@ pub fn client_name(told: bool, message: &ClientMessage<'_>) -> &'static str
 }
 
 /// The name of a message of tag `p` that is all bytes.
-fn response_name(told: bool) -> &'static str
-    ensures { (response : List ℕ) → result.now ≡ client_name told (SaslResponse response) }
+fn response_name(reported: bool) -> &'static str
+    ensures { (response : List ℕ) → result.now ≡ client_name reported (SaslResponse response) }
 {
-    if told {
+    if reported {
         "SASLResponse"
     } else {
         "Password, SASLInitialResponse or SASLResponse"

@@ -48,9 +48,9 @@ pub fn server_line<'b, A: Memory>(
         Ok(Some(message)) => {
             let behind = messages.rest();
             let frame = front_of(bytes, behind);
-            let told = message_line(style, place, frame, &message, line);
+            let reported = message_line(style, place, frame, &message, line);
             drop(message);
-            told?;
+            reported?;
             Ok((Next::Line, behind))
         }
         Ok(None) => Ok((Next::Waits, bytes)),

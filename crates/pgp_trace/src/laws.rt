@@ -61,15 +61,15 @@ pub fn no_answers()
 /// A client's messages that differ in their secrets alone have the same lines, unless secrets are asked for. Where it isn't reported which message of tag
 /// `p` one is, it has the same line whatever is asked for.
 pub fn client_secrets_are_hidden()
-    ensures password { (style : Style) (told : Bool) (a b old : List ℕ) → length a ≡ length b →
-        client_line (quiet style) told (Ok (PasswordMessage a)) old ≡ client_line (quiet style) told (Ok (PasswordMessage b)) old }
-    ensures initial { (style : Style) (told : Bool) (mechanism a b old : List ℕ) → length a ≡ length b →
-        client_line (quiet style) told (Ok (SaslInitialResponse mechanism (Some a))) old ≡ client_line (quiet style) told (Ok (SaslInitialResponse mechanism (Some b))) old }
+    ensures password { (style : Style) (reported : Bool) (a b old : List ℕ) → length a ≡ length b →
+        client_line (quiet style) reported (Ok (PasswordMessage a)) old ≡ client_line (quiet style) reported (Ok (PasswordMessage b)) old }
+    ensures initial { (style : Style) (reported : Bool) (mechanism a b old : List ℕ) → length a ≡ length b →
+        client_line (quiet style) reported (Ok (SaslInitialResponse mechanism (Some a))) old ≡ client_line (quiet style) reported (Ok (SaslInitialResponse mechanism (Some b))) old }
     ensures response { (style : Style) (a b old : List ℕ) → length a ≡ length b →
         client_line (quiet style) true (Ok (SaslResponse a)) old ≡ client_line (quiet style) true (Ok (SaslResponse b)) old }
-    ensures key { (style : Style) (told : Bool) (process : ℤ) (a b old : List ℕ) → length a ≡ length b →
-        client_line (quiet style) told (Ok (CancelRequest process a)) old ≡ client_line (quiet style) told (Ok (CancelRequest process b)) old }
-    ensures untold { (style : Style) (a b old : List ℕ) → length a ≡ length b →
+    ensures key { (style : Style) (reported : Bool) (process : ℤ) (a b old : List ℕ) → length a ≡ length b →
+        client_line (quiet style) reported (Ok (CancelRequest process a)) old ≡ client_line (quiet style) reported (Ok (CancelRequest process b)) old }
+    ensures unreported { (style : Style) (a b old : List ℕ) → length a ≡ length b →
         client_line style false (Ok (SaslResponse a)) old ≡ client_line style false (Ok (SaslResponse b)) old }
 {}
 

@@ -37,8 +37,8 @@ pub value_stops : {F T E B K : Type 0} (held : B → Held K) (step : F → T →
     (xs : List T) (x : T) (vs : List (Option (List ℕ))) (at u : F) (b : Held K) (e : BindError E)
     → given xs (Some x) → Runs (Gives held step) nullable here f xs vs at → b ≡ here ⊕ flat_map nullable vs
     → ValueRefused held step lacks b at x e u → MadeUpTo held step given f u here lacks e
-value_stops {K = K} held step given f here lacks xs x vs at u b e came runs h r =
-    record { xs = xs; x = x; came = came; made = vs; at = at; runs = runs; refused = subst (λ (b : Held K). ValueRefused held step lacks b at x e u) h r }
+value_stops {K = K} held step given f here lacks xs x vs at u b e received runs h r =
+    record { xs = xs; x = x; received = received; made = vs; at = at; runs = runs; refused = subst (λ (b : Held K). ValueRefused held step lacks b at x e u) h r }
 
 module _ {F T E B K : Type 0} (held : B → Held K) (step : F → T → MutBor B → Result IsNull E → MutBor B → F → Type 0) (given : List T → Option T → Type 0) (f last : F) where
   -- the same, before which a buffer held the same

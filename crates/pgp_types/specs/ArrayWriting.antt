@@ -25,7 +25,7 @@ before_elements old ds element_type = old ⊕ uint32 (length ds) ⊕ uint32 0 �
 pub record DimensionsPast (given : List ArrayDimension → Option ArrayDimension → Type 0) : Type 0 where
   pub before : List ArrayDimension
   pub last : ArrayDimension
-  pub came : given before (Some last)
+  pub received : given before (Some last)
   pub full : length before ≡ 2147483647
 
 -- an allocation failed that the head of the dimensions so far needs: three numbers, and two for each
@@ -38,14 +38,14 @@ module _ {F T E B K : Type 0} (held : B → Held K) (step : F → T → MutBor B
   -- it was called once at each item, in order, each time after the elements before it, and made vs
   pub record Made (vs : List (Option (List ℕ))) : Type 0 where
     pub xs : List T
-    pub came : given xs None
+    pub received : given xs None
     pub runs : Runs (Gives held step) nullable here f xs vs last
 
   -- it made the elements of the first items, and the one after them was rejected
   pub record MadeUpTo (lacks : Held K → ℕ → Type 0) (e : BindError E) : Type 0 where
     pub xs : List T
     pub x : T
-    pub came : given xs (Some x)
+    pub received : given xs (Some x)
     pub made : List (Option (List ℕ))
     pub at : F
     pub runs : Runs (Gives held step) nullable here f xs made at
@@ -56,7 +56,7 @@ module _ {F T E B K : Type 0} (held : B → Held K) (step : F → T → MutBor B
   -- the array of the dimensions that came and the elements that the serializer made stands after the old bytes
   pub record ArrayWritten (new : Held K) : Type 0 where
     pub array : Array
-    pub came : dimensions array.dimensions None
+    pub received : dimensions array.dimensions None
     pub in_range : All IsDimension array.dimensions
     pub type : array.element_type ≡ element_type
     pub made : Made held step elements f last (before_elements old array.dimensions element_type) array.elements
@@ -71,7 +71,7 @@ module _ {F T E B K : Type 0} (held : B → Held K) (step : F → T → MutBor B
   -- at an element
   pub record ElementRefused (lacks : Held K → ℕ → Type 0) (e : BindError E) : Type 0 where
     pub all : List ArrayDimension
-    pub came : dimensions all None
+    pub received : dimensions all None
     pub fits : length_cause (length all) ≡ None
     pub stops : MadeUpTo held step elements f last (before_elements old all element_type) lacks e
 

@@ -8,11 +8,11 @@ use Rattle.pgp_base.specs.Held.{Held, ◌⊕◌, Leaves}
 use Rattle.pgp_types.specs.Format.{Format}
 
 -- `came xs next`: the iterator's calls gave xs and then `next`. `value` is the value that items make.
-module _ {A V R : Type 0} (came : List A → Option A → Type 0) (f : Format V R) (value : List A → V) where
+module _ {A V R : Type 0} (received : List A → Option A → Type 0) (f : Format V R) (value : List A → V) where
   -- the bytes of the value of all items stand after the old ones
   pub record Whole {K : Type 0} (old new : Held K) : Type 0 where
     pub items : List A
-    pub all : came items None
+    pub all : received items None
     pub fits : f.cause (value items) ≡ None
     pub appended : new ≡ old ⊕ f.written (value items)
 
@@ -20,13 +20,13 @@ module _ {A V R : Type 0} (came : List A → Option A → Type 0) (f : Format V 
   pub record Stops (e : Error) : Type 0 where
     pub before : List A
     pub last : A
-    pub reached : came before (Some last)
+    pub reached : received before (Some last)
     pub fits : f.cause (value before) ≡ None
     pub passes : f.cause (value (before ++ last ∷ [])) ≡ Some e
 
   -- an allocation failed that the value of the items so far needs
   abbrev pub WantsValue : {K : Type 0} → (Held K → ℕ → Type 0) → Held K → Error → Type 0
-  WantsValue lacks old e = (e ≡ OutOfMemory) × ((items : List A) × SoFar came items × Wants lacks old (length (f.written (value items))))
+  WantsValue lacks old e = (e ≡ OutOfMemory) × ((items : List A) × SoFar received items × Wants lacks old (length (f.written (value items))))
 
   -- It writes the value of all items; or it leaves the bytes, and is refused for lack of memory or for the first cause.
   abbrev pub WritesAll : {K : Type 0} → (Held K → ℕ → Type 0) → Held K → Result (Unit {0}) Error → Held K → Type 0

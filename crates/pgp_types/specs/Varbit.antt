@@ -34,11 +34,11 @@ varbit = record { IsValue = IsVarbit; written = λ v. uint32 v.len ++ v.bytes; c
 
 -- What the writer leaves that is handed the number of bits and an iterator over the bytes: all of them stand after the
 -- number; or the old bytes stay, for lack of memory, or since the number passes its field.
-module _ (came : List ℕ → Option ℕ → Type 0) (len : ℕ) where
+module _ (received : List ℕ → Option ℕ → Type 0) (len : ℕ) where
   -- an allocation failed that the number and the bytes so far need
   abbrev pub WantsVarbit : {K : Type 0} → (Held K → ℕ → Type 0) → Held K → Error → Type 0
-  WantsVarbit lacks old e = WantsValue came varbit (λ bytes. record { len = len; bytes = bytes }) lacks old e
+  WantsVarbit lacks old e = WantsValue received varbit (λ bytes. record { len = len; bytes = bytes }) lacks old e
 
   abbrev pub WritesVarbit : {K : Type 0} → (Held K → ℕ → Type 0) → Held K → Result (Unit {0}) Error → Held K → Type 0
-  WritesVarbit lacks old (Ok done) new = Whole came varbit (λ bytes. record { len = len; bytes = bytes }) old new
+  WritesVarbit lacks old (Ok done) new = Whole received varbit (λ bytes. record { len = len; bytes = bytes }) old new
   WritesVarbit lacks old (Err e) new = (WantsVarbit lacks old e ⊎ (length_cause len ≡ Some e)) × Leaves old new

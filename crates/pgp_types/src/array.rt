@@ -9,7 +9,7 @@ ghost use Rattle.std.specs.Iterator.{IsFiniteIterable};
 ghost use Rattle.pgp_base.specs.Wire.{nullable};
 ghost use Rattle.pgp_base.specs.Cause.{length_cause, Wants, WantsMemory};
 ghost use Rattle.pgp_base.specs.Held.{◌⊕◌, IsFrontOf};
-ghost use Rattle.pgp_base.specs.Calls.{Came, SoFar, OwesValues};
+ghost use Rattle.pgp_base.specs.Calls.{Yielded, SoFar, OwesValues};
 ghost use Rattle.pgp_base.specs.Wire.{IsBytes};
 ghost use Rattle.pgp_base.specs.PartReading.{Answers};
 ghost use Rattle.pgp_types.specs.Format.{Reads};
@@ -51,12 +51,12 @@ fn put_dimensions<B: Buffer, I: IntoIterator<Item = ArrayDimension> + Drop>(
 where
     I::IntoIter: Drop,
     requires { IsFiniteIterable I.into_iter_gives I.IntoIter.can_next I.IntoIter.remaining dimensions }
-    ensures ok { IfOk result (λ n. (ds : List ArrayDimension) × Came I.into_iter_gives I.IntoIter.next_gives dimensions ds None
+    ensures ok { IfOk result (λ n. (ds : List ArrayDimension) × Yielded I.into_iter_gives I.IntoIter.next_gives dimensions ds None
         × All IsDimension ds × (n ≡ length ds) × (length_cause (length ds) ≡ None)
         × (B.held buf.new ≡ B.held buf.old ⊕ flat_map dimension_bytes ds)) }
     ensures err { OnErr result (IsFrontOf (B.held buf.old) (B.held buf.new)) }
-    ensures cause { IfErr result (λ e. ((e ≡ Error.OutOfMemory) × ((ds : List ArrayDimension) × SoFar (Came I.into_iter_gives I.IntoIter.next_gives dimensions) ds × Wants B.Lacks (B.held buf.old) (8 * length ds)))
-        ⊎ (DimensionsPast (Came I.into_iter_gives I.IntoIter.next_gives dimensions) × (e ≡ Error.TooLarge))) }
+    ensures cause { IfErr result (λ e. ((e ≡ Error.OutOfMemory) × ((ds : List ArrayDimension) × SoFar (Yielded I.into_iter_gives I.IntoIter.next_gives dimensions) ds × Wants B.Lacks (B.held buf.old) (8 * length ds)))
+        ⊎ (DimensionsPast (Yielded I.into_iter_gives I.IntoIter.next_gives dimensions) × (e ≡ Error.TooLarge))) }
 {
     let mut count = 0u32;
     for dimension in dimensions {
@@ -84,10 +84,10 @@ where
     requires callable { F.IsAlwaysCallable serializer.old }
     requires owes { OwesValues B.held F.pre F.step }
     ensures ok { IfOk result (λ nulls. (vs : List (Option (List ℕ)))
-        × Made B.held F.step (Came J.into_iter_gives J.IntoIter.next_gives elements) serializer.old serializer.new (B.held buf.old) vs
+        × Made B.held F.step (Yielded J.into_iter_gives J.IntoIter.next_gives elements) serializer.old serializer.new (B.held buf.old) vs
         × (nulls ≡ has_null vs) × (B.held buf.new ≡ B.held buf.old ⊕ flat_map nullable vs)) }
     ensures err { OnErr result (IsFrontOf (B.held buf.old) (B.held buf.new)) }
-    ensures cause { IfErr result (MadeUpTo B.held F.step (Came J.into_iter_gives J.IntoIter.next_gives elements) serializer.old serializer.new (B.held buf.old) B.Lacks) }
+    ensures cause { IfErr result (MadeUpTo B.held F.step (Yielded J.into_iter_gives J.IntoIter.next_gives elements) serializer.old serializer.new (B.held buf.old) B.Lacks) }
 {
     let mut nulls = false;
     for element in elements {
@@ -110,11 +110,11 @@ fn put_head<B: Buffer, I: IntoIterator<Item = ArrayDimension> + Drop>(
 where
     I::IntoIter: Drop,
     requires { IsFiniteIterable I.into_iter_gives I.IntoIter.can_next I.IntoIter.remaining dimensions }
-    ensures ok { OnOk result ((ds : List ArrayDimension) × Came I.into_iter_gives I.IntoIter.next_gives dimensions ds None
+    ensures ok { OnOk result ((ds : List ArrayDimension) × Yielded I.into_iter_gives I.IntoIter.next_gives dimensions ds None
         × All IsDimension ds × (length_cause (length ds) ≡ None) × (B.held buf.new ≡ before_elements (B.held buf.old) ds element_type)) }
     ensures err { OnErr result (IsFrontOf (B.held buf.old) (B.held buf.new)) }
-    ensures cause { IfErr result (λ e. WantsHead (Came I.into_iter_gives I.IntoIter.next_gives dimensions) B.Lacks (B.held buf.old) e
-        ⊎ (DimensionsPast (Came I.into_iter_gives I.IntoIter.next_gives dimensions) × (e ≡ Error.TooLarge))) }
+    ensures cause { IfErr result (λ e. WantsHead (Yielded I.into_iter_gives I.IntoIter.next_gives dimensions) B.Lacks (B.held buf.old) e
+        ⊎ (DimensionsPast (Yielded I.into_iter_gives I.IntoIter.next_gives dimensions) × (e ≡ Error.TooLarge))) }
 {
     let base = buf.len();
     put_u32(buf, 0)?;
@@ -147,11 +147,11 @@ where
     requires elements_end { IsFiniteIterable J.into_iter_gives J.IntoIter.can_next J.IntoIter.remaining elements }
     requires callable { F.IsAlwaysCallable serializer.old }
     requires owes { OwesValues B.held F.pre F.step }
-    ensures ok { OnOk result (ArrayWritten B.held F.step (Came I.into_iter_gives I.IntoIter.next_gives dimensions) element_type
-        (Came J.into_iter_gives J.IntoIter.next_gives elements) serializer.old serializer.new (B.held buf.old) (B.held buf.new)) }
+    ensures ok { OnOk result (ArrayWritten B.held F.step (Yielded I.into_iter_gives I.IntoIter.next_gives dimensions) element_type
+        (Yielded J.into_iter_gives J.IntoIter.next_gives elements) serializer.old serializer.new (B.held buf.old) (B.held buf.new)) }
     ensures err { OnErr result (IsFrontOf (B.held buf.old) (B.held buf.new)) }
-    ensures cause { IfErr result (ArrayRefused B.held F.step (Came I.into_iter_gives I.IntoIter.next_gives dimensions) element_type
-        (Came J.into_iter_gives J.IntoIter.next_gives elements) serializer.old serializer.new (B.held buf.old) B.Lacks) }
+    ensures cause { IfErr result (ArrayRefused B.held F.step (Yielded I.into_iter_gives I.IntoIter.next_gives dimensions) element_type
+        (Yielded J.into_iter_gives J.IntoIter.next_gives elements) serializer.old serializer.new (B.held buf.old) B.Lacks) }
 {
     let base = buf.len();
     put_head(dimensions, element_type, buf)?;
@@ -190,8 +190,8 @@ where
     requires elements_end { IsFiniteIterable J.into_iter_gives J.IntoIter.can_next J.IntoIter.remaining elements }
     requires callable { F.IsAlwaysCallable serializer }
     requires owes { OwesValues B.held F.pre F.step }
-    ensures { (last : F) × WritesArray B.held F.step (Came I.into_iter_gives I.IntoIter.next_gives dimensions) element_type
-        (Came J.into_iter_gives J.IntoIter.next_gives elements) serializer last (B.held buf.old) B.Lacks (B.held buf.new) result }
+    ensures { (last : F) × WritesArray B.held F.step (Yielded I.into_iter_gives I.IntoIter.next_gives dimensions) element_type
+        (Yielded J.into_iter_gives J.IntoIter.next_gives elements) serializer last (B.held buf.old) B.Lacks (B.held buf.new) result }
 {
     let start = buf.len();
     match fill_array(dimensions, element_type, elements, &mut serializer, buf) {

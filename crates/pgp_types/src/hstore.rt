@@ -5,7 +5,7 @@
 
 ghost use Rattle.std.specs.Prelude.{◌≡◌, ◌≤◌, ◌⊎◌, ℕ, length, OnOk, OnErr, IfOk, IfErr};
 ghost use Rattle.std.specs.Iterator.{IsFiniteIterable};
-ghost use Rattle.pgp_base.specs.Calls.{Came};
+ghost use Rattle.pgp_base.specs.Calls.{Yielded};
 ghost use Rattle.pgp_base.specs.Cause.{Wants, WantsMemory, nullable_cause};
 ghost use Rattle.pgp_base.specs.Held.{◌⊕◌, IsFrontOf};
 ghost use Rattle.pgp_base.specs.PartReading.{Answers};
@@ -47,9 +47,9 @@ fn fill_hstore<'a, B: Buffer, I: IntoIterator<Item = (&'a str, Option<&'a str>)>
 where
     I::IntoIter: Drop,
     requires { IsFiniteIterable I.into_iter_gives I.IntoIter.can_next I.IntoIter.remaining pairs }
-    ensures ok { OnOk result (Whole (Came I.into_iter_gives I.IntoIter.next_gives pairs) hstore shown_entries (B.held buf.old) (B.held buf.new)) }
+    ensures ok { OnOk result (Whole (Yielded I.into_iter_gives I.IntoIter.next_gives pairs) hstore shown_entries (B.held buf.old) (B.held buf.new)) }
     ensures err { OnErr result (IsFrontOf (B.held buf.old) (B.held buf.new)) }
-    ensures cause { IfErr result (λ e. WantsValue (Came I.into_iter_gives I.IntoIter.next_gives pairs) hstore shown_entries B.Lacks (B.held buf.old) e ⊎ Stops (Came I.into_iter_gives I.IntoIter.next_gives pairs) hstore shown_entries e) }
+    ensures cause { IfErr result (λ e. WantsValue (Yielded I.into_iter_gives I.IntoIter.next_gives pairs) hstore shown_entries B.Lacks (B.held buf.old) e ⊎ Stops (Yielded I.into_iter_gives I.IntoIter.next_gives pairs) hstore shown_entries e) }
 {
     let base = buf.len();
     put_u32(buf, 0)?;
@@ -79,7 +79,7 @@ pub fn hstore_to_sql<'a, B: Buffer, I: IntoIterator<Item = (&'a str, Option<&'a 
 where
     I::IntoIter: Drop,
     requires { IsFiniteIterable I.into_iter_gives I.IntoIter.can_next I.IntoIter.remaining pairs }
-    ensures { WritesAll (Came I.into_iter_gives I.IntoIter.next_gives pairs) hstore shown_entries B.Lacks (B.held buf.old) result (B.held buf.new) }
+    ensures { WritesAll (Yielded I.into_iter_gives I.IntoIter.next_gives pairs) hstore shown_entries B.Lacks (B.held buf.old) result (B.held buf.new) }
 {
     let start = buf.len();
     match fill_hstore(pairs, buf) {

@@ -6,7 +6,7 @@
 ghost use Rattle.std.specs.Prelude.{◌≡◌, ◌≤◌, ◌⊎◌, ℕ, length, OnOk, OnErr, IfOk, IfErr};
 ghost use Rattle.std.specs.Iterator.{IsFiniteIterable};
 ghost use Rattle.pgp_base.specs.Held.{IsFrontOf};
-ghost use Rattle.pgp_base.specs.Calls.{Came};
+ghost use Rattle.pgp_base.specs.Calls.{Yielded};
 ghost use Rattle.pgp_base.specs.PartReading.{Answers};
 ghost use Rattle.pgp_types.specs.Format.{Reads};
 ghost use Rattle.pgp_types.specs.Given.{Whole, Stops, WritesAll, WantsValue};
@@ -118,9 +118,9 @@ fn fill_path<B: Buffer, I: IntoIterator<Item = (u64, u64)> + Drop>(
 where
     I::IntoIter: Drop,
     requires { IsFiniteIterable I.into_iter_gives I.IntoIter.can_next I.IntoIter.remaining points }
-    ensures ok { OnOk result (Whole (Came I.into_iter_gives I.IntoIter.next_gives points) path (path_of closed) (B.held buf.old) (B.held buf.new)) }
+    ensures ok { OnOk result (Whole (Yielded I.into_iter_gives I.IntoIter.next_gives points) path (path_of closed) (B.held buf.old) (B.held buf.new)) }
     ensures err { OnErr result (IsFrontOf (B.held buf.old) (B.held buf.new)) }
-    ensures cause { IfErr result (λ e. WantsValue (Came I.into_iter_gives I.IntoIter.next_gives points) path (path_of closed) B.Lacks (B.held buf.old) e ⊎ Stops (Came I.into_iter_gives I.IntoIter.next_gives points) path (path_of closed) e) }
+    ensures cause { IfErr result (λ e. WantsValue (Yielded I.into_iter_gives I.IntoIter.next_gives points) path (path_of closed) B.Lacks (B.held buf.old) e ⊎ Stops (Yielded I.into_iter_gives I.IntoIter.next_gives points) path (path_of closed) e) }
 {
     bool_to_sql(closed, buf)?;
     let base = buf.len();
@@ -151,7 +151,7 @@ pub fn path_to_sql<B: Buffer, I: IntoIterator<Item = (u64, u64)> + Drop>(
 where
     I::IntoIter: Drop,
     requires { IsFiniteIterable I.into_iter_gives I.IntoIter.can_next I.IntoIter.remaining points }
-    ensures { WritesAll (Came I.into_iter_gives I.IntoIter.next_gives points) path (path_of closed) B.Lacks (B.held buf.old) result (B.held buf.new) }
+    ensures { WritesAll (Yielded I.into_iter_gives I.IntoIter.next_gives points) path (path_of closed) B.Lacks (B.held buf.old) result (B.held buf.new) }
 {
     let start = buf.len();
     match fill_path(closed, points, buf) {

@@ -92,12 +92,12 @@ module _ {B K : Type 0} (held : B → Held K) where
 module _ (name sql : List ℕ) (types : List ℕ → Option ℕ → Type 0) (all_types : (xs : List ℕ) → types xs None → xs ≡ []) (some_types : (xs : List ℕ) (x : ℕ) → types xs (Some x) → ⊥) {K : Type 0} (lacks : Held K → ℕ → Type 0) (old : Held K) where
   -- no type came so far
   asked_none : (before : List ℕ) (next : Option ℕ) (ts : List ℕ) → types before next → ts ≡ before ++ option_to_list next → ts ≡ []
-  asked_none before None ts came are = are ∙ (append-nil before ∙ all_types before came)
-  asked_none before (Some x) ts came are = absurd (some_types before x came)
+  asked_none before None ts received are = are ∙ (append-nil before ∙ all_types before received)
+  asked_none before (Some x) ts received are = absurd (some_types before x received)
 
   none_so_far : (ts : List ℕ) → Arrived types Oids ts → ts ≡ []
   none_so_far ts (inl none) = none
-  none_so_far ts (inr came) = asked_none came.before came.next ts came.came came.are
+  none_so_far ts (inr received) = asked_none received.before received.next ts received.received received.are
 
   pub parse_refused : (e : Error) → Refused (ParseWhole name sql types) (ParseSoFar name sql types) lacks old e → RefusesMessage (Parse name sql []) lacks old e
   parse_refused e (inl (m, so_far, why)) =

@@ -5,9 +5,9 @@ use Rattle.pgp_client.specs.declared.event.Event.{Event}
 use Rattle.pgp_message.specs.BackendMessage.{Message, DataRow}
 use Rattle.pgp_message.specs.Views.{view}
 use Rattle.pgp_message.specs.declared.message as code
-use Rattle.pgp_uses.specs.Client.{IsSo, came_as, came_if, is_part, row_of}
-use Rattle.pgp_uses.specs.declared.client.Came.{Came}
-use Rattle.pgp_uses.specs.declared.client.Came.TheVariants as came
+use Rattle.pgp_uses.specs.Client.{IsSo, received_as, received_if, is_part, row_of}
+use Rattle.pgp_uses.specs.declared.client.Received.{Received}
+use Rattle.pgp_uses.specs.declared.client.Received.TheVariants as received
 use Rattle.pgp_message.specs.Stream.{IsPartial, TakesFrame}
 use Rattle.pgp_session.specs.Connection.{Comes, IsCut, Nexts, Shown, nexted, Took, TookEnd, with_incoming}
 use Rattle.pgp_session.specs.declared.connection_error.ConnectionError.{ConnectionError}
@@ -36,15 +36,15 @@ pub some_given : {A B : Type 0} (lacks : Type 0) (old new : Shown) (o : Option (
 some_given {A} {B} lacks old new o e m is n = one_comes {A = A} lacks old new e (view m) (subst (λ (x : Option (Event × code.Message.Message B)). Nexts {A = A} lacks old new (nexted {A = B} {E = ConnectionError A} (Ok x))) is n)
 
 module _ {A : Type 0} where
-  no_row : (e : Event) (m : Message) → came.Nothing ≡ row_of {A = A} e m → ⊥
+  no_row : (e : Event) (m : Message) → received.Nothing ≡ row_of {A = A} e m → ⊥
   no_row e (DataRow row) is = cc
   no_row e m is = cc
 
-  not_nothing : (b : Bool) (e : Event) (m : Message) → came.Nothing ≡ came_if {A = A} b e m → ⊥
+  not_nothing : (b : Bool) (e : Event) (m : Message) → received.Nothing ≡ received_if {A = A} b e m → ⊥
   not_nothing true e m is = no_row e m is
   not_nothing false e m is = cc
 
-  pub is_so : (name : ℕ) (c : Came A) (old new : Shown) (e : Event) (m : Message) → c ≡ came_as {A = A} name e m → Taken old new e m → IsSo name c old new
-  is_so name came.Nothing old new e m is t = absurd (not_nothing (is_part name e) e m is)
-  is_so name (came.Row row) old new e m is t = (m, t.rest, e, t.frame, t.took, is)
-  is_so name (came.Other f) old new e m is t = (m, t.rest, e, t.frame, t.took, is)
+  pub is_so : (name : ℕ) (c : Received A) (old new : Shown) (e : Event) (m : Message) → c ≡ received_as {A = A} name e m → Taken old new e m → IsSo name c old new
+  is_so name received.Nothing old new e m is t = absurd (not_nothing (is_part name e) e m is)
+  is_so name (received.Row row) old new e m is t = (m, t.rest, e, t.frame, t.took, is)
+  is_so name (received.Other f) old new e m is t = (m, t.rest, e, t.frame, t.took, is)

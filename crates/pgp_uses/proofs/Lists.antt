@@ -74,8 +74,8 @@ module _ {F B K : Type 0} (held : B → Held K) (step : F → Bor (Option ℤ) �
         → new ≡ old ⊕ array_bytes (record { dimensions = d ∷ []; element_type = type; elements = map (option_map int4.written) values })
     array_ok new w =
         let made = w.made in
-        let are : w.array.elements ≡ map (option_map int4.written) values = runs_are _ f made.xs w.array.elements last made.runs ∙ ap (λ xs. map (option_map int4.written) xs) (all_elements made.xs made.came) in
-        w.appended ∙ ap (λ (a : Array). old ⊕ array_bytes a) (same_array w.array.dimensions (d ∷ []) w.array.element_type type w.array.elements (map (option_map int4.written) values) (all_dimensions w.array.dimensions w.came) w.type are)
+        let are : w.array.elements ≡ map (option_map int4.written) values = runs_are _ f made.xs w.array.elements last made.runs ∙ ap (λ xs. map (option_map int4.written) xs) (all_elements made.xs made.received) in
+        w.appended ∙ ap (λ (a : Array). old ⊕ array_bytes a) (same_array w.array.dimensions (d ∷ []) w.array.element_type type w.array.elements (map (option_map int4.written) values) (all_dimensions w.array.dimensions w.received) w.type are)
 
     -- the whole array's bytes, and a growth that they need
     abbrev whole : List ℕ
@@ -96,12 +96,12 @@ module _ {F B K : Type 0} (held : B → Held K) (step : F → Bor (Option ℤ) �
         wants_more old _ _ (omega (arith, front, all, some, cut, first, least, length-append (nullable (option_map int4.written x)) (flat_map nullable (map (option_map int4.written) more)))) w
 
     few_asked : (before : List ArrayDimension) (next : Option ArrayDimension) (ds : List ArrayDimension) → dimensions before next → ds ≡ before ++ option_to_list next → length ds ≤ 1
-    few_asked before None ds came are = let n = ap (λ l. length l) are in let m = ap (λ l. length l) (all_dimensions before came) in omega (arith, n, m, length-append before [])
-    few_asked before (Some x) ds came are = let n = ap (λ l. length l) are in let m = ap (λ l. length l) (some_dimensions before x came) in omega (arith, n, m, length-append before (x ∷ []))
+    few_asked before None ds received are = let n = ap (λ l. length l) are in let m = ap (λ l. length l) (all_dimensions before received) in omega (arith, n, m, length-append before [])
+    few_asked before (Some x) ds received are = let n = ap (λ l. length l) are in let m = ap (λ l. length l) (some_dimensions before x received) in omega (arith, n, m, length-append before (x ∷ []))
 
     few_of : (ds : List ArrayDimension) → SoFar dimensions ds → length ds ≤ 1
     few_of ds (inl none) = let n = ap (λ l. length l) none in omega (arith, n)
-    few_of ds (inr asked) = few_asked asked.before asked.next ds asked.came asked.are
+    few_of ds (inr asked) = few_asked asked.before asked.next ds asked.received asked.are
 
     head_needs : (ds : List ArrayDimension) → SoFar dimensions ds → Wants lacks old (12 + 8 * length ds) → Wants lacks old (length whole)
     head_needs ds so_far w = head_wants (d ∷ []) type old (length ds) (map (option_map int4.written) values) (few_of ds so_far) w
@@ -111,21 +111,21 @@ module _ {F B K : Type 0} (held : B → Held K) (step : F → Bor (Option ℤ) �
     array_refused (Conversion e) (inr at) =
         let s = at.stops in
         let m = s.refused.1 in
-        let k = some_elements s.xs s.x s.came in
+        let k = some_elements s.xs s.x s.received in
         let no = no_cause lacks s.x.now (held m.before.now) (held m.after.now) e (does s.at last s.x m.before m.after (Err e) m.called) in
         let bytes = int4.written no.0 in
         let least : length (nullable (Some bytes)) ≤ length (nullable (option_map int4.written s.x.now)) = let n = ap (λ v. length (nullable (option_map int4.written v))) no.1 in omega (arith, n) in
-        let here = ap (λ ds. before_elements old ds type ⊕ flat_map nullable s.made) (all_dimensions at.all at.came) in
+        let here = ap (λ ds. before_elements old ds type ⊕ flat_map nullable s.made) (all_dimensions at.all at.received) in
         let wants = element_wants (d ∷ []) type old _ s.made (Some bytes) (length (nullable (Some bytes))) here (omega arith) (sized_wants bytes 0 _ (held m.before.now) m.stood no.2.1) in
         (no.2.0, front_wants (map (λ x. x.now) s.xs) s.x.now k.0 s.made (Some bytes) k.1 (runs_are _ f s.xs s.made s.at s.runs) least wants)
     array_refused (Serialization e) (inl head) = elim head.0 [
       | inl memory ↦ let so_far = memory.1 in (memory.0, head_needs so_far.0 so_far.1 so_far.2)
-      | inr past ↦ let p = past.0 in absurd (omega (arith, p.full, ap length (some_dimensions p.before p.last p.came)))
+      | inr past ↦ let p = past.0 in absurd (omega (arith, p.full, ap length (some_dimensions p.before p.last p.received)))
     ]
     array_refused (Serialization e) (inr at) =
         let s = at.stops in
-        let k = some_elements s.xs s.x s.came in
-        let here = ap (λ ds. before_elements old ds type ⊕ flat_map nullable s.made) (all_dimensions at.all at.came) in
+        let k = some_elements s.xs s.x s.received in
+        let here = ap (λ ds. before_elements old ds type ⊕ flat_map nullable s.made) (all_dimensions at.all at.received) in
         elim s.refused [
           | inl memory ↦
               let wants = element_wants (d ∷ []) type old _ s.made None 4 here (nullable_least None) memory.0.1 in

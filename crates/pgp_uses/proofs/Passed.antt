@@ -25,37 +25,37 @@ frame_size f = omega arith
 at_least : (m n : ℕ) → pos m ≤ℤ pos n → m ≤ n
 at_least m n le = elim (leb_tells m n) [ inl w ↦ w.1 | inr w ↦ absurd (subst T w.0 le.le) ]
 
-passes : {K : Type 0} (limit : ℤ) (came : List ℕ) (tag : ℕ) (len : ℤ) (size : ℕ) (old new : Held K)
-    → IsBytes came → IsHeader came (header_part tag len) → pos 4 ≤ℤ len → len ≤ℤ limit → size ≡ nat_abs len + 1 → size ≤ length came → new ≡ old ⊕ take size came → PassesFrame limit came size old new
-passes limit came tag (pos n) size old new bytes is least within total there passed =
-    let header : BeginsWithHeader came = record { tag = tag; len = n; rest = is.rest; fits = omega (arith, is.fits); parts = is.parts ∙ ap (λ l. tag ∷ l ++ is.rest) (int32_pos n) } in
+passes : {K : Type 0} (limit : ℤ) (received : List ℕ) (tag : ℕ) (len : ℤ) (size : ℕ) (old new : Held K)
+    → IsBytes received → IsHeader received (header_part tag len) → pos 4 ≤ℤ len → len ≤ℤ limit → size ≡ nat_abs len + 1 → size ≤ length received → new ≡ old ⊕ take size received → PassesFrame limit received size old new
+passes limit received tag (pos n) size old new bytes is least within total there passed =
+    let header : BeginsWithHeader received = record { tag = tag; len = n; rest = is.rest; fits = omega (arith, is.fits); parts = is.parts ∙ ap (λ l. tag ∷ l ++ is.rest) (int32_pos n) } in
     let four : 4 ≤ n = at_least 4 n least in
-    let announces : announced came ≡ n = header_announced came header in
-    let whole_there : n + 1 ≤ length came = omega (arith, total, there) in
-    let front = cut came n bytes header.fits (sym announces) four whole_there in
-    let frame = front_frame (front_of came n) came in
-    let payload_size : length frame.payload + 4 ≡ n = omega (arith, length-drop 5 (take (n + 1) came), length-take (n + 1) came, whole_there, four) in
+    let announces : announced received ≡ n = header_announced received header in
+    let whole_there : n + 1 ≤ length received = omega (arith, total, there) in
+    let front = cut received n bytes header.fits (sym announces) four whole_there in
+    let frame = front_frame (front_of received n) received in
+    let payload_size : length frame.payload + 4 ≡ n = omega (arith, length-drop 5 (take (n + 1) received), length-take (n + 1) received, whole_there, four) in
     let size_is : size ≡ length (frame_bytes frame) = omega (arith, frame_size frame, payload_size, total) in
-    let same : take size came ≡ frame_bytes frame = ap (λ k. take k came) size_is ∙ (ap (take (length (frame_bytes frame))) front.whole ∙ take-append_seam (frame_bytes frame) (drop (n + 1) came)) in
+    let same : take size received ≡ frame_bytes frame = ap (λ k. take k received) size_is ∙ (ap (take (length (frame_bytes frame))) front.whole ∙ take-append_seam (frame_bytes frame) (drop (n + 1) received)) in
     record {
       frame = frame;
-      rest = drop (n + 1) came;
+      rest = drop (n + 1) received;
       whole = front.whole;
       fits = front.fits;
       within = rw payload_size within;
       size_is = size_is;
       passed = passed ∙ ap (λ p. old ⊕ p) same;
     }
-passes limit came tag (negsuc n) size old new bytes is least within total there passed = absurd least.le
+passes limit received tag (negsuc n) size old new bytes is least within total there passed = absurd least.le
 
-pub passes_frame : {K : Type 0} (limit : ℤ) (came : List ℕ) (header : HeaderPart) (size : ℕ) (old new : Held K)
-    → IsBytes came → IsHeader came header → pos 4 ≤ℤ header.len → header.len ≤ℤ limit → size ≡ nat_abs header.len + 1 → size ≤ length came → new ≡ old ⊕ take size came → PassesFrame limit came size old new
-passes_frame limit came header size old new = passes limit came header.tag header.len size old new
+pub passes_frame : {K : Type 0} (limit : ℤ) (received : List ℕ) (header : HeaderPart) (size : ℕ) (old new : Held K)
+    → IsBytes received → IsHeader received header → pos 4 ≤ℤ header.len → header.len ≤ℤ limit → size ≡ nat_abs header.len + 1 → size ≤ length received → new ≡ old ⊕ take size received → PassesFrame limit received size old new
+passes_frame limit received header size old new = passes limit received header.tag header.len size old new
 
 -- a growth by it was refused
-lacks_at : {K : Type 0} (lacks : Held K → ℕ → Type 0) (limit : ℤ) (came : List ℕ) (tag : ℕ) (len : ℤ) (size : ℕ) (old : Held K)
-    → IsHeader came (header_part tag len) → pos 4 ≤ℤ len → len ≤ℤ limit → size ≡ nat_abs len + 1 → size ≤ length came → lacks old (length (take size came)) → LacksFrame limit came lacks old
-lacks_at lacks limit came tag (pos n) size old is least within total there refused = record {
+lacks_at : {K : Type 0} (lacks : Held K → ℕ → Type 0) (limit : ℤ) (received : List ℕ) (tag : ℕ) (len : ℤ) (size : ℕ) (old : Held K)
+    → IsHeader received (header_part tag len) → pos 4 ≤ℤ len → len ≤ℤ limit → size ≡ nat_abs len + 1 → size ≤ length received → lacks old (length (take size received)) → LacksFrame limit received lacks old
+lacks_at lacks limit received tag (pos n) size old is least within total there refused = record {
   header = header_part tag (pos n);
   begins = is;
   least = least;
@@ -63,10 +63,10 @@ lacks_at lacks limit came tag (pos n) size old is least within total there refus
   len = n;
   len_is = refl;
   whole = omega (arith, total, there);
-  refused = subst (λ (k : ℕ). lacks old k) (length-take-le size came there ∙ total) refused;
+  refused = subst (λ (k : ℕ). lacks old k) (length-take-le size received there ∙ total) refused;
 }
-lacks_at lacks limit came tag (negsuc n) size old is least within total there refused = absurd least.le
+lacks_at lacks limit received tag (negsuc n) size old is least within total there refused = absurd least.le
 
-pub lacks_frame : {K : Type 0} (lacks : Held K → ℕ → Type 0) (limit : ℤ) (came : List ℕ) (header : HeaderPart) (size : ℕ) (old : Held K)
-    → IsHeader came header → pos 4 ≤ℤ header.len → header.len ≤ℤ limit → size ≡ nat_abs header.len + 1 → size ≤ length came → lacks old (length (take size came)) → LacksFrame limit came lacks old
-lacks_frame lacks limit came header size old = lacks_at lacks limit came header.tag header.len size old
+pub lacks_frame : {K : Type 0} (lacks : Held K → ℕ → Type 0) (limit : ℤ) (received : List ℕ) (header : HeaderPart) (size : ℕ) (old : Held K)
+    → IsHeader received header → pos 4 ≤ℤ header.len → header.len ≤ℤ limit → size ≡ nat_abs header.len + 1 → size ≤ length received → lacks old (length (take size received)) → LacksFrame limit received lacks old
+lacks_frame lacks limit received header size old = lacks_at lacks limit received header.tag header.len size old

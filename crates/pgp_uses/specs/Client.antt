@@ -9,8 +9,8 @@ use Rattle.pgp_message.specs.Stream.{IsPartial, TakesFrame}
 use Rattle.pgp_session.specs.Connection.{Shown, Took, TookEnd, with_incoming}
 use Rattle.pgp_session.specs.Login.{Ways}
 use Rattle.pgp_session.specs.Session.{History, and_wrote, nothing}
-use Rattle.pgp_uses.specs.declared.client.Came.{Came}
-use Rattle.pgp_uses.specs.declared.client.Came.TheVariants as code
+use Rattle.pgp_uses.specs.declared.client.Received.{Received}
+use Rattle.pgp_uses.specs.declared.client.Received.TheVariants as code
 
 -- SCRAM-SHA-256 by this exchange, and no other way
 abbrev pub scram_alone : Client → Ways
@@ -25,19 +25,19 @@ abbrev pub is_part : ℕ → Event → Bool
 is_part name (Part n) = n == name
 is_part name e = false
 
-abbrev pub row_of : {A : Type 0} → Event → Message → Came A
+abbrev pub row_of : {A : Type 0} → Event → Message → Received A
 row_of e (DataRow row) = code.Row row
 row_of e m = code.Other e
 
-abbrev pub came_if : {A : Type 0} → Bool → Event → Message → Came A
-came_if true e m = row_of e m
-came_if false e m = code.Other e
+abbrev pub received_if : {A : Type 0} → Bool → Event → Message → Received A
+received_if true e m = row_of e m
+received_if false e m = code.Other e
 
-abbrev pub came_as : {A : Type 0} → ℕ → Event → Message → Came A
-came_as name e m = came_if (is_part name e) e m
+abbrev pub received_as : {A : Type 0} → ℕ → Event → Message → Received A
+received_as name e m = received_if (is_part name e) e m
 
 -- What the next message is: none is complete; or one was taken, and is a row of the request, or not.
-abbrev pub IsSo : {A : Type 0} → ℕ → Came A → Shown → Shown → Type 0
+abbrev pub IsSo : {A : Type 0} → ℕ → Received A → Shown → Shown → Type 0
 IsSo name code.Nothing old new = IsPartial old.incoming × (new ≡ old)
-IsSo {A} name came old new = (m : Message) × (rest : List ℕ) × (e : Event) × TakesFrame old.incoming (Ok m) rest
-    × (Took m (with_incoming rest old) new e ⊎ TookEnd m (with_incoming rest old) new e) × (came ≡ came_as {A = A} name e m)
+IsSo {A} name received old new = (m : Message) × (rest : List ℕ) × (e : Event) × TakesFrame old.incoming (Ok m) rest
+    × (Took m (with_incoming rest old) new e ⊎ TookEnd m (with_incoming rest old) new e) × (received ≡ received_as {A = A} name e m)

@@ -4,7 +4,7 @@ ghost use Rattle.std.specs.Prelude.{◌≡◌, IfOk};
 ghost use Rattle.pgp_message.specs.Views.{view};
 ghost use Rattle.pgp_session.specs.Connection.{shown};
 ghost use Rattle.pgp_session.specs.Session.{Known};
-ghost use Rattle.pgp_uses.specs.Client.{IsSo, came_as, opened, scram_alone};
+ghost use Rattle.pgp_uses.specs.Client.{IsSo, received_as, opened, scram_alone};
 
 use bytes::Bytes;
 use pgp_base::Memory;
@@ -16,7 +16,7 @@ use std::alloc::{Allocator, Global};
 
 /// What the next message is to a client that awaits the rows of a request.
 #[derive(Drop)]
-pub enum Came<A: Allocator = Global> {
+pub enum Received<A: Allocator = Global> {
     /// No message is complete.
     Nothing,
     /// A row of the request.
@@ -59,29 +59,29 @@ pub fn connect<'a, A: Memory>(
 pub fn next_row<A: Memory>(
     connection: &mut Connection<'_, A>,
     name: u64,
-) -> Result<Came<A>, ConnectionError<A>>
-    ensures { IfOk result (λ came. IsSo name came (shown connection.old) (shown connection.new)) }
+) -> Result<Received<A>, ConnectionError<A>>
+    ensures { IfOk result (λ received. IsSo name received (shown connection.old) (shown connection.new)) }
 {
     match connection.next() {
-        Ok(None) => Ok(Came::Nothing),
-        Ok(Some((event, message))) => Ok(came_as(event, message, name)),
+        Ok(None) => Ok(Received::Nothing),
+        Ok(Some((event, message))) => Ok(received_as(event, message, name)),
         Err(e) => Err(e),
     }
 }
 
 /// What a message of this event is to a client that awaits the rows of a request.
-fn came_as<A: Memory>(event: Event, message: Message<Bytes<A>>, name: u64) -> Came<A>
-    ensures { result ≡ came_as name event (view message) }
+fn received_as<A: Memory>(event: Event, message: Message<Bytes<A>>, name: u64) -> Received<A>
+    ensures { result ≡ received_as name event (view message) }
 {
     if event != Event::Part(name) {
         drop(message);
-        return Came::Other(event);
+        return Received::Other(event);
     }
     match message {
-        Message::DataRow(row) => Came::Row(row),
+        Message::DataRow(row) => Received::Row(row),
         other => {
             drop(other);
-            Came::Other(event)
+            Received::Other(event)
         }
     }
 }

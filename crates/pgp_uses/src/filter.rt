@@ -17,17 +17,21 @@ pub enum FilterError {
     OutOfMemory,
 }
 
-/// Passes the frame at the front of `came` on, and returns how many bytes it takes; `None` where more has to come.
+/// Passes the frame at the front of `received` on, and returns how many bytes it takes; `None` where more has to come.
 /// The limit is on the length that a header announces, which counts its own four bytes. A frame past it is
 /// rejected once its header has come.
 ///
 /// # Errors
 ///
 /// Returns `PastLimit` and `InvalidLength` by the header; `OutOfMemory`. Nothing was passed on then.
-pub fn pass<B: Buffer>(limit: i32, came: &[u8], out: &mut B) -> Result<Option<usize>, FilterError>
-    ensures { Passes limit came.now B.Lacks (B.held out.old) (B.held out.new) result }
+pub fn pass<B: Buffer>(
+    limit: i32,
+    received: &[u8],
+    out: &mut B,
+) -> Result<Option<usize>, FilterError>
+    ensures { Passes limit received.now B.Lacks (B.held out.old) (B.held out.new) result }
 {
-    let header = match Header::parse(came) {
+    let header = match Header::parse(received) {
         Ok(Some(header)) => header,
         Ok(None) => return Ok(None),
         Err(_) => return Err(FilterError::InvalidLength),
@@ -36,10 +40,10 @@ pub fn pass<B: Buffer>(limit: i32, came: &[u8], out: &mut B) -> Result<Option<us
         return Err(FilterError::PastLimit);
     }
     let total = header.len() as usize + 1;
-    if came.len() < total {
+    if received.len() < total {
         return Ok(None);
     }
-    match out.append(&came[..total]) {
+    match out.append(&received[..total]) {
         Ok(()) => Ok(Some(total)),
         Err(_) => Err(FilterError::OutOfMemory),
     }

@@ -11,7 +11,7 @@ use Rattle.pgp_base.proofs.Parts.{length-uint16, int16_spelled}
 use Rattle.pgp_values.specs.Amount.{spelled, before_point, behind_by}
 use Rattle.pgp_values.specs.Decimal.{Decimal, laid_out, IsDecimal, IsDigits, HasNoZeroEnds, last_of}
 use Rattle.pgp_values.specs.DecimalText.{run}
-use Rattle.pgp_values.specs.DecimalWriting.{Told, told_by, places_of, raised, lowered, digit_value, IsNumberOf}
+use Rattle.pgp_values.specs.DecimalWriting.{Reported, reported_by, places_of, raised, lowered, digit_value, IsNumberOf}
 use Rattle.pgp_values.specs.NumberGroups.{power_digit, group_value, group_down, IsWeight, IsPastWeights, NoneFrom, NoneTo}
 use Rattle.pgp_values.specs.NumberMeaning.{IsValueOf}
 use Rattle.pgp_values.proofs.AmountLemmas.{run_split, run_shift, spelled_append, spelled_more, spelled_behind, spelled_zeros, power_four}
@@ -227,9 +227,9 @@ power_at ds point i lt =
     rw (lt-ltb (point - 1 - i) point less, at) refl
 
 -- What is written is the number.
-module _ (negative : Bool) (whole fraction : List ℕ) (divided : Bool) (exponent : ℕ) (weight : ℤ) (scale : ℕ) (shown : scale ≡ places_of (told_by negative whole fraction divided exponent)) (fits : scale ≤ 16383) (small : exponent < 1073741823) where
-  abbrev told : Told
-  told = told_by negative whole fraction divided exponent
+module _ (negative : Bool) (whole fraction : List ℕ) (divided : Bool) (exponent : ℕ) (weight : ℤ) (scale : ℕ) (shown : scale ≡ places_of (reported_by negative whole fraction divided exponent)) (fits : scale ≤ 16383) (small : exponent < 1073741823) where
+  abbrev reported : Reported
+  reported = reported_by negative whole fraction divided exponent
 
   abbrev values : List ℕ
   values = map digit_value (whole ++ fraction)
@@ -264,7 +264,7 @@ module _ (negative : Bool) (whole fraction : List ℕ) (divided : Bool) (exponen
     last_some : group_down values point top (n - 1) ≢ 0
     last_some = group_some values point (top - (n - 1)) (point - 1 - last) (omega arith) (omega arith) (λ z. some_last (sym (power_at values point last (omega arith)) ∙ z))
 
-    pub number_value : IsValueOf told number
+    pub number_value : IsValueOf reported number
     number_value = record {
       fits = record { weight = weight_fits weight top is_weight; scale = fits; count = rw digits_count count; digits = groups_digits values (values_small (whole ++ fraction)) point top 0 n };
       means = record { same = same; scale = shown; sign = inl refl };
@@ -272,7 +272,7 @@ module _ (negative : Bool) (whole fraction : List ℕ) (divided : Bool) (exponen
       small = small;
     }
 
-  pub zero_value : NoneTo (length values) values → weight ≡ pos 0 → IsValueOf told (record { negative = false; weight = weight; scale = scale; digits = [] })
+  pub zero_value : NoneTo (length values) values → weight ≡ pos 0 → IsValueOf reported (record { negative = false; weight = weight; scale = scale; digits = [] })
   zero_value none at =
       let nothing : spelled 10 values ≡ 0 = ap (spelled 10) (sym (list_run values)) ∙ spelled_zeros (λ i. get_or values i 0) 0 (length values) (λ i a b. none i (omega arith)) in
       rw at (record {
@@ -284,7 +284,7 @@ module _ (negative : Bool) (whole fraction : List ℕ) (divided : Bool) (exponen
 
 -- What no numeric holds.
 
-pub scale_past : (t : Told) (places : ℕ) → places ≡ places_of t → 16383 < places → (d : Decimal) → IsDecimal d → IsNumberOf t d → ⊥
+pub scale_past : (t : Reported) (places : ℕ) → places ≡ places_of t → 16383 < places → (d : Decimal) → IsDecimal d → IsNumberOf t d → ⊥
 scale_past t places is past d fits n = omega (arith, n.scale, fits.scale)
 
 -- digits spell at least what the first that isn't 0 counts, and less than one more of as many
@@ -335,7 +335,7 @@ module _ (negative : Bool) (whole fraction : List ℕ) (divided : Bool) (exponen
   count_is = length-map (whole ++ fraction) digit_value ∙ length-append whole fraction
 
   pub weight_past : first < length counted → get_or counted first 0 ≢ 0 → point + lowered divided exponent ≡ 2 ^ 31 + length whole + raised divided exponent → top ≡ (point - 1 - first) / 4
-      → (scale : ℕ) → scale ≤ 16383 → scale ≡ places_of (told_by negative whole fraction divided exponent) → IsPastWeights top → (d : Decimal) → IsDecimal d → IsNumberOf (told_by negative whole fraction divided exponent) d → ⊥
+      → (scale : ℕ) → scale ≤ 16383 → scale ≡ places_of (reported_by negative whole fraction divided exponent) → IsPastWeights top → (d : Decimal) → IsDecimal d → IsNumberOf (reported_by negative whole fraction divided exponent) d → ⊥
   weight_past inside some point_is top_is scale fit shown (inr low) d fits n = omega (arith, count_is)
   weight_past inside some point_is top_is scale fit shown (inl high) d fits n =
       let least = spelled_least counted first inside some in

@@ -9,7 +9,7 @@ use Rattle.pgp_base.proofs.Parts.{left_same}
 use Rattle.pgp_values.specs.declared.error.NumericError.{NumericError}
 use Rattle.pgp_values.specs.declared.error.NumericError.TheVariants.{InvalidText, OutOfRange}
 use Rattle.pgp_values.specs.Decimal.{Decimal, IsDecimal, Numeric, finite}
-use Rattle.pgp_values.specs.DecimalWriting.{Told, told_by, IsNumberOf}
+use Rattle.pgp_values.specs.DecimalWriting.{Reported, reported_by, IsNumberOf}
 use Rattle.pgp_values.specs.NumberMeaning.{limit, IsValueOf, NumberMeans, NumberRefused, TextMeans, TextRefused, WritesMeant}
 use Rattle.pgp_values.specs.NumberText.{IsBlank, IsDigit, NumberText, IsBlanked, Spells, Tells, Names, lower, nan_word, inf_word, infinity_word, infinity_of, SpecialText}
 use Rattle.pgp_values.specs.NumberScan.{NotAt, NotEnd, Trimmed, IsSign, SignFront, Special, WrittenRefused}
@@ -54,7 +54,7 @@ module _ (bytes : List ℕ) (n : Bool) (w f : List ℕ) (d : Bool) (x : ℕ) (t 
           rw same (ends_digits w t.are_whole (λ z. t.some (omega (arith, z, ap length e.1))))
     ]
     | inr r ↦
-        let last : Ends r.marked = rw r.tells.whole (ends_append r.tells.sign r.tells.digits (ends_digits r.tells.digits r.tells.are r.tells.some)) in
+        let last : Ends r.marked = rw r.reports.whole (ends_append r.reports.sign r.reports.digits (ends_digits r.reports.digits r.reports.are r.reports.some)) in
         let behind : Ends t.raised = rw r.all (ends_append (r.letter ∷ []) (r.blanks ++ r.marked) (ends_append r.blanks r.marked last)) in
         ends_append w (t.point ++ t.raised) (ends_append t.point t.raised behind)
   ]
@@ -152,13 +152,13 @@ module _ (text inside : List ℕ) (t : Trimmed text inside) where
       let one = munch IsBlank b.before t.before (other ++ b.after) t.front b.are_before t.begins.are (not_at_append IsBlank other b.after end.some at) t.begins.stops (sym b.all ∙ t.begins.all) in
       munch_back IsBlank other inside b.after t.after b.are_after t.are end.stops t.stops (one.1 ∙ t.all)
 
-  told_inside : (n : Told) → Tells text n → Spells inside n
-  told_inside n w = subst (λ l. Spells l n) (same_inside w.inside w.blanked (begins_number w.inside n.negative w.spells.whole w.spells.fraction n.divided n.exponent w.spells.number) (ends_number w.inside n.negative w.spells.whole w.spells.fraction n.divided n.exponent w.spells.number)) w.spells
+  reported_inside : (n : Reported) → Tells text n → Spells inside n
+  reported_inside n w = subst (λ l. Spells l n) (same_inside w.inside w.blanked (begins_number w.inside n.negative w.spells.whole w.spells.fraction n.divided n.exponent w.spells.number) (ends_number w.inside n.negative w.spells.whole w.spells.fraction n.divided n.exponent w.spells.number)) w.spells
 
   named_inside : (v : Numeric) → Names text v → SpecialText inside v
   named_inside v w = subst (λ l. SpecialText l v) (same_inside w.inside w.blanked (special_begins w.inside v w.names) (special_ends w.inside v w.names)) w.names
 
-  tells_of : (n : Told) → Spells inside n → Tells text n
+  tells_of : (n : Reported) → Spells inside n → Tells text n
   tells_of n s = record { inside = inside; blanked = blanked; spells = s }
 
   names_of : (v : Numeric) → SpecialText inside v → Names text v
@@ -168,7 +168,7 @@ module _ (text inside : List ℕ) (t : Trimmed text inside) where
   number_means short v m = (short, inl (m.0, tells_of m.0 m.1, m.2, m.3, m.4))
 
   text_refused : length text < limit → Special inside None → (e : NumericError) → NumberRefused inside e → TextRefused text e
-  text_refused short none InvalidText never = (short, ((λ n w. never n (told_inside n w)), (λ v w. none v (named_inside v w))))
+  text_refused short none InvalidText never = (short, ((λ n w. never n (reported_inside n w)), (λ v w. none v (named_inside v w))))
   text_refused short none OutOfRange w = inr (w.0, tells_of w.0 w.1, w.2)
   text_refused short none e never = absurd never
 
@@ -196,7 +196,7 @@ module _ (text inside : List ℕ) (t : Trimmed text inside) where
 
 pub refused_spells : (bytes : List ℕ) (e : NumericError) → WrittenRefused bytes e → NumberRefused bytes e
 refused_spells bytes InvalidText never = λ t s. never t.negative s.whole s.fraction t.divided t.exponent s.number
-refused_spells bytes OutOfRange w = (told_by w.0 w.1 w.2 w.3 w.4, record { whole = w.1; fraction = w.2; number = w.5; told = refl }, inl w.6)
+refused_spells bytes OutOfRange w = (reported_by w.0 w.1 w.2 w.3 w.4, record { whole = w.1; fraction = w.2; number = w.5; reported = refl }, inl w.6)
 refused_spells bytes e never = absurd never
 
 -- what is rejected with nothing appended
@@ -206,11 +206,11 @@ refused_whole Means Refused lacks old (Ok done) e is h p = let f : false ≡ tru
 refused_whole Means Refused lacks old (Err x) e is h p = (inr (subst Refused (sym h) p), left_same old old refl)
 
 module _ (bytes : List ℕ) (negative : Bool) (whole fraction : List ℕ) (divided : Bool) (exponent : ℕ) (n : NumberText bytes negative whole fraction divided exponent) where
-  spells : Spells bytes (told_by negative whole fraction divided exponent)
-  spells = record { whole = whole; fraction = fraction; number = n; told = refl }
+  spells : Spells bytes (reported_by negative whole fraction divided exponent)
+  spells = record { whole = whole; fraction = fraction; number = n; reported = refl }
 
-  pub number_meant : (d : Decimal) → IsValueOf (told_by negative whole fraction divided exponent) d → NumberMeans bytes (finite d)
-  number_meant d v = (told_by negative whole fraction divided exponent, spells, d, v, refl)
+  pub number_meant : (d : Decimal) → IsValueOf (reported_by negative whole fraction divided exponent) d → NumberMeans bytes (finite d)
+  number_meant d v = (reported_by negative whole fraction divided exponent, spells, d, v, refl)
 
-  pub number_past : (e : NumericError) → e ≡ OutOfRange → ((d : Decimal) → IsDecimal d → IsNumberOf (told_by negative whole fraction divided exponent) d → ⊥) → NumberRefused bytes e
-  number_past e is past = subst (NumberRefused bytes) (sym is) (told_by negative whole fraction divided exponent, spells, inr past)
+  pub number_past : (e : NumericError) → e ≡ OutOfRange → ((d : Decimal) → IsDecimal d → IsNumberOf (reported_by negative whole fraction divided exponent) d → ⊥) → NumberRefused bytes e
+  number_past e is past = subst (NumberRefused bytes) (sym is) (reported_by negative whole fraction divided exponent, spells, inr past)

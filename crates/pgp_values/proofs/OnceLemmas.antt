@@ -5,7 +5,7 @@ use Rattle.std.proofs.lemmas.Bool.{cases_order}
 use Rattle.std.proofs.lemmas.Nat.{pow-add}
 use Rattle.pgp_values.specs.Amount.{spelled, before_point, behind_by}
 use Rattle.pgp_values.specs.Decimal.{Decimal, IsDigits, HasNoZeroEnds, last_of}
-use Rattle.pgp_values.specs.DecimalWriting.{Told, raised, lowered}
+use Rattle.pgp_values.specs.DecimalWriting.{Reported, raised, lowered}
 use Rattle.pgp_values.specs.NumberMeaning.{IsValueOf}
 use Rattle.pgp_values.proofs.AmountLemmas.{power_four}
 use Rattle.pgp_values.proofs.GroupLemmas.{spelled_most}
@@ -174,7 +174,7 @@ made negative weight scale digits = record { negative = negative; weight = weigh
 made_same : (n m : Bool) (w z : ℤ) (s t : ℕ) (ds es : List ℕ) → n ≡ m → w ≡ z → s ≡ t → ds ≡ es → made n w s ds ≡ made m z t es
 made_same n m w z s t ds es a b c d = rw (a, b, c, d) refl
 
-number_one_by : (t : Told) (n m : Bool) (w z : ℤ) (s r : ℕ) (ds es : List ℕ) → IsValueOf t (made n w s ds) → IsValueOf t (made m z r es) → made n w s ds ≡ made m z r es
+number_one_by : (t : Reported) (n m : Bool) (w z : ℤ) (s r : ℕ) (ds es : List ℕ) → IsValueOf t (made n w s ds) → IsValueOf t (made m z r es) → made n w s ds ≡ made m z r es
 number_one_by t n m w z s r [] [] a b =
     let x = a.canonical.zero refl in
     let y = b.canonical.zero refl in
@@ -199,5 +199,5 @@ number_one_by t n m w z s r (d ∷ ds) (e ∷ es) a b =
     made_same n m w z s r (d ∷ ds) (e ∷ es) (sign_is d ds _ _ _ n t.negative a.canonical.ends.0 a.means.same a.means.sign ∙ sym (sign_is e es _ _ _ m t.negative b.canonical.ends.0 b.means.same b.means.sign))
     (weight_one w z (omega (arith, is.powers, size))) (a.means.scale ∙ sym b.means.scale) is.digits
 
-pub number_one : (t : Told) (d e : Decimal) → IsValueOf t d → IsValueOf t e → d ≡ e
+pub number_one : (t : Reported) (d e : Decimal) → IsValueOf t d → IsValueOf t e → d ≡ e
 number_one t d e a b = number_one_by t d.negative e.negative d.weight e.weight d.scale e.scale d.digits e.digits a b

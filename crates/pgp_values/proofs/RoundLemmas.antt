@@ -8,7 +8,7 @@ use Rattle.pgp_values.specs.declared.error.NumericError.TheVariants.{InvalidText
 use Rattle.pgp_values.specs.Amount.{spelled, IsShown, before_point, behind_by}
 use Rattle.pgp_values.specs.Decimal.{Decimal, Numeric, finite, nan, plus_infinity, minus_infinity, IsDecimal, IsDigits, IsCanonical}
 use Rattle.pgp_values.specs.DecimalText.{decimal_in, decimal_at, run, stripped, whole_places, whole_digits, behind_point, fraction_digits, text_digits, has_digit, shown_sign, letter, sign_text, fraction_text, decimal_text, numeric_text}
-use Rattle.pgp_values.specs.DecimalWriting.{Told, told_by, digit_value, IsNumberOf}
+use Rattle.pgp_values.specs.DecimalWriting.{Reported, reported_by, digit_value, IsNumberOf}
 use Rattle.pgp_values.specs.NumberMeaning.{IsValueOf, IsKept, IsPast, TellsOrNames, TextMeans, TextRefused}
 use Rattle.pgp_values.specs.NumberText.{IsBlank, IsDigit, SignText, PointText, MarkedText, ExponentText, NumberText, IsBlanked, Spells, Tells, Names, lower, inf_word, infinity_word, nan_word, infinity_of, SpecialText}
 use Rattle.pgp_values.specs.NumberScan.{NotAt, Front, Trimmed, SignFront, PointFront}
@@ -27,15 +27,15 @@ exponent_once d e x y r (inl a) (inr b) = absurd (let f : [] ≡ b.letter ∷ (b
 exponent_once d e x y r (inr a) (inl b) = absurd (let f : [] ≡ a.letter ∷ (a.blanks ++ a.marked) = sym b.0 ∙ a.all in cc)
 exponent_once d e x y r (inr a) (inr b) =
     let rest : a.blanks ++ a.marked ≡ b.blanks ++ b.marked = tails a.letter b.letter (a.blanks ++ a.marked) (b.blanks ++ b.marked) (sym a.all ∙ b.all) in
-    let one = munch IsBlank a.blanks b.blanks a.marked b.marked a.are b.are (marked_no_blank d x a.marked a.tells) (marked_no_blank e y b.marked b.tells) rest in
-    let m = subst (MarkedText d x) one.1 a.tells in
-    let same = marked_digits d e x b.marked b.tells.digits b.tells.digits [] m (marked_front e y b.marked b.tells) (record { are = b.tells.are; stops = tt; all = sym (append-nil b.tells.digits) }) in
-    (same.divided, m.counts ∙ (ap (λ l. spelled 10 (map digit_value l)) same.digits ∙ sym b.tells.counts))
+    let one = munch IsBlank a.blanks b.blanks a.marked b.marked a.are b.are (marked_no_blank d x a.marked a.reports) (marked_no_blank e y b.marked b.reports) rest in
+    let m = subst (MarkedText d x) one.1 a.reports in
+    let same = marked_digits d e x b.marked b.reports.digits b.reports.digits [] m (marked_front e y b.marked b.reports) (record { are = b.reports.are; stops = tt; all = sym (append-nil b.reports.digits) }) in
+    (same.divided, m.counts ∙ (ap (λ l. spelled 10 (map digit_value l)) same.digits ∙ sym b.reports.counts))
 
-told_same : (n m : Bool) (w v f g : List ℕ) (d e : Bool) (x y : ℕ) → n ≡ m → w ≡ v → f ≡ g → d ≡ e → x ≡ y → told_by n w f d x ≡ told_by m v g e y
-told_same n m w v f g d e x y a b c h k = rw (a, b, c, h, k) refl
+reported_same : (n m : Bool) (w v f g : List ℕ) (d e : Bool) (x y : ℕ) → n ≡ m → w ≡ v → f ≡ g → d ≡ e → x ≡ y → reported_by n w f d x ≡ reported_by m v g e y
+reported_same n m w v f g d e x y a b c h k = rw (a, b, c, h, k) refl
 
-spells_once : (bytes : List ℕ) (t u : Told) → Spells bytes t → Spells bytes u → t ≡ u
+spells_once : (bytes : List ℕ) (t u : Reported) → Spells bytes t → Spells bytes u → t ≡ u
 spells_once bytes t u s r =
     let n = r.number in
     let behind = n.point ++ n.raised in
@@ -43,7 +43,7 @@ spells_once bytes t u s r =
     let point : PointFront behind r.fraction n.raised = record { point = n.point; pointed = n.pointed; are = n.are_fraction; none = λ _. exponent_point u.divided u.exponent n.raised n.raises; stops = λ _. exponent_digit u.divided u.exponent n.raised n.raises; all = refl } in
     let same = number_parts bytes t.negative u.negative s.whole s.fraction t.divided t.exponent s.number (r.whole ++ behind) r.whole behind r.fraction n.raised (number_front bytes u.negative r.whole r.fraction u.divided u.exponent n) digits point in
     let exponents = exponent_once t.divided u.divided t.exponent u.exponent n.raised (subst (ExponentText t.divided t.exponent) same.rest s.number.raises) n.raises in
-    s.told ∙ (told_same t.negative u.negative s.whole r.whole s.fraction r.fraction t.divided u.divided t.exponent u.exponent same.negative same.whole same.fraction exponents.0 exponents.1 ∙ sym r.told)
+    s.reported ∙ (reported_same t.negative u.negative s.whole r.whole s.fraction r.fraction t.divided u.divided t.exponent u.exponent same.negative same.whole same.fraction exponents.0 exponents.1 ∙ sym r.reported)
 
 trimmed_of : (text inside : List ℕ) → IsBlanked text inside → NotAt IsBlank inside → Ends inside → Trimmed text inside
 trimmed_of text inside b at end = record {
@@ -56,8 +56,8 @@ trimmed_of text inside b at end = record {
   stops = end.stops;
 }
 
-pub told_once : (text : List ℕ) (t u : Told) → Tells text t → Tells text u → t ≡ u
-told_once text t u a b =
+pub reported_once : (text : List ℕ) (t u : Reported) → Tells text t → Tells text u → t ≡ u
+reported_once text t u a b =
     let at = begins_number b.inside u.negative b.spells.whole b.spells.fraction u.divided u.exponent b.spells.number in
     let end = ends_number b.inside u.negative b.spells.whole b.spells.fraction u.divided u.exponent b.spells.number in
     let from = begins_number a.inside t.negative a.spells.whole a.spells.fraction t.divided t.exponent a.spells.number in
@@ -114,25 +114,25 @@ no_word bytes n m w f d x t rest s word =
     let one = sign_once bytes n m (w ++ (t.point ++ t.raised)) rest (number_front bytes n w f d x t) s in
     word_at rest word (subst (NotAt IsLetter) one.1 (number_begins IsLetter digit_no_letter point_no_letter w f t.point t.raised t.are_whole t.pointed t.some))
 
-number_no_word : (bytes : List ℕ) (t : Told) (v : Numeric) → Spells bytes t → SpecialText bytes v → ⊥
+number_no_word : (bytes : List ℕ) (t : Reported) (v : Numeric) → Spells bytes t → SpecialText bytes v → ⊥
 number_no_word bytes t v s (inl a) = no_word bytes t.negative false s.whole s.fraction t.divided t.exponent s.number bytes (nan_front bytes a.0) (nan_is bytes a.0)
 number_no_word bytes t v s (inr a) = no_word bytes t.negative a.0 s.whole s.fraction t.divided t.exponent s.number a.3 (word_front bytes a.0 a.1 a.3 a.2 a.4 (inf_is a.3 a.5)) (inf_is a.3 a.5)
 
 named_inside : (text : List ℕ) (v w : Numeric) (a : Names text v) (b : Names text w) → SpecialText b.inside v
 named_inside text v w a b = subst (λ l. SpecialText l v) (same_inside text b.inside (trimmed_of text b.inside b.blanked (special_begins b.inside w b.names) (special_ends b.inside w b.names)) a.inside a.blanked (special_begins a.inside v a.names) (special_ends a.inside v a.names)) a.names
 
-told_no_name : (text : List ℕ) (t : Told) (v : Numeric) → Tells text t → Names text v → ⊥
-told_no_name text t v a b =
+reported_no_name : (text : List ℕ) (t : Reported) (v : Numeric) → Tells text t → Names text v → ⊥
+reported_no_name text t v a b =
     let from = begins_number a.inside t.negative a.spells.whole a.spells.fraction t.divided t.exponent a.spells.number in
     let to = ends_number a.inside t.negative a.spells.whole a.spells.fraction t.divided t.exponent a.spells.number in
     number_no_word b.inside t v (subst (λ l. Spells l t) (same_inside text b.inside (trimmed_of text b.inside b.blanked (special_begins b.inside v b.names) (special_ends b.inside v b.names)) a.inside a.blanked from to) a.spells) b.names
 
 one_meant : (text : List ℕ) (v w : Numeric) → TellsOrNames text v → TellsOrNames text w → v ≡ w
 one_meant text v w (inl a) (inl b) =
-    let told = told_once text a.0 b.0 a.1 b.1 in
-    a.4 ∙ (ap (λ d. finite d) (number_one b.0 a.2 b.2 (subst (λ t. IsValueOf t a.2) told a.3) b.3) ∙ sym b.4)
-one_meant text v w (inl a) (inr b) = absurd (told_no_name text a.0 w a.1 b)
-one_meant text v w (inr a) (inl b) = absurd (told_no_name text b.0 v b.1 a)
+    let reported = reported_once text a.0 b.0 a.1 b.1 in
+    a.4 ∙ (ap (λ d. finite d) (number_one b.0 a.2 b.2 (subst (λ t. IsValueOf t a.2) reported a.3) b.3) ∙ sym b.4)
+one_meant text v w (inl a) (inr b) = absurd (reported_no_name text a.0 w a.1 b)
+one_meant text v w (inr a) (inl b) = absurd (reported_no_name text b.0 v b.1 a)
 one_meant text v w (inr a) (inr b) = special_once b.inside v w (named_inside text v w a b) b.names
 
 pub one_meaning : (text : List ℕ) (v w : Numeric) → TextMeans text v → TextMeans text w → v ≡ w
@@ -140,22 +140,22 @@ one_meaning text v w a b = one_meant text v w a.1 b.1
 
 -- a text that means a value isn't rejected
 
-past_not : (text : List ℕ) (t u : Told) (d : Decimal) → Tells text t → Tells text u → IsValueOf u d → IsPast t → ⊥
-past_not text t u d a b v past = elim (subst IsPast (told_once text t u a b) past) [
+past_not : (text : List ℕ) (t u : Reported) (d : Decimal) → Tells text t → Tells text u → IsValueOf u d → IsPast t → ⊥
+past_not text t u d a b v past = elim (subst IsPast (reported_once text t u a b) past) [
   | inl long ↦ (omega (arith, v.small, long))
   | inr none ↦ none d v.fits v.means
 ]
 
-past_name : (text : List ℕ) (v : Numeric) (t : Told) → Tells text t → TellsOrNames text v → IsPast t → ⊥
+past_name : (text : List ℕ) (v : Numeric) (t : Reported) → Tells text t → TellsOrNames text v → IsPast t → ⊥
 past_name text v t a (inl m) past = past_not text t m.0 m.2 a m.1 m.3 past
-past_name text v t a (inr n) past = told_no_name text t v a n
+past_name text v t a (inr n) past = reported_no_name text t v a n
 
-nothing_told : (text : List ℕ) (v : Numeric) → TellsOrNames text v → ((t : Told) → Tells text t → ⊥) → ((w : Numeric) → Names text w → ⊥) → ⊥
-nothing_told text v (inl m) a b = a m.0 m.1
-nothing_told text v (inr n) a b = b v n
+nothing_reported : (text : List ℕ) (v : Numeric) → TellsOrNames text v → ((t : Reported) → Tells text t → ⊥) → ((w : Numeric) → Names text w → ⊥) → ⊥
+nothing_reported text v (inl m) a b = a m.0 m.1
+nothing_reported text v (inr n) a b = b v n
 
 pub settled : (text : List ℕ) (v : Numeric) (e : NumericError) → TextMeans text v → TextRefused text e → ⊥
-settled text v InvalidText m r = nothing_told text v m.1 r.1.0 r.1.1
+settled text v InvalidText m r = nothing_reported text v m.1 r.1.0 r.1.1
 settled text v OutOfRange m (inl long) = omega (arith, m.0, long)
 settled text v OutOfRange m (inr w) = past_name text v w.0 w.1 m.1 w.2
 settled text v e m r = absurd r
@@ -281,8 +281,8 @@ module _ (d : Decimal) (fits : IsDecimal d) (canonical : IsCanonical d) (shown :
   abbrev fraction : List ℕ
   fraction = map letter (fraction_digits d)
 
-  abbrev told : Told
-  told = told_by (shown_sign d) whole fraction false 0
+  abbrev reported : Reported
+  reported = reported_by (shown_sign d) whole fraction false 0
 
   fraction_count : length (fraction_digits d) ≡ d.scale
   fraction_count = run_length (behind_point d.weight d.digits) 0 d.scale
@@ -322,7 +322,7 @@ module _ (d : Decimal) (fits : IsDecimal d) (canonical : IsCanonical d) (shown :
   sign_by true true e f = inl refl
   sign_by true false e f = absurd (kept_sign d canonical shown e (no_digits (text_digits d) f))
 
-  means : IsNumberOf told d
+  means : IsNumberOf reported d
   means = record {
     same = same;
     scale = omega (arith, places);
@@ -339,11 +339,11 @@ module _ (d : Decimal) (fits : IsDecimal d) (canonical : IsCanonical d) (shown :
   decimal_means = (
     short,
     inl (
-      told,
+      reported,
       record {
         inside = decimal_text d;
         blanked = record { before = []; after = []; are_before = tt; are_after = tt; all = sym (append-nil (decimal_text d)) };
-        spells = record { whole = whole; fraction = fraction; number = number; told = refl };
+        spells = record { whole = whole; fraction = fraction; number = number; reported = refl };
       },
       d,
       record { fits = fits; means = means; canonical = canonical; small = omega arith },

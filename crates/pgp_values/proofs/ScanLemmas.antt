@@ -179,13 +179,13 @@ marked_no_blank d x bytes m = rw m.whole (sign_no_blank d m.sign m.digits m.sign
 
 module _ (letter : ℕ) (bytes rest before inside : List ℕ) (is : (letter ≡ 101) ⊎ (letter ≡ 69)) (e : bytes ≡ letter ∷ rest) (f : Front IsBlank rest before inside) where
   pub raised_is : (d : Bool) (x : ℕ) → MarkedText d x inside → RaisedText d x bytes
-  raised_is d x m = record { letter = letter; is = is; blanks = before; are = f.are; marked = inside; tells = m; all = e ∙ ap (λ l. letter ∷ l) f.all }
+  raised_is d x m = record { letter = letter; is = is; blanks = before; are = f.are; marked = inside; reports = m; all = e ∙ ap (λ l. letter ∷ l) f.all }
 
   marked_of : (d : Bool) (x : ℕ) → RaisedText d x bytes → MarkedText d x inside
   marked_of d x r =
       let same : r.blanks ++ r.marked ≡ before ++ inside = tails r.letter letter (r.blanks ++ r.marked) rest (sym r.all ∙ e) ∙ f.all in
-      let one = munch IsBlank r.blanks before r.marked inside r.are f.are (marked_no_blank d x r.marked r.tells) f.stops same in
-      subst (MarkedText d x) one.1 r.tells
+      let one = munch IsBlank r.blanks before r.marked inside r.are f.are (marked_no_blank d x r.marked r.reports) f.stops same in
+      subst (MarkedText d x) one.1 r.reports
 
   pub raised_refused : (error : NumericError) → MarkedRefused inside error → RaisedRefused bytes error
   raised_refused InvalidText never = λ d x r. never d x (marked_of d x r)

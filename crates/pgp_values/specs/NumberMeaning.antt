@@ -6,7 +6,7 @@ use Rattle.pgp_values.specs.declared.error.NumericError.{NumericError}
 use Rattle.pgp_values.specs.declared.error.NumericError.TheVariants.{OutOfMemory, InvalidText, OutOfRange}
 use Rattle.pgp_values.specs.Amount.{IsShown}
 use Rattle.pgp_values.specs.Decimal.{Decimal, Numeric, finite, nan, plus_infinity, minus_infinity, IsDecimal, IsCanonical, numeric_bytes}
-use Rattle.pgp_values.specs.DecimalWriting.{Told, IsNumberOf}
+use Rattle.pgp_values.specs.DecimalWriting.{Reported, IsNumberOf}
 use Rattle.pgp_values.specs.NumberText.{Spells, Tells, Names}
 
 -- one past the longest text that is looked at and past the greatest exponent, as a server has them
@@ -15,7 +15,7 @@ limit = 1073741823
 
 -- the number that was reported, in the one form in which a server keeps it; its exponent is below the
 -- limit
-pub record IsValueOf (t : Told) (d : Decimal) : Type 0 where
+pub record IsValueOf (t : Reported) (d : Decimal) : Type 0 where
   pub fits : IsDecimal d
   pub means : IsNumberOf t d
   pub canonical : IsCanonical d
@@ -29,20 +29,20 @@ IsKept plus_infinity = ⊤
 IsKept minus_infinity = ⊤
 
 -- its exponent passes the limit, or no numeric holds it
-abbrev pub IsPast : Told → Type 0
+abbrev pub IsPast : Reported → Type 0
 IsPast t = (limit ≤ t.exponent) ⊎ ((d : Decimal) → IsDecimal d → IsNumberOf t d → ⊥)
 
 -- with no blanks around
 abbrev pub NumberMeans : List ℕ → Numeric → Type 0
-NumberMeans bytes v = (t : Told) × Spells bytes t × (d : Decimal) × IsValueOf t d × (v ≡ finite d)
+NumberMeans bytes v = (t : Reported) × Spells bytes t × (d : Decimal) × IsValueOf t d × (v ≡ finite d)
 
 abbrev pub NumberRefused : List ℕ → NumericError → Type 0
-NumberRefused bytes InvalidText = (t : Told) → Spells bytes t → ⊥
-NumberRefused bytes OutOfRange = (t : Told) × Spells bytes t × IsPast t
+NumberRefused bytes InvalidText = (t : Reported) → Spells bytes t → ⊥
+NumberRefused bytes OutOfRange = (t : Reported) × Spells bytes t × IsPast t
 NumberRefused bytes e = ⊥
 
 abbrev pub TellsOrNames : List ℕ → Numeric → Type 0
-TellsOrNames text v = ((t : Told) × Tells text t × (d : Decimal) × IsValueOf t d × (v ≡ finite d)) ⊎ Names text v
+TellsOrNames text v = ((t : Reported) × Tells text t × (d : Decimal) × IsValueOf t d × (v ≡ finite d)) ⊎ Names text v
 
 -- The text is short enough to be looked at, and says a number, or names a value.
 abbrev pub TextMeans : List ℕ → Numeric → Type 0
@@ -50,8 +50,8 @@ TextMeans text v = (length text < limit) × TellsOrNames text v
 
 -- The text is short enough, and neither says a number nor names a value; or it is too long, or says a number that is past.
 abbrev pub TextRefused : List ℕ → NumericError → Type 0
-TextRefused text InvalidText = (length text < limit) × (((t : Told) → Tells text t → ⊥) × ((v : Numeric) → Names text v → ⊥))
-TextRefused text OutOfRange = (limit ≤ length text) ⊎ ((t : Told) × Tells text t × IsPast t)
+TextRefused text InvalidText = (length text < limit) × (((t : Reported) → Tells text t → ⊥) × ((v : Numeric) → Names text v → ⊥))
+TextRefused text OutOfRange = (limit ≤ length text) ⊎ ((t : Reported) × Tells text t × IsPast t)
 TextRefused text e = ⊥
 
 -- memory was refused that a value needs which is meant

@@ -8,7 +8,7 @@ ghost use Rattle.pgp_base.specs.Held.{◌⊕◌, IsFrontOf};
 ghost use Rattle.pgp_base.specs.Wire.{uint16};
 ghost use Rattle.pgp_values.specs.declared.error.NumericError.TheVariants.{OutOfRange};
 ghost use Rattle.pgp_values.specs.Decimal.{Decimal, finite, laid_out, sign_of, numeric_bytes, IsDecimal};
-ghost use Rattle.pgp_values.specs.DecimalWriting.{digit_value, told_by, places_of, raised, lowered, IsNumberOf};
+ghost use Rattle.pgp_values.specs.DecimalWriting.{digit_value, reported_by, places_of, raised, lowered, IsNumberOf};
 ghost use Rattle.pgp_values.specs.NumberGroups.{IsFirst, power_digit, group_value, IsWeight, IsPastWeights, grouped};
 ghost use Rattle.pgp_values.specs.NumberMeaning.{IsValueOf};
 
@@ -43,7 +43,7 @@ pub struct Groups {
 fn places_at(w: &Written<'_>) -> usize
     requires few { length w.now.whole.now + length w.now.fraction.now < 1073741823 }
     requires small { w.now.exponent < 1073741823 }
-    ensures { result ≡ places_of (told_by w.now.negative w.now.whole.now w.now.fraction.now w.now.divided w.now.exponent) }
+    ensures { result ≡ places_of (reported_by w.now.negative w.now.whole.now w.now.fraction.now w.now.divided w.now.exponent) }
 {
     if w.divided {
         return w.fraction.len() + w.exponent;
@@ -55,9 +55,9 @@ fn places_at(w: &Written<'_>) -> usize
 fn scale_of(w: &Written<'_>) -> Result<u16, NumericError>
     requires few { length w.now.whole.now + length w.now.fraction.now < 1073741823 }
     requires small { w.now.exponent < 1073741823 }
-    ensures value { IfOk result (λ s. s ≡ places_of (told_by w.now.negative w.now.whole.now w.now.fraction.now w.now.divided w.now.exponent)) }
+    ensures value { IfOk result (λ s. s ≡ places_of (reported_by w.now.negative w.now.whole.now w.now.fraction.now w.now.divided w.now.exponent)) }
     ensures small { IfOk result (λ s. s ≤ 16383) }
-    ensures past { IfErr result (λ e. (e ≡ OutOfRange) × ((d : Decimal) → IsDecimal d → IsNumberOf (told_by w.now.negative w.now.whole.now w.now.fraction.now w.now.divided w.now.exponent) d → ⊥)) }
+    ensures past { IfErr result (λ e. (e ≡ OutOfRange) × ((d : Decimal) → IsDecimal d → IsNumberOf (reported_by w.now.negative w.now.whole.now w.now.fraction.now w.now.divided w.now.exponent) d → ⊥)) }
 {
     let places = places_at(w);
     if places > MAX_SCALE as usize {
@@ -138,7 +138,7 @@ fn no_groups(scale: u16) -> Groups
 fn count_from(w: &Written<'_>, point: usize, top: usize, last: usize, scale: u16) -> u16
     requires small { w.now.exponent < 1073741823 }
     requires inside { last < length w.now.whole.now + length w.now.fraction.now }
-    requires shown { (scale ≤ 16383) × (scale ≡ places_of (told_by w.now.negative w.now.whole.now w.now.fraction.now w.now.divided w.now.exponent)) }
+    requires shown { (scale ≤ 16383) × (scale ≡ places_of (reported_by w.now.negative w.now.whole.now w.now.fraction.now w.now.divided w.now.exponent)) }
     requires point { (point < 2 ^ 32) × (point + lowered w.now.divided w.now.exponent ≡ 2 ^ 31 + length w.now.whole.now + raised w.now.divided w.now.exponent) }
     requires top { ((point - 1 - last) / 4 ≤ top) × (top < 536903680) }
     ensures { result ≡ top - (point - 1 - last) / 4 + 1 }
@@ -151,11 +151,11 @@ fn groups_from(w: &Written<'_>, scale: u16, first: usize) -> Result<Groups, Nume
     requires few { length w.now.whole.now + length w.now.fraction.now < 1073741823 }
     requires small { w.now.exponent < 1073741823 }
     requires scale { scale ≤ 16383 }
-    requires shown { scale ≡ places_of (told_by w.now.negative w.now.whole.now w.now.fraction.now w.now.divided w.now.exponent) }
+    requires shown { scale ≡ places_of (reported_by w.now.negative w.now.whole.now w.now.fraction.now w.now.divided w.now.exponent) }
     requires first { IsFirst (map digit_value (w.now.whole.now ++ w.now.fraction.now)) (Some first) }
-    ensures value { IfOk result (λ g. IsValueOf (told_by w.now.negative w.now.whole.now w.now.fraction.now w.now.divided w.now.exponent) (grouped (map digit_value (w.now.whole.now ++ w.now.fraction.now)) g)) }
+    ensures value { IfOk result (λ g. IsValueOf (reported_by w.now.negative w.now.whole.now w.now.fraction.now w.now.divided w.now.exponent) (grouped (map digit_value (w.now.whole.now ++ w.now.fraction.now)) g)) }
     ensures reach { IfOk result (λ g. (g.top < 2 ^ 32) × (g.count ≤ g.top + 1)) }
-    ensures past { IfErr result (λ e. (e ≡ OutOfRange) × ((d : Decimal) → IsDecimal d → IsNumberOf (told_by w.now.negative w.now.whole.now w.now.fraction.now w.now.divided w.now.exponent) d → ⊥)) }
+    ensures past { IfErr result (λ e. (e ≡ OutOfRange) × ((d : Decimal) → IsDecimal d → IsNumberOf (reported_by w.now.negative w.now.whole.now w.now.fraction.now w.now.divided w.now.exponent) d → ⊥)) }
 {
     let point = point_of(w);
     let top = (point - 1 - first) / 4;
@@ -175,9 +175,9 @@ fn groups_from(w: &Written<'_>, scale: u16, first: usize) -> Result<Groups, Nume
 pub fn groups_of(w: &Written<'_>) -> Result<Groups, NumericError>
     requires few { length w.now.whole.now + length w.now.fraction.now < 1073741823 }
     requires small { w.now.exponent < 1073741823 }
-    ensures value { IfOk result (λ g. IsValueOf (told_by w.now.negative w.now.whole.now w.now.fraction.now w.now.divided w.now.exponent) (grouped (map digit_value (w.now.whole.now ++ w.now.fraction.now)) g)) }
+    ensures value { IfOk result (λ g. IsValueOf (reported_by w.now.negative w.now.whole.now w.now.fraction.now w.now.divided w.now.exponent) (grouped (map digit_value (w.now.whole.now ++ w.now.fraction.now)) g)) }
     ensures reach { IfOk result (λ g. (g.top < 2 ^ 32) × (g.count ≤ g.top + 1)) }
-    ensures past { IfErr result (λ e. (e ≡ OutOfRange) × ((d : Decimal) → IsDecimal d → IsNumberOf (told_by w.now.negative w.now.whole.now w.now.fraction.now w.now.divided w.now.exponent) d → ⊥)) }
+    ensures past { IfErr result (λ e. (e ≡ OutOfRange) × ((d : Decimal) → IsDecimal d → IsNumberOf (reported_by w.now.negative w.now.whole.now w.now.fraction.now w.now.divided w.now.exponent) d → ⊥)) }
 {
     let scale = scale_of(w)?;
     match first_of(w) {

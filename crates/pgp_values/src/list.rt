@@ -3,7 +3,7 @@
 
 ghost use Rattle.std.specs.Prelude.{◌≡◌, ◌⊎◌, ℕ, List, map, length, Some, None, OnOk, OnErr, IfErr};
 ghost use Rattle.std.specs.Iterator.{IsFiniteIterable};
-ghost use Rattle.pgp_base.specs.Calls.{Came};
+ghost use Rattle.pgp_base.specs.Calls.{Yielded};
 ghost use Rattle.pgp_base.specs.Cause.{Wants, WantsMemory};
 ghost use Rattle.pgp_base.specs.Held.{◌⊕◌, IsFrontOf};
 ghost use Rattle.pgp_types.specs.Given.{Whole, Stops, WritesAll, WantsValue};
@@ -41,10 +41,10 @@ fn fill_list<T: PutItem + Drop, B: Buffer, I: IntoIterator<Item = T> + Drop>(
 where
     I::IntoIter: Drop,
     requires { IsFiniteIterable I.into_iter_gives I.IntoIter.can_next I.IntoIter.remaining items }
-    ensures ok { OnOk result (Whole (Came I.into_iter_gives I.IntoIter.next_gives items) (list T.item) (λ xs. map T.meaning xs) (B.held buf.old) (B.held buf.new)) }
+    ensures ok { OnOk result (Whole (Yielded I.into_iter_gives I.IntoIter.next_gives items) (list T.item) (λ xs. map T.meaning xs) (B.held buf.old) (B.held buf.new)) }
     ensures err { OnErr result (IsFrontOf (B.held buf.old) (B.held buf.new)) }
-    ensures cause { IfErr result (λ e. WantsValue (Came I.into_iter_gives I.IntoIter.next_gives items) (list T.item) (λ xs. map T.meaning xs) B.Lacks (B.held buf.old) e
-        ⊎ Stops (Came I.into_iter_gives I.IntoIter.next_gives items) (list T.item) (λ xs. map T.meaning xs) e) }
+    ensures cause { IfErr result (λ e. WantsValue (Yielded I.into_iter_gives I.IntoIter.next_gives items) (list T.item) (λ xs. map T.meaning xs) B.Lacks (B.held buf.old) e
+        ⊎ Stops (Yielded I.into_iter_gives I.IntoIter.next_gives items) (list T.item) (λ xs. map T.meaning xs) e) }
 {
     let base = buf.len();
     put_u32(buf, 0)?;
@@ -68,7 +68,7 @@ pub(crate) fn write_list<T: PutItem + Drop, B: Buffer, I: IntoIterator<Item = T>
 where
     I::IntoIter: Drop,
     requires { IsFiniteIterable I.into_iter_gives I.IntoIter.can_next I.IntoIter.remaining items }
-    ensures { WritesAll (Came I.into_iter_gives I.IntoIter.next_gives items) (list T.item) (λ xs. map T.meaning xs) B.Lacks (B.held buf.old) result (B.held buf.new) }
+    ensures { WritesAll (Yielded I.into_iter_gives I.IntoIter.next_gives items) (list T.item) (λ xs. map T.meaning xs) B.Lacks (B.held buf.old) result (B.held buf.new) }
 {
     let start = buf.len();
     match fill_list(items, buf) {

@@ -5,7 +5,7 @@
 
 ghost use Rattle.std.specs.Prelude.{◌≡◌, ◌≤◌, ◌⊎◌, ℕ, List, map, length, Some, None, OnOk, OnErr, IfOk, IfErr};
 ghost use Rattle.std.specs.Iterator.{IsFiniteIterable};
-ghost use Rattle.pgp_base.specs.Calls.{Came};
+ghost use Rattle.pgp_base.specs.Calls.{Yielded};
 ghost use Rattle.pgp_base.specs.Cause.{Wants, WantsMemory};
 ghost use Rattle.pgp_base.specs.Held.{◌⊕◌, IsFrontOf};
 ghost use Rattle.pgp_types.specs.Format.{Reads};
@@ -58,7 +58,7 @@ pub fn multirange_to_sql<'a, B: Buffer, I: IntoIterator<Item = &'a [u8]> + Drop>
 where
     I::IntoIter: Drop,
     requires { IsFiniteIterable I.into_iter_gives I.IntoIter.can_next I.IntoIter.remaining ranges }
-    ensures { WritesAll (Came I.into_iter_gives I.IntoIter.next_gives ranges) multirange (λ xs. map shown_member xs) B.Lacks (B.held buf.old) result (B.held buf.new) }
+    ensures { WritesAll (Yielded I.into_iter_gives I.IntoIter.next_gives ranges) multirange (λ xs. map shown_member xs) B.Lacks (B.held buf.old) result (B.held buf.new) }
 {
     write_list(ranges, buf)
 }

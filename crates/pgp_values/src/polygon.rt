@@ -5,7 +5,7 @@
 
 ghost use Rattle.std.specs.Prelude.{◌≡◌, ◌≤◌, ◌⊎◌, ℕ, List, map, length, Some, None, OnOk, OnErr, IfOk, IfErr};
 ghost use Rattle.std.specs.Iterator.{IsFiniteIterable};
-ghost use Rattle.pgp_base.specs.Calls.{Came};
+ghost use Rattle.pgp_base.specs.Calls.{Yielded};
 ghost use Rattle.pgp_base.specs.PartReading.{Answers};
 ghost use Rattle.pgp_types.specs.Format.{Reads};
 ghost use Rattle.pgp_types.specs.Given.{WritesAll};
@@ -51,7 +51,7 @@ pub fn polygon_to_sql<B: Buffer, I: IntoIterator<Item = (u64, u64)> + Drop>(
 where
     I::IntoIter: Drop,
     requires { IsFiniteIterable I.into_iter_gives I.IntoIter.can_next I.IntoIter.remaining points }
-    ensures { WritesAll (Came I.into_iter_gives I.IntoIter.next_gives points) polygon (λ xs. map point_at_xy xs) B.Lacks (B.held buf.old) result (B.held buf.new) }
+    ensures { WritesAll (Yielded I.into_iter_gives I.IntoIter.next_gives points) polygon (λ xs. map point_at_xy xs) B.Lacks (B.held buf.old) result (B.held buf.new) }
 {
     write_list(points, buf)
 }

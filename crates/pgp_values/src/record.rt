@@ -5,7 +5,7 @@
 
 ghost use Rattle.std.specs.Prelude.{◌≡◌, ◌≤◌, ◌⊎◌, ℕ, List, map, length, Some, None, OnOk, OnErr, IfOk, IfErr};
 ghost use Rattle.std.specs.Iterator.{IsFiniteIterable};
-ghost use Rattle.pgp_base.specs.Calls.{Came};
+ghost use Rattle.pgp_base.specs.Calls.{Yielded};
 ghost use Rattle.pgp_base.specs.Cause.{Wants, WantsMemory, nullable_cause};
 ghost use Rattle.pgp_base.specs.Held.{◌⊕◌, IsFrontOf};
 ghost use Rattle.pgp_base.specs.PartReading.{Answers};
@@ -81,7 +81,7 @@ pub fn record_to_sql<'a, B: Buffer, I: IntoIterator<Item = (Oid, Option<&'a [u8]
 where
     I::IntoIter: Drop,
     requires { IsFiniteIterable I.into_iter_gives I.IntoIter.can_next I.IntoIter.remaining fields }
-    ensures { WritesAll (Came I.into_iter_gives I.IntoIter.next_gives fields) composite (λ xs. map shown_field xs) B.Lacks (B.held buf.old) result (B.held buf.new) }
+    ensures { WritesAll (Yielded I.into_iter_gives I.IntoIter.next_gives fields) composite (λ xs. map shown_field xs) B.Lacks (B.held buf.old) result (B.held buf.new) }
 {
     write_list(fields, buf)
 }

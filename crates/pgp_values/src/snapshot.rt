@@ -5,7 +5,7 @@
 
 ghost use Rattle.std.specs.Prelude.{◌≡◌, ◌≤◌, ◌⊎◌, ℕ, List, length, Some, None, OnOk, OnErr, IfOk, IfErr};
 ghost use Rattle.std.specs.Iterator.{IsFiniteIterable};
-ghost use Rattle.pgp_base.specs.Calls.{Came};
+ghost use Rattle.pgp_base.specs.Calls.{Yielded};
 ghost use Rattle.pgp_base.specs.Cause.{Writes as WritesSpelling};
 ghost use Rattle.pgp_base.specs.Held.{IsFrontOf};
 ghost use Rattle.pgp_base.specs.PartReading.{Answers};
@@ -142,10 +142,10 @@ fn fill_snapshot<B: Buffer, I: IntoIterator<Item = u64> + Drop>(
 where
     I::IntoIter: Drop,
     requires { IsFiniteIterable I.into_iter_gives I.IntoIter.can_next I.IntoIter.remaining running }
-    ensures ok { OnOk result (Whole (Came I.into_iter_gives I.IntoIter.next_gives running) snapshot (snapshot_of xmin xmax) (B.held buf.old) (B.held buf.new)) }
+    ensures ok { OnOk result (Whole (Yielded I.into_iter_gives I.IntoIter.next_gives running) snapshot (snapshot_of xmin xmax) (B.held buf.old) (B.held buf.new)) }
     ensures err { OnErr result (IsFrontOf (B.held buf.old) (B.held buf.new)) }
-    ensures cause { IfErr result (λ e. WantsValue (Came I.into_iter_gives I.IntoIter.next_gives running) snapshot (snapshot_of xmin xmax) B.Lacks (B.held buf.old) e
-        ⊎ Stops (Came I.into_iter_gives I.IntoIter.next_gives running) snapshot (snapshot_of xmin xmax) e) }
+    ensures cause { IfErr result (λ e. WantsValue (Yielded I.into_iter_gives I.IntoIter.next_gives running) snapshot (snapshot_of xmin xmax) B.Lacks (B.held buf.old) e
+        ⊎ Stops (Yielded I.into_iter_gives I.IntoIter.next_gives running) snapshot (snapshot_of xmin xmax) e) }
 {
     let base = buf.len();
     put_u32(buf, 0)?;
@@ -177,7 +177,7 @@ pub fn snapshot_to_sql<B: Buffer, I: IntoIterator<Item = u64> + Drop>(
 where
     I::IntoIter: Drop,
     requires { IsFiniteIterable I.into_iter_gives I.IntoIter.can_next I.IntoIter.remaining running }
-    ensures { WritesAll (Came I.into_iter_gives I.IntoIter.next_gives running) snapshot (snapshot_of xmin xmax) B.Lacks (B.held buf.old) result (B.held buf.new) }
+    ensures { WritesAll (Yielded I.into_iter_gives I.IntoIter.next_gives running) snapshot (snapshot_of xmin xmax) B.Lacks (B.held buf.old) result (B.held buf.new) }
 {
     let start = buf.len();
     match fill_snapshot(xmin, xmax, running, buf) {

@@ -6,7 +6,7 @@
 ghost use Rattle.std.specs.Prelude.{◌≡◌, ◌↔◌, ◌≤◌, ◌⊎◌, ◌++◌, ℕ, List, true, map, length, Some, None, OnOk, OnErr, IfOk, IfErr};
 ghost use Rattle.std.specs.Iterator.{IsFiniteIterable};
 ghost use Rattle.std.specs.List.{flat_map};
-ghost use Rattle.pgp_base.specs.Calls.{Came};
+ghost use Rattle.pgp_base.specs.Calls.{Yielded};
 ghost use Rattle.pgp_base.specs.Cause.{Wants, WantsMemory, count_cause};
 ghost use Rattle.pgp_base.specs.Held.{◌⊕◌, IsFrontOf};
 ghost use Rattle.pgp_base.specs.Wire.{uint16};
@@ -79,7 +79,7 @@ pub fn tsvector_to_sql<'a, B: Buffer, I: IntoIterator<Item = (&'a str, &'a [u16]
 where
     I::IntoIter: Drop,
     requires { IsFiniteIterable I.into_iter_gives I.IntoIter.can_next I.IntoIter.remaining lexemes }
-    ensures { WritesAll (Came I.into_iter_gives I.IntoIter.next_gives lexemes) tsvector (λ xs. map shown_lexeme xs) B.Lacks (B.held buf.old) result (B.held buf.new) }
+    ensures { WritesAll (Yielded I.into_iter_gives I.IntoIter.next_gives lexemes) tsvector (λ xs. map shown_lexeme xs) B.Lacks (B.held buf.old) result (B.held buf.new) }
 {
     write_list(lexemes, buf)
 }

@@ -24,24 +24,24 @@ one_line view xs i d lt =
 
 -- What came of the input so far was read, its results were taken, and the lines are theirs.
 pub record Lists (old now : Option (List ℕ)) (parser : Reading) (lines : List ℕ) : Type 0 where
-  pub came : List ℕ
+  pub received : List ℕ
   pub taken : List (Result Message Error)
-  pub consumed : Consumes old now came
-  pub read : HasRead came taken parser
+  pub consumed : Consumes old now received
+  pub read : HasRead received taken parser
   pub sound : parser.failed ≡ false
   pub none : parser.results ≡ []
   pub text : lines ≡ flat_map line_of taken
 
 pub lists_nothing : (old : Option (List ℕ)) (parser : Reading) (lines : List ℕ) → HasRead [] [] parser → parser.failed ≡ false → parser.results ≡ [] → lines ≡ [] → Lists old old parser lines
-lists_nothing old parser lines read sound none text = record { came = []; taken = []; consumed = Consumes-nil old; read = read; sound = sound; none = none; text = text }
+lists_nothing old parser lines read sound none text = record { received = []; taken = []; consumed = Consumes-nil old; read = read; sound = sound; none = none; text = text }
 
 -- a piece more
 pub lists_more : (old now next : Option (List ℕ)) (a c : Reading) (piece lines more : List ℕ) → Lists old now a lines → Consumes now next piece → ListsPiece piece a c lines more → Lists old next c more
 lists_more old now next a c piece lines more so_far consumed one = record {
-  came = so_far.came ++ piece;
+  received = so_far.received ++ piece;
   taken = so_far.taken ++ one.results;
-  consumed = Consumes-trans old now next so_far.came piece so_far.consumed consumed;
-  read = one.taken.reads (so_far.came ++ piece) so_far.taken (has_read_more _ _ _ one.fed so_far.came so_far.taken so_far.read);
+  consumed = Consumes-trans old now next so_far.received piece so_far.consumed consumed;
+  read = one.taken.reads (so_far.received ++ piece) so_far.taken (has_read_more _ _ _ one.fed so_far.received so_far.taken so_far.read);
   sound = ap (λ (r : Reading). r.failed) one.taken.kept ∙ one.fed.sound;
   none = ap (λ (r : Reading). r.results) one.taken.kept;
   text = one.text ∙ ap (λ l. l ++ flat_map line_of one.results) so_far.text ∙ sym (flat_map-append line_of so_far.taken one.results);
@@ -50,9 +50,9 @@ lists_more old now next a c piece lines more so_far consumed one = record {
 -- nothing came
 pub lists_same : (old now next : Option (List ℕ)) (a : Reading) (lines : List ℕ) → Lists old now a lines → Keeps now next → Lists old next a lines
 lists_same old now next a lines so_far same = record {
-  came = so_far.came;
+  received = so_far.received;
   taken = so_far.taken;
-  consumed = Consumes-kept old now next so_far.came so_far.consumed same;
+  consumed = Consumes-kept old now next so_far.received so_far.consumed same;
   read = so_far.read;
   sound = so_far.sound;
   none = so_far.none;
@@ -63,13 +63,13 @@ lists_same old now next a lines so_far same = record {
 pub lists_all : (old now next : Option (List ℕ)) (parser : Reading) (lines more : List ℕ) (stopped : Bool) (n : ℕ) → Lists old now parser lines → Consumes now next [] → IsAtEnd next
     → stopped ≡ parser.stopped → n ≡ length parser.rest → more ≡ lines ++ last_line stopped n → IfSome old (λ bytes. BackendOutput bytes more 0)
 lists_all old now next parser lines more stopped n so_far none end s e grown =
-    let whole = Consumes-trans old now next so_far.came [] so_far.consumed none in
+    let whole = Consumes-trans old now next so_far.received [] so_far.consumed none in
     let same : so_far.taken ++ parser.results ≡ so_far.taken = ap (λ l. so_far.taken ++ l) so_far.none ∙ append-nil so_far.taken in
-    Consumes-whole old next (so_far.came ++ []) (λ bytes. BackendOutput bytes more 0) whole end (record {
+    Consumes-whole old next (so_far.received ++ []) (λ bytes. BackendOutput bytes more 0) whole end (record {
       results = so_far.taken;
       stopped = parser.stopped;
       rest = parser.rest;
-      run = rw (append-nil so_far.came, ← same) so_far.read.run;
+      run = rw (append-nil so_far.received, ← same) so_far.read.run;
       text = grown ∙ ap (λ l. l ++ last_line stopped n) so_far.text ∙ ap (λ b. flat_map line_of so_far.taken ++ last_line b n) s ∙ ap (λ k. flat_map line_of so_far.taken ++ last_line parser.stopped k) e;
       fine = refl;
     })

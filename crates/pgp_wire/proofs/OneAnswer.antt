@@ -15,7 +15,7 @@ use Rattle.pgp_frontend.specs.ClientRun.{AreInOrder, IsStartup, IsRequest, IsTag
 use Rattle.pgp_frontend.proofs.ClientRuns.{runs_bytes}
 use Rattle.pgp_wire.specs.declared.client.LineFault.{LineFault}
 use Rattle.pgp_wire.specs.declared.client.LineFault.TheVariants.{NotUtf8, WrongWords, WrongPhase, Refused}
-use Rattle.pgp_wire.specs.ClientOutput.{Ask, ClientOutput, IsFaulty, IsRefused, IsSent, Sends, told}
+use Rattle.pgp_wire.specs.ClientOutput.{Ask, ClientOutput, IsFaulty, IsRefused, IsSent, Sends, reported}
 use Rattle.pgp_wire.specs.Output.{line, line_of, last_line, BackendOutput}
 use Rattle.pgp_wire.specs.Script.{ArePairs, HasWord, IsPair, Says, is_newline, is_space, version_word}
 use Rattle.pgp_wire.proofs.ScriptLemmas.{free_by, one_cut, one_word}
@@ -288,11 +288,11 @@ refused_one : (lines : List (List ℕ)) (output other : List ℕ) (status answer
 refused_one lines output other status answer a b =
     elim (places a.before a.here a.after b.before b.here b.after (sym a.cut ∙ b.cut)) [
       | same e f ↦
-          let heard = ask_one b.before a.messages b.messages (subst (λ l. Ask l a.messages) e a.sends.asked) b.sends.asked in
-          let why = subst (λ ms. IsFaulty b.here (is_opened ms) a.fault) heard (subst (λ h. IsFaulty h (is_opened a.messages) a.fault) f a.why) in
+          let observed = ask_one b.before a.messages b.messages (subst (λ l. Ask l a.messages) e a.sends.asked) b.sends.asked in
+          let why = subst (λ ms. IsFaulty b.here (is_opened ms) a.fault) observed (subst (λ h. IsFaulty h (is_opened a.messages) a.fault) f a.why) in
           let fault = fault_one b.here (is_opened b.messages) a.fault b.fault why b.why in (
-            a.text ∙ ap (λ l. line (codes "line " ++ decimal (length l + 1) ++ codes ": " ++ told a.fault)) e
-                ∙ ap (λ k. line (codes "line " ++ decimal (length b.before + 1) ++ codes ": " ++ told k)) fault ∙ sym b.text,
+            a.text ∙ ap (λ l. line (codes "line " ++ decimal (length l + 1) ++ codes ": " ++ reported a.fault)) e
+                ∙ ap (λ k. line (codes "line " ++ decimal (length b.before + 1) ++ codes ": " ++ reported k)) fault ∙ sym b.text,
             a.failed ∙ sym b.failed,
           )
       | earlier mid e ↦ absurd (never_before a.before a.here mid a.messages b.messages b.bytes a.fault a.sends.asked (subst (λ l. Sends l b.messages b.bytes) e b.sends) a.why)
@@ -301,8 +301,8 @@ refused_one lines output other status answer a b =
 
 sent_one : (lines : List (List ℕ)) (output other : List ℕ) (status answer : ℕ) → IsSent lines output status → IsSent lines other answer → (output ≡ other) × (status ≡ answer)
 sent_one lines output other status answer a b =
-    let heard = ask_one lines a.messages b.messages a.sends.asked b.sends.asked in
-    let bytes = (runs_bytes a.sends.kinds b.sends.kinds b.messages a.bytes b.bytes (rw heard at a.sends.run) b.sends.run).0 in
+    let observed = ask_one lines a.messages b.messages a.sends.asked b.sends.asked in
+    let bytes = (runs_bytes a.sends.kinds b.sends.kinds b.messages a.bytes b.bytes (rw observed at a.sends.run) b.sends.run).0 in
     (a.text ∙ ap (λ z. line (encode_lower z)) bytes ∙ sym b.text, a.fine ∙ sym b.fine)
 
 never_both : (lines : List (List ℕ)) (output other : List ℕ) (status answer : ℕ) → IsSent lines output status → IsRefused lines other answer → ⊥

@@ -32,11 +32,11 @@ IsFaulty text opened WrongWords = IsUtf8 text × (text ≢ []) × ((m : ClientMe
 IsFaulty text opened WrongPhase = IsUtf8 text × ((m : ClientMessage) × Says text m × (¬ MayCome m opened))
 IsFaulty text opened (Refused e) = IsUtf8 text × ((m : ClientMessage) × Says text m × MayCome m opened × (cause m ≡ Some e))
 
-abbrev pub told : LineFault → List ℕ
-told NotUtf8 = codes "not UTF-8"
-told WrongWords = codes "wrong words"
-told WrongPhase = codes "wrong phase"
-told (Refused e) = codes "fault " ++ decimal (number_of e)
+abbrev pub reported : LineFault → List ℕ
+reported NotUtf8 = codes "not UTF-8"
+reported WrongWords = codes "wrong words"
+reported WrongPhase = codes "wrong phase"
+reported (Refused e) = codes "fault " ++ decimal (number_of e)
 
 -- each line asks for a message that may come, and the bytes of all are written as hex digits
 pub record IsSent (lines : List (List ℕ)) (output : List ℕ) (status : ℕ) : Type 0 where
@@ -57,7 +57,7 @@ pub record IsRefused (lines : List (List ℕ)) (output : List ℕ) (status : ℕ
   pub sends : Sends before messages bytes
   pub fault : LineFault
   pub why : IsFaulty here (is_opened messages) fault
-  pub text : output ≡ line (codes "line " ++ decimal (length before + 1) ++ codes ": " ++ told fault)
+  pub text : output ≡ line (codes "line " ++ decimal (length before + 1) ++ codes ": " ++ reported fault)
   pub failed : status ≡ 1
 
 -- What is written for a script, which is cut into lines at each newline, and the status.

@@ -112,7 +112,7 @@ module _ (lacks read_failed write_failed : Type 0) where
   pub record IsFaulty (command : Command) (before after : Streams) (status : ℕ) (complaint : List ℕ) : Type 0 where
     pub fault : Fault
     pub stops : Stops command before after fault
-    pub told : complaint ≡ complaint_of fault
+    pub reported : complaint ≡ complaint_of fault
     pub failed : status ≡ 1
 
   -- What the words ask for is done, where what was written is then passed on so; or they ask for nothing, and the usage line is

@@ -7,7 +7,7 @@ ghost use Rattle.hex.specs.Hex.{encode_lower};
 ghost use Rattle.pgp_frontend.specs.Reading.{IsNamed};
 ghost use Rattle.pgp_session.specs.ClientStream.{AddsMessage};
 ghost use Rattle.pgp_program.specs.Interruptions.{GivesUp};
-ghost use Rattle.pgp_wire.specs.ClientOutput.{ClientOutput, told};
+ghost use Rattle.pgp_wire.specs.ClientOutput.{ClientOutput, reported};
 ghost use Rattle.pgp_program.specs.Run.{Caused};
 ghost use Rattle.pgp_wire.specs.Command.{Client, IsCut, IsWritten, LacksFor};
 ghost use Rattle.pgp_wire.specs.Output.{line};
@@ -103,7 +103,7 @@ fn digits<A: Memory>(alloc: A, bytes: &[u8]) -> Result<String<A>, Fault>
 
 /// The line that reports a rejected line.
 fn refusal<A: Memory>(alloc: A, number: usize, fault: LineFault) -> Result<String<A>, Fault>
-    ensures line { IfOk result (λ text. string_bytes text ≡ line (codes "line " ++ decimal number ++ codes ": " ++ told fault)) }
+    ensures line { IfOk result (λ text. string_bytes text ≡ line (codes "line " ++ decimal number ++ codes ": " ++ reported fault)) }
     ensures fault { IfErr result (λ e. (e ≡ Fault.Memory) × A.Lacks) }
 {
     let mut text = String::new(alloc);

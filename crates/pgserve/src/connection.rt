@@ -91,10 +91,10 @@ impl<'h> Connection<'h> {
     /// Appends what is said after a message of which nothing more is asked.
     fn go_on(
         &mut self,
-        heard: Result<ServingEvent, Error>,
+        observed: Result<ServingEvent, Error>,
         out: &mut BytesMut,
     ) -> Result<(), Fault> {
-        match heard? {
+        match observed? {
             ServingEvent::LoggedIn => self.session.welcome(out),
             _ => Ok(()),
         }

@@ -81,12 +81,12 @@ module _ (to : Target) where
 -- of a list that came none or all of it did so far
 asked_all : {A : Type 0} (given : List A → Option A → Type 0) (all : List A) → ((xs : List A) → given xs None → xs ≡ all) → ((xs : List A) (x : A) → given xs (Some x) → xs ++ x ∷ [] ≡ all)
     → (before : List A) (next : Option A) (xs : List A) → given before next → xs ≡ before ++ option_to_list next → xs ≡ all
-asked_all given all ends goes before None xs came are = are ∙ (append-nil before ∙ ends before came)
-asked_all given all ends goes before (Some x) xs came are = are ∙ goes before x came
+asked_all given all ends goes before None xs received are = are ∙ (append-nil before ∙ ends before received)
+asked_all given all ends goes before (Some x) xs received are = are ∙ goes before x received
 
 none_or_all : (given : List ℤ → Option ℤ → Type 0) (all : List ℤ) → ((xs : List ℤ) → given xs None → xs ≡ all) → ((xs : List ℤ) (x : ℤ) → given xs (Some x) → xs ++ x ∷ [] ≡ all) → (xs : List ℤ) → Arrived given Int16s xs → (xs ≡ []) ⊎ (xs ≡ all)
 none_or_all given all ends goes xs (inl none) = inl none
-none_or_all given all ends goes xs (inr came) = inr (asked_all given all ends goes came.before came.next xs came.came came.are)
+none_or_all given all ends goes xs (inr received) = inr (asked_all given all ends goes received.before received.next xs received.received received.are)
 
 few : (xs all : List ℤ) → (xs ≡ []) ⊎ (xs ≡ all) → length (counted int16 xs) ≤ length (counted int16 all)
 few xs all (inl none) = let n = ap (λ l. length (counted int16 l)) none in omega (arith, n, counted_length int16 [], counted_length int16 all)
@@ -184,7 +184,7 @@ module _ {F E B K : Type 0} (held : B → Held K) (step : F → ℕ → MutBor B
   one_whole m w =
       let fs = all_formats w.0 w.1 in
       let served = w.2.1 in
-      let v = one_value w.0 served.xs w.2.0 fs (all_values served.xs served.came) served.made in
+      let v = one_value w.0 served.xs w.2.0 fs (all_values served.xs served.received) served.made in
       (v.0, v.1, w.2.2.2 ∙ same_bind to w.0 w.2.0 (value_of v.0 v.1) w.2.2.0 fs v.2 (all_results w.2.2.0 w.2.2.1), v.3)
 
   -- the formats, and the formats of results, that came so far: none or all
@@ -194,11 +194,11 @@ module _ {F E B K : Type 0} (held : B → Held K) (step : F → ℕ → MutBor B
   few_results : (rs : List ℤ) → Arrived results Int16s rs → (rs ≡ []) ⊎ (rs ≡ to.results)
   few_results rs so_far = none_or_all results to.results all_results some_results rs so_far
 
-  abbrev Came : ClientMessage → Type 0
-  Came m = BindSoFar to.portal to.statement formats values (Serves held step f last) results old m
+  abbrev Yielded : ClientMessage → Type 0
+  Yielded m = BindSoFar to.portal to.statement formats values (Serves held step f last) results old m
 
   -- a growth that the message so far needs
-  one_wants : (m : ClientMessage) → Came m → Wants lacks old (length (bytes_of m)) → OneWants held step to f last old lacks
+  one_wants : (m : ClientMessage) → Yielded m → Wants lacks old (length (bytes_of m)) → OneWants held step to f last old lacks
   one_wants m (inl k) w =
       let fs = k.1.0 in
       inl (k.0, head_wants to fs (few fs (pos 1 ∷ []) (few_formats fs k.1.1)) (subst (λ (m : ClientMessage). Wants lacks old (length (bytes_of m))) k.1.2 w))
@@ -206,7 +206,7 @@ module _ {F E B K : Type 0} (held : B → Held K) (step : F → ℕ → MutBor B
       let fs = all_formats k.0 k.1.0 in
       let counts = ap (λ l. length (counted int16 l)) fs in
       let b = k.2.1 in
-      let come = some_values b.xs b.x b.came in
+      let come = some_values b.xs b.x b.received in
       let none = few [] to.results (inl refl) in
       let wanted = subst (λ (m : ClientMessage). Wants lacks old (length (bytes_of m))) k.2.2 w in
       elim b.made [
@@ -221,17 +221,17 @@ module _ {F E B K : Type 0} (held : B → Held K) (step : F → ℕ → MutBor B
       ]
   one_wants m (inr (inr k)) w =
       let fs = all_formats k.0 k.1.0 in
-      let v = one_value k.0 k.2.1.xs k.2.0 fs (all_values k.2.1.xs k.2.1.came) k.2.1.made in
+      let v = one_value k.0 k.2.1.xs k.2.0 fs (all_values k.2.1.xs k.2.1.received) k.2.1.made in
       let rs = k.2.3 in
       inr (v.0, v.1, v.3, bind_wants to k.0 k.2.0 (value_of v.0 v.1) rs.0 (ap (λ l. length (counted int16 l)) fs) v.2 (few rs.0 to.results (few_results rs.0 rs.1)) (subst (λ (m : ClientMessage). Wants lacks old (length (bytes_of m))) rs.2 w))
 
   -- a cause of its parts
-  one_caused : (m : ClientMessage) (e : Error) → Came m → parts_cause (parts m) ≡ Some e → NamesRefused held step to f last old e ⊎ OneTooLong held step to f last old e
+  one_caused : (m : ClientMessage) (e : Error) → Yielded m → parts_cause (parts m) ≡ Some e → NamesRefused held step to f last old e ⊎ OneTooLong held step to f last old e
   one_caused m e (inl k) c = inl (k.0, sym (formats_alone to k.1.0 (few_formats k.1.0 k.1.1)) ∙ (ap (λ (m : ClientMessage). parts_cause (parts m)) (sym k.1.2) ∙ c))
   one_caused m e (inr (inl k)) c =
       let fs = all_formats k.0 k.1.0 in
       let b = k.2.1 in
-      let come = some_values b.xs b.x b.came in
+      let come = some_values b.xs b.x b.received in
       let c' = ap (λ (m : ClientMessage). parts_cause (parts m)) (sym k.2.2) ∙ c in
       elim b.made [
         | inl waits ↦
@@ -250,7 +250,7 @@ module _ {F E B K : Type 0} (held : B → Held K) (step : F → ℕ → MutBor B
       ]
   one_caused m e (inr (inr k)) c =
       let fs = all_formats k.0 k.1.0 in
-      let v = one_value k.0 k.2.1.xs k.2.0 fs (all_values k.2.1.xs k.2.1.came) k.2.1.made in
+      let v = one_value k.0 k.2.1.xs k.2.0 fs (all_values k.2.1.xs k.2.1.received) k.2.1.made in
       let rs = k.2.3 in
       let c' = ap (λ (m : ClientMessage). parts_cause (parts m)) (sym rs.2) ∙ c in
       inr (record {
@@ -267,7 +267,7 @@ module _ {F E B K : Type 0} (held : B → Held K) (step : F → ℕ → MutBor B
   one_refused (Conversion e) w =
       let fs = all_formats w.0 w.1.0 in
       let v = w.2 in
-      (v.bytes, one_put w.0 v.xs v.x v.before v.made.0 (Err e) v.bytes fs (some_values v.xs v.x v.came) v.made.1 v.made.2, sym (names_alone to w.0 fs) ∙ w.1.1)
+      (v.bytes, one_put w.0 v.xs v.x v.before v.made.0 (Err e) v.bytes fs (some_values v.xs v.x v.received) v.made.1 v.made.2, sym (names_alone to w.0 fs) ∙ w.1.1)
   one_refused (Serialization e) (inl (m, so_far, inl memory)) = inl (memory.0, one_wants m so_far memory.1)
   one_refused (Serialization e) (inl (m, so_far, inr c)) = inr (one_caused m e so_far c)
   one_refused (Serialization e) (inr m) =

@@ -158,19 +158,19 @@ module _ {F B K : Type 0} (held : B → Held K) (step : F → Bor Step → MutBo
       (f last : F) (old : Held K) where
     pub steps_ok : (new : Held K) → ArrayWritten held step dimensions type elements f last old new → ArrayAppended ds type steps old new
     steps_ok new w =
-        let d = all_dimensions w.array.dimensions w.came in
+        let d = all_dimensions w.array.dimensions w.received in
         let same : w.array ≡ array_of ds type w.array.elements = same_array w.array.dimensions ds w.array.element_type type w.array.elements d w.type in
         record {
           vs = w.array.elements;
-          give = ap (λ xs. map gives xs) (sym (all_steps w.made.xs w.made.came)) ∙ runs_give _ f w.made.xs w.array.elements last w.made.runs;
+          give = ap (λ xs. map gives xs) (sym (all_steps w.made.xs w.made.received)) ∙ runs_give _ f w.made.xs w.array.elements last w.made.runs;
           none = subst (λ (a : Array). array_cause a ≡ None) same w.none;
           appended = w.appended ∙ ap (λ (a : Array). old ⊕ array_bytes a) same;
         }
 
     stopped : (e : BindError Error) (all : List ArrayDimension) → dimensions all None → length_cause (length all) ≡ None → MadeUpTo held step elements f last (before_elements old all type) lacks e → ArrayRefused ds type steps (ArrayWants ds type lacks old) e
-    stopped (Conversion e) all came fits s =
-        let k = some_steps s.xs s.x s.came in
-        let d = all_dimensions all came in
+    stopped (Conversion e) all received fits s =
+        let k = some_steps s.xs s.x s.received in
+        let d = all_dimensions all received in
         let call = s.refused.1 in
         let behind : before_elements old all type ⊕ flat_map nullable s.made ≡ before_elements old ds type ⊕ flat_map nullable s.made = ap (λ ds. before_elements old ds type ⊕ flat_map nullable s.made) d in
         record {
@@ -185,9 +185,9 @@ module _ {F B K : Type 0} (held : B → Held K) (step : F → Bor Step → MutBo
               (λ bytes w. element_wants ds type old _ s.made (Some bytes) (length (nullable (Some bytes))) behind (omega arith) (sized_wants bytes 0 _ (held call.before.now) call.stood w))
               (does s.at last s.x call.before call.after (Err e) call.called);
         }
-    stopped (Serialization e) all came fits s =
-        let k = some_steps s.xs s.x s.came in
-        let d = all_dimensions all came in
+    stopped (Serialization e) all received fits s =
+        let k = some_steps s.xs s.x s.received in
+        let d = all_dimensions all received in
         elim s.refused [
           | inl memory ↦
               inl (
@@ -217,16 +217,16 @@ module _ {F B K : Type 0} (held : B → Held K) (step : F → Bor Step → MutBo
 
     -- of the dimensions, those that came so far are no more than all
     asked_few : (before : List ArrayDimension) (next : Option ArrayDimension) (xs : List ArrayDimension) → dimensions before next → xs ≡ before ++ option_to_list next → length xs ≤ length ds
-    asked_few before None xs came are = let n = ap (λ l. length l) are in let m = ap (λ l. length l) (all_dimensions before came) in omega (arith, n, m, length-append before [])
-    asked_few before (Some x) xs came are =
-        let k = some_dimensions before x came in
+    asked_few before None xs received are = let n = ap (λ l. length l) are in let m = ap (λ l. length l) (all_dimensions before received) in omega (arith, n, m, length-append before [])
+    asked_few before (Some x) xs received are =
+        let k = some_dimensions before x received in
         let n = ap (λ l. length l) are in
         let m = ap (λ l. length l) k.1 in
         omega (arith, n, m, length-append before (x ∷ []), length-append before (x ∷ k.0))
 
     few : (xs : List ArrayDimension) → SoFar dimensions xs → length xs ≤ length ds
     few xs (inl none) = let n = ap (λ l. length l) none in omega (arith, n)
-    few xs (inr asked) = asked_few asked.before asked.next xs asked.came asked.are
+    few xs (inr asked) = asked_few asked.before asked.next xs asked.received asked.are
 
     pub steps_refused : (e : BindError Error) → RefusedArray held step dimensions type elements f last old lacks e → ArrayRefused ds type steps (ArrayWants ds type lacks old) e
     steps_refused (Conversion e) (inl head) = absurd head.0
@@ -237,7 +237,7 @@ module _ {F B K : Type 0} (held : B → Held K) (step : F → Bor Step → MutBo
               inl (memory.0, record { before = []; more = steps; are = refl; vs = []; give = refl; wanted = head_wants ds type old (length so_far.0) (map (λ step. None) (take 1 steps)) (few so_far.0 so_far.1) so_far.2 })
           | inr past ↦
               let p = past.0 in
-              let k = some_dimensions p.before p.last p.came in
+              let k = some_dimensions p.before p.last p.received in
               let long : length ds ≡ length p.before + length (p.last ∷ k.0) = ap (λ l. length l) k.1 ∙ length-append p.before (p.last ∷ k.0) in
               inr (record {
                 before = [];
@@ -248,7 +248,7 @@ module _ {F B K : Type 0} (held : B → Held K) (step : F → Bor Step → MutBo
                 some = ap (λ c. either c None) (length_past (length ds) (omega (arith, long, p.full))) ∙ ap (λ (e : Error). Some e) (sym past.1);
               })
         ]
-    steps_refused e (inr at) = stopped e at.all at.came at.fits at.stops
+    steps_refused e (inr at) = stopped e at.all at.received at.fits at.stops
 
 -- of a list of one item, or of none
 pub first_of_one : {A : Type 0} (a : A) (xs : List A) (x : A) → (more : List A) × (a ∷ [] ≡ xs ++ x ∷ more) → (xs ≡ []) × (xs ++ x ∷ [] ≡ a ∷ [])

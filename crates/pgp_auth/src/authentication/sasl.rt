@@ -59,7 +59,7 @@ impl SaslPrep for NoPrep {
 }
 
 // What the mapping puts in the place of the password, if it is asked and has anything.
-#[tactic(auto, using(crate::proofs::Asking::ascii, crate::proofs::Asking::not_text, crate::proofs::Asking::asked, crate::proofs::Asking::is_told))]
+#[tactic(auto, using(crate::proofs::Asking::ascii, crate::proofs::Asking::not_text, crate::proofs::Asking::asked, crate::proofs::Asking::is_reported))]
 pub(crate) fn mapped<A: Memory, P: SaslPrep>(
     alloc: A,
     password: &[u8],

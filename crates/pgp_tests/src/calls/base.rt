@@ -134,7 +134,7 @@ const NAMES: [(Error, &str); 20] = [
 ];
 
 #[test]
-fn refusals_are_told_by_name(rt: HostRuntime) -> Result<(), Fail> {
+fn refusals_are_reported_by_name(rt: HostRuntime) -> Result<(), Fail> {
     for (refusal, name) in NAMES {
         let text = refusal.to_string(rt.alloc())?;
         same(&rt, text.as_str(), name);

@@ -120,19 +120,19 @@ fn drain(
     parser: &mut FrameParser,
     buf: &mut BytesMut,
     expected: &[Result<Option<&'static str>, Error>],
-    came: usize,
+    received: usize,
 ) -> usize {
-    let mut came = came;
+    let mut received = received;
     for _ in expected {
         let result = taken(parser, buf);
         if result == Ok(None) || result == Err(Error::InvalidLength) {
-            return came;
+            return received;
         }
-        if came < expected.len() && result == expected[came] {
-            came += 1;
+        if received < expected.len() && result == expected[received] {
+            received += 1;
         }
     }
-    came
+    received
 }
 
 /// The bytes, cut after those whose bit is set: how many of these results came, what is left, and how many
@@ -145,17 +145,17 @@ fn read_in_pieces(
 ) -> Result<(usize, usize, u64), Error> {
     let mut parser = FrameParser::new();
     let mut buf = BytesMut::new(alloc);
-    let mut came = 0usize;
+    let mut received = 0usize;
     let mut bits = cuts;
     for byte in bytes {
         buf.extend_from_slice(&[*byte])?;
         if bits & 1 == 1 {
-            came = drain(&mut parser, &mut buf, expected, came);
+            received = drain(&mut parser, &mut buf, expected, received);
         }
         bits >>= 1;
     }
-    came = drain(&mut parser, &mut buf, expected, came);
-    Ok((came, buf.len(), parser.headers()))
+    received = drain(&mut parser, &mut buf, expected, received);
+    Ok((received, buf.len(), parser.headers()))
 }
 
 const REFUSED_THEN_READ: &[u8] = b"\x5a\0\0\0\x06\x49\0\x31\0\0\0\x04";
@@ -198,7 +198,7 @@ fn the_header_of_a_long_frame_is_read_once(rt: HostRuntime) {
 }
 
 /// What stands there in a list of results.
-fn told(list: &[Read<Bytes>], at: usize) -> Option<Result<&'static str, Error>> {
+fn reported(list: &[Read<Bytes>], at: usize) -> Option<Result<&'static str, Error>> {
     match list.get(at) {
         Some(Ok(message)) => Some(Ok(variant(message))),
         Some(Err(e)) => Some(Err(*e)),
@@ -267,11 +267,23 @@ fn read_found(alloc: Global, bytes: &[u8]) -> Result<Vec<Read<Bytes>>, Error> {
 #[test]
 fn found_frames_are_read_onto_a_list(rt: HostRuntime) -> Result<(), Fail> {
     let list = read_found(rt.alloc(), FOUR_AND_A_CUT_ROW)?;
-    same(&rt, told(list.as_slice(), 0), Some(Err(Error::NotDrained)));
-    same(&rt, told(list.as_slice(), 1), Some(Ok("ParseComplete")));
-    same(&rt, told(list.as_slice(), 2), Some(Ok("CommandComplete")));
-    same(&rt, told(list.as_slice(), 3), Some(Ok("AuthenticationOk")));
-    same(&rt, told(list.as_slice(), 4), None);
+    same(
+        &rt,
+        reported(list.as_slice(), 0),
+        Some(Err(Error::NotDrained)),
+    );
+    same(&rt, reported(list.as_slice(), 1), Some(Ok("ParseComplete")));
+    same(
+        &rt,
+        reported(list.as_slice(), 2),
+        Some(Ok("CommandComplete")),
+    );
+    same(
+        &rt,
+        reported(list.as_slice(), 3),
+        Some(Ok("AuthenticationOk")),
+    );
+    same(&rt, reported(list.as_slice(), 4), None);
     Ok(())
 }
 

@@ -9,7 +9,7 @@ pub returns-in-Err-clause-cause : goal.returns-in-Err-clause-cause
 returns-in-Err-clause-cause g c =
     let i = c.loop-item.invariant in
     let k = c.in-Err.ensures.put in
-    inr (record { xs = c.loop-item.yielded; x = c.in-Some.item; came = search rules; parts = i.2.0; at = c.loop-item.serializer; runs = i.2.1; cause = inr (omega arith, (k.0, c.in-Err.e, refl, Puts-at _ _ i.2.2 k.1)) })
+    inr (record { xs = c.loop-item.yielded; x = c.in-Some.item; received = search rules; parts = i.2.0; at = c.loop-item.serializer; runs = i.2.1; cause = inr (omega arith, (k.0, c.in-Err.e, refl, Puts-at _ _ i.2.2 k.1)) })
 
 pub loop-item-preserved : goal.loop-item-preserved
 loop-item-preserved g c =
@@ -26,7 +26,7 @@ returns-clause-ok g c =
     let i = c.loop-item.invariant in
     let n = Runs-length _ _ _ _ _ _ _ i.2.1 in
     let held = counted_up (λ p. p) i.2.0 _ _ _ _ _ i.2.2 c.len-base.ensures.value (omega arith) c.patch_u16.ensures in
-    record { xs = c.loop-item.yielded; came = search rules; parts = i.2.0; runs = i.2.1; fits = count_fits (length c.loop-item.yielded) (omega arith); appended = held }
+    record { xs = c.loop-item.yielded; received = search rules; parts = i.2.0; runs = i.2.1; fits = count_fits (length c.loop-item.yielded) (omega arith); appended = held }
 
 pub loop-item-init : goal.loop-item-init
 loop-item-init g c =

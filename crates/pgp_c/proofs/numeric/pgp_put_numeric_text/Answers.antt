@@ -15,7 +15,7 @@ returns-in-Ok-numeric_text_to_sql-clause-wrote c z =
     let bytes = numeric_bytes m.value in (
       m.value,
       subst (λ (t : List ℕ). TextMeans t m.value) c.in-Ok.ensures.cases.0 m.means,
-      wrote bytes bytes refl c.new-window.result c.numeric_text_to_sql.new.buf c.args.out.now _ c.new-window.ensures m.appended _ (search rules) _ c.sent.ensures.told,
+      wrote bytes bytes refl c.new-window.result c.numeric_text_to_sql.new.buf c.args.out.now _ c.new-window.ensures m.appended _ (search rules) _ c.sent.ensures.reported,
     )
 
 pub returns-in-Err-clause-refused : goal.returns-in-Err-clause-refused

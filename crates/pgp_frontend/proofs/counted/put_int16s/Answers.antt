@@ -30,7 +30,7 @@ returns-clause-ok g c =
 pub returns-then-count-clause-cause : goal.returns-then-count-clause-cause
 returns-then-count-clause-cause g c = (
   c.loop-item.yielded ++ c.in-Some.item ∷ [],
-  inr (record { before = c.loop-item.yielded; next = Some c.in-Some.item; came = search rules; none = count_fits (length c.loop-item.yielded) (omega arith); are = refl }),
+  inr (record { before = c.loop-item.yielded; next = Some c.in-Some.item; received = search rules; none = count_fits (length c.loop-item.yielded) (omega arith); are = refl }),
   inr (count_past (length (c.loop-item.yielded ++ c.in-Some.item ∷ [])) (omega (arith, length-append c.loop-item.yielded (c.in-Some.item ∷ [])))),
 )
 
@@ -44,4 +44,4 @@ returns-in_err-put_u16-2-clause-cause g c =
     let i = c.loop-item.invariant in
     let memory = c.in_err-put_u16-2.ensures.cause in
     if_err_at _ _ _ c.from_residual-in_err-put_u16-2.ensures.1
-    (c.loop-item.yielded ++ c.in-Some.item ∷ [], inr (record { before = c.loop-item.yielded; next = Some c.in-Some.item; came = search rules; none = count_fits (length c.loop-item.yielded) (omega arith); are = refl }), inl (memory.0, counted_wants int16 c.loop-item.yielded c.in-Some.item (g.B.Buffer.held c.args.buf.now) _ _ i.2 (omega (arith, int16_length c.in-Some.item)) memory.1))
+    (c.loop-item.yielded ++ c.in-Some.item ∷ [], inr (record { before = c.loop-item.yielded; next = Some c.in-Some.item; received = search rules; none = count_fits (length c.loop-item.yielded) (omega arith); are = refl }), inl (memory.0, counted_wants int16 c.loop-item.yielded c.in-Some.item (g.B.Buffer.held c.args.buf.now) _ _ i.2 (omega (arith, int16_length c.in-Some.item)) memory.1))

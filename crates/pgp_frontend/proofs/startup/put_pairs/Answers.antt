@@ -14,8 +14,8 @@ returns-in_err-write_cstr-clause-cause g c =
     let i = c.loop-name.invariant in
     if_err_at _ _ _ c.from_residual.ensures.1
     (elim c.in_err-write_cstr.ensures.0 [
-      | inl memory ↦ (_, inr (record { before = c.loop-name.yielded; next = Some (c.in-Some.name, c.in-Some.value); came = search rules; none = i.0; are = refl }), inl (memory.0, wants_then (g.B.Buffer.held c.args.buf.now) _ (flat_map pair (map (shown_by g.T.Text.shown) c.loop-name.yielded)) _ _ i.1 (omega (arith, pairs_length g.T.Text.shown c.loop-name.yielded c.in-Some.name c.in-Some.value _ _ c.bytes.ensures refl, length-append c.bytes.result.now (0 ∷ []))) memory.1))
-      | inr refused ↦ (_, inr (record { before = c.loop-name.yielded; next = Some (c.in-Some.name, c.in-Some.value); came = search rules; none = i.0; are = refl }), inr (name_refused g.T.Text.shown c.loop-name.yielded c.in-Some.name c.in-Some.value _ _ c.bytes.ensures refl _ i.0 refused))
+      | inl memory ↦ (_, inr (record { before = c.loop-name.yielded; next = Some (c.in-Some.name, c.in-Some.value); received = search rules; none = i.0; are = refl }), inl (memory.0, wants_then (g.B.Buffer.held c.args.buf.now) _ (flat_map pair (map (shown_by g.T.Text.shown) c.loop-name.yielded)) _ _ i.1 (omega (arith, pairs_length g.T.Text.shown c.loop-name.yielded c.in-Some.name c.in-Some.value _ _ c.bytes.ensures refl, length-append c.bytes.result.now (0 ∷ []))) memory.1))
+      | inr refused ↦ (_, inr (record { before = c.loop-name.yielded; next = Some (c.in-Some.name, c.in-Some.value); received = search rules; none = i.0; are = refl }), inr (name_refused g.T.Text.shown c.loop-name.yielded c.in-Some.name c.in-Some.value _ _ c.bytes.ensures refl _ i.0 refused))
     ])
 
 pub loop-name-preserved : goal.loop-name-preserved
@@ -30,8 +30,8 @@ returns-in_err-write_cstr-2-clause-cause g c =
     let i = c.loop-name.invariant in
     if_err_at _ _ _ c.from_residual-in_err-write_cstr-2.ensures.1
     (elim c.in_err-write_cstr-2.ensures.0 [
-      | inl memory ↦ (_, inr (record { before = c.loop-name.yielded; next = Some (c.in-Some.name, c.in-Some.value); came = search rules; none = i.0; are = refl }), inl (memory.0, wants_then (g.B.Buffer.held c.args.buf.now) _ (flat_map pair (map (shown_by g.T.Text.shown) c.loop-name.yielded)) _ _ i.1 (omega (arith, pairs_length g.T.Text.shown c.loop-name.yielded c.in-Some.name c.in-Some.value _ _ c.bytes.ensures c.bytes-in-loop-name.ensures, length-append c.bytes.result.now (0 ∷ []), length-append c.bytes-in-loop-name.result.now (0 ∷ []))) (wants_then _ _ (text c.bytes.result.now) _ (length (text c.bytes.result.now) + length (text c.bytes-in-loop-name.result.now)) c.in_ok-write_cstr.ensures.1 (omega arith) memory.1)))
-      | inr refused ↦ (_, inr (record { before = c.loop-name.yielded; next = Some (c.in-Some.name, c.in-Some.value); came = search rules; none = i.0; are = refl }), inr (value_refused g.T.Text.shown c.loop-name.yielded c.in-Some.name c.in-Some.value _ _ c.bytes.ensures c.bytes-in-loop-name.ensures _ i.0 c.in_ok-write_cstr.ensures.0 refused))
+      | inl memory ↦ (_, inr (record { before = c.loop-name.yielded; next = Some (c.in-Some.name, c.in-Some.value); received = search rules; none = i.0; are = refl }), inl (memory.0, wants_then (g.B.Buffer.held c.args.buf.now) _ (flat_map pair (map (shown_by g.T.Text.shown) c.loop-name.yielded)) _ _ i.1 (omega (arith, pairs_length g.T.Text.shown c.loop-name.yielded c.in-Some.name c.in-Some.value _ _ c.bytes.ensures c.bytes-in-loop-name.ensures, length-append c.bytes.result.now (0 ∷ []), length-append c.bytes-in-loop-name.result.now (0 ∷ []))) (wants_then _ _ (text c.bytes.result.now) _ (length (text c.bytes.result.now) + length (text c.bytes-in-loop-name.result.now)) c.in_ok-write_cstr.ensures.1 (omega arith) memory.1)))
+      | inr refused ↦ (_, inr (record { before = c.loop-name.yielded; next = Some (c.in-Some.name, c.in-Some.value); received = search rules; none = i.0; are = refl }), inr (value_refused g.T.Text.shown c.loop-name.yielded c.in-Some.name c.in-Some.value _ _ c.bytes.ensures c.bytes-in-loop-name.ensures _ i.0 c.in_ok-write_cstr.ensures.0 refused))
     ])
 
 pub returns-in_err-write_cstr-clause-err : goal.returns-in_err-write_cstr-clause-err
@@ -45,5 +45,5 @@ returns-clause-cause g c =
     let i = c.loop-name.invariant in
     let pairs = flat_map pair (map (shown_by g.T.Text.shown) c.loop-name.yielded) in
     if_err_map c.put_u8.result _ _ (λ e memory.
-    (c.loop-name.yielded, inr (record { before = c.loop-name.yielded; next = None; came = search rules; none = i.0; are = sym (append-nil c.loop-name.yielded) }), inl (memory.0, wants_then (g.B.Buffer.held c.args.buf.now) _ pairs 1 _ i.1 (omega (arith, length-append pairs (0 ∷ []))) memory.1)))
+    (c.loop-name.yielded, inr (record { before = c.loop-name.yielded; next = None; received = search rules; none = i.0; are = sym (append-nil c.loop-name.yielded) }), inl (memory.0, wants_then (g.B.Buffer.held c.args.buf.now) _ pairs 1 _ i.1 (omega (arith, length-append pairs (0 ∷ []))) memory.1)))
     c.put_u8.ensures.cause

@@ -23,7 +23,7 @@ pub returns-clause-ok : goal.returns-clause-ok
 returns-clause-ok g c =
     let i = c.loop-item.invariant in
     let n = Runs-length _ _ _ _ _ _ _ i.2.1 in
-    (i.2.0, record { xs = c.loop-item.yielded; came = search rules; made = i.2.1 }, values_fit i.2.0 (omega (arith, n)) (Runs-fit _ _ _ _ _ _ _ i.2.1), counted_up nullable i.2.0 _ _ _ _ _ i.2.2 c.len-base.ensures.value (omega (arith, n)) c.patch_u16.ensures)
+    (i.2.0, record { xs = c.loop-item.yielded; received = search rules; made = i.2.1 }, values_fit i.2.0 (omega (arith, n)) (Runs-fit _ _ _ _ _ _ _ i.2.1), counted_up nullable i.2.0 _ _ _ _ _ i.2.2 c.len-base.ensures.value (omega (arith, n)) c.patch_u16.ensures)
 
 pub returns-in-Err-clause-cause : goal.returns-in-Err-clause-cause
 returns-in-Err-clause-cause g c =

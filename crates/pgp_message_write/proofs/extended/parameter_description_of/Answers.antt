@@ -1,4 +1,4 @@
-use Rattle.pgp_base.specs.Calls.{Came}
+use Rattle.pgp_base.specs.Calls.{Yielded}
 use Rattle.pgp_base.specs.Cause.{count_cause}
 use Rattle.pgp_base.specs.Wire.{uint16}
 use Rattle.pgp_frontend.specs.Payload.{joined}
@@ -11,5 +11,5 @@ use Rattle.pgp_message_write.proofs.extended.parameter_description_of.Goals as g
 
 pub returns : goal.returns
 returns g c =
-    message_given (Came g.I.IntoIterator.into_iter_gives g.I.IntoIter.Iterator.next_gives c.args.types) count_cause (λ all. counted_list type_parts all) (λ all. counted_list type_parts all) 116 (λ all. types_of all)
+    message_given (Yielded g.I.IntoIterator.into_iter_gives g.I.IntoIter.Iterator.next_gives c.args.types) count_cause (λ all. counted_list type_parts all) (λ all. counted_list type_parts all) 116 (λ all. types_of all)
     (λ xs. refl) (λ xs. refl) (λ xs. counted_spelled (uint16 (length xs)) (joined (flat_map type_parts xs))) g.B.Buffer.Lacks (g.B.Buffer.held c.args.buf.now) _ c.given.result c.given.ensures

@@ -1,5 +1,5 @@
 use Rattle.std.proofs.Common.{arith, [], ◌++◌}
-use Rattle.pgp_base.specs.Calls.{Came}
+use Rattle.pgp_base.specs.Calls.{Yielded}
 use Rattle.pgp_base.proofs.Needs.{memory_more}
 use Rattle.pgp_base.proofs.Parts.{cut_back, front_then, left_same}
 use Rattle.pgp_frontend.specs.Payload.{framed, joined}
@@ -26,5 +26,5 @@ returns-in-Err g c = (
 pub returns-in_err-put_u8 : goal.returns-in_err-put_u8
 returns-in_err-put_u8 g c =
     let ps = parts_of c.args.head.now ++ list_parts c.args.ending g.T.Item.parts [] in
-    given_memory (Came g.I.IntoIterator.into_iter_gives g.I.IntoIter.Iterator.next_gives c.args.items) (number_cause c.args.ending) (λ xs. parts_of c.args.head.now ++ list_parts c.args.ending g.T.Item.parts xs) (λ xs. framed (Some c.args.tag) (joined (parts_of c.args.head.now ++ list_parts c.args.ending g.T.Item.parts xs)))
+    given_memory (Yielded g.I.IntoIterator.into_iter_gives g.I.IntoIter.Iterator.next_gives c.args.items) (number_cause c.args.ending) (λ xs. parts_of c.args.head.now ++ list_parts c.args.ending g.T.Item.parts xs) (λ xs. framed (Some c.args.tag) (joined (parts_of c.args.head.now ++ list_parts c.args.ending g.T.Item.parts xs)))
     _ _ (g.B.Buffer.held c.args.buf.now) _ c.from_residual.ensures.0 c.from_residual.ensures.1 (memory_more _ 1 _ _ (omega (arith, tagged_length c.args.tag (joined ps))) c.in_err-put_u8.ensures.cause) (left_same _ _ c.in_err-put_u8.ensures.err)

@@ -42,7 +42,7 @@ returns-then-count-clause-cause g c =
     let xs = c.loop-item.yielded in
     let ys = xs ++ c.in-Some.item ∷ [] in (
       ys,
-      inr (record { before = xs; next = Some c.in-Some.item; came = search rules; none = either_none (count_cause (length xs)) (parts_cause (counted_list g.T.Item.parts xs)) (count_fits (length xs) (omega arith)) c.loop-item.invariant.1.0; are = refl }),
+      inr (record { before = xs; next = Some c.in-Some.item; received = search rules; none = either_none (count_cause (length xs)) (parts_cause (counted_list g.T.Item.parts xs)) (count_fits (length xs) (omega arith)) c.loop-item.invariant.1.0; are = refl }),
       inr (either_first (count_cause (length ys)) (parts_cause (counted_list g.T.Item.parts ys)) _ (count_past (length ys) (omega (arith, length-append xs (c.in-Some.item ∷ []))))),
     )
 
@@ -57,7 +57,7 @@ returns-in_err-put-clause-cause g c =
     let ys = xs ++ c.in-Some.item ∷ [] in
     if_err_at _ _ _ c.from_residual-in_err-put.ensures.1 (
       ys,
-      inr (record { before = xs; next = Some c.in-Some.item; came = search rules; none = either_none (count_cause (length xs)) (parts_cause (counted_list g.T.Item.parts xs)) (count_fits (length xs) (omega arith)) i.1.0; are = refl }),
+      inr (record { before = xs; next = Some c.in-Some.item; received = search rules; none = either_none (count_cause (length xs)) (parts_cause (counted_list g.T.Item.parts xs)) (count_fits (length xs) (omega arith)) i.1.0; are = refl }),
       counted_refused g.T.Item.parts ys (g.B.Buffer.held c.args.buf.now) _ (count_fits (length ys) (omega (arith, length-append xs (c.in-Some.item ∷ []))))
           (more_refused g.T.Item.parts xs c.in-Some.item (g.B.Buffer.held c.args.buf.now ⊕ uint16 0) _ _ i.1 c.in_err-put.ensures.cause),
     )

@@ -1,7 +1,7 @@
 use Rattle.std.proofs.Common.{rules, arith, [], ◌∷◌, ◌++◌, refl, inl, inr, None, Some, sym, length, length-append, ap}
 use Rattle.std.specs.List.{flat_map}
 use Rattle.std.proofs.lemmas.List.{append-nil}
-use Rattle.pgp_base.specs.Calls.{Came}
+use Rattle.pgp_base.specs.Calls.{Yielded}
 use Rattle.pgp_base.proofs.Needs.{if_err_map, memory_then}
 use Rattle.pgp_base.proofs.Parts.{if_err_at}
 use Rattle.pgp_frontend.specs.Payload.{Byte, joined}
@@ -20,14 +20,14 @@ returns-in_err-put-clause-cause g c =
     let ys = xs ++ c.in-Some.item ∷ [] in
     if_err_at _ _ _ c.from_residual.ensures.1 (
       ys,
-      inr (record { before = xs; next = Some c.in-Some.item; came = search rules; none = marked_none g.T.Item.parts xs i.0; are = refl }),
+      inr (record { before = xs; next = Some c.in-Some.item; received = search rules; none = marked_none g.T.Item.parts xs i.0; are = refl }),
       refused_before (flat_map g.T.Item.parts ys) (Byte 0 ∷ []) (g.B.Buffer.held c.args.buf.now) _
           (more_refused g.T.Item.parts xs c.in-Some.item (g.B.Buffer.held c.args.buf.now) _ _ i c.in_err-put.ensures.cause),
     )
 
 pub returns-clause-ok : goal.returns-clause-ok
 returns-clause-ok g c =
-    marked_put g.T.Item.parts c.loop-item.yielded (Came g.I.IntoIterator.into_iter_gives g.I.IntoIter.Iterator.next_gives c.args.items) _ _ _ (search rules) c.loop-item.invariant c.put_u8.result c.put_u8.ensures.ok
+    marked_put g.T.Item.parts c.loop-item.yielded (Yielded g.I.IntoIterator.into_iter_gives g.I.IntoIter.Iterator.next_gives c.args.items) _ _ _ (search rules) c.loop-item.invariant c.put_u8.result c.put_u8.ensures.ok
 
 pub returns-clause-cause : goal.returns-clause-cause
 returns-clause-cause g c =
@@ -36,6 +36,6 @@ returns-clause-cause g c =
     let items = joined (flat_map g.T.Item.parts xs) in
     if_err_map c.put_u8.result _ _ (λ e memory. (
       xs,
-      inr (record { before = xs; next = None; came = search rules; none = marked_none g.T.Item.parts xs i.0; are = sym (append-nil xs) }),
+      inr (record { before = xs; next = None; received = search rules; none = marked_none g.T.Item.parts xs i.0; are = sym (append-nil xs) }),
       inl (memory_then (g.B.Buffer.held c.args.buf.now) _ items 1 _ e i.1 (omega (arith, ap length (joined-append (flat_map g.T.Item.parts xs) (Byte 0 ∷ [])), length-append items (0 ∷ []))) memory),
     )) c.put_u8.ensures.cause

@@ -48,7 +48,7 @@ returns-then-count-eq2147483647-clause-cause g c =
     let xs = c.loop-item.yielded in
     let ys = xs ++ c.in-Some.item ∷ [] in (
       ys,
-      inr (record { before = xs; next = Some c.in-Some.item; came = search rules; none = either_none (length_cause (length xs)) (parts_cause (wide_list g.T.Item.parts xs)) (length_fits (length xs) (omega (arith, i.0, i.1))) i.2.0; are = refl }),
+      inr (record { before = xs; next = Some c.in-Some.item; received = search rules; none = either_none (length_cause (length xs)) (parts_cause (wide_list g.T.Item.parts xs)) (length_fits (length xs) (omega (arith, i.0, i.1))) i.2.0; are = refl }),
       inr (either_first (length_cause (length ys)) (parts_cause (wide_list g.T.Item.parts ys)) _ (length_past (length ys) (omega (arith, i.0, length-append xs (c.in-Some.item ∷ []))))),
     )
 
@@ -63,7 +63,7 @@ returns-in_err-put-clause-cause g c =
     let ys = xs ++ c.in-Some.item ∷ [] in
     if_err_at _ _ _ c.from_residual-in_err-put.ensures.1 (
       ys,
-      inr (record { before = xs; next = Some c.in-Some.item; came = search rules; none = either_none (length_cause (length xs)) (parts_cause (wide_list g.T.Item.parts xs)) (length_fits (length xs) (omega (arith, i.0, i.1))) i.2.0; are = refl }),
+      inr (record { before = xs; next = Some c.in-Some.item; received = search rules; none = either_none (length_cause (length xs)) (parts_cause (wide_list g.T.Item.parts xs)) (length_fits (length xs) (omega (arith, i.0, i.1))) i.2.0; are = refl }),
       wide_refused g.T.Item.parts ys (g.B.Buffer.held c.args.buf.now) _ (length_fits (length ys) (omega (arith, i.0, i.1, length-append xs (c.in-Some.item ∷ []))))
           (more_refused g.T.Item.parts xs c.in-Some.item (g.B.Buffer.held c.args.buf.now ⊕ uint32 0) _ _ i.2 c.in_err-put.ensures.cause),
     )

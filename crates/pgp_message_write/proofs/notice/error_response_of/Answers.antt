@@ -1,4 +1,4 @@
-use Rattle.pgp_base.specs.Calls.{Came}
+use Rattle.pgp_base.specs.Calls.{Yielded}
 use Rattle.pgp_message.specs.BackendMessage.{ErrorResponse}
 use Rattle.pgp_message_write.proofs.GivenLists.{marked_view, message_given}
 use Rattle.pgp_message_write.proofs.Written.{marked_joined}
@@ -12,5 +12,5 @@ use Rattle.pgp_message_write.proofs.notice.error_response_of.Goals as goal
 
 pub returns : goal.returns
 returns g c =
-    message_given (Came g.I.IntoIterator.into_iter_gives g.I.IntoIter.Iterator.next_gives c.args.fields) uncounted (λ all. marked_list (λ x. field_parts (shown_field x)) all) (λ all. marked_list field_parts (map shown_field all)) 69 (λ all. ErrorResponse (fields_of (map shown_field all)))
+    message_given (Yielded g.I.IntoIterator.into_iter_gives g.I.IntoIter.Iterator.next_gives c.args.fields) uncounted (λ all. marked_list (λ x. field_parts (shown_field x)) all) (λ all. marked_list field_parts (map shown_field all)) 69 (λ all. ErrorResponse (fields_of (map shown_field all)))
     (marked_view shown_field field_parts) (λ xs. refl) (λ xs. marked_joined (flat_map field_parts (map shown_field xs))) g.B.Buffer.Lacks (g.B.Buffer.held c.args.buf.now) _ c.given.result c.given.ensures

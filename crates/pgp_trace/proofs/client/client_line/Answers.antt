@@ -5,7 +5,7 @@ use Rattle.pgp_frontend_read.specs.Views.{kind_view, view}
 use Rattle.pgp_trace.specs.Client.{client_line}
 use Rattle.pgp_line.specs.Line.{closing}
 use Rattle.pgp_trace.specs.Listing.{client_front}
-use Rattle.pgp_trace.specs.Sides.{is_told}
+use Rattle.pgp_trace.specs.Sides.{is_reported}
 use Rattle.pgp_trace.proofs.ClientLines.{message_passed, refusal_passed, refusal_rests}
 use Rattle.pgp_trace.proofs.client.client_line.Goals as goal
 
@@ -17,7 +17,7 @@ returns-in_ok-message_line-in-Ok-Some-clause-listed g c =
     let line = string_bytes c.message_line.new.line in
     let x = view c.in-Ok-Some.message in
     let step : Step (kind_view c.expected.result) c.resume-messages.result (Ok (Some x)) c.next.new.self = search rules in
-    let has : line ≡ client_line c.args.style (is_told c.args.kinds.now) (Ok x) (client_front c.args.style c.args.place c.args.opened frame) ++ closing c.args.style ++ 10 ∷ [] = search rules in
+    let has : line ≡ client_line c.args.style (is_reported c.args.kinds.now) (Ok x) (client_front c.args.style c.args.place c.args.opened frame) ++ closing c.args.style ++ 10 ∷ [] = search rules in
     message_passed c.args.style c.args.place c.args.opened c.is_open.result c.args.kinds.now c.kinds_behind-left.result.now bytes frame rest line (kind_view c.expected.result) x c.resume-messages.result c.next.new.self
     c.resume-messages.ensures c.rest-behind.ensures c.is_open.ensures c.expected.ensures step c.front_of-frame.ensures has c.kinds_behind-left.ensures
 
@@ -30,7 +30,7 @@ returns-in_ok-refusal_line-in-Err-clause-listed g c =
     let e = c.in-Err.refusal in
     let step : Refuses (kind_view c.expected.result) c.resume-messages.result e c.next.new.self = search rules in
     let differ : length rest ≡ length bytes → ⊥ = λ h. search rules in
-    let has : line ≡ client_line c.args.style (is_told c.args.kinds.now) (Err e) (client_front c.args.style c.args.place c.args.opened frame) ++ closing c.args.style ++ 10 ∷ [] = search rules in
+    let has : line ≡ client_line c.args.style (is_reported c.args.kinds.now) (Err e) (client_front c.args.style c.args.place c.args.opened frame) ++ closing c.args.style ++ 10 ∷ [] = search rules in
     refusal_passed c.args.style c.args.place c.args.opened c.is_open-in-Err.result c.args.kinds.now c.kinds_behind-left-in-Err.result.now bytes frame rest line (kind_view c.expected.result) e c.resume-messages.result c.next.new.self
     c.resume-messages.ensures c.rest-behind-in-Err.ensures c.is_open-in-Err.ensures c.expected.ensures step differ c.front_of-frame-in-Err.ensures has c.kinds_behind-left-in-Err.ensures
 

@@ -4,11 +4,11 @@ use Rattle.pgp_message.specs.Stream.{TakesFrame}
 use Rattle.pgp_message.specs.Views.{view}
 use Rattle.pgp_message.proofs.Steps.{taken_by}
 use Rattle.pgp_trace.specs.Steps.{IsFrameOf}
-use Rattle.pgp_trace.proofs.FrameLines.{taken_frame, line_here, fault_told}
+use Rattle.pgp_trace.proofs.FrameLines.{taken_frame, line_here, fault_reported}
 use Rattle.pgp_trace.proofs.frame.server_line.Goals as goal
 
-pub message_line-told-requires : goal.message_line-told-requires
-message_line-told-requires g c =
+pub message_line-reported-requires : goal.message_line-reported-requires
+message_line-reported-requires g c =
     let old = c.args.bytes.now in
     let new = c.next.new.self in
     let step : TakesFrame c.new-messages.result (Ok (view c.in-Ok-Some.message)) new = search rules in
@@ -29,6 +29,6 @@ returns-in_ok-fault_line-in-Err g c =
     c.front_of-frame-in-Err.ensures ∙ ap (λ (l : List ℕ). take (length old - length l) old) c.rest-behind-in-Err.ensures in
     let framed : IsFrameOf frame (Err e) = subst (λ l. IsFrameOf l (Err e)) (sym is) (taken_frame old new (Err e) t) in
     record {
-      listed = rw c.rest-behind-in-Err.ensures (line_here c.args.style c.args.place old new frame (string_bytes c.fault_line.new.line) (Err e) t is (fault_told c.args.style c.args.place frame e framed (string_bytes c.fault_line.new.line) c.in_ok-fault_line-in-Err.ensures.line));
+      listed = rw c.rest-behind-in-Err.ensures (line_here c.args.style c.args.place old new frame (string_bytes c.fault_line.new.line) (Err e) t is (fault_reported c.args.style c.args.place frame e framed (string_bytes c.fault_line.new.line) c.in_ok-fault_line-in-Err.ensures.line));
       lacks = tt;
     }

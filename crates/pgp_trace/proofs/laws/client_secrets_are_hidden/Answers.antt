@@ -1,4 +1,4 @@
-use Rattle.pgp_trace.proofs.ClientHiding.{password, initial, response, key, untold}
+use Rattle.pgp_trace.proofs.ClientHiding.{password, initial, response, key, unreported}
 use Rattle.pgp_trace.proofs.laws.client_secrets_are_hidden.Goals as goal
 
 pub returns-clause-password : goal.returns-clause-password
@@ -13,5 +13,5 @@ returns-clause-response c = response
 pub returns-clause-key : goal.returns-clause-key
 returns-clause-key c = key
 
-pub returns-clause-untold : goal.returns-clause-untold
-returns-clause-untold c = untold
+pub returns-clause-unreported : goal.returns-clause-unreported
+returns-clause-unreported c = unreported

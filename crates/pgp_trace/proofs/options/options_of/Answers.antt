@@ -1,13 +1,13 @@
 use Rattle.std.proofs.Common.{◌+◌, rules, refl, map, drop}
 use Rattle.std.proofs.lemmas.List.{take_rest}
-use Rattle.pgp_trace.proofs.OptionLemmas.{came_wrong, place_more, place_left}
+use Rattle.pgp_trace.proofs.OptionLemmas.{received_wrong, place_more, place_left}
 use Rattle.pgp_trace.proofs.options.options_of.Goals as goal
 
 pub returns-in_default-clause-other : goal.returns-in_default-clause-other
 returns-in_default-clause-other g c =
     let words = c.args.words.now in
     let rest = map (λ word. word.now) (drop c.each.at words) in
-    came_wrong (map (λ word. word.now) words) rest c.each.options.json c.each.options.full c.each.options.secrets c.each.options.resume c.each.options.kinds.items c.each.invariant.1 (place_left (λ word. word.now) words c.each.at c.each-test.true) (rw take_rest at c.in_default.ensures.none)
+    received_wrong (map (λ word. word.now) words) rest c.each.options.json c.each.options.full c.each.options.secrets c.each.options.resume c.each.options.kinds.items c.each.invariant.1 (place_left (λ word. word.now) words c.each.at c.each-test.true) (rw take_rest at c.in_default.ensures.none)
 
 pub each-preserved : goal.each-preserved
 each-preserved g c =

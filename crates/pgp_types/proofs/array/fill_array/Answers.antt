@@ -8,7 +8,7 @@ pub returns-in_err-nulls-clause-cause : goal.returns-in_err-nulls-clause-cause
 returns-in_err-nulls-clause-cause g c =
     let k = c.in_ok-put_head.ensures.ok in
     if_err_at _ _ _ c.from_residual-in_err-nulls.ensures.1
-    (inr (record { all = k.0; came = k.1; fits = k.3; stops = stops_at g.B.Buffer.held (goal.F-step g) _ c.args.serializer.now c.put_elements.new.serializer _ _ g.B.Buffer.Lacks _ k.4 c.in_err-nulls.ensures.cause }))
+    (inr (record { all = k.0; received = k.1; fits = k.3; stops = stops_at g.B.Buffer.held (goal.F-step g) _ c.args.serializer.now c.put_elements.new.serializer _ _ g.B.Buffer.Lacks _ k.4 c.in_err-nulls.ensures.cause }))
 
 pub patch_u32-requires : goal.patch_u32-requires
 patch_u32-requires g c =
@@ -24,7 +24,7 @@ returns-clause-ok g c =
     let made = made_at g.B.Buffer.held (goal.F-step g) _ c.args.serializer.now c.put_elements.new.serializer _ _ v.0 k.4 v.1 in
     record {
       array = array;
-      came = k.1;
+      received = k.1;
       in_range = k.2;
       type = refl;
       made = made;

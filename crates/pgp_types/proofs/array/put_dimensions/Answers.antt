@@ -24,7 +24,7 @@ returns-clause-ok g c =
 
 pub returns-then-count-eq2147483647-clause-cause : goal.returns-then-count-eq2147483647-clause-cause
 returns-then-count-eq2147483647-clause-cause g c =
-    inr (record { before = c.loop-dimension.yielded; last = c.in-Some.dimension; came = search rules; full = omega arith }, refl)
+    inr (record { before = c.loop-dimension.yielded; last = c.in-Some.dimension; received = search rules; full = omega arith }, refl)
 
 pub returns-in_err-put_dimension-clause-cause : goal.returns-in_err-put_dimension-clause-cause
 returns-in_err-put_dimension-clause-cause g c =
@@ -35,7 +35,7 @@ returns-in_err-put_dimension-clause-cause g c =
       memory.0,
       (
         c.loop-dimension.yielded ++ c.in-Some.dimension ∷ [],
-        inr (record { before = c.loop-dimension.yielded; next = Some c.in-Some.dimension; came = search rules; are = refl }),
+        inr (record { before = c.loop-dimension.yielded; next = Some c.in-Some.dimension; received = search rules; are = refl }),
         wants_then (g.B.Buffer.held c.args.buf.now) _ (flat_map dimension_bytes c.loop-dimension.yielded) 8 _ i.3 (omega (arith, dimensions_length c.loop-dimension.yielded, length-append c.loop-dimension.yielded (c.in-Some.dimension ∷ []))) memory.1,
       ),
     ))

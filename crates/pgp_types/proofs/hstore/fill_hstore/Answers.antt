@@ -50,7 +50,7 @@ returns-in_err-put_nullable-clause-cause g c =
             memory.0,
             (
               items,
-              inr (record { before = c.loop-key.yielded; next = Some x; came = search rules; are = refl }),
+              inr (record { before = c.loop-key.yielded; next = Some x; received = search rules; are = refl }),
               wants_then (g.B.Buffer.held c.args.buf.now) (g.B.Buffer.held c.args.buf.now ⊕ uint32 0) (uint32 0) need _ refl (omega (arith, all, length-append k v, length-uint32 0, length-uint32 n, length-append (uint32 n) (flat_map entry_bytes (shown_entries items))))
                   (wants_then (g.B.Buffer.held c.args.buf.now ⊕ uint32 0) _ front (length k) need c.loop-key.invariant.3 (omega arith) memory.1),
             ),
@@ -82,7 +82,7 @@ returns-in_err-put_nullable-2-clause-cause g c =
             memory.0,
             (
               items,
-              inr (record { before = c.loop-key.yielded; next = Some x; came = search rules; are = refl }),
+              inr (record { before = c.loop-key.yielded; next = Some x; received = search rules; are = refl }),
               wants_then (g.B.Buffer.held c.args.buf.now) (g.B.Buffer.held c.args.buf.now ⊕ uint32 0) (uint32 0) need _ refl (omega (arith, all, length-append k v, length-uint32 0, length-uint32 n, length-append (uint32 n) (flat_map entry_bytes (shown_entries items))))
                   (wants_then (g.B.Buffer.held c.args.buf.now ⊕ uint32 0) _ front (length k + length v) need c.loop-key.invariant.3 (omega arith) (wants_then _ _ k (length v) _ c.in_ok-put_nullable.ensures.ok.1 (omega arith) memory.1)),
             ),

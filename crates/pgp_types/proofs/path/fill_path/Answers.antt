@@ -46,7 +46,7 @@ returns-in_err-point_to_sql-clause-cause g c =
       memory.0,
       (
         items,
-        inr (record { before = c.loop-x.yielded; next = Some (c.in-Some.x, c.in-Some.y); came = search rules; are = refl }),
+        inr (record { before = c.loop-x.yielded; next = Some (c.in-Some.x, c.in-Some.y); received = search rules; are = refl }),
         wants_then old (old ⊕ flag) flag _ _ refl whole
             (wants_then (old ⊕ flag) (old ⊕ flag ⊕ uint32 0) (uint32 0) (length front + length next) _ refl (omega (arith, length-uint32 0))
             (wants_then (old ⊕ flag ⊕ uint32 0) _ front _ _ c.loop-x.invariant.2 (omega arith) memory.1)),

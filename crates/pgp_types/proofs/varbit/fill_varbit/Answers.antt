@@ -35,7 +35,7 @@ returns-in_err-put_u8-clause-cause g c =
       memory.0,
       (
         bytes,
-        inr (record { before = c.loop-byte.yielded; next = Some c.in-Some.byte; came = search rules; are = refl }),
+        inr (record { before = c.loop-byte.yielded; next = Some c.in-Some.byte; received = search rules; are = refl }),
         wants_then (g.B.Buffer.held c.args.buf.now) _ (uint32 c.args.len ++ c.loop-byte.yielded) 1 _ held
             (omega (arith, length-append (uint32 c.args.len) c.loop-byte.yielded, length-append (uint32 c.args.len) bytes, length-append c.loop-byte.yielded (c.in-Some.byte ∷ []))) memory.1,
       ),

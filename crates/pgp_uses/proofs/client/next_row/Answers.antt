@@ -8,5 +8,5 @@ returns-in-Ok-None g c = none_given g.A.Memory.Lacks (shown c.args.connection.no
 
 pub returns-in-Ok-Some : goal.returns-in-Ok-Some
 returns-in-Ok-Some g c =
-    is_so c.args.name c.came_as.result (shown c.args.connection.now) (shown c.next.new.self) c.in-Ok-Some.event (view c.in-Ok-Some.message) c.came_as.ensures
+    is_so c.args.name c.received_as.result (shown c.args.connection.now) (shown c.next.new.self) c.in-Ok-Some.event (view c.in-Ok-Some.message) c.received_as.ensures
     (some_given g.A.Memory.Lacks (shown c.args.connection.now) (shown c.next.new.self) c.in-Ok-Some.field-0 c.in-Ok-Some.event c.in-Ok-Some.message c.in-Ok-Some.field-0-is c.in-Ok-Some.ensures)

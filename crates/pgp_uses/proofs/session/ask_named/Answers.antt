@@ -3,7 +3,7 @@ use Rattle.std.specs.Iterator.Adapters.{once_item, once_steps}
 use Rattle.std.specs.Option.{option_len}
 use Rattle.std.specs.declared.iter.Once.{Once}
 use Rattle.std.proofs.lemmas.Iterator.Adapters.{YieldsList-from_once}
-use Rattle.pgp_base.specs.Calls.{Came}
+use Rattle.pgp_base.specs.Calls.{Yielded}
 use Rattle.pgp_frontend.specs.ClientMessage.{ClientMessage, Parse, Describe, Execute, Sync}
 use Rattle.pgp_base.specs.Held.{Held}
 use Rattle.pgp_frontend.specs.Given.{ParseWhole}
@@ -21,13 +21,13 @@ use Rattle.pgp_uses.proofs.session.ask_named.Goals as goal
 abbrev FromNone : Type 0 → Option ℕ → Once ℕ → Type 0
 FromNone Ends source it = (once_item it ≡ source) × (option_len (once_item it) ≤ 1) × Ends
 
-all_types : {Ends : Type 0} (xs : List ℕ) → Came (FromNone Ends) once_steps None xs None → xs ≡ []
+all_types : {Ends : Type 0} (xs : List ℕ) → Yielded (FromNone Ends) once_steps None xs None → xs ≡ []
 all_types {Ends} xs k = all_same (FromNone Ends) once_steps None [] (λ it from. YieldsList-from_once None from.0) xs k
 
-some_types : {Ends : Type 0} (xs : List ℕ) (x : ℕ) → Came (FromNone Ends) once_steps None xs (Some x) → ⊥
+some_types : {Ends : Type 0} (xs : List ℕ) (x : ℕ) → Yielded (FromNone Ends) once_steps None xs (Some x) → ⊥
 some_types {Ends} xs x k = none_of_none xs x (some_same (FromNone Ends) once_steps None [] (λ it from. YieldsList-from_once None from.0) xs x k)
 
-parsed : {Ends B K : Type 0} (name sql : List ℕ) (held : B → Held K) (old new : Sent B) → old.opened ≡ true → (m : ClientMessage) × ParseWhole name sql (Came (FromNone Ends) once_steps None) m × IsAdded held m old new
+parsed : {Ends B K : Type 0} (name sql : List ℕ) (held : B → Held K) (old new : Sent B) → old.opened ≡ true → (m : ClientMessage) × ParseWhole name sql (Yielded (FromNone Ends) once_steps None) m × IsAdded held m old new
     → AreAdded held (Parse name sql [] ∷ []) old new
 parsed name sql held old new opens w = one_more held [] w.0 (Parse name sql []) old old new (none_yet held old opens) (w.1.2 ∙ ap (λ ts. Parse name sql ts) (all_types w.1.0 w.1.1)) w.2
 

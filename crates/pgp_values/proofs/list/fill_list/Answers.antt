@@ -45,7 +45,7 @@ returns-in_err-put-clause-cause g c =
             memory.0,
             (
               items,
-              inr (record { before = c.loop-item.yielded; next = Some x; came = search rules; are = refl }),
+              inr (record { before = c.loop-item.yielded; next = Some x; received = search rules; are = refl }),
               wants_then (g.B.Buffer.held c.args.buf.now) (g.B.Buffer.held c.args.buf.now ⊕ uint32 0) (uint32 0) need _ refl (omega (arith, all, length-uint32 0, length-uint32 n, length-append (uint32 n) (flat_map written (map meaning items))))
                   (wants_then (g.B.Buffer.held c.args.buf.now ⊕ uint32 0) _ front (length (written (meaning x))) need c.loop-item.invariant.3 (omega arith) memory.1),
             ),

@@ -43,7 +43,7 @@ returns-in_err-xid8_to_sql-clause-cause g c =
       memory.0,
       (
         items,
-        inr (record { before = c.loop-id.yielded; next = Some c.in-Some.id; came = search rules; are = refl }),
+        inr (record { before = c.loop-id.yielded; next = Some c.in-Some.id; received = search rules; are = refl }),
         wants_then old (old ⊕ uint32 0) (uint32 0) (length bounds + (length front + length next)) _ refl (omega (arith, length-uint32 0))
             (wants_then (old ⊕ uint32 0) (old ⊕ uint32 0 ⊕ bounds) bounds (length front + length next) _ refl (omega arith)
             (wants_then (old ⊕ uint32 0 ⊕ bounds) _ front _ _ c.loop-id.invariant.2 (omega arith) memory.1)),

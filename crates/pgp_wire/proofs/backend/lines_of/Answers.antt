@@ -41,6 +41,6 @@ returns-clause-lines g c =
     let next = g.R.Read.remaining c.read_rest.new.input in
     let parser = c.list_piece-2.new.parser in
     let lines = string_bytes c.list_piece-2.new.text in
-    let came = subst (λ l. Consumes now next l) (sym c.as_slice.ensures.value) c.in_ok-last.ensures.consumes in
-    let so_far = lists_more old now next c.loop.parser parser c.as_slice.result.now (string_bytes c.loop.text) lines c.loop.invariant came c.in_ok-list_piece.ensures.lines in
+    let received = subst (λ l. Consumes now next l) (sym c.as_slice.ensures.value) c.in_ok-last.ensures.consumes in
+    let so_far = lists_more old now next c.loop.parser parser c.as_slice.result.now (string_bytes c.loop.text) lines c.loop.invariant received c.in_ok-list_piece.ensures.lines in
     lists_all old next next parser lines (string_bytes c.list_rest-2.new.text) c.stopped-2.result (length c.rest-2.result.now) so_far (Consumes-nil next) c.in_ok-last.ensures.end c.stopped-2.ensures (ap length c.rest-2.ensures) c.in_ok-list_rest.ensures.line

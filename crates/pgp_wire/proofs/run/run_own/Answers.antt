@@ -5,5 +5,5 @@ pub returns : goal.returns
 returns g c = record {
   complaint = c.obey_own.result.complaint.now;
   obeyed = rw c.tell.ensures.status c.obey_own.ensures;
-  said = c.tell.ensures.told;
+  said = c.tell.ensures.reported;
 }

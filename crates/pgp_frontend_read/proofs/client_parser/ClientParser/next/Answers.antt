@@ -20,8 +20,8 @@ returns-in_err-size g c =
     let sizes : Sizes limits opened (held ++ piece) (Err e) = subst (λ l. Sizes limits opened (l ++ piece) (Err e)) slice c.in_err-size.ensures in
     let all = size_refused lacks limits opened held piece e sizes in
     let is : c.from_residual.result ≡ Err e = refused c.from_residual.result e c.from_residual.ensures.1 in
-    let told : Parses lacks c.args.self.now piece c.from_residual.result (waiting held opened limits) piece = subst (λ (r : Result (Option ClientFrame) ParserError). Parses lacks c.args.self.now piece r (waiting held opened limits) piece) (sym is) (subst (λ (w : Waiting). Parses lacks w piece (Err e) (waiting held opened limits) piece) old all) in
-    ((refl, (λ x. tt), told), record { whole = whole_of lacks c.args.self.now piece c.from_residual.result (waiting held opened limits) piece told; parses = tt })
+    let reported : Parses lacks c.args.self.now piece c.from_residual.result (waiting held opened limits) piece = subst (λ (r : Result (Option ClientFrame) ParserError). Parses lacks c.args.self.now piece r (waiting held opened limits) piece) (sym is) (subst (λ (w : Waiting). Parses lacks w piece (Err e) (waiting held opened limits) piece) old all) in
+    ((refl, (λ x. tt), reported), record { whole = whole_of lacks c.args.self.now piece c.from_residual.result (waiting held opened limits) piece reported; parses = tt })
 
 pub returns-in_err-frame : goal.returns-in_err-frame
 returns-in_err-frame g c =
@@ -43,8 +43,8 @@ returns-in_err-frame g c =
     let alone = piece_refused lacks limits opened piece rest e now within off in
     let all : Parses lacks (waiting held opened limits) piece (Err e) (waiting held now limits) rest = rw there.0 alone in
     let is : c.from_residual-in_err-frame.result ≡ Err e = refused c.from_residual-in_err-frame.result e c.from_residual-in_err-frame.ensures.1 in
-    let told : Parses lacks c.args.self.now piece c.from_residual-in_err-frame.result (waiting held now limits) rest = subst (λ (r : Result (Option ClientFrame) ParserError). Parses lacks c.args.self.now piece r (waiting held now limits) rest) (sym is) (subst (λ (w : Waiting). Parses lacks w piece (Err e) (waiting held now limits) rest) old all) in
-    ((refl, (λ x. tt), told), record { whole = whole_of lacks c.args.self.now piece c.from_residual-in_err-frame.result (waiting held now limits) rest told; parses = tt })
+    let reported : Parses lacks c.args.self.now piece c.from_residual-in_err-frame.result (waiting held now limits) rest = subst (λ (r : Result (Option ClientFrame) ParserError). Parses lacks c.args.self.now piece r (waiting held now limits) rest) (sym is) (subst (λ (w : Waiting). Parses lacks w piece (Err e) (waiting held now limits) rest) old all) in
+    ((refl, (λ x. tt), reported), record { whole = whole_of lacks c.args.self.now piece c.from_residual-in_err-frame.result (waiting held now limits) rest reported; parses = tt })
 
 pub returns-then-is_in_piece : goal.returns-then-is_in_piece
 returns-then-is_in_piece g c =
@@ -65,8 +65,8 @@ returns-then-is_in_piece g c =
     let off : TakesOff opened piece (Ok frame) now rest = c.in_ok-frame.ensures in
     let alone = piece_taken lacks limits opened piece rest frame now within off in
     let all : Parses lacks (waiting held opened limits) piece (Ok (Some frame)) (waiting held now limits) rest = rw there.0 alone in
-    let told : Parses lacks c.args.self.now piece (Ok (Some frame)) (waiting held now limits) rest = subst (λ (w : Waiting). Parses lacks w piece (Ok (Some frame)) (waiting held now limits) rest) old all in
-    ((refl, (λ x. tt), told), record { whole = whole_of lacks c.args.self.now piece (Ok (Some frame)) (waiting held now limits) rest told; parses = tt })
+    let reported : Parses lacks c.args.self.now piece (Ok (Some frame)) (waiting held now limits) rest = subst (λ (w : Waiting). Parses lacks w piece (Ok (Some frame)) (waiting held now limits) rest) old all in
+    ((refl, (λ x. tt), reported), record { whole = whole_of lacks c.args.self.now piece (Ok (Some frame)) (waiting held now limits) rest reported; parses = tt })
 
 pub returns-in-Err : goal.returns-in-Err
 returns-in-Err g c =
@@ -85,8 +85,8 @@ returns-in-Err g c =
     let e = c.in-Err.e in
     let done : Completes lacks opened held piece (Err e) new rest = c.in-Err.ensures in
     let all = held_refused lacks limits opened held piece sizes.0 new rest e cut done in
-    let told : Parses lacks c.args.self.now piece (Err e) (waiting new opened limits) rest = subst (λ (w : Waiting). Parses lacks w piece (Err e) (waiting new opened limits) rest) old all in
-    ((refl, (λ x. tt), told), record { whole = tt; parses = tt })
+    let reported : Parses lacks c.args.self.now piece (Err e) (waiting new opened limits) rest = subst (λ (w : Waiting). Parses lacks w piece (Err e) (waiting new opened limits) rest) old all in
+    ((refl, (λ x. tt), reported), record { whole = tt; parses = tt })
 
 pub returns-in-Ok-None : goal.returns-in-Ok-None
 returns-in-Ok-None g c =
@@ -103,8 +103,8 @@ returns-in-Ok-None g c =
     let rest : List ℕ = c.complete.new.piece.now in
     let done : Completes lacks opened held piece (Ok None) new rest = search rules in
     let all = held_waits lacks limits opened held piece sizes.0 new rest done in
-    let told : Parses lacks c.args.self.now piece (Ok None) (waiting new opened limits) rest = subst (λ (w : Waiting). Parses lacks w piece (Ok None) (waiting new opened limits) rest) old all in
-    ((refl, (λ x. tt), told), record { whole = whole_of lacks c.args.self.now piece (Ok None) (waiting new opened limits) rest told; parses = tt })
+    let reported : Parses lacks c.args.self.now piece (Ok None) (waiting new opened limits) rest = subst (λ (w : Waiting). Parses lacks w piece (Ok None) (waiting new opened limits) rest) old all in
+    ((refl, (λ x. tt), reported), record { whole = whole_of lacks c.args.self.now piece (Ok None) (waiting new opened limits) rest reported; parses = tt })
 
 pub invariant_of-self-in-Ok-None : goal.invariant_of-self-in-Ok-None
 invariant_of-self-in-Ok-None g c =
@@ -133,5 +133,5 @@ returns-in-Ok-Some g c =
     let done : Completes lacks opened held piece (Ok (Some now)) new rest = search rules in
     let frame : ClientFrame = record { bytes = c.as_slice-bytes.result; opened = opened } in
     let all = held_handed lacks limits opened held piece sizes.0 new rest frame now (record { phase = refl; same = c.as_slice-bytes.ensures.value }) done in
-    let told : Parses lacks c.args.self.now piece (Ok (Some frame)) (waiting [] now limits) rest = subst (λ (w : Waiting). Parses lacks w piece (Ok (Some frame)) (waiting [] now limits) rest) old all in
-    ((refl, (λ x. tt), told), record { whole = whole_of lacks c.args.self.now piece (Ok (Some frame)) (waiting [] now limits) rest told; parses = tt })
+    let reported : Parses lacks c.args.self.now piece (Ok (Some frame)) (waiting [] now limits) rest = subst (λ (w : Waiting). Parses lacks w piece (Ok (Some frame)) (waiting [] now limits) rest) old all in
+    ((refl, (λ x. tt), reported), record { whole = whole_of lacks c.args.self.now piece (Ok (Some frame)) (waiting [] now limits) rest reported; parses = tt })

@@ -9,7 +9,7 @@ use Rattle.pgp_frontend.specs.Payload.{Int32, minor_code, minor_of, parts, parts
 use Rattle.pgp_frontend.specs.Reading.{IsNamed}
 use Rattle.pgp_frontend.specs.ClientRun.{IsStartup, is_startup}
 use Rattle.pgp_session.proofs.Additions.{same_phase, first_added, first_stays, left, still}
-use Rattle.pgp_session.proofs.StartupPairs.{minor_ours, came_all, came_so_far, startup_wants, front_refused}
+use Rattle.pgp_session.proofs.StartupPairs.{minor_ours, received_all, received_so_far, startup_wants, front_refused}
 use Rattle.pgp_session.proofs.client_stream.ClientStream.startup_message_version.Goals as goal
 
 pub returns-in-Ok : goal.returns-in-Ok
@@ -17,8 +17,8 @@ returns-in-Ok g c =
     let all = c.args.parameters.now in
     let road : YieldsList (copies fronts) (λ x. x) c.copied.result all = YieldsList-from_copied (YieldsList-from_slice all cc) in
     let e = c.in-Ok.ensures in
-    let came = e.whole.1 in
-    let xs = came_all (copies fronts) came.iterator all (subst (λ s. YieldsList (copies fronts) (λ x. x) s all) (sym came.from) road) e.whole.0 came.left came.came in
+    let received = e.whole.1 in
+    let xs = received_all (copies fronts) received.iterator all (subst (λ s. YieldsList (copies fronts) (λ x. x) s all) (sym received.from) road) e.whole.0 received.left received.received in
     let is : e.message ≡ Startup (minor_of c.args.version) (map shown all) = e.whole.2 ∙ ap (λ l. Startup (minor_of c.args.version) (map shown l)) xs in
     rw (← c.self.view_is) (e.message, is, first_added g.B.Buffer.held c.self.inside.buf c.startup_message_version.new.buf c.self.inside.opened c.self.invariant e.message (ap is_startup e.whole.2) (same_phase c.self.view_is c.requires.opening) (subst IsStartup (sym is) tt) (subst IsNamed (sym is) c.requires.named) (subst IsOurs (sym is) (minor_ours c.args.version)) e.in_range e.none e.appended)
 
@@ -27,8 +27,8 @@ invariant_of-self g c =
     let all = c.args.parameters.now in
     let road : YieldsList (copies fronts) (λ x. x) c.copied.result all = YieldsList-from_copied (YieldsList-from_slice all cc) in
     let e = c.in-Ok.ensures in
-    let came = e.whole.1 in
-    let xs = came_all (copies fronts) came.iterator all (subst (λ s. YieldsList (copies fronts) (λ x. x) s all) (sym came.from) road) e.whole.0 came.left came.came in
+    let received = e.whole.1 in
+    let xs = received_all (copies fronts) received.iterator all (subst (λ s. YieldsList (copies fronts) (λ x. x) s all) (sym received.from) road) e.whole.0 received.left received.received in
     let is : e.message ≡ Startup (minor_of c.args.version) (map shown all) = e.whole.2 ∙ ap (λ l. Startup (minor_of c.args.version) (map shown l)) xs in
     first_stays g.B.Buffer.held c.self.inside.buf c.startup_message_version.new.buf c.self.inside.opened c.self.invariant e.message (ap is_startup e.whole.2) (same_phase c.self.view_is c.requires.opening) (subst IsStartup (sym is) tt) (subst IsNamed (sym is) c.requires.named) (subst IsOurs (sym is) (minor_ours c.args.version)) e.in_range e.none e.appended
 
@@ -41,14 +41,14 @@ returns-in-Err g c =
       elim c.in-Err.ensures.0 [
         | inl k ↦
             (let so_far = k.1 in
-            let front = came_so_far _ (copies fronts) c.copied.result all (λ s from. subst (λ s. YieldsList (copies fronts) (λ x. x) s all) (sym from) road) so_far.0 shown_pairs so_far.1 in
+            let front = received_so_far _ (copies fronts) c.copied.result all (λ s from. subst (λ s. YieldsList (copies fronts) (λ x. x) s all) (sym from) road) so_far.0 shown_pairs so_far.1 in
             elim k.2 [
               | inl memory ↦ inl (memory.0, startup_wants (minor_of c.args.version) all so_far.0 (g.B.Buffer.held c.self.inside.buf) front (subst (λ m. Wants g.B.Buffer.Lacks (g.B.Buffer.held c.self.inside.buf) (length (bytes_of m))) so_far.2 memory.1))
               | inr cause ↦ inr (front_refused (minor_of c.args.version) all front.0 e (ap (λ l. parts_cause (Int32 (minor_code (minor_of c.args.version)) ∷ shown_pairs l ∷ [])) (sym front.1) ∙ (ap (λ m. parts_cause (parts m)) (sym so_far.2) ∙ cause)))
             ])
         | inr r ↦
-            (let came = r.1.1 in
-            let xs = came_all (copies fronts) came.iterator all (subst (λ s. YieldsList (copies fronts) (λ x. x) s all) (sym came.from) road) r.1.0 came.left came.came in
+            (let received = r.1.1 in
+            let xs = received_all (copies fronts) received.iterator all (subst (λ s. YieldsList (copies fronts) (λ x. x) s all) (sym received.from) road) r.1.0 received.left received.received in
             inr (ap (λ l. cause (Startup (minor_of c.args.version) (map shown l))) (sym xs) ∙ ap cause (sym r.1.2) ∙ r.3))
       ],
       left g.B.Buffer.held c.self.inside.buf c.startup_message_version.new.buf c.self.inside.opened c.self.invariant c.in-Err.ensures.1,

@@ -14,7 +14,7 @@ returns-in-Ok-hear g c =
     inl (record {
       taken = taken_ok (taken (talk_of (λ q. q.items) c.args.self.now.dialogue) (kind_of m)) c.in-Ok.event (talk_of (λ q. q.items) c.take_message.new.self) c.in-Ok.ensures;
       goes_on = sym c.is_end.ensures ∙ c.if-is_end.false;
-      logged = logs_on _ g.A.Memory.Lacks (seen c.args.self.now.login) (seen c.hear.new.self) c.args.self.now.out.items c.hear.new.out.items (asking m) c.in-Ok-hear.ensures.heard;
+      logged = logs_on _ g.A.Memory.Lacks (seen c.args.self.now.login) (seen c.hear.new.self) c.args.self.now.out.items c.hear.new.out.items (asking m) c.in-Ok-hear.ensures.observed;
       is = refl;
     })
 
@@ -23,4 +23,4 @@ returns-in-Err-hear g c =
     let m = view c.args.message.now in
     let talk = talk_of (λ q. q.items) c.take_message.new.self in
     let is = taken_ok (taken (talk_of (λ q. q.items) c.args.self.now.dialogue) (kind_of m)) c.in-Ok.event talk c.in-Ok.ensures in
-    (inr ((c.in-Ok.event, talk), is, sym c.is_end.ensures ∙ c.if-is_end.false, (seen c.hear.new.self, c.hear.new.out.items, c.in-Err-hear.ensures.heard)), c.in-Err-hear.ensures.kept)
+    (inr ((c.in-Ok.event, talk), is, sym c.is_end.ensures ∙ c.if-is_end.false, (seen c.hear.new.self, c.hear.new.out.items, c.in-Err-hear.ensures.observed)), c.in-Err-hear.ensures.kept)

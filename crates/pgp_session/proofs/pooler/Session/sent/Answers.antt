@@ -11,9 +11,9 @@ returns-then-awaits c =
       below = λ low. omega (arith, c.saturating_add-self.ensures, low);
       full = λ full. omega (arith, c.saturating_add-self.ensures, full);
     } in
-    λ sent came saw. saw_asked sent came c.args.self.now saw (view c.args.message.now) c.saturating_add-self.result c.waits-self.result awaited c.waits-self.ensures next
+    λ sent received saw. saw_asked sent received c.args.self.now saw (view c.args.message.now) c.saturating_add-self.result c.waits-self.result awaited c.waits-self.ensures next
 
 pub returns-else-awaits : goal.returns-else-awaits
 returns-else-awaits c =
     let other : awaits (view c.args.message.now) ≡ false = sym c.awaits.ensures ∙ c.if-awaits.false in
-    λ sent came saw. saw_sent sent came c.args.self.now saw (view c.args.message.now) c.waits-self.result other c.waits-self.ensures
+    λ sent received saw. saw_sent sent received c.args.self.now saw (view c.args.message.now) c.waits-self.result other c.waits-self.ensures

@@ -3,7 +3,7 @@ use Rattle.std.specs.Iterator.Adapters.{once_item, once_steps}
 use Rattle.std.specs.Option.{option_len}
 use Rattle.std.specs.declared.iter.Once.{Once}
 use Rattle.std.proofs.lemmas.Iterator.Adapters.{YieldsList-from_once}
-use Rattle.pgp_base.specs.Calls.{Came}
+use Rattle.pgp_base.specs.Calls.{Yielded}
 use Rattle.postgres_protocol.specs.OneValue.{unnamed}
 use Rattle.pgp_frontend.proofs.Lists.{all_same, some_same}
 use Rattle.postgres_protocol.proofs.StepLemmas.{first_of_one, none_of_none}
@@ -19,7 +19,7 @@ returns g c =
     let held = g.B.Buffer.held in
     record {
       last = c.bind.ensures.0;
-      binds = one_binds held (goal.F-step g) g.B.Buffer.Lacks unnamed (Came (FromOption _) once_steps (Some (pos 1))) (Came (FromOption _) once_steps (Some 0)) (Came (FromOption _) once_steps None)
+      binds = one_binds held (goal.F-step g) g.B.Buffer.Lacks unnamed (Yielded (FromOption _) once_steps (Some (pos 1))) (Yielded (FromOption _) once_steps (Some 0)) (Yielded (FromOption _) once_steps None)
           (λ xs k. all_same (FromOption _) once_steps (Some (pos 1)) (pos 1 ∷ []) (λ it from. YieldsList-from_once (Some (pos 1)) from.0) xs k)
           (λ xs x k. (first_of_one (pos 1) xs x (some_same (FromOption _) once_steps (Some (pos 1)) (pos 1 ∷ []) (λ it from. YieldsList-from_once (Some (pos 1)) from.0) xs x k)).1)
           (λ xs k. all_same (FromOption _) once_steps (Some 0) (0 ∷ []) (λ it from. YieldsList-from_once (Some 0) from.0) xs k)

@@ -5,7 +5,7 @@ use Rattle.pgp_frontend.specs.Payload.{tag_of, kind_of, payload}
 use Rattle.pgp_frontend.specs.Reading.{IsSpelled}
 use Rattle.pgp_types.specs.Array.{array_bytes}
 use Rattle.postgres_protocol.specs.ArraySteps.{array_of, binding}
-use Rattle.pgp_frontend.proofs.ClientRuns.{same_tag, is_told, kind_there}
+use Rattle.pgp_frontend.proofs.ClientRuns.{same_tag, is_reported, kind_there}
 use Rattle.postgres_protocol.proofs.laws.array.bound_arrays_read_back.Goals as goal
 
 not_there : {A : Type 0} (o : Option A) → is_some o ≡ false → o ≡ None
@@ -27,7 +27,7 @@ returns c = λ dimensions element_type vs is fits none.
       spelled = spelled;
       message = λ n more rest t s e.
           let tag = same_tag (tag_of n) (tag_of m) (payload n) (payload m) rest more t tagged e in
-          let kind : kind_of n ≡ None = not_there (kind_of n) (kind_there n ∙ ap is_told tag) in
+          let kind : kind_of n ≡ None = not_there (kind_of n) (kind_there n ∙ ap is_reported tag) in
           c.frames_begin_no_other.ensures.messages n m rest more t tagged kind s spelled e;
       value = value;
       only = λ r read. back.one (array_bytes (array_of dimensions element_type vs)) r _ read value;

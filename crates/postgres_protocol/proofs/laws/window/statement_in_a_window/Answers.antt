@@ -2,7 +2,7 @@ use Rattle.std.proofs.Common.{◌≡◌, sym, subst}
 use Rattle.std.proofs.iter.Yields.{copies, fronts}
 use Rattle.std.proofs.lemmas.Iterator.{YieldsList, YieldsList-from_slice}
 use Rattle.std.proofs.lemmas.Iterator.Consumers.{YieldsList-from_copied}
-use Rattle.pgp_base.specs.Calls.{Came}
+use Rattle.pgp_base.specs.Calls.{Yielded}
 use Rattle.pgp_base.specs.Window.{window_held, window_lacks}
 use Rattle.pgp_frontend.specs.ClientMessage.{Parse}
 use Rattle.postgres_protocol.proofs.Rooms.{message_by_room, parse_adds}
@@ -18,7 +18,7 @@ returns c =
     let all = c.args.types.now in
     let source = c.copied.result in
     let road : YieldsList (copies fronts) (λ x. x) source all = YieldsList-from_copied (YieldsList-from_slice all cc) in
-    let adds = parse_adds c.args.name.now c.args.query.now all (Came FromItself (copies fronts) source)
+    let adds = parse_adds c.args.name.now c.args.query.now all (Yielded FromItself (copies fronts) source)
     (λ xs k. all_same FromItself (copies fronts) source all (λ it from. subst (λ s. YieldsList (copies fronts) (λ x. x) s all) (sym from) road) xs k)
     (λ xs x k. some_same FromItself (copies fronts) source all (λ it from. subst (λ s. YieldsList (copies fronts) (λ x. x) s all) (sym from) road) xs x k)
     window_held window_lacks _ _ c.parse.result c.parse.ensures in

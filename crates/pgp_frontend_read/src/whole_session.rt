@@ -70,7 +70,7 @@ fn next_kind(kinds: &[PasswordKind]) -> PasswordKind
 fn kinds_behind<'k>(message: &ClientMessage, kinds: &'k [PasswordKind]) -> &'k [PasswordKind]
     ensures { map kind_view result.now ≡ kinds_behind (view message.now) (map kind_view kinds.now) }
 {
-    if !is_told(message) {
+    if !is_reported(message) {
         return kinds;
     }
     match kinds {
@@ -80,7 +80,7 @@ fn kinds_behind<'k>(message: &ClientMessage, kinds: &'k [PasswordKind]) -> &'k [
 }
 
 /// Whether a server is given the message's kind.
-fn is_told(message: &ClientMessage) -> bool
+fn is_reported(message: &ClientMessage) -> bool
     ensures { result ≡ is_some (kind_of (view message.now)) }
 {
     match message {

@@ -37,27 +37,30 @@ impl Changes {
     }
 
     /// Adds what came in the place of the frame of this number and after it.
-    fn add_reading(&mut self, at: usize, before: &Reading, came: &Reading) {
+    fn add_reading(&mut self, at: usize, before: &Reading, received: &Reading) {
         self.streams = self.streams.saturating_add(1);
-        self.sum.plain(&came.value().to_be_bytes());
-        self.more.fail(came.fault);
-        if !is_front_same(at, before, came) {
+        self.sum.plain(&received.value().to_be_bytes());
+        self.more.fail(received.fault);
+        if !is_front_same(at, before, received) {
             self.wrong = self.wrong.saturating_add(1);
         }
-        if !is_back_same(at.saturating_add(1), before, came) {
-            self.add_more(at, came);
-        } else if let Some(entry) = came.entries.get(at) {
+        if !is_back_same(at.saturating_add(1), before, received) {
+            self.add_more(at, received);
+        } else if let Some(entry) = received.entries.get(at) {
             add_entry(&mut self.alone, entry);
         }
     }
 
     /// Adds what was read from this number on, and how it ended.
-    fn add_more(&mut self, at: usize, came: &Reading) {
-        for entry in came.entries.iter().skip(at) {
+    fn add_more(&mut self, at: usize, received: &Reading) {
+        for entry in received.entries.iter().skip(at) {
             add_entry(&mut self.more, entry);
         }
-        self.more
-            .add(if came.is_stopped { "stopped" } else { "waits" });
+        self.more.add(if received.is_stopped {
+            "stopped"
+        } else {
+            "waits"
+        });
     }
 }
 
@@ -68,28 +71,28 @@ fn add_entry(tally: &mut Tally, entry: &Entry) {
 }
 
 /// Whether there are as many results here as there, each the same.
-fn are_same(before: &[Entry], came: &[Entry]) -> bool {
-    for (one, other) in before.iter().zip(came) {
+fn are_same(before: &[Entry], received: &[Entry]) -> bool {
+    for (one, other) in before.iter().zip(received) {
         if !one.is_same(other) {
             return false;
         }
     }
-    before.len() == came.len()
+    before.len() == received.len()
 }
 
 /// Whether so many results in front are the same.
-fn is_front_same(count: usize, before: &Reading, came: &Reading) -> bool {
-    match (before.entries.get(..count), came.entries.get(..count)) {
-        (Some(before), Some(came)) => are_same(before, came),
+fn is_front_same(count: usize, before: &Reading, received: &Reading) -> bool {
+    match (before.entries.get(..count), received.entries.get(..count)) {
+        (Some(before), Some(received)) => are_same(before, received),
         _ => false,
     }
 }
 
 /// Whether the results from this one on are the same, and nothing is left.
-fn is_back_same(at: usize, before: &Reading, came: &Reading) -> bool {
-    match (before.entries.get(at..), came.entries.get(at..)) {
+fn is_back_same(at: usize, before: &Reading, received: &Reading) -> bool {
+    match (before.entries.get(at..), received.entries.get(at..)) {
         (Some(before), Some(back)) => {
-            !came.is_stopped && came.rest == 0 && are_same(before, back)
+            !received.is_stopped && received.rest == 0 && are_same(before, back)
         }
         _ => false,
     }
@@ -99,9 +102,9 @@ fn is_back_same(at: usize, before: &Reading, came: &Reading) -> bool {
 fn add_stream(at: usize, cut: usize, before: &Reading, bytes: &[u8], changes: &mut Changes) {
     let in_place = read(changes.alloc, Way::InPlace, &[bytes]).value();
     let (front, back) = bytes.split_at(cut.min(bytes.len()));
-    let came = read(changes.alloc, Way::Whole, &[front, back]);
-    changes.add_reading(at, before, &came);
-    if in_place != came.value() {
+    let received = read(changes.alloc, Way::Whole, &[front, back]);
+    changes.add_reading(at, before, &received);
+    if in_place != received.value() {
         changes.wrong = changes.wrong.saturating_add(1);
     }
 }

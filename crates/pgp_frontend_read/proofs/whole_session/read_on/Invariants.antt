@@ -1,7 +1,7 @@
 use Rattle.std.proofs.Common.{map, length}
 use Rattle.pgp_frontend_read.specs.Reads.{HasRead}
 use Rattle.pgp_frontend_read.specs.Views.{kind_view, view}
-use Rattle.pgp_frontend_read.proofs.session.read_on.Given as goal
+use Rattle.pgp_frontend_read.proofs.whole_session.read_on.Given as goal
 
 -- the messages so far are those of steps, and these kinds are left
 abbrev pub invariant-messages : goal.invariant-messages

@@ -5,7 +5,7 @@ use Rattle.pgp_frontend_read.specs.Step.{Step}
 use Rattle.pgp_frontend_read.specs.Reads.{HasRead, next_kind}
 use Rattle.pgp_frontend_read.specs.Views.{kind_view, view}
 use Rattle.pgp_frontend_read.proofs.Sessions.{one_more, ends_with, shorter}
-use Rattle.pgp_frontend_read.proofs.session.read_on.Goals as goal
+use Rattle.pgp_frontend_read.proofs.whole_session.read_on.Goals as goal
 
 pub messages-smaller : goal.messages-smaller
 messages-smaller g c =
@@ -15,9 +15,9 @@ messages-smaller g c =
 pub messages-preserved : goal.messages-preserved
 messages-preserved g c =
     let step : Step (kind_view c.next_kind.result) c.messages.reader (Ok (Some (view c.in-Ok-Some.message))) c.next.new.self = search rules in
-    let told : Step (next_kind (map kind_view c.messages.rest.now)) c.messages.reader (Ok (Some (view c.in-Ok-Some.message))) c.next.new.self = rw (← c.next_kind.ensures) step in
+    let reported : Step (next_kind (map kind_view c.messages.rest.now)) c.messages.reader (Ok (Some (view c.in-Ok-Some.message))) c.next.new.self = rw (← c.next_kind.ensures) step in
     let pushed : c.push.new.list.items ≡ c.messages.messages.items ++ c.in-Ok-Some.message ∷ [] = search rules in
-    let more = one_more (map kind_view c.args.kinds.now) (map kind_view c.messages.rest.now) c.args.reader.now c.messages.reader c.next.new.self (map view c.messages.messages.items) (view c.in-Ok-Some.message) c.messages.invariant told in
+    let more = one_more (map kind_view c.args.kinds.now) (map kind_view c.messages.rest.now) c.args.reader.now c.messages.reader c.next.new.self (map view c.messages.messages.items) (view c.in-Ok-Some.message) c.messages.invariant reported in
     let old : List ClientMessage = map view c.messages.messages.items in
     let behind : HasRead (map kind_view c.args.kinds.now) c.args.reader.now (old ++ view c.in-Ok-Some.message ∷ []) (map kind_view c.kinds_behind-rest.result.now) c.next.new.self =
     subst (λ (ks : List PasswordKind). HasRead (map kind_view c.args.kinds.now) c.args.reader.now (old ++ view c.in-Ok-Some.message ∷ []) ks c.next.new.self) (sym c.kinds_behind-rest.ensures) more in
