@@ -57,7 +57,7 @@ Shows bytes (Bind portal statement formats values result_formats) p =
     × (stands bytes p.first ≡ portal) × (stands bytes p.second ≡ statement) × Lists bytes p.formats (flat_map int16 formats) (length formats)
     × Lists bytes p.items (flat_map nullable values) (length values) × Lists bytes p.result_formats (flat_map int16 result_formats) (length result_formats)
 Shows bytes (Close variant name) p = ShowsName bytes p variant name
-Shows bytes (CopyData data) p = ShowsOne bytes p data
+Shows bytes (CopyData z) p = ShowsOne bytes p z
 Shows bytes (CopyFail message) p = ShowsOne bytes p message
 Shows bytes (Describe variant name) p = ShowsName bytes p variant name
 Shows bytes (Execute portal max_rows) p = (p ≡ record no_client_parts { first = p.first; number = max_rows }) × (stands bytes p.first ≡ portal)

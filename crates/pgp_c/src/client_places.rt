@@ -99,12 +99,7 @@ pub fn parts(message: &ClientMessage<'_>, frame: usize) -> PgpClientParts
             name,
             query,
             param_types,
-        } => parse(
-            frame,
-            name.len(),
-            query.len(),
-            param_types.size_hint().0,
-        ),
+        } => parse(frame, name.len(), query.len(), param_types.size_hint().0),
         ClientMessage::PasswordMessage(password) => one(5, password.len()),
         ClientMessage::Query(query) => one(5, query.len()),
         ClientMessage::SaslInitialResponse {

@@ -1,0 +1,8 @@
+use Rattle.std.proofs.Common.{rules, Ok, Err, Some, None}
+use Rattle.pgp_frontend_read.specs.Views.{kind_view, view}
+use Rattle.pgp_frontend_read.specs.declared.error.ClientError.TheVariants.{UnknownPacket, Reading}
+use Rattle.pgp_c.proofs.ClientFronts.{reports}
+use Rattle.pgp_c.proofs.client_front.front.Goals as goal
+
+pub returns-in-Ok-Some : goal.returns-in-Ok-Some
+returns-in-Ok-Some c = reports (kind_view c.args.kind) c.args.bytes.now c.args.is_open (Ok (Some (view c.in-Ok-Some.kept))) _ _ _ (search rules) (search rules) (search rules) (search rules) (search rules) (search rules) (search rules) (search rules) (search rules)
