@@ -289,7 +289,7 @@ module _ (bytes new : List ℕ) (frame : ℕ) where
   placed : (m : ClientMessage) → bytes ≡ bytes_of m ++ new → frame ≡ length (bytes_of m) → frame ≤ length bytes → Placed bytes m frame
   placed (Bind portal statement formats values results) whole size room = bind_placed room portal statement formats values results whole size
   placed (Close variant name) whole size room =
-      let t = name_behind 67 _ variant name whole (sized 67 _ size) in
+      let t = name_behind 67 (length (payload (Close variant name)) + 4) variant name whole (sized 67 (payload (Close variant name)) size) in
       ((refl, t.0), inside_one frame 6 (length name) (pos 0) variant false t.1)
   placed (CopyData z) whole size room =
       let t = bytes_alone 100 _ z whole (sized 100 _ size) in
@@ -299,7 +299,7 @@ module _ (bytes new : List ℕ) (frame : ℕ) where
       let t = text_alone 102 _ z whole (sized 102 _ size) in
       ((refl, t.0), inside_one frame 5 (length z) (pos 0) 0 false t.1)
   placed (Describe variant name) whole size room =
-      let t = name_behind 68 _ variant name whole (sized 68 _ size) in
+      let t = name_behind 68 (length (payload (Describe variant name)) + 4) variant name whole (sized 68 (payload (Describe variant name)) size) in
       ((refl, t.0), inside_one frame 6 (length name) (pos 0) variant false t.1)
   placed (Execute portal max_rows) whole size room = execute_placed portal max_rows whole size
   placed Flush whole size room = (refl, inside_none frame (pos 0))
@@ -343,7 +343,7 @@ left_is kind bytes opened (Ok (Some m)) new s = front_left bytes (bytes_of m) ne
 left_is kind bytes opened (Err e) new s = elim s.left [
   | inl k ↦ none_left bytes new.bytes (ap (λ (u : Unread). u.bytes) k.same)
   | inr k ↦ elim k [
-    | inl k ↦ front_left bytes _ new.bytes k.whole
+    | inl k ↦ front_left bytes (framed (Some k.tag) k.payload) new.bytes k.whole
     | inr k ↦ none_left bytes new.bytes (ap (λ (u : Unread). u.bytes) k.same)
   ]
 ]

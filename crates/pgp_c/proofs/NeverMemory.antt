@@ -1,7 +1,9 @@
 -- No part has lack of memory as its cause.
 use Rattle.std.proofs.Common.{◌≡◌, ℕ, ◌+◌, pos, List, [], ◌∷◌, length, Option, Some, None, sym, ap, ◌∙◌, arith, inl, inr}
+use Rattle.std.specs.List.{flat_map}
 use Rattle.std.proofs.lemmas.Bool.{cases_lt}
 use Rattle.pgp_base.specs.Cause.{Cause, either, count_cause, length_cause}
+use Rattle.pgp_base.specs.Wire.{uint16}
 use Rattle.pgp_base.specs.declared.error.Error.{Error}
 use Rattle.pgp_base.specs.declared.error.Error.TheVariants.{OutOfMemory, TooLarge}
 use Rattle.pgp_base.proofs.Causes.{count_fits, count_past, either_first}
@@ -9,6 +11,8 @@ use Rattle.pgp_frontend.specs.ClientMessage.{ClientMessage, Bind, CancelRequest,
 use Rattle.pgp_frontend.specs.Payload.{Part, Byte, Int16, Int32, Oid, Text, Int16s, Oids, Values, Nullable, Rest, Key, Pairs, frame_cause, joined, part_cause, parts, parts_cause}
 use Rattle.pgp_frontend.proofs.Causes.{never_memory, parts_first}
 use Rattle.pgp_message_write.specs.Given.{items_cause}
+use Rattle.pgp_message_write.specs.Lists.{format_parts, type_parts, with_list}
+use Rattle.pgp_c.specs.Replies.{formats_cause, types_cause}
 use Rattle.pgp_c.proofs.Putting.{IsLarge, length_large}
 
 abbrev pub Never : Cause → Type 0
@@ -60,3 +64,12 @@ never_frame ps h = never_either (parts_cause ps) (length_cause (length (joined p
 
 pub never_items : {A : Type 0} (number : ℕ → Cause) (ps : List A → List Part) → ((n : ℕ) → Never (number n)) → (xs : List A) → Never (items_cause number ps xs)
 never_items number ps never xs h = never_either (number (length xs)) (parts_cause (ps xs)) (never (length xs)) (never_parts (ps xs)) h
+
+-- the causes of lists of numbers
+pub never_types : (types : List ℕ) → Never (types_cause types)
+never_types types h = never_either (count_cause (length types)) (frame_cause (with_list (Rest (uint16 (length types)) ∷ []) (flat_map type_parts types) [])) (never_count (length types)) (never_frame (with_list (Rest (uint16 (length types)) ∷ []) (flat_map type_parts types) [])) h
+
+pub never_formats : (format : ℕ) (formats : List ℕ) → Never (formats_cause format formats)
+never_formats format formats h =
+    never_either (count_cause (length formats)) (frame_cause (with_list (Byte format ∷ Rest (uint16 (length formats)) ∷ []) (flat_map format_parts formats) [])) (never_count (length formats))
+    (never_frame (with_list (Byte format ∷ Rest (uint16 (length formats)) ∷ []) (flat_map format_parts formats) [])) h

@@ -17,13 +17,13 @@ use Rattle.pgp_base.specs.Window.{window_held, window_lacks}
 use Rattle.pgp_base.specs.declared.error.Error.{Error}
 use Rattle.pgp_base.specs.declared.window.Window.{Window}
 use Rattle.pgp_base.proofs.Parts.{length-uint16}
-use Rattle.pgp_frontend.specs.Payload.{Part, joined}
+use Rattle.pgp_frontend.specs.Payload.{Part, Int32, joined}
 use Rattle.pgp_frontend.proofs.Lists.{all_given, some_given}
 use Rattle.pgp_frontend.proofs.Needs.{int32_length, tagged_length}
 use Rattle.pgp_message.specs.BackendMessage.{Message, Authentication, AuthenticationSasl, ErrorResponse, NoticeResponse}
 use Rattle.pgp_message.specs.Items.{ErrorPart, FieldPart}
 use Rattle.pgp_message_write.specs.Given.{WritesGiven, items_cause, uncounted}
-use Rattle.pgp_message_write.specs.Lists.{column_parts, field_parts, text_parts, value_parts}
+use Rattle.pgp_message_write.specs.Lists.{column_parts, field_parts, text_parts, value_parts, wide_list}
 use Rattle.pgp_message_write.specs.Reply.{bytes_of, description_of, fields_of, names_of, negotiation_of, row_of}
 use Rattle.pgp_message_write.proofs.Lists.{joined-append}
 use Rattle.pgp_c.specs.Replying.{NotRepliedList, RepliedList}
@@ -114,3 +114,12 @@ module _ {S F C R V : Type 0} (view : R → V) (of : C → V) (number : ℕ → 
   pub made_not_replied : ((n : ℕ) → Never (number n)) → (code reported : ℕ) → (e : Error) × (r ≡ Err e) × (code ≡ number_of e) × (reported ≡ 0) → NotRepliedList number ps (message (map of all)) (map of all) old reported code
   made_not_replied never code reported ended =
       list_not_replied view (Yielded FromItself (maps steps g) source) number ps message (map of all) all_made some_made none_first longer w v old name new r writes never code reported ended
+
+-- a version that is handed on comes back
+pub negotiated : (v n : ℤ) → n ≡ v → (xs : List (List ℕ)) (old new : List ℕ) (reported : ℕ) → RepliedList length_cause (λ all. Int32 n ∷ wide_list text_parts all) (negotiation_of n xs) xs old new reported
+    → RepliedList length_cause (λ all. Int32 v ∷ wide_list text_parts all) (negotiation_of v xs) xs old new reported
+negotiated v n is xs old new reported r = subst (λ (v : ℤ). RepliedList length_cause (λ all. Int32 v ∷ wide_list text_parts all) (negotiation_of v xs) xs old new reported) is r
+
+pub not_negotiated : (v n : ℤ) → n ≡ v → (xs : List (List ℕ)) (old : List ℕ) (reported code : ℕ) → NotRepliedList length_cause (λ all. Int32 n ∷ wide_list text_parts all) (negotiation_of n xs) xs old reported code
+    → NotRepliedList length_cause (λ all. Int32 v ∷ wide_list text_parts all) (negotiation_of v xs) xs old reported code
+not_negotiated v n is xs old reported code r = subst (λ (v : ℤ). NotRepliedList length_cause (λ all. Int32 v ∷ wide_list text_parts all) (negotiation_of v xs) xs old reported code) is r

@@ -1,8 +1,7 @@
-use Rattle.std.proofs.Common.{rules, length}
-use Rattle.pgp_base.specs.Cause.{count_cause}
+use Rattle.std.proofs.Common.{rules}
 use Rattle.pgp_message_write.specs.Reply.{bytes_of, types_of}
 use Rattle.pgp_c.specs.Replies.{types_cause}
-use Rattle.pgp_c.proofs.NeverMemory.{never_count, never_either, never_frame}
+use Rattle.pgp_c.proofs.NeverMemory.{never_types}
 use Rattle.pgp_c.proofs.Replies.{refused_ended, sent_ended}
 use Rattle.pgp_c.proofs.reply_numbers.pgp_reply_parameter_description.Goals as goal
 
@@ -12,4 +11,4 @@ returns-clause-sent c z =
 
 pub returns-clause-refused : goal.returns-clause-refused
 returns-clause-refused c z =
-    refused_ended (bytes_of (types_of c.args.types.now)) c.new-window.result c.parameter_description-answer.new.buf c.args.out.now _ c.new-window.ensures (types_cause c.args.types.now) (never_either (count_cause (length c.args.types.now)) _ (never_count (length c.args.types.now)) (never_frame _)) c.parameter_description-answer.result c.parameter_description-answer.ensures _ _ (c.ended.ensures.refused z)
+    refused_ended (bytes_of (types_of c.args.types.now)) c.new-window.result c.parameter_description-answer.new.buf c.args.out.now _ c.new-window.ensures (types_cause c.args.types.now) (never_types c.args.types.now) c.parameter_description-answer.result c.parameter_description-answer.ensures _ _ (c.ended.ensures.refused z)
