@@ -180,6 +180,11 @@ static void login(void)
     same("chosen", pgp_scram_server_first(B(stored), PGP_OFFER_CHOSEN, B("hash"), B(own), B("p=tls-server-end-point,,n=,r=abc"), out, sizeof out, &n), PGP_OK); is("nonce", out, 6, "r=abc%", 6);
     same("no verifier", pgp_scram_server_first(B("md5"), PGP_OFFER_NONE, NULL, 0, B(own), B(first), out, sizeof out, &n), PGP_NOT_A_VERIFIER); same("no nonce", pgp_scram_server_first(B(stored), PGP_OFFER_NONE, NULL, 0, B("a,b"), B(first), out, sizeof out, &n), PGP_BAD_NONCE);
     same("no offer", pgp_scram_server_first(B(stored), 3, NULL, 0, B(own), B(first), out, sizeof out, &n), PGP_BAD_BINDING); same("nothing", n, 0);
+    same("clear text", pgp_scram_check(B(stored), B("pencil")), PGP_OK); same("another", pgp_scram_check(B(stored), B("pencils")), PGP_WRONG_PASSWORD); same("no verifier", pgp_scram_check(B("SCRAM-SHA-256$"), B("pencil")), PGP_NOT_A_VERIFIER);
+    WRITER("md5", "md57cd2b9a92689eab2e58caf2da80afa15", pgp_md5_verifier(B("md5_user"), B("password"), O)); same("no text", pgp_md5_verifier(B("\xff"), B("password"), out, sizeof out, &n), PGP_E_NOT_UTF8); same("nothing", n, 0);
+    same("md5", pgp_md5_check(B("md57cd2b9a92689eab2e58caf2da80afa15"), B("\x2a\x3d\x8f\xe0"), B("md562af4dd09bbb41884907a838a3233294")), PGP_OK);
+    same("another salt", pgp_md5_check(B("md57cd2b9a92689eab2e58caf2da80afa15"), B("\x2a\x3d\x8f\xe1"), B("md562af4dd09bbb41884907a838a3233294")), PGP_WRONG_PASSWORD);
+    same("no salt", pgp_md5_check(B("md57cd2b9a92689eab2e58caf2da80afa15"), B("\x2a\x3d\x8f"), B("md562af4dd09bbb41884907a838a3233294")), PGP_E_INVALID_SIZE); same("no text", pgp_md5_check(B("md5"), B("salt"), B("")), PGP_WRONG_PASSWORD);
     same("challenge", pgp_scram_server_first(B(stored), 0, NULL, 0, B(own), B(first), out, sizeof out, &n), PGP_OK); is("challenge", out, n, challenge, sizeof challenge - 1);
 }
 

@@ -21,6 +21,7 @@ enum {
     PGP_BAD_NONCE = 80,             /* the caller's nonce is empty, or has a byte that is no printable ASCII or is a comma */
     PGP_BAD_BINDING = 81,           /* the kind of the channel binding is none of pgp_binding, or of pgp_offer             */
     PGP_NOT_A_VERIFIER = 82,        /* the stored text is no verifier of SCRAM-SHA-256                                     */
+    PGP_WRONG_PASSWORD = 83,        /* what was shown isn't what is stored                                                 */
     PGP_SCRAM_UNSUPPORTED_BINDING = 84, PGP_SCRAM_INVALID_FIRST = 85, PGP_SCRAM_OTHER_EXCHANGE = 86, PGP_SCRAM_INVALID_ENCODING = 87,
     PGP_SCRAM_INVALID_PROOF = 88    /* the proof is of another password                                                    */
 };
@@ -95,6 +96,14 @@ pgp_status pgp_scram_server_final(const uint8_t *stored, size_t stored_len, uint
 /* What a server stores of a password: 133 characters. The salt has 16 bytes. */
 enum { PGP_VERIFIER_ROOM = 133, PGP_MD5_ROOM = 35 };
 pgp_status pgp_scram_verifier(const uint8_t *password, size_t password_len, const uint8_t *salt, size_t salt_len, PGP_OUT);
+
+/* The same with MD5, for servers that have nothing else: `md5` and 32 digits. The user's name has to be UTF-8, else PGP_E_NOT_UTF8. */
+pgp_status pgp_md5_verifier(const uint8_t *user, size_t user_len, const uint8_t *password, size_t password_len, PGP_OUT);
+
+/* PGP_OK where the password is that of the stored verifier of SCRAM-SHA-256 (after AuthenticationCleartextPassword), and where the answer to
+   AuthenticationMD5Password with this salt is right for the stored MD5 text; else PGP_WRONG_PASSWORD. */
+pgp_status pgp_scram_check(const uint8_t *stored, size_t stored_len, const uint8_t *password, size_t password_len);
+pgp_status pgp_md5_check(const uint8_t *stored, size_t stored_len, const uint8_t *salt, size_t salt_len, const uint8_t *answer, size_t answer_len);
 
 /* The answer to AuthenticationMD5Password: 35 characters. The salt has 4 bytes. */
 pgp_status pgp_md5_answer(const uint8_t *user, size_t user_len, const uint8_t *password, size_t password_len,

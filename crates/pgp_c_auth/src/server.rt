@@ -38,7 +38,7 @@ fn step_code(e: ServerError) -> u32
 }
 
 /// The number of a rejected stored text.
-fn stored_code(e: VerifierError) -> u32
+pub fn stored_code(e: VerifierError) -> u32
     ensures code { result ≡ stored_code e }
     ensures some { result ≢ 0 }
 {
