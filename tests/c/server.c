@@ -188,4 +188,10 @@ static void login(void)
     same("challenge", pgp_scram_server_first(B(stored), 0, NULL, 0, B(own), B(first), out, sizeof out, &n), PGP_OK); is("challenge", out, n, challenge, sizeof challenge - 1);
 }
 
-void server(void) { openings(); lists(); texts(); replies(); large(); login(); }
+static void is_text(void)
+{
+    same("text", pgp_is_text(B("Ren\xc3\xa9")), PGP_OK); same("nothing", pgp_is_text(NULL, 0), PGP_OK); same("Latin", pgp_is_text(B("Ren\xe9")), PGP_E_NOT_UTF8);
+    same("a 0 byte", pgp_is_text(B("a\0b")), PGP_E_EMBEDDED_NULL); same("both", pgp_is_text(B("\xff\0")), PGP_E_NOT_UTF8); same("half a pair", pgp_is_text(B("\xed\xa0\x80")), PGP_E_NOT_UTF8);
+}
+
+void server(void) { is_text(); openings(); lists(); texts(); replies(); large(); login(); }

@@ -86,6 +86,9 @@ enum {
     PGP_FULL = 102                      /* pgp_*_all: the array is full, and more items follow           */
 };
 
+/* Whether the bytes are a text as a server in UTF-8 takes one: PGP_OK, PGP_E_NOT_UTF8, or PGP_E_EMBEDDED_NULL for UTF-8 with a 0 byte. */
+pgp_status pgp_is_text(const uint8_t *bytes, size_t len);
+
 /* ---- writers: one message each ---- */
 
 #define PGP_OUT uint8_t *out, size_t room, size_t *written

@@ -3,8 +3,7 @@ use Rattle.std.proofs.Common.{◌≡◌, ℕ, ℤ, pos, ◌+◌, ◌*◌, ◌-�
 use Rattle.std.specs.Prelude.{◌≢◌}
 use Rattle.std.specs.List.{flat_map}
 use Rattle.std.proofs.Math.Seq.{drop-append_seam}
-use Rattle.std.proofs.lemmas.List.{append-nil}
-use Rattle.pgp_base.specs.Wire.{int16, int32, uint32, uint16, oid, nullable, counted, text}
+use Rattle.pgp_base.specs.Wire.{int16, int32, uint32, oid, nullable, counted, text}
 use Rattle.pgp_base.proofs.Needs.{counted_length}
 use Rattle.pgp_base.proofs.PartLemmas.{oid_number}
 use Rattle.pgp_frontend.specs.ClientMessage.{ClientMessage, Bind, Close, CopyData, CopyDone, CopyFail, Describe, Execute, Flush, FunctionCall, Parse, PasswordMessage, Query, SaslInitialResponse, SaslResponse, Sync, Terminate, Startup, CancelRequest, SslRequest, GssEncRequest, PasswordKind}
@@ -15,10 +14,10 @@ use Rattle.pgp_frontend_read.specs.declared.error.ClientError.{ClientError}
 use Rattle.pgp_frontend_read.specs.declared.error.ClientError.TheVariants.{UnknownPacket, Reading}
 use Rattle.pgp_c.specs.ClientFront.{ReportsClient, ShowsAll, code_of, kind_reported}
 use Rattle.pgp_c.specs.ClientParts.{ArePartsInside, Shows, no_client_parts}
-use Rattle.pgp_c.specs.ClientPlaces.{after_text, list_at, numbers_at, past, place}
+use Rattle.pgp_c.specs.ClientPlaces.{after_text, numbers_at, past, place}
 use Rattle.pgp_c.specs.declared.client_front.PgpClientMessage.{PgpClientMessage}
 use Rattle.pgp_c.specs.declared.client_places.PgpClientParts.{PgpClientParts}
-use Rattle.pgp_c.proofs.ClientPlaces.{At, after_text_is, all_here, here, int16s_length, items_at, listed, next, numbers_begin, numbers_end, past_is, text_here}
+use Rattle.pgp_c.proofs.ClientPlaces.{At, after_text_is, here, int16s_length, items_at, listed, next, numbers_begin, numbers_end, past_is, text_here}
 
 -- ---- where a payload begins
 

@@ -1,10 +1,9 @@
 -- No part has lack of memory as its cause.
-use Rattle.std.proofs.Common.{◌≡◌, ℕ, ◌+◌, pos, List, [], ◌∷◌, length, Option, Some, None, sym, ap, ◌∙◌, arith, inl, inr}
+use Rattle.std.proofs.Common.{◌≡◌, ℕ, ◌+◌, pos, List, [], ◌∷◌, length, Some, None, sym, ◌∙◌, arith, inl, inr}
 use Rattle.std.specs.List.{flat_map}
 use Rattle.std.proofs.lemmas.Bool.{cases_lt}
 use Rattle.pgp_base.specs.Cause.{Cause, either, count_cause, length_cause}
 use Rattle.pgp_base.specs.Wire.{uint16}
-use Rattle.pgp_base.specs.declared.error.Error.{Error}
 use Rattle.pgp_base.specs.declared.error.Error.TheVariants.{OutOfMemory, TooLarge}
 use Rattle.pgp_base.proofs.Causes.{count_fits, count_past, either_first}
 use Rattle.pgp_frontend.specs.ClientMessage.{ClientMessage, Bind, CancelRequest, Parse, Query, SaslInitialResponse, Startup}

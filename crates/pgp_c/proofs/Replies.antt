@@ -1,10 +1,10 @@
 -- The memory of a caller of a server's writer.
-use Rattle.std.proofs.Common.{◌≡◌, ◌⊎◌, ℕ, ◌+◌, ◌-◌, ◌<◌, ◌≤◌, List, [], ◌∷◌, ◌++◌, map, length, take, drop, None, Some, Option, Result, Ok, Err, refl, sym, ap, subst, ◌∙◌, inl, inr, arith, length-append, append_assoc}
+use Rattle.std.proofs.Common.{◌≡◌, ◌⊎◌, ℕ, ◌+◌, ◌-◌, ◌≤◌, List, [], ◌∷◌, ◌++◌, map, length, take, None, Some, Option, Result, Ok, Err, refl, sym, ap, subst, ◌∙◌, inl, inr, arith, length-append, append_assoc}
 use Rattle.std.specs.Borrow.{GName}
 use Rattle.std.specs.Prelude.{◌≢◌}
 use Rattle.std.specs.Option.{option_to_list}
 use Rattle.std.proofs.Math.Seq.{take-append_seam}
-use Rattle.std.proofs.lemmas.List.{append-nil, length-map, map-append, take_all}
+use Rattle.std.proofs.lemmas.List.{append-nil, length-map, map-append}
 use Rattle.pgp_base.specs.Cause.{Cause, either, Wants, WantsMemory, Writes}
 use Rattle.pgp_base.specs.Error.{number_of}
 use Rattle.pgp_base.specs.Held.{Held, ◌⊕◌}
@@ -18,9 +18,9 @@ use Rattle.pgp_base.proofs.Parts.{wants_more}
 use Rattle.pgp_frontend.specs.Payload.{Part, frame_cause, parts_cause}
 use Rattle.pgp_message.specs.BackendMessage.{Message}
 use Rattle.pgp_message_write.specs.Given.{Arrived, GivenRefused, WritesGiven, items_cause}
-use Rattle.pgp_message_write.specs.Reply.{IsInRange, WritesReply, bytes_of, cause, parts}
+use Rattle.pgp_message_write.specs.Reply.{WritesReply, bytes_of, cause, parts}
 use Rattle.pgp_c.specs.Replying.{HasListFault, NotRepliedList, NotSentAs, Replied, NotReplied, RepliedList, SentAs, list_cause}
-use Rattle.pgp_c.proofs.NeverMemory.{Never, never_either, never_frame, never_items}
+use Rattle.pgp_c.proofs.NeverMemory.{Never, never_frame, never_items}
 use Rattle.pgp_c.proofs.Sending.{is_memory, wrote}
 
 -- `w` is the window as it was made on memory that held `old`, `v` as the writer left it

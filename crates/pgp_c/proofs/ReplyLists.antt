@@ -1,5 +1,5 @@
 -- The messages of the lists that C hands over.
-use Rattle.std.proofs.Common.{◌≡◌, ◌⊎◌, ℕ, ℤ, pos, ◌+◌, ◌≤◌, List, [], ◌∷◌, ◌++◌, map, length, take, Option, Some, None, Result, Ok, Err, Bor, refl, sym, ap, subst, ◌∙◌, arith, length-append}
+use Rattle.std.proofs.Common.{◌≡◌, ℕ, ℤ, pos, ◌+◌, ◌≤◌, List, [], ◌∷◌, ◌++◌, map, length, take, Option, Some, None, Result, Ok, Err, Bor, sym, ap, subst, ◌∙◌, arith, length-append}
 use denote.Param.Members.{Mut}
 use Rattle.std.specs.Borrow.{GName}
 use Rattle.std.specs.Fn.{Called}
@@ -7,10 +7,9 @@ use Rattle.std.specs.Iterator.Adapters.{map_source, map_callee}
 use Rattle.std.specs.declared.iter.Map.{Map}
 use Rattle.std.specs.List.{flat_map}
 use Rattle.std.proofs.lemmas.Iterator.{maps, YieldsList, YieldsList-from_map_by}
-use Rattle.std.proofs.lemmas.List.{append-nil}
 use Rattle.std.proofs.lemmas.List.Concat.{flat_map-append}
 use Rattle.pgp_base.specs.Calls.{Yielded}
-use Rattle.pgp_base.specs.Cause.{Cause, count_cause, length_cause}
+use Rattle.pgp_base.specs.Cause.{Cause, length_cause}
 use Rattle.pgp_base.specs.Error.{number_of}
 use Rattle.pgp_base.specs.Wire.{int32, uint16, frame}
 use Rattle.pgp_base.specs.Window.{window_held, window_lacks}
@@ -27,7 +26,7 @@ use Rattle.pgp_message_write.specs.Lists.{column_parts, field_parts, text_parts,
 use Rattle.pgp_message_write.specs.Reply.{bytes_of, description_of, fields_of, names_of, negotiation_of, row_of}
 use Rattle.pgp_message_write.proofs.Lists.{joined-append}
 use Rattle.pgp_c.specs.Replying.{NotRepliedList, RepliedList}
-use Rattle.pgp_c.proofs.NeverMemory.{Never, never_count, never_length, never_none}
+use Rattle.pgp_c.proofs.NeverMemory.{Never, never_none}
 use Rattle.pgp_c.proofs.Replies.{list_replied, list_not_replied}
 
 -- ---- the message of more items is no shorter

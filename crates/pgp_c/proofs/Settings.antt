@@ -1,5 +1,5 @@
 -- A name and a value that are read at the front stand at their places among the bytes.
-use Rattle.std.proofs.Common.{◌≡◌, ℕ, ◌+◌, ◌≤◌, ◌<◌, List, ◌∷◌, ◌++◌, [], length, take, drop, Option, Some, None, refl, sym, ap, ◌∙◌, subst, arith, inl, inr, length-append, append_assoc}
+use Rattle.std.proofs.Common.{◌≡◌, ℕ, ◌+◌, List, ◌∷◌, ◌++◌, [], length, take, drop, Some, None, refl, sym, ap, ◌∙◌, subst, arith, inl, inr, length-append, append_assoc}
 use Rattle.pgp_base.specs.Grammar.{StandsAt}
 use Rattle.pgp_base.specs.PartReading.{string_at}
 use Rattle.pgp_base.specs.Wire.{text}
@@ -7,7 +7,7 @@ use Rattle.pgp_base.specs.declared.error.Error.TheVariants.{UnexpectedEof}
 use Rattle.pgp_base.proofs.PartLemmas.{no_string}
 use Rattle.pgp_base.proofs.Strings.{string_takes, string_whole}
 use Rattle.pgp_frontend.specs.Payload.{pair}
-use Rattle.pgp_c.specs.Settings.{IsOpenPair, PairRefused, PairSpelled}
+use Rattle.pgp_c.specs.Settings.{PairRefused, PairSpelled}
 use Rattle.pgp_c.specs.Walks.{StandsFrom}
 use Rattle.pgp_c.proofs.Listings.{front_stands, part_stands}
 

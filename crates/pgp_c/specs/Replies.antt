@@ -1,5 +1,5 @@
 -- The messages of a server, as C names them by their kinds.
-use Rattle.std.specs.Prelude.{◌≡◌, ◌≢◌, ◌⊎◌, ℕ, ◌==◌, List, [], ◌∷◌, length, Option, Some, None, if◌then◌else◌}
+use Rattle.std.specs.Prelude.{◌≡◌, ◌⊎◌, ℕ, ◌==◌, List, [], ◌∷◌, length, Option, Some, None, if◌then◌else◌}
 use Rattle.pgp_message.specs.BackendMessage.{Message, Authentication, AuthenticationCleartextPassword, AuthenticationGss, AuthenticationGssContinue, AuthenticationKerberosV5, AuthenticationMd5Password, AuthenticationOk, AuthenticationSaslContinue, AuthenticationSaslFinal, AuthenticationScmCredential, AuthenticationSspi, BackendKeyData, BindComplete, CloseComplete, CommandComplete, CopyData, CopyDone, EmptyQueryResponse, NoData, NotificationResponse, ParameterStatus, ParseComplete, PortalSuspended, ReadyForQuery}
 use Rattle.pgp_message.specs.Items.{ErrorPart, FieldPart}
 use Rattle.std.specs.List.{flat_map}

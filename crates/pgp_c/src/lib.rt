@@ -33,5 +33,6 @@ mod setting;
 mod span;
 mod status;
 mod stream;
+mod text;
 mod value;
 mod writing;
