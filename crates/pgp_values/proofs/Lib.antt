@@ -16,3 +16,4 @@ pub mod CutLemmas
 pub mod MomentLemmas
 pub mod PlaceLemmas
 pub mod LexemeLemmas
+pub mod FormatLemmas

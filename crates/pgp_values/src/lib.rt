@@ -8,6 +8,7 @@
 mod codec;
 mod decimal;
 mod error;
+mod formats;
 mod geometry;
 mod groups;
 pub mod laws;
@@ -30,6 +31,7 @@ mod written;
 
 pub use decimal::Decimal;
 pub use error::NumericError;
+pub use formats::{BinaryFormat, binary_format_of};
 pub use geometry::{
     Circle, Line, Segment, circle_from_sql, circle_to_sql, line_from_sql, line_to_sql,
     lseg_from_sql, lseg_to_sql,
