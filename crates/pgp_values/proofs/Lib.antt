@@ -17,3 +17,6 @@ pub mod MomentLemmas
 pub mod PlaceLemmas
 pub mod LexemeLemmas
 pub mod FormatLemmas
+pub mod IntegerLemmas
+pub mod QueryLemmas
+pub mod RecordLemmas
