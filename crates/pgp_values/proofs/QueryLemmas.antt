@@ -1,5 +1,5 @@
 -- Items of what texts are searched for: what reads one reads what its grammar says.
-use Rattle.std.proofs.Common.{◌≡◌, ◌≢◌, ◌⊎◌, inl, inr, ℕ, ◌<◌, ◌^◌, Bool, true, false, eqb, List, [], ◌∷◌, ◌++◌, length, None, Ok, Err, refl, sym, ap, subst, ◌∙◌, arith}
+use Rattle.std.proofs.Common.{◌≡◌, ◌≢◌, ◌⊎◌, inl, inr, ℕ, ◌<◌, ◌^◌, Bool, true, false, eqb, not, List, [], ◌∷◌, ◌++◌, length, None, Ok, Err, refl, sym, ap, subst, ◌∙◌, arith}
 use Rattle.std.proofs.lemmas.Bool.{cases_eq}
 use Rattle.pgp_base.specs.declared.error.Error.{Error}
 use Rattle.pgp_base.specs.declared.error.Error.TheVariants.{UnexpectedEof, NotUtf8, NotDrained, UnknownTag}
@@ -16,7 +16,7 @@ use Rattle.pgp_types.proofs.PartLemmas.{and_then_ok, and_then_err}
 use Rattle.pgp_types.proofs.WalkLemmas.{IsItem}
 use Rattle.pgp_values.specs.DecimalReading.{uint16_at}
 use Rattle.pgp_values.specs.QueryReading.{operand_of, operand_at, phrase_of, phrase_at, operator_of, operator_at, query_of, query_at}
-use Rattle.pgp_values.specs.Tsquery.{QueryItem, operand, negation, conjunction, disjunction, phrase, query_bytes, IsQueryItem, query_cause, text_part, QuerySpelled, OperandRefused, IsOperator, OperatorRefused, QueryRefused, query_item, tsquery}
+use Rattle.pgp_values.specs.Tsquery.{QueryItem, operand, negation, conjunction, disjunction, phrase, query_bytes, IsQueryItem, query_cause, text_part, IsSet, QuerySpelled, OperandRefused, IsOperator, OperatorRefused, QueryRefused, query_item, tsquery}
 use Rattle.pgp_values.proofs.LexemeLemmas.{text_is, count_is}
 use Rattle.pgp_values.proofs.ListLemmas.{list_sound}
 
@@ -33,6 +33,18 @@ other m n h = grind arith
 as_read : (bytes : List ℕ) (y x : Read) → y ≡ x → Begins part bytes y.0 y.1 → Begins part bytes x.0 x.1
 as_read bytes y x e b = subst (λ (p : Read). Begins part bytes p.0 p.1) e b
 
+-- flags
+
+set_by : (b : Bool) (flag : ℕ) → eqb flag 0 ≡ b → IsSet (not b) flag
+set_by true flag e = grind arith
+set_by false flag e = grind arith
+
+set_is : (b p : Bool) (flag : ℕ) → eqb flag 0 ≡ b → IsSet p flag → p ≡ not b
+set_is true true flag e h = absurd (grind arith)
+set_is true false flag e h = refl
+set_is false true flag e h = refl
+set_is false false flag e h = absurd (grind arith)
+
 -- operands
 
 operand_found : (bytes : List ℕ) (x : QueryItem) (rest : List ℕ) → IsBytes bytes → operand_at bytes ≡ Ok (x, rest) → Begins part (1 ∷ bytes) x rest
@@ -43,7 +55,7 @@ operand_found (w ∷ f ∷ after) x rest h e =
     let o = and_then_ok (text_at after) (operand_of w f) (x, rest) e in
     let b = text_is.found after o.0.0 o.0.1 (IsBytes-after (w ∷ f ∷ []) after (w ∷ f ∷ after) refl h) o.1 in
     as_read (1 ∷ w ∷ f ∷ after) (operand o.0.0 w (is_set f), o.0.1) (x, rest) (ok_is (operand o.0.0 w (is_set f), o.0.1) (x, rest) o.2)
-    (record { front = 1 ∷ w ∷ f ∷ b.front; whole = ap (λ l. 1 ∷ w ∷ f ∷ l) b.whole; spelled = (f, b.front, b.spelled, refl, refl) })
+    (record { front = 1 ∷ w ∷ f ∷ b.front; whole = ap (λ l. 1 ∷ w ∷ f ∷ l) b.whole; spelled = (f, b.front, b.spelled, refl, set_by (eqb f 0) f refl) })
 
 operand_refused : (bytes : List ℕ) (e : Error) → IsBytes bytes → operand_at bytes ≡ Err e → OperandRefused bytes e
 unfolding operand_at
@@ -203,7 +215,7 @@ query_refused (n ∷ after) e h r =
 
 query_again : (x : QueryItem) (front rest : List ℕ) → QuerySpelled x front → query_at (front ++ rest) ≡ Ok (x, rest)
 unfolding query_at operator_at
-query_again (operand z w p) front rest s = rw (s.3, s.4) (operand_again z w s.0 s.1 rest s.2)
+query_again (operand z w p) front rest s = rw (s.3, set_is (eqb s.0 0) p s.0 refl s.4) (operand_again z w s.0 s.1 rest s.2)
 query_again negation front rest s = rw s refl
 query_again conjunction front rest s = rw s refl
 query_again disjunction front rest s = rw s refl
@@ -247,8 +259,8 @@ query_is_item = record {
   own = query_own;
 }
 
-flag_set : (p : Bool) → p ≡ is_set (flag_of p)
-flag_set true = refl
+flag_set : (p : Bool) → IsSet p (flag_of p)
+flag_set true = λ e. omega (arith, e)
 flag_set false = refl
 
 query_spelled : (x : QueryItem) → IsQueryItem x → query_cause x ≡ None → QuerySpelled x (query_bytes x)

@@ -1,6 +1,6 @@
 -- What texts are searched for: operands and operators, an operator before its operands.
 -- PostgreSQL manual, "Text Search Types"; the layout as a server sends it (`tsquerysend`).
-use Rattle.std.specs.Prelude.{◌≡◌, ◌≢◌, ◌⊎◌, ℕ, ◌<◌, ◌^◌, Bool, List, [], ◌∷◌, length, None, ⊤}
+use Rattle.std.specs.Prelude.{◌≡◌, ◌≢◌, ◌⊎◌, ℕ, ◌<◌, ◌^◌, Bool, true, false, List, [], ◌∷◌, length, None, ⊤}
 use Rattle.std.specs.Str.{IsUtf8}
 use Rattle.pgp_base.specs.declared.error.Error.{Error}
 use Rattle.pgp_base.specs.declared.error.Error.TheVariants.{UnexpectedEof, NotUtf8, UnknownTag}
@@ -10,7 +10,6 @@ use Rattle.pgp_base.specs.Wire.{uint16, text}
 use Rattle.pgp_types.specs.Array.{flag_of}
 use Rattle.pgp_types.specs.Format.{Format}
 use Rattle.pgp_types.specs.Part.{Part, only}
-use Rattle.pgp_types.specs.PartReading.{is_set}
 use Rattle.pgp_values.specs.declared.tsquery.TsOperand.{TsOperand}
 use Rattle.pgp_values.specs.declared.tsquery.TsItem.{TsItem as Seen}
 use Rattle.pgp_values.specs.declared.tsquery.TsItem.TheVariants.{Operand, Not, And, Or, Phrase}
@@ -47,8 +46,12 @@ abbrev pub text_part : Part (List ℕ)
 text_part = only IsUtf8 NotUtf8 string_part
 
 -- any flag but 0 is set
+abbrev pub IsSet : Bool → ℕ → Type 0
+IsSet false flag = flag ≡ 0
+IsSet true flag = flag ≢ 0
+
 abbrev pub QuerySpelled : QueryItem → List ℕ → Type 0
-QuerySpelled (operand z weights prefix) front = (flag : ℕ) × (t : List ℕ) × text_part.Spelled z t × (front ≡ 1 ∷ weights ∷ flag ∷ t) × (prefix ≡ is_set flag)
+QuerySpelled (operand z weights prefix) front = (flag : ℕ) × (t : List ℕ) × text_part.Spelled z t × (front ≡ 1 ∷ weights ∷ flag ∷ t) × IsSet prefix flag
 QuerySpelled (phrase distance) front = (distance < 2 ^ 16) × (front ≡ query_bytes (phrase distance))
 QuerySpelled x front = front ≡ query_bytes x
 
