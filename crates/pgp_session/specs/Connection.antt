@@ -1,8 +1,6 @@
 -- A client's connection: what each call makes of it.
 -- PostgreSQL manual, "Message Flow"; "SSL Session Encryption".
 use Rattle.std.specs.Prelude.{◌≡◌, ◌≢◌, ◌⊎◌, ℕ, ◌+◌, nat_lt, Bool, true, false, List, [], ◌∷◌, ◌++◌, drop, take, Option, Some, None, Result, Ok, Err, if◌then◌else◌, ◌==◌, ◌&&◌}
-use Rattle.pgp_base.specs.declared.error.BindError.{BindError}
-use Rattle.pgp_base.specs.declared.error.BindError.TheVariants.{Conversion as FailedBy, Serialization}
 use Rattle.pgp_base.specs.declared.error.Error.{Error}
 use Rattle.pgp_base.specs.declared.error.Error.TheVariants.{OutOfMemory as NoMemory}
 use Rattle.pgp_client.specs.Kinds.{kind_of, request_of}
@@ -26,8 +24,6 @@ use Rattle.pgp_session.specs.ServerState.{noted as noted_by, unsaid}
 use Rattle.pgp_session.specs.declared.connection.Connection.{Connection as Kept}
 use Rattle.pgp_session.specs.declared.connection.ConnectionPhase.{ConnectionPhase}
 use Rattle.pgp_session.specs.declared.connection.ConnectionPhase.TheVariants.{Opening, Encrypting, Started, Over}
-use Rattle.pgp_session.specs.declared.connection_error.ConnectionBindError.{ConnectionBindError}
-use Rattle.pgp_session.specs.declared.connection_error.ConnectionBindError.TheVariants.{Connection, Conversion}
 use Rattle.pgp_session.specs.declared.connection_error.ConnectionError.{ConnectionError}
 use Rattle.pgp_session.specs.declared.connection_error.ConnectionError.TheVariants.{BadAnswer, Malformed, Misplaced, OutOfMemory, OutOfPhase, TooLong, Unwritten}
 use Rattle.pgp_session.specs.declared.server_state.BackendKey.{BackendKey}
@@ -118,15 +114,6 @@ SendsGiven lacks Whole Refuses old new (Err OutOfPhase) = (is_logged_in old ≡ 
 SendsGiven lacks Whole Refuses old new (Err (Unwritten e)) = (is_logged_in old ≡ true) × Refuses e × (new ≡ old)
 SendsGiven lacks Whole Refuses old new (Err OutOfMemory) = (is_logged_in old ≡ true) × lacks × (new ≡ old)
 SendsGiven lacks Whole Refuses old new (Err e) = ⊥
-
--- A Bind of values that a serializer wrote. `Refuses` says why a writer rejects it: by the serializer, or as any writer.
-abbrev pub Binds : {A E : Type 0} → Type 0 → (ClientMessage → Type 0) → (BindError E → Type 0) → Shown → Shown → Result ℕ (ConnectionBindError E A) → Type 0
-Binds lacks Whole Refuses old new (Ok name) = (m : ClientMessage) × Whole m × Sent m old new name
-Binds lacks Whole Refuses old new (Err (Conversion e)) = (is_logged_in old ≡ true) × Refuses (FailedBy e) × (new ≡ old)
-Binds lacks Whole Refuses old new (Err (Connection OutOfPhase)) = (is_logged_in old ≡ false) × (new ≡ old)
-Binds lacks Whole Refuses old new (Err (Connection (Unwritten e))) = (is_logged_in old ≡ true) × Refuses (Serialization e) × (new ≡ old)
-Binds lacks Whole Refuses old new (Err (Connection OutOfMemory)) = (is_logged_in old ≡ true) × lacks × (new ≡ old)
-Binds lacks Whole Refuses old new (Err (Connection e)) = ⊥
 
 -- *private*: the request was noted whose message was written, or the message was taken back
 abbrev pub with_out : List ℕ → Shown → Shown

@@ -26,7 +26,7 @@ mod whole_stream;
 
 pub use client_stream::ClientStream;
 pub use connection::{Connection, ConnectionPhase};
-pub use connection_error::{ConnectionBindError, ConnectionError};
+pub use connection_error::ConnectionError;
 pub use login::Ways;
 pub use parsed::Parsed;
 pub use server_state::{BackendKey, ServerState};

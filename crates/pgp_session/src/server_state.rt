@@ -60,7 +60,7 @@ impl ServerState {
 
 /// The key that a message has.
 fn key_of<A: Allocator>(body: &BackendKeyDataBody<Bytes<A>>) -> Option<BackendKey>
-    ensures { result ≡ keyed body.now.process_id (body.now.secret_key.items) }
+    ensures { result ≡ keyed body.now.process_id body.now.secret_key }
 {
     match body.secret_key_bytes() {
         [a, b, c, d] => Some(BackendKey {

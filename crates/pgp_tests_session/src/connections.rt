@@ -4,9 +4,9 @@
 use crate::checks::{holds, same_at};
 use bytes::BytesMut;
 use pgp_auth::authentication::sasl::{ChannelBinding, NoPrep, ScramSha256, is_nonce};
-use pgp_base::{Error, IsNull};
+use pgp_base::Error;
 use pgp_client::Event;
-use pgp_session::{BackendKey, Connection, ConnectionBindError, ConnectionError, Ways};
+use pgp_session::{BackendKey, Connection, ConnectionError, Ways};
 use pgp_uses::client::{Received, connect, next_row};
 use std::process::Abort;
 use std::test::Fail;
@@ -161,46 +161,6 @@ fn the_last_ready_for_query_tells_the_status(rt: HostRuntime) -> Result<(), Fail
         holds(&rt, next_event(&mut connection).is_some());
         same_at(&rt, place, connection.status(), Some(*status));
     }
-    Ok(())
-}
-
-/// A value in the binary format of an int4; 7 is rejected.
-fn int4(value: i32, buf: &mut BytesMut) -> Result<IsNull, ()> {
-    if value == 7 || buf.extend_from_slice(&value.to_be_bytes()).is_err() {
-        return Err(());
-    }
-    Ok(IsNull::No)
-}
-
-#[test]
-fn values_are_bound_by_a_serializer(rt: HostRuntime) -> Result<(), Fail> {
-    let mut connection = trusting(&rt);
-    holds(&rt, connection.start(&[("user", "u")]).is_ok());
-    hears(&rt, &mut connection, &ADMITTED);
-    let written = connection.to_send().len();
-    let rejected = connection.bind("", "", Some(1), [5, 7], int4, Some(1));
-    holds(
-        &rt,
-        matches!(rejected, Err(ConnectionBindError::Conversion(()))),
-    );
-    same_at(&rt, 0, connection.to_send().len(), written);
-    same_at(
-        &rt,
-        1,
-        connection
-            .bind("", "", Some(1), [5, -1], int4, Some(1))
-            .ok(),
-        Some(1),
-    );
-    same_at(
-        &rt,
-        2,
-        connection.to_send().get(written..),
-        Some(
-            b"B\0\0\0\x20\0\0\0\x01\0\x01\0\x02\0\0\0\x04\0\0\0\x05\0\0\0\x04\xff\xff\xff\xff\0\x01\0\x01".as_slice(),
-        ),
-    );
-    hears(&rt, &mut connection, &[(b"2\0\0\0\x04", Event::Last(1))]);
     Ok(())
 }
 
