@@ -195,6 +195,26 @@ mod tests {
     }
 
     #[test]
+    fn queues_fillings_and_base64() {
+        let mut queue = VecDeque::new();
+        assert!(Global::push_back(&mut queue, 1).is_ok() && Global::push_back(&mut queue, 2).is_ok());
+        assert_eq!(queue, [1, 2]);
+        assert_eq!(Global.list_filled(7, 3).unwrap(), [7, 7, 7]);
+        let mut text = String::from("=");
+        Global::push_base64(&mut text, b"foob").unwrap();
+        Global::push_str(&mut text, "!").unwrap();
+        assert_eq!(text, "=Zm9vYg==!");
+        assert!(matches!(Global.base64_shown(b"Zm9vYg=="), Ok(bytes) if bytes == b"foob"));
+        assert!(Global.base64_shown(b"Zm9vYg").is_err());
+        let shared = Global.shared_of(b"abc").unwrap();
+        assert_eq!(Global::clone_shared(&shared).unwrap(), shared);
+        let mut buf = BytesMut::new();
+        Global::reserve_bytes(&mut buf, 100).unwrap();
+        Global::append(&mut buf, &shared).unwrap();
+        assert_eq!(&buf[..], b"abc");
+    }
+
+    #[test]
     fn a_frame_is_taken_off_the_front() {
         let mut buf = BytesMut::from(&b"abcdef"[..]);
         let front = Global::freeze_to(&mut buf, 2).unwrap();
