@@ -156,7 +156,7 @@ impl Global {
 
     #[inline]
     pub fn append(buf: &mut BytesMut, more: &[u8]) -> Made<()> {
-        buf.extend_from_slice(more);
+        buf.put_slice(more);
         Ok(())
     }
 
