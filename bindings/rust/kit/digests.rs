@@ -1,32 +1,31 @@
 //! SHA-256 and MD5, whose digests are arrays.
 
-use md5::Digest;
 use std::convert::Infallible;
 
 macro_rules! digests {
-    ($($name:ident, $of:path, $len:literal;)*) => {$(
-        pub struct $name($of);
+    ($($name:ident, $from:ident, $len:literal;)*) => {$(
+        pub struct $name($from::$name);
 
         impl $name {
             #[inline]
             #[allow(clippy::new_without_default)]
             pub fn new() -> $name {
-                $name(<$of>::new())
+                $name($from::Digest::new())
             }
 
             #[inline]
             pub fn update(&mut self, bytes: impl AsRef<[u8]>) {
-                self.0.update(bytes)
+                $from::Digest::update(&mut self.0, bytes)
             }
 
             #[inline]
             pub fn finalize(self) -> [u8; $len] {
-                self.0.finalize().into()
+                $from::Digest::finalize(self.0).into()
             }
 
             #[inline]
             pub fn digest(bytes: impl AsRef<[u8]>) -> [u8; $len] {
-                <$of>::digest(bytes).into()
+                <$from::$name as $from::Digest>::digest(bytes).into()
             }
 
             #[inline]
@@ -39,8 +38,8 @@ macro_rules! digests {
 }
 
 digests! {
-    Sha256, sha2::Sha256, 32;
-    Md5, md5::Md5, 16;
+    Sha256, sha2, 32;
+    Md5, md5, 16;
 }
 
 #[cfg(test)]

@@ -156,7 +156,7 @@ impl Global {
 
     #[inline]
     pub fn append(buf: &mut BytesMut, more: &[u8]) -> Made<()> {
-        buf.extend_from_slice(more);
+        buf.put_slice(more);
         Ok(())
     }
 
@@ -192,6 +192,26 @@ mod tests {
         Global::push_shown(&mut text, 4096).unwrap();
         assert_eq!(text, "xé4096");
         assert_eq!(Global.hex_of(&[0, 0x9f, 0xab]).unwrap(), "009fab");
+    }
+
+    #[test]
+    fn queues_fillings_and_base64() {
+        let mut queue = VecDeque::new();
+        assert!(Global::push_back(&mut queue, 1).is_ok() && Global::push_back(&mut queue, 2).is_ok());
+        assert_eq!(queue, [1, 2]);
+        assert_eq!(Global.list_filled(7, 3).unwrap(), [7, 7, 7]);
+        let mut text = String::from("=");
+        Global::push_base64(&mut text, b"foob").unwrap();
+        Global::push_str(&mut text, "!").unwrap();
+        assert_eq!(text, "=Zm9vYg==!");
+        assert!(matches!(Global.base64_shown(b"Zm9vYg=="), Ok(bytes) if bytes == b"foob"));
+        assert!(Global.base64_shown(b"Zm9vYg").is_err());
+        let shared = Global.shared_of(b"abc").unwrap();
+        assert_eq!(Global::clone_shared(&shared).unwrap(), shared);
+        let mut buf = BytesMut::new();
+        Global::reserve_bytes(&mut buf, 100).unwrap();
+        Global::append(&mut buf, &shared).unwrap();
+        assert_eq!(&buf[..], b"abc");
     }
 
     #[test]

@@ -72,3 +72,23 @@ pub fn to_nfkc(_alloc: Global, text: &str) -> Result<String, AllocError> {
     }
     Ok(out)
 }
+
+#[cfg(test)]
+mod tests {
+    use super::*;
+
+    // U+FB01 and U+2168 by Unicode's form NFKC: two letters, and two letters.
+    #[test]
+    fn compatible_characters_are_composed() {
+        assert_eq!(to_nfkc(Global, "\u{fb01}nal \u{2168}").unwrap(), "final IX");
+        assert_eq!(to_nfkc(Global, "cafe\u{301}").unwrap(), "caf\u{e9}");
+    }
+
+    #[test]
+    fn buffers_show_their_bytes_and_lists_take_items() {
+        assert_eq!((Bytes::from_static(b"ab").as_slice(), BytesMut::from(&b"cd"[..]).as_slice()), (&b"ab"[..], &b"cd"[..]));
+        let mut list = Vec::with_capacity(1);
+        list.push_reserved(7);
+        assert_eq!(list, [7]);
+    }
+}

@@ -1,5 +1,6 @@
 //! What a server stores of a password, made by the client, for `ALTER USER .. PASSWORD`.
 
+use crate::kit::random::ThreadRng;
 use crate::kit::Global;
 use crate::proved::pgp_auth::password;
 use crate::proved::pgp_saslprep::SaslPrepRfc4013;
@@ -7,7 +8,7 @@ use crate::status::ample;
 
 /// The SCRAM-SHA-256 verifier of a password, of 4096 rounds, with a new salt.
 pub fn scram_sha_256(password: &[u8]) -> String {
-    ample(password::scram_sha_256(Global, password, &SaslPrepRfc4013::new(Global), &mut rand::thread_rng()))
+    ample(password::scram_sha_256(Global, password, &SaslPrepRfc4013::new(Global), &mut ThreadRng))
 }
 
 #[allow(dead_code)]

@@ -1,5 +1,6 @@
 //! SCRAM-SHA-256, the client's side.
 
+use crate::kit::random::ThreadRng;
 use crate::kit::Global;
 use crate::proved::pgp_auth::authentication::sasl::{self, ScramError};
 use crate::proved::pgp_saslprep::SaslPrepRfc4013;
@@ -38,7 +39,7 @@ impl ScramSha256 {
     /// Begins an exchange, with a new nonce.
     pub fn new(password: &[u8], channel_binding: ChannelBinding) -> ScramSha256 {
         let prep = SaslPrepRfc4013::new(Global);
-        match sasl::ScramSha256::new(Global, password, channel_binding.0, &prep, &mut rand::thread_rng()) {
+        match sasl::ScramSha256::new(Global, password, channel_binding.0, &prep, &mut ThreadRng) {
             Ok(exchange) => ScramSha256(exchange),
             Err(_) => no_memory(),
         }
