@@ -17,3 +17,4 @@ mod Putting
 mod Sending
 mod BindRefusals
 mod Walks
+mod RecordWalks

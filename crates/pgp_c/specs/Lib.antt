@@ -11,6 +11,7 @@ pub mod Parts
 pub mod Places
 pub mod Plain
 pub mod Putting
+pub mod Records
 pub mod Scalars
 pub mod Sending
 pub mod Streams

@@ -19,6 +19,7 @@ mod numeric;
 mod opening;
 mod part;
 mod range;
+mod record;
 mod report;
 mod row;
 mod scalar;
