@@ -503,6 +503,14 @@ pgp_status pgp_entry_next(const uint8_t *bytes, size_t len, struct pgp_cursor *c
 struct pgp_key_value { const uint8_t *key; size_t key_len; struct pgp_value value; };
 pgp_status pgp_put_hstore(const struct pgp_key_value *pairs, size_t count, PGP_OUT);
 
+/* A row or a composite value: a cursor over its fields, each a type and a value or a null. A multirange: a cursor over its ranges, each the place of what
+   pgp_get_range reads. */
+struct pgp_member { struct pgp_column value; uint32_t of_type; };
+pgp_status pgp_get_record(const uint8_t *bytes, size_t len, struct pgp_cursor *fields);
+pgp_status pgp_member_next(const uint8_t *bytes, size_t len, struct pgp_cursor *cursor, struct pgp_member *member);
+pgp_status pgp_get_multirange(const uint8_t *bytes, size_t len, struct pgp_cursor *ranges);
+pgp_status pgp_multirange_next(const uint8_t *bytes, size_t len, struct pgp_cursor *cursor, struct pgp_part *range);
+
 /* The server's fixed types, by number: those of its values, and of arrays of them. */
 enum pgp_oid {
     PGP_OID_BOOL = 16, PGP_OID_BYTEA = 17, PGP_OID_CHAR = 18, PGP_OID_NAME = 19, PGP_OID_INT8 = 20, PGP_OID_INT2 = 21, PGP_OID_INT4 = 23,

@@ -23,3 +23,4 @@ mod Sending
 mod Settings
 mod BindRefusals
 mod Walks
+mod RecordWalks

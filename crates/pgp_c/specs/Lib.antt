@@ -14,6 +14,7 @@ pub mod Parts
 pub mod Places
 pub mod Plain
 pub mod Putting
+pub mod Records
 pub mod Replies
 pub mod Replying
 pub mod Scalars

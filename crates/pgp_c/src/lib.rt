@@ -21,6 +21,7 @@ mod numeric;
 mod opening;
 mod part;
 mod range;
+mod record;
 mod reply;
 mod reply_list;
 mod reply_names;
