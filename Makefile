@@ -51,6 +51,7 @@ live:
 	@out/venv/bin/python scripts/live_values
 	@scripts/live_programs
 	@out/venv/bin/python scripts/live_python
+	@out/venv/bin/python scripts/live_dialogue
 
 library:
 	@scripts/library build

@@ -31,3 +31,12 @@ pub enum ConnectionError<A: Allocator = Global> {
     /// The answer to the request for encryption isn't the byte `S` or `N` alone.
     BadAnswer,
 }
+
+/// Why `Connection::bind` was rejected.
+#[derive(Debug, Drop)]
+pub enum ConnectionBindError<E, A: Allocator = Global> {
+    /// The serializer's own error.
+    Conversion(E),
+    /// The call's error.
+    Connection(ConnectionError<A>),
+}
