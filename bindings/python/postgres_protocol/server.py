@@ -93,7 +93,7 @@ def _message(m: _Message, frame: bytes) -> ClientMessage:
 
 
 class ServerConnection:
-    """A connection with one client. `receive_data` takes what came, `next_message` gives the next whole message, or None; the calls after them add a
+    """A connection with one client. `receive_data` takes what it sent, `next_message` gives the next whole message, or None; the calls after them add a
     message to what `data_to_send` gives. `expected` says which message of tag `p` the client sends next: one of EXPECTED."""
 
     def __init__(self) -> None:
