@@ -87,13 +87,13 @@ module _ {A D : Type 0} (view : D → A) (given : List D → Option D → Type 0
   viewed : (xs : List D) → items_cause number ps (map view xs) ≡ items_cause number (λ xs. ps (map view xs)) xs
   viewed xs = ap (λ n. either (number n) (parts_cause (ps (map view xs)))) (length-map xs view)
 
-  -- those that came so far are a front of all
+  -- those that were yielded so far are a front of all
   front : (xs before : List D) (next : Option D) → given before next → xs ≡ before ++ option_to_list next → (more : List A) × (all ≡ map view xs ++ more)
-  front xs before None came are =
-      let e : map view xs ≡ all = ap (λ l. map view l) (are ∙ append-nil before) ∙ given_all before came in
+  front xs before None yielded are =
+      let e : map view xs ≡ all = ap (λ l. map view l) (are ∙ append-nil before) ∙ given_all before yielded in
       ([], sym (append-nil (map view xs) ∙ e))
-  front xs before (Some x) came are =
-      let k = given_some before x came in
+  front xs before (Some x) yielded are =
+      let k = given_some before x yielded in
       (k.0, k.1 ∙ sym (ap (λ l. map view l ++ k.0) are ∙ (ap (λ l. l ++ k.0) (map-append view before (x ∷ [])) ∙ append_assoc (map view before) (view x ∷ []) k.0)))
 
   arrived : (xs : List D) → Arrived given number (λ xs. ps (map view xs)) xs → (more : List A) × (all ≡ map view xs ++ more)
@@ -105,10 +105,10 @@ module _ {A D : Type 0} (view : D → A) (given : List D → Option D → Type 0
 
   first_fault : (xs before : List D) (next : Option D) (e : Error) → given before next → items_cause number (λ xs. ps (map view xs)) before ≡ None → xs ≡ before ++ option_to_list next
       → items_cause number (λ xs. ps (map view xs)) xs ≡ Some e → HasListFault number ps all e
-  first_fault xs before None e came none are here =
+  first_fault xs before None e yielded none are here =
       contradiction (items_cause number (λ xs. ps (map view xs)) before) e none (ap (λ l. items_cause number (λ xs. ps (map view xs)) l) (sym (are ∙ append-nil before)) ∙ here)
-  first_fault xs before (Some x) e came none are here =
-      let k = given_some before x came in
+  first_fault xs before (Some x) e yielded none are here =
+      let k = given_some before x yielded in
       let fore = map view before in
       let now : map view xs ≡ fore ++ view x ∷ [] = ap (λ l. map view l) are ∙ map-append view before (x ∷ []) in
       let count = length (fore ++ view x ∷ []) in

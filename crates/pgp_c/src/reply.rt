@@ -7,7 +7,7 @@ ghost use Rattle.pgp_c.specs.Replying.{NotReplied, Replied};
 
 use crate::status::ended;
 use pgp_base::{Buffer, Error, Window};
-use pgp_message_write as write;
+use pgp_message_write as writers;
 
 /// A message without lists, of the caller's texts and bytes.
 #[derive(Clone, Copy)]
@@ -88,30 +88,30 @@ fn put<B: Buffer>(reply: Reply<'_>, buf: &mut B) -> Result<(), Error>
     ensures { WritesReply (reply_of reply.entry) B.Lacks (B.held buf.old) (B.held buf.new) result }
 {
     match reply {
-        Reply::AuthenticationCleartextPassword => write::authentication_cleartext_password(buf),
-        Reply::AuthenticationGss => write::authentication_gss(buf),
-        Reply::AuthenticationGssContinue(text) => write::authentication_gss_continue(text, buf),
-        Reply::AuthenticationKerberosV5 => write::authentication_kerberos_v5(buf),
-        Reply::AuthenticationMd5Password(salt) => write::authentication_md5_password(salt, buf),
-        Reply::AuthenticationOk => write::authentication_ok(buf),
-        Reply::AuthenticationSaslContinue(text) => write::authentication_sasl_continue(text, buf),
-        Reply::AuthenticationSaslFinal(text) => write::authentication_sasl_final(text, buf),
-        Reply::AuthenticationScmCredential => write::authentication_scm_credential(buf),
-        Reply::AuthenticationSspi => write::authentication_sspi(buf),
-        Reply::BackendKeyData(process_id, key) => write::backend_key_data(process_id, key, buf),
-        Reply::BindComplete => write::bind_complete(buf),
-        Reply::CloseComplete => write::close_complete(buf),
-        Reply::CommandComplete(tag) => write::command_complete(tag, buf),
-        Reply::CopyData(bytes) => write::copy_data(bytes, buf),
-        Reply::CopyDone => write::copy_done(buf),
-        Reply::EmptyQueryResponse => write::empty_query_response(buf),
-        Reply::NoData => write::no_data(buf),
+        Reply::AuthenticationCleartextPassword => writers::authentication_cleartext_password(buf),
+        Reply::AuthenticationGss => writers::authentication_gss(buf),
+        Reply::AuthenticationGssContinue(text) => writers::authentication_gss_continue(text, buf),
+        Reply::AuthenticationKerberosV5 => writers::authentication_kerberos_v5(buf),
+        Reply::AuthenticationMd5Password(salt) => writers::authentication_md5_password(salt, buf),
+        Reply::AuthenticationOk => writers::authentication_ok(buf),
+        Reply::AuthenticationSaslContinue(text) => writers::authentication_sasl_continue(text, buf),
+        Reply::AuthenticationSaslFinal(text) => writers::authentication_sasl_final(text, buf),
+        Reply::AuthenticationScmCredential => writers::authentication_scm_credential(buf),
+        Reply::AuthenticationSspi => writers::authentication_sspi(buf),
+        Reply::BackendKeyData(process_id, key) => writers::backend_key_data(process_id, key, buf),
+        Reply::BindComplete => writers::bind_complete(buf),
+        Reply::CloseComplete => writers::close_complete(buf),
+        Reply::CommandComplete(tag) => writers::command_complete(tag, buf),
+        Reply::CopyData(bytes) => writers::copy_data(bytes, buf),
+        Reply::CopyDone => writers::copy_done(buf),
+        Reply::EmptyQueryResponse => writers::empty_query_response(buf),
+        Reply::NoData => writers::no_data(buf),
         Reply::NotificationResponse(process_id, channel, payload) => {
-            write::notification_response(process_id, channel, payload, buf)
+            writers::notification_response(process_id, channel, payload, buf)
         }
-        Reply::ParameterStatus(name, value) => write::parameter_status(name, value, buf),
-        Reply::ParseComplete => write::parse_complete(buf),
-        Reply::PortalSuspended => write::portal_suspended(buf),
-        Reply::ReadyForQuery(status) => write::ready_for_query(status, buf),
+        Reply::ParameterStatus(name, value) => writers::parameter_status(name, value, buf),
+        Reply::ParseComplete => writers::parse_complete(buf),
+        Reply::PortalSuspended => writers::portal_suspended(buf),
+        Reply::ReadyForQuery(status) => writers::ready_for_query(status, buf),
     }
 }

@@ -8,7 +8,7 @@ ghost use Rattle.pgp_c.specs.Replying.{NotSentAs, SentAs};
 
 use crate::status::ended;
 use pgp_base::Window;
-use pgp_message_write as write;
+use pgp_message_write as writers;
 
 /// The types of a statement's parameters.
 #[unsafe(no_mangle)]
@@ -21,7 +21,7 @@ pub extern "C" fn pgp_reply_parameter_description(
     ensures refused { result ≢ 0 → NotSentAs (bytes_of (types_of types.now)) (λ e. types_cause types.now ≡ Some e) out.old written.new result }
 {
     let mut window = Window::new(out);
-    let answer = write::parameter_description(types, &mut window);
+    let answer = writers::parameter_description(types, &mut window);
     ended(answer, &window, written)
 }
 
@@ -37,7 +37,7 @@ pub extern "C" fn pgp_reply_copy_in(
     ensures refused { result ≢ 0 → NotSentAs (bytes_of (CopyInResponse (formats_of format column_formats.now))) (λ e. formats_cause format column_formats.now ≡ Some e) out.old written.new result }
 {
     let mut window = Window::new(out);
-    let answer = write::copy_in_response(format, column_formats, &mut window);
+    let answer = writers::copy_in_response(format, column_formats, &mut window);
     ended(answer, &window, written)
 }
 
@@ -53,6 +53,6 @@ pub extern "C" fn pgp_reply_copy_out(
     ensures refused { result ≢ 0 → NotSentAs (bytes_of (CopyOutResponse (formats_of format column_formats.now))) (λ e. formats_cause format column_formats.now ≡ Some e) out.old written.new result }
 {
     let mut window = Window::new(out);
-    let answer = write::copy_out_response(format, column_formats, &mut window);
+    let answer = writers::copy_out_response(format, column_formats, &mut window);
     ended(answer, &window, written)
 }
