@@ -2,10 +2,13 @@
 """Prints both sides of a recorded connection in one listing, in the order in which their messages came.
 
     session.py CLIENT-FILE SERVER-FILE TIMES-FILE [--absolute] [--only NAME,..] [--json] [--full] [--secrets]
+               [--requests | --summary]
 
 The three files are those of relay.py or pcap.py. Each line is one of pgtrace's, with the time at which its message was whole and an arrow before it: `>` for the
 client's, `<` for the server's. The time is in seconds since the first piece, or with --absolute since 1970. With --json both are fields of the object. With --only the
-messages of these names are printed (`fault` for a rejected frame), and the last lines.
+messages of these names are printed (`fault` for a rejected frame), and the last lines. With --requests each request has a number, as #3, and each message of the
+server the number of the request that it answers, with the milliseconds since; #? is a message that has no place there. With --summary only a table is printed, a line
+a statement. Both need the package postgres_protocol (answers.py).
 
 A line of TIMES-FILE is a piece of a side, in the order in which they came: its time, its arrow, and how many bytes it has.
 
@@ -82,29 +85,69 @@ def merged(pieces, sides):
     return sorted(found, key=lambda it: it[0])
 
 
-def shown(when, start, arrow, line):
+def shown(when, start, arrow, line, number, fields):
     since = None if when is None else round(when - start, 6)
     if line.startswith("{"):
-        side = "client" if arrow == ">" else "server"
-        return f'{{"time":{json.dumps(since)},"from":"{side}",{line[1:]}'
-    return f"{' ' * 12 if since is None else f'{since:12.6f}'} {arrow} {line}"
+        front = {"time": since, "from": "client" if arrow == ">" else "server", **fields}
+        return json.dumps(front, separators=(",", ":"))[:-1] + "," + line[1:]
+    return f"{' ' * 12 if since is None else f'{since:12.6f}'} {arrow} {number}{line}"
+
+
+def numbered(lines, answers):
+    """What a line says of requests, for each: its own number, or that of the request that it answers."""
+    for when, arrow, _, found in lines:
+        message = found.get("message")
+        if not message or when is None:
+            yield "", {}
+        elif arrow == ">":
+            number = answers.client(message, when)
+            yield (f"#{number}", {"request": number}) if number else ("", {})
+        else:
+            number, since = answers.server(message, when)
+            after = "" if since is None else f" +{1000 * since:.3f}"
+            yield (f"#{number}{after}", {"request": number, "after": since}) if number else ("", {})
+
+
+def taken(words, option):
+    """Whether this option is among the words, of which it is taken."""
+    there = option in words
+    if there:
+        words.remove(option)
+    return there
+
+
+def sides(words, client_file, server_file):
+    """The lines of both sides, by arrows."""
+    server = listed("server", words, server_file)
+    client = listed("client", words + kinds(server), client_file)
+    return {">": client, "<": list(with_answers(server, client))}
 
 
 def main(client_file, server_file, times_file, *options):
-    words, only = [word for word in options if word != "--absolute"], None
+    words, only = list(options), None
+    absolute, requests, summary = taken(words, "--absolute"), taken(words, "--requests"), taken(words, "--summary")
     if "--only" in words:
         at = words.index("--only")
         only = set(words[at + 1].split(","))
         del words[at : at + 2]
     with open(times_file, encoding="ascii") as file:
         pieces = [(float(when), arrow, int(length)) for when, arrow, length in map(str.split, file)]
-    server = listed("server", words, server_file)
-    client = listed("client", words + kinds(server), client_file)
-    start = 0 if "--absolute" in options or not pieces else pieces[0][0]
-    for _, when, arrow, line in merged(pieces, {">": client, "<": list(with_answers(server, client))}):
+    start = 0 if absolute or not pieces else pieces[0][0]
+    lines = merged(pieces, sides(words, client_file, server_file))
+    numbers, answers = [("", {})] * len(lines), None
+    if requests or summary:
+        from answers import Answers
+
+        answers = Answers()
+        objects = merged(pieces, sides([*words, "--json"] if "--json" not in words else words, client_file, server_file))
+        numbers = list(numbered([(when, arrow, line, json.loads(line) if line.startswith("{") else {}) for _, when, arrow, line in objects], answers))
+    if summary:
+        print("\n".join(answers.table()))
+        return
+    for (_, when, arrow, line), (text, fields) in zip(lines, numbers):
         message = parts(line)
         if not only or not message or message[1] in only:
-            print(shown(when, start, arrow, line))
+            print(shown(when, start, arrow, line, f"{text:16}" if requests else "", fields))
 
 
 if __name__ == "__main__":

@@ -123,6 +123,30 @@ static void values(void)
     same("no text", pgp_put_jsonb(B("\xff"), out, sizeof out, &n), PGP_E_NOT_UTF8); same("nothing", n, 0);
 }
 
+static void members(void)
+{
+    static const char record[] = "\0\0\0\3\0\0\0\x17\0\0\0\4\0\0\0\1\0\0\2\xc1\0\0\0\1x\0\0\2\xc1\xff\xff\xff\xff"; /* (1,x,) */
+    static const char ranges[] = "\0\0\0\2\0\0\0\x11\2\0\0\0\4\0\0\0\1\0\0\0\4\0\0\0\5\0\0\0\x11\2\0\0\0\4\0\0\0\7\0\0\0\4\0\0\0\x09"; /* {[1,5),[7,9)} */
+    struct pgp_cursor c = {0, 0, 0};
+    struct pgp_member m;
+    struct pgp_part p = {7, 7};
+    struct pgp_range r;
+    memset(&m, 7, sizeof m);
+    same("record", pgp_get_record(B(record), &c), PGP_OK); same("three", c.left, 3);
+    same("1st", pgp_member_next(B(record), &c, &m), PGP_OK); same("int4", m.of_type, 23); is("1", record + m.value.start, m.value.end - m.value.start, "\0\0\0\1", 4);
+    same("2nd", pgp_member_next(B(record), &c, &m), PGP_OK); same("unknown", m.of_type, 705); is("x", record + m.value.start, m.value.end - m.value.start, "x", 1);
+    same("3rd", pgp_member_next(B(record), &c, &m), PGP_OK); same("null", m.value.is_null, 1);
+    same("no more", pgp_member_next(B(record), &c, &m), PGP_DONE); same("as it was", m.of_type, 705);
+    same("negative", pgp_get_record(B("\xff\xff\xff\xff"), &c), PGP_E_INVALID_COUNT); same("cut", pgp_get_record(B("\0"), &c), PGP_E_UNEXPECTED_EOF); same("as it was", c.left, 0);
+    same("one", pgp_get_record(B("\0\0\0\1\0\0\0\x17\0\0\0\4\0"), &c), PGP_OK); same("short", pgp_member_next(B("\0\0\0\1\0\0\0\x17\0\0\0\4\0"), &c, &m), PGP_E_INVALID_VALUE_LENGTH);
+    same("multirange", pgp_get_multirange(B(ranges), &c), PGP_OK); same("two", c.left, 2);
+    same("1st", pgp_multirange_next(B(ranges), &c, &p), PGP_OK); same("at", p.at, 8); same("len", p.len, 17); same("a range", pgp_get_range((const uint8_t *)ranges + p.at, p.len, &r), PGP_OK); same("in", r.lower.kind, PGP_INCLUSIVE);
+    same("2nd", pgp_multirange_next(B(ranges), &c, &p), PGP_OK); same("at", p.at, 29);
+    same("no more", pgp_multirange_next(B(ranges), &c, &p), PGP_DONE); same("as it was", p.at, 29);
+    same("negative", pgp_get_multirange(B("\x80\0\0\0"), &c), PGP_E_INVALID_COUNT);
+    same("one", pgp_get_multirange(B("\0\0\0\1\0\0\0\2\1"), &c), PGP_OK); same("short", pgp_multirange_next(B("\0\0\0\1\0\0\0\2\1"), &c, &p), PGP_E_INVALID_VALUE_LENGTH);
+}
+
 static void data(void)
 {
     uint8_t room[16];
@@ -150,8 +174,8 @@ static void names(void)
 {
     is("status", T(pgp_status_name(PGP_E_NOT_UTF8)), T("PGP_E_NOT_UTF8")); is("status", T(pgp_status_name(PGP_E_OUT_OF_RANGE)), T("PGP_E_OUT_OF_RANGE"));
     is("status", T(pgp_status_name(PGP_E_WRONG_PHASE)), T("PGP_E_WRONG_PHASE")); is("status", T(pgp_status_name(PGP_E_UNCERTAIN)), T("PGP_E_UNCERTAIN"));
-    is("status", T(pgp_status_name(PGP_FULL)), T("PGP_FULL")); is("none", T(pgp_status_name(26)), T("?")); is("none", T(pgp_status_name(38)), T("?"));
+    is("status", T(pgp_status_name(PGP_FULL)), T("PGP_FULL")); is("none", T(pgp_status_name(26)), T("?")); is("status", T(pgp_status_name(PGP_E_UNKNOWN_PACKET)), T("PGP_E_UNKNOWN_PACKET")); is("none", T(pgp_status_name(39)), T("?"));
     is("kind", T(pgp_kind_name(PGP_DATA_ROW)), T("DataRow")); is("kind", T(pgp_kind_name(PGP_FUNCTION_CALL_RESPONSE)), T("FunctionCallResponse")); is("none", T(pgp_kind_name(35)), T("?"));
 }
 
-void further(void) { dialogues(); lists(); values(); data(); prepared(); names(); }
+void further(void) { dialogues(); lists(); values(); members(); data(); prepared(); names(); }

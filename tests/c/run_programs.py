@@ -1,9 +1,11 @@
-"""run_programs.py FOLDER: runs the three programs of docs/C.md, each against bytes of this file's own, worked by hand after the manual."""
+"""run_programs.py FOLDER: runs the four programs of docs/C.md: three against bytes of this file's own, worked by hand after the manual, and the
+server against the one that logs in."""
 import os
 import socket
 import subprocess
 import sys
 import threading
+import time
 
 sys.path.insert(0, os.path.join(os.path.dirname(os.path.abspath(__file__)), '..', 'python'))
 from server import frame, scram_server  # noqa: E402
@@ -67,5 +69,22 @@ port, thread = serving(scram_server, b'secret', seen)
 same('login, another password', program('login', port, 'alice', 'guessed')[:2], (1, b''))
 thread.join(10)
 same('the server refused', seen[0], False)
+
+
+def against_server(password):
+    """The login program with this password against the server program, which has another socket by and by: it is tried until it listens."""
+    with socket.create_server(('127.0.0.1', 0)) as free:
+        port = str(free.getsockname()[1])
+    server = subprocess.Popen([os.path.join(folder, 'server_program'), port, 'secret'])
+    for _ in range(100):
+        run = program('login', port, 'alice', password)
+        if not run[2].startswith(b'login: no connection'):
+            break
+        time.sleep(0.1)
+    return run[:2], server.wait(60)
+
+
+same('login, server', against_server('secret'), ((0, b'logged in\n'), 1))
+same('login, server, another password', against_server('guessed'), ((1, b''), 1))
 print('programs: %d failed' % failed)
 sys.exit(failed != 0)

@@ -9,6 +9,7 @@ import postgres_protocol as pg
 from postgres_protocol.registry import DECODERS
 from rows import check_rows
 from server import scram_server
+from serving import check_server
 from sessions import check_sessions
 from typed import check_typed
 
@@ -265,5 +266,6 @@ queries()
 check_rows(same)
 check_typed(same, raises)
 check_sessions(same, raises)
+check_server(same, refused)
 print('Python: %d passed, %d failed' % (passed, failed))
 sys.exit(failed != 0)

@@ -26,9 +26,11 @@ STATUSES: Dict[int, str] = {
     8: 'NotDrained', 9: 'NotUtf8', 10: 'InvalidSize', 11: 'InvalidCount', 12: 'InvalidKeyLength', 13: 'InvalidValueLength', 14: 'InvalidDimension',
     15: 'TooManyElements', 16: 'InvalidBitLength', 17: 'InvalidNetmask', 18: 'InvalidAddressLength', 19: 'InvalidFamily', 20: 'InvalidVersion',
     32: 'WrongPhase', 33: 'EmptyName', 34: 'UnknownVersion', 35: 'UnknownKind', 36: 'Unexpected', 37: 'Uncertain',
+    38: 'UnknownPacket',
     66: 'ScramWrongState', 67: 'ScramNotUtf8', 68: 'ScramUnexpectedEnd', 69: 'ScramUnexpectedCharacter', 70: 'ScramTrailing',
     71: 'ScramInvalidNumber', 72: 'ScramInvalidNonce', 73: 'ScramTooManyIterations', 74: 'ScramInvalidBase64', 75: 'ScramServer',
-    76: 'ScramVerification', 80: 'BadNonce', 81: 'BadBinding',
+    76: 'ScramVerification', 80: 'BadNonce', 81: 'BadBinding', 82: 'NotAVerifier', 83: 'WrongPassword', 84: 'ScramUnsupportedBinding',
+    85: 'ScramInvalidFirst', 86: 'ScramOtherExchange', 87: 'ScramInvalidEncoding', 88: 'ScramInvalidProof',
 }
 OK, NO_ROOM, INVALID_LENGTH, MORE, DONE = 0, 1, 4, 100, 101
 

@@ -32,6 +32,9 @@ const COMPLETE_38: &[u8] = b"C\0\0\0\x25SELECT 1234567890123456789012345\0";
 
 const CLIENT_SYNC: &[u8] = b"S\0\0\0\x04";
 
+// A numeric of 12 digits, 1234567890.12, as a server sends it.
+const NUMERIC: &[u8] = b"\0\x04\0\x02\0\0\0\x02\0\x0c\x0d\x80\x1e\xd2\x04\xb0";
+
 #[derive(Drop)]
 pub(crate) struct Input {
     /// As many frames, or triples of frames, as there are units.
@@ -65,6 +68,7 @@ fn unit(work: Work) -> &'static [u8] {
         Work::ClientSync => CLIENT_SYNC,
         Work::Row59InPlace => ROW_59,
         Work::Complete38InPlace => COMPLETE_38,
+        Work::Numeric => NUMERIC,
         _ => b"",
     }
 }

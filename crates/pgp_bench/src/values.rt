@@ -6,6 +6,7 @@ use pgp_base::Error;
 use pgp_types::{
     inet_from_sql, inet_to_sql, int4_from_sql, int4_to_sql, text_from_sql, text_to_sql,
 };
+use pgp_values::{Interval, interval_from_sql, interval_to_sql, numeric_from_sql, numeric_to_text};
 use std::net::{IpAddr, Ipv4Addr, Ipv6Addr};
 
 // The number, written and read again.
@@ -85,6 +86,62 @@ pub(crate) fn texts(input: &mut Input, count: u32) -> Result<u64, Error> {
     let mut sum = 0u64;
     for _round in 0..count {
         sum = sum.wrapping_add(text_len(short.as_str(), buf)? as u64);
+    }
+    Ok(sum)
+}
+
+// The microseconds of an interval that is written and read again.
+#[inline(always)]
+fn interval(microseconds: i64, buf: &mut BytesMut) -> Result<i64, Error> {
+    buf.clear();
+    let span = Interval {
+        microseconds,
+        days: 1,
+        months: 2,
+    };
+    interval_to_sql(span, buf)?;
+    Ok(interval_from_sql(buf.as_slice())?.microseconds)
+}
+
+/// The sum of the numbers from 0 on, as microseconds. What the buffer held is lost.
+///
+/// # Errors
+///
+/// Returns `OutOfMemory` if the buffer can't grow.
+#[inline(never)]
+pub(crate) fn intervals(buf: &mut BytesMut, count: u32) -> Result<u64, Error> {
+    let mut sum = 0u64;
+    for n in 0..count {
+        sum = sum.wrapping_add(interval(n as i64, buf)?.cast_unsigned());
+    }
+    Ok(sum)
+}
+
+// How long the text is of a number that is read.
+#[inline(always)]
+fn numeric_len(bytes: &[u8], buf: &mut BytesMut) -> Result<usize, Error> {
+    buf.clear();
+    let Ok(number) = numeric_from_sql(bytes) else {
+        return Ok(0);
+    };
+    numeric_to_text(&number, buf)?;
+    Ok(buf.len())
+}
+
+/// The bytes of the numbers' texts.
+///
+/// # Errors
+///
+/// Returns `OutOfMemory` if the buffer can't grow.
+#[inline(never)]
+pub(crate) fn numerics(input: &mut Input, count: u32) -> Result<u64, Error> {
+    let Input { stream, buf, .. } = input;
+    let Some(bytes) = stream.as_slice().get(..16) else {
+        return Ok(0);
+    };
+    let mut sum = 0u64;
+    for _round in 0..count {
+        sum = sum.wrapping_add(numeric_len(bytes, buf)? as u64);
     }
     Ok(sum)
 }

@@ -7,7 +7,7 @@ use crate::input::Input;
 use crate::keys::keys;
 use crate::pieces::feed;
 use crate::streams::{read, read_answers_in_place, read_copied, read_in_place};
-use crate::values::{inet4s, inet6s, int4s, texts};
+use crate::values::{inet4s, inet6s, int4s, intervals, numerics, texts};
 use crate::writers::write;
 use pgp_base::Error;
 use std::alloc::Global;
@@ -83,6 +83,10 @@ pub(crate) enum Work {
     Inet6,
     /// A text of 16 bytes, written.
     Text,
+    /// An interval, written.
+    Interval,
+    /// A decimal number of 12 digits, read, and its text written.
+    Numeric,
     /// A string constant of 32 bytes, one of them a quote.
     LiteralShort,
     /// A string constant of 1,024 bytes without a quote.
@@ -96,7 +100,7 @@ pub(crate) enum Work {
 }
 
 impl Work {
-    pub(crate) const ALL: [Work; 39] = [
+    pub(crate) const ALL: [Work; 41] = [
         Work::Bare,
         Work::Tiny,
         Work::Kept,
@@ -131,6 +135,8 @@ impl Work {
         Work::Inet4,
         Work::Inet6,
         Work::Text,
+        Work::Interval,
+        Work::Numeric,
         Work::LiteralShort,
         Work::LiteralPlain,
         Work::LiteralQuotes,
@@ -175,6 +181,8 @@ impl Work {
             Work::Inet4 => "value_inet4",
             Work::Inet6 => "value_inet6",
             Work::Text => "value_text",
+            Work::Interval => "value_interval",
+            Work::Numeric => "value_numeric",
             Work::LiteralShort => "escape_literal_short",
             Work::LiteralPlain => "escape_literal_plain",
             Work::LiteralQuotes => "escape_literal_quotes",
@@ -227,6 +235,8 @@ pub(crate) fn sum_of(
         Work::Inet4 => inet4s(&mut input.buf, count),
         Work::Inet6 => inet6s(&mut input.buf, count),
         Work::Text => texts(input, count),
+        Work::Interval => intervals(&mut input.buf, count),
+        Work::Numeric => numerics(input, count),
         Work::LiteralShort => literals(alloc, input.quote.as_str(), count),
         Work::LiteralPlain => literals(alloc, input.plain.as_str(), count),
         Work::LiteralQuotes => literals(alloc, input.quotes.as_str(), count),

@@ -1,7 +1,7 @@
 /*
- * postgres_protocol.h: the byte level of a PostgreSQL client, proved.
+ * postgres_protocol.h: the byte level of a PostgreSQL client and of a server, proved.
  *
- * Writers of a client's messages, a reader of a server's messages, the binary format of values. Link libpgp_c.a; it calls nothing
+ * Writers and a reader of a client's messages and of a server's, the binary format of values. Link libpgp_c.a; it calls nothing
  * but memcpy, memmove, memset and memcmp of the C library, takes no memory, keeps nothing between two calls and has no global
  * state. (Passwords and escapes are in postgres_protocol_auth.h, libpgp_c_auth.a.)
  *
@@ -80,10 +80,14 @@ enum {
     PGP_E_KIND = 35,                    /* the kind of a range's side, a request or a message is none   */
     PGP_E_UNEXPECTED = 36,              /* pgp_dialogue_take: the message has no place there             */
     PGP_E_UNCERTAIN = 37,               /* pgp_dialogue_take: a copy failed after an early Sync          */
+    PGP_E_UNKNOWN_PACKET = 38,          /* pgp_client_front: an opening packet has the code of none      */
     PGP_MORE = 100,                     /* bytes are missing: read more, and call again                  */
     PGP_DONE = 101,                     /* the iterator is at its end                                    */
     PGP_FULL = 102                      /* pgp_*_all: the array is full, and more items follow           */
 };
+
+/* Whether the bytes are a text as a server in UTF-8 takes one: PGP_OK, PGP_E_NOT_UTF8, or PGP_E_EMBEDDED_NULL for UTF-8 with a 0 byte. */
+pgp_status pgp_is_text(const uint8_t *bytes, size_t len);
 
 /* ---- writers: one message each ---- */
 
@@ -287,6 +291,104 @@ pgp_status pgp_error_field_next(const uint8_t *bytes, size_t len, struct pgp_cur
 pgp_status pgp_mechanism_next(const uint8_t *bytes, size_t len, struct pgp_cursor *cursor, struct pgp_part *name);
 pgp_status pgp_option_next(const uint8_t *bytes, size_t len, struct pgp_cursor *cursor, struct pgp_part *name);
 
+/* ---- the messages of a client, as a server reads them ---- */
+
+enum pgp_client_kind {
+    PGP_CLIENT_NONE = 0, PGP_CLIENT_BIND = 1, PGP_CLIENT_CLOSE = 2, PGP_CLIENT_COPY_DATA = 3, PGP_CLIENT_COPY_DONE = 4, PGP_CLIENT_COPY_FAIL = 5,
+    PGP_CLIENT_DESCRIBE = 6, PGP_CLIENT_EXECUTE = 7, PGP_CLIENT_FLUSH = 8, PGP_CLIENT_FUNCTION_CALL = 9, PGP_CLIENT_PARSE = 10,
+    PGP_CLIENT_PASSWORD_MESSAGE = 11, PGP_CLIENT_QUERY = 12, PGP_CLIENT_SASL_INITIAL_RESPONSE = 13, PGP_CLIENT_SASL_RESPONSE = 14,
+    PGP_CLIENT_SYNC = 15, PGP_CLIENT_TERMINATE = 16, PGP_CLIENT_STARTUP = 17, PGP_CLIENT_CANCEL_REQUEST = 18, PGP_CLIENT_SSL_REQUEST = 19,
+    PGP_CLIENT_GSSENC_REQUEST = 20
+};
+
+/* The parts of a message, by its kind; what a kind doesn't have is 0.
+     QUERY, COPY_FAIL, PASSWORD_MESSAGE     first: the text
+     COPY_DATA, SASL_RESPONSE               first: the data
+     PARSE                                  first: the statement's name   second: the query     items: the types (pgp_type_next)
+     BIND                                   first: the portal             second: the statement
+                                            formats, result_formats (pgp_format_next)           items: the values (pgp_row_next, pgp_row_all)
+     DESCRIBE, CLOSE                        byte: 'S' or 'P', or any other that was sent        first: the name
+     EXECUTE                                first: the portal             number: the greatest number of rows, or 0
+     FUNCTION_CALL                          code: the function   formats   items: the arguments   number: the result's format
+     SASL_INITIAL_RESPONSE                  first: the mechanism          second: the text, unless is_null
+     STARTUP                                code: the minor version of 3  items: names and values (pgp_setting_next)
+     CANCEL_REQUEST                         number: the process           first: the secret key
+   With PGP_E_UNKNOWN_PACKET number is the packet's code: 131072 is version 2.0. */
+struct pgp_client_parts {
+    struct pgp_part first, second;
+    struct pgp_cursor formats, items, result_formats;
+    int32_t number;
+    uint32_t code;
+    uint8_t byte;
+    bool is_null;
+};
+
+struct pgp_client_message {
+    size_t frame;             /* how many bytes the message takes: go on at bytes + frame. 0 where it can't be passed, and for PGP_MORE */
+    struct pgp_client_parts parts;
+    uint8_t kind;             /* enum pgp_client_kind; PGP_CLIENT_NONE unless the status is PGP_OK                                     */
+    uint8_t tag;              /* the message's first byte; 0 of an opening packet, and where frame is 0                                */
+    bool is_open;             /* for the next call: whether a startup packet was read, by now                                          */
+};
+
+/* Which message of tag 'p' is expected, as what the server sent last says. For all other messages it says nothing. */
+enum pgp_expected { PGP_EXPECT_PASSWORD = 0, PGP_EXPECT_SASL_INITIAL = 1, PGP_EXPECT_SASL_RESPONSE = 2 };
+
+/* The message at the front of the bytes, read in place. `is_open` is false at first, and then what the last message says. Returns
+     PGP_OK                    a message: kind, parts, and how many bytes it takes. All of its lists stand there: their iterators meet no error
+     PGP_MORE                  no whole message stands there: read more, and call again with these bytes first
+     PGP_E_INVALID_LENGTH      the stream can't be read on
+     PGP_E_UNKNOWN_PACKET      an opening packet of another version than 3, or of no request: it isn't passed (frame is 0)
+     5, 7, 8, 10, 13           the message is whole, and malformed: it may be skipped (frame), but for an opening packet
+     PGP_E_KIND                `expected` is none of pgp_expected; nothing is reported                                                 */
+pgp_status pgp_client_front(const uint8_t *bytes, size_t len, bool is_open, uint8_t expected, struct pgp_client_message *message);
+
+/* The next name and value of a STARTUP: they return what pgp_row_next does. */
+struct pgp_setting { struct pgp_part name, value; };
+pgp_status pgp_setting_next(const uint8_t *bytes, size_t len, struct pgp_cursor *cursor, struct pgp_setting *setting);
+
+/* ---- replies: writers of a server's messages, one message each ---- */
+
+/* A message without a body, by its kind: AUTHENTICATION_OK, _CLEARTEXT_PASSWORD, _GSS, _KERBEROS_V5, _SCM_CREDENTIAL, _SSPI, BIND_COMPLETE,
+   CLOSE_COMPLETE, COPY_DONE, EMPTY_QUERY_RESPONSE, NO_DATA, PARSE_COMPLETE, PORTAL_SUSPENDED. PGP_E_KIND for another. */
+pgp_status pgp_reply(uint8_t kind, PGP_OUT);
+/* A message of one text or some bytes: COMMAND_COMPLETE (its tag, as "SELECT 1"), COPY_DATA, AUTHENTICATION_SASL_CONTINUE, _SASL_FINAL,
+   _GSS_CONTINUE. PGP_E_KIND for another. */
+pgp_status pgp_reply_text(uint8_t kind, const uint8_t *text, size_t len, PGP_OUT);
+/* The salt has 4 bytes, else PGP_E_INVALID_SIZE. */
+pgp_status pgp_reply_md5_password(const uint8_t *salt, size_t len, PGP_OUT);
+/* The names of mechanisms, the one that is liked best first; none is empty. */
+struct pgp_name { const uint8_t *name; size_t name_len; };
+pgp_status pgp_reply_authentication_sasl(const struct pgp_name *mechanisms, size_t count, PGP_OUT);
+/* The key has 4 to 256 bytes, else PGP_E_INVALID_SIZE. */
+pgp_status pgp_reply_backend_key_data(int32_t process_id, const uint8_t *secret_key, size_t key_len, PGP_OUT);
+/* The newest version that the server speaks, and the options that it doesn't know. */
+pgp_status pgp_reply_negotiate_protocol_version(int32_t version, const struct pgp_name *options, size_t count, PGP_OUT);
+pgp_status pgp_reply_parameter_status(const uint8_t *name, size_t name_len, const uint8_t *value, size_t value_len, PGP_OUT);
+pgp_status pgp_reply_notification(int32_t process_id, const uint8_t *channel, size_t channel_len, const uint8_t *payload, size_t payload_len, PGP_OUT);
+/* 'I' outside a transaction, 'T' in one, 'E' in a failed one. */
+pgp_status pgp_reply_ready_for_query(uint8_t status, PGP_OUT);
+/* The columns of the rows that follow. PGP_E_TOO_LARGE for more than 65,535. */
+struct pgp_described {
+    const uint8_t *name; size_t name_len;
+    uint32_t table_oid;       /* the column's table, or 0            */
+    uint32_t type_oid;
+    int32_t type_modifier;    /* or -1                               */
+    int16_t column_id;        /* the column's number there, or 0     */
+    int16_t type_size;        /* in bytes; negative where it varies  */
+    int16_t format;           /* 0 text, 1 binary                    */
+};
+pgp_status pgp_reply_row_description(const struct pgp_described *columns, size_t count, PGP_OUT);
+pgp_status pgp_reply_data_row(const struct pgp_value *values, size_t count, PGP_OUT);
+pgp_status pgp_reply_parameter_description(const uint32_t *types, size_t count, PGP_OUT);
+/* The fields of an error or a notice: a code of enum pgp_error_code, and a text. Clients expect severity ('S', 'V'), 'C' and 'M'. */
+struct pgp_reported { const uint8_t *value; size_t value_len; uint8_t code; };
+pgp_status pgp_reply_error(const struct pgp_reported *fields, size_t count, PGP_OUT);
+pgp_status pgp_reply_notice(const struct pgp_reported *fields, size_t count, PGP_OUT);
+/* A copy's format, 0 text and 1 binary, as a whole and of each column. */
+pgp_status pgp_reply_copy_in(uint8_t format, const uint16_t *column_formats, size_t count, PGP_OUT);
+pgp_status pgp_reply_copy_out(uint8_t format, const uint16_t *column_formats, size_t count, PGP_OUT);
+
 /* ---- which message answers which request ---- */
 
 /* Requests are asked in the order in which they are sent, each with a number of the caller's, and every message of the server is taken as
@@ -401,6 +503,14 @@ pgp_status pgp_entry_next(const uint8_t *bytes, size_t len, struct pgp_cursor *c
 struct pgp_key_value { const uint8_t *key; size_t key_len; struct pgp_value value; };
 pgp_status pgp_put_hstore(const struct pgp_key_value *pairs, size_t count, PGP_OUT);
 
+/* A row or a composite value: a cursor over its fields, each a type and a value or a null. A multirange: a cursor over its ranges, each the place of what
+   pgp_get_range reads. */
+struct pgp_member { struct pgp_column value; uint32_t of_type; };
+pgp_status pgp_get_record(const uint8_t *bytes, size_t len, struct pgp_cursor *fields);
+pgp_status pgp_member_next(const uint8_t *bytes, size_t len, struct pgp_cursor *cursor, struct pgp_member *member);
+pgp_status pgp_get_multirange(const uint8_t *bytes, size_t len, struct pgp_cursor *ranges);
+pgp_status pgp_multirange_next(const uint8_t *bytes, size_t len, struct pgp_cursor *cursor, struct pgp_part *range);
+
 /* The server's fixed types, by number: those of its values, and of arrays of them. */
 enum pgp_oid {
     PGP_OID_BOOL = 16, PGP_OID_BYTEA = 17, PGP_OID_CHAR = 18, PGP_OID_NAME = 19, PGP_OID_INT8 = 20, PGP_OID_INT2 = 21, PGP_OID_INT4 = 23,
@@ -438,7 +548,8 @@ static inline const char *pgp_status_name(pgp_status status)
         "PGP_E_INVALID_BIT_LENGTH", "PGP_E_INVALID_NETMASK", "PGP_E_INVALID_ADDRESS_LENGTH", "PGP_E_INVALID_FAMILY", "PGP_E_INVALID_VERSION",
         "PGP_E_INVALID_SIGN", "PGP_E_INVALID_SCALE", "PGP_E_INVALID_DIGIT", "PGP_E_INVALID_TEXT", "PGP_E_OUT_OF_RANGE"
     };
-    static const char *const more[] = { "PGP_E_WRONG_PHASE", "PGP_E_EMPTY_NAME", "PGP_E_VERSION", "PGP_E_KIND", "PGP_E_UNEXPECTED", "PGP_E_UNCERTAIN" };
+    static const char *const more[] = { "PGP_E_WRONG_PHASE", "PGP_E_EMPTY_NAME", "PGP_E_VERSION", "PGP_E_KIND", "PGP_E_UNEXPECTED", "PGP_E_UNCERTAIN",
+                                        "PGP_E_UNKNOWN_PACKET" };
     if (status < sizeof names / sizeof *names) return names[status];
     if (status >= 32 && status < 32 + sizeof more / sizeof *more) return more[status - 32];
     return status == PGP_MORE ? "PGP_MORE" : status == PGP_DONE ? "PGP_DONE" : status == PGP_FULL ? "PGP_FULL" : "?";

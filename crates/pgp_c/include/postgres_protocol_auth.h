@@ -19,7 +19,11 @@ enum {
     PGP_SCRAM_TRAILING = 70, PGP_SCRAM_INVALID_NUMBER = 71, PGP_SCRAM_INVALID_NONCE = 72, PGP_SCRAM_TOO_MANY_ITERATIONS = 73,
     PGP_SCRAM_INVALID_BASE64 = 74, PGP_SCRAM_SERVER = 75, PGP_SCRAM_VERIFICATION = 76,
     PGP_BAD_NONCE = 80,             /* the caller's nonce is empty, or has a byte that is no printable ASCII or is a comma */
-    PGP_BAD_BINDING = 81            /* the kind of the channel binding is none of pgp_binding                              */
+    PGP_BAD_BINDING = 81,           /* the kind of the channel binding is none of pgp_binding, or of pgp_offer             */
+    PGP_NOT_A_VERIFIER = 82,        /* the stored text is no verifier of SCRAM-SHA-256                                     */
+    PGP_WRONG_PASSWORD = 83,        /* what was shown isn't what is stored                                                 */
+    PGP_SCRAM_UNSUPPORTED_BINDING = 84, PGP_SCRAM_INVALID_FIRST = 85, PGP_SCRAM_OTHER_EXCHANGE = 86, PGP_SCRAM_INVALID_ENCODING = 87,
+    PGP_SCRAM_INVALID_PROOF = 88    /* the proof is of another password                                                    */
 };
 
 /* The channel binding of an exchange: none; none, but the client could (a server that offers it should refuse that); or
@@ -69,9 +73,37 @@ static inline void pgp_nonce(const uint8_t random[18], uint8_t nonce[24])
     }
 }
 
+/*
+ * The server's side, in two calls that keep nothing between them. The caller keeps the stored verifier (`SCRAM-SHA-256$4096:..`), its own part
+ * of the nonce, new for each exchange, and the client's first text.
+ *   pgp_scram_server_first  what to send in PGP_AUTHENTICATION_SASL_CONTINUE. PGP_SCRAM_UNSUPPORTED_BINDING, PGP_SCRAM_INVALID_FIRST: no first
+ *                           text of a client
+ *   pgp_scram_server_final  PGP_OK only if the client's final text shows the password's key, with what to send in
+ *                           PGP_AUTHENTICATION_SASL_FINAL. PGP_SCRAM_OTHER_EXCHANGE, _INVALID_ENCODING, _INVALID_PROOF: it is not let in
+ * `kind` is what became of channel binding, which for PGP_OFFER_CHOSEN comes with the hash of the server's certificate.
+ */
+enum pgp_offer {
+    PGP_OFFER_NONE = 0,             /* SCRAM-SHA-256 alone was offered                                        */
+    PGP_OFFER_DECLINED = 1,         /* SCRAM-SHA-256-PLUS was offered too, and the client chose SCRAM-SHA-256 */
+    PGP_OFFER_CHOSEN = 2            /* the client chose SCRAM-SHA-256-PLUS                                    */
+};
+pgp_status pgp_scram_server_first(const uint8_t *stored, size_t stored_len, uint8_t kind, const uint8_t *certificate, size_t certificate_len,
+                                  const uint8_t *nonce, size_t nonce_len, const uint8_t *client_first, size_t client_first_len, PGP_OUT);
+pgp_status pgp_scram_server_final(const uint8_t *stored, size_t stored_len, uint8_t kind, const uint8_t *certificate, size_t certificate_len,
+                                  const uint8_t *nonce, size_t nonce_len, const uint8_t *client_first, size_t client_first_len,
+                                  const uint8_t *client_final, size_t client_final_len, PGP_OUT);
+
 /* What a server stores of a password: 133 characters. The salt has 16 bytes. */
 enum { PGP_VERIFIER_ROOM = 133, PGP_MD5_ROOM = 35 };
 pgp_status pgp_scram_verifier(const uint8_t *password, size_t password_len, const uint8_t *salt, size_t salt_len, PGP_OUT);
+
+/* The same with MD5, for servers that have nothing else: `md5` and 32 digits. The user's name has to be UTF-8, else PGP_E_NOT_UTF8. */
+pgp_status pgp_md5_verifier(const uint8_t *user, size_t user_len, const uint8_t *password, size_t password_len, PGP_OUT);
+
+/* PGP_OK where the password is that of the stored verifier of SCRAM-SHA-256 (after AuthenticationCleartextPassword), and where the answer to
+   AuthenticationMD5Password with this salt is right for the stored MD5 text; else PGP_WRONG_PASSWORD. */
+pgp_status pgp_scram_check(const uint8_t *stored, size_t stored_len, const uint8_t *password, size_t password_len);
+pgp_status pgp_md5_check(const uint8_t *stored, size_t stored_len, const uint8_t *salt, size_t salt_len, const uint8_t *answer, size_t answer_len);
 
 /* The answer to AuthenticationMD5Password: 35 characters. The salt has 4 bytes. */
 pgp_status pgp_md5_answer(const uint8_t *user, size_t user_len, const uint8_t *password, size_t password_len,

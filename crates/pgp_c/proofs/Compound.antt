@@ -91,7 +91,7 @@ key_inside rest more x b =
     omega (arith, ap length b.whole, length-append b.front more, ap length b.spelled.whole, length-append b.spelled.first b.spelled.second, ap length b.spelled.one.0.1, length-append (uint32 (length x.0)) x.0, length-uint32 (length x.0))
 
 -- how many bytes a value takes with its length
-value_size : (v : Option (List ℕ)) (front : List ℕ) → NullableSpelled v front → length front ≡ 4 + value_length v
+pub value_size : (v : Option (List ℕ)) (front : List ℕ) → NullableSpelled v front → length front ≡ 4 + value_length v
 value_size None front s = omega (arith, ap length s.2, int32_number.len (negsuc s.0))
 value_size (Some v) front s = omega (arith, ap length s.1, length-append (uint32 (length v)) v, length-uint32 (length v))
 

@@ -1,5 +1,7 @@
 mod Addresses
 mod Alls
+mod ClientFronts
+mod ClientPlaces
 mod Compound
 mod Dialogues
 mod Elements
@@ -10,10 +12,15 @@ mod Handed
 mod Items
 mod Listings
 mod Lists
+mod NeverMemory
 mod Openings
 mod Pairs
 mod Plain
 mod Putting
+mod Replies
+mod ReplyLists
 mod Sending
+mod Settings
 mod BindRefusals
 mod Walks
+mod RecordWalks

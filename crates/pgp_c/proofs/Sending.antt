@@ -46,7 +46,7 @@ sends m n is w v old name new range none wrote x at_last reported reported_is = 
 })
 
 -- 1 is the number of lack of memory alone, which no message has as its cause
-is_memory : (e : Error) → plain e ≡ plain OutOfMemory → e ≡ OutOfMemory
+pub is_memory : (e : Error) → plain e ≡ plain OutOfMemory → e ≡ OutOfMemory
 is_memory (UnknownTag tag) h = cc
 is_memory (UnknownAuthentication code) h = cc
 is_memory e h = h

@@ -1,3 +1,6 @@
+pub mod ClientFront
+pub mod ClientParts
+pub mod ClientPlaces
 pub mod Compound
 pub mod Copying
 pub mod Dialogue
@@ -11,8 +14,12 @@ pub mod Parts
 pub mod Places
 pub mod Plain
 pub mod Putting
+pub mod Records
+pub mod Replies
+pub mod Replying
 pub mod Scalars
 pub mod Sending
+pub mod Settings
 pub mod Streams
 pub mod Values
 pub mod Walks

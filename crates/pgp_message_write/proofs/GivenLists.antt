@@ -19,8 +19,8 @@ use Rattle.pgp_frontend.specs.Payload.{Part, Byte, Rest, joined, parts_cause, fr
 use Rattle.pgp_frontend.specs.Putting.{PutsParts, PartsRefused}
 use Rattle.pgp_frontend.proofs.Needs.{framed_length, int32_length, tagged_length}
 use Rattle.pgp_message.specs.BackendMessage.{Message, tag_of}
-use Rattle.pgp_message_write.specs.declared.given.Ending.{Ending}
-use Rattle.pgp_message_write.specs.declared.given.Ending.TheVariants.{Count, WideCount, Zero}
+use Rattle.pgp_message_write.specs.declared.list_message_of.Ending.{Ending}
+use Rattle.pgp_message_write.specs.declared.list_message_of.Ending.TheVariants.{Count, WideCount, Zero}
 use Rattle.pgp_message_write.specs.Ending.{number_cause}
 use Rattle.pgp_message_write.specs.Given.{uncounted, items_cause, Arrived, SoFarRefused, GivenRefused, WritesBytes, WritesGiven}
 use Rattle.pgp_message_write.specs.Lists.{counted_list, wide_list, marked_list}

@@ -6,8 +6,8 @@ use Rattle.pgp_base.specs.declared.error.Error.{Error}
 use Rattle.pgp_frontend.specs.Payload.{Part, joined}
 use Rattle.pgp_message_write.specs.Given.{uncounted, SoFarRefused}
 use Rattle.pgp_message_write.specs.Lists.{counted_list, wide_list, marked_list}
-use Rattle.pgp_message_write.specs.declared.given.Ending.{Ending}
-use Rattle.pgp_message_write.specs.declared.given.Ending.TheVariants.{Count, WideCount, Zero}
+use Rattle.pgp_message_write.specs.declared.list_message_of.Ending.{Ending}
+use Rattle.pgp_message_write.specs.declared.list_message_of.Ending.TheVariants.{Count, WideCount, Zero}
 
 -- the cause of so many items
 abbrev pub number_cause : Ending → ℕ → Cause

@@ -12,8 +12,8 @@ ghost use Rattle.pgp_message_write.specs.Given.{WritesGiven};
 ghost use Rattle.pgp_message_write.specs.Lists.{counted_list, format_parts, with_list};
 ghost use Rattle.pgp_message_write.specs.Reply.{formats_of, WritesList, WritesReply};
 
-use crate::given::{Ending, given};
-use crate::listed::{count_field, listed};
+use crate::list_message::{count_field, list_message};
+use crate::list_message_of::{Ending, list_message_of};
 use pgp_base::{Buffer, Error};
 use pgp_frontend::field::{Field, message};
 
@@ -34,7 +34,7 @@ pub fn copy_in_response<B: Buffer>(
 {
     let count = count_field(column_formats.len())?;
     let head = [Field::Byte(format), Field::Rest(&count)];
-    listed(b'G', &head, column_formats, &[], buf)
+    list_message(b'G', &head, column_formats, &[], buf)
 }
 
 /// The same, over an iterator of formats.
@@ -56,7 +56,7 @@ where
         (λ all. Byte format ∷ counted_list format_parts all) (λ all. CopyInResponse (formats_of format all))
         B.Lacks (B.held buf.old) (B.held buf.new) result }
 {
-    given(
+    list_message_of(
         b'G',
         &[Field::Byte(format)],
         Ending::Count,
@@ -81,7 +81,7 @@ pub fn copy_out_response<B: Buffer>(
 {
     let count = count_field(column_formats.len())?;
     let head = [Field::Byte(format), Field::Rest(&count)];
-    listed(b'H', &head, column_formats, &[], buf)
+    list_message(b'H', &head, column_formats, &[], buf)
 }
 
 /// The same, over an iterator of formats.
@@ -101,7 +101,7 @@ where
         (λ all. Byte format ∷ counted_list format_parts all) (λ all. CopyOutResponse (formats_of format all))
         B.Lacks (B.held buf.old) (B.held buf.new) result }
 {
-    given(
+    list_message_of(
         b'H',
         &[Field::Byte(format)],
         Ending::Count,

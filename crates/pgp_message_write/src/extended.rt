@@ -12,8 +12,8 @@ ghost use Rattle.pgp_message_write.specs.Given.{WritesGiven};
 ghost use Rattle.pgp_message_write.specs.Lists.{counted_list, type_parts, with_list};
 ghost use Rattle.pgp_message_write.specs.Reply.{types_of, WritesList, WritesReply};
 
-use crate::given::{Ending, given};
-use crate::listed::{count_field, listed};
+use crate::list_message::{count_field, list_message};
+use crate::list_message_of::{Ending, list_message_of};
 use pgp_base::{Buffer, Error, Oid};
 use pgp_frontend::field::{Field, message};
 
@@ -84,7 +84,7 @@ pub fn parameter_description<B: Buffer>(types: &[Oid], buf: &mut B) -> Result<()
         B.Lacks (B.held buf.old) (B.held buf.new) result }
 {
     let count = count_field(types.len())?;
-    listed(b't', &[Field::Rest(&count)], types, &[], buf)
+    list_message(b't', &[Field::Rest(&count)], types, &[], buf)
 }
 
 /// The same, over an iterator of types.
@@ -105,5 +105,5 @@ where
         (λ all. counted_list type_parts all) (λ all. types_of all)
         B.Lacks (B.held buf.old) (B.held buf.new) result }
 {
-    given(b't', &[], Ending::Count, types, buf)
+    list_message_of(b't', &[], Ending::Count, types, buf)
 }

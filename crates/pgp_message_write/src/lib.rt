@@ -3,10 +3,10 @@
 
 mod copy;
 mod extended;
-mod given;
 mod item;
 pub mod laws;
-mod listed;
+mod list_message;
+mod list_message_of;
 mod login;
 mod notice;
 mod row;

@@ -12,8 +12,8 @@ ghost use Rattle.pgp_message_write.specs.Given.{uncounted, WritesGiven};
 ghost use Rattle.pgp_message_write.specs.Lists.{marked_list, text_parts, wide_list, with_list};
 ghost use Rattle.pgp_message_write.specs.Reply.{names_of, negotiation_of, WritesList, WritesReply};
 
-use crate::given::{Ending, given};
-use crate::listed::{listed, wide_count};
+use crate::list_message::{list_message, wide_count};
+use crate::list_message_of::{Ending, list_message_of};
 use pgp_base::{Buffer, Error};
 use pgp_frontend::field::{Field, message};
 
@@ -148,7 +148,7 @@ pub fn authentication_sasl<B: Buffer>(mechanisms: &[&[u8]], buf: &mut B) -> Resu
         (with_list (Int32 (pos 10) ∷ []) (flat_map text_parts names) (Byte 0 ∷ []))
         B.Lacks (B.held buf.old) (B.held buf.new) result }
 {
-    listed(
+    list_message(
         b'R',
         &[Field::Int32(10)],
         mechanisms,
@@ -175,7 +175,7 @@ where
         (λ all. Authentication (AuthenticationSasl (names_of (map (λ name. name.now) all))))
         B.Lacks (B.held buf.old) (B.held buf.new) result }
 {
-    given(b'R', &[Field::Int32(10)], Ending::Zero, mechanisms, buf)
+    list_message_of(b'R', &[Field::Int32(10)], Ending::Zero, mechanisms, buf)
 }
 
 /// What a request to cancel has to show: the process, and a key of 4 to 256 bytes, by this project's profile of protocol 3.2.
@@ -216,7 +216,7 @@ pub fn negotiate_protocol_version<B: Buffer>(
 {
     let count = wide_count(options.len())?;
     let head = [Field::Int32(version), Field::Rest(&count)];
-    listed(b'v', &head, options, &[], buf)
+    list_message(b'v', &head, options, &[], buf)
 }
 
 /// The same, over an iterator of options.
@@ -239,7 +239,7 @@ where
         (λ all. negotiation_of version (map (λ text. text.now) all))
         B.Lacks (B.held buf.old) (B.held buf.new) result }
 {
-    given(
+    list_message_of(
         b'v',
         &[Field::Int32(version)],
         Ending::WideCount,

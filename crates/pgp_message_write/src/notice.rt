@@ -12,9 +12,9 @@ ghost use Rattle.pgp_message_write.specs.Lists.{field_parts, marked_list, with_l
 ghost use Rattle.pgp_message_write.specs.Reply.{fields_of, WritesList};
 ghost use Rattle.pgp_message_write.specs.Views.{shown_field};
 
-use crate::given::{Ending, given};
 use crate::item::Item;
-use crate::listed::listed;
+use crate::list_message::list_message;
+use crate::list_message_of::{Ending, list_message_of};
 use pgp_base::{Buffer, Error};
 use pgp_frontend::field::{Field, put_fields};
 
@@ -49,7 +49,7 @@ pub fn error_response<B: Buffer>(fields: &[ErrorField<'_>], buf: &mut B) -> Resu
     ensures { let all = map shown_field fields.now in WritesList (ErrorResponse (fields_of all)) None (with_list [] (flat_map field_parts all) (Byte 0 ∷ []))
         B.Lacks (B.held buf.old) (B.held buf.new) result }
 {
-    listed(b'E', &[], fields, &[Field::Byte(0)], buf)
+    list_message(b'E', &[], fields, &[Field::Byte(0)], buf)
 }
 
 /// The same, over an iterator of fields.
@@ -69,7 +69,7 @@ where
         (λ all. marked_list field_parts (map shown_field all)) (λ all. ErrorResponse (fields_of (map shown_field all)))
         B.Lacks (B.held buf.old) (B.held buf.new) result }
 {
-    given(b'E', &[], Ending::Zero, fields, buf)
+    list_message_of(b'E', &[], Ending::Zero, fields, buf)
 }
 
 /// NoticeResponse: a notice with these fields.
@@ -81,7 +81,7 @@ pub fn notice_response<B: Buffer>(fields: &[ErrorField<'_>], buf: &mut B) -> Res
     ensures { let all = map shown_field fields.now in WritesList (NoticeResponse (fields_of all)) None (with_list [] (flat_map field_parts all) (Byte 0 ∷ []))
         B.Lacks (B.held buf.old) (B.held buf.new) result }
 {
-    listed(b'N', &[], fields, &[Field::Byte(0)], buf)
+    list_message(b'N', &[], fields, &[Field::Byte(0)], buf)
 }
 
 /// The same, over an iterator of fields.
@@ -100,5 +100,5 @@ where
         (λ all. marked_list field_parts (map shown_field all)) (λ all. NoticeResponse (fields_of (map shown_field all)))
         B.Lacks (B.held buf.old) (B.held buf.new) result }
 {
-    given(b'N', &[], Ending::Zero, fields, buf)
+    list_message_of(b'N', &[], Ending::Zero, fields, buf)
 }

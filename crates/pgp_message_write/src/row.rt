@@ -13,9 +13,9 @@ ghost use Rattle.pgp_message_write.specs.Lists.{column_parts, counted_list, lent
 ghost use Rattle.pgp_message_write.specs.Reply.{description_of, row_of, WritesList};
 ghost use Rattle.pgp_message_write.specs.Views.{shown_column};
 
-use crate::given::{Ending, given};
 use crate::item::Item;
-use crate::listed::{count_field, listed};
+use crate::list_message::{count_field, list_message};
+use crate::list_message_of::{Ending, list_message_of};
 use pgp_base::big_endian::{u16_bytes, u32_bytes};
 use pgp_base::{Buffer, Error, Oid};
 use pgp_frontend::field::{Field, put_fields};
@@ -69,7 +69,7 @@ pub fn row_description<B: Buffer>(columns: &[Column<'_>], buf: &mut B) -> Result
         B.Lacks (B.held buf.old) (B.held buf.new) result }
 {
     let count = count_field(columns.len())?;
-    listed(b'T', &[Field::Rest(&count)], columns, &[], buf)
+    list_message(b'T', &[Field::Rest(&count)], columns, &[], buf)
 }
 
 /// The same, over an iterator of columns.
@@ -89,7 +89,7 @@ where
         (λ all. counted_list column_parts (map shown_column all)) (λ all. description_of (map shown_column all))
         B.Lacks (B.held buf.old) (B.held buf.new) result }
 {
-    given(b'T', &[], Ending::Count, columns, buf)
+    list_message_of(b'T', &[], Ending::Count, columns, buf)
 }
 
 /// DataRow: a row of these values, `None` for a null, each in its column's format.
@@ -104,7 +104,7 @@ pub fn data_row<B: Buffer>(values: &[Option<&[u8]>], buf: &mut B) -> Result<(), 
         B.Lacks (B.held buf.old) (B.held buf.new) result }
 {
     let count = count_field(values.len())?;
-    listed(b'D', &[Field::Rest(&count)], values, &[], buf)
+    list_message(b'D', &[Field::Rest(&count)], values, &[], buf)
 }
 
 /// The same, over an iterator of values.
@@ -125,5 +125,5 @@ where
         (λ vs. counted_list value_parts (map lent vs)) (λ vs. row_of (map lent vs))
         B.Lacks (B.held buf.old) (B.held buf.new) result }
 {
-    given(b'D', &[], Ending::Count, values, buf)
+    list_message_of(b'D', &[], Ending::Count, values, buf)
 }

@@ -11,11 +11,13 @@ mod client_steps;
 mod codec;
 mod dialogue;
 mod fault;
+mod formats;
 mod lexemes;
 mod lists;
 mod numbers;
 mod numerics;
 mod passwords;
+mod queries;
 mod ranges;
 mod replies;
 mod row;
@@ -66,9 +68,10 @@ enum Family {
     Saslprep,
     Numerics,
     Values,
+    Formats,
 }
 
-const FILES: [(&str, Family); 22] = [
+const FILES: [(&str, Family); 23] = [
     ("client.rows", Family::Client),
     ("client_read.rows", Family::ClientRead),
     ("client_replaced.rows", Family::ClientRead),
@@ -91,6 +94,7 @@ const FILES: [(&str, Family); 22] = [
     ("saslprep.rows", Family::Saslprep),
     ("numerics.rows", Family::Numerics),
     ("values.rows", Family::Values),
+    ("formats.rows", Family::Formats),
 ];
 
 /// Makes the call of a row.
@@ -116,6 +120,7 @@ fn check(alloc: Global, family: Family, row: &Row<'_>, out: &mut Shown) -> Resul
         Family::Saslprep => check_answer::<saslprep::Prepared>(alloc, row, out),
         Family::Numerics => check_numeric(alloc, row, out),
         Family::Values => check_value::<Values>(alloc, row, out),
+        Family::Formats => check_answer::<formats::Formats>(alloc, row, out),
     }
 }
 

@@ -9,12 +9,13 @@ use crate::word::{Words, words_of};
 use bytes::BytesMut;
 use pgp_base::{Buffer, Error};
 use pgp_values::{
-    NumericError, numeric_from_sql, numeric_text_to_sql, numeric_to_sql, numeric_to_text,
+    NumericError, numeric_from_sql, numeric_text_to_sql, numeric_to_i64, numeric_to_i128,
+    numeric_to_sql, numeric_to_text,
 };
 use std::alloc::Global;
 
 // Why a numeric was refused, where no buffer of this program was short of memory.
-fn plain_numeric(answer: Result<(), NumericError>, words: &mut Words<'_>) -> Result<(), Error> {
+pub fn plain_numeric(answer: Result<(), NumericError>, words: &mut Words<'_>) -> Result<(), Error> {
     match answer {
         Ok(()) => Ok(()),
         Err(NumericError::OutOfMemory) => Err(Error::OutOfMemory),
@@ -41,6 +42,27 @@ pub fn show_numeric(bytes: &[u8], out: &mut Shown) {
                 out.word("written otherwise");
             }
         }
+        Err(e) => out.number(e),
+    }
+}
+
+// The integer that a number is, or why it is none of the type.
+pub fn show_integer(bytes: &[u8], out: &mut Shown) {
+    match numeric_from_sql(bytes) {
+        Ok(v) => match numeric_to_i128(&v) {
+            Ok(n) => out.number(n),
+            Err(e) => out.number(e),
+        },
+        Err(e) => out.number(e),
+    }
+}
+
+pub fn show_integer64(bytes: &[u8], out: &mut Shown) {
+    match numeric_from_sql(bytes) {
+        Ok(v) => match numeric_to_i64(&v) {
+            Ok(n) => out.number(n),
+            Err(e) => out.number(e),
+        },
         Err(e) => out.number(e),
     }
 }

@@ -18,10 +18,13 @@ use Rattle.pgp_base.specs.declared.error.Error.TheVariants.{OutOfMemory}
 use Rattle.pgp_client.specs.Kinds.{request_of}
 use Rattle.pgp_client.specs.Taking.{is_copying}
 use Rattle.pgp_client.specs.declared.request.Request.{Request}
-use Rattle.pgp_session.specs.Connection.{Notes, SendsGiven, Shown, asked_of, is_logged_in, is_longer, may_send, next_name, noted, said, with_out}
+use Rattle.pgp_session.specs.Connection.{Notes, SendsGiven, Shown, asked_of, is_logged_in, is_longer, may_send, moved, next_name, noted, said, with_login, with_out}
 use Rattle.pgp_session.specs.declared.connection_error.ConnectionError.{ConnectionError}
 use Rattle.pgp_session.specs.declared.connection_error.ConnectionError.TheVariants.{OutOfMemory as OutOfMemoryThere}
-use Rattle.pgp_session.specs.Login.{Puts}
+use Rattle.pgp_session.specs.Login.{Login, Puts}
+use Rattle.pgp_session.specs.ServerState.{noted as noted_by}
+use Rattle.pgp_session.specs.declared.server_state.ServerState.{ServerState}
+use Rattle.pgp_message.specs.BackendMessage.{Message as Meant}
 
 pub short_longer : (limit : ℕ) (bytes : List ℕ) → length bytes < 5 → false ≡ is_longer limit bytes
 short_longer limit [] short = refl
@@ -71,7 +74,7 @@ take_front [] ys = refl
 take_front (x ∷ xs) ys = ap (λ l. x ∷ l) (take_front xs ys)
 
 said_by : (m : ClientMessage) (r : Request) (c : Shown) → request_of m ≡ Some r → noted r (with_out (c.out ++ bytes_of m) c) ≡ said m c
-said_by m r c e = ap (λ (o : Option Request). record { phase = c.phase; login = c.login; out = c.out ++ bytes_of m; incoming = c.incoming; talk = asked_of o c.names c.talk; names = next_name c.names; limit = c.limit }) (sym e)
+said_by m r c e = ap (λ (o : Option Request). record { phase = c.phase; login = c.login; out = c.out ++ bytes_of m; incoming = c.incoming; talk = asked_of o c.names c.talk; server = c.server; names = next_name c.names; limit = c.limit }) (sym e)
 
 both_true : (a b : Bool) → a ≡ true → b ≡ true → (a && b) ≡ true
 both_true a b e f = rw (e, f) refl
@@ -94,3 +97,8 @@ given_by lacks Whole Refuses m r old new written (Ok name) whole may none range 
 given_by lacks Whole Refuses m r old new written (Err OutOfMemoryThere) whole may none range request logged bytes n =
     (logged, n.0, n.1 ∙ ap (λ (l : List ℕ). with_out (take (length old.out) l) old) bytes ∙ ap (λ (l : List ℕ). with_out l old) (take_front old.out (bytes_of m)))
 given_by lacks Whole Refuses m r old new written (Err e) whole may none range request logged bytes n = absurd n
+
+-- what is known of the server's session after a message
+pub took_so : (m : Meant) (l : Login) (out : List ℕ) (t : Talk) (k : ServerState) (old : Shown) → k ≡ noted_by m old.server
+    → record { phase = old.phase; login = l; out = out; incoming = old.incoming; talk = t; server = k; names = old.names; limit = old.limit } ≡ with_login l out (moved old.phase t m old)
+took_so m l out t k old e = ap (λ (s : ServerState). record { phase = old.phase; login = l; out = out; incoming = old.incoming; talk = t; server = s; names = old.names; limit = old.limit }) e

@@ -2,7 +2,7 @@ pub mod Pieces
 pub mod Readings
 pub mod Additions
 pub mod StartupPairs
-pub mod Counted
+pub mod Lent
 pub mod Known
 pub mod Listed
 pub mod Mechanisms

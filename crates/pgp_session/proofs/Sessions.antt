@@ -27,6 +27,8 @@ use Rattle.pgp_session.specs.Connection.{HasStarted, Sent, Shown, Took, Wrote, a
 use Rattle.pgp_session.specs.Login.{Added, AddsReply, Asking, Sasl, First, Final, Welcome, Login, LogsOn, NothingAsked, ByCleartext, ByMd5, ScramBegins, ScramGoesOn, ScramEnds, Welcomed, Trusted, Ways, asking}
 use Rattle.pgp_session.specs.ScramLogin.{Offers, ReceivedAmong, NoneWanted, OneReceived, OtherReceived, offer, first_text, final_text, welcome}
 use Rattle.pgp_session.specs.Session.{Admitted, ByNone, ByPassword, ByHash, BySignature, Follows, History, IsAllowed, IsOpenedAt, Known, Plays, Begins, Writes, Hears, and_fed, and_observed, and_sent, and_wrote, good, is_secret, nothing as no_history, requests_in, requests_of, turns_of}
+use Rattle.pgp_session.specs.ServerState.{noted, state_after, unsaid}
+use Rattle.pgp_session.specs.declared.server_state.ServerState.{ServerState}
 use Rattle.pgp_session.specs.declared.connection.ConnectionPhase.{ConnectionPhase}
 use Rattle.pgp_session.specs.declared.connection.ConnectionPhase.TheVariants.{Opening, Encrypting, Started, Over as OverPhase}
 use Rattle.pgp_session.specs.declared.scram_login.LoginPhase.{LoginPhase}
@@ -44,8 +46,9 @@ run_one l m sent out grown run may added =
 
 pub wrote : (ways : Ways) (h : History) (old new : Shown) (m : ClientMessage) (name : ℕ) → MayCome m (is_opened h.written) → is_secret m ≡ false
     → IsOpenedAt new.phase (is_opened (h.written ++ m ∷ [])) → Added m old.out new.out
-    → new.incoming ≡ old.incoming → new.talk ≡ asked_of (request_of m) name old.talk → new.login ≡ old.login → Known ways h old → Known ways (and_wrote m name h) new
-wrote ways h old new m name may plain opened added incoming talk login k = record {
+    → new.incoming ≡ old.incoming → new.talk ≡ asked_of (request_of m) name old.talk → new.login ≡ old.login → new.server ≡ old.server
+    → Known ways h old → Known ways (and_wrote m name h) new
+wrote ways h old new m name may plain opened added incoming talk login server k = record {
   run = run_one h.written m h.sent old.out new.out k.run may added;
   opened = opened;
   read = subst (λ b. Frames h.received (good h.observed) b) (sym incoming) k.read;
@@ -53,11 +56,12 @@ wrote ways h old new m name may plain opened added incoming talk login k = recor
       subst (λ (t : Talk). Plays ways (h.written ++ m ∷ []) h.observed (h.turns ++ turns_of (request_of m) name) t new.login) (sym talk)
       (subst (λ (l : Login). Plays ways (h.written ++ m ∷ []) h.observed (h.turns ++ turns_of (request_of m) name) (asked_of (request_of m) name old.talk) l) (sym login)
       (Writes m name plain k.plays));
+  server = server ∙ k.server;
 }
 
-pub sent_some : (ways : Ways) (h : History) (old new : Shown) (n : ℕ) → new.phase ≡ old.phase → new.out ≡ drop n old.out → new.incoming ≡ old.incoming → new.talk ≡ old.talk → new.login ≡ old.login
+pub sent_some : (ways : Ways) (h : History) (old new : Shown) (n : ℕ) → new.phase ≡ old.phase → new.out ≡ drop n old.out → new.incoming ≡ old.incoming → new.talk ≡ old.talk → new.login ≡ old.login → new.server ≡ old.server
     → Known ways h old → Known ways (and_sent n old h) new
-sent_some ways h old new n phase out incoming talk login k =
+sent_some ways h old new n phase out incoming talk login server k =
     let bytes : h.sent ++ old.out ≡ (h.sent ++ take n old.out) ++ new.out =
     ap (λ b. h.sent ++ b) (sym (take-append-drop n old.out)) ∙ sym (append_assoc h.sent (take n old.out) (drop n old.out)) ∙ ap (λ b. (h.sent ++ take n old.out) ++ b) (sym out) in
     record {
@@ -65,19 +69,21 @@ sent_some ways h old new n phase out incoming talk login k =
       opened = subst (λ (p : ConnectionPhase). IsOpenedAt p (is_opened h.written)) (sym phase) k.opened;
       read = subst (λ b. Frames h.received (good h.observed) b) (sym incoming) k.read;
       plays = subst (λ (t : Talk). Plays ways h.written h.observed h.turns t new.login) (sym talk) (subst (λ (l : Login). Plays ways h.written h.observed h.turns old.talk l) (sym login) k.plays);
+      server = server ∙ k.server;
     }
 
-pub fed_some : (ways : Ways) (h : History) (old new : Shown) (piece : List ℕ) → new.phase ≡ old.phase → new.out ≡ old.out → new.incoming ≡ old.incoming ++ piece → new.talk ≡ old.talk → new.login ≡ old.login
+pub fed_some : (ways : Ways) (h : History) (old new : Shown) (piece : List ℕ) → new.phase ≡ old.phase → new.out ≡ old.out → new.incoming ≡ old.incoming ++ piece → new.talk ≡ old.talk → new.login ≡ old.login → new.server ≡ old.server
     → ((bytes : List ℕ) → Frames bytes [] bytes)
     → ((bytes more rest left : List ℕ) (first second : List (Result Message Error)) → Frames bytes first rest → Frames (rest ++ more) second left → Frames (bytes ++ more) (first ++ second) left)
     → Known ways h old → Known ways (and_fed piece h) new
-fed_some ways h old new piece phase out incoming talk login none go k =
+fed_some ways h old new piece phase out incoming talk login server none go k =
     let frames : Frames (h.received ++ piece) (good h.observed ++ []) (old.incoming ++ piece) = go h.received piece old.incoming (old.incoming ++ piece) (good h.observed) [] k.read (none (old.incoming ++ piece)) in
     record {
       run = subst (λ b. ClientRun (flat_map kinds_of h.written) h.written (h.sent ++ b)) (sym out) k.run;
       opened = subst (λ (p : ConnectionPhase). IsOpenedAt p (is_opened h.written)) (sym phase) k.opened;
       read = subst (λ b. Frames (h.received ++ piece) (good h.observed) b) (sym incoming) (subst (λ r. Frames (h.received ++ piece) r (old.incoming ++ piece)) (append-nil (good h.observed)) frames);
       plays = subst (λ (t : Talk). Plays ways h.written h.observed h.turns t new.login) (sym talk) (subst (λ (l : Login). Plays ways h.written h.observed h.turns old.talk l) (sym login) k.plays);
+      server = server ∙ k.server;
     }
 
 good_more : (ms : List Message) (m : Message) → good ms ++ Ok m ∷ [] ≡ good (ms ++ m ∷ [])
@@ -118,6 +124,10 @@ opened_replied : (l : List ClientMessage) (reply : Option ClientMessage) → is_
 opened_replied l None e = ap is_opened (append-nil l) ∙ e
 opened_replied l (Some m) e = opened_still l m e
 
+state_more : (s : ServerState) (ms : List Message) (m : Message) → state_after s (ms ++ m ∷ []) ≡ noted m (state_after s ms)
+state_more s [] m = refl
+state_more s (x ∷ ms) m = state_more (noted x s) ms m
+
 at_started : (p : ConnectionPhase) (b : Bool) → p ≡ Started → IsOpenedAt p b → b ≡ true
 at_started p b e opened = subst (λ (q : ConnectionPhase). IsOpenedAt q b) e opened
 
@@ -134,6 +144,7 @@ observed_one ways h old new rest m e phase frame took next k =
         read = subst (λ b. Frames h.received (good (h.observed ++ m ∷ [])) b) (sym (ap (λ (c : Shown). c.incoming) took.is))
             (subst (λ r. Frames h.received r rest) (good_more h.observed m) (next h.received old.incoming rest (good h.observed) (Ok m) k.read frame));
         plays = Hears m e took.taken took.goes_on logged.logs k.plays;
+        server = ap (λ (c : Shown). c.server) took.is ∙ ap (noted m) k.server ∙ sym (state_more unsaid h.observed m);
       },
     )
 
@@ -372,6 +383,7 @@ follows ways h now belongs k = record {
   belong = belongs h.turns (plays_follow ways k.plays);
   allowed = plays_allowed ways k.plays;
   admitted = λ done. subst (λ (q : LoginPhase). Stands ways h.observed q now.login.ways.scram) done (plays_stand ways k.plays).stands;
+  server = k.server;
 }
 
 -- ---- the calls
@@ -406,7 +418,7 @@ sends ways h old new m name s k =
     let opened : is_opened h.written ≡ true = at_started old.phase (is_opened h.written) phase k.opened in
     wrote ways h old new m name (tagged_may h.written m opened (may_tagged (is_copying old.talk) m may)) (may_open (is_copying old.talk) m may)
     (subst (λ (p : ConnectionPhase). IsOpenedAt p (is_opened (h.written ++ m ∷ []))) (sym (ap (λ (c : Shown). c.phase) s.is ∙ phase)) (opened_still h.written m opened))
-    s.added (ap (λ (c : Shown). c.incoming) s.is) (ap (λ (c : Shown). c.talk) s.is ∙ ap (λ n. asked_of (request_of m) n old.talk) (sym s.named)) (ap (λ (c : Shown). c.login) s.is) k
+    s.added (ap (λ (c : Shown). c.incoming) s.is) (ap (λ (c : Shown). c.talk) s.is ∙ ap (λ n. asked_of (request_of m) n old.talk) (sym s.named)) (ap (λ (c : Shown). c.login) s.is) (ap (λ (c : Shown). c.server) s.is) k
 
 at_opening : (p : ConnectionPhase) (b : Bool) → p ≡ Opening → IsOpenedAt p b → b ≡ false
 at_opening p b e opened = subst (λ (q : ConnectionPhase). IsOpenedAt q b) e opened
@@ -421,27 +433,27 @@ starts ways h old new parameters name named s k =
     let closed : is_opened h.written ≡ false = at_opening old.phase (is_opened h.written) s.phase k.opened in
     wrote ways h old new m name (subst (λ (b : Bool). MayCome m b) (sym closed) (inl tt, named)) refl
     (subst (λ (p : ConnectionPhase). IsOpenedAt p (is_opened (h.written ++ m ∷ []))) (sym (ap (λ (c : Shown). c.phase) s.is)) (opened_by h.written m refl))
-    s.added (ap (λ (c : Shown). c.incoming) s.is) (ap (λ (c : Shown). c.talk) s.is ∙ ap (λ n. asked_of (request_of m) n old.talk) (sym s.named)) (ap (λ (c : Shown). c.login) s.is) k
+    s.added (ap (λ (c : Shown). c.incoming) s.is) (ap (λ (c : Shown). c.talk) s.is ∙ ap (λ n. asked_of (request_of m) n old.talk) (sym s.named)) (ap (λ (c : Shown). c.login) s.is) (ap (λ (c : Shown). c.server) s.is) k
 
 pub asks_encryption : (ways : Ways) (h : History) (old new : Shown) → Wrote Opening Encrypting SslRequest old new → Known ways h old → Known ways (and_wrote SslRequest 0 h) new
 asks_encryption ways h old new s k =
     let closed : is_opened h.written ≡ false = at_opening old.phase (is_opened h.written) s.phase k.opened in
     wrote ways h old new SslRequest 0 (subst (λ (b : Bool). MayCome SslRequest b) (sym closed) (inr tt, tt)) refl
     (subst (λ (p : ConnectionPhase). IsOpenedAt p (is_opened (h.written ++ SslRequest ∷ []))) (sym (ap (λ (c : Shown). c.phase) s.is)) (opened_more h.written SslRequest ∙ closed))
-    s.added (ap (λ (c : Shown). c.incoming) s.is) (ap (λ (c : Shown). c.talk) s.is) (ap (λ (c : Shown). c.login) s.is) k
+    s.added (ap (λ (c : Shown). c.incoming) s.is) (ap (λ (c : Shown). c.talk) s.is) (ap (λ (c : Shown). c.login) s.is) (ap (λ (c : Shown). c.server) s.is) k
 
 pub ends : (ways : Ways) (h : History) (old new : Shown) → Wrote Started OverPhase Terminate old new → Known ways h old → Known ways (and_wrote Terminate 0 h) new
 ends ways h old new s k =
     let opened : is_opened h.written ≡ true = at_started old.phase (is_opened h.written) s.phase k.opened in
     wrote ways h old new Terminate 0 (tagged_may h.written Terminate opened (λ none. cc)) refl
     (subst (λ (p : ConnectionPhase). IsOpenedAt p (is_opened (h.written ++ Terminate ∷ []))) (sym (ap (λ (c : Shown). c.phase) s.is)) tt)
-    s.added (ap (λ (c : Shown). c.incoming) s.is) (ap (λ (c : Shown). c.talk) s.is) (ap (λ (c : Shown). c.login) s.is) k
+    s.added (ap (λ (c : Shown). c.incoming) s.is) (ap (λ (c : Shown). c.talk) s.is) (ap (λ (c : Shown). c.login) s.is) (ap (λ (c : Shown). c.server) s.is) k
 
 at_encrypting : (p : ConnectionPhase) (b : Bool) → p ≡ Encrypting → IsOpenedAt p b → b ≡ false
 at_encrypting p b e opened = subst (λ (q : ConnectionPhase). IsOpenedAt q b) e opened
 
 pub answered : (ways : Ways) (h : History) (old : Shown) → old.phase ≡ Encrypting → Known ways h old → Known ways h (in_phase Opening old)
-answered ways h old phase k = record { run = k.run; opened = at_encrypting old.phase (is_opened h.written) phase k.opened; read = k.read; plays = k.plays }
+answered ways h old phase k = record { run = k.run; opened = at_encrypting old.phase (is_opened h.written) phase k.opened; read = k.read; plays = k.plays; server = k.server }
 
 pub begins : (ways : Ways) (limit : ℕ) → ((bytes : List ℕ) → Frames bytes [] bytes) → Known ways no_history (begun ways limit)
-begins ways limit none = record { run = nothing; opened = refl; read = none []; plays = Begins }
+begins ways limit none = record { run = nothing; opened = refl; read = none []; plays = Begins; server = refl }

@@ -45,11 +45,11 @@ module _ {S X : Type 0} (steps : S → Option X → S → Type 0) (s : S) (all :
 
 -- those that came so far are the first ones
 module _ {S X U : Type 0} (into_iter_gives : U → S → Type 0) (steps : S → Option X → S → Type 0) (source : U) (all : List X) (roads : (s : S) → into_iter_gives source s → YieldsList steps (λ x. x) s all) (xs : List X) where
-  asked_front : (before : List X) (next : Option X) → Received into_iter_gives steps source before next → xs ≡ before ++ option_to_list next → (k : ℕ) × (xs ≡ take k all)
+  asked_front : (before : List X) (next : Option X) → Yielded into_iter_gives steps source before next → xs ≡ before ++ option_to_list next → (k : ℕ) × (xs ≡ take k all)
   asked_front before None received are = (length all, are ∙ (append-nil before ∙ (received_all steps received.iterator all (roads received.iterator received.from) before received.left received.received ∙ sym (take-length all))))
   asked_front before (Some x) received are = (length before + 1, are ∙ received_front steps received.iterator all (roads received.iterator received.from) before x received.left received.received)
 
-  pub received_so_far : (part : List X → Part) → Arrived (Received into_iter_gives steps source) part xs → (k : ℕ) × (xs ≡ take k all)
+  pub received_so_far : (part : List X → Part) → Arrived (Yielded into_iter_gives steps source) part xs → (k : ℕ) × (xs ≡ take k all)
   received_so_far part (inl none) = (0, none)
   received_so_far part (inr asked) = asked_front asked.before asked.next asked.received asked.are
 

@@ -10,7 +10,7 @@ use Rattle.pgp_client.specs.Telling.{start}
 use Rattle.pgp_client.specs.declared.event.Event.{Event}
 use Rattle.pgp_client.specs.declared.event.Event.TheVariants.{Ended}
 use Rattle.pgp_client.specs.declared.request.Request.{Request}
-use Rattle.pgp_frontend.specs.ClientMessage.{ClientMessage, Bind, Close, CopyData, CopyDone, CopyFail, Describe, Execute, Flush, Parse, Query, Sync}
+use Rattle.pgp_frontend.specs.ClientMessage.{ClientMessage, Bind, CancelRequest, Close, CopyData, CopyDone, CopyFail, Describe, Execute, Flush, Parse, Query, Sync}
 use Rattle.pgp_frontend.specs.Payload.{bytes_of}
 use Rattle.pgp_message.specs.BackendMessage.{Message}
 use Rattle.pgp_message.specs.Remembered.{header_of}
@@ -20,11 +20,14 @@ use Rattle.pgp_message.specs.Views.{view}
 use Rattle.pgp_message.specs.declared.message as code
 use Rattle.pgp_session.specs.Login.{Added, LoggedOn, Login, Unsent, Ways, asking, seen}
 use Rattle.pgp_session.specs.Login as login
+use Rattle.pgp_session.specs.ServerState.{noted as noted_by, unsaid}
 use Rattle.pgp_session.specs.declared.connection.Connection.{Connection as Kept}
 use Rattle.pgp_session.specs.declared.connection.ConnectionPhase.{ConnectionPhase}
 use Rattle.pgp_session.specs.declared.connection.ConnectionPhase.TheVariants.{Opening, Encrypting, Started, Over}
 use Rattle.pgp_session.specs.declared.connection_error.ConnectionError.{ConnectionError}
 use Rattle.pgp_session.specs.declared.connection_error.ConnectionError.TheVariants.{BadAnswer, Malformed, Misplaced, OutOfMemory, OutOfPhase, TooLong, Unwritten}
+use Rattle.pgp_session.specs.declared.server_state.BackendKey.{BackendKey}
+use Rattle.pgp_session.specs.declared.server_state.ServerState.{ServerState}
 use Rattle.pgp_session.specs.declared.scram_login.LoginPhase.{LoginPhase}
 use Rattle.pgp_session.specs.declared.scram_login.LoginPhase.TheVariants.{AwaitsOffer, Done}
 
@@ -36,13 +39,15 @@ pub record Shown : Type 0 where
   -- what came, and wasn't taken as messages
   pub incoming : List ℕ
   pub talk : Talk
+  -- what the server said last of its session
+  pub server : ServerState
   -- the next request's name
   pub names : ℕ
   -- how long a message may be
   pub limit : ℕ
 
 abbrev pub begun : Ways → ℕ → Shown
-begun ways limit = record { phase = Opening; login = record { phase = AwaitsOffer; ways = ways }; out = []; incoming = []; talk = start; names = 0; limit = limit }
+begun ways limit = record { phase = Opening; login = record { phase = AwaitsOffer; ways = ways }; out = []; incoming = []; talk = start; server = unsaid; names = 0; limit = limit }
 
 -- the log-in is done
 abbrev pub done_at : LoginPhase → Bool
@@ -86,7 +91,7 @@ asked_of (Some r) n t = asked t (record { request = r; name = n })
 
 -- after this message was sent
 abbrev pub said : ClientMessage → Shown → Shown
-said m c = record { phase = c.phase; login = c.login; out = c.out ++ bytes_of m; incoming = c.incoming; talk = asked_of (request_of m) c.names c.talk; names = next_name c.names; limit = c.limit }
+said m c = record { phase = c.phase; login = c.login; out = c.out ++ bytes_of m; incoming = c.incoming; talk = asked_of (request_of m) c.names c.talk; server = c.server; names = next_name c.names; limit = c.limit }
 
 -- The message was added to what is to be sent, and asked of the server under this name.
 pub record Sent (m : ClientMessage) (old new : Shown) (name : ℕ) : Type 0 where
@@ -112,10 +117,10 @@ SendsGiven lacks Whole Refuses old new (Err e) = ⊥
 
 -- *private*: the request was noted whose message was written, or the message was taken back
 abbrev pub with_out : List ℕ → Shown → Shown
-with_out out c = record { phase = c.phase; login = c.login; out = out; incoming = c.incoming; talk = c.talk; names = c.names; limit = c.limit }
+with_out out c = record { phase = c.phase; login = c.login; out = out; incoming = c.incoming; talk = c.talk; server = c.server; names = c.names; limit = c.limit }
 
 abbrev pub noted : Request → Shown → Shown
-noted r c = record { phase = c.phase; login = c.login; out = c.out; incoming = c.incoming; talk = asked c.talk (record { request = r; name = c.names }); names = next_name c.names; limit = c.limit }
+noted r c = record { phase = c.phase; login = c.login; out = c.out; incoming = c.incoming; talk = asked c.talk (record { request = r; name = c.names }); server = c.server; names = next_name c.names; limit = c.limit }
 
 abbrev pub Notes : {A : Type 0} → Type 0 → ℕ → Request → Shown → Shown → Result ℕ (ConnectionError A) → Type 0
 Notes lacks place r old new (Ok name) = (name ≡ old.names) × (new ≡ noted r old)
@@ -124,12 +129,12 @@ Notes lacks place r old new (Err e) = ⊥
 
 -- so many bytes were sent
 abbrev pub dropped : ℕ → Shown → Shown
-dropped n c = record { phase = c.phase; login = c.login; out = drop n c.out; incoming = c.incoming; talk = c.talk; names = c.names; limit = c.limit }
+dropped n c = record { phase = c.phase; login = c.login; out = drop n c.out; incoming = c.incoming; talk = c.talk; server = c.server; names = c.names; limit = c.limit }
 
 -- ---- what comes
 
 abbrev pub fed : List ℕ → Shown → Shown
-fed piece c = record { phase = c.phase; login = c.login; out = c.out; incoming = c.incoming ++ piece; talk = c.talk; names = c.names; limit = c.limit }
+fed piece c = record { phase = c.phase; login = c.login; out = c.out; incoming = c.incoming ++ piece; talk = c.talk; server = c.server; names = c.names; limit = c.limit }
 
 abbrev pub Feeds : {A : Type 0} → Type 0 → List ℕ → Shown → Shown → Result (Unit {0}) (ConnectionError A) → Type 0
 Feeds lacks piece old new (Ok done) = (old.phase ≡ Started) × (new ≡ fed piece old)
@@ -146,18 +151,18 @@ abbrev pub is_longer : ℕ → List ℕ → Bool
 is_longer limit bytes = longer limit (header_of bytes)
 
 abbrev pub in_phase : ConnectionPhase → Shown → Shown
-in_phase phase c = record { phase = phase; login = c.login; out = c.out; incoming = c.incoming; talk = c.talk; names = c.names; limit = c.limit }
+in_phase phase c = record { phase = phase; login = c.login; out = c.out; incoming = c.incoming; talk = c.talk; server = c.server; names = c.names; limit = c.limit }
 
 abbrev pub with_incoming : List ℕ → Shown → Shown
-with_incoming rest c = record { phase = c.phase; login = c.login; out = c.out; incoming = rest; talk = c.talk; names = c.names; limit = c.limit }
+with_incoming rest c = record { phase = c.phase; login = c.login; out = c.out; incoming = rest; talk = c.talk; server = c.server; names = c.names; limit = c.limit }
 
--- what a message does to the phase and to the dialogue
-abbrev pub moved : ConnectionPhase → Talk → Shown → Shown
-moved phase t c = record { phase = phase; login = c.login; out = c.out; incoming = c.incoming; talk = t; names = c.names; limit = c.limit }
+-- what a message does to the phase, to the dialogue and to what is known of the server's session
+abbrev pub moved : ConnectionPhase → Talk → Message → Shown → Shown
+moved phase t m c = record { phase = phase; login = c.login; out = c.out; incoming = c.incoming; talk = t; server = noted_by m c.server; names = c.names; limit = c.limit }
 
 -- what it does in the log-in
 abbrev pub with_login : Login → List ℕ → Shown → Shown
-with_login l out c = record { phase = c.phase; login = l; out = out; incoming = c.incoming; talk = c.talk; names = c.names; limit = c.limit }
+with_login l out c = record { phase = c.phase; login = l; out = out; incoming = c.incoming; talk = c.talk; server = c.server; names = c.names; limit = c.limit }
 
 abbrev pub is_end : Event → Bool
 is_end Ended = true
@@ -168,13 +173,13 @@ pub record Took (m : Message) (old new : Shown) (e : Event) : Type 0 where
   pub taken : taken old.talk (kind_of m) ≡ Ok (e, new.talk)
   pub goes_on : is_end e ≡ false
   pub logged : LoggedOn (asking m) old.login new.login old.out new.out
-  pub is : new ≡ with_login new.login new.out (moved old.phase new.talk old)
+  pub is : new ≡ with_login new.login new.out (moved old.phase new.talk m old)
 
 -- It ended the session.
 pub record TookEnd (m : Message) (old new : Shown) (e : Event) : Type 0 where
   pub taken : taken old.talk (kind_of m) ≡ Ok (e, new.talk)
   pub ends : is_end e ≡ true
-  pub is : new ≡ moved Over new.talk old
+  pub is : new ≡ moved Over new.talk m old
 
 module _ {A : Type 0} (lacks : Type 0) where
   -- why a message isn't taken: it isn't attributed, or the log-in stops at it
@@ -216,7 +221,7 @@ nexted (Err e) = Err e
 
 -- a message that isn't answered by itself was written, and the phase is then this
 abbrev pub written : ConnectionPhase → ClientMessage → Shown → Shown
-written phase m c = record { phase = phase; login = c.login; out = c.out ++ bytes_of m; incoming = c.incoming; talk = c.talk; names = c.names; limit = c.limit }
+written phase m c = record { phase = phase; login = c.login; out = c.out ++ bytes_of m; incoming = c.incoming; talk = c.talk; server = c.server; names = c.names; limit = c.limit }
 
 -- It was, in this phase, which leads to that one.
 pub record Wrote (here next : ConnectionPhase) (m : ClientMessage) (old new : Shown) : Type 0 where
@@ -259,7 +264,14 @@ Starts lacks m old new (Err (Unwritten e)) = (old.phase ≡ Opening) × Unsent l
 Starts lacks m old new (Err OutOfMemory) = (old.phase ≡ Opening) × lacks × (new ≡ old)
 Starts lacks m old new (Err e) = ⊥
 
+-- The request to cancel was appended, if the server said a key.
+abbrev pub Cancels : {A : Type 0} → Type 0 → Shown → List ℕ → List ℕ → Result (Unit {0}) (ConnectionError A) → Type 0
+Cancels lacks c old new (Ok done) = (k : BackendKey) × (c.server.key ≡ Some k) × Added (CancelRequest k.process_id k.secret_key) old new
+Cancels lacks c old new (Err OutOfPhase) = (c.server.key ≡ None) × (new ≡ old)
+Cancels lacks c old new (Err (Unwritten e)) = (k : BackendKey) × (c.server.key ≡ Some k) × Unsent lacks (CancelRequest k.process_id k.secret_key) e × (new ≡ old)
+Cancels lacks c old new (Err e) = ⊥
+
 -- ---- the code's record
 
 abbrev pub shown : {A : Type 0} → Kept A → Shown
-shown c = record { phase = c.phase; login = seen c.login; out = c.out.items; incoming = c.incoming.items; talk = talk_of (λ q. q.items) c.dialogue; names = c.names; limit = c.limit }
+shown c = record { phase = c.phase; login = seen c.login; out = c.out.items; incoming = c.incoming.items; talk = talk_of (λ q. q.items) c.dialogue; server = c.server; names = c.names; limit = c.limit }

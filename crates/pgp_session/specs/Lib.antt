@@ -7,5 +7,6 @@ pub mod Serving
 pub mod Proxy
 pub mod Pooler
 pub mod Login
+pub mod ServerState
 pub mod Connection
 pub mod Session

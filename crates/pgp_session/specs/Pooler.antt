@@ -1,10 +1,23 @@
--- When a session is idle, reported by what both sides sent.
-use Rattle.std.specs.Prelude.{◌≡◌, ◌⊎◌, ℕ, ◌+◌, ◌<◌, ◌≤◌, Bool, true, false, List, [], ◌∷◌, Option, Some, None, if◌then◌else◌}
+-- When a server's session is idle, by what both sides sent.
+-- PostgreSQL manual, "Message Flow".
+use Rattle.std.specs.Prelude.{◌≡◌, ◌⊎◌, ℕ, Bool, true, false, List, [], ◌∷◌, ◌++◌, Option, Some, None, Result, Ok, Err, if◌then◌else◌}
+use Rattle.pgp_base.specs.declared.error.Error.{Error}
+use Rattle.pgp_base.specs.declared.error.Error.TheVariants.{OutOfMemory}
+use Rattle.pgp_client.specs.Kinds.{kind_of, request_of}
+use Rattle.pgp_client.specs.Taking.{is_idle, taken}
+use Rattle.pgp_client.specs.Talk.{Talk, shown as talk_of}
+use Rattle.pgp_client.specs.Telling.{start}
+use Rattle.pgp_client.specs.declared.event.Event.{Event}
+use Rattle.pgp_client.specs.declared.event.Event.TheVariants.{Aside, Ended}
+use Rattle.pgp_client.specs.declared.event.Refusal.{Refusal}
+use Rattle.pgp_client.specs.declared.stage.Stage.TheVariants.{Over}
 use Rattle.pgp_frontend.specs.ClientMessage.{ClientMessage, Bind, Close, Describe, Execute, FunctionCall, Parse, Query, Sync, Startup}
-use Rattle.pgp_message.specs.BackendMessage.{Message, ReadyForQuery}
+use Rattle.pgp_message.specs.BackendMessage.{Message}
+use Rattle.pgp_session.specs.Connection.{asked_of}
+use Rattle.pgp_session.specs.ServerState.{newer, status}
 use Rattle.pgp_session.specs.declared.pooler.Session.{Session}
 
--- The server says in the end that it is ready, whatever comes of the message.
+-- It is answered by a ReadyForQuery in the end, and ends a series of extended queries.
 abbrev pub awaits : ClientMessage → Bool
 awaits (Startup minor parameters) = true
 awaits (Query text) = true
@@ -26,61 +39,63 @@ abbrev pub waits : Bool → ClientMessage → Bool
 waits before x = if awaits x then false else (if extends x then true else before)
 
 -- the same after all that the client sent
-abbrev pub waits_behind : Bool → List ClientMessage → Bool
-waits_behind before [] = before
-waits_behind before (x ∷ sent) = waits_behind (waits before x) sent
+abbrev pub waits_after : Bool → List ClientMessage → Bool
+waits_after before [] = before
+waits_after before (x ∷ sent) = waits_after (waits before x) sent
 
--- how many of the client's messages await that
-abbrev pub asks : List ClientMessage → ℕ
-asks [] = 0
-asks (x ∷ sent) = (if awaits x then 1 else 0) + asks sent
-
--- the status that a message says: that of a ReadyForQuery
-abbrev pub status : Message → Option ℕ
-status (ReadyForQuery s) = Some s
-status m = None
-
-abbrev pub some_one : Option ℕ → ℕ
-some_one None = 0
-some_one (Some s) = 1
-
--- how many of the server's messages say so
-abbrev pub readies : List Message → ℕ
-readies [] = 0
-readies (m ∷ received) = some_one (status m) + readies received
-
-abbrev pub newer : Option ℕ → Option ℕ → Option ℕ
-newer before None = before
-newer before (Some s) = Some s
-
--- the status that the last of them reported; none where none came
+-- the status that the last ReadyForQuery reported; none where none came
 abbrev pub last_status : Option ℕ → List Message → Option ℕ
 last_status before [] = before
 last_status before (m ∷ received) = last_status (newer before (status m)) received
 
--- All that the client sent is answered, no part of an extended query waits for its end, and the server is in no transaction.
-pub record IsIdle (sent : List ClientMessage) (received : List Message) : Type 0 where
-  pub answered : asks sent ≡ readies received
-  pub finished : waits_behind false sent ≡ false
-  pub idle : last_status None received ≡ Some 73
+-- What a session shows: which answers are awaited, the last status, and whether a part of an extended query waits for its end.
+pub record Shown : Type 0 where
+  pub talk : Talk
+  pub status : Option ℕ
+  pub unfinished : Bool
 
--- a count, as far as a `u64` has it
-abbrev pub IsCount : ℕ → ℕ → Type 0
-IsCount n count = ((n ≡ count) × (count < 18446744073709551615)) ⊎ ((n ≡ 18446744073709551615) × (18446744073709551615 ≤ count))
+abbrev pub begun : Shown
+begun = record { talk = start; status = None; unfinished = false }
 
--- what is known of a session by these messages of both sides
-pub record Saw (sent : List ClientMessage) (received : List Message) (session : Session) : Type 0 where
-  pub asked : IsCount session.asked (asks sent)
-  pub readied : IsCount session.readied (readies received)
-  pub status : session.status ≡ last_status None received
-  pub unfinished : session.unfinished ≡ waits_behind false sent
+-- after a message of the client
+abbrev pub and_sent : ClientMessage → Shown → Shown
+and_sent m s = record { talk = asked_of (request_of m) 0 s.talk; status = s.status; unfinished = waits s.unfinished m }
 
--- A session is reported to be idle: so these counts say it, and nothing waits on either side, be it a part of an extended query or a byte of a cut
--- message.
-pub record IsQuiet (session : Session) (client server : List ℕ) : Type 0 where
-  pub counted : session.asked < 18446744073709551615
-  pub answered : session.asked ≡ session.readied
-  pub idle : session.status ≡ Some 73
-  pub finished : session.unfinished ≡ false
+-- after a message of the server
+abbrev pub and_received : Message → Talk → Shown → Shown
+and_received m t s = record { talk = t; status = newer s.status (status m); unfinished = s.unfinished }
+
+abbrev pub Sends : Type 0 → ClientMessage → Shown → Shown → Result (Unit {0}) Error → Type 0
+Sends lacks m old new (Ok done) = new ≡ and_sent m old
+Sends lacks m old new (Err OutOfMemory) = lacks × (new ≡ old)
+Sends lacks m old new (Err e) = ⊥
+
+-- A message of the server is an answer that is awaited, an aside or the session's end.
+abbrev pub Receives : Message → Shown → Shown → Result Event Refusal → Type 0
+Receives m old new (Ok e) = (taken old.talk (kind_of m) ≡ Ok (e, new.talk)) × (new ≡ and_received m new.talk old)
+Receives m old new (Err r) = (taken old.talk (kind_of m) ≡ Err r) × (new.talk.stage ≡ Over)
+
+-- No answer is awaited, the server is in no transaction, and nothing waits on either side, be it a part of an extended query or a byte of a partial message.
+pub record IsQuiet (s : Shown) (client server : List ℕ) : Type 0 where
+  pub answered : is_idle s.talk ≡ true
+  pub idle : s.status ≡ Some 73
+  pub finished : s.unfinished ≡ false
   pub client_done : client ≡ []
   pub server_done : server ≡ []
+
+-- A session after these messages of both sides, as they came.
+pub data Saw : List ClientMessage → List Message → Shown → Type 0 where
+  Nothing : Saw [] [] begun
+  AndSent : {sent : List ClientMessage} {received : List Message} {s : Shown} (m : ClientMessage) → Saw sent received s → Saw (sent ++ m ∷ []) received (and_sent m s)
+  AndReceived : {sent : List ClientMessage} {received : List Message} {s : Shown} (m : Message) (e : Event) (t : Talk) → taken s.talk (kind_of m) ≡ Ok (e, t) → Saw sent received s
+      → Saw sent (received ++ m ∷ []) (and_received m t s)
+
+-- What holds of a quiet session after these messages: no part of an extended query waits for its end, the last status is that of no transaction, and what
+-- the server sends next answers nothing.
+pub record CanBeLent (sent : List ClientMessage) (received : List Message) (s : Shown) : Type 0 where
+  pub finished : waits_after false sent ≡ false
+  pub idle : last_status None received ≡ Some 73
+  pub unasked : (m : Message) (e : Event) (t : Talk) → taken s.talk (kind_of m) ≡ Ok (e, t) → (e ≡ Aside) ⊎ (e ≡ Ended)
+
+abbrev pub shown : {A : Type 0} → Session A → Shown
+shown s = record { talk = talk_of (λ q. q.items) s.dialogue; status = s.status; unfinished = s.unfinished }

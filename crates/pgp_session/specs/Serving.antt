@@ -25,10 +25,10 @@ use Rattle.pgp_session.specs.declared.serving.ServingEvent.{ServingEvent}
 use Rattle.pgp_session.specs.declared.serving.ServingEvent.TheVariants as events
 use Rattle.pgp_session.specs.declared.serving.ServingPhase.{ServingPhase}
 use Rattle.pgp_session.specs.declared.serving.ServingPhase.TheVariants.{Opening, Named, AwaitsPassword, AwaitsFirst, AwaitsFinal, Open, Over}
-use Rattle.pgp_session.specs.declared.serving.Due.{Due as CodeDue}
-use Rattle.pgp_session.specs.declared.serving.Due.TheVariants as dues
-use Rattle.pgp_session.specs.declared.serving.Outcome.{Outcome as CodeOutcome}
-use Rattle.pgp_session.specs.declared.serving.Outcome.TheVariants as outcomes
+use Rattle.pgp_session.specs.declared.serving_due.Due.{Due as CodeDue}
+use Rattle.pgp_session.specs.declared.serving_due.Due.TheVariants as dues
+use Rattle.pgp_session.specs.declared.serving_outcome.Outcome.{Outcome as CodeOutcome}
+use Rattle.pgp_session.specs.declared.serving_outcome.Outcome.TheVariants as outcomes
 
 -- a password that no mapping changes
 abbrev pub unmapped : List ℕ → List ℕ

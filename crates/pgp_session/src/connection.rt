@@ -9,12 +9,13 @@ ghost use Rattle.pgp_frontend_read.specs.Views.{view as sent_view};
 ghost use Rattle.pgp_message.specs.Views.{view};
 ghost use Rattle.pgp_session.specs.Login.{given};
 ghost use Rattle.pgp_client.specs.Taking.{is_idle};
-ghost use Rattle.pgp_session.specs.Connection.{Answers, Feeds, Hears, Nexts, Sends, Starts, Takes, Writes, begun, can_send, dropped, is_logged_in, nexted, shown};
+ghost use Rattle.pgp_session.specs.Connection.{Answers, Cancels, Feeds, Hears, Nexts, Sends, Starts, Takes, Writes, begun, can_send, dropped, is_logged_in, nexted, shown};
 
 use crate::connection_error::ConnectionError;
 use crate::connection_parts::{encrypts, is_end, is_too_long, may_send, next_name, put_startup};
 use crate::login::{Login, Ways, put};
 use crate::scram_login::LoginPhase;
+use crate::server_state::{BackendKey, ServerState};
 use bytes::{Buf, Bytes, BytesMut};
 use pgp_base::{Error, Memory};
 use pgp_client::{Asked, Dialogue, Event, Request};
@@ -44,6 +45,7 @@ pub struct Connection<'a, A: Memory = Global> {
     pub(crate) out: BytesMut<A>,
     incoming: BytesMut<A>,
     pub(crate) dialogue: Dialogue<VecDeque<Asked, A>>,
+    pub(crate) server: ServerState,
     pub(crate) names: u64,
     limit: u32,
 }
@@ -63,6 +65,7 @@ impl<'a, A: Memory> Connection<'a, A> {
             out: BytesMut::new(alloc),
             incoming: BytesMut::new(alloc),
             dialogue: Dialogue::new(alloc),
+            server: ServerState::new(),
             names: 0,
             limit,
         }
@@ -296,6 +299,7 @@ impl<'a, A: Memory> Connection<'a, A> {
             Ok(event) => event,
             Err(e) => return Err(ConnectionError::Misplaced(e)),
         };
+        self.server.note(message);
         if is_end(event) {
             self.phase = ConnectionPhase::Over;
             return Ok(event);
@@ -311,5 +315,40 @@ impl<'a, A: Memory> Connection<'a, A> {
         ensures { result ≡ is_idle (shown self.now).talk }
     {
         self.dialogue.is_idle()
+    }
+
+    /// The status of the last ReadyForQuery: `I` (no transaction), `T` (in a transaction) or `E` (in a failed one); `None` before the first.
+    pub fn status(&self) -> Option<u8>
+        ensures { result ≡ (shown self.now).server.status }
+    {
+        self.server.status
+    }
+
+    /// The key by which another connection cancels this session's query; `None` where the server sent none.
+    pub fn backend_key(&self) -> Option<BackendKey>
+        ensures { result ≡ (shown self.now).server.key }
+    {
+        self.server.key
+    }
+
+    /// Appends the request to cancel this session's query, which is sent as the only message of another connection.
+    ///
+    /// # Errors
+    ///
+    /// On error `out` is unchanged. `OutOfPhase` where the server sent no key; `Unwritten` of `OutOfMemory`.
+    pub fn cancel_request(&self, out: &mut BytesMut<A>) -> Result<(), ConnectionError<A>>
+        ensures { Cancels A.Lacks (shown self.now) out.old.items out.new.items result }
+    {
+        let Some(key) = self.server.key else {
+            return Err(ConnectionError::OutOfPhase);
+        };
+        let request = ClientMessage::CancelRequest {
+            process_id: key.process_id,
+            secret_key: &key.secret_key,
+        };
+        match put(&request, out) {
+            Ok(()) => Ok(()),
+            Err(e) => Err(ConnectionError::Unwritten(e)),
+        }
     }
 }

@@ -1,17 +1,16 @@
-//! The requests of a connection that are made of iterators: Parse and Bind.
+//! The request of a connection that is made of an iterator: Parse. A Bind goes by `send`.
 
 ghost use Rattle.std.specs.Prelude.{◌≡◌, ◌<◌};
 ghost use Rattle.std.specs.Iterator.{IsFiniteIterable};
-ghost use Rattle.pgp_base.specs.Calls.{Yielded, OwesValues};
+ghost use Rattle.pgp_base.specs.Calls.{Yielded};
 ghost use Rattle.pgp_base.specs.Held.{items_held};
-ghost use Rattle.pgp_frontend.specs.Given.{BindRefused, BindWhole, ParseSoFar, ParseWhole, Refused, Serves};
+ghost use Rattle.pgp_frontend.specs.Given.{ParseSoFar, ParseWhole, Refused};
 ghost use Rattle.pgp_session.specs.Connection.{Notes, SendsGiven, shown};
 
 use crate::connection::Connection;
 use crate::connection_error::ConnectionError;
 use crate::connection_parts::next_name;
-use bytes::BytesMut;
-use pgp_base::{BindError, IsNull, Memory, Oid};
+use pgp_base::{Memory, Oid};
 use pgp_client::Request;
 use pgp_frontend as frontend;
 

@@ -1,87 +1,98 @@
 //! A pooler's core: it is handed the messages of both sides, and says where a session is idle, so that the server's
 //! connection can be lent to another client.
 
-ghost use Rattle.std.specs.Prelude.{◌≡◌, ◌<◌, ◌∷◌, ◌++◌, [], None, List, ℕ};
+ghost use Rattle.std.specs.Prelude.{◌≡◌, List, ℕ};
 ghost use Rattle.std.specs.Bool.{Decides};
 ghost use Rattle.pgp_frontend.specs.ClientMessage.{ClientMessage as Sent};
 ghost use Rattle.pgp_message.specs.BackendMessage.{Message as Received};
 ghost use Rattle.pgp_message.specs.Views.{view as received_view};
 ghost use Rattle.pgp_frontend_read.specs.Views.{view as sent_view};
-ghost use Rattle.pgp_session.specs.Pooler.{IsIdle, IsQuiet, Saw, asks, awaits, extends, readies, status, waits};
-ghost use Rattle.pgp_session.specs.declared.pooler.Session.{Session as Known};
+ghost use Rattle.pgp_session.specs.Pooler.{CanBeLent, IsQuiet, Receives, Saw, Sends, Shown, awaits, begun, extends, shown, waits};
+ghost use Rattle.pgp_session.specs.ServerState.{status};
 
+use pgp_base::{Error, Memory};
+use pgp_client::{Asked, Dialogue, Event, Refusal, Request};
 use pgp_frontend_read::ClientMessage;
 use pgp_message::{Message, Storage};
+use std::alloc::Global;
+use std::collections::VecDeque;
 
-/// What is known of a session. A startup packet, a Query, a FunctionCall and a Sync are each answered by one ReadyForQuery in the end; but a
-/// server passes over a Sync while rows are copied to it, and after an error of an extended query all that comes before the next Sync. After
-/// such a message no session is reported to be idle any more.
-#[derive(Debug, Clone, Copy, PartialEq, Eq)]
-pub struct Session {
-    /// How many of those came from the client, or the greatest `u64` where there were more.
-    pub asked: u64,
-    /// How many ReadyForQuerys came from the server, or the greatest `u64`.
-    pub readied: u64,
-    /// The status that the last of them reported: `I` where no transaction is open.
-    pub status: Option<u8>,
+/// What is known of a session of a server, by the messages of both sides in the order in which they came.
+#[derive(Drop)]
+pub struct Session<A: Memory = Global> {
+    dialogue: Dialogue<VecDeque<Asked, A>>,
+    /// The status of the last ReadyForQuery: `I` where no transaction is open.
+    status: Option<u8>,
     /// Whether a part of an extended query came from the client, and nothing after it that ends one.
-    pub unfinished: bool,
+    unfinished: bool,
 }
 
-impl Session {
+impl<A: Memory> Session<A> {
     /// A session in which nothing was sent.
-    pub fn new() -> Session
-        ensures { Saw [] [] result }
+    pub fn new(alloc: A) -> Session<A>
+        ensures { shown result ≡ begun }
     {
         Session {
-            asked: 0,
-            readied: 0,
+            dialogue: Dialogue::new(alloc),
             status: None,
             unfinished: false,
         }
     }
 
     /// Takes note of a message that the client sent.
-    pub fn sent(&mut self, message: &ClientMessage<'_>)
-        ensures { (sent : List Sent) (received : List Received) → Saw sent received self.old → Saw (sent ++ sent_view message.now ∷ []) received self.new }
+    ///
+    /// # Errors
+    ///
+    /// Returns `OutOfMemory` if there is no memory for the request. On error nothing changes.
+    pub fn sent(&mut self, message: &ClientMessage<'_>) -> Result<(), Error>
+        ensures { Sends A.Lacks (sent_view message.now) (shown self.old) (shown self.new) result }
     {
-        self.unfinished = waits(self.unfinished, message);
-        if awaits(message) {
-            self.asked = self.asked.saturating_add(1);
+        if let Some(request) = Request::of(message) {
+            if self.dialogue.ask(request, 0).is_err() {
+                return Err(Error::OutOfMemory);
+            }
         }
+        self.unfinished = waits(self.unfinished, message);
+        Ok(())
     }
 
     /// Takes note of a message that the server sent.
-    pub fn received<S: Storage>(&mut self, message: &Message<S>)
-        ensures { (sent : List Sent) (received : List Received) → Saw sent received self.old → Saw sent (received ++ received_view message.now ∷ []) self.new }
+    ///
+    /// # Errors
+    ///
+    /// `Unexpected` if it has no place among the answers that are awaited; `Uncertain` if a copy to the server fails, and a Sync was sent before
+    /// the end of its data. The session is never idle again: its connection is to be closed.
+    pub fn received<S: Storage>(&mut self, message: &Message<S>) -> Result<Event, Refusal>
+        ensures { Receives (received_view message.now) (shown self.old) (shown self.new) result }
     {
+        let event = self.dialogue.take_message(message)?;
         if let Some(status) = status(message) {
-            self.readied = self.readied.saturating_add(1);
             self.status = Some(status);
         }
+        Ok(event)
     }
 
     /// Whether the session is idle after the bytes that came: nothing of a partial message waits on the client's side nor on the
-    /// server's, every message that awaits a ReadyForQuery has it, the last of these reported `I`, and no part of an extended query came
-    /// after the last message that ends one.
+    /// server's, no answer is awaited, the last ReadyForQuery reported `I`, and no part of an extended query waits for its end.
     pub fn is_idle(&self, client: &[u8], server: &[u8]) -> bool
-        ensures { Decides result (IsQuiet self.now client.now server.now) }
+        ensures { Decides result (IsQuiet (shown self.now) client.now server.now) }
     {
         client.is_empty()
             && server.is_empty()
-            && self.asked < u64::MAX
-            && self.asked == self.readied
+            && self.dialogue.is_idle()
             && self.status == Some(b'I')
             && !self.unfinished
     }
 }
 
-/// What is reported of a session that saw these messages is so: all that the client sent is answered, no part of an extended query is
-/// left without its end, and no transaction is open. Where the counts fit a `u64`, it is reported exactly then.
-pub fn idle_by_messages()
-    ensures reported { (sent : List Sent) (received : List Received) (session : Known) (client server : List ℕ) → Saw sent received session → IsQuiet session client server → IsIdle sent received }
-    ensures known { (sent : List Sent) (received : List Received) (session : Known) → Saw sent received session → IsIdle sent received → asks sent < 18446744073709551615 → IsQuiet session [] [] }
-{}
+/// A session that is idle after these messages can be lent: no part of an extended query waits for its end, the last ReadyForQuery reported that
+/// no transaction is open, and what the server sends next answers nothing that was asked.
+pub fn idle_sessions_can_be_lent()
+    ensures { (sent : List Sent) (received : List Received) (session : Shown) (client server : List ℕ) → Saw sent received session → IsQuiet session client server
+        → CanBeLent sent received session }
+{
+    pgp_client::laws::idle_dialogues_await_nothing();
+}
 
 /// Whether the server says in the end that it is ready.
 fn awaits(message: &ClientMessage<'_>) -> bool

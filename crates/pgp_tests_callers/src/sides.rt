@@ -1,13 +1,11 @@
-//! A proxy and a pooler, on bytes of the message formats of the PostgreSQL manual.
+//! A proxy, on bytes of the message formats of the PostgreSQL manual.
 #![tactic(auto, using(pgp_base::proofs::Parts::held_steps))]
 
 use crate::checks::{holds, same};
 use bytes::BytesMut;
 use pgp_base::Window;
-use pgp_session::pooler::Session;
 use pgp_session::proxy::{Passed, ProxyError, pass_on};
 use pgp_uses::reading::front_query;
-use postgres_protocol::message::backend::Messages;
 use postgres_protocol::message::client::{ClientMessages, PasswordKind};
 use std::test::Fail;
 
@@ -81,84 +79,8 @@ fn a_message_without_room_is_read_again(rt: HostRuntime) -> Result<(), Fail> {
     Ok(())
 }
 
-/// A startup packet, a Query, and a Parse that awaits nothing before the Sync after it.
-const CLIENT: &[u8; 40] =
-    b"\0\0\0\x09\0\x03\0\0\0Q\0\0\0\x0aBEGIN\0P\0\0\0\x09\0\x31\0\0\0S\0\0\0\x04X\0\0\0\x04";
-
-/// Three times that the server is ready: idle, in a transaction, idle.
-const SERVER: &[u8; 18] = b"Z\0\0\0\x05IZ\0\0\0\x05TZ\0\0\0\x05I";
-
-/// The session takes note of the client's next message.
-fn sent(session: &mut Session, from: &mut ClientMessages<'_>) {
-    if let Ok(Some(message)) = from.next(PasswordKind::Password) {
-        session.sent(&message);
-    }
-}
-
-/// The session takes note of the server's next message.
-fn received(session: &mut Session, from: &mut Messages<'_>) {
-    if let Ok(Some(message)) = from.next() {
-        session.received(&message);
-    }
-}
-
-#[test]
-fn a_session_is_idle_where_all_is_answered(rt: HostRuntime) -> Result<(), Fail> {
-    let mut client = ClientMessages::new(CLIENT);
-    let mut server = Messages::new(SERVER);
-    let mut session = Session::new();
-    holds(&rt, !session.is_idle(b"", b""));
-    sent(&mut session, &mut client);
-    received(&mut session, &mut server);
-    holds(&rt, session.is_idle(b"", b""));
-    holds(&rt, !session.is_idle(b"Q", b""));
-    holds(&rt, !session.is_idle(b"", b"Z\0"));
-    sent(&mut session, &mut client);
-    holds(&rt, !session.is_idle(b"", b""));
-    received(&mut session, &mut server);
-    holds(&rt, !session.is_idle(b"", b""));
-    sent(&mut session, &mut client);
-    sent(&mut session, &mut client);
-    holds(&rt, !session.is_idle(b"", b""));
-    received(&mut session, &mut server);
-    holds(&rt, session.is_idle(b"", b""));
-    Ok(())
-}
-
-#[test]
-fn a_session_is_not_idle_behind_a_parse(rt: HostRuntime) -> Result<(), Fail> {
-    let (_, parse) = CLIENT.split_at(20);
-    let mut client = ClientMessages::resume(parse, true);
-    let mut session = Session {
-        asked: 1,
-        readied: 1,
-        status: Some(b'I'),
-        unfinished: false,
-    };
-    sent(&mut session, &mut client);
-    holds(&rt, !session.is_idle(b"", b""));
-    sent(&mut session, &mut client);
-    session.readied = 2;
-    holds(&rt, session.is_idle(b"", b""));
-    Ok(())
-}
-
-/// A startup packet of protocol 3.1, and a FunctionCall, each of which awaits that the server is ready.
+/// A startup packet of protocol 3.1, and a FunctionCall.
 const OTHERS: &[u8; 24] = b"\0\0\0\x09\0\x03\0\x01\0F\0\0\0\x0e\0\0\x01\0\0\0\0\0\0\x01";
-
-#[test]
-fn a_function_call_is_awaited_too(rt: HostRuntime) -> Result<(), Fail> {
-    let mut client = ClientMessages::new(OTHERS);
-    let mut server = Messages::new(SERVER);
-    let mut session = Session::new();
-    sent(&mut session, &mut client);
-    holds(&rt, !session.is_idle(b"", b""));
-    received(&mut session, &mut server);
-    holds(&rt, session.is_idle(b"", b""));
-    sent(&mut session, &mut client);
-    holds(&rt, !session.is_idle(b"", b""));
-    Ok(())
-}
 
 /// A FunctionCall brings no statement: it is passed on.
 #[test]

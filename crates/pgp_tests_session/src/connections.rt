@@ -2,10 +2,11 @@
 //! message answers which request.
 
 use crate::checks::{holds, same_at};
+use bytes::BytesMut;
 use pgp_auth::authentication::sasl::{ChannelBinding, NoPrep, ScramSha256, is_nonce};
 use pgp_base::Error;
 use pgp_client::Event;
-use pgp_session::{Connection, ConnectionError, Ways};
+use pgp_session::{BackendKey, Connection, ConnectionError, Ways};
 use pgp_uses::client::{Received, connect, next_row};
 use std::process::Abort;
 use std::test::Fail;
@@ -112,6 +113,7 @@ fn answers_belong_to_their_requests(rt: HostRuntime) -> Result<(), Fail> {
     hears(&rt, &mut connection, &ADMITTED);
     holds(&rt, connection.is_logged_in());
     holds(&rt, connection.is_idle());
+    same_at(&rt, 0, connection.status(), Some(b'I'));
     holds(&rt, connection.query("SELECT 1").is_ok());
     holds(&rt, connection.query("x").is_ok());
     holds(&rt, connection.execute("", 0).is_ok());
@@ -122,6 +124,43 @@ fn answers_belong_to_their_requests(rt: HostRuntime) -> Result<(), Fail> {
     holds(&rt, connection.is_idle());
     holds(&rt, connection.terminate().is_ok());
     holds(&rt, connection.query("SELECT 1").is_err());
+    Ok(())
+}
+
+#[test]
+fn another_connection_cancels_by_the_key(rt: HostRuntime) -> Result<(), Fail> {
+    let mut connection = trusting(&rt);
+    let mut out = BytesMut::new(rt.alloc());
+    holds(&rt, connection.start(&[("user", "u")]).is_ok());
+    same_at(&rt, 0, connection.status(), None);
+    holds(&rt, connection.cancel_request(&mut out).is_err());
+    hears(&rt, &mut connection, &ADMITTED);
+    let key = BackendKey {
+        process_id: 1,
+        secret_key: [0, 0, 0, 2],
+    };
+    same_at(&rt, 1, connection.backend_key(), Some(key));
+    holds(&rt, connection.cancel_request(&mut out).is_ok());
+    same_at(
+        &rt,
+        2,
+        out.as_slice(),
+        b"\0\0\0\x10\x04\xd2\x16\x2e\0\0\0\x01\0\0\0\x02".as_slice(),
+    );
+    Ok(())
+}
+
+#[test]
+fn the_last_ready_for_query_tells_the_status(rt: HostRuntime) -> Result<(), Fail> {
+    let mut connection = trusting(&rt);
+    holds(&rt, connection.start(&[("user", "u")]).is_ok());
+    hears(&rt, &mut connection, &ADMITTED);
+    for (place, status) in [b'T', b'E', b'I'].iter().enumerate() {
+        holds(&rt, connection.sync().is_ok());
+        holds(&rt, connection.feed(&[b'Z', 0, 0, 0, 5, *status]).is_ok());
+        holds(&rt, next_event(&mut connection).is_some());
+        same_at(&rt, place, connection.status(), Some(*status));
+    }
     Ok(())
 }
 

@@ -1,7 +1,11 @@
-//! Tests of a client's connection.
+//! Tests of a client's connection, alone and with a server's core, and of a pooler's core.
 #![tactic(auto)]
 
+#[cfg(test)]
+mod both_ends;
 #[cfg(test)]
 mod checks;
 #[cfg(test)]
 mod connections;
+#[cfg(test)]
+mod pooled;

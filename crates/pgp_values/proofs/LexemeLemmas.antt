@@ -39,7 +39,7 @@ text_refused_by bytes UnexpectedEof w = inl (w, refl)
 text_refused_by bytes NotUtf8 w = inr (w.string, w.rest, record { front = text w.string; whole = text_front bytes w.string w.rest w.parts.parts; spelled = (w.parts.no_zero, refl) }, w.bad, refl)
 text_refused_by bytes e w = absurd w
 
-text_is : IsPart text_part text_at
+pub text_is : IsPart text_part text_at
 text_is = record {
   found = λ bytes x rest h e.
       let w : TextFound bytes (Ok (x, rest)) = subst (TextFound bytes) e (text_found bytes) in
@@ -55,7 +55,7 @@ text_is = record {
 
 -- places
 
-count_is : IsPart (fixed_part (λ n. n < 2 ^ 16) uint16 2) uint16_at
+pub count_is : IsPart (fixed_part (λ n. n < 2 ^ 16) uint16 2) uint16_at
 count_is = fixed_is uint16_spelling
 
 taken : (n : ℕ) (after : List ℕ) → n + n ≤ length after → length (take (n + n) after) ≡ n + n

@@ -16,3 +16,7 @@ pub mod CutLemmas
 pub mod MomentLemmas
 pub mod PlaceLemmas
 pub mod LexemeLemmas
+pub mod FormatLemmas
+pub mod IntegerLemmas
+pub mod QueryLemmas
+pub mod RecordLemmas

@@ -8,10 +8,13 @@
 mod codec;
 mod decimal;
 mod error;
+mod formats;
 mod geometry;
 mod groups;
+mod integer;
 pub mod laws;
 mod list;
+mod made;
 mod moment;
 mod multirange;
 mod network;
@@ -25,15 +28,21 @@ mod snapshot;
 mod system;
 mod text;
 mod time;
+mod tsquery;
 mod tsvector;
 mod written;
 
 pub use decimal::Decimal;
 pub use error::NumericError;
+pub use formats::{BinaryFormat, binary_format_of};
 pub use geometry::{
     Circle, Line, Segment, circle_from_sql, circle_to_sql, line_from_sql, line_to_sql,
     lseg_from_sql, lseg_to_sql,
 };
+pub use integer::{
+    IntegerError, numeric_i64_to_sql, numeric_i128_to_sql, numeric_to_i64, numeric_to_i128,
+};
+pub use made::record_values_to_sql;
 pub use moment::{
     Moment, date_value_from_sql, date_value_to_sql, timestamp_value_from_sql,
     timestamp_value_to_sql,
@@ -53,4 +62,5 @@ pub use text::{jsonb_from_sql, jsonb_to_sql, jsonpath_from_sql, jsonpath_to_sql}
 pub use time::{
     Interval, TimeTz, interval_from_sql, interval_to_sql, timetz_from_sql, timetz_to_sql,
 };
+pub use tsquery::{TsItem, TsItems, TsOperand, tsquery_from_sql, tsquery_to_sql};
 pub use tsvector::{Lexemes, TsPositions, tsvector_from_sql, tsvector_to_sql};

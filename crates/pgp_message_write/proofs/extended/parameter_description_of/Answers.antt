@@ -12,4 +12,4 @@ use Rattle.pgp_message_write.proofs.extended.parameter_description_of.Goals as g
 pub returns : goal.returns
 returns g c =
     message_given (Yielded g.I.IntoIterator.into_iter_gives g.I.IntoIter.Iterator.next_gives c.args.types) count_cause (λ all. counted_list type_parts all) (λ all. counted_list type_parts all) 116 (λ all. types_of all)
-    (λ xs. refl) (λ xs. refl) (λ xs. counted_spelled (uint16 (length xs)) (joined (flat_map type_parts xs))) g.B.Buffer.Lacks (g.B.Buffer.held c.args.buf.now) _ c.given.result c.given.ensures
+    (λ xs. refl) (λ xs. refl) (λ xs. counted_spelled (uint16 (length xs)) (joined (flat_map type_parts xs))) g.B.Buffer.Lacks (g.B.Buffer.held c.args.buf.now) _ c.list_message_of.result c.list_message_of.ensures

@@ -12,5 +12,5 @@ pub returns : goal.returns
 returns g c =
     let mechanisms = c.args.mechanisms.now in
     let names = map (λ name. name.now) mechanisms in
-    list_written (Authentication (AuthenticationSasl (names_of names))) None _ _ _ _ _ c.listed.result refl (viewed (λ name. name.now) text_parts mechanisms (Int32 (pos 10) ∷ []) (Byte 0 ∷ []))
-    (ap (λ z. int32 (pos 10) ++ z) (marked_joined (flat_map text_parts names))) c.listed.ensures
+    list_written (Authentication (AuthenticationSasl (names_of names))) None _ _ _ _ _ c.list_message.result refl (viewed (λ name. name.now) text_parts mechanisms (Int32 (pos 10) ∷ []) (Byte 0 ∷ []))
+    (ap (λ z. int32 (pos 10) ++ z) (marked_joined (flat_map text_parts names))) c.list_message.ensures

@@ -12,4 +12,4 @@ pub returns : goal.returns
 returns g c =
     let fields = c.args.fields.now in
     let all = map shown_field fields in
-    list_written (NoticeResponse (fields_of all)) None _ _ _ _ _ c.listed.result refl (viewed shown_field field_parts fields [] (Byte 0 ∷ [])) (marked_joined (flat_map field_parts all)) c.listed.ensures
+    list_written (NoticeResponse (fields_of all)) None _ _ _ _ _ c.list_message.result refl (viewed shown_field field_parts fields [] (Byte 0 ∷ [])) (marked_joined (flat_map field_parts all)) c.list_message.ensures

@@ -11,6 +11,6 @@ pub returns : goal.returns
 returns g c =
     let values = c.args.values.now in
     let vs = map lent values in
-    list_written (row_of vs) _ _ _ _ _ _ c.listed.result (few lent value_parts values c.in_ok-count.ensures.ok.0)
+    list_written (row_of vs) _ _ _ _ _ _ c.list_message.result (few lent value_parts values c.in_ok-count.ensures.ok.0)
     (ap (λ count. with_list (Rest count ∷ []) (flat_map (λ value. value_parts (lent value)) values) []) c.in_ok-count.ensures.ok.1 ∙ viewed_counted lent value_parts values)
-    (counted_joined (uint16 (length vs)) (flat_map value_parts vs)) c.listed.ensures
+    (counted_joined (uint16 (length vs)) (flat_map value_parts vs)) c.list_message.ensures

@@ -12,6 +12,6 @@ pub returns : goal.returns
 returns g c =
     let columns = c.args.columns.now in
     let all = map shown_column columns in
-    list_written (description_of all) _ _ _ _ _ _ c.listed.result (few shown_column column_parts columns c.in_ok-count.ensures.ok.0)
+    list_written (description_of all) _ _ _ _ _ _ c.list_message.result (few shown_column column_parts columns c.in_ok-count.ensures.ok.0)
     (ap (λ count. with_list (Rest count ∷ []) (flat_map (λ column. column_parts (shown_column column)) columns) []) c.in_ok-count.ensures.ok.1 ∙ viewed_counted shown_column column_parts columns)
-    (counted_joined (uint16 (length all)) (flat_map column_parts all)) c.listed.ensures
+    (counted_joined (uint16 (length all)) (flat_map column_parts all)) c.list_message.ensures

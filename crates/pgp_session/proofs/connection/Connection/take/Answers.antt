@@ -4,7 +4,8 @@ use Rattle.pgp_client.specs.Talk.{shown as talk_of}
 use Rattle.pgp_client.specs.Taking.{taken}
 use Rattle.pgp_message.specs.Views.{view}
 use Rattle.pgp_session.specs.Login.{asking, seen}
-use Rattle.pgp_session.proofs.Connections.{taken_ok}
+use Rattle.pgp_session.specs.Connection.{shown}
+use Rattle.pgp_session.proofs.Connections.{taken_ok, took_so}
 use Rattle.pgp_session.proofs.LogIns.{logs_on}
 use Rattle.pgp_session.proofs.connection.Connection.take.Goals as goal
 
@@ -15,7 +16,7 @@ returns-in-Ok-hear g c =
       taken = taken_ok (taken (talk_of (λ q. q.items) c.args.self.now.dialogue) (kind_of m)) c.in-Ok.event (talk_of (λ q. q.items) c.take_message.new.self) c.in-Ok.ensures;
       goes_on = sym c.is_end.ensures ∙ c.if-is_end.false;
       logged = logs_on _ g.A.Memory.Lacks (seen c.args.self.now.login) (seen c.hear.new.self) c.args.self.now.out.items c.hear.new.out.items (asking m) c.in-Ok-hear.ensures.observed;
-      is = refl;
+      is = took_so m (seen c.hear.new.self) c.hear.new.out.items (talk_of (λ q. q.items) c.take_message.new.self) c.note.new.self (shown c.args.self.now) c.note.ensures;
     })
 
 pub returns-in-Err-hear : goal.returns-in-Err-hear

@@ -1,0 +1,26 @@
+use Rattle.std.proofs.Common.{rules, refl}
+use Rattle.std.proofs.iter.Yields.{fronts}
+use Rattle.std.proofs.lemmas.Iterator.{YieldsList-from_slice}
+use Rattle.std.proofs.lemmas.Iterator.Consumers.{YieldsList-at}
+use Rattle.pgp_message.specs.BackendMessage.{ErrorResponse}
+use Rattle.pgp_message_write.specs.Given.{uncounted}
+use Rattle.pgp_message_write.specs.Lists.{field_parts, marked_list}
+use Rattle.pgp_message_write.specs.Reply.{fields_of}
+use Rattle.pgp_message_write.specs.Views.{shown_field}
+use Rattle.pgp_c.specs.Replies.{reported_field}
+use Rattle.pgp_c.proofs.ReplyLists.{made_not_replied, made_replied, error_longer, never_uncounted}
+use Rattle.pgp_c.proofs.reply_list.pgp_reply_error.Goals as goal
+
+pub returns-clause-sent : goal.returns-clause-sent
+returns-clause-sent c z =
+    let all = c.args.fields.now in
+    let road = YieldsList-at c.map.ensures.source (YieldsList-from_slice all cc) in
+    made_replied shown_field reported_field uncounted (marked_list field_parts) (λ all. ErrorResponse (fields_of all)) refl error_longer fronts _ c.map.result all road _ c.map.ensures.closure (λ x r q k. (search rules, search rules))
+    c.new-window.result c.error_response_of-answer.new.buf c.args.out.now _ c.new-window.ensures c.error_response_of-answer.result c.error_response_of-answer.ensures _ (search rules) _ (c.ended.ensures.sent z)
+
+pub returns-clause-refused : goal.returns-clause-refused
+returns-clause-refused c z =
+    let all = c.args.fields.now in
+    let road = YieldsList-at c.map.ensures.source (YieldsList-from_slice all cc) in
+    made_not_replied shown_field reported_field uncounted (marked_list field_parts) (λ all. ErrorResponse (fields_of all)) refl error_longer fronts _ c.map.result all road _ c.map.ensures.closure (λ x r q k. (search rules, search rules))
+    c.new-window.result c.error_response_of-answer.new.buf c.args.out.now _ c.new-window.ensures c.error_response_of-answer.result c.error_response_of-answer.ensures never_uncounted _ _ (c.ended.ensures.refused z)

@@ -1,0 +1,31 @@
+use Rattle.std.proofs.Common.{rules, refl, map, ◌∷◌, to_z, of_z, w32}
+use Rattle.std.proofs.Math.Facts.{to_z-of_z}
+use Rattle.std.proofs.iter.Yields.{fronts}
+use Rattle.std.proofs.lemmas.Iterator.{YieldsList-from_slice}
+use Rattle.std.proofs.lemmas.Iterator.Consumers.{YieldsList-at}
+use Rattle.pgp_base.specs.Cause.{length_cause}
+use Rattle.pgp_frontend.specs.Payload.{Int32}
+use Rattle.pgp_message_write.specs.Lists.{text_parts, wide_list}
+use Rattle.pgp_message_write.specs.Reply.{negotiation_of}
+use Rattle.pgp_c.specs.Replies.{name_of}
+use Rattle.pgp_c.proofs.NeverMemory.{never_length}
+use Rattle.pgp_c.proofs.ReplyLists.{made_not_replied, made_replied, negotiated, negotiation_longer, not_negotiated}
+use Rattle.pgp_c.proofs.reply_names.pgp_reply_negotiate_protocol_version.Goals as goal
+
+pub returns-clause-sent : goal.returns-clause-sent
+returns-clause-sent c z =
+    let all = c.args.options.now in
+    let v = to_z w32 (of_z w32 c.args.version) in
+    let road = YieldsList-at c.map.ensures.source (YieldsList-from_slice all cc) in
+    negotiated c.args.version v (to_z-of_z c.ranges.version) (map name_of all) c.args.out.now _ _
+    (made_replied (λ name. name.now) name_of length_cause (λ all. Int32 v ∷ wide_list text_parts all) (negotiation_of v) refl (negotiation_longer v) fronts _ c.map.result all road _ c.map.ensures.closure (λ x r q k. (search rules, search rules))
+    c.new-window.result c.negotiate_protocol_version_of-answer.new.buf c.args.out.now _ c.new-window.ensures c.negotiate_protocol_version_of-answer.result c.negotiate_protocol_version_of-answer.ensures _ (search rules) _ (c.ended.ensures.sent z))
+
+pub returns-clause-refused : goal.returns-clause-refused
+returns-clause-refused c z =
+    let all = c.args.options.now in
+    let v = to_z w32 (of_z w32 c.args.version) in
+    let road = YieldsList-at c.map.ensures.source (YieldsList-from_slice all cc) in
+    not_negotiated c.args.version v (to_z-of_z c.ranges.version) (map name_of all) c.args.out.now _ _
+    (made_not_replied (λ name. name.now) name_of length_cause (λ all. Int32 v ∷ wide_list text_parts all) (negotiation_of v) refl (negotiation_longer v) fronts _ c.map.result all road _ c.map.ensures.closure (λ x r q k. (search rules, search rules))
+    c.new-window.result c.negotiate_protocol_version_of-answer.new.buf c.args.out.now _ c.new-window.ensures c.negotiate_protocol_version_of-answer.result c.negotiate_protocol_version_of-answer.ensures never_length _ _ (c.ended.ensures.refused z))

@@ -1,6 +1,0 @@
-use Rattle.std.specs.List.{flat_map}
-use Rattle.pgp_frontend.specs.Putting.{PutsParts}
-use Rattle.pgp_message_write.proofs.given.put_marked.Given as goal
-
-abbrev pub invariant-loop-item : goal.invariant-loop-item
-invariant-loop-item g l = PutsParts (flat_map g.T.Item.parts l.yielded) (g.B.Buffer.held l.fn.buf) (g.B.Buffer.held l.buf)

@@ -1,0 +1,7 @@
+use Rattle.std.proofs.Common.{take}
+use Rattle.std.specs.List.{flat_map}
+use Rattle.pgp_frontend.specs.Putting.{PutsParts}
+use Rattle.pgp_message_write.proofs.list_message.put_items.Given as goal
+
+abbrev pub invariant-loop-item : goal.invariant-loop-item
+invariant-loop-item g l = PutsParts (flat_map g.I.Item.parts (take l.item-index l.items)) (g.B.Buffer.held l.fn.buf) (g.B.Buffer.held l.buf)

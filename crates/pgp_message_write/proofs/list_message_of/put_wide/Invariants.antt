@@ -1,0 +1,12 @@
+use Rattle.std.proofs.Common.{◌≡◌, ◌<◌, ◌^◌, length}
+use Rattle.std.specs.List.{flat_map}
+use Rattle.pgp_base.specs.Held.{◌⊕◌}
+use Rattle.pgp_base.specs.Wire.{uint32}
+use Rattle.pgp_frontend.specs.Putting.{PutsParts}
+use Rattle.pgp_message_write.proofs.list_message_of.put_wide.Given as goal
+
+abbrev pub invariant-loop-item : goal.invariant-loop-item
+invariant-loop-item g l =
+    (l.count ≡ length l.yielded)
+    × (l.count < 2 ^ 31)
+    × PutsParts (flat_map g.T.Item.parts l.yielded) (g.B.Buffer.held l.fn.buf ⊕ uint32 0) (g.B.Buffer.held l.buf)

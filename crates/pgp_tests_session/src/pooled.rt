@@ -1,0 +1,110 @@
+//! When a pooler may lend a session, on messages of the PostgreSQL manual's formats.
+
+use crate::checks::{holds, same_at};
+use Side::{Client, Server};
+use pgp_frontend_read::{ClientMessages, PasswordKind};
+use pgp_message::Messages;
+use pgp_session::pooler::Session;
+use std::test::Fail;
+
+/// Who sent the message.
+#[derive(Debug, Clone, Copy, PartialEq, Eq)]
+enum Side {
+    Client,
+    Server,
+}
+
+/// A message, and whether the session is idle after it.
+type Row = (Side, &'static [u8], bool);
+
+/// The log-in, and a Query that begins a transaction, with one that ends it.
+const QUERIES: [Row; 9] = [
+    (Client, b"\0\0\0\x09\0\x03\0\0\0", false),
+    (Server, b"R\0\0\0\x08\0\0\0\0", false),
+    (Server, b"Z\0\0\0\x05I", true),
+    (Client, b"Q\0\0\0\x0aBEGIN\0", false),
+    (Server, b"C\0\0\0\x0aBEGIN\0", false),
+    (Server, b"Z\0\0\0\x05T", false),
+    (Client, b"Q\0\0\0\x0bCOMMIT\0", false),
+    (Server, b"C\0\0\0\x0bCOMMIT\0", false),
+    (Server, b"Z\0\0\0\x05I", true),
+];
+
+/// A Parse, whose answer doesn't end the series: its Sync does.
+const SERIES: [Row; 4] = [
+    (Client, b"P\0\0\0\x09\0\x31\0\0\0", false),
+    (Server, b"1\0\0\0\x04", false),
+    (Client, b"S\0\0\0\x04", false),
+    (Server, b"Z\0\0\0\x05I", true),
+];
+
+/// A Parse that fails: the server skips all that comes before the next Sync.
+const FAILED: [Row; 6] = [
+    (Client, b"P\0\0\0\x09\0x\0\0\0", false),
+    (Client, b"E\0\0\0\x09\0\0\0\0\0", false),
+    (Client, b"Q\0\0\0\x05\0", false),
+    (Server, b"E\0\0\0\x05\0", false),
+    (Client, b"S\0\0\0\x04", false),
+    (Server, b"Z\0\0\0\x05I", true),
+];
+
+/// A copy to the server by an Execute: the server skips the Sync that stands in its data.
+const COPY: [Row; 9] = [
+    (Client, b"E\0\0\0\x09\0\0\0\0\0", false),
+    (Server, b"G\0\0\0\x07\0\0\0", false),
+    (Client, b"d\0\0\0\x06x\n", false),
+    (Client, b"S\0\0\0\x04", false),
+    (Client, b"c\0\0\0\x04", false),
+    (Client, b"S\0\0\0\x04", false),
+    (Server, b"C\0\0\0\x0bCOPY 1\0", false),
+    (Server, b"N\0\0\0\x05\0", false),
+    (Server, b"Z\0\0\0\x05I", true),
+];
+
+/// A FunctionCall that fails.
+const CALL: [Row; 3] = [
+    (Client, b"F\0\0\0\x0e\0\0\x01\0\0\0\0\0\0\x01", false),
+    (Server, b"E\0\0\0\x05\0", false),
+    (Server, b"Z\0\0\0\x05I", true),
+];
+
+/// Takes note of a message; false where there is none, or it has no place.
+fn notes(session: &mut Session, side: Side, bytes: &[u8], opened: bool) -> bool {
+    match side {
+        Client => match ClientMessages::resume(bytes, opened).next(PasswordKind::Password) {
+            Ok(Some(message)) => session.sent(&message).is_ok(),
+            _ => false,
+        },
+        Server => match Messages::new(bytes).next() {
+            Ok(Some(message)) => session.received(&message).is_ok(),
+            _ => false,
+        },
+    }
+}
+
+#[test]
+fn a_session_is_idle_where_nothing_is_awaited(rt: HostRuntime) {
+    let mut session = Session::new(rt.alloc());
+    let mut place = 0_usize;
+    holds(&rt, !session.is_idle(b"", b""));
+    for rows in [QUERIES.as_slice(), &SERIES, &FAILED, &COPY, &CALL] {
+        for (side, bytes, idle) in rows {
+            holds(&rt, notes(&mut session, *side, bytes, place > 0));
+            same_at(&rt, place, session.is_idle(b"", b""), *idle);
+            place = place.saturating_add(1);
+        }
+        holds(&rt, !session.is_idle(b"Q", b""));
+        holds(&rt, !session.is_idle(b"", b"Z\0"));
+    }
+}
+
+#[test]
+fn an_answer_that_nobody_awaits_ends_the_pooling(rt: HostRuntime) {
+    let mut session = Session::new(rt.alloc());
+    for (place, (side, bytes, _)) in QUERIES.iter().enumerate() {
+        holds(&rt, notes(&mut session, *side, bytes, place > 0));
+    }
+    holds(&rt, session.is_idle(b"", b""));
+    holds(&rt, !notes(&mut session, Server, b"Z\0\0\0\x05I", true));
+    holds(&rt, !session.is_idle(b"", b""));
+}

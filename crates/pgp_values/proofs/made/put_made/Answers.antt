@@ -1,0 +1,19 @@
+use Rattle.std.proofs.Common.{◌∙◌, ap, inr, subst}
+use Rattle.pgp_base.specs.Held.{Held, ◌⊕◌}
+use Rattle.pgp_base.specs.Wire.{oid, nullable}
+use Rattle.pgp_base.specs.Calls.{Gives, ValueRefused}
+use Rattle.pgp_base.proofs.Parts.{more_twice}
+use Rattle.pgp_values.proofs.made.put_made.Goals as goal
+
+pub returns-in-Ok-clause-ok : goal.returns-in-Ok-clause-ok
+returns-in-Ok-clause-ok g c =
+    let k = c.in-Ok.ensures.ok in
+    let here = c.in_ok-put_u32.ensures.ok in (
+      k.0,
+      subst (λ (h : Held g.B.Buffer.Kept). Gives g.B.Buffer.held (goal.F-step g) h c.args.serializer.now c.args.x k.0 c.put_value.new.f) here k.1,
+      k.2 ∙ (ap (λ h. h ⊕ nullable k.0) here ∙ more_twice (g.B.Buffer.held c.args.buf.now) (oid c.args.of_type) (nullable k.0)),
+    )
+
+pub returns-in-Err-clause-cause : goal.returns-in-Err-clause-cause
+returns-in-Err-clause-cause g c =
+    inr (subst (λ (h : Held g.B.Buffer.Kept). ValueRefused g.B.Buffer.held (goal.F-step g) g.B.Buffer.Lacks h c.args.serializer.now c.args.x c.in-Err.e c.put_value.new.f) c.in_ok-put_u32.ensures.ok c.in-Err.ensures.cause)

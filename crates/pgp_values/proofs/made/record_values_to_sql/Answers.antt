@@ -1,0 +1,6 @@
+use Rattle.pgp_base.proofs.Parts.{cut_back}
+use Rattle.pgp_values.proofs.made.record_values_to_sql.Goals as goal
+
+pub returns : goal.returns
+returns g c =
+    (c.fill_record.new.serializer, (c.in-Err.ensures.cause, cut_back _ _ _ c.len-start.result c.in-Err.ensures.err c.len-start.ensures.value c.truncate.ensures.bytes c.truncate.ensures.kept))
