@@ -24,6 +24,8 @@ NAMES = [
     ('.cast_signed()', '.number()'),
     ('.div_ceil(', '.divided_up('),
     ('.split_first_chunk()', '.first_block()'),
+    ('.checked_add_unsigned(', '.plus_unsigned('),
+    ('.checked_sub_unsigned(', '.minus_unsigned('),
 ]
 
 # Single places: file, how often, text, its substitute.

@@ -1,5 +1,5 @@
-//! What std has since a later Rust than the oldest that compiles this package: `cast_unsigned`, `cast_signed` (1.87), `div_ceil` (1.73) and
-//! `split_first_chunk` (1.77).
+//! What std has since a later Rust than the oldest that compiles this package: `cast_unsigned`, `cast_signed` (1.87), `div_ceil` (1.73),
+//! `split_first_chunk` (1.77), `checked_add_unsigned` and `checked_sub_unsigned` (1.66).
 
 /// A number with a sign, as the number of its bits.
 pub trait Signed {
@@ -55,6 +55,26 @@ impl DividedUp for usize {
     }
 }
 
+/// A sum or a difference with a number without a sign, where it is a number of the type.
+pub trait WithUnsigned: Sized {
+    fn plus_unsigned(self, other: u128) -> Option<Self>;
+    fn minus_unsigned(self, other: u128) -> Option<Self>;
+}
+
+impl WithUnsigned for i128 {
+    #[inline(always)]
+    fn plus_unsigned(self, other: u128) -> Option<i128> {
+        let sum = self.wrapping_add(other as i128);
+        if sum >= self && (sum as u128).wrapping_sub(self as u128) == other { Some(sum) } else { None }
+    }
+
+    #[inline(always)]
+    fn minus_unsigned(self, other: u128) -> Option<i128> {
+        let left = self.wrapping_sub(other as i128);
+        if left <= self && (self as u128).wrapping_sub(left as u128) == other { Some(left) } else { None }
+    }
+}
+
 /// The first `N` bytes and the rest, where there are so many.
 pub trait FirstBlock {
     fn first_block<const N: usize>(&self) -> Option<(&[u8; N], &[u8])>;
@@ -86,6 +106,14 @@ mod tests {
         let parts: Vec<usize> = [0, 1, 7, 8, 9, 16, 17].into_iter().map(|bits: usize| bits.divided_up(8)).collect();
         assert_eq!(parts, [0, 1, 1, 1, 2, 2, 3]);
         assert_eq!(usize::MAX.divided_up(3), usize::MAX / 3);
+    }
+
+    #[test]
+    fn sums_past_the_type_are_none() {
+        assert_eq!((0i128.plus_unsigned(5), i128::MIN.plus_unsigned(u128::MAX)), (Some(5), Some(i128::MAX)));
+        assert_eq!((0i128.plus_unsigned(i128::MAX as u128 + 1), 1i128.plus_unsigned(u128::MAX)), (None, None));
+        assert_eq!((0i128.minus_unsigned(i128::MAX as u128 + 1), i128::MAX.minus_unsigned(u128::MAX)), (Some(i128::MIN), Some(i128::MIN)));
+        assert_eq!((0i128.minus_unsigned(i128::MAX as u128 + 2), i128::MIN.minus_unsigned(1)), (None, None));
     }
 
     #[test]
