@@ -105,7 +105,7 @@ def numbered(lines, answers):
         else:
             number, since = answers.server(message, when)
             after = "" if since is None else f" +{1000 * since:.3f}"
-            yield (f"#{number}{after}", {"request": number, "after": since}) if number else ("", {})
+            yield (f"#{number}{after}", {"request": number, "after": None if since is None else round(since, 6)}) if number else ("", {})
 
 
 def taken(words, option):
