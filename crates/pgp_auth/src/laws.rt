@@ -106,7 +106,7 @@ pub fn final_text_is_answered_in_one_way()
     ensures one { (text signature : List ℕ) → Verifies signature text → ¬ ShowsOther signature text }
 {}
 
-/// A text that shows the signature is refused for lack of memory alone, and only where its base64 has
+/// A text that shows the signature is rejected for lack of memory alone, and only where its base64 has
 /// more than 64 characters.
 pub fn signature_is_refused_for_memory_alone<A: Memory>()
     ensures { (text signature : List ℕ) (e : Refusal) (before after : ℕ) (v : Verifies signature text) →
@@ -157,7 +157,7 @@ pub fn both_ways<A: Memory>()
 {}
 
 /// Both ways, as calls: with the texts of a server that holds the verifier of the client's password the
-/// exchange comes to its end, unless memory is refused to `update`.
+/// exchange comes to its end, unless `update` lacks memory.
 ///
 /// # Errors
 ///
@@ -177,7 +177,7 @@ pub fn exchange<A: Memory>(
 }
 
 /// Our client against our server: where the server holds the verifier of the client's password, and takes its channel
-/// binding, both are through, unless memory is refused to one of them.
+/// binding, both are through, unless one of them lacks memory.
 ///
 /// # Errors
 ///

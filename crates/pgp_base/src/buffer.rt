@@ -15,7 +15,7 @@ pub trait Buffer {
     /// The bytes that it holds, what stands after them, and what no call changes.
     ghost held: { Self → Held Kept };
 
-    /// A growth by so many bytes was refused while the buffer held that.
+    /// The buffer couldn't grow by so many bytes while it held that.
     ghost Lacks: { Held Kept → ℕ → Type 0 };
 
     /// How many bytes it holds.
@@ -90,7 +90,7 @@ pub(crate) fn move_last(all: &mut [u8], place: usize, count: usize)
     all[place..].rotate_right(count);
 }
 
-/// It lacks what its memory lacks: any growth by a byte or more may be refused.
+/// It lacks what its memory lacks: any growth by a byte or more may fail.
 impl<A: Memory> Buffer for BytesMut<A> {
     ghost Kept = { Unit {0} };
 

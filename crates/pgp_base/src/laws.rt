@@ -25,7 +25,7 @@ pub fn numbers_differ()
     ensures { (d e : Error) → number_of d ≡ number_of e → plain d ≡ plain e }
 {}
 
-/// In a window what fits is never refused: a writer of what has no cause writes it where it is no longer than the room that is
+/// In a window what fits is always written: a writer of what has no cause writes it where it is no longer than the room that is
 /// left, and wants memory where it is longer, and nowhere else.
 pub fn what_fits_is_written()
     ensures wants { (old : Held (GName × ℕ)) (n : ℕ) → Wants window_lacks old n → window_lacks old n }

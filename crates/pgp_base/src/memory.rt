@@ -278,7 +278,7 @@ pub trait Memory: Allocator + Copy {
         ensures some { OnErr result (0 < length (T.unread more.old)) };
 }
 
-/// Of its errors nothing is said: any growth may be refused.
+/// Of its errors nothing is said: any growth may fail.
 impl<A: Allocator + Copy> Memory for A {
     ghost Lacks = { Unit {0} };
 

@@ -36,8 +36,7 @@ pub trait FallibleIterator {
     ///
     /// # Errors
     ///
-    /// The iterator's own error where its list ends with one, or `OutOfMemory` if a growth of the `Vec` was
-    /// refused.
+    /// The iterator's own error where its list ends with one, or `OutOfMemory` if the `Vec` can't grow.
     final fn collect<A: Memory>(mut self, alloc: A) -> Result<Vec<Self::Item, A>, Error>
     where
         Self: Sized + Drop,

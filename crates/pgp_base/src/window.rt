@@ -7,8 +7,8 @@ use bytes::Buf;
 use std::alloc::AllocError;
 
 /// A buffer over memory of the caller's, which asks no allocator for any. It doesn't grow: what doesn't
-/// fit is refused as for lack of memory, and what fits is not. The bytes stand at the front of the
-/// caller's memory; after them it is as it was, but where a refused writer had begun.
+/// fit is an error, as lack of memory is, and what fits is not. The bytes stand at the front of the
+/// caller's memory; after them it is as it was, but where a writer that failed had begun.
 #[derive(Drop)]
 pub struct Window<'a> {
     room: &'a mut [u8],

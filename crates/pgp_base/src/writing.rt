@@ -1,7 +1,7 @@
 //! What every writer is made of: numbers, texts, and parts that stand after a length or a count.
 //!
-//! A refused `write_` function leaves the buffer's bytes. A refused `put_` function, a step of a
-//! writer, leaves them as a front of what stands there then, and the writer cuts back.
+//! On error a `write_` function leaves the buffer unchanged. A `put_` function, a step of a
+//! writer, then leaves the buffer's bytes as a front of what stands there, and the writer cuts back.
 
 ghost use Rattle.std.specs.Prelude.{◌≡◌, ℕ, ◌+◌, ◌-◌, ◌<◌, ◌≤◌, ◌^◌, List, [], ◌∷◌, length, drop, Option, Some, None, Ok, OnOk, OnErr, IfOk, IfErr};
 ghost use Rattle.std.specs.Iterator.{IsFiniteIterable};

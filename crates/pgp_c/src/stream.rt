@@ -1,4 +1,4 @@
-//! What a client sends, as one stream in memory of the caller's: a call whose phase it isn't is refused.
+//! What a client sends, as one stream in memory of the caller's: a call whose phase it isn't returns an error.
 #![tactic(auto, using(crate::proofs::Extensions::no_room))]
 
 ghost use Rattle.std.specs.Prelude.{◌≡◌, ◌≢◌, ◌<◌, ◌≤◌, true, false, length, map, Some};

@@ -22,7 +22,7 @@ const BAD_BINDING: u32 = 81;
 /// The answer where there is no memory or no room.
 const NO_ROOM: u32 = 1;
 
-/// The number of a refused step: lack of memory as everywhere, the others after 64.
+/// The status of a step that failed: lack of memory as everywhere, the others after 64.
 fn number<A: Memory>(e: &ScramError<A>) -> u32
     ensures code { result ≡ code_of (refusal e.now) }
     ensures some { result ≢ 0 }

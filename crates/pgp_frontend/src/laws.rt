@@ -41,7 +41,7 @@ pub fn opening_packets_begin_no_other()
     ensures { (m n : ClientMessage) (b c more rest : List ℕ) → Opening m b → Opening n c → b ++ more ≡ c ++ rest → (m ≡ n) × (more ≡ rest) }
 {}
 
-/// A writer of a message into a window is refused memory only where the message is longer than the room that is left.
+/// A writer of a message into a window lacks memory only where the message is longer than the room that is left.
 pub fn only_what_is_too_long_wants_memory()
     ensures wants { (old : Held (GName × ℕ)) (n : ℕ) → Wants window_lacks old n → window_lacks old n }
     ensures longer { (m : ClientMessage) (old new : Held (GName × ℕ)) (result : Result (Unit {0}) Error) → WritesMessage m window_lacks old new result

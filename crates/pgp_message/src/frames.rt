@@ -19,7 +19,7 @@ use std::alloc::AllocError;
 ///
 /// # Errors
 ///
-/// Returns `AllocError` if memory was refused. Then the list has what the first frames gave.
+/// Returns `AllocError` if the list can't grow. It then has what the first frames gave.
 pub fn read_frames<A: Memory>(
     frames: &Bytes<A>,
     count: usize,

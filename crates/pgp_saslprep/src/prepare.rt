@@ -14,7 +14,7 @@ use unicode_normalization::to_nfkc;
 
 /// What brings a text into the normal form KC. Its memory isn't the caller's: so it reports its own errors.
 pub trait Nfkc {
-    /// Memory for a normal form was refused.
+    /// A normal form couldn't be allocated.
     ghost Lacks: { Type 0 };
 
     /// The text in the normal form KC.

@@ -20,7 +20,7 @@ use pgp_frontend::{CopyData, ProtocolVersion};
 use std::alloc::{Allocator, Global};
 use std::marker::Model;
 
-/// The bytes that a client has to send. Each method adds one message, or is refused and changes nothing.
+/// The bytes that a client has to send. Each method adds one message, or returns an error and changes nothing.
 /// Requests come first, then one startup packet, and then all other messages.
 #[derive(Drop)]
 pub struct ClientStream<B: Buffer = BytesMut> {

@@ -26,7 +26,7 @@ pub enum ConnectionError<A: Allocator = Global> {
     NotAdmitted,
     /// The server's SASL mechanisms lack SCRAM-SHA-256, or their list is malformed.
     NotOffered,
-    /// The exchange rejected the server's text, or memory for its own was refused; or it was over before it began.
+    /// The exchange rejected the server's text, or lacked memory for its own; or it was over before it began.
     Scram(ScramError<A>),
     /// The answer to the request for encryption isn't the byte `S` or `N` alone.
     BadAnswer,

@@ -33,12 +33,12 @@ pub enum ProxyError {
     OutOfMemory,
 }
 
-/// Passes the client's next message on to the server's buffer, unless it is a Query or a Parse with one of the refused
+/// Passes the client's next message on to the server's buffer, unless it is a Query or a Parse with one of the forbidden
 /// statements; `None` where bytes of it are missing.
 ///
 /// # Errors
 ///
-/// `NoMessage` as `ClientMessages::next` refuses: a frame that is no message isn't passed on. `OutOfMemory`; the message is
+/// `NoMessage` as `ClientMessages::next` returns it: a frame that is no message isn't passed on. `OutOfMemory`; the message is
 /// read again by the next call then.
 pub fn pass_on<B: Buffer>(
     refused: &[&[u8]],

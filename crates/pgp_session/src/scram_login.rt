@@ -65,7 +65,7 @@ pub enum LoginFault<A: Allocator = Global> {
     NotOffered,
     /// The reply couldn't be written.
     Unsent(Error),
-    /// The exchange refused the server's text, or memory for its own; or it was over before it began.
+    /// The exchange rejected the server's text, or lacked memory for its own; or it was over before it began.
     Scram(ScramError<A>),
 }
 
@@ -156,8 +156,8 @@ impl<A: Memory, B: Buffer + Drop> ScramLogin<A, B> {
     /// # Errors
     ///
     /// Returns `Unexpected` if the message has no place in the phase, and `NotOffered` if the server offers no
-    /// SCRAM-SHA-256: the log-in is as it was. `Scram` if the exchange refuses the server's text, and `Unsent` of
-    /// `OutOfMemory` if the buffer's growth is refused: after the first text of the exchange the log-in is over.
+    /// SCRAM-SHA-256: the log-in is as it was. `Scram` if the exchange rejects the server's text, and `Unsent` of
+    /// `OutOfMemory` if the buffer can't grow: after the first text of the exchange the log-in is over.
     pub fn step<S: SaslStorage>(
         &mut self,
         message: &Message<S>,

@@ -66,9 +66,9 @@ impl<A: Memory> StreamParser<A> {
     ///
     /// # Errors
     ///
-    /// Returns `OutOfMemory` if memory was refused for the piece, for a message or for the list of results. Then the parser
+    /// Returns `OutOfMemory` if the piece, a message or the list of results can't be allocated. Then the parser
     /// has failed: its results stand, but nothing more can be read. Room for what is missing of a frame is asked for ahead,
-    /// and an error of that isn't reported. A refused frame is no error of the call: its error stands among the results.
+    /// and an error of that isn't reported. A malformed frame is no error of the call: its error stands among the results.
     pub fn feed(&mut self, piece: &[u8]) -> Result<(), Error>
         requires { self.old.failed ≡ false }
         ensures { Feeds piece.now A.Lacks self.old self.new result }
@@ -97,7 +97,7 @@ impl<A: Memory> StreamParser<A> {
         }
     }
 
-    /// Whether memory was refused.
+    /// Whether an allocation failed.
     pub fn failed(&self) -> bool
         ensures is { result ≡ self.now.failed }
         ensures lacks { result ≡ true → A.Lacks }

@@ -13,7 +13,7 @@ use pgp_base::{Error, Memory};
 ///
 /// # Errors
 ///
-/// Returns `OutOfMemory` if memory was refused. A refused frame is no error of the call: its error stands among
+/// Returns `OutOfMemory` if an allocation fails. A malformed frame is no error of the call: its error stands among
 /// the results.
 pub fn parse_stream<A: Memory>(alloc: A, pieces: &[&[u8]]) -> Result<Parsed<A>, Error>
     ensures run { IfOk result (λ s. BackendRun (flat_map (λ piece. piece.now) pieces.now) s.results s.stopped s.rest) }

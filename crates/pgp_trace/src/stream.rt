@@ -50,7 +50,7 @@ struct Held<'a, A: Memory> {
 ///
 /// # Errors
 ///
-/// Returns `Memory` if memory is refused, `Read` if reading fails, and `Write` if writing or a flush fails.
+/// Returns `Memory` if an allocation fails, `Read` if reading fails, and `Write` if writing or a flush fails.
 pub fn list<A: Memory, R: Input, W: Output>(
     alloc: A,
     style: Style,

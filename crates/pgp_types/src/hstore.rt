@@ -71,7 +71,7 @@ where
 /// # Errors
 ///
 /// Returns `TooLarge` if a key's or a value's length exceeds `i32::MAX`, and at a pair past that many, before it is
-/// written; `OutOfMemory` if the buffer is refused memory. The buffer's bytes are then as they were.
+/// written; `OutOfMemory` if the buffer can't grow. On error the buffer is unchanged.
 pub fn hstore_to_sql<'a, B: Buffer, I: IntoIterator<Item = (&'a str, Option<&'a str>)> + Drop>(
     pairs: I,
     buf: &mut B,

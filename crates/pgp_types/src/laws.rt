@@ -93,7 +93,7 @@ pub fn ranges()
     ensures { IsSound range }
 {}
 
-/// In a window the writer of a range is refused memory only where the range, as far as its closures made it, is longer than the room
+/// In a window the writer of a range lacks memory only where the range, as far as its closures made it, is longer than the room
 /// that is left: a window of exactly the range's size takes it.
 ///
 /// # Errors

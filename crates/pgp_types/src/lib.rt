@@ -1,7 +1,7 @@
 //! The binary format of PostgreSQL's values: `X_to_sql` appends a value of the type X, and `X_from_sql`
 //! reads one from all of the bytes that it is given.
 //!
-//! A refused writer leaves the buffer's bytes as they were. A reader takes no memory: it borrows texts and bytes.
+//! On error a writer leaves the buffer unchanged. A reader allocates nothing: it borrows texts and bytes.
 //! `codec` and `part` are what codecs are made of, for crates with codecs of their own.
 #![tactic(auto)]
 

@@ -141,8 +141,8 @@ where
 ///
 /// # Errors
 ///
-/// Returns `TooLarge` at a point past the greatest `i32`, before it is written; `OutOfMemory` if the buffer is
-/// refused memory. The buffer's bytes are then as they were.
+/// Returns `TooLarge` at a point past the greatest `i32`, before it is written; `OutOfMemory` if the buffer can't
+/// grow. On error the buffer is unchanged.
 pub fn path_to_sql<B: Buffer, I: IntoIterator<Item = (u64, u64)> + Drop>(
     closed: bool,
     points: I,

@@ -56,7 +56,7 @@ pub enum Range<'a> {
 ///
 /// # Errors
 ///
-/// Returns `OutOfMemory` if the buffer is refused memory. Its bytes are then as they were.
+/// Returns `OutOfMemory` if the buffer can't grow. On error the buffer is unchanged.
 pub fn empty_range_to_sql<B: Buffer>(buf: &mut B) -> Result<(), Error>
     ensures { Writes range empty B.Lacks (B.held buf.old) result (B.held buf.new) }
 {
@@ -193,14 +193,14 @@ fn fill_range<
 }
 
 /// Appends a range between two sides, of which each closure appends the bytes of its value, or returns that it is a null or that
-/// there is no bound. The lower is called first, and the upper not at all where the lower was refused. The length is put before
+/// there is no bound. The lower is called first, and the upper not at all where the lower failed. The length is put before
 /// what a closure appended, so that no memory is asked for but the range's own. What a closure appended for `Unbounded` is
 /// dropped: in memory of the caller's, what stood there isn't put back.
 ///
 /// # Errors
 ///
 /// `Conversion` is a closure's own error. `Serialization` is `TooLarge` if the length of a side's value exceeds `i32::MAX`, and
-/// `OutOfMemory` if the buffer is refused memory. The buffer's bytes are then as they were.
+/// `OutOfMemory` if the buffer can't grow. On error the buffer is unchanged.
 pub fn range_to_sql<
     B: Buffer,
     E: Drop,

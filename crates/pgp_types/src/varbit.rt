@@ -78,7 +78,7 @@ fn fill_varbit<B: Buffer, I: Iterator<Item = u8> + Drop>(
 /// # Errors
 ///
 /// Returns `TooLarge` if the number of bits exceeds `i32::MAX`, and the iterator isn't asked; `OutOfMemory` if the
-/// buffer is refused memory. The buffer's bytes are then as they were.
+/// buffer can't grow. On error the buffer is unchanged.
 pub fn varbit_to_sql<B: Buffer, I: Iterator<Item = u8> + Drop>(
     len: usize,
     bytes: I,

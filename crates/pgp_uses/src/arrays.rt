@@ -28,7 +28,7 @@ pub enum ArrayError {
     Dimensions,
     /// The bytes are no array, or an element is no value of the type.
     Value(Error),
-    /// Memory for the list was refused.
+    /// The list can't be allocated.
     OutOfMemory,
 }
 
@@ -37,8 +37,8 @@ pub enum ArrayError {
 ///
 /// # Errors
 ///
-/// Returns `NoColumn` if the row has no column `i`; `Value` if its bytes are refused as an array, or the first of its
-/// elements that is refused as the type; `Dimensions` if it has more than one; and `OutOfMemory`.
+/// Returns `NoColumn` if the row has no column `i`; `Value` if its bytes are no array, or one of its elements
+/// is no value of the type; `Dimensions` if it has more than one; and `OutOfMemory`.
 pub fn list_of<'a, V: Value<'a> + Drop, A: Memory, R: Allocator>(
     alloc: A,
     row: &RowIndex<'a, R>,

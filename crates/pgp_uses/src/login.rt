@@ -31,7 +31,7 @@ use std::alloc::{Allocator, Global};
 pub enum LoginError<A: Allocator = Global> {
     /// The message couldn't be written.
     Message(Error),
-    /// The exchange refused the server's text, or memory for its own.
+    /// The exchange rejected the server's text, or lacked memory for its own.
     Scram(ScramError<A>),
     /// The exchange has nothing to send: it is over.
     Over,
@@ -121,7 +121,7 @@ pub fn begin_prepared<A: Memory, R: Rng, B: Buffer>(
 ///
 /// # Errors
 ///
-/// Returns `Scram` if the text is refused, and `Message` if the buffer's growth is.
+/// Returns `Scram` if the text is rejected, and `Message` if the buffer can't grow.
 pub fn respond<A: Memory, B: Buffer>(
     challenge: &[u8],
     client: &mut ScramSha256<A>,

@@ -72,8 +72,8 @@ impl From<BindError<Error>> for AskError {
 /// # Errors
 ///
 /// Returns `EmbeddedNull` if the name or the text has a 0 byte, `TooLarge` if it is too long for its message, and
-/// `OutOfMemory`: of the binding as `Binding` of `Serialization`, or of `Conversion` if the buffer refused the value's
-/// bytes, and of another message as `Message`. The messages before the refused one stay, and nothing of it.
+/// `OutOfMemory`: of the binding as `Binding` of `Serialization`, or of `Conversion` if the buffer can't grow for the
+/// value's bytes, and of another message as `Message`. The messages before that one stay, and nothing of it.
 pub fn ask_named<B: Buffer>(
     name: &str,
     sql: &str,

@@ -129,7 +129,7 @@ pub fn parameter<'a, V: Value<'a>, B: Buffer>(
 ///
 /// # Errors
 ///
-/// `OutOfMemory`: `Conversion` if the buffer refused the value's bytes, `Serialization` if it refused others. On
+/// `OutOfMemory`: `Conversion` if the buffer can't grow for the value's bytes, `Serialization` if it can't for others. On
 /// error the buffer is unchanged.
 pub fn bind_int4<B: Buffer>(value: Option<i32>, buf: &mut B) -> Result<(), BindError<Error>>
     ensures { BindsValue int4 value B.Lacks (B.held buf.old) (B.held buf.new) result }

@@ -29,7 +29,7 @@ const PIECE: usize = 65536;
 ///
 /// # Errors
 ///
-/// Returns `Memory` if memory is refused and `Read` if reading fails, both before anything is written;
+/// Returns `Memory` if an allocation fails and `Read` if reading fails, both before anything is written;
 /// `Write` if writing or the flush fails, after a front of the listing.
 pub fn backend<A: Memory, R: Input, W: Output>(
     alloc: A,

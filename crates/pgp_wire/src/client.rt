@@ -49,7 +49,7 @@ struct Answer<A: Allocator> {
 ///
 /// # Errors
 ///
-/// Returns `Memory` if memory is refused and `Read` if reading fails, both before anything is written;
+/// Returns `Memory` if an allocation fails and `Read` if reading fails, both before anything is written;
 /// `Write` if writing or the flush fails, after a front of what was to be written.
 pub fn client<A: Memory, R: Input, W: Output>(
     alloc: A,

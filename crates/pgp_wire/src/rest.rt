@@ -13,7 +13,7 @@ use std::io::ErrorKind;
 ///
 /// # Errors
 ///
-/// Returns `Memory` if memory is refused, and `Read` if reading fails.
+/// Returns `Memory` if an allocation fails, and `Read` if reading fails.
 pub fn read_rest<A: Memory, R: Input>(alloc: A, input: &mut R) -> Result<Vec<u8, A>, Fault>
     ensures rest { IfOk result (λ bytes. IfSome (R.remaining input.old) (λ rest. bytes.items ≡ rest)) }
     ensures consumes { IfOk result (λ bytes. Consumes (R.remaining input.old) (R.remaining input.new) bytes.items) }

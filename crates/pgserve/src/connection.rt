@@ -172,7 +172,7 @@ impl<'h> Connection<'h> {
     }
 }
 
-/// What a message asks whose bytes aren't those of its type, by its tag and the first byte behind its length.
+/// What a message asks whose bytes aren't those of its type, by its tag and the first byte after its length.
 fn request_of(bytes: &[u8]) -> Option<Request> {
     Request::of_tag(first_of(bytes), bytes.get(5).copied().unwrap_or(0))
 }

@@ -82,7 +82,7 @@ fn number_of(digits: &str) -> Option<i64> {
     }
 }
 
-/// The microseconds of the digits behind a point, six at most.
+/// The microseconds of the digits after a point, six at most.
 fn fraction_of(digits: &str) -> Option<i64> {
     let number = number_of(digits)?;
     let scale = match digits.len() {

@@ -28,7 +28,7 @@ pub trait SaslPrep {
     // What a text is mapped to, if anything.
     ghost mapping: { Self → List ℕ → Option (List ℕ) };
 
-    // That memory of the mapping's own was refused: what comes from nowhere but such an error.
+    // That the mapping lacked memory of its own: what comes from nowhere but such an error.
     ghost Lacks: { Type 0 };
 
     /// The text that is used in the place of `text`, or `None` where `text` is used as it is. `text` isn't

@@ -107,7 +107,7 @@ impl<A: Memory> ScramSha256<A> {
     /// - `InvalidNonce`: the server's nonce doesn't begin with the client's.
     /// - `TooManyIterations`: the count is over 100,000.
     /// - `InvalidBase64`: the salt isn't base64 with padding.
-    /// - `OutOfMemory`: memory is refused for the salt, or for the texts after it.
+    /// - `OutOfMemory`: the salt, or the texts after it, can't be allocated.
     pub fn update(&mut self, message: &[u8]) -> Result<(), ScramError<A>>
         ensures ok { OnOk result (Answers self.old message.now self.new) }
         ensures err { IfErr result (λ e. UpdateRefused A.Lacks self.old message.now (refusal e) self.new) }
@@ -139,7 +139,7 @@ impl<A: Memory> ScramSha256<A> {
     /// - `Server`: the server's own error, as it stands after `e=`.
     /// - `InvalidBase64`: the text after `v=` isn't base64 with padding.
     /// - `Verification`: it shows other bytes than the signature.
-    /// - `OutOfMemory`: memory is refused for the server's error, or for base64 of more than 64 characters.
+    /// - `OutOfMemory`: the server's error, or base64 of more than 64 characters, can't be allocated.
     pub fn finish(&mut self, message: &[u8]) -> Result<(), ScramError<A>>
         ensures ok { OnOk result (Finished self.old message.now self.new) }
         ensures err { IfErr result (λ e. FinishRefused A.Lacks self.old message.now (refusal e) self.new) }

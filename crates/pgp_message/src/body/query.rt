@@ -136,7 +136,7 @@ impl<A: Allocator> DataRowBody<Bytes<A>> {
     /// # Errors
     ///
     /// The error of that iterator: `UnexpectedEof` if a value is cut short, `NotDrained` if bytes stand after the
-    /// last value. `OutOfMemory` if the table's memory was refused.
+    /// last value. `OutOfMemory` if the table can't be allocated.
     pub fn index<T: Memory>(&self, alloc: T) -> Result<RowIndex<'_, T>, Error>
         ensures { Tabulates self.now T.Lacks result }
     {
@@ -217,7 +217,7 @@ impl<'a> DataRowBody<&'a [u8]> {
     /// # Errors
     ///
     /// The error of that iterator: `UnexpectedEof` if a value is cut short, `NotDrained` if bytes stand after the
-    /// last value. `OutOfMemory` if the table's memory was refused.
+    /// last value. `OutOfMemory` if the table can't be allocated.
     pub fn index<A: Memory>(&self, alloc: A) -> Result<RowIndex<'a, A>, Error>
         ensures { Tabulates self.now A.Lacks result }
     {

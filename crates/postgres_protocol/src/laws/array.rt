@@ -81,8 +81,8 @@ pub fn bind_one<B: Buffer, E: Drop, F: FnMut(u8, &mut B) -> Result<IsNull, E> + 
 ///
 /// # Errors
 ///
-/// `Conversion` is the error of the array: in it `Conversion` is that of the first step that refuses, or `OutOfMemory`
-/// if the buffer refused the bytes of a step, and `Serialization` is `TooLarge` at the dimension past 2,147,483,647 or
+/// `Conversion` is the error of the array: in it `Conversion` is that of the first step that fails, or `OutOfMemory`
+/// if the buffer can't grow for the bytes of a step, and `Serialization` is `TooLarge` at the dimension past 2,147,483,647 or
 /// at an element of more bytes than that, or `OutOfMemory`. `Serialization` is the error of `bind`: `TooLarge` if the
 /// array or the message exceeds `i32::MAX`, or `OutOfMemory`. On error the buffer is unchanged.
 pub fn bind_array<B: Buffer>(

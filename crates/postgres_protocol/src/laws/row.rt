@@ -16,7 +16,7 @@ use std::alloc::Allocator;
 /// # Errors
 ///
 /// The error of the iterator over the row's values: `UnexpectedEof` if one is cut short, `NotDrained` if
-/// bytes stand after the last. `OutOfMemory` if the memory of the table or of the list was refused.
+/// bytes stand after the last. `OutOfMemory` if the table or the list can't be allocated.
 pub fn row_int4<A: Memory, R: Allocator + Copy>(
     alloc: A,
     row: &DataRowBody<Bytes<R>>,

@@ -32,8 +32,8 @@ pub enum SaslRefusal<A: Allocator = Global> {
 ///
 /// # Errors
 ///
-/// Returns `Message` if a writer refuses a text or `Message::parse` the front of a buffer, `Unexpected` if no
-/// complete message stands there or another one than is due, and `Scram` if `update` or `finish` refuses a text.
+/// Returns `Message` if a writer rejects a text or `Message::parse` the front of a buffer, `Unexpected` if no
+/// complete message stands there or another one than is due, and `Scram` if `update` or `finish` rejects a text.
 /// What was written and taken off before stays so, and `out` keeps what it held in front of it.
 #[tactic(auto, using(pgp_base::proofs::Parts::held_steps))]
 pub fn sasl_exchange<A: Memory, B: Buffer>(

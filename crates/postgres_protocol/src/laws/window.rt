@@ -1,4 +1,4 @@
-//! Messages in a window on the caller's memory: what fits is never refused.
+//! Messages in a window on the caller's memory: what fits is always written.
 
 ghost use Rattle.std.specs.Prelude.{◌≡◌, ℕ, List, Option, None, Result, true};
 ghost use Rattle.pgp_base.specs.Window.{window_held, window_lacks};
