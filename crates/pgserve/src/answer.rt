@@ -2,10 +2,11 @@
 
 use crate::asked::{Refusal, put_error, put_notice, refuse};
 use crate::binary::{Unwritten, binary_of};
+use crate::bound::{Bound, rows_for};
 use crate::copy::put_copy_out;
 use crate::extended::are_formats;
 use crate::fault::Fault;
-use crate::script::{Column, End, Statement};
+use crate::script::{Column, End, Row, Statement};
 use bytes::BytesMut;
 use postgres_protocol::message::reply;
 use std::alloc::{AllocError, Global};
@@ -22,7 +23,7 @@ pub(crate) enum Went {
 }
 
 /// The format of the column at this place: that of all, or its own; text where none is reported.
-fn format_of(formats: &[i16], place: usize) -> i16 {
+pub(crate) fn format_of(formats: &[i16], place: usize) -> i16 {
     match formats {
         [] => 0,
         [all] => *all,
@@ -154,20 +155,21 @@ fn put_row(
     Ok(true)
 }
 
-/// Appends the rows from this place on, at most so many, and returns the place after them; or why a row can't be sent.
+/// Appends those of the rows from this place on, at most so many, and returns the place after them; or why a row can't be sent.
 fn put_rows<'r>(
     alloc: Global,
     statement: &Statement,
+    rows: &[&Row],
     formats: &[i16],
     range: (usize, usize),
     out: &mut BytesMut,
 ) -> Result<Result<usize, Refusal<'r>>, Fault> {
     let mut at = range.0;
-    for row in statement.rows.iter().skip(range.0).take(range.1) {
+    for row in rows.iter().skip(range.0).take(range.1) {
         if !are_formats(formats) {
             return Ok(Err(Refusal::BadFormat));
         }
-        if !put_row(alloc, statement, formats, row, out)? {
+        if !put_row(alloc, statement, formats, &row.values, out)? {
             return Ok(Err(Refusal::NotSupported));
         }
         at = at.saturating_add(1);
@@ -247,7 +249,7 @@ pub(crate) struct Progress {
 pub(crate) fn execute(
     alloc: Global,
     statement: &Statement,
-    formats: &[i16],
+    bound: Bound<'_>,
     before: Option<usize>,
     most: usize,
     out: &mut BytesMut,
@@ -260,7 +262,8 @@ pub(crate) fn execute(
     }
     let from = before.unwrap_or(0);
     let limit = if most == 0 { usize::MAX } else { most };
-    let sent = match put_rows(alloc, statement, formats, (from, limit), out)? {
+    let rows = rows_for(alloc, statement, bound.values)?;
+    let sent = match put_rows(alloc, statement, &rows, bound.formats, (from, limit), out)? {
         Ok(sent) => sent,
         Err(refusal) => {
             refuse(alloc, refusal, out)?;
@@ -292,6 +295,7 @@ fn ended(
         reply::portal_suspended(out)?;
         return Ok(Went::Suspended);
     }
-    let part = if before.is_some() { Some(rows.0) } else { None };
+    let is_counted = before.is_some() || statement.has_conditions();
+    let part = if is_counted { Some(rows.0) } else { None };
     put_end(alloc, statement, part, out)
 }

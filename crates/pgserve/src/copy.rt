@@ -90,6 +90,22 @@ impl<'h> Session<'h> {
         Ok(())
     }
 
+    /// Answers a message whose bytes aren't those of its type, while the data of a copy are awaited: a server looks at the text of a
+    /// CopyFail alone.
+    pub(crate) fn malformed_in_copy(
+        &mut self,
+        copy: CopyIn<'h>,
+        tag: u8,
+        out: &mut BytesMut,
+    ) -> Result<(), Fault> {
+        match tag {
+            b'd' | b'H' | b'S' => Ok(()),
+            b'c' => self.end_copy(copy, out),
+            b'f' => self.fail_copy(copy, Refusal::Malformed, out),
+            _ => self.lose_sync(out),
+        }
+    }
+
     /// Answers a message while the data of a copy are awaited.
     pub(crate) fn answer_copy(
         &mut self,

@@ -4,6 +4,7 @@
 
 use crate::answer::{Went, describe, execute};
 use crate::asked::{Refusal, put_error};
+use crate::bound::{Bound, given_of};
 use crate::fault::Fault;
 use crate::portals::{Plan, Portal};
 use crate::script::Statement;
@@ -15,6 +16,16 @@ use pgp_base::Oid;
 use postgres_protocol::message::client::ClientMessage;
 use postgres_protocol::message::reply;
 use std::alloc::{AllocError, Global};
+
+/// What a Bind says.
+#[derive(Clone, Copy)]
+pub(crate) struct Binding<'m> {
+    pub(crate) portal: &'m [u8],
+    pub(crate) statement: &'m [u8],
+    pub(crate) formats: &'m [i16],
+    pub(crate) values: &'m [Option<&'m [u8]>],
+    pub(crate) results: &'m [i16],
+}
 
 /// The type of a parameter: that which the client names, or else the script's.
 fn type_at(named: &[Oid], scripted: &[Oid], place: usize) -> Option<Oid> {
@@ -50,6 +61,22 @@ pub(crate) fn are_formats(formats: &[i16]) -> bool {
     true
 }
 
+/// The portal that a binding of a statement opens, where so many savepoints are.
+fn portal_of(
+    alloc: Global,
+    plan: &Plan,
+    binding: &Binding<'_>,
+    depth: usize,
+) -> Result<Portal, AllocError> {
+    Ok(Portal {
+        text: Vec::from_slice(alloc, &plan.text)?,
+        formats: Vec::from_slice(alloc, binding.results)?,
+        values: given_of(alloc, &plan.types, binding.formats, binding.values)?,
+        sent: None,
+        depth,
+    })
+}
+
 /// The types of a scripted statement's parameters.
 fn scripted_types<'h>(asks: Asks<'h>) -> &'h [Oid] {
     match asks {
@@ -60,10 +87,10 @@ fn scripted_types<'h>(asks: Asks<'h>) -> &'h [Oid] {
 
 impl<'h> Session<'h> {
     /// The one statement of a Parse; `None` where it has more.
-    fn only<'q>(&self, query: &'q [u8]) -> Option<&'q [u8]> {
-        match self.script.find(query) {
-            Some(_) => Some(trimmed(query)),
-            None => only_of(query),
+    fn only<'q>(&self, query: &'q [u8]) -> Result<Option<&'q [u8]>, AllocError> {
+        match self.script.find(self.alloc, query)? {
+            Some(_) => Ok(Some(trimmed(query))),
+            None => Ok(only_of(query)),
         }
     }
 
@@ -93,7 +120,7 @@ impl<'h> Session<'h> {
         if name.is_empty() {
             self.prepared.remove(name);
         }
-        let Some(statement) = self.only(query) else {
+        let Some(statement) = self.only(query)? else {
             return self.fail(Refusal::Several, out);
         };
         let asks = self.asks(statement)?;
@@ -160,50 +187,39 @@ impl<'h> Session<'h> {
     }
 
     /// Binds a statement to so many values, which have these formats.
-    pub(crate) fn bind(
-        &mut self,
-        portal: &[u8],
-        name: &[u8],
-        count: usize,
-        formats: &[i16],
-        results: Vec<i16>,
-        out: &mut BytesMut,
-    ) -> Result<(), Fault> {
-        let Some(plan) = self.prepared.find(name) else {
-            return self.fail(Refusal::NoStatement(name), out);
-        };
-        if formats.len() > 1 && formats.len() != count {
-            return self.fail(Refusal::WrongFormats, out);
-        }
-        if plan.types.len() != count {
-            return self.fail(Refusal::WrongCount, out);
-        }
-        let text = Vec::from_slice(self.alloc, &plan.text)?;
-        if let Some(refusal) = self.rejects_portal(portal, &text, &results)? {
+    pub(crate) fn bind(&mut self, binding: &Binding<'_>, out: &mut BytesMut) -> Result<(), Fault> {
+        if let Some(refusal) = self.rejects_binding(binding)? {
             return self.fail(refusal, out);
         }
-        if count != 0 && !are_formats(formats) {
-            return self.fail(Refusal::BadFormat, out);
+        if let Some(plan) = self.prepared.find(binding.statement) {
+            let portal = portal_of(self.alloc, plan, binding, self.transaction.depth())?;
+            self.portals.put(binding.portal, portal)?;
         }
-        self.open(portal, text, results, out)
+        Ok(reply::bind_complete(out)?)
     }
 
-    /// Keeps a portal under its name.
-    fn open(
-        &mut self,
-        name: &[u8],
-        text: Vec<u8>,
-        formats: Vec<i16>,
-        out: &mut BytesMut,
-    ) -> Result<(), Fault> {
-        let portal = Portal {
-            text,
-            formats,
-            sent: None,
-            depth: self.transaction.depth(),
+    /// Why this can't be bound, if it can't.
+    fn rejects_binding<'m>(
+        &self,
+        binding: &Binding<'m>,
+    ) -> Result<Option<Refusal<'m>>, AllocError> {
+        let Some(plan) = self.prepared.find(binding.statement) else {
+            return Ok(Some(Refusal::NoStatement(binding.statement)));
         };
-        self.portals.put(name, portal)?;
-        Ok(reply::bind_complete(out)?)
+        let (formats, count) = (binding.formats, binding.values.len());
+        if formats.len() > 1 && formats.len() != count {
+            return Ok(Some(Refusal::WrongFormats));
+        }
+        if plan.types.len() != count {
+            return Ok(Some(Refusal::WrongCount));
+        }
+        if let Some(refusal) = self.rejects_portal(binding.portal, &plan.text, binding.results)? {
+            return Ok(Some(refusal));
+        }
+        if count != 0 && !are_formats(formats) {
+            return Ok(Some(Refusal::BadFormat));
+        }
+        Ok(None)
     }
 
     /// Whether the transaction failed, and the statement has rows, which then aren't described.
@@ -284,14 +300,11 @@ impl<'h> Session<'h> {
             portal.sent = Some(0);
             return self.begin_copy(statement, copy, false, out);
         }
-        let progress = execute(
-            self.alloc,
-            statement,
-            &portal.formats,
-            portal.sent,
-            most,
-            out,
-        )?;
+        let bound = Bound {
+            values: &portal.values,
+            formats: &portal.formats,
+        };
+        let progress = execute(self.alloc, statement, bound, portal.sent, most, out)?;
         portal.sent = Some(progress.sent);
         self.is_skipping = progress.went == Went::Wrong;
         self.leave_portal(statement, progress.went, (start, out.len()))

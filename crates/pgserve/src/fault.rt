@@ -2,6 +2,7 @@
 
 use crate::wrong::Place;
 use pgp_base::Error;
+use pgp_monitor::Stop;
 use std::alloc::AllocError;
 
 /// Why the program stops short.
@@ -26,6 +27,8 @@ pub(crate) enum Fault {
     Verifier,
     /// The nonce isn't one.
     Nonce,
+    /// The hash of the certificate isn't one.
+    Certificate,
     /// The words ask for nothing that there is, or for help.
     Words(clap::Error),
 }
@@ -42,10 +45,11 @@ impl Fault {
             Fault::NoScript => "the script can't be read",
             Fault::NotText => "the script isn't UTF-8",
             Fault::Script(place) => place.wrong.message(),
-            Fault::Auth => "--auth is trust, password, md5 or scram",
+            Fault::Auth => "--auth is trust, password, md5, scram or scram-plus",
             Fault::Verifier =>
                 "the verifier is no text of the method's: SCRAM-SHA-256$.., or md5..",
             Fault::Nonce => "the nonce has to be printable ASCII without a comma",
+            Fault::Certificate => "the hash of the certificate has to be hexadecimal digits",
             Fault::Words(_) => "the words",
         }
     }
@@ -62,6 +66,15 @@ impl From<Error> for Fault {
         match refusal {
             Error::OutOfMemory => Fault::Memory,
             _ => Fault::TooLong,
+        }
+    }
+}
+
+impl From<Stop> for Fault {
+    fn from(why: Stop) -> Fault {
+        match why {
+            Stop::OutOfMemory => Fault::Memory,
+            _ => Fault::Misplaced,
         }
     }
 }

@@ -1,66 +1,60 @@
-//! What is the same for each client: the user, the verifier, the nonce and the script.
+//! What is the same for each client: the users, the nonce, the certificate and the script.
 
 use crate::fault::Fault;
+use crate::log::Form;
 use crate::script::Script;
+use crate::user::{Auth, verifier_of};
 use crate::words::Words;
 use bytes::BytesMut;
-use pgp_session::serving::{Serving, ServingPhase};
+use pgp_session::serving::{Method, Serving, ServingPhase};
 use postgres_protocol::authentication::sasl::{
-    ChannelOffer, ScramServer, StoredVerifier, VerifierError, is_nonce,
+    ChannelOffer, SCRAM_SHA_256, ScramServer, StoredVerifier, is_nonce,
 };
+use postgres_protocol::message::reply;
 use std::alloc::{AllocError, Global};
 
 /// The salt of MD5, the same each time, as the nonce is.
 const SALT: [u8; 4] = [1, 2, 3, 4];
 
-/// Whether it is what a server stores for MD5: `md5` and 32 digits.
-fn is_md5(text: &str) -> bool {
-    text.starts_with("md5") && text.len() == 35
-}
-
-/// What a client has to show.
-#[derive(Clone, Copy, PartialEq, Eq)]
-pub(crate) enum Auth {
-    /// Nothing.
-    Trust,
-    /// The password in clear text.
-    Password,
-    /// The answer to a salt, by MD5.
-    Md5,
-    /// The proof of SCRAM-SHA-256.
-    Scram,
-}
-
-impl Auth {
-    /// The method of this name.
-    fn of(name: &str) -> Option<Auth> {
-        match name {
-            "trust" => Some(Auth::Trust),
-            "password" => Some(Auth::Password),
-            "md5" => Some(Auth::Md5),
-            "scram" => Some(Auth::Scram),
-            _ => None,
-        }
-    }
-}
+/// The mechanism that is bound to the certificate.
+pub(crate) const SCRAM_PLUS: &[u8] = b"SCRAM-SHA-256-PLUS";
 
 /// A server, before a client is connected.
 #[derive(Clone, Copy)]
 pub(crate) struct Host<'h> {
+    /// The user whom the words name, and what another one is asked for.
     user: &'h str,
-    verifier: &'h str,
+    account: Account<'h>,
     nonce: &'h str,
-    auth: Auth,
-    pub(crate) logs: bool,
+    certificate: &'h str,
+    pub(crate) log: Option<Form>,
     pub(crate) script: &'h Script,
 }
 
-/// The verifier of this text.
-fn verifier_of(alloc: Global, text: &str) -> Result<StoredVerifier, Fault> {
-    match StoredVerifier::parse(alloc, text.as_bytes()) {
-        Ok(verifier) => Ok(verifier),
-        Err(VerifierError::OutOfMemory) => Err(Fault::Memory),
-        Err(VerifierError::NotAVerifier) => Err(Fault::Verifier),
+/// What a user has to show.
+#[derive(Clone, Copy)]
+struct Account<'h> {
+    auth: Auth,
+    verifier: &'h str,
+    /// Whether there is such a user.
+    is_known: bool,
+}
+
+impl Account<'_> {
+    /// The verifier of the user of this name, or one that stands for the verifier of a user who isn't there.
+    fn stored(self, alloc: Global, user: &[u8]) -> Result<StoredVerifier, Fault> {
+        if self.is_known {
+            return verifier_of(alloc, self.verifier);
+        }
+        Ok(StoredVerifier::mock(alloc, self.verifier.as_bytes(), user)?)
+    }
+
+    /// What a server stores for MD5; nothing of a user who isn't there.
+    fn md5(self, alloc: Global) -> Result<Vec<u8>, AllocError> {
+        if self.is_known {
+            return Vec::from_slice(alloc, self.verifier.as_bytes());
+        }
+        Ok(Vec::new(alloc))
     }
 }
 
@@ -74,34 +68,63 @@ impl<'h> Host<'h> {
         let Some(auth) = Auth::of(words.auth) else {
             return Err(Fault::Auth);
         };
+        let account = Account {
+            auth,
+            verifier: words.verifier,
+            is_known: true,
+        };
         Ok(Host {
             user: words.user,
-            verifier: words.verifier,
+            account,
             nonce: words.nonce,
-            auth,
-            logs: words.logs,
+            certificate: words.certificate,
+            log: words.log,
             script,
         })
     }
 
-    /// Tests the verifier and the nonce, where they are needed.
+    /// Tests the verifier, the nonce and the certificate's hash, where they are needed.
     ///
     /// # Errors
     ///
-    /// Returns `Verifier` and `Nonce` if they have another form.
+    /// Returns `Verifier`, `Nonce` and `Certificate` if they have another form.
     pub(crate) fn test(&self, alloc: Global) -> Result<(), Fault> {
-        match self.auth {
-            Auth::Trust => Ok(()),
-            Auth::Md5 if is_md5(self.verifier) => Ok(()),
-            Auth::Md5 => Err(Fault::Verifier),
-            Auth::Password => {
-                drop(verifier_of(alloc, self.verifier)?);
-                Ok(())
+        self.account.auth.test(alloc, self.account.verifier)?;
+        let is_bound = self.asks_for(Auth::ScramPlus);
+        if (is_bound || self.asks_for(Auth::Scram)) && !is_nonce(self.nonce) {
+            return Err(Fault::Nonce);
+        }
+        if is_bound && self.hash(alloc)?.is_none() {
+            return Err(Fault::Certificate);
+        }
+        Ok(())
+    }
+
+    /// Whether a user is asked for this.
+    fn asks_for(&self, auth: Auth) -> bool {
+        for user in &self.script.users {
+            if user.auth == auth {
+                return true;
             }
-            Auth::Scram => {
-                drop(self.exchange(alloc, self.user.as_bytes())?);
-                Ok(())
+        }
+        self.account.auth == auth
+    }
+
+    /// What a user of this name has to show.
+    fn account(&self, user: &[u8]) -> Account<'h> {
+        for known in &self.script.users {
+            if known.name.as_slice() == user {
+                return Account {
+                    auth: known.auth,
+                    verifier: known.verifier.as_str(),
+                    is_known: true,
+                };
             }
+        }
+        Account {
+            auth: self.account.auth,
+            verifier: self.account.verifier,
+            is_known: user == self.user.as_bytes(),
         }
     }
 
@@ -120,45 +143,74 @@ impl<'h> Host<'h> {
         if serving.phase != ServingPhase::Named {
             return Ok(());
         }
-        match self.auth {
+        let account = self.account(user);
+        match account.auth {
             Auth::Trust => Ok(serving.trust(out)?),
-            Auth::Password => Ok(serving.ask_password(self.verifier(alloc, user)?, out)?),
-            Auth::Md5 => Ok(serving.ask_md5(SALT, self.md5(alloc, user)?, out)?),
-            Auth::Scram => Ok(serving.ask_scram(self.exchange(alloc, user)?, out)?),
+            Auth::Password => Ok(serving.ask_password(account.stored(alloc, user)?, out)?),
+            Auth::Md5 => Ok(serving.ask_md5(SALT, account.md5(alloc)?, out)?),
+            Auth::Scram => Ok(serving.ask_scram(self.unbound(alloc, user)?, out)?),
+            Auth::ScramPlus => {
+                serving.phase = ServingPhase::AwaitsFirst;
+                let mechanisms = [SCRAM_PLUS, SCRAM_SHA_256.as_bytes()];
+                Ok(reply::authentication_sasl(&mechanisms, out)?)
+            }
         }
     }
 
-    /// What a server stores of this user for MD5; nothing of another user.
-    fn md5(&self, alloc: Global, user: &[u8]) -> Result<Vec<u8>, AllocError> {
-        if user == self.user.as_bytes() {
-            Vec::from_slice(alloc, self.verifier.as_bytes())
-        } else {
-            Ok(Vec::new(alloc))
+    /// Whether a user of this name may be bound to the certificate.
+    pub(crate) fn may_bind(&self, user: &[u8]) -> bool {
+        self.account(user).auth == Auth::ScramPlus
+    }
+
+    /// An exchange of a server that offers no binding.
+    fn unbound(&self, alloc: Global, user: &[u8]) -> Result<ScramServer, Fault> {
+        self.with_offer(alloc, user, ChannelOffer::NotOffered)
+    }
+
+    /// An exchange of a server that offers a binding, which the client chose, or didn't.
+    fn exchange(&self, alloc: Global, user: &[u8], is_bound: bool) -> Result<ScramServer, Fault> {
+        if !is_bound {
+            return self.with_offer(alloc, user, ChannelOffer::Declined);
         }
+        let Some(hash) = self.hash(alloc)? else {
+            return Err(Fault::Certificate);
+        };
+        self.with_offer(alloc, user, ChannelOffer::Chosen(hash))
     }
 
-    /// Whether nothing is asked of a client.
-    pub(crate) fn trusts(&self) -> bool {
-        self.auth == Auth::Trust
+    /// The method by which a user is logged in who chose the binding, or didn't.
+    pub(crate) fn method(
+        &self,
+        alloc: Global,
+        user: &[u8],
+        is_bound: bool,
+    ) -> Result<Method, Fault> {
+        Ok(Method::Exchange(self.exchange(alloc, user, is_bound)?))
     }
 
-    /// The verifier of this user, or one that stands for the verifier of a user who isn't there.
-    fn verifier(&self, alloc: Global, user: &[u8]) -> Result<StoredVerifier, Fault> {
-        if user == self.user.as_bytes() {
-            verifier_of(alloc, self.verifier)
-        } else {
-            Ok(StoredVerifier::mock(alloc, self.verifier.as_bytes(), user)?)
+    /// The certificate's hash; `None` where the words have another form.
+    fn hash(&self, alloc: Global) -> Result<Option<Vec<u8>>, AllocError> {
+        match hex::decode(alloc, self.certificate) {
+            Ok(hash) if hash.is_empty() => Ok(None),
+            Ok(hash) => Ok(Some(hash)),
+            Err(hex::FromHexError::OutOfMemory) => Err(AllocError),
+            Err(_) => Ok(None),
         }
     }
 
     /// The exchange with a user of this name. One who isn't there is asked like the one who is, and rejected in the
     /// end.
-    fn exchange(&self, alloc: Global, user: &[u8]) -> Result<ScramServer, Fault> {
-        let verifier = self.verifier(alloc, user)?;
+    fn with_offer(
+        &self,
+        alloc: Global,
+        user: &[u8],
+        offer: ChannelOffer,
+    ) -> Result<ScramServer, Fault> {
+        let verifier = self.account(user).stored(alloc, user)?;
         let nonce = String::from_str(alloc, self.nonce)?;
         if !is_nonce(&nonce) {
             return Err(Fault::Nonce);
         }
-        Ok(ScramServer::with_nonce(verifier, ChannelOffer::NotOffered, nonce))
+        Ok(ScramServer::with_nonce(verifier, offer, nonce))
     }
 }

@@ -2,8 +2,17 @@
 
 use std::alloc::{AllocError, Global};
 
+/// How requests are reported.
+#[derive(Clone, Copy, PartialEq, Eq)]
+pub(crate) enum Form {
+    /// A line each.
+    Plain,
+    /// An object of JSON each.
+    Json,
+}
+
 /// The name of a client's message of this tag.
-fn asked(tag: u8) -> &'static str {
+pub(crate) fn asked(tag: u8) -> &'static str {
     match tag {
         b'B' => "Bind",
         b'C' => "Close",
@@ -24,7 +33,7 @@ fn asked(tag: u8) -> &'static str {
 }
 
 /// The name of a server's message of this tag.
-fn answered(tag: u8) -> &'static str {
+pub(crate) fn answered(tag: u8) -> &'static str {
     match tag {
         b'1' => "ParseComplete",
         b'2' => "BindComplete",
@@ -62,7 +71,7 @@ fn answered_rarely(tag: u8) -> &'static str {
 const SHOWN: usize = 200;
 
 /// Adds the body's bytes that are printable ASCII; a point stands for another.
-fn add_body(body: &[u8], line: &mut String) -> Result<(), AllocError> {
+pub(crate) fn add_body(body: &[u8], line: &mut String) -> Result<(), AllocError> {
     for byte in body.iter().take(SHOWN) {
         let shown = if byte.is_ascii_graphic() || *byte == b' ' {
             char::from(*byte)
@@ -75,12 +84,12 @@ fn add_body(body: &[u8], line: &mut String) -> Result<(), AllocError> {
 }
 
 /// Whether the body of an answer of this tag says something in a line.
-fn is_telling(tag: u8) -> bool {
+pub(crate) fn is_telling(tag: u8) -> bool {
     matches!(tag, b'C' | b'E' | b'N' | b'S' | b'Z')
 }
 
 /// The message at the front: its tag, its body, and what follows.
-fn front(bytes: &[u8]) -> Option<(u8, &[u8], &[u8])> {
+pub(crate) fn front(bytes: &[u8]) -> Option<(u8, &[u8], &[u8])> {
     match bytes {
         [tag, a, b, c, d, rest @ ..] => {
             let len = u32::from_be_bytes([*a, *b, *c, *d]) as usize;

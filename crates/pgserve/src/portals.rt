@@ -1,5 +1,6 @@
 //! Prepared statements and portals, by their names.
 
+use crate::bound::Given;
 use pgp_base::Oid;
 use std::alloc::{AllocError, Global};
 
@@ -16,6 +17,8 @@ pub(crate) struct Plan {
 pub(crate) struct Portal {
     pub(crate) text: Vec<u8>,
     pub(crate) formats: Vec<i16>,
+    /// The values of its parameters.
+    pub(crate) values: Vec<Given>,
     /// How many rows were sent, once it was run.
     pub(crate) sent: Option<usize>,
     /// How many savepoints there were.

@@ -1,22 +1,16 @@
 //! A script, read from its text.
 
-use crate::binary::{Unwritten, binary_of};
 use crate::fault::Fault;
+use crate::pattern::matches;
+use crate::row_text::{plain, row_of};
 use crate::script::{Column, Copy, Detail, End, Pair, Report, Script, Statement};
-use crate::text::{trimmed, unescaped};
+use crate::text::trimmed;
 use crate::transaction::Status;
 use crate::types::{Type, type_of};
+use crate::user::{Auth, User};
 use crate::wrong::{Stop, Wrong, place_of};
 use pgp_base::Oid;
 use std::alloc::{AllocError, Global};
-
-/// A text without its escapes.
-fn plain(alloc: Global, text: &str) -> Result<Vec<u8>, Stop> {
-    match unescaped(alloc, text)? {
-        Some(text) => Ok(text),
-        None => Err(Stop::At(Wrong::Escape)),
-    }
-}
 
 /// The type of this name.
 fn known_type(name: &str) -> Result<Type, Stop> {
@@ -45,46 +39,6 @@ fn column_of(alloc: Global, line: &str) -> Result<Column, Stop> {
         kind: known_type(kind)?,
         name: plain(alloc, name)?,
     })
-}
-
-/// The value of this text, which is one of the type; `\N` is a null.
-fn value_of(alloc: Global, kind: Type, text: &str) -> Result<Option<Vec<u8>>, Stop> {
-    if text == "\\N" {
-        return Ok(None);
-    }
-    let value = plain(alloc, text)?;
-    match binary_of(alloc, kind.oid, &value) {
-        Ok(bytes) => drop(bytes),
-        Err(Unwritten::NoFormat) => {}
-        Err(Unwritten::NotOfType) => return Err(Stop::At(Wrong::Value)),
-        Err(Unwritten::Memory) => return Err(Stop::Memory),
-    }
-    Ok(Some(value))
-}
-
-/// A value that stands so many bytes further on.
-fn further(value: Result<Option<Vec<u8>>, Stop>, by: usize) -> Result<Option<Vec<u8>>, Stop> {
-    match value {
-        Err(Stop::At(wrong)) => Err(Stop::In(wrong, by)),
-        other => other,
-    }
-}
-
-/// The values of this line, between which tabs stand, one for each column.
-fn values_of(alloc: Global, columns: &[Column], line: &str) -> Result<Vec<Option<Vec<u8>>>, Stop> {
-    let (mut values, mut at) = (Vec::new(alloc), 0usize);
-    for text in line.split('\t') {
-        let Some(column) = columns.get(values.len()) else {
-            return Err(Stop::In(Wrong::Width, at));
-        };
-        let value = further(value_of(alloc, column.kind, text), at)?;
-        values.push(value).map_err(AllocError::from)?;
-        at = at.saturating_add(text.len()).saturating_add(1);
-    }
-    if values.len() != columns.len() {
-        return Err(Stop::At(Wrong::Width));
-    }
-    Ok(values)
 }
 
 /// Whether it is five letters or digits.
@@ -197,7 +151,7 @@ impl Statement {
 
     /// Adds a row, which has a value for each column.
     fn add_row(&mut self, alloc: Global, line: &str) -> Result<(), Stop> {
-        let row = values_of(alloc, &self.columns, line)?;
+        let row = row_of(alloc, &self.columns, line)?;
         self.rows.push(row).map_err(AllocError::from)?;
         Ok(())
     }
@@ -316,15 +270,69 @@ impl Statement {
     }
 }
 
-/// Begins a statement.
-fn begin(alloc: Global, script: &mut Script, number: usize, rest: &str) -> Result<(), Stop> {
+/// The text of a statement.
+fn text_of(alloc: Global, rest: &str) -> Result<Vec<u8>, Stop> {
     let text = plain(alloc, rest)?;
-    if script.find(&text).is_some() {
+    Ok(Vec::from_slice(alloc, trimmed(&text))?)
+}
+
+/// A pattern of statements.
+fn pattern_of(alloc: Global, rest: &str) -> Result<Vec<u8>, Stop> {
+    match matches(alloc, rest, "")? {
+        Some(_) => Ok(Vec::from_slice(alloc, rest.as_bytes())?),
+        None => Err(Stop::In(Wrong::Pattern, 2)),
+    }
+}
+
+/// Begins a statement, which `~` makes a pattern.
+fn begin(alloc: Global, script: &mut Script, number: usize, rest: &str) -> Result<(), Stop> {
+    let (text, is_pattern) = match rest.strip_prefix("~ ") {
+        Some(pattern) => (pattern_of(alloc, pattern)?, true),
+        None => (text_of(alloc, rest)?, false),
+    };
+    if script.place(&text, is_pattern).is_some() {
         return Err(Stop::At(Wrong::Duplicate));
     }
-    let text = Vec::from_slice(alloc, trimmed(&text))?;
-    let statement = Statement::new(alloc, number, text);
+    let statement = Statement::new(alloc, number, text, is_pattern);
     script.statements.push(statement).map_err(AllocError::from)?;
+    Ok(())
+}
+
+/// The user of this line: the name, the method, and the method's verifier.
+fn user_of(alloc: Global, line: &str) -> Result<User, Stop> {
+    let Some((name, rest)) = line.split_once(' ') else {
+        return Err(Stop::At(Wrong::User));
+    };
+    let (method, verifier) = rest.split_once(' ').unwrap_or((rest, ""));
+    let at = name.len().saturating_add(1);
+    let Some(auth) = Auth::of(method) else {
+        return Err(Stop::In(Wrong::Method, at));
+    };
+    match auth.test(alloc, verifier) {
+        Ok(()) => {}
+        Err(Fault::Memory) => return Err(Stop::Memory),
+        Err(why) => {
+            drop(why);
+            let at = at.saturating_add(method.len()).saturating_add(1);
+            return Err(Stop::In(Wrong::Verifier, at));
+        }
+    }
+    Ok(User {
+        name: plain(alloc, name)?,
+        auth,
+        verifier: String::from_str(alloc, verifier)?,
+    })
+}
+
+/// Adds the user of this line, who has no line above.
+fn add_user(alloc: Global, script: &mut Script, line: &str) -> Result<(), Stop> {
+    let user = user_of(alloc, line)?;
+    for other in &script.users {
+        if other.name.as_slice() == user.name.as_slice() {
+            return Err(Stop::At(Wrong::DuplicateUser));
+        }
+    }
+    script.users.push(user).map_err(AllocError::from)?;
     Ok(())
 }
 
@@ -337,6 +345,7 @@ fn read_line(alloc: Global, script: &mut Script, number: usize, line: &str) -> R
     match word {
         "statement" => return begin(alloc, script, number, rest),
         "setting" => return Ok(script.add_setting(pair_of(alloc, rest)?)?),
+        "user" => return add_user(alloc, script, rest),
         _ => {}
     }
     match script.statements.last_mut() {

@@ -1,8 +1,10 @@
 //! A script: statements, and what the server answers to each. docs/PGSERVE.md says how it is written.
 
+use crate::pattern::matches;
 use crate::text::trimmed;
 use crate::transaction::Status;
 use crate::types::Type;
+use crate::user::User;
 use pgp_base::Oid;
 use std::alloc::{AllocError, Global};
 
@@ -49,6 +51,21 @@ pub(crate) enum End {
     Error(Report),
 }
 
+/// A row, and for which values of a parameter it is sent.
+#[derive(Drop)]
+pub(crate) struct Row {
+    pub(crate) condition: Option<Condition>,
+    /// As texts.
+    pub(crate) values: Vec<Option<Vec<u8>>>,
+}
+
+/// The parameter of this place, from 0 on, has the value of this text.
+#[derive(Drop)]
+pub(crate) struct Condition {
+    pub(crate) place: usize,
+    pub(crate) value: Vec<u8>,
+}
+
 /// A notification, or a setting.
 #[derive(Drop)]
 pub(crate) struct Pair {
@@ -62,11 +79,12 @@ pub(crate) struct Statement {
     /// The line where it begins.
     pub(crate) line: usize,
     pub(crate) text: Vec<u8>,
+    /// Whether the text is a pattern of statements.
+    pub(crate) is_pattern: bool,
     /// The types of its parameters.
     pub(crate) parameters: Vec<Oid>,
     pub(crate) columns: Vec<Column>,
-    /// The values of each row, as texts.
-    pub(crate) rows: Vec<Vec<Option<Vec<u8>>>>,
+    pub(crate) rows: Vec<Row>,
     pub(crate) notices: Vec<Report>,
     pub(crate) end: End,
     /// The status that the server says from then on.
@@ -82,13 +100,15 @@ pub(crate) struct Statement {
 pub(crate) struct Script {
     pub(crate) statements: Vec<Statement>,
     pub(crate) settings: Vec<Pair>,
+    pub(crate) users: Vec<User>,
 }
 
 impl Statement {
-    pub(crate) fn new(alloc: Global, line: usize, text: Vec<u8>) -> Statement {
+    pub(crate) fn new(alloc: Global, line: usize, text: Vec<u8>, is_pattern: bool) -> Statement {
         Statement {
             line,
             text,
+            is_pattern,
             parameters: Vec::new(alloc),
             columns: Vec::new(alloc),
             rows: Vec::new(alloc),
@@ -107,6 +127,22 @@ impl Statement {
             End::Error(report) if self.rows.is_empty() && is_early(&report.code) => Some(report),
             _ => None,
         }
+    }
+
+    /// Whether the pattern matches the text.
+    fn matches(&self, alloc: Global, text: &str) -> Result<bool, AllocError> {
+        let pattern = str::from_utf8(&self.text).unwrap_or("");
+        Ok(matches(alloc, pattern, text)? == Some(true))
+    }
+
+    /// Whether a row is sent for some values of a parameter alone.
+    pub(crate) fn has_conditions(&self) -> bool {
+        for row in &self.rows {
+            if row.condition.is_some() {
+                return true;
+            }
+        }
+        false
     }
 
     /// The copy to the server that it is, if it is one.
@@ -143,18 +179,37 @@ impl Script {
         Script {
             statements: Vec::new(alloc),
             settings: Vec::new(alloc),
+            users: Vec::new(alloc),
         }
     }
 
-    /// The place of the statement of this text.
-    pub(crate) fn find(&self, text: &[u8]) -> Option<usize> {
-        let text = trimmed(text);
+    /// The place of the statement that is written so, as a text or as a pattern.
+    pub(crate) fn place(&self, text: &[u8], is_pattern: bool) -> Option<usize> {
         for (place, statement) in self.statements.iter().enumerate() {
-            if statement.text.as_slice() == text {
+            if statement.is_pattern == is_pattern && statement.text.as_slice() == text {
                 return Some(place);
             }
         }
         None
+    }
+
+    /// The place of the statement of this text, or else of the first pattern that matches it.
+    pub(crate) fn find(&self, alloc: Global, text: &[u8]) -> Result<Option<usize>, AllocError> {
+        let text = trimmed(text);
+        match self.place(text, false) {
+            Some(place) => Ok(Some(place)),
+            None => self.matching(alloc, str::from_utf8(text).unwrap_or("")),
+        }
+    }
+
+    /// The place of the first pattern that matches the text.
+    fn matching(&self, alloc: Global, text: &str) -> Result<Option<usize>, AllocError> {
+        for (place, statement) in self.statements.iter().enumerate() {
+            if statement.is_pattern && statement.matches(alloc, text)? {
+                return Ok(Some(place));
+            }
+        }
+        Ok(None)
     }
 
     /// The line of the first statement whose end isn't said.

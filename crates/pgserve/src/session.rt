@@ -7,8 +7,10 @@ ghost use Rattle.std.specs.Prelude.{◌≡◌, ◌≢◌, true, false};
 
 use crate::answer::{Went, describe, execute};
 use crate::asked::{Refusal, refuse};
+use crate::bound::Bound;
 use crate::command::{command_of, lowered, words_of};
 use crate::copy::CopyIn;
+use crate::extended::Binding;
 use crate::fault::Fault;
 use crate::portals::{Names, Plan, Portal};
 use crate::script::{Pair, Script, Statement};
@@ -103,7 +105,7 @@ impl<'h> Session<'h> {
             return Ok(Asks::Nothing);
         }
         let script = self.script;
-        if let Some(place) = script.find(text) {
+        if let Some(place) = script.find(self.alloc, text)? {
             if let Some(statement) = script.statements.get(place) {
                 return Ok(Asks::Scripted(statement));
             }
@@ -217,7 +219,11 @@ impl<'h> Session<'h> {
         if !statement.columns.is_empty() {
             describe(self.alloc, &statement.columns, &[], out)?;
         }
-        let progress = execute(self.alloc, statement, &[], None, 0, out)?;
+        let unbound = Bound {
+            values: &[],
+            formats: &[],
+        };
+        let progress = execute(self.alloc, statement, unbound, None, 0, out)?;
         self.leave(statement, progress.went, (start, out.len()))?;
         Ok(progress.went)
     }
@@ -242,7 +248,7 @@ impl<'h> Session<'h> {
     /// Answers a simple query.
     fn query(&mut self, query: &[u8], out: &mut BytesMut) -> Result<(), Fault> {
         self.prepared.remove(b"");
-        let is_some = match self.script.find(query) {
+        let is_some = match self.script.find(self.alloc, query)? {
             Some(_) => {
                 self.simple(query, out)?;
                 true
@@ -290,6 +296,9 @@ impl<'h> Session<'h> {
     ///
     /// Returns `Memory`.
     pub(crate) fn answer_malformed(&mut self, tag: u8, out: &mut BytesMut) -> Result<(), Fault> {
+        if let Some(copy) = self.copying {
+            return self.malformed_in_copy(copy, tag, out);
+        }
         match tag {
             b'S' => {
                 self.is_skipping = false;
@@ -355,10 +364,17 @@ impl<'h> Session<'h> {
                 values,
                 result_formats,
             } => {
-                let count = values.size_hint().0;
                 let formats = formats.collect(self.alloc)?;
+                let values = values.collect(self.alloc)?;
                 let results = result_formats.collect(self.alloc)?;
-                self.bind(portal, statement, count, &formats, results, out)
+                let binding = Binding {
+                    portal,
+                    statement,
+                    formats: &formats,
+                    values: &values,
+                    results: &results,
+                };
+                self.bind(&binding, out)
             }
             ClientMessage::Parse {
                 name,

@@ -82,8 +82,8 @@ fn pass<R: Read, W: Write>(
     for _ in 0..u64::MAX {
         let n = read(input, &mut piece)?;
         let taken = take_piece(parser, connection, front(&piece, n), out);
-        put(out, output)?;
-        out.clear();
+        put(connection.monitor.to_send(), output)?;
+        connection.monitor.sent();
         report(rt, connection)?;
         taken?;
         if n == 0 || connection.is_over() {

@@ -1,6 +1,7 @@
 //! The program's words.
 
 use crate::fault::Fault;
+use crate::log::Form;
 use clap::{Arg, ArgAction, Command};
 use std::alloc::{AllocError, Global};
 
@@ -15,8 +16,10 @@ pub(crate) struct Words<'a> {
     pub(crate) nonce: &'a str,
     /// What a client has to show.
     pub(crate) auth: &'a str,
-    /// Whether each request is reported on standard error.
-    pub(crate) logs: bool,
+    /// The hash of the certificate, in hexadecimal digits.
+    pub(crate) certificate: &'a str,
+    /// How each request is reported on standard error, if it is.
+    pub(crate) log: Option<Form>,
     /// The script's path.
     pub(crate) script: &'a str,
 }
@@ -26,6 +29,14 @@ fn option<'a>(alloc: Global, name: &'a str, help: &'a str) -> Arg<'a> {
     Arg::new(alloc, name)
         .long(name)
         .action(ArgAction::Set)
+        .help(help)
+}
+
+/// A word without another after it.
+fn flag<'a>(alloc: Global, name: &'a str, help: &'a str) -> Arg<'a> {
+    Arg::new(alloc, name)
+        .long(name)
+        .action(ArgAction::SetTrue)
         .help(help)
 }
 
@@ -43,7 +54,7 @@ fn command<'a>(alloc: Global) -> Result<Command<'a>, AllocError> {
         .arg(option(
             alloc,
             "auth",
-            "What a client has to show: trust, password, md5, or scram, which is the default",
+            "What a client has to show: trust, password, md5, scram, which is the default, or scram-plus",
         ))?
         .arg(option(
             alloc,
@@ -51,13 +62,22 @@ fn command<'a>(alloc: Global) -> Result<Command<'a>, AllocError> {
             "What a server stores of the password: SCRAM-SHA-256$.., for md5 md5..",
         ))?
         .arg(option(alloc, "nonce", "The server's part of the nonce of scram"))?
-        .arg(
-            Arg::new(alloc, "log")
-                .long("log")
-                .action(ArgAction::SetTrue)
-                .help("Reports each request and what it is answered on standard error"),
-        )?
+        .arg(option(
+            alloc,
+            "certificate",
+            "The hash of the server's certificate for scram-plus, in hexadecimal digits",
+        ))?
+        .arg(flag(alloc, "log", "Reports each request and its answer on standard error"))?
+        .arg(flag(alloc, "log-json", "The same as an object of JSON a line"))?
         .arg(script)
+}
+
+/// How requests are reported, by the two flags.
+fn form_of(is_plain: bool, is_json: bool) -> Option<Form> {
+    if is_json {
+        return Some(Form::Json);
+    }
+    if is_plain { Some(Form::Plain) } else { None }
 }
 
 /// What the words say, the program's name among them.
@@ -72,7 +92,8 @@ pub(crate) fn words_of<'a>(alloc: Global, words: &'a [String]) -> Result<Words<'
         verifier: matches.get_str("verifier").unwrap_or(""),
         nonce: matches.get_str("nonce").unwrap_or(""),
         auth: matches.get_str("auth").unwrap_or("scram"),
-        logs: matches.get_flag("log"),
+        certificate: matches.get_str("certificate").unwrap_or(""),
+        log: form_of(matches.get_flag("log"), matches.get_flag("log-json")),
         script: matches.get_str("script").unwrap_or(""),
     })
 }

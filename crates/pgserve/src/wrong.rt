@@ -27,6 +27,13 @@ pub(crate) enum Wrong {
     SecondEnd,
     NoEnd,
     Duplicate,
+    /// A pattern that is no regular expression.
+    Pattern,
+    Condition,
+    User,
+    Method,
+    Verifier,
+    DuplicateUser,
 }
 
 impl Wrong {
@@ -53,6 +60,13 @@ impl Wrong {
             Wrong::SecondEnd => "the statement has a tag or an error",
             Wrong::NoEnd => "the statement has neither a tag nor an error",
             Wrong::Duplicate => "the statement stands above",
+            Wrong::Pattern => "a regular expression stands here",
+            Wrong::Condition =>
+                "after `when` stand $ and a parameter's number, =, a text in single quotes, and a space",
+            Wrong::User => "a user has a name and, after a space, a method",
+            Wrong::Method => "a method is trust, password, md5, scram or scram-plus",
+            Wrong::Verifier => "a verifier of the method stands here",
+            Wrong::DuplicateUser => "the user stands above",
         }
     }
 }

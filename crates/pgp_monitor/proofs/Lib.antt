@@ -1,0 +1,3 @@
+mod Listed
+mod Belongs
+mod Steps

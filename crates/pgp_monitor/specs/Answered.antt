@@ -1,0 +1,52 @@
+-- What a server may send to its client's requests, as bytes.
+-- PostgreSQL manual, "Message Flow".
+use Rattle.std.specs.Prelude.{◌≡◌, ℕ, ◌+◌, List, [], ◌∷◌, ◌++◌, ◌⊎◌, length, Option, Some, None, Result, Ok, Err}
+use Rattle.pgp_base.specs.declared.error.Error.{Error}
+use Rattle.pgp_client.specs.Flow.{Belong}
+use Rattle.pgp_client.specs.Kinds.{kind_of}
+use Rattle.pgp_client.specs.declared.event.Event.{Event}
+use Rattle.pgp_client.specs.declared.kind.Kind.{Kind}
+use Rattle.pgp_client.specs.declared.request.Asked.{Asked}
+use Rattle.pgp_client.specs.declared.request.Request.{Request}
+use Rattle.pgp_message.specs.BackendMessage.{Message}
+use Rattle.pgp_message.specs.Stream.{IsLengthFault, IsPartial, TakesFrame}
+
+-- each request is called by its place
+abbrev pub named_from : ℕ → List Request → List Asked
+named_from n [] = []
+named_from n (r ∷ rs) = record { request = r; name = n } ∷ named_from (n + 1) rs
+
+abbrev pub named : List Request → List Asked
+named rs = named_from 0 rs
+
+-- The bytes are `N`s, which answer questions for encryption before the first message, and then messages of these kinds.
+pub data Spells : List Kind → List ℕ → Type 0 where
+  Nothing : Spells [] []
+  Declined : {bytes : List ℕ} → Spells [] bytes → Spells [] (bytes ++ 0x4e ∷ [])
+  OneMore : {kinds : List Kind} {bytes : List ℕ} (frame : List ℕ) (m : Message) → TakesFrame frame (Ok m) [] → Spells kinds bytes
+      → Spells (kinds ++ kind_of m ∷ []) (bytes ++ frame)
+
+-- To these requests a server may send these bytes: they are messages of these kinds, or a front of such bytes where the session was cut off, and
+-- by the client's grammar each belongs to its request.
+pub record Answered (requests : List Request) (kinds : List Kind) (events : List Event) (sent : List ℕ) : Type 0 where
+  pub belong : Belong (named requests) kinds events
+  pub cut_off : List ℕ
+  pub spelled : Spells kinds (sent ++ cut_off)
+
+-- a message of this kind stands at the front of the bytes, so many of them
+pub record IsFront (bytes : List ℕ) (kind : Kind) (len : ℕ) : Type 0 where
+  pub frame : List ℕ
+  pub rest : List ℕ
+  pub message : Message
+  pub whole : bytes ≡ frame ++ rest
+  pub is : TakesFrame frame (Ok message) []
+  pub kind_is : kind ≡ kind_of message
+  pub len_is : len ≡ length frame
+
+-- no whole message of a server stands there: bytes are missing, or the length is too small, or the body is none of the tag's
+abbrev pub BeginsWithNone : List ℕ → Type 0
+BeginsWithNone bytes = IsPartial bytes ⊎ (IsLengthFault bytes ⊎ ((e : Error) × (rest : List ℕ) × TakesFrame bytes (Err e) rest))
+
+abbrev pub HasNone : List ℕ → Option (Kind × ℕ) → Type 0
+HasNone bytes None = BeginsWithNone bytes
+HasNone bytes (Some x) = Unit {0}
