@@ -70,7 +70,7 @@ impl<'h> Connection<'h> {
     /// Takes what the startup packet asks for, and asks the user for the proof.
     fn ask(
         &mut self,
-        message: ClientMessage<'_>,
+        message: &mut ClientMessage<'_>,
         minor: u16,
         out: &mut BytesMut,
     ) -> Result<(), Fault> {
@@ -88,20 +88,17 @@ impl<'h> Connection<'h> {
         Ok(())
     }
 
-    /// The message as the log-in takes it. The first of an exchange says whether the client is bound to the certificate, where that is offered.
-    fn chosen<'m>(&mut self, message: ClientMessage<'m>) -> Result<ClientMessage<'m>, Fault> {
+    /// Takes from the first message of an exchange whether the client is bound to the certificate, where that is offered.
+    fn choose_by(&mut self, message: &mut ClientMessage<'_>) -> Result<(), Fault> {
+        if self.serving.phase != ServingPhase::AwaitsFirst {
+            return Ok(());
+        }
         match message {
-            ClientMessage::SaslInitialResponse {
-                mechanism,
-                response,
-            } => {
-                let mechanism = self.choose(mechanism)?;
-                Ok(ClientMessage::SaslInitialResponse {
-                    mechanism,
-                    response,
-                })
+            ClientMessage::SaslInitialResponse { mechanism, .. } => {
+                *mechanism = self.choose(mechanism)?;
+                Ok(())
             }
-            other => Ok(other),
+            _ => Ok(()),
         }
     }
 
@@ -128,39 +125,26 @@ impl<'h> Connection<'h> {
         Ok(())
     }
 
-    /// Appends what is said after a message of which nothing more is asked.
-    fn go_on(
+    /// Takes note of what a message asks, and appends what is answered; returns the request's name.
+    fn take(
         &mut self,
-        observed: Result<ServingEvent, Error>,
+        message: &mut ClientMessage<'_>,
         out: &mut BytesMut,
-    ) -> Result<(), Fault> {
-        match observed? {
-            ServingEvent::LoggedIn => self.session.welcome(out),
-            _ => Ok(()),
-        }
-    }
-
-    /// Takes a message, and appends what is answered.
-    fn take(&mut self, message: ClientMessage<'_>, out: &mut BytesMut) -> Result<(), Fault> {
-        let (message, minor) = spoken(message);
-        let message = if self.serving.phase == ServingPhase::AwaitsFirst {
-            self.chosen(message)?
-        } else {
-            message
-        };
-        match self.serving.step(&message, out) {
-            Ok(ServingEvent::Named) => self.ask(message, minor, out),
-            Ok(ServingEvent::Unencrypted) => {
-                drop(message);
+    ) -> Result<Option<u64>, Fault> {
+        let name = self.note(Request::of(message))?;
+        let minor = spoken(message);
+        self.choose_by(message)?;
+        match self.serving.step(message, out)? {
+            ServingEvent::Named => self.ask(message, minor, out)?,
+            ServingEvent::Requested => self.session.answer(message, out)?,
+            ServingEvent::LoggedIn => self.session.welcome(out)?,
+            ServingEvent::Unencrypted => {
                 out.clear();
-                Ok(self.monitor.decline_encryption()?)
+                self.monitor.decline_encryption()?;
             }
-            Ok(ServingEvent::Requested) => self.session.answer(message, out),
-            other => {
-                drop(message);
-                self.go_on(other, out)
-            }
+            _ => {}
         }
+        Ok(name)
     }
 
     /// Takes the bytes of a message, and lets through what is answered.
@@ -179,7 +163,7 @@ impl<'h> Connection<'h> {
         self.report(is_open, bytes, name, start)
     }
 
-    /// Takes note of what a message asks, and appends what is answered; returns the request's name.
+    /// Takes note of what the bytes of a message ask, and appends what is answered; returns the request's name.
     fn answer_frame(
         &mut self,
         frame: ClientFrame<'_>,
@@ -187,18 +171,14 @@ impl<'h> Connection<'h> {
     ) -> Result<Option<u64>, Fault>
         requires { IsWhole frame.opened frame.bytes.now }
     {
-        let bytes = frame.bytes();
         match frame.message(self.serving.kind()) {
             Ok(message) => {
-                let name = self.note(Request::of(&message))?;
-                self.take(message, out)?;
-                Ok(name)
+                let mut message = message;
+                let taken = self.take(&mut message, out);
+                drop(message);
+                taken
             }
-            Err(e) => {
-                let name = self.note(self.malformed_request(bytes))?;
-                self.take_malformed(first_of(bytes), e, out)?;
-                Ok(name)
-            }
+            Err(e) => self.take_malformed(frame.bytes(), e, out),
         }
     }
 
@@ -255,17 +235,26 @@ impl<'h> Connection<'h> {
         }
     }
 
-    /// Takes a message of this tag whose bytes aren't those of its type. In an open session it gets an error; where no message has
-    /// the tag, or before, the session ends.
+    /// Takes a message whose bytes aren't those of its type, as `take` does.
     fn take_malformed(
         &mut self,
-        tag: u8,
+        bytes: &[u8],
         why: ClientError,
         out: &mut BytesMut,
-    ) -> Result<(), Fault> {
+    ) -> Result<Option<u64>, Fault> {
+        let name = self.note(self.malformed_request(bytes))?;
         let is_unknown = matches!(why, ClientError::Reading(Error::UnknownTag(_)));
+        if is_unknown || self.serving.phase != ServingPhase::Open {
+            self.reject(out)?;
+        } else {
+            self.answer_malformed(first_of(bytes), out)?;
+        }
+        Ok(name)
+    }
+
+    /// In an open session such a message gets an error. A Terminate ends it all the same.
+    fn answer_malformed(&mut self, tag: u8, out: &mut BytesMut) -> Result<(), Fault> {
         match tag {
-            _ if is_unknown || self.serving.phase != ServingPhase::Open => self.reject(out),
             b'p' => self.reject(out),
             b'X' => {
                 self.serving.phase = ServingPhase::Over;

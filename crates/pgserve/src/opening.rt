@@ -5,7 +5,7 @@
 use crate::fault::Fault;
 use bytes::BytesMut;
 use postgres_protocol::FallibleIterator;
-use postgres_protocol::message::client::ClientMessage;
+use postgres_protocol::message::client::{ClientMessage, StartupParameters};
 use postgres_protocol::message::reply;
 use std::alloc::{AllocError, Global};
 
@@ -26,17 +26,15 @@ fn spoken_minor(minor: u16) -> u16 {
     if minor < 2 { 0 } else { 2 }
 }
 
-/// The message as a server of protocol 3.0 and 3.2 takes it, and the minor version that a startup packet asks for.
-pub(crate) fn spoken(message: ClientMessage<'_>) -> (ClientMessage<'_>, u16) {
+/// The minor version that a startup packet asks for, in the place of which the one stands from then on that is spoken; 0 of another message.
+pub(crate) fn spoken(message: &mut ClientMessage<'_>) -> u16 {
     match message {
-        ClientMessage::Startup { minor, parameters } => {
-            let message = ClientMessage::Startup {
-                minor: spoken_minor(minor),
-                parameters,
-            };
-            (message, minor)
+        ClientMessage::Startup { minor, .. } => {
+            let asked = *minor;
+            *minor = spoken_minor(asked);
+            asked
         }
-        other => (other, 0),
+        _ => 0,
     }
 }
 
@@ -49,6 +47,17 @@ impl<'m> Opening<'m> {
             self.user = Some(value);
         } else if !IS_NO_SETTING.contains(&name) {
             self.settings.push((name, value))?;
+        }
+        Ok(())
+    }
+
+    /// Adds what all names and values say.
+    fn add_all(&mut self, parameters: &mut StartupParameters<'m>) -> Result<(), Fault> {
+        for _ in 0..u64::MAX {
+            match parameters.next()? {
+                Some((name, value)) => self.add(name, value)?,
+                None => return Ok(()),
+            }
         }
         Ok(())
     }
@@ -68,20 +77,18 @@ impl<'m> Opening<'m> {
 const IS_NO_SETTING: [&[u8]; 3] = [b"database", b"options", b"replication"];
 
 /// What the startup packet asks for; nothing of another message.
-pub(crate) fn opening_of(alloc: Global, message: ClientMessage<'_>) -> Result<Opening<'_>, Fault> {
+pub(crate) fn opening_of<'m>(
+    alloc: Global,
+    message: &mut ClientMessage<'m>,
+) -> Result<Opening<'m>, Fault> {
     let mut opening = Opening {
         user: None,
         settings: Vec::new(alloc),
         unknown: Vec::new(alloc),
     };
     match message {
-        ClientMessage::Startup { parameters, .. } => {
-            let pairs = parameters.collect(alloc)?;
-            for (name, value) in &pairs {
-                opening.add(name, value)?;
-            }
-        }
-        other => drop(other),
+        ClientMessage::Startup { parameters, .. } => opening.add_all(parameters)?,
+        _ => {}
     }
     Ok(opening)
 }

@@ -312,7 +312,7 @@ impl<'h> Session<'h> {
         }
     }
 
-    /// Appends what is answered to a request that is no Bind and no Parse.
+    /// Appends what is answered to a request that is no Bind and no Parse, or is passed over.
     fn answer_in_place(
         &mut self,
         message: &ClientMessage<'_>,
@@ -334,28 +334,20 @@ impl<'h> Session<'h> {
     /// Returns `Memory`, and `TooLong` if an answer of the script doesn't fit a message.
     pub(crate) fn answer(
         &mut self,
-        message: ClientMessage<'_>,
+        message: &mut ClientMessage<'_>,
         out: &mut BytesMut,
     ) -> Result<(), Fault> {
-        if let Some(copy) = self.copying {
-            let answer = self.answer_copy(copy, &message, out);
-            drop(message);
-            return answer;
-        }
-        match message {
-            ClientMessage::Bind { .. } if self.is_skipping => {
-                drop(message);
-                Ok(())
-            }
-            ClientMessage::Parse { .. } if self.is_skipping => {
-                drop(message);
-                Ok(())
-            }
-            other => self.answer_next(other, out),
+        match self.copying {
+            Some(copy) => self.answer_copy(copy, message, out),
+            None => self.answer_next(message, out),
         }
     }
 
-    fn answer_next(&mut self, message: ClientMessage<'_>, out: &mut BytesMut) -> Result<(), Fault> {
+    fn answer_next(
+        &mut self,
+        message: &mut ClientMessage<'_>,
+        out: &mut BytesMut,
+    ) -> Result<(), Fault> {
         match message {
             ClientMessage::Bind {
                 portal,
@@ -363,10 +355,10 @@ impl<'h> Session<'h> {
                 formats,
                 values,
                 result_formats,
-            } => {
-                let formats = formats.collect(self.alloc)?;
-                let values = values.collect(self.alloc)?;
-                let results = result_formats.collect(self.alloc)?;
+            } if !self.is_skipping => {
+                let formats = listed(self.alloc, formats)?;
+                let values = listed(self.alloc, values)?;
+                let results = listed(self.alloc, result_formats)?;
                 let binding = Binding {
                     portal,
                     statement,
@@ -380,15 +372,26 @@ impl<'h> Session<'h> {
                 name,
                 query,
                 param_types,
-            } => {
-                let types = param_types.collect(self.alloc)?;
+            } if !self.is_skipping => {
+                let types = listed(self.alloc, param_types)?;
                 self.parse(name, query, &types, out)
             }
-            other => {
-                let answer = self.answer_in_place(&other, out);
-                drop(other);
-                answer
-            }
+            other => self.answer_in_place(other, out),
         }
     }
+}
+
+/// All items.
+fn listed<I: FallibleIterator>(alloc: Global, items: &mut I) -> Result<Vec<I::Item>, Fault>
+where
+    I::Item: Drop,
+{
+    let mut list = Vec::new(alloc);
+    for _ in 0..u64::MAX {
+        match items.next()? {
+            Some(item) => list.push(item).map_err(AllocError::from)?,
+            None => return Ok(list),
+        }
+    }
+    Ok(list)
 }
