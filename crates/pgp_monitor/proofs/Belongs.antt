@@ -1,5 +1,5 @@
 -- What a dialogue took belongs to the requests.
-use Rattle.std.proofs.Common.{◌≡◌, ◌≢◌, ℕ, Bool, true, false, List, [], ◌∷◌, ◌++◌, length, Ok, refl, sym, ap, subst, ◌∙◌, append_assoc, append-nil}
+use Rattle.std.proofs.Common.{◌≡◌, Bool, true, false, List, [], ◌∷◌, ◌++◌, length, Ok, refl, sym, ap, subst, ◌∙◌, append_assoc, append-nil}
 use Rattle.pgp_client.specs.Flow.{Among, NoneLeft, OneOfThem, OneAside, StandsAnywhere, Notices, Notifies, Sets, Belong, Serves, Ready}
 use Rattle.pgp_client.specs.Talk.{Talk}
 use Rattle.pgp_client.specs.Taking.{is_aside, taken, taken_as}
@@ -11,10 +11,10 @@ use Rattle.pgp_client.specs.declared.kind.Kind.TheVariants as kinds
 use Rattle.pgp_client.specs.declared.request.Asked.{Asked}
 use Rattle.pgp_client.specs.declared.request.Request.{Request}
 use Rattle.pgp_client.proofs.Served.{ok_parts}
-use Rattle.pgp_client.proofs.Exact.{Run, Stops, AsksOne, HearsOne, Stripped, exact}
+use Rattle.pgp_client.proofs.Exact.{Stops, AsksOne, HearsOne, Stripped, exact}
 use Rattle.pgp_monitor.specs.Answered.{named}
 use Rattle.pgp_monitor.specs.Monitor.{Runs, Begins, Asks, Says, Ran, Stopped, EndsThere}
-use Rattle.pgp_monitor.proofs.Listed.{named_push}
+use Rattle.pgp_monitor.proofs.Listed.{named_more}
 
 stands : (k : Kind) → is_aside k ≡ true → StandsAnywhere k
 stands kinds.NoticeResponse e = Notices
@@ -53,12 +53,12 @@ before Begins more all reported s = s
 before (Asks {rs = rs} {ks = ks} {es = es} {t = t} r run) more all reported s =
     let a : Asked = record { request = r; name = length rs } in
     let here : Stripped t (a ∷ more) all reported = record { sent = s.sent; belong = s.belong; run = AsksOne a s.run; among = s.among } in
-    let same : named rs ++ (a ∷ more) ≡ named (rs ++ r ∷ []) ++ more = sym (ap (λ (l : List Asked). l ++ more) (named_push rs r 0) ∙ append_assoc (named rs) (a ∷ []) more) in
+    let same : named rs ++ (a ∷ more) ≡ named (rs ++ r ∷ []) ++ more = sym (ap (λ (l : List Asked). l ++ more) (named_more rs r) ∙ append_assoc (named rs) (a ∷ []) more) in
     subst (λ (l : List Asked). Stripped start l (ks ++ all) (es ++ reported)) same (before run (a ∷ more) all reported here)
 before (Says {rs = rs} {ks = ks} {es = es} {t = t} k e next run is live) more all reported s =
     let here : Stripped t more (k ∷ all) (e ∷ reported) = one_stripped k e t next more all reported is (λ h. absurd (live h)) s in
     let one : Stripped start (named rs ++ more) ((ks ++ k ∷ []) ++ all) (es ++ (e ∷ reported)) =
-        subst (λ (l : List Kind). Stripped start (named rs ++ more) l (es ++ (e ∷ reported))) (sym (append_assoc ks (k ∷ []) all)) (before run more (k ∷ all) (e ∷ reported) here) in
+    subst (λ (l : List Kind). Stripped start (named rs ++ more) l (es ++ (e ∷ reported))) (sym (append_assoc ks (k ∷ []) all)) (before run more (k ∷ all) (e ∷ reported) here) in
     subst (λ (l : List Event). Stripped start (named rs ++ more) ((ks ++ k ∷ []) ++ all) l) (sym (append_assoc es (e ∷ []) reported)) one
 
 nothing : (t : Talk) → Stripped t [] [] []

@@ -1,3 +1,4 @@
 mod Listed
 mod Belongs
+mod Fronts
 mod Steps

@@ -1,14 +1,13 @@
 -- What each call makes of what went before.
-use Rattle.std.proofs.Common.{◌≡◌, ◌≢◌, ◌⊎◌, inl, inr, ℕ, ◌+◌, Bool, true, false, List, [], ◌∷◌, ◌++◌, length, take, drop, Option, Some, None, Result, Ok, Err, refl, sym, ap, subst, ◌∙◌, append_assoc, append-nil, length-append, arith, take-append-drop}
-use Rattle.pgp_client.specs.Kinds.{kind_of}
+use Rattle.std.proofs.Common.{◌≡◌, ℕ, ◌+◌, Bool, true, false, List, [], ◌∷◌, ◌++◌, length, take, drop, Option, Some, None, Result, Ok, Err, refl, sym, ap, subst, ◌∙◌, append_assoc, append-nil, length-append, take-append-drop}
 use Rattle.pgp_client.specs.Talk.{Talk}
 use Rattle.pgp_client.specs.Taking.{taken}
 use Rattle.pgp_client.specs.declared.event.Event.{Event}
 use Rattle.pgp_client.specs.declared.event.Event.TheVariants.{Part, Last, Aside, Ended}
 use Rattle.pgp_client.specs.declared.kind.Kind.{Kind}
 use Rattle.pgp_client.specs.declared.request.Request.{Request}
-use Rattle.pgp_monitor.specs.Answered.{Answered, IsFront, Spells, Nothing, Declined, OneMore}
-use Rattle.pgp_monitor.specs.Monitor.{Declines, Goes, HasPassed, IsStopped, Notes, Passes, Ran, Runs, Asks, Says, Shown, Stopped, EndsThere, Went, after_note, after_pass, is_end, noted}
+use Rattle.pgp_monitor.specs.Answered.{Answered, IsFront, Spells, Declined, OneMore}
+use Rattle.pgp_monitor.specs.Monitor.{Declines, Goes, IsStopped, Notes, Passes, Ran, Runs, Asks, Says, Shown, Stopped, EndsThere, Went, after_note, after_pass, is_end, noted}
 use Rattle.pgp_monitor.specs.declared.monitor.Passed.{Passed}
 use Rattle.pgp_monitor.specs.declared.monitor.Stop.{Stop}
 use Rattle.pgp_monitor.specs.declared.monitor.Stop.TheVariants.{Misplaced, NoMessage, OutOfMemory}
@@ -40,9 +39,9 @@ pub ends : (rs : List Request) (ks : List Kind) (es : List Event) (gone : List �
     → new ≡ record { talk = m.talk; names = m.names; is_fresh = m.is_fresh; is_over = true; out = take kept m.out } → Went rs ks es gone m → Went rs ks es gone new
 ends rs ks es gone kept m new is w =
     let parts : (gone ++ take kept m.out) ++ (drop kept m.out ++ w.cut_off) ≡ (gone ++ m.out) ++ w.cut_off =
-        append_assoc gone (take kept m.out) (drop kept m.out ++ w.cut_off)
-        ∙ ap (λ (l : List ℕ). gone ++ l) (sym (append_assoc (take kept m.out) (drop kept m.out) w.cut_off) ∙ ap (λ (l : List ℕ). l ++ w.cut_off) (take-append-drop kept m.out))
-        ∙ sym (append_assoc gone m.out w.cut_off) in
+    append_assoc gone (take kept m.out) (drop kept m.out ++ w.cut_off)
+    ∙ ap (λ (l : List ℕ). gone ++ l) (sym (append_assoc (take kept m.out) (drop kept m.out) w.cut_off) ∙ ap (λ (l : List ℕ). l ++ w.cut_off) (take-append-drop kept m.out))
+    ∙ sym (append_assoc gone m.out w.cut_off) in
     subst (λ (x : Shown). Went rs ks es gone x) (sym is) (record {
       goes = ran m.is_over m.talk rs ks es w.goes;
       names = w.names;
@@ -133,15 +132,18 @@ spells_on ks bytes before k len f spelled =
 
 pub passes : (lacks : Type 0) (bytes : List ℕ) (rs : List Request) (ks : List Kind) (es : List Event) (gone : List ℕ) (m new : Shown) (result : Result Passed Stop)
     → Passes lacks bytes m new result → Went rs ks es gone m → after_pass result rs ks es gone new
-passes lacks bytes rs ks es gone m new (Ok p) h w = (h.kind, subst (λ (x : Shown). Went rs (ks ++ h.kind ∷ []) (es ++ p.event ∷ []) gone x) (sym h.is) (record {
-  goes = says rs ks es m.talk new.talk h.kind p.event (runs_on m.is_over m.talk rs ks es h.goes_on w.goes) h.taken;
-  names = w.names;
-  fresh = λ x. cc;
-  cut_off = [];
-  whole = λ x. refl;
-  spelled = as_cut (ks ++ h.kind ∷ []) gone m.out h.front.frame
-      (spells_on ks bytes (gone ++ m.out) h.kind p.len h.front (nothing_cut ks (gone ++ m.out) w.cut_off (w.whole h.goes_on) w.spelled));
-}))
+passes lacks bytes rs ks es gone m new (Ok p) h w = (
+  h.kind,
+  subst (λ (x : Shown). Went rs (ks ++ h.kind ∷ []) (es ++ p.event ∷ []) gone x) (sym h.is) (record {
+    goes = says rs ks es m.talk new.talk h.kind p.event (runs_on m.is_over m.talk rs ks es h.goes_on w.goes) h.taken;
+    names = w.names;
+    fresh = λ x. cc;
+    cut_off = [];
+    whole = λ x. refl;
+    spelled = as_cut (ks ++ h.kind ∷ []) gone m.out h.front.frame
+        (spells_on ks bytes (gone ++ m.out) h.kind p.len h.front (nothing_cut ks (gone ++ m.out) w.cut_off (w.whole h.goes_on) w.spelled));
+  }),
+)
 passes lacks bytes rs ks es gone m new (Err Misplaced) h w = stops rs ks es gone m new h.1 w
 passes lacks bytes rs ks es gone m new (Err NoMessage) h w = stops rs ks es gone m new h.1 w
 passes lacks bytes rs ks es gone m new (Err OutOfMemory) h w = stops rs ks es gone m new h.1 w

@@ -1,6 +1,6 @@
 -- What a server may send to its client's requests, as bytes.
 -- PostgreSQL manual, "Message Flow".
-use Rattle.std.specs.Prelude.{◌≡◌, ℕ, ◌+◌, List, [], ◌∷◌, ◌++◌, ◌⊎◌, length, Option, Some, None, Result, Ok, Err}
+use Rattle.std.specs.Prelude.{◌≡◌, ℕ, ◌+◌, List, [], ◌∷◌, ◌++◌, ◌⊎◌, length, Option, Some, None, Ok, Err}
 use Rattle.pgp_base.specs.declared.error.Error.{Error}
 use Rattle.pgp_client.specs.Flow.{Belong}
 use Rattle.pgp_client.specs.Kinds.{kind_of}

@@ -1,8 +1,7 @@
 -- A monitor as a value, what each call does to it, and what came of all calls so far.
 use Rattle.std.specs.Prelude.{◌≡◌, ◌≢◌, ◌⊎◌, ℕ, Bool, true, false, List, [], ◌∷◌, ◌++◌, length, Option, Some, None, Result, Ok, Err, ◌+◌}
-use Rattle.bytes.specs.declared.unique.BytesMut.{BytesMut}
 use Rattle.pgp_client.specs.Taking.{asked, is_copying, taken}
-use Rattle.pgp_client.specs.Talk.{Talk, Kept, shown as talk_of}
+use Rattle.pgp_client.specs.Talk.{Talk, shown as talk_of}
 use Rattle.pgp_client.specs.Telling.{start}
 use Rattle.pgp_client.specs.declared.event.Event.{Event}
 use Rattle.pgp_client.specs.declared.event.Event.TheVariants.{Ended}

@@ -92,6 +92,7 @@ SETTINGS = (
 
 CITY = frame(b"T", int16(2) + column(b"id", 23, 4, 0) + column(b"name", 25, -1, 0))
 BOTH_BINARY = frame(b"T", int16(2) + column(b"id", 23, 4, 1) + column(b"name", 25, -1, 1))
+NAME = frame(b"T", int16(1) + column(b"name", 25, -1, 0))
 NOTICE = report(b"N", b"NOTICE", b"01000", b"a notice\nof two lines")
 ROWS = [row(b"1", "Reykjavík".encode()), row(b"-2", None), row(b"3", b"a\tb\\c")]
 SELECT_3 = frame(b"C", b"SELECT 3\0")
@@ -196,6 +197,19 @@ STEPS = [
     (frame(b"D", b"Ss3\0"), frame(b"t", int16(2) + int32(23, 1043)) + frame(b"T", int16(1) + column(b"int4", 23, 4, 0))),
     (frame(b"P", b"s4\0SELECT $1::int4\0" + int16(2) + int32(0, 0)), error(b"42P18", b"a parameter's type is said neither by the client nor by the script")),
     (SYNC, IDLE),
+    # a pattern; rows by a parameter, which comes as a text, in binary format, as a null, and as none of the script's
+    (query(b"SELECT name FROM city LIMIT 12;"), NAME + row(b"Oslo") + tag(b"SELECT 1") + IDLE),
+    (query(b"SELECT name FROM city LIMIT x"), not_scripted(b"SELECT name FROM city LIMIT x") + IDLE),
+    (parse(b"s6", b"SELECT name FROM city WHERE id = $1"), PARSED),
+    (bind(b"", b"s6", [b"1"], []), BOUND),
+    (execute(b"", 0), row(b"Oslo") + tag(b"SELECT 1")),
+    (frame(b"B", b"\0s6\0" + int16(1, 1, 1) + value(int32(-2)) + int16(0)), BOUND),
+    (execute(b"", 0), row(None) + tag(b"SELECT 1")),
+    (bind(b"", b"s6", [None], []), BOUND),
+    (execute(b"", 0), tag(b"SELECT 0")),
+    (bind(b"", b"s6", [b"3"], []), BOUND),
+    (execute(b"", 0), tag(b"SELECT 0")),
+    (SYNC, IDLE),
     # rows by two, in binary format and in text; each part is counted by itself
     *extended(b"SELECT id, name FROM city", portal=b"p", formats=[1, 1]),
     (frame(b"D", b"Pp\0"), BOTH_BINARY),
@@ -282,6 +296,8 @@ STEPS = [
     (execute(b"p", 0), b""),
     (frame(b"S", b"x"), MALFORMED + IDLE),
     (frame(b"f", b"x"), b""),
+    (frame(b"H", b"x"), MALFORMED),
+    (SYNC, IDLE),
     # a statement's own error: one of class 42 when it is prepared, another when it is run
     (parse(b"", b"SELECT broken"), BROKEN),
     (bind(b"", b"", [], []), b""),
@@ -320,6 +336,13 @@ STEPS = [
     (frame(b"d", b"1\tOslo\n"), b""),
     (SYNC, b""),
     (frame(b"c"), tag(b"COPY 1") + IDLE),
+    # in a copy no body of a Sync or a Flush is looked at
+    (query(b"COPY city FROM STDIN"), frame(b"G", b"\0" + int16(2, 0, 0))),
+    (frame(b"S", b"x"), b""),
+    (frame(b"H", b"x"), b""),
+    (frame(b"c"), tag(b"COPY 1") + IDLE),
+    (query(b"COPY city FROM STDIN"), frame(b"G", b"\0" + int16(2, 0, 0))),
+    (frame(b"f", b"no"), MALFORMED + IDLE),
     *extended(b"COPY city FROM STDIN"),
     (execute(b"", 0), frame(b"G", b"\0" + int16(2, 0, 0))),
     (frame(b"H"), b""),

@@ -112,7 +112,11 @@ impl<'h> Connection<'h> {
         }
         let is_bound = mechanism == SCRAM_PLUS;
         self.serving.method = self.host.method(self.alloc, &user.value, is_bound)?;
-        Ok(if is_bound { SCRAM_SHA_256.as_bytes() } else { mechanism })
+        Ok(if is_bound {
+            SCRAM_SHA_256.as_bytes()
+        } else {
+            mechanism
+        })
     }
 
     /// The settings that the startup packet says.

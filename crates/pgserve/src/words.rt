@@ -41,10 +41,6 @@ fn flag<'a>(alloc: Global, name: &'a str, help: &'a str) -> Arg<'a> {
 }
 
 fn command<'a>(alloc: Global) -> Result<Command<'a>, AllocError> {
-    let script = Arg::new(alloc, "script")
-        .required(true)
-        .action(ArgAction::Set)
-        .help("The script's path");
     Command::new(alloc, "pgserve")
         .version("0.1.0")
         .about(
@@ -67,9 +63,18 @@ fn command<'a>(alloc: Global) -> Result<Command<'a>, AllocError> {
             "certificate",
             "The hash of the server's certificate for scram-plus, in hexadecimal digits",
         ))?
-        .arg(flag(alloc, "log", "Reports each request and its answer on standard error"))?
+        .arg(flag(
+            alloc,
+            "log",
+            "Reports each request and its answer on standard error",
+        ))?
         .arg(flag(alloc, "log-json", "The same as an object of JSON a line"))?
-        .arg(script)
+        .arg(
+            Arg::new(alloc, "script")
+                .required(true)
+                .action(ArgAction::Set)
+                .help("The script's path"),
+        )
 }
 
 /// How requests are reported, by the two flags.

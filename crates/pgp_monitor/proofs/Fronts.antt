@@ -1,0 +1,48 @@
+-- The message at the front of bytes.
+use Rattle.std.proofs.Common.{◌≡◌, ℕ, ◌+◌, ◌-◌, Bool, false, List, [], ◌∷◌, ◌++◌, length, take, Ok, Err, refl, sym, ap, ◌∙◌, arith, inl, inr, append-nil, length-append}
+use Rattle.pgp_base.specs.declared.error.Error.{Error}
+use Rattle.pgp_base.specs.declared.error.Error.TheVariants as errors
+use Rattle.pgp_client.specs.Kinds.{kind_of}
+use Rattle.pgp_client.specs.declared.event.Event.{Event}
+use Rattle.pgp_client.specs.declared.kind.Kind.{Kind}
+use Rattle.pgp_message.specs.BackendMessage.{Message}
+use Rattle.pgp_message.specs.Stream.{Step, TakesFrame, frame_bytes}
+use Rattle.pgp_monitor.specs.Answered.{BeginsWithNone, IsFront}
+use Rattle.pgp_monitor.specs.Monitor.{Shown, is_end}
+
+length_left : (all front new rest : ℕ) → all ≡ front + new → rest ≡ new → all - rest ≡ front
+length_left all front new rest whole same = omega (arith, whole, same)
+
+pub front_is : (old new rest : List ℕ) (m : Message) (k : Kind) → k ≡ kind_of m → rest ≡ new → TakesFrame old (Ok m) new → IsFront old k (length old - length rest)
+front_is old new rest m k kind same t = record {
+  frame = frame_bytes t.first;
+  rest = new;
+  message = m;
+  whole = t.whole;
+  is = record { first = t.first; whole = sym (append-nil (frame_bytes t.first)); fits = t.fits; body = t.body };
+  kind_is = kind;
+  len_is = length_left (length old) (length (frame_bytes t.first)) (length new) (length rest) (ap length t.whole ∙ length-append (frame_bytes t.first) new) (ap length same);
+}
+
+pub none_there : (old new : List ℕ) (e : Error) → Step ⊥ old (Err e) new → BeginsWithNone old
+none_there old new errors.InvalidLength s = inr (inl s.0)
+none_there old new errors.OutOfMemory s = absurd s.1
+none_there old new e s = inr (inr (e, new, s))
+
+take_front : (xs ys : List ℕ) → take (length xs) (xs ++ ys) ≡ xs
+take_front [] ys = refl
+take_front (x ∷ xs) ys = ap (λ (l : List ℕ). x ∷ l) (take_front xs ys)
+
+front_taken : (bytes : List ℕ) (k : Kind) (len : ℕ) (f : IsFront bytes k len) → take len bytes ≡ f.frame
+front_taken bytes k len f = ap (λ (n : ℕ). take n bytes) f.len_is ∙ ap (take (length f.frame)) f.whole ∙ take_front f.frame f.rest
+
+-- the state after a message that was let through
+pub passed_so : (old admitted : Shown) (over : Bool) (out bytes : List ℕ) (e : Event) (k : Kind) (len : ℕ) (f : IsFront bytes k len) → admitted.names ≡ old.names → admitted.out ≡ old.out
+    → over ≡ is_end e → out ≡ admitted.out ++ take len bytes
+    → (let m : Shown = record { talk = admitted.talk; names = admitted.names; is_fresh = false; is_over = over; out = out } in m)
+    ≡ record { talk = admitted.talk; names = old.names; is_fresh = false; is_over = is_end e; out = old.out ++ f.frame }
+passed_so old admitted over out bytes e k len f names kept ends grown =
+    ap (λ (n : ℕ). let m : Shown = record { talk = admitted.talk; names = n; is_fresh = false; is_over = over; out = out } in m) names
+    ∙ ap (λ (b : Bool). let m : Shown = record { talk = admitted.talk; names = old.names; is_fresh = false; is_over = b; out = out } in m) ends
+    ∙ ap (λ (l : List ℕ). let m : Shown = record { talk = admitted.talk; names = old.names; is_fresh = false; is_over = is_end e; out = l } in m)
+    (grown ∙ ap (λ (l : List ℕ). l ++ take len bytes) kept ∙ ap (λ (l : List ℕ). old.out ++ l) (front_taken bytes k len f))
