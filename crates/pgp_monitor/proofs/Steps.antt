@@ -6,8 +6,8 @@ use Rattle.pgp_client.specs.declared.event.Event.{Event}
 use Rattle.pgp_client.specs.declared.event.Event.TheVariants.{Part, Last, Aside, Ended}
 use Rattle.pgp_client.specs.declared.kind.Kind.{Kind}
 use Rattle.pgp_client.specs.declared.request.Request.{Request}
-use Rattle.pgp_monitor.specs.Answered.{Answered, IsFront, Spells, Declined, OneMore}
-use Rattle.pgp_monitor.specs.Monitor.{Declines, Goes, IsStopped, Notes, Passes, Ran, Runs, Asks, Says, Shown, Stopped, EndsThere, Went, after_note, after_pass, is_end, noted}
+use Rattle.pgp_monitor.specs.Answered.{Answered, IsFront, Nothing, Spells, Declined, OneMore}
+use Rattle.pgp_monitor.specs.Monitor.{Begins, begun, Declines, Goes, IsStopped, Notes, Passes, Ran, Runs, Asks, Says, Shown, Stopped, EndsThere, Went, after_note, after_pass, is_end, noted}
 use Rattle.pgp_monitor.specs.declared.monitor.Passed.{Passed}
 use Rattle.pgp_monitor.specs.declared.monitor.Stop.{Stop}
 use Rattle.pgp_monitor.specs.declared.monitor.Stop.TheVariants.{Misplaced, NoMessage, OutOfMemory}
@@ -147,3 +147,8 @@ passes lacks bytes rs ks es gone m new (Ok p) h w = (
 passes lacks bytes rs ks es gone m new (Err Misplaced) h w = stops rs ks es gone m new h.1 w
 passes lacks bytes rs ks es gone m new (Err NoMessage) h w = stops rs ks es gone m new h.1 w
 passes lacks bytes rs ks es gone m new (Err OutOfMemory) h w = stops rs ks es gone m new h.1 w
+
+-- ---- the beginning
+
+pub begins : (m : Shown) → m ≡ begun → Went [] [] [] [] m
+begins m is = subst (λ (x : Shown). Went [] [] [] [] x) (sym is) (record { goes = Begins; names = refl; fresh = λ h. refl; cut_off = []; whole = λ h. refl; spelled = Nothing })

@@ -50,7 +50,8 @@ pub struct Monitor<A: Memory = Global> {
 impl<A: Memory> Monitor<A> {
     /// A monitor of a session in which nothing came.
     pub fn new(alloc: A) -> Monitor<A>
-        ensures { shown result ≡ begun }
+        ensures is { shown result ≡ begun }
+        ensures known { Went [] [] [] [] (shown result) }
     {
         Monitor {
             dialogue: Dialogue::new(alloc),

@@ -8,7 +8,7 @@ use crate::extended::are_formats;
 use crate::fault::Fault;
 use crate::script::{Column, End, Row, Statement};
 use bytes::BytesMut;
-use postgres_protocol::message::reply;
+use pgp_message_write as reply;
 use std::alloc::{AllocError, Global};
 
 /// How an answer goes on.

@@ -4,7 +4,7 @@ use crate::fault::Fault;
 use crate::script::Report;
 use crate::transaction::Warning;
 use bytes::BytesMut;
-use postgres_protocol::message::reply::{self, ErrorField};
+use pgp_message_write::{self as reply, ErrorField};
 use std::alloc::{AllocError, Global};
 
 /// Why a request gets an error, by its SQLSTATE (PostgreSQL manual, appendix "PostgreSQL Error Codes").

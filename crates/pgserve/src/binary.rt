@@ -8,8 +8,8 @@ use crate::types::{
 };
 use bytes::BytesMut;
 use pgp_base::{Error, IsNull, Oid};
-use postgres_protocol::types::{self, ArrayDimension};
-use postgres_protocol::values::{self, Moment, NumericError};
+use pgp_types::{self as types, ArrayDimension};
+use pgp_values::{self as values, Moment, NumericError};
 use std::alloc::{AllocError, Global};
 use uuid::Uuid;
 

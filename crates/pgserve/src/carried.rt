@@ -11,7 +11,7 @@ use crate::text::trimmed;
 use crate::transaction::Done;
 use crate::types::PLAIN_TEXT;
 use bytes::BytesMut;
-use postgres_protocol::message::reply;
+use pgp_message_write as reply;
 use std::alloc::{AllocError, Global};
 
 /// The tag of a command that is none of transactions.

@@ -9,14 +9,14 @@ use crate::log_json::object_of;
 use crate::opening::{Opening, opening_of, spoken};
 use crate::session::Session;
 use bytes::BytesMut;
+use pgp_auth::authentication::sasl::SCRAM_SHA_256;
 use pgp_base::Error;
-use pgp_monitor::Monitor;
-use pgp_session::serving::{Denial, Serving, ServingEvent, ServingPhase};
-use postgres_protocol::authentication::sasl::SCRAM_SHA_256;
-use postgres_protocol::dialogue::Request;
-use postgres_protocol::message::client::{
+use pgp_client::Request;
+use pgp_frontend_read::{
     ClientError, ClientFrame, ClientMessage, ClientParser, Limits, ParserError,
 };
+use pgp_monitor::Monitor;
+use pgp_session::serving::{Denial, Serving, ServingEvent, ServingPhase};
 use std::alloc::{AllocError, Global};
 
 /// How long messages may be.

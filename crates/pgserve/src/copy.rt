@@ -8,8 +8,8 @@ use crate::fault::Fault;
 use crate::script::{Copy, Statement};
 use crate::session::Session;
 use bytes::BytesMut;
-use postgres_protocol::message::client::ClientMessage;
-use postgres_protocol::message::reply;
+use pgp_frontend_read::ClientMessage;
+use pgp_message_write as reply;
 use std::alloc::{AllocError, Global};
 
 /// A copy to the server that is under way.

@@ -13,8 +13,8 @@ use crate::text::{only_of, trimmed};
 use crate::transaction::Status;
 use bytes::BytesMut;
 use pgp_base::Oid;
-use postgres_protocol::message::client::ClientMessage;
-use postgres_protocol::message::reply;
+use pgp_frontend_read::ClientMessage;
+use pgp_message_write as reply;
 use std::alloc::{AllocError, Global};
 
 /// What a Bind says.

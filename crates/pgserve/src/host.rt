@@ -6,11 +6,11 @@ use crate::script::Script;
 use crate::user::{Auth, verifier_of};
 use crate::words::Words;
 use bytes::BytesMut;
-use pgp_session::serving::{Method, Serving, ServingPhase};
-use postgres_protocol::authentication::sasl::{
+use pgp_auth::authentication::sasl::{
     ChannelOffer, SCRAM_SHA_256, ScramServer, StoredVerifier, is_nonce,
 };
-use postgres_protocol::message::reply;
+use pgp_message_write as reply;
+use pgp_session::serving::{Method, Serving, ServingPhase};
 use std::alloc::{AllocError, Global};
 
 /// The salt of MD5, the same each time, as the nonce is.

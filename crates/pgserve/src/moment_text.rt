@@ -3,7 +3,7 @@
 use jiff::Timestamp;
 use jiff::civil::{Date, DateTime, Time};
 use jiff::tz::Offset;
-use postgres_protocol::values::{Interval, Moment};
+use pgp_values::{Interval, Moment};
 
 /// The beginning of 2000 after that of 1970, in microseconds.
 const EPOCH: i64 = 946_684_800_000_000;

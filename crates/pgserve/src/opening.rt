@@ -4,9 +4,9 @@
 
 use crate::fault::Fault;
 use bytes::BytesMut;
-use postgres_protocol::FallibleIterator;
-use postgres_protocol::message::client::{ClientMessage, StartupParameters};
-use postgres_protocol::message::reply;
+use pgp_base::FallibleIterator;
+use pgp_frontend_read::{ClientMessage, StartupParameters};
+use pgp_message_write as reply;
 use std::alloc::{AllocError, Global};
 
 /// What a startup packet asks for.

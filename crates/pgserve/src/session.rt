@@ -18,9 +18,9 @@ use crate::settings::Settings;
 use crate::text::{first_of, trimmed};
 use crate::transaction::{Status, Transaction};
 use bytes::BytesMut;
-use postgres_protocol::FallibleIterator;
-use postgres_protocol::message::client::ClientMessage;
-use postgres_protocol::message::reply;
+use pgp_base::FallibleIterator;
+use pgp_frontend_read::ClientMessage;
+use pgp_message_write as reply;
 use std::alloc::{AllocError, Global};
 
 /// What the text of a statement asks for.

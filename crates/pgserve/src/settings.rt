@@ -4,7 +4,7 @@
 
 use crate::fault::Fault;
 use bytes::BytesMut;
-use postgres_protocol::message::reply;
+use pgp_message_write as reply;
 use std::alloc::{AllocError, Global};
 
 /// A setting.

@@ -4,7 +4,7 @@ use crate::connection::{Connection, parser, take_piece};
 use crate::fault::Fault;
 use crate::host::Host;
 use bytes::BytesMut;
-use postgres_protocol::message::client::ClientParser;
+use pgp_frontend_read::ClientParser;
 use std::alloc::Global;
 use std::io::{ErrorKind, Read, Write};
 

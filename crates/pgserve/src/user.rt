@@ -1,7 +1,7 @@
 //! Users, and what they have to show.
 
 use crate::fault::Fault;
-use postgres_protocol::authentication::sasl::{StoredVerifier, VerifierError};
+use pgp_auth::authentication::sasl::{StoredVerifier, VerifierError};
 use std::alloc::Global;
 
 /// What a client has to show.
