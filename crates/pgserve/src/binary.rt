@@ -1,6 +1,7 @@
 //! Values of a script in binary format, by the codecs of `pgp_types` and `pgp_values`.
 
 use crate::array_text::elements_of;
+use crate::list::push;
 use crate::moment_text::{clock_of, date_of, interval_of, timestamp_of, timestamptz_of};
 use crate::types::{
     BOOL, BPCHAR, BYTEA, DATE, FLOAT4, FLOAT8, INT2, INT4, INT8, INTERVAL, JSON, JSONB, NAME,
@@ -14,7 +15,7 @@ use std::alloc::{AllocError, Global};
 use uuid::Uuid;
 
 /// Why a value has no bytes in binary format.
-#[derive(Clone, Copy, PartialEq, Eq)]
+#[derive(Clone, Copy)]
 pub(crate) enum Unwritten {
     Memory,
     /// Its text is none of its type.
@@ -41,12 +42,23 @@ impl From<AllocError> for Unwritten {
 /// Appends a number without a fraction.
 fn put_integer(oid: Oid, word: &str, out: &mut BytesMut) -> Result<(), Unwritten> {
     match oid {
-        INT8 => types::int8_to_sql(word.parse().map_err(|_| Unwritten::NotOfType)?, out)?,
-        INT2 => types::int2_to_sql(word.parse().map_err(|_| Unwritten::NotOfType)?, out)?,
-        INT4 => types::int4_to_sql(word.parse().map_err(|_| Unwritten::NotOfType)?, out)?,
-        _ => types::oid_to_sql(word.parse().map_err(|_| Unwritten::NotOfType)?, out)?,
+        INT8 => match word.parse() {
+            Ok(number) => Ok(types::int8_to_sql(number, out)?),
+            Err(_) => Err(Unwritten::NotOfType),
+        },
+        INT2 => match word.parse() {
+            Ok(number) => Ok(types::int2_to_sql(number, out)?),
+            Err(_) => Err(Unwritten::NotOfType),
+        },
+        INT4 => match word.parse() {
+            Ok(number) => Ok(types::int4_to_sql(number, out)?),
+            Err(_) => Err(Unwritten::NotOfType),
+        },
+        _ => match word.parse() {
+            Ok(number) => Ok(types::oid_to_sql(number, out)?),
+            Err(_) => Err(Unwritten::NotOfType),
+        },
     }
-    Ok(())
 }
 
 /// What a server sends for `NaN`.
@@ -160,7 +172,7 @@ fn put_array(alloc: Global, element: Oid, word: &str, out: &mut BytesMut) -> Res
             Some(text) => Some(scalar_of(alloc, element, text)?),
             None => None,
         };
-        elements.push(value).map_err(AllocError::from)?;
+        push(&mut elements, value)?;
     }
     let len = i32::try_from(elements.len()).unwrap_or(i32::MAX);
     let dimension = ArrayDimension {

@@ -6,7 +6,7 @@
 use std::alloc::{AllocError, Global};
 
 /// A command, whose names are in small letters.
-#[derive(Clone, Copy, PartialEq, Eq)]
+#[derive(Clone, Copy)]
 pub(crate) enum Command<'w> {
     /// `BEGIN` or `START TRANSACTION`, by its tag.
     Begin(&'static str),
@@ -40,63 +40,97 @@ fn chains(words: &[&str]) -> bool {
     matches!(words, [.., "and", "chain"])
 }
 
+/// Whether they begin with this word.
+fn begins(words: &[&str], word: &str) -> bool {
+    match words {
+        [first, ..] => *first == word,
+        [] => false,
+    }
+}
+
+/// The one name that these words are, which may stand after this word.
+fn name_of<'w>(words: &[&'w str], word: &str) -> Option<&'w str> {
+    match words {
+        [name] => Some(name),
+        [first, name] if *first == word => Some(name),
+        _ => None,
+    }
+}
+
+/// The words after one that may be left out, as `WORK`, where `TO` follows it.
+fn after_work<'s, 'w>(words: &'s [&'w str]) -> &'s [&'w str] {
+    match words {
+        [_, rest @ ..] if begins(rest, "to") => rest,
+        _ => words,
+    }
+}
+
 /// What the words after `ROLLBACK` ask for.
 fn rollback<'w>(words: &[&'w str]) -> Command<'w> {
-    match words {
-        ["to", name] => Command::RollbackTo(name),
-        ["to", "savepoint", name] => Command::RollbackTo(name),
-        [_, "to", name] => Command::RollbackTo(name),
-        [_, "to", "savepoint", name] => Command::RollbackTo(name),
+    match after_work(words) {
+        [first, rest @ ..] if *first == "to" => match name_of(rest, "savepoint") {
+            Some(name) => Command::RollbackTo(name),
+            None => Command::Rollback { chains: false },
+        },
         _ => Command::Rollback {
             chains: chains(words),
         },
     }
 }
 
-/// The command on a transaction that these words are.
-fn transaction_of<'w>(words: &[&'w str]) -> Option<Command<'w>> {
-    match words {
-        [_, "prepared", ..] => None,
-        ["begin", ..] => Some(Command::Begin("BEGIN")),
-        ["start", "transaction", ..] => Some(Command::Begin("START TRANSACTION")),
-        ["commit", rest @ ..] => Some(Command::Commit {
+/// The command on a transaction of this first word, with these after it.
+fn transaction_of<'w>(first: &str, rest: &[&'w str]) -> Option<Command<'w>> {
+    match first {
+        "begin" => Some(Command::Begin("BEGIN")),
+        "start" if begins(rest, "transaction") => Some(Command::Begin("START TRANSACTION")),
+        "commit" | "end" if !begins(rest, "prepared") => Some(Command::Commit {
             chains: chains(rest),
         }),
-        ["end", rest @ ..] => Some(Command::Commit {
-            chains: chains(rest),
-        }),
-        ["rollback", rest @ ..] => Some(rollback(rest)),
-        ["abort", rest @ ..] => Some(rollback(rest)),
-        ["savepoint", name] => Some(Command::Savepoint(name)),
-        ["release", "savepoint", name] => Some(Command::Release(name)),
-        ["release", name] => Some(Command::Release(name)),
-        ["set", "transaction", ..] => Some(Command::SetTransaction),
+        "rollback" | "abort" if !begins(rest, "prepared") => Some(rollback(rest)),
+        "set" if begins(rest, "transaction") => Some(Command::SetTransaction),
+        _ => savepoint_of(first, rest),
+    }
+}
+
+/// The command on a savepoint of this first word, with these after it.
+fn savepoint_of<'w>(first: &str, rest: &[&'w str]) -> Option<Command<'w>> {
+    match first {
+        "savepoint" => Some(Command::Savepoint(name_of(rest, "")?)),
+        "release" => Some(Command::Release(name_of(rest, "savepoint")?)),
         _ => None,
     }
 }
 
-/// The command on settings or prepared statements that these words are.
-fn setting_of<'w>(words: &[&'w str]) -> Option<Command<'w>> {
+/// The setting that these words of a `SHOW` name.
+fn shown<'w>(words: &[&'w str]) -> Option<&'w str> {
     match words {
-        ["set", _, ..] => Some(Command::Set),
-        ["reset", name] => Some(Command::Reset(name)),
-        ["show", "time", "zone"] => Some(Command::Show("timezone")),
-        ["show", "transaction", "isolation", "level"] => {
-            Some(Command::Show("transaction_isolation"))
-        }
-        ["show", name] => Some(Command::Show(name)),
-        ["deallocate", "prepare", name] => Some(Command::Deallocate(name)),
-        ["deallocate", name] => Some(Command::Deallocate(name)),
-        ["discard", "all"] => Some(Command::DiscardAll),
+        [name] => Some(name),
+        ["time", "zone"] => Some("timezone"),
+        ["transaction", "isolation", "level"] => Some("transaction_isolation"),
+        _ => None,
+    }
+}
+
+/// The command on settings or prepared statements of this first word, with these after it.
+fn setting_of<'w>(first: &str, rest: &[&'w str]) -> Option<Command<'w>> {
+    match first {
+        "set" if !rest.is_empty() => Some(Command::Set),
+        "show" => Some(Command::Show(shown(rest)?)),
+        "reset" => Some(Command::Reset(name_of(rest, "")?)),
+        "deallocate" => Some(Command::Deallocate(name_of(rest, "prepare")?)),
+        "discard" if rest.len() == 1 && begins(rest, "all") => Some(Command::DiscardAll),
         _ => None,
     }
 }
 
 /// The command that these words are, if they are one.
 pub(crate) fn command_of<'w>(words: &[&'w str]) -> Option<Command<'w>> {
-    match transaction_of(words) {
+    let [first, rest @ ..] = words else {
+        return None;
+    };
+    match transaction_of(first, rest) {
         Some(command) => Some(command),
-        None => setting_of(words),
+        None => setting_of(first, rest),
     }
 }
 

@@ -16,7 +16,7 @@ use pgp_frontend_read::{
     ClientError, ClientFrame, ClientMessage, ClientParser, Limits, ParserError,
 };
 use pgp_monitor::Monitor;
-use pgp_session::serving::{Denial, Serving, ServingEvent, ServingPhase};
+use pgp_session::serving::{Denial, Method, Serving, ServingEvent, ServingPhase};
 use std::alloc::{AllocError, Global};
 
 /// How long messages may be.
@@ -78,8 +78,19 @@ impl<'h> Connection<'h> {
         let Some(user) = opening.user else {
             return Ok(self.serving.deny(Denial::NotAllowed, out)?);
         };
+        self.begin(user, &opening, minor, out)
+    }
+
+    /// The same for this user.
+    fn begin(
+        &mut self,
+        user: &[u8],
+        opening: &Opening<'_>,
+        minor: u16,
+        out: &mut BytesMut,
+    ) -> Result<(), Fault> {
         opening.negotiate(minor, out)?;
-        self.set(user, &opening)?;
+        self.set(user, opening)?;
         let host = self.host;
         host.ask(self.alloc, user, &mut self.serving, out)?;
         if self.serving.phase == ServingPhase::Open {
@@ -104,19 +115,26 @@ impl<'h> Connection<'h> {
 
     /// Begins the exchange by this mechanism, where the user has the choice; the mechanism without its binding.
     fn choose<'m>(&mut self, mechanism: &'m [u8]) -> Result<&'m [u8], Fault> {
-        let Some(user) = self.session.settings.find(b"session_authorization") else {
+        let is_bound = mechanism == SCRAM_PLUS;
+        let Some(method) = self.method(is_bound)? else {
             return Ok(mechanism);
         };
-        if !self.host.may_bind(&user.value) {
-            return Ok(mechanism);
-        }
-        let is_bound = mechanism == SCRAM_PLUS;
-        self.serving.method = self.host.method(self.alloc, &user.value, is_bound)?;
+        self.serving.method = method;
         Ok(if is_bound {
             SCRAM_SHA_256.as_bytes()
         } else {
             mechanism
         })
+    }
+
+    /// The method of a user who has the choice, bound to the certificate or not.
+    fn method(&self, is_bound: bool) -> Result<Option<Method>, Fault> {
+        match self.session.settings.find(b"session_authorization") {
+            Some(user) if self.host.may_bind(&user.value) => {
+                Ok(Some(self.host.method(self.alloc, &user.value, is_bound)?))
+            }
+            _ => Ok(None),
+        }
     }
 
     /// The settings that the startup packet says.
@@ -164,7 +182,7 @@ impl<'h> Connection<'h> {
             self.monitor.end(start.saturating_add(end));
             self.serving.phase = ServingPhase::Over;
         }
-        self.report(is_open, bytes, name, start)
+        Ok(self.report(is_open, bytes, name, start)?)
     }
 
     /// Takes note of what the bytes of a message ask, and appends what is answered; returns the request's name.
@@ -219,15 +237,21 @@ impl<'h> Connection<'h> {
         message: &[u8],
         name: Option<u64>,
         start: usize,
-    ) -> Result<(), Fault> {
-        let answer = self.monitor.to_send().get(start..).unwrap_or(&[]);
-        let line = match self.host.log {
-            None => return Ok(()),
-            Some(Form::Plain) => line_of(self.alloc, is_open, message, answer)?,
-            Some(Form::Json) => object_of(self.alloc, is_open, message, name, answer)?,
+    ) -> Result<(), AllocError> {
+        let Some(form) = self.host.log else {
+            return Ok(());
         };
-        self.log.push_str(&line)?;
-        Ok(())
+        let answer = Vec::from_slice(self.alloc, self.answered(start))?;
+        let line = match form {
+            Form::Plain => line_of(self.alloc, is_open, message, &answer)?,
+            Form::Json => object_of(self.alloc, is_open, message, name, &answer)?,
+        };
+        self.log.push_str(&line)
+    }
+
+    /// What stands from this place on among what is to be sent.
+    fn answered(&self, start: usize) -> &[u8] {
+        self.monitor.to_send().get(start..).unwrap_or(&[])
     }
 
     /// What a message asks whose bytes aren't those of its type, by its tag and the first byte after its length. A malformed Flush is noted as a

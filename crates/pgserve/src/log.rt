@@ -3,7 +3,7 @@
 use std::alloc::{AllocError, Global};
 
 /// How requests are reported.
-#[derive(Clone, Copy, PartialEq, Eq)]
+#[derive(Clone, Copy)]
 pub(crate) enum Form {
     /// A line each.
     Plain,

@@ -1,6 +1,7 @@
 //! A script, read from its text.
 
 use crate::fault::Fault;
+use crate::list::push;
 use crate::pattern::matches;
 use crate::row_text::{plain, row_of};
 use crate::script::{Column, Copy, Detail, End, Pair, Report, Script, Statement};
@@ -10,7 +11,7 @@ use crate::types::{Type, type_of};
 use crate::user::{Auth, User};
 use crate::wrong::{Stop, Wrong, place_of};
 use pgp_base::Oid;
-use std::alloc::{AllocError, Global};
+use std::alloc::Global;
 
 /// The type of this name.
 fn known_type(name: &str) -> Result<Type, Stop> {
@@ -25,7 +26,7 @@ fn types_of(alloc: Global, words: &str) -> Result<Vec<Oid>, Stop> {
     let mut types = Vec::new(alloc);
     for word in words.split_ascii_whitespace() {
         let kind = known_type(word)?;
-        types.push(kind.oid).map_err(AllocError::from)?;
+        push(&mut types, kind.oid)?;
     }
     Ok(types)
 }
@@ -141,10 +142,7 @@ impl Statement {
     fn add_chunk(&mut self, alloc: Global, line: &str) -> Result<(), Stop> {
         let chunk = plain(alloc, line)?;
         match &mut self.copy {
-            Some(copy) if !copy.is_in => {
-                copy.chunks.push(chunk).map_err(AllocError::from)?;
-                Ok(())
-            }
+            Some(copy) if !copy.is_in => { Ok(push(&mut copy.chunks, chunk)?) }
             _ => Err(Stop::At(Wrong::NoCopy)),
         }
     }
@@ -152,8 +150,7 @@ impl Statement {
     /// Adds a row, which has a value for each column.
     fn add_row(&mut self, alloc: Global, line: &str) -> Result<(), Stop> {
         let row = row_of(alloc, &self.columns, line)?;
-        self.rows.push(row).map_err(AllocError::from)?;
-        Ok(())
+        Ok(push(&mut self.rows, row)?)
     }
 
     /// Adds a column; rows stand after all of them.
@@ -162,22 +159,17 @@ impl Statement {
             return Err(Stop::At(Wrong::LateColumn));
         }
         let column = column_of(alloc, line)?;
-        self.columns.push(column).map_err(AllocError::from)?;
-        Ok(())
+        Ok(push(&mut self.columns, column)?)
     }
 
     fn add_notice(&mut self, alloc: Global, line: &str) -> Result<(), Stop> {
         let report = report_of(alloc, "NOTICE", line)?;
-        self.notices.push(report).map_err(AllocError::from)?;
-        Ok(())
+        Ok(push(&mut self.notices, report)?)
     }
 
     fn add_notification(&mut self, alloc: Global, line: &str) -> Result<(), Stop> {
         let notification = pair_of(alloc, line)?;
-        self.notifications
-            .push(notification)
-            .map_err(AllocError::from)?;
-        Ok(())
+        Ok(push(&mut self.notifications, notification)?)
     }
 
     /// Says how the answer ends, once.
@@ -198,13 +190,7 @@ impl Statement {
     fn add_detail(&mut self, alloc: Global, code: u8, line: &str) -> Result<(), Stop> {
         let value = plain(alloc, line)?;
         match self.last_report() {
-            Some(report) => {
-                report
-                    .details
-                    .push(Detail { code, value })
-                    .map_err(AllocError::from)?;
-                Ok(())
-            }
+            Some(report) => { Ok(push(&mut report.details, Detail { code, value })?) }
             None => Err(Stop::At(Wrong::NoReport)),
         }
     }
@@ -294,8 +280,7 @@ fn begin(alloc: Global, script: &mut Script, number: usize, rest: &str) -> Resul
         return Err(Stop::At(Wrong::Duplicate));
     }
     let statement = Statement::new(alloc, number, text, is_pattern);
-    script.statements.push(statement).map_err(AllocError::from)?;
-    Ok(())
+    Ok(push(&mut script.statements, statement)?)
 }
 
 /// The user of this line: the name, the method, and the method's verifier.
@@ -332,8 +317,7 @@ fn add_user(alloc: Global, script: &mut Script, line: &str) -> Result<(), Stop> 
             return Err(Stop::At(Wrong::DuplicateUser));
         }
     }
-    script.users.push(user).map_err(AllocError::from)?;
-    Ok(())
+    Ok(push(&mut script.users, user)?)
 }
 
 /// Reads a line.

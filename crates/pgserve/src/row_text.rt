@@ -1,11 +1,12 @@
 //! Rows of a script, read from their lines.
 
 use crate::binary::{Unwritten, binary_of};
+use crate::list::push;
 use crate::script::{Column, Condition, Row};
 use crate::text::unescaped;
 use crate::types::Type;
 use crate::wrong::{Stop, Wrong};
-use std::alloc::{AllocError, Global};
+use std::alloc::Global;
 
 /// A text without its escapes.
 pub(crate) fn plain(alloc: Global, text: &str) -> Result<Vec<u8>, Stop> {
@@ -47,7 +48,7 @@ fn values_of(alloc: Global, columns: &[Column], line: &str) -> Result<Vec<Option
             return Err(Stop::In(Wrong::Width, at));
         };
         match value_of(alloc, column.kind, text) {
-            Ok(value) => values.push(value).map_err(AllocError::from)?,
+            Ok(value) => push(&mut values, value)?,
             Err(stop) => return Err(further(stop, at)),
         }
         at = at.saturating_add(text.len()).saturating_add(1);

@@ -12,13 +12,13 @@ use crate::command::{command_of, lowered, words_of};
 use crate::copy::CopyIn;
 use crate::extended::Binding;
 use crate::fault::Fault;
+use crate::parts::{bound_of, formats_of, prepared_of, results_of, types_of, values_of};
 use crate::portals::{Names, Plan, Portal};
 use crate::script::{Pair, Script, Statement};
 use crate::settings::Settings;
 use crate::text::{first_of, trimmed};
 use crate::transaction::{Status, Transaction};
 use bytes::BytesMut;
-use pgp_base::FallibleIterator;
 use pgp_frontend_read::ClientMessage;
 use pgp_message_write as reply;
 use std::alloc::{AllocError, Global};
@@ -348,50 +348,46 @@ impl<'h> Session<'h> {
         message: &mut ClientMessage<'_>,
         out: &mut BytesMut,
     ) -> Result<(), Fault> {
+        if self.is_skipping {
+            return self.answer_in_place(message, out);
+        }
         match message {
-            ClientMessage::Bind {
-                portal,
-                statement,
-                formats,
-                values,
-                result_formats,
-            } if !self.is_skipping => {
-                let formats = listed(self.alloc, formats)?;
-                let values = listed(self.alloc, values)?;
-                let results = listed(self.alloc, result_formats)?;
-                let binding = Binding {
-                    portal,
-                    statement,
-                    formats: &formats,
-                    values: &values,
-                    results: &results,
-                };
-                self.bind(&binding, out)
-            }
-            ClientMessage::Parse {
-                name,
-                query,
-                param_types,
-            } if !self.is_skipping => {
-                let types = listed(self.alloc, param_types)?;
-                self.parse(name, query, &types, out)
-            }
-            other => self.answer_in_place(other, out),
+            ClientMessage::Bind { .. } => self.answer_bind(message, out),
+            ClientMessage::Parse { .. } => self.answer_parse(message, out),
+            _ => self.answer_in_place(message, out),
         }
     }
-}
 
-/// All items.
-fn listed<I: FallibleIterator>(alloc: Global, items: &mut I) -> Result<Vec<I::Item>, Fault>
-where
-    I::Item: Drop,
-{
-    let mut list = Vec::new(alloc);
-    for _ in 0..u64::MAX {
-        match items.next()? {
-            Some(item) => list.push(item).map_err(AllocError::from)?,
-            None => return Ok(list),
+    fn answer_bind(
+        &mut self,
+        message: &mut ClientMessage<'_>,
+        out: &mut BytesMut,
+    ) -> Result<(), Fault> {
+        let formats = formats_of(self.alloc, message)?;
+        let values = values_of(self.alloc, message)?;
+        let results = results_of(self.alloc, message)?;
+        let Some((portal, statement)) = bound_of(message) else {
+            return Ok(());
+        };
+        let binding = Binding {
+            portal,
+            statement,
+            formats: &formats,
+            values: &values,
+            results: &results,
+        };
+        self.bind(&binding, out)
+    }
+
+    fn answer_parse(
+        &mut self,
+        message: &mut ClientMessage<'_>,
+        out: &mut BytesMut,
+    ) -> Result<(), Fault> {
+        let types = types_of(self.alloc, message)?;
+        match prepared_of(message) {
+            Some((name, query)) => self.parse(name, query, &types, out),
+            None => Ok(()),
         }
     }
-    Ok(list)
 }

@@ -60,10 +60,10 @@ impl Settings {
             alloc,
             list: Vec::new(alloc),
         };
-        for (name, value) in REPORTED {
+        for (name, value) in &REPORTED {
             settings.add(name, value, true)?;
         }
-        for (name, value) in OTHERS {
+        for (name, value) in &OTHERS {
             settings.add(name, value, false)?;
         }
         Ok(settings)

@@ -25,7 +25,7 @@ impl Status {
 }
 
 /// A warning of a command that changes nothing.
-#[derive(Clone, Copy, PartialEq, Eq)]
+#[derive(Clone, Copy)]
 pub(crate) enum Warning {
     /// `25001`: a transaction is there.
     InTransaction,

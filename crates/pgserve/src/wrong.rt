@@ -3,7 +3,7 @@
 use std::alloc::AllocError;
 
 /// Why a line of a script has no meaning.
-#[derive(Clone, Copy, PartialEq, Eq)]
+#[derive(Clone, Copy)]
 pub(crate) enum Wrong {
     /// It begins with no word of scripts.
     Word,
@@ -72,7 +72,7 @@ impl Wrong {
 }
 
 /// Why a line isn't read.
-#[derive(Clone, Copy, PartialEq, Eq)]
+#[derive(Clone, Copy)]
 pub(crate) enum Stop {
     Memory,
     /// By what stands after the first word.
@@ -88,7 +88,7 @@ impl From<AllocError> for Stop {
 }
 
 /// A fault, and where it stands.
-#[derive(Clone, Copy, PartialEq, Eq)]
+#[derive(Clone, Copy)]
 pub(crate) struct Place {
     pub(crate) line: usize,
     /// The byte in the line, from 1 on.
