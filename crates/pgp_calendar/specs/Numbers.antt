@@ -1,6 +1,6 @@
 -- A server counts days from 2000-01-01 and microseconds from its midnight; `jiff` counts days and nanoseconds from 1970-01-01.
 -- PostgreSQL manual, "Date/Time Types"; the numbers as a server sends them.
-use Rattle.std.specs.Prelude.{◌≡◌, ℕ, ◌*◌, ◌<◌, ℤ, pos, ◌+ℤ◌, ◌*ℤ◌, ◌≤ℤ◌, ◌<ℤ◌}
+use Rattle.std.specs.Prelude.{ℤ, pos, ◌+ℤ◌, ◌*ℤ◌, ◌≤ℤ◌, ◌<ℤ◌}
 
 -- 2000-01-01 was this many days after 1970-01-01
 abbrev pub day_1970 : ℤ → ℤ

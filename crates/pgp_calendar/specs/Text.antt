@@ -1,6 +1,6 @@
 -- The text in which a server shows a day and a time, under `DateStyle` `ISO` and with the time zone `UTC`.
 -- PostgreSQL manual, "Date/Time Types", "Date/Time Output".
-use Rattle.std.specs.Prelude.{◌≡◌, ℕ, zero, suc, ◌/◌, ◌%◌, ◌*◌, nat_lt, if◌then◌else◌, ℤ, pos, negsuc, ◌*ℤ◌, ◌≤ℤ◌, List, [], ◌∷◌, ◌++◌, length, codes, Option, None, Result, Ok, Err, ⊤, ◌+◌, ◌⊎◌}
+use Rattle.std.specs.Prelude.{◌≡◌, ℕ, zero, suc, ◌/◌, ◌%◌, nat_lt, if◌then◌else◌, ℤ, pos, negsuc, ◌*ℤ◌, ◌≤ℤ◌, List, [], ◌∷◌, ◌++◌, length, codes, None, Result, Ok, Err, ⊤, ◌+◌, ◌⊎◌}
 use Rattle.jiff_core.specs.declared.civil.date.Date.{Date}
 use Rattle.jiff_core.specs.declared.civil.time.Time.{Time}
 use Rattle.jiff_core.specs.declared.civil.datetime.DateTime.{DateTime}

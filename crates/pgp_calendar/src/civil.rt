@@ -11,6 +11,7 @@ use jiff_core::civil;
 
 // From 1970-01-01 to 2000-01-01.
 const DAYS: i64 = 10_957;
+
 const MICROSECONDS: i128 = 946_684_800_000_000;
 
 /// The day of a `date`, which counts from 2000-01-01.

@@ -8,6 +8,7 @@
 mod civil;
 mod digits;
 mod error;
+pub mod laws;
 mod text;
 
 pub use civil::{
