@@ -1,4 +1,5 @@
 mod Addresses
+mod Announced
 mod Alls
 mod ClientFronts
 mod ClientPlaces
@@ -10,12 +11,14 @@ mod Extensions
 mod Fronts
 mod Handed
 mod Items
+mod ListWriting
 mod Listings
 mod Lists
 mod NeverMemory
 mod Openings
 mod Pairs
 mod Plain
+mod PointLists
 mod Putting
 mod Replies
 mod ReplyLists

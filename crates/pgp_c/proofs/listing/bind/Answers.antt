@@ -12,7 +12,7 @@ use Rattle.pgp_c.specs.Lists.{error_of, value_of}
 use Rattle.pgp_c.proofs.BindRefusals.{bind_refused}
 use Rattle.pgp_c.proofs.Lists.{keeps, all_made, all_received, all_same, fused, same_bind}
 use Rattle.pgp_c.proofs.Sending.{sends, refuses}
-use Rattle.pgp_c.proofs.listing.pgp_bind.Goals as goal
+use Rattle.pgp_c.proofs.listing.bind.Goals as goal
 
 pub bind-answer-requires-clause-owes : goal.bind-answer-requires-clause-owes
 bind-answer-requires-clause-owes c = λ f f' x b b' r p s. keeps x.now window_lacks (window_held b.now) (window_held b'.now) r (search rules)

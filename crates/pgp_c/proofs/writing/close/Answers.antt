@@ -1,7 +1,7 @@
 use Rattle.std.proofs.Common.{rules, refl}
 use Rattle.pgp_frontend.specs.ClientMessage.{Close}
 use Rattle.pgp_c.proofs.Sending.{sends_ended, refuses_ended}
-use Rattle.pgp_c.proofs.writing.pgp_close.Goals as goal
+use Rattle.pgp_c.proofs.writing.close.Goals as goal
 
 pub returns-clause-sent : goal.returns-clause-sent
 returns-clause-sent c z =

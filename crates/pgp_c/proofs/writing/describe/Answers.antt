@@ -1,7 +1,7 @@
 use Rattle.std.proofs.Common.{rules, refl}
 use Rattle.pgp_frontend.specs.ClientMessage.{Describe}
 use Rattle.pgp_c.proofs.Sending.{sends_ended, refuses_ended}
-use Rattle.pgp_c.proofs.writing.pgp_describe.Goals as goal
+use Rattle.pgp_c.proofs.writing.describe.Goals as goal
 
 pub returns-clause-sent : goal.returns-clause-sent
 returns-clause-sent c z =
