@@ -1,6 +1,7 @@
 mod Addresses
 mod Announced
 mod Alls
+mod ArrayShapes
 mod ClientFronts
 mod ClientPlaces
 mod Compound

@@ -1,5 +1,5 @@
 -- A writer of a value into the memory of a caller, from the core's answer, which the call after it reported.
-use Rattle.std.proofs.Common.{◌≡◌, ◌≢◌, ◌⊎◌, ℕ, List, [], length, take, None, Some, OnOk, Result, Ok, Err, refl, ap, subst, ◌∙◌, inl, inr, arith}
+use Rattle.std.proofs.Common.{◌≡◌, ◌⊎◌, ℕ, List, [], length, take, None, Some, OnOk, Result, Ok, Err, refl, ap, subst, ◌∙◌, inl, inr, arith}
 use Rattle.std.specs.Borrow.{GName}
 use Rattle.std.specs.Prelude.{IfErr}
 use Rattle.pgp_base.specs.Cause.{Wants, WantsMemory}

@@ -1,3 +1,4 @@
+pub mod ArrayWriting
 pub mod ClientFront
 pub mod ClientParts
 pub mod ClientPlaces

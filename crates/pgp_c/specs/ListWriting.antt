@@ -1,5 +1,5 @@
 -- What a writer of a value that may have no spelling comes to.
-use Rattle.std.specs.Prelude.{◌≡◌, ◌≢◌, ◌⊎◌, ℕ, ◌<◌, List, length, map, Some, None}
+use Rattle.std.specs.Prelude.{◌≡◌, ◌⊎◌, ℕ, ◌<◌, List, length, map, Some, None}
 use Rattle.std.specs.List.{flat_map}
 use Rattle.pgp_base.specs.Cause.{Cause, first}
 use Rattle.pgp_base.specs.Error.{number_of}

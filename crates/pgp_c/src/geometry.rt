@@ -54,7 +54,7 @@ pub struct PgpCircle {
 }
 
 /// The point.
-pub fn shown(point: Point) -> PgpPoint
+pub(crate) fn shown(point: Point) -> PgpPoint
     ensures { point_of result ≡ point }
 {
     PgpPoint {

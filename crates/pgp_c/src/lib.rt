@@ -3,6 +3,7 @@
 
 mod address;
 mod array;
+mod array_writing;
 mod bits;
 mod client_front;
 mod client_places;

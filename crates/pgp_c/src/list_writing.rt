@@ -55,7 +55,7 @@ pub fn put_list<T: Written, B: Buffer>(items: &[T], buf: &mut B) -> Result<(), E
 }
 
 /// The items, one after another.
-fn put_items<T: Written, B: Buffer>(items: &[T], buf: &mut B) -> Result<(), Error>
+pub fn put_items<T: Written, B: Buffer>(items: &[T], buf: &mut B) -> Result<(), Error>
     ensures ok { OnOk result ((items_cause T.item (map T.meaning items.now) ≡ None) × (B.held buf.new ≡ B.held buf.old ⊕ items_bytes T.item (map T.meaning items.now))) }
     ensures cause { IfErr result (λ e. WantsMemory (Wants B.Lacks (B.held buf.old) (length (items_bytes T.item (map T.meaning items.now)))) e ⊎ (items_cause T.item (map T.meaning items.now) ≡ Some e)) }
 {

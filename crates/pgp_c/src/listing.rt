@@ -69,7 +69,7 @@ pub extern "C" fn pgp_bind(
 }
 
 /// The same message, whatever the formats are.
-pub fn bind(
+pub(crate) fn bind(
     portal: &[u8],
     statement: &[u8],
     formats: &[i16],

@@ -46,7 +46,7 @@ pub extern "C" fn pgp_close(variant: u8, name: &[u8], out: &mut [u8], written: &
 }
 
 /// The same message, whatever the letter is.
-pub fn close(variant: u8, name: &[u8], out: &mut [u8], written: &mut usize) -> u32
+pub(crate) fn close(variant: u8, name: &[u8], out: &mut [u8], written: &mut usize) -> u32
     ensures sent { result ≡ 0 → Sent (Close variant name.now) out.old out.new written.new }
     ensures refused { result ≢ 0 → NotSent (Close variant name.now) out.old written.new result }
 {
@@ -69,7 +69,7 @@ pub extern "C" fn pgp_describe(variant: u8, name: &[u8], out: &mut [u8], written
 }
 
 /// The same message, whatever the letter is.
-pub fn describe(variant: u8, name: &[u8], out: &mut [u8], written: &mut usize) -> u32
+pub(crate) fn describe(variant: u8, name: &[u8], out: &mut [u8], written: &mut usize) -> u32
     ensures sent { result ≡ 0 → Sent (Describe variant name.now) out.old out.new written.new }
     ensures refused { result ≢ 0 → NotSent (Describe variant name.now) out.old written.new result }
 {

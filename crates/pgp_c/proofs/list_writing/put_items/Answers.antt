@@ -1,4 +1,4 @@
-use Rattle.std.proofs.Common.{rules, Some, sym, ap, subst, ◌∙◌, length, inl, inr}
+use Rattle.std.proofs.Common.{rules, sym, ap, subst, ◌∙◌, length, inl, inr}
 use Rattle.pgp_base.specs.Cause.{Wants, WantsMemory}
 use Rattle.pgp_base.specs.Held.{◌⊕◌}
 use Rattle.pgp_base.proofs.Parts.{if_err_at}

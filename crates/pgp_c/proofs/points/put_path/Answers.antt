@@ -1,5 +1,4 @@
-use Rattle.std.proofs.Common.{rules, map, arith, inl, inr, sym, ap, ◌∙◌, ◌++◌, length, length-append}
-use Rattle.pgp_base.specs.Wire.{uint32}
+use Rattle.std.proofs.Common.{map, arith, inl, inr, sym, ◌∙◌, length-append}
 use Rattle.pgp_types.specs.Scalar.{bool_bytes}
 use Rattle.pgp_base.proofs.Needs.{memory_more, memory_then}
 use Rattle.pgp_values.specs.Polygon.{polygon}

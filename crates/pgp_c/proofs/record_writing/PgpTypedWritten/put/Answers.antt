@@ -1,5 +1,6 @@
 use Rattle.std.proofs.Common.{arith, inl, inr, length-append}
 use Rattle.pgp_base.specs.Wire.{oid, nullable}
+use Rattle.pgp_base.proofs.PartLemmas.{oid_number}
 use Rattle.pgp_base.proofs.Needs.{memory_more, memory_then}
 use Rattle.pgp_c.specs.Lists.{value_of}
 use Rattle.pgp_c.proofs.Handed.{err_then}
@@ -9,7 +10,7 @@ pub returns-in-Err-clause-cause : goal.returns-in-Err-clause-cause
 returns-in-Err-clause-cause g c =
     let type = oid c.args.self.now.of_type in
     let value = nullable (value_of c.args.self.now.value) in
-    inl (memory_more _ _ _ _ (omega (arith, length-append type value)) c.in-Err.ensures.cause)
+    inl (memory_more _ 4 _ _ (omega (arith, length-append type value, oid_number.len c.args.self.now.of_type)) c.in-Err.ensures.cause)
 
 pub returns-in-Ok-clause-cause : goal.returns-in-Ok-clause-cause
 returns-in-Ok-clause-cause g c =
