@@ -187,10 +187,32 @@ static void lists(void)
     { uint8_t out[16]; size_t n = 77; same("too long", pgp_put_record(fields, 1, out, sizeof out, &n), PGP_E_TOO_LARGE); same("nothing", n, 0); }
 }
 
+static void arrays(void)
+{
+    static const struct pgp_dimension square[2] = {{2, 1}, {2, 1}}, low[1] = {{2, -1}}, flat[2] = {{0, 1}, {2, 1}}, negative[2] = {{2, 1}, {-1, 1}};
+    static const struct pgp_dimension many[3] = {{65536, 1}, {65536, 1}, {-1, 1}}, none_then[2] = {{0, 1}, {2147483647, 1}};
+    struct pgp_value four[4];
+    uint8_t out[64];
+    size_t n = 77, count;
+    four[0] = pgp_value("\0\0\0\1", 4); four[1] = pgp_value("\0\0\0\2", 4); four[2] = pgp_value("\0\0\0\3", 4); four[3] = pgp_value("\0\0\0\4", 4);
+    /* {{1,2},{3,4}} of int4, [-1:0]={1,2}, and {}: as a server sends them */
+    WRITER("2 by 2", "\0\0\0\2\0\0\0\0\0\0\0\x17\0\0\0\2\0\0\0\1\0\0\0\2\0\0\0\1\0\0\0\4\0\0\0\1\0\0\0\4\0\0\0\2\0\0\0\4\0\0\0\3\0\0\0\4\0\0\0\4", pgp_put_array_of(23, square, 2, four, 4, O));
+    WRITER("from -1", "\0\0\0\1\0\0\0\0\0\0\0\x17\0\0\0\2\xff\xff\xff\xff\0\0\0\4\0\0\0\1\0\0\0\4\0\0\0\2", pgp_put_array_of(23, low, 1, four, 2, O));
+    four[1] = pgp_value(NULL, 0);
+    WRITER("a null", "\0\0\0\1\0\0\0\1\0\0\0\x17\0\0\0\2\xff\xff\xff\xff\0\0\0\4\0\0\0\1\xff\xff\xff\xff", pgp_put_array_of(23, low, 1, four, 2, O));
+    WRITER("no dimensions", "\0\0\0\0\0\0\0\0\0\0\0\x17", pgp_put_array_of(23, NULL, 0, NULL, 0, O));
+    WRITER("0 by 2", "\0\0\0\2\0\0\0\0\0\0\0\x17\0\0\0\0\0\0\0\1\0\0\0\2\0\0\0\1", pgp_put_array_of(23, flat, 2, NULL, 0, O));
+    for (count = 0; count < 4; count++) { n = 77; same("too few", pgp_put_array_of(23, square, 2, four, count, out, sizeof out, &n), PGP_E_INVALID_SIZE); same("nothing", n, 0); }
+    n = 77; same("an element of no dimension", pgp_put_array_of(23, NULL, 0, four, 1, out, sizeof out, &n), PGP_E_INVALID_SIZE); same("nothing", n, 0);
+    n = 77; same("negative", pgp_put_array_of(23, negative, 2, four, 2, out, sizeof out, &n), PGP_E_INVALID_DIMENSION); same("nothing", n, 0);
+    n = 77; same("too many, before a negative one", pgp_put_array_of(23, many, 3, four, 2, out, sizeof out, &n), PGP_E_TOO_MANY_ELEMENTS); same("nothing", n, 0);
+    same("none, of any length", pgp_put_array_of(23, none_then, 2, NULL, 0, out, sizeof out, &n), PGP_OK); same("28 bytes", n, 28);
+}
+
 void shapes(void)
 {
 #if defined(__x86_64__) && defined(__GNUC__)
     same("this processor", pgp_runs_here(), 1);
 #endif
-    requests(); missing(); shapes_of(); small(); lists();
+    requests(); missing(); shapes_of(); small(); lists(); arrays();
 }

@@ -535,6 +535,10 @@ struct pgp_dimension { int32_t len, lower_bound; };
 pgp_status pgp_get_array(const uint8_t *bytes, size_t len, struct pgp_array *value);
 /* To write one: an array of one dimension, whose index begins at 1; each element in the format of its type, or a null. */
 pgp_status pgp_put_array(uint32_t element_type, const struct pgp_value *elements, size_t count, PGP_OUT);
+/* The same of any dimensions; the elements come row by row, the last dimension the fastest. PGP_E_INVALID_DIMENSION for a negative length, PGP_E_TOO_MANY_ELEMENTS
+   for a product past 2,147,483,647, PGP_E_INVALID_SIZE where it isn't the number of elements. No dimensions are an array of nothing. */
+pgp_status pgp_put_array_of(uint32_t element_type, const struct pgp_dimension *dimensions, size_t dimension_count,
+                            const struct pgp_value *elements, size_t count, PGP_OUT);
 pgp_status pgp_dimension_next(const uint8_t *bytes, size_t len, struct pgp_cursor *cursor, struct pgp_dimension *dimension);
 pgp_status pgp_element_next(const uint8_t *bytes, size_t len, struct pgp_cursor *cursor, struct pgp_column *element);
 /* All elements in one call, as pgp_row_all. */
