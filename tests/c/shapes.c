@@ -25,7 +25,7 @@ static void requests(void)
         n = 77; same("close", pgp_close((uint8_t)letter, B("x"), out, sizeof out, &n), want); same("written", n, want ? 0 : 8);
         s.len = 0; same("describe in a stream", pgp_stream_describe(&s, (uint8_t)letter, B("x")), want); same("pending", s.len, want ? 0 : 8);
         s.len = 0; same("close in a stream", pgp_stream_close(&s, (uint8_t)letter, B("x")), want); same("pending", s.len, want ? 0 : 8);
-        s.len = 65; same("no letter comes first", pgp_stream_close(&s, (uint8_t)letter, B("x")), want ? want : PGP_NO_ROOM);
+        s.len = 65; same("no letter comes first", pgp_stream_close(&s, (uint8_t)letter, B("x")), want ? want : (pgp_status)PGP_NO_ROOM);
     }
     for (which = 0; which < 4; which++)
         for (given = 0; given < 4; given++)
