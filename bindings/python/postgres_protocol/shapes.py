@@ -243,7 +243,8 @@ def get_macaddr8(data: Bytes) -> bytes:
 def put_cidr(value: Any) -> bytes:
     """A `cidr`, of a network of `ipaddress` or its text."""
     network = ip_network(str(value))
-    return written(lambda *out: _put_cidr(*text(network.network_address.packed), network.prefixlen, *out))
+    packed = network.network_address.packed
+    return written(lambda *out: _put_cidr(*text(packed), network.prefixlen, *out))
 
 
 def put_inet_any(address: Bytes, netmask: int) -> bytes:
