@@ -10,7 +10,8 @@ use Rattle.pgp_base.proofs.PartLemmas.{front_again, oid_number}
 use Rattle.pgp_base.proofs.Parts.{length-uint32}
 use Rattle.pgp_message.specs.Stream as server
 use Rattle.pgp_frontend_read.specs.Step as client
-use Rattle.pgp_c.specs.Missing.{IsMissing, less, missing_from}
+use Rattle.pgp_c.specs.Missing.{IsMissing}
+use Rattle.pgp_c.specs.MissingReading.{less, missing_from}
 
 few : (at : ℕ) (bytes : List ℕ) → length bytes < at + 4 → IsMissing at bytes (missing_from (drop at bytes))
 few at bytes short =

@@ -15,7 +15,8 @@ use Rattle.pgp_frontend_read.specs.declared.error.ClientError.TheVariants.{Unkno
 use Rattle.pgp_c.specs.ClientFront.{Misses, ReportsClient, ShowsAll, code_of, kind_reported}
 use Rattle.pgp_c.specs.ClientParts.{ArePartsInside, Shows, no_client_parts}
 use Rattle.pgp_c.specs.ClientPlaces.{after_text, numbers_at, past, place}
-use Rattle.pgp_c.specs.Missing.{IsMissing, missing_from}
+use Rattle.pgp_c.specs.Missing.{IsMissing}
+use Rattle.pgp_c.specs.MissingReading.{missing_from}
 use Rattle.pgp_c.proofs.Announced.{of_client}
 use Rattle.pgp_c.specs.declared.client_front.PgpClientMessage.{PgpClientMessage}
 use Rattle.pgp_c.specs.declared.client_places.PgpClientParts.{PgpClientParts}

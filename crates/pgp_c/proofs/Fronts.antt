@@ -14,7 +14,8 @@ use Rattle.pgp_message.specs.Stream.{Frame, frame_bytes, TakesFrame, Step}
 use Rattle.pgp_c.specs.declared.front.PgpMessage.{PgpMessage}
 use Rattle.pgp_c.specs.declared.front.PgpParts.{PgpParts}
 use Rattle.pgp_c.specs.Front.{Misses, Reported, code_of as code_reported, kind_reported, ShowsAll}
-use Rattle.pgp_c.specs.Missing.{IsMissing, missing_from}
+use Rattle.pgp_c.specs.Missing.{IsMissing}
+use Rattle.pgp_c.specs.MissingReading.{missing_from}
 use Rattle.pgp_c.proofs.Announced.{of_server}
 use Rattle.pgp_c.specs.Parts.{IsInside, Shows, no_parts, part, stands}
 use Rattle.pgp_c.specs.Places.{place, first_of, second_of}

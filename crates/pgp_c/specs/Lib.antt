@@ -12,6 +12,7 @@ pub mod ListWriting
 pub mod Listings
 pub mod Lists
 pub mod Missing
+pub mod MissingReading
 pub mod Opening
 pub mod PartPlaces
 pub mod Parts

@@ -1,7 +1,7 @@
 //! How many bytes are missing to a complete message.
 
 ghost use Rattle.std.specs.Prelude.{◌≡◌, drop};
-ghost use Rattle.pgp_c.specs.Missing.{missing_from};
+ghost use Rattle.pgp_c.specs.MissingReading.{missing_from};
 
 use pgp_base::reading::oid_at;
 
