@@ -29,11 +29,11 @@ use Rattle.pgp_frontend_read.proofs.OneStep.{step_one}
 use Rattle.pgp_frontend_read.proofs.Refusals.{partial_waits}
 use Rattle.pgp_frontend_read.proofs.Steps.{step_fault}
 use Rattle.pgp_line.specs.declared.style.Style.{Style}
-use Rattle.pgp_line.specs.Line.{Part, Number, Text, Word, closing, followed}
+use Rattle.pgp_line.specs.Line.{Part, Count, Key, ListEnds, Number, ObjectEnds, Text, closing, followed, key as named}
 use Rattle.pgp_trace.specs.declared.side.Phase.{Phase}
 use Rattle.pgp_trace.specs.declared.side.Phase.TheVariants.{Beginning, Messages, Encrypted}
 use Rattle.pgp_trace.specs.Client.{client_line}
-use Rattle.pgp_trace.specs.Shown.{Shows, ShowsCounted, ShowsMarked, ShowsTexts, called, list_of}
+use Rattle.pgp_trace.specs.Shown.{Shows, ShowsCounted, ShowsMarked, ShowsTexts, called, closed, list_of}
 use Rattle.pgp_trace.specs.Sides.{Side, Server, Client, Ends, IsRefusedPacket, answered, expected, is_reported, kinds_behind, phase_behind}
 use Rattle.pgp_trace.specs.Listing.{GoesOn, IsAnswerLine, IsListing, IsLineOf, IsNextLine, IsServerLine, LineOf, Lines, NoLines, OneLine, answer_line, client_front, front, last_line, place_behind}
 use Rattle.pgp_trace.proofs.ClientStreams.{behind, frame_some, one_first}
@@ -46,13 +46,13 @@ counted_one : {V : Type 0} (Spelled : ℕ → V → List ℕ → Type 0) (Refuse
     → ShowsCounted Spelled Refused parts style count bytes old new → ShowsCounted Spelled Refused parts style count bytes old other → new ≡ other
 counted_one Spelled Refused parts style count bytes old new other has a b =
     let same = has.one count bytes a.items b.items a.end b.end a.list b.list in
-    a.text ∙ ap (λ xs. followed style old (Number (pos count) ∷ list_of parts xs a.end)) same.0 ∙ ap (λ e. followed style old (Number (pos count) ∷ list_of parts b.items e)) same.1 ∙ sym b.text
+    a.text ∙ ap (λ xs. followed style old (Count count ∷ list_of parts xs a.end)) same.0 ∙ ap (λ e. followed style old (Count count ∷ list_of parts b.items e)) same.1 ∙ sym b.text
 
-marked_one : {V : Type 0} (Spelled : ℕ → V → List ℕ → Type 0) (Refused : List ℕ → Error → Type 0) (parts : V → List Part) (style : Style) (bytes old new other : List ℕ) → HasOneMarkedList Spelled Refused
-    → ShowsMarked Spelled Refused parts style bytes old new → ShowsMarked Spelled Refused parts style bytes old other → new ≡ other
-marked_one Spelled Refused parts style bytes old new other has a b =
+marked_one : {V : Type 0} (Spelled : ℕ → V → List ℕ → Type 0) (Refused : List ℕ → Error → Type 0) (close : Part) (parts : V → List Part) (style : Style) (bytes old new other : List ℕ) → HasOneMarkedList Spelled Refused
+    → ShowsMarked Spelled Refused close parts style bytes old new → ShowsMarked Spelled Refused close parts style bytes old other → new ≡ other
+marked_one Spelled Refused close parts style bytes old new other has a b =
     let same = has.one bytes a.items b.items a.end b.end a.list b.list in
-    a.text ∙ ap (λ xs. followed style old (list_of parts xs a.end)) same.0 ∙ ap (λ e. followed style old (list_of parts b.items e)) same.1 ∙ sym b.text
+    a.text ∙ ap (λ xs. followed style old (closed close parts xs a.end)) same.0 ∙ ap (λ e. followed style old (closed close parts b.items e)) same.1 ∙ sym b.text
 
 texts_one : (style : Style) (utf8 : Type 0) (parts : List Part) (body old new other : List ℕ) → ShowsTexts style utf8 parts body old new → ShowsTexts style utf8 parts body old other → new ≡ other
 texts_one style utf8 parts body old new other (inl a) (inl b) = a.1 ∙ sym b.1
@@ -84,21 +84,21 @@ fields = one_marked_list ErrorFieldSpelled ErrorFieldRefused (λ place. error_fi
 shows_one : (style : Style) (m : Message) (old new other : List ℕ) → Shows style m old new → Shows style m old other → new ≡ other
 shows_one style (Authentication (AuthenticationMd5Password salt)) old new other a b = a ∙ sym b
 shows_one style (Authentication (AuthenticationGssContinue bytes)) old new other a b = a ∙ sym b
-shows_one style (Authentication (AuthenticationSasl bytes)) old new other a b = marked_one TextSpelled TextRefused _ style bytes _ new other texts a b
+shows_one style (Authentication (AuthenticationSasl bytes)) old new other a b = marked_one TextSpelled TextRefused ListEnds _ style bytes _ new other texts a b
 shows_one style (Authentication (AuthenticationSaslContinue bytes)) old new other a b = a ∙ sym b
 shows_one style (Authentication (AuthenticationSaslFinal bytes)) old new other a b = a ∙ sym b
 shows_one style (NotificationResponse n) old new other a b = texts_one style (IsUtf8 n.channel × IsUtf8 n.message)
-    (Word (codes "process") ∷ Number n.process_id ∷ Word (codes "channel") ∷ Text n.channel ∷ Word (codes "payload") ∷ Text n.message ∷ []) (payload_of (NotificationResponse n)) old new other a b
-shows_one style (CommandComplete tag) old new other a b = texts_one style (IsUtf8 tag) (Word (codes "tag") ∷ Text tag ∷ []) (payload_of (CommandComplete tag)) old new other a b
+    (Key (codes "process") (codes "process_id") ∷ Number n.process_id ∷ named (codes "channel") ∷ Text n.channel ∷ named (codes "payload") ∷ Text n.message ∷ []) (payload_of (NotificationResponse n)) old new other a b
+shows_one style (CommandComplete tag) old new other a b = texts_one style (IsUtf8 tag) (Key (codes "tag") (codes "command_tag") ∷ Text tag ∷ []) (payload_of (CommandComplete tag)) old new other a b
 shows_one style (DataRow row) old new other a b = counted_one RangeSpelled RangeRefused _ style row.count row.storage _ new other ranges a b
-shows_one style (ErrorResponse bytes) old new other a b = marked_one ErrorFieldSpelled ErrorFieldRefused _ style bytes old new other fields a b
+shows_one style (ErrorResponse bytes) old new other a b = marked_one ErrorFieldSpelled ErrorFieldRefused ObjectEnds _ style bytes _ new other fields a b
 shows_one style (CopyInResponse copy) old new other a b = counted_one FormatSpelled FormatRefused _ style copy.count copy.storage _ new other formats a b
 shows_one style (CopyOutResponse copy) old new other a b = counted_one FormatSpelled FormatRefused _ style copy.count copy.storage _ new other formats a b
 shows_one style (BackendKeyData key) old new other a b = a ∙ sym b
 shows_one style (NegotiateProtocolVersion n) old new other a b = counted_one TextSpelled TextRefused _ style n.count n.options _ new other options a b
-shows_one style (NoticeResponse bytes) old new other a b = marked_one ErrorFieldSpelled ErrorFieldRefused _ style bytes old new other fields a b
+shows_one style (NoticeResponse bytes) old new other a b = marked_one ErrorFieldSpelled ErrorFieldRefused ObjectEnds _ style bytes _ new other fields a b
 shows_one style (ParameterStatus setting) old new other a b = texts_one style (IsUtf8 setting.name × IsUtf8 setting.value)
-    (Word (codes "name") ∷ Text setting.name ∷ Word (codes "value") ∷ Text setting.value ∷ []) (payload_of (ParameterStatus setting)) old new other a b
+    (Key (codes "name") (codes "parameter") ∷ Text setting.name ∷ named (codes "value") ∷ Text setting.value ∷ []) (payload_of (ParameterStatus setting)) old new other a b
 shows_one style (RowDescription row) old new other a b = counted_one FieldSpelled FieldRefused _ style row.count row.storage _ new other columns a b
 shows_one style (ReadyForQuery status) old new other a b = a ∙ sym b
 shows_one style (CopyData bytes) old new other a b = a ∙ sym b
