@@ -1,10 +1,17 @@
 //! Sessions of a server and a client, and their objects: written by `python3 expected/objects.py` from its tables.
 
-/// A server's messages, of each form of a value, and refused frames.
+/// A server's messages, of each form of a value, and rejected frames.
 pub const ANSWERS: &[u8] = b"\
     R\x00\x00\x00\x17\x00\x00\x00\nSCRAM-SHA-256\x00\x00\
     R\x00\x00\x00\x1b\x00\x00\x00\x0br=abc,s=QUJD,i=4096\
     R\x00\x00\x00\x0c\x00\x00\x00\x05\x01\"\n\xff\
+    R\x00\x00\x00\x0e\x00\x00\x00\x0cv=QUJD\
+    R\x00\x00\x00\x08\x00\x00\x00\x02\
+    R\x00\x00\x00\x08\x00\x00\x00\x03\
+    R\x00\x00\x00\x08\x00\x00\x00\x06\
+    R\x00\x00\x00\x08\x00\x00\x00\x07\
+    R\x00\x00\x00\n\x00\x00\x00\x08ab\
+    R\x00\x00\x00\x08\x00\x00\x00\t\
     R\x00\x00\x00\x08\x00\x00\x00\x00\
     S\x00\x00\x00\x0bname\x00\xff\x00\
     S\x00\x00\x00\x11TimeZone\x00UTC\x00\
@@ -27,6 +34,15 @@ pub const ANSWERS: &[u8] = b"\
     G\x00\x00\x00\x0b\x00\x00\x02\x00\x00\x00\x00\
     H\x00\x00\x00\t\x01\x00\x01\x00\x01\
     d\x00\x00\x00\x081\ta\n\
+    c\x00\x00\x00\x04\
+    1\x00\x00\x00\x04\
+    2\x00\x00\x00\x04\
+    3\x00\x00\x00\x04\
+    n\x00\x00\x00\x04\
+    s\x00\x00\x00\x04\
+    I\x00\x00\x00\x04\
+    V\x00\x00\x00\x0b\x00\x00\x00\x03abc\
+    W\x00\x00\x00\x07\x00\x00\x00\
     Z\x00\x00\x00\x05T\
     Z\x00\x00\x00\x05\n\
     \n\x00\x00\x00\x04\
@@ -39,32 +55,48 @@ pub const ANSWER_OBJECTS: &str = "\
     {\"offset\":0,\"length\":24,\"tag\":\"R\",\"name\":\"AuthenticationSASL\",\"mechanisms\":[\"SCRAM-SHA-256\"]}\n\
     {\"offset\":24,\"length\":28,\"tag\":\"R\",\"name\":\"AuthenticationSASLContinue\",\"data\":{\"bytes\":19}}\n\
     {\"offset\":52,\"length\":13,\"tag\":\"R\",\"name\":\"AuthenticationMD5Password\",\"salt\":{\"bytes\":4}}\n\
-    {\"offset\":65,\"length\":9,\"tag\":\"R\",\"name\":\"AuthenticationOk\"}\n\
-    {\"offset\":74,\"length\":12,\"tag\":\"S\",\"name\":\"ParameterStatus\",\"bytes\":{\"hex\":\"6e616d6500ff00\"}}\n\
-    {\"offset\":86,\"length\":18,\"tag\":\"S\",\"name\":\"ParameterStatus\",\"parameter\":\"TimeZone\",\"value\":\"UTC\"}\n\
-    {\"offset\":104,\"length\":13,\"tag\":\"K\",\"name\":\"BackendKeyData\",\"process_id\":4711,\"secret_key\":{\"bytes\":4}}\n\
-    {\"offset\":117,\"length\":19,\"tag\":\"t\",\"name\":\"ParameterDescription\",\"types\":[{\"oid\":23,\"name\":\"int4\"},{\"oid\":25,\"name\":\"text\"},{\"oid\":16385}]}\n\
-    {\"offset\":136,\"length\":49,\"tag\":\"T\",\"name\":\"RowDescription\",\"columns\":[{\"name\":\"a\\u000ab\",\"table\":16384,\"column\":1,\"type\":{\"oid\":23,\"name\":\"int4\"},\"size\":4,\"modifier\":-1,\"format\":0},{\"name\":\"c\",\"table\":0,\"column\":0,\"type\":{\"oid\":16385},\"size\":-1,\"modifier\":7,\"format\":1}]}\n\
-    {\"offset\":185,\"length\":33,\"tag\":\"D\",\"name\":\"DataRow\",\"values\":[\"1\",null,\"\",\"a\\\"b\\\\c\\u000a\\u001b[m\"]}\n\
-    {\"offset\":218,\"length\":33,\"tag\":\"D\",\"name\":\"DataRow\",\"values\":[{\"hex\":\"00000005\"},{\"hex\":\"5afc72696368\"},\"null\"]}\n\
-    {\"offset\":251,\"length\":28,\"tag\":\"D\",\"name\":\"DataRow\",\"values\":[\"[\",\"{\",\":\",{\"hex\":\"ff5b\"}]}\n\
-    {\"offset\":279,\"length\":76,\"tag\":\"D\",\"name\":\"DataRow\",\"values\":[\"¡日本 😀 שלום\",\"\\u202e\\u2028\\u009b\\u007f\\ufeff\\ue000\\udb40\\udc01\\udbff\\udfff\",\"\\ud7ff\\u0378\\ufdd0\\ud83f\\udffe\"]}\n\
-    {\"offset\":355,\"length\":76,\"tag\":\"D\",\"name\":\"DataRow\",\"values\":[{\"text\":\"012345678901234567890123456789012345678901234567890123456789abc\",\"bytes\":65}]}\n\
-    {\"offset\":431,\"length\":76,\"tag\":\"D\",\"name\":\"DataRow\",\"values\":[{\"hex\":\"30313233343536373839303132333435363738393031323334353637383930313233343536373839303132333435363738393031323334353637383961626364\",\"bytes\":65}]}\n\
-    {\"offset\":507,\"length\":12,\"tag\":\"D\",\"name\":\"DataRow\",\"values\":[\"1\"],\"fault\":{\"number\":7,\"name\":\"UnexpectedEof\"}}\n\
-    {\"offset\":519,\"length\":7,\"tag\":\"D\",\"name\":\"DataRow\",\"values\":[]}\n\
-    {\"offset\":526,\"length\":14,\"tag\":\"C\",\"name\":\"CommandComplete\",\"command_tag\":\"SELECT 2\"}\n\
-    {\"offset\":540,\"length\":26,\"tag\":\"E\",\"name\":\"ErrorResponse\",\"fields\":{\"severity\":\"ERROR\",\"detail\":{\"hex\":\"6e61ef7665\"},\"Z\":\"x\",\"\\u009b\":\"y\"}}\n\
-    {\"offset\":566,\"length\":20,\"tag\":\"N\",\"name\":\"NoticeResponse\",\"fields\":{\"severity\":\"NOTICE\",\"code\":\"00000\"},\"fault\":{\"number\":7,\"name\":\"UnexpectedEof\"}}\n\
-    {\"offset\":586,\"length\":20,\"tag\":\"A\",\"name\":\"NotificationResponse\",\"process_id\":4711,\"channel\":\"news\",\"payload\":\"hello\"}\n\
-    {\"offset\":606,\"length\":20,\"tag\":\"v\",\"name\":\"NegotiateProtocolVersion\",\"version\":0,\"options\":[\"_pq_.x\"]}\n\
-    {\"offset\":626,\"length\":12,\"tag\":\"G\",\"name\":\"CopyInResponse\",\"format\":0,\"column_formats\":[0,0]}\n\
-    {\"offset\":638,\"length\":10,\"tag\":\"H\",\"name\":\"CopyOutResponse\",\"format\":1,\"column_formats\":[1]}\n\
-    {\"offset\":648,\"length\":9,\"tag\":\"d\",\"name\":\"CopyData\",\"data\":\"1\\u0009a\\u000a\"}\n\
-    {\"offset\":657,\"length\":6,\"tag\":\"Z\",\"name\":\"ReadyForQuery\",\"status\":\"in transaction\"}\n\
-    {\"offset\":663,\"length\":6,\"tag\":\"Z\",\"name\":\"ReadyForQuery\",\"status\":\"\\u000a\"}\n\
-    {\"offset\":669,\"length\":5,\"tag\":\"\\u000a\",\"fault\":{\"number\":5,\"name\":\"UnknownTag\"}}\n\
-    {\"offset\":674,\"length\":9,\"tag\":\"R\",\"fault\":{\"number\":6,\"name\":\"UnknownAuthentication\"}}\n\
+    {\"offset\":65,\"length\":15,\"tag\":\"R\",\"name\":\"AuthenticationSASLFinal\",\"data\":{\"bytes\":6}}\n\
+    {\"offset\":80,\"length\":9,\"tag\":\"R\",\"name\":\"AuthenticationKerberosV5\"}\n\
+    {\"offset\":89,\"length\":9,\"tag\":\"R\",\"name\":\"AuthenticationCleartextPassword\"}\n\
+    {\"offset\":98,\"length\":9,\"tag\":\"R\",\"name\":\"AuthenticationSCMCredential\"}\n\
+    {\"offset\":107,\"length\":9,\"tag\":\"R\",\"name\":\"AuthenticationGSS\"}\n\
+    {\"offset\":116,\"length\":11,\"tag\":\"R\",\"name\":\"AuthenticationGSSContinue\",\"data\":{\"bytes\":2}}\n\
+    {\"offset\":127,\"length\":9,\"tag\":\"R\",\"name\":\"AuthenticationSSPI\"}\n\
+    {\"offset\":136,\"length\":9,\"tag\":\"R\",\"name\":\"AuthenticationOk\"}\n\
+    {\"offset\":145,\"length\":12,\"tag\":\"S\",\"name\":\"ParameterStatus\",\"bytes\":{\"hex\":\"6e616d6500ff00\"}}\n\
+    {\"offset\":157,\"length\":18,\"tag\":\"S\",\"name\":\"ParameterStatus\",\"parameter\":\"TimeZone\",\"value\":\"UTC\"}\n\
+    {\"offset\":175,\"length\":13,\"tag\":\"K\",\"name\":\"BackendKeyData\",\"process_id\":4711,\"secret_key\":{\"bytes\":4}}\n\
+    {\"offset\":188,\"length\":19,\"tag\":\"t\",\"name\":\"ParameterDescription\",\"types\":[{\"oid\":23,\"name\":\"int4\"},{\"oid\":25,\"name\":\"text\"},{\"oid\":16385}]}\n\
+    {\"offset\":207,\"length\":49,\"tag\":\"T\",\"name\":\"RowDescription\",\"columns\":[{\"name\":\"a\\u000ab\",\"table\":16384,\"column\":1,\"type\":{\"oid\":23,\"name\":\"int4\"},\"size\":4,\"modifier\":-1,\"format\":0},{\"name\":\"c\",\"table\":0,\"column\":0,\"type\":{\"oid\":16385},\"size\":-1,\"modifier\":7,\"format\":1}]}\n\
+    {\"offset\":256,\"length\":33,\"tag\":\"D\",\"name\":\"DataRow\",\"values\":[\"1\",null,\"\",\"a\\\"b\\\\c\\u000a\\u001b[m\"]}\n\
+    {\"offset\":289,\"length\":33,\"tag\":\"D\",\"name\":\"DataRow\",\"values\":[{\"hex\":\"00000005\"},{\"hex\":\"5afc72696368\"},\"null\"]}\n\
+    {\"offset\":322,\"length\":28,\"tag\":\"D\",\"name\":\"DataRow\",\"values\":[\"[\",\"{\",\":\",{\"hex\":\"ff5b\"}]}\n\
+    {\"offset\":350,\"length\":76,\"tag\":\"D\",\"name\":\"DataRow\",\"values\":[\"¡日本 😀 שלום\",\"\\u202e\\u2028\\u009b\\u007f\\ufeff\\ue000\\udb40\\udc01\\udbff\\udfff\",\"\\ud7ff\\u0378\\ufdd0\\ud83f\\udffe\"]}\n\
+    {\"offset\":426,\"length\":76,\"tag\":\"D\",\"name\":\"DataRow\",\"values\":[{\"text\":\"012345678901234567890123456789012345678901234567890123456789abc\",\"bytes\":65}]}\n\
+    {\"offset\":502,\"length\":76,\"tag\":\"D\",\"name\":\"DataRow\",\"values\":[{\"hex\":\"30313233343536373839303132333435363738393031323334353637383930313233343536373839303132333435363738393031323334353637383961626364\",\"bytes\":65}]}\n\
+    {\"offset\":578,\"length\":12,\"tag\":\"D\",\"name\":\"DataRow\",\"values\":[\"1\"],\"fault\":{\"number\":7,\"name\":\"UnexpectedEof\"}}\n\
+    {\"offset\":590,\"length\":7,\"tag\":\"D\",\"name\":\"DataRow\",\"values\":[]}\n\
+    {\"offset\":597,\"length\":14,\"tag\":\"C\",\"name\":\"CommandComplete\",\"command_tag\":\"SELECT 2\"}\n\
+    {\"offset\":611,\"length\":26,\"tag\":\"E\",\"name\":\"ErrorResponse\",\"fields\":{\"severity\":\"ERROR\",\"detail\":{\"hex\":\"6e61ef7665\"},\"Z\":\"x\",\"\\u009b\":\"y\"}}\n\
+    {\"offset\":637,\"length\":20,\"tag\":\"N\",\"name\":\"NoticeResponse\",\"fields\":{\"severity\":\"NOTICE\",\"code\":\"00000\"},\"fault\":{\"number\":7,\"name\":\"UnexpectedEof\"}}\n\
+    {\"offset\":657,\"length\":20,\"tag\":\"A\",\"name\":\"NotificationResponse\",\"process_id\":4711,\"channel\":\"news\",\"payload\":\"hello\"}\n\
+    {\"offset\":677,\"length\":20,\"tag\":\"v\",\"name\":\"NegotiateProtocolVersion\",\"version\":0,\"options\":[\"_pq_.x\"]}\n\
+    {\"offset\":697,\"length\":12,\"tag\":\"G\",\"name\":\"CopyInResponse\",\"format\":0,\"column_formats\":[0,0]}\n\
+    {\"offset\":709,\"length\":10,\"tag\":\"H\",\"name\":\"CopyOutResponse\",\"format\":1,\"column_formats\":[1]}\n\
+    {\"offset\":719,\"length\":9,\"tag\":\"d\",\"name\":\"CopyData\",\"data\":\"1\\u0009a\\u000a\"}\n\
+    {\"offset\":728,\"length\":5,\"tag\":\"c\",\"name\":\"CopyDone\"}\n\
+    {\"offset\":733,\"length\":5,\"tag\":\"1\",\"name\":\"ParseComplete\"}\n\
+    {\"offset\":738,\"length\":5,\"tag\":\"2\",\"name\":\"BindComplete\"}\n\
+    {\"offset\":743,\"length\":5,\"tag\":\"3\",\"name\":\"CloseComplete\"}\n\
+    {\"offset\":748,\"length\":5,\"tag\":\"n\",\"name\":\"NoData\"}\n\
+    {\"offset\":753,\"length\":5,\"tag\":\"s\",\"name\":\"PortalSuspended\"}\n\
+    {\"offset\":758,\"length\":5,\"tag\":\"I\",\"name\":\"EmptyQueryResponse\"}\n\
+    {\"offset\":763,\"length\":12,\"tag\":\"V\",\"name\":\"FunctionCallResponse\"}\n\
+    {\"offset\":775,\"length\":8,\"tag\":\"W\",\"name\":\"CopyBothResponse\"}\n\
+    {\"offset\":783,\"length\":6,\"tag\":\"Z\",\"name\":\"ReadyForQuery\",\"status\":\"in transaction\"}\n\
+    {\"offset\":789,\"length\":6,\"tag\":\"Z\",\"name\":\"ReadyForQuery\",\"status\":\"\\u000a\"}\n\
+    {\"offset\":795,\"length\":5,\"tag\":\"\\u000a\",\"fault\":{\"number\":5,\"name\":\"UnknownTag\"}}\n\
+    {\"offset\":800,\"length\":9,\"tag\":\"R\",\"fault\":{\"number\":6,\"name\":\"UnknownAuthentication\"}}\n\
     {\"rest\":4,\"stopped\":false}\n\
     ";
 
@@ -73,33 +105,63 @@ pub const OPEN_OBJECTS: &str = "\
     {\"offset\":0,\"length\":24,\"tag\":\"R\",\"name\":\"AuthenticationSASL\",\"mechanisms\":[\"SCRAM-SHA-256\"]}\n\
     {\"offset\":24,\"length\":28,\"tag\":\"R\",\"name\":\"AuthenticationSASLContinue\",\"data\":\"r=abc,s=QUJD,i=4096\"}\n\
     {\"offset\":52,\"length\":13,\"tag\":\"R\",\"name\":\"AuthenticationMD5Password\",\"salt\":{\"hex\":\"01220aff\"}}\n\
-    {\"offset\":65,\"length\":9,\"tag\":\"R\",\"name\":\"AuthenticationOk\"}\n\
-    {\"offset\":74,\"length\":12,\"tag\":\"S\",\"name\":\"ParameterStatus\",\"bytes\":{\"hex\":\"6e616d6500ff00\"}}\n\
-    {\"offset\":86,\"length\":18,\"tag\":\"S\",\"name\":\"ParameterStatus\",\"parameter\":\"TimeZone\",\"value\":\"UTC\"}\n\
-    {\"offset\":104,\"length\":13,\"tag\":\"K\",\"name\":\"BackendKeyData\",\"process_id\":4711,\"secret_key\":{\"hex\":\"fffffffe\"}}\n\
-    {\"offset\":117,\"length\":19,\"tag\":\"t\",\"name\":\"ParameterDescription\",\"types\":[{\"oid\":23,\"name\":\"int4\"},{\"oid\":25,\"name\":\"text\"},{\"oid\":16385}]}\n\
-    {\"offset\":136,\"length\":49,\"tag\":\"T\",\"name\":\"RowDescription\",\"columns\":[{\"name\":\"a\\u000ab\",\"table\":16384,\"column\":1,\"type\":{\"oid\":23,\"name\":\"int4\"},\"size\":4,\"modifier\":-1,\"format\":0},{\"name\":\"c\",\"table\":0,\"column\":0,\"type\":{\"oid\":16385},\"size\":-1,\"modifier\":7,\"format\":1}]}\n\
-    {\"offset\":185,\"length\":33,\"tag\":\"D\",\"name\":\"DataRow\",\"values\":[\"1\",null,\"\",\"a\\\"b\\\\c\\u000a\\u001b[m\"]}\n\
-    {\"offset\":218,\"length\":33,\"tag\":\"D\",\"name\":\"DataRow\",\"values\":[{\"hex\":\"00000005\"},{\"hex\":\"5afc72696368\"},\"null\"]}\n\
-    {\"offset\":251,\"length\":28,\"tag\":\"D\",\"name\":\"DataRow\",\"values\":[\"[\",\"{\",\":\",{\"hex\":\"ff5b\"}]}\n\
-    {\"offset\":279,\"length\":76,\"tag\":\"D\",\"name\":\"DataRow\",\"values\":[\"¡日本 😀 שלום\",\"\\u202e\\u2028\\u009b\\u007f\\ufeff\\ue000\\udb40\\udc01\\udbff\\udfff\",\"\\ud7ff\\u0378\\ufdd0\\ud83f\\udffe\"]}\n\
-    {\"offset\":355,\"length\":76,\"tag\":\"D\",\"name\":\"DataRow\",\"values\":[\"012345678901234567890123456789012345678901234567890123456789abcü\"]}\n\
-    {\"offset\":431,\"length\":76,\"tag\":\"D\",\"name\":\"DataRow\",\"values\":[{\"hex\":\"30313233343536373839303132333435363738393031323334353637383930313233343536373839303132333435363738393031323334353637383961626364ff\"}]}\n\
-    {\"offset\":507,\"length\":12,\"tag\":\"D\",\"name\":\"DataRow\",\"values\":[\"1\"],\"fault\":{\"number\":7,\"name\":\"UnexpectedEof\"}}\n\
-    {\"offset\":519,\"length\":7,\"tag\":\"D\",\"name\":\"DataRow\",\"values\":[]}\n\
-    {\"offset\":526,\"length\":14,\"tag\":\"C\",\"name\":\"CommandComplete\",\"command_tag\":\"SELECT 2\"}\n\
-    {\"offset\":540,\"length\":26,\"tag\":\"E\",\"name\":\"ErrorResponse\",\"fields\":{\"severity\":\"ERROR\",\"detail\":{\"hex\":\"6e61ef7665\"},\"Z\":\"x\",\"\\u009b\":\"y\"}}\n\
-    {\"offset\":566,\"length\":20,\"tag\":\"N\",\"name\":\"NoticeResponse\",\"fields\":{\"severity\":\"NOTICE\",\"code\":\"00000\"},\"fault\":{\"number\":7,\"name\":\"UnexpectedEof\"}}\n\
-    {\"offset\":586,\"length\":20,\"tag\":\"A\",\"name\":\"NotificationResponse\",\"process_id\":4711,\"channel\":\"news\",\"payload\":\"hello\"}\n\
-    {\"offset\":606,\"length\":20,\"tag\":\"v\",\"name\":\"NegotiateProtocolVersion\",\"version\":0,\"options\":[\"_pq_.x\"]}\n\
-    {\"offset\":626,\"length\":12,\"tag\":\"G\",\"name\":\"CopyInResponse\",\"format\":0,\"column_formats\":[0,0]}\n\
-    {\"offset\":638,\"length\":10,\"tag\":\"H\",\"name\":\"CopyOutResponse\",\"format\":1,\"column_formats\":[1]}\n\
-    {\"offset\":648,\"length\":9,\"tag\":\"d\",\"name\":\"CopyData\",\"data\":\"1\\u0009a\\u000a\"}\n\
-    {\"offset\":657,\"length\":6,\"tag\":\"Z\",\"name\":\"ReadyForQuery\",\"status\":\"in transaction\"}\n\
-    {\"offset\":663,\"length\":6,\"tag\":\"Z\",\"name\":\"ReadyForQuery\",\"status\":\"\\u000a\"}\n\
-    {\"offset\":669,\"length\":5,\"tag\":\"\\u000a\",\"fault\":{\"number\":5,\"name\":\"UnknownTag\"}}\n\
-    {\"offset\":674,\"length\":9,\"tag\":\"R\",\"fault\":{\"number\":6,\"name\":\"UnknownAuthentication\"}}\n\
+    {\"offset\":65,\"length\":15,\"tag\":\"R\",\"name\":\"AuthenticationSASLFinal\",\"data\":\"v=QUJD\"}\n\
+    {\"offset\":80,\"length\":9,\"tag\":\"R\",\"name\":\"AuthenticationKerberosV5\"}\n\
+    {\"offset\":89,\"length\":9,\"tag\":\"R\",\"name\":\"AuthenticationCleartextPassword\"}\n\
+    {\"offset\":98,\"length\":9,\"tag\":\"R\",\"name\":\"AuthenticationSCMCredential\"}\n\
+    {\"offset\":107,\"length\":9,\"tag\":\"R\",\"name\":\"AuthenticationGSS\"}\n\
+    {\"offset\":116,\"length\":11,\"tag\":\"R\",\"name\":\"AuthenticationGSSContinue\",\"data\":\"ab\"}\n\
+    {\"offset\":127,\"length\":9,\"tag\":\"R\",\"name\":\"AuthenticationSSPI\"}\n\
+    {\"offset\":136,\"length\":9,\"tag\":\"R\",\"name\":\"AuthenticationOk\"}\n\
+    {\"offset\":145,\"length\":12,\"tag\":\"S\",\"name\":\"ParameterStatus\",\"bytes\":{\"hex\":\"6e616d6500ff00\"}}\n\
+    {\"offset\":157,\"length\":18,\"tag\":\"S\",\"name\":\"ParameterStatus\",\"parameter\":\"TimeZone\",\"value\":\"UTC\"}\n\
+    {\"offset\":175,\"length\":13,\"tag\":\"K\",\"name\":\"BackendKeyData\",\"process_id\":4711,\"secret_key\":{\"hex\":\"fffffffe\"}}\n\
+    {\"offset\":188,\"length\":19,\"tag\":\"t\",\"name\":\"ParameterDescription\",\"types\":[{\"oid\":23,\"name\":\"int4\"},{\"oid\":25,\"name\":\"text\"},{\"oid\":16385}]}\n\
+    {\"offset\":207,\"length\":49,\"tag\":\"T\",\"name\":\"RowDescription\",\"columns\":[{\"name\":\"a\\u000ab\",\"table\":16384,\"column\":1,\"type\":{\"oid\":23,\"name\":\"int4\"},\"size\":4,\"modifier\":-1,\"format\":0},{\"name\":\"c\",\"table\":0,\"column\":0,\"type\":{\"oid\":16385},\"size\":-1,\"modifier\":7,\"format\":1}]}\n\
+    {\"offset\":256,\"length\":33,\"tag\":\"D\",\"name\":\"DataRow\",\"values\":[\"1\",null,\"\",\"a\\\"b\\\\c\\u000a\\u001b[m\"]}\n\
+    {\"offset\":289,\"length\":33,\"tag\":\"D\",\"name\":\"DataRow\",\"values\":[{\"hex\":\"00000005\"},{\"hex\":\"5afc72696368\"},\"null\"]}\n\
+    {\"offset\":322,\"length\":28,\"tag\":\"D\",\"name\":\"DataRow\",\"values\":[\"[\",\"{\",\":\",{\"hex\":\"ff5b\"}]}\n\
+    {\"offset\":350,\"length\":76,\"tag\":\"D\",\"name\":\"DataRow\",\"values\":[\"¡日本 😀 שלום\",\"\\u202e\\u2028\\u009b\\u007f\\ufeff\\ue000\\udb40\\udc01\\udbff\\udfff\",\"\\ud7ff\\u0378\\ufdd0\\ud83f\\udffe\"]}\n\
+    {\"offset\":426,\"length\":76,\"tag\":\"D\",\"name\":\"DataRow\",\"values\":[\"012345678901234567890123456789012345678901234567890123456789abcü\"]}\n\
+    {\"offset\":502,\"length\":76,\"tag\":\"D\",\"name\":\"DataRow\",\"values\":[{\"hex\":\"30313233343536373839303132333435363738393031323334353637383930313233343536373839303132333435363738393031323334353637383961626364ff\"}]}\n\
+    {\"offset\":578,\"length\":12,\"tag\":\"D\",\"name\":\"DataRow\",\"values\":[\"1\"],\"fault\":{\"number\":7,\"name\":\"UnexpectedEof\"}}\n\
+    {\"offset\":590,\"length\":7,\"tag\":\"D\",\"name\":\"DataRow\",\"values\":[]}\n\
+    {\"offset\":597,\"length\":14,\"tag\":\"C\",\"name\":\"CommandComplete\",\"command_tag\":\"SELECT 2\"}\n\
+    {\"offset\":611,\"length\":26,\"tag\":\"E\",\"name\":\"ErrorResponse\",\"fields\":{\"severity\":\"ERROR\",\"detail\":{\"hex\":\"6e61ef7665\"},\"Z\":\"x\",\"\\u009b\":\"y\"}}\n\
+    {\"offset\":637,\"length\":20,\"tag\":\"N\",\"name\":\"NoticeResponse\",\"fields\":{\"severity\":\"NOTICE\",\"code\":\"00000\"},\"fault\":{\"number\":7,\"name\":\"UnexpectedEof\"}}\n\
+    {\"offset\":657,\"length\":20,\"tag\":\"A\",\"name\":\"NotificationResponse\",\"process_id\":4711,\"channel\":\"news\",\"payload\":\"hello\"}\n\
+    {\"offset\":677,\"length\":20,\"tag\":\"v\",\"name\":\"NegotiateProtocolVersion\",\"version\":0,\"options\":[\"_pq_.x\"]}\n\
+    {\"offset\":697,\"length\":12,\"tag\":\"G\",\"name\":\"CopyInResponse\",\"format\":0,\"column_formats\":[0,0]}\n\
+    {\"offset\":709,\"length\":10,\"tag\":\"H\",\"name\":\"CopyOutResponse\",\"format\":1,\"column_formats\":[1]}\n\
+    {\"offset\":719,\"length\":9,\"tag\":\"d\",\"name\":\"CopyData\",\"data\":\"1\\u0009a\\u000a\"}\n\
+    {\"offset\":728,\"length\":5,\"tag\":\"c\",\"name\":\"CopyDone\"}\n\
+    {\"offset\":733,\"length\":5,\"tag\":\"1\",\"name\":\"ParseComplete\"}\n\
+    {\"offset\":738,\"length\":5,\"tag\":\"2\",\"name\":\"BindComplete\"}\n\
+    {\"offset\":743,\"length\":5,\"tag\":\"3\",\"name\":\"CloseComplete\"}\n\
+    {\"offset\":748,\"length\":5,\"tag\":\"n\",\"name\":\"NoData\"}\n\
+    {\"offset\":753,\"length\":5,\"tag\":\"s\",\"name\":\"PortalSuspended\"}\n\
+    {\"offset\":758,\"length\":5,\"tag\":\"I\",\"name\":\"EmptyQueryResponse\"}\n\
+    {\"offset\":763,\"length\":12,\"tag\":\"V\",\"name\":\"FunctionCallResponse\"}\n\
+    {\"offset\":775,\"length\":8,\"tag\":\"W\",\"name\":\"CopyBothResponse\"}\n\
+    {\"offset\":783,\"length\":6,\"tag\":\"Z\",\"name\":\"ReadyForQuery\",\"status\":\"in transaction\"}\n\
+    {\"offset\":789,\"length\":6,\"tag\":\"Z\",\"name\":\"ReadyForQuery\",\"status\":\"\\u000a\"}\n\
+    {\"offset\":795,\"length\":5,\"tag\":\"\\u000a\",\"fault\":{\"number\":5,\"name\":\"UnknownTag\"}}\n\
+    {\"offset\":800,\"length\":9,\"tag\":\"R\",\"fault\":{\"number\":6,\"name\":\"UnknownAuthentication\"}}\n\
     {\"rest\":4,\"stopped\":false}\n\
+    ";
+
+/// The objects of the answers `NS`.
+pub const TLS_OBJECTS: &str = "\
+    {\"offset\":0,\"length\":1,\"tag\":\"N\",\"name\":\"SSLResponse or GSSENCResponse\"}\n\
+    {\"offset\":1,\"length\":1,\"tag\":\"S\",\"name\":\"SSLResponse\"}\n\
+    {\"rest\":0,\"stopped\":false}\n\
+    ";
+
+/// The objects of the answers `NG`.
+pub const GSS_OBJECTS: &str = "\
+    {\"offset\":0,\"length\":1,\"tag\":\"N\",\"name\":\"SSLResponse or GSSENCResponse\"}\n\
+    {\"offset\":1,\"length\":1,\"tag\":\"G\",\"name\":\"GSSENCResponse\"}\n\
+    {\"rest\":0,\"stopped\":false}\n\
     ";
 
 /// The objects of a client's messages (`SESSION`).

@@ -67,7 +67,7 @@ value_part buffer place = Value (value_at buffer place) ∷ []
 abbrev pub field_parts : ErrorPart → List Part
 field_parts field = key (name_or (field_of field.code) field.code) ∷ Text field.value ∷ []
 
-abbrev pub column_parts : FieldPart → List Part
+unfoldable pub column_parts : FieldPart → List Part
 column_parts column =
     ObjectBegins ∷ Member (codes "name") ∷ Text column.name
     ∷ key (codes "table") ∷ Number (pos column.table_oid)

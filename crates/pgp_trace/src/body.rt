@@ -4,6 +4,7 @@ ghost use Rattle.std.specs.Prelude.{◌≡◌, ◌∷◌, [], pos, Some, OnErr, 
 ghost use Rattle.pgp_base.specs.Walk.{hint_of};
 ghost use Rattle.pgp_message.specs.BackendMessage.{payload_of, Authentication, AuthenticationSasl, NotificationResponse, CommandComplete, DataRow, BackendKeyData, NegotiateProtocolVersion, ParameterStatus, RowDescription, ParameterDescription};
 ghost use Rattle.pgp_message.specs.Views.{view};
+ghost use Rattle.pgp_line.specs.Secret.{secret};
 ghost use Rattle.pgp_line.specs.Line.{Count, Key, Member, ObjectBegins, ObjectEnds, Number, Text, Value, Word, followed, key};
 ghost use Rattle.pgp_trace.specs.Names.{state_of};
 ghost use Rattle.pgp_trace.specs.Shown.{Shows, bare, closed, field_parts, list_of, name_or, number_part};
@@ -128,9 +129,48 @@ fn put_key_data<A: Memory>(
     ensures says { OnOk result (Shows style (BackendKeyData key.now) (string_bytes line.old) (string_bytes line.new)) }
     ensures lacks { OnErr result A.Lacks }
 {
-    put_key(style, "process", "process_id", line)?;
-    put_signed(style, key.process_id(), line)?;
-    put_secret(style, "key", "secret_key", key.secret_key_bytes(), line)
+    put_process_key(style, key.process_id(), key.secret_key_bytes(), line)
+}
+
+/// Adds a process and its key.
+pub fn put_process_key<A: Memory>(
+    style: Style,
+    process_id: i32,
+    key: &[u8],
+    line: &mut String<A>,
+) -> Result<(), AllocError>
+    ensures parts { OnOk result (string_bytes line.new ≡ followed style (string_bytes line.old) (Key (codes "process") (codes "process_id") ∷ Number process_id ∷ Key (codes "key") (codes "secret_key") ∷ secret style key.now ∷ [])) }
+    ensures lacks { OnErr result A.Lacks }
+{
+    put_process(style, process_id, line)?;
+    put_secret(style, "key", "secret_key", key, line)
+}
+
+/// Adds a number that may have a sign, with its name.
+pub fn put_integer<A: Memory>(
+    style: Style,
+    word: &str,
+    name: &str,
+    n: i32,
+    line: &mut String<A>,
+) -> Result<(), AllocError>
+    ensures parts { OnOk result (string_bytes line.new ≡ followed style (string_bytes line.old) (Key word.now name.now ∷ Number n ∷ [])) }
+    ensures lacks { OnErr result A.Lacks }
+{
+    put_key(style, word, name, line)?;
+    put_signed(style, n, line)
+}
+
+/// Adds a process.
+fn put_process<A: Memory>(
+    style: Style,
+    process_id: i32,
+    line: &mut String<A>,
+) -> Result<(), AllocError>
+    ensures parts { OnOk result (string_bytes line.new ≡ followed style (string_bytes line.old) (Key (codes "process") (codes "process_id") ∷ Number process_id ∷ [])) }
+    ensures lacks { OnErr result A.Lacks }
+{
+    put_integer(style, "process", "process_id", process_id, line)
 }
 
 /// Adds the bytes of a body as they are.
@@ -227,8 +267,20 @@ fn put_notification<A: Memory>(
         (Key (codes "process") (codes "process_id") ∷ Number process_id ∷ key (codes "channel") ∷ Text channel.now ∷ key (codes "payload") ∷ Text message.now ∷ [])) }
     ensures lacks { OnErr result A.Lacks }
 {
-    put_key(style, "process", "process_id", line)?;
-    put_signed(style, process_id, line)?;
+    put_process(style, process_id, line)?;
+    put_payload(style, channel, message, line)
+}
+
+/// Adds a channel, and what is said there.
+fn put_payload<A: Memory>(
+    style: Style,
+    channel: &str,
+    message: &str,
+    line: &mut String<A>,
+) -> Result<(), AllocError>
+    ensures parts { OnOk result (string_bytes line.new ≡ followed style (string_bytes line.old) (key (codes "channel") ∷ Text channel.now ∷ key (codes "payload") ∷ Text message.now ∷ [])) }
+    ensures lacks { OnErr result A.Lacks }
+{
     put_named_text(style, "channel", "channel", channel, line)?;
     put_named_text(style, "payload", "payload", message, line)
 }

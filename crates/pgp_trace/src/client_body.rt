@@ -6,7 +6,7 @@ ghost use Rattle.pgp_frontend_read.specs.Whole.{shown};
 ghost use Rattle.pgp_trace.specs.Client.{client_groups, client_value, counted, grouped, first_text, named_object, signed_part, startup_parts};
 ghost use Rattle.pgp_line.specs.Line.{Key, Number, Text, followed, key};
 
-use crate::body::put_copied;
+use crate::body::{put_copied, put_integer, put_process_key};
 use crate::client_lists::{put_formats, put_pairs, put_types, put_values};
 use crate::client_names::object_of;
 use crate::lists::put_named_key;
@@ -45,10 +45,7 @@ pub fn put_client_message<A: Memory>(
         ClientMessage::CancelRequest {
             process_id,
             secret_key,
-        } => {
-            put_integer(style, "process", "process_id", process_id, line)?;
-            put_secret(style, "key", "secret_key", secret_key, line)
-        }
+        } => put_process_key(style, process_id, secret_key, line),
         ClientMessage::Close { variant, name } => put_object(style, variant, name, line),
         ClientMessage::CopyData(bytes) => put_copied(style, bytes, line),
         ClientMessage::CopyFail(message) => put_one(style, "message", message, line),
@@ -155,21 +152,6 @@ fn put_unsigned<A: Memory>(
 {
     put_key(style, name, name, line)?;
     put_number(style, n as u64, line)
-}
-
-/// Adds a number that may have a sign, with its name.
-fn put_integer<A: Memory>(
-    style: Style,
-    word: &str,
-    name: &str,
-    n: i32,
-    line: &mut String<A>,
-) -> Result<(), AllocError>
-    ensures parts { OnOk result (string_bytes line.new ≡ followed style (string_bytes line.old) (Key word.now name.now ∷ Number n ∷ [])) }
-    ensures lacks { OnErr result A.Lacks }
-{
-    put_key(style, word, name, line)?;
-    put_signed(style, n, line)
 }
 
 /// Adds two texts with their names.

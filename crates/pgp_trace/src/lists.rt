@@ -237,6 +237,7 @@ fn put_field<A: Memory>(
 }
 
 /// Adds what describes a column.
+#[tactic(auto, unfolding(crate::specs::Shown::column_parts))]
 fn put_column<A: Memory>(
     style: Style,
     column: &Field<'_>,

@@ -42,6 +42,13 @@ SERVER = [
         message("AuthenticationSASLContinue", data="r=abc,s=QUJD,i=4096"),
     ),
     (b"R", int32(5) + b'\x01"\n\xff', message("AuthenticationMD5Password", salt=hidden(4)), message("AuthenticationMD5Password", salt={"hex": "01220aff"})),
+    (b"R", int32(12) + b"v=QUJD", message("AuthenticationSASLFinal", data=hidden(6)), message("AuthenticationSASLFinal", data="v=QUJD")),
+    (b"R", int32(2), message("AuthenticationKerberosV5")),
+    (b"R", int32(3), message("AuthenticationCleartextPassword")),
+    (b"R", int32(6), message("AuthenticationSCMCredential")),
+    (b"R", int32(7), message("AuthenticationGSS")),
+    (b"R", int32(8) + b"ab", message("AuthenticationGSSContinue", data=hidden(2)), message("AuthenticationGSSContinue", data="ab")),
+    (b"R", int32(9), message("AuthenticationSSPI")),
     (b"R", int32(0), message("AuthenticationOk")),
     (b"S", b"name\0\xff\0", message("ParameterStatus", bytes={"hex": "6e616d6500ff00"})),
     (b"S", b"TimeZone\0UTC\0", message("ParameterStatus", parameter="TimeZone", value="UTC")),
@@ -89,6 +96,15 @@ SERVER = [
     (b"G", b"\0" + int16(2, 0, 0), message("CopyInResponse", format=0, column_formats=[0, 0])),
     (b"H", b"\x01" + int16(1, 1), message("CopyOutResponse", format=1, column_formats=[1])),
     (b"d", b"1\ta\n", message("CopyData", data="1\ta\n")),
+    (b"c", b"", message("CopyDone")),
+    (b"1", b"", message("ParseComplete")),
+    (b"2", b"", message("BindComplete")),
+    (b"3", b"", message("CloseComplete")),
+    (b"n", b"", message("NoData")),
+    (b"s", b"", message("PortalSuspended")),
+    (b"I", b"", message("EmptyQueryResponse")),
+    (b"V", int32(3) + b"abc", message("FunctionCallResponse")),
+    (b"W", b"\0" + int16(0), message("CopyBothResponse")),
     (b"Z", b"T", message("ReadyForQuery", status="in transaction")),
     (b"Z", b"\n", message("ReadyForQuery", status="\n")),
     (b"\n", b"", fault(5, "UnknownTag")),
@@ -171,17 +187,50 @@ def text_literal(lines):
     return '"\\\n' + "".join("    %s\\n\\\n" % text.replace("\\", "\\\\").replace('"', '\\"') for text in lines) + '    "'
 
 
-def main():
+def answers(*bytes_):
+    """A server's one-byte answers, with their names."""
+    return [(place, {"offset": place, "length": 1, "tag": byte.decode(), "name": name}) for place, (byte, name) in enumerate(bytes_)]
+
+
+# No to one request for encryption, and then yes to the other.
+NO = (b"N", "SSLResponse or GSSENCResponse")
+AGREED = [(b"NS", answers(NO, (b"S", "SSLResponse"))), (b"NG", answers(NO, (b"G", "GSSENCResponse")))]
+
+
+def served(style):
+    rows = [(row[0], row[1], row[min(style, len(row) - 1)]) for row in SERVER]
+    return objects(rows, len(REST))
+
+
+def asked():
+    return objects([(row[0], row[1], x) for row, x in zip(SESSION, CLIENT)], 2)
+
+
+def agreed(place):
+    return [line(it) for _, it in AGREED[place][1]] + [line({"rest": 0, "stopped": False})]
+
+
+def listings():
+    """The lines of each stored listing, with its side."""
+    return [("server", served(2)), ("server", served(3)), ("server", agreed(0)), ("server", agreed(1)), ("client", asked())]
+
+
+def stored():
+    """The source with all of them."""
     out = "//! Sessions of a server and a client, and their objects: written by `python3 expected/objects.py` from its tables.\n\n"
-    out += constant("A server's messages, of each form of a value, and refused frames.", "ANSWERS", "&[u8]", "b" + literal([frame(row[0], row[1]) for row in SERVER] + [REST]))
+    out += constant("A server's messages, of each form of a value, and rejected frames.", "ANSWERS", "&[u8]", "b" + literal([frame(row[0], row[1]) for row in SERVER] + [REST]))
     for text, name, style in (("Their objects.", "ANSWER_OBJECTS", 2), ("Their objects, whole and with secrets.", "OPEN_OBJECTS", 3)):
-        rows = [(row[0], row[1], row[min(style, len(row) - 1)]) for row in SERVER]
-        out += constant(text, name, "&str", text_literal(objects(rows, len(REST))))
+        out += constant(text, name, "&str", text_literal(served(style)))
+    for place, name in enumerate(("TLS_OBJECTS", "GSS_OBJECTS")):
+        out += constant("The objects of the answers `%s`." % AGREED[place][0].decode(), name, "&str", text_literal(agreed(place)))
     assert len(CLIENT) == len(SESSION) and len(spelled(SESSION)) == sum(len(frame(row[0], row[1])) for row in SESSION)
-    rows = [(row[0], row[1], x) for row, x in zip(SESSION, CLIENT)]
-    out += constant("The objects of a client's messages (`SESSION`).", "OBJECTS", "&str", text_literal(objects(rows, 2)))
+    out += constant("The objects of a client's messages (`SESSION`).", "OBJECTS", "&str", text_literal(asked()))
+    return out.rstrip("\n") + "\n"
+
+
+def main():
     with open("../pgp_tests_callers/src/trace_objects.rt", "w", encoding="utf-8") as file:
-        file.write(out.rstrip("\n") + "\n")
+        file.write(stored())
 
 
 if __name__ == "__main__":

@@ -20,7 +20,7 @@ returns-in_ok-put_texts-in-Parse-clause-says g c =
     rw c.in-Parse.is (subst (λ l. OnOk c.put_types.result (string_bytes c.put_types.new.line ≡ followed c.args.style l (counted (codes "types") (codes "types") type_part c.in-Parse.param_types))) c.in_ok-put_texts-in-Parse.ensures.parts c.put_types.ensures.parts)
 
 pub returns-in-PasswordMessage-clause-says : goal.returns-in-PasswordMessage-clause-says
-returns-in-PasswordMessage-clause-says g c = rw c.in-PasswordMessage.is c.put_secret-in-PasswordMessage.ensures.parts
+returns-in-PasswordMessage-clause-says g c = rw c.in-PasswordMessage.is c.put_secret.ensures.parts
 
 pub returns-in_ok-put_one-in-SaslInitialResponse-clause-says : goal.returns-in_ok-put_one-in-SaslInitialResponse-clause-says
 returns-in_ok-put_one-in-SaslInitialResponse-clause-says g c =
