@@ -42,7 +42,12 @@ pub const ANSWERS: &[u8] = b"\
     s\x00\x00\x00\x04\
     I\x00\x00\x00\x04\
     V\x00\x00\x00\x0b\x00\x00\x00\x03abc\
+    V\x00\x00\x00\x08\xff\xff\xff\xff\
+    V\x00\x00\x00\x0b\x00\x00\x00\x05abc\
+    V\x00\x00\x00\x08\xff\xff\xff\xfe\
     W\x00\x00\x00\x07\x00\x00\x00\
+    W\x00\x00\x00\x0b\x01\x00\x02\x00\x00\x00\x01\
+    W\x00\x00\x00\x04\
     Z\x00\x00\x00\x05T\
     Z\x00\x00\x00\x05\n\
     \n\x00\x00\x00\x04\
@@ -91,12 +96,17 @@ pub const ANSWER_OBJECTS: &str = "\
     {\"offset\":748,\"length\":5,\"tag\":\"n\",\"name\":\"NoData\"}\n\
     {\"offset\":753,\"length\":5,\"tag\":\"s\",\"name\":\"PortalSuspended\"}\n\
     {\"offset\":758,\"length\":5,\"tag\":\"I\",\"name\":\"EmptyQueryResponse\"}\n\
-    {\"offset\":763,\"length\":12,\"tag\":\"V\",\"name\":\"FunctionCallResponse\"}\n\
-    {\"offset\":775,\"length\":8,\"tag\":\"W\",\"name\":\"CopyBothResponse\"}\n\
-    {\"offset\":783,\"length\":6,\"tag\":\"Z\",\"name\":\"ReadyForQuery\",\"status\":\"in transaction\"}\n\
-    {\"offset\":789,\"length\":6,\"tag\":\"Z\",\"name\":\"ReadyForQuery\",\"status\":\"\\u000a\"}\n\
-    {\"offset\":795,\"length\":5,\"tag\":\"\\u000a\",\"fault\":{\"number\":5,\"name\":\"UnknownTag\"}}\n\
-    {\"offset\":800,\"length\":9,\"tag\":\"R\",\"fault\":{\"number\":6,\"name\":\"UnknownAuthentication\"}}\n\
+    {\"offset\":763,\"length\":12,\"tag\":\"V\",\"name\":\"FunctionCallResponse\",\"result\":\"abc\"}\n\
+    {\"offset\":775,\"length\":9,\"tag\":\"V\",\"name\":\"FunctionCallResponse\",\"result\":null}\n\
+    {\"offset\":784,\"length\":12,\"tag\":\"V\",\"name\":\"FunctionCallResponse\",\"bytes\":{\"hex\":\"00000005616263\"}}\n\
+    {\"offset\":796,\"length\":9,\"tag\":\"V\",\"name\":\"FunctionCallResponse\",\"bytes\":{\"hex\":\"fffffffe\"}}\n\
+    {\"offset\":805,\"length\":8,\"tag\":\"W\",\"name\":\"CopyBothResponse\",\"format\":0,\"column_formats\":[]}\n\
+    {\"offset\":813,\"length\":12,\"tag\":\"W\",\"name\":\"CopyBothResponse\",\"format\":1,\"column_formats\":[0,1]}\n\
+    {\"offset\":825,\"length\":5,\"tag\":\"W\",\"name\":\"CopyBothResponse\",\"bytes\":\"\"}\n\
+    {\"offset\":830,\"length\":6,\"tag\":\"Z\",\"name\":\"ReadyForQuery\",\"status\":\"in transaction\"}\n\
+    {\"offset\":836,\"length\":6,\"tag\":\"Z\",\"name\":\"ReadyForQuery\",\"status\":\"\\u000a\"}\n\
+    {\"offset\":842,\"length\":5,\"tag\":\"\\u000a\",\"fault\":{\"number\":5,\"name\":\"UnknownTag\"}}\n\
+    {\"offset\":847,\"length\":9,\"tag\":\"R\",\"fault\":{\"number\":6,\"name\":\"UnknownAuthentication\"}}\n\
     {\"rest\":4,\"stopped\":false}\n\
     ";
 
@@ -141,12 +151,17 @@ pub const OPEN_OBJECTS: &str = "\
     {\"offset\":748,\"length\":5,\"tag\":\"n\",\"name\":\"NoData\"}\n\
     {\"offset\":753,\"length\":5,\"tag\":\"s\",\"name\":\"PortalSuspended\"}\n\
     {\"offset\":758,\"length\":5,\"tag\":\"I\",\"name\":\"EmptyQueryResponse\"}\n\
-    {\"offset\":763,\"length\":12,\"tag\":\"V\",\"name\":\"FunctionCallResponse\"}\n\
-    {\"offset\":775,\"length\":8,\"tag\":\"W\",\"name\":\"CopyBothResponse\"}\n\
-    {\"offset\":783,\"length\":6,\"tag\":\"Z\",\"name\":\"ReadyForQuery\",\"status\":\"in transaction\"}\n\
-    {\"offset\":789,\"length\":6,\"tag\":\"Z\",\"name\":\"ReadyForQuery\",\"status\":\"\\u000a\"}\n\
-    {\"offset\":795,\"length\":5,\"tag\":\"\\u000a\",\"fault\":{\"number\":5,\"name\":\"UnknownTag\"}}\n\
-    {\"offset\":800,\"length\":9,\"tag\":\"R\",\"fault\":{\"number\":6,\"name\":\"UnknownAuthentication\"}}\n\
+    {\"offset\":763,\"length\":12,\"tag\":\"V\",\"name\":\"FunctionCallResponse\",\"result\":\"abc\"}\n\
+    {\"offset\":775,\"length\":9,\"tag\":\"V\",\"name\":\"FunctionCallResponse\",\"result\":null}\n\
+    {\"offset\":784,\"length\":12,\"tag\":\"V\",\"name\":\"FunctionCallResponse\",\"bytes\":{\"hex\":\"00000005616263\"}}\n\
+    {\"offset\":796,\"length\":9,\"tag\":\"V\",\"name\":\"FunctionCallResponse\",\"bytes\":{\"hex\":\"fffffffe\"}}\n\
+    {\"offset\":805,\"length\":8,\"tag\":\"W\",\"name\":\"CopyBothResponse\",\"format\":0,\"column_formats\":[]}\n\
+    {\"offset\":813,\"length\":12,\"tag\":\"W\",\"name\":\"CopyBothResponse\",\"format\":1,\"column_formats\":[0,1]}\n\
+    {\"offset\":825,\"length\":5,\"tag\":\"W\",\"name\":\"CopyBothResponse\",\"bytes\":\"\"}\n\
+    {\"offset\":830,\"length\":6,\"tag\":\"Z\",\"name\":\"ReadyForQuery\",\"status\":\"in transaction\"}\n\
+    {\"offset\":836,\"length\":6,\"tag\":\"Z\",\"name\":\"ReadyForQuery\",\"status\":\"\\u000a\"}\n\
+    {\"offset\":842,\"length\":5,\"tag\":\"\\u000a\",\"fault\":{\"number\":5,\"name\":\"UnknownTag\"}}\n\
+    {\"offset\":847,\"length\":9,\"tag\":\"R\",\"fault\":{\"number\":6,\"name\":\"UnknownAuthentication\"}}\n\
     {\"rest\":4,\"stopped\":false}\n\
     ";
 

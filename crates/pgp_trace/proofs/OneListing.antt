@@ -34,6 +34,8 @@ use Rattle.pgp_trace.specs.declared.side.Phase.{Phase}
 use Rattle.pgp_trace.specs.declared.side.Phase.TheVariants.{Beginning, Messages, Encrypted}
 use Rattle.pgp_trace.specs.Client.{client_line}
 use Rattle.pgp_trace.specs.Shown.{Shows, ShowsCounted, ShowsMarked, ShowsTexts, called, closed, list_of}
+use Rattle.pgp_trace.specs.Unread.{ShowsCopyBoth, ShowsResult, ShowsUnread, CallResult, CopyBoth, Rejected, copy_parts, result_parts}
+use Rattle.pgp_trace.proofs.PlainBodies.{one_copy, one_result}
 use Rattle.pgp_trace.specs.Sides.{Side, Server, Client, Ends, IsRefusedPacket, answered, expected, is_reported, kinds_behind, phase_behind}
 use Rattle.pgp_trace.specs.Listing.{GoesOn, IsAnswerLine, IsListing, IsLineOf, IsNextLine, IsServerLine, LineOf, Lines, NoLines, OneLine, answer_line, client_front, front, last_line, place_behind}
 use Rattle.pgp_trace.proofs.ClientStreams.{behind, frame_some, one_first}
@@ -117,17 +119,42 @@ shows_one style CopyDone old new other a b = a ∙ sym b
 shows_one style NoData old new other a b = a ∙ sym b
 shows_one style PortalSuspended old new other a b = a ∙ sym b
 
-goes_one : (style : Style) (r : Result Message Error) (old new other : List ℕ) → GoesOn style r old new → GoesOn style r old other → new ≡ other
-goes_one style (Ok m) old new other a b = shows_one style m (followed style old (called m ∷ [])) new other a b
-goes_one style (Err e) old new other a b = a ∙ sym b
+result_one : (style : Style) (body old new other : List ℕ) → ShowsResult style body old new → ShowsResult style body old other → new ≡ other
+result_one style body old new other (inl a) (inl b) = a.2 ∙ ap (λ v. followed style old (result_parts v)) (one_result body a.0 b.0 a.1 b.1) ∙ sym b.2
+result_one style body old new other (inl a) (inr b) = absurd (b.0 a.0 a.1)
+result_one style body old new other (inr a) (inl b) = absurd (a.0 b.0 b.1)
+result_one style body old new other (inr a) (inr b) = a.1 ∙ sym b.1
+
+copy_one : (style : Style) (body old new other : List ℕ) → ShowsCopyBoth style body old new → ShowsCopyBoth style body old other → new ≡ other
+copy_one style body old new other (inl a) (inl b) =
+    let same = one_copy body a.0 b.0 a.1 b.1 a.2 b.2 in
+    a.3 ∙ ap (λ f. followed style old (copy_parts f a.1)) same.0 ∙ ap (λ l. followed style old (copy_parts b.0 l)) same.1 ∙ sym b.3
+copy_one style body old new other (inl a) (inr b) = absurd (b.0 a.0 a.1 a.2)
+copy_one style body old new other (inr a) (inl b) = absurd (a.0 b.0 b.1 b.2)
+copy_one style body old new other (inr a) (inr b) = a.1 ∙ sym b.1
+
+unread_one : (style : Style) (tag : ℕ) (body : List ℕ) (e : Error) (old new other : List ℕ) → ShowsUnread style tag body e old new → ShowsUnread style tag body e old other → new ≡ other
+unread_one style tag body e old new other (CallResult t a) (CallResult u b) = result_one style body _ new other a b
+unread_one style tag body e old new other (CallResult t a) (CopyBoth u b) = absurd (omega (arith, t, u))
+unread_one style tag body e old new other (CallResult t a) (Rejected u v b) = absurd (u t)
+unread_one style tag body e old new other (CopyBoth t a) (CallResult u b) = absurd (omega (arith, t, u))
+unread_one style tag body e old new other (CopyBoth t a) (CopyBoth u b) = copy_one style body _ new other a b
+unread_one style tag body e old new other (CopyBoth t a) (Rejected u v b) = absurd (v t)
+unread_one style tag body e old new other (Rejected t u a) (CallResult v b) = absurd (t v)
+unread_one style tag body e old new other (Rejected t u a) (CopyBoth v b) = absurd (u v)
+unread_one style tag body e old new other (Rejected t u a) (Rejected v w b) = a ∙ sym b
+
+goes_one : (style : Style) (tag : ℕ) (body : List ℕ) (r : Result Message Error) (old new other : List ℕ) → GoesOn style tag body r old new → GoesOn style tag body r old other → new ≡ other
+goes_one style tag body (Ok m) old new other a b = shows_one style m (followed style old (called m ∷ [])) new other a b
+goes_one style tag body (Err e) old new other a b = unread_one style tag body e old new other a b
 
 -- ---- a line
 
 line_of_one : (style : Style) (place : ℕ) (f : Frame) (line other : List ℕ) → IsFrame f → IsLineOf style place f line → IsLineOf style place f other → line ≡ other
 line_of_one style place f line other fits a b =
     let result : a.result ≡ b.result = sym (one_body f.tag f.payload a.result fits.payload a.body) ∙ one_body f.tag f.payload b.result fits.payload b.body in
-    let reported = subst (λ r. GoesOn style r (front style place f) a.text) result a.reported in
-    a.ended ∙ ap (λ t. t ++ closing style ++ 10 ∷ []) (goes_one style b.result (front style place f) a.text b.text reported b.reported) ∙ sym b.ended
+    let reported = subst (λ r. GoesOn style f.tag f.payload r (front style place f) a.text) result a.reported in
+    a.ended ∙ ap (λ t. t ++ closing style ++ 10 ∷ []) (goes_one style f.tag f.payload b.result (front style place f) a.text b.text reported b.reported) ∙ sym b.ended
 
 -- the first frames of bytes, their lines, what stands after them, and what is then known of the side
 pub record Same (f g line other x y : List ℕ) (to too : Side) : Type 0 where

@@ -24,7 +24,8 @@ use Rattle.pgp_trace.specs.Names.{state_of}
 use Rattle.pgp_message.specs.Items.{TextSpelled, TextRefused, FormatSpelled, FormatRefused, TypeSpelled, TypeRefused, RangeSpelled, RangeRefused, FieldSpelled, FieldRefused, ErrorFieldSpelled, ErrorFieldRefused}
 use Rattle.std.specs.Str.{IsAscii, IsUtf8, all_scalars, chars, encode_utf8_all}
 use Rattle.std.specs.Str.Lossy.{utf8_valid_len}
-use Rattle.pgp_trace.specs.Shown.{Shows, ShowsCounted, ShowsMarked, ShowsTexts, bare, called, closed, column_parts, field_parts, list_of, name_or, number_part, text_part, type_part, unread, value_part}
+use Rattle.pgp_trace.specs.Shown.{Shows, ShowsCounted, ShowsMarked, ShowsTexts, bare, called, closed, column_parts, field_parts, list_of, name_or, number_part, refused, text_part, type_part, value_part}
+use Rattle.pgp_trace.specs.Unread.{ShowsCopyBoth, ShowsResult, ShowsUnread, CallResult, CopyBoth, Rejected, copy_parts, result_parts}
 use Rattle.pgp_line.specs.Secret.{secret}
 use Rattle.pgp_frontend.specs.ClientMessage.{ClientMessage}
 use Rattle.pgp_frontend_read.specs.declared.error.ClientError.{ClientError}
@@ -430,12 +431,27 @@ says style CopyDone old new a s = subst IsPrinted (sym s) a
 says style NoData old new a s = subst IsPrinted (sym s) a
 says style PortalSuspended old new a s = subst IsPrinted (sym s) a
 
-result : (style : Style) (r : Result Message Error) (old new : List ℕ) → IsPrinted old → GoesOn style r old new → IsPrinted new
-result style (Ok m) old new a g = says style m (followed style old (called m ∷ [])) new (parts style old (called m ∷ []) a) g
-result style (Err e) old new a g = goes style old new (unread e) a g
+result_printed : (style : Style) (body old new : List ℕ) → IsPrinted old → ShowsResult style body old new → IsPrinted new
+result_printed style body old new a (inl s) = goes style old new (result_parts s.0) a s.2
+result_printed style body old new a (inr s) = goes style old new (bare body) a s.1
+
+copy_printed : (style : Style) (body old new : List ℕ) → IsPrinted old → ShowsCopyBoth style body old new → IsPrinted new
+copy_printed style body old new a (inl s) = goes style old new (copy_parts s.0 s.1) a s.3
+copy_printed style body old new a (inr s) = goes style old new (bare body) a s.1
+
+unread_printed : (style : Style) (tag : ℕ) (body : List ℕ) (e : Error) (old new : List ℕ) → IsPrinted old → ShowsUnread style tag body e old new → IsPrinted new
+unread_printed style tag body e old new a (CallResult t s) =
+    let names = Name false (codes "FunctionCallResponse") ∷ [] in result_printed style body (followed style old names) new (parts style old names a) s
+unread_printed style tag body e old new a (CopyBoth t s) =
+    let names = Name false (codes "CopyBothResponse") ∷ [] in copy_printed style body (followed style old names) new (parts style old names a) s
+unread_printed style tag body e old new a (Rejected t u s) = goes style old new (refused e) a s
+
+result : (style : Style) (tag : ℕ) (body : List ℕ) (r : Result Message Error) (old new : List ℕ) → IsPrinted old → GoesOn style tag body r old new → IsPrinted new
+result style tag body (Ok m) old new a g = says style m (followed style old (called m ∷ [])) new (parts style old (called m ∷ []) a) g
+result style tag body (Err e) old new a g = unread_printed style tag body e old new a g
 
 server_line : (style : Style) (place : ℕ) (f : Frame) (line : List ℕ) → IsLineOf style place f line → (text : List ℕ) × (line ≡ text ++ 10 ∷ []) × IsPrinted text
-server_line style place f line is = (is.text ++ closing style, is.ended, join is.text (closing style) (result style is.result (front style place f) is.text (parts style (opening style place) (Length (length (frame_bytes f)) ∷ Tag f.tag ∷ []) (first style.form place)) is.reported) (last style.form))
+server_line style place f line is = (is.text ++ closing style, is.ended, join is.text (closing style) (result style f.tag f.payload is.result (front style place f) is.text (parts style (opening style place) (Length (length (frame_bytes f)) ∷ Tag f.tag ∷ []) (first style.form place)) is.reported) (last style.form))
 
 groups : (style : Style) (line : List ℕ) (gs : List (List Part)) → IsPrinted line → IsPrinted (grouped style line gs)
 groups style line [] a = a

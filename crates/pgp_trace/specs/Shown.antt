@@ -1,10 +1,9 @@
 -- What the line of each message says after its name. PostgreSQL manual, "Message Formats".
-use Rattle.std.specs.Prelude.{◌≡◌, ◌⊎◌, ℕ, pos, Bool, true, false, List, [], ◌∷◌, ◌++◌, Option, Some, None, ◌==◌, if◌then◌else◌, codes}
+use Rattle.std.specs.Prelude.{◌≡◌, ◌⊎◌, ℕ, pos, Bool, true, false, List, [], ◌∷◌, ◌++◌, Option, Some, None, codes}
 use Rattle.std.specs.Str.{IsUtf8}
 use Rattle.std.specs.declared.ops.Range.{Range}
 use Rattle.pgp_base.specs.Error.{number_of}
 use Rattle.pgp_base.specs.declared.error.Error.{Error}
-use Rattle.pgp_base.specs.declared.error.Error.TheVariants.{UnknownTag}
 use Rattle.pgp_base.specs.Items.{CountedItems, MarkedItems}
 use Rattle.pgp_message.specs.BackendMessage.{AuthenticationOk, AuthenticationKerberosV5, AuthenticationCleartextPassword, AuthenticationScmCredential, AuthenticationGss, AuthenticationSspi, ParseComplete, BindComplete, CloseComplete, EmptyQueryResponse, CopyDone, NoData, PortalSuspended, AuthenticationMd5Password, AuthenticationGssContinue, AuthenticationSasl, AuthenticationSaslContinue, AuthenticationSaslFinal, Message, NotificationResponse, CommandComplete, DataRow, ErrorResponse, CopyInResponse, CopyOutResponse, BackendKeyData, NegotiateProtocolVersion, NoticeResponse, Authentication, ParameterStatus, RowDescription, ReadyForQuery, CopyData, ParameterDescription, payload_of}
 use Rattle.pgp_message.specs.Items.{TextSpelled, TextRefused, FormatSpelled, FormatRefused, TypeSpelled, TypeRefused, RangeSpelled, RangeRefused, FieldPart, FieldSpelled, FieldRefused, ErrorPart, ErrorFieldSpelled, ErrorFieldRefused}
@@ -18,17 +17,6 @@ use Rattle.pgp_trace.specs.Names.{name_of, refusal_of, field_of, state_of}
 -- the error of a frame
 abbrev pub refused : Error → List Part
 refused e = Refusal (number_of e) ∷ Word (refusal_of e) ∷ ObjectEnds ∷ []
-
--- a frame that isn't read, by its tag: a FunctionCallResponse and a CopyBothResponse have their names alone
-abbrev pub unknown : ℕ → List Part
-unknown tag =
-    if tag == 86 then Name true (codes "FunctionCallResponse") ∷ []  -- V
-    else if tag == 87 then Name true (codes "CopyBothResponse") ∷ []  -- W
-    else refused (UnknownTag tag)
-
-abbrev pub unread : Error → List Part
-unread (UnknownTag tag) = unknown tag
-unread e = refused e
 
 -- the end of a list, and why it breaks off where it does
 abbrev pub ending : (close : Part) → Option Error → List Part

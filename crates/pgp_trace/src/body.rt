@@ -174,7 +174,7 @@ fn put_process<A: Memory>(
 }
 
 /// Adds the bytes of a body as they are.
-fn put_bare<A: Memory>(style: Style, body: &[u8], line: &mut String<A>) -> Result<(), AllocError>
+pub fn put_bare<A: Memory>(style: Style, body: &[u8], line: &mut String<A>) -> Result<(), AllocError>
     ensures parts { OnOk result (string_bytes line.new ≡ followed style (string_bytes line.old) (bare body.now)) }
     ensures lacks { OnErr result A.Lacks }
 {
