@@ -5,7 +5,7 @@ use Rattle.std.specs.Int.{w16, from_be_bytes}
 use Rattle.std.proofs.lemmas.Bool.{le-ltb}
 use Rattle.pgp_base.specs.PartReading.{uint16_at}
 use Rattle.pgp_line.specs.declared.style.Style.{Style}
-use Rattle.pgp_line.specs.Line.{Part, Count, Key, ListEnds, Number, followed}
+use Rattle.pgp_line.specs.Line.{Count, Key, ListEnds, Number, followed}
 use Rattle.pgp_trace.specs.PlainBody.{numbers_of}
 use Rattle.pgp_trace.specs.Shown.{list_of, number_part}
 use Rattle.pgp_trace.proofs.PlainBodies.{some_is}

@@ -1,6 +1,6 @@
 -- The bodies of the two messages that `pgp_message` doesn't read.
 use Rattle.std.proofs.Common.{◌≡◌, ℕ, zero, suc, ◌*◌, ◌<◌, ◌≤◌, ◌^◌, Bool, true, false, List, [], ◌∷◌, ◌++◌, length, drop, get_or, Option, Some, None, Result, Ok, Err, refl, sym, ap, subst, ◌∙◌, arith, length-append}
-use Rattle.std.specs.Prelude.{◌/◌, All, nat_le, ◌==◌, if◌then◌else◌}
+use Rattle.std.specs.Prelude.{◌/◌, All, ◌==◌, if◌then◌else◌}
 use Rattle.std.specs.Int.{w16, w32, from_be_bytes}
 use Rattle.std.specs.List.{flat_map}
 use Rattle.std.proofs.lemmas.Bool.{eqb-true, le-leb}
@@ -109,10 +109,11 @@ pairs_spelled (suc n) (a ∷ []) bytes len = absurd (omega (arith, len))
 pairs_spelled (suc n) (a ∷ b ∷ rest) bytes len =
     let front : List ℕ = a ∷ b ∷ [] in
     let behind = pairs_spelled n rest (λ i. bytes (suc (suc i))) (omega (arith, len)) in
-    let one : front ≡ uint16 (from_be_bytes w16 front) = sym (uint16_number.spelled front (front_bytes a b (bytes 0) (bytes 1)) refl) in
-    (ap (λ l. l ++ rest) one ∙ ap (λ l. uint16 (from_be_bytes w16 front) ++ l) behind.0 ∙ sym (flat_map-cons uint16 (from_be_bytes w16 front) (numbers_of rest)),
-     ap suc behind.1,
-     All-cons (λ n. n < 2 ^ 16) (from_be_bytes w16 front) (numbers_of rest) (uint16_number.fits front (front_bytes a b (bytes 0) (bytes 1))) behind.2)
+    let one : front ≡ uint16 (from_be_bytes w16 front) = sym (uint16_number.spelled front (front_bytes a b (bytes 0) (bytes 1)) refl) in (
+      ap (λ l. l ++ rest) one ∙ ap (λ l. uint16 (from_be_bytes w16 front) ++ l) behind.0 ∙ sym (flat_map-cons uint16 (from_be_bytes w16 front) (numbers_of rest)),
+      ap suc behind.1,
+      All-cons (λ n. n < 2 ^ 16) (from_be_bytes w16 front) (numbers_of rest) (uint16_number.fits front (front_bytes a b (bytes 0) (bytes 1))) behind.2,
+    )
 
 -- ---- CopyBothResponse
 

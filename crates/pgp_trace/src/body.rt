@@ -21,8 +21,8 @@ use pgp_line::secret::put_secret;
 use pgp_line::style::Style;
 use pgp_message::{
     AuthenticationSaslBody, BackendKeyDataBody, ColumnFormats, CommandCompleteBody, DataRowBody,
-    ErrorFields, Message, NegotiateProtocolVersionBody, NotificationResponseBody, ParameterDescriptionBody,
-    ParameterStatusBody, RowDescriptionBody,
+    ErrorFields, Message, NegotiateProtocolVersionBody, NotificationResponseBody,
+    ParameterDescriptionBody, ParameterStatusBody, RowDescriptionBody,
 };
 use std::alloc::AllocError;
 
@@ -38,7 +38,13 @@ pub fn put_message<A: Memory>(
     ensures lacks { OnErr result A.Lacks }
 {
     match message {
-        Message::AuthenticationMd5Password(salt) => put_secret(style, "salt", "salt", &salt.salt(), line),
+        Message::AuthenticationMd5Password(salt) => put_secret(
+            style,
+            "salt",
+            "salt",
+            &salt.salt(),
+            line,
+        ),
         Message::AuthenticationGssContinue(token) => {
             put_secret(style, "data", "data", token.data(), line)
         }
@@ -46,7 +52,9 @@ pub fn put_message<A: Memory>(
         Message::AuthenticationSaslContinue(text) => {
             put_secret(style, "data", "data", text.data(), line)
         }
-        Message::AuthenticationSaslFinal(text) => { put_secret(style, "data", "data", text.data(), line) }
+        Message::AuthenticationSaslFinal(text) => {
+            put_secret(style, "data", "data", text.data(), line)
+        }
         Message::BackendKeyData(key) => put_key_data(style, key, line),
         Message::CommandComplete(command) => put_command(style, command, body, line),
         Message::CopyData(copy) => put_copied(style, copy.data(), line),
@@ -63,9 +71,7 @@ pub fn put_message<A: Memory>(
         Message::NotificationResponse(news) => put_news(style, news, body, line),
         Message::ParameterDescription(types) => put_parameters(style, types, line),
         Message::ParameterStatus(setting) => put_setting(style, setting, body, line),
-        Message::ReadyForQuery(ready) => {
-            put_status(style, ready.status(), line)
-        }
+        Message::ReadyForQuery(ready) => { put_status(style, ready.status(), line) }
         Message::RowDescription(row) => put_description(style, row, line),
         Message::AuthenticationCleartextPassword
         | Message::AuthenticationGss
@@ -174,7 +180,11 @@ fn put_process<A: Memory>(
 }
 
 /// Adds the bytes of a body as they are.
-pub fn put_bare<A: Memory>(style: Style, body: &[u8], line: &mut String<A>) -> Result<(), AllocError>
+pub fn put_bare<A: Memory>(
+    style: Style,
+    body: &[u8],
+    line: &mut String<A>,
+) -> Result<(), AllocError>
     ensures parts { OnOk result (string_bytes line.new ≡ followed style (string_bytes line.old) (bare body.now)) }
     ensures lacks { OnErr result A.Lacks }
 {

@@ -72,7 +72,9 @@ pub fn put_client_message<A: Memory>(
             put_texts(style, "statement", name, "query", query, line)?;
             put_types(style, "types", "types", param_types, line)
         }
-        ClientMessage::PasswordMessage(password) => put_secret(style, "password", "password", password, line),
+        ClientMessage::PasswordMessage(password) => put_secret(
+            style, "password", "password", password, line,
+        ),
         ClientMessage::Query(query) => put_one(style, "query", query, line),
         ClientMessage::SaslInitialResponse {
             mechanism,

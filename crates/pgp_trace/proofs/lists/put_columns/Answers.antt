@@ -1,4 +1,4 @@
-use Rattle.std.proofs.Common.{◌≡◌, rules}
+use Rattle.std.proofs.Common.{rules}
 use Rattle.std.specs.Prelude.{string_bytes}
 use Rattle.pgp_base.specs.Walk.{TakesItem}
 use Rattle.pgp_line.specs.Line.{ListEnds, followed}

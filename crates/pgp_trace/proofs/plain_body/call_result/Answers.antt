@@ -1,4 +1,4 @@
-use Rattle.std.proofs.Common.{◌≡◌, ◌≤◌, ℕ, List, [], length, Some, None, rules, sym, ap, ◌∙◌, arith}
+use Rattle.std.proofs.Common.{◌≡◌, ◌≤◌, length, Some, rules, arith}
 use Rattle.pgp_base.specs.PartReading.{oid_at}
 use Rattle.pgp_base.specs.Wire.{IsBytes}
 use Rattle.pgp_trace.proofs.PlainBodies.{a_null, a_value, is_nothing, is_something, no_length, no_null, no_value, unread}
