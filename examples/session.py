@@ -23,7 +23,7 @@ import subprocess
 import sys
 
 PROGRAM = os.environ.get("PGTRACE") or pathlib.Path(__file__).resolve().parent.parent / "crates" / "pgtrace" / "out" / "pgtrace"
-COLUMNS = re.compile(r" *(\d+) +(\d+) \S+ (.*)")
+COLUMNS = re.compile(r" *(\d+) +(\d+) (?:\S+| ) (.*)")
 # the message of tag `p` that the server's message asks for
 ASKS = {
     "AuthenticationCleartextPassword": "password",

@@ -16,7 +16,7 @@ from postgres import TOP, fail
 
 PROGRAM = os.environ.get("PGTRACE") or TOP / "crates" / "pgtrace" / "out" / "pgtrace"
 KINDS = [word for kind in ("password", "initial", "initial", "response") for word in ("--password-kind", kind)]
-LINE = re.compile(r" *(\d+) +(\d+) (\S+) (.*)")
+LINE = re.compile(r" *(\d+) +(\d+) (\S+| ) (.*)")
 REST = re.compile(r"(stopped )?rest (\d+)")
 STEERING = ("Cc", "Cf", "Co", "Cs", "Zl", "Zp")
 LENGTHS = (0, 1, 3, 4, 5, 8, 64, 65, 255, 256, 0x7FFF, 0xFFFF, 0x10000, 0x7FFFFFFF, 0x80000000, 0xFFFFFFFF)
