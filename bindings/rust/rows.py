@@ -48,6 +48,19 @@ fn main() -> std::io::Result<()> {
 '''
 
 
+#: the module of rows that stands on a crate of the kit that has no place in the package
+LEFT_OUT = 'calendar'
+
+
+def without_left_out(text):
+    """The program's list of modules and files without that one: its module, its variant, its file and its call."""
+    kept = [line for line in text.split('\n') if LEFT_OUT not in line.lower()]
+    count = re.search(r'\[\(&str, Family\); (\d+)\]', text)
+    if len(kept) != text.count('\n') + 1 - 4 or not count:
+        raise Unknown(f'crates/pgp_rows/src/main.rt: {LEFT_OUT} stands in another number of lines than four')
+    return '\n'.join(kept).replace(count[0], f'[(&str, Family); {int(count[1]) - 1}]')
+
+
 def row_module(name):
     text = erase(open(os.path.join(generate.top, 'crates/pgp_rows/src', name)).read())
     if name == 'codec.rt':
@@ -58,6 +71,7 @@ def row_module(name):
     for old, new in WORDS:
         text = text.replace(old, new)
     if name == 'main.rt':
+        text = without_left_out(text)
         text = re.sub(*PATTERNS[0], text)
         text = re.sub(*PATTERNS[1], text)
         text = re.sub(*PATTERNS[2], text, flags=re.M)
@@ -74,6 +88,8 @@ def row_module(name):
 def main(out):
     generate.generate(out, ['postgres_protocol'])
     for name in generate.sources('pgp_rows'):
+        if name == LEFT_OUT + '.rt':
+            continue
         generate.write(os.path.join(out, 'src/proved/pgp_rows', 'mod.rs' if name == 'main.rt' else name[:-3] + '.rs'), row_module(name))
     with open(os.path.join(out, 'src/proved/mod.rs'), 'a') as mods:
         mods.write('pub mod pgp_rows;\n')

@@ -4,6 +4,7 @@
 mod addresses;
 mod arrays;
 mod bodies;
+mod calendar;
 mod client;
 mod client_parts;
 mod client_read;
@@ -69,9 +70,10 @@ enum Family {
     Numerics,
     Values,
     Formats,
+    Calendar,
 }
 
-const FILES: [(&str, Family); 23] = [
+const FILES: [(&str, Family); 24] = [
     ("client.rows", Family::Client),
     ("client_read.rows", Family::ClientRead),
     ("client_replaced.rows", Family::ClientRead),
@@ -95,6 +97,7 @@ const FILES: [(&str, Family); 23] = [
     ("numerics.rows", Family::Numerics),
     ("values.rows", Family::Values),
     ("formats.rows", Family::Formats),
+    ("calendar.rows", Family::Calendar),
 ];
 
 /// Makes the call of a row.
@@ -121,6 +124,7 @@ fn check(alloc: Global, family: Family, row: &Row<'_>, out: &mut Shown) -> Resul
         Family::Numerics => check_numeric(alloc, row, out),
         Family::Values => check_value::<Values>(alloc, row, out),
         Family::Formats => check_answer::<formats::Formats>(alloc, row, out),
+        Family::Calendar => check_answer::<calendar::Calendar>(alloc, row, out),
     }
 }
 

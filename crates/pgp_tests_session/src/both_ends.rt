@@ -118,6 +118,15 @@ fn fail(out: &mut BytesMut) -> Result<(), Error> {
 }
 
 impl Server {
+    fn new() -> Server {
+        Server {
+            serving: Serving::new(),
+            read: 0,
+            opened: false,
+            skipping: false,
+        }
+    }
+
     /// Takes all messages that the client has written, and appends the answers.
     fn take(&mut self, rt: &HostRuntime, sent: &[u8], out: &mut BytesMut) -> Result<(), Fail> {
         let rest = match sent.get(self.read..) {
@@ -224,6 +233,16 @@ struct Tally {
     failed: u64,
 }
 
+impl Tally {
+    fn new() -> Tally {
+        Tally {
+            rows: 0,
+            astray: 0,
+            failed: 0,
+        }
+    }
+}
+
 /// Counts a message, and returns whether it ends the session.
 fn count(
     rt: &HostRuntime,
@@ -284,34 +303,51 @@ fn exchange(
     Ok(())
 }
 
-/// A session of some requests, of which several are sent before the server takes them.
-fn play(rt: &HostRuntime, seed: u64) -> Result<(Tally, bool), Fail> {
-    let mut dice = Dice(seed);
-    let mut connection = client(rt, b"pencil")?;
-    let mut server = Server {
-        serving: Serving::new(),
-        read: 0,
-        opened: false,
-        skipping: false,
-    };
-    let mut tally = Tally {
-        rows: 0,
-        astray: 0,
-        failed: 0,
-    };
+/// The log-in.
+fn greet(
+    rt: &HostRuntime,
+    connection: &mut Connection<'_>,
+    server: &mut Server,
+    tally: &mut Tally,
+) -> Result<(), Fail> {
+    let mut dice = Dice(1);
     for _ in 0..3 {
-        exchange(rt, &mut connection, &mut server, &mut dice, &mut tally)?;
+        exchange(rt, connection, server, &mut dice, tally)?;
     }
+    Ok(())
+}
+
+/// A session of some requests, of which several are sent before the server takes them.
+fn requests(
+    rt: &HostRuntime,
+    connection: &mut Connection<'_>,
+    server: &mut Server,
+    dice: &mut Dice,
+    tally: &mut Tally,
+) -> Result<(), Fail> {
+    greet(rt, connection, server, tally)?;
     let mut name = 1;
     for _ in 0..dice.below(12) {
-        name = ask(rt, &mut connection, &mut dice, name)?;
+        name = ask(rt, connection, dice, name)?;
         if dice.below(3) == 0 {
-            exchange(rt, &mut connection, &mut server, &mut dice, &mut tally)?;
+            exchange(rt, connection, server, dice, tally)?;
         }
     }
     connection.sync()?;
-    exchange(rt, &mut connection, &mut server, &mut dice, &mut tally)?;
-    Ok((tally, connection.is_idle()))
+    exchange(rt, connection, server, dice, tally)
+}
+
+/// Plays such a session, and returns what came of it, and whether the client awaits nothing more.
+fn play(rt: &HostRuntime, seed: u64) -> Result<(Tally, bool), Fail> {
+    let mut dice = Dice(seed);
+    let mut server = Server::new();
+    let mut tally = Tally::new();
+    let mut connection = client(rt, b"pencil")?;
+    let played = requests(rt, &mut connection, &mut server, &mut dice, &mut tally);
+    let idle = connection.is_idle();
+    drop(connection);
+    played?;
+    Ok((tally, idle))
 }
 
 #[test]
@@ -329,24 +365,15 @@ fn a_thousand_sessions_of_both_ends(rt: HostRuntime) -> Result<(), Fail> {
 
 #[test]
 fn another_password_is_not_let_in(rt: HostRuntime) -> Result<(), Fail> {
+    let mut server = Server::new();
+    let mut tally = Tally::new();
     let mut connection = client(&rt, b"pencils")?;
-    let mut server = Server {
-        serving: Serving::new(),
-        read: 0,
-        opened: false,
-        skipping: false,
-    };
-    let mut dice = Dice(1);
-    let mut tally = Tally {
-        rows: 0,
-        astray: 0,
-        failed: 0,
-    };
-    for _ in 0..3 {
-        exchange(&rt, &mut connection, &mut server, &mut dice, &mut tally)?;
-    }
+    let greeted = greet(&rt, &mut connection, &mut server, &mut tally);
+    let logged_in = connection.is_logged_in();
+    drop(connection);
+    greeted?;
     same_at(&rt, 0, tally.failed, 1);
-    holds(&rt, !connection.is_logged_in());
+    holds(&rt, !logged_in);
     same_at(&rt, 0, server.serving.phase, ServingPhase::Over);
     Ok(())
 }

@@ -1,0 +1,19 @@
+//! Dates and times on the calendar: what the numbers of `date`, `time`, `timestamp` and `timestamptz` are for the kit's `jiff`, and the
+//! texts in which a server shows them under `DateStyle` `ISO`.
+//!
+//! PostgreSQL manual, "Date/Time Types". `jiff` has the years from -9999 to 9999, where 0 is the year before 1; a server's further years have
+//! no value of it.
+#![tactic(auto)]
+
+mod civil;
+mod digits;
+mod error;
+pub mod laws;
+mod text;
+
+pub use civil::{
+    date_from_civil, date_to_civil, time_from_civil, time_to_civil, timestamp_from_civil,
+    timestamp_to_civil, timestamptz_from_instant, timestamptz_to_instant,
+};
+pub use error::TextError;
+pub use text::{date_to_text, time_to_text, timestamp_to_text, timestamptz_to_text};
