@@ -15,8 +15,8 @@ ASKED = {"StartupMessage": "Startup", **{name: name for name in ("Query", "Parse
 
 
 def part(message, key):
-    """The value after this key of a line's list; a text that is cut ends with dots."""
-    value = message[message.index(key) + 1] if key in message[1:] else ""
+    """The member of this name; a text that is cut ends with dots."""
+    value = message.get(key, "")
     return value["text"] + ".." if isinstance(value, dict) and "text" in value else str(value)
 
 
@@ -31,7 +31,7 @@ class Answers:
 
     def client(self, message, when):
         """The number of a request; None of a message that is none."""
-        name = message[0]
+        name = message["name"]
         asked = ASKED.get(name) or (("DescribePortal" if "portal" in message else "DescribeStatement") if name == "Describe" else None)
         if asked is None:
             return None
@@ -55,7 +55,7 @@ class Answers:
     def server(self, message, when):
         """The number of the request that a message answers, and the seconds since it was sent; None where it answers none, `?` from the first
         message on that has no place there."""
-        kind = SPELLED.get(message[0].lower())
+        kind = SPELLED.get(message["name"].lower())
         if kind is None:
             return None, None
         if self.lost:

@@ -23,7 +23,7 @@ import subprocess
 import sys
 
 PROGRAM = os.environ.get("PGTRACE") or pathlib.Path(__file__).resolve().parent.parent / "crates" / "pgtrace" / "out" / "pgtrace"
-COLUMNS = re.compile(r" *(\d+) +(\d+) \S+ (.*)")
+COLUMNS = re.compile(r" *(\d+) +(\d+) (?:\S+| ) (.*)")
 # the message of tag `p` that the server's message asks for
 ASKS = {
     "AuthenticationCleartextPassword": "password",
@@ -46,7 +46,7 @@ def parts(line):
     """Where the message of a line ends in its stream, and its name; nothing for a last line, which says what is left."""
     if line.startswith("{"):
         found = json.loads(line)
-        return (found["offset"] + found["length"], found.get("message", ["fault"])[0]) if "offset" in found else None
+        return (found["offset"] + found["length"], found.get("name", "fault")) if "offset" in found else None
     found = COLUMNS.fullmatch(line)
     return (int(found[1]) + int(found[2]), EITHER if found[3] == EITHER else found[3].split()[0]) if found else None
 
@@ -96,14 +96,13 @@ def shown(when, start, arrow, line, number, fields):
 def numbered(lines, answers):
     """What a line says of requests, for each: its own number, or that of the request that it answers."""
     for when, arrow, _, found in lines:
-        message = found.get("message")
-        if not message or when is None:
+        if "name" not in found or when is None:
             yield "", {}
         elif arrow == ">":
-            number = answers.client(message, when)
+            number = answers.client(found, when)
             yield (f"#{number}", {"request": number}) if number else ("", {})
         else:
-            number, since = answers.server(message, when)
+            number, since = answers.server(found, when)
             after = "" if since is None else f" +{1000 * since:.3f}"
             yield (f"#{number}{after}", {"request": number, "after": None if since is None else round(since, 6)}) if number else ("", {})
 

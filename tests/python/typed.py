@@ -5,9 +5,10 @@ import uuid
 from decimal import Decimal
 
 import postgres_protocol as pg
-from postgres_protocol.registry import INFINITY, NEGATIVE_INFINITY, Registry, Type, apply
+from postgres_protocol.registry import INFINITY, NEGATIVE_INFINITY, Registry, Type, apply, label_type
 
 UTC = datetime.timezone.utc
+ONE, TWO, THREE, FOUR, NONE = '3ff0000000000000', '4000000000000000', '4008000000000000', '4010000000000000', '0000000000000000'
 #: A type's number, a value, and its bytes.
 VALUES = (
     (16, True, '01'), (17, b'\x00\xff', '00ff'), (20, -1, 'ffffffffffffffff'), (21, 258, '0102'), (23, -5, 'fffffffb'), (25, 'h\u00e9', '68c3a9'),
@@ -31,6 +32,16 @@ VALUES = (
     (1231, [Decimal('1.5')], '00000001' '00000000' '000006a4' '00000001' '00000001' '0000000c' '0002000000000001' '0001' '1388'),
     (3904, pg.Range(('in', 1), ('ex', 5)), '02' '0000000400000001' '0000000400000005'), (3904, pg.Range(None, None), '01'),
     (3912, pg.Range(('none', None), ('ex', datetime.date(2000, 1, 2))), '08' '0000000400000001'),
+    # (the bytes of these are those of crates/pgp_rows/data: shapes.rows, values.rows, texts.rows)
+    (600, pg.Point(1.5, -2.0), '3ff8000000000000' 'c000000000000000'), (603, pg.Box(pg.Point(3.0, 4.0), pg.Point(1.0, 2.0)), THREE + FOUR + ONE + TWO),
+    (628, pg.Line(1.0, 2.0, 3.0), ONE + TWO + THREE), (601, pg.Lseg(pg.Point(1.0, 2.0), pg.Point(3.0, -4.5)), ONE + TWO + THREE + 'c012000000000000'),
+    (718, pg.Circle(pg.Point(1.0, 2.0), 3.0), ONE + TWO + THREE),
+    (604, [pg.Point(0.0, 0.0), pg.Point(1.0, 1.0), pg.Point(2.0, 0.0)], '00000003' + NONE + NONE + ONE + ONE + TWO + NONE),
+    (602, pg.Path([pg.Point(1.0, 2.0), pg.Point(3.0, 4.0)], False), '0000000002' + ONE + TWO + THREE + FOUR), (602, pg.Path([], True), '0100000000'),
+    (27, pg.Tid(42, 7), '0000002a0007'), (774, '08:00:2b:01:02:03:04:05', '08002b0102030405'), (650, ipaddress.ip_interface('10.1.0.0/16'), '021001040a010000'),
+    (650, ipaddress.ip_interface('2001:4f8:3:ba::/64'), '03400110200104f8000300ba0000000000000000'),
+    (4451, [pg.Range(('in', 1), ('ex', 5)), pg.Range(('in', 7), ('ex', 9))],
+     '00000002' '00000011' '02' '0000000400000001' '0000000400000005' '00000011' '02' '0000000400000007' '0000000400000009'), (4451, [], '00000000'),
 )
 #: A type's number, a value that it doesn't take, and the exception.
 WRONG = ((23, 'x', TypeError), (23, 2 ** 31, OverflowError), (16, 1, TypeError), (25, 5, TypeError), (1184, datetime.datetime(2000, 1, 1), TypeError),
@@ -45,6 +56,14 @@ def check_typed(same, raises):
         same('encode %s %r' % (kept.name, value), kept.encode(value).hex(), data)
         read = apply(kept.decode, bytes.fromhex(data))
         same('decode %s %r' % (kept.name, value), (str(read), type(read)), (str(value), type(value)))
+    record = '00000003' '00000017' '00000004' '00000001' '000002c1' '00000001' '78' '000002c1' 'ffffffff'  # (1,x,)
+    same('a record', apply(registry.get(2249).decode, bytes.fromhex(record)), (1, b'x', None))
+    same('a record, written', pg.put_record([(23, b'\0\0\0\1'), (705, b'x'), (705, None)]).hex(), record)
+    for name, value in (('ltree', 'Top.Science.Astronomy'), ('lquery', 'Top.*{,2}.sport@'), ('ltxtquery', 'Europe & Russia@*')):
+        kept = label_type(name, 99998)
+        same(name, (kept.encode(value), apply(kept.decode, b'\1' + value.encode())), (b'\1' + value.encode(), value))
+    same('char', (pg.put_char(-1), pg.get_char(b'\x80')), (b'\xff', -128))
+    same('a netmask of 33 bits', pg.put_inet_any(bytes([127, 0, 0, 1]), 33).hex(), '022100047f000001')
     for oid, value, error in WRONG:
         try:
             same('%d takes no %r' % (oid, value), registry.get(oid).encode(value), error)

@@ -25,8 +25,9 @@ STATUSES: Dict[int, str] = {
     1: 'NoRoom', 2: 'EmbeddedNull', 3: 'TooLarge', 4: 'InvalidLength', 5: 'UnknownTag', 6: 'UnknownAuthentication', 7: 'UnexpectedEof',
     8: 'NotDrained', 9: 'NotUtf8', 10: 'InvalidSize', 11: 'InvalidCount', 12: 'InvalidKeyLength', 13: 'InvalidValueLength', 14: 'InvalidDimension',
     15: 'TooManyElements', 16: 'InvalidBitLength', 17: 'InvalidNetmask', 18: 'InvalidAddressLength', 19: 'InvalidFamily', 20: 'InvalidVersion',
+    21: 'InvalidSign', 22: 'InvalidScale', 23: 'InvalidDigit', 24: 'InvalidText', 25: 'OutOfRange',
     32: 'WrongPhase', 33: 'EmptyName', 34: 'UnknownVersion', 35: 'UnknownKind', 36: 'Unexpected', 37: 'Uncertain',
-    38: 'UnknownPacket',
+    38: 'UnknownPacket', 39: 'InvalidFormats',
     66: 'ScramWrongState', 67: 'ScramNotUtf8', 68: 'ScramUnexpectedEnd', 69: 'ScramUnexpectedCharacter', 70: 'ScramTrailing',
     71: 'ScramInvalidNumber', 72: 'ScramInvalidNonce', 73: 'ScramTooManyIterations', 74: 'ScramInvalidBase64', 75: 'ScramServer',
     76: 'ScramVerification', 80: 'BadNonce', 81: 'BadBinding', 82: 'NotAVerifier', 83: 'WrongPassword', 84: 'ScramUnsupportedBinding',
@@ -53,7 +54,7 @@ class Parts(Structure):
 
 
 class CMessage(Structure):
-    _fields_ = [('frame', c_size_t), ('parts', Parts), ('kind', c_uint8), ('tag', c_uint8)]
+    _fields_ = [('frame', c_size_t), ('missing', c_size_t), ('parts', Parts), ('kind', c_uint8), ('tag', c_uint8)]
 
 
 class Cursor(Structure):

@@ -10,6 +10,8 @@ from typing import Any, Callable, Dict, List, NamedTuple, Optional, Sequence, Tu
 
 from . import _rows
 from ._library import ProtocolError
+from .shapes import (get_box, get_circle, get_label, get_line, get_lseg, get_macaddr8, get_multirange, get_path, get_point, get_polygon, get_record, get_tid, put_box,
+                     put_circle, put_cidr, put_label, put_line, put_lseg, put_macaddr8, put_multirange, put_path, put_point, put_polygon, put_tid)
 from .values import (Array, Interval, Range, get, get_array, get_inet, get_interval, get_jsonb, get_macaddr, get_numeric, get_range, get_timetz, get_varbit, put,
                      put_array, put_inet, put_interval, put_jsonb, put_macaddr, put_numeric, put_range, put_timetz, put_uuid, put_varbit)
 
@@ -127,6 +129,14 @@ def _put_macaddr(value: str) -> bytes:
     return put_macaddr(bytes.fromhex(value.replace(':', '')))
 
 
+def _get_macaddr8(data: bytes) -> str:
+    return get_macaddr8(data).hex(':')
+
+
+def _put_macaddr8(value: str) -> bytes:
+    return put_macaddr8(bytes.fromhex(value.replace(':', '')))
+
+
 def _get_bits(data: bytes) -> str:
     count, kept = get_varbit(data)
     return ''.join('%08d' % int(bin(byte)[2:]) for byte in kept)[:count]
@@ -225,7 +235,16 @@ _PLAIN: Sequence[Tuple[int, int, str, Decoder, Callable[[Any], bytes], bool]] = 
     (701, 1022, 'float8', _D['float8'], _putter('float8'), False),
     (829, 1040, 'macaddr', _get_macaddr, _put_macaddr, False),
     (869, 1041, 'inet', _get_interface, _put_interface, False),
-    (650, 651, 'cidr', _get_interface, lambda value: _text(str(value)), True),
+    (650, 651, 'cidr', _get_interface, put_cidr, False),
+    (774, 775, 'macaddr8', _get_macaddr8, _put_macaddr8, False),
+    (27, 1010, 'tid', get_tid, put_tid, False),
+    (600, 1017, 'point', get_point, put_point, False),
+    (601, 1018, 'lseg', get_lseg, put_lseg, False),
+    (602, 1019, 'path', get_path, put_path, False),
+    (603, 1020, 'box', get_box, put_box, False),
+    (604, 1027, 'polygon', get_polygon, put_polygon, False),
+    (628, 629, 'line', get_line, put_line, False),
+    (718, 719, 'circle', get_circle, put_circle, False),
     (1042, 1014, 'bpchar', _D['text'], _text, False),
     (1043, 1015, 'varchar', _D['text'], _text, False),
     (1082, 1182, 'date', _D['date'], lambda value: _count(value, _EPOCH_DATE, _DAY, 'date'), False),
@@ -244,6 +263,14 @@ _PLAIN: Sequence[Tuple[int, int, str, Decoder, Callable[[Any], bytes], bool]] = 
 #: The server's own ranges: number, that of its arrays, name, and that of the bounds.
 _RANGES = ((3904, 3905, 'int4range', 23), (3906, 3907, 'numrange', 1700), (3908, 3909, 'tsrange', 1114), (3910, 3911, 'tstzrange', 1184),
            (3912, 3913, 'daterange', 1082), (3926, 3927, 'int8range', 20))
+#: Their multiranges: number, that of its arrays, name, and that of the ranges.
+_MULTIRANGES = ((4451, 6150, 'int4multirange', 3904), (4532, 6151, 'nummultirange', 3906), (4533, 6152, 'tsmultirange', 3908), (4534, 6153, 'tstzmultirange', 3910),
+                (4535, 6155, 'datemultirange', 3912), (4536, 6157, 'int8multirange', 3926))
+
+
+def label_type(name: str, oid: int) -> Type:
+    """The type of the module ltree of this name, 'ltree', 'lquery' or 'ltxtquery', which has the number that the server gave it."""
+    return Type(oid, name, lambda data: get_label(name, data), lambda value: put_label(name, value))
 
 
 class Registry:
@@ -256,6 +283,18 @@ class Registry:
         for oid, array, name, bound in _RANGES:
             kept = self._types[bound]
             self.add(Type(oid, name, range_decoder(kept.decode), range_encoder(kept.encode)), array)
+        for oid, array, name, inner in _MULTIRANGES:
+            self.add(self._multirange(oid, name, self._types[inner]), array)
+        self.add(Type(2249, 'record', self._record, _no_record), 2287)
+
+    @staticmethod
+    def _multirange(oid: int, name: str, kept: Type) -> Type:
+        return Type(oid, name, lambda data: [apply(kept.decode, r) for r in get_multirange(data)], lambda value: put_multirange([kept.encode(r) for r in value]))
+
+    def _record(self, data: bytes) -> Tuple[Any, ...]:
+        """The fields of a record, each by its type; those of a type that isn't known are bytes."""
+        fields = [(self._types.get(oid), value) for oid, value in get_record(data)]
+        return tuple(value if value is None or kept is None or kept.is_text else apply(kept.decode, value) for kept, value in fields)
 
     def add(self, kept: Type, array_oid: int = 0) -> None:
         """Adds a type, and its arrays where their number is given. What was known under these numbers is replaced."""
@@ -267,6 +306,10 @@ class Registry:
     def get(self, oid: int) -> Type:
         """The type of this number."""
         return self._types.get(oid) or Type(oid, '', DECODERS['text'], _unknown, True)
+
+
+def _no_record(value: Any) -> bytes:
+    raise TypeError('record: a server takes no parameter of this type')
 
 
 def _unknown(value: Any) -> bytes:

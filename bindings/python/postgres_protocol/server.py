@@ -21,7 +21,7 @@ class _Parts(Structure):
 
 
 class _Message(Structure):
-    _fields_ = [('frame', c_size_t), ('parts', _Parts), ('kind', c_uint8), ('tag', c_uint8), ('is_open', c_bool)]
+    _fields_ = [('frame', c_size_t), ('missing', c_size_t), ('parts', _Parts), ('kind', c_uint8), ('tag', c_uint8), ('is_open', c_bool)]
 
 
 class _Setting(Structure):

@@ -94,6 +94,7 @@ _get_inet, _get_varbit = declare('get_inet', *TEXT, POINTER(_Inet)), declare('ge
 _get_range, _get_array = declare('get_range', *TEXT, POINTER(_Range)), declare('get_array', *TEXT, POINTER(_Array))
 _put_range, _put_empty_range = declare('put_range', POINTER(_Side), POINTER(_Side), *OUT), writer('put_empty_range')
 _put_array = declare('put_array', c_uint32, POINTER(Value), c_size_t, *OUT)
+_put_array_of = declare('put_array_of', c_uint32, POINTER(_Dimension), c_size_t, POINTER(Value), c_size_t, *OUT)
 _get_hstore = declare('get_hstore', *TEXT, POINTER(Cursor))
 _put_hstore = declare('put_hstore', POINTER(_KeyValue), c_size_t, *OUT)
 _IS_A = {name: declare('get_' + name, *TEXT) for name in ('uuid', 'macaddr')}
@@ -270,13 +271,12 @@ def put_array(element_type: int, elements: Sequence[Optional[Bytes]], dimensions
     each; with none given there is one, from 1."""
     kept = [None if v is None else as_bytes(v, 'elements') for v in elements]
     oid, values = as_integer(element_type, 'element_type', *UINT32), as_values(kept)
-    data = written(lambda *out: _put_array(oid, values, len(values), *out))
     if dimensions is None:
-        return data
+        return written(lambda *out: _put_array(oid, values, len(values), *out))
     if math.prod(n for n, _ in dimensions) != len(kept) and (dimensions or kept):
         raise ValueError('dimensions: their product is not the number of elements, %d' % len(kept))
-    # (the library writes one dimension, in the bytes 12 to 20: these stand in its place)
-    return put('int4', len(dimensions)) + data[4:12] + b''.join(put('int4', n) + put('int4', low) for n, low in dimensions) + data[20:]
+    sizes = (_Dimension * len(dimensions))(*(_Dimension(as_integer(n, 'dimensions', *INT32), as_integer(low, 'dimensions', *INT32)) for n, low in dimensions))
+    return written(lambda *out: _put_array_of(oid, sizes, len(sizes), values, len(values), *out))
 
 
 def get_array(data: Bytes) -> Array:

@@ -81,6 +81,7 @@ enum {
     PGP_E_UNEXPECTED = 36,              /* pgp_dialogue_take: the message has no place there             */
     PGP_E_UNCERTAIN = 37,               /* pgp_dialogue_take: a copy failed after an early Sync          */
     PGP_E_UNKNOWN_PACKET = 38,          /* pgp_client_front: an opening packet has the code of none      */
+    PGP_E_FORMATS = 39,                 /* pgp_bind: a format is neither 0 nor 1, or their count is wrong */
     PGP_MORE = 100,                     /* bytes are missing: read more, and call again                  */
     PGP_DONE = 101,                     /* the iterator is at its end                                    */
     PGP_FULL = 102                      /* pgp_*_all: the array is full, and more items follow           */
@@ -112,7 +113,7 @@ pgp_status pgp_sasl_response(const uint8_t *response, size_t len, PGP_OUT);
 pgp_status pgp_query(const uint8_t *text, size_t len, PGP_OUT);
 pgp_status pgp_terminate(PGP_OUT);
 
-/* Extended queries. `variant` is 'S' for a statement and 'P' for a portal. max_rows 0: no limit. */
+/* Extended queries. `variant` is 'S' for a statement and 'P' for a portal, and PGP_E_KIND is returned for any other. max_rows 0: no limit. */
 pgp_status pgp_parse(const uint8_t *name, size_t name_len, const uint8_t *query, size_t query_len,
                      const uint32_t *types, size_t type_count, PGP_OUT);
 pgp_status pgp_describe(uint8_t variant, const uint8_t *name, size_t len, PGP_OUT);
@@ -132,7 +133,8 @@ static inline struct pgp_value pgp_value(const void *bytes, size_t len)
     v.is_null = !bytes;
     return v;
 }
-/* Formats: none (all text), one (for all), or one for each. */
+/* Formats: none (all text), one (for all), or one for each value; those of the results may be any number. PGP_E_FORMATS for another number, and for a
+   format but 0 and 1. */
 pgp_status pgp_bind(const uint8_t *portal, size_t portal_len, const uint8_t *statement, size_t statement_len,
                     const int16_t *formats, size_t format_count,
                     const struct pgp_value *values, size_t value_count,
@@ -229,6 +231,7 @@ struct pgp_parts { struct pgp_part first, second; size_t count; int32_t number; 
 
 struct pgp_message {
     size_t frame;             /* how many bytes the frame takes: go on at bytes + frame. 0 for PGP_MORE and PGP_E_INVALID_LENGTH */
+    size_t missing;           /* with PGP_MORE, how many bytes are missing to the frame; 0 while its first 5 aren't all there    */
     struct pgp_parts parts;
     uint8_t kind;             /* enum pgp_kind; PGP_NONE unless the status is PGP_OK                                             */
     uint8_t tag;              /* the frame's first byte; 0 where frame is 0                                                      */
@@ -325,6 +328,7 @@ struct pgp_client_parts {
 
 struct pgp_client_message {
     size_t frame;             /* how many bytes the message takes: go on at bytes + frame. 0 where it can't be passed, and for PGP_MORE */
+    size_t missing;           /* with PGP_MORE, how many bytes are missing to the message; 0 while its length isn't all there          */
     struct pgp_client_parts parts;
     uint8_t kind;             /* enum pgp_client_kind; PGP_CLIENT_NONE unless the status is PGP_OK                                     */
     uint8_t tag;              /* the message's first byte; 0 of an opening packet, and where frame is 0                                */
@@ -434,8 +438,11 @@ pgp_status pgp_put_int4(int32_t value, PGP_OUT);       pgp_status pgp_get_int4(c
 pgp_status pgp_put_int8(int64_t value, PGP_OUT);       pgp_status pgp_get_int8(const uint8_t *bytes, size_t len, int64_t *value);
 pgp_status pgp_put_oid(uint32_t value, PGP_OUT);       pgp_status pgp_get_oid(const uint8_t *bytes, size_t len, uint32_t *value);
 pgp_status pgp_put_lsn(uint64_t value, PGP_OUT);       pgp_status pgp_get_lsn(const uint8_t *bytes, size_t len, uint64_t *value);
+pgp_status pgp_put_char(int8_t value, PGP_OUT);        pgp_status pgp_get_char(const uint8_t *bytes, size_t len, int8_t *value);   /* "char", one byte */
 pgp_status pgp_put_uuid(const uint8_t *id, size_t len, PGP_OUT);          pgp_status pgp_get_uuid(const uint8_t *bytes, size_t len);
 pgp_status pgp_put_macaddr(const uint8_t *address, size_t len, PGP_OUT);  pgp_status pgp_get_macaddr(const uint8_t *bytes, size_t len);
+/* A macaddr8 has 8 bytes: PGP_E_UNEXPECTED_EOF for fewer, PGP_E_NOT_DRAINED for more. */
+pgp_status pgp_put_macaddr8(const uint8_t *address, size_t len, PGP_OUT); pgp_status pgp_get_macaddr8(const uint8_t *bytes, size_t len);
 /* microseconds, and days, since 2000-01-01 */
 pgp_status pgp_put_timestamp(int64_t value, PGP_OUT);  pgp_status pgp_get_timestamp(const uint8_t *bytes, size_t len, int64_t *value);
 pgp_status pgp_put_time(int64_t value, PGP_OUT);       pgp_status pgp_get_time(const uint8_t *bytes, size_t len, int64_t *value);   /* since midnight */
@@ -456,15 +463,53 @@ pgp_status pgp_get_interval(const uint8_t *bytes, size_t len, struct pgp_interva
 pgp_status pgp_put_timetz(const struct pgp_timetz *value, PGP_OUT);
 pgp_status pgp_get_timetz(const uint8_t *bytes, size_t len, struct pgp_timetz *value);
 
-/* A jsonb: its JSON, in UTF-8, which isn't parsed. (A json is its text.) */
+/* A jsonb: its JSON, in UTF-8, which isn't parsed. (A json is its text; a jsonpath has the bytes of a jsonb.) */
 pgp_status pgp_put_jsonb(const uint8_t *json, size_t len, PGP_OUT);
 pgp_status pgp_get_jsonb(const uint8_t *bytes, size_t len, struct pgp_part *json);
+/* The types of the module ltree, by their texts, in UTF-8. */
+pgp_status pgp_put_ltree(const uint8_t *text, size_t len, PGP_OUT);
+pgp_status pgp_get_ltree(const uint8_t *bytes, size_t len, struct pgp_part *text);
+pgp_status pgp_put_lquery(const uint8_t *text, size_t len, PGP_OUT);
+pgp_status pgp_get_lquery(const uint8_t *bytes, size_t len, struct pgp_part *text);
+pgp_status pgp_put_ltxtquery(const uint8_t *text, size_t len, PGP_OUT);
+pgp_status pgp_get_ltxtquery(const uint8_t *bytes, size_t len, struct pgp_part *text);
+
+/* Geometry. A coordinate crosses as the bits of a float8 (pgp_float8_bits, pgp_float8_of). A line has the points with a * x + b * y + c = 0. */
+struct pgp_point { uint64_t x, y; };
+struct pgp_box { struct pgp_point upper_right, lower_left; };
+struct pgp_line { uint64_t a, b, c; };
+struct pgp_lseg { struct pgp_point start, end; };
+struct pgp_circle { struct pgp_point center; uint64_t radius; };
+pgp_status pgp_put_point(const struct pgp_point *value, PGP_OUT);
+pgp_status pgp_get_point(const uint8_t *bytes, size_t len, struct pgp_point *value);
+pgp_status pgp_put_box(const struct pgp_box *value, PGP_OUT);
+pgp_status pgp_get_box(const uint8_t *bytes, size_t len, struct pgp_box *value);
+pgp_status pgp_put_line(const struct pgp_line *value, PGP_OUT);
+pgp_status pgp_get_line(const uint8_t *bytes, size_t len, struct pgp_line *value);
+pgp_status pgp_put_lseg(const struct pgp_lseg *value, PGP_OUT);
+pgp_status pgp_get_lseg(const uint8_t *bytes, size_t len, struct pgp_lseg *value);
+pgp_status pgp_put_circle(const struct pgp_circle *value, PGP_OUT);
+pgp_status pgp_get_circle(const uint8_t *bytes, size_t len, struct pgp_circle *value);
+/* A polygon, and a path, which may be closed: a cursor over its points; and written. */
+pgp_status pgp_put_polygon(const struct pgp_point *points, size_t count, PGP_OUT);
+pgp_status pgp_get_polygon(const uint8_t *bytes, size_t len, struct pgp_cursor *points);
+pgp_status pgp_put_path(bool is_closed, const struct pgp_point *points, size_t count, PGP_OUT);
+pgp_status pgp_get_path(const uint8_t *bytes, size_t len, bool *is_closed, struct pgp_cursor *points);
+pgp_status pgp_point_next(const uint8_t *bytes, size_t len, struct pgp_cursor *cursor, struct pgp_point *point);
+
+/* A tid: the number of a block, and of a row in it. */
+struct pgp_tid { uint32_t block; uint16_t offset; };
+pgp_status pgp_put_tid(const struct pgp_tid *value, PGP_OUT);
+pgp_status pgp_get_tid(const uint8_t *bytes, size_t len, struct pgp_tid *value);
 
 /* An inet or a cidr: an address of 4 or 16 bytes, and how many of its first bits name the network. PGP_E_INVALID_ADDRESS_LENGTH for another
-   number of bytes, PGP_E_INVALID_NETMASK for more bits than there are. (bytes[2] of a value is 1 for a cidr; an inet is written.) */
+   number of bytes, PGP_E_INVALID_NETMASK for more bits than there are. (bytes[2] of a value is 1 for a cidr.) pgp_put_inet_any takes any netmask. A
+   server takes a cidr only where the bits after those of the network are 0, which isn't checked. */
 enum { PGP_FAMILY_IPV4 = 2, PGP_FAMILY_IPV6 = 3 };
 struct pgp_inet { struct pgp_part address; uint8_t family; uint8_t netmask; };
 pgp_status pgp_put_inet(const uint8_t *address, size_t len, uint8_t netmask, PGP_OUT);
+pgp_status pgp_put_inet_any(const uint8_t *address, size_t len, uint8_t netmask, PGP_OUT);
+pgp_status pgp_put_cidr(const uint8_t *address, size_t len, uint8_t netmask, PGP_OUT);
 pgp_status pgp_get_inet(const uint8_t *bytes, size_t len, struct pgp_inet *value);
 
 /* A bit or a varbit: how many bits, in (bits + 7) / 8 bytes, the first bit highest; else PGP_E_INVALID_SIZE. What pads the last byte is any.
@@ -490,6 +535,10 @@ struct pgp_dimension { int32_t len, lower_bound; };
 pgp_status pgp_get_array(const uint8_t *bytes, size_t len, struct pgp_array *value);
 /* To write one: an array of one dimension, whose index begins at 1; each element in the format of its type, or a null. */
 pgp_status pgp_put_array(uint32_t element_type, const struct pgp_value *elements, size_t count, PGP_OUT);
+/* The same of any dimensions; the elements come row by row, the last dimension the fastest. PGP_E_INVALID_DIMENSION for a negative length, PGP_E_TOO_MANY_ELEMENTS
+   for a product past 2,147,483,647, PGP_E_INVALID_SIZE where it isn't the number of elements. No dimensions are an array of nothing. */
+pgp_status pgp_put_array_of(uint32_t element_type, const struct pgp_dimension *dimensions, size_t dimension_count,
+                            const struct pgp_value *elements, size_t count, PGP_OUT);
 pgp_status pgp_dimension_next(const uint8_t *bytes, size_t len, struct pgp_cursor *cursor, struct pgp_dimension *dimension);
 pgp_status pgp_element_next(const uint8_t *bytes, size_t len, struct pgp_cursor *cursor, struct pgp_column *element);
 /* All elements in one call, as pgp_row_all. */
@@ -510,12 +559,18 @@ pgp_status pgp_get_record(const uint8_t *bytes, size_t len, struct pgp_cursor *f
 pgp_status pgp_member_next(const uint8_t *bytes, size_t len, struct pgp_cursor *cursor, struct pgp_member *member);
 pgp_status pgp_get_multirange(const uint8_t *bytes, size_t len, struct pgp_cursor *ranges);
 pgp_status pgp_multirange_next(const uint8_t *bytes, size_t len, struct pgp_cursor *cursor, struct pgp_part *range);
+/* To write them: each field's value, in the format of its type, or a null, and its type; the bytes of each range, as pgp_put_range wrote them. */
+struct pgp_typed { struct pgp_value value; uint32_t of_type; };
+pgp_status pgp_put_record(const struct pgp_typed *fields, size_t count, PGP_OUT);
+struct pgp_item { const uint8_t *bytes; size_t bytes_len; };
+pgp_status pgp_put_multirange(const struct pgp_item *ranges, size_t count, PGP_OUT);
 
 /* The server's fixed types, by number: those of its values, and of arrays of them. */
 enum pgp_oid {
     PGP_OID_BOOL = 16, PGP_OID_BYTEA = 17, PGP_OID_CHAR = 18, PGP_OID_NAME = 19, PGP_OID_INT8 = 20, PGP_OID_INT2 = 21, PGP_OID_INT4 = 23,
-    PGP_OID_TEXT = 25, PGP_OID_OID = 26, PGP_OID_JSON = 114, PGP_OID_XML = 142, PGP_OID_POINT = 600, PGP_OID_PATH = 602, PGP_OID_BOX = 603,
-    PGP_OID_CIDR = 650, PGP_OID_FLOAT4 = 700, PGP_OID_FLOAT8 = 701, PGP_OID_MACADDR = 829, PGP_OID_INET = 869, PGP_OID_BPCHAR = 1042,
+    PGP_OID_TEXT = 25, PGP_OID_OID = 26, PGP_OID_TID = 27, PGP_OID_JSON = 114, PGP_OID_XML = 142, PGP_OID_POINT = 600, PGP_OID_LSEG = 601,
+    PGP_OID_PATH = 602, PGP_OID_BOX = 603, PGP_OID_POLYGON = 604, PGP_OID_LINE = 628, PGP_OID_CIDR = 650, PGP_OID_FLOAT4 = 700, PGP_OID_FLOAT8 = 701,
+    PGP_OID_CIRCLE = 718, PGP_OID_MACADDR8 = 774, PGP_OID_MACADDR = 829, PGP_OID_INET = 869, PGP_OID_BPCHAR = 1042,
     PGP_OID_VARCHAR = 1043, PGP_OID_DATE = 1082, PGP_OID_TIME = 1083, PGP_OID_TIMESTAMP = 1114, PGP_OID_TIMESTAMPTZ = 1184,
     PGP_OID_INTERVAL = 1186, PGP_OID_TIMETZ = 1266, PGP_OID_BIT = 1560, PGP_OID_VARBIT = 1562, PGP_OID_NUMERIC = 1700, PGP_OID_UUID = 2950,
     PGP_OID_PG_LSN = 3220, PGP_OID_JSONB = 3802, PGP_OID_INT4RANGE = 3904, PGP_OID_NUMRANGE = 3906, PGP_OID_TSRANGE = 3908,
@@ -549,7 +604,7 @@ static inline const char *pgp_status_name(pgp_status status)
         "PGP_E_INVALID_SIGN", "PGP_E_INVALID_SCALE", "PGP_E_INVALID_DIGIT", "PGP_E_INVALID_TEXT", "PGP_E_OUT_OF_RANGE"
     };
     static const char *const more[] = { "PGP_E_WRONG_PHASE", "PGP_E_EMPTY_NAME", "PGP_E_VERSION", "PGP_E_KIND", "PGP_E_UNEXPECTED", "PGP_E_UNCERTAIN",
-                                        "PGP_E_UNKNOWN_PACKET" };
+                                        "PGP_E_UNKNOWN_PACKET", "PGP_E_FORMATS" };
     if (status < sizeof names / sizeof *names) return names[status];
     if (status >= 32 && status < 32 + sizeof more / sizeof *more) return more[status - 32];
     return status == PGP_MORE ? "PGP_MORE" : status == PGP_DONE ? "PGP_DONE" : status == PGP_FULL ? "PGP_FULL" : "?";
@@ -566,6 +621,15 @@ static inline const char *pgp_kind_name(uint8_t kind)
     };
     return kind < sizeof names / sizeof *names ? names[kind] : "?";
 }
+
+/* Whether this processor has the instructions that the library's code may have, where the compiler can tell; ask before the first call. */
+#if defined(__x86_64__) && (defined(__GNUC__) || defined(__clang__))
+static inline bool pgp_runs_here(void)
+{
+    __builtin_cpu_init();
+    return __builtin_cpu_supports("popcnt") && __builtin_cpu_supports("ssse3") && __builtin_cpu_supports("sse4.1") && __builtin_cpu_supports("sse4.2");
+}
+#endif
 
 static inline uint64_t pgp_float8_bits(double value) { uint64_t bits; memcpy(&bits, &value, sizeof bits); return bits; }
 static inline double pgp_float8_of(uint64_t bits) { double value; memcpy(&value, &bits, sizeof value); return value; }

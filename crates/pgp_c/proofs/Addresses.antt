@@ -6,7 +6,7 @@ use Rattle.std.specs.Net.Addr.{ipv6_segments, segments_of, octets_of, IsV6And}
 use Rattle.pgp_base.specs.Wire.{IsBytes}
 use Rattle.pgp_types.specs.Network.{Inet, InetReads}
 use Rattle.pgp_types.proofs.InetLemmas.{octets_of-segments_of, length-segments_of, segments_below}
-use Rattle.pgp_c.specs.Compound.{IsAddress, IsInetOf}
+use Rattle.pgp_c.specs.Compound.{IsAddress, IsAddressed, IsInetOf}
 
 pub is_v6 : (bytes : List ℕ) (addr : IpAddr) → length bytes ≡ 16 → IsBytes bytes → IsV6And addr (λ ip. ipv6_segments ip ≡ segments_of bytes) → IsAddress bytes addr
 is_v6 bytes (V4 ip) size each is = absurd is
@@ -18,6 +18,9 @@ is_v6 bytes (V6 ip) size each is = record {
 
 pub inet_of : (bytes : List ℕ) (netmask : ℕ) (addr : IpAddr) → IsAddress bytes addr → netmask ≤ 8 * length bytes → IsInetOf bytes netmask (record { addr = addr; netmask = netmask })
 inet_of bytes netmask addr a few = record { is = (a.valid, subst (λ n. netmask ≤ 8 * n) (sym a.size) few); address = a.octets; same = refl }
+
+pub addressed_by : (bytes : List ℕ) (netmask : ℕ) (addr : IpAddr) → IsAddress bytes addr → IsAddressed bytes netmask (record { addr = addr; netmask = netmask })
+addressed_by bytes netmask addr a = record { valid = a.valid; address = a.octets; same = refl }
 
 -- four bytes stand before the address
 pub inet_behind : (bytes : List ℕ) (v : Inet) (len : ℕ) → InetReads bytes (Ok v) → len ≡ length bytes - 4 → 4 + len ≤ length bytes

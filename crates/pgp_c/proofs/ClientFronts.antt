@@ -9,12 +9,15 @@ use Rattle.pgp_base.proofs.PartLemmas.{oid_number}
 use Rattle.pgp_frontend.specs.ClientMessage.{ClientMessage, Bind, Close, CopyData, CopyDone, CopyFail, Describe, Execute, Flush, FunctionCall, Parse, PasswordMessage, Query, SaslInitialResponse, SaslResponse, Sync, Terminate, Startup, CancelRequest, SslRequest, GssEncRequest, PasswordKind}
 use Rattle.pgp_frontend.specs.Payload.{pair, framed, payload, minor_code, bytes_of}
 use Rattle.pgp_frontend.proofs.Needs.{framed_length, int16_length, int32_length, tagged_length}
-use Rattle.pgp_frontend_read.specs.Step.{Step, Unread}
+use Rattle.pgp_frontend_read.specs.Step.{Step, Unread, place as length_place}
 use Rattle.pgp_frontend_read.specs.declared.error.ClientError.{ClientError}
 use Rattle.pgp_frontend_read.specs.declared.error.ClientError.TheVariants.{UnknownPacket, Reading}
-use Rattle.pgp_c.specs.ClientFront.{ReportsClient, ShowsAll, code_of, kind_reported}
+use Rattle.pgp_c.specs.ClientFront.{Misses, ReportsClient, ShowsAll, code_of, kind_reported}
 use Rattle.pgp_c.specs.ClientParts.{ArePartsInside, Shows, no_client_parts}
 use Rattle.pgp_c.specs.ClientPlaces.{after_text, numbers_at, past, place}
+use Rattle.pgp_c.specs.Missing.{IsMissing}
+use Rattle.pgp_c.specs.MissingReading.{missing_from}
+use Rattle.pgp_c.proofs.Announced.{of_client}
 use Rattle.pgp_c.specs.declared.client_front.PgpClientMessage.{PgpClientMessage}
 use Rattle.pgp_c.specs.declared.client_places.PgpClientParts.{PgpClientParts}
 use Rattle.pgp_c.proofs.ClientPlaces.{At, after_text_is, here, int16s_length, items_at, listed, next, numbers_begin, numbers_end, past_is, text_here}
@@ -368,10 +371,21 @@ shows_all kind bytes opened (Ok (Some m)) new p s is at =
 shows_all kind bytes opened (Err (UnknownPacket code)) new p s is at = (at, subst (λ (q : _). ArePartsInside p.frame q) (sym at) (inside_none p.frame code))
 shows_all kind bytes opened (Err (Reading e)) new p s is at = (at, subst (λ (q : _). ArePartsInside p.frame q) (sym at) (inside_none p.frame (pos 0)))
 
+-- and how many bytes are missing
+abbrev pub missing_reported : Bool → List ℕ → Result (Option ClientMessage) ClientError → ℕ
+missing_reported opened bytes (Ok None) = missing_from (drop (length_place opened) bytes)
+missing_reported opened bytes r = 0
+
+misses : (kind : PasswordKind) (bytes : List ℕ) (opened : Bool) (r : Result (Option ClientMessage) ClientError) (new : Unread) (missing : ℕ) → Step kind (record { bytes = bytes; opened = opened }) r new
+    → missing ≡ missing_reported opened bytes r → Misses opened bytes r missing
+misses kind bytes opened (Ok None) new missing s is = subst (λ n. IsMissing (length_place opened) bytes n) (sym is) (of_client opened bytes s.0)
+misses kind bytes opened (Ok (Some m)) new missing s is = is
+misses kind bytes opened (Err e) new missing s is = is
+
 pub reports : (kind : PasswordKind) (bytes : List ℕ) (opened : Bool) (r : Result (Option ClientMessage) ClientError) (new : Unread) (p : PgpClientMessage) (code : ℕ) → Step kind (record { bytes = bytes; opened = opened }) r new
-    → p.frame ≡ length bytes - length new.bytes → p.is_open ≡ new.opened → code ≡ code_of r → p.kind ≡ kind_reported r → p.parts ≡ parts_reported p.frame r
+    → p.frame ≡ length bytes - length new.bytes → p.is_open ≡ new.opened → code ≡ code_of r → p.missing ≡ missing_reported opened bytes r → p.kind ≡ kind_reported r → p.parts ≡ parts_reported p.frame r
     → (opened ≡ true → p.frame ≢ 0 → p.frame ≤ length bytes → (rest : List ℕ) × (bytes ≡ p.tag ∷ rest)) → (p.frame ≡ 0 → p.tag ≡ 0) → (opened ≡ false → p.tag ≡ 0) → ReportsClient kind bytes opened p code
-reports kind bytes opened r new p code s is opens code_is kind_is at tag none opening =
+reports kind bytes opened r new p code s is opens code_is missing_is kind_is at tag none opening =
     let within : p.frame ≤ length bytes = omega (arith, is) in
     let k = shows_all kind bytes opened r new p s is at in
     let left : drop p.frame bytes ≡ new.bytes = ap (λ i. drop i bytes) is ∙ left_is kind bytes opened r new s in
@@ -381,6 +395,7 @@ reports kind bytes opened r new p code s is opens code_is kind_is at tag none op
           (subst (λ (l : List ℕ). Step kind (record { bytes = bytes; opened = opened }) r (record { bytes = l; opened = new.opened })) (sym left) s);
       within = within;
       code_is = code_is;
+      missing = misses kind bytes opened r new p.missing s missing_is;
       kind_is = kind_is;
       shows = k.0;
       inside = k.1;

@@ -34,7 +34,7 @@ elements_large [] e is = absurd cc
 elements_large (v ∷ vs) e is = either_large (nullable_cause (value_of v)) (elements_cause vs) (value_large (value_of v)) (elements_large vs) e is
 
 -- the array of one dimension
-flags : (vs : List PgpValue) → flag_of (has_null (map value_of vs)) ≡ flag_in vs
+pub flags : (vs : List PgpValue) → flag_of (has_null (map value_of vs)) ≡ flag_in vs
 flags [] = refl
 flags (v ∷ vs) = elim (cases_Bool v.is_null) [
   | inl null ↦ rw null refl

@@ -13,7 +13,10 @@ use Rattle.pgp_message.specs.BackendMessage.{AuthenticationOk, AuthenticationKer
 use Rattle.pgp_message.specs.Stream.{Frame, frame_bytes, TakesFrame, Step}
 use Rattle.pgp_c.specs.declared.front.PgpMessage.{PgpMessage}
 use Rattle.pgp_c.specs.declared.front.PgpParts.{PgpParts}
-use Rattle.pgp_c.specs.Front.{Reported, code_of as code_reported, kind_reported, ShowsAll}
+use Rattle.pgp_c.specs.Front.{Misses, Reported, code_of as code_reported, kind_reported, ShowsAll}
+use Rattle.pgp_c.specs.Missing.{IsMissing}
+use Rattle.pgp_c.specs.MissingReading.{missing_from}
+use Rattle.pgp_c.proofs.Announced.{of_server}
 use Rattle.pgp_c.specs.Parts.{IsInside, Shows, no_parts, part, stands}
 use Rattle.pgp_c.specs.Places.{place, first_of, second_of}
 
@@ -229,15 +232,26 @@ inside_all bytes new (Ok None) p is s at = subst (λ (q : _). AreInside p.frame 
 inside_all bytes new (Ok (Some m)) p is s at = subst (λ (q : _). AreInside p.frame q) (sym at) (inside bytes new m p.frame is s)
 inside_all bytes new (Err e) p is s at = subst (λ (q : _). AreInside p.frame q) (sym at) (omega arith, omega arith)
 
-pub reported : (bytes new : List ℕ) (r : Result (Option Message) Error) (p : PgpMessage) (code : ℕ) → p.frame ≡ length bytes - length new → Step ⊥ bytes r new → code ≡ code_reported r → p.kind ≡ kind_reported r
+-- and how many bytes are missing
+abbrev pub missing_reported : List ℕ → Result (Option Message) Error → ℕ
+missing_reported bytes (Ok None) = missing_from (drop 1 bytes)
+missing_reported bytes r = 0
+
+misses : (bytes new : List ℕ) (r : Result (Option Message) Error) (missing : ℕ) → Step ⊥ bytes r new → missing ≡ missing_reported bytes r → Misses bytes r missing
+misses bytes new (Ok None) missing s is = subst (λ n. IsMissing 1 bytes n) (sym is) (of_server bytes s.0)
+misses bytes new (Ok (Some m)) missing s is = is
+misses bytes new (Err e) missing s is = is
+
+pub reported : (bytes new : List ℕ) (r : Result (Option Message) Error) (p : PgpMessage) (code : ℕ) → p.frame ≡ length bytes - length new → Step ⊥ bytes r new → code ≡ code_reported r → p.missing ≡ missing_reported bytes r → p.kind ≡ kind_reported r
     → p.parts ≡ parts_reported bytes p.frame r → (p.frame ≢ 0 → p.frame ≤ length bytes → (rest : List ℕ) × (bytes ≡ p.tag ∷ rest)) → (p.frame ≡ 0 → p.tag ≡ 0) → Reported bytes p code
-reported bytes new r p code is s code_is kind_is at tag none =
+reported bytes new r p code is s code_is missing_is kind_is at tag none =
     let within : p.frame ≤ length bytes = omega (arith, is) in
     record {
       result = r;
       step = subst (λ l. Step ⊥ bytes r l) (sym (ap (λ i. drop i bytes) is ∙ rest_is bytes new r s)) s;
       within = within;
       code_is = code_is;
+      missing = misses bytes new r p.missing s missing_is;
       kind_is = kind_is;
       shows = shows_all bytes new r p is s at;
       first_inside = (inside_all bytes new r p is s at).0;

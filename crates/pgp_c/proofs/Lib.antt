@@ -1,5 +1,7 @@
 mod Addresses
+mod Announced
 mod Alls
+mod ArrayShapes
 mod ClientFronts
 mod ClientPlaces
 mod Compound
@@ -10,12 +12,14 @@ mod Extensions
 mod Fronts
 mod Handed
 mod Items
+mod ListWriting
 mod Listings
 mod Lists
 mod NeverMemory
 mod Openings
 mod Pairs
 mod Plain
+mod PointLists
 mod Putting
 mod Replies
 mod ReplyLists

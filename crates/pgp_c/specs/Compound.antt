@@ -49,6 +49,12 @@ pub record IsInetOf (bytes : List ℕ) (netmask : ℕ) (v : Inet) : Type 0 where
   pub address : octets v.addr ≡ bytes
   pub same : v.netmask ≡ netmask
 
+-- such an address, and any netmask
+pub record IsAddressed (bytes : List ℕ) (netmask : ℕ) (v : Inet) : Type 0 where
+  pub valid : MatchIp v.addr IsIpv4Addr IsIpv6Addr
+  pub address : octets v.addr ≡ bytes
+  pub same : v.netmask ≡ netmask
+
 -- why there is none, and the error's number
 abbrev pub IsNoInet : List ℕ → ℕ → ℕ → Type 0
 IsNoInet bytes netmask code = ((code ≡ 18) × IsNoAddress bytes) ⊎ ((code ≡ 17) × ((length bytes ≡ 4) ⊎ (length bytes ≡ 16)) × (8 * length bytes < netmask))

@@ -1,5 +1,5 @@
 -- A dialogue in memory of the caller's: which of a server's messages answers which of a client's requests.
-use Rattle.std.specs.Prelude.{◌≡◌, ◌<◌, ◌≤◌, ◌⊎◌, ℕ, Option, Some, None, Result, Ok, Err, length, ◌==◌, if◌then◌else◌}
+use Rattle.std.specs.Prelude.{◌≡◌, ◌<◌, ◌⊎◌, ℕ, Option, Some, None, Ok, Err, length, ◌==◌, if◌then◌else◌}
 use Rattle.pgp_client.specs.Codes.{stage_at}
 use Rattle.pgp_client.specs.Slots.{held_between}
 use Rattle.pgp_client.specs.Taking.{Takes, taken}

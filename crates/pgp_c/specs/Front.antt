@@ -5,6 +5,7 @@ use Rattle.pgp_base.specs.declared.error.Error.{Error}
 use Rattle.pgp_message.specs.BackendMessage.{Message}
 use Rattle.pgp_message.specs.Stream.{Step}
 use Rattle.pgp_c.specs.declared.front.PgpMessage.{PgpMessage}
+use Rattle.pgp_c.specs.Missing.{IsMissing}
 use Rattle.pgp_c.specs.Parts.{IsInside, kind_of, no_parts, Shows}
 
 -- 100: bytes are missing
@@ -21,6 +22,11 @@ abbrev pub ShowsAll : List ℕ → Result (Option Message) Error → PgpMessage 
 ShowsAll bytes (Ok (Some m)) p = Shows bytes m p.parts
 ShowsAll bytes r p = p.parts ≡ no_parts
 
+-- how many bytes are missing, after a tag and a length
+abbrev pub Misses : List ℕ → Result (Option Message) Error → ℕ → Type 0
+Misses bytes (Ok None) missing = IsMissing 1 bytes missing
+Misses bytes r missing = missing ≡ 0
+
 -- One step along the stream takes the frame; its result is reported by the code and the kind, and the message's parts are those
 -- that stand at their places among the bytes, inside the frame. The tag is the first byte of what was taken.
 pub record Reported (bytes : List ℕ) (message : PgpMessage) (code : ℕ) : Type 0 where
@@ -28,6 +34,7 @@ pub record Reported (bytes : List ℕ) (message : PgpMessage) (code : ℕ) : Typ
   pub step : Step ⊥ bytes result (drop message.frame bytes)
   pub within : message.frame ≤ length bytes
   pub code_is : code ≡ code_of result
+  pub missing : Misses bytes result message.missing
   pub kind_is : message.kind ≡ kind_reported result
   pub shows : ShowsAll bytes result message
   pub first_inside : IsInside message.frame message.parts.first

@@ -3,6 +3,7 @@
 ghost use Rattle.std.specs.Prelude.{◌≡◌, ◌≢◌, ◌⊎◌, Ok};
 ghost use Rattle.pgp_types.specs.Format.{Reads};
 ghost use Rattle.pgp_types.specs.Network.{macaddr, uuid};
+ghost use Rattle.pgp_values.specs.Network.{macaddr8};
 ghost use Rattle.pgp_c.specs.Values.{Wrote, Lacks, Refuses};
 
 use crate::scalar::{Scalar, put};
@@ -51,6 +52,30 @@ pub extern "C" fn pgp_get_macaddr(bytes: &[u8]) -> u32
     ensures refused { result ≢ 0 → Refuses macaddr bytes.now result }
 {
     match pgp_types::macaddr_from_sql(bytes) {
+        Ok(_) => 0,
+        Err(e) => failed(e),
+    }
+}
+
+/// Writes a `macaddr8`, which has 8 bytes.
+#[unsafe(no_mangle)]
+pub extern "C" fn pgp_put_macaddr8(address: &[u8], out: &mut [u8], written: &mut usize) -> u32
+    ensures wrote { result ≡ 0 → Reads macaddr8 address.now (Ok address.now) × Wrote address.now out.old out.new written.new }
+    ensures refused { result ≢ 0 → (written.new ≡ 0) × (Refuses macaddr8 address.now result ⊎ Lacks address.now out.old written.new result) }
+{
+    match pgp_values::macaddr8_from_sql(address) {
+        Ok(octets) => put(Scalar::Macaddr8(octets), out, written),
+        Err(e) => refused(e, written),
+    }
+}
+
+/// Whether the bytes are a `macaddr8`, as they stand.
+#[unsafe(no_mangle)]
+pub extern "C" fn pgp_get_macaddr8(bytes: &[u8]) -> u32
+    ensures read { result ≡ 0 → Reads macaddr8 bytes.now (Ok bytes.now) }
+    ensures refused { result ≢ 0 → Refuses macaddr8 bytes.now result }
+{
+    match pgp_values::macaddr8_from_sql(bytes) {
         Ok(_) => 0,
         Err(e) => failed(e),
     }

@@ -247,7 +247,7 @@ fn put_list_head<B: Buffer>(
 }
 
 /// The elements, one after another.
-fn put_elements<B: Buffer>(elements: &[PgpValue<'_>], buf: &mut B) -> Result<(), Error>
+pub(crate) fn put_elements<B: Buffer>(elements: &[PgpValue<'_>], buf: &mut B) -> Result<(), Error>
     ensures ok { OnOk result ((elements_cause elements.now ≡ None) × (B.held buf.new ≡ B.held buf.old ⊕ elements_of elements.now)) }
     ensures cause { IfErr result (λ e. WantsMemory (Wants B.Lacks (B.held buf.old) (length (elements_of elements.now))) e ⊎ (elements_cause elements.now ≡ Some e)) }
 {
@@ -258,7 +258,7 @@ fn put_elements<B: Buffer>(elements: &[PgpValue<'_>], buf: &mut B) -> Result<(),
 }
 
 /// Whether an element is null, as a number.
-fn flag(elements: &[PgpValue<'_>]) -> u32
+pub(crate) fn flag(elements: &[PgpValue<'_>]) -> u32
     ensures { result ≡ flag_in elements.now }
 {
     for value in elements {

@@ -2,6 +2,7 @@
 
 ghost use Rattle.std.specs.Prelude.{◌≡◌, ◌≢◌, ◌≤◌, ℕ, List, ◌∷◌, length, true, false, Some, None};
 ghost use Rattle.pgp_frontend.specs.ClientMessage.{PasswordKind as Kind};
+ghost use Rattle.pgp_frontend_read.specs.Step.{place as length_place};
 ghost use Rattle.pgp_frontend_read.specs.Views.{kind_view, view};
 ghost use Rattle.pgp_c.specs.ClientFront.{ReportsClient, kind_seen, password_kind_at};
 ghost use Rattle.pgp_c.specs.ClientParts.{kind_of};
@@ -9,6 +10,7 @@ ghost use Rattle.pgp_c.specs.ClientPlaces.{place};
 ghost use Rattle.pgp_c.specs.ClientParts.{no_client_parts};
 
 use crate::client_places::{PgpClientParts, none, parts};
+use crate::missing::missing;
 use pgp_frontend_read::{ClientError, ClientMessage, ClientMessages, PasswordKind};
 
 /// The result where bytes are missing to a complete message.
@@ -26,6 +28,8 @@ const UNKNOWN_PACKET: u32 = 38;
 pub struct PgpClientMessage {
     /// How many bytes the message takes; 0 where it isn't whole, or can't be passed.
     pub frame: usize,
+    /// How many bytes are missing, where its length stands among those that there are; 0 of a complete message, and where it doesn't.
+    pub missing: usize,
     /// The parts of the message.
     pub parts: PgpClientParts,
     /// The number of the message's kind; 0 where there is none.
@@ -76,6 +80,7 @@ fn front(bytes: &[u8], is_open: bool, kind: PasswordKind, message: &mut PgpClien
     let frame = bytes.len().saturating_sub(messages.rest().len());
     let read = PgpClientMessage {
         frame,
+        missing: 0,
         parts: none(),
         kind: 0,
         tag: tag(is_open, bytes, frame),
@@ -95,7 +100,14 @@ fn front(bytes: &[u8], is_open: bool, kind: PasswordKind, message: &mut PgpClien
                 message,
             )
         }
-        Ok(None) => report(read, MORE, message),
+        Ok(None) => report(
+            PgpClientMessage {
+                missing: missing(bytes, place(is_open)),
+                ..read
+            },
+            MORE,
+            message,
+        ),
         Err(ClientError::Reading(e)) => report(read, u32::from(e.number()), message),
         Err(ClientError::UnknownPacket(code)) => report(
             PgpClientMessage {
@@ -109,6 +121,13 @@ fn front(bytes: &[u8], is_open: bool, kind: PasswordKind, message: &mut PgpClien
             message,
         ),
     }
+}
+
+/// How many bytes stand before the length of a message.
+fn place(is_open: bool) -> usize
+    ensures { result ≡ length_place is_open }
+{
+    if is_open { 1 } else { 0 }
 }
 
 /// Reports what stands at the front.

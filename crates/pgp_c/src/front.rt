@@ -7,6 +7,7 @@ ghost use Rattle.pgp_c.specs.Front.{Reported};
 ghost use Rattle.pgp_c.specs.Parts.{kind_of, no_parts, part};
 ghost use Rattle.pgp_c.specs.Places.{place, first_of, second_of};
 
+use crate::missing::missing;
 use pgp_base::FallibleIterator;
 use pgp_base::reading::string_at;
 use pgp_message::{Message, Messages};
@@ -31,6 +32,8 @@ pub struct PgpPart {
 pub struct PgpMessage {
     /// How many bytes the frame takes; 0 where it isn't whole, or announces too short a length.
     pub frame: usize,
+    /// How many bytes are missing, where its length stands among those that there are; 0 of a complete frame, and where it doesn't.
+    pub missing: usize,
     /// The parts of the message.
     pub parts: PgpParts,
     /// The number of the message's kind; 0 where there is none.
@@ -61,21 +64,22 @@ pub extern "C" fn pgp_front(bytes: &[u8], message: &mut PgpMessage) -> u32
     if let Some(row) = messages.next_row() {
         let frame = bytes.len() - messages.rest().len();
         let parts = counted(row.ranges().size_hint().0, frame);
-        return reported(frame, ROW, parts, 0, bytes, message);
+        return reported(frame, ROW, parts, 0, 0, bytes, message);
     }
     let answer = messages.next();
     let frame = bytes.len() - messages.rest().len();
     match answer {
-        Ok(None) => reported(frame, 0, none(), MORE, bytes, message),
+        Ok(None) => reported(frame, 0, none(), MORE, missing(bytes, 1), bytes, message),
         Ok(Some(kept)) => reported(
             frame,
             kind(&kept),
             parts(&kept, bytes, frame),
             0,
+            0,
             bytes,
             message,
         ),
-        Err(e) => reported(frame, 0, none(), u32::from(e.number()), bytes, message),
+        Err(e) => reported(frame, 0, none(), u32::from(e.number()), 0, bytes, message),
     }
 }
 
@@ -85,11 +89,13 @@ fn reported(
     kind: u8,
     parts: PgpParts,
     code: u32,
+    missing: usize,
     bytes: &[u8],
     message: &mut PgpMessage,
 ) -> u32
     ensures code { result ≡ code }
     ensures frame { message.new.frame ≡ frame }
+    ensures missing { message.new.missing ≡ missing }
     ensures kind { message.new.kind ≡ kind }
     ensures parts { message.new.parts ≡ parts }
     ensures tag { frame ≢ 0 → frame ≤ length bytes.now → (rest : List ℕ) × (bytes.now ≡ message.new.tag ∷ rest) }
@@ -101,6 +107,7 @@ fn reported(
     };
     *message = PgpMessage {
         frame,
+        missing,
         parts,
         kind,
         tag,

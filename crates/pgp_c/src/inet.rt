@@ -2,7 +2,8 @@
 
 ghost use Rattle.std.specs.Prelude.{◌≡◌, ◌≢◌, ◌⊎◌, ◌*◌, ◌<◌, ◌≤◌, length, IfOk, IfErr};
 ghost use Rattle.pgp_types.specs.Network.{Inet, family_number, family_of, inet};
-ghost use Rattle.pgp_c.specs.Compound.{IsAddress, IsInetIn, IsInetOf, IsNoAddress, IsNoInet};
+ghost use Rattle.pgp_values.specs.Network.{cidr};
+ghost use Rattle.pgp_c.specs.Compound.{IsAddress, IsAddressed, IsInetIn, IsInetOf, IsNoAddress, IsNoInet};
 ghost use Rattle.pgp_c.specs.Parts.{IsInside};
 ghost use Rattle.pgp_c.specs.Values.{Lacks, Refuses, Wrote};
 
@@ -75,6 +76,53 @@ pub extern "C" fn pgp_put_inet(
     }
     let mut window = Window::new(out);
     match pgp_types::inet_to_sql(addr, netmask, &mut window) {
+        Ok(()) => sent(&window, written),
+        Err(e) => refused(e, written),
+    }
+}
+
+/// Writes an `inet` whatever its netmask is: a server takes none of more bits than the address has.
+#[unsafe(no_mangle)]
+pub extern "C" fn pgp_put_inet_any(
+    address: &[u8],
+    netmask: u8,
+    out: &mut [u8],
+    written: &mut usize,
+) -> u32
+    ensures wrote { result ≡ 0 → (v : Inet) × IsAddressed address.now netmask v × Wrote (inet.written v) out.old out.new written.new }
+    ensures refused { result ≢ 0 → (written.new ≡ 0) × (((result ≡ 18) × IsNoAddress address.now) ⊎ ((v : Inet) × IsAddressed address.now netmask v × Lacks (inet.written v) out.old written.new result)) }
+{
+    let addr = match address_of(address) {
+        Ok(addr) => addr,
+        Err(e) => return refused(e, written),
+    };
+    let mut window = Window::new(out);
+    match pgp_types::inet_to_sql(addr, netmask, &mut window) {
+        Ok(()) => sent(&window, written),
+        Err(e) => refused(e, written),
+    }
+}
+
+/// Writes a `cidr` of an address of 4 or 16 bytes, of which so many bits name the network. A server takes it only where the others are 0.
+#[unsafe(no_mangle)]
+pub extern "C" fn pgp_put_cidr(
+    address: &[u8],
+    netmask: u8,
+    out: &mut [u8],
+    written: &mut usize,
+) -> u32
+    ensures wrote { result ≡ 0 → (v : Inet) × IsInetOf address.now netmask v × Wrote (cidr.written v) out.old out.new written.new }
+    ensures refused { result ≢ 0 → (written.new ≡ 0) × (IsNoInet address.now netmask result ⊎ ((v : Inet) × IsInetOf address.now netmask v × Lacks (cidr.written v) out.old written.new result)) }
+{
+    let addr = match address_of(address) {
+        Ok(addr) => addr,
+        Err(e) => return refused(e, written),
+    };
+    if 8 * address.len() < netmask as usize {
+        return refused(Error::InvalidNetmask, written);
+    }
+    let mut window = Window::new(out);
+    match pgp_values::cidr_to_sql(addr, netmask, &mut window) {
         Ok(()) => sent(&window, written),
         Err(e) => refused(e, written),
     }

@@ -1,12 +1,14 @@
 //! The messages with lists in them: of types, and of values.
 
-ghost use Rattle.std.specs.Prelude.{◌≡◌, ◌≢◌, map};
+ghost use Rattle.std.specs.Prelude.{◌≡◌, ◌≢◌, true, false, length, map};
 ghost use Rattle.pgp_base.specs.Held.{◌⊕◌};
 ghost use Rattle.pgp_frontend.specs.ClientMessage.{Bind, Parse};
 ghost use Rattle.pgp_c.specs.Sending.{Sent, NotSent};
 ghost use Rattle.pgp_c.specs.Lists.{error_of, value_of, Puts};
+ghost use Rattle.pgp_c.specs.Requests.{are_bound};
 
-use crate::status::{refused, sent};
+use crate::request::are_bound;
+use crate::status::{no_formats, refused, sent};
 use pgp_base::{BindError, Buffer, Error, IsNull, Window};
 use pgp_frontend::over_bytes;
 
@@ -40,6 +42,34 @@ pub extern "C" fn pgp_parse(
 /// Binds values to a statement's parameters, and makes a portal of it.
 #[unsafe(no_mangle)]
 pub extern "C" fn pgp_bind(
+    portal: &[u8],
+    statement: &[u8],
+    formats: &[i16],
+    values: &[PgpValue<'_>],
+    result_formats: &[i16],
+    out: &mut [u8],
+    written: &mut usize,
+) -> u32
+    ensures sent { result ≡ 0 → Sent (Bind portal.now statement.now formats.now (map value_of values.now) result_formats.now) out.old out.new written.new }
+    ensures formats { are_bound formats.now (length values.now) result_formats.now ≡ false → (result ≡ 39) × (written.new ≡ 0) }
+    ensures refused { result ≢ 0 → are_bound formats.now (length values.now) result_formats.now ≡ true → NotSent (Bind portal.now statement.now formats.now (map value_of values.now) result_formats.now) out.old written.new result }
+{
+    if !are_bound(formats, values.len(), result_formats) {
+        return no_formats(written);
+    }
+    bind(
+        portal,
+        statement,
+        formats,
+        values,
+        result_formats,
+        out,
+        written,
+    )
+}
+
+/// The same message, whatever the formats are.
+pub(crate) fn bind(
     portal: &[u8],
     statement: &[u8],
     formats: &[i16],

@@ -6,9 +6,9 @@ ghost use Rattle.pgp_c.specs.Sending.{Sent, NotSent};
 
 use crate::copying::pgp_copy_data;
 use crate::writing::{
-    pgp_cancel_request, pgp_close, pgp_copy_done, pgp_copy_fail, pgp_describe, pgp_execute,
-    pgp_flush, pgp_password_message, pgp_query, pgp_sasl_initial_response, pgp_sasl_response,
-    pgp_ssl_request, pgp_sync, pgp_terminate,
+    close, describe, pgp_cancel_request, pgp_copy_done, pgp_copy_fail, pgp_execute, pgp_flush,
+    pgp_password_message, pgp_query, pgp_sasl_initial_response, pgp_sasl_response, pgp_ssl_request,
+    pgp_sync, pgp_terminate,
 };
 
 /// A message without lists, of the caller's texts and bytes.
@@ -40,11 +40,11 @@ pub fn send(message: PlainMessage<'_>, out: &mut [u8], written: &mut usize) -> u
 {
     match message {
         PlainMessage::CancelRequest(id, key) => pgp_cancel_request(id, key, out, written),
-        PlainMessage::Close(variant, name) => pgp_close(variant, name, out, written),
+        PlainMessage::Close(variant, name) => close(variant, name, out, written),
         PlainMessage::CopyData(data) => pgp_copy_data(data, out, written),
         PlainMessage::CopyDone => pgp_copy_done(out, written),
         PlainMessage::CopyFail(reason) => pgp_copy_fail(reason, out, written),
-        PlainMessage::Describe(variant, name) => pgp_describe(variant, name, out, written),
+        PlainMessage::Describe(variant, name) => describe(variant, name, out, written),
         PlainMessage::Execute(portal, rows) => pgp_execute(portal, rows, out, written),
         PlainMessage::Flush => pgp_flush(out, written),
         PlainMessage::PasswordMessage(text) => pgp_password_message(text, out, written),

@@ -1,17 +1,12 @@
-//! Decimal numbers, as their texts; and documents of JSON.
+//! Decimal numbers, as their texts.
 
-ghost use Rattle.std.specs.Prelude.{◌≡◌, ◌≢◌, ◌⊎◌, Ok, length};
-ghost use Rattle.std.specs.Str.{IsUtf8};
-ghost use Rattle.pgp_types.specs.Format.{Reads};
+ghost use Rattle.std.specs.Prelude.{◌≡◌, ◌≢◌, ◌⊎◌, Ok};
 ghost use Rattle.pgp_values.specs.Decimal.{Numeric, NumericReads, numeric_bytes};
 ghost use Rattle.pgp_values.specs.DecimalText.{numeric_text};
 ghost use Rattle.pgp_values.specs.NumberMeaning.{TextMeans};
-ghost use Rattle.pgp_values.specs.Text.{jsonb};
 ghost use Rattle.pgp_c.specs.Further.{IsNoNumeric, IsNoNumericText, numeric_number};
-ghost use Rattle.pgp_c.specs.Parts.{IsInside, stands};
-ghost use Rattle.pgp_c.specs.Values.{Lacks, Refuses, Wrote};
+ghost use Rattle.pgp_c.specs.Values.{Lacks, Wrote};
 
-use crate::front::PgpPart;
 use crate::status::{failed, refused, sent};
 use pgp_base::{Error, Window};
 use pgp_values::NumericError;
@@ -66,41 +61,5 @@ pub extern "C" fn pgp_get_numeric_text(bytes: &[u8], out: &mut [u8], written: &m
     match pgp_values::numeric_to_text(&number, &mut window) {
         Ok(()) => sent(&window, written),
         Err(e) => refused(e, written),
-    }
-}
-
-/// Writes a `jsonb`, of its JSON.
-#[unsafe(no_mangle)]
-pub extern "C" fn pgp_put_jsonb(json: &[u8], out: &mut [u8], written: &mut usize) -> u32
-    ensures wrote { result ≡ 0 → Wrote (jsonb.written json.now) out.old out.new written.new }
-    ensures refused { result ≢ 0 → (written.new ≡ 0) × (((result ≡ 9) × (IsUtf8 json.now → ⊥)) ⊎ Lacks (jsonb.written json.now) out.old written.new result) }
-{
-    let Ok(json) = str::from_utf8(json) else {
-        return refused(Error::NotUtf8, written);
-    };
-    let mut window = Window::new(out);
-    match pgp_values::jsonb_to_sql(json, &mut window) {
-        Ok(()) => sent(&window, written),
-        Err(e) => refused(e, written),
-    }
-}
-
-/// Finds the JSON of a `jsonb`, which isn't parsed.
-#[unsafe(no_mangle)]
-pub extern "C" fn pgp_get_jsonb(bytes: &[u8], json: &mut PgpPart) -> u32
-    ensures read { result ≡ 0 → Reads jsonb bytes.now (Ok (stands bytes.now json.new)) }
-    ensures inside { result ≡ 0 → IsInside (length bytes.now) json.new }
-    ensures refused { result ≢ 0 → Refuses jsonb bytes.now result }
-    ensures left { result ≢ 0 → json.new ≡ json.old }
-{
-    match pgp_values::jsonb_from_sql(bytes) {
-        Ok(_) => {
-            *json = PgpPart {
-                at: 1,
-                len: bytes.len().saturating_sub(1),
-            };
-            0
-        }
-        Err(e) => failed(e),
     }
 }

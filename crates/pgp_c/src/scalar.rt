@@ -7,12 +7,15 @@ ghost use Rattle.pgp_c.specs.Values.{Lacks, Wrote};
 
 use crate::status::{refused, sent};
 use pgp_base::{Buffer, Error, Window};
-use pgp_values::{Interval, TimeTz};
+use pgp_values::{Circle, Interval, Line, Segment, Tid, TimeTz};
 
-/// A value of a fixed size; one of a `float4` or a `float8` by its bits.
+/// A value of a fixed size; a floating-point number by its bits. A box is the coordinates of its upper right corner, and of its lower left.
 #[derive(Clone, Copy)]
 pub enum Scalar {
     Bool(bool),
+    Box(u64, u64, u64, u64),
+    Char(i8),
+    Circle(Circle),
     Date(i32),
     EmptyRange,
     Float4(u32),
@@ -21,9 +24,14 @@ pub enum Scalar {
     Int4(i32),
     Int8(i64),
     Interval(Interval),
+    Line(Line),
+    Lseg(Segment),
     Lsn(u64),
     Macaddr([u8; 6]),
+    Macaddr8([u8; 8]),
     Oid(u32),
+    Point(u64, u64),
+    Tid(Tid),
     Time(i64),
     TimeTz(TimeTz),
     Timestamp(i64),
@@ -51,6 +59,9 @@ fn append<B: Buffer>(value: Scalar, buf: &mut B) -> Result<(), Error>
 {
     match value {
         Scalar::Bool(value) => pgp_types::bool_to_sql(value, buf),
+        Scalar::Box(x1, y1, x2, y2) => pgp_types::box_to_sql(x1, y1, x2, y2, buf),
+        Scalar::Char(value) => pgp_types::char_to_sql(value, buf),
+        Scalar::Circle(circle) => pgp_values::circle_to_sql(circle, buf),
         Scalar::Date(days) => pgp_types::date_to_sql(days, buf),
         Scalar::EmptyRange => pgp_types::empty_range_to_sql(buf),
         Scalar::Float4(bits) => pgp_types::float4_to_sql(bits, buf),
@@ -59,9 +70,14 @@ fn append<B: Buffer>(value: Scalar, buf: &mut B) -> Result<(), Error>
         Scalar::Int4(value) => pgp_types::int4_to_sql(value, buf),
         Scalar::Int8(value) => pgp_types::int8_to_sql(value, buf),
         Scalar::Interval(span) => pgp_values::interval_to_sql(span, buf),
+        Scalar::Line(line) => pgp_values::line_to_sql(line, buf),
+        Scalar::Lseg(segment) => pgp_values::lseg_to_sql(segment, buf),
         Scalar::Lsn(value) => pgp_types::lsn_to_sql(value, buf),
         Scalar::Macaddr(octets) => pgp_types::macaddr_to_sql(octets, buf),
+        Scalar::Macaddr8(octets) => pgp_values::macaddr8_to_sql(octets, buf),
         Scalar::Oid(value) => pgp_types::oid_to_sql(value, buf),
+        Scalar::Point(x, y) => pgp_types::point_to_sql(x, y, buf),
+        Scalar::Tid(tid) => pgp_values::tid_to_sql(tid, buf),
         Scalar::Time(time) => pgp_types::time_to_sql(time, buf),
         Scalar::TimeTz(time) => pgp_values::timetz_to_sql(time, buf),
         Scalar::Timestamp(time) => pgp_types::timestamp_to_sql(time, buf),

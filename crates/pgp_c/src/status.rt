@@ -81,11 +81,20 @@ pub fn no_version(written: &mut usize) -> u32
     34
 }
 
-/// The kind of a range's side is none.
+/// The kind of a range's side, or of what is described or closed, is none.
 pub fn no_kind(written: &mut usize) -> u32
     ensures code { result ≡ 35 }
     ensures reported { written.new ≡ 0 }
 {
     *written = 0;
     35
+}
+
+/// The formats of a bind are none, or don't suit its values.
+pub fn no_formats(written: &mut usize) -> u32
+    ensures code { result ≡ 39 }
+    ensures reported { written.new ≡ 0 }
+{
+    *written = 0;
+    39
 }

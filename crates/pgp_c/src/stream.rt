@@ -9,19 +9,27 @@ ghost use Rattle.pgp_c.specs.Lists.{value_of};
 ghost use Rattle.pgp_c.specs.Copying.{WhyNoHead};
 ghost use Rattle.pgp_c.specs.Opening.{pair_of, WhyStartup};
 ghost use Rattle.pgp_c.specs.Plain.{comes_open, message_of};
+ghost use Rattle.pgp_c.specs.Requests.{are_bound, is_target};
 ghost use Rattle.pgp_c.specs.Sending.{Why};
 ghost use Rattle.pgp_c.specs.Streams.{Extends, ExtendsByHead, Keeps, free};
 
 use crate::copying::pgp_copy_data_head;
-use crate::listing::{PgpValue, pgp_bind, pgp_parse};
+use crate::listing::{PgpValue, bind, pgp_parse};
 use crate::message::{PlainMessage, comes_open, send};
 use crate::opening::{PgpPair, pgp_startup};
+use crate::request::{are_bound, is_target};
 
 /// The answer where a message may not come: no startup packet was written, or one was.
 const WRONG_PHASE: u32 = 32;
 
 /// The answer where there is no room.
 const NO_ROOM: u32 = 1;
+
+/// The answer where a letter is that of nothing that is described or closed.
+const NO_KIND: u32 = 35;
+
+/// The answer where the formats of a bind are none, or don't suit its values.
+const NO_FORMATS: u32 = 39;
 
 /// Memory of the caller's, how much of it is to be sent, and whether a startup packet was written.
 #[repr(C)]
@@ -175,18 +183,22 @@ pub extern "C" fn pgp_stream_bind(
 ) -> u32
     ensures added { result ≡ 0 → Extends (Bind portal.now statement.now formats.now (map value_of values.now) result_formats.now) stream.old stream.new }
     ensures phase { stream.old.is_open ≢ true → result ≡ 32 }
-    ensures why { result ≢ 0 → stream.old.is_open ≡ true → Why (Bind portal.now statement.now formats.now (map value_of values.now) result_formats.now) (free stream.old) result }
+    ensures formats { stream.old.is_open ≡ true → are_bound formats.now (length values.now) result_formats.now ≡ false → result ≡ 39 }
+    ensures why { result ≢ 0 → stream.old.is_open ≡ true → are_bound formats.now (length values.now) result_formats.now ≡ true → Why (Bind portal.now statement.now formats.now (map value_of values.now) result_formats.now) (free stream.old) result }
     ensures kept { result ≢ 0 → Keeps stream.old stream.new }
 {
     let len = stream.len;
     if stream.is_open != true {
         return WRONG_PHASE;
     }
+    if !are_bound(formats, values.len(), result_formats) {
+        return NO_FORMATS;
+    }
     if len > stream.room.len() {
         return NO_ROOM;
     }
     let mut added = 0;
-    let code = pgp_bind(
+    let code = bind(
         portal,
         statement,
         formats,
@@ -204,9 +216,13 @@ pub extern "C" fn pgp_stream_bind(
 pub extern "C" fn pgp_stream_describe(stream: &mut PgpStream<'_>, variant: u8, name: &[u8]) -> u32
     ensures added { result ≡ 0 → Extends (Describe variant name.now) stream.old stream.new }
     ensures phase { stream.old.is_open ≢ true → result ≡ 32 }
-    ensures why { result ≢ 0 → stream.old.is_open ≡ true → Why (Describe variant name.now) (free stream.old) result }
+    ensures letter { stream.old.is_open ≡ true → is_target variant ≡ false → result ≡ 35 }
+    ensures why { result ≢ 0 → stream.old.is_open ≡ true → is_target variant ≡ true → Why (Describe variant name.now) (free stream.old) result }
     ensures kept { result ≢ 0 → Keeps stream.old stream.new }
 {
+    if stream.is_open && !is_target(variant) {
+        return NO_KIND;
+    }
     add(stream, PlainMessage::Describe(variant, name))
 }
 
@@ -230,9 +246,13 @@ pub extern "C" fn pgp_stream_execute(
 pub extern "C" fn pgp_stream_close(stream: &mut PgpStream<'_>, variant: u8, name: &[u8]) -> u32
     ensures added { result ≡ 0 → Extends (Close variant name.now) stream.old stream.new }
     ensures phase { stream.old.is_open ≢ true → result ≡ 32 }
-    ensures why { result ≢ 0 → stream.old.is_open ≡ true → Why (Close variant name.now) (free stream.old) result }
+    ensures letter { stream.old.is_open ≡ true → is_target variant ≡ false → result ≡ 35 }
+    ensures why { result ≢ 0 → stream.old.is_open ≡ true → is_target variant ≡ true → Why (Close variant name.now) (free stream.old) result }
     ensures kept { result ≢ 0 → Keeps stream.old stream.new }
 {
+    if stream.is_open && !is_target(variant) {
+        return NO_KIND;
+    }
     add(stream, PlainMessage::Close(variant, name))
 }
 

@@ -2,7 +2,7 @@
 
 ghost use Rattle.std.specs.Prelude.{◌≡◌, ◌≢◌, Ok};
 ghost use Rattle.pgp_types.specs.Format.{Reads};
-ghost use Rattle.pgp_types.specs.Scalar.{bool, int2, int4, int8, oid, lsn, float4, float8};
+ghost use Rattle.pgp_types.specs.Scalar.{bool, char, int2, int4, int8, oid, lsn, float4, float8};
 ghost use Rattle.pgp_types.specs.Time.{date, time, timestamp};
 ghost use Rattle.pgp_c.specs.Values.{Wrote, Lacks, Refuses};
 
@@ -26,6 +26,25 @@ pub extern "C" fn pgp_get_bool(bytes: &[u8], value: &mut bool) -> u32
     ensures left { result ≢ 0 → value.new ≡ value.old }
 {
     read(pgp_types::bool_from_sql(bytes), value)
+}
+
+/// Writes a `"char"`.
+#[unsafe(no_mangle)]
+pub extern "C" fn pgp_put_char(value: i8, out: &mut [u8], written: &mut usize) -> u32
+    ensures wrote { result ≡ 0 → Wrote (char.written value) out.old out.new written.new }
+    ensures lacks { result ≢ 0 → Lacks (char.written value) out.old written.new result }
+{
+    put(Scalar::Char(value), out, written)
+}
+
+/// Reads a `"char"`, from all of the bytes.
+#[unsafe(no_mangle)]
+pub extern "C" fn pgp_get_char(bytes: &[u8], value: &mut i8) -> u32
+    ensures read { result ≡ 0 → Reads char bytes.now (Ok value.new) }
+    ensures refused { result ≢ 0 → Refuses char bytes.now result }
+    ensures left { result ≢ 0 → value.new ≡ value.old }
+{
+    read(pgp_types::char_from_sql(bytes), value)
 }
 
 /// Writes an `int2`.

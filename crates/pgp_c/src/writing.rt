@@ -1,10 +1,12 @@
 //! The messages whose parts are texts, bytes and numbers, each at the front of memory of the caller's.
 
-ghost use Rattle.std.specs.Prelude.{◌≡◌, ◌≢◌, Some};
+ghost use Rattle.std.specs.Prelude.{◌≡◌, ◌≢◌, true, false, Some};
 ghost use Rattle.pgp_frontend.specs.ClientMessage.{CancelRequest, Close, CopyDone, CopyFail, Describe, Execute, Flush, PasswordMessage, Query, SaslInitialResponse, SaslResponse, SslRequest, Sync, Terminate};
+ghost use Rattle.pgp_c.specs.Requests.{is_target};
 ghost use Rattle.pgp_c.specs.Sending.{Sent, NotSent};
 
-use crate::status::ended;
+use crate::request::is_target;
+use crate::status::{ended, no_kind};
 use pgp_base::Window;
 use pgp_frontend::over_bytes;
 
@@ -34,6 +36,18 @@ pub extern "C" fn pgp_terminate(out: &mut [u8], written: &mut usize) -> u32
 #[unsafe(no_mangle)]
 pub extern "C" fn pgp_close(variant: u8, name: &[u8], out: &mut [u8], written: &mut usize) -> u32
     ensures sent { result ≡ 0 → Sent (Close variant name.now) out.old out.new written.new }
+    ensures letter { is_target variant ≡ false → (result ≡ 35) × (written.new ≡ 0) }
+    ensures refused { result ≢ 0 → is_target variant ≡ true → NotSent (Close variant name.now) out.old written.new result }
+{
+    if !is_target(variant) {
+        return no_kind(written);
+    }
+    close(variant, name, out, written)
+}
+
+/// The same message, whatever the letter is.
+pub(crate) fn close(variant: u8, name: &[u8], out: &mut [u8], written: &mut usize) -> u32
+    ensures sent { result ≡ 0 → Sent (Close variant name.now) out.old out.new written.new }
     ensures refused { result ≢ 0 → NotSent (Close variant name.now) out.old written.new result }
 {
     let mut window = Window::new(out);
@@ -44,6 +58,18 @@ pub extern "C" fn pgp_close(variant: u8, name: &[u8], out: &mut [u8], written: &
 /// Asks what a statement (`S`) or a portal (`P`) gives.
 #[unsafe(no_mangle)]
 pub extern "C" fn pgp_describe(variant: u8, name: &[u8], out: &mut [u8], written: &mut usize) -> u32
+    ensures sent { result ≡ 0 → Sent (Describe variant name.now) out.old out.new written.new }
+    ensures letter { is_target variant ≡ false → (result ≡ 35) × (written.new ≡ 0) }
+    ensures refused { result ≢ 0 → is_target variant ≡ true → NotSent (Describe variant name.now) out.old written.new result }
+{
+    if !is_target(variant) {
+        return no_kind(written);
+    }
+    describe(variant, name, out, written)
+}
+
+/// The same message, whatever the letter is.
+pub(crate) fn describe(variant: u8, name: &[u8], out: &mut [u8], written: &mut usize) -> u32
     ensures sent { result ≡ 0 → Sent (Describe variant name.now) out.old out.new written.new }
     ensures refused { result ≢ 0 → NotSent (Describe variant name.now) out.old written.new result }
 {

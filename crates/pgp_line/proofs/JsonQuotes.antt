@@ -12,7 +12,7 @@ use Rattle.std.proofs.lemmas.Str.{encode_ascii, encodes-chars, scalars-chars, Is
 use Rattle.pgp_line.specs.declared.style.Form.{Form}
 use Rattle.pgp_line.specs.declared.style.Form.TheVariants.{Columns, Json}
 use Rattle.pgp_line.specs.declared.style.Style.{Style}
-use Rattle.pgp_line.specs.Line.{Value, added, added_by}
+use Rattle.pgp_line.specs.Line.{Value, added, added_by, comma}
 use Rattle.pgp_line.specs.Quoting.{escaped, escaped_char, hex_byte, is_mark, is_printable, is_text, json_digits, json_hex, json_text, json_value, long, quoted, unit, units, unprinted}
 use Rattle.pgp_line.proofs.Escapes.{whole_text}
 use Rattle.pgp_line.proofs.Quotes.{AreBytes, Mark, Same, digits_all, hex_one, low_mark, mark_by, never_inside, never_shown_null, quoted_tail, short_values, unmarked_all, unmarked_by}
@@ -228,12 +228,12 @@ json_values : (limit : ℕ) (xs ys : List ℕ) → AreBytes xs → AreBytes ys �
 unfolding json_value
 json_values limit xs ys a b x y e = json_by (is_text xs) (is_text ys) limit xs ys refl refl a b x y e
 
-values_by : (form : Form) (limit : ℕ) (xs ys : List ℕ) → AreBytes xs → AreBytes ys → length xs ≤ limit → length ys ≤ limit → added_by form limit (Value (Some xs)) ≡ added_by form limit (Value (Some ys)) → xs ≡ ys
-values_by Columns limit xs ys a b x y e = short_values limit xs ys a b x y (ap (drop 1) e)
-values_by Json limit xs ys a b x y e = json_values limit xs ys a b x y (ap (drop 1) e)
+values_by : (form : Form) (limit : ℕ) (line xs ys : List ℕ) → AreBytes xs → AreBytes ys → length xs ≤ limit → length ys ≤ limit → added_by form limit line (Value (Some xs)) ≡ added_by form limit line (Value (Some ys)) → xs ≡ ys
+values_by Columns limit line xs ys a b x y e = short_values limit xs ys a b x y (ap (drop 1) e)
+values_by Json limit line xs ys a b x y e = json_values limit xs ys a b x y (append_cancel_left (comma line) (json_value limit xs) (json_value limit ys) e)
 
-pub short_parts : (style : Style) (xs ys : List ℕ) → AreBytes xs → AreBytes ys → length xs ≤ style.limit → length ys ≤ style.limit → added style (Value (Some xs)) ≡ added style (Value (Some ys)) → xs ≡ ys
-short_parts style xs ys a b x y e = values_by style.form style.limit xs ys a b x y e
+pub short_parts : (style : Style) (line xs ys : List ℕ) → AreBytes xs → AreBytes ys → length xs ≤ style.limit → length ys ≤ style.limit → added style line (Value (Some xs)) ≡ added style line (Value (Some ys)) → xs ≡ ys
+short_parts style line xs ys a b x y e = values_by style.form style.limit line xs ys a b x y e
 
 null_by : (text short : Bool) (limit : ℕ) (xs : List ℕ) → (if text then text_up_to short limit xs else hex_up_to short limit xs) ≡ codes "null" → ⊥
 null_by true true limit xs e = let n : 34 ≡ 110 = ap (λ l. get_or l 0 0) e in absurd (omega (arith, n))
@@ -245,9 +245,9 @@ json_null : (limit : ℕ) (xs : List ℕ) → json_value limit xs ≡ codes "nul
 unfolding json_value json_text json_hex
 json_null limit xs e = null_by (is_text xs) (nat_le (length xs) limit) limit xs e
 
-nulls_by : (form : Form) (limit : ℕ) (xs : List ℕ) → added_by form limit (Value (Some xs)) ≡ added_by form limit (Value None) → ⊥
-nulls_by Columns limit xs e = never_shown_null limit xs (ap (drop 1) e)
-nulls_by Json limit xs e = json_null limit xs (ap (drop 1) e)
+nulls_by : (form : Form) (limit : ℕ) (line xs : List ℕ) → added_by form limit line (Value (Some xs)) ≡ added_by form limit line (Value None) → ⊥
+nulls_by Columns limit line xs e = never_shown_null limit xs (ap (drop 1) e)
+nulls_by Json limit line xs e = json_null limit xs (append_cancel_left (comma line) (json_value limit xs) (codes "null") e)
 
-pub never_added_null : (style : Style) (xs : List ℕ) → added style (Value (Some xs)) ≡ added style (Value None) → ⊥
-never_added_null style xs e = nulls_by style.form style.limit xs e
+pub never_added_null : (style : Style) (line xs : List ℕ) → added style line (Value (Some xs)) ≡ added style line (Value None) → ⊥
+never_added_null style line xs e = nulls_by style.form style.limit line xs e

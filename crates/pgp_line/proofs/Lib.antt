@@ -1,6 +1,5 @@
 pub mod Parts
 pub mod Columns
-pub mod Called
 pub mod Escapes
 pub mod Quotes
 pub mod JsonQuotes

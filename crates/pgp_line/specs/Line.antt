@@ -1,5 +1,5 @@
 -- A line: its parts, one after another.
-use Rattle.std.specs.Prelude.{ℕ, ◌-◌, ℤ, Bool, true, false, List, [], ◌∷◌, ◌++◌, length, replicate, Option, Some, None, codes, decimal}
+use Rattle.std.specs.Prelude.{ℕ, ◌-◌, ℤ, Bool, true, false, ◌==◌, ◌||◌, if◌then◌else◌, List, [], ◌∷◌, ◌++◌, length, replicate, slice_get, Option, Some, None, codes, decimal}
 use Rattle.std.specs.Fmt.{signed_decimal}
 use Rattle.std.specs.List.{flat_map}
 use Rattle.pgp_line.specs.Quoting.{escaped_byte, json_value, quoted, value, up_to}
@@ -37,7 +37,7 @@ abbrev pub json_name : Option (List ℕ) → List ℕ
 json_name None = codes "}"
 json_name (Some name) = codes ",\"name\":" ++ string name ++ codes "}"
 
--- What a line can say.
+-- What a line can say. A JSON object says it by names, lists and objects, which a line of text goes without.
 pub data Part : Type 0 where
   -- how long a frame is
   Length : (n : ℕ) → Part
@@ -45,9 +45,20 @@ pub data Part : Type 0 where
   Tag : (tag : ℕ) → Part
   -- the name of a message, after which nothing more stands, or more
   Name : (alone : Bool) (name : List ℕ) → Part
-  -- the number of the error of a frame
+  -- the number of an error, whose name stands after it
   Refusal : (n : ℕ) → Part
-  -- a word of ours, as the name of what stands after it
+  -- what stands after it: by a word in a line, and by a name in JSON
+  Key : (word name : List ℕ) → Part
+  -- the same of what has a name in JSON alone
+  Member : (name : List ℕ) → Part
+  -- a list of so many items begins; JSON doesn't say how many
+  Count : (n : ℕ) → Part
+  -- in JSON alone, a list and an object begin and end
+  ListBegins : Part
+  ListEnds : Part
+  ObjectBegins : Part
+  ObjectEnds : Part
+  -- a word of ours
   Word : (word : List ℕ) → Part
   Number : (n : ℤ) → Part
   -- a type
@@ -59,12 +70,18 @@ pub data Part : Type 0 where
   -- a secret of so many bytes
   Hidden : (n : ℕ) → Part
 
+-- a part that has one word for both
+abbrev pub key : List ℕ → Part
+key word = Key word word
+
 -- how a part is shown, where values and texts are cut past a limit
 abbrev pub shown : ℕ → Part → List ℕ
 shown limit (Length n) = right 8 n
 shown limit (Tag tag) = escaped_byte Columns tag
 shown limit (Name alone name) = named alone name
 shown limit (Refusal n) = codes "fault " ++ decimal n
+shown limit (Key word name) = spelt word
+shown limit (Count n) = decimal n
 shown limit (Word word) = spelt word
 shown limit (Number n) = signed_decimal n
 shown limit (Oid oid) = decimal oid ++ type_name (type_of oid)
@@ -72,13 +89,21 @@ shown limit (Text bytes) = up_to limit (quoted Columns) bytes
 shown limit (Value None) = codes "NULL"
 shown limit (Value (Some bytes)) = value limit bytes
 shown limit (Hidden n) = codes "(" ++ decimal n ++ codes " bytes)"
+shown limit part = []
 
--- and in JSON: the fields of an object, and the elements of the list that its last one is
+-- and in JSON
 abbrev pub json : ℕ → Part → List ℕ
 json limit (Length n) = codes "\"length\":" ++ decimal n
 json limit (Tag tag) = codes "\"tag\":" ++ string (tag ∷ [])
-json limit (Name alone name) = codes "\"message\":[" ++ string name
-json limit (Refusal n) = codes "\"fault\":[" ++ decimal n
+json limit (Name alone name) = codes "\"name\":" ++ string name
+json limit (Refusal n) = codes "\"fault\":{\"number\":" ++ decimal n ++ codes ",\"name\":"
+json limit (Key word name) = string name ++ codes ":"
+json limit (Member name) = string name ++ codes ":"
+json limit (Count n) = codes "["
+json limit ListBegins = codes "["
+json limit ListEnds = codes "]"
+json limit ObjectBegins = codes "{"
+json limit ObjectEnds = codes "}"
 json limit (Word word) = string word
 json limit (Number n) = signed_decimal n
 json limit (Oid oid) = codes "{\"oid\":" ++ decimal oid ++ json_name (type_of oid)
@@ -87,18 +112,44 @@ json limit (Value None) = codes "null"
 json limit (Value (Some bytes)) = json_value limit bytes
 json limit (Hidden n) = codes "{\"bytes\":" ++ decimal n ++ codes "}"
 
--- a part after others
-abbrev pub added_by : Form → ℕ → Part → List ℕ
-added_by Columns limit part = 32 ∷ shown limit part
-added_by Json limit part = 44 ∷ json limit part
+-- before each part that a line of text shows stands a space
+abbrev pub space : Part → List ℕ
+space (Member name) = []
+space ListBegins = []
+space ListEnds = []
+space ObjectBegins = []
+space ObjectEnds = []
+space part = 32 ∷ []
 
-abbrev pub added : Style → Part → List ℕ
-added style part = added_by style.form style.limit part
+-- what the first of a list or of an object, and the value of a name, stand after: `[`, `{`, `:`
+abbrev pub is_opening : Option ℕ → Bool
+is_opening None = false
+is_opening (Some b) = (b == 91) || (b == 123) || (b == 58)
+
+-- after anything else a comma stands
+unfoldable pub comma : List ℕ → List ℕ
+comma line = if is_opening (slice_get line (length line - 1)) then [] else 44 ∷ []
+
+abbrev pub separator : List ℕ → Part → List ℕ
+separator line ListEnds = []
+separator line ObjectEnds = []
+separator line part = comma line
+
+-- a part after a line
+abbrev pub added_by : Form → ℕ → List ℕ → Part → List ℕ
+added_by Columns limit line part = space part ++ shown limit part
+added_by Json limit line part = separator line part ++ json limit part
+
+abbrev pub added : Style → List ℕ → Part → List ℕ
+added style line part = added_by style.form style.limit line part
+
+unfoldable pub extended : Style → List ℕ → Part → List ℕ
+extended style line part = line ++ added style line part
 
 -- a line with these parts after it
 abbrev pub followed : Style → List ℕ → List Part → List ℕ
 followed style line [] = line
-followed style line (part ∷ parts) = followed style (line ++ added style part) parts
+followed style line (part ∷ parts) = followed style (extended style line part) parts
 
 -- what a line begins with: the place of a frame
 abbrev pub opening_by : Form → ℕ → List ℕ
@@ -111,7 +162,7 @@ opening style place = opening_by style.form place
 -- and what it ends with, before its newline
 abbrev pub closing_by : Form → List ℕ
 closing_by Columns = []
-closing_by Json = codes "]}"
+closing_by Json = codes "}"
 
 abbrev pub closing : Style → List ℕ
 closing style = closing_by style.form

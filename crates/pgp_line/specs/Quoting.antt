@@ -4,6 +4,8 @@ use Rattle.std.specs.Char.{encode_utf8}
 use Rattle.std.specs.List.{flat_map, list_all, list_any}
 use Rattle.std.specs.Str.{all_scalars, chars, encode_utf8_all, is_utf8}
 use Rattle.std.specs.Str.Lossy.{utf8_valid_len}
+use Rattle.ucd_category.specs.GeneralCategory.{general_category, general_category_eq}
+use Rattle.ucd_category.specs.declared.GeneralCategory.TheVariants.{Unassigned}
 use Rattle.pgp_line.specs.declared.style.Form.{Form}
 use Rattle.pgp_line.specs.declared.style.Form.TheVariants.{Columns, Json}
 
@@ -44,13 +46,17 @@ is_special c =
     || is_within 0x1D173 0x1D17A c  -- how music stands
     || is_within 0xE0000 0x10FFFF c  -- tags, selectors of variants, private
 
+-- what Unicode 18 assigns no character to
+abbrev pub is_unassigned : ℕ → Bool
+is_unassigned c = general_category_eq (general_category c) Unassigned
+
 -- from the space to the tilde
 abbrev pub is_visible : ℕ → Bool
 is_visible b = nat_le 32 b && nat_le b 126
 
 -- a character that a terminal prints, in its place
 abbrev pub is_printable : ℕ → Bool
-is_printable c = if nat_lt c 128 then is_visible c else not (is_spacing c || is_ignorable c || is_special c)
+is_printable c = if nat_lt c 128 then is_visible c else not (is_spacing c || is_ignorable c || is_special c) && not (is_unassigned c)
 
 -- a quote or a backslash
 abbrev pub is_mark : ℕ → Bool

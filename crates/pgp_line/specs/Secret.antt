@@ -1,7 +1,7 @@
 -- Secrets in a line.
 use Rattle.std.specs.Prelude.{ℕ, Bool, true, false, List, [], ◌∷◌, length, codes}
 use Rattle.pgp_line.specs.declared.style.Style.{Style}
-use Rattle.pgp_line.specs.Line.{Part, Word, Text, Hidden}
+use Rattle.pgp_line.specs.Line.{Part, Member, Text, Hidden, key}
 
 -- a secret, or how long it is
 abbrev pub secret_by : Bool → List ℕ → Part
@@ -13,5 +13,5 @@ secret style bytes = secret_by style.secrets bytes
 
 -- a message of tag `p` of which nothing is known is reported by its length alone
 abbrev pub response_parts : Style → Bool → List ℕ → List Part
-response_parts style true response = Word (codes "data") ∷ secret style response ∷ []
-response_parts style false response = Hidden (length response) ∷ []
+response_parts style true response = key (codes "data") ∷ secret style response ∷ []
+response_parts style false response = Member (codes "data") ∷ Hidden (length response) ∷ []

@@ -1,7 +1,9 @@
 //! The characters that a terminal prints.
 
 ghost use Rattle.std.specs.Prelude.{◌≡◌, ◌||◌};
-ghost use Rattle.pgp_line.specs.Quoting.{is_ignorable, is_printable, is_spacing, is_special, is_visible, is_within};
+ghost use Rattle.pgp_line.specs.Quoting.{is_ignorable, is_printable, is_spacing, is_special, is_unassigned, is_visible, is_within};
+
+use ucd_category::GeneralCategory;
 
 /// Whether a terminal prints the character, in its place.
 pub fn is_printable(c: char) -> bool
@@ -11,7 +13,7 @@ pub fn is_printable(c: char) -> bool
     if code < 128 {
         return 32 <= code && code <= 126;
     }
-    !is_hidden(code)
+    !is_hidden(code) && !is_unassigned(c)
 }
 
 /// Whether a byte is a character of ASCII that is printed.
@@ -25,6 +27,13 @@ fn is_hidden(code: u32) -> bool
     ensures { result ≡ (is_spacing code || is_ignorable code || is_special code) }
 {
     is_spacing(code) || is_ignorable(code) || is_special(code)
+}
+
+/// Whether Unicode 18 assigns no character to the code.
+fn is_unassigned(c: char) -> bool
+    ensures { result ≡ is_unassigned c }
+{
+    GeneralCategory::for_char(c) == GeneralCategory::Unassigned
 }
 
 /// Controls, blanks, and marks of width and direction.

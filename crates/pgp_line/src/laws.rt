@@ -21,9 +21,9 @@ pub fn strings_are_read()
     ensures { (xs rest : List ℕ) → IsUtf8 xs → (rs : List ℕ) × (quoted Json xs ++ rest ≡ 34 ∷ rs) × (content plain rs ≡ Some xs) }
 {}
 
-/// No two values that aren't cut are shown alike, and none as a null is.
+/// No two values that aren't cut are shown alike after the same line, and none as a null is.
 pub fn values_differ()
-    ensures some { (style : Style) (xs ys : List ℕ) → AllByRecursion (λ b. b < 256) xs → AllByRecursion (λ b. b < 256) ys →
-        length xs ≤ style.limit → length ys ≤ style.limit → added style (Value (Some xs)) ≡ added style (Value (Some ys)) → xs ≡ ys }
-    ensures null { (style : Style) (xs : List ℕ) → added style (Value (Some xs)) ≢ added style (Value None) }
+    ensures some { (style : Style) (line xs ys : List ℕ) → AllByRecursion (λ b. b < 256) xs → AllByRecursion (λ b. b < 256) ys →
+        length xs ≤ style.limit → length ys ≤ style.limit → added style line (Value (Some xs)) ≡ added style line (Value (Some ys)) → xs ≡ ys }
+    ensures null { (style : Style) (line xs : List ℕ) → added style line (Value (Some xs)) ≢ added style line (Value None) }
 {}

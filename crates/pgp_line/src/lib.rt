@@ -4,6 +4,7 @@
 pub mod characters;
 pub mod laws;
 pub mod line;
+pub mod nesting;
 pub mod quote;
 pub mod secret;
 pub mod style;

@@ -1,9 +1,11 @@
-//! The parts of a line, each after a space, or in JSON after a comma.
+//! The parts of a line, each after a space, or in JSON after a comma where one belongs there.
+#![tactic(auto, unfolding(crate::specs::Line::extended))]
 
-ghost use Rattle.std.specs.Prelude.{◌≡◌, ◌∷◌, ◌++◌, [], pos, None, Some, OnErr, OnOk, string_bytes};
-ghost use Rattle.pgp_line.specs.Line.{Length, Tag, Name, Refusal, Word, Number, Oid, Text, Value, Hidden, blanks, closing, followed, json_name, named, opening, right, string, type_name};
+ghost use Rattle.std.specs.Prelude.{◌≡◌, ◌∷◌, ◌++◌, [], pos, None, Some, OnErr, OnOk, codes, decimal, string_bytes};
+ghost use Rattle.pgp_line.specs.Line.{Length, Tag, Name, Refusal, Word, Number, Oid, Text, Value, Hidden, blanks, closing, followed, json_name, named, opening, right, type_name};
 ghost use Rattle.std.specs.Option.{option_map};
 
+use crate::nesting::{put_comma, put_string};
 use crate::quote::{put_byte, put_bytes, put_cut_text, put_json, put_value};
 use crate::style::{Form, Style};
 use crate::types::type_of;
@@ -33,20 +35,10 @@ pub fn put_name<A: Memory>(
             put_bytes(Form::Columns, word, line)
         }
         Form::Json => {
-            A::push_char(line, ',')?;
+            put_comma(line)?;
             put_string(word, line)
         }
     }
-}
-
-/// Adds a word of ours in the quotes of JSON.
-fn put_string<A: Memory>(word: &[u8], line: &mut String<A>) -> Result<(), AllocError>
-    ensures text { OnOk result (string_bytes line.new ≡ string_bytes line.old ++ string word.now) }
-    ensures lacks { OnErr result A.Lacks }
-{
-    A::push_char(line, '"')?;
-    put_bytes(Form::Json, word, line)?;
-    A::push_char(line, '"')
 }
 
 /// Adds a number that has no sign.
@@ -56,7 +48,10 @@ pub fn put_number<A: Memory>(style: Style, n: u64, line: &mut String<A>) -> Resu
 {
     match style.form {
         Form::Columns => A::push_shown(line, format_args!(" {n}")),
-        Form::Json => A::push_shown(line, format_args!(",{n}")),
+        Form::Json => {
+            put_comma(line)?;
+            A::push_shown(line, format_args!("{n}"))
+        }
     }
 }
 
@@ -67,7 +62,10 @@ pub fn put_signed<A: Memory>(style: Style, n: i32, line: &mut String<A>) -> Resu
 {
     match style.form {
         Form::Columns => A::push_shown(line, format_args!(" {n}")),
-        Form::Json => A::push_shown(line, format_args!(",{n}")),
+        Form::Json => {
+            put_comma(line)?;
+            A::push_shown(line, format_args!("{n}"))
+        }
     }
 }
 
@@ -82,7 +80,8 @@ pub fn put_type<A: Memory>(style: Style, oid: u32, line: &mut String<A>) -> Resu
             put_type_name(type_of(oid), line)
         }
         Form::Json => {
-            A::push_str(line, ",{\"oid\":")?;
+            put_comma(line)?;
+            A::push_str(line, "{\"oid\":")?;
             A::push_shown(line, format_args!("{oid}"))?;
             put_json_name(type_of(oid), line)
         }
@@ -130,7 +129,8 @@ pub fn put_frame_length<A: Memory>(
     match style.form {
         Form::Columns => put_length(len, line),
         Form::Json => {
-            A::push_str(line, ",\"length\":")?;
+            put_comma(line)?;
+            A::push_str(line, "\"length\":")?;
             A::push_shown(line, format_args!("{len}"))
         }
     }
@@ -177,7 +177,7 @@ pub fn put_end<A: Memory>(style: Style, line: &mut String<A>) -> Result<(), Allo
 {
     match style.form {
         Form::Columns => A::push_char(line, '\n'),
-        Form::Json => A::push_str(line, "]}\n"),
+        Form::Json => A::push_str(line, "}\n"),
     }
 }
 
@@ -197,7 +197,8 @@ pub fn put_called<A: Memory>(
             put_named(alone, name, line)
         }
         Form::Json => {
-            A::push_str(line, ",\"message\":[")?;
+            put_comma(line)?;
+            A::push_str(line, "\"name\":")?;
             put_string(name.as_bytes(), line)
         }
     }
@@ -227,7 +228,7 @@ fn put_blanks<A: Memory>(len: usize, line: &mut String<A>) -> Result<(), AllocEr
     Ok(())
 }
 
-/// Adds the number of a frame's error.
+/// Adds the number of an error, after which its name stands.
 pub fn put_refusal<A: Memory>(
     style: Style,
     number: u64,
@@ -238,8 +239,29 @@ pub fn put_refusal<A: Memory>(
 {
     match style.form {
         Form::Columns => A::push_shown(line, format_args!(" fault {number}")),
-        Form::Json => A::push_shown(line, format_args!(",\"fault\":[{number}")),
+        Form::Json => {
+            put_comma(line)?;
+            put_fault(number, line)
+        }
     }
+}
+
+/// Adds the beginning of an error's object: its number, and that its name comes.
+fn put_fault<A: Memory>(number: u64, line: &mut String<A>) -> Result<(), AllocError>
+    ensures text { OnOk result (string_bytes line.new ≡ string_bytes line.old ++ codes "\"fault\":{\"number\":" ++ decimal number ++ codes ",\"name\":") }
+    ensures lacks { OnErr result A.Lacks }
+{
+    A::push_str(line, "\"fault\":{\"number\":")?;
+    put_numbered(number, line)
+}
+
+/// Adds a number, and that a name comes.
+fn put_numbered<A: Memory>(number: u64, line: &mut String<A>) -> Result<(), AllocError>
+    ensures text { OnOk result (string_bytes line.new ≡ string_bytes line.old ++ decimal number ++ codes ",\"name\":") }
+    ensures lacks { OnErr result A.Lacks }
+{
+    A::push_shown(line, format_args!("{number}"))?;
+    A::push_str(line, ",\"name\":")
 }
 
 /// Adds the tag of a frame.
@@ -253,7 +275,8 @@ pub fn put_tag<A: Memory>(style: Style, tag: u8, line: &mut String<A>) -> Result
             put_byte(Form::Columns, tag, line)
         }
         Form::Json => {
-            A::push_str(line, ",\"tag\":")?;
+            put_comma(line)?;
+            A::push_str(line, "\"tag\":")?;
             put_string(&[tag], line)
         }
     }
@@ -274,7 +297,7 @@ pub fn put_text<A: Memory>(
             put_cut_text(style.limit, text, line)
         }
         Form::Json => {
-            A::push_char(line, ',')?;
+            put_comma(line)?;
             put_json(style.limit, text, line)
         }
     }
@@ -295,7 +318,7 @@ pub fn put_some<A: Memory>(
             put_value(style.limit, bytes, line)
         }
         Form::Json => {
-            A::push_char(line, ',')?;
+            put_comma(line)?;
             put_json(style.limit, bytes, line)
         }
     }
@@ -308,7 +331,10 @@ pub fn put_null<A: Memory>(style: Style, line: &mut String<A>) -> Result<(), All
 {
     match style.form {
         Form::Columns => A::push_str(line, " NULL"),
-        Form::Json => A::push_str(line, ",null"),
+        Form::Json => {
+            put_comma(line)?;
+            A::push_str(line, "null")
+        }
     }
 }
 
@@ -323,7 +349,10 @@ pub fn put_hidden<A: Memory>(
 {
     match style.form {
         Form::Columns => A::push_shown(line, format_args!(" ({len} bytes)")),
-        Form::Json => A::push_shown(line, format_args!(",{{\"bytes\":{len}}}")),
+        Form::Json => {
+            put_comma(line)?;
+            A::push_shown(line, format_args!("{{\"bytes\":{len}}}"))
+        }
     }
 }
 

@@ -1,10 +1,11 @@
 //! Secrets in a line: shown where the style has them, and else how long they are.
 
 ghost use Rattle.std.specs.Prelude.{◌≡◌, ◌∷◌, [], OnErr, OnOk, string_bytes};
-ghost use Rattle.pgp_line.specs.Line.{Word, followed};
+ghost use Rattle.pgp_line.specs.Line.{Key, followed};
 ghost use Rattle.pgp_line.specs.Secret.{response_parts, secret};
 
-use crate::line::{put_hidden, put_text, put_word};
+use crate::line::{put_hidden, put_text};
+use crate::nesting::{put_key, put_member};
 use crate::style::Style;
 use pgp_base::Memory;
 use std::alloc::AllocError;
@@ -12,14 +13,15 @@ use std::alloc::AllocError;
 /// Adds a secret with its name, or how long it is.
 pub fn put_secret<A: Memory>(
     style: Style,
+    word: &str,
     name: &str,
     bytes: &[u8],
     line: &mut String<A>,
 ) -> Result<(), AllocError>
-    ensures parts { OnOk result (string_bytes line.new ≡ followed style (string_bytes line.old) (Word name.now ∷ secret style bytes.now ∷ [])) }
+    ensures parts { OnOk result (string_bytes line.new ≡ followed style (string_bytes line.old) (Key word.now name.now ∷ secret style bytes.now ∷ [])) }
     ensures lacks { OnErr result A.Lacks }
 {
-    put_word(style, name, line)?;
+    put_key(style, word, name, line)?;
     if style.secrets {
         put_text(style, bytes, line)
     } else {
@@ -38,8 +40,9 @@ pub fn put_response<A: Memory>(
     ensures lacks { OnErr result A.Lacks }
 {
     if reported {
-        put_secret(style, "data", response, line)
+        put_secret(style, "data", "data", response, line)
     } else {
+        put_member(style, "data", line)?;
         put_hidden(style, response.len(), line)
     }
 }

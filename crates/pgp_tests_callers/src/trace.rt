@@ -3,7 +3,9 @@
 
 use crate::checks::{holds, refused_more, same};
 use crate::failing::{FailingReader, FailingWriter, PieceReader};
-use crate::trace_objects::{ANSWER_OBJECTS, ANSWERS, OBJECTS, OPEN_OBJECTS};
+use crate::trace_objects::{
+    ANSWER_OBJECTS, ANSWERS, GSS_OBJECTS, OBJECTS, OPEN_OBJECTS, TLS_OBJECTS,
+};
 use crate::trace_session::{LATER, LATER_LINES, LINES, OPEN_LINES, OTHER, OTHER_LINES, SESSION};
 use pgp_frontend_read::PasswordKind;
 use pgp_line::style::{Form, Style};
@@ -320,6 +322,8 @@ fn each_message_has_its_object(rt: HostRuntime) {
     );
     writes(&rt, rt.alloc(), open, ANSWERS, OPEN_OBJECTS);
     writes(&rt, rt.alloc(), JSON_KINDS, SESSION, OBJECTS);
+    writes(&rt, rt.alloc(), &["server", "--json"], b"NS", TLS_OBJECTS);
+    writes(&rt, rt.alloc(), &["server", "--json"], b"NG", GSS_OBJECTS);
 }
 
 /// Bytes, and what the program comes to on them: words, its lines, and what it says on standard error.

@@ -4,7 +4,7 @@ use Rattle.std.specs.Prelude.{codes}
 use Rattle.pgp_frontend.specs.ClientMessage.{CancelRequest, PasswordMessage, SaslInitialResponse, SaslResponse}
 use Rattle.pgp_line.specs.declared.style.Style.{Style}
 use Rattle.pgp_trace.specs.Client.{client_line, grouped}
-use Rattle.pgp_line.specs.Line.{Part, Name, Word, Number, Text, Hidden, followed}
+use Rattle.pgp_line.specs.Line.{Part, Name, Key, Member, Number, Text, Hidden, followed, key as named}
 use Rattle.pgp_trace.specs.Secrets.{quiet}
 
 -- a line with a name and one group of parts
@@ -12,20 +12,20 @@ abbrev one : Style → List ℕ → List ℕ → List Part → List ℕ
 one style old name parts = grouped style (followed style old (Name false name ∷ [])) (parts ∷ [])
 
 pub password : (style : Style) (reported : Bool) (a b old : List ℕ) → length a ≡ length b → client_line (quiet style) reported (Ok (PasswordMessage a)) old ≡ client_line (quiet style) reported (Ok (PasswordMessage b)) old
-password style true a b old e = ap (λ n. one (quiet style) old (codes "PasswordMessage") (Word (codes "password") ∷ Hidden n ∷ [])) e
-password style false a b old e = ap (λ n. one (quiet style) old (codes "PasswordMessage") (Word (codes "password") ∷ Hidden n ∷ [])) e
+password style true a b old e = ap (λ n. one (quiet style) old (codes "PasswordMessage") (named (codes "password") ∷ Hidden n ∷ [])) e
+password style false a b old e = ap (λ n. one (quiet style) old (codes "PasswordMessage") (named (codes "password") ∷ Hidden n ∷ [])) e
 
 pub initial : (style : Style) (reported : Bool) (mechanism a b old : List ℕ) → length a ≡ length b
     → client_line (quiet style) reported (Ok (SaslInitialResponse mechanism (Some a))) old ≡ client_line (quiet style) reported (Ok (SaslInitialResponse mechanism (Some b))) old
-initial style true mechanism a b old e = ap (λ n. one (quiet style) old (codes "SASLInitialResponse") (Word (codes "mechanism") ∷ Text mechanism ∷ Word (codes "data") ∷ Hidden n ∷ [])) e
-initial style false mechanism a b old e = ap (λ n. one (quiet style) old (codes "SASLInitialResponse") (Word (codes "mechanism") ∷ Text mechanism ∷ Word (codes "data") ∷ Hidden n ∷ [])) e
+initial style true mechanism a b old e = ap (λ n. one (quiet style) old (codes "SASLInitialResponse") (named (codes "mechanism") ∷ Text mechanism ∷ named (codes "data") ∷ Hidden n ∷ [])) e
+initial style false mechanism a b old e = ap (λ n. one (quiet style) old (codes "SASLInitialResponse") (named (codes "mechanism") ∷ Text mechanism ∷ named (codes "data") ∷ Hidden n ∷ [])) e
 
 pub response : (style : Style) (a b old : List ℕ) → length a ≡ length b → client_line (quiet style) true (Ok (SaslResponse a)) old ≡ client_line (quiet style) true (Ok (SaslResponse b)) old
-response style a b old e = ap (λ n. one (quiet style) old (codes "SASLResponse") (Word (codes "data") ∷ Hidden n ∷ [])) e
+response style a b old e = ap (λ n. one (quiet style) old (codes "SASLResponse") (named (codes "data") ∷ Hidden n ∷ [])) e
 
 pub key : (style : Style) (reported : Bool) (process : ℤ) (a b old : List ℕ) → length a ≡ length b → client_line (quiet style) reported (Ok (CancelRequest process a)) old ≡ client_line (quiet style) reported (Ok (CancelRequest process b)) old
-key style true process a b old e = ap (λ n. one (quiet style) old (codes "CancelRequest") (Word (codes "process") ∷ Number process ∷ Word (codes "key") ∷ Hidden n ∷ [])) e
-key style false process a b old e = ap (λ n. one (quiet style) old (codes "CancelRequest") (Word (codes "process") ∷ Number process ∷ Word (codes "key") ∷ Hidden n ∷ [])) e
+key style true process a b old e = ap (λ n. one (quiet style) old (codes "CancelRequest") (Key (codes "process") (codes "process_id") ∷ Number process ∷ Key (codes "key") (codes "secret_key") ∷ Hidden n ∷ [])) e
+key style false process a b old e = ap (λ n. one (quiet style) old (codes "CancelRequest") (Key (codes "process") (codes "process_id") ∷ Number process ∷ Key (codes "key") (codes "secret_key") ∷ Hidden n ∷ [])) e
 
 pub unreported : (style : Style) (a b old : List ℕ) → length a ≡ length b → client_line style false (Ok (SaslResponse a)) old ≡ client_line style false (Ok (SaslResponse b)) old
-unreported style a b old e = ap (λ n. one style old (codes "Password, SASLInitialResponse or SASLResponse") (Hidden n ∷ [])) e
+unreported style a b old e = ap (λ n. one style old (codes "Password, SASLInitialResponse or SASLResponse") (Member (codes "data") ∷ Hidden n ∷ [])) e

@@ -8,11 +8,12 @@ use Rattle.pgp_message.specs.BackendMessage.{Message, payload_of}
 use Rattle.pgp_message.specs.Stream.{Frame, frame_bytes, TakesFrame}
 use Rattle.pgp_line.specs.declared.style.Style.{Style}
 use Rattle.pgp_line.specs.Line.{Length, Tag, closing, followed, opening}
-use Rattle.pgp_trace.specs.Shown.{Shows, called, unread}
+use Rattle.pgp_trace.specs.Shown.{Shows, called}
+use Rattle.pgp_trace.specs.Unread.{ShowsUnread}
 use Rattle.pgp_trace.specs.Listing.{front, IsServerLine}
 use Rattle.pgp_trace.specs.Sides.{Server}
 use Rattle.pgp_trace.specs.declared.side.Phase.TheVariants.{Messages}
-use Rattle.pgp_trace.specs.Steps.{IsFrameOf, HasLine}
+use Rattle.pgp_trace.specs.Steps.{IsFrameOf, HasLine, ReportsFault}
 use Rattle.pgp_trace.proofs.Parts.{front_taken}
 
 -- what a line begins with, by the bytes of the frame
@@ -56,20 +57,34 @@ pub message_ended : {E : Type 0} (r : Result (Unit {0}) E) (style : Style) (plac
 message_ended (Ok x) style place bytes m is begins named said line b n shows e = message_reported style place bytes m is begins named said line b n shows e
 message_ended (Err x) style place bytes m is begins named said line b n shows e = tt
 
-pub fault_reported : (style : Style) (place : ℕ) (bytes : List ℕ) (r : Error) (is : IsFrameOf bytes (Err r)) (line : List ℕ)
-    → line ≡ followed style (begun style place bytes) (unread r) ++ closing style ++ 10 ∷ [] → IsServerLine style place bytes line
-fault_reported style place bytes r is line e = record {
-  first = is.first;
-  whole = is.whole;
-  fits = is.fits;
-  reported = record {
-    result = Err r;
-    body = is.body;
-    text = followed style (begun style place bytes) (unread r);
-    reported = ap (λ l. followed style l (unread r)) (begun_is style place is.first bytes is.whole);
-    ended = e;
-  };
+pub fault_ended : {E : Type 0} (r : Result (Unit {0}) E) (style : Style) (place : ℕ) (bytes body : List ℕ) (e : Error) (begins said line : List ℕ)
+    → begins ≡ begun style place bytes → body ≡ drop 5 bytes → ShowsUnread style (slice_index bytes 0) body e begins said → OnOk r (line ≡ said ++ closing style ++ 10 ∷ []) → OnOk r (ReportsFault style place bytes e line)
+fault_ended (Ok x) style place bytes body e begins said line b d shows end = record {
+  text = said;
+  shown = subst (λ l. ShowsUnread style (slice_index bytes 0) (drop 5 bytes) e l said) b (subst (λ l. ShowsUnread style (slice_index bytes 0) l e begins said) d shows);
+  ended = end;
 }
+fault_ended (Err x) style place bytes body e begins said line b d shows end = tt
+
+pub fault_reported : (style : Style) (place : ℕ) (bytes : List ℕ) (r : Error) (is : IsFrameOf bytes (Err r)) (line : List ℕ) → ReportsFault style place bytes r line → IsServerLine style place bytes line
+fault_reported style place bytes r is line reports =
+    let f = is.first in
+    let tag : slice_index bytes 0 ≡ f.tag = ap (λ l. slice_index l 0) is.whole in
+    let body : drop 5 bytes ≡ f.payload = ap (drop 5) is.whole ∙ payload_behind f in
+    let head = begun_is style place f bytes is.whole in
+    record {
+      first = f;
+      whole = is.whole;
+      fits = is.fits;
+      reported = record {
+        result = Err r;
+        body = is.body;
+        text = reports.text;
+        reported = subst (λ k. ShowsUnread style k f.payload r (front style place f) reports.text) tag (subst (λ l. ShowsUnread style (slice_index bytes 0) l r (front style place f) reports.text) body
+            (subst (λ l. ShowsUnread style (slice_index bytes 0) (drop 5 bytes) r l reports.text) head reports.shown));
+        ended = reports.ended;
+      };
+    }
 
 -- the bytes before the rest are the frame that was taken
 pub taken_frame : (old new : List ℕ) (r : Result Message Error) → TakesFrame old r new → IsFrameOf (take (length old - length new) old) r

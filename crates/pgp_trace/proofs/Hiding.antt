@@ -3,7 +3,7 @@ use Rattle.std.proofs.Common.{◌≡◌, ℕ, List, [], ◌∷◌, length, refl,
 use Rattle.std.specs.Prelude.{codes}
 use Rattle.pgp_message.specs.BackendMessage.{AuthenticationMd5Password, AuthenticationGssContinue, AuthenticationSaslContinue, AuthenticationSaslFinal, Message, BackendKeyData, Authentication}
 use Rattle.pgp_message.specs.Parts.{KeyData}
-use Rattle.pgp_line.specs.Line.{Word, Number, Hidden, followed}
+use Rattle.pgp_line.specs.Line.{Key, Number, Hidden, followed, key as named}
 use Rattle.pgp_line.specs.declared.style.Style.{Style}
 use Rattle.pgp_trace.specs.Secrets.{Alike, quiet}
 use Rattle.pgp_trace.specs.Shown.{Shows, called}
@@ -12,25 +12,25 @@ same : (style : Style) (m n : Message) (old new : List ℕ) → m ≡ n → Show
 same style m n old new e s = subst (λ k. Shows (quiet style) k old new) e s
 
 salt : (style : Style) (x : List ℕ) (n : Message) (old new : List ℕ) → Alike (Authentication (AuthenticationMd5Password x)) n → Shows (quiet style) (Authentication (AuthenticationMd5Password x)) old new → Shows (quiet style) n old new
-salt style x (Authentication (AuthenticationMd5Password y)) old new e s = s ∙ ap (λ k. followed (quiet style) old (Word (codes "salt") ∷ Hidden k ∷ [])) e
+salt style x (Authentication (AuthenticationMd5Password y)) old new e s = s ∙ ap (λ k. followed (quiet style) old (named (codes "salt") ∷ Hidden k ∷ [])) e
 salt style x n old new e s = same style _ n old new e s
 
 gss : (style : Style) (x : List ℕ) (n : Message) (old new : List ℕ) → Alike (Authentication (AuthenticationGssContinue x)) n → Shows (quiet style) (Authentication (AuthenticationGssContinue x)) old new → Shows (quiet style) n old new
-gss style x (Authentication (AuthenticationGssContinue y)) old new e s = s ∙ ap (λ k. followed (quiet style) old (Word (codes "data") ∷ Hidden k ∷ [])) e
+gss style x (Authentication (AuthenticationGssContinue y)) old new e s = s ∙ ap (λ k. followed (quiet style) old (named (codes "data") ∷ Hidden k ∷ [])) e
 gss style x n old new e s = same style _ n old new e s
 
 more : (style : Style) (x : List ℕ) (n : Message) (old new : List ℕ) → Alike (Authentication (AuthenticationSaslContinue x)) n → Shows (quiet style) (Authentication (AuthenticationSaslContinue x)) old new → Shows (quiet style) n old new
-more style x (Authentication (AuthenticationSaslContinue y)) old new e s = s ∙ ap (λ k. followed (quiet style) old (Word (codes "data") ∷ Hidden k ∷ [])) e
+more style x (Authentication (AuthenticationSaslContinue y)) old new e s = s ∙ ap (λ k. followed (quiet style) old (named (codes "data") ∷ Hidden k ∷ [])) e
 more style x n old new e s = same style _ n old new e s
 
 final : (style : Style) (x : List ℕ) (n : Message) (old new : List ℕ) → Alike (Authentication (AuthenticationSaslFinal x)) n → Shows (quiet style) (Authentication (AuthenticationSaslFinal x)) old new → Shows (quiet style) n old new
-final style x (Authentication (AuthenticationSaslFinal y)) old new e s = s ∙ ap (λ k. followed (quiet style) old (Word (codes "data") ∷ Hidden k ∷ [])) e
+final style x (Authentication (AuthenticationSaslFinal y)) old new e s = s ∙ ap (λ k. followed (quiet style) old (named (codes "data") ∷ Hidden k ∷ [])) e
 final style x n old new e s = same style _ n old new e s
 
 key : (style : Style) (x : KeyData) (n : Message) (old new : List ℕ) → Alike (BackendKeyData x) n → Shows (quiet style) (BackendKeyData x) old new → Shows (quiet style) n old new
 key style x (BackendKeyData y) old new e s =
-    s ∙ ap (λ p. followed (quiet style) old (Word (codes "process") ∷ Number p ∷ Word (codes "key") ∷ Hidden (length x.secret_key) ∷ [])) e.0
-    ∙ ap (λ k. followed (quiet style) old (Word (codes "process") ∷ Number y.process_id ∷ Word (codes "key") ∷ Hidden k ∷ [])) e.1
+    s ∙ ap (λ p. followed (quiet style) old (Key (codes "process") (codes "process_id") ∷ Number p ∷ Key (codes "key") (codes "secret_key") ∷ Hidden (length x.secret_key) ∷ [])) e.0
+    ∙ ap (λ k. followed (quiet style) old (Key (codes "process") (codes "process_id") ∷ Number y.process_id ∷ Key (codes "key") (codes "secret_key") ∷ Hidden k ∷ [])) e.1
 key style x n old new e s = same style _ n old new e s
 
 pub hidden : (style : Style) (m n : Message) (old new : List ℕ) → Alike m n → Shows (quiet style) m old new → Shows (quiet style) n old new

@@ -3,33 +3,33 @@ use Rattle.std.proofs.Common.{◌≡◌, ℕ, List, [], ◌∷◌, ◌++◌, ref
 use Rattle.pgp_base.specs.declared.error.Error.{Error}
 use Rattle.pgp_base.specs.Walk.{Walk, TakesItem, IsFinished, IsRefused}
 use Rattle.pgp_line.specs.declared.style.Style.{Style}
-use Rattle.pgp_line.specs.Line.{Part, added, followed}
-use Rattle.pgp_trace.specs.Shown.{ending, fault, list_of}
+use Rattle.pgp_line.specs.Line.{Part, extended, followed}
+use Rattle.pgp_trace.specs.Shown.{closed, ending, refused}
 
 -- parts after parts
 pub followed_join : (style : Style) (line : List ℕ) (ps qs : List Part) → followed style line (ps ++ qs) ≡ followed style (followed style line ps) qs
 followed_join style line [] qs = refl
-followed_join style line (p ∷ ps) qs = followed_join style (line ++ added style p) ps qs
+followed_join style line (p ∷ ps) qs = followed_join style (extended style line p) ps qs
 
 -- an item came
-pub item_more : {V : Type 0} (style : Style) (parts : V → List Part) (old new all : List ℕ) (before after : Walk V) (x : V)
-    → followed style old (list_of parts before.items before.end) ≡ all → TakesItem before x after → new ≡ followed style old (parts x) → followed style new (list_of parts after.items after.end) ≡ all
-item_more style parts old new all before after x so_far takes grown =
-    let items : list_of parts before.items before.end ≡ parts x ++ list_of parts after.items after.end =
-    ap (λ l. list_of parts l before.end) takes.items ∙ ap (λ e. parts x ++ list_of parts after.items e) (sym takes.end) in
-    ap (λ l. followed style l (list_of parts after.items after.end)) grown
-    ∙ sym (followed_join style old (parts x) (list_of parts after.items after.end)) ∙ ap (followed style old) (sym items) ∙ so_far
+pub item_more : {V : Type 0} (style : Style) (close : Part) (parts : V → List Part) (old new all : List ℕ) (before after : Walk V) (x : V)
+    → followed style old (closed close parts before.items before.end) ≡ all → TakesItem before x after → new ≡ followed style old (parts x) → followed style new (closed close parts after.items after.end) ≡ all
+item_more style close parts old new all before after x so_far takes grown =
+    let items : closed close parts before.items before.end ≡ parts x ++ closed close parts after.items after.end =
+    ap (λ l. closed close parts l before.end) takes.items ∙ ap (λ e. parts x ++ closed close parts after.items e) (sym takes.end) in
+    ap (λ l. followed style l (closed close parts after.items after.end)) grown
+    ∙ sym (followed_join style old (parts x) (closed close parts after.items after.end)) ∙ ap (followed style old) (sym items) ∙ so_far
 
 -- none is left
-pub items_end : {V : Type 0} (style : Style) (parts : V → List Part) (old all : List ℕ) (before after : Walk V)
-    → followed style old (list_of parts before.items before.end) ≡ all → IsFinished before after → old ≡ all
-items_end style parts old all before after so_far ends =
-    let none : list_of parts before.items before.end ≡ [] = ap (λ l. list_of parts l before.end) ends.items ∙ ap ending ends.end in
-    ap (followed style old) (sym none) ∙ so_far
+pub items_end : {V : Type 0} (style : Style) (close : Part) (parts : V → List Part) (old new all : List ℕ) (before after : Walk V)
+    → followed style old (closed close parts before.items before.end) ≡ all → IsFinished before after → new ≡ followed style old (close ∷ []) → new ≡ all
+items_end style close parts old new all before after so_far ends grown =
+    let none : closed close parts before.items before.end ≡ close ∷ [] = ap (λ l. closed close parts l before.end) ends.items ∙ ap (ending close) ends.end in
+    grown ∙ ap (followed style old) (sym none) ∙ so_far
 
 -- the list breaks off
-pub items_fault : {V : Type 0} (style : Style) (parts : V → List Part) (old new all : List ℕ) (before after : Walk V) (e : Error)
-    → followed style old (list_of parts before.items before.end) ≡ all → IsRefused before e after → new ≡ followed style old (fault e) → new ≡ all
-items_fault style parts old new all before after e so_far ends grown =
-    let none : list_of parts before.items before.end ≡ fault e = ap (λ l. list_of parts l before.end) ends.items ∙ ap ending ends.end in
+pub items_fault : {V : Type 0} (style : Style) (close : Part) (parts : V → List Part) (old new all : List ℕ) (before after : Walk V) (e : Error)
+    → followed style old (closed close parts before.items before.end) ≡ all → IsRefused before e after → new ≡ followed style old (close ∷ refused e) → new ≡ all
+items_fault style close parts old new all before after e so_far ends grown =
+    let none : closed close parts before.items before.end ≡ close ∷ refused e = ap (λ l. closed close parts l before.end) ends.items ∙ ap (ending close) ends.end in
     grown ∙ ap (followed style old) (sym none) ∙ so_far

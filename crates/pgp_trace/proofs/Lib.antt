@@ -1,6 +1,9 @@
 pub mod Parts
 pub mod Fronts
 pub mod Items
+pub mod PlainBodies
+pub mod Numbers
+pub mod UnreadLines
 pub mod FrameLines
 pub mod ClientLines
 pub mod Ends

@@ -1,5 +1,5 @@
 -- A stream has one listing.
-use Rattle.std.proofs.Common.{◌≡◌, ℕ, pos, ◌+◌, Bool, true, false, List, [], ◌∷◌, ◌++◌, length, get_or, drop, ◌<◌, Option, Some, None, Result, Ok, Err, refl, sym, ap, subst, ◌∙◌, inl, inr, arith, append_assoc, length-append}
+use Rattle.std.proofs.Common.{◌≡◌, ℕ, ◌+◌, Bool, true, false, List, [], ◌∷◌, ◌++◌, length, get_or, drop, ◌<◌, Option, Some, None, Result, Ok, Err, refl, sym, ap, subst, ◌∙◌, inl, inr, arith, append_assoc, length-append}
 use Rattle.std.proofs.lemmas.List.{append-nil}
 use Rattle.std.specs.Prelude.{codes}
 use Rattle.std.specs.Str.{IsUtf8}
@@ -29,11 +29,13 @@ use Rattle.pgp_frontend_read.proofs.OneStep.{step_one}
 use Rattle.pgp_frontend_read.proofs.Refusals.{partial_waits}
 use Rattle.pgp_frontend_read.proofs.Steps.{step_fault}
 use Rattle.pgp_line.specs.declared.style.Style.{Style}
-use Rattle.pgp_line.specs.Line.{Part, Number, Text, Word, closing, followed}
+use Rattle.pgp_line.specs.Line.{Part, Count, Key, ListEnds, Number, ObjectEnds, Text, closing, followed, key as named}
 use Rattle.pgp_trace.specs.declared.side.Phase.{Phase}
 use Rattle.pgp_trace.specs.declared.side.Phase.TheVariants.{Beginning, Messages, Encrypted}
 use Rattle.pgp_trace.specs.Client.{client_line}
-use Rattle.pgp_trace.specs.Shown.{Shows, ShowsCounted, ShowsMarked, ShowsTexts, called, list_of}
+use Rattle.pgp_trace.specs.Shown.{Shows, ShowsCounted, ShowsMarked, ShowsTexts, called, closed, list_of}
+use Rattle.pgp_trace.specs.Unread.{ShowsCopyBoth, ShowsResult, ShowsUnread, CallResult, CopyBoth, Rejected, copy_parts, result_parts}
+use Rattle.pgp_trace.proofs.PlainBodies.{one_copy, one_result}
 use Rattle.pgp_trace.specs.Sides.{Side, Server, Client, Ends, IsRefusedPacket, answered, expected, is_reported, kinds_behind, phase_behind}
 use Rattle.pgp_trace.specs.Listing.{GoesOn, IsAnswerLine, IsListing, IsLineOf, IsNextLine, IsServerLine, LineOf, Lines, NoLines, OneLine, answer_line, client_front, front, last_line, place_behind}
 use Rattle.pgp_trace.proofs.ClientStreams.{behind, frame_some, one_first}
@@ -46,13 +48,13 @@ counted_one : {V : Type 0} (Spelled : ℕ → V → List ℕ → Type 0) (Refuse
     → ShowsCounted Spelled Refused parts style count bytes old new → ShowsCounted Spelled Refused parts style count bytes old other → new ≡ other
 counted_one Spelled Refused parts style count bytes old new other has a b =
     let same = has.one count bytes a.items b.items a.end b.end a.list b.list in
-    a.text ∙ ap (λ xs. followed style old (Number (pos count) ∷ list_of parts xs a.end)) same.0 ∙ ap (λ e. followed style old (Number (pos count) ∷ list_of parts b.items e)) same.1 ∙ sym b.text
+    a.text ∙ ap (λ xs. followed style old (Count count ∷ list_of parts xs a.end)) same.0 ∙ ap (λ e. followed style old (Count count ∷ list_of parts b.items e)) same.1 ∙ sym b.text
 
-marked_one : {V : Type 0} (Spelled : ℕ → V → List ℕ → Type 0) (Refused : List ℕ → Error → Type 0) (parts : V → List Part) (style : Style) (bytes old new other : List ℕ) → HasOneMarkedList Spelled Refused
-    → ShowsMarked Spelled Refused parts style bytes old new → ShowsMarked Spelled Refused parts style bytes old other → new ≡ other
-marked_one Spelled Refused parts style bytes old new other has a b =
+marked_one : {V : Type 0} (Spelled : ℕ → V → List ℕ → Type 0) (Refused : List ℕ → Error → Type 0) (close : Part) (parts : V → List Part) (style : Style) (bytes old new other : List ℕ) → HasOneMarkedList Spelled Refused
+    → ShowsMarked Spelled Refused close parts style bytes old new → ShowsMarked Spelled Refused close parts style bytes old other → new ≡ other
+marked_one Spelled Refused close parts style bytes old new other has a b =
     let same = has.one bytes a.items b.items a.end b.end a.list b.list in
-    a.text ∙ ap (λ xs. followed style old (list_of parts xs a.end)) same.0 ∙ ap (λ e. followed style old (list_of parts b.items e)) same.1 ∙ sym b.text
+    a.text ∙ ap (λ xs. followed style old (closed close parts xs a.end)) same.0 ∙ ap (λ e. followed style old (closed close parts b.items e)) same.1 ∙ sym b.text
 
 texts_one : (style : Style) (utf8 : Type 0) (parts : List Part) (body old new other : List ℕ) → ShowsTexts style utf8 parts body old new → ShowsTexts style utf8 parts body old other → new ≡ other
 texts_one style utf8 parts body old new other (inl a) (inl b) = a.1 ∙ sym b.1
@@ -84,21 +86,21 @@ fields = one_marked_list ErrorFieldSpelled ErrorFieldRefused (λ place. error_fi
 shows_one : (style : Style) (m : Message) (old new other : List ℕ) → Shows style m old new → Shows style m old other → new ≡ other
 shows_one style (Authentication (AuthenticationMd5Password salt)) old new other a b = a ∙ sym b
 shows_one style (Authentication (AuthenticationGssContinue bytes)) old new other a b = a ∙ sym b
-shows_one style (Authentication (AuthenticationSasl bytes)) old new other a b = marked_one TextSpelled TextRefused _ style bytes _ new other texts a b
+shows_one style (Authentication (AuthenticationSasl bytes)) old new other a b = marked_one TextSpelled TextRefused ListEnds _ style bytes _ new other texts a b
 shows_one style (Authentication (AuthenticationSaslContinue bytes)) old new other a b = a ∙ sym b
 shows_one style (Authentication (AuthenticationSaslFinal bytes)) old new other a b = a ∙ sym b
 shows_one style (NotificationResponse n) old new other a b = texts_one style (IsUtf8 n.channel × IsUtf8 n.message)
-    (Word (codes "process") ∷ Number n.process_id ∷ Word (codes "channel") ∷ Text n.channel ∷ Word (codes "payload") ∷ Text n.message ∷ []) (payload_of (NotificationResponse n)) old new other a b
-shows_one style (CommandComplete tag) old new other a b = texts_one style (IsUtf8 tag) (Word (codes "tag") ∷ Text tag ∷ []) (payload_of (CommandComplete tag)) old new other a b
+    (Key (codes "process") (codes "process_id") ∷ Number n.process_id ∷ named (codes "channel") ∷ Text n.channel ∷ named (codes "payload") ∷ Text n.message ∷ []) (payload_of (NotificationResponse n)) old new other a b
+shows_one style (CommandComplete tag) old new other a b = texts_one style (IsUtf8 tag) (Key (codes "tag") (codes "command_tag") ∷ Text tag ∷ []) (payload_of (CommandComplete tag)) old new other a b
 shows_one style (DataRow row) old new other a b = counted_one RangeSpelled RangeRefused _ style row.count row.storage _ new other ranges a b
-shows_one style (ErrorResponse bytes) old new other a b = marked_one ErrorFieldSpelled ErrorFieldRefused _ style bytes old new other fields a b
+shows_one style (ErrorResponse bytes) old new other a b = marked_one ErrorFieldSpelled ErrorFieldRefused ObjectEnds _ style bytes _ new other fields a b
 shows_one style (CopyInResponse copy) old new other a b = counted_one FormatSpelled FormatRefused _ style copy.count copy.storage _ new other formats a b
 shows_one style (CopyOutResponse copy) old new other a b = counted_one FormatSpelled FormatRefused _ style copy.count copy.storage _ new other formats a b
 shows_one style (BackendKeyData key) old new other a b = a ∙ sym b
 shows_one style (NegotiateProtocolVersion n) old new other a b = counted_one TextSpelled TextRefused _ style n.count n.options _ new other options a b
-shows_one style (NoticeResponse bytes) old new other a b = marked_one ErrorFieldSpelled ErrorFieldRefused _ style bytes old new other fields a b
+shows_one style (NoticeResponse bytes) old new other a b = marked_one ErrorFieldSpelled ErrorFieldRefused ObjectEnds _ style bytes _ new other fields a b
 shows_one style (ParameterStatus setting) old new other a b = texts_one style (IsUtf8 setting.name × IsUtf8 setting.value)
-    (Word (codes "name") ∷ Text setting.name ∷ Word (codes "value") ∷ Text setting.value ∷ []) (payload_of (ParameterStatus setting)) old new other a b
+    (Key (codes "name") (codes "parameter") ∷ Text setting.name ∷ named (codes "value") ∷ Text setting.value ∷ []) (payload_of (ParameterStatus setting)) old new other a b
 shows_one style (RowDescription row) old new other a b = counted_one FieldSpelled FieldRefused _ style row.count row.storage _ new other columns a b
 shows_one style (ReadyForQuery status) old new other a b = a ∙ sym b
 shows_one style (CopyData bytes) old new other a b = a ∙ sym b
@@ -117,17 +119,42 @@ shows_one style CopyDone old new other a b = a ∙ sym b
 shows_one style NoData old new other a b = a ∙ sym b
 shows_one style PortalSuspended old new other a b = a ∙ sym b
 
-goes_one : (style : Style) (r : Result Message Error) (old new other : List ℕ) → GoesOn style r old new → GoesOn style r old other → new ≡ other
-goes_one style (Ok m) old new other a b = shows_one style m (followed style old (called m ∷ [])) new other a b
-goes_one style (Err e) old new other a b = a ∙ sym b
+result_one : (style : Style) (body old new other : List ℕ) → ShowsResult style body old new → ShowsResult style body old other → new ≡ other
+result_one style body old new other (inl a) (inl b) = a.2 ∙ ap (λ v. followed style old (result_parts v)) (one_result body a.0 b.0 a.1 b.1) ∙ sym b.2
+result_one style body old new other (inl a) (inr b) = absurd (b.0 a.0 a.1)
+result_one style body old new other (inr a) (inl b) = absurd (a.0 b.0 b.1)
+result_one style body old new other (inr a) (inr b) = a.1 ∙ sym b.1
+
+copy_one : (style : Style) (body old new other : List ℕ) → ShowsCopyBoth style body old new → ShowsCopyBoth style body old other → new ≡ other
+copy_one style body old new other (inl a) (inl b) =
+    let same = one_copy body a.0 b.0 a.1 b.1 a.2 b.2 in
+    a.3 ∙ ap (λ f. followed style old (copy_parts f a.1)) same.0 ∙ ap (λ l. followed style old (copy_parts b.0 l)) same.1 ∙ sym b.3
+copy_one style body old new other (inl a) (inr b) = absurd (b.0 a.0 a.1 a.2)
+copy_one style body old new other (inr a) (inl b) = absurd (a.0 b.0 b.1 b.2)
+copy_one style body old new other (inr a) (inr b) = a.1 ∙ sym b.1
+
+unread_one : (style : Style) (tag : ℕ) (body : List ℕ) (e : Error) (old new other : List ℕ) → ShowsUnread style tag body e old new → ShowsUnread style tag body e old other → new ≡ other
+unread_one style tag body e old new other (CallResult t a) (CallResult u b) = result_one style body _ new other a b
+unread_one style tag body e old new other (CallResult t a) (CopyBoth u b) = absurd (omega (arith, t, u))
+unread_one style tag body e old new other (CallResult t a) (Rejected u v b) = absurd (u t)
+unread_one style tag body e old new other (CopyBoth t a) (CallResult u b) = absurd (omega (arith, t, u))
+unread_one style tag body e old new other (CopyBoth t a) (CopyBoth u b) = copy_one style body _ new other a b
+unread_one style tag body e old new other (CopyBoth t a) (Rejected u v b) = absurd (v t)
+unread_one style tag body e old new other (Rejected t u a) (CallResult v b) = absurd (t v)
+unread_one style tag body e old new other (Rejected t u a) (CopyBoth v b) = absurd (u v)
+unread_one style tag body e old new other (Rejected t u a) (Rejected v w b) = a ∙ sym b
+
+goes_one : (style : Style) (tag : ℕ) (body : List ℕ) (r : Result Message Error) (old new other : List ℕ) → GoesOn style tag body r old new → GoesOn style tag body r old other → new ≡ other
+goes_one style tag body (Ok m) old new other a b = shows_one style m (followed style old (called m ∷ [])) new other a b
+goes_one style tag body (Err e) old new other a b = unread_one style tag body e old new other a b
 
 -- ---- a line
 
 line_of_one : (style : Style) (place : ℕ) (f : Frame) (line other : List ℕ) → IsFrame f → IsLineOf style place f line → IsLineOf style place f other → line ≡ other
 line_of_one style place f line other fits a b =
     let result : a.result ≡ b.result = sym (one_body f.tag f.payload a.result fits.payload a.body) ∙ one_body f.tag f.payload b.result fits.payload b.body in
-    let reported = subst (λ r. GoesOn style r (front style place f) a.text) result a.reported in
-    a.ended ∙ ap (λ t. t ++ closing style ++ 10 ∷ []) (goes_one style b.result (front style place f) a.text b.text reported b.reported) ∙ sym b.ended
+    let reported = subst (λ r. GoesOn style f.tag f.payload r (front style place f) a.text) result a.reported in
+    a.ended ∙ ap (λ t. t ++ closing style ++ 10 ∷ []) (goes_one style f.tag f.payload b.result (front style place f) a.text b.text reported b.reported) ∙ sym b.ended
 
 -- the first frames of bytes, their lines, what stands after them, and what is then known of the side
 pub record Same (f g line other x y : List ℕ) (to too : Side) : Type 0 where

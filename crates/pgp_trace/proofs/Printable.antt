@@ -1,6 +1,6 @@
 -- A line has printable characters alone, and a newline at its end.
 use Rattle.std.proofs.Common.{◌≡◌, ℕ, zero, suc, ◌+◌, ◌-◌, ◌<◌, ◌≤◌, Bool, true, false, List, [], ◌∷◌, ◌++◌, length, take, drop, Option, Some, None, Result, Ok, Err, ℤ, pos, negsuc, refl, sym, ap, subst, ◌∙◌, arith, inl, inr}
-use Rattle.std.specs.Prelude.{◌/◌, ◌%◌, ◌||◌, nat_le, nat_lt, ◌==◌, if◌then◌else◌, codes, decimal}
+use Rattle.std.specs.Prelude.{slice_get, ◌/◌, ◌%◌, ◌||◌, nat_le, nat_lt, ◌==◌, if◌then◌else◌, codes, decimal}
 use lib.Utf8.{scalar as is_scalar}
 use Rattle.std.specs.Char.{encode_utf8, IsScalar}
 use Rattle.std.specs.Fmt.{digits as numerals, digits_onto, digit_glyph, signed_decimal}
@@ -18,13 +18,14 @@ use Rattle.pgp_line.specs.declared.style.Form.TheVariants.{Columns, Json}
 use Rattle.pgp_line.specs.declared.style.Style.{Style}
 use Rattle.pgp_line.specs.Quoting.{IsPrinted, broken, digits, hex_digit, hex_byte, hex_escape, is_mark, is_printable, is_text, is_visible, escaped_byte, escaped_char, escaped, json_digits, json_hex, json_text, json_value, long, quoted, unit, units, unprinted, value, up_to}
 use Rattle.pgp_line.proofs.Escapes.{front_utf8}
-use Rattle.pgp_line.specs.Line.{Part, Length, Tag, Name, Refusal, Word, Number, Oid, Text, Value, Hidden, added, added_by, blanks, closing, closing_by, followed, json, json_name, named, opening, opening_by, right, shown, spelt, string, type_name}
+use Rattle.pgp_line.specs.Line.{Part, Length, Tag, Name, Refusal, Key, Member, Count, ListBegins, ListEnds, ObjectBegins, ObjectEnds, Word, Number, Oid, Text, Value, Hidden, added, added_by, blanks, closing, closing_by, comma, extended, followed, is_opening, json, json_name, key as keyed, named, opening, opening_by, right, separator, shown, space, spelt, string, type_name}
 use Rattle.pgp_line.specs.Types.{type_of}
 use Rattle.pgp_trace.specs.Names.{state_of}
 use Rattle.pgp_message.specs.Items.{TextSpelled, TextRefused, FormatSpelled, FormatRefused, TypeSpelled, TypeRefused, RangeSpelled, RangeRefused, FieldSpelled, FieldRefused, ErrorFieldSpelled, ErrorFieldRefused}
 use Rattle.std.specs.Str.{IsAscii, IsUtf8, all_scalars, chars, encode_utf8_all}
 use Rattle.std.specs.Str.Lossy.{utf8_valid_len}
-use Rattle.pgp_trace.specs.Shown.{Shows, ShowsCounted, ShowsMarked, ShowsTexts, bare, called, column_parts, field_parts, list_of, name_or, number_part, text_part, type_part, unread, value_part}
+use Rattle.pgp_trace.specs.Shown.{Shows, ShowsCounted, ShowsMarked, ShowsTexts, bare, called, closed, column_parts, field_parts, list_of, name_or, number_part, refused, text_part, type_part, value_part}
+use Rattle.pgp_trace.specs.Unread.{ShowsCopyBoth, ShowsResult, ShowsUnread, CallResult, CopyBoth, Rejected, copy_parts, result_parts}
 use Rattle.pgp_line.specs.Secret.{secret}
 use Rattle.pgp_frontend.specs.ClientMessage.{ClientMessage}
 use Rattle.pgp_frontend_read.specs.declared.error.ClientError.{ClientError}
@@ -276,6 +277,8 @@ part limit (Length n) = at_right 8 n
 part limit (Tag tag) = plain (escaped_byte Columns tag) (byte Columns tag)
 part limit (Name alone name) = named_by alone name
 part limit (Refusal n) = join (codes "fault ") (decimal n) (plain (codes "fault ") refl) (number n)
+part limit (Key word name) = plain (spelt word) (word_of Columns word)
+part limit (Count n) = number n
 part limit (Word word) = plain (spelt word) (word_of Columns word)
 part limit (Number n) = plain (signed_decimal n) (plain_signed n)
 part limit (Oid oid) = join (decimal oid) (type_name (type_of oid)) (number oid) (type_by (type_of oid))
@@ -283,12 +286,24 @@ part limit (Text bytes) = cut (quoted Columns) (quote Columns) limit bytes
 part limit (Value None) = plain (codes "NULL") refl
 part limit (Value (Some bytes)) = val limit bytes
 part limit (Hidden n) = around (codes "(") (decimal n) (codes " bytes)") refl refl (number n)
+part limit (Member name) = plain [] refl
+part limit ListBegins = plain [] refl
+part limit ListEnds = plain [] refl
+part limit ObjectBegins = plain [] refl
+part limit ObjectEnds = plain [] refl
 
 json_part : (limit : ℕ) (p : Part) → IsPrinted (json limit p)
 json_part limit (Length n) = join (codes "\"length\":") (decimal n) (plain (codes "\"length\":") refl) (number n)
 json_part limit (Tag tag) = join (codes "\"tag\":") (string (tag ∷ [])) (plain (codes "\"tag\":") refl) (string_of (tag ∷ []))
-json_part limit (Name alone name) = join (codes "\"message\":[") (string name) (plain (codes "\"message\":[") refl) (string_of name)
-json_part limit (Refusal n) = join (codes "\"fault\":[") (decimal n) (plain (codes "\"fault\":[") refl) (number n)
+json_part limit (Name alone name) = join (codes "\"name\":") (string name) (plain (codes "\"name\":") refl) (string_of name)
+json_part limit (Refusal n) = around (codes "\"fault\":{\"number\":") (decimal n) (codes ",\"name\":") refl refl (number n)
+json_part limit (Key word name) = join (string name) (codes ":") (string_of name) (plain (codes ":") refl)
+json_part limit (Member name) = join (string name) (codes ":") (string_of name) (plain (codes ":") refl)
+json_part limit (Count n) = plain (codes "[") refl
+json_part limit ListBegins = plain (codes "[") refl
+json_part limit ListEnds = plain (codes "]") refl
+json_part limit ObjectBegins = plain (codes "{") refl
+json_part limit ObjectEnds = plain (codes "}") refl
 json_part limit (Word word) = string_of word
 json_part limit (Number n) = plain (signed_decimal n) (plain_signed n)
 json_part limit (Oid oid) = join (codes "{\"oid\":" ++ decimal oid) (json_name (type_of oid)) (join (codes "{\"oid\":") (decimal oid) (plain (codes "{\"oid\":") refl) (number oid)) (json_type_by (type_of oid))
@@ -297,9 +312,55 @@ json_part limit (Value None) = plain (codes "null") refl
 json_part limit (Value (Some bytes)) = json_val limit bytes
 json_part limit (Hidden n) = around (codes "{\"bytes\":") (decimal n) (codes "}") refl refl (number n)
 
-one_part : (form : Form) (limit : ℕ) (p : Part) → IsPrinted (added_by form limit p)
-one_part Columns limit p = join (32 ∷ []) (shown limit p) (plain (32 ∷ []) refl) (part limit p)
-one_part Json limit p = join (44 ∷ []) (json limit p) (plain (44 ∷ []) refl) (json_part limit p)
+blank_before : (p : Part) → IsPrinted (space p)
+blank_before (Length n) = plain (32 ∷ []) refl
+blank_before (Tag tag) = plain (32 ∷ []) refl
+blank_before (Name alone name) = plain (32 ∷ []) refl
+blank_before (Refusal n) = plain (32 ∷ []) refl
+blank_before (Key word name) = plain (32 ∷ []) refl
+blank_before (Member name) = plain [] refl
+blank_before (Count n) = plain (32 ∷ []) refl
+blank_before ListBegins = plain [] refl
+blank_before ListEnds = plain [] refl
+blank_before ObjectBegins = plain [] refl
+blank_before ObjectEnds = plain [] refl
+blank_before (Word word) = plain (32 ∷ []) refl
+blank_before (Number n) = plain (32 ∷ []) refl
+blank_before (Oid oid) = plain (32 ∷ []) refl
+blank_before (Text bytes) = plain (32 ∷ []) refl
+blank_before (Value bytes) = plain (32 ∷ []) refl
+blank_before (Hidden n) = plain (32 ∷ []) refl
+
+one_comma : (line : List ℕ) → IsPrinted (comma line)
+unfolding comma
+one_comma line = either (is_opening (slice_get line (length line - 1))) [] (44 ∷ []) (plain [] refl) (plain (44 ∷ []) refl)
+
+comma_before : (line : List ℕ) (p : Part) → IsPrinted (separator line p)
+comma_before line (Length n) = one_comma line
+comma_before line (Tag tag) = one_comma line
+comma_before line (Name alone name) = one_comma line
+comma_before line (Refusal n) = one_comma line
+comma_before line (Key word name) = one_comma line
+comma_before line (Member name) = one_comma line
+comma_before line (Count n) = one_comma line
+comma_before line ListBegins = one_comma line
+comma_before line ListEnds = plain [] refl
+comma_before line ObjectBegins = one_comma line
+comma_before line ObjectEnds = plain [] refl
+comma_before line (Word word) = one_comma line
+comma_before line (Number n) = one_comma line
+comma_before line (Oid oid) = one_comma line
+comma_before line (Text bytes) = one_comma line
+comma_before line (Value bytes) = one_comma line
+comma_before line (Hidden n) = one_comma line
+
+one_part : (form : Form) (limit : ℕ) (line : List ℕ) (p : Part) → IsPrinted (added_by form limit line p)
+one_part Columns limit line p = join (space p) (shown limit p) (blank_before p) (part limit p)
+one_part Json limit line p = join (separator line p) (json limit p) (comma_before line p) (json_part limit p)
+
+longer : (style : Style) (line : List ℕ) (p : Part) → IsPrinted line → IsPrinted (extended style line p)
+unfolding extended
+longer style line p a = join line (added style line p) a (one_part style.form style.limit line p)
 
 first : (form : Form) (place : ℕ) → IsPrinted (opening_by form place)
 first Columns place = at_right 10 place
@@ -307,11 +368,11 @@ first Json place = join (codes "{\"offset\":") (decimal place) (plain (codes "{\
 
 last : (form : Form) → IsPrinted (closing_by form)
 last Columns = plain [] refl
-last Json = plain (codes "]}") refl
+last Json = plain (codes "}") refl
 
 parts : (style : Style) (line : List ℕ) (ps : List Part) → IsPrinted line → IsPrinted (followed style line ps)
 parts style line [] a = a
-parts style line (p ∷ ps) a = parts style (line ++ added style p) ps (join line (added style p) a (one_part style.form style.limit p))
+parts style line (p ∷ ps) a = parts style (extended style line p) ps (longer style line p a)
 
 -- what goes on by parts
 goes : (style : Style) (old new : List ℕ) (ps : List Part) → IsPrinted old → new ≡ followed style old ps → IsPrinted new
@@ -322,40 +383,40 @@ texts style utf8 ps body old new a (inl h) = goes style old new ps a h.1
 texts style utf8 ps body old new a (inr h) = goes style old new (bare body) a h.1
 
 counted : {V : Type 0} (Spelled : ℕ → V → List ℕ → Type 0) (Refused : List ℕ → Error → Type 0) (each : V → List Part) (style : Style) (count : ℕ) (bytes old new : List ℕ) → IsPrinted old → ShowsCounted Spelled Refused each style count bytes old new → IsPrinted new
-counted Spelled Refused each style count bytes old new a s = goes style old new (Number (pos count) ∷ list_of each s.items s.end) a s.text
+counted Spelled Refused each style count bytes old new a s = goes style old new (Count count ∷ list_of each s.items s.end) a s.text
 
-marked : {V : Type 0} (Spelled : ℕ → V → List ℕ → Type 0) (Refused : List ℕ → Error → Type 0) (each : V → List Part) (style : Style) (bytes old new : List ℕ) → IsPrinted old → ShowsMarked Spelled Refused each style bytes old new → IsPrinted new
-marked Spelled Refused each style bytes old new a s = goes style old new (list_of each s.items s.end) a s.text
+marked : {V : Type 0} (Spelled : ℕ → V → List ℕ → Type 0) (Refused : List ℕ → Error → Type 0) (close : Part) (each : V → List Part) (style : Style) (bytes old new : List ℕ) → IsPrinted old → ShowsMarked Spelled Refused close each style bytes old new → IsPrinted new
+marked Spelled Refused close each style bytes old new a s = goes style old new (closed close each s.items s.end) a s.text
 
 says : (style : Style) (m : Message) (old new : List ℕ) → IsPrinted old → Shows style m old new → IsPrinted new
-says style (Authentication (AuthenticationMd5Password salt)) old new a s = goes style old new (Word (codes "salt") ∷ secret style salt ∷ []) a s
-says style (Authentication (AuthenticationGssContinue bytes)) old new a s = goes style old new (Word (codes "data") ∷ secret style bytes ∷ []) a s
+says style (Authentication (AuthenticationMd5Password salt)) old new a s = goes style old new (keyed (codes "salt") ∷ secret style salt ∷ []) a s
+says style (Authentication (AuthenticationGssContinue bytes)) old new a s = goes style old new (keyed (codes "data") ∷ secret style bytes ∷ []) a s
 says style (Authentication (AuthenticationSasl bytes)) old new a s =
-    marked TextSpelled TextRefused text_part style bytes (followed style old (Word (codes "mechanisms") ∷ [])) new (parts style old (Word (codes "mechanisms") ∷ []) a) s
-says style (Authentication (AuthenticationSaslContinue bytes)) old new a s = goes style old new (Word (codes "data") ∷ secret style bytes ∷ []) a s
-says style (Authentication (AuthenticationSaslFinal bytes)) old new a s = goes style old new (Word (codes "data") ∷ secret style bytes ∷ []) a s
+    marked TextSpelled TextRefused ListEnds text_part style bytes (followed style old (keyed (codes "mechanisms") ∷ ListBegins ∷ [])) new (parts style old (keyed (codes "mechanisms") ∷ ListBegins ∷ []) a) s
+says style (Authentication (AuthenticationSaslContinue bytes)) old new a s = goes style old new (keyed (codes "data") ∷ secret style bytes ∷ []) a s
+says style (Authentication (AuthenticationSaslFinal bytes)) old new a s = goes style old new (keyed (codes "data") ∷ secret style bytes ∷ []) a s
 says style (NotificationResponse n) old new a s = texts style (IsUtf8 n.channel × IsUtf8 n.message)
-    (Word (codes "process") ∷ Number n.process_id ∷ Word (codes "channel") ∷ Text n.channel ∷ Word (codes "payload") ∷ Text n.message ∷ []) (payload_of (NotificationResponse n)) old new a s
-says style (CommandComplete tag) old new a s = texts style (IsUtf8 tag) (Word (codes "tag") ∷ Text tag ∷ []) (payload_of (CommandComplete tag)) old new a s
+    (Key (codes "process") (codes "process_id") ∷ Number n.process_id ∷ keyed (codes "channel") ∷ Text n.channel ∷ keyed (codes "payload") ∷ Text n.message ∷ []) (payload_of (NotificationResponse n)) old new a s
+says style (CommandComplete tag) old new a s = texts style (IsUtf8 tag) (Key (codes "tag") (codes "command_tag") ∷ Text tag ∷ []) (payload_of (CommandComplete tag)) old new a s
 says style (DataRow row) old new a s =
-    counted RangeSpelled RangeRefused (value_part row.storage) style row.count row.storage (followed style old (Word (codes "values") ∷ [])) new (parts style old (Word (codes "values") ∷ []) a) s
-says style (ErrorResponse bytes) old new a s = marked ErrorFieldSpelled ErrorFieldRefused field_parts style bytes old new a s
+    counted RangeSpelled RangeRefused (value_part row.storage) style row.count row.storage (followed style old (keyed (codes "values") ∷ [])) new (parts style old (keyed (codes "values") ∷ []) a) s
+says style (ErrorResponse bytes) old new a s = marked ErrorFieldSpelled ErrorFieldRefused ObjectEnds field_parts style bytes (followed style old (Member (codes "fields") ∷ ObjectBegins ∷ [])) new (parts style old (Member (codes "fields") ∷ ObjectBegins ∷ []) a) s
 says style (CopyInResponse copy) old new a s =
-    counted FormatSpelled FormatRefused number_part style copy.count copy.storage (followed style old (Word (codes "format") ∷ Number (pos copy.format) ∷ Word (codes "columns") ∷ [])) new (parts style old (Word (codes "format") ∷ Number (pos copy.format) ∷ Word (codes "columns") ∷ []) a) s
+    counted FormatSpelled FormatRefused number_part style copy.count copy.storage (followed style old (keyed (codes "format") ∷ Number (pos copy.format) ∷ Key (codes "columns") (codes "column_formats") ∷ [])) new (parts style old (keyed (codes "format") ∷ Number (pos copy.format) ∷ Key (codes "columns") (codes "column_formats") ∷ []) a) s
 says style (CopyOutResponse copy) old new a s =
-    counted FormatSpelled FormatRefused number_part style copy.count copy.storage (followed style old (Word (codes "format") ∷ Number (pos copy.format) ∷ Word (codes "columns") ∷ [])) new (parts style old (Word (codes "format") ∷ Number (pos copy.format) ∷ Word (codes "columns") ∷ []) a) s
-says style (BackendKeyData key) old new a s = goes style old new (Word (codes "process") ∷ Number key.process_id ∷ Word (codes "key") ∷ secret style key.secret_key ∷ []) a s
+    counted FormatSpelled FormatRefused number_part style copy.count copy.storage (followed style old (keyed (codes "format") ∷ Number (pos copy.format) ∷ Key (codes "columns") (codes "column_formats") ∷ [])) new (parts style old (keyed (codes "format") ∷ Number (pos copy.format) ∷ Key (codes "columns") (codes "column_formats") ∷ []) a) s
+says style (BackendKeyData key) old new a s = goes style old new (Key (codes "process") (codes "process_id") ∷ Number key.process_id ∷ Key (codes "key") (codes "secret_key") ∷ secret style key.secret_key ∷ []) a s
 says style (NegotiateProtocolVersion n) old new a s =
-    counted TextSpelled TextRefused text_part style n.count n.options (followed style old (Word (codes "version") ∷ Number n.version ∷ Word (codes "options") ∷ [])) new (parts style old (Word (codes "version") ∷ Number n.version ∷ Word (codes "options") ∷ []) a) s
-says style (NoticeResponse bytes) old new a s = marked ErrorFieldSpelled ErrorFieldRefused field_parts style bytes old new a s
+    counted TextSpelled TextRefused text_part style n.count n.options (followed style old (keyed (codes "version") ∷ Number n.version ∷ keyed (codes "options") ∷ [])) new (parts style old (keyed (codes "version") ∷ Number n.version ∷ keyed (codes "options") ∷ []) a) s
+says style (NoticeResponse bytes) old new a s = marked ErrorFieldSpelled ErrorFieldRefused ObjectEnds field_parts style bytes (followed style old (Member (codes "fields") ∷ ObjectBegins ∷ [])) new (parts style old (Member (codes "fields") ∷ ObjectBegins ∷ []) a) s
 says style (ParameterStatus setting) old new a s = texts style (IsUtf8 setting.name × IsUtf8 setting.value)
-    (Word (codes "name") ∷ Text setting.name ∷ Word (codes "value") ∷ Text setting.value ∷ []) (payload_of (ParameterStatus setting)) old new a s
+    (Key (codes "name") (codes "parameter") ∷ Text setting.name ∷ keyed (codes "value") ∷ Text setting.value ∷ []) (payload_of (ParameterStatus setting)) old new a s
 says style (RowDescription row) old new a s =
-    counted FieldSpelled FieldRefused column_parts style row.count row.storage (followed style old (Word (codes "columns") ∷ [])) new (parts style old (Word (codes "columns") ∷ []) a) s
-says style (ReadyForQuery status) old new a s = goes style old new (Word (name_or (state_of status) status) ∷ []) a s
-says style (CopyData bytes) old new a s = goes style old new (Word (codes "data") ∷ Value (Some bytes) ∷ []) a s
+    counted FieldSpelled FieldRefused column_parts style row.count row.storage (followed style old (keyed (codes "columns") ∷ [])) new (parts style old (keyed (codes "columns") ∷ []) a) s
+says style (ReadyForQuery status) old new a s = goes style old new (Member (codes "status") ∷ Word (name_or (state_of status) status) ∷ []) a s
+says style (CopyData bytes) old new a s = goes style old new (keyed (codes "data") ∷ Value (Some bytes) ∷ []) a s
 says style (ParameterDescription row) old new a s =
-    counted TypeSpelled TypeRefused type_part style row.count row.storage (followed style old (Word (codes "types") ∷ [])) new (parts style old (Word (codes "types") ∷ []) a) s
+    counted TypeSpelled TypeRefused type_part style row.count row.storage (followed style old (keyed (codes "types") ∷ [])) new (parts style old (keyed (codes "types") ∷ []) a) s
 says style (Authentication AuthenticationOk) old new a s = subst IsPrinted (sym s) a
 says style (Authentication AuthenticationKerberosV5) old new a s = subst IsPrinted (sym s) a
 says style (Authentication AuthenticationCleartextPassword) old new a s = subst IsPrinted (sym s) a
@@ -370,12 +431,27 @@ says style CopyDone old new a s = subst IsPrinted (sym s) a
 says style NoData old new a s = subst IsPrinted (sym s) a
 says style PortalSuspended old new a s = subst IsPrinted (sym s) a
 
-result : (style : Style) (r : Result Message Error) (old new : List ℕ) → IsPrinted old → GoesOn style r old new → IsPrinted new
-result style (Ok m) old new a g = says style m (followed style old (called m ∷ [])) new (parts style old (called m ∷ []) a) g
-result style (Err e) old new a g = goes style old new (unread e) a g
+result_printed : (style : Style) (body old new : List ℕ) → IsPrinted old → ShowsResult style body old new → IsPrinted new
+result_printed style body old new a (inl s) = goes style old new (result_parts s.0) a s.2
+result_printed style body old new a (inr s) = goes style old new (bare body) a s.1
+
+copy_printed : (style : Style) (body old new : List ℕ) → IsPrinted old → ShowsCopyBoth style body old new → IsPrinted new
+copy_printed style body old new a (inl s) = goes style old new (copy_parts s.0 s.1) a s.3
+copy_printed style body old new a (inr s) = goes style old new (bare body) a s.1
+
+unread_printed : (style : Style) (tag : ℕ) (body : List ℕ) (e : Error) (old new : List ℕ) → IsPrinted old → ShowsUnread style tag body e old new → IsPrinted new
+unread_printed style tag body e old new a (CallResult t s) =
+    let names = Name false (codes "FunctionCallResponse") ∷ [] in result_printed style body (followed style old names) new (parts style old names a) s
+unread_printed style tag body e old new a (CopyBoth t s) =
+    let names = Name false (codes "CopyBothResponse") ∷ [] in copy_printed style body (followed style old names) new (parts style old names a) s
+unread_printed style tag body e old new a (Rejected t u s) = goes style old new (refused e) a s
+
+result : (style : Style) (tag : ℕ) (body : List ℕ) (r : Result Message Error) (old new : List ℕ) → IsPrinted old → GoesOn style tag body r old new → IsPrinted new
+result style tag body (Ok m) old new a g = says style m (followed style old (called m ∷ [])) new (parts style old (called m ∷ []) a) g
+result style tag body (Err e) old new a g = unread_printed style tag body e old new a g
 
 server_line : (style : Style) (place : ℕ) (f : Frame) (line : List ℕ) → IsLineOf style place f line → (text : List ℕ) × (line ≡ text ++ 10 ∷ []) × IsPrinted text
-server_line style place f line is = (is.text ++ closing style, is.ended, join is.text (closing style) (result style is.result (front style place f) is.text (parts style (opening style place) (Length (length (frame_bytes f)) ∷ Tag f.tag ∷ []) (first style.form place)) is.reported) (last style.form))
+server_line style place f line is = (is.text ++ closing style, is.ended, join is.text (closing style) (result style f.tag f.payload is.result (front style place f) is.text (parts style (opening style place) (Length (length (frame_bytes f)) ∷ Tag f.tag ∷ []) (first style.form place)) is.reported) (last style.form))
 
 groups : (style : Style) (line : List ℕ) (gs : List (List Part)) → IsPrinted line → IsPrinted (grouped style line gs)
 groups style line [] a = a

@@ -1,5 +1,6 @@
 -- Streams that differ in their secrets alone have the same lines.
-use Rattle.std.proofs.Common.{◌≡◌, ℕ, ◌+◌, ◌<◌, List, [], ◌∷◌, ◌++◌, length, None, Result, Ok, Err, refl, sym, ap, subst, ◌∙◌, append_assoc, arith}
+use Rattle.std.proofs.Common.{◌≡◌, ◌⊎◌, inl, inr, false, ℕ, ◌+◌, ◌<◌, List, [], ◌∷◌, ◌++◌, length, None, Result, Ok, Err, refl, sym, ap, subst, ◌∙◌, append_assoc, arith}
+use Rattle.std.specs.Prelude.{codes}
 use Rattle.std.specs.List.{flat_map, AllByRecursion}
 use Rattle.std.proofs.lemmas.List.{append-nil, length-append}
 use Rattle.std.proofs.lemmas.List.Concat.{flat_map-cons}
@@ -9,7 +10,8 @@ use Rattle.pgp_message.specs.BackendMessage.{Message}
 use Rattle.pgp_message.specs.Stream.{Frame, frame_bytes, IsFrame}
 use Rattle.pgp_message.proofs.Runs.{front_is_one, each_push, pushed}
 use Rattle.pgp_line.specs.declared.style.Style.{Style}
-use Rattle.pgp_line.specs.Line.{Length, Tag, followed, opening}
+use Rattle.pgp_line.specs.Line.{Length, Name, Tag, followed, opening}
+use Rattle.pgp_trace.specs.Unread.{ShowsCopyBoth, ShowsResult, ShowsUnread, CallResult, CopyBoth, Rejected}
 use Rattle.pgp_trace.specs.Sides.{Side, Server, AreAnswers, answered, phase_behind}
 use Rattle.pgp_trace.specs.declared.side.Phase.TheVariants.{Beginning, Messages}
 use Rattle.pgp_trace.proofs.Beginnings.{HasCome, StillAnswers, NowEncrypted, NowMessages, has_come, none_some, one_front, rejoin}
@@ -80,12 +82,17 @@ same_front : (style : Style) (place : ℕ) (f g : Frame) → AlikeFrames f g →
 same_front style place f g alike =
     ap (λ n. followed style (opening style place) (Length n ∷ Tag f.tag ∷ [])) alike.long ∙ ap (λ t. followed style (opening style place) (Length (length (frame_bytes g)) ∷ Tag t ∷ [])) alike.tagged
 
-goes_on : (style : Style) (r s : Result Message Error) (old new : List ℕ) → AlikeResults r s → GoesOn (quiet style) r old new → GoesOn (quiet style) s old new
-goes_on style (Ok m) (Ok n) old new alike goes =
+unread_alike : (style : Style) (tag : ℕ) (body other : List ℕ) (e : Error) (old new : List ℕ) → ((tag ≡ 86) ⊎ (tag ≡ 87) → body ≡ other) → ShowsUnread style tag body e old new → ShowsUnread style tag other e old new
+unread_alike style tag body other e old new same (CallResult t s) = CallResult t (subst (λ l. ShowsResult style l (followed style old (Name false (codes "FunctionCallResponse") ∷ [])) new) (same (inl t)) s)
+unread_alike style tag body other e old new same (CopyBoth t s) = CopyBoth t (subst (λ l. ShowsCopyBoth style l (followed style old (Name false (codes "CopyBothResponse") ∷ [])) new) (same (inr t)) s)
+unread_alike style tag body other e old new same (Rejected t u s) = Rejected t u s
+
+goes_on : (style : Style) (tag : ℕ) (body other : List ℕ) (r s : Result Message Error) (old new : List ℕ) → ((tag ≡ 86) ⊎ (tag ≡ 87) → body ≡ other) → AlikeResults r s → GoesOn (quiet style) tag body r old new → GoesOn (quiet style) tag other s old new
+goes_on style tag body other (Ok m) (Ok n) old new same alike goes =
     subst (λ w. Shows (quiet style) n (followed (quiet style) old (w ∷ [])) new) (same_call m n alike) (hidden style m n _ new alike goes)
-goes_on style (Err d) (Err e) old new alike goes = subst (λ k. GoesOn (quiet style) (Err k) old new) alike goes
-goes_on style (Ok m) (Err e) old new alike goes = absurd alike
-goes_on style (Err d) (Ok n) old new alike goes = absurd alike
+goes_on style tag body other (Err d) (Err e) old new same alike goes = subst (λ k. ShowsUnread (quiet style) tag other k old new) alike (unread_alike (quiet style) tag body other d old new same goes)
+goes_on style tag body other (Ok m) (Err e) old new same alike goes = absurd alike
+goes_on style tag body other (Err d) (Ok n) old new same alike goes = absurd alike
 
 line_hidden : (style : Style) (place : ℕ) (f g : Frame) (line : List ℕ) → AlikeFrames f g → IsLineOf (quiet style) place f line → IsLineOf (quiet style) place g line
 line_hidden style place f g line alike is =
@@ -94,7 +101,9 @@ line_hidden style place f g line alike is =
       result = s;
       body = body;
       text = is.text;
-      reported = goes_on style is.result s (front (quiet style) place g) is.text same (subst (λ l. GoesOn (quiet style) is.result l is.text) (same_front (quiet style) place f g alike) is.reported);
+      reported = subst (λ t. GoesOn (quiet style) t g.payload s (front (quiet style) place g) is.text) alike.tagged
+          (goes_on style f.tag f.payload g.payload is.result s (front (quiet style) place g) is.text alike.plain same
+          (subst (λ l. GoesOn (quiet style) f.tag f.payload is.result l is.text) (same_front (quiet style) place f g alike) is.reported));
       ended = is.ended;
     }
 

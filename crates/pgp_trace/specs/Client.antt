@@ -4,7 +4,7 @@ use Rattle.pgp_frontend.specs.ClientMessage.{ClientMessage, Bind, Close, CopyDat
 use Rattle.pgp_frontend_read.specs.declared.error.ClientError.{ClientError}
 use Rattle.pgp_frontend_read.specs.declared.error.ClientError.TheVariants.{UnknownPacket, Reading}
 use Rattle.pgp_line.specs.declared.style.Style.{Style}
-use Rattle.pgp_line.specs.Line.{Part, Name, Word, Number, Text, Value, followed}
+use Rattle.pgp_line.specs.Line.{Part, Name, Key, Member, Count, ListBegins, ObjectBegins, ObjectEnds, Number, Text, Value, followed, key}
 use Rattle.pgp_trace.specs.Shown.{list_of, name_or, refused, type_part}
 use Rattle.pgp_line.specs.Secret.{response_parts, secret}
 
@@ -50,14 +50,14 @@ abbrev pub client_value : Option (List ℕ) → List Part
 client_value value = Value value ∷ []
 
 abbrev pub pair_parts : List ℕ × List ℕ → List Part
-pair_parts pair = Text pair.0 ∷ Text pair.1 ∷ []
+pair_parts pair = ObjectBegins ∷ Member (codes "name") ∷ Text pair.0 ∷ Member (codes "value") ∷ Text pair.1 ∷ ObjectEnds ∷ []
 
 -- a list with its name and how long it is
-abbrev pub counted : {X : Type 0} → List ℕ → (X → List Part) → List X → List Part
-counted name parts items = Word name ∷ Number (pos (length items)) ∷ list_of parts items None
+abbrev pub counted : {X : Type 0} → (word name : List ℕ) → (X → List Part) → List X → List Part
+counted word name parts items = Key word name ∷ Count (length items) ∷ list_of parts items None
 
 abbrev pub startup_parts : ℕ → List (List ℕ × List ℕ) → List Part
-startup_parts version parameters = Word (codes "version") ∷ Number (pos version) ∷ Word (codes "parameters") ∷ list_of pair_parts parameters None
+startup_parts version parameters = key (codes "version") ∷ Number (pos version) ∷ key (codes "parameters") ∷ ListBegins ∷ list_of pair_parts parameters None
 
 -- the first text of an exchange, if there is one
 abbrev pub first_text : Style → Option (List ℕ) → Part
@@ -65,29 +65,29 @@ first_text style None = Value None
 first_text style (Some response) = secret style response
 
 abbrev pub named_object : ℕ → List ℕ → List Part
-named_object variant name = Word (name_or (object_of variant) variant) ∷ Text name ∷ []
+named_object variant name = key (name_or (object_of variant) variant) ∷ Text name ∷ []
 
 -- The parts of a line after the name, in groups. Passwords, the texts of an exchange and keys are secrets.
 abbrev pub client_groups : Style → Bool → ClientMessage → List (List Part)
 client_groups style reported (Bind portal statement formats values result_formats) =
-    (Word (codes "portal") ∷ Text portal ∷ Word (codes "statement") ∷ Text statement ∷ [])
-    ∷ counted (codes "formats") signed_part formats ∷ counted (codes "values") client_value values ∷ counted (codes "results") signed_part result_formats ∷ []
+    (key (codes "portal") ∷ Text portal ∷ key (codes "statement") ∷ Text statement ∷ [])
+    ∷ counted (codes "formats") (codes "formats") signed_part formats ∷ counted (codes "values") (codes "values") client_value values ∷ counted (codes "results") (codes "result_formats") signed_part result_formats ∷ []
 client_groups style reported (Close variant name) = named_object variant name ∷ []
-client_groups style reported (CopyData bytes) = (Word (codes "data") ∷ Value (Some bytes) ∷ []) ∷ []
-client_groups style reported (CopyFail message) = (Word (codes "message") ∷ Text message ∷ []) ∷ []
+client_groups style reported (CopyData bytes) = (key (codes "data") ∷ Value (Some bytes) ∷ []) ∷ []
+client_groups style reported (CopyFail message) = (key (codes "message") ∷ Text message ∷ []) ∷ []
 client_groups style reported (Describe variant name) = named_object variant name ∷ []
-client_groups style reported (Execute portal max_rows) = (Word (codes "portal") ∷ Text portal ∷ Word (codes "rows") ∷ Number max_rows ∷ []) ∷ []
+client_groups style reported (Execute portal max_rows) = (key (codes "portal") ∷ Text portal ∷ Key (codes "rows") (codes "max_rows") ∷ Number max_rows ∷ []) ∷ []
 client_groups style reported (FunctionCall function formats arguments result_format) =
-    (Word (codes "function") ∷ Number (pos function) ∷ [])
-    ∷ counted (codes "formats") signed_part formats ∷ counted (codes "values") client_value arguments ∷ (Word (codes "result") ∷ Number result_format ∷ []) ∷ []
+    (key (codes "function") ∷ Number (pos function) ∷ [])
+    ∷ counted (codes "formats") (codes "formats") signed_part formats ∷ counted (codes "values") (codes "arguments") client_value arguments ∷ (Key (codes "result") (codes "result_format") ∷ Number result_format ∷ []) ∷ []
 client_groups style reported (Parse name query param_types) =
-    (Word (codes "statement") ∷ Text name ∷ Word (codes "query") ∷ Text query ∷ []) ∷ counted (codes "types") type_part param_types ∷ []
-client_groups style reported (PasswordMessage password) = (Word (codes "password") ∷ secret style password ∷ []) ∷ []
-client_groups style reported (Query query) = (Word (codes "query") ∷ Text query ∷ []) ∷ []
-client_groups style reported (SaslInitialResponse mechanism response) = (Word (codes "mechanism") ∷ Text mechanism ∷ Word (codes "data") ∷ first_text style response ∷ []) ∷ []
+    (key (codes "statement") ∷ Text name ∷ key (codes "query") ∷ Text query ∷ []) ∷ counted (codes "types") (codes "types") type_part param_types ∷ []
+client_groups style reported (PasswordMessage password) = (key (codes "password") ∷ secret style password ∷ []) ∷ []
+client_groups style reported (Query query) = (key (codes "query") ∷ Text query ∷ []) ∷ []
+client_groups style reported (SaslInitialResponse mechanism response) = (key (codes "mechanism") ∷ Text mechanism ∷ key (codes "data") ∷ first_text style response ∷ []) ∷ []
 client_groups style reported (SaslResponse response) = response_parts style reported response ∷ []
 client_groups style reported (Startup minor parameters) = startup_parts (196608 + minor) parameters ∷ []
-client_groups style reported (CancelRequest process_id secret_key) = (Word (codes "process") ∷ Number process_id ∷ Word (codes "key") ∷ secret style secret_key ∷ []) ∷ []
+client_groups style reported (CancelRequest process_id secret_key) = (Key (codes "process") (codes "process_id") ∷ Number process_id ∷ Key (codes "key") (codes "secret_key") ∷ secret style secret_key ∷ []) ∷ []
 client_groups style reported m = []
 
 -- a message of which no more is said than its name
@@ -111,7 +111,7 @@ grouped style line (parts ∷ groups) = grouped style (followed style line parts
 -- why a frame is rejected; a packet of unknown code is never passed, and so has no line
 abbrev pub refusal_parts : ClientError → List Part
 refusal_parts (Reading e) = refused e
-refusal_parts (UnknownPacket code) = Name true (codes "packet") ∷ Number code ∷ []
+refusal_parts (UnknownPacket code) = Name true (codes "packet") ∷ Member (codes "code") ∷ Number code ∷ []
 
 -- the line goes on with the name of the message and what it says, or with the error
 abbrev pub client_line : Style → Bool → Result ClientMessage ClientError → List ℕ → List ℕ

@@ -1,5 +1,7 @@
 pub mod Names
 pub mod Shown
+pub mod PlainBody
+pub mod Unread
 pub mod Secrets
 pub mod Options
 pub mod Command

@@ -17,7 +17,8 @@ use Rattle.pgp_line.specs.declared.style.Form.{Form}
 use Rattle.pgp_line.specs.declared.style.Form.TheVariants.{Columns, Json}
 use Rattle.pgp_line.specs.declared.style.Style.{Style}
 use Rattle.pgp_line.specs.Line.{Length, Name, Tag, closing, followed, opening}
-use Rattle.pgp_trace.specs.Shown.{Shows, called, unread}
+use Rattle.pgp_trace.specs.Shown.{Shows, called}
+use Rattle.pgp_trace.specs.Unread.{ShowsUnread}
 use Rattle.pgp_trace.specs.Hints.{hint_of}
 use Rattle.pgp_program.specs.Run.{Streams}
 use Rattle.pgp_program.specs.Taken.{AppendsFront}
@@ -27,17 +28,17 @@ use Rattle.pgp_program.specs.Words.{greatest}
 abbrev pub front : Style → ℕ → Frame → List ℕ
 front style place f = followed style (opening style place) (Length (length (frame_bytes f)) ∷ Tag f.tag ∷ [])
 
--- and how it goes on: with the name of the message and what it says, or with the error, or the name of a message that isn't read
-abbrev pub GoesOn : Style → Result Message Error → List ℕ → List ℕ → Type 0
-GoesOn style (Ok m) old new = Shows style m (followed style old (called m ∷ [])) new
-GoesOn style (Err e) old new = new ≡ followed style old (unread e)
+-- and how it goes on: with the name of the message and what it says, or with what a frame says that isn't read
+abbrev pub GoesOn : Style → (tag : ℕ) (body : List ℕ) → Result Message Error → List ℕ → List ℕ → Type 0
+GoesOn style tag body (Ok m) old new = Shows style m (followed style old (called m ∷ [])) new
+GoesOn style tag body (Err e) old new = ShowsUnread style tag body e old new
 
 -- the line of a frame that stands at the place
 pub record IsLineOf (style : Style) (place : ℕ) (f : Frame) (line : List ℕ) : Type 0 where
   pub result : Result Message Error
   pub body : Body f.tag f.payload result
   pub text : List ℕ
-  pub reported : GoesOn style result (front style place f) text
+  pub reported : GoesOn style f.tag f.payload result (front style place f) text
   pub ended : line ≡ text ++ closing style ++ 10 ∷ []
 
 -- the frame of a server, and its line

@@ -1,5 +1,5 @@
 -- Messages and streams that differ in their secrets alone.
-use Rattle.std.specs.Prelude.{◌≡◌, ℕ, false, List, [], ◌++◌, length, None, Result, Ok, Err}
+use Rattle.std.specs.Prelude.{◌≡◌, ◌⊎◌, ℕ, false, List, [], ◌++◌, length, None, Result, Ok, Err}
 use Rattle.pgp_message.specs.BackendMessage.{AuthenticationMd5Password, AuthenticationGssContinue, AuthenticationSaslContinue, AuthenticationSaslFinal, Message, BackendKeyData, Authentication, Body}
 use Rattle.pgp_base.specs.declared.error.Error.{Error}
 use Rattle.pgp_message.specs.Stream.{Frame, frame_bytes, IsFrame}
@@ -25,10 +25,11 @@ AlikeResults (Ok m) (Ok n) = Alike m n
 AlikeResults (Err d) (Err e) = d ≡ e
 AlikeResults r s = ⊥
 
--- frames of one tag and one length, whose bodies are alike
+-- frames of one tag and one length, whose bodies are alike; those of a FunctionCallResponse and of a CopyBothResponse have no secrets
 pub record AlikeFrames (f g : Frame) : Type 0 where
   pub tagged : f.tag ≡ g.tag
   pub long : length (frame_bytes f) ≡ length (frame_bytes g)
+  pub plain : (f.tag ≡ 86) ⊎ (f.tag ≡ 87) → f.payload ≡ g.payload
   pub bodies : (r : Result Message Error) → Body f.tag f.payload r → (s : Result Message Error) × Body g.tag g.payload s × AlikeResults r s
 
 -- bytes that are frames, each like that of the other bytes in its place

@@ -1,51 +1,39 @@
 -- What the line of each message says after its name. PostgreSQL manual, "Message Formats".
-use Rattle.std.specs.Prelude.{◌≡◌, ◌⊎◌, ℕ, pos, Bool, true, false, List, [], ◌∷◌, ◌++◌, Option, Some, None, ◌==◌, if◌then◌else◌, codes}
+use Rattle.std.specs.Prelude.{◌≡◌, ◌⊎◌, ℕ, pos, Bool, true, false, List, [], ◌∷◌, ◌++◌, Option, Some, None, codes}
 use Rattle.std.specs.Str.{IsUtf8}
 use Rattle.std.specs.declared.ops.Range.{Range}
 use Rattle.pgp_base.specs.Error.{number_of}
 use Rattle.pgp_base.specs.declared.error.Error.{Error}
-use Rattle.pgp_base.specs.declared.error.Error.TheVariants.{UnknownTag}
 use Rattle.pgp_base.specs.Items.{CountedItems, MarkedItems}
 use Rattle.pgp_message.specs.BackendMessage.{AuthenticationOk, AuthenticationKerberosV5, AuthenticationCleartextPassword, AuthenticationScmCredential, AuthenticationGss, AuthenticationSspi, ParseComplete, BindComplete, CloseComplete, EmptyQueryResponse, CopyDone, NoData, PortalSuspended, AuthenticationMd5Password, AuthenticationGssContinue, AuthenticationSasl, AuthenticationSaslContinue, AuthenticationSaslFinal, Message, NotificationResponse, CommandComplete, DataRow, ErrorResponse, CopyInResponse, CopyOutResponse, BackendKeyData, NegotiateProtocolVersion, NoticeResponse, Authentication, ParameterStatus, RowDescription, ReadyForQuery, CopyData, ParameterDescription, payload_of}
 use Rattle.pgp_message.specs.Items.{TextSpelled, TextRefused, FormatSpelled, FormatRefused, TypeSpelled, TypeRefused, RangeSpelled, RangeRefused, FieldPart, FieldSpelled, FieldRefused, ErrorPart, ErrorFieldSpelled, ErrorFieldRefused}
 use Rattle.pgp_message.specs.Parts.{CopyFormats}
 use Rattle.pgp_message.specs.Table.{value_at}
-use Rattle.pgp_line.specs.Line.{Part, Name, Refusal, Word, Number, Oid, Text, Value, followed}
+use Rattle.pgp_line.specs.Line.{Part, Name, Refusal, Key, Member, Count, ListBegins, ListEnds, ObjectBegins, ObjectEnds, Word, Number, Oid, Text, Value, followed, key}
 use Rattle.pgp_line.specs.Secret.{secret}
 use Rattle.pgp_line.specs.declared.style.Style.{Style}
 use Rattle.pgp_trace.specs.Names.{name_of, refusal_of, field_of, state_of}
 
 -- the error of a frame
 abbrev pub refused : Error → List Part
-refused e = Refusal (number_of e) ∷ Word (refusal_of e) ∷ []
+refused e = Refusal (number_of e) ∷ Word (refusal_of e) ∷ ObjectEnds ∷ []
 
--- a frame that isn't read, by its tag: a FunctionCallResponse and a CopyBothResponse have their names alone
-abbrev pub unknown : ℕ → List Part
-unknown tag =
-    if tag == 86 then Name true (codes "FunctionCallResponse") ∷ []  -- V
-    else if tag == 87 then Name true (codes "CopyBothResponse") ∷ []  -- W
-    else refused (UnknownTag tag)
-
-abbrev pub unread : Error → List Part
-unread (UnknownTag tag) = unknown tag
-unread e = refused e
-
--- an error in a list
-abbrev pub fault : Error → List Part
-fault e = Word (codes "fault") ∷ Number (pos (number_of e)) ∷ Word (refusal_of e) ∷ []
-
--- the end of a list: nothing, or why it breaks off
-abbrev pub ending : Option Error → List Part
-ending None = []
-ending (Some e) = fault e
+-- the end of a list, and why it breaks off where it does
+abbrev pub ending : (close : Part) → Option Error → List Part
+ending close None = close ∷ []
+ending close (Some e) = close ∷ refused e
 
 -- the parts of each item, and these after them
 abbrev pub each_then : {X : Type 0} → (X → List Part) → List X → List Part → List Part
 each_then parts [] more = more
 each_then parts (x ∷ xs) more = parts x ++ each_then parts xs more
 
+-- a list that ends so, and one that is a list in JSON too
+abbrev pub closed : {X : Type 0} → (close : Part) → (X → List Part) → List X → Option Error → List Part
+closed close parts items end = each_then parts items (ending close end)
+
 abbrev pub list_of : {X : Type 0} → (X → List Part) → List X → Option Error → List Part
-list_of parts items end = each_then parts items (ending end)
+list_of parts items end = closed ListEnds parts items end
 
 -- the name, or where there is none the byte that stands for it
 abbrev pub name_or : Option (List ℕ) → ℕ → List ℕ
@@ -65,34 +53,34 @@ abbrev pub value_part : List ℕ → Option (Range ℕ) → List Part
 value_part buffer place = Value (value_at buffer place) ∷ []
 
 abbrev pub field_parts : ErrorPart → List Part
-field_parts field = Word (name_or (field_of field.code) field.code) ∷ Text field.value ∷ []
+field_parts field = key (name_or (field_of field.code) field.code) ∷ Text field.value ∷ []
 
-abbrev pub column_parts : FieldPart → List Part
+unfoldable pub column_parts : FieldPart → List Part
 column_parts column =
-    Text column.name
-    ∷ Word (codes "table") ∷ Number (pos column.table_oid)
-    ∷ Word (codes "column") ∷ Number column.column_id
-    ∷ Word (codes "type") ∷ Oid column.type_oid
-    ∷ Word (codes "size") ∷ Number column.type_size
-    ∷ Word (codes "modifier") ∷ Number column.type_modifier
-    ∷ Word (codes "format") ∷ Number column.format ∷ []
+    ObjectBegins ∷ Member (codes "name") ∷ Text column.name
+    ∷ key (codes "table") ∷ Number (pos column.table_oid)
+    ∷ key (codes "column") ∷ Number column.column_id
+    ∷ key (codes "type") ∷ Oid column.type_oid
+    ∷ key (codes "size") ∷ Number column.type_size
+    ∷ key (codes "modifier") ∷ Number column.type_modifier
+    ∷ key (codes "format") ∷ Number column.format ∷ ObjectEnds ∷ []
 
 -- Lines before and after a list that is announced with a count, or that a byte 0 ends, where `parts` are those of an item.
 pub record ShowsCounted {V : Type 0} (Spelled : ℕ → V → List ℕ → Type 0) (Refused : List ℕ → Error → Type 0) (parts : V → List Part) (style : Style) (count : ℕ) (bytes old new : List ℕ) : Type 0 where
   pub items : List V
   pub end : Option Error
   pub list : CountedItems Spelled Refused count bytes items end
-  pub text : new ≡ followed style old (Number (pos count) ∷ list_of parts items end)
+  pub text : new ≡ followed style old (Count count ∷ list_of parts items end)
 
-pub record ShowsMarked {V : Type 0} (Spelled : ℕ → V → List ℕ → Type 0) (Refused : List ℕ → Error → Type 0) (parts : V → List Part) (style : Style) (bytes old new : List ℕ) : Type 0 where
+pub record ShowsMarked {V : Type 0} (Spelled : ℕ → V → List ℕ → Type 0) (Refused : List ℕ → Error → Type 0) (close : Part) (parts : V → List Part) (style : Style) (bytes old new : List ℕ) : Type 0 where
   pub items : List V
   pub end : Option Error
   pub list : MarkedItems Spelled Refused bytes items end
-  pub text : new ≡ followed style old (list_of parts items end)
+  pub text : new ≡ followed style old (closed close parts items end)
 
 -- the bytes of a body as they are
 abbrev pub bare : List ℕ → List Part
-bare body = Word (codes "bytes") ∷ Text body ∷ []
+bare body = key (codes "bytes") ∷ Text body ∷ []
 
 -- the line goes on with these parts, where the texts in them are UTF-8, and else with the bytes of the body
 abbrev pub ShowsTexts : Style → Type 0 → List Part → List ℕ → List ℕ → List ℕ → Type 0
@@ -103,7 +91,7 @@ ShowsTexts style utf8 parts body old new =
 abbrev pub ShowsFormats : Style → CopyFormats → List ℕ → List ℕ → Type 0
 ShowsFormats style copy old new =
     ShowsCounted FormatSpelled FormatRefused number_part style copy.count copy.storage
-    (followed style old (Word (codes "format") ∷ Number (pos copy.format) ∷ Word (codes "columns") ∷ [])) new
+    (followed style old (key (codes "format") ∷ Number (pos copy.format) ∷ Key (codes "columns") (codes "column_formats") ∷ [])) new
 
 -- a message of which no more is said than its name
 abbrev pub says_nothing : Message → Bool
@@ -127,28 +115,28 @@ called m = Name (says_nothing m) (name_of m)
 
 -- The line of a message before and after what it says after its name. Salts, the texts of an exchange and keys are secrets.
 abbrev pub Shows : Style → Message → List ℕ → List ℕ → Type 0
-Shows style (Authentication (AuthenticationMd5Password salt)) old new = new ≡ followed style old (Word (codes "salt") ∷ secret style salt ∷ [])
-Shows style (Authentication (AuthenticationGssContinue bytes)) old new = new ≡ followed style old (Word (codes "data") ∷ secret style bytes ∷ [])
-Shows style (Authentication (AuthenticationSasl bytes)) old new = ShowsMarked TextSpelled TextRefused text_part style bytes (followed style old (Word (codes "mechanisms") ∷ [])) new
-Shows style (Authentication (AuthenticationSaslContinue bytes)) old new = new ≡ followed style old (Word (codes "data") ∷ secret style bytes ∷ [])
-Shows style (Authentication (AuthenticationSaslFinal bytes)) old new = new ≡ followed style old (Word (codes "data") ∷ secret style bytes ∷ [])
+Shows style (Authentication (AuthenticationMd5Password salt)) old new = new ≡ followed style old (key (codes "salt") ∷ secret style salt ∷ [])
+Shows style (Authentication (AuthenticationGssContinue bytes)) old new = new ≡ followed style old (key (codes "data") ∷ secret style bytes ∷ [])
+Shows style (Authentication (AuthenticationSasl bytes)) old new = ShowsMarked TextSpelled TextRefused ListEnds text_part style bytes (followed style old (key (codes "mechanisms") ∷ ListBegins ∷ [])) new
+Shows style (Authentication (AuthenticationSaslContinue bytes)) old new = new ≡ followed style old (key (codes "data") ∷ secret style bytes ∷ [])
+Shows style (Authentication (AuthenticationSaslFinal bytes)) old new = new ≡ followed style old (key (codes "data") ∷ secret style bytes ∷ [])
 Shows style (NotificationResponse n) old new = ShowsTexts style (IsUtf8 n.channel × IsUtf8 n.message)
-    (Word (codes "process") ∷ Number n.process_id ∷ Word (codes "channel") ∷ Text n.channel ∷ Word (codes "payload") ∷ Text n.message ∷ [])
+    (Key (codes "process") (codes "process_id") ∷ Number n.process_id ∷ key (codes "channel") ∷ Text n.channel ∷ key (codes "payload") ∷ Text n.message ∷ [])
     (payload_of (NotificationResponse n)) old new
-Shows style (CommandComplete tag) old new = ShowsTexts style (IsUtf8 tag) (Word (codes "tag") ∷ Text tag ∷ []) (payload_of (CommandComplete tag)) old new
-Shows style (DataRow row) old new = ShowsCounted RangeSpelled RangeRefused (value_part row.storage) style row.count row.storage (followed style old (Word (codes "values") ∷ [])) new
-Shows style (ErrorResponse bytes) old new = ShowsMarked ErrorFieldSpelled ErrorFieldRefused field_parts style bytes old new
+Shows style (CommandComplete tag) old new = ShowsTexts style (IsUtf8 tag) (Key (codes "tag") (codes "command_tag") ∷ Text tag ∷ []) (payload_of (CommandComplete tag)) old new
+Shows style (DataRow row) old new = ShowsCounted RangeSpelled RangeRefused (value_part row.storage) style row.count row.storage (followed style old (key (codes "values") ∷ [])) new
+Shows style (ErrorResponse bytes) old new = ShowsMarked ErrorFieldSpelled ErrorFieldRefused ObjectEnds field_parts style bytes (followed style old (Member (codes "fields") ∷ ObjectBegins ∷ [])) new
 Shows style (CopyInResponse copy) old new = ShowsFormats style copy old new
 Shows style (CopyOutResponse copy) old new = ShowsFormats style copy old new
-Shows style (BackendKeyData key) old new = new ≡ followed style old (Word (codes "process") ∷ Number key.process_id ∷ Word (codes "key") ∷ secret style key.secret_key ∷ [])
+Shows style (BackendKeyData key) old new = new ≡ followed style old (Key (codes "process") (codes "process_id") ∷ Number key.process_id ∷ Key (codes "key") (codes "secret_key") ∷ secret style key.secret_key ∷ [])
 Shows style (NegotiateProtocolVersion n) old new = ShowsCounted TextSpelled TextRefused text_part style n.count n.options
-    (followed style old (Word (codes "version") ∷ Number n.version ∷ Word (codes "options") ∷ [])) new
-Shows style (NoticeResponse bytes) old new = ShowsMarked ErrorFieldSpelled ErrorFieldRefused field_parts style bytes old new
+    (followed style old (key (codes "version") ∷ Number n.version ∷ key (codes "options") ∷ [])) new
+Shows style (NoticeResponse bytes) old new = ShowsMarked ErrorFieldSpelled ErrorFieldRefused ObjectEnds field_parts style bytes (followed style old (Member (codes "fields") ∷ ObjectBegins ∷ [])) new
 Shows style (ParameterStatus setting) old new = ShowsTexts style (IsUtf8 setting.name × IsUtf8 setting.value)
-    (Word (codes "name") ∷ Text setting.name ∷ Word (codes "value") ∷ Text setting.value ∷ [])
+    (Key (codes "name") (codes "parameter") ∷ Text setting.name ∷ key (codes "value") ∷ Text setting.value ∷ [])
     (payload_of (ParameterStatus setting)) old new
-Shows style (RowDescription row) old new = ShowsCounted FieldSpelled FieldRefused column_parts style row.count row.storage (followed style old (Word (codes "columns") ∷ [])) new
-Shows style (ReadyForQuery status) old new = new ≡ followed style old (Word (name_or (state_of status) status) ∷ [])
-Shows style (CopyData bytes) old new = new ≡ followed style old (Word (codes "data") ∷ Value (Some bytes) ∷ [])
-Shows style (ParameterDescription row) old new = ShowsCounted TypeSpelled TypeRefused type_part style row.count row.storage (followed style old (Word (codes "types") ∷ [])) new
+Shows style (RowDescription row) old new = ShowsCounted FieldSpelled FieldRefused column_parts style row.count row.storage (followed style old (key (codes "columns") ∷ [])) new
+Shows style (ReadyForQuery status) old new = new ≡ followed style old (Member (codes "status") ∷ Word (name_or (state_of status) status) ∷ [])
+Shows style (CopyData bytes) old new = new ≡ followed style old (key (codes "data") ∷ Value (Some bytes) ∷ [])
+Shows style (ParameterDescription row) old new = ShowsCounted TypeSpelled TypeRefused type_part style row.count row.storage (followed style old (key (codes "types") ∷ [])) new
 Shows style m old new = new ≡ old

@@ -1,5 +1,5 @@
 -- Private: a frame and its line, one at a time, and what a piece of a stream adds to its listing.
-use Rattle.std.specs.Prelude.{◌≡◌, ◌≤◌, ℕ, ◌+◌, Bool, true, false, List, [], ◌∷◌, ◌++◌, length, Option, Result}
+use Rattle.std.specs.Prelude.{◌≡◌, ◌≤◌, ℕ, ◌+◌, Bool, true, false, List, [], ◌∷◌, ◌++◌, drop, length, slice_index, Option, Result}
 use Rattle.std.specs.Io.KnownBytes.{Appends}
 use Rattle.pgp_base.specs.declared.error.Error.{Error}
 use Rattle.pgp_message.specs.BackendMessage.{Message, Body}
@@ -11,6 +11,8 @@ use Rattle.pgp_trace.specs.declared.side.Phase.TheVariants.{Beginning, Messages}
 use Rattle.pgp_trace.specs.declared.side.Side as code
 use Rattle.pgp_trace.specs.declared.side.Side.TheVariants as variants
 use Rattle.pgp_line.specs.declared.style.Style.{Style}
+use Rattle.pgp_line.specs.Line.{Length, Tag, closing, followed, opening}
+use Rattle.pgp_trace.specs.Unread.{ShowsUnread}
 use Rattle.pgp_trace.specs.Listing.{LineOf, Lines, place_behind}
 use Rattle.pgp_trace.specs.Sides.{Side, Server, Client, Ends}
 use Rattle.pgp_program.specs.Taken.{AppendsFront}
@@ -38,6 +40,12 @@ pub record IsFrameOf (bytes : List ℕ) (r : Result Message Error) : Type 0 wher
   pub whole : bytes ≡ frame_bytes first
   pub fits : IsFrame first
   pub body : Body first.tag first.payload r
+
+-- the line of a frame that isn't read
+pub record ReportsFault (style : Style) (place : ℕ) (frame : List ℕ) (e : Error) (line : List ℕ) : Type 0 where
+  pub text : List ℕ
+  pub shown : ShowsUnread style (slice_index frame 0) (drop 5 frame) e (followed style (opening style place) (Length (length frame) ∷ Tag (slice_index frame 0) ∷ [])) text
+  pub ended : line ≡ text ++ closing style ++ 10 ∷ []
 
 -- the bytes begin with a frame, which has this line, and then come the new ones
 pub record HasLine (style : Style) (place : ℕ) (from : Side) (old new line : List ℕ) (to : Side) : Type 0 where

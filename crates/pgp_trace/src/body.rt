@@ -4,8 +4,10 @@ ghost use Rattle.std.specs.Prelude.{◌≡◌, ◌∷◌, [], pos, Some, OnErr, 
 ghost use Rattle.pgp_base.specs.Walk.{hint_of};
 ghost use Rattle.pgp_message.specs.BackendMessage.{payload_of, Authentication, AuthenticationSasl, NotificationResponse, CommandComplete, DataRow, BackendKeyData, NegotiateProtocolVersion, ParameterStatus, RowDescription, ParameterDescription};
 ghost use Rattle.pgp_message.specs.Views.{view};
-ghost use Rattle.pgp_line.specs.Line.{Word, Number, Text, Value, followed};
-ghost use Rattle.pgp_trace.specs.Shown.{Shows, bare, list_of, number_part};
+ghost use Rattle.pgp_line.specs.Secret.{secret};
+ghost use Rattle.pgp_line.specs.Line.{Count, Key, Member, ObjectBegins, ObjectEnds, Number, Text, Value, Word, followed, key};
+ghost use Rattle.pgp_trace.specs.Names.{state_of};
+ghost use Rattle.pgp_trace.specs.Shown.{Shows, bare, closed, field_parts, list_of, name_or, number_part};
 
 use crate::lists::{
     put_columns, put_fields, put_formats, put_mechanisms, put_named, put_options, put_types,
@@ -13,13 +15,14 @@ use crate::lists::{
 };
 use crate::names::state_of;
 use pgp_base::{FallibleIterator, Memory};
-use pgp_line::line::{put_number, put_signed, put_some, put_text, put_word};
+use pgp_line::line::{put_number, put_signed, put_some, put_text};
+use pgp_line::nesting::{begin_list, begin_object, put_count, put_key, put_member};
 use pgp_line::secret::put_secret;
 use pgp_line::style::Style;
 use pgp_message::{
     AuthenticationSaslBody, BackendKeyDataBody, ColumnFormats, CommandCompleteBody, DataRowBody,
-    Message, NegotiateProtocolVersionBody, NotificationResponseBody, ParameterDescriptionBody,
-    ParameterStatusBody, RowDescriptionBody,
+    ErrorFields, Message, NegotiateProtocolVersionBody, NotificationResponseBody,
+    ParameterDescriptionBody, ParameterStatusBody, RowDescriptionBody,
 };
 use std::alloc::AllocError;
 
@@ -35,16 +38,24 @@ pub fn put_message<A: Memory>(
     ensures lacks { OnErr result A.Lacks }
 {
     match message {
-        Message::AuthenticationMd5Password(salt) => put_secret(style, "salt", &salt.salt(), line),
+        Message::AuthenticationMd5Password(salt) => put_secret(
+            style,
+            "salt",
+            "salt",
+            &salt.salt(),
+            line,
+        ),
         Message::AuthenticationGssContinue(token) => {
-            put_secret(style, "data", token.data(), line)
+            put_secret(style, "data", "data", token.data(), line)
         }
         Message::AuthenticationSasl(offer) => put_offer(style, offer, line),
         Message::AuthenticationSaslContinue(text) => {
-            put_secret(style, "data", text.data(), line)
+            put_secret(style, "data", "data", text.data(), line)
         }
-        Message::AuthenticationSaslFinal(text) => { put_secret(style, "data", text.data(), line) }
-        Message::BackendKeyData(key) => put_key(style, key, line),
+        Message::AuthenticationSaslFinal(text) => {
+            put_secret(style, "data", "data", text.data(), line)
+        }
+        Message::BackendKeyData(key) => put_key_data(style, key, line),
         Message::CommandComplete(command) => put_command(style, command, body, line),
         Message::CopyData(copy) => put_copied(style, copy.data(), line),
         Message::CopyInResponse(copy) => {
@@ -54,16 +65,13 @@ pub fn put_message<A: Memory>(
             put_copy(style, copy.format(), copy.column_formats(), line)
         }
         Message::DataRow(row) => put_row(style, row, line),
-        Message::ErrorResponse(error) => put_fields(style, error.fields(), line),
+        Message::ErrorResponse(error) => put_all_fields(style, error.fields(), line),
         Message::NegotiateProtocolVersion(answer) => put_versions(style, answer, line),
-        Message::NoticeResponse(notice) => put_fields(style, notice.fields(), line),
+        Message::NoticeResponse(notice) => put_all_fields(style, notice.fields(), line),
         Message::NotificationResponse(news) => put_news(style, news, body, line),
         Message::ParameterDescription(types) => put_parameters(style, types, line),
         Message::ParameterStatus(setting) => put_setting(style, setting, body, line),
-        Message::ReadyForQuery(ready) => {
-            let status = ready.status();
-            put_named(style, state_of(status), status, line)
-        }
+        Message::ReadyForQuery(ready) => { put_status(style, ready.status(), line) }
         Message::RowDescription(row) => put_description(style, row, line),
         Message::AuthenticationCleartextPassword
         | Message::AuthenticationGss
@@ -81,6 +89,29 @@ pub fn put_message<A: Memory>(
     }
 }
 
+/// Adds the fields of an error or a notice, in JSON as an object.
+fn put_all_fields<A: Memory>(
+    style: Style,
+    fields: ErrorFields<'_>,
+    line: &mut String<A>,
+) -> Result<(), AllocError>
+    ensures parts { OnOk result (string_bytes line.new ≡ followed style (followed style (string_bytes line.old) (Member (codes "fields") ∷ ObjectBegins ∷ [])) (closed ObjectEnds field_parts fields.entry.items fields.entry.end)) }
+    ensures lacks { OnErr result A.Lacks }
+{
+    put_member(style, "fields", line)?;
+    begin_object(style, line)?;
+    put_fields(style, fields, line)
+}
+
+/// Adds the state of a transaction.
+fn put_status<A: Memory>(style: Style, status: u8, line: &mut String<A>) -> Result<(), AllocError>
+    ensures parts { OnOk result (string_bytes line.new ≡ followed style (string_bytes line.old) (Member (codes "status") ∷ Word (name_or (state_of status) status) ∷ [])) }
+    ensures lacks { OnErr result A.Lacks }
+{
+    put_member(style, "status", line)?;
+    put_named(style, state_of(status), status, line)
+}
+
 /// Adds the mechanisms that a server offers.
 fn put_offer<A: Memory>(
     style: Style,
@@ -90,12 +121,13 @@ fn put_offer<A: Memory>(
     ensures says { OnOk result (Shows style (Authentication (AuthenticationSasl offer.now)) (string_bytes line.old) (string_bytes line.new)) }
     ensures lacks { OnErr result A.Lacks }
 {
-    put_word(style, "mechanisms", line)?;
+    put_key(style, "mechanisms", "mechanisms", line)?;
+    begin_list(style, line)?;
     put_mechanisms(style, offer.mechanisms(), line)
 }
 
 /// Adds the process that a cancel request names, and its key.
-fn put_key<A: Memory>(
+fn put_key_data<A: Memory>(
     style: Style,
     key: &BackendKeyDataBody<&[u8]>,
     line: &mut String<A>,
@@ -103,31 +135,75 @@ fn put_key<A: Memory>(
     ensures says { OnOk result (Shows style (BackendKeyData key.now) (string_bytes line.old) (string_bytes line.new)) }
     ensures lacks { OnErr result A.Lacks }
 {
-    put_word(style, "process", line)?;
-    put_signed(style, key.process_id(), line)?;
-    put_secret(style, "key", key.secret_key_bytes(), line)
+    put_process_key(style, key.process_id(), key.secret_key_bytes(), line)
+}
+
+/// Adds a process and its key.
+pub fn put_process_key<A: Memory>(
+    style: Style,
+    process_id: i32,
+    key: &[u8],
+    line: &mut String<A>,
+) -> Result<(), AllocError>
+    ensures parts { OnOk result (string_bytes line.new ≡ followed style (string_bytes line.old) (Key (codes "process") (codes "process_id") ∷ Number process_id ∷ Key (codes "key") (codes "secret_key") ∷ secret style key.now ∷ [])) }
+    ensures lacks { OnErr result A.Lacks }
+{
+    put_process(style, process_id, line)?;
+    put_secret(style, "key", "secret_key", key, line)
+}
+
+/// Adds a number that may have a sign, with its name.
+pub fn put_integer<A: Memory>(
+    style: Style,
+    word: &str,
+    name: &str,
+    n: i32,
+    line: &mut String<A>,
+) -> Result<(), AllocError>
+    ensures parts { OnOk result (string_bytes line.new ≡ followed style (string_bytes line.old) (Key word.now name.now ∷ Number n ∷ [])) }
+    ensures lacks { OnErr result A.Lacks }
+{
+    put_key(style, word, name, line)?;
+    put_signed(style, n, line)
+}
+
+/// Adds a process.
+fn put_process<A: Memory>(
+    style: Style,
+    process_id: i32,
+    line: &mut String<A>,
+) -> Result<(), AllocError>
+    ensures parts { OnOk result (string_bytes line.new ≡ followed style (string_bytes line.old) (Key (codes "process") (codes "process_id") ∷ Number process_id ∷ [])) }
+    ensures lacks { OnErr result A.Lacks }
+{
+    put_integer(style, "process", "process_id", process_id, line)
 }
 
 /// Adds the bytes of a body as they are.
-fn put_bare<A: Memory>(style: Style, body: &[u8], line: &mut String<A>) -> Result<(), AllocError>
+pub fn put_bare<A: Memory>(
+    style: Style,
+    body: &[u8],
+    line: &mut String<A>,
+) -> Result<(), AllocError>
     ensures parts { OnOk result (string_bytes line.new ≡ followed style (string_bytes line.old) (bare body.now)) }
     ensures lacks { OnErr result A.Lacks }
 {
-    put_word(style, "bytes", line)?;
+    put_key(style, "bytes", "bytes", line)?;
     put_text(style, body, line)
 }
 
 /// Adds a text with its name.
 fn put_named_text<A: Memory>(
     style: Style,
+    word: &str,
     name: &str,
     text: &str,
     line: &mut String<A>,
 ) -> Result<(), AllocError>
-    ensures parts { OnOk result (string_bytes line.new ≡ followed style (string_bytes line.old) (Word name.now ∷ Text text.now ∷ [])) }
+    ensures parts { OnOk result (string_bytes line.new ≡ followed style (string_bytes line.old) (Key word.now name.now ∷ Text text.now ∷ [])) }
     ensures lacks { OnErr result A.Lacks }
 {
-    put_word(style, name, line)?;
+    put_key(style, word, name, line)?;
     put_text(style, text.as_bytes(), line)
 }
 
@@ -143,7 +219,7 @@ fn put_command<A: Memory>(
     ensures lacks { OnErr result A.Lacks }
 {
     match command.tag() {
-        Ok(tag) => put_named_text(style, "tag", tag, line),
+        Ok(tag) => put_named_text(style, "tag", "command_tag", tag, line),
         Err(_) => put_bare(style, body, line),
     }
 }
@@ -165,8 +241,8 @@ fn put_setting<A: Memory>(
     let Ok(value) = setting.value() else {
         return put_bare(style, body, line);
     };
-    put_named_text(style, "name", name, line)?;
-    put_named_text(style, "value", value, line)
+    put_named_text(style, "name", "parameter", name, line)?;
+    put_named_text(style, "value", "value", value, line)
 }
 
 /// Adds a notification.
@@ -198,13 +274,25 @@ fn put_notification<A: Memory>(
     line: &mut String<A>,
 ) -> Result<(), AllocError>
     ensures parts { OnOk result (string_bytes line.new ≡ followed style (string_bytes line.old)
-        (Word (codes "process") ∷ Number process_id ∷ Word (codes "channel") ∷ Text channel.now ∷ Word (codes "payload") ∷ Text message.now ∷ [])) }
+        (Key (codes "process") (codes "process_id") ∷ Number process_id ∷ key (codes "channel") ∷ Text channel.now ∷ key (codes "payload") ∷ Text message.now ∷ [])) }
     ensures lacks { OnErr result A.Lacks }
 {
-    put_word(style, "process", line)?;
-    put_signed(style, process_id, line)?;
-    put_named_text(style, "channel", channel, line)?;
-    put_named_text(style, "payload", message, line)
+    put_process(style, process_id, line)?;
+    put_payload(style, channel, message, line)
+}
+
+/// Adds a channel, and what is said there.
+fn put_payload<A: Memory>(
+    style: Style,
+    channel: &str,
+    message: &str,
+    line: &mut String<A>,
+) -> Result<(), AllocError>
+    ensures parts { OnOk result (string_bytes line.new ≡ followed style (string_bytes line.old) (key (codes "channel") ∷ Text channel.now ∷ key (codes "payload") ∷ Text message.now ∷ [])) }
+    ensures lacks { OnErr result A.Lacks }
+{
+    put_named_text(style, "channel", "channel", channel, line)?;
+    put_named_text(style, "payload", "payload", message, line)
 }
 
 /// Adds data of a copy.
@@ -213,10 +301,10 @@ pub fn put_copied<A: Memory>(
     bytes: &[u8],
     line: &mut String<A>,
 ) -> Result<(), AllocError>
-    ensures parts { OnOk result (string_bytes line.new ≡ followed style (string_bytes line.old) (Word (codes "data") ∷ Value (Some bytes.now) ∷ [])) }
+    ensures parts { OnOk result (string_bytes line.new ≡ followed style (string_bytes line.old) (key (codes "data") ∷ Value (Some bytes.now) ∷ [])) }
     ensures lacks { OnErr result A.Lacks }
 {
-    put_word(style, "data", line)?;
+    put_key(style, "data", "data", line)?;
     put_some(style, bytes, line)
 }
 
@@ -228,14 +316,14 @@ fn put_copy<A: Memory>(
     line: &mut String<A>,
 ) -> Result<(), AllocError>
     ensures parts { OnOk result (string_bytes line.new ≡ followed style (string_bytes line.old)
-        (Word (codes "format") ∷ Number (pos format) ∷ Word (codes "columns") ∷ Number (pos (hint_of formats.entry.announced).0)
+        (key (codes "format") ∷ Number (pos format) ∷ Key (codes "columns") (codes "column_formats") ∷ Count (hint_of formats.entry.announced).0
         ∷ list_of number_part formats.entry.items formats.entry.end)) }
     ensures lacks { OnErr result A.Lacks }
 {
-    put_word(style, "format", line)?;
+    put_key(style, "format", "format", line)?;
     put_number(style, format as u64, line)?;
-    put_word(style, "columns", line)?;
-    put_number(style, formats.size_hint().0 as u64, line)?;
+    put_key(style, "columns", "column_formats", line)?;
+    put_count(style, formats.size_hint().0 as u64, line)?;
     put_formats(style, formats, line)
 }
 
@@ -249,8 +337,8 @@ fn put_row<A: Memory>(
     ensures lacks { OnErr result A.Lacks }
 {
     let places = row.ranges();
-    put_word(style, "values", line)?;
-    put_number(style, places.size_hint().0 as u64, line)?;
+    put_key(style, "values", "values", line)?;
+    put_count(style, places.size_hint().0 as u64, line)?;
     put_values(style, row.buffer(), places, line)
 }
 
@@ -264,10 +352,10 @@ fn put_versions<A: Memory>(
     ensures lacks { OnErr result A.Lacks }
 {
     let options = answer.options();
-    put_word(style, "version", line)?;
+    put_key(style, "version", "version", line)?;
     put_signed(style, answer.version(), line)?;
-    put_word(style, "options", line)?;
-    put_number(style, options.size_hint().0 as u64, line)?;
+    put_key(style, "options", "options", line)?;
+    put_count(style, options.size_hint().0 as u64, line)?;
     put_options(style, options, line)
 }
 
@@ -281,8 +369,8 @@ fn put_parameters<A: Memory>(
     ensures lacks { OnErr result A.Lacks }
 {
     let types = description.parameters();
-    put_word(style, "types", line)?;
-    put_number(style, types.size_hint().0 as u64, line)?;
+    put_key(style, "types", "types", line)?;
+    put_count(style, types.size_hint().0 as u64, line)?;
     put_types(style, types, line)
 }
 
@@ -296,7 +384,7 @@ fn put_description<A: Memory>(
     ensures lacks { OnErr result A.Lacks }
 {
     let columns = description.fields();
-    put_word(style, "columns", line)?;
-    put_number(style, columns.size_hint().0 as u64, line)?;
+    put_key(style, "columns", "columns", line)?;
+    put_count(style, columns.size_hint().0 as u64, line)?;
     put_columns(style, columns, line)
 }

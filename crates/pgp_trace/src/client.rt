@@ -15,6 +15,7 @@ use crate::lists::put_refused;
 use pgp_base::Memory;
 use pgp_frontend_read::{ClientError, ClientMessage, ClientMessages, PasswordKind};
 use pgp_line::line::{put_called, put_end, put_signed};
+use pgp_line::nesting::put_member;
 use pgp_line::style::Style;
 use std::alloc::AllocError;
 
@@ -176,6 +177,7 @@ fn put_refusal<A: Memory>(
         ClientError::Reading(e) => put_refused(style, e, line),
         ClientError::UnknownPacket(code) => {
             put_called(style, true, "packet", line)?;
+            put_member(style, "code", line)?;
             put_signed(style, *code, line)
         }
     }

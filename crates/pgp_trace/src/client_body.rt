@@ -4,15 +4,16 @@ ghost use Rattle.std.specs.Prelude.{◌≡◌, ◌∷◌, [], pos, OnErr, OnOk, 
 ghost use Rattle.pgp_frontend_read.specs.Views.{view};
 ghost use Rattle.pgp_frontend_read.specs.Whole.{shown};
 ghost use Rattle.pgp_trace.specs.Client.{client_groups, client_value, counted, grouped, first_text, named_object, signed_part, startup_parts};
-ghost use Rattle.pgp_line.specs.Line.{Word, Number, Text, followed};
+ghost use Rattle.pgp_line.specs.Line.{Key, Number, Text, followed, key};
 
-use crate::body::put_copied;
+use crate::body::{put_copied, put_integer, put_process_key};
 use crate::client_lists::{put_formats, put_pairs, put_types, put_values};
 use crate::client_names::object_of;
-use crate::lists::put_named;
+use crate::lists::put_named_key;
 use pgp_base::Memory;
 use pgp_frontend_read::{ClientMessage, Formats, StartupParameters, Values};
-use pgp_line::line::{put_null, put_number, put_signed, put_text, put_word};
+use pgp_line::line::{put_null, put_number, put_signed, put_text};
+use pgp_line::nesting::{begin_list, put_key};
 use pgp_line::secret::{put_response, put_secret};
 use pgp_line::style::Style;
 use std::alloc::AllocError;
@@ -37,24 +38,21 @@ pub fn put_client_message<A: Memory>(
             result_formats,
         } => {
             put_texts(style, "portal", portal, "statement", statement, line)?;
-            put_formats(style, "formats", formats, line)?;
-            put_values(style, "values", values, line)?;
-            put_formats(style, "results", result_formats, line)
+            put_formats(style, "formats", "formats", formats, line)?;
+            put_values(style, "values", "values", values, line)?;
+            put_formats(style, "results", "result_formats", result_formats, line)
         }
         ClientMessage::CancelRequest {
             process_id,
             secret_key,
-        } => {
-            put_integer(style, "process", process_id, line)?;
-            put_secret(style, "key", secret_key, line)
-        }
+        } => put_process_key(style, process_id, secret_key, line),
         ClientMessage::Close { variant, name } => put_object(style, variant, name, line),
         ClientMessage::CopyData(bytes) => put_copied(style, bytes, line),
         ClientMessage::CopyFail(message) => put_one(style, "message", message, line),
         ClientMessage::Describe { variant, name } => put_object(style, variant, name, line),
         ClientMessage::Execute { portal, max_rows } => {
             put_one(style, "portal", portal, line)?;
-            put_integer(style, "rows", max_rows, line)
+            put_integer(style, "rows", "max_rows", max_rows, line)
         }
         ClientMessage::FunctionCall {
             function,
@@ -64,7 +62,7 @@ pub fn put_client_message<A: Memory>(
         } => {
             put_unsigned(style, "function", function, line)?;
             put_arguments(style, formats, arguments, line)?;
-            put_integer(style, "result", result_format as i32, line)
+            put_integer(style, "result", "result_format", result_format as i32, line)
         }
         ClientMessage::Parse {
             name,
@@ -72,9 +70,11 @@ pub fn put_client_message<A: Memory>(
             param_types,
         } => {
             put_texts(style, "statement", name, "query", query, line)?;
-            put_types(style, "types", param_types, line)
+            put_types(style, "types", "types", param_types, line)
         }
-        ClientMessage::PasswordMessage(password) => put_secret(style, "password", password, line),
+        ClientMessage::PasswordMessage(password) => put_secret(
+            style, "password", "password", password, line,
+        ),
         ClientMessage::Query(query) => put_one(style, "query", query, line),
         ClientMessage::SaslInitialResponse {
             mechanism,
@@ -102,13 +102,13 @@ fn put_first<A: Memory>(
     response: Option<&[u8]>,
     line: &mut String<A>,
 ) -> Result<(), AllocError>
-    ensures parts { OnOk result (string_bytes line.new ≡ followed style (string_bytes line.old) (Word (codes "data") ∷ first_text style (shown response.entry) ∷ [])) }
+    ensures parts { OnOk result (string_bytes line.new ≡ followed style (string_bytes line.old) (key (codes "data") ∷ first_text style (shown response.entry) ∷ [])) }
     ensures lacks { OnErr result A.Lacks }
 {
     match response {
-        Some(response) => put_secret(style, "data", response, line),
+        Some(response) => put_secret(style, "data", "data", response, line),
         None => {
-            put_word(style, "data", line)?;
+            put_key(style, "data", "data", line)?;
             put_null(style, line)
         }
     }
@@ -121,11 +121,11 @@ fn put_arguments<A: Memory>(
     arguments: Values<'_>,
     line: &mut String<A>,
 ) -> Result<(), AllocError>
-    ensures parts { OnOk result (string_bytes line.new ≡ followed style (followed style (string_bytes line.old) (counted (codes "formats") signed_part formats.entry)) (counted (codes "values") client_value arguments.entry)) }
+    ensures parts { OnOk result (string_bytes line.new ≡ followed style (followed style (string_bytes line.old) (counted (codes "formats") (codes "formats") signed_part formats.entry)) (counted (codes "values") (codes "arguments") client_value arguments.entry)) }
     ensures lacks { OnErr result A.Lacks }
 {
-    put_formats(style, "formats", formats, line)?;
-    put_values(style, "values", arguments, line)
+    put_formats(style, "formats", "formats", formats, line)?;
+    put_values(style, "values", "arguments", arguments, line)
 }
 
 /// Adds a text with its name.
@@ -135,10 +135,10 @@ fn put_one<A: Memory>(
     text: &[u8],
     line: &mut String<A>,
 ) -> Result<(), AllocError>
-    ensures parts { OnOk result (string_bytes line.new ≡ followed style (string_bytes line.old) (Word name.now ∷ Text text.now ∷ [])) }
+    ensures parts { OnOk result (string_bytes line.new ≡ followed style (string_bytes line.old) (key name.now ∷ Text text.now ∷ [])) }
     ensures lacks { OnErr result A.Lacks }
 {
-    put_word(style, name, line)?;
+    put_key(style, name, name, line)?;
     put_text(style, text, line)
 }
 
@@ -149,25 +149,11 @@ fn put_unsigned<A: Memory>(
     n: u32,
     line: &mut String<A>,
 ) -> Result<(), AllocError>
-    ensures parts { OnOk result (string_bytes line.new ≡ followed style (string_bytes line.old) (Word name.now ∷ Number (pos n) ∷ [])) }
+    ensures parts { OnOk result (string_bytes line.new ≡ followed style (string_bytes line.old) (key name.now ∷ Number (pos n) ∷ [])) }
     ensures lacks { OnErr result A.Lacks }
 {
-    put_word(style, name, line)?;
+    put_key(style, name, name, line)?;
     put_number(style, n as u64, line)
-}
-
-/// Adds a number that may have a sign, with its name.
-fn put_integer<A: Memory>(
-    style: Style,
-    name: &str,
-    n: i32,
-    line: &mut String<A>,
-) -> Result<(), AllocError>
-    ensures parts { OnOk result (string_bytes line.new ≡ followed style (string_bytes line.old) (Word name.now ∷ Number n ∷ [])) }
-    ensures lacks { OnErr result A.Lacks }
-{
-    put_word(style, name, line)?;
-    put_signed(style, n, line)
 }
 
 /// Adds two texts with their names.
@@ -179,7 +165,7 @@ fn put_texts<A: Memory>(
     other: &[u8],
     line: &mut String<A>,
 ) -> Result<(), AllocError>
-    ensures parts { OnOk result (string_bytes line.new ≡ followed style (string_bytes line.old) (Word name.now ∷ Text text.now ∷ Word second.now ∷ Text other.now ∷ [])) }
+    ensures parts { OnOk result (string_bytes line.new ≡ followed style (string_bytes line.old) (key name.now ∷ Text text.now ∷ key second.now ∷ Text other.now ∷ [])) }
     ensures lacks { OnErr result A.Lacks }
 {
     put_one(style, name, text, line)?;
@@ -196,7 +182,7 @@ fn put_object<A: Memory>(
     ensures parts { OnOk result (string_bytes line.new ≡ followed style (string_bytes line.old) (named_object variant name.now)) }
     ensures lacks { OnErr result A.Lacks }
 {
-    put_named(style, object_of(variant), variant, line)?;
+    put_named_key(style, object_of(variant), variant, line)?;
     put_text(style, name, line)
 }
 
@@ -211,6 +197,7 @@ fn put_startup<A: Memory>(
     ensures lacks { OnErr result A.Lacks }
 {
     put_unsigned(style, "version", version, line)?;
-    put_word(style, "parameters", line)?;
+    put_key(style, "parameters", "parameters", line)?;
+    begin_list(style, line)?;
     put_pairs(style, parameters, line)
 }

@@ -10,52 +10,56 @@ ghost use Rattle.pgp_trace.specs.Shown.{list_of, type_part};
 use crate::lists::put_fault;
 use pgp_base::{FallibleIterator, Memory};
 use pgp_frontend_read::{Formats, ParamTypes, StartupParameters, Values};
-use pgp_line::line::{put_null, put_number, put_signed, put_some, put_text, put_type, put_word};
+use pgp_line::line::{put_null, put_signed, put_some, put_text, put_type};
+use pgp_line::nesting::{begin_object, end_list, end_object, put_count, put_key, put_member};
 use pgp_line::style::Style;
 use std::alloc::AllocError;
 
 /// Adds formats.
 pub fn put_formats<A: Memory>(
     style: Style,
+    word: &str,
     name: &str,
     formats: Formats<'_>,
     line: &mut String<A>,
 ) -> Result<(), AllocError>
-    ensures parts { OnOk result (string_bytes line.new ≡ followed style (string_bytes line.old) (counted name.now signed_part formats.entry)) }
+    ensures parts { OnOk result (string_bytes line.new ≡ followed style (string_bytes line.old) (counted word.now name.now signed_part formats.entry)) }
     ensures lacks { OnErr result A.Lacks }
 {
-    put_word(style, name, line)?;
-    put_number(style, formats.size_hint().0 as u64, line)?;
+    put_key(style, word, name, line)?;
+    put_count(style, formats.size_hint().0 as u64, line)?;
     each_format(style, formats, line)
 }
 
 /// Adds the types of parameters.
 pub fn put_types<A: Memory>(
     style: Style,
+    word: &str,
     name: &str,
     types: ParamTypes<'_>,
     line: &mut String<A>,
 ) -> Result<(), AllocError>
-    ensures parts { OnOk result (string_bytes line.new ≡ followed style (string_bytes line.old) (counted name.now type_part types.entry)) }
+    ensures parts { OnOk result (string_bytes line.new ≡ followed style (string_bytes line.old) (counted word.now name.now type_part types.entry)) }
     ensures lacks { OnErr result A.Lacks }
 {
-    put_word(style, name, line)?;
-    put_number(style, types.size_hint().0 as u64, line)?;
+    put_key(style, word, name, line)?;
+    put_count(style, types.size_hint().0 as u64, line)?;
     each_type(style, types, line)
 }
 
 /// Adds values.
 pub fn put_values<A: Memory>(
     style: Style,
+    word: &str,
     name: &str,
     values: Values<'_>,
     line: &mut String<A>,
 ) -> Result<(), AllocError>
-    ensures parts { OnOk result (string_bytes line.new ≡ followed style (string_bytes line.old) (counted name.now client_value values.entry)) }
+    ensures parts { OnOk result (string_bytes line.new ≡ followed style (string_bytes line.old) (counted word.now name.now client_value values.entry)) }
     ensures lacks { OnErr result A.Lacks }
 {
-    put_word(style, name, line)?;
-    put_number(style, values.size_hint().0 as u64, line)?;
+    put_key(style, word, name, line)?;
+    put_count(style, values.size_hint().0 as u64, line)?;
     each_value(style, values, line)
 }
 
@@ -71,7 +75,7 @@ pub fn put_pairs<A: Memory>(
     'items: loop {
         match pairs.next() {
             Ok(Some((name, value))) => put_pair(style, name, value, line)?,
-            Ok(None) => return Ok(()),
+            Ok(None) => return end_list(style, line),
             Err(e) => return put_fault(style, &e, line),
         }
     }
@@ -87,8 +91,12 @@ fn put_pair<A: Memory>(
     ensures parts { OnOk result (string_bytes line.new ≡ followed style (string_bytes line.old) (pair_parts (name.now, value.now))) }
     ensures lacks { OnErr result A.Lacks }
 {
+    begin_object(style, line)?;
+    put_member(style, "name", line)?;
     put_text(style, name, line)?;
-    put_text(style, value, line)
+    put_member(style, "value", line)?;
+    put_text(style, value, line)?;
+    end_object(style, line)
 }
 
 fn each_format<A: Memory>(
@@ -102,7 +110,7 @@ fn each_format<A: Memory>(
     'items: loop {
         match formats.next() {
             Ok(Some(format)) => put_signed(style, format as i32, line)?,
-            Ok(None) => return Ok(()),
+            Ok(None) => return end_list(style, line),
             Err(e) => return put_fault(style, &e, line),
         }
     }
@@ -119,7 +127,7 @@ fn each_type<A: Memory>(
     'items: loop {
         match types.next() {
             Ok(Some(oid)) => put_type(style, oid, line)?,
-            Ok(None) => return Ok(()),
+            Ok(None) => return end_list(style, line),
             Err(e) => return put_fault(style, &e, line),
         }
     }
@@ -136,7 +144,7 @@ fn each_value<A: Memory>(
     'items: loop {
         match values.next() {
             Ok(Some(value)) => put_value(style, value, line)?,
-            Ok(None) => return Ok(()),
+            Ok(None) => return end_list(style, line),
             Err(e) => return put_fault(style, &e, line),
         }
     }

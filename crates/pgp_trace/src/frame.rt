@@ -2,16 +2,15 @@
 
 ghost use Rattle.std.specs.Prelude.{◌≡◌, ◌≤◌, ◌<◌, ◌-◌, ◌∷◌, ◌++◌, [], length, take, slice_index, IfOk, OnErr, OnOk, Ok, string_bytes};
 ghost use Rattle.pgp_message.specs.Views.{view};
-ghost use Rattle.pgp_line.specs.Line.{Length, Tag, closing, followed, opening};
-ghost use Rattle.pgp_trace.specs.Shown.{unknown, unread};
+ghost use Rattle.pgp_line.specs.Line.{Length, Tag, followed, opening};
 ghost use Rattle.pgp_trace.specs.Listing.{IsServerLine};
 ghost use Rattle.pgp_trace.specs.Sides.{Server};
 ghost use Rattle.pgp_trace.specs.declared.side.Phase.TheVariants as phases;
-ghost use Rattle.pgp_trace.specs.Steps.{IsFrameOf, ListsNext};
+ghost use Rattle.pgp_trace.specs.Steps.{IsFrameOf, ListsNext, ReportsFault};
 
 use crate::body::put_message;
-use crate::lists::put_refused;
 use crate::names::{name_of, says_nothing};
+use crate::unread::put_unread;
 use pgp_base::{Error, Memory};
 use pgp_line::line::{put_called, put_end, put_frame_length, put_frame_place, put_tag};
 use pgp_line::style::Style;
@@ -91,7 +90,7 @@ fn message_line<A: Memory>(
     put_end(style, line)
 }
 
-/// Makes the line of a rejected frame.
+/// Makes the line of a frame that isn't read.
 fn fault_line<A: Memory>(
     style: Style,
     place: u64,
@@ -99,40 +98,14 @@ fn fault_line<A: Memory>(
     refusal: &Error,
     line: &mut String<A>,
 ) -> Result<(), AllocError>
-    requires { 0 < length frame.now }
-    ensures line { OnOk result (string_bytes line.new ≡ followed style (opening style place) (Length (length frame.now) ∷ Tag (slice_index frame.now 0) ∷ unread refusal.now) ++ closing style ++ 10 ∷ []) }
+    requires { 5 ≤ length frame.now }
+    ensures line { OnOk result (ReportsFault style place frame.now refusal.now (string_bytes line.new)) }
     ensures lacks { OnErr result A.Lacks }
 {
     begin(style, place, frame, line)?;
-    put_unread(style, refusal, line)?;
+    let (_, body) = frame.split_at(5);
+    put_unread(style, frame[0], body, refusal, line)?;
     put_end(style, line)
-}
-
-/// Adds why a frame isn't read, or its name.
-fn put_unread<A: Memory>(
-    style: Style,
-    refusal: &Error,
-    line: &mut String<A>,
-) -> Result<(), AllocError>
-    ensures parts { OnOk result (string_bytes line.new ≡ followed style (string_bytes line.old) (unread refusal.now)) }
-    ensures lacks { OnErr result A.Lacks }
-{
-    match refusal {
-        Error::UnknownTag(tag) => put_unknown(style, *tag, line),
-        _ => put_refused(style, refusal, line),
-    }
-}
-
-/// Adds the name of a frame that isn't read, or that its tag is unknown.
-fn put_unknown<A: Memory>(style: Style, tag: u8, line: &mut String<A>) -> Result<(), AllocError>
-    ensures parts { OnOk result (string_bytes line.new ≡ followed style (string_bytes line.old) (unknown tag)) }
-    ensures lacks { OnErr result A.Lacks }
-{
-    match tag {
-        b'V' => put_called(style, true, "FunctionCallResponse", line),
-        b'W' => put_called(style, true, "CopyBothResponse", line),
-        _ => put_refused(style, &Error::UnknownTag(tag), line),
-    }
 }
 
 /// Begins a line: with the place of the frame, its length, and its tag.

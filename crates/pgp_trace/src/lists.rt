@@ -5,14 +5,15 @@ ghost use Rattle.std.specs.Prelude.{◌≡◌, ◌≤◌, ◌∷◌, [], length,
 ghost use Rattle.std.specs.List.{AllByRecursion};
 ghost use Rattle.std.specs.Option.{option_map};
 ghost use Rattle.pgp_message.specs.Table.{IsPlaceIn};
-ghost use Rattle.pgp_line.specs.Line.{Word, followed};
-ghost use Rattle.pgp_trace.specs.Shown.{column_parts, fault, field_parts, list_of, name_or, number_part, refused, text_part, type_part, value_part};
+ghost use Rattle.pgp_line.specs.Line.{ListEnds, Member, ObjectBegins, ObjectEnds, Word, followed, key};
+ghost use Rattle.pgp_trace.specs.Shown.{closed, column_parts, ending, field_parts, list_of, name_or, number_part, refused, text_part, type_part, value_part};
 
 use crate::names::{field_of, refusal_of};
 use pgp_base::{Error, FallibleIterator, Memory};
 use pgp_line::line::{
     put_name, put_null, put_number, put_refusal, put_signed, put_some, put_text, put_type, put_word,
 };
+use pgp_line::nesting::{begin_object, end_list, end_object, put_byte_key, put_key, put_member};
 use pgp_line::style::Style;
 use pgp_message::{
     ColumnFormats, DataRowRanges, ErrorField, ErrorFields, Field, Fields, Parameters,
@@ -31,21 +32,34 @@ pub fn put_refused<A: Memory>(
     ensures lacks { OnErr result A.Lacks }
 {
     put_refusal(style, refusal.number() as u64, line)?;
-    put_word(style, refusal_of(refusal), line)
+    put_word(style, refusal_of(refusal), line)?;
+    end_object(style, line)
 }
 
-/// Adds an error in a list.
+/// Ends a list that breaks off, with the error.
 pub fn put_fault<A: Memory>(
     style: Style,
     refusal: &Error,
     line: &mut String<A>,
 ) -> Result<(), AllocError>
-    ensures parts { OnOk result (string_bytes line.new ≡ followed style (string_bytes line.old) (fault refusal.now)) }
+    ensures parts { OnOk result (string_bytes line.new ≡ followed style (string_bytes line.old) (ListEnds ∷ refused refusal.now)) }
     ensures lacks { OnErr result A.Lacks }
 {
-    put_word(style, "fault", line)?;
-    put_number(style, refusal.number() as u64, line)?;
-    put_word(style, refusal_of(refusal), line)
+    end_list(style, line)?;
+    put_refused(style, refusal, line)
+}
+
+/// Ends an object whose members break off, with the error.
+fn put_object_fault<A: Memory>(
+    style: Style,
+    refusal: &Error,
+    line: &mut String<A>,
+) -> Result<(), AllocError>
+    ensures parts { OnOk result (string_bytes line.new ≡ followed style (string_bytes line.old) (ObjectEnds ∷ refused refusal.now)) }
+    ensures lacks { OnErr result A.Lacks }
+{
+    end_object(style, line)?;
+    put_refused(style, refusal, line)
 }
 
 /// Adds the names of mechanisms.
@@ -60,7 +74,7 @@ pub fn put_mechanisms<A: Memory>(
     'items: loop {
         match names.next() {
             Ok(Some(name)) => put_text(style, name.as_bytes(), line)?,
-            Ok(None) => return Ok(()),
+            Ok(None) => return end_list(style, line),
             Err(e) => return put_fault(style, &e, line),
         }
     }
@@ -78,7 +92,7 @@ pub fn put_options<A: Memory>(
     'items: loop {
         match names.next() {
             Ok(Some(name)) => put_text(style, name.as_bytes(), line)?,
-            Ok(None) => return Ok(()),
+            Ok(None) => return end_list(style, line),
             Err(e) => return put_fault(style, &e, line),
         }
     }
@@ -96,7 +110,7 @@ pub fn put_formats<A: Memory>(
     'items: loop {
         match formats.next() {
             Ok(Some(format)) => put_number(style, format as u64, line)?,
-            Ok(None) => return Ok(()),
+            Ok(None) => return end_list(style, line),
             Err(e) => return put_fault(style, &e, line),
         }
     }
@@ -114,7 +128,7 @@ pub fn put_types<A: Memory>(
     'items: loop {
         match types.next() {
             Ok(Some(type_oid)) => put_type(style, type_oid, line)?,
-            Ok(None) => return Ok(()),
+            Ok(None) => return end_list(style, line),
             Err(e) => return put_fault(style, &e, line),
         }
     }
@@ -126,14 +140,14 @@ pub fn put_fields<A: Memory>(
     mut fields: ErrorFields<'_>,
     line: &mut String<A>,
 ) -> Result<(), AllocError>
-    ensures list { OnOk result (string_bytes line.new ≡ followed style (string_bytes line.old) (list_of field_parts fields.entry.items fields.entry.end)) }
+    ensures list { OnOk result (string_bytes line.new ≡ followed style (string_bytes line.old) (closed ObjectEnds field_parts fields.entry.items fields.entry.end)) }
     ensures lacks { OnErr result A.Lacks }
 {
     'items: loop {
         match fields.next() {
             Ok(Some(field)) => put_field(style, &field, line)?,
-            Ok(None) => return Ok(()),
-            Err(e) => return put_fault(style, &e, line),
+            Ok(None) => return end_object(style, line),
+            Err(e) => return put_object_fault(style, &e, line),
         }
     }
 }
@@ -150,7 +164,7 @@ pub fn put_columns<A: Memory>(
     'items: loop {
         match columns.next() {
             Ok(Some(column)) => put_column(style, &column, line)?,
-            Ok(None) => return Ok(()),
+            Ok(None) => return end_list(style, line),
             Err(e) => return put_fault(style, &e, line),
         }
     }
@@ -170,7 +184,7 @@ pub fn put_values<A: Memory>(
     'items: loop {
         match places.next() {
             Ok(Some(place)) => put_place(style, buffer, &place, line)?,
-            Ok(None) => return Ok(()),
+            Ok(None) => return end_list(style, line),
             Err(e) => return put_fault(style, &e, line),
         }
     }
@@ -192,6 +206,22 @@ pub fn put_named<A: Memory>(
     }
 }
 
+/// Adds what stands after it by such a name.
+pub fn put_named_key<A: Memory>(
+    style: Style,
+    name: Option<&str>,
+    byte: u8,
+    line: &mut String<A>,
+) -> Result<(), AllocError>
+    ensures part { OnOk result (string_bytes line.new ≡ followed style (string_bytes line.old) (key (name_or (option_map (λ name. name.now) name.entry) byte) ∷ [])) }
+    ensures lacks { OnErr result A.Lacks }
+{
+    match name {
+        Some(name) => put_key(style, name, name, line),
+        None => put_byte_key(style, &[byte], line),
+    }
+}
+
 /// Adds a field of an error or a notice.
 fn put_field<A: Memory>(
     style: Style,
@@ -202,11 +232,12 @@ fn put_field<A: Memory>(
     ensures lacks { OnErr result A.Lacks }
 {
     let letter = field.type_();
-    put_named(style, field_of(letter), letter, line)?;
+    put_named_key(style, field_of(letter), letter, line)?;
     put_text(style, field.value_bytes(), line)
 }
 
 /// Adds what describes a column.
+#[tactic(auto, unfolding(crate::specs::Shown::column_parts))]
 fn put_column<A: Memory>(
     style: Style,
     column: &Field<'_>,
@@ -215,19 +246,22 @@ fn put_column<A: Memory>(
     ensures parts { OnOk result (string_bytes line.new ≡ followed style (string_bytes line.old) (column_parts column.now)) }
     ensures lacks { OnErr result A.Lacks }
 {
+    begin_object(style, line)?;
+    put_member(style, "name", line)?;
     put_text(style, column.name().as_bytes(), line)?;
-    put_word(style, "table", line)?;
+    put_key(style, "table", "table", line)?;
     put_number(style, column.table_oid() as u64, line)?;
-    put_word(style, "column", line)?;
+    put_key(style, "column", "column", line)?;
     put_signed(style, column.column_id() as i32, line)?;
-    put_word(style, "type", line)?;
+    put_key(style, "type", "type", line)?;
     put_type(style, column.type_oid(), line)?;
-    put_word(style, "size", line)?;
+    put_key(style, "size", "size", line)?;
     put_signed(style, column.type_size() as i32, line)?;
-    put_word(style, "modifier", line)?;
+    put_key(style, "modifier", "modifier", line)?;
     put_signed(style, column.type_modifier(), line)?;
-    put_word(style, "format", line)?;
-    put_signed(style, column.format() as i32, line)
+    put_key(style, "format", "format", line)?;
+    put_signed(style, column.format() as i32, line)?;
+    end_object(style, line)
 }
 
 /// Adds the value that stands at a place of a row.

@@ -1,5 +1,8 @@
 //! A listing that nobody reads any more, as where `head` has what it wants and ends.
 
+ghost use Rattle.std.specs.Prelude.{◌≡◌, ◌≤◌, length, take, IfNone, IfOk, IfSome, OnErr, OnOk};
+ghost use Rattle.std.specs.Io.KnownBytes.{Appends, Keeps};
+
 use std::cell::Cell;
 use std::io::{self, ErrorKind, Read, Write};
 
@@ -24,18 +27,68 @@ pub struct Sink<'a, W> {
 }
 
 impl Pipe {
+    // No clause knows what a `Cell` holds.
     pub fn new() -> Pipe {
         Pipe {
             is_closed: Cell::new(false),
         }
     }
 
-    pub fn source<'a, R>(&'a self, reader: &'a mut R) -> Source<'a, R> {
+    /// A reader of what this one reads.
+    pub fn source<'a, R>(&'a self, reader: &'a mut R) -> Source<'a, R>
+        ensures same_reference { result.reader.ghost_name ≡ reader.entry.ghost_name }
+        ensures reader { result.reader.now ≡ reader.old }
+    {
         Source { pipe: self, reader }
     }
 
-    pub fn sink<'a, W>(&'a self, writer: &'a mut W) -> Sink<'a, W> {
+    /// A writer of what is to be passed on to this one.
+    pub fn sink<'a, W>(&'a self, writer: &'a mut W) -> Sink<'a, W>
+        ensures same_reference { result.writer.ghost_name ≡ writer.entry.ghost_name }
+        ensures writer { result.writer.now ≡ writer.old }
+    {
         Sink { pipe: self, writer }
+    }
+}
+
+/// Writes a front of the bytes, or returns nothing where nobody reads them, which the writer then took none of.
+///
+/// # Errors
+///
+/// That of the writer, which took none of the bytes.
+pub fn write_some<W: Write>(bytes: &[u8], writer: &mut W) -> io::Result<Option<usize>>
+    ensures written { IfOk result (λ r. IfSome r (λ n. Appends (W.contents writer.old) (W.contents writer.new) (take n bytes.now))) }
+    ensures bound { IfOk result (λ r. IfSome r (λ n. n ≤ length bytes.now)) }
+    ensures closed { IfOk result (λ r. IfNone r (Keeps (W.contents writer.old) (W.contents writer.new))) }
+    ensures kept { OnErr result (Keeps (W.contents writer.old) (W.contents writer.new)) }
+{
+    match writer.write(bytes) {
+        Ok(n) => Ok(Some(n)),
+        Err(e) => {
+            if e.kind() == ErrorKind::BrokenPipe {
+                return Ok(None);
+            }
+            Err(e)
+        }
+    }
+}
+
+/// Passes on what was written. Returns whether somebody reads it.
+///
+/// # Errors
+///
+/// That of the writer.
+pub fn pass_on<W: Write>(writer: &mut W) -> io::Result<bool>
+    ensures kept { Keeps (W.contents writer.old) (W.contents writer.new) }
+{
+    match writer.flush() {
+        Ok(()) => Ok(true),
+        Err(e) => {
+            if e.kind() == ErrorKind::BrokenPipe {
+                return Ok(false);
+            }
+            Err(e)
+        }
     }
 }
 
@@ -53,12 +106,12 @@ impl<W: Write> Write for Sink<'_, W> {
         if self.pipe.is_closed.get() {
             return Ok(buf.len());
         }
-        match self.writer.write(buf) {
-            Err(e) if e.kind() == ErrorKind::BrokenPipe => {
+        match write_some(buf, self.writer)? {
+            Some(n) => Ok(n),
+            None => {
                 self.pipe.is_closed.set(true);
                 Ok(buf.len())
             }
-            answer => answer,
         }
     }
 
@@ -66,12 +119,9 @@ impl<W: Write> Write for Sink<'_, W> {
         if self.pipe.is_closed.get() {
             return Ok(());
         }
-        match self.writer.flush() {
-            Err(e) if e.kind() == ErrorKind::BrokenPipe => {
-                self.pipe.is_closed.set(true);
-                Ok(())
-            }
-            answer => answer,
+        if !pass_on(self.writer)? {
+            self.pipe.is_closed.set(true);
         }
+        Ok(())
     }
 }

@@ -19,56 +19,99 @@ def hidden(n):
     return {"bytes": n}
 
 
-def message(*values):
-    return ("message", list(values))
+def message(name, **parts):
+    """The members of an object after its tag, after the page docs/PGTRACE_JSON.md and the manual's message formats."""
+    return {"name": name, **parts}
 
 
-def fault(*values):
-    return ("fault", list(values))
+def fault(number, name):
+    return {"fault": {"number": number, "name": name}}
+
+
+def broken(name, number, why, **parts):
+    """A message with a list that breaks off."""
+    return {"name": name, **parts, **fault(number, why)}
 
 
 SERVER = [
-    (b"R", int32(10) + b"SCRAM-SHA-256\0\0", message("AuthenticationSASL", "mechanisms", "SCRAM-SHA-256")),
+    (b"R", int32(10) + b"SCRAM-SHA-256\0\0", message("AuthenticationSASL", mechanisms=["SCRAM-SHA-256"])),
     (
         b"R",
         int32(11) + b"r=abc,s=QUJD,i=4096",
-        message("AuthenticationSASLContinue", "data", hidden(19)),
-        message("AuthenticationSASLContinue", "data", "r=abc,s=QUJD,i=4096"),
+        message("AuthenticationSASLContinue", data=hidden(19)),
+        message("AuthenticationSASLContinue", data="r=abc,s=QUJD,i=4096"),
     ),
-    (b"R", int32(5) + b'\x01"\n\xff', message("AuthenticationMD5Password", "salt", hidden(4)), message("AuthenticationMD5Password", "salt", {"hex": "01220aff"})),
+    (b"R", int32(5) + b'\x01"\n\xff', message("AuthenticationMD5Password", salt=hidden(4)), message("AuthenticationMD5Password", salt={"hex": "01220aff"})),
+    (b"R", int32(12) + b"v=QUJD", message("AuthenticationSASLFinal", data=hidden(6)), message("AuthenticationSASLFinal", data="v=QUJD")),
+    (b"R", int32(2), message("AuthenticationKerberosV5")),
+    (b"R", int32(3), message("AuthenticationCleartextPassword")),
+    (b"R", int32(6), message("AuthenticationSCMCredential")),
+    (b"R", int32(7), message("AuthenticationGSS")),
+    (b"R", int32(8) + b"ab", message("AuthenticationGSSContinue", data=hidden(2)), message("AuthenticationGSSContinue", data="ab")),
+    (b"R", int32(9), message("AuthenticationSSPI")),
     (b"R", int32(0), message("AuthenticationOk")),
-    (b"S", b"name\0\xff\0", message("ParameterStatus", "bytes", {"hex": "6e616d6500ff00"})),
-    (b"K", int32(4711, -2), message("BackendKeyData", "process", 4711, "key", hidden(4)), message("BackendKeyData", "process", 4711, "key", {"hex": "fffffffe"})),
-    (b"t", int16(3) + int32(23, 25, 16385), message("ParameterDescription", "types", 3, INT4, TEXT, {"oid": 16385})),
+    (b"S", b"name\0\xff\0", message("ParameterStatus", bytes={"hex": "6e616d6500ff00"})),
+    (b"S", b"TimeZone\0UTC\0", message("ParameterStatus", parameter="TimeZone", value="UTC")),
+    (b"K", int32(4711, -2), message("BackendKeyData", process_id=4711, secret_key=hidden(4)), message("BackendKeyData", process_id=4711, secret_key={"hex": "fffffffe"})),
+    (b"t", int16(3) + int32(23, 25, 16385), message("ParameterDescription", types=[INT4, TEXT, {"oid": 16385}])),
     (
         b"T",
-        int16(1) + column(b"a\nb", 16384, 1, 23, 4, -1, 0),
-        message("RowDescription", "columns", 1, "a\nb", "table", 16384, "column", 1, "type", INT4, "size", 4, "modifier", -1, "format", 0),
+        int16(2) + column(b"a\nb", 16384, 1, 23, 4, -1, 0) + column(b"c", 0, 0, 16385, -1, 7, 1),
+        message(
+            "RowDescription",
+            columns=[
+                {"name": "a\nb", "table": 16384, "column": 1, "type": INT4, "size": 4, "modifier": -1, "format": 0},
+                {"name": "c", "table": 0, "column": 0, "type": {"oid": 16385}, "size": -1, "modifier": 7, "format": 1},
+            ],
+        ),
     ),
-    (b"D", int16(4) + value(b"1") + int32(-1) + value(b"") + value(b'a"b\\c\n\x1b[m'), message("DataRow", "values", 4, "1", None, "", 'a"b\\c\n\x1b[m')),
-    (b"D", int16(3) + value(b"\0\0\0\x05") + value(b"Z\xfcrich") + value(b"null"), message("DataRow", "values", 3, {"hex": "00000005"}, {"hex": "5afc72696368"}, "null")),
+    (b"D", int16(4) + value(b"1") + int32(-1) + value(b"") + value(b'a"b\\c\n\x1b[m'), message("DataRow", values=["1", None, "", 'a"b\\c\n\x1b[m'])),
+    (b"D", int16(3) + value(b"\0\0\0\x05") + value(b"Z\xfcrich") + value(b"null"), message("DataRow", values=[{"hex": "00000005"}, {"hex": "5afc72696368"}, "null"])),
+    # brackets and colons at the end of a text, after which a comma still stands
+    (b"D", int16(4) + value(b"[") + value(b"{") + value(b":") + value(b"\xff["), message("DataRow", values=["[", "{", ":", {"hex": "ff5b"}])),
     (
         b"D",
-        int16(2) + value("¡日本 😀 שלום".encode()) + value("\u202e\u2028\x9b\x7f\ufeff\ue000\U000e0001\U0010ffff".encode()),
-        message("DataRow", "values", 2, "¡日本 😀 שלום", "\u202e\u2028\x9b\x7f\ufeff\ue000\U000e0001\U0010ffff"),
+        int16(3) + value("¡日本 😀 שלום".encode()) + value("\u202e\u2028\x9b\x7f\ufeff\ue000\U000e0001\U0010ffff".encode()) + value("\ud7ff\u0378\ufdd0\U0001fffe".encode()),
+        message("DataRow", values=["¡日本 😀 שלום", "\u202e\u2028\x9b\x7f\ufeff\ue000\U000e0001\U0010ffff", "\ud7ff\u0378\ufdd0\U0001fffe"]),
     ),
     (
         b"D",
         int16(1) + value(TEN * 6 + b"abc\xc3\xbc"),
-        message("DataRow", "values", 1, {"text": "0123456789" * 6 + "abc", "bytes": 65}),
-        message("DataRow", "values", 1, "0123456789" * 6 + "abcü"),
+        message("DataRow", values=[{"text": "0123456789" * 6 + "abc", "bytes": 65}]),
+        message("DataRow", values=["0123456789" * 6 + "abcü"]),
     ),
     (
         b"D",
         int16(1) + value(TEN * 6 + b"abcd\xff"),
-        message("DataRow", "values", 1, {"hex": "30313233343536373839" * 6 + "61626364", "bytes": 65}),
-        message("DataRow", "values", 1, {"hex": "30313233343536373839" * 6 + "61626364ff"}),
+        message("DataRow", values=[{"hex": "30313233343536373839" * 6 + "61626364", "bytes": 65}]),
+        message("DataRow", values=[{"hex": "30313233343536373839" * 6 + "61626364ff"}]),
     ),
-    (b"D", int16(2) + value(b"1"), message("DataRow", "values", 2, "1", "fault", 7, "UnexpectedEof")),
-    (b"C", b"SELECT 2\0", message("CommandComplete", "tag", "SELECT 2")),
-    (b"E", b"SERROR\0Dna\xefve\0Zx\0\x9by\0\0", message("ErrorResponse", "severity", "ERROR", "detail", {"hex": "6e61ef7665"}, "Z", "x", "\x9b", "y")),
-    (b"Z", b"T", message("ReadyForQuery", "in transaction")),
-    (b"Z", b"\n", message("ReadyForQuery", "\n")),
+    (b"D", int16(2) + value(b"1"), broken("DataRow", 7, "UnexpectedEof", values=["1"])),
+    (b"D", int16(0), message("DataRow", values=[])),
+    (b"C", b"SELECT 2\0", message("CommandComplete", command_tag="SELECT 2")),
+    (b"E", b"SERROR\0Dna\xefve\0Zx\0\x9by\0\0", message("ErrorResponse", fields={"severity": "ERROR", "detail": {"hex": "6e61ef7665"}, "Z": "x", "\x9b": "y"})),
+    (b"N", b"SNOTICE\0C00000\0", broken("NoticeResponse", 7, "UnexpectedEof", fields={"severity": "NOTICE", "code": "00000"})),
+    (b"A", int32(4711) + b"news\0hello\0", message("NotificationResponse", process_id=4711, channel="news", payload="hello")),
+    (b"v", int32(0, 1) + b"_pq_.x\0", message("NegotiateProtocolVersion", version=0, options=["_pq_.x"])),
+    (b"G", b"\0" + int16(2, 0, 0), message("CopyInResponse", format=0, column_formats=[0, 0])),
+    (b"H", b"\x01" + int16(1, 1), message("CopyOutResponse", format=1, column_formats=[1])),
+    (b"d", b"1\ta\n", message("CopyData", data="1\ta\n")),
+    (b"c", b"", message("CopyDone")),
+    (b"1", b"", message("ParseComplete")),
+    (b"2", b"", message("BindComplete")),
+    (b"3", b"", message("CloseComplete")),
+    (b"n", b"", message("NoData")),
+    (b"s", b"", message("PortalSuspended")),
+    (b"I", b"", message("EmptyQueryResponse")),
+    (b"V", int32(3) + b"abc", message("FunctionCallResponse", result="abc")),
+    (b"V", int32(-1), message("FunctionCallResponse", result=None)),
+    (b"V", int32(5) + b"abc", message("FunctionCallResponse", bytes={"hex": "00000005616263"})),
+    (b"V", int32(-2), message("FunctionCallResponse", bytes={"hex": "fffffffe"})),
+    (b"W", b"\0" + int16(0), message("CopyBothResponse", format=0, column_formats=[])),
+    (b"W", b"\1" + int16(2, 0, 1), message("CopyBothResponse", format=1, column_formats=[0, 1])),
+    (b"W", b"", message("CopyBothResponse", bytes="")),
+    (b"Z", b"T", message("ReadyForQuery", status="in transaction")),
+    (b"Z", b"\n", message("ReadyForQuery", status="\n")),
     (b"\n", b"", fault(5, "UnknownTag")),
     (b"R", int32(99), fault(6, "UnknownAuthentication")),
 ]
@@ -77,28 +120,28 @@ SERVER = [
 CLIENT = [
     message("SSLRequest"),
     message("GSSENCRequest"),
-    message("CancelRequest", "process", 4711, "key", hidden(4)),
-    message("StartupMessage", "version", 196608, "parameters", "user", "a", "database", "b"),
-    message("PasswordMessage", "password", hidden(6)),
-    message("SASLInitialResponse", "mechanism", "SCRAM-SHA-256", "data", hidden(8)),
-    message("SASLInitialResponse", "mechanism", "SCRAM-SHA-256", "data", None),
-    message("SASLResponse", "data", hidden(6)),
-    message("Password, SASLInitialResponse or SASLResponse", hidden(5)),
-    message("Query", "query", "select 1"),
-    message("Parse", "statement", "s", "query", "select $1, $2", "types", 2, INT4, TEXT),
-    message("Parse", "statement", "", "query", "commit", "types", 0),
-    message("Bind", "portal", "p", "statement", "s", "formats", 1, 1, "values", 2, {"hex": "00000007"}, None, "results", 2, 0, 1),
-    message("Describe", "statement", "s"),
-    message("Describe", "portal", "p"),
-    message("Execute", "portal", "p", "rows", 100),
+    message("CancelRequest", process_id=4711, secret_key=hidden(4)),
+    message("StartupMessage", version=196608, parameters=[{"name": "user", "value": "a"}, {"name": "database", "value": "b"}]),
+    message("PasswordMessage", password=hidden(6)),
+    message("SASLInitialResponse", mechanism="SCRAM-SHA-256", data=hidden(8)),
+    message("SASLInitialResponse", mechanism="SCRAM-SHA-256", data=None),
+    message("SASLResponse", data=hidden(6)),
+    message("Password, SASLInitialResponse or SASLResponse", data=hidden(5)),
+    message("Query", query="select 1"),
+    message("Parse", statement="s", query="select $1, $2", types=[INT4, TEXT]),
+    message("Parse", statement="", query="commit", types=[]),
+    message("Bind", portal="p", statement="s", formats=[1], values=[{"hex": "00000007"}, None], result_formats=[0, 1]),
+    message("Describe", statement="s"),
+    message("Describe", portal="p"),
+    message("Execute", portal="p", max_rows=100),
     message("Flush"),
     message("Sync"),
-    message("Close", "statement", "s"),
-    message("Close", "X", "s"),
-    message("CopyData", "data", "1\ta\n"),
+    message("Close", statement="s"),
+    message("Close", X="s"),
+    message("CopyData", data="1\ta\n"),
     message("CopyDone"),
-    message("CopyFail", "message", 'no "more"'),
-    message("FunctionCall", "function", 1598, "formats", 1, 1, "values", 2, "7", None, "result", 0),
+    message("CopyFail", message='no "more"'),
+    message("FunctionCall", function=1598, formats=[1], arguments=["7", None], result_format=0),
     fault(5, "UnknownTag"),
     fault(8, "NotDrained"),
     message("Terminate"),
@@ -137,9 +180,9 @@ def line(x):
 def objects(rows, rest, stopped=False):
     """The lines of these frames, each with its object, and the last one."""
     lines, place = [], 0
-    for tag, body, (key, values) in rows:
+    for tag, body, members in rows:
         n = len(frame(tag, body))
-        lines.append(line({"offset": place, "length": n, "tag": tag.decode("latin-1") or "-", key: values}))
+        lines.append(line({"offset": place, "length": n, "tag": tag.decode("latin-1") or "-", **members}))
         place += n
     return lines + [line({"rest": rest, "stopped": stopped})]
 
@@ -149,17 +192,50 @@ def text_literal(lines):
     return '"\\\n' + "".join("    %s\\n\\\n" % text.replace("\\", "\\\\").replace('"', '\\"') for text in lines) + '    "'
 
 
-def main():
+def answers(*bytes_):
+    """A server's one-byte answers, with their names."""
+    return [(place, {"offset": place, "length": 1, "tag": byte.decode(), "name": name}) for place, (byte, name) in enumerate(bytes_)]
+
+
+# No to one request for encryption, and then yes to the other.
+NO = (b"N", "SSLResponse or GSSENCResponse")
+AGREED = [(b"NS", answers(NO, (b"S", "SSLResponse"))), (b"NG", answers(NO, (b"G", "GSSENCResponse")))]
+
+
+def served(style):
+    rows = [(row[0], row[1], row[min(style, len(row) - 1)]) for row in SERVER]
+    return objects(rows, len(REST))
+
+
+def asked():
+    return objects([(row[0], row[1], x) for row, x in zip(SESSION, CLIENT)], 2)
+
+
+def agreed(place):
+    return [line(it) for _, it in AGREED[place][1]] + [line({"rest": 0, "stopped": False})]
+
+
+def listings():
+    """The lines of each stored listing, with its side."""
+    return [("server", served(2)), ("server", served(3)), ("server", agreed(0)), ("server", agreed(1)), ("client", asked())]
+
+
+def stored():
+    """The source with all of them."""
     out = "//! Sessions of a server and a client, and their objects: written by `python3 expected/objects.py` from its tables.\n\n"
-    out += constant("A server's messages, of each form of a value, and refused frames.", "ANSWERS", "&[u8]", "b" + literal([frame(row[0], row[1]) for row in SERVER] + [REST]))
+    out += constant("A server's messages, of each form of a value, and rejected frames.", "ANSWERS", "&[u8]", "b" + literal([frame(row[0], row[1]) for row in SERVER] + [REST]))
     for text, name, style in (("Their objects.", "ANSWER_OBJECTS", 2), ("Their objects, whole and with secrets.", "OPEN_OBJECTS", 3)):
-        rows = [(row[0], row[1], row[min(style, len(row) - 1)]) for row in SERVER]
-        out += constant(text, name, "&str", text_literal(objects(rows, len(REST))))
+        out += constant(text, name, "&str", text_literal(served(style)))
+    for place, name in enumerate(("TLS_OBJECTS", "GSS_OBJECTS")):
+        out += constant("The objects of the answers `%s`." % AGREED[place][0].decode(), name, "&str", text_literal(agreed(place)))
     assert len(CLIENT) == len(SESSION) and len(spelled(SESSION)) == sum(len(frame(row[0], row[1])) for row in SESSION)
-    rows = [(row[0], row[1], x) for row, x in zip(SESSION, CLIENT)]
-    out += constant("The objects of a client's messages (`SESSION`).", "OBJECTS", "&str", text_literal(objects(rows, 2)))
+    out += constant("The objects of a client's messages (`SESSION`).", "OBJECTS", "&str", text_literal(asked()))
+    return out.rstrip("\n") + "\n"
+
+
+def main():
     with open("../pgp_tests_callers/src/trace_objects.rt", "w", encoding="utf-8") as file:
-        file.write(out.rstrip("\n") + "\n")
+        file.write(stored())
 
 
 if __name__ == "__main__":

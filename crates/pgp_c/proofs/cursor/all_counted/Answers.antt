@@ -1,6 +1,5 @@
-use Rattle.std.proofs.Common.{◌≡◌, rules, arith, subst, sym}
-use Rattle.pgp_c.proofs.Alls.{SoFar, none_more, none_so_far, one_more}
-use Rattle.pgp_c.specs.declared.cursor.PgpCursor.{PgpCursor}
+use Rattle.std.proofs.Common.{rules, arith}
+use Rattle.pgp_c.proofs.Alls.{none_more, none_so_far, one_more}
 use Rattle.pgp_c.proofs.cursor.all_counted.Goals as goal
 
 pub loop-at-init : goal.loop-at-init

@@ -4,7 +4,7 @@ use Rattle.pgp_message.specs.Stream.{TakesFrame}
 use Rattle.pgp_message.specs.Views.{view}
 use Rattle.pgp_message.proofs.Steps.{taken_by}
 use Rattle.pgp_trace.specs.Steps.{IsFrameOf}
-use Rattle.pgp_trace.proofs.FrameLines.{taken_frame, line_here, fault_reported}
+use Rattle.pgp_trace.proofs.FrameLines.{frame_long, taken_frame, line_here, fault_reported}
 use Rattle.pgp_trace.proofs.frame.server_line.Goals as goal
 
 pub message_line-reported-requires : goal.message_line-reported-requires
@@ -16,6 +16,19 @@ message_line-reported-requires g c =
     let is : c.front_of-frame.result.now ≡ take (length old - length new) old =
     c.front_of-frame.ensures ∙ ap (λ (l : List ℕ). take (length old - length l) old) c.rest-behind.ensures in
     subst (λ l. IsFrameOf l (Ok (view c.in-Ok-Some.message))) (sym is) (taken_frame old new (Ok (view c.in-Ok-Some.message)) t)
+
+pub fault_line-requires : goal.fault_line-requires
+fault_line-requires g c =
+    let old = c.args.bytes.now in
+    let new = c.next.new.self in
+    let e = c.in-Err.refusal in
+    let frame = c.front_of-frame-in-Err.result.now in
+    let taken : TakesFrame c.new-messages.result (Err e) new = taken_by c.new-messages.result new e (λ h. search rules) c.in-Err.ensures.step in
+    let t : TakesFrame old (Err e) new = subst (λ (l : List ℕ). TakesFrame l (Err e) new) c.new-messages.ensures taken in
+    let is : frame ≡ take (length old - length new) old =
+    c.front_of-frame-in-Err.ensures ∙ ap (λ (l : List ℕ). take (length old - length l) old) c.rest-behind-in-Err.ensures in
+    let framed : IsFrameOf frame (Err e) = subst (λ l. IsFrameOf l (Err e)) (sym is) (taken_frame old new (Err e) t) in
+    frame_long framed.first frame framed.whole
 
 pub returns-in_ok-fault_line-in-Err : goal.returns-in_ok-fault_line-in-Err
 returns-in_ok-fault_line-in-Err g c =

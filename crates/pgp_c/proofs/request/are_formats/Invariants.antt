@@ -1,0 +1,7 @@
+use Rattle.std.proofs.Common.{◌≡◌, true, take}
+use Rattle.std.specs.List.{list_all}
+use Rattle.pgp_c.specs.Requests.{is_format}
+use Rattle.pgp_c.proofs.request.are_formats.Given as goal
+
+abbrev pub invariant-loop-code : goal.invariant-loop-code
+invariant-loop-code l = list_all is_format (take l.code-index l.codes) ≡ true

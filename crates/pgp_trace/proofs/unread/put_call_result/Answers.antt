@@ -1,0 +1,16 @@
+use Rattle.std.proofs.Common.{[], ◌∷◌, false, rules}
+use Rattle.std.specs.Prelude.{codes, string_bytes}
+use Rattle.std.specs.Option.{option_map}
+use Rattle.pgp_line.specs.Line.{Name, followed}
+use Rattle.pgp_trace.proofs.UnreadLines.{no_result_shown, result_shown}
+use Rattle.pgp_trace.proofs.unread.put_call_result.Goals as goal
+
+pub returns-in-Some-clause-says : goal.returns-in-Some-clause-says
+returns-in-Some-clause-says g c =
+    result_shown c.put_result.result c.args.style c.args.body.now (followed c.args.style (string_bytes c.args.line.now) (Name false (codes "FunctionCallResponse") ∷ [])) (string_bytes c.put_called.new.line) (string_bytes c.put_result.new.line)
+    (option_map (λ b. b.now) c.in-Some.value) (search rules) c.in_ok-put_called.ensures.part c.put_result.ensures.parts
+
+pub returns-in-None-clause-says : goal.returns-in-None-clause-says
+returns-in-None-clause-says g c =
+    no_result_shown c.put_bare.result c.args.style c.args.body.now (followed c.args.style (string_bytes c.args.line.now) (Name false (codes "FunctionCallResponse") ∷ [])) (string_bytes c.put_called.new.line) (string_bytes c.put_bare.new.line)
+    (search rules) c.in_ok-put_called.ensures.part c.put_bare.ensures.parts
