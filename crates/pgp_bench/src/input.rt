@@ -61,8 +61,6 @@ fn unit(work: Work) -> &'static [u8] {
         | Work::RowPlaced
         | Work::RowColumn
         | Work::RowCopied
-        | Work::RowTaken
-        | Work::RowConnected
         | Work::FeedRow => ROW,
         Work::Fields => FIELDS,
         Work::ClientBind => CLIENT_BIND,

@@ -7,7 +7,6 @@
 
 mod clients;
 mod columns;
-mod dialogues;
 mod escapes;
 mod input;
 mod keys;
