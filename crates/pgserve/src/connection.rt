@@ -7,6 +7,7 @@ use crate::host::{Host, SCRAM_PLUS};
 use crate::log::{Form, line_of};
 use crate::log_json::object_of;
 use crate::opening::{Opening, opening_of, spoken};
+use crate::pause::Pause;
 use crate::session::Session;
 use bytes::BytesMut;
 use pgp_auth::authentication::sasl::SCRAM_SHA_256;
@@ -34,6 +35,8 @@ pub(crate) struct Connection<'h> {
     session: Session<'h>,
     /// What stands between what is answered and the client.
     pub(crate) monitor: Monitor,
+    /// Where what is to be sent waits.
+    pub(crate) pauses: Vec<Pause>,
     /// What is reported of the requests.
     pub(crate) log: String,
 }
@@ -46,6 +49,7 @@ impl<'h> Connection<'h> {
             serving: Serving::new(),
             session: Session::new(alloc, host.script)?,
             monitor: Monitor::new(alloc),
+            pauses: Vec::new(alloc),
             log: String::new(alloc),
         })
     }
@@ -178,11 +182,21 @@ impl<'h> Connection<'h> {
         out.clear();
         let name = self.answer_frame(frame, out)?;
         self.let_through(out)?;
+        self.take_pauses(start)?;
         if let Some(end) = self.session.end_at {
             self.monitor.end(start.saturating_add(end));
             self.serving.phase = ServingPhase::Over;
         }
         Ok(self.report(is_open, bytes, name, start)?)
+    }
+
+    /// Takes over the pauses of an answer that begins at this place among what is to be sent.
+    fn take_pauses(&mut self, start: usize) -> Result<(), AllocError> {
+        for pause in &self.session.pauses {
+            self.pauses.push(pause.shifted(start))?;
+        }
+        self.session.pauses.clear();
+        Ok(())
     }
 
     /// Takes note of what the bytes of a message ask, and appends what is answered; returns the request's name.

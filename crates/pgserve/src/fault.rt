@@ -11,6 +11,8 @@ pub(crate) enum Fault {
     Memory,
     Read,
     Write,
+    /// The clock can't be read.
+    Clock,
     /// A text of the script doesn't fit into a message.
     TooLong,
     /// A message that was to be sent has no place after the requests that came.
@@ -40,6 +42,7 @@ impl Fault {
             Fault::Memory => "out of memory",
             Fault::Read => "read failed",
             Fault::Write => "write failed",
+            Fault::Clock => "the clock can't be read",
             Fault::TooLong => "an answer of the script is too long",
             Fault::Misplaced => "an answer has no place after the requests that came",
             Fault::NoScript => "the script can't be read",

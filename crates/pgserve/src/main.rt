@@ -21,6 +21,7 @@ mod moment_text;
 mod opening;
 mod parts;
 mod pattern;
+mod pause;
 mod portals;
 mod reading;
 mod row_text;

@@ -3,6 +3,7 @@
 use crate::fault::Fault;
 use crate::list::push;
 use crate::pattern::matches;
+use crate::pause::Pause;
 use crate::row_text::{plain, row_of};
 use crate::script::{Column, Copy, Detail, End, Pair, Report, Script, Statement};
 use crate::text::trimmed;
@@ -12,6 +13,7 @@ use crate::user::{Auth, User};
 use crate::wrong::{Stop, Wrong, place_of};
 use pgp_base::Oid;
 use std::alloc::Global;
+use std::time::Duration;
 
 /// The type of this name.
 fn known_type(name: &str) -> Result<Type, Stop> {
@@ -108,6 +110,21 @@ fn count_of(word: &str) -> Result<usize, Stop> {
         Ok(count) => Ok(count as usize),
         Err(_) => Err(Stop::At(Wrong::Count)),
     }
+}
+
+/// The pause of this line: so many milliseconds, before the answer or after so many bytes of it.
+fn pause_of(line: &str) -> Result<Pause, Stop> {
+    let (time, bytes) = line.split_once(' ').unwrap_or((line, "0"));
+    let Ok(milliseconds) = time.parse::<u32>() else {
+        return Err(Stop::At(Wrong::Count));
+    };
+    let Ok(at) = bytes.parse::<u32>() else {
+        return Err(Stop::In(Wrong::Count, time.len().saturating_add(1)));
+    };
+    Ok(Pause {
+        at: at as usize,
+        time: Duration::from_millis(milliseconds as u64),
+    })
 }
 
 /// A format of copies.
@@ -223,6 +240,7 @@ impl Statement {
                 Ok(())
             }
             "data" => self.add_chunk(alloc, rest),
+            "wait" => { Ok(push(&mut self.pauses, pause_of(rest)?)?) }
             "close" => {
                 self.cut = Some(usize::MAX);
                 Ok(())

@@ -1,6 +1,7 @@
 //! A script: statements, and what the server answers to each. docs/PGSERVE.md says how it is written.
 
 use crate::pattern::matches;
+use crate::pause::Pause;
 use crate::text::trimmed;
 use crate::transaction::Status;
 use crate::types::Type;
@@ -93,6 +94,7 @@ pub(crate) struct Statement {
     pub(crate) copy: Option<Copy>,
     /// The connection ends after so many bytes of the answer.
     pub(crate) cut: Option<usize>,
+    pub(crate) pauses: Vec<Pause>,
 }
 
 /// All statements, and the settings that differ from a server's own.
@@ -118,6 +120,7 @@ impl Statement {
             notifications: Vec::new(alloc),
             copy: None,
             cut: None,
+            pauses: Vec::new(alloc),
         }
     }
 

@@ -13,6 +13,7 @@ use crate::copy::CopyIn;
 use crate::extended::Binding;
 use crate::fault::Fault;
 use crate::parts::{bound_of, formats_of, prepared_of, results_of, types_of, values_of};
+use crate::pause::Pause;
 use crate::portals::{Names, Plan, Portal};
 use crate::script::{Pair, Script, Statement};
 use crate::settings::Settings;
@@ -58,6 +59,8 @@ pub(crate) struct Session<'h> {
     pub(crate) copying: Option<CopyIn<'h>>,
     /// The connection ends where so many bytes were answered.
     pub(crate) end_at: Option<usize>,
+    /// Where what was answered waits.
+    pub(crate) pauses: Vec<Pause>,
 }
 
 impl<'h> Session<'h> {
@@ -77,6 +80,7 @@ impl<'h> Session<'h> {
             notifications: Vec::new(alloc),
             copying: None,
             end_at: None,
+            pauses: Vec::new(alloc),
         })
     }
 
@@ -148,14 +152,17 @@ impl<'h> Session<'h> {
         }
     }
 
-    /// What a statement of the script leaves: the status that it says, or that of its command, or of its error; its notifications; and
-    /// the end of the connection. Its answer stands between these places.
+    /// What a statement of the script leaves: the status that it says, or that of its command, or of its error; its notifications; its
+    /// pauses; and the end of the connection. Its answer stands between these places.
     pub(crate) fn leave(
         &mut self,
         statement: &'h Statement,
         went: Went,
         answer: (usize, usize),
     ) -> Result<(), AllocError> {
+        for pause in &statement.pauses {
+            self.pauses.push(pause.shifted(answer.0))?;
+        }
         if went == Went::Suspended {
             return Ok(());
         }

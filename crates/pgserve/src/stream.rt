@@ -3,6 +3,7 @@
 use crate::connection::{Connection, parser, take_piece};
 use crate::fault::Fault;
 use crate::host::Host;
+use crate::pause::Pause;
 use bytes::BytesMut;
 use pgp_frontend_read::ClientParser;
 use std::alloc::Global;
@@ -41,11 +42,32 @@ fn put<W: Write>(bytes: &[u8], output: &mut W) -> Result<(), Fault> {
     Ok(())
 }
 
+/// The same, with the pauses between the bytes; none of those after the last byte.
+fn put_with_pauses<W: Write>(
+    rt: &HostRuntime,
+    bytes: &[u8],
+    pauses: &[Pause],
+    output: &mut W,
+) -> Result<(), Fault> {
+    let (mut rest, mut sent) = (bytes, 0usize);
+    for pause in pauses {
+        if pause.at > bytes.len() {
+            continue;
+        }
+        let (before, behind) = rest.split_at(pause.at.saturating_sub(sent).min(rest.len()));
+        put(before, output)?;
+        pause.wait(rt)?;
+        sent = sent.saturating_add(before.len());
+        rest = behind;
+    }
+    put(rest, output)
+}
+
 /// Serves a client to the end of its bytes, or of its session.
 ///
 /// # Errors
 ///
-/// Returns `Read`, `Write`, `Memory`, and `TooLong` if an answer of the script doesn't fit a message. What was answered before was
+/// Returns `Read`, `Write`, `Clock`, `Memory`, and `TooLong` if an answer of the script doesn't fit a message. What was answered before was
 /// written.
 pub(crate) fn run<R: Read, W: Write>(
     rt: &HostRuntime,
@@ -82,8 +104,9 @@ fn pass<R: Read, W: Write>(
     for _ in 0..u64::MAX {
         let n = read(input, &mut piece)?;
         let taken = take_piece(parser, connection, front(&piece, n), out);
-        put(connection.monitor.to_send(), output)?;
+        put_with_pauses(rt, connection.monitor.to_send(), &connection.pauses, output)?;
         connection.monitor.sent();
+        connection.pauses.clear();
         report(rt, connection)?;
         taken?;
         if n == 0 || connection.is_over() {
