@@ -1,7 +1,7 @@
 """Makes data/lengths.rows: `python3 expected/lengths.py > data/lengths.rows`, in crates/pgp_hostile.
 
-Written from the manual's "Message Formats" (the message `v` from this project's profile of protocol 3.2) and from what PostgreSQL's `array_send`, `hstore_send`, `path_send`, `range_send` and
-`varbit_send` write, and not from the code of this repository. Which refusal comes for what is the table of refusals in the
+Written from the manual's "Message Formats" (the message `v` from this project's profile of protocol 3.2) and from what PostgreSQL's `array_send`, `hstore_send`, `path_send`, `range_send`,
+`varbit_send`, `record_send`, `multirange_send`, `poly_send`, `pg_snapshot_send`, `tsvectorsend`, `tsquerysend` and `numeric_send` write, and not from the code of this repository. Which refusal comes for what is the table of refusals in the
 repository's README: a length or count that is cut is UnexpectedEof, one that can't be has a name of its own, and bytes that are
 left behind a list are NotDrained.
 """
@@ -161,6 +161,75 @@ def bounds(data):
     return " ".join(sides)
 
 
+def counted(parts):
+    count = parts.number(4, True)
+    if count < 0:
+        raise Refused("InvalidCount")
+    return count
+
+
+def listed(data, item):
+    parts = Parts(data)
+    count = counted(parts)
+    return walk(count, count, parts.rest(), item)[0]
+
+
+def record(data):
+    return listed(data, lambda p: f"{p.number(4, False)} {hexed(length(p, 'InvalidValueLength'))}")
+
+
+def range_of(parts):
+    size = parts.number(4, True)
+    if size < 0 or size > parts.left():
+        raise Refused("InvalidValueLength")
+    return hexed(parts.take(size))
+
+
+def multirange(data):
+    return listed(data, range_of)
+
+
+def polygon(data):
+    return listed(data, lambda p: f"{p.number(8, False)} {p.number(8, False)}")
+
+
+def snapshot(data):
+    parts = Parts(data)
+    count = counted(parts)
+    bounds = f"{parts.number(8, False)} {parts.number(8, False)}"
+    return f"{bounds} {walk(count, count, parts.rest(), lambda p: str(p.number(8, False)))[0]}"
+
+
+def lexeme(parts):
+    text = hexed(utf8(parts.string()))
+    places = [parts.number(2, False) for _ in range(parts.number(2, False))]
+    return " ".join(map(str, [text, len(places)] + places))
+
+
+def tsvector(data):
+    return listed(data, lexeme)
+
+
+def query_item(parts):
+    if parts.number(1, False) == 1:
+        weights, prefix = parts.number(1, False), parts.number(1, False)
+        return f"{hexed(utf8(parts.string()))} {weights} {'prefix' if prefix else 'whole'}"
+    operator = parts.number(1, False)
+    return f"phrase {parts.number(2, False)}" if operator == 4 else {1: "not", 2: "and", 3: "or"}[operator]
+
+
+def tsquery(data):
+    return listed(data, query_item)
+
+
+def numeric(data):
+    parts = Parts(data)
+    count, weight, sign, scale = (parts.number(2, signed) for signed in (False, True, False, False))
+    digits = [parts.number(2, False) for _ in range(count)]
+    parts.end()
+    return " ".join(map(str, ["-" if sign else "+", weight, scale] + digits))
+
+
 # A call, its bytes, and where its lengths and counts stand: behind each their size in bytes.
 CASES = [
     (row, "0003 00000001 61 ffffffff 00000000", {0: 2, 2: 4, 7: 4, 11: 4}),
@@ -177,6 +246,15 @@ CASES = [
     (path, "01 00000001 " + "00" * 16, {1: 4}),
     (path, "00 00000002 " + "3ff0000000000000" * 4, {1: 4}),
     (varbit, "0000000c 2b0f", {0: 4}),
+    (record, "00000003 00000017 00000004 0000002a 00000019 ffffffff 00000019 00000000", {0: 4, 8: 4, 20: 4, 28: 4}),
+    (record, "00000000", {0: 4}),
+    (multirange, "00000002 00000005 0200000001 00000001 01", {0: 4, 4: 4, 13: 4}),
+    (polygon, "00000002 " + "3ff0000000000000" * 4, {0: 4}),
+    (snapshot, "00000002 0000000000000003 0000000000000009 0000000000000004 0000000000000007", {0: 4}),
+    (tsvector, "00000002 636174 00 0002 0001 c003 72617400 0000", {0: 4, 8: 2, 18: 2}),
+    (tsquery, "00000005 02 02 01 0f 01 636174 00 02 01 02 04 0002 01 00 00 726174 00", {0: 4}),
+    (numeric, "0003 0001 4000 0002 0001 09d4 10e0", {0: 2}),
+    (numeric, "0000 0000 0000 0000", {0: 2}),
     (bounds, "02 00000004 00000001 00000004 00000005", {1: 4, 9: 4}),
 ]
 NAMES = {bounds: "range"}

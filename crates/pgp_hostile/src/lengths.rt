@@ -3,7 +3,8 @@
 use crate::data::{Frames, is_data};
 use crate::fault::Fault;
 use crate::text::{Show, Text};
-use crate::walks::show_walk;
+use crate::values;
+use crate::walks::{show_list, show_walk};
 use pgp_base::Error;
 use pgp_message::{
     DataRowBody, Field, Message, Messages, NegotiateProtocolVersionBody, RowDescriptionBody,
@@ -153,10 +154,12 @@ fn read_varbit(bytes: &[u8], out: &mut Text) {
 }
 
 fn read_hstore(bytes: &[u8], out: &mut Text) {
-    match (hstore_from_sql(bytes), hstore_from_sql(bytes)) {
-        (Ok(pairs), Ok(again)) => show_walk(pairs, again, bytes.len(), out),
-        (Err(e), _) | (_, Err(e)) => out.number(e),
-    }
+    show_list(
+        hstore_from_sql(bytes),
+        hstore_from_sql(bytes),
+        bytes.len(),
+        out,
+    )
 }
 
 /// The number before a body; 0, which is rejected, where the body is too long.
@@ -189,6 +192,7 @@ fn read(call: &str, bytes: &[u8], out: &mut Text) {
         "path" => read_path(bytes, out),
         "range" => read_range(bytes, out),
         "varbit" => read_varbit(bytes, out),
+        _ if values::read(call, bytes, out) => {}
         _ => out.fail(Some(Fault::Data)),
     }
 }

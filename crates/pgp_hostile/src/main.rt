@@ -13,6 +13,7 @@ mod server;
 mod sum;
 mod tally;
 mod text;
+mod values;
 mod walks;
 mod ways;
 

@@ -85,6 +85,22 @@ where
     }
 }
 
+/// Shows a list that was read twice, over so many bytes; or why it wasn't.
+pub(crate) fn show_list<W: FallibleIterator + Drop>(
+    list: Result<W, Error>,
+    again: Result<W, Error>,
+    most: usize,
+    out: &mut Text,
+)
+where
+    W::Item: Show + Drop,
+{
+    match (list, again) {
+        (Ok(list), Ok(again)) => show_walk(list, again, most, out),
+        (Err(e), _) | (_, Err(e)) => out.number(e),
+    }
+}
+
 /// Shows an iterator over so many bytes: what it announces, its items, and its end. `unsteady` stands after it where it doesn't
 /// stay at its end, and `greedy` where `collect` asks for more memory than the items need. The second iterator is the same.
 pub(crate) fn show_walk<W: FallibleIterator + Drop>(
