@@ -15,7 +15,8 @@ pub(crate) const DATE_LEN: usize = 14;
 /// The bytes of such a day with a time of nine places and a zone of three bytes.
 pub(crate) const INSTANT_LEN: usize = 36;
 
-fn put<const N: usize>(byte: u8, out: &mut ArrayString<N>)
+/// A byte of ASCII.
+pub(crate) fn put<const N: usize>(byte: u8, out: &mut ArrayString<N>)
     requires ascii { byte < 128 }
     requires room { array_string_len out.old + 1 ≤ N }
     ensures text { out.new.bytes ≡ out.old.bytes ++ byte ∷ [] }

@@ -1,5 +1,5 @@
 //! Dates and times on the calendar: what the numbers of `date`, `time`, `timestamp` and `timestamptz` are for the kit's `jiff`, and the
-//! texts in which a server shows them under `DateStyle` `ISO`.
+//! texts in which a server shows them under `DateStyle` `ISO`; and the text of an `interval` under `IntervalStyle` `iso_8601`.
 //!
 //! PostgreSQL manual, "Date/Time Types". `jiff` has the years from -9999 to 9999, where 0 is the year before 1; a server's further years have
 //! no value of it.
@@ -9,6 +9,7 @@ mod civil;
 mod digits;
 mod error;
 pub mod laws;
+mod span;
 mod text;
 
 pub use civil::{
@@ -16,4 +17,6 @@ pub use civil::{
     timestamp_to_civil, timestamptz_from_instant, timestamptz_to_instant,
 };
 pub use error::TextError;
-pub use text::{date_to_text, time_to_text, timestamp_to_text, timestamptz_to_text};
+pub use text::{
+    date_to_text, interval_to_text, time_to_text, timestamp_to_text, timestamptz_to_text,
+};

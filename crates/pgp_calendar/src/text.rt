@@ -3,14 +3,16 @@
 ghost use Rattle.std.specs.Prelude.{◌≡◌, ◌≤◌, [], ⊤, codes, length};
 ghost use Rattle.jiff.specs.Words.{IsEpochDay, IsCivilNanos};
 ghost use Rattle.pgp_calendar.specs.Numbers.{day_1970, nanos_1970};
+ghost use Rattle.pgp_calendar.specs.Span.{span_text};
 ghost use Rattle.pgp_calendar.specs.Text.{ShowsDay, ShowsInstant, ShowsMoment, ShowsTime, IsShownTime, HasText, WritesText};
 
 use crate::civil::{date_to_civil, time_to_civil, timestamp_to_civil};
 use crate::digits::{clock_text, date_text, instant_text};
 use crate::error::TextError;
+use crate::span::span_text;
 use pgp_base::Buffer;
 use pgp_types::codec::append;
-use pgp_values::Moment;
+use pgp_values::{Interval, Moment};
 
 // Appends a text.
 fn write<B: Buffer>(text: &str, out: &mut B) -> Result<(), TextError>
@@ -109,4 +111,16 @@ pub fn time_to_text<B: Buffer>(microseconds: i64, out: &mut B) -> Result<(), Tex
         Ok(time) => write(clock_text(time.to_plain()).as_str(), out),
         Err(_) => Err(TextError::OutOfRange),
     }
+}
+
+/// Appends the text of an `interval` under `IntervalStyle` `iso_8601`, as `P1Y2M3DT4H5M6.5S`, or `PT0S`: each number has its own sign, as in
+/// `P-1MT2H`.
+///
+/// # Errors
+///
+/// Returns `OutOfMemory` if the buffer can't grow; then the buffer is unchanged.
+pub fn interval_to_text<B: Buffer>(v: Interval, out: &mut B) -> Result<(), TextError>
+    ensures { WritesText (λ shown. shown ≡ span_text v) ⊤ B.Lacks (B.held out.old) (B.held out.new) result }
+{
+    write(span_text(v).as_str(), out)
 }

@@ -1,11 +1,13 @@
-//! Days and times as texts, by their numbers.
+//! Days, times and spans of time as texts, by their numbers.
 
 use crate::codec::Answers;
 use crate::shown::Shown;
 use crate::word::Words;
 use bytes::BytesMut;
-use pgp_calendar::{date_to_text, time_to_text, timestamp_to_text, timestamptz_to_text};
-use pgp_values::Moment;
+use pgp_calendar::{
+    date_to_text, interval_to_text, time_to_text, timestamp_to_text, timestamptz_to_text,
+};
+use pgp_values::{Interval, Moment};
 use std::alloc::Global;
 use std::num::ParseIntError;
 use std::str::FromStr;
@@ -21,6 +23,15 @@ fn moment<N: FromStr<Err = ParseIntError> + Default>(words: &mut Words<'_>) -> M
     Moment::Value(words.number())
 }
 
+/// Months, days and microseconds.
+fn interval(words: &mut Words<'_>) -> Interval {
+    Interval {
+        months: words.number(),
+        days: words.number(),
+        microseconds: words.number(),
+    }
+}
+
 #[derive(Drop)]
 pub struct Calendar;
 
@@ -32,6 +43,7 @@ impl Answers for Calendar {
             "time" => time_to_text(words.number(), &mut text),
             "timestamp" => timestamp_to_text(moment(words), &mut text),
             "timestamptz" => timestamptz_to_text(moment(words), &mut text),
+            "interval" => interval_to_text(interval(words), &mut text),
             _ => return words.fail_row(),
         };
         match written {
