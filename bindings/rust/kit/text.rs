@@ -42,13 +42,28 @@ pub fn stray_zero(bytes: &[u8]) -> Option<usize> {
     memchr(0, bytes)
 }
 
-/// Whether a byte is 0. The last word overlaps the one before.
+/// Whether a byte of a short string is 0.
 #[inline(always)]
 fn has_zero(bytes: &[u8]) -> bool {
-    match bytes.get(bytes.len().wrapping_sub(WORD)..) {
-        Some(last) => zeros(last) != 0 || bytes.chunks_exact(WORD).any(|word| zeros(word) != 0),
-        None => bytes.contains(&0),
+    match bytes.len() {
+        0..=7 => bytes.contains(&0),
+        8..=16 => has_zero_at_ends::<8>(bytes),
+        17..=32 => has_zero_at_ends::<16>(bytes),
+        33..=64 => has_zero_at_ends::<32>(bytes),
+        _ => has_zero_at_ends::<64>(bytes),
     }
+}
+
+/// Whether one of the first or of the last so many bytes is 0: all of them, where there are no more than twice as many.
+#[inline(always)]
+fn has_zero_at_ends<const COUNT: usize>(bytes: &[u8]) -> bool {
+    let mut found = 0;
+    for end in [&bytes[..COUNT], &bytes[bytes.len() - COUNT..]] {
+        for word in end.chunks_exact(WORD) {
+            found |= zeros(word);
+        }
+    }
+    found != 0
 }
 
 #[cfg(test)]
