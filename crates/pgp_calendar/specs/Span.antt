@@ -12,7 +12,7 @@ abbrev pub part : Bool → ℕ → ℕ → List ℕ
 part negative n designator = if n == 0 then [] else sign_text negative ++ unit_text false n designator
 
 -- `1Y2M`
-abbrev pub months_text : ℤ → List ℕ
+unfoldable pub months_text : ℤ → List ℕ
 months_text months =
     part (is_negative months) (unsigned_abs months / 12) 89 ++ part (is_negative months) (unsigned_abs months % 12) 77
 
@@ -25,12 +25,12 @@ abbrev pub seconds_part : Bool → ℕ → List ℕ
 seconds_part negative n = if n == 0 then [] else sign_text negative ++ seconds_text false (n * 1_000)
 
 -- `4H5M6.5S`
-abbrev pub clock_parts : Bool → ℕ → List ℕ
+unfoldable pub clock_parts : Bool → ℕ → List ℕ
 clock_parts negative n =
     part negative (n / 3_600_000_000) 72 ++ part negative (n / 60_000_000 % 60) 77 ++ seconds_part negative (n % 60_000_000)
 
 -- the hours, minutes and seconds after `T`; nothing where they are 0
-abbrev pub clock_text : ℤ → List ℕ
+unfoldable pub clock_text : ℤ → List ℕ
 clock_text microseconds = if unsigned_abs microseconds == 0 then []
     else 84 ∷ clock_parts (is_negative microseconds) (unsigned_abs microseconds)
 

@@ -39,6 +39,7 @@ fn put_part<const N: usize>(is_negative: bool, n: u64, designator: u8, out: &mut
 }
 
 // Years and months.
+#[tactic(auto, unfolding(crate::specs::Span::months_text))]
 fn put_months<const N: usize>(months: i32, out: &mut ArrayString<N>)
     requires room { array_string_len out.old + 44 ≤ N }
     ensures text { out.new.bytes ≡ out.old.bytes ++ months_text months }
@@ -64,6 +65,7 @@ fn put_seconds<const N: usize>(is_negative: bool, microseconds: u64, out: &mut A
 }
 
 // Hours, minutes and seconds, of which some aren't 0.
+#[tactic(auto, unfolding(crate::specs::Span::clock_parts))]
 fn put_clock_parts<const N: usize>(is_negative: bool, n: u64, out: &mut ArrayString<N>)
     requires room { array_string_len out.old + 141 ≤ N }
     ensures text { out.new.bytes ≡ out.old.bytes ++ clock_parts is_negative n }
@@ -75,6 +77,7 @@ fn put_clock_parts<const N: usize>(is_negative: bool, n: u64, out: &mut ArrayStr
 }
 
 // The same after their designator.
+#[tactic(auto, unfolding(crate::specs::Span::clock_text))]
 fn put_clock<const N: usize>(microseconds: i64, out: &mut ArrayString<N>)
     requires room { array_string_len out.old + 142 ≤ N }
     ensures text { out.new.bytes ≡ out.old.bytes ++ clock_text microseconds }
