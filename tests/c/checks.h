@@ -10,6 +10,7 @@ extern int fails, passed;
 void further(void);
 void server(void);
 void shapes(void);
+void in_place(void);
 static inline void is(const char *what, const void *a, size_t n, const void *b, size_t m)
 {
     if (n != m || (n && memcmp(a, b, n) != 0)) {

@@ -79,6 +79,38 @@ static void missing(void)
     same("malformed", pgp_front(B("Z\0\0\0\4"), &m), PGP_E_UNEXPECTED_EOF); same("none", m.missing, 0);
 }
 
+/* 10:20:10,14,15, as a server sends it */
+#define SNAPSHOT "\0\0\0\3\0\0\0\0\0\0\0\x0a\0\0\0\0\0\0\0\x14\0\0\0\0\0\0\0\x0a\0\0\0\0\0\0\0\x0e\0\0\0\0\0\0\0\x0f"
+static void snapshots(void)
+{
+    static const uint64_t running[3] = {10, 14, 15};
+    struct pgp_snapshot s;
+    uint64_t xid = 7;
+    size_t cut, i;
+    memset(&s, 0, sizeof s);
+    same("get snapshot", pgp_get_snapshot(B(SNAPSHOT), &s), PGP_OK); same("xmin", s.xmin, 10); same("xmax", s.xmax, 20); same("three", s.running.left, 3);
+    for (i = 0; i < 3; i++) { same("a transaction", pgp_xid_next(B(SNAPSHOT), &s.running, &xid), PGP_OK); same("its number", xid, running[i]); }
+    same("done", pgp_xid_next(B(SNAPSHOT), &s.running, &xid), PGP_DONE); same("as it was", xid, 15);
+    /* every front of it: the head is cut short, or then a transaction */
+    for (cut = 0; cut < sizeof(SNAPSHOT) - 1; cut++) {
+        uint8_t *copy = (uint8_t *)malloc(cut ? cut : 1);
+        struct pgp_snapshot t;
+        pgp_status status;
+        memcpy(copy, SNAPSHOT, cut);
+        memset(&t, 7, sizeof t); s = t; status = pgp_get_snapshot(copy, cut, &t);
+        if (cut < 20) { same("cut", status, PGP_E_UNEXPECTED_EOF); is("as it was", &t, sizeof t, &s, sizeof s); }
+        else {
+            same("the bounds", status, PGP_OK);
+            for (i = 0; i < (cut - 20) / 8; i++) same("a transaction", pgp_xid_next(copy, cut, &t.running, &xid), PGP_OK);
+            same("cut", pgp_xid_next(copy, cut, &t.running, &xid), PGP_E_UNEXPECTED_EOF);
+        }
+        free(copy);
+    }
+    same("negative", pgp_get_snapshot(B("\xff\xff\xff\xff"), &s), PGP_E_INVALID_COUNT);
+    same("greatest", pgp_get_snapshot(B("\0\0\0\0\xff\xff\xff\xff\xff\xff\xff\xff\x80\0\0\0\0\0\0\0!"), &s), PGP_OK);
+    same("xmin", s.xmin == UINT64_MAX, 1); same("xmax", s.xmax == (uint64_t)1 << 63, 1); same("a byte", pgp_xid_next(B("\0\0\0\0\xff\xff\xff\xff\xff\xff\xff\xff\x80\0\0\0\0\0\0\0!"), &s.running, &xid), PGP_E_NOT_DRAINED);
+}
+
 #define REFUSES(what, call, code) same(what, call, code)
 static void shapes_of(void)
 {
@@ -214,5 +246,5 @@ void shapes(void)
 #if defined(__x86_64__) && defined(__GNUC__)
     same("this processor", pgp_runs_here(), 1);
 #endif
-    requests(); missing(); shapes_of(); small(); lists(); arrays();
+    requests(); missing(); shapes_of(); small(); snapshots(); lists(); arrays();
 }

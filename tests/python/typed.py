@@ -58,6 +58,10 @@ def check_typed(same, raises):
         same('decode %s %r' % (kept.name, value), (str(read), type(read)), (str(value), type(value)))
     record = '00000003' '00000017' '00000004' '00000001' '000002c1' '00000001' '78' '000002c1' 'ffffffff'  # (1,x,)
     same('a record', apply(registry.get(2249).decode, bytes.fromhex(record)), (1, b'x', None))
+    snapshot = '00000003' '000000000000000a' '0000000000000014' '000000000000000a' '000000000000000e' '000000000000000f'  # 10:20:10,14,15
+    for oid in (2970, 5038):
+        same('a snapshot', apply(registry.get(oid).decode, bytes.fromhex(snapshot)), pg.Snapshot(10, 20, [10, 14, 15]))
+    same('a snapshot of none', pg.get_snapshot(bytes.fromhex('00000000' '0000000000000001' 'ffffffffffffffff')), (1, 2 ** 64 - 1, []))
     same('a record, written', pg.put_record([(23, b'\0\0\0\1'), (705, b'x'), (705, None)]).hex(), record)
     for name, value in (('ltree', 'Top.Science.Astronomy'), ('lquery', 'Top.*{,2}.sport@'), ('ltxtquery', 'Europe & Russia@*')):
         kept = label_type(name, 99998)

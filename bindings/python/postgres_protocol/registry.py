@@ -10,8 +10,8 @@ from typing import Any, Callable, Dict, List, NamedTuple, Optional, Sequence, Tu
 
 from . import _rows
 from ._library import ProtocolError
-from .shapes import (get_box, get_circle, get_label, get_line, get_lseg, get_macaddr8, get_multirange, get_path, get_point, get_polygon, get_record, get_tid, put_box,
-                     put_circle, put_cidr, put_label, put_line, put_lseg, put_macaddr8, put_multirange, put_path, put_point, put_polygon, put_tid)
+from .shapes import (get_box, get_circle, get_label, get_line, get_lseg, get_macaddr8, get_multirange, get_path, get_point, get_polygon, get_record, get_snapshot, get_tid,
+                     put_box, put_circle, put_cidr, put_label, put_line, put_lseg, put_macaddr8, put_multirange, put_path, put_point, put_polygon, put_tid)
 from .values import (Array, Interval, Range, get, get_array, get_inet, get_interval, get_jsonb, get_macaddr, get_numeric, get_range, get_timetz, get_varbit, put,
                      put_array, put_inet, put_interval, put_jsonb, put_macaddr, put_numeric, put_range, put_timetz, put_uuid, put_varbit)
 
@@ -286,6 +286,8 @@ class Registry:
         for oid, array, name, inner in _MULTIRANGES:
             self.add(self._multirange(oid, name, self._types[inner]), array)
         self.add(Type(2249, 'record', self._record, _no_record), 2287)
+        self.add(Type(2970, 'txid_snapshot', get_snapshot, _no_snapshot), 2949)
+        self.add(Type(5038, 'pg_snapshot', get_snapshot, _no_snapshot), 5039)
 
     @staticmethod
     def _multirange(oid: int, name: str, kept: Type) -> Type:
@@ -310,6 +312,10 @@ class Registry:
 
 def _no_record(value: Any) -> bytes:
     raise TypeError('record: a server takes no parameter of this type')
+
+
+def _no_snapshot(value: Any) -> bytes:
+    raise TypeError('pg_snapshot: it is read alone')
 
 
 def _unknown(value: Any) -> bytes:

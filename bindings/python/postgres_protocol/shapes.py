@@ -51,12 +51,23 @@ class Tid(NamedTuple):
     offset: int
 
 
+class Snapshot(NamedTuple):
+    """A `pg_snapshot`: every transaction below `xmin` is over, none from `xmax` on had begun, and of those between the listed ones were running."""
+    xmin: int
+    xmax: int
+    running: List[int]
+
+
 class _Point(Structure):
     _fields_ = [('x', c_uint64), ('y', c_uint64)]
 
 
 class _Tid(Structure):
     _fields_ = [('block', c_uint32), ('offset', c_uint16)]
+
+
+class _Snapshot(Structure):
+    _fields_ = [('running', Cursor), ('xmin', c_uint64), ('xmax', c_uint64)]
 
 
 class _Member(Structure):
@@ -79,6 +90,7 @@ _GETS = {name: declare('get_' + name, *TEXT, c_void_p) for name in _COORDINATES}
 _put_path, _put_polygon = declare('put_path', c_bool, POINTER(_Point), c_size_t, *OUT), declare('put_polygon', POINTER(_Point), c_size_t, *OUT)
 _get_path, _get_polygon = declare('get_path', *TEXT, POINTER(c_bool), POINTER(Cursor)), declare('get_polygon', *TEXT, POINTER(Cursor))
 _put_tid, _get_tid = declare('put_tid', POINTER(_Tid), *OUT), declare('get_tid', *TEXT, POINTER(_Tid))
+_get_snapshot, _xid_next = declare('get_snapshot', *TEXT, POINTER(_Snapshot)), step('xid', c_uint64)
 _put_char, _get_char = declare('put_char', c_int8, *OUT), declare('get_char', *TEXT, POINTER(c_int8))
 _put_macaddr8, _get_macaddr8 = writer('put_macaddr8', 'data:text'), declare('get_macaddr8', *TEXT)
 _put_cidr, _put_inet_any = declare('put_cidr', *TEXT, c_uint8, *OUT), declare('put_inet_any', *TEXT, c_uint8, *OUT)
@@ -213,6 +225,13 @@ def get_tid(data: Bytes) -> Tid:
     tid = _Tid()
     _read(_get_tid, as_bytes(data, 'data'), tid)
     return Tid(tid.block, tid.offset)
+
+
+def get_snapshot(data: Bytes) -> Snapshot:
+    """What a transaction sees, of a `pg_snapshot` or a `txid_snapshot`."""
+    kept, snapshot, xid = as_bytes(data, 'data'), _Snapshot(), c_uint64()
+    _read(_get_snapshot, kept, snapshot)
+    return Snapshot(snapshot.xmin, snapshot.xmax, [xid.value for _ in items(_xid_next, kept, snapshot.running, xid)])
 
 
 def put_char(value: int) -> bytes:

@@ -140,6 +140,28 @@ pgp_status pgp_bind(const uint8_t *portal, size_t portal_len, const uint8_t *sta
                     const struct pgp_value *values, size_t value_count,
                     const int16_t *result_formats, size_t result_format_count, PGP_OUT);
 
+/* A bind whose values are put where they stand, with no second buffer. pgp_bind_begin announces how many values follow; each is written to
+   out + pgp_item_at(..), which has pgp_item_room(..) bytes, and added by pgp_item with its length, or is a null by pgp_item_null; pgp_bind_end
+   makes the message that pgp_bind writes of the same parts.
+       pgp_bind_begin(portal, 0, statement, 1, &one, 1, 2, out, room, &items);
+       pgp_put_int8(n, out + pgp_item_at(room, &items), pgp_item_room(room, &items), &len);    pgp_item(len, out, room, &items);
+       pgp_item_null(out, room, &items);
+       pgp_bind_end(&one, 1, &items, out, room, &written);
+   Each call is handed the same memory; `items` is the caller's, and written by the calls alone. Beside the errors of pgp_bind: PGP_E_INVALID_SIZE
+   for an item more than were announced, and for an end before all of them stand there. On error `items`, and the bytes up to items.at, are as
+   they were, so that a call may be made again with more room (and the bytes moved there). */
+struct pgp_items { size_t at, left; bool has_null; };
+static inline size_t pgp_item_at(size_t room, const struct pgp_items *items)
+{
+    return room < items->at || room - items->at < 4 ? room : items->at + 4;
+}
+static inline size_t pgp_item_room(size_t room, const struct pgp_items *items) { return room - pgp_item_at(room, items); }
+pgp_status pgp_bind_begin(const uint8_t *portal, size_t portal_len, const uint8_t *statement, size_t statement_len,
+                          const int16_t *formats, size_t format_count, size_t value_count, uint8_t *out, size_t room, struct pgp_items *items);
+pgp_status pgp_item(size_t len, uint8_t *out, size_t room, struct pgp_items *items);
+pgp_status pgp_item_null(uint8_t *out, size_t room, struct pgp_items *items);
+pgp_status pgp_bind_end(const int16_t *result_formats, size_t result_format_count, const struct pgp_items *items, PGP_OUT);
+
 /* Copies. The data go as they are: pgp_copy_data_head writes the 5 bytes before `len` bytes of data, which need not be copied. */
 pgp_status pgp_copy_data_head(size_t len, PGP_OUT);
 pgp_status pgp_copy_data(const uint8_t *bytes, size_t len, PGP_OUT);        /* the whole message, where a copy does no harm */
@@ -502,6 +524,11 @@ struct pgp_tid { uint32_t block; uint16_t offset; };
 pgp_status pgp_put_tid(const struct pgp_tid *value, PGP_OUT);
 pgp_status pgp_get_tid(const uint8_t *bytes, size_t len, struct pgp_tid *value);
 
+/* A pg_snapshot: every transaction below xmin is over, none from xmax on had begun, and of those between the ones at the cursor were running. */
+struct pgp_snapshot { struct pgp_cursor running; uint64_t xmin, xmax; };
+pgp_status pgp_get_snapshot(const uint8_t *bytes, size_t len, struct pgp_snapshot *value);
+pgp_status pgp_xid_next(const uint8_t *bytes, size_t len, struct pgp_cursor *cursor, uint64_t *xid);
+
 /* An inet or a cidr: an address of 4 or 16 bytes, and how many of its first bits name the network. PGP_E_INVALID_ADDRESS_LENGTH for another
    number of bytes, PGP_E_INVALID_NETMASK for more bits than there are. (bytes[2] of a value is 1 for a cidr.) pgp_put_inet_any takes any netmask. A
    server takes a cidr only where the bits after those of the network are 0, which isn't checked. */
@@ -539,6 +566,10 @@ pgp_status pgp_put_array(uint32_t element_type, const struct pgp_value *elements
    for a product past 2,147,483,647, PGP_E_INVALID_SIZE where it isn't the number of elements. No dimensions are an array of nothing. */
 pgp_status pgp_put_array_of(uint32_t element_type, const struct pgp_dimension *dimensions, size_t dimension_count,
                             const struct pgp_value *elements, size_t count, PGP_OUT);
+/* The same, with elements that are put where they stand, as the values of pgp_bind_begin are: begin, pgp_item or pgp_item_null for each, end. As a value of a
+   bind its memory is that of the bind's item, and it has a struct pgp_items of its own. */
+pgp_status pgp_array_begin(uint32_t element_type, const struct pgp_dimension *dimensions, size_t dimension_count, uint8_t *out, size_t room, struct pgp_items *items);
+pgp_status pgp_array_end(const struct pgp_items *items, PGP_OUT);
 pgp_status pgp_dimension_next(const uint8_t *bytes, size_t len, struct pgp_cursor *cursor, struct pgp_dimension *dimension);
 pgp_status pgp_element_next(const uint8_t *bytes, size_t len, struct pgp_cursor *cursor, struct pgp_column *element);
 /* All elements in one call, as pgp_row_all. */

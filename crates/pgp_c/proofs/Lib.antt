@@ -28,3 +28,7 @@ mod Settings
 mod BindRefusals
 mod Walks
 mod RecordWalks
+mod SnapshotWalks
+mod ItemSteps
+mod ArrayItems
+mod BindItems

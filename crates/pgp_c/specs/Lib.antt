@@ -1,4 +1,6 @@
+pub mod ArrayItems
 pub mod ArrayWriting
+pub mod BindItems
 pub mod ClientFront
 pub mod ClientParts
 pub mod ClientPlaces
@@ -8,6 +10,7 @@ pub mod Dialogue
 pub mod Front
 pub mod Further
 pub mod Geometry
+pub mod InPlace
 pub mod ListWriting
 pub mod Listings
 pub mod Lists

@@ -42,7 +42,7 @@ pub extern "C" fn pgp_put_array_of(
 }
 
 /// The same array, whatever its dimensions are.
-fn write_array(
+pub(crate) fn write_array(
     element_type: u32,
     dimensions: &[PgpDimension],
     elements: &[PgpValue<'_>],
@@ -151,7 +151,7 @@ fn check_shape(dimensions: &[PgpDimension], count: usize) -> Result<(), Error>
 }
 
 /// How many elements so many dimensions have that make this product.
-fn size(count: usize, product: usize) -> usize
+pub(crate) fn size(count: usize, product: usize) -> usize
     ensures none { count ≡ 0 → result ≡ 0 }
     ensures some { count ≢ 0 → result ≡ product }
 {
@@ -159,7 +159,7 @@ fn size(count: usize, product: usize) -> usize
 }
 
 /// The product of the lengths.
-fn product(dimensions: &[PgpDimension]) -> Result<usize, Error>
+pub(crate) fn product(dimensions: &[PgpDimension]) -> Result<usize, Error>
     ensures ok { IfOk result (λ p. Product 1 (map dimension_of dimensions.now) p) }
     ensures err { IfErr result (λ e. Stops dimensions.now e) }
 {

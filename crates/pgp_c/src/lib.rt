@@ -3,7 +3,9 @@
 
 mod address;
 mod array;
+mod array_items;
 mod array_writing;
+mod bind_items;
 mod bits;
 mod client_front;
 mod client_places;
@@ -14,6 +16,7 @@ mod dialogue;
 mod front;
 mod geometry;
 mod hstore;
+mod in_place;
 mod inet;
 mod label;
 mod list_writing;
@@ -39,6 +42,7 @@ mod request;
 mod row;
 mod scalar;
 mod setting;
+mod snapshot;
 mod span;
 mod status;
 mod stream;

@@ -26,7 +26,7 @@ fn suits(formats: usize, values: usize) -> bool
 }
 
 /// Each code is a format's.
-fn are_formats(codes: &[i16]) -> bool
+pub fn are_formats(codes: &[i16]) -> bool
     ensures { result ≡ list_all is_format codes.now }
 {
     for code in codes {

@@ -1,0 +1,43 @@
+-- The transactions of a snapshot.
+use Rattle.std.proofs.Common.{◌≡◌, ℕ, ◌+◌, List, ◌++◌, length, Ok, refl, sym, ap, subst, ◌∙◌, arith, length-append}
+use Rattle.pgp_base.specs.Grammar.{StandsAt}
+use Rattle.pgp_base.specs.Walk.{hint_of}
+use Rattle.pgp_base.specs.Wire.{uint64}
+use Rattle.pgp_base.specs.declared.error.Error.{Error}
+use Rattle.pgp_base.specs.declared.error.Error.TheVariants as errors
+use Rattle.pgp_base.proofs.Parts.{length-uint32}
+use Rattle.pgp_types.specs.Format.{FixedRefused}
+use Rattle.pgp_types.specs.Part.{Begins}
+use Rattle.pgp_values.specs.Snapshot.{SnapshotReads, WalkedSnapshot, snapshot_head, xid_part}
+use Rattle.pgp_c.specs.Walks.{rest_of}
+use Rattle.pgp_c.proofs.Walks.{rest_after}
+
+-- eight bytes are a transaction
+pub no_xid : (front : List ℕ) (e : Error) → length front ≡ 8 → FixedRefused 8 front e → ⊥
+no_xid front errors.UnexpectedEof size short = omega (arith, size, short)
+no_xid front errors.NotDrained size long = omega (arith, size, long)
+no_xid front e size r = absurd r
+
+length-uint64 : (n : ℕ) → length (uint64 n) ≡ 8
+unfolding uint64
+length-uint64 n = refl
+
+pub xid_long : (rest more : List ℕ) (n : ℕ) → Begins xid_part rest n more → length rest ≡ 8 + length more
+xid_long rest more n b = omega (arith, ap length b.whole, length-append b.front more, ap length b.spelled.1, length-uint64 n)
+
+pub xid_stands : (at : ℕ) (rest more : List ℕ) (n : ℕ) → Begins xid_part rest n more → StandsAt (λ place. xid_part.Spelled) at rest n more
+xid_stands at rest more n b = record { front = b.front; whole = b.whole; spelled = b.spelled }
+
+-- the transactions that are announced stand after their number and the two bounds
+pub begins_snapshot : (bytes : List ℕ) (n xmin xmax end : ℕ) (w : WalkedSnapshot) → SnapshotReads bytes (Ok w) → xmin ≡ w.xmin → xmax ≡ w.xmax → n ≡ (hint_of w.running.announced).0 → end ≡ length bytes
+    → Begins snapshot_head bytes (n, (xmin, xmax)) (rest_of bytes 20 end)
+begins_snapshot bytes n xmin xmax end w (m, rest, b, walk) low high hint last =
+    let reported : n ≡ m = hint ∙ ap (λ a. (hint_of a).0) walk.announced in
+    let s = b.spelled in
+    let t = s.other in
+    let size : length b.front ≡ 20 =
+    omega (arith, ap length s.whole, length-append s.first s.second, ap length s.one.1, length-uint32 m, ap length t.whole, length-append t.first t.second, ap length t.one.1, length-uint64 w.xmin, ap length t.other.1, length-uint64 w.xmax) in
+    let left : rest_of bytes 20 end ≡ rest = rest_after b.front rest bytes 20 end b.whole size last in
+    subst (λ k. Begins snapshot_head bytes (k, (xmin, xmax)) (rest_of bytes 20 end)) (sym reported)
+    (subst (λ l. Begins snapshot_head bytes (m, (l, xmax)) (rest_of bytes 20 end)) (sym low)
+    (subst (λ h. Begins snapshot_head bytes (m, (w.xmin, h)) (rest_of bytes 20 end)) (sym high) (record { front = b.front; whole = b.whole ∙ ap (λ l. b.front ++ l) (sym left); spelled = b.spelled })))
