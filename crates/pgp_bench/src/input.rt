@@ -61,6 +61,8 @@ fn unit(work: Work) -> &'static [u8] {
         | Work::RowPlaced
         | Work::RowColumn
         | Work::RowCopied
+        | Work::RowTaken
+        | Work::RowConnected
         | Work::FeedRow => ROW,
         Work::Fields => FIELDS,
         Work::ClientBind => CLIENT_BIND,

@@ -7,6 +7,7 @@
 
 mod clients;
 mod columns;
+mod dialogues;
 mod escapes;
 mod input;
 mod keys;

@@ -92,7 +92,7 @@ pub(crate) fn read_in_place(bytes: &[u8]) -> Result<u64, Error> {
 }
 
 #[inline(always)]
-fn weight_in_place(message: &Message<&[u8]>) -> u64 {
+pub(crate) fn weight_in_place(message: &Message<&[u8]>) -> u64 {
     match message {
         Message::DataRow(body) => lengths(&mut body.ranges()),
         Message::CommandComplete(body) => length_of(body.tag()),

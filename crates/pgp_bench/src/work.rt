@@ -2,6 +2,7 @@
 
 use crate::clients::read_client;
 use crate::columns::{by_index, by_places, last};
+use crate::dialogues::{connected, read_taken};
 use crate::escapes::{identifiers, literals};
 use crate::input::Input;
 use crate::keys::keys;
@@ -55,6 +56,10 @@ pub(crate) enum Work {
     FeedTiny,
     /// The row, fed to a parser in pieces.
     FeedRow,
+    /// The row, read in place, attributed to its request, and its ranges walked.
+    RowTaken,
+    /// The row, fed to a connection in pieces.
+    RowConnected,
     /// `bind` of five int4 values.
     Bind,
     /// `query` of 41 bytes.
@@ -100,7 +105,7 @@ pub(crate) enum Work {
 }
 
 impl Work {
-    pub(crate) const ALL: [Work; 41] = [
+    pub(crate) const ALL: [Work; 43] = [
         Work::Bare,
         Work::Tiny,
         Work::Kept,
@@ -121,6 +126,8 @@ impl Work {
         Work::RowCopied,
         Work::FeedTiny,
         Work::FeedRow,
+        Work::RowTaken,
+        Work::RowConnected,
         Work::Bind,
         Work::Query,
         Work::Parse,
@@ -167,6 +174,8 @@ impl Work {
             Work::RowCopied => "copied_row",
             Work::FeedTiny => "feed_tiny",
             Work::FeedRow => "feed_row",
+            Work::RowTaken => "place_row_taken",
+            Work::RowConnected => "feed_row_connected",
             Work::Bind => "write_bind",
             Work::Query => "write_query",
             Work::Parse => "write_parse",
@@ -197,6 +206,7 @@ impl Work {
             Work::Key => 8,
             Work::LiteralPlain | Work::LiteralQuotes | Work::Identifier | Work::CopyData => 50_000,
             Work::RowInPlace | Work::RowIndexed | Work::RowPlaced | Work::RowColumn => 1_000_000,
+            Work::RowTaken => 1_000_000,
             // a stream that the cache holds, as what was just received
             Work::BareInPlace | Work::Row59InPlace | Work::Complete38InPlace => 16_000,
             Work::ClientBind | Work::ClientQuery | Work::ClientSync => 16_000,
@@ -231,6 +241,8 @@ pub(crate) fn sum_of(
         Work::RowColumn => last(input.stream.as_slice()),
         Work::TinyCopied | Work::RowCopied => read_copied(alloc, input.stream.as_slice()),
         Work::FeedTiny | Work::FeedRow => feed(alloc, input.stream.as_slice()),
+        Work::RowTaken => read_taken(alloc, input.stream.as_slice()),
+        Work::RowConnected => connected(alloc, input.stream.as_slice()),
         Work::Int4 => int4s(&mut input.buf, count),
         Work::Inet4 => inet4s(&mut input.buf, count),
         Work::Inet6 => inet6s(&mut input.buf, count),
