@@ -23,7 +23,10 @@ enum {
     PGP_NOT_A_VERIFIER = 82,        /* the stored text is no verifier of SCRAM-SHA-256                                     */
     PGP_WRONG_PASSWORD = 83,        /* what was shown isn't what is stored                                                 */
     PGP_SCRAM_UNSUPPORTED_BINDING = 84, PGP_SCRAM_INVALID_FIRST = 85, PGP_SCRAM_OTHER_EXCHANGE = 86, PGP_SCRAM_INVALID_ENCODING = 87,
-    PGP_SCRAM_INVALID_PROOF = 88    /* the proof is of another password                                                    */
+    PGP_SCRAM_INVALID_PROOF = 88,   /* the proof is of another password                                                    */
+    PGP_LOGIN_UNDUE = 89,           /* the message has no place there in a log-in                                          */
+    PGP_LOGIN_NOT_ADMITTED = 90,    /* the server asks for a way of logging in that isn't admitted                         */
+    PGP_LOGIN_OTHER_MECHANISM = 91  /* the mechanism isn't that of the channel binding                                     */
 };
 
 /* The channel binding of an exchange: none; none, but the client could (a server that offers it should refuse that); or
@@ -72,6 +75,39 @@ static inline void pgp_nonce(const uint8_t random[18], uint8_t nonce[24])
         nonce[4 * i + 3] = (uint8_t)letters[three & 63];
     }
 }
+
+/*
+ * A client's log-in: what each authentication request of the server comes to, and what to send for it. A struct pgp_login, all 0 at first, stands
+ * between the calls; `ways` are those that are admitted, as libpq's require_auth has them, the same in each call. The password, the user, the
+ * nonce and the channel binding are those of the calls above.
+ *   pgp_login_cleartext  PGP_AUTHENTICATION_CLEARTEXT_PASSWORD: PGP_OK where the password is to be sent, by pgp_password_message
+ *   pgp_login_md5        PGP_AUTHENTICATION_MD5_PASSWORD, with its salt: what to send by pgp_password_message
+ *   pgp_login_sasl       PGP_AUTHENTICATION_SASL, once for each mechanism that pgp_mechanism_next gives, until the answer isn't
+ *                        PGP_LOGIN_OTHER_MECHANISM: what to send in pgp_sasl_initial_response, with this mechanism. SCRAM-SHA-256-PLUS is
+ *                        the mechanism of PGP_BINDING_TLS_SERVER_END_POINT, SCRAM-SHA-256 that of the others
+ *   pgp_login_continue   PGP_AUTHENTICATION_SASL_CONTINUE: what to send by pgp_sasl_response
+ *   pgp_login_final      PGP_AUTHENTICATION_SASL_FINAL: PGP_OK only if it shows the server's signature
+ *   pgp_login_ok         PGP_AUTHENTICATION_OK: PGP_OK where the log-in is done. After an exchange has begun that is so only after
+ *                        pgp_login_final returned PGP_OK, and with no request before it only where PGP_WAY_NONE is admitted
+ * An answer other than PGP_OK leaves the struct, `out` and 0 in `written`; but for PGP_NO_ROOM the connection is best closed then. Other
+ * requests (GSSAPI, SSPI, Kerberos) are answered by no way here. What the statuses 64 to 81 mean stands above.
+ */
+enum { PGP_WAY_NONE = 1, PGP_WAY_PASSWORD = 2, PGP_WAY_MD5 = 4, PGP_WAY_SCRAM = 8 };
+enum { PGP_LOGIN_DONE = 4 };
+struct pgp_login {
+    uint8_t phase;                  /* PGP_LOGIN_DONE at the end of the log-in */
+    uint8_t signature[32];
+};
+pgp_status pgp_login_cleartext(struct pgp_login *login, uint8_t ways);
+pgp_status pgp_login_md5(struct pgp_login *login, uint8_t ways, const uint8_t *user, size_t user_len,
+                         const uint8_t *password, size_t password_len, const uint8_t *salt, size_t salt_len, PGP_OUT);
+pgp_status pgp_login_sasl(struct pgp_login *login, uint8_t ways, const uint8_t *mechanism, size_t mechanism_len,
+                          uint8_t kind, const uint8_t *certificate, size_t certificate_len, const uint8_t *nonce, size_t nonce_len, PGP_OUT);
+pgp_status pgp_login_continue(struct pgp_login *login, const uint8_t *password, size_t password_len,
+                              uint8_t kind, const uint8_t *certificate, size_t certificate_len, const uint8_t *nonce, size_t nonce_len,
+                              const uint8_t *server_first, size_t server_first_len, PGP_OUT, size_t *at);
+pgp_status pgp_login_final(struct pgp_login *login, const uint8_t *server_final, size_t server_final_len, size_t *at);
+pgp_status pgp_login_ok(struct pgp_login *login, uint8_t ways);
 
 /*
  * The server's side, in two calls that keep nothing between them. The caller keeps the stored verifier (`SCRAM-SHA-256$4096:..`), its own part

@@ -1,0 +1,6 @@
+use Rattle.std.proofs.Common.{arith}
+use Rattle.pgp_c_auth.specs.Login.{Welcome}
+use Rattle.pgp_c_auth.proofs.login.pgp_login_ok.Goals as goal
+
+pub returns-clause-step : goal.returns-clause-step
+returns-clause-step c z = Welcome (c.unwelcome-code.ensures.due (omega (arith, c)))
