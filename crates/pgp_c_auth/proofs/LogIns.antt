@@ -1,7 +1,7 @@
 -- What a log-in for C has come by.
 use Rattle.std.proofs.Common.{◌≡◌, ℕ, List, inl, inr, arith, refl}
 use Rattle.pgp_c_auth.specs.Scram.{Start, AnswersWith}
-use Rattle.pgp_c_auth.specs.Login.{Step, Cleartext, Md5, Offer, First, Final, Welcome, Comes, Begins, Goes, Signed, LetIn, ByNone, ByCleartext, ByMd5, BySignature, IsAdmitted, at_phase, awaits_request, awaits_welcome, by_cleartext, by_md5, by_scram}
+use Rattle.pgp_c_auth.specs.Login.{Step, Cleartext, Md5, Offer, First, Final, Welcome, Comes, Begins, Goes, LetIn, ByNone, ByCleartext, ByMd5, BySignature, IsAdmitted, at_phase, by_scram}
 use Rattle.pgp_c_auth.specs.declared.login.PgpLogin.{PgpLogin}
 
 -- the client answered a first text, and a server that holds the verifier answers with this signature
