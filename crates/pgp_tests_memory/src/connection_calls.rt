@@ -116,7 +116,7 @@ impl Made {
         are_next(connection, &[Event::Part(name), Event::Last(name)], again)
     }
 
-    /// Makes the calls, and answers each. How often memory was refused; `None` where anything isn't as it has to be.
+    /// Makes the calls, and has each answered. How often memory was refused; `None` where anything isn't as it has to be.
     fn end<A: Allocator + Copy>(&self, connection: &mut Connection<'_, A>) -> Option<u64> {
         let mut again = 0u64;
         for calls in 0..ROUNDS {
@@ -155,7 +155,7 @@ impl Tried for Made {
     }
 }
 
-/// The calls that send, the lengths and answers by hand. Flush and the data of a copy have no answer, nor has the end of a copy one of its own.
+/// The calls that send, their lengths and their replies by hand. Flush and the data of a copy have no answer, nor has the end of a copy one of its own.
 const MADE: [Made; 9] = [
     Made {
         call: Call::Query,
