@@ -8,7 +8,7 @@
 
 extern int fails, passed;
 void further(void);
-void login(void);
+void logins(void);
 void server(void);
 void shapes(void);
 void in_place(void);

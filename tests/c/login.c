@@ -115,7 +115,7 @@ static void sent(void)
         (l = after(15, offer, 1), pgp_login_continue(&l, B("foobar"), NO_BINDING, B(nonce), B(first), O, &at)));
 }
 
-void login(void)
+void logins(void)
 {
     phases(); admitted(); unsigned_servers(); refusals(); sent();
 }
