@@ -73,6 +73,13 @@ def check_typed(same, raises):
             same('%d takes no %r' % (oid, value), registry.get(oid).encode(value), error)
         except Exception as raised:
             same('%d takes no %r' % (oid, value), type(raised), error)
+    one = pg.Range(('in', 1), ('ex', 5))
+    span = '02' '00000004' '00000001' '00000004' '00000005'
+    same('an array of tuples', registry.get(1010).encode([pg.Tid(0, 0), None, pg.Tid(4294967295, 65535)]).hex(),
+         '00000001' '00000001' '0000001b' '00000003' '00000001' '00000006' '000000000000' 'ffffffff' '00000006' 'ffffffffffff')
+    same('an array of ranges', registry.get(3905).encode([one]).hex(), '00000001' '00000000' '00000f40' '00000001' '00000001' '00000011' + span)
+    same('an array of lists that are values', registry.get(6150).encode([[one], []]).hex(),
+         '00000001' '00000000' '00001163' '00000002' '00000001' '00000019' '00000001' '00000011' + span + '00000004' '00000000')
     same('a type that is not known', (registry.get(99999).encode(5), registry.get(99999).is_text), (b'5', True))
     registry.add(Type(99999, 'point', lambda data: tuple(map(ord, data.decode())), bytes))
     same('a type of the user', apply(registry.get(99999).decode, b'ab'), (97, 98))

@@ -198,20 +198,34 @@ def range_encoder(bound: Callable[[Any], bytes]) -> Callable[[Range], bytes]:
     return encode
 
 
-def _flat(value: Sequence[Any]) -> Tuple[List[int], List[Any]]:
+def _is_no_list(value: Any) -> bool:
+    """Whether it is an element: of most types no value is a list."""
+    return not isinstance(value, list)
+
+
+def _is_of_tuples(value: Any) -> bool:
+    """The same of types whose values are lists of tuples, as polygons and multiranges; an empty list is a value."""
+    return not isinstance(value, list) or not value or isinstance(value[0], tuple)
+
+
+#: The types whose values are lists. (Those of JSON may be, but in its arrays a list is a dimension.)
+_LISTS = {604: _is_of_tuples}
+
+
+def _flat(value: Sequence[Any], is_element: Callable[[Any], bool]) -> Tuple[List[int], List[Any]]:
     """The lengths of lists in lists, and the elements row by row."""
-    if not value or not isinstance(value[0], (list, tuple)):
+    if not value or is_element(value[0]):
         return [len(value)], list(value)
-    parts = [_flat(part) for part in value]
+    parts = [_flat(part, is_element) for part in value]
     if any(lengths != parts[0][0] for lengths, _ in parts):
         raise ValueError('the lists in an array have different lengths')
     return [len(value), *parts[0][0]], [element for _, elements in parts for element in elements]
 
 
-def array_encoder(oid: int, element: Callable[[Any], bytes]) -> Callable[[Sequence[Any]], bytes]:
-    """What writes an array of a list, or of lists in a list."""
+def array_encoder(oid: int, element: Callable[[Any], bytes], is_element: Callable[[Any], bool] = _is_no_list) -> Callable[[Sequence[Any]], bytes]:
+    """What writes an array of a list, or of lists in a list. A tuple is an element, as a point or a range, and what else `is_element` says."""
     def encode(value: Sequence[Any]) -> bytes:
-        lengths, elements = _flat(value)
+        lengths, elements = _flat(value, is_element)
         dimensions = [(n, 1) for n in lengths] if elements else []
         return put_array(oid, [None if part is None else element(part) for part in elements], dimensions)
     return encode
@@ -266,6 +280,7 @@ _RANGES = ((3904, 3905, 'int4range', 23), (3906, 3907, 'numrange', 1700), (3908,
 #: Their multiranges: number, that of its arrays, name, and that of the ranges.
 _MULTIRANGES = ((4451, 6150, 'int4multirange', 3904), (4532, 6151, 'nummultirange', 3906), (4533, 6152, 'tsmultirange', 3908), (4534, 6153, 'tstzmultirange', 3910),
                 (4535, 6155, 'datemultirange', 3912), (4536, 6157, 'int8multirange', 3926))
+_LISTS.update((oid, _is_of_tuples) for oid, _, _, _ in _MULTIRANGES)
 
 
 def label_type(name: str, oid: int) -> Type:
@@ -303,7 +318,8 @@ class Registry:
         self._types[kept.oid] = kept
         if array_oid and not kept.is_text:
             name = kept.name + '[]'
-            self._types[array_oid] = Type(array_oid, name, array_decoder(kept.decode), array_encoder(kept.oid, kept.encode))
+            is_element = _LISTS.get(kept.oid, _is_no_list)
+            self._types[array_oid] = Type(array_oid, name, array_decoder(kept.decode), array_encoder(kept.oid, kept.encode, is_element))
 
     def get(self, oid: int) -> Type:
         """The type of this number."""
