@@ -22,8 +22,7 @@ use Rattle.pgp_session.specs.Connection.{Notes, SendsGiven, Shown, asked_of, is_
 use Rattle.pgp_session.specs.declared.connection_error.ConnectionError.{ConnectionError}
 use Rattle.pgp_session.specs.declared.connection_error.ConnectionError.TheVariants.{OutOfMemory as OutOfMemoryThere}
 use Rattle.pgp_session.specs.Login.{Login, Puts}
-use Rattle.pgp_session.specs.ServerState.{noted as noted_by}
-use Rattle.pgp_session.specs.declared.server_state.ServerState.{ServerState}
+use Rattle.pgp_session.specs.Settings.{Said, heard}
 use Rattle.pgp_message.specs.BackendMessage.{Message as Meant}
 
 pub short_longer : (limit : ℕ) (bytes : List ℕ) → length bytes < 5 → false ≡ is_longer limit bytes
@@ -99,6 +98,6 @@ given_by lacks Whole Refuses m r old new written (Err OutOfMemoryThere) whole ma
 given_by lacks Whole Refuses m r old new written (Err e) whole may none range request logged bytes n = absurd n
 
 -- what is known of the server's session after a message
-pub took_so : (m : Meant) (l : Login) (out : List ℕ) (t : Talk) (k : ServerState) (old : Shown) → k ≡ noted_by m old.server
+pub took_so : (m : Meant) (l : Login) (out : List ℕ) (t : Talk) (k : Said) (old : Shown) → k ≡ heard m old.server
     → record { phase = old.phase; login = l; out = out; incoming = old.incoming; talk = t; server = k; names = old.names; limit = old.limit } ≡ with_login l out (moved old.phase t m old)
-took_so m l out t k old e = ap (λ (s : ServerState). record { phase = old.phase; login = l; out = out; incoming = old.incoming; talk = t; server = s; names = old.names; limit = old.limit }) e
+took_so m l out t k old e = ap (λ (s : Said). record { phase = old.phase; login = l; out = out; incoming = old.incoming; talk = t; server = s; names = old.names; limit = old.limit }) e

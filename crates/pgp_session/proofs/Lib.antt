@@ -8,6 +8,7 @@ pub mod Listed
 pub mod Mechanisms
 pub mod Proxied
 pub mod Replies
+pub mod Reported
 pub mod Served
 pub mod StartupNames
 pub mod LogIns

@@ -27,8 +27,8 @@ use Rattle.pgp_session.specs.Connection.{HasStarted, Sent, Shown, Took, Wrote, a
 use Rattle.pgp_session.specs.Login.{Added, AddsReply, Asking, Sasl, First, Final, Welcome, Login, LogsOn, NothingAsked, ByCleartext, ByMd5, ScramBegins, ScramGoesOn, ScramEnds, Welcomed, Trusted, Ways, asking}
 use Rattle.pgp_session.specs.ScramLogin.{Offers, ReceivedAmong, NoneWanted, OneReceived, OtherReceived, offer, first_text, final_text, welcome}
 use Rattle.pgp_session.specs.Session.{Admitted, ByNone, ByPassword, ByHash, BySignature, Follows, History, IsAllowed, IsOpenedAt, Known, Plays, Begins, Writes, Hears, and_fed, and_observed, and_sent, and_wrote, good, is_secret, nothing as no_history, requests_in, requests_of, turns_of}
-use Rattle.pgp_session.specs.ServerState.{noted, state_after, unsaid}
-use Rattle.pgp_session.specs.declared.server_state.ServerState.{ServerState}
+use Rattle.pgp_session.specs.Settings.{Said, heard, nothing_said, value_of}
+use Rattle.pgp_session.proofs.Reported.{said_more, states_follow, values_follow}
 use Rattle.pgp_session.specs.declared.connection.ConnectionPhase.{ConnectionPhase}
 use Rattle.pgp_session.specs.declared.connection.ConnectionPhase.TheVariants.{Opening, Encrypting, Started, Over as OverPhase}
 use Rattle.pgp_session.specs.declared.scram_login.LoginPhase.{LoginPhase}
@@ -124,10 +124,6 @@ opened_replied : (l : List ClientMessage) (reply : Option ClientMessage) → is_
 opened_replied l None e = ap is_opened (append-nil l) ∙ e
 opened_replied l (Some m) e = opened_still l m e
 
-state_more : (s : ServerState) (ms : List Message) (m : Message) → state_after s (ms ++ m ∷ []) ≡ noted m (state_after s ms)
-state_more s [] m = refl
-state_more s (x ∷ ms) m = state_more (noted x s) ms m
-
 at_started : (p : ConnectionPhase) (b : Bool) → p ≡ Started → IsOpenedAt p b → b ≡ true
 at_started p b e opened = subst (λ (q : ConnectionPhase). IsOpenedAt q b) e opened
 
@@ -144,7 +140,7 @@ observed_one ways h old new rest m e phase frame took next k =
         read = subst (λ b. Frames h.received (good (h.observed ++ m ∷ [])) b) (sym (ap (λ (c : Shown). c.incoming) took.is))
             (subst (λ r. Frames h.received r rest) (good_more h.observed m) (next h.received old.incoming rest (good h.observed) (Ok m) k.read frame));
         plays = Hears m e took.taken took.goes_on logged.logs k.plays;
-        server = ap (λ (c : Shown). c.server) took.is ∙ ap (noted m) k.server ∙ sym (state_more unsaid h.observed m);
+        server = ap (λ (c : Shown). c.server) took.is ∙ ap (heard m) k.server ∙ sym (said_more nothing_said h.observed m);
       },
     )
 
@@ -383,7 +379,8 @@ follows ways h now belongs k = record {
   belong = belongs h.turns (plays_follow ways k.plays);
   allowed = plays_allowed ways k.plays;
   admitted = λ done. subst (λ (q : LoginPhase). Stands ways h.observed q now.login.ways.scram) done (plays_stand ways k.plays).stands;
-  server = k.server;
+  server = ap (λ (s : Said). s.state) k.server ∙ states_follow nothing_said h.observed;
+  settings = λ name. ap (λ (s : Said). value_of name s.settings) k.server ∙ values_follow name nothing_said h.observed;
 }
 
 -- ---- the calls

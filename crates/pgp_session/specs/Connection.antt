@@ -20,14 +20,13 @@ use Rattle.pgp_message.specs.Views.{view}
 use Rattle.pgp_message.specs.declared.message as code
 use Rattle.pgp_session.specs.Login.{Added, LoggedOn, Login, Unsent, Ways, asking, seen}
 use Rattle.pgp_session.specs.Login as login
-use Rattle.pgp_session.specs.ServerState.{noted as noted_by, unsaid}
+use Rattle.pgp_session.specs.Settings.{HasRoom, IsUnkept, Said, heard, nothing_said, setting_in}
 use Rattle.pgp_session.specs.declared.connection.Connection.{Connection as Kept}
 use Rattle.pgp_session.specs.declared.connection.ConnectionPhase.{ConnectionPhase}
 use Rattle.pgp_session.specs.declared.connection.ConnectionPhase.TheVariants.{Opening, Encrypting, Started, Over}
 use Rattle.pgp_session.specs.declared.connection_error.ConnectionError.{ConnectionError}
-use Rattle.pgp_session.specs.declared.connection_error.ConnectionError.TheVariants.{BadAnswer, Malformed, Misplaced, OutOfMemory, OutOfPhase, TooLong, Unwritten}
+use Rattle.pgp_session.specs.declared.connection_error.ConnectionError.TheVariants.{BadAnswer, Malformed, Misplaced, OutOfMemory, OutOfPhase, TooLong, Unkept, Unwritten}
 use Rattle.pgp_session.specs.declared.server_state.BackendKey.{BackendKey}
-use Rattle.pgp_session.specs.declared.server_state.ServerState.{ServerState}
 use Rattle.pgp_session.specs.declared.scram_login.LoginPhase.{LoginPhase}
 use Rattle.pgp_session.specs.declared.scram_login.LoginPhase.TheVariants.{AwaitsOffer, Done}
 
@@ -40,14 +39,14 @@ pub record Shown : Type 0 where
   pub incoming : List ℕ
   pub talk : Talk
   -- what the server said last of its session
-  pub server : ServerState
+  pub server : Said
   -- the next request's name
   pub names : ℕ
   -- how long a message may be
   pub limit : ℕ
 
 abbrev pub begun : Ways → ℕ → Shown
-begun ways limit = record { phase = Opening; login = record { phase = AwaitsOffer; ways = ways }; out = []; incoming = []; talk = start; server = unsaid; names = 0; limit = limit }
+begun ways limit = record { phase = Opening; login = record { phase = AwaitsOffer; ways = ways }; out = []; incoming = []; talk = start; server = nothing_said; names = 0; limit = limit }
 
 -- the log-in is done
 abbrev pub done_at : LoginPhase → Bool
@@ -158,7 +157,7 @@ with_incoming rest c = record { phase = c.phase; login = c.login; out = c.out; i
 
 -- what a message does to the phase, to the dialogue and to what is known of the server's session
 abbrev pub moved : ConnectionPhase → Talk → Message → Shown → Shown
-moved phase t m c = record { phase = phase; login = c.login; out = c.out; incoming = c.incoming; talk = t; server = noted_by m c.server; names = c.names; limit = c.limit }
+moved phase t m c = record { phase = phase; login = c.login; out = c.out; incoming = c.incoming; talk = t; server = heard m c.server; names = c.names; limit = c.limit }
 
 -- what it does in the log-in
 abbrev pub with_login : Login → List ℕ → Shown → Shown
@@ -168,9 +167,10 @@ abbrev pub is_end : Event → Bool
 is_end Ended = true
 is_end e = false
 
--- The message was attributed so, and the log-in took it: its reply was appended.
+-- The message was attributed so, what it reports was kept, and the log-in took it: its reply was appended.
 pub record Took (m : Message) (old new : Shown) (e : Event) : Type 0 where
   pub taken : taken old.talk (kind_of m) ≡ Ok (e, new.talk)
+  pub kept : HasRoom old.limit (setting_in m) old.server.settings
   pub goes_on : is_end e ≡ false
   pub logged : LoggedOn (asking m) old.login new.login old.out new.out
   pub is : new ≡ with_login new.login new.out (moved old.phase new.talk m old)
@@ -178,14 +178,16 @@ pub record Took (m : Message) (old new : Shown) (e : Event) : Type 0 where
 -- It ended the session.
 pub record TookEnd (m : Message) (old new : Shown) (e : Event) : Type 0 where
   pub taken : taken old.talk (kind_of m) ≡ Ok (e, new.talk)
+  pub kept : HasRoom old.limit (setting_in m) old.server.settings
   pub ends : is_end e ≡ true
   pub is : new ≡ moved Over new.talk m old
 
 module _ {A : Type 0} (lacks : Type 0) where
-  -- why a message isn't taken: it isn't attributed, or the log-in stops at it
+  -- why a message isn't taken: it isn't attributed, what it reports can't be kept, or the log-in stops at it
   abbrev pub Stops : Message → Shown → ConnectionError A → Type 0
   Stops m old e = ((r : Refusal) × (taken old.talk (kind_of m) ≡ Err r) × (e ≡ Misplaced r))
-      ⊎ ((x : Event × Talk) × (taken old.talk (kind_of m) ≡ Ok x) × (is_end x.0 ≡ false)
+      ⊎ ((x : Event × Talk) × (taken old.talk (kind_of m) ≡ Ok x) × (cause : Error) × IsUnkept lacks old.limit (setting_in m) old.server.settings cause × (e ≡ Unkept cause))
+      ⊎ ((x : Event × Talk) × (taken old.talk (kind_of m) ≡ Ok x) × HasRoom old.limit (setting_in m) old.server.settings × (is_end x.0 ≡ false)
       × ((after : Login) × (grown : List ℕ) × login.Hears lacks (asking m) old.login after old.out grown (Err e)))
 
   abbrev pub Takes : Message → Shown → Shown → Result Event (ConnectionError A) → Type 0
@@ -266,12 +268,12 @@ Starts lacks m old new (Err e) = ⊥
 
 -- The request to cancel was appended, if the server said a key.
 abbrev pub Cancels : {A : Type 0} → Type 0 → Shown → List ℕ → List ℕ → Result (Unit {0}) (ConnectionError A) → Type 0
-Cancels lacks c old new (Ok done) = (k : BackendKey) × (c.server.key ≡ Some k) × Added (CancelRequest k.process_id k.secret_key) old new
-Cancels lacks c old new (Err OutOfPhase) = (c.server.key ≡ None) × (new ≡ old)
-Cancels lacks c old new (Err (Unwritten e)) = (k : BackendKey) × (c.server.key ≡ Some k) × Unsent lacks (CancelRequest k.process_id k.secret_key) e × (new ≡ old)
+Cancels lacks c old new (Ok done) = (k : BackendKey) × (c.server.state.key ≡ Some k) × Added (CancelRequest k.process_id k.secret_key) old new
+Cancels lacks c old new (Err OutOfPhase) = (c.server.state.key ≡ None) × (new ≡ old)
+Cancels lacks c old new (Err (Unwritten e)) = (k : BackendKey) × (c.server.state.key ≡ Some k) × Unsent lacks (CancelRequest k.process_id k.secret_key) e × (new ≡ old)
 Cancels lacks c old new (Err e) = ⊥
 
 -- ---- the code's record
 
 abbrev pub shown : {A : Type 0} → Kept A → Shown
-shown c = record { phase = c.phase; login = seen c.login; out = c.out.items; incoming = c.incoming.items; talk = talk_of (λ q. q.items) c.dialogue; server = c.server; names = c.names; limit = c.limit }
+shown c = record { phase = c.phase; login = seen c.login; out = c.out.items; incoming = c.incoming.items; talk = talk_of (λ q. q.items) c.dialogue; server = record { state = c.server; settings = c.settings.entries.items }; names = c.names; limit = c.limit }

@@ -8,5 +8,6 @@ pub mod Proxy
 pub mod Pooler
 pub mod Login
 pub mod ServerState
+pub mod Settings
 pub mod Connection
 pub mod Session

@@ -21,6 +21,7 @@ use Rattle.pgp_session.specs.Login.{Login, LogsOn, Ways, asking}
 use Rattle.pgp_session.specs.ScramLogin.{Offers, ReceivedAmong, offer, first_text, final_text, welcome}
 use Rattle.pgp_session.specs.Connection.{Shown, asked_of, is_end}
 use Rattle.pgp_session.specs.ServerState.{state_after, unsaid}
+use Rattle.pgp_session.specs.Settings.{last_reported, nothing_said, said_after, value_of}
 use Rattle.pgp_session.specs.declared.connection.ConnectionPhase.{ConnectionPhase}
 use Rattle.pgp_session.specs.declared.connection.ConnectionPhase.TheVariants.{Opening, Encrypting, Started, Over}
 use Rattle.pgp_session.specs.declared.scram_login.LoginPhase.TheVariants.{AwaitsOffer, Done}
@@ -78,7 +79,7 @@ pub record Known (ways : Ways) (h : History) (now : Shown) : Type 0 where
   pub opened : IsOpenedAt now.phase (is_opened h.written)
   pub read : Frames h.received (good h.observed) now.incoming
   pub plays : Plays ways h.written h.observed h.turns now.talk now.login
-  pub server : now.server ≡ state_after unsaid h.observed
+  pub server : now.server ≡ said_after nothing_said h.observed
 
 abbrev pub and_sent : ℕ → Shown → History → History
 and_sent n old h = record { sent = h.sent ++ take n old.out; written = h.written; received = h.received; observed = h.observed; turns = h.turns }
@@ -127,11 +128,12 @@ IsAllowed ways (SaslResponse response) = ways.scram ≢ None
 IsAllowed ways m = Unit {0}
 
 -- What is known says of a session: the requests that were asked are those of the messages written, each message belongs to the request that was reported,
--- no password is given away but by an admitted way, a client is logged in by such a way alone, and the status and the key are the server's last.
+-- no password is given away but by an admitted way, a client is logged in by such a way alone, and the status, the key and each setting are the server's last.
 pub record Follows (ways : Ways) (h : History) (now : Shown) : Type 0 where
   pub asked : requests_in (asked_in h.turns) ≡ requests_of h.written
   pub observed : observed_in h.turns ≡ map kind_of h.observed
   pub belong : Belong (asked_in h.turns) (observed_in h.turns) (reported_in h.turns)
   pub allowed : AllByRecursion (IsAllowed ways) h.written
   pub admitted : now.login.phase ≡ Done → Admitted ways h.observed
-  pub server : now.server ≡ state_after unsaid h.observed
+  pub server : now.server.state ≡ state_after unsaid h.observed
+  pub settings : (name : List ℕ) → value_of name now.server.settings ≡ last_reported name h.observed

@@ -1,7 +1,7 @@
 //! A client's connection, without input or output: what is to be sent, what came, the log-in, and to which request each of the server's
 //! messages belongs.
 
-ghost use Rattle.std.specs.Prelude.{◌≡◌, ◌≤◌, length, map};
+ghost use Rattle.std.specs.Prelude.{◌≡◌, ◌≤◌, length, map, option_map};
 ghost use Rattle.pgp_frontend.specs.ClientMessage.{SslRequest, Startup, Terminate};
 ghost use Rattle.pgp_frontend.specs.Given.{shown as shown_pair};
 ghost use Rattle.pgp_frontend.specs.Reading.{IsNamed};
@@ -9,6 +9,7 @@ ghost use Rattle.pgp_frontend_read.specs.Views.{view as sent_view};
 ghost use Rattle.pgp_message.specs.Views.{view};
 ghost use Rattle.pgp_session.specs.Login.{given};
 ghost use Rattle.pgp_client.specs.Taking.{is_idle};
+ghost use Rattle.pgp_session.specs.Settings.{value_of};
 ghost use Rattle.pgp_session.specs.Connection.{Answers, Cancels, Feeds, Hears, Nexts, Sends, Starts, Takes, Writes, begun, can_send, dropped, is_logged_in, nexted, shown};
 
 use crate::connection_error::ConnectionError;
@@ -16,6 +17,7 @@ use crate::connection_parts::{encrypts, is_end, is_too_long, may_send, next_name
 use crate::login::{Login, Ways, put};
 use crate::scram_login::LoginPhase;
 use crate::server_state::{BackendKey, ServerState};
+use crate::settings::Settings;
 use bytes::{Buf, Bytes, BytesMut};
 use pgp_base::{Error, Memory};
 use pgp_client::{Asked, Dialogue, Event, Request};
@@ -46,6 +48,7 @@ pub struct Connection<'a, A: Memory = Global> {
     incoming: BytesMut<A>,
     pub(crate) dialogue: Dialogue<VecDeque<Asked, A>>,
     pub(crate) server: ServerState,
+    pub(crate) settings: Settings<A>,
     pub(crate) names: u64,
     limit: u32,
 }
@@ -66,6 +69,7 @@ impl<'a, A: Memory> Connection<'a, A> {
             incoming: BytesMut::new(alloc),
             dialogue: Dialogue::new(alloc),
             server: ServerState::new(),
+            settings: Settings::new(alloc),
             names: 0,
             limit,
         }
@@ -252,6 +256,7 @@ impl<'a, A: Memory> Connection<'a, A> {
     /// - `TooLong` if a message is announced that is longer than the limit.
     /// - `Malformed` of the error of `Message::parse`.
     /// - `Misplaced` if the message has no place among the answers, or a copy failed and can't be attributed.
+    /// - `Unkept` if the message reports a setting that can't be kept.
     /// - `Undue`, `NotAdmitted`, `NotOffered`, `Scram` and `Unwritten` in the log-in.
     pub fn next(&mut self) -> Result<Option<(Event, Message<Bytes<A>>)>, ConnectionError<A>>
         ensures { Nexts A.Lacks (shown self.old) (shown self.new) (nexted result) }
@@ -299,6 +304,10 @@ impl<'a, A: Memory> Connection<'a, A> {
             Ok(event) => event,
             Err(e) => return Err(ConnectionError::Misplaced(e)),
         };
+        let (alloc, limit) = (self.login.alloc, self.limit);
+        if let Err(e) = self.settings.keep(alloc, limit, message) {
+            return Err(ConnectionError::Unkept(e));
+        }
         self.server.note(message);
         if is_end(event) {
             self.phase = ConnectionPhase::Over;
@@ -319,16 +328,25 @@ impl<'a, A: Memory> Connection<'a, A> {
 
     /// The status of the last ReadyForQuery: `I` (no transaction), `T` (in a transaction) or `E` (in a failed one); `None` before the first.
     pub fn status(&self) -> Option<u8>
-        ensures { result ≡ (shown self.now).server.status }
+        ensures { result ≡ (shown self.now).server.state.status }
     {
         self.server.status
     }
 
     /// The key by which another connection cancels this session's query; `None` where the server sent none.
     pub fn backend_key(&self) -> Option<BackendKey>
-        ensures { result ≡ (shown self.now).server.key }
+        ensures { result ≡ (shown self.now).server.state.key }
     {
         self.server.key
+    }
+
+    /// The value that the server last reported under this name, as `TimeZone` or `server_version`; `None` where it reported none. Names are
+    /// the same where their bytes are, and neither a name nor a value need be UTF-8. Together they take at most as many bytes as a message
+    /// may have.
+    pub fn setting(&self, name: &[u8]) -> Option<&[u8]>
+        ensures { option_map (λ value. value.now) result ≡ value_of name.now (shown self.now).server.settings }
+    {
+        self.settings.get(name)
     }
 
     /// Appends the request to cancel this session's query, which is sent as the only message of another connection.

@@ -16,6 +16,9 @@ pub enum ConnectionError<A: Allocator = Global> {
     OutOfMemory,
     /// The server announces a message that is longer than the limit.
     TooLong,
+    /// What the server reports of a setting couldn't be kept: `TooLarge` where all settings together would exceed the limit of a message, or
+    /// `OutOfMemory`.
+    Unkept(Error),
     /// The server sent something other than a message that is known.
     Malformed(Error),
     /// The message has no place among the answers that are due, or can't be attributed.

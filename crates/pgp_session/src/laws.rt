@@ -33,7 +33,8 @@ pub fn calls_are_known()
 
 /// What is known of a connection says of the whole session: the requests that were asked are those of the messages in the bytes; each message of
 /// the server belongs to the request that was reported; no password is given away but by a way that is admitted; and the client is logged in by
-/// such a way alone, by SCRAM-SHA-256 only where the server's signature was shown.
+/// such a way alone, by SCRAM-SHA-256 only where the server's signature was shown; and the status, the key and each setting are the last that
+/// the server's messages have.
 pub fn sessions_follow()
     ensures { (ways : Admitting) (h : History) (now : Shown) → Known ways h now → Follows ways h now }
 {

@@ -20,6 +20,7 @@ pub mod serving;
 mod serving_due;
 mod serving_outcome;
 mod serving_reply;
+mod settings;
 mod startup_names;
 mod stream_parser;
 mod whole_stream;

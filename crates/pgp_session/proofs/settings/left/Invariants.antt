@@ -1,0 +1,6 @@
+use Rattle.std.proofs.Common.{◌≡◌, ◌-◌, take}
+use Rattle.pgp_session.specs.Settings.{size}
+use Rattle.pgp_session.proofs.settings.left.Given as goal
+
+abbrev pub invariant-loop-entry : goal.invariant-loop-entry
+invariant-loop-entry g l = l.room ≡ l.fn.limit - size (take l.entry-index l.entries)

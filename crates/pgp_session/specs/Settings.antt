@@ -1,0 +1,104 @@
+-- The settings that a server reported, each by its last report, and with them what it says of its session.
+-- PostgreSQL manual, "Asynchronous Operations"; "Message Formats": ParameterStatus.
+use Rattle.std.specs.Prelude.{◌≡◌, ◌⊎◌, ◌≤◌, ◌<◌, ℕ, ◌+◌, ◌-◌, List, [], ◌∷◌, ◌++◌, length, take, drop, get_or, slice_set, Option, Some, None, Result, Ok, Err, if◌then◌else◌}
+use Rattle.std.specs.List.{sum_by}
+use Rattle.std.specs.Str.{bytes_eq}
+use Rattle.pgp_base.specs.Cause.{WantsMemory}
+use Rattle.pgp_base.specs.declared.error.Error.{Error}
+use Rattle.pgp_base.specs.declared.error.Error.TheVariants.{TooLarge}
+use Rattle.pgp_message.specs.BackendMessage.{Message, ParameterStatus}
+use Rattle.pgp_message.specs.Parts.{Setting}
+use Rattle.pgp_session.specs.ServerState.{newer, noted, unsaid}
+use Rattle.pgp_session.specs.declared.server_state.ServerState.{ServerState}
+
+-- the setting that a message reports: that of a ParameterStatus
+abbrev pub setting_in : Message → Option Setting
+setting_in (ParameterStatus s) = Some s
+setting_in m = None
+
+-- ---- what was reported last
+
+-- the value that it reports under this name
+abbrev pub reported : List ℕ → Option Setting → Option (List ℕ)
+reported name None = None
+reported name (Some s) = if bytes_eq s.name name then Some s.value else None
+
+abbrev pub last_after : List ℕ → Option (List ℕ) → List Message → Option (List ℕ)
+last_after name before [] = before
+last_after name before (m ∷ received) = last_after name (newer before (reported name (setting_in m))) received
+
+-- the value that the last of the messages reports that reports one under this name
+abbrev pub last_reported : List ℕ → List Message → Option (List ℕ)
+last_reported name received = last_after name None received
+
+-- ---- what is kept
+
+-- the value that is kept under a name
+abbrev pub value_of : List ℕ → List Setting → Option (List ℕ)
+value_of name [] = None
+value_of name (s ∷ kept) = if bytes_eq s.name name then Some s.value else value_of name kept
+
+-- without the setting of this name
+abbrev pub without : List ℕ → List Setting → List Setting
+without name [] = []
+without name (s ∷ kept) = if bytes_eq s.name name then kept else s ∷ without name kept
+
+-- with one more: it stands in the place of the earlier one of its name, or after all others
+abbrev pub replaced : Setting → List Setting → List Setting
+replaced s [] = s ∷ []
+replaced s (x ∷ kept) = if bytes_eq x.name s.name then s ∷ kept else x ∷ replaced s kept
+
+abbrev pub settled : Option Setting → List Setting → List Setting
+settled None kept = kept
+settled (Some s) kept = replaced s kept
+
+-- the bytes of their names and values
+abbrev pub size : List Setting → ℕ
+size kept = sum_by (λ s. length s.name + length s.value) kept
+
+-- It has room in what the settings of other names leave of the limit.
+abbrev pub HasRoom : ℕ → Option Setting → List Setting → Type 0
+HasRoom limit None kept = Unit {0}
+HasRoom limit (Some s) kept = length s.name + length s.value ≤ limit - size (without s.name kept)
+
+-- why it isn't kept
+abbrev pub IsUnkept : Type 0 → ℕ → Option Setting → List Setting → Error → Type 0
+IsUnkept lacks limit None kept e = ⊥
+IsUnkept lacks limit (Some s) kept e = WantsMemory lacks e ⊎ ((e ≡ TooLarge) × (limit - size (without s.name kept) < length s.name + length s.value))
+
+-- What becomes of a report, where there is one.
+abbrev pub Keeps : Type 0 → ℕ → Option Setting → List Setting → List Setting → Result (Unit {0}) Error → Type 0
+Keeps lacks limit s old new (Ok done) = HasRoom limit s old × (new ≡ settled s old)
+Keeps lacks limit s old new (Err e) = IsUnkept lacks limit s old e × (new ≡ old)
+
+-- ---- what a server says of its session
+
+pub record Said : Type 0 where
+  pub state : ServerState
+  pub settings : List Setting
+
+abbrev pub nothing_said : Said
+nothing_said = record { state = unsaid; settings = [] }
+
+abbrev pub heard : Message → Said → Said
+heard m s = record { state = noted m s.state; settings = settled (setting_in m) s.settings }
+
+-- after messages
+abbrev pub said_after : Said → List Message → Said
+said_after s [] = s
+said_after s (m ∷ received) = said_after (heard m s) received
+
+-- ---- *private*: where the setting of a name stands among those that are kept
+
+abbrev pub StandsAt : List ℕ → List Setting → Option ℕ → Type 0
+StandsAt name kept None = (without name kept ≡ kept) × (value_of name kept ≡ None) × ((value : List ℕ) → replaced (record { name = name; value = value }) kept ≡ kept ++ record { name = name; value = value } ∷ [])
+StandsAt name kept (Some i) = (i < length kept) × (without name kept ≡ take i kept ++ drop (i + 1) kept) × ((d : Setting) → value_of name kept ≡ Some (get_or kept i d).value)
+    × ((value : List ℕ) → replaced (record { name = name; value = value }) kept ≡ slice_set kept i (record { name = name; value = value }))
+
+abbrev pub IsPlace : Option ℕ → List Setting → Type 0
+IsPlace None kept = Unit {0}
+IsPlace (Some i) kept = i < length kept
+
+abbrev pub room_beside : Option ℕ → List Setting → ℕ → ℕ
+room_beside None kept limit = limit - size kept
+room_beside (Some i) kept limit = limit - size (take i kept ++ drop (i + 1) kept)
