@@ -20,7 +20,7 @@ use Rattle.pgp_message.specs.Views.{view}
 use Rattle.pgp_message.specs.declared.message as code
 use Rattle.pgp_session.specs.Login.{Added, LoggedOn, Login, Unsent, Ways, asking, seen}
 use Rattle.pgp_session.specs.Login as login
-use Rattle.pgp_session.specs.Settings.{HasRoom, IsUnkept, Said, heard, nothing_said, setting_in}
+use Rattle.pgp_session.specs.Settings.{HasRoom, IsUnkept, Said, heard, most, nothing_said, setting_in}
 use Rattle.pgp_session.specs.declared.connection.Connection.{Connection as Kept}
 use Rattle.pgp_session.specs.declared.connection.ConnectionPhase.{ConnectionPhase}
 use Rattle.pgp_session.specs.declared.connection.ConnectionPhase.TheVariants.{Opening, Encrypting, Started, Over}
@@ -170,7 +170,7 @@ is_end e = false
 -- The message was attributed so, what it reports was kept, and the log-in took it: its reply was appended.
 pub record Took (m : Message) (old new : Shown) (e : Event) : Type 0 where
   pub taken : taken old.talk (kind_of m) ≡ Ok (e, new.talk)
-  pub kept : HasRoom old.limit (setting_in m) old.server.settings
+  pub kept : HasRoom most (setting_in m) old.server.settings
   pub goes_on : is_end e ≡ false
   pub logged : LoggedOn (asking m) old.login new.login old.out new.out
   pub is : new ≡ with_login new.login new.out (moved old.phase new.talk m old)
@@ -178,7 +178,7 @@ pub record Took (m : Message) (old new : Shown) (e : Event) : Type 0 where
 -- It ended the session.
 pub record TookEnd (m : Message) (old new : Shown) (e : Event) : Type 0 where
   pub taken : taken old.talk (kind_of m) ≡ Ok (e, new.talk)
-  pub kept : HasRoom old.limit (setting_in m) old.server.settings
+  pub kept : HasRoom most (setting_in m) old.server.settings
   pub ends : is_end e ≡ true
   pub is : new ≡ moved Over new.talk m old
 
@@ -186,8 +186,8 @@ module _ {A : Type 0} (lacks : Type 0) where
   -- why a message isn't taken: it isn't attributed, what it reports can't be kept, or the log-in stops at it
   abbrev pub Stops : Message → Shown → ConnectionError A → Type 0
   Stops m old e = ((r : Refusal) × (taken old.talk (kind_of m) ≡ Err r) × (e ≡ Misplaced r))
-      ⊎ ((x : Event × Talk) × (taken old.talk (kind_of m) ≡ Ok x) × (cause : Error) × IsUnkept lacks old.limit (setting_in m) old.server.settings cause × (e ≡ Unkept cause))
-      ⊎ ((x : Event × Talk) × (taken old.talk (kind_of m) ≡ Ok x) × HasRoom old.limit (setting_in m) old.server.settings × (is_end x.0 ≡ false)
+      ⊎ ((x : Event × Talk) × (taken old.talk (kind_of m) ≡ Ok x) × (cause : Error) × IsUnkept lacks most (setting_in m) old.server.settings cause × (e ≡ Unkept cause))
+      ⊎ ((x : Event × Talk) × (taken old.talk (kind_of m) ≡ Ok x) × HasRoom most (setting_in m) old.server.settings × (is_end x.0 ≡ false)
       × ((after : Login) × (grown : List ℕ) × login.Hears lacks (asking m) old.login after old.out grown (Err e)))
 
   abbrev pub Takes : Message → Shown → Shown → Result Event (ConnectionError A) → Type 0

@@ -52,6 +52,10 @@ abbrev pub settled : Option Setting → List Setting → List Setting
 settled None kept = kept
 settled (Some s) kept = replaced s kept
 
+-- how many bytes of names and values are kept at most
+abbrev pub most : ℕ
+most = 65536
+
 -- the bytes of their names and values
 abbrev pub size : List Setting → ℕ
 size kept = sum_by (λ s. length s.name + length s.value) kept

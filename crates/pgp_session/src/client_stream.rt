@@ -1,20 +1,17 @@
 //! What a client sends, as one stream.
 
 ghost use Rattle.std.specs.Prelude.{◌≡◌, List, true, false, [], length, map, Some};
-ghost use Rattle.pgp_base.specs.Held.{items_held};
 ghost use Rattle.pgp_base.specs.Cause.{Wants};
 ghost use Rattle.pgp_base.specs.Wire.{int32};
-ghost use Rattle.std.specs.Iterator.{IsFiniteIterable};
-ghost use Rattle.pgp_base.specs.Calls.{Yielded, OwesValues};
 ghost use Rattle.pgp_frontend.specs.ClientMessage.{ClientMessage, PasswordKind, CancelRequest, Close, CopyData as DataMessage, CopyDone, CopyFail, Describe, Execute, Flush, PasswordMessage, Query, SaslInitialResponse, SaslResponse, SslRequest, Startup, Sync, Terminate};
-ghost use Rattle.pgp_frontend.specs.Given.{BindWhole, BindRefused, ParseWhole, ParseSoFar, Serves, shown};
+ghost use Rattle.pgp_frontend.specs.Given.{shown};
 ghost use Rattle.pgp_frontend.specs.Payload.{bytes_of, minor_of};
 ghost use Rattle.pgp_frontend.specs.Reading.{IsNamed};
 ghost use Rattle.pgp_frontend.specs.ClientRun.{ClientRun, is_opened};
-ghost use Rattle.pgp_session.specs.ClientStream.{Adds, AddsGiven, AddsMessage, Reads};
+ghost use Rattle.pgp_session.specs.ClientStream.{Adds, AddsMessage, Reads};
 
 use bytes::{Buf, BytesMut};
-use pgp_base::{BindError, Buffer, Error, IsNull, Oid};
+use pgp_base::{Buffer, Error};
 use pgp_frontend as frontend;
 use pgp_frontend::{CopyData, ProtocolVersion};
 use std::alloc::{Allocator, Global};
@@ -24,8 +21,8 @@ use std::marker::Model;
 /// Requests come first, then one startup packet, and then all other messages.
 #[derive(Drop)]
 pub struct ClientStream<B: Buffer = BytesMut> {
-    buf: B,
-    opened: bool,
+    pub(crate) buf: B,
+    pub(crate) opened: bool,
 }
 
 impl<B: Buffer> Model for ClientStream<B> {
@@ -320,97 +317,5 @@ impl<B: Buffer> ClientStream<B> {
         ensures { AddsMessage B.held (SaslResponse «data».now) B.Lacks self.old self.new result }
     {
         frontend::sasl_response(data, &mut self.buf)
-    }
-
-    /// Prepares a statement of this name. The identifiers are the types of the first parameters; 0 leaves
-    /// one to the server.
-    ///
-    /// # Errors
-    ///
-    /// The first from the left of: `EmbeddedNull` if a text has a 0 byte, `TooLarge` at the identifier past 65,535,
-    /// which is not written, `TooLarge` if the message exceeds `i32::MAX`. Otherwise `OutOfMemory`, which may come
-    /// before any of them, if the buffer can't grow. On error the stream is unchanged.
-    pub fn parse<I: IntoIterator<Item = Oid> + Drop>(
-        &mut self,
-        name: &str,
-        query: &str,
-        param_types: I,
-    ) -> Result<(), Error>
-    where
-        I::IntoIter: Drop,
-        requires opened { self.old.opened ≡ true }
-        requires types_end { IsFiniteIterable I.into_iter_gives I.IntoIter.can_next I.IntoIter.remaining param_types }
-        ensures { AddsGiven B.held
-            (ParseWhole name.now query.now (Yielded I.into_iter_gives I.IntoIter.next_gives param_types))
-            (ParseSoFar name.now query.now (Yielded I.into_iter_gives I.IntoIter.next_gives param_types))
-            B.Lacks self.old self.new result }
-    {
-        match frontend::parse(name, query, param_types, &mut self.buf) {
-            Ok(()) => Ok(()),
-            Err(e) => Err(e),
-        }
-    }
-
-    /// Binds values to a statement's parameters, and makes a portal of it.
-    ///
-    /// # Errors
-    ///
-    /// The first from the left of: `Serialization` of `EmbeddedNull` if a name has a 0 byte, and of `TooLarge` at
-    /// the item past 65,535 of a list, which is not written, where the bytes of a value exceed `i32::MAX`, or where
-    /// the message does; `Conversion` if the serializer failed a value. Otherwise `Serialization` of `OutOfMemory`,
-    /// which may come before any of them, if the buffer can't grow. On error the stream is unchanged.
-    pub fn bind<
-        T: Drop,
-        E: Drop,
-        I: IntoIterator<Item = i16> + Drop,
-        J: IntoIterator<Item = T> + Drop,
-        F: FnMut(T, &mut B) -> Result<IsNull, E> + Drop,
-        K: IntoIterator<Item = i16> + Drop,
-    >(
-        &mut self,
-        portal: &str,
-        statement: &str,
-        formats: I,
-        values: J,
-        serializer: F,
-        result_formats: K,
-    ) -> Result<(), BindError<E>>
-    where
-        I::IntoIter: Drop,
-        J::IntoIter: Drop,
-        K::IntoIter: Drop,
-        requires opened { self.old.opened ≡ true }
-        requires formats_end { IsFiniteIterable I.into_iter_gives I.IntoIter.can_next I.IntoIter.remaining formats }
-        requires values_end { IsFiniteIterable J.into_iter_gives J.IntoIter.can_next J.IntoIter.remaining values }
-        requires result_formats_end { IsFiniteIterable K.into_iter_gives K.IntoIter.can_next K.IntoIter.remaining result_formats }
-        requires callable { F.IsAlwaysCallable serializer }
-        requires owes { OwesValues B.held F.pre F.step }
-        ensures { (last : F) × Adds B.held
-            (BindWhole portal.now statement.now
-            (Yielded I.into_iter_gives I.IntoIter.next_gives formats)
-            (Yielded J.into_iter_gives J.IntoIter.next_gives values)
-            (Serves B.held F.step serializer last)
-            (Yielded K.into_iter_gives K.IntoIter.next_gives result_formats)
-            (B.held self.old.buf))
-            (BindRefused portal.now statement.now
-            (Yielded I.into_iter_gives I.IntoIter.next_gives formats)
-            (Yielded J.into_iter_gives J.IntoIter.next_gives values)
-            (Serves B.held F.step serializer last)
-            (Yielded K.into_iter_gives K.IntoIter.next_gives result_formats)
-            (B.held self.old.buf) B.Lacks)
-            self.old self.new result }
-    {
-        match frontend::bind(
-            portal,
-            statement,
-            formats,
-            values,
-            serializer,
-            result_formats,
-            &mut self.buf,
-        ) {
-            Ok(()) => Ok(()),
-            Err(e) => Err(e),
-        }
     }
 }

@@ -17,7 +17,7 @@ use crate::connection_parts::{encrypts, is_end, is_too_long, may_send, next_name
 use crate::login::{Login, Ways, put};
 use crate::scram_login::LoginPhase;
 use crate::server_state::{BackendKey, ServerState};
-use crate::settings::Settings;
+use crate::settings::{SETTINGS_MOST, Settings};
 use bytes::{Buf, Bytes, BytesMut};
 use pgp_base::{Error, Memory};
 use pgp_client::{Asked, Dialogue, Event, Request};
@@ -304,8 +304,7 @@ impl<'a, A: Memory> Connection<'a, A> {
             Ok(event) => event,
             Err(e) => return Err(ConnectionError::Misplaced(e)),
         };
-        let (alloc, limit) = (self.login.alloc, self.limit);
-        if let Err(e) = self.settings.keep(alloc, limit, message) {
+        if let Err(e) = self.settings.keep(self.login.alloc, SETTINGS_MOST, message) {
             return Err(ConnectionError::Unkept(e));
         }
         self.server.note(message);
@@ -341,8 +340,7 @@ impl<'a, A: Memory> Connection<'a, A> {
     }
 
     /// The value that the server last reported under this name, as `TimeZone` or `server_version`; `None` where it reported none. Names are
-    /// the same where their bytes are, and neither a name nor a value need be UTF-8. Together they take at most as many bytes as a message
-    /// may have.
+    /// the same where their bytes are, and neither a name nor a value need be UTF-8. Names and values together take at most 65,536 bytes.
     pub fn setting(&self, name: &[u8]) -> Option<&[u8]>
         ensures { option_map (λ value. value.now) result ≡ value_of name.now (shown self.now).server.settings }
     {

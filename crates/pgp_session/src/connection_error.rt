@@ -16,7 +16,7 @@ pub enum ConnectionError<A: Allocator = Global> {
     OutOfMemory,
     /// The server announces a message that is longer than the limit.
     TooLong,
-    /// What the server reports of a setting couldn't be kept: `TooLarge` where all settings together would exceed the limit of a message, or
+    /// What the server reports of a setting couldn't be kept: `TooLarge` where the names and values of all would exceed 65,536 bytes, or
     /// `OutOfMemory`.
     Unkept(Error),
     /// The server sent something other than a message that is known.

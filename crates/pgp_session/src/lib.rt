@@ -4,6 +4,7 @@
 
 pub mod client;
 mod client_stream;
+mod client_stream_lists;
 mod connection;
 mod connection_error;
 mod connection_parts;

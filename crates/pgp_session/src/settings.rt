@@ -13,6 +13,9 @@ use pgp_message::Message;
 use std::alloc::Allocator;
 use std::marker::Model;
 
+/// How many bytes of names and values a connection keeps at most: a server reports some fifteen settings, of some hundred bytes.
+pub(crate) const SETTINGS_MOST: usize = 65_536;
+
 /// A setting, as it was reported. Its bytes are copies: shared ones would hold all bytes that came with the report.
 #[derive(Drop)]
 pub(crate) struct Entry<A: Allocator> {
@@ -101,14 +104,14 @@ impl<A: Memory> Settings<A> {
     pub(crate) fn keep(
         &mut self,
         alloc: A,
-        limit: u32,
+        limit: usize,
         message: &Message<Bytes<A>>,
     ) -> Result<(), Error>
         ensures { Keeps A.Lacks limit (setting_in (view message.now)) self.old.entries.items self.new.entries.items result }
     {
         match message {
             Message::ParameterStatus(body) => {
-                self.put(alloc, limit as usize, body.name_bytes(), body.value_bytes())
+                self.put(alloc, limit, body.name_bytes(), body.value_bytes())
             }
             _ => Ok(()),
         }
