@@ -10,4 +10,5 @@ mod message;
 mod protocol;
 mod ranges;
 mod reply;
+mod row_index;
 mod server;

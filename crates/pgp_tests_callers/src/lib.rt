@@ -25,8 +25,12 @@ mod trace_session;
 #[cfg(test)]
 mod uses;
 #[cfg(test)]
+mod uses_arrays;
+#[cfg(test)]
 mod wire;
 #[cfg(test)]
 mod wire_ample;
 #[cfg(test)]
 mod wire_client;
+#[cfg(test)]
+mod wire_memory;

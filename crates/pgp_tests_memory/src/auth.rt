@@ -196,7 +196,10 @@ fn with_nonce<A: Allocator + Copy>(
     }
 }
 
-fn begun<A: Allocator + Copy>(alloc: A, is_drawn: bool) -> Result<ScramSha256<A>, Error> {
+pub(crate) fn begun<A: Allocator + Copy>(
+    alloc: A,
+    is_drawn: bool,
+) -> Result<ScramSha256<A>, Error> {
     match Vec::from_slice(alloc, b"a hash") {
         Ok(hash) => {
             let binding = ChannelBinding::tls_server_end_point(hash);
@@ -211,7 +214,7 @@ fn begun<A: Allocator + Copy>(alloc: A, is_drawn: bool) -> Result<ScramSha256<A>
 }
 
 // The server's first text for a client's first text: its nonce goes on, and it has a salt and a count.
-fn server_first<A: Allocator + Copy>(
+pub(crate) fn server_first<A: Allocator + Copy>(
     alloc: A,
     client: &ScramSha256<A>,
 ) -> Result<Vec<u8, A>, AllocError> {
@@ -223,7 +226,7 @@ fn server_first<A: Allocator + Copy>(
     Ok(text)
 }
 
-fn number<T: Drop, A: Allocator>(outcome: Result<T, ScramError<A>>) -> u8 {
+pub(crate) fn number<T: Drop, A: Allocator>(outcome: Result<T, ScramError<A>>) -> u8 {
     match outcome {
         Ok(_) => 0,
         Err(e) => e.number(),
@@ -359,54 +362,4 @@ fn unmapped(alloc: Global, password: &[u8]) -> Result<u8, Error> {
 fn a_client_tells_of_a_mapping_without_memory(rt: HostRuntime) {
     same(&rt, unmapped(rt.alloc(), b"\xc3\xa9"), Ok(1));
     same(&rt, unmapped(rt.alloc(), b"secret"), Ok(0));
-}
-
-// A server's last text.
-#[derive(Clone, Copy)]
-struct Last<'a>(&'a [u8]);
-
-impl Last<'_> {
-    // The number of its error. The turn begins after the first text.
-    fn refusal<A: Allocator + Copy>(
-        &self,
-        alloc: A,
-        client: &mut ScramSha256<A>,
-        turn: Turn<'_>,
-    ) -> Result<usize, Error> {
-        let first = server_first(alloc, client)?;
-        let updated = number(client.update(first.as_slice()));
-        turn.begin();
-        let finished = number(client.finish(self.0));
-        Ok(if updated == 0 {
-            usize::from(finished)
-        } else {
-            WRONG
-        })
-    }
-}
-
-impl Tried for Last<'_> {
-    fn outcome<A: Allocator + Copy>(&self, alloc: A, turn: Turn<'_>) -> Result<usize, Error> {
-        match begun(alloc, false) {
-            Ok(mut client) => self.refusal(alloc, &mut client, turn),
-            Err(e) => Err(e),
-        }
-    }
-}
-
-// A text of the length of a signature is compared in no memory of its own.
-#[test]
-fn a_signature_is_compared_without_memory(rt: HostRuntime) {
-    let texts = [
-        (
-            Last(b"v=U+ppxD5XUKtradnv8e2MkeupiA8FU87Sg8CXzXHDAzw="),
-            Ok(12),
-        ),
-        (Last(b"v=AAAA"), Ok(12)),
-        (Last(b"v=A"), Ok(10)),
-        (Last(b"v=AA==,x"), Ok(6)),
-        (Last(b"\xff"), Ok(3)),
-        (Last(b""), Ok(4)),
-    ];
-    refuse_each(&rt, rt.alloc(), 0..1, &texts);
 }

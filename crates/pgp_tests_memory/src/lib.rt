@@ -4,6 +4,8 @@
 #[cfg(test)]
 mod auth;
 #[cfg(test)]
+mod auth_final;
+#[cfg(test)]
 mod auth_server;
 #[cfg(test)]
 mod bound_values;
@@ -29,6 +31,8 @@ mod message;
 mod pieces;
 #[cfg(test)]
 mod reads;
+#[cfg(test)]
+mod row_tables;
 #[cfg(test)]
 mod serializers;
 #[cfg(test)]

@@ -5,11 +5,8 @@ use crate::checks::same;
 use crate::reads::{buffer, row};
 use bytes::{Bytes, BytesMut};
 use pgp_base::{Error, FallibleIterator};
-use pgp_message::{
-    DataRowBody, FrameParser, Header, Message, Messages, RowIndex, RowPlaces, Storage, read_frames,
-};
+use pgp_message::{DataRowBody, FrameParser, Header, Message, Messages, Storage, read_frames};
 use std::alloc::Global;
-use std::ops::Range;
 use std::process::Abort;
 use std::test::Fail;
 
@@ -42,7 +39,7 @@ fn variant<S: Storage>(message: &Message<S>) -> &'static str {
     }
 }
 
-const ROW: &[u8] = b"\x44\0\0\0\x13\0\x03\0\0\0\x01\x61\xff\xff\xff\xff\0\0\0\0";
+pub(super) const ROW: &[u8] = b"\x44\0\0\0\x13\0\x03\0\0\0\x01\x61\xff\xff\xff\xff\0\0\0\0";
 
 /// The tag and the length of the header at the front.
 fn header(bytes: &[u8]) -> Result<Option<(u8, i32)>, Error> {
@@ -304,108 +301,4 @@ fn a_message_is_kept_while_the_reader_goes_on(rt: HostRuntime) {
     same(&rt, messages.rest().len(), 5);
     same(&rt, named(messages.next()), Ok(Some("ParseComplete")));
     same(&rt, data, Some(b"ab".as_slice()));
-}
-
-/// The three columns in each order, each time with a place after the last one.
-const ORDERS: [[usize; 4]; 6] = [
-    [0, 1, 2, 3],
-    [0, 2, 1, 4],
-    [1, 0, 2, 3],
-    [1, 2, 0, 4],
-    [2, 0, 1, usize::MAX],
-    [2, 1, 0, usize::MAX],
-];
-
-/// The columns of `ROW`, asked in this order.
-fn are_at_hand(rt: &impl Abort, index: &RowIndex<'_>, order: &[usize]) {
-    let values = [Some(b"a".as_slice()), None, Some(b"".as_slice())];
-    let places = [Some(4..5usize), None, Some(13..13usize)];
-    for column in order {
-        same(rt, index.value(*column), values.get(*column).copied());
-        same(rt, index.range(*column).as_ref(), places.get(*column));
-    }
-}
-
-#[test]
-fn any_column_of_a_row_is_at_hand(rt: HostRuntime) -> Result<(), Fail> {
-    let row = row(rt.alloc(), ROW)?;
-    let index = row.index(rt.alloc())?;
-    same(&rt, index.len(), 3);
-    for order in &ORDERS {
-        are_at_hand(&rt, &index, order);
-    }
-    Ok(())
-}
-
-#[test]
-fn the_columns_at_hand_are_those_of_the_walk(rt: HostRuntime) -> Result<(), Fail> {
-    let row = row(rt.alloc(), ROW)?;
-    let index = row.index(rt.alloc())?;
-    let mut ranges = row.ranges();
-    for column in 0..4usize {
-        same(&rt, ranges.next(), Ok(index.range(column)));
-    }
-    Ok(())
-}
-
-/// A row of the one column `z`.
-const NARROW: &[u8] = b"\x44\0\0\0\x0b\0\x01\0\0\0\x01\x7a";
-
-/// A row of two columns, of which the second is cut short.
-const CUT: &[u8] = b"\x44\0\0\0\x0f\0\x02\0\0\0\x01\x61\0\0\0\x05";
-
-/// A value or a null, and nothing where there is no such column.
-type Value<'a> = Option<Option<&'a [u8]>>;
-
-/// How many columns a row has by a table that is made in `places`, the values of the first two, and the place of the third.
-fn tabled<'a>(
-    row: &'a DataRowBody<Bytes>,
-    places: &'a mut RowPlaces,
-) -> Result<(usize, [Value<'a>; 2], Option<Option<Range<usize>>>), Error> {
-    let columns = row.index_into(places)?;
-    Ok((
-        columns.len(),
-        [columns.value(0), columns.value(1)],
-        columns.range(2),
-    ))
-}
-
-#[test]
-fn a_table_is_made_again_for_each_row(rt: HostRuntime) -> Result<(), Fail> {
-    let mut places = RowPlaces::new(rt.alloc());
-    let wide = row(rt.alloc(), ROW)?;
-    let narrow = row(rt.alloc(), NARROW)?;
-    let cut = row(rt.alloc(), CUT)?;
-    let three = Ok((
-        3,
-        [Some(Some(b"a".as_slice())), Some(None)],
-        Some(Some(13..13usize)),
-    ));
-    same(&rt, tabled(&wide, &mut places), three);
-    let one = Ok((1, [Some(Some(b"z".as_slice())), None], None));
-    same(&rt, tabled(&narrow, &mut places), one);
-    same(&rt, tabled(&cut, &mut places), Err(Error::UnexpectedEof));
-    let again = Ok((
-        3,
-        [Some(Some(b"a".as_slice())), Some(None)],
-        Some(Some(13..13usize)),
-    ));
-    same(&rt, tabled(&wide, &mut places), again);
-    Ok(())
-}
-
-#[test]
-fn a_column_without_a_table(rt: HostRuntime) -> Result<(), Fail> {
-    let wide = row(rt.alloc(), ROW)?;
-    same(&rt, wide.column(0), Ok(Some(Some(b"a".as_slice()))));
-    same(&rt, wide.column(1), Ok(Some(None)));
-    same(&rt, wide.column(2), Ok(Some(Some(b"".as_slice()))));
-    for past in [3usize, 4, usize::MAX] {
-        same(&rt, wide.column(past), Ok(None));
-    }
-    let cut = row(rt.alloc(), CUT)?;
-    same(&rt, cut.column(0), Ok(Some(Some(b"a".as_slice()))));
-    same(&rt, cut.column(1), Err(Error::UnexpectedEof));
-    same(&rt, cut.column(2), Err(Error::UnexpectedEof));
-    Ok(())
 }
