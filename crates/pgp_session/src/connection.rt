@@ -305,8 +305,9 @@ impl<'a, A: Memory> Connection<'a, A> {
             Err(e) => return Err(ConnectionError::Misplaced(e)),
         };
         let (alloc, limit) = (self.login.alloc, self.limit);
-        if let Err(e) = self.settings.keep(alloc, limit, message) {
-            return Err(ConnectionError::Unkept(e));
+        match self.settings.keep(alloc, limit, message) {
+            Ok(()) => {}
+            Err(e) => return Err(ConnectionError::Unkept(e)),
         }
         self.server.note(message);
         if is_end(event) {
