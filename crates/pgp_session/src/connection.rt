@@ -304,8 +304,9 @@ impl<'a, A: Memory> Connection<'a, A> {
             Ok(event) => event,
             Err(e) => return Err(ConnectionError::Misplaced(e)),
         };
-        if let Err(e) = self.settings.keep(self.login.alloc, SETTINGS_MOST, message) {
-            return Err(ConnectionError::Unkept(e));
+        match self.settings.keep(self.login.alloc, SETTINGS_MOST, message) {
+            Ok(()) => {}
+            Err(e) => return Err(ConnectionError::Unkept(e)),
         }
         self.server.note(message);
         if is_end(event) {

@@ -11,16 +11,10 @@ use std::alloc::Allocator;
 pub(crate) const ROUNDS: u64 = 24;
 
 /// The answers of a server that asks for no password.
-pub(crate) const LOGIN: &[u8] =
-    b"R\0\0\0\x08\0\0\0\0S\0\0\0\x0bTimeZ\0\0K\0\0\0\x0c\0\0\0\x01\0\0\0\x02Z\0\0\0\x05I";
+pub(crate) const LOGIN: &[u8] = b"R\0\0\0\x08\0\0\0\0K\0\0\0\x0c\0\0\0\x01\0\0\0\x02Z\0\0\0\x05I";
 
 /// What they are to the startup packet, whose name is 0.
-pub(crate) const LOGGED: [Event; 4] = [
-    Event::Part(0),
-    Event::Aside,
-    Event::Part(0),
-    Event::Last(0),
-];
+pub(crate) const LOGGED: [Event; 3] = [Event::Part(0), Event::Part(0), Event::Last(0)];
 
 /// What a call came to: a lack of memory, or `InvalidLength` for any other error.
 pub(crate) fn outcome_of<T: Drop, A: Allocator>(

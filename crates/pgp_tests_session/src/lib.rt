@@ -9,3 +9,5 @@ mod checks;
 mod connections;
 #[cfg(test)]
 mod pooled;
+#[cfg(test)]
+mod settings;

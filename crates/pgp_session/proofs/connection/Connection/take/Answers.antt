@@ -15,11 +15,11 @@ returns-in-Ok-hear g c =
     let m = view c.args.message.now in
     inl (record {
       taken = taken_ok (taken (talk_of (λ q. q.items) c.args.self.now.dialogue) (kind_of m)) c.in-Ok.event (talk_of (λ q. q.items) c.take_message.new.self) c.in-Ok.ensures;
-      kept = c.keep.ensures.0;
+      kept = c.in-Ok-keep.ensures.0;
       goes_on = sym c.is_end.ensures ∙ c.if-is_end.false;
       logged = logs_on _ g.A.Memory.Lacks (seen c.args.self.now.login) (seen c.hear.new.self) c.args.self.now.out.items c.hear.new.out.items (asking m) c.in-Ok-hear.ensures.observed;
       is = took_so m (seen c.hear.new.self) c.hear.new.out.items (talk_of (λ q. q.items) c.take_message.new.self) (record { state = c.note.new.self; settings = c.keep.new.self.entries.items }) (shown c.args.self.now)
-          (heard_so m c.note.new.self c.keep.new.self.entries.items (shown c.args.self.now).server c.note.ensures c.keep.ensures.1);
+          (heard_so m c.note.new.self c.keep.new.self.entries.items (shown c.args.self.now).server c.note.ensures c.in-Ok-keep.ensures.1);
     })
 
 pub returns-in-Err-hear : goal.returns-in-Err-hear
@@ -27,4 +27,4 @@ returns-in-Err-hear g c =
     let m = view c.args.message.now in
     let talk = talk_of (λ q. q.items) c.take_message.new.self in
     let is = taken_ok (taken (talk_of (λ q. q.items) c.args.self.now.dialogue) (kind_of m)) c.in-Ok.event talk c.in-Ok.ensures in
-    (inr (inr ((c.in-Ok.event, talk), is, c.keep.ensures.0, sym c.is_end.ensures ∙ c.if-is_end.false, (seen c.hear.new.self, c.hear.new.out.items, c.in-Err-hear.ensures.observed))), c.in-Err-hear.ensures.kept)
+    (inr (inr ((c.in-Ok.event, talk), is, c.in-Ok-keep.ensures.0, sym c.is_end.ensures ∙ c.if-is_end.false, (seen c.hear.new.self, c.hear.new.out.items, c.in-Err-hear.ensures.observed))), c.in-Err-hear.ensures.kept)
