@@ -49,6 +49,7 @@ live:
 	@scripts/live_serve
 	@scripts/live_trace
 	@scripts/live_pcap
+	@scripts/live_tshark
 	@[ -e out/c/libpostgres_protocol.so ] || scripts/library build
 	@scripts/wheel
 	@rm -rf out/venv && python3 -m venv --system-site-packages out/venv && out/venv/bin/pip install -q --no-index out/wheel/*.whl
