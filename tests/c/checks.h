@@ -12,6 +12,7 @@ void logins(void);
 void server(void);
 void shapes(void);
 void in_place(void);
+void search(void);
 static inline void is(const char *what, const void *a, size_t n, const void *b, size_t m)
 {
     if (n != m || (n && memcmp(a, b, n) != 0)) {

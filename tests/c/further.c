@@ -123,6 +123,37 @@ static void values(void)
     same("no text", pgp_put_jsonb(B("\xff"), out, sizeof out, &n), PGP_E_NOT_UTF8); same("nothing", n, 0);
 }
 
+/* Bytes that PostgreSQL 15.18 sent (numeric_send; crates/pgp_rows/data/numerics.rows), and their halves by hand: high * 2^64 + low. */
+static void integers(void)
+{
+    static const struct { const char *bytes; size_t len; int64_t high; uint64_t low; } cases[] = {
+        {"\0\0\0\0\0\0\0\0", 8, 0, 0}, {"\0\1\0\0\0\0\0\0\0\1", 10, 0, 1}, {"\0\1\0\0\x40\0\0\0\0\1", 10, -1, UINT64_MAX}, {"\0\1\0\2\0\0\0\0\0\1", 10, 0, 100000000},
+        {"\0\5\0\4\0\0\0\0\4\xd2\x16\x2e\x23\x34\x0d\x80\x1e\xd2", 18, 0, 12345678901234567890u}, {"\0\1\0\7\0\0\0\0\0\x64", 10, 54210108624, 5076944270305263616},
+        {"\0\5\0\4\x40\0\0\0\3\x9a\x0d\x2c\1\x70\x15\x65\x16\xb1", 18, -1, INT64_MAX},
+        {"\0\x0a\0\x09\0\0\0\0\0\xaa\5\x83\x20\x9a\1\xd5\x09\x0d\x0c\x60\x1c\x87\x1b\xf6\x20\xda\x16\x5f", 28, INT64_MAX, UINT64_MAX},
+        {"\0\x0a\0\x09\x40\0\0\0\0\xaa\5\x83\x20\x9a\1\xd5\x09\x0d\x0c\x60\x1c\x87\x1b\xf6\x20\xda\x16\x60", 28, INT64_MIN, 0} };
+    int64_t value = 7, high = 7;
+    uint64_t low = 7;
+    uint8_t out[64];
+    size_t i, n;
+    for (i = 0; i < sizeof cases / sizeof *cases; i++) {
+        same("put", pgp_put_numeric_int128(cases[i].high, cases[i].low, out, sizeof out, &n), PGP_OK); is("put", out, n, cases[i].bytes, cases[i].len);
+        same("get", pgp_get_numeric_int128((const uint8_t *)cases[i].bytes, cases[i].len, &high, &low), PGP_OK); same("high", high == cases[i].high, 1); same("low", low == cases[i].low, 1);
+    }
+    WRITER("2^63 - 1", "\0\5\0\4\0\0\0\0\3\x9a\x0d\x2c\1\x70\x15\x65\x16\xaf", pgp_put_numeric_int64(INT64_MAX, O));
+    WRITER("-2^63", "\0\5\0\4\x40\0\0\0\3\x9a\x0d\x2c\1\x70\x15\x65\x16\xb0", pgp_put_numeric_int64(INT64_MIN, O));
+    WRITER("2^64", "\0\5\0\4\0\0\0\0\7\x34\x1a\x58\2\xe1\x03\xbb\x06\x50", pgp_put_numeric_int128(1, 0, O));
+    same("get", pgp_get_numeric_int64(B("\0\5\0\4\0\0\0\0\3\x9a\x0d\x2c\1\x70\x15\x65\x16\xaf"), &value), PGP_OK); same("2^63 - 1", value == INT64_MAX, 1);
+    same("get", pgp_get_numeric_int64(B("\0\5\0\4\x40\0\0\0\3\x9a\x0d\x2c\1\x70\x15\x65\x16\xb0"), &value), PGP_OK); same("-2^63", value == INT64_MIN, 1);
+    same("12.00", pgp_get_numeric_int64(B("\0\1\0\0\0\0\0\2\0\x0c"), &value), PGP_OK); same("12", value == 12, 1);
+    same("2^63", pgp_get_numeric_int64(B("\0\5\0\4\0\0\0\0\3\x9a\x0d\x2c\1\x70\x15\x65\x16\xb0"), &value), PGP_E_OUT_OF_RANGE); same("as it was", value == 12, 1);
+    same("2^127", pgp_get_numeric_int128(B("\0\x0a\0\x09\0\0\0\0\0\xaa\5\x83\x20\x9a\1\xd5\x09\x0d\x0c\x60\x1c\x87\x1b\xf6\x20\xda\x16\x60"), &high, &low), PGP_E_OUT_OF_RANGE); same("as it was", high == INT64_MIN, 1); same("as it was", low, 0);
+    same("0.5", pgp_get_numeric_int64(B("\0\1\xff\xff\0\0\0\1\x13\x88"), &value), PGP_E_FRACTION); same("0.5", pgp_get_numeric_int128(B("\0\1\xff\xff\0\0\0\1\x13\x88"), &high, &low), PGP_E_FRACTION);
+    same("NaN", pgp_get_numeric_int64(B("\0\0\0\0\xc0\0\0\0"), &value), PGP_E_NOT_FINITE); same("Infinity", pgp_get_numeric_int128(B("\0\0\0\0\xd0\0\0\x20"), &high, &low), PGP_E_NOT_FINITE);
+    same("cut", pgp_get_numeric_int64(B("\0\1\0\0\0\0\0\0\0"), &value), PGP_E_UNEXPECTED_EOF); same("a sign", pgp_get_numeric_int128(B("\0\0\0\0\0\1\0\0"), &high, &low), PGP_E_INVALID_SIGN);
+    same("a byte more", pgp_get_numeric_int64(B("\0\0\0\0\0\0\0\0!"), &value), PGP_E_NOT_DRAINED); same("as it was", value == 12, 1);
+}
+
 static void members(void)
 {
     static const char record[] = "\0\0\0\3\0\0\0\x17\0\0\0\4\0\0\0\1\0\0\2\xc1\0\0\0\1x\0\0\2\xc1\xff\xff\xff\xff"; /* (1,x,) */
@@ -174,8 +205,8 @@ static void names(void)
 {
     is("status", T(pgp_status_name(PGP_E_NOT_UTF8)), T("PGP_E_NOT_UTF8")); is("status", T(pgp_status_name(PGP_E_OUT_OF_RANGE)), T("PGP_E_OUT_OF_RANGE"));
     is("status", T(pgp_status_name(PGP_E_WRONG_PHASE)), T("PGP_E_WRONG_PHASE")); is("status", T(pgp_status_name(PGP_E_UNCERTAIN)), T("PGP_E_UNCERTAIN"));
-    is("status", T(pgp_status_name(PGP_FULL)), T("PGP_FULL")); is("none", T(pgp_status_name(26)), T("?")); is("status", T(pgp_status_name(PGP_E_UNKNOWN_PACKET)), T("PGP_E_UNKNOWN_PACKET")); is("none", T(pgp_status_name(40)), T("?"));
+    is("status", T(pgp_status_name(PGP_FULL)), T("PGP_FULL")); is("none", T(pgp_status_name(26)), T("?")); is("status", T(pgp_status_name(PGP_E_UNKNOWN_PACKET)), T("PGP_E_UNKNOWN_PACKET")); is("status", T(pgp_status_name(PGP_E_FRACTION)), T("PGP_E_FRACTION")); is("none", T(pgp_status_name(42)), T("?"));
     is("kind", T(pgp_kind_name(PGP_DATA_ROW)), T("DataRow")); is("kind", T(pgp_kind_name(PGP_FUNCTION_CALL_RESPONSE)), T("FunctionCallResponse")); is("none", T(pgp_kind_name(35)), T("?"));
 }
 
-void further(void) { dialogues(); lists(); values(); members(); data(); prepared(); names(); }
+void further(void) { dialogues(); lists(); values(); integers(); members(); data(); prepared(); names(); }

@@ -83,7 +83,7 @@ static void missing(void)
 #define SNAPSHOT "\0\0\0\3\0\0\0\0\0\0\0\x0a\0\0\0\0\0\0\0\x14\0\0\0\0\0\0\0\x0a\0\0\0\0\0\0\0\x0e\0\0\0\0\0\0\0\x0f"
 static void snapshots(void)
 {
-    static const uint64_t running[3] = {10, 14, 15};
+    static const uint64_t running[3] = {10, 14, 15}, late[1] = {9223372036854775806};
     struct pgp_snapshot s;
     uint64_t xid = 7;
     size_t cut, i;
@@ -106,6 +106,9 @@ static void snapshots(void)
         }
         free(copy);
     }
+    WRITER("snapshot", SNAPSHOT, pgp_put_snapshot(10, 20, running, 3, O));
+    WRITER("none was running", "\0\0\0\0\0\0\0\0\0\0\0\1\0\0\0\0\0\0\0\1", pgp_put_snapshot(1, 1, NULL, 0, O));
+    WRITER("late ones", "\0\0\0\1\x7f\xff\xff\xff\xff\xff\xff\xfe\x7f\xff\xff\xff\xff\xff\xff\xff\x7f\xff\xff\xff\xff\xff\xff\xfe", pgp_put_snapshot(9223372036854775806, 9223372036854775807, late, 1, O));
     same("negative", pgp_get_snapshot(B("\xff\xff\xff\xff"), &s), PGP_E_INVALID_COUNT);
     same("greatest", pgp_get_snapshot(B("\0\0\0\0\xff\xff\xff\xff\xff\xff\xff\xff\x80\0\0\0\0\0\0\0!"), &s), PGP_OK);
     same("xmin", s.xmin == UINT64_MAX, 1); same("xmax", s.xmax == (uint64_t)1 << 63, 1); same("a byte", pgp_xid_next(B("\0\0\0\0\xff\xff\xff\xff\xff\xff\xff\xff\x80\0\0\0\0\0\0\0!"), &s.running, &xid), PGP_E_NOT_DRAINED);

@@ -43,9 +43,19 @@ VALUES = (
     (4451, [pg.Range(('in', 1), ('ex', 5)), pg.Range(('in', 7), ('ex', 9))],
      '00000002' '00000011' '02' '0000000400000001' '0000000400000005' '00000011' '02' '0000000400000007' '0000000400000009'), (4451, [], '00000000'),
 )
+# As PostgreSQL 15 sends them (tsvectorsend, tsquerysend): 'a':1A,2B 'cat':3 'fat'; and 'a':* & !( 'b':C | 'c' ), 'a' <2> 'b'.
+VALUES += (
+    (3614, [pg.Lexeme('a', (pg.Position(1, 'A'), pg.Position(2, 'B'))), pg.Lexeme('cat', (pg.Position(3),)), pg.Lexeme('fat')],
+     '00000003' '6100' '0002' 'c001' '8002' '63617400' '0001' '0003' '66617400' '0000'), (3614, [], '00000000'),
+    (3615, [pg.Operator('&'), pg.Operator('!'), pg.Operator('|'), pg.Operand('c'), pg.Operand('b', 'C'), pg.Operand('a', '', True)],
+     '00000006' '0202' '0201' '0203' '0100006300' '0102006200' '0100016100'), (3615, [], '00000000'),
+    (3615, [pg.Operator('<->', 2), pg.Operand('b'), pg.Operand('a', 'AB')], '00000003' '02040002' '0100006200' '01 0c 00 61 00'.replace(' ', '')),
+    (3643, [[pg.Lexeme('a')], []], '00000001' '00000000' '00000e1e' '00000002' '00000001' '00000008' '00000001' '6100' '0000' '00000004' '00000000'),
+)
 #: A type's number, a value that it doesn't take, and the exception.
 WRONG = ((23, 'x', TypeError), (23, 2 ** 31, OverflowError), (16, 1, TypeError), (25, 5, TypeError), (1184, datetime.datetime(2000, 1, 1), TypeError),
-         (1266, datetime.time(1, 0), TypeError), (1007, [[1], [2, 3]], ValueError), (1700, 'abc', pg.ProtocolError), (1700, '1e200000', pg.ProtocolError))
+         (1266, datetime.time(1, 0), TypeError), (1007, [[1], [2, 3]], ValueError), (1700, 'abc', pg.ProtocolError), (1700, '1e200000', pg.ProtocolError),
+         (3614, [pg.Lexeme('a', (pg.Position(16384),))], OverflowError), (3614, [pg.Lexeme('a\0')], pg.ProtocolError), (3615, [pg.Operator('-')], ValueError))
 
 
 def check_typed(same, raises):
@@ -61,6 +71,7 @@ def check_typed(same, raises):
     snapshot = '00000003' '000000000000000a' '0000000000000014' '000000000000000a' '000000000000000e' '000000000000000f'  # 10:20:10,14,15
     for oid in (2970, 5038):
         same('a snapshot', apply(registry.get(oid).decode, bytes.fromhex(snapshot)), pg.Snapshot(10, 20, [10, 14, 15]))
+        same('a snapshot, written', registry.get(oid).encode(pg.Snapshot(10, 20, [10, 14, 15])).hex(), snapshot)
     same('a snapshot of none', pg.get_snapshot(bytes.fromhex('00000000' '0000000000000001' 'ffffffffffffffff')), (1, 2 ** 64 - 1, []))
     same('a record, written', pg.put_record([(23, b'\0\0\0\1'), (705, b'x'), (705, None)]).hex(), record)
     for name, value in (('ltree', 'Top.Science.Astronomy'), ('lquery', 'Top.*{,2}.sport@'), ('ltxtquery', 'Europe & Russia@*')):

@@ -27,7 +27,7 @@ STATUSES: Dict[int, str] = {
     15: 'TooManyElements', 16: 'InvalidBitLength', 17: 'InvalidNetmask', 18: 'InvalidAddressLength', 19: 'InvalidFamily', 20: 'InvalidVersion',
     21: 'InvalidSign', 22: 'InvalidScale', 23: 'InvalidDigit', 24: 'InvalidText', 25: 'OutOfRange',
     32: 'WrongPhase', 33: 'EmptyName', 34: 'UnknownVersion', 35: 'UnknownKind', 36: 'Unexpected', 37: 'Uncertain',
-    38: 'UnknownPacket', 39: 'InvalidFormats',
+    38: 'UnknownPacket', 39: 'InvalidFormats', 40: 'NotFinite', 41: 'Fraction',
     66: 'ScramWrongState', 67: 'ScramNotUtf8', 68: 'ScramUnexpectedEnd', 69: 'ScramUnexpectedCharacter', 70: 'ScramTrailing',
     71: 'ScramInvalidNumber', 72: 'ScramInvalidNonce', 73: 'ScramTooManyIterations', 74: 'ScramInvalidBase64', 75: 'ScramServer',
     76: 'ScramVerification', 80: 'BadNonce', 81: 'BadBinding', 82: 'NotAVerifier', 83: 'WrongPassword', 84: 'ScramUnsupportedBinding',
@@ -128,7 +128,7 @@ def written(call: Callable[..., int], room: int = 64) -> bytes:
         room *= 4
 
 
-INT16, INT32, UINT32 = (-2 ** 15, 2 ** 15 - 1), (-2 ** 31, 2 ** 31 - 1), (0, 2 ** 32 - 1)
+INT16, INT32, UINT32, UINT64 = (-2 ** 15, 2 ** 15 - 1), (-2 ** 31, 2 ** 31 - 1), (0, 2 ** 32 - 1), (0, 2 ** 64 - 1)
 _TYPES: Dict[str, Tuple[Any, ...]] = {'text': TEXT, 'int32': (c_int32,), 'letter': (c_uint8,), 'size': (c_size_t,), 'uint8': (c_uint8,)}
 
 

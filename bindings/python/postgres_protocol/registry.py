@@ -10,8 +10,9 @@ from typing import Any, Callable, Dict, List, NamedTuple, Optional, Sequence, Tu
 
 from . import _rows
 from ._library import ProtocolError
+from .search import get_tsquery, get_tsvector, put_tsquery, put_tsvector
 from .shapes import (get_box, get_circle, get_label, get_line, get_lseg, get_macaddr8, get_multirange, get_path, get_point, get_polygon, get_record, get_snapshot, get_tid,
-                     put_box, put_circle, put_cidr, put_label, put_line, put_lseg, put_macaddr8, put_multirange, put_path, put_point, put_polygon, put_tid)
+                     put_box, put_circle, put_cidr, put_label, put_line, put_lseg, put_macaddr8, put_multirange, put_path, put_point, put_polygon, put_snapshot, put_tid)
 from .values import (Array, Interval, Range, get, get_array, get_inet, get_interval, get_jsonb, get_macaddr, get_numeric, get_range, get_timetz, get_varbit, put,
                      put_array, put_inet, put_interval, put_jsonb, put_macaddr, put_numeric, put_range, put_timetz, put_uuid, put_varbit)
 
@@ -204,12 +205,12 @@ def _is_no_list(value: Any) -> bool:
 
 
 def _is_of_tuples(value: Any) -> bool:
-    """The same of types whose values are lists of tuples, as polygons and multiranges; an empty list is a value."""
+    """The same of types whose values are lists of tuples, as polygons, multiranges and tsvectors; an empty list is a value."""
     return not isinstance(value, list) or not value or isinstance(value[0], tuple)
 
 
 #: The types whose values are lists. (Those of JSON may be, but in its arrays a list is a dimension.)
-_LISTS = {604: _is_of_tuples}
+_LISTS = {oid: _is_of_tuples for oid in (604, 3614, 3615)}
 
 
 def _flat(value: Sequence[Any], is_element: Callable[[Any], bool]) -> Tuple[List[int], List[Any]]:
@@ -271,7 +272,11 @@ _PLAIN: Sequence[Tuple[int, int, str, Decoder, Callable[[Any], bytes], bool]] = 
     (1562, 1563, 'varbit', _get_bits, _put_bits, False),
     (1700, 1231, 'numeric', get_numeric, put_numeric, False),
     (2950, 2951, 'uuid', lambda data: uuid.UUID(bytes=data), _put_uuid, False),
+    (3614, 3643, 'tsvector', get_tsvector, put_tsvector, False),
+    (3615, 3645, 'tsquery', get_tsquery, put_tsquery, False),
     (3220, 3221, 'pg_lsn', lambda data: get('lsn', data), _putter('lsn'), False),
+    (2970, 2949, 'txid_snapshot', get_snapshot, put_snapshot, False),
+    (5038, 5039, 'pg_snapshot', get_snapshot, put_snapshot, False),
     (3802, 3807, 'jsonb', lambda data: json.loads(get_jsonb(data)), lambda value: put_jsonb(json.dumps(value)), False),
 )
 #: The server's own ranges: number, that of its arrays, name, and that of the bounds.
@@ -301,8 +306,6 @@ class Registry:
         for oid, array, name, inner in _MULTIRANGES:
             self.add(self._multirange(oid, name, self._types[inner]), array)
         self.add(Type(2249, 'record', self._record, _no_record), 2287)
-        self.add(Type(2970, 'txid_snapshot', get_snapshot, _no_snapshot), 2949)
-        self.add(Type(5038, 'pg_snapshot', get_snapshot, _no_snapshot), 5039)
 
     @staticmethod
     def _multirange(oid: int, name: str, kept: Type) -> Type:
@@ -328,10 +331,6 @@ class Registry:
 
 def _no_record(value: Any) -> bytes:
     raise TypeError('record: a server takes no parameter of this type')
-
-
-def _no_snapshot(value: Any) -> bytes:
-    raise TypeError('pg_snapshot: it is read alone')
 
 
 def _unknown(value: Any) -> bytes:

@@ -3,7 +3,7 @@ from ctypes import POINTER, Structure, byref, c_bool, c_int8, c_size_t, c_uint8,
 from ipaddress import ip_network
 from typing import Any, Callable, List, NamedTuple, Optional, Sequence, Tuple, Union
 
-from ._library import (OK, OUT, TEXT, UINT32, Bytes, Column, Cursor, Part, ProtocolError, Value, as_bytes, as_integer, column_of, declare, items, part_of, step, text,
+from ._library import (OK, OUT, TEXT, UINT32, UINT64, Bytes, Column, Cursor, Part, ProtocolError, Value, as_bytes, as_integer, column_of, declare, items, part_of, step, text,
                        writer, written)
 from .values import get, put
 
@@ -91,6 +91,7 @@ _put_path, _put_polygon = declare('put_path', c_bool, POINTER(_Point), c_size_t,
 _get_path, _get_polygon = declare('get_path', *TEXT, POINTER(c_bool), POINTER(Cursor)), declare('get_polygon', *TEXT, POINTER(Cursor))
 _put_tid, _get_tid = declare('put_tid', POINTER(_Tid), *OUT), declare('get_tid', *TEXT, POINTER(_Tid))
 _get_snapshot, _xid_next = declare('get_snapshot', *TEXT, POINTER(_Snapshot)), step('xid', c_uint64)
+_put_snapshot = declare('put_snapshot', c_uint64, c_uint64, POINTER(c_uint64), c_size_t, *OUT)
 _put_char, _get_char = declare('put_char', c_int8, *OUT), declare('get_char', *TEXT, POINTER(c_int8))
 _put_macaddr8, _get_macaddr8 = writer('put_macaddr8', 'data:text'), declare('get_macaddr8', *TEXT)
 _put_cidr, _put_inet_any = declare('put_cidr', *TEXT, c_uint8, *OUT), declare('put_inet_any', *TEXT, c_uint8, *OUT)
@@ -232,6 +233,13 @@ def get_snapshot(data: Bytes) -> Snapshot:
     kept, snapshot, xid = as_bytes(data, 'data'), _Snapshot(), c_uint64()
     _read(_get_snapshot, kept, snapshot)
     return Snapshot(snapshot.xmin, snapshot.xmax, [xid.value for _ in items(_xid_next, kept, snapshot.running, xid)])
+
+
+def put_snapshot(value: Snapshot) -> bytes:
+    """A `pg_snapshot`: a server wants the transactions in order, and between the bounds."""
+    low, high = as_integer(value.xmin, 'xmin', *UINT64), as_integer(value.xmax, 'xmax', *UINT64)
+    running = (c_uint64 * len(value.running))(*(as_integer(xid, 'running', *UINT64) for xid in value.running))
+    return written(lambda *out: _put_snapshot(low, high, running, len(running), *out))
 
 
 def put_char(value: int) -> bytes:

@@ -53,7 +53,7 @@ enum {
     PGP_E_EMBEDDED_NULL = 2,            /* a text has a 0 byte                                           */
     PGP_E_TOO_LARGE = 3,                /* a count or a length exceeds its field                         */
     PGP_E_INVALID_LENGTH = 4,           /* a frame announces a length below 4: the stream can't go on    */
-    PGP_E_UNKNOWN_TAG = 5,              /* no message of a server has the tag                            */
+    PGP_E_UNKNOWN_TAG = 5,              /* no message of a server has the tag, no item of a tsquery      */
     PGP_E_UNKNOWN_AUTHENTICATION = 6,   /* no authentication request has the code                        */
     PGP_E_UNEXPECTED_EOF = 7,           /* a part is cut short                                           */
     PGP_E_NOT_DRAINED = 8,              /* bytes stand after a complete body, list or value              */
@@ -73,15 +73,17 @@ enum {
     PGP_E_INVALID_SCALE = 22,           /* a numeric's scale exceeds 16,383                              */
     PGP_E_INVALID_DIGIT = 23,           /* a digit of a numeric exceeds 9,999                            */
     PGP_E_INVALID_TEXT = 24,            /* a text is no decimal number                                   */
-    PGP_E_OUT_OF_RANGE = 25,            /* no numeric holds the text's number                            */
+    PGP_E_OUT_OF_RANGE = 25,            /* no numeric holds the text's number, or no integer a numeric's */
     PGP_E_WRONG_PHASE = 32,             /* pgp_stream_*: the message is not allowed in this phase        */
     PGP_E_EMPTY_NAME = 33,              /* a parameter of a startup packet has no name                   */
     PGP_E_VERSION = 34,                 /* a startup packet of another version than 3.0 and 3.2          */
-    PGP_E_KIND = 35,                    /* the kind of a range's side, a request or a message is none   */
+    PGP_E_KIND = 35,                    /* a range's side, a query's item, a request or a message has no kind */
     PGP_E_UNEXPECTED = 36,              /* pgp_dialogue_take: the message has no place there             */
     PGP_E_UNCERTAIN = 37,               /* pgp_dialogue_take: a copy failed after an early Sync          */
     PGP_E_UNKNOWN_PACKET = 38,          /* pgp_client_front: an opening packet has the code of none      */
     PGP_E_FORMATS = 39,                 /* pgp_bind: a format is neither 0 nor 1, or their count is wrong */
+    PGP_E_NOT_FINITE = 40,              /* a numeric is NaN or an infinity, and no integer               */
+    PGP_E_FRACTION = 41,                /* a digit of a numeric after the point isn't 0                  */
     PGP_MORE = 100,                     /* bytes are missing: read more, and call again                  */
     PGP_DONE = 101,                     /* the iterator is at its end                                    */
     PGP_FULL = 102                      /* pgp_*_all: the array is full, and more items follow           */
@@ -476,6 +478,12 @@ pgp_status pgp_put_float8(uint64_t bits, PGP_OUT);     pgp_status pgp_get_float8
    places as the text shows. A get writes what the server shows. Errors: PGP_E_INVALID_TEXT, PGP_E_OUT_OF_RANGE, PGP_E_NOT_UTF8; and for bytes 7, 8, 21 to 23. */
 pgp_status pgp_put_numeric_text(const uint8_t *text, size_t len, PGP_OUT);
 pgp_status pgp_get_numeric_text(const uint8_t *bytes, size_t len, PGP_OUT);
+/* A numeric that is an integer, whatever its scale; a put writes it with no places after the point. Of 128 bits the value is high * 2^64 + low. A get returns
+   PGP_E_NOT_FINITE, PGP_E_FRACTION, or PGP_E_OUT_OF_RANGE where the type doesn't hold the integer; and for bytes 7, 8, 21 to 23. */
+pgp_status pgp_put_numeric_int64(int64_t value, PGP_OUT);
+pgp_status pgp_get_numeric_int64(const uint8_t *bytes, size_t len, int64_t *value);
+pgp_status pgp_put_numeric_int128(int64_t high, uint64_t low, PGP_OUT);
+pgp_status pgp_get_numeric_int128(const uint8_t *bytes, size_t len, int64_t *high, uint64_t *low);
 
 /* An interval: months, days and microseconds are apart. A timetz: microseconds since midnight, and seconds west of Greenwich. */
 struct pgp_interval { int64_t microseconds; int32_t days, months; };
@@ -528,6 +536,32 @@ pgp_status pgp_get_tid(const uint8_t *bytes, size_t len, struct pgp_tid *value);
 struct pgp_snapshot { struct pgp_cursor running; uint64_t xmin, xmax; };
 pgp_status pgp_get_snapshot(const uint8_t *bytes, size_t len, struct pgp_snapshot *value);
 pgp_status pgp_xid_next(const uint8_t *bytes, size_t len, struct pgp_cursor *cursor, uint64_t *xid);
+/* To write one: a server wants the transactions in order, and between the bounds. */
+pgp_status pgp_put_snapshot(uint64_t xmin, uint64_t xmax, const uint64_t *running, size_t count, PGP_OUT);
+
+/* A tsvector: a cursor over its lexemes, each the place of a text in UTF-8, and a cursor over its positions. A position's number, from 1 on, stands in the lowest
+   14 bits (position & PGP_POSITION), its weight in the highest 2 (position >> 14: 0 for D, 1 for C, 2 for B, 3 for A). */
+enum { PGP_POSITION = 0x3fff, PGP_WEIGHT_D = 0, PGP_WEIGHT_C = 0x4000, PGP_WEIGHT_B = 0x8000, PGP_WEIGHT_A = 0xc000 };
+struct pgp_lexeme { struct pgp_part text; struct pgp_cursor positions; };
+pgp_status pgp_get_tsvector(const uint8_t *bytes, size_t len, struct pgp_cursor *lexemes);
+pgp_status pgp_lexeme_next(const uint8_t *bytes, size_t len, struct pgp_cursor *cursor, struct pgp_lexeme *lexeme);
+pgp_status pgp_position_next(const uint8_t *bytes, size_t len, struct pgp_cursor *cursor, uint16_t *position);
+/* To write one: the lexemes as they come, each position as 5 | PGP_WEIGHT_A. A server wants both in order and each once, and bounds their number. PGP_E_NOT_UTF8
+   and PGP_E_EMBEDDED_NULL for a text, PGP_E_TOO_LARGE for more than 65,535 positions of one. */
+struct pgp_word { const uint8_t *text; size_t text_len; const uint16_t *positions; size_t positions_len; };
+pgp_status pgp_put_tsvector(const struct pgp_word *lexemes, size_t count, PGP_OUT);
+
+/* A tsquery: a cursor over its items, each an operand (its text in UTF-8; `weights` that a lexeme may have, 1 for D, 2 for C, 4 for B, 8 for A, 0 for any; whether a
+   lexeme need only begin so), or an operator, which stands before its operands, the right one first; of a phrase `distance` is how many positions its operands are
+   apart. What an item has no use for is 0. Bytes that are no item of these kinds are PGP_E_UNKNOWN_TAG. */
+enum { PGP_TS_OPERAND = 0, PGP_TS_NOT = 1, PGP_TS_AND = 2, PGP_TS_OR = 3, PGP_TS_PHRASE = 4 };
+struct pgp_query_item { struct pgp_part text; uint16_t distance; uint8_t kind, weights; bool is_prefix; };
+pgp_status pgp_get_tsquery(const uint8_t *bytes, size_t len, struct pgp_cursor *items);
+pgp_status pgp_query_item_next(const uint8_t *bytes, size_t len, struct pgp_cursor *cursor, struct pgp_query_item *item);
+/* To write one: the items as they come; whether each operator has its operands is the server's to say. PGP_E_KIND for a kind of none, PGP_E_NOT_UTF8 and
+   PGP_E_EMBEDDED_NULL for the text of an operand; what an item has no use for isn't read. */
+struct pgp_query_node { const uint8_t *text; size_t text_len; uint16_t distance; uint8_t kind, weights; bool is_prefix; };
+pgp_status pgp_put_tsquery(const struct pgp_query_node *items, size_t count, PGP_OUT);
 
 /* An inet or a cidr: an address of 4 or 16 bytes, and how many of its first bits name the network. PGP_E_INVALID_ADDRESS_LENGTH for another
    number of bytes, PGP_E_INVALID_NETMASK for more bits than there are. (bytes[2] of a value is 1 for a cidr.) pgp_put_inet_any takes any netmask. A
@@ -635,7 +669,7 @@ static inline const char *pgp_status_name(pgp_status status)
         "PGP_E_INVALID_SIGN", "PGP_E_INVALID_SCALE", "PGP_E_INVALID_DIGIT", "PGP_E_INVALID_TEXT", "PGP_E_OUT_OF_RANGE"
     };
     static const char *const more[] = { "PGP_E_WRONG_PHASE", "PGP_E_EMPTY_NAME", "PGP_E_VERSION", "PGP_E_KIND", "PGP_E_UNEXPECTED", "PGP_E_UNCERTAIN",
-                                        "PGP_E_UNKNOWN_PACKET", "PGP_E_FORMATS" };
+                                        "PGP_E_UNKNOWN_PACKET", "PGP_E_FORMATS", "PGP_E_NOT_FINITE", "PGP_E_FRACTION" };
     if (status < sizeof names / sizeof *names) return names[status];
     if (status >= 32 && status < 32 + sizeof more / sizeof *more) return more[status - 32];
     return status == PGP_MORE ? "PGP_MORE" : status == PGP_DONE ? "PGP_DONE" : status == PGP_FULL ? "PGP_FULL" : "?";

@@ -28,7 +28,9 @@ mod Settings
 mod BindRefusals
 mod Walks
 mod RecordWalks
+mod SnapshotLists
 mod SnapshotWalks
+mod TextSearch
 mod ItemSteps
 mod ArrayItems
 mod BindItems

@@ -4,10 +4,10 @@ use Rattle.std.proofs.lemmas.Bool.{cases_Bool}
 use Rattle.std.proofs.lemmas.Str.{IsUtf8-from_is_utf8, is_utf8-from_IsUtf8}
 use Rattle.std.specs.List.{list_all, AllByRecursion}
 use Rattle.std.specs.Str.{IsUtf8, is_utf8}
-use Rattle.pgp_base.specs.Cause.{length_cause}
-use Rattle.pgp_types.specs.Hstore.{IsEntry, IsTextOrNull, hstore}
+use Rattle.pgp_base.specs.Cause.{Cause, first, length_cause}
+use Rattle.pgp_types.specs.Hstore.{IsEntry, IsTextOrNull, entry_cause, hstore}
 use Rattle.pgp_c.specs.Lists.{value_of}
-use Rattle.pgp_c.specs.Putting.{are_texts, entry_of, pairs_cause}
+use Rattle.pgp_c.specs.Putting.{are_texts, entry_of}
 use Rattle.pgp_c.specs.declared.hstore.PgpKeyValue.{PgpKeyValue}
 use Rattle.pgp_c.specs.declared.listing.PgpValue.{PgpValue}
 use Rattle.pgp_c.proofs.Extensions.{both}
@@ -34,6 +34,9 @@ entries_text (p ∷ ps) h =
     let k = both (are_texts p) (list_all are_texts ps) h in
     let one = both (is_utf8 p.key.now) (p.value.is_null || is_utf8 p.value.bytes.now) k.0 in
     ((IsUtf8-from_is_utf8 p.key.now one.0, value_text p.value one.1), entries_text ps k.1)
+
+abbrev pairs_cause : List PgpKeyValue → Cause
+pairs_cause ps = first (map entry_cause (map entry_of ps))
 
 pairs_large : (ps : List PgpKeyValue) → IsLarge (pairs_cause ps)
 pairs_large [] e is = absurd cc

@@ -18,7 +18,7 @@ no_xid front errors.UnexpectedEof size short = omega (arith, size, short)
 no_xid front errors.NotDrained size long = omega (arith, size, long)
 no_xid front e size r = absurd r
 
-length-uint64 : (n : ℕ) → length (uint64 n) ≡ 8
+pub length-uint64 : (n : ℕ) → length (uint64 n) ≡ 8
 unfolding uint64
 length-uint64 n = refl
 

@@ -11,6 +11,7 @@ pub mod Front
 pub mod Further
 pub mod Geometry
 pub mod InPlace
+pub mod Integers
 pub mod ListWriting
 pub mod Listings
 pub mod Lists
@@ -32,5 +33,6 @@ pub mod Scalars
 pub mod Sending
 pub mod Settings
 pub mod Streams
+pub mod TextSearch
 pub mod Values
 pub mod Walks

@@ -1,14 +1,16 @@
 -- Values of several parts, as C hands them over to be written.
-use Rattle.std.specs.Prelude.{◌≡◌, ◌⊎◌, ℕ, ◌<◌, pos, Bool, false, not, ◌&&◌, ◌||◌, List, [], ◌∷◌, ◌++◌, map, length, Some, nat_eq, if◌then◌else◌}
+use Rattle.std.specs.Prelude.{◌≡◌, ◌⊎◌, ℕ, ◌<◌, pos, Bool, false, not, ◌&&◌, ◌||◌, List, [], ◌∷◌, ◌++◌, map, length, Option, Some, nat_eq, if◌then◌else◌, ⊤}
 use Rattle.std.specs.List.{flat_map, list_all}
 use Rattle.std.specs.Str.{is_utf8}
 use Rattle.pgp_base.specs.Cause.{Cause, first, nullable_cause}
 use Rattle.pgp_base.specs.Wire.{nullable, uint32}
-use Rattle.pgp_base.specs.declared.error.Error.TheVariants.{TooLarge}
+use Rattle.pgp_base.specs.declared.error.Error.TheVariants.{InvalidValueLength, TooLarge}
 use Rattle.pgp_types.specs.Array.{Array, array_cause}
-use Rattle.pgp_types.specs.Hstore.{Entry, entry_bytes, entry_cause, hstore}
+use Rattle.pgp_types.specs.Hstore.{Entry, IsEntry, entry, entry_bytes, entry_cause, hstore}
+use Rattle.pgp_types.specs.Part.{nullable as nullable_part}
 use Rattle.pgp_types.specs.Range.{Range, Side, between, range_cause}
 use Rattle.pgp_types.specs.declared.range.RangeBound.TheVariants.{Inclusive, Exclusive, Unbounded}
+use Rattle.pgp_values.specs.List.{Item}
 use Rattle.pgp_c.specs.Lists.{value_of}
 use Rattle.pgp_c.specs.declared.hstore.PgpKeyValue.{PgpKeyValue}
 use Rattle.pgp_c.specs.declared.listing.PgpValue.{PgpValue}
@@ -45,12 +47,12 @@ are_texts p = is_utf8 p.key.now && (p.value.is_null || is_utf8 p.value.bytes.now
 abbrev pub IsNoHstore : List PgpKeyValue → ℕ → Type 0
 IsNoHstore pairs code = ((code ≡ 9) × (list_all are_texts pairs ≡ false)) ⊎ ((code ≡ 3) × (hstore.cause (map entry_of pairs) ≡ Some TooLarge))
 
--- Private: what the code writes after their number, and their first cause.
-abbrev pub pairs_bytes : List PgpKeyValue → List ℕ
-pairs_bytes pairs = flat_map entry_bytes (map entry_of pairs)
+-- Private: the items of an hstore and of an array, as lists are written.
+abbrev pub entry_item : Item Entry
+entry_item = record { IsValue = IsEntry; written = entry_bytes; cause = entry_cause; part = entry }
 
-abbrev pub pairs_cause : List PgpKeyValue → Cause
-pairs_cause pairs = first (map entry_cause (map entry_of pairs))
+abbrev pub element_item : Item (Option (List ℕ))
+element_item = record { IsValue = λ _. ⊤; written = nullable; cause = nullable_cause; part = nullable_part InvalidValueLength }
 
 -- Private: what the code writes of such an array, and the first cause of an element.
 abbrev pub has_value : PgpValue → Bool

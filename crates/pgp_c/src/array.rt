@@ -16,6 +16,7 @@ ghost use Rattle.pgp_c.specs.Values.{Lacks, Refuses, Wrote};
 ghost use Rattle.pgp_c.specs.Walks.{IsEnded, RefusesItem, Takes, TakesAll};
 
 use crate::cursor::{Listed, PgpCursor, all_counted, next_counted};
+use crate::list_writing::{Written, put_items};
 use crate::listing::PgpValue;
 use crate::part::{column_before, nullable_at, put_value};
 use crate::row::PgpColumn;
@@ -223,7 +224,7 @@ fn put_list<B: Buffer>(
         ⊎ ((e ≡ Error.TooLarge) × ((2147483647 < length elements.now) ⊎ (elements_cause elements.now ≡ Some e)))) }
 {
     match put_list_head(element_type, elements, buf) {
-        Ok(()) => put_elements(elements, buf),
+        Ok(()) => put_items(elements, buf),
         Err(e) => Err(e),
     }
 }
@@ -246,15 +247,20 @@ fn put_list_head<B: Buffer>(
     Ok(())
 }
 
-/// The elements, one after another.
-pub(crate) fn put_elements<B: Buffer>(elements: &[PgpValue<'_>], buf: &mut B) -> Result<(), Error>
-    ensures ok { OnOk result ((elements_cause elements.now ≡ None) × (B.held buf.new ≡ B.held buf.old ⊕ elements_of elements.now)) }
-    ensures cause { IfErr result (λ e. WantsMemory (Wants B.Lacks (B.held buf.old) (length (elements_of elements.now))) e ⊎ (elements_cause elements.now ≡ Some e)) }
-{
-    for value in elements {
-        put_value(value, buf)?;
+impl Written for PgpValue<'_> {
+    ghost use Rattle.std.specs.Prelude.{ℕ, List, Option};
+    ghost use Rattle.pgp_c.specs.Lists.{value_of};
+    ghost use Rattle.pgp_c.specs.Putting.{element_item};
+
+    ghost Meaning = { Option (List ℕ) };
+
+    ghost meaning = { λ v. value_of v };
+
+    ghost item = { element_item };
+
+    fn put<B: Buffer>(&self, buf: &mut B) -> Result<(), Error> {
+        put_value(self, buf)
     }
-    Ok(())
 }
 
 /// Whether an element is null, as a number.

@@ -12,7 +12,7 @@ ghost use Rattle.pgp_c.specs.ArrayWriting.{Blames, HasShape, Misshapen, Stops, a
 ghost use Rattle.pgp_c.specs.ListWriting.{IsNotWritten, WroteValue};
 ghost use Rattle.pgp_c.specs.Putting.{elements_cause, flag_in};
 
-use crate::array::{PgpDimension, flag, put_elements};
+use crate::array::{PgpDimension, flag};
 use crate::list_writing::{Written, put_items};
 use crate::listing::PgpValue;
 use crate::status::{ended, refused};
@@ -110,7 +110,7 @@ fn put_body<B: Buffer>(
     ensures cause { IfErr result (λ e. WantsMemory (Wants B.Lacks (B.held buf.old) (length (body_of dimensions.now elements.now))) e ⊎ (elements_cause elements.now ≡ Some e)) }
 {
     match put_items(dimensions, buf) {
-        Ok(()) => put_elements(elements, buf),
+        Ok(()) => put_items(elements, buf),
         Err(e) => Err(e),
     }
 }

@@ -1,27 +1,26 @@
 //! Lists of keys and values: read where they stand, one after another; and written.
 #![tactic(auto, using(pgp_base::proofs::Parts::held_steps))]
 
-ghost use Rattle.std.specs.Prelude.{◌≡◌, ◌≢◌, ◌⊎◌, ◌≤◌, length, map, true, Some, None, OnOk, IfErr};
+ghost use Rattle.std.specs.Prelude.{◌≡◌, ◌≢◌, ◌⊎◌, length, map};
 ghost use Rattle.std.specs.List.{list_all, AllByRecursion};
 ghost use Rattle.std.specs.Str.{is_utf8};
-ghost use Rattle.pgp_base.specs.Cause.{Wants, WantsMemory};
-ghost use Rattle.pgp_base.specs.Held.{◌⊕◌};
 ghost use Rattle.pgp_base.specs.PartReading.{Answers};
-ghost use Rattle.pgp_types.specs.Hstore.{entry, entry_bytes, entry_cause, hstore, IsEntry};
+ghost use Rattle.pgp_types.specs.Hstore.{entry, hstore, IsEntry};
 ghost use Rattle.pgp_types.specs.Part.{shown};
 ghost use Rattle.pgp_types.specs.PartReading.{entry_at, entry_value_at, key_at};
 ghost use Rattle.pgp_c.specs.Compound.{BeginsHstore, IsEntryInside, entry_in};
-ghost use Rattle.pgp_c.specs.Putting.{are_texts, entry_of, IsNoHstore, pairs_bytes, pairs_cause};
+ghost use Rattle.pgp_c.specs.Putting.{are_texts, entry_of, IsNoHstore};
 ghost use Rattle.pgp_c.specs.Values.{Lacks, Refuses, Wrote};
 ghost use Rattle.pgp_c.specs.Walks.{IsEnded, RefusesItem, Takes};
 
 use crate::cursor::{Listed, PgpCursor, next_counted};
 use crate::front::PgpPart;
+use crate::list_writing::{Written, put_list};
 use crate::listing::PgpValue;
 use crate::part::{column_before, nullable_at, put_counted, put_value, sized_at};
 use crate::row::PgpColumn;
 use crate::status::{failed, refused, sent};
-use pgp_base::{Buffer, Error, FallibleIterator, Window, length_field, put_u32, text};
+use pgp_base::{Buffer, Error, FallibleIterator, Window, text};
 
 /// A key of an `hstore`, and its value or a null.
 #[repr(C)]
@@ -182,7 +181,7 @@ fn are_texts(pair: &PgpKeyValue<'_>) -> bool
 }
 
 /// The bytes are text.
-fn is_text(bytes: &[u8]) -> bool
+pub(crate) fn is_text(bytes: &[u8]) -> bool
     ensures { result ≡ is_utf8 bytes.now }
 {
     match text(bytes) {
@@ -191,38 +190,20 @@ fn is_text(bytes: &[u8]) -> bool
     }
 }
 
-/// How many there are, and all of them.
-fn put_list<B: Buffer>(pairs: &[PgpKeyValue<'_>], buf: &mut B) -> Result<(), Error>
-    ensures ok { OnOk result ((hstore.cause (map entry_of pairs.now) ≡ None) × (B.held buf.new ≡ B.held buf.old ⊕ hstore.written (map entry_of pairs.now))) }
-    ensures cause { IfErr result (λ e. WantsMemory (Wants B.Lacks (B.held buf.old) (length (hstore.written (map entry_of pairs.now)))) e ⊎ (hstore.cause (map entry_of pairs.now) ≡ Some e)) }
-{
-    match length_field(pairs.len()) {
-        Ok(count) => match put_u32(buf, count) {
-            Ok(()) => put_pairs(pairs, buf),
+impl Written for PgpKeyValue<'_> {
+    ghost use Rattle.pgp_types.specs.Hstore.{Entry};
+    ghost use Rattle.pgp_c.specs.Putting.{entry_item, entry_of};
+
+    ghost Meaning = { Entry };
+
+    ghost meaning = { λ p. entry_of p };
+
+    ghost item = { entry_item };
+
+    fn put<B: Buffer>(&self, buf: &mut B) -> Result<(), Error> {
+        match put_counted(self.key.len(), self.key, buf) {
+            Ok(()) => put_value(&self.value, buf),
             Err(e) => Err(e),
-        },
-        Err(e) => Err(e),
-    }
-}
-
-/// The keys and values, one after another.
-fn put_pairs<B: Buffer>(pairs: &[PgpKeyValue<'_>], buf: &mut B) -> Result<(), Error>
-    ensures ok { OnOk result ((pairs_cause pairs.now ≡ None) × (B.held buf.new ≡ B.held buf.old ⊕ pairs_bytes pairs.now)) }
-    ensures cause { IfErr result (λ e. WantsMemory (Wants B.Lacks (B.held buf.old) (length (pairs_bytes pairs.now))) e ⊎ (pairs_cause pairs.now ≡ Some e)) }
-{
-    for pair in pairs {
-        put_pair(pair, buf)?;
-    }
-    Ok(())
-}
-
-/// A key, and its value or a null.
-fn put_pair<B: Buffer>(pair: &PgpKeyValue<'_>, buf: &mut B) -> Result<(), Error>
-    ensures ok { OnOk result ((entry_cause (entry_of pair.now) ≡ None) × (B.held buf.new ≡ B.held buf.old ⊕ entry_bytes (entry_of pair.now))) }
-    ensures cause { IfErr result (λ e. WantsMemory (Wants B.Lacks (B.held buf.old) (length (entry_bytes (entry_of pair.now)))) e ⊎ (entry_cause (entry_of pair.now) ≡ Some e)) }
-{
-    match put_counted(pair.key.len(), pair.key, buf) {
-        Ok(()) => put_value(&pair.value, buf),
-        Err(e) => Err(e),
+        }
     }
 }

@@ -13,7 +13,7 @@ use pgp_values::NumericError;
 use std::str;
 
 /// The number of an error.
-fn number_of(e: NumericError) -> u32
+pub(crate) fn number_of(e: NumericError) -> u32
     ensures number { result ≡ numeric_number e }
     ensures some { result ≢ 0 }
 {

@@ -1,14 +1,15 @@
-//! What a transaction sees: read where it stands, its transactions one after another.
+//! What a transaction sees: read where it stands, its transactions one after another; and written.
 
 ghost use Rattle.std.specs.Prelude.{◌≡◌, ◌≢◌, IfOk, IfErr};
 ghost use Rattle.pgp_types.specs.Part.{Begins};
-ghost use Rattle.pgp_values.specs.Snapshot.{snapshot, snapshot_head, xid_part};
+ghost use Rattle.pgp_values.specs.Snapshot.{snapshot, snapshot_head, snapshot_of, xid_part};
+ghost use Rattle.pgp_c.specs.ListWriting.{IsNotWritten, WroteValue};
 ghost use Rattle.pgp_c.specs.Values.{Refuses};
 ghost use Rattle.pgp_c.specs.Walks.{IsEnded, RefusesItem, Takes, rest};
 
 use crate::cursor::{Listed, PgpCursor, next_counted};
-use crate::status::failed;
-use pgp_base::{Error, FallibleIterator};
+use crate::status::{ended, failed};
+use pgp_base::{Error, FallibleIterator, Window};
 
 /// A `pg_snapshot`: every transaction below `xmin` is over, none from `xmax` on had begun, and of those between the listed ones were running.
 #[repr(C)]
@@ -52,6 +53,23 @@ pub extern "C" fn pgp_xid_next(bytes: &[u8], cursor: &mut PgpCursor, xid: &mut u
     ensures left { result ≢ 0 → (cursor.new ≡ cursor.old) × (xid.new ≡ xid.old) }
 {
     next_counted::<Xids>(bytes, cursor, xid)
+}
+
+/// Writes a `pg_snapshot` of these bounds, and of the transactions between them that were running.
+#[unsafe(no_mangle)]
+pub extern "C" fn pgp_put_snapshot(
+    xmin: u64,
+    xmax: u64,
+    running: &[u64],
+    out: &mut [u8],
+    written: &mut usize,
+) -> u32
+    ensures wrote { result ≡ 0 → WroteValue snapshot (snapshot_of xmin xmax running.now) out.old out.new written.new }
+    ensures refused { result ≢ 0 → IsNotWritten snapshot (snapshot_of xmin xmax running.now) out.old written.new result }
+{
+    let mut window = Window::new(out);
+    let answer = pgp_values::snapshot_to_sql(xmin, xmax, running.iter().copied(), &mut window);
+    ended(answer, &window, written)
 }
 
 /// The transactions of a snapshot.

@@ -16,7 +16,7 @@ returns-in-Err-clause-cause g c =
 pub returns-in-Ok-clause-cause : goal.returns-in-Ok-clause-cause
 returns-in-Ok-clause-cause g c =
     let head = head_of c.args.element_type c.args.elements.now in
-    err_then _ _ c.put_elements.result c.put_elements.ensures.cause (λ e why. elim why [
+    err_then _ _ c.put_items.result c.put_items.ensures.cause (λ e why. elim why [
       | inl memory ↦ inl (memory_then (g.B.Buffer.held c.args.buf.now) _ head _ _ _ c.in-Ok.ensures.ok.1 (omega (arith, length-append head (elements_of c.args.elements.now))) memory)
       | inr some ↦ inr (elements_large c.args.elements.now _ some, inr some)
     ])

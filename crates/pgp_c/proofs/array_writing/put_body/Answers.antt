@@ -11,7 +11,7 @@ use Rattle.pgp_c.proofs.array_writing.put_body.Goals as goal
 pub returns-in-Ok-clause-cause : goal.returns-in-Ok-clause-cause
 returns-in-Ok-clause-cause g c =
     let dims = flat_map dimension_bytes (map dimension_of c.args.dimensions.now) in
-    err_then _ _ c.put_elements.result c.put_elements.ensures.cause (λ e why. elim why [
+    err_then _ _ c.put_items-in-Ok.result c.put_items-in-Ok.ensures.cause (λ e why. elim why [
       | inl memory ↦ inl (memory_then (g.B.Buffer.held c.args.buf.now) _ dims _ _ _ c.in-Ok.ensures.ok.1 (omega (arith, length-append dims (elements_of c.args.elements.now))) memory)
       | inr some ↦ inr some
     ])

@@ -1,0 +1,7 @@
+use Rattle.std.proofs.Common.{refl, ap}
+use Rattle.pgp_values.specs.Tsvector.{lexeme}
+use Rattle.pgp_c.proofs.RecordWalks.{begins_list}
+use Rattle.pgp_c.proofs.tsvector.pgp_get_tsvector.Goals as goal
+
+pub returns-in-Ok-clause-read : goal.returns-in-Ok-clause-read
+returns-in-Ok-clause-read c z = begins_list lexeme.part c.args.bytes.now _ _ _ c.in-Ok.ensures.value (ap (λ p. p.0) c.size_hint.ensures) refl
