@@ -8,3 +8,5 @@ pub mod Places
 pub mod Written
 mod Connected
 mod Room
+pub mod BothEnds
+pub mod ConnectedEnds

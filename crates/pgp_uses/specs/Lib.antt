@@ -10,3 +10,4 @@ pub mod Server
 pub mod Streams
 pub mod Values
 pub mod Client
+pub mod BothEnds

@@ -2,6 +2,7 @@
 #![tactic(auto)]
 
 pub mod arrays;
+pub mod both_ends;
 pub mod client;
 pub mod columns;
 pub mod filter;
