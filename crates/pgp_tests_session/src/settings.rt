@@ -28,14 +28,14 @@ const SET: [&[u8]; 3] = [
 ];
 
 /// A connection that was started, and takes messages of at most so many bytes.
-fn started(rt: &HostRuntime, limit: u32) -> Connection<'static> {
+fn started(rt: &impl Abort, alloc: Global, limit: u32) -> Connection<'static> {
     let ways = Ways {
         scram: None,
         md5: None,
         cleartext: None,
         none: true,
     };
-    let mut connection = Connection::new(rt.alloc(), ways, limit);
+    let mut connection = Connection::new(alloc, ways, limit);
     holds(rt, connection.start(&[("user", "u")]).is_ok());
     connection
 }
@@ -62,7 +62,7 @@ fn hears(rt: &impl Abort, connection: &mut Connection<'_>, messages: &[&[u8]]) {
 
 #[test]
 fn the_last_report_of_a_setting_counts(rt: HostRuntime) -> Result<(), Fail> {
-    let mut connection = started(&rt, 1_000);
+    let mut connection = started(&rt, rt.alloc(), 1_000);
     same_at(&rt, 0, connection.setting(b"TimeZone"), None);
     hears(&rt, &mut connection, &LOGIN);
     same_at(
@@ -87,7 +87,7 @@ fn the_last_report_of_a_setting_counts(rt: HostRuntime) -> Result<(), Fail> {
 
 #[test]
 fn settings_need_not_be_text(rt: HostRuntime) -> Result<(), Fail> {
-    let mut connection = started(&rt, 1_000);
+    let mut connection = started(&rt, rt.alloc(), 1_000);
     hears(&rt, &mut connection, &[b"S\0\0\0\x08\xfe\0\xff\0"]);
     same_at(
         &rt,
@@ -114,7 +114,7 @@ fn report(alloc: Global, name: u8, len: u16) -> Result<BytesMut, Error> {
 /// Names and values of 65,536 bytes stand at the limit. A shorter value makes room, and a byte more is past it.
 #[test]
 fn settings_past_the_limit_end_the_connection(rt: HostRuntime) -> Result<(), Fail> {
-    let mut connection = started(&rt, 100_000);
+    let mut connection = started(&rt, rt.alloc(), 100_000);
     let kept: [(u8, u16); 4] = [(b'a', 32_767), (b'b', 32_767), (b'a', 32_766), (b'c', 0)];
     for (name, len) in kept {
         let frame = report(rt.alloc(), name, len)?;
