@@ -32,7 +32,7 @@ pub fn int64_of(bytes: &[u8]) -> i64
     requires { length bytes.now ≡ 8 }
     ensures { FitsSigned w64 result × (bytes.now ≡ int64 result) }
 {
-    i64::from_be_bytes(bytes.try_into().unwrap())
+    i64::from_be_bytes(*bytes.as_array().unwrap())
 }
 
 // The number that four bytes spell.
@@ -40,7 +40,7 @@ pub fn int32_of(bytes: &[u8]) -> i32
     requires { length bytes.now ≡ 4 }
     ensures { FitsSigned w32 result × (bytes.now ≡ int32 result) }
 {
-    i32::from_be_bytes(bytes.try_into().unwrap())
+    i32::from_be_bytes(*bytes.as_array().unwrap())
 }
 
 // The number without a sign that eight bytes spell.
@@ -48,7 +48,7 @@ pub fn uint64_of(bytes: &[u8]) -> u64
     requires { length bytes.now ≡ 8 }
     ensures { (result < 2 ^ 64) × (bytes.now ≡ uint64 result) }
 {
-    u64::from_be_bytes(bytes.try_into().unwrap())
+    u64::from_be_bytes(*bytes.as_array().unwrap())
 }
 
 // The number without a sign that four bytes spell.
@@ -56,7 +56,7 @@ pub fn uint32_of(bytes: &[u8]) -> u32
     requires { length bytes.now ≡ 4 }
     ensures { (result < 2 ^ 32) × (bytes.now ≡ uint32 result) }
 {
-    u32::from_be_bytes(bytes.try_into().unwrap())
+    u32::from_be_bytes(*bytes.as_array().unwrap())
 }
 
 // The number without a sign that two bytes spell.
@@ -64,7 +64,7 @@ pub fn uint16_of(bytes: &[u8]) -> u16
     requires { length bytes.now ≡ 2 }
     ensures { (result < 2 ^ 16) × (bytes.now ≡ uint16 result) }
 {
-    u16::from_be_bytes(bytes.try_into().unwrap())
+    u16::from_be_bytes(*bytes.as_array().unwrap())
 }
 
 // The eight bytes of a number.

@@ -54,8 +54,9 @@ fn interval_block(v: Interval) -> [u8; 16]
 pub fn interval_from_sql(buf: &[u8]) -> Result<Interval, Error>
     ensures { Reads interval buf.now result }
 {
-    let bytes: [u8; 16] = block(buf)?;
-    let (microseconds, rest) = bytes.split_at(8);
+    // The parts are read where they stand: a block handed on in a `Result` is copied in pieces.
+    block::<16>(buf)?;
+    let (microseconds, rest) = buf.split_at(8);
     let (days, months) = rest.split_at(4);
     Ok(Interval {
         microseconds: int64_of(microseconds),
@@ -90,8 +91,8 @@ fn timetz_block(v: TimeTz) -> [u8; 12]
 pub fn timetz_from_sql(buf: &[u8]) -> Result<TimeTz, Error>
     ensures { Reads timetz buf.now result }
 {
-    let bytes: [u8; 12] = block(buf)?;
-    let (microseconds, zone) = bytes.split_at(8);
+    block::<12>(buf)?;
+    let (microseconds, zone) = buf.split_at(8);
     Ok(TimeTz {
         microseconds: int64_of(microseconds),
         zone: int32_of(zone),
