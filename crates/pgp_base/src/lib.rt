@@ -5,6 +5,7 @@
 pub mod big_endian;
 mod buffer;
 mod counted;
+mod counting;
 mod error;
 pub mod laws;
 mod memory;
@@ -17,6 +18,7 @@ mod writing;
 
 pub use buffer::Buffer;
 pub use counted::Counted;
+pub use counting::write_counted;
 pub use error::{BindError, Error};
 pub use memory::Memory;
 pub use number::{
@@ -27,5 +29,5 @@ pub use walk::FallibleIterator;
 pub use window::Window;
 pub use writing::{
     finish_body, length_field, patch_u16, patch_u32, put_u8, put_u16, put_u32, put_value,
-    write_body, write_counted, write_cstr, write_nullable,
+    write_body, write_cstr, write_nullable,
 };

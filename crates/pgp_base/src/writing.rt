@@ -3,12 +3,11 @@
 //! On error a `write_` function leaves the buffer unchanged. A `put_` function, a step of a
 //! writer, then leaves the buffer's bytes as a front of what stands there, and the writer cuts back.
 
-ghost use Rattle.std.specs.Prelude.{◌≡◌, ℕ, ◌+◌, ◌-◌, ◌<◌, ◌≤◌, ◌^◌, List, [], ◌∷◌, length, drop, Option, Some, None, Ok, OnOk, OnErr, IfOk, IfErr};
-ghost use Rattle.std.specs.Iterator.{IsFiniteIterable};
+ghost use Rattle.std.specs.Prelude.{◌≡◌, ℕ, ◌+◌, ◌-◌, ◌<◌, ◌≤◌, List, [], ◌∷◌, length, drop, Option, Some, None, Ok, OnOk, OnErr, IfOk, IfErr};
 ghost use Rattle.pgp_base.specs.Wire.{uint16, uint32, text, nullable};
 ghost use Rattle.pgp_base.specs.Cause.{text_cause, length_cause, nullable_cause, Wants, WantsMemory, Writes};
 ghost use Rattle.pgp_base.specs.Held.{◌⊕◌, overwritten, Leaves, IsFrontOf};
-ghost use Rattle.pgp_base.specs.Calls.{Adds, KeepsFront, KeepsFronts, OwesValue, OwesValues, Appends, Puts, Gives, ValueRefused, value_of, length_of, null_of, WritesBody, BodyRefused, WritesValue, NullableRefused, WritesCounted, CountedRefused};
+ghost use Rattle.pgp_base.specs.Calls.{Adds, KeepsFront, KeepsFronts, OwesValue, OwesValues, Appends, Puts, Gives, ValueRefused, value_of, length_of, null_of, WritesBody, BodyRefused, WritesValue, NullableRefused};
 
 use crate::big_endian::{u16_bytes, u32_bytes};
 use crate::buffer::Buffer;
@@ -140,7 +139,7 @@ fn value_by<B: Buffer, E, F: FnOnce(&mut B) -> Result<IsNull, E>>(
 }
 
 // `append_by` of an `FnMut` at an item, which may be called again.
-fn put_by<B: Buffer, T, X, E, F: FnMut(T, &mut B) -> Result<X, E>>(
+pub(crate) fn put_by<B: Buffer, T, X, E, F: FnMut(T, &mut B) -> Result<X, E>>(
     f: &mut F,
     x: T,
     buf: &mut B,
@@ -353,73 +352,6 @@ pub fn write_nullable<B: Buffer, E: Drop, F: FnOnce(&mut B) -> Result<IsNull, E>
 {
     let base = buf.len();
     match fill_nullable(serializer, buf) {
-        Ok(()) => Ok(()),
-        Err(e) => {
-            buf.truncate(base);
-            Err(e)
-        }
-    }
-}
-
-#[tactic(auto, using(crate::proofs::Parts::held_steps))]
-fn fill_counted<
-    B: Buffer,
-    T: Drop,
-    E: Drop,
-    I: IntoIterator<Item = T> + Drop,
-    F: FnMut(T, &mut B) -> Result<(), E>,
->(items: I, serializer: &mut F, buf: &mut B) -> Result<(), BindError<E>>
-where
-    I::IntoIter: Drop,
-    requires ends { IsFiniteIterable I.into_iter_gives I.IntoIter.can_next I.IntoIter.remaining items }
-    requires callable { F.IsAlwaysCallable serializer.old }
-    requires keeps { KeepsFronts B.held F.pre F.step }
-    ensures ok { OnOk result (WritesCounted B.held F.step I.into_iter_gives I.IntoIter.next_gives items serializer.old serializer.new (B.held buf.old) (B.held buf.new)) }
-    ensures err { OnErr result (IsFrontOf (B.held buf.old) (B.held buf.new)) }
-    ensures cause { IfErr result (CountedRefused B.held F.step I.into_iter_gives I.IntoIter.next_gives B.Lacks items serializer.old serializer.new (B.held buf.old)) }
-{
-    let base = buf.len();
-    put_u16(buf, 0)?;
-    let mut count = 0u16;
-    for item in items {
-        if count == u16::MAX {
-            return Err(BindError::Serialization(Error::TooLarge));
-        }
-        if let Err(e) = put_by(serializer, item, buf) {
-            return Err(BindError::Conversion(e));
-        }
-        count += 1;
-    }
-    patch_u16(buf, base, count);
-    Ok(())
-}
-
-/// Appends how many items there are, and each as the serializer writes it.
-///
-/// # Errors
-///
-/// Returns `Conversion` if the serializer failed an item. `Serialization` of `TooLarge` at the item past 65,535,
-/// for which the serializer is not called, and of `OutOfMemory` if the buffer can't grow, before it was called
-/// at all. On error the buffer is unchanged.
-#[tactic(auto, using(crate::proofs::Parts::held_steps))]
-pub fn write_counted<
-    B: Buffer,
-    T: Drop,
-    E: Drop,
-    I: IntoIterator<Item = T> + Drop,
-    F: FnMut(T, &mut B) -> Result<(), E> + Drop,
->(items: I, mut serializer: F, buf: &mut B) -> Result<(), BindError<E>>
-where
-    I::IntoIter: Drop,
-    requires ends { IsFiniteIterable I.into_iter_gives I.IntoIter.can_next I.IntoIter.remaining items }
-    requires callable { F.IsAlwaysCallable serializer }
-    requires keeps { KeepsFronts B.held F.pre F.step }
-    ensures ok { OnOk result ((last : F) × WritesCounted B.held F.step I.into_iter_gives I.IntoIter.next_gives items serializer last (B.held buf.old) (B.held buf.new)) }
-    ensures err { OnErr result (Leaves (B.held buf.old) (B.held buf.new)) }
-    ensures cause { IfErr result (λ e. (last : F) × CountedRefused B.held F.step I.into_iter_gives I.IntoIter.next_gives B.Lacks items serializer last (B.held buf.old) e) }
-{
-    let base = buf.len();
-    match fill_counted(items, &mut serializer, buf) {
         Ok(()) => Ok(()),
         Err(e) => {
             buf.truncate(base);

@@ -2,6 +2,7 @@
 #![tactic(auto)]
 
 mod authentication;
+pub mod codes;
 mod copy;
 mod counted;
 mod extended;

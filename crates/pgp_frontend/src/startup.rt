@@ -12,18 +12,11 @@ ghost use Rattle.pgp_frontend.specs.Given.{Appended, Refused, WritesGiven, Write
 ghost use Rattle.pgp_frontend.specs.Payload.{spelling, part_cause, version_code, WritesMessage};
 ghost use Rattle.pgp_frontend.specs.Putting.{ItemsRefused};
 
+use crate::codes::{CANCEL_REQUEST, SSL_REQUEST, VERSION_3_0};
 use crate::field::{Field, packet, put_int32};
 use crate::text::Text;
 use pgp_base::big_endian::u32_bytes;
 use pgp_base::{Buffer, Error, finish_body, put_u8, put_u32, write_cstr};
-
-const VERSION_3_0: i32 = 196_608;
-
-const VERSION_3_2: i32 = 196_610;
-
-const CANCEL_REQUEST: i32 = 80_877_102;
-
-const SSL_REQUEST: i32 = 80_877_103;
 
 /// A version of the protocol that a startup packet asks for. 3.2 is this project's profile of protocol 3.2; nothing is claimed
 /// of a server's 3.2.
@@ -33,6 +26,18 @@ pub enum ProtocolVersion {
     V3_0,
     /// Number 196610.
     V3_2,
+}
+
+impl ProtocolVersion {
+    /// Its number in a startup packet.
+    pub fn code(self) -> i32
+        ensures { result ≡ version_code self }
+    {
+        match self {
+            ProtocolVersion::V3_0 => VERSION_3_0.cast_signed(),
+            ProtocolVersion::V3_2 => VERSION_3_0.cast_signed() + 2,
+        }
+    }
 }
 
 /// CancelRequest: cancels another session's query, by the numbers of its BackendKeyData.
@@ -62,7 +67,7 @@ pub fn cancel_request_key<B: Buffer>(
 {
     packet(
         &[
-            Field::Int32(CANCEL_REQUEST),
+            Field::Int32(CANCEL_REQUEST.cast_signed()),
             Field::Int32(process_id),
             Field::Key(secret_key),
         ],
@@ -78,7 +83,7 @@ pub fn cancel_request_key<B: Buffer>(
 pub fn ssl_request<B: Buffer>(buf: &mut B) -> Result<(), Error>
     ensures { WritesMessage SslRequest B.Lacks (B.held buf.old) (B.held buf.new) result }
 {
-    packet(&[Field::Int32(SSL_REQUEST)], buf)
+    packet(&[Field::Int32(SSL_REQUEST.cast_signed())], buf)
 }
 
 // The names and values, and a 0 byte. An error leaves what stood there as a front.
@@ -107,10 +112,7 @@ fn put_version<B: Buffer>(version: ProtocolVersion, buf: &mut B) -> Result<(), E
     ensures err { OnErr result (B.held buf.new ≡ B.held buf.old) }
     ensures cause { IfErr result (WantsMemory (Wants B.Lacks (B.held buf.old) (length (int32 (version_code version))))) }
 {
-    match version {
-        ProtocolVersion::V3_0 => put_int32(VERSION_3_0, buf),
-        ProtocolVersion::V3_2 => put_int32(VERSION_3_2, buf),
-    }
+    put_int32(version.code(), buf)
 }
 
 // The packet. An error leaves what stood there as a front.

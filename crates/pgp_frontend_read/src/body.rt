@@ -13,6 +13,7 @@ use crate::types::ParamTypes;
 use crate::values::{Values, value_at};
 use pgp_base::Error;
 use pgp_base::reading::{byte_at, int16_at, int32_at, oid_at, string_at};
+use pgp_frontend::codes::{CANCEL_REQUEST, GSSENC_REQUEST, SSL_REQUEST, VERSION_3_0, VERSION_4_0};
 
 /// The message of a frame, given which kind of tag `p` is expected.
 ///
@@ -185,19 +186,6 @@ fn sasl_initial(payload: &[u8]) -> Result<ClientMessage<'_>, Error>
         },
     )
 }
-
-/// The code of a startup packet of version 3.0, the first of protocol 3.
-pub const VERSION_3_0: u32 = 196_608;
-
-/// The code after that of the last minor version of protocol 3.
-const VERSION_4_0: u32 = 262_144;
-
-const CANCEL_REQUEST: u32 = 80_877_102;
-
-const SSL_REQUEST: u32 = 80_877_103;
-
-/// The code of the question for encryption by GSSAPI.
-pub const GSSENC_REQUEST: u32 = 80_877_104;
 
 /// The opening packet after its length.
 ///

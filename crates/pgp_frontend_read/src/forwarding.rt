@@ -6,13 +6,13 @@ ghost use Rattle.pgp_frontend.specs.Payload.{Byte, Text, WritesFrame, WritesMess
 ghost use Rattle.pgp_frontend_read.specs.Views.{view};
 ghost use Rattle.pgp_frontend_read.specs.Whole.{shown};
 
-use crate::body::{GSSENC_REQUEST, VERSION_3_0};
 use crate::formats::Formats;
 use crate::message::ClientMessage;
 use crate::pairs::StartupParameters;
 use crate::types::ParamTypes;
 use crate::values::Values;
 use pgp_base::{Buffer, Error, Oid};
+use pgp_frontend::codes::{GSSENC_REQUEST, VERSION_3_0};
 use pgp_frontend::field::{Field, message as tagged, packet};
 use pgp_frontend::{
     cancel_request_key, copy_done, flush, password_message, sasl_response, ssl_request, sync,

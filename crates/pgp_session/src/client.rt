@@ -9,10 +9,8 @@ ghost use Rattle.pgp_session.specs.Client.{Steps, at_login, at_version, at_start
 
 use crate::client_stream::ClientStream;
 use pgp_base::{Buffer, Error};
+use pgp_frontend::ProtocolVersion;
 use pgp_message::{Message, Storage};
-
-/// The number of version 3.0.
-const VERSION_3_0: i32 = 196_608;
 
 /// How far a session is.
 #[derive(Debug, Clone, Copy, PartialEq, Eq)]
@@ -160,7 +158,7 @@ fn reported_at_login<S: Storage>(message: &Message<S>) -> Option<Event>
 fn reported_of_version(version: i32) -> Option<Event>
     ensures { result ≡ at_version version }
 {
-    if version < VERSION_3_0 {
+    if version < ProtocolVersion::V3_0.code() {
         None
     } else {
         Some(Event::Noted)

@@ -6,6 +6,7 @@
 #![tactic(auto)]
 
 mod array;
+mod array_writing;
 pub mod codec;
 mod geometry;
 mod hstore;
@@ -19,9 +20,8 @@ mod text;
 mod time;
 mod varbit;
 
-pub use array::{
-    Array, ArrayDimension, ArrayDimensions, ArrayValues, array_from_sql, array_to_sql,
-};
+pub use array::{Array, ArrayDimension, ArrayDimensions, ArrayValues, array_from_sql};
+pub use array_writing::array_to_sql;
 pub use geometry::{Box, Point, box_from_sql, box_to_sql, point_from_sql, point_to_sql};
 pub use hstore::{HstoreEntries, hstore_from_sql, hstore_to_sql};
 pub use network::{

@@ -3,7 +3,7 @@ use Rattle.std.specs.List.{flat_map}
 use Rattle.pgp_base.specs.Held.{◌⊕◌}
 use Rattle.pgp_base.specs.Wire.{uint16}
 use Rattle.pgp_base.specs.Calls.{Wrote, Runs}
-use Rattle.pgp_base.proofs.writing.fill_counted.Given as goal
+use Rattle.pgp_base.proofs.counting.fill_counted.Given as goal
 
 abbrev pub invariant-loop-item : goal.invariant-loop-item
 invariant-loop-item g l =

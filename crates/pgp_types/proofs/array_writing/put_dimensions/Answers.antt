@@ -5,7 +5,7 @@ use Rattle.std.proofs.lemmas.List.Elements.{All-push}
 use Rattle.pgp_base.proofs.Causes.{length_fits}
 use Rattle.pgp_base.proofs.Parts.{more_parts, if_err_at, wants_then}
 use Rattle.pgp_types.specs.Array.{IsDimension, dimension_bytes}
-use Rattle.pgp_types.proofs.array.put_dimensions.Goals as goal
+use Rattle.pgp_types.proofs.array_writing.put_dimensions.Goals as goal
 
 pub loop-dimension-preserved : goal.loop-dimension-preserved
 loop-dimension-preserved g c =

@@ -3,7 +3,7 @@ use Rattle.std.specs.Prelude.{All}
 use Rattle.std.specs.List.{flat_map}
 use Rattle.pgp_base.specs.Held.{◌⊕◌}
 use Rattle.pgp_types.specs.Array.{IsDimension, dimension_bytes}
-use Rattle.pgp_types.proofs.array.put_dimensions.Given as goal
+use Rattle.pgp_types.proofs.array_writing.put_dimensions.Given as goal
 
 abbrev pub invariant-loop-dimension : goal.invariant-loop-dimension
 invariant-loop-dimension g l =

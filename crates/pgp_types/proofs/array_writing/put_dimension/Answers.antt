@@ -4,7 +4,7 @@ use Rattle.std.specs.Int.{w32, cast_unsigned}
 use Rattle.pgp_base.specs.Held.{◌⊕◌}
 use Rattle.pgp_base.specs.Wire.{uint32}
 use Rattle.pgp_types.proofs.ArrayWrites.{dimension_put}
-use Rattle.pgp_types.proofs.array.put_dimension.Goals as goal
+use Rattle.pgp_types.proofs.array_writing.put_dimension.Goals as goal
 
 pub returns-clause-ok : goal.returns-clause-ok
 returns-clause-ok g c =

@@ -2,7 +2,7 @@ use Rattle.std.proofs.Common.{rules, [], ◌∷◌, ◌++◌, refl, sym, ◌∙�
 use Rattle.pgp_base.specs.Wire.{nullable}
 use Rattle.pgp_base.proofs.Parts.{more_parts, nothing_more, Runs-snoc}
 use Rattle.pgp_types.proofs.ArrayWrites.{null_then, value_then, value_stops}
-use Rattle.pgp_types.proofs.array.put_elements.Goals as goal
+use Rattle.pgp_types.proofs.array_writing.put_elements.Goals as goal
 
 pub loop-element-init : goal.loop-element-init
 loop-element-init g c =

@@ -2,7 +2,7 @@ use Rattle.std.proofs.Common.{arith, [], ◌+◌, ◌*◌, inl, inr, length, ref
 use Rattle.pgp_base.specs.Wire.{uint32}
 use Rattle.pgp_base.proofs.Parts.{if_err_at, length-uint32, wants_more, wants_then}
 use Rattle.pgp_types.proofs.ArrayWrites.{count_room, head_put}
-use Rattle.pgp_types.proofs.array.put_head.Goals as goal
+use Rattle.pgp_types.proofs.array_writing.put_head.Goals as goal
 
 pub patch_u32-requires : goal.patch_u32-requires
 patch_u32-requires g c =

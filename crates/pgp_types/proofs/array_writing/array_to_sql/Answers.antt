@@ -1,5 +1,5 @@
 use Rattle.pgp_base.proofs.Parts.{cut_back}
-use Rattle.pgp_types.proofs.array.array_to_sql.Goals as goal
+use Rattle.pgp_types.proofs.array_writing.array_to_sql.Goals as goal
 
 pub returns : goal.returns
 returns g c =

@@ -4,7 +4,7 @@ use Rattle.pgp_base.specs.Held.{◌⊕◌}
 use Rattle.pgp_base.specs.Wire.{nullable}
 use Rattle.pgp_base.specs.Calls.{Gives, Runs}
 use Rattle.pgp_types.specs.Array.{has_null}
-use Rattle.pgp_types.proofs.array.put_elements.Given as goal
+use Rattle.pgp_types.proofs.array_writing.put_elements.Given as goal
 
 abbrev pub invariant-loop-element : goal.invariant-loop-element
 invariant-loop-element g l =
