@@ -5,11 +5,11 @@
 
 ghost use Rattle.std.specs.Prelude.{◌≡◌};
 ghost use Rattle.pgp_types.specs.Format.{Reads, Writes};
-ghost use Rattle.pgp_values.specs.Time.{interval, timetz};
+ghost use Rattle.pgp_values.specs.Time.{interval, interval_bytes, timetz, timetz_bytes};
 
-use crate::codec::{append_three, int32_bytes, int32_of, int64_bytes, int64_of};
+use crate::codec::{int32_bytes, int32_of, int64_bytes, int64_of};
 use pgp_base::{Buffer, Error};
-use pgp_types::codec::{append_both, block};
+use pgp_types::codec::{append, block};
 
 /// An `interval`. A server does not make days of hours, nor months of days.
 #[derive(Debug, Clone, Copy, PartialEq, Eq)]
@@ -30,12 +30,20 @@ pub struct TimeTz {
 pub fn interval_to_sql<B: Buffer>(v: Interval, buf: &mut B) -> Result<(), Error>
     ensures { Writes interval v B.Lacks (B.held buf.old) result (B.held buf.new) }
 {
-    append_three(
-        &int64_bytes(v.microseconds),
-        &int32_bytes(v.days),
-        &int32_bytes(v.months),
-        buf,
-    )
+    append(&interval_block(v), buf)
+}
+
+// Its bytes in one block, so that the buffer grows once.
+fn interval_block(v: Interval) -> [u8; 16]
+    ensures { result ≡ interval_bytes v }
+{
+    let mut bytes = [0; 16];
+    let (microseconds, rest) = bytes.split_at_mut(8);
+    let (days, months) = rest.split_at_mut(4);
+    microseconds.copy_from_slice(&int64_bytes(v.microseconds));
+    days.copy_from_slice(&int32_bytes(v.days));
+    months.copy_from_slice(&int32_bytes(v.months));
+    bytes
 }
 
 /// Reads an `interval`.
@@ -60,7 +68,18 @@ pub fn interval_from_sql(buf: &[u8]) -> Result<Interval, Error>
 pub fn timetz_to_sql<B: Buffer>(v: TimeTz, buf: &mut B) -> Result<(), Error>
     ensures { Writes timetz v B.Lacks (B.held buf.old) result (B.held buf.new) }
 {
-    append_both(&int64_bytes(v.microseconds), &int32_bytes(v.zone), buf)
+    append(&timetz_block(v), buf)
+}
+
+// Its bytes in one block, so that the buffer grows once.
+fn timetz_block(v: TimeTz) -> [u8; 12]
+    ensures { result ≡ timetz_bytes v }
+{
+    let mut bytes = [0; 12];
+    let (time, zone) = bytes.split_at_mut(8);
+    time.copy_from_slice(&int64_bytes(v.microseconds));
+    zone.copy_from_slice(&int32_bytes(v.zone));
+    bytes
 }
 
 /// Reads a `timetz`.
